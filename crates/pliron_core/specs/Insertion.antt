@@ -1,0 +1,19 @@
+-- Where a rewriter inserts.
+use Rattle.std.specs.Prelude.{◌≢◌, ℕ, IsSome}
+use Rattle.pliron_core.specs.declared.rewriter.OpInsertionPoint.{OpInsertionPoint}
+use Rattle.pliron_core.specs.declared.rewriter.OpInsertionPoint.TheVariants.{Unset, BeforeOperation, AtBlockStart}
+use Rattle.pliron_core.specs.Tree.{Tree, IsBlock, IsInside, HoldsBlock, parent_of}
+use Rattle.pliron_core.specs.Writes.{put_next_to, put_first}
+
+-- a point is set, and what it names stands, isn't the operation and isn't inside it; a named operation
+-- stands in a block
+abbrev pub IsPointFor : Tree → OpInsertionPoint → ℕ → Type 0
+IsPointFor t Unset op = ⊥
+IsPointFor t (BeforeOperation at) op = IsSome (parent_of t at) × (at ≢ op) × (IsInside t op at → ⊥)
+IsPointFor t (AtBlockStart block) op = IsBlock t block × (HoldsBlock t op block → ⊥)
+
+-- the operation becomes the direct predecessor of the named operation, or the first of the named block
+abbrev pub inserted : Tree → OpInsertionPoint → ℕ → Tree
+inserted t Unset op = t
+inserted t (BeforeOperation at) op = put_next_to t op at (parent_of t at)
+inserted t (AtBlockStart block) op = put_first t op block

@@ -1,0 +1,13 @@
+pub mod Lists
+pub mod Nodes
+pub mod Uses
+pub mod Places
+pub mod Rising
+pub mod Tree
+pub mod Joined
+pub mod Writes
+pub mod Making
+pub mod Insertion
+pub mod Erased
+pub mod Changes
+pub mod Tables

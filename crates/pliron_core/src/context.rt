@@ -1,0 +1,106 @@
+//! The tables of a tree.
+ghost use Rattle.std.specs.Prelude.{◌≡◌, []};
+ghost use Rattle.pliron_core.specs.Joined.{IsTree, HaveUses};
+ghost use Rattle.pliron_core.specs.Writes.{no_tree};
+
+mod create;
+pub(crate) mod edit;
+mod operation_reads;
+pub(crate) mod place;
+
+use crate::attrs::Head;
+use crate::keys::{BasicBlock, Operation, Ptr, Region, Value};
+use crate::links::Links;
+use crate::row::Row;
+use crate::uses::Uses;
+use std::alloc::{AllocError, Global};
+use std::marker::Model;
+
+/// Memory that was asked for was refused.
+#[derive(Clone, Copy, Debug, Drop, PartialEq, Eq)]
+pub struct NoMemory;
+
+impl From<AllocError> for NoMemory {
+    fn from(_: AllocError) -> Self {
+        NoMemory
+    }
+}
+
+/// What makes a value: the result of an operation at this index, or the argument of a block.
+#[derive(Clone, Copy, PartialEq, Eq)]
+pub enum Def {
+    Result(Ptr<Operation>, usize),
+    Argument(Ptr<BasicBlock>, usize),
+}
+
+/// The place of a region: its operation, and the index among that operation's regions.
+#[derive(Clone, Copy, PartialEq, Eq)]
+pub struct RegionSlot {
+    pub op: Ptr<Operation>,
+    pub index: usize,
+}
+
+/// An operation's own part. An erased one has no head.
+#[derive(Drop)]
+pub struct OperationEntry {
+    pub head: Option<Head>,
+    pub results: Row<Value>,
+    pub regions: Row<Ptr<Region>>,
+}
+
+/// Operations, blocks, regions and values, each named by its key.
+#[derive(Drop)]
+pub struct Context {
+    alloc: Global,
+    operations: Vec<OperationEntry>,
+    operands: Uses,
+    successors: Uses,
+    order: Links,
+    arguments: Vec<Row<Value>>,
+    layout: Links,
+    slots: Vec<RegionSlot>,
+    values: Vec<Def>,
+}
+
+impl Model for Context {
+    ghost use Rattle.pliron_core.specs.Tree.{View};
+
+    ghost Value = { View };
+
+    ghost use Rattle.pliron_core.specs.Tables.{view_of, IsSound};
+
+    ghost view = { view_of };
+
+    ghost invariant = { IsSound };
+}
+
+impl Context {
+    /// An empty context, which keeps the allocator for its growths. Takes no memory.
+    pub fn new(alloc: Global) -> Self
+        ensures { result ≡ record { tree = no_tree; value_uses = []; block_uses = [] } }
+    {
+        Context {
+            alloc,
+            operations: Vec::new(alloc),
+            operands: Uses::new(alloc),
+            successors: Uses::new(alloc),
+            order: Links::new(alloc),
+            arguments: Vec::new(alloc),
+            layout: Links::new(alloc),
+            slots: Vec::new(alloc),
+            values: Vec::new(alloc),
+        }
+    }
+
+    /// The law of every context: its tables are those of a tree, and its lists of uses have each use
+    /// once. Does nothing when it runs.
+    pub fn well_formed(&self)
+        ensures tree { IsTree self.now.tree }
+        ensures uses { HaveUses self.now }
+    {
+        self.order.agree();
+        self.layout.agree();
+        self.operands.agree();
+        self.successors.agree();
+    }
+}

@@ -1,0 +1,184 @@
+//! Making operations and blocks.
+ghost use Rattle.std.specs.Prelude.{◌≡◌, ◌+◌, ◌<◌, ◌≤◌, ◌^◌, ◌++◌, [], length, map, replicate, IfOk, OnOk, OnErr, vec_len, vec_capacity};
+ghost use Rattle.std.specs.List.{range_with_len};
+ghost use Rattle.pliron_core.specs.Tree.{IsRegion};
+ghost use Rattle.pliron_core.specs.Writes.{created, block_created, region_slots};
+ghost use Rattle.pliron_core.specs.Making.{made_by, definitions_of};
+
+use super::{Context, Def, NoMemory, OperationEntry, RegionSlot};
+use crate::attrs::Head;
+use crate::keys::{BasicBlock, Operation, Ptr, Region, Value};
+use crate::links::Links;
+use crate::row::Row;
+use crate::uses::Uses;
+use std::alloc::Global;
+
+// What makes new values.
+#[derive(Clone, Copy)]
+enum Maker {
+    Operation(Ptr<Operation>),
+    Block(Ptr<BasicBlock>),
+}
+
+impl Maker {
+    fn definition(&self, i: usize) -> Def
+        ensures { result ≡ made_by self.now i }
+    {
+        match self {
+            Maker::Operation(op) => Def::Result(*op, i),
+            Maker::Block(block) => Def::Argument(*block, i),
+        }
+    }
+}
+
+impl Operation {
+    /// A new operation in no block, with so many new results and so many new, empty regions, and
+    /// without operands and successors.
+    ///
+    /// Errors: want of memory, which changes nothing.
+    /// Cost: one step for each result and each region, amortised.
+    pub fn create(
+        ctx: &mut Context,
+        head: Head,
+        results: usize,
+        regions: usize,
+    ) -> Result<Ptr<Operation>, NoMemory>
+        ensures key { IfOk result (λ op. op ≡ length ctx.old.tree.operations) }
+        ensures ok { OnOk result (ctx.new.tree ≡ created ctx.old.tree head results regions) }
+        ensures block_uses { OnOk result (ctx.new.block_uses ≡ ctx.old.block_uses) }
+        ensures err { OnErr result (ctx.new ≡ ctx.old) }
+    {
+        let alloc = ctx.alloc;
+        ctx.operations.reserve(1)?;
+        ctx.operands.reserve(1, results)?;
+        ctx.successors.reserve(1, 0)?;
+        ctx.order.reserve(1, 0)?;
+        ctx.layout.reserve(0, regions)?;
+        ctx.slots.reserve(regions)?;
+        ctx.values.reserve(results)?;
+        let result_keys = value_keys(alloc, ctx.values.len(), results)?;
+        let region_keys = region_keys(alloc, ctx.slots.len(), regions)?;
+        let op = Ptr::new(ctx.order.add_node());
+        ctx.successors.add_user(alloc);
+        ctx.operands.add_user(alloc);
+        add_regions(&mut ctx.slots, &mut ctx.layout, op, regions);
+        add_values(
+            &mut ctx.values,
+            &mut ctx.operands,
+            alloc,
+            Maker::Operation(op),
+            results,
+        );
+        ctx.operations.push_reserved(OperationEntry {
+            head: Some(head),
+            results: result_keys,
+            regions: region_keys,
+        });
+        Ok(op)
+    }
+}
+
+impl BasicBlock {
+    /// A new block with so many new arguments and without operations, the last of the region.
+    ///
+    /// Asks that the region stands. Errors: want of memory, which changes nothing.
+    /// Cost: one step for each argument, amortised.
+    pub fn create(
+        ctx: &mut Context,
+        region: Ptr<Region>,
+        arguments: usize,
+    ) -> Result<Ptr<BasicBlock>, NoMemory>
+        requires { IsRegion ctx.old.tree region }
+        ensures key { IfOk result (λ block. block ≡ length ctx.old.tree.bodies) }
+        ensures ok { OnOk result (ctx.new.tree ≡ block_created ctx.old.tree region arguments) }
+        ensures err { OnErr result (ctx.new ≡ ctx.old) }
+    {
+        let alloc = ctx.alloc;
+        ctx.layout.agree();
+        ctx.arguments.reserve(1)?;
+        ctx.operands.reserve(0, arguments)?;
+        ctx.successors.reserve(0, 1)?;
+        ctx.order.reserve(0, 1)?;
+        ctx.layout.reserve(1, 0)?;
+        ctx.values.reserve(arguments)?;
+        let argument_keys = value_keys(alloc, ctx.values.len(), arguments)?;
+        let block = Ptr::new(ctx.order.add_list());
+        ctx.successors.add_target(alloc);
+        let key = ctx.layout.add_node();
+        ctx.layout.push_back(region.index(), key);
+        add_values(
+            &mut ctx.values,
+            &mut ctx.operands,
+            alloc,
+            Maker::Block(block),
+            arguments,
+        );
+        ctx.arguments.push_reserved(argument_keys);
+        Ok(block)
+    }
+}
+
+// So many values, by rising key.
+#[tactic(auto, using(crate::proofs::GrownLemmas::range_more))]
+fn value_keys(alloc: Global, first: usize, count: usize) -> Result<Row<Value>, NoMemory>
+    requires { first + count < 2 ^ 64 }
+    ensures { IfOk result (λ row. row ≡ range_with_len first count) }
+{
+    let mut row = Row::new(alloc);
+    for i in 0..count {
+        row.push(Value::new(first + i))?;
+    }
+    Ok(row)
+}
+
+// So many regions, by rising key.
+#[tactic(auto, using(crate::proofs::GrownLemmas::range_more))]
+fn region_keys(alloc: Global, first: usize, count: usize) -> Result<Row<Ptr<Region>>, NoMemory>
+    requires { first + count < 2 ^ 64 }
+    ensures { IfOk result (λ row. row ≡ range_with_len first count) }
+{
+    let mut row = Row::new(alloc);
+    for i in 0..count {
+        row.push(Ptr::new(first + i))?;
+    }
+    Ok(row)
+}
+
+// The regions of a new operation, without blocks.
+fn add_regions(
+    slots: &mut Vec<RegionSlot>,
+    layout: &mut Links,
+    op: Ptr<Operation>,
+    count: usize,
+)
+    requires slots { vec_len slots.old + count ≤ vec_capacity slots.old }
+    requires lists { count ≤ layout.old.list_room }
+    ensures slots { slots.new.items ≡ slots.old.items ++ region_slots op count }
+    ensures lists { layout.new.lists ≡ layout.old.lists ++ replicate count [] }
+    ensures owners { layout.new.owners ≡ layout.old.owners }
+{
+    for index in 0..count {
+        slots.push_reserved(RegionSlot { op, index });
+        layout.add_list();
+    }
+}
+
+// So many new values, without uses.
+fn add_values(
+    values: &mut Vec<Def>,
+    operands: &mut Uses,
+    alloc: Global,
+    maker: Maker,
+    count: usize,
+)
+    requires values { vec_len values.old + count ≤ vec_capacity values.old }
+    requires targets { count ≤ operands.old.target_room }
+    ensures values { values.new.items ≡ values.old.items ++ definitions_of maker count }
+    ensures targets { operands.new.targets ≡ operands.old.targets }
+    ensures uses { length operands.new.uses ≡ length operands.old.uses + count }
+{
+    for i in 0..count {
+        values.push_reserved(maker.definition(i));
+        operands.add_target(alloc);
+    }
+}

@@ -1,0 +1,129 @@
+//! Operands, successors, attributes and arguments.
+ghost use Rattle.std.specs.Prelude.{◌≡◌, ◌+◌, ◌<◌, ◌≤◌, [], length, drop, slice_get, OnOk, OnErr, IfSome, Some, ℕ};
+ghost use Rattle.pliron_core.specs.Tree.{IsLive, IsBlock, IsDefined, In, operands_of, head_of, arguments_of, uses_of};
+ghost use Rattle.pliron_core.specs.Writes.{operand_pushed, successor_pushed, operand_removed, attribute_set, with_attribute, argument_removed, replaced, numbered};
+
+use super::{Context, Def, NoMemory};
+use crate::attrs::{AttrObj, Head};
+use crate::keys::{BasicBlock, Operation, Ptr, Value};
+use crate::row::Row;
+
+impl Operation {
+    /// One more operand, at the end.
+    ///
+    /// Asks that the operation and the value stand. Errors: want of memory, which changes nothing.
+    /// Cost: amortised constant.
+    pub fn push_operand(
+        ctx: &mut Context,
+        op: Ptr<Operation>,
+        value: Value,
+    ) -> Result<(), NoMemory>
+        requires live { IsLive ctx.old.tree op }
+        requires value { IsDefined ctx.old.tree value }
+        ensures ok { OnOk result (ctx.new.tree ≡ operand_pushed ctx.old.tree op value) }
+        ensures block_uses { ctx.new.block_uses ≡ ctx.old.block_uses }
+        ensures err { OnErr result (ctx.new ≡ ctx.old) }
+    {
+        ctx.operands.push(op.index(), value.index())?;
+        Ok(())
+    }
+
+    /// One more successor, at the end.
+    ///
+    /// Asks that the operation and the block stand. Errors: want of memory, which changes nothing.
+    /// Cost: amortised constant.
+    pub fn push_successor(
+        ctx: &mut Context,
+        op: Ptr<Operation>,
+        block: Ptr<BasicBlock>,
+    ) -> Result<(), NoMemory>
+        requires live { IsLive ctx.old.tree op }
+        requires block { IsBlock ctx.old.tree block }
+        ensures ok { OnOk result (ctx.new.tree ≡ successor_pushed ctx.old.tree op block) }
+        ensures value_uses { ctx.new.value_uses ≡ ctx.old.value_uses }
+        ensures err { OnErr result (ctx.new ≡ ctx.old) }
+    {
+        ctx.successors.push(op.index(), block.index())?;
+        Ok(())
+    }
+
+    /// The operand at this index goes, and is the answer. The later ones move down by one place.
+    ///
+    /// Asks that the operation stands and has such an operand. Takes no memory.
+    /// Cost: the number of operands after it.
+    pub fn remove_operand(ctx: &mut Context, op: Ptr<Operation>, i: usize) -> Value
+        requires live { IsLive ctx.old.tree op }
+        requires index { i < length (operands_of ctx.old.tree op) }
+        ensures operand { slice_get (operands_of ctx.old.tree op) i ≡ Some result }
+        ensures tree { ctx.new.tree ≡ operand_removed ctx.old.tree op i }
+        ensures block_uses { ctx.new.block_uses ≡ ctx.old.block_uses }
+    {
+        Value::new(ctx.operands.remove(op.index(), i))
+    }
+
+    /// The attribute at this index is replaced.
+    ///
+    /// Asks that the operation stands and has such an attribute. Takes no memory. Constant cost.
+    pub fn set_attribute(ctx: &mut Context, op: Ptr<Operation>, i: usize, attr: AttrObj)
+        requires live { IsLive ctx.old.tree op }
+        requires index { IfSome (head_of ctx.old.tree op) (λ head. i < length head.attrs) }
+        ensures { ctx.new ≡ record ctx.old { tree = attribute_set ctx.old.tree op i attr } }
+    {
+        set_head_attribute(&mut ctx.operations[op.index()].head, i, attr);
+    }
+}
+
+fn set_head_attribute(head: &mut Option<Head>, i: usize, attr: AttrObj)
+    requires { IfSome head.old (λ h. i < length h.attrs) }
+    ensures { head.new ≡ with_attribute head.old i attr }
+{
+    if let Some(head) = head {
+        head.attrs.set(i, attr);
+    }
+}
+
+// Every use of the one value becomes one of the other.
+pub(crate) fn replace_uses(ctx: &mut Context, old: Value, new: Value) -> Result<(), NoMemory>
+    requires old { IsDefined ctx.old.tree old }
+    requires new { IsDefined ctx.old.tree new }
+    ensures ok { OnOk result (ctx.new.tree ≡ replaced ctx.old.tree old new) }
+    ensures block_uses { ctx.new.block_uses ≡ ctx.old.block_uses }
+    ensures err { OnErr result (ctx.new ≡ ctx.old) }
+{
+    if old.index() == new.index() {
+        return Ok(());
+    }
+    let alloc = ctx.alloc;
+    ctx.operands.replace(alloc, old.index(), new.index())?;
+    Ok(())
+}
+
+impl BasicBlock {
+    /// An argument that has no use goes. The later ones stay the same values, each with the index
+    /// before.
+    ///
+    /// Asks that the block stands and has such an argument, and that no operation uses it. Takes no
+    /// memory. Cost: the number of arguments after it.
+    pub fn remove_argument(ctx: &mut Context, block: Ptr<BasicBlock>, i: usize)
+        requires block { IsBlock ctx.old.tree block }
+        requires index { i < length (arguments_of ctx.old.tree block) }
+        requires unused { IfSome (slice_get (arguments_of ctx.old.tree block) i) (λ v. uses_of ctx.old.value_uses v ≡ []) }
+        ensures { ctx.new ≡ record ctx.old { tree = argument_removed ctx.old.tree block i } }
+    {
+        ctx.operands.agree();
+        let row = &mut ctx.arguments[block.index()];
+        row.remove(i);
+        number_arguments(&mut ctx.values, row, block, i);
+    }
+}
+
+// The values from index `i` on are the block's arguments at these indices.
+fn number_arguments(values: &mut Vec<Def>, row: &Row<Value>, block: Ptr<BasicBlock>, i: usize)
+    requires { (k v : ℕ) → slice_get row.now k ≡ Some v → v < length values.old.items }
+    ensures { values.new.items ≡ numbered values.old.items block i (drop i row.now) }
+{
+    for j in i..row.len() {
+        let value = row.get(j);
+        values[value.index()] = Def::Argument(block, j);
+    }
+}

@@ -1,0 +1,97 @@
+//! Keys of what a context holds.
+ghost use Rattle.std.specs.Prelude.{◌≡◌};
+
+use std::marker::{Model, PhantomData};
+
+/// Names the operations.
+#[derive(Clone, Copy, PartialEq, Eq, Hash)]
+pub struct Operation;
+
+/// Names the blocks.
+#[derive(Clone, Copy, PartialEq, Eq, Hash)]
+pub struct BasicBlock;
+
+/// Names the regions.
+#[derive(Clone, Copy, PartialEq, Eq, Hash)]
+pub struct Region;
+
+/// The key of one `T` of a context. Keys count up from 0 in the order in which things are made, and
+/// are never used again.
+#[derive(Clone, Copy, PartialEq, Eq, Hash)]
+pub struct Ptr<T> {
+    key: usize,
+    of: PhantomData<T>,
+}
+
+impl<T> Model for Ptr<T> {
+    ghost use Rattle.std.specs.Prelude.{ℕ};
+
+    ghost Value = { ℕ };
+
+    ghost view = { λ p. p.key };
+
+    ghost inverse = { λ k. record { key = k; of = record {} } };
+}
+
+impl<T> Ptr<T> {
+    pub(crate) fn new(key: usize) -> Self
+        ensures { result ≡ key }
+    {
+        Ptr {
+            key,
+            of: PhantomData,
+        }
+    }
+
+    // The place in a table.
+    pub(crate) fn index(self) -> usize
+        ensures { result ≡ self }
+    {
+        self.key
+    }
+
+    /// The number of this key.
+    pub fn key(self) -> u64
+        ensures { result ≡ self }
+    {
+        self.key as u64
+    }
+}
+
+/// The key of a value.
+#[derive(Clone, Copy, PartialEq, Eq, Hash)]
+pub struct Value {
+    key: usize,
+}
+
+impl Model for Value {
+    ghost use Rattle.std.specs.Prelude.{ℕ};
+
+    ghost Value = { ℕ };
+
+    ghost view = { λ v. v.key };
+
+    ghost inverse = { λ k. record { key = k } };
+}
+
+impl Value {
+    pub(crate) fn new(key: usize) -> Self
+        ensures { result ≡ key }
+    {
+        Value { key }
+    }
+
+    // The place in a table.
+    pub(crate) fn index(self) -> usize
+        ensures { result ≡ self }
+    {
+        self.key
+    }
+
+    /// The number of this key.
+    pub fn key(self) -> u64
+        ensures { result ≡ self }
+    {
+        self.key as u64
+    }
+}

@@ -1,0 +1,17 @@
+//! A tree of operations, regions and blocks, named by keys, with the uses of each value and block.
+#![tactic(auto)]
+
+mod attrs;
+mod context;
+mod keys;
+mod links;
+mod rewriter;
+mod row;
+mod uses;
+
+pub use attrs::{AttrObj, Attrs, Head, Text};
+pub use context::{Context, Def, NoMemory, OperationEntry, RegionSlot};
+pub use keys::{BasicBlock, Operation, Ptr, Region, Value};
+pub use rewriter::{IRRewriter, OpInsertionPoint, Rewriter};
+pub use row::Row;
+pub use uses::Use;

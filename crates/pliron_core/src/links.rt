@@ -1,0 +1,336 @@
+//! Nodes in doubly linked lists, both named by keys that count up. Each call but `reserve` takes
+//! constant time and no memory.
+
+ghost use Rattle.std.specs.Prelude.{◌≡◌, ◌+◌, ◌-◌, ◌<◌, ◌≤◌, [], ◌∷◌, ◌++◌, length, slice_set, slice_index_or, IsOk, OnOk, IfSome, Some, vec_len, vec_capacity};
+ghost use Rattle.pliron_core.specs.Lists.{Lists, owner_of, list_of, first_of, last_of, without, put_before, next_of, prev_of, AreOwned};
+ghost use Rattle.pliron_core.specs.Nodes.{with_next, with_prev, with_head, with_tail, InRange};
+
+use std::alloc::{AllocError, Global};
+use std::marker::Model;
+
+/// Nodes, each in one list at most, and the lists. The links run in both directions, and each list
+/// knows its first and its last node.
+#[derive(Drop)]
+pub struct Links {
+    nodes: Vec<Node>,
+    ends: Vec<Ends>,
+}
+
+#[derive(Clone, Copy)]
+struct Node {
+    owner: Option<usize>,
+    prev: Option<usize>,
+    next: Option<usize>,
+}
+
+#[derive(Clone, Copy)]
+struct Ends {
+    head: Option<usize>,
+    tail: Option<usize>,
+}
+
+impl Model for Links {
+    ghost use Rattle.pliron_core.specs.Lists.{Lists};
+
+    ghost Value = { Lists };
+
+    ghost use Rattle.std.specs.Prelude.{◌-◌, vec_capacity, vec_len};
+    ghost use Rattle.pliron_core.specs.Nodes.{lists_of, owners_of, IsSound};
+
+    ghost view = { λ c. record {
+      lists = lists_of c.nodes.items c.ends.items;
+      owners = owners_of c.nodes.items;
+      node_room = vec_capacity c.nodes - vec_len c.nodes;
+      list_room = vec_capacity c.ends - vec_len c.ends;
+    } };
+
+    ghost invariant = { λ c. IsSound c.nodes.items c.ends.items (lists_of c.nodes.items c.ends.items) };
+}
+
+// Makes `next` stand after the node `before`, or at the head where there is none.
+fn link_next(nodes: &mut Vec<Node>, ends: &mut Ends, before: Option<usize>, next: Option<usize>)
+    requires { InRange nodes.old.items before }
+    ensures nodes { nodes.new.items ≡ with_next nodes.old.items before next }
+    ensures len { vec_len nodes.new ≡ vec_len nodes.old }
+    ensures capacity { vec_capacity nodes.new ≡ vec_capacity nodes.old }
+    ensures ends { ends.new ≡ with_head ends.old before next }
+{
+    match before {
+        Some(key) => {
+            let node = &mut nodes[key];
+            node.next = next;
+        }
+        None => ends.head = next,
+    }
+}
+
+// Makes `prev` stand before the node `after`, or at the tail where there is none.
+fn link_prev(nodes: &mut Vec<Node>, ends: &mut Ends, after: Option<usize>, prev: Option<usize>)
+    requires { InRange nodes.old.items after }
+    ensures nodes { nodes.new.items ≡ with_prev nodes.old.items after prev }
+    ensures len { vec_len nodes.new ≡ vec_len nodes.old }
+    ensures capacity { vec_capacity nodes.new ≡ vec_capacity nodes.old }
+    ensures ends { ends.new ≡ with_tail ends.old after prev }
+{
+    match after {
+        Some(key) => {
+            let node = &mut nodes[key];
+            node.prev = prev;
+        }
+        None => ends.tail = prev,
+    }
+}
+
+impl Links {
+    /// No nodes and no lists, and room for none. Takes no memory, in O(1).
+    pub fn new(alloc: Global) -> Self
+        ensures { result ≡ record { lists = []; owners = []; node_room = 0; list_room = 0 } }
+    {
+        Links {
+            nodes: Vec::new(alloc),
+            ends: Vec::new(alloc),
+        }
+    }
+
+    /// A law: what a list has is owned by it, and nothing else is, and no node stands twice. Does
+    /// nothing when it runs, in O(1).
+    pub fn agree(&self)
+        ensures { AreOwned self.now.owners self.now.lists }
+    {
+        let _ = &self.nodes;
+    }
+
+    /// The list that has the node, if one does. The node must be one that was added. O(1).
+    pub fn owner(&self, node: usize) -> Option<usize>
+        requires { node < length self.now.owners }
+        ensures owner { result ≡ owner_of self.now node }
+        ensures within { IfSome result (λ list. list < length self.now.lists) }
+    {
+        self.nodes[node].owner
+    }
+
+    /// Makes room for so many more nodes and so many more lists, which then take no memory. It is
+    /// refused only where memory is out, and then only the room may have grown. O(1) where there is
+    /// room already, and otherwise linear in the tables' length, which grow so that room asked for
+    /// one by one is O(1) each, amortised.
+    pub fn reserve(&mut self, nodes: usize, lists: usize) -> Result<(), AllocError>
+        ensures kept { self.new ≡ record self.old {
+          node_room = self.new.node_room;
+          list_room = self.new.list_room;
+        } }
+        ensures node_room { OnOk result (nodes ≤ self.new.node_room) }
+        ensures list_room { OnOk result (lists ≤ self.new.list_room) }
+        ensures more_nodes { self.old.node_room ≤ self.new.node_room }
+        ensures more_lists { self.old.list_room ≤ self.new.list_room }
+
+        // It is refused only where room was missing.
+        ensures succeeds { nodes ≤ self.old.node_room → lists ≤ self.old.list_room → IsOk result }
+    {
+        self.nodes.reserve(nodes)?;
+        self.ends.reserve(lists)
+    }
+
+    /// A new node, in no list. There must be room for it. The keys count up from 0. O(1).
+    pub fn add_node(&mut self) -> usize
+        requires { 0 < self.old.node_room }
+        ensures key { result ≡ length self.old.owners }
+        ensures added { self.new ≡ record self.old {
+          owners = self.old.owners ++ None ∷ [];
+          node_room = self.old.node_room - 1;
+        } }
+    {
+        let key = self.nodes.len();
+        self.nodes.push_reserved(Node {
+            owner: None,
+            prev: None,
+            next: None,
+        });
+        key
+    }
+
+    /// A new list, without nodes. There must be room for it. The keys count up from 0. O(1).
+    pub fn add_list(&mut self) -> usize
+        requires { 0 < self.old.list_room }
+        ensures key { result ≡ length self.old.lists }
+        ensures added { self.new ≡ record self.old {
+          lists = self.old.lists ++ [] ∷ [];
+          list_room = self.old.list_room - 1;
+        } }
+    {
+        let key = self.ends.len();
+        self.ends.push_reserved(Ends {
+            head: None,
+            tail: None,
+        });
+        key
+    }
+
+    /// The node goes to the front of the list. No list may have it yet. O(1).
+    pub fn push_front(&mut self, list: usize, node: usize)
+        requires list { list < length self.old.lists }
+        requires node { node < length self.old.owners }
+        requires free { owner_of self.old node ≡ None }
+        ensures { self.new ≡ record self.old {
+          lists = slice_set self.old.lists list (node ∷ list_of self.old list);
+          owners = slice_set self.old.owners node (Some list);
+        } }
+    {
+        let mut ends = self.ends[list];
+        let after = ends.head;
+        self.nodes[node] = Node {
+            owner: Some(list),
+            prev: None,
+            next: after,
+        };
+        link_next(&mut self.nodes, &mut ends, None, Some(node));
+        link_prev(&mut self.nodes, &mut ends, after, Some(node));
+        self.ends[list] = ends;
+    }
+
+    /// The node goes to the end of the list. No list may have it yet. O(1).
+    pub fn push_back(&mut self, list: usize, node: usize)
+        requires list { list < length self.old.lists }
+        requires node { node < length self.old.owners }
+        requires free { owner_of self.old node ≡ None }
+        ensures { self.new ≡ record self.old {
+          lists = slice_set self.old.lists list (list_of self.old list ++ node ∷ []);
+          owners = slice_set self.old.owners node (Some list);
+        } }
+    {
+        let mut ends = self.ends[list];
+        let before = ends.tail;
+        self.nodes[node] = Node {
+            owner: Some(list),
+            prev: before,
+            next: None,
+        };
+        link_next(&mut self.nodes, &mut ends, before, Some(node));
+        link_prev(&mut self.nodes, &mut ends, None, Some(node));
+        self.ends[list] = ends;
+    }
+
+    /// The node goes directly before the node `at` of this list. No list may have it yet. O(1).
+    pub fn insert_before(&mut self, list: usize, at: usize, node: usize)
+        requires held { owner_of self.old at ≡ Some list }
+        requires node { node < length self.old.owners }
+        requires free { owner_of self.old node ≡ None }
+        ensures { self.new ≡ record self.old {
+          lists = slice_set self.old.lists list (put_before at node (list_of self.old list));
+          owners = slice_set self.old.owners node (Some list);
+        } }
+    {
+        let before = self.nodes[at].prev;
+        let mut ends = self.ends[list];
+        self.nodes[node] = Node {
+            owner: Some(list),
+            prev: before,
+            next: Some(at),
+        };
+        link_next(&mut self.nodes, &mut ends, before, Some(node));
+        link_prev(&mut self.nodes, &mut ends, Some(at), Some(node));
+        self.ends[list] = ends;
+    }
+
+    /// Takes the node out of the list that has it; the others keep their order. O(1).
+    pub fn remove(&mut self, list: usize, node: usize)
+        requires held { owner_of self.old node ≡ Some list }
+        ensures { self.new ≡ record self.old {
+          lists = slice_set self.old.lists list (without node (list_of self.old list));
+          owners = slice_set self.old.owners node None;
+        } }
+    {
+        let Node { prev, next, .. } = self.nodes[node];
+        let mut ends = self.ends[list];
+        link_next(&mut self.nodes, &mut ends, prev, next);
+        link_prev(&mut self.nodes, &mut ends, next, prev);
+        self.ends[list] = ends;
+        self.nodes[node] = Node {
+            owner: None,
+            prev: None,
+            next: None,
+        };
+    }
+
+    /// The node directly after this one in the list that has it: none at the list's end, nor for a
+    /// node in no list. The node must be one that was added. O(1).
+    pub fn next(&self, node: usize) -> Option<usize>
+        requires { node < length self.now.owners }
+        ensures next { result ≡ next_of self.now node }
+        ensures same_owner { IfSome result (λ other. owner_of self.now other ≡ owner_of self.now node) }
+    {
+        let Node { owner, next, .. } = self.nodes[node];
+        match owner {
+            Some(_) => next,
+            None => None,
+        }
+    }
+
+    /// The node directly before this one in the list that has it: none at the list's front, nor for
+    /// a node in no list. The node must be one that was added. O(1).
+    pub fn prev(&self, node: usize) -> Option<usize>
+        requires { node < length self.now.owners }
+        ensures prev { result ≡ prev_of self.now node }
+        ensures same_owner { IfSome result (λ other. owner_of self.now other ≡ owner_of self.now node) }
+    {
+        let Node { owner, prev, .. } = self.nodes[node];
+        match owner {
+            Some(_) => prev,
+            None => None,
+        }
+    }
+
+    /// The first node of the list; none if the list is empty. O(1).
+    pub fn head(&self, list: usize) -> Option<usize>
+        requires { list < length self.now.lists }
+        ensures first { result ≡ first_of (list_of self.now list) None }
+        ensures owned { IfSome result (λ node. owner_of self.now node ≡ Some list) }
+    {
+        self.ends[list].head
+    }
+
+    /// The last node of the list; none if the list is empty. O(1).
+    pub fn tail(&self, list: usize) -> Option<usize>
+        requires { list < length self.now.lists }
+        ensures last { result ≡ last_of None (list_of self.now list) }
+        ensures owned { IfSome result (λ node. owner_of self.now node ≡ Some list) }
+    {
+        self.ends[list].tail
+    }
+}
+
+#[cfg(test)]
+mod tests {
+    use super::*;
+    use std::test::Fail;
+
+    #[test]
+    fn links_run_both_ways(rt: HostRuntime) -> Result<(), Fail> {
+        let mut links = Links::new(rt.alloc());
+        links.reserve(3, 2)?;
+        let empty = links.add_list();
+        let list = links.add_list();
+        let last = links.add_node();
+        let first = links.add_node();
+        let middle = links.add_node();
+        links.push_back(list, last);
+        links.push_front(list, first);
+        links.insert_before(list, last, middle);
+        assert_eq!(rt; links.head(list), Some(first));
+        assert_eq!(rt; links.next(first), Some(middle));
+        assert_eq!(rt; links.next(middle), Some(last));
+        assert_eq!(rt; links.next(last), None);
+        assert_eq!(rt; links.tail(list), Some(last));
+        assert_eq!(rt; links.prev(last), Some(middle));
+        assert_eq!(rt; links.prev(middle), Some(first));
+        assert_eq!(rt; links.prev(first), None);
+        assert_eq!(rt; links.owner(middle), Some(list));
+        links.remove(list, middle);
+        assert_eq!(rt; links.next(first), Some(last));
+        assert_eq!(rt; links.prev(last), Some(first));
+        assert_eq!(rt; links.owner(middle), None);
+        assert_eq!(rt; links.next(middle), None);
+        assert_eq!(rt; links.head(empty), None);
+        assert_eq!(rt; links.tail(empty), None);
+        Ok(())
+    }
+}

@@ -1,0 +1,152 @@
+//! Rewriting a tree through a value that knows where to insert.
+ghost use Rattle.std.specs.Prelude.{◌≡◌, Some, None, IsSome, OnOk, OnErr};
+ghost use Rattle.pliron_core.specs.Tree.{IsLive, IsBlock, IsDefined, HoldsBlock, parent_of};
+ghost use Rattle.pliron_core.specs.Writes.{replaced, moved_last};
+ghost use Rattle.pliron_core.specs.Insertion.{IsPointFor, inserted};
+
+use crate::context::edit::replace_uses;
+use crate::context::place::{move_last, place_before, place_first};
+use crate::context::{Context, NoMemory};
+use crate::keys::{BasicBlock, Operation, Ptr, Value};
+
+/// Where the next operation is inserted.
+#[derive(Clone, Copy, PartialEq, Eq)]
+pub enum OpInsertionPoint {
+    /// No point was set yet.
+    Unset,
+    /// Directly before this operation.
+    BeforeOperation(Ptr<Operation>),
+    /// As the first of this block.
+    AtBlockStart(Ptr<BasicBlock>),
+}
+
+/// What changes a tree in whole steps, and may tell a listener of each.
+///
+/// What has no `Result` takes no memory in the tree, but may take some in a listener.
+pub trait Rewriter {
+    ghost use Rattle.pliron_core.specs.declared.rewriter.OpInsertionPoint.{OpInsertionPoint};
+
+    /// Where it inserts.
+    ghost point: { Self → OpInsertionPoint };
+
+    /// From now on inserts directly before this operation.
+    fn set_insertion_point_before_operation(&mut self, op: Ptr<Operation>)
+        ensures { point self.new ≡ OpInsertionPoint.BeforeOperation op };
+
+    /// From now on inserts as the first of this block.
+    fn set_insertion_point_to_block_start(&mut self, block: Ptr<BasicBlock>)
+        ensures { point self.new ≡ OpInsertionPoint.AtBlockStart block };
+
+    /// The operation becomes the direct predecessor of the named operation, or the first of the named
+    /// block. The point stays.
+    ///
+    /// Asks that the operation stands, in no block; that a point is set, and that what it names stands
+    /// and isn't the operation or inside it; a named operation stands in a block.
+    /// Errors: want of memory, which changes nothing. Constant cost.
+    fn insert_operation(&mut self, ctx: &mut Context, op: Ptr<Operation>) -> Result<(), NoMemory>
+        requires live { IsLive ctx.old.tree op }
+        requires free { parent_of ctx.old.tree op ≡ None }
+        requires point { IsPointFor ctx.old.tree (point self.old) op }
+        ensures ok { OnOk result (ctx.new ≡ record ctx.old { tree = inserted ctx.old.tree (point self.old) op }) }
+        ensures err { OnErr result (ctx.new ≡ ctx.old) }
+        ensures point { point self.new ≡ point self.old };
+
+    /// Every use of `old` becomes one of `new`.
+    ///
+    /// Asks that both values stand. Errors: want of memory, which changes nothing.
+    /// Cost: the number of uses of `old`.
+    fn replace_value_uses_with(
+        &mut self,
+        ctx: &mut Context,
+        old: Value,
+        new: Value,
+    ) -> Result<(), NoMemory>
+        requires old { IsDefined ctx.old.tree old }
+        requires new { IsDefined ctx.old.tree new }
+        ensures ok { OnOk result (ctx.new.tree ≡ replaced ctx.old.tree old new) }
+        ensures block_uses { ctx.new.block_uses ≡ ctx.old.block_uses }
+        ensures err { OnErr result (ctx.new ≡ ctx.old) }
+        ensures point { point self.new ≡ point self.old };
+
+    /// The operation leaves the block that has it, if one does, and becomes the last of this one.
+    ///
+    /// Asks that both stand, and that the operation doesn't hold the block. Takes no memory.
+    /// Constant cost.
+    fn move_operation_to_end(
+        &mut self,
+        ctx: &mut Context,
+        op: Ptr<Operation>,
+        block: Ptr<BasicBlock>,
+    )
+        requires live { IsLive ctx.old.tree op }
+        requires block { IsBlock ctx.old.tree block }
+        requires outside { HoldsBlock ctx.old.tree op block → ⊥ }
+        ensures moved { ctx.new ≡ record ctx.old { tree = moved_last ctx.old.tree op block } }
+        ensures point { point self.new ≡ point self.old };
+}
+
+/// The rewriter without a listener.
+#[derive(Drop)]
+pub struct IRRewriter {
+    point: OpInsertionPoint,
+}
+
+impl IRRewriter {
+    /// A rewriter whose insertion point isn't set yet.
+    pub fn new() -> Self
+        ensures { result.point ≡ OpInsertionPoint.Unset }
+    {
+        IRRewriter {
+            point: OpInsertionPoint::Unset,
+        }
+    }
+}
+
+impl Default for IRRewriter {
+    fn default() -> Self {
+        IRRewriter::new()
+    }
+}
+
+impl Rewriter for IRRewriter {
+    ghost point = { λ r. r.point };
+
+    fn set_insertion_point_before_operation(&mut self, op: Ptr<Operation>) {
+        self.point = OpInsertionPoint::BeforeOperation(op);
+    }
+
+    fn set_insertion_point_to_block_start(&mut self, block: Ptr<BasicBlock>) {
+        self.point = OpInsertionPoint::AtBlockStart(block);
+    }
+
+    fn insert_operation(&mut self, ctx: &mut Context, op: Ptr<Operation>) -> Result<(), NoMemory> {
+        ctx.well_formed();
+        match &self.point {
+            OpInsertionPoint::Unset => unreachable!(),
+            OpInsertionPoint::BeforeOperation(at) => match at.get_parent_block(ctx) {
+                Some(block) => place_before(ctx, op, *at, block),
+                None => unreachable!(),
+            },
+            OpInsertionPoint::AtBlockStart(block) => place_first(ctx, op, *block),
+        }
+        Ok(())
+    }
+
+    fn replace_value_uses_with(
+        &mut self,
+        ctx: &mut Context,
+        old: Value,
+        new: Value,
+    ) -> Result<(), NoMemory> {
+        replace_uses(ctx, old, new)
+    }
+
+    fn move_operation_to_end(
+        &mut self,
+        ctx: &mut Context,
+        op: Ptr<Operation>,
+        block: Ptr<BasicBlock>,
+    ) {
+        move_last(ctx, op, block)
+    }
+}
