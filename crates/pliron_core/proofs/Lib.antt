@@ -24,3 +24,6 @@ pub mod GrownLemmas
 pub mod CreatedLemmas
 pub mod ArgumentLemmas
 pub mod WellLemmas
+pub mod ReadLemmas
+pub mod FilterLemmas
+pub mod EdgeLemmas

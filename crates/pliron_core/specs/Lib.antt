@@ -6,6 +6,10 @@ pub mod Rising
 pub mod Tree
 pub mod Joined
 pub mod Writes
+pub mod Status
+pub mod Reads
+pub mod Edges
+pub mod EdgeUses
 pub mod Making
 pub mod Insertion
 pub mod Erased

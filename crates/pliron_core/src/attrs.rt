@@ -1,11 +1,13 @@
 //! Heads of operations.
 ghost use Rattle.std.specs.Prelude.{◌≡◌, ◌<◌, [], IfOk, string_bytes, IsTrue, ◌↔◌, length, slice_get, slice_set, Some};
 
-use std::alloc::{AllocError, Global};
+use crate::context::NoMemory;
+use std::alloc::Global;
 use std::marker::Model;
+use std::ops::BitOrAssign;
 
 /// A text of an attribute, which contracts see as its bytes.
-#[derive(Drop)]
+#[derive(Debug, Drop)]
 pub struct Text {
     text: String,
 }
@@ -32,16 +34,45 @@ impl Text {
     }
 }
 
-/// An attribute of an operation.
-#[derive(Drop)]
+impl PartialEq for Text {
+    ghost use Rattle.std.specs.Prelude.{nat_eq};
+    ghost use Rattle.std.specs.Cmp.{partial_equiv_from_equiv};
+    ghost use Rattle.std.specs.Cmp.Lexicographic.{pointwise, nat_list_eq_equiv};
+
+    ghost eq = { λ x y. pointwise nat_eq x y };
+
+    ghost laws = { partial_equiv_from_equiv nat_list_eq_equiv };
+
+    fn eq(&self, other: &Self) -> bool {
+        self.as_str() == other.as_str()
+    }
+}
+
+impl Eq for Text {
+    ghost use Rattle.std.specs.Cmp.Lexicographic.{nat_list_eq_equiv};
+
+    ghost laws = { nat_list_eq_equiv };
+}
+
+/// An attribute of an operation: a constant's datum, or a count.
+#[derive(Debug, Drop, PartialEq, Eq)]
 pub enum AttrObj {
     Int(i128),
     Text(Text),
 }
 
 impl AttrObj {
+    /// Whether both hold the same datum. Cost: the length of a text.
+    pub fn is_same(&self, other: &AttrObj) -> bool
+        ensures { IsTrue result ↔ (self.now ≡ other.now) }
+    {
+        self == other
+    }
+
     /// An equal attribute.
-    pub fn copy(&self, alloc: Global) -> Result<AttrObj, AllocError>
+    ///
+    /// Errors: want of memory. Cost: the length of a text.
+    pub fn copy(&self, alloc: Global) -> Result<AttrObj, NoMemory>
         ensures { IfOk result (λ attr. attr ≡ self.now) }
     {
         match self {
@@ -111,6 +142,27 @@ impl Attrs {
         ensures { result.items ≡ self }
     {
         self.attrs
+    }
+}
+
+/// Whether a rewrite changed the tree.
+#[derive(Clone, Copy, Debug, Default, Drop, PartialEq, Eq)]
+pub enum IRStatus {
+    Changed,
+    #[default]
+    Unchanged,
+}
+
+impl BitOrAssign for IRStatus {
+    ghost use Rattle.pliron_core.specs.Status.{changed_by_either};
+
+    ghost bitor_assign_gives = { λ a b c. c ≡ changed_by_either a b };
+
+    /// `Changed` if one of them is.
+    fn bitor_assign(&mut self, other: IRStatus) {
+        if other == IRStatus::Changed {
+            *self = other;
+        }
     }
 }
 

@@ -3,10 +3,14 @@ ghost use Rattle.std.specs.Prelude.{◌≡◌, []};
 ghost use Rattle.pliron_core.specs.Joined.{IsTree, HaveUses};
 ghost use Rattle.pliron_core.specs.Writes.{no_tree};
 
+mod block_reads;
 mod create;
+mod edge_reads;
 pub(crate) mod edit;
 mod operation_reads;
 pub(crate) mod place;
+mod region_reads;
+mod value_reads;
 
 use crate::attrs::Head;
 use crate::keys::{BasicBlock, Operation, Ptr, Region, Value};

@@ -9,7 +9,7 @@ mod rewriter;
 mod row;
 mod uses;
 
-pub use attrs::{AttrObj, Attrs, Head, Text};
+pub use attrs::{AttrObj, Attrs, Head, IRStatus, Text};
 pub use context::{Context, Def, NoMemory, OperationEntry, RegionSlot};
 pub use keys::{BasicBlock, Operation, Ptr, Region, Value};
 pub use rewriter::{IRRewriter, OpInsertionPoint, Rewriter};

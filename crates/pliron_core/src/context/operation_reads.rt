@@ -1,13 +1,15 @@
 //! What can be read of an operation.
-ghost use Rattle.std.specs.Prelude.{◌≡◌, ◌<◌, length, slice_get, Some, IsTrue, ◌↔◌};
-ghost use Rattle.pliron_core.specs.Tree.{IsLive, head_of, operands_of, results_of, successors_of, regions_of, parent_of};
+ghost use Rattle.std.specs.Prelude.{◌≡◌, ◌<◌, length, slice_get, Some, IfSome, IsTrue, ◌↔◌};
+ghost use Rattle.pliron_core.specs.Tree.{IsLive, IsBlock, IsRegion, IsDefined, head_of, operands_of, results_of, successors_of, regions_of, parent_of};
+ghost use Rattle.pliron_core.specs.Reads.{next_of, prev_of};
 
 use super::Context;
 use crate::attrs::Head;
 use crate::keys::{BasicBlock, Operation, Ptr, Region, Value};
 
 impl Ptr<Operation> {
-    /// Whether the operation stands: it was made in this context and not erased since.
+    /// Whether the operation stands: it was made in this context and not erased since. Constant
+    /// cost.
     pub fn is_live(self, ctx: &Context) -> bool
         ensures { IsTrue result ↔ IsLive ctx.now.tree self }
     {
@@ -17,7 +19,7 @@ impl Ptr<Operation> {
         }
     }
 
-    /// The operation's head.
+    /// The operation's head. The operation stands. Constant cost.
     pub fn head(self, ctx: &Context) -> &Head
         requires { IsLive ctx.now.tree self }
         ensures { head_of ctx.now.tree self ≡ Some result.now }
@@ -28,7 +30,7 @@ impl Ptr<Operation> {
         }
     }
 
-    /// How many operands the operation has.
+    /// How many operands the operation has. The operation stands. Constant cost.
     pub fn num_operand(self, ctx: &Context) -> usize
         requires { IsLive ctx.now.tree self }
         ensures { result ≡ length (operands_of ctx.now.tree self) }
@@ -36,16 +38,18 @@ impl Ptr<Operation> {
         ctx.operands.num_targets(self.index())
     }
 
-    /// The operand at this index.
+    /// The operand at this index. The operation stands, and has as many. Constant cost.
     pub fn get_operand(self, ctx: &Context, i: usize) -> Value
         requires live { IsLive ctx.now.tree self }
         requires index { i < length (operands_of ctx.now.tree self) }
-        ensures { slice_get (operands_of ctx.now.tree self) i ≡ Some result }
+        ensures operand { slice_get (operands_of ctx.now.tree self) i ≡ Some result }
+        ensures stands { IsDefined ctx.now.tree result }
     {
+        ctx.well_formed();
         Value::new(ctx.operands.target(self.index(), i))
     }
 
-    /// How many results the operation has.
+    /// How many results the operation has. The operation stands. Constant cost.
     pub fn num_result(self, ctx: &Context) -> usize
         requires { IsLive ctx.now.tree self }
         ensures { result ≡ length (results_of ctx.now.tree self) }
@@ -53,20 +57,84 @@ impl Ptr<Operation> {
         ctx.operations[self.index()].results.len()
     }
 
-    /// The result at this index.
+    /// The result at this index. The operation stands, and has as many. Constant cost.
     pub fn get_result(self, ctx: &Context, i: usize) -> Value
         requires live { IsLive ctx.now.tree self }
         requires index { i < length (results_of ctx.now.tree self) }
-        ensures { slice_get (results_of ctx.now.tree self) i ≡ Some result }
+        ensures value { slice_get (results_of ctx.now.tree self) i ≡ Some result }
+        ensures stands { IsDefined ctx.now.tree result }
     {
+        ctx.well_formed();
         ctx.operations[self.index()].results.get(i)
     }
 
-    /// The block that has the operation, if one does.
+    /// How many successors the operation has. The operation stands. Constant cost.
+    pub fn num_successor(self, ctx: &Context) -> usize
+        requires { IsLive ctx.now.tree self }
+        ensures { result ≡ length (successors_of ctx.now.tree self) }
+    {
+        ctx.successors.num_targets(self.index())
+    }
+
+    /// The successor at this index. The operation stands, and has as many. Constant cost.
+    pub fn get_successor(self, ctx: &Context, i: usize) -> Ptr<BasicBlock>
+        requires live { IsLive ctx.now.tree self }
+        requires index { i < length (successors_of ctx.now.tree self) }
+        ensures successor { slice_get (successors_of ctx.now.tree self) i ≡ Some result }
+        ensures stands { IsBlock ctx.now.tree result }
+    {
+        ctx.well_formed();
+        Ptr::new(ctx.successors.target(self.index(), i))
+    }
+
+    /// How many regions the operation has. The operation stands. Constant cost.
+    pub fn num_region(self, ctx: &Context) -> usize
+        requires { IsLive ctx.now.tree self }
+        ensures { result ≡ length (regions_of ctx.now.tree self) }
+    {
+        ctx.operations[self.index()].regions.len()
+    }
+
+    /// The region at this index. The operation stands, and has as many. Constant cost.
+    pub fn get_region(self, ctx: &Context, i: usize) -> Ptr<Region>
+        requires live { IsLive ctx.now.tree self }
+        requires index { i < length (regions_of ctx.now.tree self) }
+        ensures region { slice_get (regions_of ctx.now.tree self) i ≡ Some result }
+        ensures stands { IsRegion ctx.now.tree result }
+    {
+        ctx.well_formed();
+        ctx.operations[self.index()].regions.get(i)
+    }
+
+    /// The block that has the operation, if one does. The operation stands. Constant cost.
     pub fn get_parent_block(self, ctx: &Context) -> Option<Ptr<BasicBlock>>
         requires { IsLive ctx.now.tree self }
-        ensures { result ≡ parent_of ctx.now.tree self }
+        ensures block { result ≡ parent_of ctx.now.tree self }
+        ensures stands { IfSome result (λ b. IsBlock ctx.now.tree b) }
     {
+        ctx.well_formed();
         ctx.order.owner(self.index()).map(|key| Ptr::new(key))
+    }
+
+    /// The operation directly before this one in its block, if there is one. The operation stands.
+    /// Constant cost.
+    pub fn get_prev(self, ctx: &Context) -> Option<Ptr<Operation>>
+        requires { IsLive ctx.now.tree self }
+        ensures prev { result ≡ prev_of ctx.now.tree self }
+        ensures stands { IfSome result (λ op. IsLive ctx.now.tree op) }
+    {
+        ctx.well_formed();
+        ctx.order.prev(self.index()).map(|key| Ptr::new(key))
+    }
+
+    /// The operation directly after this one in its block, if there is one. The operation stands.
+    /// Constant cost.
+    pub fn get_next(self, ctx: &Context) -> Option<Ptr<Operation>>
+        requires { IsLive ctx.now.tree self }
+        ensures next { result ≡ next_of ctx.now.tree self }
+        ensures stands { IfSome result (λ op. IsLive ctx.now.tree op) }
+    {
+        ctx.well_formed();
+        ctx.order.next(self.index()).map(|key| Ptr::new(key))
     }
 }

@@ -13,5 +13,5 @@ get_parent_block-requires c =
 pub place_before-requires-clause-outside : goal.place_before-requires-clause-outside
 place_before-requires-clause-outside c =
     let r = rw c.in-BeforeOperation.is at c.requires.point in
-    let at : parent_of c.args.ctx.now.tree c.in-BeforeOperation.at ≡ Some c.in-Some.block = sym c.get_parent_block.ensures ∙ c.in-Some.is in
+    let at : parent_of c.args.ctx.now.tree c.in-BeforeOperation.at ≡ Some c.in-Some.block = sym c.get_parent_block.ensures.block ∙ c.in-Some.is in
     before_outside c.args.ctx.now.tree c.args.op c.in-BeforeOperation.at c.in-Some.block at r.2

@@ -1,0 +1,48 @@
+//! What can be read of a value.
+ghost use Rattle.std.specs.Prelude.{◌≡◌, slice_get, Some, IsTrue, ◌↔◌};
+ghost use Rattle.pliron_core.specs.Tree.{IsDefined, definition_of};
+ghost use Rattle.pliron_core.specs.Reads.{IsMakerStanding};
+
+use super::{Context, Def};
+use crate::keys::Value;
+use crate::row::Row;
+
+// Whether the value stands at this index.
+fn is_value_at(values: &Row<Value>, i: usize, value: Value) -> bool
+    ensures { IsTrue result ↔ (slice_get values.now i ≡ Some value) }
+{
+    if i < values.len() {
+        values.get(i) == value
+    } else {
+        false
+    }
+}
+
+impl Value {
+    /// Whether the value stands: what made it in this context still lists it. Constant cost.
+    pub fn is_live(self, ctx: &Context) -> bool
+        ensures { IsTrue result ↔ IsDefined ctx.now.tree self }
+    {
+        match ctx.values.get(self.index()) {
+            Some(Def::Result(op, i)) => match ctx.operations.get(op.index()) {
+                Some(entry) => is_value_at(&entry.results, *i, self),
+                None => false,
+            },
+            Some(Def::Argument(block, i)) => match ctx.arguments.get(block.index()) {
+                Some(arguments) => is_value_at(arguments, *i, self),
+                None => false,
+            },
+            None => false,
+        }
+    }
+
+    /// What makes the value. The value stands. Constant cost.
+    pub fn def(self, ctx: &Context) -> Def
+        requires { IsDefined ctx.now.tree self }
+        ensures definition { definition_of ctx.now.tree self ≡ Some result }
+        ensures stands { IsMakerStanding ctx.now.tree result }
+    {
+        ctx.well_formed();
+        ctx.values[self.index()]
+    }
+}
