@@ -27,3 +27,8 @@ pub mod WellLemmas
 pub mod ReadLemmas
 pub mod FilterLemmas
 pub mod EdgeLemmas
+pub mod FlatLemmas
+pub mod ForestLemmas
+pub mod WalkLemmas
+pub mod NextLemmas
+pub mod WalkStepLemmas

@@ -10,6 +10,8 @@ pub mod Status
 pub mod Reads
 pub mod Edges
 pub mod EdgeUses
+pub mod Walks
+pub mod WalkSteps
 pub mod Making
 pub mod Insertion
 pub mod Erased

@@ -11,6 +11,7 @@ mod operation_reads;
 pub(crate) mod place;
 mod region_reads;
 mod value_reads;
+mod walk;
 
 use crate::attrs::Head;
 use crate::keys::{BasicBlock, Operation, Ptr, Region, Value};

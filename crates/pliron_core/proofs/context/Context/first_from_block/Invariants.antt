@@ -1,0 +1,16 @@
+use Rattle.std.proofs.Common.{◌≡◌, None, length}
+use Rattle.std.specs.List.{flat_map}
+use Rattle.std.specs.Option.{ForSome}
+use Rattle.pliron_core.specs.Lists.{first_of}
+use Rattle.pliron_core.specs.Tree.{IsBlock, body_of}
+use Rattle.pliron_core.specs.WalkSteps.{blocks_from, first_in_blocks}
+use Rattle.pliron_core.proofs.context.Context.first_from_block.Given as goal
+
+abbrev pub invariant-loop-at : goal.invariant-loop-at
+invariant-loop-at l = record {
+  stands : ForSome l.at (λ b. IsBlock l.self.tree b);
+  first : first_in_blocks l.self.tree l.fn.from ≡ first_in_blocks l.self.tree l.at;
+}
+
+abbrev pub decreases-loop-at : goal.decreases-loop-at
+decreases-loop-at l = length (blocks_from l.self.tree l.at)

@@ -1,0 +1,168 @@
+//! Walks over the operations inside an operation. They take no memory.
+ghost use Rattle.std.specs.Prelude.{◌<◌, length, ◌≡◌, ◌+◌, ℕ, Some, IsTrue, IfSome, ◌↔◌};
+ghost use Rattle.std.specs.Option.{ForSome};
+ghost use Rattle.pliron_core.specs.Lists.{next_in};
+ghost use Rattle.pliron_core.specs.Tree.{IsLive, IsBlock, IsRegion, IsInside, IsWithin, slot_of, holder_of};
+ghost use Rattle.pliron_core.specs.Walks.{children, preorder};
+ghost use Rattle.pliron_core.specs.WalkSteps.{first_in_blocks, first_in_regions, GoesOn};
+
+use super::{Context, RegionSlot};
+use crate::keys::{Operation, Ptr};
+
+impl Context {
+    // The first operation of this block, or of the blocks after it in its region.
+    fn first_from_block(&self, from: Option<usize>) -> Option<usize>
+        requires { ForSome from (λ block. IsBlock self.now.tree block) }
+        ensures { result ≡ first_in_blocks self.now.tree from }
+    {
+        self.well_formed();
+        let mut at = from;
+        while let Some(block) = at {
+            let first = self.order.head(block);
+            if first.is_some() {
+                return first;
+            }
+            at = self.layout.next(block);
+        }
+        None
+    }
+
+    // The first operation of the regions of `op` from this index on.
+    fn first_from_region(&self, op: usize, index: usize) -> Option<usize>
+        requires { IsLive self.now.tree op }
+        ensures { result ≡ first_in_regions self.now.tree op index }
+    {
+        self.well_formed();
+        let regions = &self.operations[op].regions;
+        for i in index..regions.len() {
+            let region = regions.get(i).index();
+            let first = self.first_from_block(self.layout.head(region));
+            if first.is_some() {
+                return first;
+            }
+        }
+        None
+    }
+
+    // The first operation of the regions after this one, of the same operation.
+    fn first_after_region(&self, region: usize) -> Option<usize>
+        requires { IsRegion self.now.tree region }
+        ensures { ForSome (slot_of self.now.tree region) (λ slot. result ≡ first_in_regions self.now.tree slot.op (slot.index + 1)) }
+    {
+        self.well_formed();
+        let RegionSlot { op, index } = self.slots[region];
+        let count = self.operations[op.index()].regions.len();
+        let next = index + 1;
+        if next == count {
+            return None;
+        }
+        self.first_from_region(op.index(), next)
+    }
+
+    // The operation after `op` among those that its holder has.
+    fn next_sibling(&self, op: usize) -> Option<usize>
+        requires { IsLive self.now.tree op }
+        ensures { (k : ℕ) → holder_of self.now.tree op ≡ Some k → result ≡ next_in op (children self.now.tree k) }
+    {
+        self.well_formed();
+        let next = self.order.next(op);
+        if next.is_some() {
+            return next;
+        }
+        let block = self.order.owner(op)?;
+        let next = self.first_from_block(self.layout.next(block));
+        if next.is_some() {
+            return next;
+        }
+        let region = self.layout.owner(block)?;
+        self.first_after_region(region)
+    }
+}
+
+impl Ptr<Operation> {
+    /// The operation that this one stands directly inside, if it stands in a block. Constant cost.
+    pub fn get_parent_op(self, ctx: &Context) -> Option<Ptr<Operation>>
+        requires { IsLive ctx.now.tree self }
+        ensures holder { result ≡ holder_of ctx.now.tree self }
+        ensures live { IfSome result (λ op. IsLive ctx.now.tree op) }
+    {
+        ctx.well_formed();
+        let block = ctx.order.owner(self.index())?;
+        let region = ctx.layout.owner(block)?;
+        Some(ctx.slots[region].op)
+    }
+
+    /// Whether this operation stands inside `op`, at any depth; an operation is not inside itself.
+    /// The cost is the depth of this one.
+    pub fn is_inside(self, op: Ptr<Operation>, ctx: &Context) -> bool
+        requires { IsLive ctx.now.tree self }
+        ensures { IsTrue result ↔ IsInside ctx.now.tree op self }
+    {
+        ctx.well_formed();
+        let mut above = self.get_parent_op(ctx);
+        while let Some(holder) = above {
+            if holder == op {
+                return true;
+            }
+            above = holder.get_parent_op(ctx);
+        }
+        false
+    }
+
+    // The operation that follows this one and its contents on the walk over `root`.
+    fn next_after(self, root: Ptr<Operation>, ctx: &Context) -> Option<Ptr<Operation>>
+        requires live { IsLive ctx.now.tree root }
+        requires within { IsWithin ctx.now.tree root self }
+        ensures { GoesOn (preorder ctx.now.tree root) (preorder ctx.now.tree self) result }
+    {
+        ctx.well_formed();
+        let mut at = self;
+        while at != root {
+            if let Some(next) = ctx.next_sibling(at.index()) {
+                return Some(Ptr::new(next));
+            }
+            match at.get_parent_op(ctx) {
+                Some(holder) => at = holder,
+                None => unreachable!(),
+            }
+        }
+        None
+    }
+
+    /// The operation after this one on the walk over `root` and its contents in pre-order, where an
+    /// operation comes before its contents, and these come before its next sibling. This one is
+    /// `root` or stands inside it. A call goes by links, down to the first child or up to the first
+    /// holder with a later one, so that the whole walk, from `root` until `None`, costs one step for
+    /// each operation, block and region within `root`.
+    pub fn next_in_preorder(self, root: Ptr<Operation>, ctx: &Context) -> Option<Ptr<Operation>>
+        requires live { IsLive ctx.now.tree root }
+        requires within { IsWithin ctx.now.tree root self }
+        ensures next { result ≡ next_in self (preorder ctx.now.tree root) }
+        ensures live { IfSome result (λ op. IsLive ctx.now.tree op) }
+        ensures inside { IfSome result (λ op. IsInside ctx.now.tree root op) }
+    {
+        ctx.well_formed();
+        match ctx.first_from_region(self.index(), 0) {
+            Some(child) => Some(Ptr::new(child)),
+            None => self.next_after(root, ctx),
+        }
+    }
+}
+
+impl Context {
+    // trial
+    fn count_within(&self, root: Ptr<Operation>) -> u64
+        requires live { IsLive self.now.tree root }
+        requires few { length (preorder self.now.tree root) < 1000 }
+        ensures { result ≡ length (preorder self.now.tree root) }
+    {
+        self.well_formed();
+        let mut count = 0;
+        let mut at = Some(root);
+        while let Some(op) = at {
+            count += 1;
+            at = op.next_in_preorder(root, self);
+        }
+        count
+    }
+}
