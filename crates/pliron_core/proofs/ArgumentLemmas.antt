@@ -147,8 +147,10 @@ module _ (t : Tree) (block i : ℕ) (keys : HaveSameKeys t) (w : IsJoined t) (is
     where
       order : (j : ℕ) → (j < i) ⊎ (i ≤ j)
       order j = grind arith
+
       at_block : slice_get (remove (arguments_of t block) i) j ≡ Some v
       at_block = ap (λ l. slice_get l j) (sym own) ∙ ap (λ z. slice_get (arguments_of u z) j) (sym s) ∙ e
+
       here : definition_of u v ≡ Some (Argument block j) → definition_of u v ≡ Some (Argument b j)
       here f = f ∙ ap (λ z. Some (Argument z j)) (sym s)
 
@@ -162,16 +164,19 @@ module _ (t : Tree) (block i : ℕ) (keys : HaveSameKeys t) (w : IsJoined t) (is
     where
       order : (j : ℕ) → (j < i) ⊎ (i ≤ j)
       order j = grind arith
+
       later : (n : ℕ) → j ≡ suc n → i ≤ n → slice_get (arguments_of t block) j ≡ Some v → IsDefined u v
       later n f le y =
           let z : slice_get (arguments_of t block) (suc n) ≡ Some v = ap (slice_get (arguments_of t block)) (sym f) ∙ y in
           subst (IsMadeBy u v) (sym (renumbered n v le z)) (ap (λ l. slice_get l n) own ∙ removed_above (arguments_of t block) i n le ∙ z)
+
       split : (j : ℕ) → i ≤ j → (j ≡ i) ⊎ ((n : ℕ) × (j ≡ suc n) × (i ≤ n))
       split zero le = inl (omega (arith, le))
       split (suc n) le = elim (last n) [ inl f ↦ inr (n, refl, f) | inr g ↦ inl (omega (arith, g, le)) ]
         where
           last : (n : ℕ) → (i ≤ n) ⊎ (n < i)
           last n = grind arith
+
       at_block : slice_get (arguments_of t block) j ≡ Some v → definition_of t v ≡ Some (Argument block j) → (j < i) ⊎ (i ≤ j) → IsDefined u v
       at_block y d (inl lt) = subst (IsMadeBy u v) (sym (kept v (Argument block j) d (λ n gt f. let g : j ≡ n = cc in omega (arith, g, lt, gt)))) (ap (λ l. slice_get l j) own ∙ removed_below (arguments_of t block) i j lt ∙ y)
       at_block y d (inr le) = elim (split j le) [
@@ -181,11 +186,15 @@ module _ (t : Tree) (block i : ℕ) (keys : HaveSameKeys t) (w : IsJoined t) (is
 
   pub kept_argument_removed : IsJoined (argument_removed t block i)
   kept_argument_removed = record {
-    standing = w.standing; placed = w.placed; regions = w.regions;
+    standing = w.standing;
+    placed = w.placed;
+    regions = w.regions;
     results = λ k j v e. kept v (Result k j) (w.results k j v e) (λ n lt f. cc);
     arguments = λ b j v e. arguments_back b j v e (cases_eq b block);
     operands = λ k v j. defined k v j (definition_of t v) refl (w.operands k v j);
-    successors = w.successors; ordered = w.ordered; erased = w.erased;
+    successors = w.successors;
+    ordered = w.ordered;
+    erased = w.erased;
     unplaced = λ b e. let x = w.unplaced b e in (other b (λ s. let f : true ≡ false = sym is ∙ ap (λ z. is_some (block_parent_of t z)) (sym s) ∙ ap is_some e in true≢false f) ∙ x.0, x.1);
     rooted = w.rooted;
   }
@@ -225,7 +234,11 @@ module _ (t : Tree) (op : ℕ) (entry : OperationEntry) (w : IsJoined t) (live :
     results = λ k i v e. w.results k i v (ap (λ l. slice_get l i) (sym (same k).0) ∙ e);
     arguments = w.arguments;
     operands = λ k v i. defined_kept t changed v (λ d e. e) (λ j n e. ap (λ l. slice_get l n) (same j).0 ∙ e) (λ b n e. e) (w.operands k v i);
-    successors = w.successors; ordered = w.ordered; erased = dead; unplaced = w.unplaced; rooted = w.rooted;
+    successors = w.successors;
+    ordered = w.ordered;
+    erased = dead;
+    unplaced = w.unplaced;
+    rooted = w.rooted;
   }
 
 pub headed_attribute : (h : Option Head) (i : ℕ) (attr : AttrObj) → IsSome h → IsSome (with_attribute h i attr)

@@ -38,6 +38,7 @@ holder_kept t t' w parents blocks slots x = ap (λ o. up_from o (λ b. block_hol
     at_region : (o : Option ℕ) (b : ℕ) → block_parent_of t b ≡ o → up_from o (λ r. region_parent_of t' r) ≡ up_from o (λ r. region_parent_of t r)
     at_region None b e = refl
     at_region (Some r) b e = let s = region_owner t r (w.placed b r e) in ap op_of_slot (slots r s.0 s.1) ∙ sym (ap op_of_slot s.1)
+
     go : (o : Option ℕ) → parent_of t x ≡ o → up_from o (λ b. block_holder_of t' b) ≡ up_from o (λ b. block_holder_of t b)
     go None e = refl
     go (Some b) e = ap (λ o. up_from o (λ r. region_parent_of t' r)) (blocks b (w.standing x b e).1) ∙ at_region (block_parent_of t b) b refl
@@ -63,46 +64,46 @@ module _ (t : Tree) (h : Head) (results regions : ℕ) (w : IsJoined t) where
 
   region_listed : (k i r : ℕ) → slice_get (regions_of t k) i ≡ Some r → slice_get (regions_of t' k) i ≡ Some r
   region_listed k i r e = ⊎_elim
-    (λ s. ap (λ z. slice_get z.regions i) s ∙ e)
-    (λ s. let x : slice_get {X = ℕ} [] i ≡ Some r = ap (λ z. slice_get z.regions i) (sym s.1) ∙ e in absurd (grind arith))
-    (entry_at k)
+      (λ s. ap (λ z. slice_get z.regions i) s ∙ e)
+      (λ s. let x : slice_get {X = ℕ} [] i ≡ Some r = ap (λ z. slice_get z.regions i) (sym s.1) ∙ e in absurd (grind arith))
+      (entry_at k)
 
   result_listed : (k i v : ℕ) → slice_get (results_of t k) i ≡ Some v → slice_get (results_of t' k) i ≡ Some v
   result_listed k i v e = ⊎_elim
-    (λ s. ap (λ z. slice_get z.results i) s ∙ e)
-    (λ s. let x : slice_get {X = ℕ} [] i ≡ Some v = ap (λ z. slice_get z.results i) (sym s.1) ∙ e in absurd (grind arith))
-    (entry_at k)
+      (λ s. ap (λ z. slice_get z.results i) s ∙ e)
+      (λ s. let x : slice_get {X = ℕ} [] i ≡ Some v = ap (λ z. slice_get z.results i) (sym s.1) ∙ e in absurd (grind arith))
+      (entry_at k)
 
   region_created : (r : ℕ) → IsRegion t r → IsRegion t' r
   region_created r is = let s = region_owner t r is in subst (IsListedBy t' r) (sym (slot r s.0 s.1)) (region_listed s.0.op s.0.index r s.2)
 
   region_back : (k i r : ℕ) → slice_get (regions_of t' k) i ≡ Some r → slot_of t' r ≡ Some (record { op = k; index = i })
   region_back k i r e = ⊎_elim
-    (λ s. slot r _ (w.regions k i r (ap (λ z. slice_get z.regions i) (sym s) ∙ e)))
-    (λ s.
-        let f = range_at (length t.slots) regions i r (ap (λ z. slice_get z.regions i) (sym s.0) ∙ e) in
-        ap (slice_get (t.slots ++ region_slots (length t.operations) regions)) f.0 ∙ slice_get_added t.slots _ i ∙ mapped_range_get (λ j. let q : RegionSlot = record { op = length t.operations; index = j } in q) 0 regions i f.1 ∙ ap₂ (sym s.2))
-    (entry_at k)
+      (λ s. slot r _ (w.regions k i r (ap (λ z. slice_get z.regions i) (sym s) ∙ e)))
+      (λ s.
+      let f = range_at (length t.slots) regions i r (ap (λ z. slice_get z.regions i) (sym s.0) ∙ e) in
+      ap (slice_get (t.slots ++ region_slots (length t.operations) regions)) f.0 ∙ slice_get_added t.slots _ i ∙ mapped_range_get (λ j. let q : RegionSlot = record { op = length t.operations; index = j } in q) 0 regions i f.1 ∙ ap₂ (sym s.2))
+      (entry_at k)
     where
       ap₂ : length t.operations ≡ k → Some (let q : RegionSlot = record { op = length t.operations; index = 0 + i } in q) ≡ Some (record { op = k; index = i })
       ap₂ g = let z : 0 + i ≡ i = omega arith in ap (λ n. Some (let q : RegionSlot = record { op = length t.operations; index = n } in q)) z ∙ ap (λ n. Some (let q : RegionSlot = record { op = n; index = i } in q)) g
 
   result_back : (k i v : ℕ) → slice_get (results_of t' k) i ≡ Some v → definition_of t' v ≡ Some (Result k i)
   result_back k i v e = ⊎_elim
-    (λ s. definition v _ (w.results k i v (ap (λ z. slice_get z.results i) (sym s) ∙ e)))
-    (λ s.
-        let f = range_at (length t.definitions) results i v (ap (λ z. slice_get z.results i) (sym s.0) ∙ e) in
-        ap (slice_get (t.definitions ++ result_definitions (length t.operations) results)) f.0 ∙ slice_get_added t.definitions _ i ∙ mapped_range_get (λ j. Result (length t.operations) j) 0 results i f.1 ∙ named (sym s.2))
-    (entry_at k)
+      (λ s. definition v _ (w.results k i v (ap (λ z. slice_get z.results i) (sym s) ∙ e)))
+      (λ s.
+      let f = range_at (length t.definitions) results i v (ap (λ z. slice_get z.results i) (sym s.0) ∙ e) in
+      ap (slice_get (t.definitions ++ result_definitions (length t.operations) results)) f.0 ∙ slice_get_added t.definitions _ i ∙ mapped_range_get (λ j. Result (length t.operations) j) 0 results i f.1 ∙ named (sym s.2))
+      (entry_at k)
     where
       named : length t.operations ≡ k → Some (Result (length t.operations) (0 + i)) ≡ Some (Result k i)
       named g = let z : 0 + i ≡ i = omega arith in ap (λ n. Some (Result (length t.operations) n)) z ∙ ap (λ n. Some (Result n i)) g
 
   dead : (k : ℕ) → head_of t' k ≡ None → (operands_of t' k ≡ []) × (successors_of t' k ≡ []) × (row_of t' k ≡ no_entry)
   dead k e = ⊎_elim
-    (λ s. let x = w.erased k (sym (ap (λ z. z.head) s) ∙ e) in (get_grown t.operands [] k ∙ x.0, get_grown t.successors [] k ∙ x.1, s ∙ x.2))
-    (λ s. let f : true ≡ false = sym (ap (λ z. is_some z.head) s.0) ∙ ap is_some e in absurd (true≢false f))
-    (entry_at k)
+      (λ s. let x = w.erased k (sym (ap (λ z. z.head) s) ∙ e) in (get_grown t.operands [] k ∙ x.0, get_grown t.successors [] k ∙ x.1, s ∙ x.2))
+      (λ s. let f : true ≡ false = sym (ap (λ z. is_some z.head) s.0) ∙ ap is_some e in absurd (true≢false f))
+      (entry_at k)
 
   pub kept_created : IsJoined (created t h results regions)
   kept_created = record {
@@ -148,26 +149,26 @@ module _ (t : Tree) (region count : ℕ) (keys : HaveSameKeys t) (w : IsJoined t
 
   argument_listed : (b i v : ℕ) → slice_get (arguments_of t b) i ≡ Some v → slice_get (arguments_of u b) i ≡ Some v
   argument_listed b i v e = ⊎_elim
-    (λ s. ap (λ z. slice_get z i) s ∙ e)
-    (λ s. let x : slice_get {X = ℕ} [] i ≡ Some v = ap (λ z. slice_get z i) (sym s.1) ∙ e in absurd (grind arith))
-    (arguments_at b)
+      (λ s. ap (λ z. slice_get z i) s ∙ e)
+      (λ s. let x : slice_get {X = ℕ} [] i ≡ Some v = ap (λ z. slice_get z i) (sym s.1) ∙ e in absurd (grind arith))
+      (arguments_at b)
 
   argument_back : (b i v : ℕ) → slice_get (arguments_of u b) i ≡ Some v → definition_of u v ≡ Some (Argument b i)
   argument_back b i v e = ⊎_elim
-    (λ s. define v _ (w.arguments b i v (ap (λ z. slice_get z i) (sym s) ∙ e)))
-    (λ s.
-        let f = range_at (length t.definitions) count i v (ap (λ z. slice_get z i) (sym s.0) ∙ e) in
-        ap (slice_get (t.definitions ++ argument_definitions (length t.bodies) count)) f.0 ∙ slice_get_added t.definitions _ i ∙ mapped_range_get (λ j. Argument (length t.bodies) j) 0 count i f.1 ∙ named (sym s.2))
-    (arguments_at b)
+      (λ s. define v _ (w.arguments b i v (ap (λ z. slice_get z i) (sym s) ∙ e)))
+      (λ s.
+      let f = range_at (length t.definitions) count i v (ap (λ z. slice_get z i) (sym s.0) ∙ e) in
+      ap (slice_get (t.definitions ++ argument_definitions (length t.bodies) count)) f.0 ∙ slice_get_added t.definitions _ i ∙ mapped_range_get (λ j. Argument (length t.bodies) j) 0 count i f.1 ∙ named (sym s.2))
+      (arguments_at b)
     where
       named : length t.bodies ≡ b → Some (Argument (length t.bodies) (0 + i)) ≡ Some (Argument b i)
       named g = let z : 0 + i ≡ i = omega arith in ap (λ n. Some (Argument (length t.bodies) n)) z ∙ ap (λ n. Some (Argument n i)) g
 
   unplaced_at : (b : ℕ) → block_parent_of u b ≡ None → (arguments_of u b ≡ []) × (body_of u b ≡ [])
   unplaced_at b e = ⊎_elim
-    (λ s. let x = w.unplaced b (sym s ∙ e) in (⊎_elim (λ a. a ∙ x.0) (λ a. absurd (new a.2)) (arguments_at b), get_grown t.bodies [] b ∙ x.1))
-    (λ s. let f : Some region ≡ None = sym s.0 ∙ e in absurd (cc))
-    (parent_at b)
+      (λ s. let x = w.unplaced b (sym s ∙ e) in (⊎_elim (λ a. a ∙ x.0) (λ a. absurd (new a.2)) (arguments_at b), get_grown t.bodies [] b ∙ x.1))
+      (λ s. let f : Some region ≡ None = sym s.0 ∙ e in absurd (cc))
+      (parent_at b)
     where
       new : b ≡ length t.bodies → ⊥
       new g =
@@ -181,9 +182,9 @@ module _ (t : Tree) (region count : ℕ) (keys : HaveSameKeys t) (w : IsJoined t
   ordered_at : (r : ℕ) → IsRising (layout_of u r)
   ordered_at r = elim (cases_eq r region) [
     | inl e ↦ elim (within region) [
-        | inl lt ↦ subst (λ z. IsRising (layout_of u z)) (sym e) (subst IsRising (sym (get_or-set_same t.layouts region _ [] lt)) (rising_last (layout_of t region) (length t.bodies) (w.ordered region) layout_below))
-        | inr le ↦ let s = region_owner t region is in let x = slice_get_within t.slots region s.0 s.1 in absurd (omega (arith, le, x, keys.slots))
-      ]
+      | inl lt ↦ subst (λ z. IsRising (layout_of u z)) (sym e) (subst IsRising (sym (get_or-set_same t.layouts region _ [] lt)) (rising_last (layout_of t region) (length t.bodies) (w.ordered region) layout_below))
+      | inr le ↦ let s = region_owner t region is in let x = slice_get_within t.slots region s.0 s.1 in absurd (omega (arith, le, x, keys.slots))
+    ]
     | inr ne ↦ subst IsRising (sym (get_or-set_other t.layouts region r _ [] ne)) (w.ordered r)
   ]
     where

@@ -19,7 +19,7 @@ flat_map-In f (y ∷ ys) z i = elim (In-cases z (f y) (flat_map f ys) i) [
 
 -- pieces of distinct members that share none
 pub distinct-flat_map : (f : ℕ → List ℕ) (xs : List ℕ) → IsDistinct xs → ((x : ℕ) → In x xs → IsDistinct (f x))
-  → ((x y z : ℕ) → In x xs → In y xs → In z (f x) → In z (f y) → x ≡ y) → IsDistinct (flat_map f xs)
+    → ((x y z : ℕ) → In x xs → In y xs → In z (f x) → In z (f y) → x ≡ y) → IsDistinct (flat_map f xs)
 distinct-flat_map f [] d each apart = tt
 distinct-flat_map f (x ∷ xs) d each apart =
     distinct-join (f x) (flat_map f xs) (each x (inl refl)) (distinct-flat_map f xs d.1 (λ y i. each y (inr i)) (λ y z w i j. apart y z w (inr i) (inr j))) (λ z i j.

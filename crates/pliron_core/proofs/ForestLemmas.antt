@@ -140,7 +140,7 @@ module _ (h : ℕ → Option ℕ) (kids : ℕ → List ℕ) (n : ℕ) (is : IsFo
 
   -- where x and what stands below it come in what stands below the holder
   pub descend-split : (x k : ℕ) (front back : List ℕ) → kids k ≡ front ++ x ∷ back
-    → descend kids n k ≡ flat_map (λ c. c ∷ descend kids n c) front ++ ((x ∷ descend kids n x) ++ flat_map (λ c. c ∷ descend kids n c) back)
+      → descend kids n k ≡ flat_map (λ c. c ∷ descend kids n c) front ++ ((x ∷ descend kids n x) ++ flat_map (λ c. c ∷ descend kids n c) back)
   descend-split x k front back e =
       descend-children k ∙ ap (flat_map (λ c. c ∷ descend kids n c)) e ∙ flat_map-append (λ c. c ∷ descend kids n c) front (x ∷ back)
 
@@ -152,4 +152,4 @@ module _ (h : ℕ → Option ℕ) (kids : ℕ → List ℕ) (n : ℕ) (is : IsFo
   descend-alike others (suc m) zero k s r same =
       sym (flat_map-none (λ c. c ∷ descend kids m c) (kids k) (λ c i. r c (subst (In c) (sym (same k (inl refl))) i)))
   descend-alike others (suc m) (suc l) k s r same =
-      ap (flat_map (λ c. c ∷ descend others l c)) (same k (inl refl)) ∙ flat_map-same (λ c. c ∷ descend others l c) (λ c. c ∷ descend kids m c) (kids k) (λ c i. ap (λ zs. c ∷ zs) (descend-alike others m l c (s c i) (r c (subst (In c) (sym (same k (inl refl))) i)) (λ d u. same d (inr (elim u [ inl e ↦ Held (ap h e ∙ is.held c k i) | inr v ↦ below_trans h k c d (Held (is.held c k i)) v ]))))) 
+      ap (flat_map (λ c. c ∷ descend others l c)) (same k (inl refl)) ∙ flat_map-same (λ c. c ∷ descend others l c) (λ c. c ∷ descend kids m c) (kids k) (λ c i. ap (λ zs. c ∷ zs) (descend-alike others m l c (s c i) (r c (subst (In c) (sym (same k (inl refl))) i)) (λ d u. same d (inr (elim u [ inl e ↦ Held (ap h e ∙ is.held c k i) | inr v ↦ below_trans h k c d (Held (is.held c k i)) v ])))))

@@ -11,30 +11,43 @@ use Rattle.pliron_core.proofs.RootLemmas.{rooted-put}
 pub kept_put : (t : Tree) (op block : ℕ) (body : List ℕ) → HaveSameKeys t → IsJoined t → IsLive t op → IsBlock t block → parent_of t op ≡ None → (HoldsBlock t op block → ⊥) → IsJoined (placed t op block body)
 kept_put t op block body keys w live is free out = record {
   standing = λ x b e. stand x b e (cases_eq x op);
-  placed = w.placed; regions = w.regions; results = w.results; arguments = w.arguments; operands = w.operands; successors = w.successors;
-  ordered = w.ordered; erased = w.erased;
+  placed = w.placed;
+  regions = w.regions;
+  results = w.results;
+  arguments = w.arguments;
+  operands = w.operands;
+  successors = w.successors;
+  ordered = w.ordered;
+  erased = w.erased;
   unplaced = λ b e. let x = w.unplaced b e in (x.0, get_or-set_other t.bodies block b body [] (other b e) ∙ x.1);
   rooted = root (block_holder_of t block) refl;
 }
   where
     lt : op < length t.parents
     lt = let h = live-within t op live in omega (arith, h, keys.parents)
+
     other : (b : ℕ) → block_parent_of t b ≡ None → b ≢ block
     other b e s = let l : IsSome (block_parent_of t b) = subst (λ z. IsSome (block_parent_of t z)) (sym s) is in let m : is_some (block_parent_of t b) ≡ false = ap is_some e in absurd (true≢false (sym l ∙ m))
+
     stand : (x b : ℕ) → get_or (slice_set t.parents op (Some block)) x None ≡ Some b → (x ≡ op) ⊎ (x ≢ op) → IsLive t x × IsBlock t b
     stand x b e (inr ne) = w.standing x b (sym (get_or-set_other t.parents op x (Some block) None ne) ∙ e)
     stand x b e (inl s) =
         let f : Some block ≡ Some b = sym (ap (λ z. get_or (slice_set t.parents op (Some block)) z None) s ∙ get_or-set_same t.parents op (Some block) None lt) ∙ e in
         let g : block ≡ b = cc in
         (subst (IsLive t) (sym s) live, subst (IsBlock t) g is)
+
     t' : Tree
     t' = placed t op block body
+
     hold : (o : Option ℕ) → Option ℕ
     hold o = up_from o (λ b. block_holder_of t b)
+
     same : (x : ℕ) → x ≢ op → holder_of t' x ≡ holder_of t x
     same x ne = ap hold (get_or-set_other t.parents op x (Some block) None ne)
+
     own : holder_of t' op ≡ block_holder_of t block
     own = ap hold (get_or-set_same t.parents op (Some block) None lt)
+
     root : (o : Option ℕ) → block_holder_of t block ≡ o → IsRooted (holder_of t')
     root None e = rooted_cut (holder_of t) (holder_of t') (λ x. ⊎_elim (λ s. inr (ap (holder_of t') s ∙ own ∙ e)) (λ ne. inl (same x ne)) (cases_eq x op)) w.rooted
     root (Some a) e = rooted-put (holder_of t) (holder_of t') op a same (own ∙ e) (λ n f. outside_climb t op block out n (ap (climb (holder_of t) n) e ∙ f)) w.rooted
@@ -43,22 +56,33 @@ pub kept_taken : (t : Tree) (op : ℕ) (o : Option ℕ) → IsJoined t → paren
 kept_taken t op None w e = w
 kept_taken t op (Some d) w e = record {
   standing = λ x b f. w.standing x b (free x b f (cases_eq x op));
-  placed = w.placed; regions = w.regions; results = w.results; arguments = w.arguments; operands = w.operands; successors = w.successors;
-  ordered = w.ordered; erased = w.erased;
+  placed = w.placed;
+  regions = w.regions;
+  results = w.results;
+  arguments = w.arguments;
+  operands = w.operands;
+  successors = w.successors;
+  ordered = w.ordered;
+  erased = w.erased;
   unplaced = λ b f. let x = w.unplaced b f in (x.0, get_or-set_other t.bodies d b _ [] (other b f) ∙ x.1);
   rooted = rooted_cut (holder_of t) (holder_of t') (λ x. ⊎_elim (λ s. inr (ap hold (ap (λ z. get_or (slice_set t.parents op None) z None) s ∙ own))) (λ ne. inl (ap hold (get_or-set_other t.parents op x None None ne))) (cases_eq x op)) w.rooted;
 }
   where
     t' : Tree
     t' = taken_from t op (Some d)
+
     hold : (o : Option ℕ) → Option ℕ
     hold o = up_from o (λ b. block_holder_of t b)
+
     lt : op < length t.parents
     lt = let l : IsSome (parent_of t op) = ap is_some e in within-some t.parents op l
+
     own : get_or (slice_set t.parents op None) op None ≡ None
     own = get_or-set_same t.parents op None None lt
+
     other : (b : ℕ) → block_parent_of t b ≡ None → b ≢ d
     other b f s = let x : true ≡ false = sym (w.standing op d e).1 ∙ ap (λ z. is_some (block_parent_of t z)) (sym s) ∙ ap is_some f in absurd (true≢false x)
+
     free : (x b : ℕ) → get_or (slice_set t.parents op None) x None ≡ Some b → (x ≡ op) ⊎ (x ≢ op) → parent_of t x ≡ Some b
     free x b f (inl s) = let y : None ≡ Some b = sym (ap (λ z. get_or (slice_set t.parents op None) z None) s ∙ own) ∙ f in grind arith
     free x b f (inr ne) = sym (get_or-set_other t.parents op x None None ne) ∙ f

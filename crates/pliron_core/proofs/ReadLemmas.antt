@@ -82,4 +82,3 @@ next_block-stands t w block o is =
 pub prev_block-stands : (t : Tree) → IsTree t → (block : ℕ) (o : Option ℕ) → o ≡ up_from (block_parent_of t block) (λ r. prev_in None block (layout_of t r)) → IfSome o (λ b. IsBlock t b)
 prev_block-stands t w block o is =
     if-some (λ b. IsBlock t b) o (λ b e. let u = up-some (block_parent_of t block) (λ r. prev_in None block (layout_of t r)) b (sym is ∙ e) in In-block t w u.0 b (In-prev block _ b u.1))
-

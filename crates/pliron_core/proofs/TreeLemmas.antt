@@ -52,6 +52,7 @@ climb_within t op (suc n) k e = go (λ p f. climb_within t op n p f) (holder_of 
     none : (n : ℕ) → climb (holder_of t) n None ≡ None
     none zero = refl
     none (suc n) = none n
+
     go : ((p : ℕ) → climb (holder_of t) n (Some p) ≡ Some op → IsWithin t op p) → (o : Option ℕ) → holder_of t k ≡ o → climb (holder_of t) n o ≡ Some op → IsWithin t op k
     go up None f g = let x : None ≡ Some op = sym (none n) ∙ g in absurd (cc)
     go up (Some p) f g = inr (elim (up p g) [ inl s ↦ Directly (f ∙ ap Some s) | inr i ↦ Deeper p f i ])
@@ -62,6 +63,7 @@ outside_climb t op block out n e = go (block_holder_of t block) refl e
     none : (n : ℕ) → climb (holder_of t) n None ≡ None
     none zero = refl
     none (suc n) = none n
+
     go : (o : Option ℕ) → block_holder_of t block ≡ o → climb (holder_of t) n o ≡ Some op → ⊥
     go None f g = let x : None ≡ Some op = sym (none n) ∙ g in absurd (cc)
     go (Some k) f g = out (k, f, climb_within t op n k g)
@@ -74,9 +76,9 @@ rooted_cut h new cut rooted x = let r = rooted x in go r.0 (Some x) r.1
     go n None e = (0, refl)
     go zero (Some y) e = absurd (cc)
     go (suc n) (Some y) e = ⊎_elim
-      (λ s. let r = go n (h y) e in (suc r.0, ap (climb new r.0) s ∙ r.1))
-      (λ s. (1, s))
-      (cut y)
+        (λ s. let r = go n (h y) e in (suc r.0, ap (climb new r.0) s ∙ r.1))
+        (λ s. (1, s))
+        (cut y)
 
 -- what stands in a block is live
 pub parented_live : (t : Tree) (x : ℕ) → IsJoined t → IsSome (parent_of t x) → IsLive t x

@@ -12,12 +12,17 @@ use Rattle.pliron_core.proofs.TreeLemmas.{live_dead}
 
 pub kept_used : (t : Tree) (operands successors : List (List ℕ)) → IsJoined t → ((k v : ℕ) → In v (get_or operands k []) → IsDefined t v) → ((k b : ℕ) → In b (get_or successors k []) → IsBlock t b) → ((k : ℕ) → head_of t k ≡ None → (get_or operands k [] ≡ []) × (get_or successors k [] ≡ [])) → IsJoined (record t { operands = operands; successors = successors })
 kept_used t operands successors w defined standing dead = record {
-  standing = w.standing; placed = w.placed; regions = w.regions; results = w.results; arguments = w.arguments;
+  standing = w.standing;
+  placed = w.placed;
+  regions = w.regions;
+  results = w.results;
+  arguments = w.arguments;
   operands = defined;
   successors = standing;
   ordered = w.ordered;
   erased = λ k e. let x = dead k e in (x.0, x.1, (w.erased k e).2);
-  unplaced = w.unplaced; rooted = w.rooted;
+  unplaced = w.unplaced;
+  rooted = w.rooted;
 }
 
 -- a member of the changed row of one operation, or of a row as it was
@@ -30,10 +35,12 @@ in_changed rows op k v row i =
   where
     within : (op : ℕ) → (op < length rows) ⊎ (length rows ≤ op)
     within op = grind arith
+
     set-past : (rows : List (List ℕ)) (op : ℕ) (row : List ℕ) → length rows ≤ op → slice_set rows op row ≡ rows
     set-past [] op row le = refl
     set-past (x ∷ xs) zero row le = absurd (omega arith)
     set-past (x ∷ xs) (suc op) row le = ap (λ z. x ∷ z) (set-past xs op row (let h : suc (length xs) ≤ suc op = le in omega (arith, h)))
+
     here : k ≡ op → (op < length rows) ⊎ (length rows ≤ op) → ((k ≡ op) × In v row) ⊎ In v (get_or rows k [])
     here e (inl lt) = inl (e, subst (In v) (ap (λ z. get_or (slice_set rows op row) z []) e ∙ get_or-set_same rows op row [] lt) i)
     here e (inr le) = inr (subst (λ z. In v (get_or z k [])) (set-past rows op row le) i)
@@ -67,31 +74,31 @@ unchanged t rows op k row live e = get_or-set_other rows op k row [] (λ s. live
 
 pub kept_push : (t : Tree) (op value : ℕ) → IsJoined t → IsLive t op → IsDefined t value → IsJoined (operand_pushed t op value)
 kept_push t op value w live d = kept_used t (slice_set t.operands op (operands_of t op ++ value ∷ [])) t.successors w
-  (λ k v i. elim (in_changed t.operands op k v _ i) [
-    | inl c ↦ elim (in_last v value (operands_of t op) c.1) [ inl j ↦ w.operands op v j | inr s ↦ subst (IsDefined t) (sym s) d ]
-    | inr j ↦ w.operands k v j
-  ])
-  w.successors
-  (λ k e. let x = w.erased k e in (unchanged t t.operands op k _ live e ∙ x.0, x.1))
+    (λ k v i. elim (in_changed t.operands op k v _ i) [
+      | inl c ↦ elim (in_last v value (operands_of t op) c.1) [ inl j ↦ w.operands op v j | inr s ↦ subst (IsDefined t) (sym s) d ]
+      | inr j ↦ w.operands k v j
+    ])
+    w.successors
+    (λ k e. let x = w.erased k e in (unchanged t t.operands op k _ live e ∙ x.0, x.1))
 
 pub kept_push_successor : (t : Tree) (op block : ℕ) → IsJoined t → IsLive t op → IsBlock t block → IsJoined (successor_pushed t op block)
 kept_push_successor t op block w live is = kept_used t t.operands (slice_set t.successors op (successors_of t op ++ block ∷ [])) w
-  w.operands
-  (λ k b i. elim (in_changed t.successors op k b _ i) [
-    | inl c ↦ elim (in_last b block (successors_of t op) c.1) [ inl j ↦ w.successors op b j | inr s ↦ subst (IsBlock t) (sym s) is ]
-    | inr j ↦ w.successors k b j
-  ])
-  (λ k e. let x = w.erased k e in (x.0, unchanged t t.successors op k _ live e ∙ x.1))
+    w.operands
+    (λ k b i. elim (in_changed t.successors op k b _ i) [
+      | inl c ↦ elim (in_last b block (successors_of t op) c.1) [ inl j ↦ w.successors op b j | inr s ↦ subst (IsBlock t) (sym s) is ]
+      | inr j ↦ w.successors k b j
+    ])
+    (λ k e. let x = w.erased k e in (x.0, unchanged t t.successors op k _ live e ∙ x.1))
 
 pub kept_remove : (t : Tree) (op i : ℕ) → IsJoined t → IsLive t op → IsJoined (operand_removed t op i)
 kept_remove t op i w live = kept_used t (slice_set t.operands op (remove (operands_of t op) i)) t.successors w
-  (λ k v j. elim (in_changed t.operands op k v _ j) [ inl c ↦ w.operands op v (in_from-remove v (operands_of t op) i c.1) | inr j ↦ w.operands k v j ])
-  w.successors
-  (λ k e. let x = w.erased k e in (unchanged t t.operands op k _ live e ∙ x.0, x.1))
+    (λ k v j. elim (in_changed t.operands op k v _ j) [ inl c ↦ w.operands op v (in_from-remove v (operands_of t op) i c.1) | inr j ↦ w.operands k v j ])
+    w.successors
+    (λ k e. let x = w.erased k e in (unchanged t t.operands op k _ live e ∙ x.0, x.1))
 
 pub kept_replace : (t : Tree) (old new : ℕ) → IsJoined t → IsDefined t new → IsJoined (replaced t old new)
 kept_replace t old new w d = kept_used t (map (map (replace_target old new)) t.operands) t.successors w go w.successors
-  (λ k e. let x = w.erased k e in (get_map (map (replace_target old new)) refl t.operands k ∙ ap (map (replace_target old new)) x.0, x.1))
+    (λ k e. let x = w.erased k e in (get_map (map (replace_target old new)) refl t.operands k ∙ ap (map (replace_target old new)) x.0, x.1))
   where
     go : (k v : ℕ) → In v (get_or (map (map (replace_target old new)) t.operands) k []) → IsDefined t v
     go k v i =

@@ -32,9 +32,11 @@ place_of t x k e = op (parent_of t x) refl e
     region b r p q (Some slot) s f =
         let g : slot.op ≡ k = cc in
         record { block = b; region = r; index = slot.index; parent = p; in_region = q; slot = s ∙ ap (λ z. Some (record { op = z; index = slot.index })) g }
+
     block : (b : ℕ) → parent_of t x ≡ Some b → (o : Option ℕ) → block_parent_of t b ≡ o → up_from o (λ r. region_parent_of t r) ≡ Some k → HasPlace t x k
     block b p None q f = absurd (cc)
     block b p (Some r) q f = region b r p q (slot_of t r) refl f
+
     op : (o : Option ℕ) → parent_of t x ≡ o → up_from o (λ b. block_holder_of t b) ≡ Some k → HasPlace t x k
     op None p f = absurd (cc)
     op (Some b) p f = block b p (block_parent_of t b) refl f

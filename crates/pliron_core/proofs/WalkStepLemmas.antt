@@ -153,8 +153,7 @@ module _ (t : Tree) (w : IsTree t) where
       let s = split_at x (children t k) (holder-children t w x k e) in
       let pieces = λ (xs : List ℕ). flat_map (λ c. preorder t c) xs in
       let split : contents t k ≡ pieces s.0 ++ (preorder t x ++ pieces s.1) = forest.descend-split _ _ _ (forest_of t w) x k s.0 s.1 s.2 in
-      let next : next_in x (children t k) ≡ first_of s.1 None = ap (next_in x) s.2 ∙ next_in-split x s.0 s.1 (λ i. distinct-apart s.0 (x ∷ s.1) (subst IsDistinct s.2 (distinct-children t w k)) x i (inl refl)) in
-      (
+      let next : next_in x (children t k) ≡ first_of s.1 None = ap (next_in x) s.2 ∙ next_in-split x s.0 s.1 (λ i. distinct-apart s.0 (x ∷ s.1) (subst IsDistinct s.2 (distinct-children t w k)) x i (inl refl)) in (
         g.0 ++ (k ∷ pieces s.0),
         pieces s.1 ++ g.1,
         g.2 ∙ ap (λ zs. g.0 ++ ((k ∷ zs) ++ g.1)) split ∙ simp append_assoc,

@@ -127,7 +127,7 @@ well_argument_removed v block i w is unused = record {
 
 -- the tables after a block was made
 pub block_made : (t : Tree) (region count key : ℕ) (operands successors bodies arguments layouts : List (List ℕ)) (parents block_parents : List (Option ℕ)) (definitions : List Def) → HaveSameKeys t → key ≡ length t.block_parents → operands ≡ t.operands → successors ≡ t.successors → parents ≡ t.parents → bodies ≡ t.bodies ++ [] ∷ [] → arguments ≡ t.arguments ++ range_with_len (length t.definitions) count ∷ [] → block_parents ≡ slice_set (t.block_parents ++ None ∷ []) key (Some region) → layouts ≡ slice_set t.layouts region (layout_of t region ++ key ∷ []) → definitions ≡ t.definitions ++ argument_definitions (length t.bodies) count
-  → record { operations = t.operations; operands = operands; successors = successors; parents = parents; bodies = bodies; arguments = arguments; block_parents = block_parents; layouts = layouts; slots = t.slots; definitions = definitions } ≡ block_created t region count
+    → record { operations = t.operations; operands = operands; successors = successors; parents = parents; bodies = bodies; arguments = arguments; block_parents = block_parents; layouts = layouts; slots = t.slots; definitions = definitions } ≡ block_created t region count
 block_made t region count key operands successors bodies arguments layouts parents block_parents definitions keys k a b c d e f g h =
     let i : block_parents ≡ t.block_parents ++ Some region ∷ [] = f ∙ ap (λ n. slice_set (t.block_parents ++ None ∷ []) n (Some region)) k ∙ set_last t.block_parents None (Some region) in
     let j : layouts ≡ slice_set t.layouts region (layout_of t region ++ length t.bodies ∷ []) = g ∙ ap (λ n. slice_set t.layouts region (layout_of t region ++ n ∷ [])) (k ∙ keys.block_parents) in

@@ -6,9 +6,7 @@ ghost use Rattle.pliron_core.specs.declared.uses.Use.{Use};
 ghost use Rattle.std.specs.Option.{option_map};
 ghost use Rattle.pliron_core.specs.Places.{at, shifted};
 
-
-use crate::row::Row;
-use crate::row::{entry, pop_entry, set_entry};
+use crate::row::{Row, entry, pop_entry, set_entry};
 use std::alloc::{AllocError, Global};
 use std::marker::Model;
 use std::mem;

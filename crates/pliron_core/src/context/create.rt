@@ -145,12 +145,7 @@ fn region_keys(alloc: Global, first: usize, count: usize) -> Result<Row<Ptr<Regi
 }
 
 // The regions of a new operation, without blocks.
-fn add_regions(
-    slots: &mut Vec<RegionSlot>,
-    layout: &mut Links,
-    op: Ptr<Operation>,
-    count: usize,
-)
+fn add_regions(slots: &mut Vec<RegionSlot>, layout: &mut Links, op: Ptr<Operation>, count: usize)
     requires slots { vec_len slots.old + count ≤ vec_capacity slots.old }
     requires lists { count ≤ layout.old.list_room }
     ensures slots { slots.new.items ≡ slots.old.items ++ region_slots op count }
@@ -164,13 +159,7 @@ fn add_regions(
 }
 
 // So many new values, without uses.
-fn add_values(
-    values: &mut Vec<Def>,
-    operands: &mut Uses,
-    alloc: Global,
-    maker: Maker,
-    count: usize,
-)
+fn add_values(values: &mut Vec<Def>, operands: &mut Uses, alloc: Global, maker: Maker, count: usize)
     requires values { vec_len values.old + count ≤ vec_capacity values.old }
     requires targets { count ≤ operands.old.target_room }
     ensures values { values.new.items ≡ values.old.items ++ definitions_of maker count }

@@ -13,11 +13,7 @@ impl Operation {
     ///
     /// Asks that the operation and the value stand. Errors: want of memory, which changes nothing.
     /// Cost: amortised constant.
-    pub fn push_operand(
-        ctx: &mut Context,
-        op: Ptr<Operation>,
-        value: Value,
-    ) -> Result<(), NoMemory>
+    pub fn push_operand(ctx: &mut Context, op: Ptr<Operation>, value: Value) -> Result<(), NoMemory>
         requires live { IsLive ctx.old.tree op }
         requires value { IsDefined ctx.old.tree value }
         ensures ok { OnOk result (ctx.new.tree ≡ operand_pushed ctx.old.tree op value) }

@@ -64,7 +64,8 @@ pub(crate) fn place_before(
     requires outside { HoldsBlock ctx.old.tree op block → ⊥ }
     ensures { ctx.new ≡ record ctx.old { tree = placed ctx.old.tree op block (put_before at op (body_of ctx.old.tree block)) } }
 {
-    ctx.order.insert_before(block.index(), at.index(), op.index());
+    ctx.order
+        .insert_before(block.index(), at.index(), op.index());
 }
 
 // The operation leaves the block that has it, if one does.

@@ -30,8 +30,8 @@ loop-above-preserved c =
       live = λ k e. holder_live _ c.well_formed-2.ensures.tree c.in-Some.holder k (sym up ∙ e);
       inside = λ k e. inside_trans c.args.ctx.now.tree k c.in-Some.holder c.args.self (Directly (sym up ∙ e)) (c.loop-above.invariant.inside c.in-Some.holder c.in-Some.is);
       reached = λ u.
-      let r = c.loop-above.invariant.reached u in
-      let here : r.0 ≡ c.in-Some.holder = same_Some r.0 c.in-Some.holder (sym r.1 ∙ c.in-Some.is) in
-      let further = inside_up c.args.ctx.now.tree c.args.op c.in-Some.holder (subst (IsWithin c.args.ctx.now.tree c.args.op) here r.2) (keys_differ c.in-Some.holder c.args.op c.if-eq.ensures) in
-      (further.0, up ∙ further.1, further.2);
+          let r = c.loop-above.invariant.reached u in
+          let here : r.0 ≡ c.in-Some.holder = same_Some r.0 c.in-Some.holder (sym r.1 ∙ c.in-Some.is) in
+          let further = inside_up c.args.ctx.now.tree c.args.op c.in-Some.holder (subst (IsWithin c.args.ctx.now.tree c.args.op) here r.2) (keys_differ c.in-Some.holder c.args.op c.if-eq.ensures) in
+          (further.0, up ∙ further.1, further.2);
     }
