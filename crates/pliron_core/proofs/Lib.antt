@@ -32,3 +32,11 @@ pub mod ForestLemmas
 pub mod WalkLemmas
 pub mod NextLemmas
 pub mod WalkStepLemmas
+pub mod HoldingLemmas
+pub mod SameTreeLemmas
+pub mod InsideLemmas
+pub mod WriteInsideLemmas
+pub mod MoveInsideLemmas
+pub mod ClearedLemmas
+pub mod BesideLemmas
+pub mod EraseInsideLemmas

@@ -16,4 +16,5 @@ pub mod Making
 pub mod Insertion
 pub mod Erased
 pub mod Changes
+pub mod ChangeLaws
 pub mod Tables

@@ -32,14 +32,14 @@ impl From<AllocError> for NoMemory {
 }
 
 /// What makes a value: the result of an operation at this index, or the argument of a block.
-#[derive(Clone, Copy, PartialEq, Eq)]
+#[derive(Clone, Copy, Debug, PartialEq, Eq)]
 pub enum Def {
     Result(Ptr<Operation>, usize),
     Argument(Ptr<BasicBlock>, usize),
 }
 
 /// The place of a region: its operation, and the index among that operation's regions.
-#[derive(Clone, Copy, PartialEq, Eq)]
+#[derive(Clone, Copy, Debug, PartialEq, Eq)]
 pub struct RegionSlot {
     pub op: Ptr<Operation>,
     pub index: usize,

@@ -4,6 +4,7 @@
 mod attrs;
 mod context;
 mod keys;
+mod laws;
 mod links;
 mod rewriter;
 mod row;
@@ -12,6 +13,7 @@ mod uses;
 pub use attrs::{AttrObj, Attrs, Head, IRStatus, Text};
 pub use context::{Context, Def, NoMemory, OperationEntry, RegionSlot};
 pub use keys::{BasicBlock, Operation, Ptr, Region, Value};
+pub use laws::change_laws;
 pub use rewriter::{IRRewriter, OpInsertionPoint, Rewriter};
 pub use row::Row;
 pub use uses::Use;

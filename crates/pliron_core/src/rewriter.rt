@@ -10,7 +10,7 @@ use crate::context::{Context, NoMemory};
 use crate::keys::{BasicBlock, Operation, Ptr, Value};
 
 /// Where the next operation is inserted.
-#[derive(Clone, Copy, PartialEq, Eq)]
+#[derive(Clone, Copy, Debug, PartialEq, Eq)]
 pub enum OpInsertionPoint {
     /// No point was set yet.
     Unset,
