@@ -1,5 +1,5 @@
 -- Lemmas on lists that are joined of pieces.
-use Rattle.std.proofs.Common.{◌≡◌, ◌⊎◌, ℕ, zero, suc, ◌≤◌, List, [], ◌∷◌, ◌++◌, length, drop, Option, Some, refl, sym, ap, ◌∙◌, subst, inl, inr, arith, append_assoc, length-append}
+use Rattle.std.proofs.Common.{◌≡◌, ℕ, zero, suc, ◌≤◌, List, [], ◌∷◌, ◌++◌, length, drop, Option, Some, refl, sym, ap, ◌∙◌, subst, inl, inr, arith, append_assoc, length-append}
 use Rattle.std.specs.List.{flat_map, slice_get}
 use Rattle.pliron_core.specs.Lists.{In, IsDistinct, first_of}
 use Rattle.pliron_core.proofs.ListLemmas.{In-left, In-right, In-cases, distinct-join}

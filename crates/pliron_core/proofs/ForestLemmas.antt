@@ -1,12 +1,12 @@
 -- What stands below what, where each has at most one holder.
-use Rattle.std.proofs.Common.{◌≡◌, ◌⊎◌, ℕ, zero, suc, ◌+◌, ◌<◌, ◌≤◌, List, [], ◌∷◌, ◌++◌, length, Option, Some, None, refl, sym, ap, ◌∙◌, subst, inl, inr, arith, length-append, append_assoc}
+use Rattle.std.proofs.Common.{◌≡◌, ◌⊎◌, ℕ, zero, suc, ◌+◌, ◌<◌, ◌≤◌, List, [], ◌∷◌, ◌++◌, length, Option, Some, None, refl, sym, ap, ◌∙◌, subst, inl, inr, arith}
 use Rattle.std.specs.List.{flat_map}
 use Rattle.std.proofs.lemmas.List.Concat.{flat_map-append}
-use Rattle.pliron_core.specs.Lists.{In, IsDistinct, first_of, next_in}
-use Rattle.pliron_core.specs.Tree.{climb, up_from, IsRooted}
+use Rattle.pliron_core.specs.Lists.{In, IsDistinct}
+use Rattle.pliron_core.specs.Tree.{climb, IsRooted}
 use Rattle.pliron_core.specs.Walks.{descend}
-use Rattle.pliron_core.proofs.ListLemmas.{distinct-length, distinct-apart, split_at, next_in-split}
-use Rattle.pliron_core.proofs.FlatLemmas.{In-flat_map, flat_map-In, distinct-flat_map, flat_map-same, flat_map-none, length-piece, first_of-pieces}
+use Rattle.pliron_core.proofs.ListLemmas.{distinct-length}
+use Rattle.pliron_core.proofs.FlatLemmas.{In-flat_map, flat_map-In, distinct-flat_map, flat_map-same, flat_map-none, length-piece}
 
 -- x stands below k, where h is the holder
 pub data IsBelow (h : ℕ → Option ℕ) (k : ℕ) : ℕ → Type 0 where

@@ -1,19 +1,11 @@
 -- What comes next in a list, and in what the pieces of a tree make together.
-use Rattle.std.proofs.Common.{◌≡◌, ◌≢◌, ◌⊎◌, ℕ, zero, suc, ◌+◌, ◌-◌, ◌<◌, ◌≤◌, true, false, nat_eq, ◌&&◌, not, List, [], ◌∷◌, ◌++◌, length, drop, Option, Some, None, refl, sym, ap, ◌∙◌, subst, inl, inr, arith, append_assoc, append-nil}
-use Rattle.std.specs.List.{flat_map, slice_get}
-use Rattle.std.specs.Option.{is_some, IsSome, IfSome, ForSome}
+use Rattle.std.proofs.Common.{◌≡◌, ◌≢◌, ℕ, zero, suc, ◌+◌, true, false, nat_eq, ◌&&◌, not, List, [], ◌∷◌, ◌++◌, Option, Some, None, refl, sym, ap, ◌∙◌, subst, inl, inr, arith, append_assoc}
+use Rattle.std.specs.List.{slice_get}
+use Rattle.std.specs.Option.{is_some}
 use Rattle.std.proofs.lemmas.Bool.{cases_eq, ne_eqb, eq-eqb}
-use Rattle.std.proofs.lemmas.List.Concat.{flat_map-append}
 use Rattle.pliron_core.specs.Lists.{In, IsDistinct, first_of, next_in}
-use Rattle.pliron_core.specs.Tree.{Tree, IsLive, IsBlock, IsInside, IsWithin, regions_of, body_of, layout_of, block_parent_of, holder_of}
-use Rattle.pliron_core.specs.Joined.{IsTree}
-use Rattle.pliron_core.specs.Walks.{children_of_region, children, contents, preorder}
-use Rattle.pliron_core.specs.WalkSteps.{rest_after, rest_from, blocks_in, blocks_from, first_in_blocks, first_in_regions, GoesOn}
-use Rattle.pliron_core.proofs.ListLemmas.{In-left, In-right, distinct-apart, distinct-back, split_at, next_in-split}
-use Rattle.pliron_core.proofs.RowLemmas.{first_of-append}
-use Rattle.pliron_core.proofs.FlatLemmas.{flat_map-drop, first_of-pieces, slice_get-In}
-use Rattle.pliron_core.proofs.ForestLemmas as forest
-use Rattle.pliron_core.proofs.WalkLemmas.{HasPlace, place_of, place_listed, forest_of, children-holder, holder-children, distinct-children, contents-children, contents-inside, distinct-preorder, inside_step, inside_live, In-preorder}
+use Rattle.pliron_core.specs.WalkSteps.{rest_after, rest_from}
+use Rattle.pliron_core.proofs.ListLemmas.{distinct-apart, split_at}
 
 -- the first, or the second where there is none
 abbrev pub or_next : Option ℕ → Option ℕ → Option ℕ

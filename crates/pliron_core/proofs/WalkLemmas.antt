@@ -1,14 +1,14 @@
 -- The operations inside an operation.
-use Rattle.std.proofs.Common.{◌≡◌, ◌≢◌, ◌⊎◌, ◌↔◌, ℕ, zero, suc, ◌+◌, ◌<◌, ◌≤◌, List, [], ◌∷◌, ◌++◌, length, get_or, Option, Some, None, false, refl, sym, ap, ◌∙◌, subst, inl, inr, arith}
+use Rattle.std.proofs.Common.{◌≡◌, ◌≢◌, ◌⊎◌, ◌↔◌, ℕ, ◌<◌, ◌≤◌, length, Option, Some, None, false, refl, sym, ap, ◌∙◌, subst, inl, inr, arith}
 use Rattle.std.specs.List.{flat_map, slice_get}
 use Rattle.std.specs.Option.{IsSome, is_some}
 use Rattle.std.proofs.lemmas.List.{get_or_past}
 use Rattle.pliron_core.specs.declared.context.RegionSlot.{RegionSlot}
 use Rattle.pliron_core.specs.Lists.{In, IsDistinct}
-use Rattle.pliron_core.specs.Tree.{Tree, IsLive, IsBlock, IsRegion, IsListedBy, IsInside, IsWithin, up_from, op_of_slot, no_entry, head_of, row_of, regions_of, parent_of, body_of, block_parent_of, layout_of, slot_of, region_parent_of, block_holder_of, holder_of}
+use Rattle.pliron_core.specs.Tree.{Tree, IsLive, IsListedBy, IsInside, IsWithin, up_from, op_of_slot, no_entry, head_of, regions_of, parent_of, body_of, block_parent_of, layout_of, slot_of, region_parent_of, block_holder_of, holder_of}
 use Rattle.pliron_core.specs.Tree.IsInside.{Directly, Deeper}
 use Rattle.pliron_core.specs.Joined.{IsTree}
-use Rattle.pliron_core.specs.Walks.{children_of_region, children, descend, contents, preorder}
+use Rattle.pliron_core.specs.Walks.{children_of_region, children, contents, preorder, HasExactContents}
 use Rattle.pliron_core.proofs.ListLemmas.{decide_in}
 use Rattle.pliron_core.proofs.FlatLemmas.{In-flat_map, flat_map-In, distinct-flat_map, flat_map-same, In-slice_get, slice_get-In, distinct-indices}
 use Rattle.pliron_core.proofs.ForestLemmas as forest
@@ -231,6 +231,10 @@ module _ (t : Tree) (w : IsTree t) where
   pub decide_inside : (op x : ℕ) → IsInside t op x ⊎ (IsInside t op x → ⊥)
   decide_inside op x =
       elim (decide_in x (contents t op)) [ inl i ↦ inl (contents-inside op x i) | inr out ↦ inr (λ u. out (inside-contents op x u)) ]
+
+  pub exact_contents : (op : ℕ) → HasExactContents t op
+  exact_contents op =
+      record { direct = λ k. In-children k op; exact = λ k. In-contents op k; once = distinct-preorder op; nested = contents-children op }
 
 -- the same regions, layouts and bodies give the same children
 pub children-same : (t u : Tree) (op : ℕ) → regions_of u op ≡ regions_of t op → ((r : ℕ) → layout_of u r ≡ layout_of t r) → ((b : ℕ) → body_of u b ≡ body_of t b) → children u op ≡ children t op

@@ -16,8 +16,8 @@ use Rattle.pliron_core.specs.WalkSteps.{rest_after, rest_from, blocks_in, blocks
 use Rattle.pliron_core.proofs.ListLemmas.{distinct-apart, split_at, next_in-split}
 use Rattle.pliron_core.proofs.FlatLemmas.{flat_map-drop, first_of-pieces}
 use Rattle.pliron_core.proofs.ForestLemmas as forest
-use Rattle.pliron_core.proofs.WalkLemmas.{HasPlace, place_of, place_listed, forest_of, holder-children, distinct-children, contents-children, contents-inside, distinct-preorder, In-preorder, inside_live, live_within, contents-shorter, length-contents}
-use Rattle.pliron_core.proofs.NextLemmas.{or_next, first_of-or_append, or_next-some, or_next-none, or_found, or_passed, first_of-none, next_in-rest, rest_after-parts, rest_from-next, rest_from-first, next_in-member, rest_from-step, next_in-slice_get}
+use Rattle.pliron_core.proofs.WalkLemmas.{HasPlace, place_listed, forest_of, holder-children, distinct-children, contents-children, contents-inside, distinct-preorder, In-preorder, inside_live, live_within, contents-shorter, length-contents}
+use Rattle.pliron_core.proofs.NextLemmas.{or_next, first_of-or_append, or_next-some, or_next-none, or_found, or_passed, next_in-rest, rest_after-parts, rest_from-next, rest_from-first, next_in-member, rest_from-step, next_in-slice_get}
 
 some_block : (t : Tree) (b r : ℕ) → block_parent_of t b ≡ Some r → IsBlock t b
 some_block t b r e = ap is_some e

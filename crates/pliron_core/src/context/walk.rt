@@ -1,15 +1,23 @@
 //! Walks over the operations inside an operation. They take no memory.
-ghost use Rattle.std.specs.Prelude.{◌<◌, length, ◌≡◌, ◌+◌, ℕ, Some, IsTrue, IfSome, ◌↔◌};
+ghost use Rattle.std.specs.Prelude.{◌≡◌, ◌+◌, ℕ, Some, IsTrue, IfSome, ◌↔◌};
 ghost use Rattle.std.specs.Option.{ForSome};
 ghost use Rattle.pliron_core.specs.Lists.{next_in};
 ghost use Rattle.pliron_core.specs.Tree.{IsLive, IsBlock, IsRegion, IsInside, IsWithin, slot_of, holder_of};
-ghost use Rattle.pliron_core.specs.Walks.{children, preorder};
+ghost use Rattle.pliron_core.specs.Walks.{children, preorder, HasExactContents};
 ghost use Rattle.pliron_core.specs.WalkSteps.{first_in_blocks, first_in_regions, GoesOn};
 
 use super::{Context, RegionSlot};
 use crate::keys::{Operation, Ptr};
 
 impl Context {
+    /// The law of walks: the contents of an operation are exactly the operations inside it, at any
+    /// depth, each once and before its own contents. Does nothing when it runs.
+    pub fn contents_agree(&self)
+        ensures { (op : ℕ) → HasExactContents self.now.tree op }
+    {
+        self.well_formed();
+    }
+
     // The first operation of this block, or of the blocks after it in its region.
     fn first_from_block(&self, from: Option<usize>) -> Option<usize>
         requires { ForSome from (λ block. IsBlock self.now.tree block) }
@@ -47,7 +55,8 @@ impl Context {
     // The first operation of the regions after this one, of the same operation.
     fn first_after_region(&self, region: usize) -> Option<usize>
         requires { IsRegion self.now.tree region }
-        ensures { ForSome (slot_of self.now.tree region) (λ slot. result ≡ first_in_regions self.now.tree slot.op (slot.index + 1)) }
+        ensures { ForSome (slot_of self.now.tree region) (λ slot.
+            result ≡ first_in_regions self.now.tree slot.op (slot.index + 1)) }
     {
         self.well_formed();
         let RegionSlot { op, index } = self.slots[region];
@@ -62,7 +71,8 @@ impl Context {
     // The operation after `op` among those that its holder has.
     fn next_sibling(&self, op: usize) -> Option<usize>
         requires { IsLive self.now.tree op }
-        ensures { (k : ℕ) → holder_of self.now.tree op ≡ Some k → result ≡ next_in op (children self.now.tree k) }
+        ensures { ForSome (holder_of self.now.tree op) (λ holder.
+            result ≡ next_in op (children self.now.tree holder)) }
     {
         self.well_formed();
         let next = self.order.next(op);
@@ -146,23 +156,5 @@ impl Ptr<Operation> {
             Some(child) => Some(Ptr::new(child)),
             None => self.next_after(root, ctx),
         }
-    }
-}
-
-impl Context {
-    // trial
-    fn count_within(&self, root: Ptr<Operation>) -> u64
-        requires live { IsLive self.now.tree root }
-        requires few { length (preorder self.now.tree root) < 1000 }
-        ensures { result ≡ length (preorder self.now.tree root) }
-    {
-        self.well_formed();
-        let mut count = 0;
-        let mut at = Some(root);
-        while let Some(op) = at {
-            count += 1;
-            at = op.next_in_preorder(root, self);
-        }
-        count
     }
 }

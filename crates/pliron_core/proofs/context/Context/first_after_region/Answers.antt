@@ -1,7 +1,6 @@
-use Rattle.std.proofs.Common.{◌≡◌, ◌<◌, ◌≤◌, ◌+◌, ap, ◌∙◌, sym, subst, length, get_or, None, Some, drop, rules, arith}
-use Rattle.std.specs.List.{flat_map, slice_get}
+use Rattle.std.proofs.Common.{◌≡◌, ◌<◌, ◌≤◌, ◌+◌, ap, ◌∙◌, sym, subst, length, get_or, None, Some, rules, arith}
+use Rattle.std.specs.List.{slice_get}
 use Rattle.std.proofs.lemmas.Option.{slice_get_within, same_Some}
-use Rattle.pliron_core.specs.Lists.{first_of}
 use Rattle.pliron_core.specs.Tree.{View, IsLive, slot_of, regions_of}
 use Rattle.pliron_core.specs.WalkSteps.{first_in_regions}
 use Rattle.pliron_core.proofs.WalkLemmas.{regions_live, live_within}

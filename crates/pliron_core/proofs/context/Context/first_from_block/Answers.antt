@@ -1,8 +1,7 @@
-use Rattle.std.proofs.Common.{◌≡◌, ◌<◌, ap, ◌∙◌, sym, subst, length, get_or, [], None}
-use Rattle.std.specs.List.{flat_map}
+use Rattle.std.proofs.Common.{◌<◌, ap, ◌∙◌, sym, subst, length, get_or, [], None}
 use Rattle.std.specs.Option.{is_some}
 use Rattle.pliron_core.specs.Lists.{first_of}
-use Rattle.pliron_core.specs.Tree.{View, body_of}
+use Rattle.pliron_core.specs.Tree.{View}
 use Rattle.pliron_core.specs.WalkSteps.{blocks_from, first_in_blocks}
 use Rattle.pliron_core.proofs.WalkStepLemmas.{IsPassed, passed}
 use Rattle.pliron_core.proofs.context.Context.first_from_block.Goals as goal

@@ -1,8 +1,6 @@
-use Rattle.std.proofs.Common.{◌≡◌, None, length}
-use Rattle.std.specs.List.{flat_map}
+use Rattle.std.proofs.Common.{◌≡◌, length}
 use Rattle.std.specs.Option.{ForSome}
-use Rattle.pliron_core.specs.Lists.{first_of}
-use Rattle.pliron_core.specs.Tree.{IsBlock, body_of}
+use Rattle.pliron_core.specs.Tree.{IsBlock}
 use Rattle.pliron_core.specs.WalkSteps.{blocks_from, first_in_blocks}
 use Rattle.pliron_core.proofs.context.Context.first_from_block.Given as goal
 

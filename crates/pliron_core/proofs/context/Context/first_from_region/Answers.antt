@@ -1,6 +1,5 @@
-use Rattle.std.proofs.Common.{◌≡◌, ◌<◌, ap, ◌∙◌, sym, length, get_or, [], None, Some, arith}
+use Rattle.std.proofs.Common.{◌≡◌, ap, ◌∙◌, sym, length, get_or, [], None, Some, arith}
 use Rattle.std.specs.List.{slice_get}
-use Rattle.std.specs.Option.{is_some}
 use Rattle.pliron_core.specs.Lists.{first_of}
 use Rattle.pliron_core.specs.Tree.{View, regions_of}
 use Rattle.pliron_core.specs.Walks.{children_of_region}

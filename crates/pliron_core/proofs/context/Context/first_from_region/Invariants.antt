@@ -1,7 +1,4 @@
-use Rattle.std.proofs.Common.{◌≡◌, None, drop}
-use Rattle.std.specs.List.{flat_map}
-use Rattle.pliron_core.specs.Lists.{first_of}
-use Rattle.pliron_core.specs.Tree.{regions_of}
+use Rattle.std.proofs.Common.{◌≡◌}
 use Rattle.pliron_core.specs.WalkSteps.{first_in_regions}
 use Rattle.pliron_core.proofs.context.Context.first_from_region.Given as goal
 

@@ -1,8 +1,8 @@
-use Rattle.std.proofs.Common.{◌≡◌, ap, ◌∙◌, sym, Some, None, ℕ, Option}
+use Rattle.std.proofs.Common.{◌≡◌, ap, ◌∙◌, sym, None, ℕ}
 use Rattle.std.specs.List.{flat_map}
 use Rattle.std.proofs.lemmas.Option.{same_Some}
 use Rattle.pliron_core.specs.Lists.{owner_of, next_of, next_in, first_of}
-use Rattle.pliron_core.specs.Tree.{View, parent_of, block_parent_of, holder_of, body_of, layout_of, slot_of}
+use Rattle.pliron_core.specs.Tree.{View, parent_of, block_parent_of, body_of, layout_of, slot_of}
 use Rattle.pliron_core.specs.WalkSteps.{rest_after}
 use Rattle.pliron_core.proofs.WalkLemmas.{HasPlace, place_of}
 use Rattle.pliron_core.proofs.WalkStepLemmas.{next_in_body, found_in_body, found_in_region, found_later, first_after_block, next_block}
