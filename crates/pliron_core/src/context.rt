@@ -4,6 +4,7 @@ ghost use Rattle.pliron_core.specs.Joined.{IsTree, HaveUses};
 ghost use Rattle.pliron_core.specs.Writes.{no_tree};
 
 mod block_reads;
+mod contained;
 mod create;
 mod edge_reads;
 pub(crate) mod edit;

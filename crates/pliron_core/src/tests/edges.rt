@@ -1,0 +1,127 @@
+//! Edges between blocks, and erasing of blocks.
+
+use super::*;
+
+const BR: u32 = 12;
+const FORK: u32 = 15;
+
+// A region with an entry, which leads to two blocks, twice to the second; both lead to the last.
+#[derive(Clone, Copy)]
+struct Diamond {
+    func: Ptr<Operation>,
+    entry: Ptr<BasicBlock>,
+    left: Ptr<BasicBlock>,
+    right: Ptr<BasicBlock>,
+    join: Ptr<BasicBlock>,
+}
+
+// A new last operation of the block, with these successors.
+fn branch(
+    rt: &impl Abort,
+    ctx: &mut Context,
+    from: Ptr<BasicBlock>,
+    head: Head,
+    targets: &[Ptr<BasicBlock>],
+) -> Result<(), Fail> {
+    let op = operation(rt, ctx, head, 0, 0)?;
+    append(rt, ctx, from, op)?;
+    for target in targets {
+        add_successor(rt, ctx, op, *target)?;
+    }
+    Ok(())
+}
+
+fn blocks(rt: &impl Abort, alloc: Global, ctx: &mut Context) -> Result<Diamond, Fail> {
+    let func = operation(rt, ctx, head(alloc, FUNC, None)?, 0, 1)?;
+    let entry = block(rt, ctx, func, 0, 0)?;
+    let left = block(rt, ctx, func, 0, 0)?;
+    let right = block(rt, ctx, func, 0, 0)?;
+    let join = block(rt, ctx, func, 0, 1)?;
+    Ok(Diamond {
+        func,
+        entry,
+        left,
+        right,
+        join,
+    })
+}
+
+fn four_blocks(rt: &impl Abort, alloc: Global) -> Result<(Context, Diamond), Fail> {
+    let mut ctx = Context::new(alloc);
+    let d = blocks(rt, alloc, &mut ctx)?;
+    let to_join = [d.join];
+    let apart = [d.left, d.right, d.right];
+    branch(rt, &mut ctx, d.right, head(alloc, BR, None)?, to_join.as_slice())?;
+    branch(rt, &mut ctx, d.left, head(alloc, BR, None)?, to_join.as_slice())?;
+    branch(rt, &mut ctx, d.entry, head(alloc, FORK, None)?, apart.as_slice())?;
+    Ok((ctx, d))
+}
+
+fn check_preds(rt: &impl Abort, ctx: &Context, block: Ptr<BasicBlock>, want: &[Ptr<BasicBlock>]) {
+    assert!(rt; block.is_live(ctx));
+    assert!(rt; block.num_pred(ctx) == want.len());
+    for (i, pred) in want.iter().enumerate() {
+        assert!(rt; i < block.num_pred(ctx));
+        assert!(rt; block.get_pred(ctx, i) == *pred);
+    }
+    assert!(rt; block.has_single_predecessor(ctx) == (want.len() == 1));
+}
+
+fn check_succs(rt: &impl Abort, ctx: &Context, block: Ptr<BasicBlock>, want: &[Ptr<BasicBlock>]) {
+    assert!(rt; block.is_live(ctx));
+    assert!(rt; block.num_succ(ctx) == want.len());
+    for (i, succ) in want.iter().enumerate() {
+        assert!(rt; i < block.num_succ(ctx));
+        assert!(rt; block.get_succ(ctx, i) == *succ);
+    }
+}
+
+#[test]
+fn reads_successors(rt: HostRuntime) -> Result<(), Fail> {
+    let (ctx, d) = four_blocks(&rt, rt.alloc())?;
+    let apart = [d.left, d.right, d.right];
+    let to_join = [d.join];
+    check_succs(&rt, &ctx, d.entry, apart.as_slice());
+    check_succs(&rt, &ctx, d.left, to_join.as_slice());
+    check_succs(&rt, &ctx, d.join, &apart[..0]);
+    Ok(())
+}
+
+#[test]
+fn reads_predecessors(rt: HostRuntime) -> Result<(), Fail> {
+    let (ctx, d) = four_blocks(&rt, rt.alloc())?;
+    let entry = [d.entry];
+    let both = [d.left, d.right];
+    check_preds(&rt, &ctx, d.entry, &entry[..0]);
+    check_preds(&rt, &ctx, d.left, entry.as_slice());
+    check_preds(&rt, &ctx, d.right, entry.as_slice());
+    check_preds(&rt, &ctx, d.join, both.as_slice());
+    Ok(())
+}
+
+// The block's first use is an edge of this block's last operation.
+fn check_use(rt: &impl Abort, ctx: &Context, block: Ptr<BasicBlock>, from: Ptr<BasicBlock>) {
+    assert!(rt; block.is_live(ctx));
+    assert!(rt; 0 < block.num_use(ctx));
+    let (user, index) = block.get_use(ctx, 0);
+    assert!(rt; user.is_live(ctx));
+    assert!(rt; user.get_parent_block(ctx) == Some(from));
+    assert!(rt; index < user.num_successor(ctx));
+    assert!(rt; user.get_successor(ctx, index) == block);
+}
+
+fn check_neighbours(rt: &impl Abort, ctx: &Context, d: &Diamond) {
+    assert!(rt; d.left.is_live(ctx));
+    assert!(rt; d.left.get_prev(ctx) == Some(d.entry));
+    assert!(rt; d.left.get_next(ctx) == Some(d.right));
+    assert!(rt; d.right.is_live(ctx));
+    assert!(rt; d.right.num_use(ctx) == 2);
+}
+
+#[test]
+fn reads_uses_and_neighbours(rt: HostRuntime) -> Result<(), Fail> {
+    let (ctx, d) = four_blocks(&rt, rt.alloc())?;
+    check_use(&rt, &ctx, d.right, d.entry);
+    check_neighbours(&rt, &ctx, &d);
+    Ok(())
+}
