@@ -1,0 +1,14 @@
+pub mod UnwindingLemmas
+pub mod WorkLemmas
+pub mod InsertLemmas
+pub mod TreeLemmas
+pub mod GrowthLemmas
+pub mod NumberingLemmas
+pub mod LawLemmas
+pub mod WalkLemmas
+pub mod PlaceLemmas
+pub mod EdgeKindLemmas
+pub mod ItemLemmas
+pub mod WalkLawLemmas
+pub mod RowLemmas
+pub mod CallerLemmas

@@ -1,0 +1,6 @@
+-- What contracts inside the crate, the proofs of laws and the tests cite. No public clause names it.
+pub mod Forest
+pub mod Steps
+pub mod Membership
+pub mod Rows
+pub mod RowsLawful

@@ -1,0 +1,44 @@
+-- Laws of every list of walks and of every search, which users of the orders rely on.
+use Rattle.std.specs.Prelude.{◌≡◌, ℕ, ◌<◌, ◌≤◌, ◌⊎◌, ◌↔◌, Bool, List, Contains, slice_get, Some, take, reverse}
+use Rattle.pliron_graph.specs.Digraph.{Digraph, IsLawful, Reaches, HasCycle}
+use Rattle.pliron_graph.specs.Search.{Orders, IsSearch, StandsBefore}
+use Rattle.pliron_graph.specs.Walks.{joined, AreWalks}
+use Rattle.pliron_graph.specs.EdgeKinds.{HasBackEdge}
+
+module _ {N : Type 0} (eq : N → N → Bool) where
+  -- in post-order the target of an edge stands before its source, or reaches it
+  abbrev pub EdgeInPostOrder : Type 0
+  EdgeInPostOrder = (g : Digraph N) (walks : List (List N)) → IsLawful eq g → AreWalks eq g walks
+      → (u v : N) → Contains g.nodes u → Contains (g.succ u) v → StandsBefore eq (joined walks) v u ⊎ Reaches g v u
+
+  -- in a reversed walk the source of an edge stands before its target, or the target reaches it
+  abbrev pub EdgeInTopologicalOrder : Type 0
+  EdgeInTopologicalOrder = (g : Digraph N) (walks : List (List N)) → IsLawful eq g → AreWalks eq g walks
+      → (walk : List N) → Contains walks walk
+      → (u v : N) → Contains walk u → Contains walk v → Contains (g.succ u) v → StandsBefore eq (reverse walk) u v ⊎ Reaches g v u
+
+  -- an edge between two walks goes from the later to the earlier
+  abbrev pub EdgeBetweenWalks : Type 0
+  EdgeBetweenWalks = (g : Digraph N) (walks : List (List N)) → IsLawful eq g → AreWalks eq g walks
+      → (i j : ℕ) (a b : List N) → slice_get walks i ≡ Some a → slice_get walks j ≡ Some b
+      → (u v : N) → Contains a u → Contains b v → Contains (g.succ u) v → j ≤ i
+
+  -- the first node of xs that stands outside ys
+  abbrev pub IsFirstOutside : List N → List N → N → Type 0
+  IsFirstOutside xs ys v = (k : ℕ) × (slice_get xs k ≡ Some v) × (Contains ys v → ⊥) × ((j : ℕ) (w : N) → j < k → slice_get xs j ≡ Some w → Contains ys w)
+
+  -- a walk whose first node in topological order is v: what v reaches and no earlier walk holds
+  pub record IsWalkFrom (g : Digraph N) (earlier walk : List N) (v : N) : Type 0 where
+    pub first : slice_get (reverse walk) 0 ≡ Some v
+    pub listed : IsFirstOutside g.nodes earlier v
+    pub holds : (w : N) → Contains walk w ↔ (Reaches g v w × (Contains earlier w → ⊥))
+
+  -- each walk goes from the first listed node that no earlier walk holds
+  abbrev pub WalkFromFirstNode : Type 0
+  WalkFromFirstNode = (g : Digraph N) (walks : List (List N)) → IsLawful eq g → AreWalks eq g walks
+      → (i : ℕ) (walk : List N) → slice_get walks i ≡ Some walk → (v : N) × IsWalkFrom g (joined (take i walks)) walk v
+
+  -- an edge of what the roots reach goes back exactly if that part has a cycle
+  abbrev pub BackEdgeOnCycle : Type 0
+  BackEdgeOnCycle = (g : Digraph N) (roots : List N) (o : Orders N) → IsLawful eq g → IsSearch eq g roots o
+      → (HasBackEdge eq g roots o ↔ HasCycle g roots)

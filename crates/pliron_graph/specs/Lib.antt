@@ -1,0 +1,6 @@
+pub mod Digraph
+pub mod Search
+pub mod Walks
+pub mod EdgeKinds
+pub mod Laws
+pub mod Internal
