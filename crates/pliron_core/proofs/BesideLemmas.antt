@@ -16,7 +16,8 @@ use Rattle.pliron_core.proofs.PlaceLemmas.{get_or-pad}
 use Rattle.pliron_core.proofs.HoldingLemmas.{some_is, slot_is, maker_is, region_parent_is, block_held, held_block, holder_is, holder_by, holder_live, inside_block, inside_more, within_more}
 use Rattle.pliron_core.proofs.InsideLemmas.{AreKeptOutside, same_change, change_of_kept}
 use Rattle.pliron_core.proofs.WriteInsideLemmas.{same_block, same_operation, push_other, grown_front}
-use Rattle.pliron_core.proofs.ClearedLemmas.{told, blanked_gone, blanked_kept, met_above, met_itself}
+use Rattle.pliron_core.proofs.BlankLemmas.{blanked_gone, blanked_kept}
+use Rattle.pliron_core.proofs.ClearedLemmas.{told, met_above, met_itself}
 
 -- d is t with one more operation, n, which stands in no block
 pub record IsBeside (t d : Tree) (n : ℕ) : Type 0 where
@@ -177,7 +178,7 @@ module _ (t d : Tree) (n : ℕ) (w : IsTree t) (s : IsBeside t d n) where
   within_new x (inr i) = absurd (holds_nothing x i)
 
   -- erased again, it leaves the same tree
-  erased_none : IsSameTree t (cleared (λ k. is_met_above d (nat_eq n) (Some k)) (λ b. is_met_above d (nat_eq n) (block_holder_of d b)) (λ r. is_met_above d (nat_eq n) (region_parent_of d r)) d)
+  erased_none : IsSameTree t (cleared d (nat_eq n))
   erased_none = record {
     operations = λ k. row no_entry d.operations t.operations s.operations s.fresh k;
     operands = λ k. row [] d.operands t.operands s.operands s.no_operands k;
@@ -198,10 +199,10 @@ module _ (t d : Tree) (n : ℕ) (w : IsTree t) (s : IsBeside t d n) where
       region_gone : ℕ → Bool
       region_gone = λ r. is_met_above d (nat_eq n) (region_parent_of d r)
 
-      row : {A : Type 0} (none : A) (xs ys : List A) → ((k : ℕ) → k ≢ n → get_or xs k none ≡ get_or ys k none) → get_or ys n none ≡ none → (k : ℕ) → get_or (blanked gone none 0 xs) k none ≡ get_or ys k none
+      row : {A : Type 0} (none : A) (xs ys : List A) → ((k : ℕ) → k ≢ n → get_or xs k none ≡ get_or ys k none) → get_or ys n none ≡ none → (k : ℕ) → get_or (blanked gone none xs) k none ≡ get_or ys k none
       row none xs ys same empty k = go (told (gone k))
         where
-          go : (gone k ≡ true) ⊎ (gone k ≡ false) → get_or (blanked gone none 0 xs) k none ≡ get_or ys k none
+          go : (gone k ≡ true) ⊎ (gone k ≡ false) → get_or (blanked gone none xs) k none ≡ get_or ys k none
           go (inl e) =
               let m = met_above d n (Some k) e in
               let here : k ≡ n = some_is m.1 ∙ within_new m.0 m.2 in
@@ -215,7 +216,7 @@ module _ (t d : Tree) (n : ℕ) (w : IsTree t) (s : IsBeside t d n) where
           go (inl e) = let m = met_above d n (block_holder_of d b) e in absurd (holds_no_block b (m.1 ∙ ap Some (within_new m.0 m.2)))
           go (inr e) = e
 
-      layout : (r : ℕ) → (region_gone r ≡ true) ⊎ (region_gone r ≡ false) → get_or (blanked region_gone [] 0 d.layouts) r [] ≡ layout_of t r
+      layout : (r : ℕ) → (region_gone r ≡ true) ⊎ (region_gone r ≡ false) → get_or (blanked region_gone [] d.layouts) r [] ≡ layout_of t r
       layout r (inr e) = blanked_kept region_gone [] d.layouts r e ∙ s.layouts r
       layout r (inl e) = blanked_gone region_gone [] d.layouts r e ∙ sym (none (layout_of t r) refl)
         where
@@ -228,7 +229,7 @@ module _ (t d : Tree) (n : ℕ) (w : IsTree t) (s : IsBeside t d n) where
 
   pub beside_erased : IsSameTree t (erased d n)
   beside_erased =
-      subst (λ o. IsSameTree t (cleared (λ k. is_met_above d (nat_eq n) (Some k)) (λ b. is_met_above d (nat_eq n) (block_holder_of d b)) (λ r. is_met_above d (nat_eq n) (region_parent_of d r)) (taken_from d n o))) (sym s.loose) erased_none
+      subst (λ o. IsSameTree t (cleared (taken_from d n o) (nat_eq n))) (sym s.loose) erased_none
 
 -- which is a change inside of any operation
 pub beside_erased_inside : (t d : Tree) (n op : ℕ) → IsTree t → IsJoined (erased d n) → IsBeside t d n → IsInsideChange t (erased d n) op

@@ -1,17 +1,18 @@
 -- Erasing inside an operation.
-use Rattle.std.proofs.Common.{◌≡◌, ◌≢◌, ◌⊎◌, ℕ, Bool, true, false, nat_eq, ◌||◌, [], Option, Some, None, IsSome, slice_set, refl, sym, ap, ◌∙◌, subst, inl, inr, true≢false}
-use Rattle.std.proofs.lemmas.Bool.{ne_eqb}
+use Rattle.std.proofs.Common.{◌≡◌, ◌≢◌, ◌⊎◌, ℕ, Bool, true, false, nat_eq, [], Option, Some, None, IsSome, slice_set, refl, sym, ap, ◌∙◌, subst, inl, inr, true≢false}
+use Rattle.std.proofs.lemmas.Bool.{cases_eq}
 use Rattle.std.proofs.lemmas.List.{get_or-set_other}
 use Rattle.pliron_core.specs.Lists.{without}
-use Rattle.pliron_core.specs.Tree.{Tree, no_entry, up_from, op_of_slot, row_of, parent_of, body_of, block_parent_of, layout_of, slot_of, region_parent_of, block_holder_of, holder_of, IsLive, IsBlock, IsInside, IsInside.Directly, IsInside.Deeper, IsWithin, HoldsBlock}
+use Rattle.pliron_core.specs.Tree.{Tree, no_entry, up_from, op_of_slot, row_of, parent_of, body_of, block_parent_of, slot_of, region_parent_of, block_holder_of, holder_of, IsLive, IsBlock, IsInside, IsInside.Directly, IsInside.Deeper, IsWithin, HoldsBlock}
 use Rattle.pliron_core.specs.Joined.{IsJoined, IsTree}
 use Rattle.pliron_core.specs.Writes.{taken_from}
-use Rattle.pliron_core.specs.Erased.{is_met_above, stands_in, cleared, erased, block_taken_from, block_erased, uses_dropped}
+use Rattle.pliron_core.specs.Erased.{is_met_above, stands_in, blanked, cleared, erased, block_emptied, block_taken_from, block_erased, uses_dropped}
 use Rattle.pliron_core.specs.Changes.{HoldsRegion, IsOutside, IsBlockOutside, IsInsideChange}
-use Rattle.pliron_core.proofs.HoldingLemmas.{some_is, past_live, inside_up, within_inside, holder_is, holder_by, block_held, held_block, block_inside, inside_block, inside_alike, within_alike}
+use Rattle.pliron_core.proofs.HoldingLemmas.{some_is, not_none, past_live, inside_by, not_itself, within_more, inside_up, within_inside, holder_is, holder_by, block_held, held_block, block_inside, inside_block, inside_alike, within_alike}
 use Rattle.pliron_core.proofs.InsideLemmas.{AreKeptOutside, change_of_kept}
 use Rattle.pliron_core.proofs.WriteInsideLemmas.{same_block, same_operation}
-use Rattle.pliron_core.proofs.ClearedLemmas.{told, blanked_gone, blanked_kept, met_above, met_block, met_itself}
+use Rattle.pliron_core.proofs.BlankLemmas.{blanked_gone, blanked_kept}
+use Rattle.pliron_core.proofs.ClearedLemmas.{told, blank_set, met_above, met_block, met_itself}
 
 -- where rows and blocks are as before or gone, nothing comes to stand outside anything
 module _ (t u : Tree) (wu : IsJoined u)
@@ -66,37 +67,60 @@ not_met false no_way = refl
 
 -- an operation inside op is erased, with what it holds
 module _ (t : Tree) (op x from : ℕ) (w : IsTree t) (there : parent_of t x ≡ Some from) (i : IsInside t op x) where
+  abbrev cut : Tree
+  cut = taken_from t x (Some from)
+
   abbrev pub without_it : Tree
-  without_it = cleared (λ k. is_met_above t (nat_eq x) (Some k)) (λ b. is_met_above t (nat_eq x) (block_holder_of t b)) (λ r. is_met_above t (nat_eq x) (region_parent_of t r)) (taken_from t x (Some from))
+  without_it = cleared cut (nat_eq x)
 
-  op_stays : (y : ℕ) → (IsWithin t x y → ⊥) → is_met_above t (nat_eq x) (Some y) ≡ false
-  op_stays y out = not_met _ (λ e. let m = met_above t x (Some y) e in out (subst (IsWithin t x) (sym (some_is m.1)) m.2))
+  abbrev gone : ℕ → Bool
+  gone k = is_met_above cut (nat_eq x) (Some k)
 
-  up_stays : (o : Option ℕ) → ((k : ℕ) → o ≡ Some k → IsWithin t x k → ⊥) → is_met_above t (nat_eq x) o ≡ false
-  up_stays o out = not_met _ (λ e. let m = met_above t x o e in out m.0 m.1 m.2)
+  abbrev block_gone : ℕ → Bool
+  block_gone b = is_met_above cut (nat_eq x) (block_holder_of t b)
 
-  parent_stays : (y : ℕ) → is_met_above t (nat_eq x) (Some y) ≡ false → parent_of without_it y ≡ parent_of t y
-  parent_stays y f = blanked_kept (λ k. is_met_above t (nat_eq x) (Some k)) None (slice_set t.parents x None) y f ∙ get_or-set_other t.parents x y None None other
+  abbrev region_gone : ℕ → Bool
+  region_gone r = is_met_above cut (nat_eq x) (region_parent_of t r)
+
+  -- what stands somewhere once x is out stood there before
+  cut_parent : (y b : ℕ) → parent_of cut y ≡ Some b → parent_of t y ≡ Some b
+  cut_parent y b e = go (cases_eq y x)
+    where
+      go : (y ≡ x) ⊎ (y ≢ x) → parent_of t y ≡ Some b
+      go (inl s) = absurd (not_none (sym (ap (parent_of cut) s ∙ blank_set None t.parents x) ∙ e))
+      go (inr ne) = sym (get_or-set_other t.parents x y None None ne) ∙ e
+
+  cut_holder : (y p : ℕ) → holder_of cut y ≡ Some p → holder_of t y ≡ Some p
+  cut_holder y p e = let h = holder_is cut y p e in holder_by t y h.0 p (cut_parent y h.0 h.1) h.2
+
+  up_stays : (o : Option ℕ) → ((k : ℕ) → o ≡ Some k → IsWithin t x k → ⊥) → is_met_above cut (nat_eq x) o ≡ false
+  up_stays o out = not_met _ (λ e. let m = met_above cut x o e in out m.0 m.1 (within_more cut t cut_holder m.2))
+
+  op_stays : (y : ℕ) → (IsWithin t x y → ⊥) → gone y ≡ false
+  op_stays y out = up_stays (Some y) (λ k e z. out (subst (IsWithin t x) (sym (some_is e)) z))
+
+  parent_stays : (y : ℕ) → gone y ≡ false → parent_of without_it y ≡ parent_of t y
+  parent_stays y f = blanked_kept gone None (slice_set t.parents x None) y f ∙ get_or-set_other t.parents x y None None other
     where
       other : y ≢ x
-      other e = true≢false (sym (ap (λ z. is_met_above t (nat_eq x) (Some z)) e ∙ met_itself t x (past_live t x (w.joined.standing x from there).0)) ∙ f)
+      other e = true≢false (sym (ap gone e ∙ met_itself cut x (past_live t x (w.joined.standing x from there).0)) ∙ f)
 
   erased_change : IsJoined without_it → IsInsideChange t without_it op
   erased_change wu = change_of_kept t without_it op w.joined kept (fewer_operations t without_it wu rows blocks (λ r. refl) op) (fewer_blocks t without_it wu rows blocks (λ r. refl) op)
     where
       rows : (y : ℕ) → ((row_of without_it y ≡ row_of t y) × (parent_of without_it y ≡ parent_of t y)) ⊎ (row_of without_it y ≡ no_entry)
-      rows y = go (told (is_met_above t (nat_eq x) (Some y)))
+      rows y = go (told (gone y))
         where
-          go : (is_met_above t (nat_eq x) (Some y) ≡ true) ⊎ (is_met_above t (nat_eq x) (Some y) ≡ false) → ((row_of without_it y ≡ row_of t y) × (parent_of without_it y ≡ parent_of t y)) ⊎ (row_of without_it y ≡ no_entry)
-          go (inl e) = inr (blanked_gone (λ k. is_met_above t (nat_eq x) (Some k)) no_entry t.operations y e)
-          go (inr f) = inl (blanked_kept (λ k. is_met_above t (nat_eq x) (Some k)) no_entry t.operations y f, parent_stays y f)
+          go : (gone y ≡ true) ⊎ (gone y ≡ false) → ((row_of without_it y ≡ row_of t y) × (parent_of without_it y ≡ parent_of t y)) ⊎ (row_of without_it y ≡ no_entry)
+          go (inl e) = inr (blanked_gone gone no_entry t.operations y e)
+          go (inr f) = inl (blanked_kept gone no_entry t.operations y f, parent_stays y f)
 
       blocks : (b : ℕ) → (block_parent_of without_it b ≡ block_parent_of t b) ⊎ (block_parent_of without_it b ≡ None)
-      blocks b = go (told (is_met_above t (nat_eq x) (block_holder_of t b)))
+      blocks b = go (told (block_gone b))
         where
-          go : (is_met_above t (nat_eq x) (block_holder_of t b) ≡ true) ⊎ (is_met_above t (nat_eq x) (block_holder_of t b) ≡ false) → (block_parent_of without_it b ≡ block_parent_of t b) ⊎ (block_parent_of without_it b ≡ None)
-          go (inl e) = inr (blanked_gone (λ b. is_met_above t (nat_eq x) (block_holder_of t b)) None t.block_parents b e)
-          go (inr f) = inl (blanked_kept (λ b. is_met_above t (nat_eq x) (block_holder_of t b)) None t.block_parents b f)
+          go : (block_gone b ≡ true) ⊎ (block_gone b ≡ false) → (block_parent_of without_it b ≡ block_parent_of t b) ⊎ (block_parent_of without_it b ≡ None)
+          go (inl e) = inr (blanked_gone block_gone None t.block_parents b e)
+          go (inr f) = inl (blanked_kept block_gone None t.block_parents b f)
 
       left_block : HoldsBlock t op from
       left_block = block_inside from there i
@@ -105,20 +129,16 @@ module _ (t : Tree) (op x from : ℕ) (w : IsTree t) (there : parent_of t x ≡ 
       kept = record {
         operations = λ y o.
             let f = op_stays y (λ z. o.1 (within_inside i z)) in
-            same_operation t without_it op y
-            (blanked_kept (λ k. is_met_above t (nat_eq x) (Some k)) no_entry t.operations y f)
-            (blanked_kept (λ k. is_met_above t (nat_eq x) (Some k)) [] t.operands y f)
-            (blanked_kept (λ k. is_met_above t (nat_eq x) (Some k)) [] t.successors y f)
-            (parent_stays y f);
+            same_operation t without_it op y (blanked_kept gone no_entry t.operations y f) (blanked_kept gone [] t.operands y f) (blanked_kept gone [] t.successors y f) (parent_stays y f);
         blocks = λ b o.
             let f = up_stays (block_holder_of t b) (λ k e z. o.1 (k, e, inr (within_inside i z))) in
             same_block t without_it b
-            (blanked_kept (λ b. is_met_above t (nat_eq x) (block_holder_of t b)) [] t.arguments b f)
-            (blanked_kept (λ b. is_met_above t (nat_eq x) (block_holder_of t b)) [] (slice_set t.bodies from (without x (body_of t from))) b f ∙ get_or-set_other t.bodies from b _ [] (λ e. o.1 (subst (HoldsBlock t op) (sym e) left_block)))
-            (blanked_kept (λ b. is_met_above t (nat_eq x) (block_holder_of t b)) None t.block_parents b f);
+            (blanked_kept block_gone [] t.arguments b f)
+            (blanked_kept block_gone [] (slice_set t.bodies from (without x (body_of t from))) b f ∙ get_or-set_other t.bodies from b _ [] (λ e. o.1 (subst (HoldsBlock t op) (sym e) left_block)))
+            (blanked_kept block_gone None t.block_parents b f);
         regions = λ r o.
             let f = up_stays (region_parent_of t r) (λ k e z. o.1 (k, e, inr (within_inside i z))) in
-            record { layout = blanked_kept (λ r. is_met_above t (nat_eq x) (region_parent_of t r)) [] t.layouts r f; slot = refl };
+            record { layout = blanked_kept region_gone [] t.layouts r f; slot = refl };
         values = λ v o. refl;
       }
 
@@ -126,15 +146,12 @@ pub erased_inside : (t : Tree) (op x : ℕ) → IsTree t → IsJoined (erased t 
 erased_inside t op x w wu i =
     let up = inside_up i in
     let h = holder_is t x up.0 up.1 in
-    subst (λ o. IsInsideChange t (at o) op) (sym h.1) (erased_change t op x h.0 w h.1 i (subst (λ o. IsJoined (at o)) h.1 wu))
-  where
-    at : Option ℕ → Tree
-    at o = cleared (λ k. is_met_above t (nat_eq x) (Some k)) (λ b. is_met_above t (nat_eq x) (block_holder_of t b)) (λ r. is_met_above t (nat_eq x) (region_parent_of t r)) (taken_from t x o)
+    subst (λ o. IsInsideChange t (cleared (taken_from t x o) (nat_eq x)) op) (sym h.1) (erased_change t op x h.0 w h.1 i (subst (λ o. IsJoined (cleared (taken_from t x o) (nat_eq x))) h.1 wu))
 
 -- what stands in a block that op holds is inside op
 module _ (t : Tree) (op block : ℕ) (held : HoldsBlock t op block) where
   met_inside : (o : Option ℕ) → is_met_above t (stands_in t block) o ≡ true → (k : ℕ) × (o ≡ Some k) × IsInside t op k
-  met_inside o e = let m = met_block t block o e in (m.0, m.2, within_inside (inside_block block m.3 held) m.4)
+  met_inside o e = let m = met_block t block o e in (m.0, m.1, within_inside (inside_block block m.2.1 held) m.2.2)
 
   in_block_stays : (o : Option ℕ) → ((k : ℕ) → o ≡ Some k → IsInside t op k → ⊥) → is_met_above t (stands_in t block) o ≡ false
   in_block_stays o out = not_met _ (λ e. let m = met_inside o e in out m.0 m.1 m.2)
@@ -161,61 +178,69 @@ module _ (t : Tree) (op block : ℕ) (held : HoldsBlock t op block) where
 
 -- a block that op holds is erased, with what stands in it
 module _ (t : Tree) (op block region : ℕ) (w : IsTree t) (there : block_parent_of t block ≡ Some region) (held : HoldsBlock t op block) where
-  abbrev gone : ℕ → Bool
-  gone k = is_met_above t (stands_in t block) (Some k)
+  abbrev inner : ℕ → Bool
+  inner k = is_met_above t (stands_in t block) (Some k)
 
-  abbrev block_gone : ℕ → Bool
-  block_gone b = nat_eq block b || is_met_above t (stands_in t block) (block_holder_of t b)
+  abbrev inner_block : ℕ → Bool
+  inner_block b = is_met_above t (stands_in t block) (block_holder_of t b)
 
-  abbrev region_gone : ℕ → Bool
-  region_gone r = is_met_above t (stands_in t block) (region_parent_of t r)
+  abbrev inner_region : ℕ → Bool
+  inner_region r = is_met_above t (stands_in t block) (region_parent_of t r)
 
   abbrev without_block : Tree
-  without_block = cleared (λ k. is_met_above t (stands_in t block) (Some k)) (λ b. nat_eq block b || is_met_above t (stands_in t block) (block_holder_of t b)) (λ r. is_met_above t (stands_in t block) (region_parent_of t r)) (block_taken_from t block (Some region))
+  without_block = block_taken_from (block_emptied t block) block (Some region)
 
   region_held : HoldsRegion t op region
   region_held = (held.0, sym (ap (λ o. up_from o (λ r. region_parent_of t r)) there) ∙ held.1, held.2)
 
-  block_stays : (b : ℕ) → IsBlockOutside t op b → block_gone b ≡ false
-  block_stays b o =
-      ap (λ z. z || is_met_above t (stands_in t block) (block_holder_of t b)) (ne_eqb block b (λ e. o.1 (subst (HoldsBlock t op) e held)))
-      ∙ in_block_stays t op block held (block_holder_of t b) (λ k e j. o.1 (k, e, inr j))
+  block_stays : (b : ℕ) → IsBlockOutside t op b → inner_block b ≡ false
+  block_stays b o = in_block_stays t op block held (block_holder_of t b) (λ k e j. o.1 (k, e, inr j))
+
+  other_block : (b : ℕ) → IsBlockOutside t op b → b ≢ block
+  other_block b o e = o.1 (subst (HoldsBlock t op) (sym e) held)
 
   block_erased_change : IsJoined without_block → IsInsideChange t without_block op
   block_erased_change wu = change_of_kept t without_block op w.joined kept (fewer_operations t without_block wu rows blocks (λ r. refl) op) (fewer_blocks t without_block wu rows blocks (λ r. refl) op)
     where
       rows : (y : ℕ) → ((row_of without_block y ≡ row_of t y) × (parent_of without_block y ≡ parent_of t y)) ⊎ (row_of without_block y ≡ no_entry)
-      rows y = go (told (gone y))
+      rows y = go (told (inner y))
         where
-          go : (gone y ≡ true) ⊎ (gone y ≡ false) → ((row_of without_block y ≡ row_of t y) × (parent_of without_block y ≡ parent_of t y)) ⊎ (row_of without_block y ≡ no_entry)
-          go (inl e) = inr (blanked_gone gone no_entry t.operations y e)
-          go (inr f) = inl (blanked_kept gone no_entry t.operations y f, blanked_kept gone None t.parents y f)
+          go : (inner y ≡ true) ⊎ (inner y ≡ false) → ((row_of without_block y ≡ row_of t y) × (parent_of without_block y ≡ parent_of t y)) ⊎ (row_of without_block y ≡ no_entry)
+          go (inl e) = inr (blanked_gone inner no_entry t.operations y e)
+          go (inr f) = inl (blanked_kept inner no_entry t.operations y f, blanked_kept inner None t.parents y f)
 
       blocks : (b : ℕ) → (block_parent_of without_block b ≡ block_parent_of t b) ⊎ (block_parent_of without_block b ≡ None)
-      blocks b = go (told (block_gone b))
+      blocks b = go (cases_eq b block) (told (inner_block b))
         where
-          go : (block_gone b ≡ true) ⊎ (block_gone b ≡ false) → (block_parent_of without_block b ≡ block_parent_of t b) ⊎ (block_parent_of without_block b ≡ None)
-          go (inl e) = inr (blanked_gone block_gone None t.block_parents b e)
-          go (inr f) = inl (blanked_kept block_gone None t.block_parents b f)
+          go : (b ≡ block) ⊎ (b ≢ block) → (inner_block b ≡ true) ⊎ (inner_block b ≡ false) → (block_parent_of without_block b ≡ block_parent_of t b) ⊎ (block_parent_of without_block b ≡ None)
+          go (inl s) d = inr (ap (block_parent_of without_block) s ∙ blank_set None (blanked inner_block None t.block_parents) block)
+          go (inr ne) (inl e) = inr (get_or-set_other (blanked inner_block None t.block_parents) block b None None ne ∙ blanked_gone inner_block None t.block_parents b e)
+          go (inr ne) (inr f) = inl (get_or-set_other (blanked inner_block None t.block_parents) block b None None ne ∙ blanked_kept inner_block None t.block_parents b f)
 
       kept : AreKeptOutside t without_block op
       kept = record {
         operations = λ y o.
             let f = in_block_stays t op block held (Some y) (λ k e j. o.1 (subst (IsInside t op) (sym (some_is e)) j)) in
-            same_operation t without_block op y (blanked_kept gone no_entry t.operations y f) (blanked_kept gone [] t.operands y f) (blanked_kept gone [] t.successors y f) (blanked_kept gone None t.parents y f);
+            same_operation t without_block op y (blanked_kept inner no_entry t.operations y f) (blanked_kept inner [] t.operands y f) (blanked_kept inner [] t.successors y f) (blanked_kept inner None t.parents y f);
         blocks = λ b o.
             let f = block_stays b o in
-            same_block t without_block b (blanked_kept block_gone [] t.arguments b f) (blanked_kept block_gone [] t.bodies b f) (blanked_kept block_gone None t.block_parents b f);
+            let ne = other_block b o in
+            same_block t without_block b
+            (get_or-set_other (blanked inner_block [] t.arguments) block b [] [] ne ∙ blanked_kept inner_block [] t.arguments b f)
+            (get_or-set_other (blanked inner_block [] t.bodies) block b [] [] ne ∙ blanked_kept inner_block [] t.bodies b f)
+            (get_or-set_other (blanked inner_block None t.block_parents) block b None None ne ∙ blanked_kept inner_block None t.block_parents b f);
         regions = λ r o.
             let f = in_block_stays t op block held (region_parent_of t r) (λ k e j. o.1 (k, e, inr j)) in
-            record { layout = blanked_kept region_gone [] (slice_set t.layouts region (without block (layout_of t region))) r f ∙ get_or-set_other t.layouts region r _ [] (λ e. o.1 (subst (HoldsRegion t op) (sym e) region_held)); slot = refl };
+            record { layout = get_or-set_other (blanked inner_region [] t.layouts) region r _ [] (λ e. o.1 (subst (HoldsRegion t op) (sym e) region_held)) ∙ blanked_kept inner_region [] t.layouts r f; slot = refl };
         values = λ v o. refl;
       }
+
+-- a block does not stand inside itself
+own_block_stays : (t : Tree) (block : ℕ) → IsJoined t → is_met_above t (stands_in t block) (block_holder_of t block) ≡ false
+own_block_stays t block w = not_met _ (λ e. let m = met_block t block (block_holder_of t block) e in let up : IsInside t m.0 m.2.0 = inside_by m.0 (holder_by t m.2.0 block m.0 m.2.1 m.1) (inl refl) in not_itself w.rooted (within_inside up m.2.2))
 
 pub block_erased_inside : (t : Tree) (op block : ℕ) → IsTree t → IsJoined (block_erased t block) → HoldsBlock t op block → IsInsideChange t (block_erased t block) op
 block_erased_inside t op block w wu held =
     let h = block_held t block w.joined (held_block t block held.0 held.1) in
-    subst (λ o. IsInsideChange t (at o) op) (sym h.2) (block_erased_change t op block h.0 w h.2 held (subst (λ o. IsJoined (at o)) h.2 wu))
-  where
-    at : Option ℕ → Tree
-    at o = cleared (λ k. is_met_above t (stands_in t block) (Some k)) (λ b. nat_eq block b || is_met_above t (stands_in t block) (block_holder_of t b)) (λ r. is_met_above t (stands_in t block) (region_parent_of t r)) (block_taken_from t block o)
+    let there : block_parent_of (block_emptied t block) block ≡ Some h.0 = blanked_kept (λ b. is_met_above t (stands_in t block) (block_holder_of t b)) None t.block_parents block (own_block_stays t block w.joined) ∙ h.2 in
+    subst (λ o. IsInsideChange t (block_taken_from (block_emptied t block) block o) op) (sym there) (block_erased_change t op block h.0 w h.2 held (subst (λ o. IsJoined (block_taken_from (block_emptied t block) block o)) there wu))

@@ -40,3 +40,16 @@ pub mod MoveInsideLemmas
 pub mod ClearedLemmas
 pub mod BesideLemmas
 pub mod EraseInsideLemmas
+pub mod BlankLemmas
+pub mod ChainLemmas
+pub mod ClearingLemmas
+pub mod DescentLemmas
+pub mod DismantleLemmas
+pub mod DropLemmas
+pub mod EmptyingLemmas
+pub mod ErasedLemmas
+pub mod InnerLemmas
+pub mod LastLemmas
+pub mod MeasureLemmas
+pub mod WithinLemmas
+pub mod ContainedLemmas

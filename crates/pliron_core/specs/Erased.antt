@@ -1,5 +1,7 @@
 -- What erasing makes of a tree.
-use Rattle.std.specs.Prelude.{zero, suc, true, false, nat_eq, if◌then◌else◌, ◌≡◌, ◌||◌, ℕ, Bool, List, [], ◌∷◌, length, Option, Some, None, slice_set}
+use Rattle.std.specs.Prelude.{zero, suc, true, false, nat_eq, if◌then◌else◌, ◌≡◌, ◌⊎◌, ℕ, Bool, List, [], ◌∷◌, length, Option, Some, None, slice_set}
+use Rattle.pliron_core.specs.declared.context.Def.{Def}
+use Rattle.pliron_core.specs.declared.context.Def.TheVariants.{Result, Argument}
 use Rattle.pliron_core.specs.Lists.{In, without}
 use Rattle.pliron_core.specs.Tree.{Tree, no_entry, operands_of, successors_of, parent_of, block_parent_of, layout_of, region_parent_of, holder_of, block_holder_of, definition_of, IsWithin, HoldsBlock, IsMadeWithin}
 use Rattle.pliron_core.specs.Writes.{taken_out}
@@ -15,6 +17,31 @@ is_met h p (suc n) (Some x) = if p x then true else is_met h p n (h x)
 abbrev pub is_met_above : Tree → (ℕ → Bool) → Option ℕ → Bool
 is_met_above t p o = is_met (holder_of t) p (length t.operations) o
 
+-- the table with `none` at each key that is gone
+abbrev pub blanked : {A : Type 0} → (ℕ → Bool) → A → List A → List A
+blanked gone none [] = []
+blanked gone none (x ∷ xs) = (if gone 0 then none else x) ∷ blanked (λ k. gone (suc k)) none xs
+
+-- the operations for which the test holds are erased, and all that stands inside them
+abbrev pub cleared : Tree → (ℕ → Bool) → Tree
+cleared t p = record t {
+  operations = blanked (λ k. is_met_above t p (Some k)) no_entry t.operations;
+  operands = blanked (λ k. is_met_above t p (Some k)) [] t.operands;
+  successors = blanked (λ k. is_met_above t p (Some k)) [] t.successors;
+  parents = blanked (λ k. is_met_above t p (Some k)) None t.parents;
+  bodies = blanked (λ b. is_met_above t p (block_holder_of t b)) [] t.bodies;
+  arguments = blanked (λ b. is_met_above t p (block_holder_of t b)) [] t.arguments;
+  block_parents = blanked (λ b. is_met_above t p (block_holder_of t b)) None t.block_parents;
+  layouts = blanked (λ r. is_met_above t p (region_parent_of t r)) [] t.layouts;
+}
+
+-- they have no operands and no successors, and neither has what stands inside them
+abbrev pub names_dropped : Tree → (ℕ → Bool) → Tree
+names_dropped t p = record t {
+  operands = blanked (λ k. is_met_above t p (Some k)) [] t.operands;
+  successors = blanked (λ k. is_met_above t p (Some k)) [] t.successors;
+}
+
 -- whether the operation stands directly in the block
 abbrev pub is_the : ℕ → Option ℕ → Bool
 is_the b None = false
@@ -23,45 +50,54 @@ is_the b (Some c) = nat_eq b c
 abbrev pub stands_in : Tree → ℕ → ℕ → Bool
 stands_in t block x = is_the block (parent_of t x)
 
--- the table with `none` at each key that is gone, from this key on
-abbrev pub blanked : {A : Type 0} → (ℕ → Bool) → A → ℕ → List A → List A
-blanked gone none k [] = []
-blanked gone none k (x ∷ xs) = (if gone k then none else x) ∷ blanked gone none (suc k) xs
+-- all that stands in the block is erased
+abbrev pub block_emptied : Tree → ℕ → Tree
+block_emptied t block = let u = cleared t (stands_in t block) in record u { bodies = slice_set u.bodies block [] }
 
--- these operations are erased, and with them the blocks that they hold
-abbrev pub cleared : (ℕ → Bool) → (ℕ → Bool) → (ℕ → Bool) → Tree → Tree
-cleared op_gone block_gone region_gone t = record t {
-  operations = blanked op_gone no_entry 0 t.operations;
-  operands = blanked op_gone [] 0 t.operands;
-  successors = blanked op_gone [] 0 t.successors;
-  parents = blanked op_gone None 0 t.parents;
-  bodies = blanked block_gone [] 0 t.bodies;
-  arguments = blanked block_gone [] 0 t.arguments;
-  block_parents = blanked block_gone None 0 t.block_parents;
-  layouts = blanked region_gone [] 0 t.layouts;
+-- the block leaves its region, without arguments
+abbrev pub block_taken_from : Tree → ℕ → Option ℕ → Tree
+block_taken_from t block None = t
+block_taken_from t block (Some r) = record t {
+  arguments = slice_set t.arguments block [];
+  block_parents = slice_set t.block_parents block None;
+  layouts = slice_set t.layouts r (without block (layout_of t r));
 }
+
+abbrev pub block_taken_out : Tree → ℕ → Tree
+block_taken_out t block = block_taken_from t block (block_parent_of t block)
 
 -- the operation is erased with its contents
 abbrev pub erased : Tree → ℕ → Tree
-erased t op = cleared (λ k. is_met_above t (nat_eq op) (Some k)) (λ b. is_met_above t (nat_eq op) (block_holder_of t b)) (λ r. is_met_above t (nat_eq op) (region_parent_of t r)) (taken_out t op)
-
--- the block leaves its region
-abbrev pub block_taken_from : Tree → ℕ → Option ℕ → Tree
-block_taken_from t block None = t
-block_taken_from t block (Some r) = record t { layouts = slice_set t.layouts r (without block (layout_of t r)) }
+erased t op = cleared (taken_out t op) (nat_eq op)
 
 -- the block is erased with its contents
 abbrev pub block_erased : Tree → ℕ → Tree
-block_erased t block = cleared (λ k. is_met_above t (stands_in t block) (Some k)) (λ b. nat_eq block b || is_met_above t (stands_in t block) (block_holder_of t b)) (λ r. is_met_above t (stands_in t block) (region_parent_of t r)) (block_taken_from t block (block_parent_of t block))
+block_erased t block = block_taken_out (block_emptied t block) block
 
 -- all operations in the block, at any depth, have no operands and no successors
 abbrev pub uses_dropped : Tree → ℕ → Tree
-uses_dropped t block = record t {
-  operands = blanked (λ k. is_met_above t (stands_in t block) (Some k)) [] 0 t.operands;
-  successors = blanked (λ k. is_met_above t (stands_in t block) (Some k)) [] 0 t.successors;
-}
+uses_dropped t block = names_dropped t (stands_in t block)
 
 -- no value and no block of op is used outside it
 pub record IsSelfContained (t : Tree) (op : ℕ) : Type 0 where
   pub values : (x v : ℕ) → In v (operands_of t x) → IsMadeWithin t op (definition_of t v) → IsWithin t op x
   pub blocks : (x b : ℕ) → In b (successors_of t x) → HoldsBlock t op b → IsWithin t op x
+
+-- x stands in the block, at any depth
+abbrev pub StandsIn : Tree → ℕ → ℕ → Type 0
+StandsIn t block x = (k : ℕ) × (parent_of t k ≡ Some block) × IsWithin t k x
+
+-- b is the block or stands inside it
+abbrev pub IsBlockWithin : Tree → ℕ → ℕ → Type 0
+IsBlockWithin t block b = (b ≡ block) ⊎ ((k : ℕ) × (block_holder_of t b ≡ Some k) × StandsIn t block k)
+
+-- the value is an argument of the block or made inside it
+abbrev pub IsMadeInBlock : Tree → ℕ → Option Def → Type 0
+IsMadeInBlock t block None = ⊥
+IsMadeInBlock t block (Some (Result k i)) = StandsIn t block k
+IsMadeInBlock t block (Some (Argument b i)) = IsBlockWithin t block b
+
+-- the block, its arguments, and the values and blocks inside it are used nowhere outside it
+pub record IsSelfContainedBlock (t : Tree) (block : ℕ) : Type 0 where
+  pub values : (x v : ℕ) → In v (operands_of t x) → IsMadeInBlock t block (definition_of t v) → StandsIn t block x
+  pub blocks : (x b : ℕ) → In b (successors_of t x) → IsBlockWithin t block b → StandsIn t block x

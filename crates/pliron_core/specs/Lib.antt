@@ -15,6 +15,8 @@ pub mod WalkSteps
 pub mod Making
 pub mod Insertion
 pub mod Erased
+pub mod Dismantling
+pub mod Contained
 pub mod Changes
 pub mod ChangeLaws
 pub mod Tables

@@ -7,6 +7,7 @@ mod block_reads;
 mod contained;
 mod create;
 mod edge_reads;
+pub(crate) mod erase;
 pub(crate) mod edit;
 mod operation_reads;
 pub(crate) mod place;

@@ -2,9 +2,11 @@
 ghost use Rattle.std.specs.Prelude.{◌≡◌, Some, None, IsSome, OnOk, OnErr};
 ghost use Rattle.pliron_core.specs.Tree.{IsLive, IsBlock, IsDefined, HoldsBlock, parent_of};
 ghost use Rattle.pliron_core.specs.Writes.{replaced, moved_last};
+ghost use Rattle.pliron_core.specs.Erased.{IsSelfContained, IsSelfContainedBlock, erased, block_erased};
 ghost use Rattle.pliron_core.specs.Insertion.{IsPointFor, inserted};
 
 use crate::context::edit::replace_uses;
+use crate::context::erase::{erase_block, erase_operation};
 use crate::context::place::{move_last, place_before, place_first};
 use crate::context::{Context, NoMemory};
 use crate::keys::{BasicBlock, Operation, Ptr, Value};
@@ -83,6 +85,26 @@ pub trait Rewriter {
         requires outside { HoldsBlock ctx.old.tree op block → ⊥ }
         ensures moved { ctx.new ≡ record ctx.old { tree = moved_last ctx.old.tree op block } }
         ensures point { point self.new ≡ point self.old };
+
+    /// Erases the operation with its contents, at any depth.
+    ///
+    /// Asks that it stands, and that no value or block of it is used outside it. Takes no memory.
+    /// Cost: what is erased, with its operands and successors.
+    fn erase_operation(&mut self, ctx: &mut Context, op: Ptr<Operation>)
+        requires live { IsLive ctx.old.tree op }
+        requires contained { IsSelfContained ctx.old.tree op }
+        ensures erased { ctx.new.tree ≡ erased ctx.old.tree op }
+        ensures point { point self.new ≡ point self.old };
+
+    /// Erases the block with its contents, at any depth.
+    ///
+    /// Asks that it stands, and that neither it nor a value or block of it is used outside it. Takes
+    /// no memory. Cost: what is erased, with its operands and successors.
+    fn erase_block(&mut self, ctx: &mut Context, block: Ptr<BasicBlock>)
+        requires block { IsBlock ctx.old.tree block }
+        requires contained { IsSelfContainedBlock ctx.old.tree block }
+        ensures erased { ctx.new.tree ≡ block_erased ctx.old.tree block }
+        ensures point { point self.new ≡ point self.old };
 }
 
 /// The rewriter without a listener.
@@ -148,5 +170,13 @@ impl Rewriter for IRRewriter {
         block: Ptr<BasicBlock>,
     ) {
         move_last(ctx, op, block)
+    }
+
+    fn erase_operation(&mut self, ctx: &mut Context, op: Ptr<Operation>) {
+        erase_operation(ctx, op)
+    }
+
+    fn erase_block(&mut self, ctx: &mut Context, block: Ptr<BasicBlock>) {
+        erase_block(ctx, block)
     }
 }

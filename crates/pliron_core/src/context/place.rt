@@ -70,7 +70,7 @@ pub(crate) fn place_before(
 
 // The operation leaves the block that has it, if one does.
 pub(crate) fn take_out(ctx: &mut Context, op: Ptr<Operation>)
-    requires live { IsLive ctx.old.tree op }
+    requires { IsLive ctx.old.tree op }
     ensures { ctx.new ≡ record ctx.old { tree = taken_out ctx.old.tree op } }
 {
     if let Some(block) = ctx.order.owner(op.index()) {
