@@ -41,17 +41,36 @@ pub record IsClearing (ops blocks bodies regions : ℕ → Bool) (t u : Tree) : 
 
 pub clearing_none : (ops blocks bodies regions : ℕ → Bool) (t : Tree) → IsClearing ops blocks bodies regions t t
 clearing_none ops blocks bodies regions t = record {
-  count = refl; block_count = refl; slots = refl; definitions = refl;
-  rows = λ k e. refl; operands = λ k e. refl; successors = λ k e. refl; parents = λ k e. refl;
-  contents = λ b e. refl; arguments = λ b e. refl; block_parents = λ b e. refl; layouts = λ r e. refl;
-  stays = λ k l. (l, refl); placed = λ b r e. e;
+  count = refl;
+  block_count = refl;
+  slots = refl;
+  definitions = refl;
+  rows = λ k e. refl;
+  operands = λ k e. refl;
+  successors = λ k e. refl;
+  parents = λ k e. refl;
+  contents = λ b e. refl;
+  arguments = λ b e. refl;
+  block_parents = λ b e. refl;
+  layouts = λ r e. refl;
+  stays = λ k l. (l, refl);
+  placed = λ b r e. e;
 }
 
 pub clearing_trans : (ops blocks bodies regions : ℕ → Bool) (t u v : Tree) → IsClearing ops blocks bodies regions t u → IsClearing ops blocks bodies regions u v → IsClearing ops blocks bodies regions t v
 clearing_trans ops blocks bodies regions t u v a b = record {
-  count = b.count ∙ a.count; block_count = b.block_count ∙ a.block_count; slots = b.slots ∙ a.slots; definitions = b.definitions ∙ a.definitions;
-  rows = λ k e. b.rows k e ∙ a.rows k e; operands = λ k e. b.operands k e ∙ a.operands k e; successors = λ k e. b.successors k e ∙ a.successors k e; parents = λ k e. b.parents k e ∙ a.parents k e;
-  contents = λ x e. b.contents x e ∙ a.contents x e; arguments = λ x e. b.arguments x e ∙ a.arguments x e; block_parents = λ x e. b.block_parents x e ∙ a.block_parents x e; layouts = λ r e. b.layouts r e ∙ a.layouts r e;
+  count = b.count ∙ a.count;
+  block_count = b.block_count ∙ a.block_count;
+  slots = b.slots ∙ a.slots;
+  definitions = b.definitions ∙ a.definitions;
+  rows = λ k e. b.rows k e ∙ a.rows k e;
+  operands = λ k e. b.operands k e ∙ a.operands k e;
+  successors = λ k e. b.successors k e ∙ a.successors k e;
+  parents = λ k e. b.parents k e ∙ a.parents k e;
+  contents = λ x e. b.contents x e ∙ a.contents x e;
+  arguments = λ x e. b.arguments x e ∙ a.arguments x e;
+  block_parents = λ x e. b.block_parents x e ∙ a.block_parents x e;
+  layouts = λ r e. b.layouts r e ∙ a.layouts r e;
   stays = λ k l. let s = b.stays k l in let r = a.stays k s.0 in (r.0, s.1 ∙ r.1);
   placed = λ x r e. a.placed x r (b.placed x r e);
 }
@@ -62,8 +81,8 @@ set_kept xs d gone i x k e f = get_or-set_other xs i k x d (λ s. true≢false (
 
 -- trees with equal tables
 tables_same : (a1 b1 : List OperationEntry) (a2 b2 a3 b3 : List (List ℕ)) (a4 b4 : List (Option ℕ)) (a5 b5 a6 b6 : List (List ℕ)) (a7 b7 : List (Option ℕ)) (a8 b8 : List (List ℕ)) (a9 b9 : List RegionSlot) (a10 b10 : List Def)
-  → a1 ≡ b1 → a2 ≡ b2 → a3 ≡ b3 → a4 ≡ b4 → a5 ≡ b5 → a6 ≡ b6 → a7 ≡ b7 → a8 ≡ b8 → a9 ≡ b9 → a10 ≡ b10
-  → ◌≡◌ {A = Tree} (record { operations = a1; operands = a2; successors = a3; parents = a4; bodies = a5; arguments = a6; block_parents = a7; layouts = a8; slots = a9; definitions = a10 }) (record { operations = b1; operands = b2; successors = b3; parents = b4; bodies = b5; arguments = b6; block_parents = b7; layouts = b8; slots = b9; definitions = b10 })
+    → a1 ≡ b1 → a2 ≡ b2 → a3 ≡ b3 → a4 ≡ b4 → a5 ≡ b5 → a6 ≡ b6 → a7 ≡ b7 → a8 ≡ b8 → a9 ≡ b9 → a10 ≡ b10
+    → ◌≡◌ {A = Tree} (record { operations = a1; operands = a2; successors = a3; parents = a4; bodies = a5; arguments = a6; block_parents = a7; layouts = a8; slots = a9; definitions = a10 }) (record { operations = b1; operands = b2; successors = b3; parents = b4; bodies = b5; arguments = b6; block_parents = b7; layouts = b8; slots = b9; definitions = b10 })
 tables_same a1 b1 a2 b2 a3 b3 a4 b4 a5 b5 a6 b6 a7 b7 a8 b8 a9 b9 a10 b10 e1 e2 e3 e4 e5 e6 e7 e8 e9 e10 = cc
 
 pub tree_same : (t u : Tree) → t.operations ≡ u.operations → t.operands ≡ u.operands → t.successors ≡ u.successors → t.parents ≡ u.parents → t.bodies ≡ u.bodies → t.arguments ≡ u.arguments → t.block_parents ≡ u.block_parents → t.layouts ≡ u.layouts → t.slots ≡ u.slots → t.definitions ≡ u.definitions → t ≡ u
@@ -153,12 +172,12 @@ module _ (t u : Tree) (p bodies : ℕ → Bool) (wt : IsTree t) (wu : IsTree u) 
 
     pub cleared_all : u ≡ record (cleared t p) { bodies = u.bodies }
     cleared_all = tree_same u (record (cleared t p) { bodies = u.bodies })
-      (is_blanked (op_gone t p) no_entry t.operations u.operations c.count (λ k g. (wu.joined.erased k (all_dead k g)).2) c.rows)
-      (is_blanked (op_gone t p) [] t.operands u.operands (wu.keys.operands ∙ c.count ∙ sym wt.keys.operands) (λ k g. (wu.joined.erased k (all_dead k g)).0) c.operands)
-      (is_blanked (op_gone t p) [] t.successors u.successors (wu.keys.successors ∙ c.count ∙ sym wt.keys.successors) (λ k g. (wu.joined.erased k (all_dead k g)).1) c.successors)
-      (is_blanked (op_gone t p) None t.parents u.parents (wu.keys.parents ∙ c.count ∙ sym wt.keys.parents) (λ k g. no_parent k (all_dead k g)) c.parents)
-      refl
-      (is_blanked (block_gone t p) [] t.arguments u.arguments (wu.keys.arguments ∙ c.block_count ∙ sym wt.keys.arguments) (λ b g. (gone_blocks b g).0) c.arguments)
-      (is_blanked (block_gone t p) None t.block_parents u.block_parents (wu.keys.block_parents ∙ c.block_count ∙ sym wt.keys.block_parents) no_holder c.block_parents)
-      (is_blanked (region_gone t p) [] t.layouts u.layouts (sym wu.keys.slots ∙ ap length c.slots ∙ wt.keys.slots) no_layout c.layouts)
-      c.slots c.definitions
+        (is_blanked (op_gone t p) no_entry t.operations u.operations c.count (λ k g. (wu.joined.erased k (all_dead k g)).2) c.rows)
+        (is_blanked (op_gone t p) [] t.operands u.operands (wu.keys.operands ∙ c.count ∙ sym wt.keys.operands) (λ k g. (wu.joined.erased k (all_dead k g)).0) c.operands)
+        (is_blanked (op_gone t p) [] t.successors u.successors (wu.keys.successors ∙ c.count ∙ sym wt.keys.successors) (λ k g. (wu.joined.erased k (all_dead k g)).1) c.successors)
+        (is_blanked (op_gone t p) None t.parents u.parents (wu.keys.parents ∙ c.count ∙ sym wt.keys.parents) (λ k g. no_parent k (all_dead k g)) c.parents)
+        refl
+        (is_blanked (block_gone t p) [] t.arguments u.arguments (wu.keys.arguments ∙ c.block_count ∙ sym wt.keys.arguments) (λ b g. (gone_blocks b g).0) c.arguments)
+        (is_blanked (block_gone t p) None t.block_parents u.block_parents (wu.keys.block_parents ∙ c.block_count ∙ sym wt.keys.block_parents) no_holder c.block_parents)
+        (is_blanked (region_gone t p) [] t.layouts u.layouts (sym wu.keys.slots ∙ ap length c.slots ∙ wt.keys.slots) no_layout c.layouts)
+        c.slots c.definitions

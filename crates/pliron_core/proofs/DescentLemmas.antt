@@ -29,8 +29,14 @@ set_default (x ∷ xs) d (suc i) = set_default xs d i
 -- an empty block leaves
 clearing_block : (ops blocks bodies regions : ℕ → Bool) (t : Tree) (b r : ℕ) → block_parent_of t b ≡ Some r → blocks b ≡ true → regions r ≡ true → IsClearing ops blocks bodies regions t (block_taken_from t b (Some r))
 clearing_block ops blocks bodies regions t b r at gb gr = record {
-  count = refl; block_count = refl; slots = refl; definitions = refl;
-  rows = λ k e. refl; operands = λ k e. refl; successors = λ k e. refl; parents = λ k e. refl;
+  count = refl;
+  block_count = refl;
+  slots = refl;
+  definitions = refl;
+  rows = λ k e. refl;
+  operands = λ k e. refl;
+  successors = λ k e. refl;
+  parents = λ k e. refl;
   contents = λ x e. refl;
   arguments = λ x e. set_kept t.arguments [] blocks b [] x gb e;
   block_parents = λ x e. set_kept t.block_parents None blocks b None x gb e;
@@ -48,10 +54,18 @@ popped_head t op k live = elim (cases_eq k op) [
 -- the last region goes
 clearing_region : (ops blocks bodies regions : ℕ → Bool) (t : Tree) (op : ℕ) → IsLive t op → ops op ≡ true → IsClearing ops blocks bodies regions t (region_popped t op)
 clearing_region ops blocks bodies regions t op live g = record {
-  count = length-set _ _ _; block_count = refl; slots = refl; definitions = refl;
+  count = length-set _ _ _;
+  block_count = refl;
+  slots = refl;
+  definitions = refl;
   rows = λ k e. set_kept t.operations no_entry ops op _ k g e;
-  operands = λ k e. refl; successors = λ k e. refl; parents = λ k e. refl;
-  contents = λ x e. refl; arguments = λ x e. refl; block_parents = λ x e. refl; layouts = λ q e. refl;
+  operands = λ k e. refl;
+  successors = λ k e. refl;
+  parents = λ k e. refl;
+  contents = λ x e. refl;
+  arguments = λ x e. refl;
+  block_parents = λ x e. refl;
+  layouts = λ q e. refl;
   stays = λ k l. (subst IsSome (popped_head t op k live) l, refl);
   placed = λ x q e. e;
 }
@@ -66,20 +80,34 @@ gone_row t op k l = go (cases_eq k op)
 
 clearing_up : (ops blocks bodies regions : ℕ → Bool) (t : Tree) (op : ℕ) (o : Option ℕ) → ops op ≡ true → ((b : ℕ) → o ≡ Some b → bodies b ≡ true) → IsClearing ops blocks bodies regions t (buried (taken_from t op o) op)
 clearing_up ops blocks bodies regions t op None g h = record {
-  count = length-set _ _ _; block_count = refl; slots = refl; definitions = refl;
+  count = length-set _ _ _;
+  block_count = refl;
+  slots = refl;
+  definitions = refl;
   rows = λ k e. set_kept t.operations no_entry ops op _ k g e;
-  operands = λ k e. refl; successors = λ k e. refl; parents = λ k e. refl;
-  contents = λ x e. refl; arguments = λ x e. refl; block_parents = λ x e. refl; layouts = λ q e. refl;
+  operands = λ k e. refl;
+  successors = λ k e. refl;
+  parents = λ k e. refl;
+  contents = λ x e. refl;
+  arguments = λ x e. refl;
+  block_parents = λ x e. refl;
+  layouts = λ q e. refl;
   stays = λ k l. (subst (λ z. IsSome z.head) (gone_row t op k l).1 l, refl);
   placed = λ x q e. e;
 }
 clearing_up ops blocks bodies regions t op (Some b) g h = record {
-  count = length-set _ _ _; block_count = length-set _ _ _; slots = refl; definitions = refl;
+  count = length-set _ _ _;
+  block_count = length-set _ _ _;
+  slots = refl;
+  definitions = refl;
   rows = λ k e. set_kept t.operations no_entry ops op _ k g e;
-  operands = λ k e. refl; successors = λ k e. refl;
+  operands = λ k e. refl;
+  successors = λ k e. refl;
   parents = λ k e. set_kept t.parents None ops op None k g e;
   contents = λ x e. set_kept t.bodies [] bodies b _ x (h b refl) e;
-  arguments = λ x e. refl; block_parents = λ x e. refl; layouts = λ q e. refl;
+  arguments = λ x e. refl;
+  block_parents = λ x e. refl;
+  layouts = λ q e. refl;
   stays = λ k l. let r = gone_row (taken_from t op (Some b)) op k l in (subst (λ z. IsSome z.head) r.1 l, get_or-set_other t.parents op k None None r.0);
   placed = λ x q e. e;
 }
@@ -198,6 +226,7 @@ module _ (t : Tree) (op : ℕ) (w : IsTree t) (live : IsLive t op) (free : paren
       where
         row : (y : ℕ) → y ≢ k → row_of (buried (taken_out u k) k) y ≡ row_of u y
         row y ne = get_or-set_other (taken_out u k).operations k y no_entry no_entry ne ∙ ap (λ z. get_or z y no_entry) (taken-operations u k (parent_of u k))
+
         go : (q : Option ℕ) → holder_of u k ≡ q → IsPlace t op (buried (taken_out u k) k) q
         go None f = subst (λ z. head_of (buried (taken_out u k) k) z ≡ None) (root_only f) (ap (λ z. z.head) (set_default (taken_out u k).operations no_entry k))
         go (Some y) f =
@@ -220,7 +249,7 @@ module _ (t : Tree) (op : ℕ) (w : IsTree t) (live : IsLive t op) (free : paren
   pub descent_end : (u : Tree) → IsDescent t op None u → u ≡ cleared t (nat_eq op)
   descent_end u d =
       cleared_all t u (nat_eq op) blocks w d.tree d.clearing none ∙ ap (λ z. record (cleared t (nat_eq op)) { bodies = z })
-        (is_blanked blocks [] t.bodies u.bodies d.clearing.block_count (λ b g. (gone_blocks t u (nat_eq op) blocks w d.tree d.clearing none b g).1) d.clearing.contents)
+      (is_blanked blocks [] t.bodies u.bodies d.clearing.block_count (λ b g. (gone_blocks t u (nat_eq op) blocks w d.tree d.clearing none b g).1) d.clearing.contents)
     where
       none : (k : ℕ) → nat_eq op k ≡ true → IsLive u k → ⊥
       none k e l = live_dead u op (subst (IsLive u) (equal_from op k e) l) d.place

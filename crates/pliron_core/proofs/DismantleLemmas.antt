@@ -65,9 +65,9 @@ module _ (t : Tree) (op : ℕ) (w : IsJoined t) (live : IsLive t op) (free : par
   pub kept_bury : IsJoined (buried t op)
   kept_bury = record {
     standing = λ x b e.
-      let s = w.standing x b e in
-      let ne : x ≢ op = λ f. let y : None ≡ Some b = sym free ∙ ap (parent_of t) (sym f) ∙ e in cc in
-      (subst (λ z. IsSome z.head) (sym (other x ne)) s.0, s.1);
+        let s = w.standing x b e in
+        let ne : x ≢ op = λ f. let y : None ≡ Some b = sym free ∙ ap (parent_of t) (sym f) ∙ e in cc in
+        (subst (λ z. IsSome z.head) (sym (other x ne)) s.0, s.1);
     placed = λ b r e. region_kept t (buried t op) r refl (λ k i f. buried_region k i r f) (w.placed b r e);
     regions = buried_regions;
     results = buried_results;
@@ -131,8 +131,8 @@ module _ (t : Tree) (op r : ℕ) (is : IsTree t) (live : IsLive t op) (last : la
   kept_popped = record {
     standing = λ x b e. let s = w.standing x b e in (subst IsSome (sym (pop_head x)) s.0, s.1);
     placed = λ b q e.
-      let differs : q ≢ r = λ s. no_member (layout_of t q) b (ap (layout_of t) s ∙ empty) (is.layouts.listed b q e) in
-      region_kept t (region_popped t op) q refl (λ k i f. popped_region k i q differs f) (w.placed b q e);
+        let differs : q ≢ r = λ s. no_member (layout_of t q) b (ap (layout_of t) s ∙ empty) (is.layouts.listed b q e) in
+        region_kept t (region_popped t op) q refl (λ k i f. popped_region k i q differs f) (w.placed b q e);
     regions = popped_regions;
     results = λ k i v e. w.results k i v (ap (λ l. slice_get l i) (sym (pop_results k)) ∙ e);
     arguments = w.arguments;

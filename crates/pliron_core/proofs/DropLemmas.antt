@@ -25,6 +25,7 @@ next_in_list x z (y ∷ ys) e = go (nat_eq x y) e (next_in_list x z ys)
     first : (zs : List ℕ) → first_of zs None ≡ Some z → In z zs
     first [] f = absurd (cc)
     first (w ∷ ws) f = let g : w ≡ z = cc in inl (sym g)
+
     go : (b : Bool) → (if b then first_of ys None else next_in x ys) ≡ Some z → (next_in x ys ≡ Some z → In z ys) → In z (y ∷ ys)
     go true f rest = inr (first ys f)
     go false f rest = inr (rest f)
@@ -48,13 +49,15 @@ rest_step x (y ∷ ys) d i = go (cases_eq x y) i (rest_step x ys d.1)
     after : (zs : List ℕ) → IsDistinct (x ∷ zs) → rest_from (first_of zs None) (x ∷ zs) ≡ zs
     after [] e = refl
     after (z ∷ zs) e = let ne : z ≢ x = λ s. e.0 (inl (sym s)) in ap (λ ws. z ∷ ws) (rest_there z x (z ∷ zs) ne ∙ rest_here z zs)
+
     skip : (o : Option ℕ) → next_in x ys ≡ o → rest_from o (y ∷ ys) ≡ rest_from o ys
     skip None e = refl
     skip (Some z) e = ap (λ ws. z ∷ ws) (rest_there z y ys (λ s. d.0 (subst (λ w. In w ys) s (next_in_list x z ys e))))
+
     go : (x ≡ y) ⊎ (x ≢ y) → In x (y ∷ ys) → (In x ys → rest_from (next_in x ys) ys ≡ rest_after x ys) → rest_from (next_in x (y ∷ ys)) (y ∷ ys) ≡ rest_after x (y ∷ ys)
     go (inl s) j rest =
         subst (λ w. rest_from (next_in x (w ∷ ys)) (w ∷ ys) ≡ rest_after x (w ∷ ys)) s
-          (ap (λ o. rest_from o (x ∷ ys)) (next_here x ys) ∙ after ys (subst (λ w. IsDistinct (w ∷ ys)) (sym s) d) ∙ sym (rest_here x ys))
+        (ap (λ o. rest_from o (x ∷ ys)) (next_here x ys) ∙ after ys (subst (λ w. IsDistinct (w ∷ ys)) (sym s) d) ∙ sym (rest_here x ys))
     go (inr ne) (inl e) rest = absurd (ne e)
     go (inr ne) (inr j) rest = ap (λ o. rest_from o (y ∷ ys)) (next_there x y ys ne) ∙ skip (next_in x ys) refl ∙ rest j ∙ sym (rest_there x y ys ne)
 
@@ -154,12 +157,16 @@ walk_next t root k u v o w d e f live = record {
   where
     names : IsNamesOnly t v
     names = names_trans t u v d.names (subst (IsNamesOnly u) (sym e) (names_unnamed u k))
+
     next : o ≡ next_in k (preorder t root)
     next = f ∙ ap (next_in k) (same_preorder t v names root)
+
     here : In k (preorder t root)
     here = (d.within k refl).1
+
     rest : rest_from o (preorder t root) ≡ rest_after k (preorder t root)
     rest = ap (λ z. rest_from z (preorder t root)) next ∙ rest_step k (preorder t root) (distinct-preorder t w root) here
+
     behind : (z : ℕ) → In z (k ∷ rest_after k (preorder t root)) ⊎ IsBare u z → In z (rest_from o (preorder t root)) ⊎ IsBare v z
     behind z (inl (inl s)) = inr (subst (λ y. IsBare y z) (sym e) (subst (IsBare (unnamed u k)) (sym s) (unnamed_bare u k)))
     behind z (inl (inr i)) = inl (subst (In z) (sym rest) i)
@@ -173,8 +180,8 @@ walk_falls t root k u v o w d n f =
 
 pub walk_end : (t : Tree) (root : ℕ) (u : Tree) → IsTree t → IsLive t root → IsDropWalk t root None u → u ≡ names_dropped t (nat_eq root)
 walk_end t root u w live d = dropped_all t u (nat_eq root) d.names
-  (λ k e. elim (d.behind k ((In-preorder t w root k).1 (within_is t root k e))) [ inl i ↦ absurd i | inr b ↦ b ])
-  (λ k e. d.others k (λ i. true≢false (sym (is_within t root k w.joined live ((In-preorder t w root k).0 i)) ∙ e)))
+    (λ k e. elim (d.behind k ((In-preorder t w root k).1 (within_is t root k e))) [ inl i ↦ absurd i | inr b ↦ b ])
+    (λ k e. d.others k (λ i. true≢false (sym (is_within t root k w.joined live ((In-preorder t w root k).0 i)) ∙ e)))
 
 -- what has names dropped: bare where the test holds, and else as it was
 pub dropped_gone : (t : Tree) (p : ℕ → Bool) (k : ℕ) → op_gone t p k ≡ true → IsBare (names_dropped t p) k
@@ -224,29 +231,36 @@ pass_next t block c u v o w d e f = record {
   within = λ z g. next_in_list c z (body_of t block) (sym next ∙ g);
   behind = λ z k i j. behind z k j (d.behind z k i j);
   others = λ k g.
-    let s = d.others k g in
-    let x = dropped_kept u (nat_eq c) k (outside k g) in
-    (ap (λ y. operands_of y k) e ∙ x.0 ∙ s.0, ap (λ y. successors_of y k) e ∙ x.1 ∙ s.1);
+      let s = d.others k g in
+      let x = dropped_kept u (nat_eq c) k (outside k g) in
+      (ap (λ y. operands_of y k) e ∙ x.0 ∙ s.0, ap (λ y. successors_of y k) e ∙ x.1 ∙ s.1);
 }
   where
     names : IsNamesOnly t v
     names = names_trans t u v d.names (subst (IsNamesOnly u) (sym e) (names_of_dropped u (nat_eq c)))
+
     next : o ≡ next_in c (body_of t block)
     next = f ∙ ap (next_in c) (same_body t v names block)
+
     here : In c (body_of t block)
     here = d.within c refl
+
     at : parent_of t c ≡ Some block
     at = w.bodies.owned c block here
+
     rest : rest_from o (body_of t block) ≡ rest_after c (body_of t block)
     rest = ap (λ z. rest_from z (body_of t block)) next ∙ rest_step c (body_of t block) (w.bodies.distinct block) here
+
     gone : (k : ℕ) → IsWithin t c k → op_gone u (nat_eq c) k ≡ true
     gone k j = same_met t u d.names (nat_eq c) (Some k) ∙ is_within t c k w.joined (w.joined.standing c block at).0 j
+
     outside : (k : ℕ) → op_gone t (stands_in t block) k ≡ false → op_gone u (nat_eq c) k ≡ false
     outside k g = go (op_gone u (nat_eq c) k) refl
       where
         go : (b : Bool) → op_gone u (nat_eq c) k ≡ b → b ≡ false
         go false q = refl
         go true q = absurd (true≢false (sym (is_in_block t block k w.joined (c, at, within_is t c k (sym (same_met t u d.names (nat_eq c) (Some k)) ∙ q))) ∙ g))
+
     behind : (z k : ℕ) → IsWithin t z k → In z (c ∷ rest_after c (body_of t block)) ⊎ IsBare u k → In z (rest_from o (body_of t block)) ⊎ IsBare v k
     behind z k j (inl (inl s)) = inr (subst (λ y. IsBare y k) (sym e) (dropped_gone u (nat_eq c) k (gone k (subst (λ y. IsWithin t y k) s j))))
     behind z k j (inl (inr i)) = inl (subst (In z) (sym rest) i)
@@ -261,17 +275,17 @@ pass_falls t block c u v o w d e f =
 
 pub pass_end : (t : Tree) (block : ℕ) (u : Tree) → IsTree t → IsBlockPass t block None u → u ≡ uses_dropped t block
 pass_end t block u w d = dropped_all t u (stands_in t block) d.names
-  (λ k e. let s = in_block_is t block k e in elim (d.behind s.0 k (w.bodies.listed s.0 block s.1) s.2) [ inl i ↦ absurd i | inr b ↦ b ])
-  d.others
+    (λ k e. let s = in_block_is t block k e in elim (d.behind s.0 k (w.bodies.listed s.0 block s.1) s.2) [ inl i ↦ absurd i | inr b ↦ b ])
+    d.others
 
 -- the invariant of a context where an operation loses its operands and successors
 pub well_unnamed : (v : View) (op : ℕ) (operands successors : List (List ℕ)) (uses blocks : List (List Use)) → IsWellFormed v → operands ≡ slice_set v.tree.operands op [] → successors ≡ slice_set v.tree.successors op [] → length uses ≡ length v.value_uses → length blocks ≡ length v.block_uses → IsWellFormed (record { tree = record v.tree { operands = operands; successors = successors }; value_uses = uses; block_uses = blocks })
 well_unnamed v op operands successors uses blocks w e f m n = subst (λ o. IsWellFormed (record { tree = record v.tree { operands = o; successors = successors }; value_uses = uses; block_uses = blocks })) (sym e) (subst (λ o. IsWellFormed (record { tree = record v.tree { operands = slice_set v.tree.operands op []; successors = o }; value_uses = uses; block_uses = blocks })) (sym f) (record {
   keys = record { operands = length-set _ _ _ ∙ w.keys.operands; successors = length-set _ _ _ ∙ w.keys.successors; parents = w.keys.parents; arguments = w.keys.arguments; block_parents = w.keys.block_parents; slots = w.keys.slots };
   joined = kept_used v.tree (slice_set v.tree.operands op []) (slice_set v.tree.successors op []) w.joined
-    (λ k x i. elim (in_changed v.tree.operands op k x [] i) [ inl c ↦ absurd c.1 | inr j ↦ w.joined.operands k x j ])
-    (λ k x i. elim (in_changed v.tree.successors op k x [] i) [ inl c ↦ absurd c.1 | inr j ↦ w.joined.successors k x j ])
-    (λ k g. let x = w.joined.erased k g in unnamed_stays v.tree op k (x.0, x.1));
+      (λ k x i. elim (in_changed v.tree.operands op k x [] i) [ inl c ↦ absurd c.1 | inr j ↦ w.joined.operands k x j ])
+      (λ k x i. elim (in_changed v.tree.successors op k x [] i) [ inl c ↦ absurd c.1 | inr j ↦ w.joined.successors k x j ])
+      (λ k g. let x = w.joined.erased k g in unnamed_stays v.tree op k (x.0, x.1));
   value_uses = m ∙ w.value_uses;
   block_uses = n ∙ w.block_uses;
 }))

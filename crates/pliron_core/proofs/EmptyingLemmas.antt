@@ -145,9 +145,11 @@ module _ (t : Tree) (block : ℕ) (w : IsTree t) where
             | inl same ↦ not_own_holder t s.0 w.joined (held ∙ ap Some same)
             | inr inside ↦ not_inside-itself t w y (inside_trans t y s.0 y (Directly held) inside)
           ]
+
       no : (b : Bool) (y : ℕ) → block_holder_of t block ≡ Some y → op_gone t (stands_in t block) y ≡ b → b ≡ false
       no true y e g = absurd (here y e g)
       no false y e g = refl
+
       go : (o : Option ℕ) → block_holder_of t block ≡ o → is_met_above t (stands_in t block) o ≡ false
       go None e = none_met (holder_of t) (stands_in t block) (length t.operations)
       go (Some y) e = no (op_gone t (stands_in t block) y) y e refl
@@ -199,8 +201,8 @@ module _ (t : Tree) (block : ℕ) (w : IsTree t) where
     pub taken_unused : IsUnusedBlock t block → IsUnused (taken_out u c) c
     taken_unused n = record {
       bare = λ k i.
-        let b = n.bare k (in_block_is t block k (within_gone k i)) in
-        (no_members (operands_of (taken_out u c) k) (λ v j. subst (In v) b.0 (operand_was k v j)), no_members (successors_of (taken_out u c) k) (λ v j. subst (In v) b.1 (successor_was k v j)));
+          let b = n.bare k (in_block_is t block k (within_gone k i)) in
+          (no_members (operands_of (taken_out u c) k) (λ v j. subst (In v) b.0 (operand_was k v j)), no_members (successors_of (taken_out u c) k) (λ v j. subst (In v) b.1 (successor_was k v j)));
       values = λ x v i m. n.values x v (operand_was x v i) (subst (λ z. IsMadeInBlock t block (slice_get z v)) d.clearing.definitions (subst (λ z. IsMadeInBlock t block (slice_get z v)) (taken-definitions u c (parent_of u c)) (made_in_block (definition_of (taken_out u c) v) m)));
       blocks = λ x b i h. n.blocks x b (successor_was x b i) (in_block b h);
     }
@@ -265,6 +267,7 @@ module _ (t : Tree) (block : ℕ) (w : IsTree t) where
           subst (λ z. IsSome z.head) (blanked_kept (op_gone (taken_out u c) (nat_eq c)) no_entry (taken_out u c).operations k f ∙ ap (λ z. get_or z k no_entry) (taken-operations u c (parent_of u c))) l,
           blanked_kept (op_gone (taken_out u c) (nat_eq c)) None (taken_out u c).parents k f ∙ taken-parent_other u c (parent_of u c) k (not_c k f),
         )
+
         placed : (b r : ℕ) → block_parent_of (cleared (taken_out u c) (nat_eq c)) b ≡ Some r → (g : Bool) → block_gone (taken_out u c) (nat_eq c) b ≡ g → block_parent_of u b ≡ Some r
         placed b r e true f = absurd (let h : None ≡ Some r = sym (blanked_gone (block_gone (taken_out u c) (nat_eq c)) None (taken_out u c).block_parents b f) ∙ e in cc)
         placed b r e false f = ap (λ z. get_or z b None) (sym (taken-block_parents u c (parent_of u c))) ∙ sym (blanked_kept (block_gone (taken_out u c) (nat_eq c)) None (taken_out u c).block_parents b f) ∙ e

@@ -97,11 +97,11 @@ module _ (t : Tree) (op : ℕ) (w : IsTree t) (live : IsLive t op) (o : Option �
     ready-unused c = record {
       bare = λ k i. dropped_gone (taken_from t op o) (nat_eq op) k (was_gone k i);
       values = λ x v i m.
-        let s = dropped-operand (taken_from t op o) (nat_eq op) x v i in
-        outside x s.0 (c.values x v (subst (λ z. In v (get_or z x [])) (taken-operands t op o) s.1) (was_made (definition_of t v) (subst (λ z. IsMadeWithin (names_dropped (taken_from t op o) (nat_eq op)) op (slice_get z v)) (taken-definitions t op o) m)));
+          let s = dropped-operand (taken_from t op o) (nat_eq op) x v i in
+          outside x s.0 (c.values x v (subst (λ z. In v (get_or z x [])) (taken-operands t op o) s.1) (was_made (definition_of t v) (subst (λ z. IsMadeWithin (names_dropped (taken_from t op o) (nat_eq op)) op (slice_get z v)) (taken-definitions t op o) m)));
       blocks = λ x b i h.
-        let s = dropped-successor (taken_from t op o) (nat_eq op) x b i in
-        outside x s.0 (c.blocks x b (subst (λ z. In b (get_or z x [])) (taken-successors t op o) s.1) (was_held b h));
+          let s = dropped-successor (taken_from t op o) (nat_eq op) x b i in
+          outside x s.0 (c.blocks x b (subst (λ z. In b (get_or z x [])) (taken-successors t op o) s.1) (was_held b h));
     }
 
 -- what the taking apart asks

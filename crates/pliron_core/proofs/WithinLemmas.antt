@@ -84,6 +84,7 @@ module _ (t : Tree) (p : ℕ → Bool) (w : IsJoined t) where
       none : (n : ℕ) → is_met (holder_of t) p n None ≡ false
       none zero = refl
       none (suc n) = refl
+
       go : (o : Option ℕ) → holder_of t x ≡ o → is_met_above t p o ≡ true → (y : ℕ) × (holder_of t x ≡ Some y) × (is_met_above t p (Some y) ≡ true)
       go None f g = absurd (true≢false (sym g ∙ none (length t.operations)))
       go (Some y) f g = (y, f, g)
@@ -105,9 +106,11 @@ met_within t p (suc n) k e = go (p k) refl e (holder_of t k) refl (λ y. met_wit
     none : (n : ℕ) → is_met (holder_of t) p n None ≡ false
     none zero = refl
     none (suc n) = refl
+
     up : (o : Option ℕ) → holder_of t k ≡ o → is_met (holder_of t) p n o ≡ true → ((y : ℕ) → is_met (holder_of t) p n (Some y) ≡ true → (x : ℕ) × (p x ≡ true) × IsWithin t x y) → (x : ℕ) × (p x ≡ true) × IsWithin t x k
     up None f g rest = absurd (true≢false (sym g ∙ none n))
     up (Some y) f g rest = let r = rest y g in (r.0, r.1, inr (elim r.2 [ inl s ↦ Directly (f ∙ ap Some s) | inr i ↦ Deeper y f i ]))
+
     go : (b : Bool) → p k ≡ b → (if b then true else is_met (holder_of t) p n (holder_of t k)) ≡ true → (o : Option ℕ) → holder_of t k ≡ o → ((y : ℕ) → is_met (holder_of t) p n (Some y) ≡ true → (x : ℕ) × (p x ≡ true) × IsWithin t x y) → (x : ℕ) × (p x ≡ true) × IsWithin t x k
     go true f g o h rest = (k, f, inl refl)
     go false f g o h rest = up (holder_of t k) refl g rest

@@ -15,8 +15,11 @@ mod edges;
 mod writes;
 
 const FUNC: u32 = 1;
+
 const CONST: u32 = 2;
+
 const ADD: u32 = 3;
+
 const RET: u32 = 14;
 
 // A head with at most one number as its attribute.
@@ -155,6 +158,20 @@ fn check_links(rt: &impl Abort, ctx: &Context, block: Ptr<BasicBlock>, want: &[P
 fn check_next(rt: &impl Abort, ctx: &Context, op: Ptr<Operation>, next: Ptr<Operation>) {
     assert!(rt; op.is_live(ctx));
     assert_eq!(rt; op.get_next(ctx), Some(next));
+}
+
+// The operation becomes the last of the block.
+fn move_to_end(rt: &impl Abort, ctx: &mut Context, op: Ptr<Operation>, block: Ptr<BasicBlock>) {
+    assert!(rt; op.is_live(ctx));
+    assert!(rt; block.is_live(ctx));
+    assert!(rt; !op.holds_block(block, ctx));
+    IRRewriter::new().move_operation_to_end(ctx, op, block);
+}
+
+fn erase(rt: &impl Abort, ctx: &mut Context, op: Ptr<Operation>) {
+    assert!(rt; op.is_live(ctx));
+    assert!(rt; op.is_self_contained(ctx));
+    IRRewriter::new().erase_operation(ctx, op);
 }
 
 // How often the value is used, and that each of its uses names it.

@@ -5,6 +5,7 @@ ghost use Rattle.pliron_core.specs.Tree.{IsLive};
 use super::*;
 
 const DEPTH: usize = 10_000;
+
 const BOX: u32 = 11;
 
 // From the inside out: the outermost and the innermost.
@@ -47,18 +48,6 @@ fn check_nested(rt: &impl Abort, ctx: &Context, outer: Ptr<Operation>, inner: Pt
     assert!(rt; walked == DEPTH);
 }
 
-fn move_to(
-    rt: &impl Abort,
-    ctx: &mut Context,
-    op: Ptr<Operation>,
-    block: Ptr<BasicBlock>,
-) {
-    assert!(rt; op.is_live(ctx));
-    assert!(rt; block.is_live(ctx));
-    assert!(rt; !op.holds_block(block, ctx));
-    IRRewriter::new().move_operation_to_end(ctx, op, block);
-}
-
 #[test]
 fn stands_ten_thousand_deep(rt: HostRuntime) -> Result<(), Fail> {
     let alloc = rt.alloc();
@@ -69,9 +58,13 @@ fn stands_ten_thousand_deep(rt: HostRuntime) -> Result<(), Fail> {
     let first = block(&rt, &mut ctx, root, 0, 0)?;
     let second = block(&rt, &mut ctx, root, 0, 0)?;
     append(&rt, &mut ctx, first, outer)?;
-    move_to(&rt, &mut ctx, outer, second);
+    move_to_end(&rt, &mut ctx, outer, second);
     let want = [outer];
     check_links(&rt, &ctx, first, &want[..0]);
     check_links(&rt, &ctx, second, want.as_slice());
+    erase(&rt, &mut ctx, outer);
+    assert!(rt; !outer.is_live(&ctx));
+    assert!(rt; !inner.is_live(&ctx));
+    check_links(&rt, &ctx, second, &want[..0]);
     Ok(())
 }

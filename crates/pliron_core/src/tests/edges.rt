@@ -3,6 +3,7 @@
 use super::*;
 
 const BR: u32 = 12;
+
 const FORK: u32 = 15;
 
 // A region with an entry, which leads to two blocks, twice to the second; both lead to the last.
@@ -51,9 +52,27 @@ fn four_blocks(rt: &impl Abort, alloc: Global) -> Result<(Context, Diamond), Fai
     let d = blocks(rt, alloc, &mut ctx)?;
     let to_join = [d.join];
     let apart = [d.left, d.right, d.right];
-    branch(rt, &mut ctx, d.right, head(alloc, BR, None)?, to_join.as_slice())?;
-    branch(rt, &mut ctx, d.left, head(alloc, BR, None)?, to_join.as_slice())?;
-    branch(rt, &mut ctx, d.entry, head(alloc, FORK, None)?, apart.as_slice())?;
+    branch(
+        rt,
+        &mut ctx,
+        d.right,
+        head(alloc, BR, None)?,
+        to_join.as_slice(),
+    )?;
+    branch(
+        rt,
+        &mut ctx,
+        d.left,
+        head(alloc, BR, None)?,
+        to_join.as_slice(),
+    )?;
+    branch(
+        rt,
+        &mut ctx,
+        d.entry,
+        head(alloc, FORK, None)?,
+        apart.as_slice(),
+    )?;
     Ok((ctx, d))
 }
 
@@ -123,5 +142,30 @@ fn reads_uses_and_neighbours(rt: HostRuntime) -> Result<(), Fail> {
     let (ctx, d) = four_blocks(&rt, rt.alloc())?;
     check_use(&rt, &ctx, d.right, d.entry);
     check_neighbours(&rt, &ctx, &d);
+    Ok(())
+}
+
+fn drop_uses(rt: &impl Abort, ctx: &mut Context, block: Ptr<BasicBlock>) {
+    assert!(rt; block.is_live(ctx));
+    BasicBlock::drop_all_uses(ctx, block);
+}
+
+fn erase_block(rt: &impl Abort, ctx: &mut Context, block: Ptr<BasicBlock>) {
+    assert!(rt; block.is_live(ctx));
+    assert!(rt; block.is_self_contained(ctx));
+    IRRewriter::new().erase_block(ctx, block);
+    assert!(rt; !block.is_live(ctx));
+}
+
+#[test]
+fn drops_uses_and_erases_a_block(rt: HostRuntime) -> Result<(), Fail> {
+    let (mut ctx, d) = four_blocks(&rt, rt.alloc())?;
+    assert!(rt; d.right.is_live(&ctx));
+    assert!(rt; !d.right.is_self_contained(&ctx));
+    drop_uses(&rt, &mut ctx, d.entry);
+    let left = [d.left];
+    erase_block(&rt, &mut ctx, d.right);
+    check_preds(&rt, &ctx, d.join, left.as_slice());
+    check_preds(&rt, &ctx, d.left, &left[..0]);
     Ok(())
 }

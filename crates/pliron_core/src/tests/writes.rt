@@ -163,18 +163,6 @@ fn replaces_uses(rt: HostRuntime) -> Result<(), Fail> {
     Ok(())
 }
 
-fn move_to_end(
-    rt: &impl Abort,
-    ctx: &mut Context,
-    op: Ptr<Operation>,
-    block: Ptr<BasicBlock>,
-) {
-    assert!(rt; op.is_live(ctx));
-    assert!(rt; block.is_live(ctx));
-    assert!(rt; !op.holds_block(block, ctx));
-    IRRewriter::new().move_operation_to_end(ctx, op, block);
-}
-
 #[test]
 fn moves_to_the_end(rt: HostRuntime) -> Result<(), Fail> {
     let (mut ctx, sum) = straight(&rt, rt.alloc())?;
@@ -213,13 +201,7 @@ fn remove_argument(rt: &impl Abort, ctx: &mut Context, block: Ptr<BasicBlock>, i
     BasicBlock::remove_argument(ctx, block, i);
 }
 
-fn check_argument(
-    rt: &impl Abort,
-    ctx: &Context,
-    block: Ptr<BasicBlock>,
-    i: usize,
-    want: Value,
-) {
+fn check_argument(rt: &impl Abort, ctx: &Context, block: Ptr<BasicBlock>, i: usize, want: Value) {
     assert!(rt; argument_of(rt, ctx, block, i) == want);
     assert!(rt; want.is_live(ctx));
     assert!(rt; want.def(ctx) == Def::Argument(block, i));
@@ -236,5 +218,47 @@ fn removes_arguments(rt: HostRuntime) -> Result<(), Fail> {
     check_argument(&rt, &ctx, block, 0, first);
     check_argument(&rt, &ctx, block, 1, last);
     assert!(rt; !middle.is_live(&ctx));
+    Ok(())
+}
+
+// A sum that nothing uses any more goes, and with it its uses of the constants.
+fn erase_sum(rt: &impl Abort, ctx: &mut Context, sum: &Sum) -> Result<(), Fail> {
+    let old = result_of(rt, ctx, sum.add, 0);
+    let new = result_of(rt, ctx, sum.one, 0);
+    replace(rt, ctx, old, new)?;
+    erase(rt, ctx, sum.add);
+    assert!(rt; !sum.add.is_live(ctx));
+    assert!(rt; !old.is_live(ctx));
+    assert!(rt; count_uses(rt, ctx, new) == 1);
+    Ok(())
+}
+
+#[test]
+fn erases_an_operation(rt: HostRuntime) -> Result<(), Fail> {
+    let (mut ctx, sum) = straight(&rt, rt.alloc())?;
+    erase_sum(&rt, &mut ctx, &sum)?;
+    let want = [sum.one, sum.two, sum.ret];
+    check_links(&rt, &ctx, sum.block, want.as_slice());
+    Ok(())
+}
+
+#[test]
+fn erases_with_contents(rt: HostRuntime) -> Result<(), Fail> {
+    let (mut ctx, sum) = straight(&rt, rt.alloc())?;
+    erase(&rt, &mut ctx, sum.func);
+    assert!(rt; !sum.func.is_live(&ctx));
+    assert!(rt; !sum.block.is_live(&ctx));
+    assert!(rt; !sum.ret.is_live(&ctx));
+    Ok(())
+}
+
+// A value that is used outside the operation keeps it from being erased.
+#[test]
+fn tells_what_is_used_outside(rt: HostRuntime) -> Result<(), Fail> {
+    let (ctx, sum) = straight(&rt, rt.alloc())?;
+    assert!(rt; sum.add.is_live(&ctx));
+    assert!(rt; !sum.add.is_self_contained(&ctx));
+    assert!(rt; sum.ret.is_live(&ctx));
+    assert!(rt; sum.ret.is_self_contained(&ctx));
     Ok(())
 }

@@ -42,4 +42,4 @@ loop-last-smaller c = emptying_falls c.args.ctx.now.tree c.args.block c.well_for
 pub returns : goal.returns
 returns c =
     emptying_end c.args.ctx.now.tree c.args.block c.well_formed-2.ensures.tree c.loop-last.ctx.tree c.loop-last.invariant
-      (last_none (body_of c.loop-last.ctx.tree c.args.block) (ap (λ (v : View). last_of None (body_of v.tree c.args.block)) (sym c.ctx.view_is) ∙ ap (λ i. last_of None (body_of (view_of c.ctx.inside).tree i)) (sym c.index.ensures) ∙ sym c.tail.ensures.last ∙ c.in_default.is))
+    (last_none (body_of c.loop-last.ctx.tree c.args.block) (ap (λ (v : View). last_of None (body_of v.tree c.args.block)) (sym c.ctx.view_is) ∙ ap (λ i. last_of None (body_of (view_of c.ctx.inside).tree i)) (sym c.index.ensures) ∙ sym c.tail.ensures.last ∙ c.in_default.is))
