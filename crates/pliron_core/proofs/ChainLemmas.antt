@@ -1,6 +1,6 @@
 -- Chains of holders are no longer than the table of operations.
-use Rattle.std.proofs.Common.{◌≡◌, ◌≢◌, ◌⊎◌, ℕ, zero, suc, ◌+◌, ◌-◌, ◌<◌, ◌≤◌, Bool, true, false, List, [], ◌∷◌, length, Option, Some, None, refl, sym, ap, ◌∙◌, subst, inl, inr, arith, if◌then◌else◌}
-use Rattle.pliron_core.specs.Tree.{climb, up_from, IsRooted, In, IsDistinct}
+use Rattle.std.proofs.Common.{◌≡◌, ◌≢◌, ℕ, zero, suc, ◌<◌, ◌≤◌, Bool, true, false, List, [], ◌∷◌, length, Option, Some, None, refl, sym, ap, ◌∙◌, subst, inl, inr, arith, if◌then◌else◌}
+use Rattle.pliron_core.specs.Tree.{climb, IsRooted, In, IsDistinct}
 use Rattle.pliron_core.specs.Erased.{is_met}
 use Rattle.pliron_core.proofs.ListLemmas.{distinct-length}
 

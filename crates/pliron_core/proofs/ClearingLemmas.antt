@@ -1,16 +1,15 @@
 -- Trees from which a part has gone.
-use Rattle.std.proofs.Common.{◌≡◌, ◌≢◌, ◌⊎◌, ℕ, zero, suc, ◌<◌, ◌≤◌, Bool, true, false, nat_eq, List, [], ◌∷◌, length, get_or, Option, Some, None, IsSome, is_some, refl, sym, ap, ◌∙◌, subst, inl, inr, arith, slice_get, slice_set, true≢false, if◌then◌else◌}
-use Rattle.std.proofs.lemmas.Bool.{cases_eq}
-use Rattle.std.proofs.lemmas.List.{get_or-set_other, get_or-set_same, length-set}
+use Rattle.std.proofs.Common.{◌≡◌, ℕ, zero, suc, ◌<◌, Bool, true, false, List, [], ◌∷◌, length, get_or, Option, Some, None, is_some, refl, sym, ap, ◌∙◌, subst, inl, arith, slice_get, slice_set, true≢false}
+use Rattle.std.proofs.lemmas.List.{get_or-set_other}
 use Rattle.pliron_core.specs.declared.context.Def.{Def}
 use Rattle.pliron_core.specs.declared.context.RegionSlot.{RegionSlot}
 use Rattle.pliron_core.specs.declared.context.OperationEntry.{OperationEntry}
-use Rattle.pliron_core.specs.Tree.{Tree, In, IsLive, IsBlock, climb, up_from, op_of_slot, no_entry, row_of, head_of, regions_of, operands_of, successors_of, parent_of, body_of, arguments_of, block_parent_of, layout_of, slot_of, region_parent_of, block_holder_of, holder_of}
-use Rattle.pliron_core.specs.Joined.{IsJoined, IsTree}
-use Rattle.pliron_core.specs.Erased.{is_met_above, cleared, blanked}
+use Rattle.pliron_core.specs.Tree.{Tree, In, IsLive, climb, op_of_slot, no_entry, row_of, head_of, operands_of, successors_of, parent_of, body_of, arguments_of, block_parent_of, layout_of, region_parent_of, block_holder_of, holder_of}
+use Rattle.pliron_core.specs.Joined.{IsTree}
+use Rattle.pliron_core.specs.Erased.{is_met_above, cleared}
 use Rattle.pliron_core.proofs.BlankLemmas.{is_blanked}
 use Rattle.pliron_core.proofs.TreeLemmas.{live-within, live_dead}
-use Rattle.pliron_core.proofs.WithinLemmas.{up_some, block_steps, holder_steps, holder_from, block_holder_from, block_holder_live, region_has, region_parent_live, met_up, met_step}
+use Rattle.pliron_core.proofs.WithinLemmas.{block_steps, holder_steps, holder_from, block_holder_from, block_holder_live, region_has, region_parent_live, met_up}
 
 -- operations, blocks and regions that go, with the operations for which the test holds
 abbrev pub op_gone : Tree → (ℕ → Bool) → ℕ → Bool

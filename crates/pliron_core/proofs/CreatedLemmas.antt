@@ -1,5 +1,5 @@
 -- The invariant of a tree is kept where operations and blocks are made.
-use Rattle.std.proofs.Common.{◌≡◌, ◌≢◌, ◌⊎◌, ℕ, zero, suc, ◌+◌, ◌<◌, ◌≤◌, true, false, List, [], ◌∷◌, ◌++◌, length, map, get_or, Option, Some, None, IsSome, is_some, refl, sym, ap, ◌∙◌, subst, inl, inr, ⊎_elim, arith, slice_get, slice_set, replicate, true≢false}
+use Rattle.std.proofs.Common.{◌≡◌, ◌⊎◌, ℕ, ◌+◌, ◌<◌, ◌≤◌, true, false, List, [], ◌∷◌, ◌++◌, length, Option, Some, None, IsSome, is_some, refl, sym, ap, ◌∙◌, subst, inl, inr, ⊎_elim, arith, slice_get, true≢false}
 use Rattle.std.specs.List.{range_with_len}
 use Rattle.std.proofs.lemmas.Bool.{cases_eq}
 use Rattle.std.proofs.lemmas.List.{get_or-set_other, get_or-set_same}
@@ -11,10 +11,10 @@ use Rattle.pliron_core.specs.declared.context.RegionSlot.{RegionSlot}
 use Rattle.pliron_core.specs.declared.context.OperationEntry.{OperationEntry}
 use Rattle.pliron_core.specs.Rising.{IsRising}
 use Rattle.pliron_core.specs.Lists.{AreOwned}
-use Rattle.pliron_core.specs.Tree.{Tree, In, IsLive, IsBlock, IsRegion, IsListedBy, IsDefined, IsMadeBy, IsRooted, up_from, op_of_slot, holder_of, block_holder_of, region_parent_of, head_of, row_of, results_of, regions_of, operands_of, successors_of, parent_of, body_of, arguments_of, block_parent_of, layout_of, slot_of, definition_of, no_entry}
-use Rattle.pliron_core.specs.Joined.{HaveSameKeys, IsJoined, IsTree}
+use Rattle.pliron_core.specs.Tree.{Tree, In, IsLive, IsBlock, IsRegion, IsListedBy, IsDefined, IsMadeBy, up_from, op_of_slot, holder_of, block_holder_of, region_parent_of, head_of, row_of, results_of, regions_of, operands_of, successors_of, parent_of, body_of, arguments_of, block_parent_of, layout_of, slot_of, definition_of, no_entry}
+use Rattle.pliron_core.specs.Joined.{HaveSameKeys, IsJoined}
 use Rattle.pliron_core.specs.Writes.{created, block_created, result_definitions, argument_definitions, region_slots}
-use Rattle.pliron_core.proofs.TreeLemmas.{live_dead, region_owner, rooted_cut, block-within, in_slice, within-some}
+use Rattle.pliron_core.proofs.TreeLemmas.{region_owner, rooted_cut, within-some}
 use Rattle.pliron_core.proofs.UsedLemmas.{in_last}
 use Rattle.pliron_core.proofs.GrownLemmas.{get_grown, get_last, get_last_same, get_padded, slice_get_kept, slice_get_added, range_at, mapped_range_get}
 

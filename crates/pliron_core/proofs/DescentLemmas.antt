@@ -1,16 +1,16 @@
 -- An operation is taken apart step by step.
-use Rattle.std.proofs.Common.{◌≡◌, ◌≢◌, ◌⊎◌, ℕ, zero, suc, ◌+◌, ◌-◌, ◌*◌, ◌<◌, ◌≤◌, Bool, true, false, nat_eq, List, [], ◌∷◌, length, get_or, take, Option, Some, None, IsSome, is_some, refl, sym, ap, ◌∙◌, subst, inl, inr, arith, slice_get, slice_set, true≢false, if◌then◌else◌}
+use Rattle.std.proofs.Common.{◌≡◌, ◌≢◌, ◌⊎◌, ℕ, zero, suc, Bool, true, nat_eq, List, [], ◌∷◌, get_or, Option, Some, None, IsSome, refl, sym, ap, ◌∙◌, subst, inl, inr, slice_get, slice_set}
 use Rattle.std.proofs.lemmas.Bool.{cases_eq, eq-eqb, ne_eqb}
 use Rattle.std.proofs.lemmas.List.{get_or-set_other, get_or-set_same, length-set}
 use Rattle.pliron_core.specs.declared.context.Def.{Def}
 use Rattle.pliron_core.specs.declared.context.Def.TheVariants.{Result, Argument}
-use Rattle.pliron_core.specs.Tree.{Tree, In, IsLive, IsBlock, IsWithin, IsMadeWithin, HoldsBlock, no_entry, row_of, head_of, regions_of, operands_of, successors_of, parent_of, body_of, arguments_of, block_parent_of, layout_of, slot_of, definition_of, region_parent_of, block_holder_of, holder_of, without, last_of}
-use Rattle.pliron_core.specs.Joined.{IsJoined, IsTree}
+use Rattle.pliron_core.specs.Tree.{Tree, In, IsLive, IsMadeWithin, no_entry, row_of, head_of, parent_of, block_parent_of, definition_of, block_holder_of, holder_of}
+use Rattle.pliron_core.specs.Joined.{IsTree}
 use Rattle.pliron_core.specs.Writes.{taken_from, taken_out}
-use Rattle.pliron_core.specs.Erased.{is_met_above, cleared, blanked, block_taken_from, block_taken_out}
-use Rattle.pliron_core.specs.Dismantling.{IsStep, Down, LessBlock, LessRegion, Up, IsUnused, IsUnnamed, IsMadeAt, buried, region_popped, last_region_of}
+use Rattle.pliron_core.specs.Erased.{is_met_above, cleared, block_taken_from}
+use Rattle.pliron_core.specs.Dismantling.{IsStep, Down, LessBlock, LessRegion, Up, IsUnused, IsUnnamed, IsMadeAt, buried, region_popped}
 use Rattle.pliron_core.proofs.TreeLemmas.{live-within, live_dead}
-use Rattle.pliron_core.proofs.WithinLemmas.{block_steps, block_holder_from, holder_steps, holder_from, holder_live, parent_holder, not_own_holder, met_below, met_here, met_up, within_is, equal_from}
+use Rattle.pliron_core.proofs.WithinLemmas.{block_steps, holder_steps, holder_from, holder_live, not_own_holder, met_below, met_here, met_up, within_is, equal_from}
 use Rattle.pliron_core.proofs.BlankLemmas.{is_blanked}
 use Rattle.pliron_core.proofs.ClearingLemmas.{IsClearing, op_gone, block_gone, region_gone, clearing_none, clearing_trans, set_kept, block_holder_was, holder_was, holder_is, region_parent_same, cleared_all, gone_blocks}
 

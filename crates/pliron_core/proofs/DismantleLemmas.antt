@@ -1,19 +1,17 @@
 -- The invariant of a tree is kept where a part of it goes that nothing names.
-use Rattle.std.proofs.Common.{◌≡◌, ◌≢◌, ◌⊎◌, ℕ, zero, suc, ◌-◌, ◌<◌, ◌≤◌, true, false, List, [], ◌∷◌, ◌++◌, length, get_or, take, Option, Some, None, IsSome, is_some, refl, sym, ap, ◌∙◌, subst, inl, inr, ⊎_elim, arith, slice_get, slice_set, true≢false}
+use Rattle.std.proofs.Common.{◌≡◌, ◌≢◌, ℕ, ◌-◌, ◌<◌, List, [], ◌∷◌, ◌++◌, length, take, Option, Some, None, IsSome, is_some, refl, sym, ap, ◌∙◌, subst, inl, inr, arith, slice_get}
 use Rattle.std.proofs.lemmas.Bool.{cases_eq}
 use Rattle.std.proofs.lemmas.List.{get_or-set_other, get_or-set_same, length-set}
 use Rattle.std.proofs.lemmas.Option.{slice_get_within}
 use Rattle.pliron_core.specs.declared.context.Def.{Def}
 use Rattle.pliron_core.specs.declared.context.Def.TheVariants.{Result, Argument}
-use Rattle.pliron_core.specs.declared.context.OperationEntry.{OperationEntry}
-use Rattle.pliron_core.specs.declared.context.RegionSlot.{RegionSlot}
-use Rattle.pliron_core.specs.Tree.{Tree, View, In, IsLive, IsBlock, IsRegion, IsListedBy, IsDefined, IsMadeBy, IsRising, no_entry, up_from, row_of, head_of, results_of, regions_of, operands_of, successors_of, parent_of, body_of, arguments_of, block_parent_of, layout_of, slot_of, definition_of, holder_of, block_holder_of, region_parent_of, without}
+use Rattle.pliron_core.specs.Tree.{Tree, View, In, IsLive, IsBlock, IsRegion, IsListedBy, IsMadeBy, IsRising, no_entry, up_from, row_of, head_of, results_of, regions_of, operands_of, successors_of, parent_of, body_of, arguments_of, block_parent_of, layout_of, slot_of, definition_of, holder_of, block_holder_of, region_parent_of}
 use Rattle.pliron_core.specs.Lists.{AreOwned}
-use Rattle.pliron_core.specs.Joined.{HaveSameKeys, IsJoined, IsTree, IsWellFormed}
+use Rattle.pliron_core.specs.Joined.{IsJoined, IsTree, IsWellFormed}
 use Rattle.pliron_core.specs.Erased.{block_taken_from}
 use Rattle.pliron_core.specs.Dismantling.{buried, region_popped, last_region_of}
-use Rattle.pliron_core.proofs.TreeLemmas.{live-within, block-within, within-some, region_owner, rooted_cut, live_dead}
-use Rattle.pliron_core.proofs.LastLemmas.{last_front, take_front, get_before, get_kept, without_in, without_rising}
+use Rattle.pliron_core.proofs.TreeLemmas.{live-within, block-within, region_owner, rooted_cut, live_dead}
+use Rattle.pliron_core.proofs.LastLemmas.{last_front, take_front, get_before, get_kept, without_rising}
 
 -- a value stays defined where its maker's list stays
 defined_kept : (t u : Tree) (v : ℕ) (d : Option Def) → ((k i : ℕ) → d ≡ Some (Result k i) → results_of u k ≡ results_of t k) → ((b i : ℕ) → d ≡ Some (Argument b i) → arguments_of u b ≡ arguments_of t b) → IsMadeBy t v d → IsMadeBy u v d

@@ -1,19 +1,18 @@
 -- Operations lose operands and successors, one after the other.
-use Rattle.std.proofs.Common.{◌≡◌, ◌≢◌, ◌⊎◌, ℕ, zero, suc, ◌<◌, ◌≤◌, Bool, true, false, nat_eq, List, [], ◌∷◌, length, get_or, Option, Some, None, IsSome, is_some, refl, sym, ap, ◌∙◌, subst, inl, inr, arith, slice_set, true≢false, if◌then◌else◌}
+use Rattle.std.proofs.Common.{◌≡◌, ◌≢◌, ◌⊎◌, ℕ, ◌<◌, Bool, true, false, nat_eq, List, [], ◌∷◌, length, Option, Some, None, IsSome, refl, sym, ap, ◌∙◌, subst, inl, inr, arith, slice_set, true≢false, if◌then◌else◌}
 use Rattle.std.proofs.lemmas.Bool.{cases_eq, eq-eqb, ne_eqb}
-use Rattle.std.proofs.lemmas.List.{get_or-set_other, get_or-set_same, length-set}
-use Rattle.pliron_core.specs.Tree.{Tree, View, In, IsDistinct, IsLive, IsWithin, IsInside, first_of, next_in, head_of, operands_of, successors_of, parent_of, body_of}
-use Rattle.pliron_core.specs.Joined.{IsJoined, IsTree, IsWellFormed}
-use Rattle.pliron_core.specs.Erased.{is_met_above, names_dropped, uses_dropped, blanked, stands_in, StandsIn}
+use Rattle.std.proofs.lemmas.List.{get_or-set_other, length-set}
+use Rattle.pliron_core.specs.Tree.{Tree, View, In, IsDistinct, IsLive, IsWithin, first_of, next_in, head_of, operands_of, successors_of, parent_of, body_of}
+use Rattle.pliron_core.specs.Joined.{IsTree, IsWellFormed}
+use Rattle.pliron_core.specs.Erased.{is_met_above, names_dropped, uses_dropped, blanked, stands_in}
 use Rattle.pliron_core.specs.Dismantling.{unnamed}
 use Rattle.pliron_core.specs.Walks.{preorder, contents}
 use Rattle.pliron_core.specs.WalkSteps.{rest_after, rest_from}
 use Rattle.pliron_core.specs.declared.uses.Use.{Use}
 use Rattle.pliron_core.proofs.BlankLemmas.{is_blanked, blanked_gone, blanked_kept, length-blanked}
 use Rattle.pliron_core.proofs.UsedLemmas.{kept_used, in_changed}
-use Rattle.pliron_core.proofs.TreeLemmas.{live-within, live_dead}
 use Rattle.pliron_core.proofs.WithinLemmas.{is_within, within_is, in_block_is, is_in_block}
-use Rattle.pliron_core.proofs.ClearingLemmas.{tree_same, op_gone}
+use Rattle.pliron_core.proofs.ClearingLemmas.{op_gone}
 use Rattle.pliron_core.proofs.DescentLemmas.{set_default}
 use Rattle.pliron_core.proofs.WalkLemmas.{In-preorder, distinct-preorder}
 

@@ -1,20 +1,18 @@
 -- Lemmas on the predecessors of a block, by its uses.
-use Rattle.std.proofs.Common.{◌≡◌, ◌≢◌, ◌⊎◌, ℕ, zero, suc, ◌+◌, ◌<◌, ◌≤◌, Bool, true, false, not, ◌&&◌, List, [], ◌∷◌, length, get_or, nat_lt, nat_eq, Option, Some, None, refl, sym, ap, ◌∙◌, subst, inl, inr, arith}
+use Rattle.std.proofs.Common.{◌≡◌, ◌≢◌, ◌⊎◌, ℕ, ◌+◌, ◌<◌, ◌≤◌, true, false, not, ◌&&◌, List, [], ◌∷◌, length, nat_lt, nat_eq, Option, Some, None, refl, sym, ap, ◌∙◌, subst, inl, inr, arith}
 use Rattle.std.specs.Option.{IsSome, is_some}
 use Rattle.std.specs.List.{filter, slice_get, list_any}
 use Rattle.std.proofs.lemmas.Bool.{cases_order, ltb-true, lt-ltb, false≢true, cases_lt, eqb-true, eq-eqb, and_parts, and_from, not-true, not-false}
 use Rattle.std.proofs.lemmas.List.{get_or_past}
 use Rattle.std.proofs.lemmas.Option.{none-some, same_Some, slice_get_within}
-use Rattle.pliron_core.specs.declared.attrs.Head.{Head}
 use Rattle.pliron_core.specs.declared.uses.Use.{Use}
 use Rattle.pliron_core.specs.Lists.{In, IsDistinct, last_of}
 use Rattle.pliron_core.specs.Rising.{IsRising}
-use Rattle.pliron_core.specs.Uses.{AreAgreed}
-use Rattle.pliron_core.specs.Tree.{Tree, View, IsLive, IsBlock, head_of, operands_of, successors_of, parent_of, body_of, block_parent_of, layout_of, uses_of}
+use Rattle.pliron_core.specs.Tree.{Tree, View, IsLive, IsBlock, head_of, operands_of, successors_of, parent_of, body_of, block_parent_of, uses_of}
 use Rattle.pliron_core.specs.Joined.{IsJoined, IsTree, HaveUses}
-use Rattle.pliron_core.specs.Edges.{succs_from, succs_of, leads_to, blocks_in, preds_of}
+use Rattle.pliron_core.specs.Edges.{succs_from, leads_to, blocks_in, preds_of}
 use Rattle.pliron_core.specs.EdgeUses.{IsSource, IsFirst, IsEdge, IsFirstEdge}
-use Rattle.pliron_core.proofs.ReadLemmas.{In-at, In-last, In-block}
+use Rattle.pliron_core.proofs.ReadLemmas.{In-last, In-block}
 use Rattle.pliron_core.proofs.FilterLemmas.{In-filter, In-filtered, distinct-filter, rising-filter, same_members, one_none, one_all, one_two, below_all, any_at, at_any, first_at}
 
 -- an operation that uses something stands

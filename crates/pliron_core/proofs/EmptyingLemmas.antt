@@ -1,23 +1,23 @@
 -- A block is emptied, one operation after the other, and goes.
-use Rattle.std.proofs.Common.{◌≡◌, ◌≢◌, ◌⊎◌, ℕ, zero, suc, ◌+◌, ◌<◌, ◌≤◌, Bool, true, false, nat_eq, List, [], ◌∷◌, length, get_or, Option, Some, None, IsSome, is_some, refl, sym, ap, ◌∙◌, subst, inl, inr, arith, slice_get, slice_set, true≢false, if◌then◌else◌}
+use Rattle.std.proofs.Common.{◌≡◌, ◌≢◌, ◌⊎◌, ℕ, zero, suc, ◌<◌, ◌≤◌, Bool, true, false, nat_eq, List, [], ◌∷◌, length, get_or, Option, Some, None, IsSome, refl, sym, ap, ◌∙◌, subst, inl, inr, arith, slice_get, slice_set, true≢false, if◌then◌else◌}
 use Rattle.std.proofs.lemmas.Bool.{cases_eq, eq-eqb, ne_eqb}
 use Rattle.std.proofs.lemmas.List.{get_or-set_other, get_or-set_same, length-set, ext_get_or}
 use Rattle.pliron_core.specs.declared.context.Def.{Def}
 use Rattle.pliron_core.specs.declared.context.Def.TheVariants.{Result, Argument}
-use Rattle.pliron_core.specs.Tree.{Tree, In, IsLive, IsBlock, IsWithin, IsInside, Directly, Deeper, IsMadeWithin, HoldsBlock, op_of_slot, no_entry, row_of, head_of, operands_of, successors_of, parent_of, body_of, arguments_of, block_parent_of, layout_of, definition_of, region_parent_of, block_holder_of, holder_of, without, last_of}
+use Rattle.pliron_core.specs.Tree.{Tree, In, IsLive, IsBlock, IsWithin, IsInside, Directly, Deeper, IsMadeWithin, HoldsBlock, op_of_slot, no_entry, operands_of, successors_of, parent_of, body_of, block_parent_of, definition_of, region_parent_of, block_holder_of, holder_of, without, last_of}
 use Rattle.pliron_core.specs.Joined.{IsJoined, IsTree}
 use Rattle.pliron_core.specs.Writes.{taken_from, taken_out}
-use Rattle.pliron_core.specs.Erased.{is_met, is_met_above, cleared, names_dropped, uses_dropped, blanked, stands_in, StandsIn, IsBlockWithin, IsMadeInBlock, IsSelfContainedBlock, block_emptied, block_taken_out, block_erased}
+use Rattle.pliron_core.specs.Erased.{is_met, is_met_above, cleared, uses_dropped, blanked, stands_in, StandsIn, IsBlockWithin, IsMadeInBlock, IsSelfContainedBlock, block_emptied, block_taken_out, block_erased}
 use Rattle.pliron_core.specs.Dismantling.{IsUnused, IsUnusedBlock}
 use Rattle.pliron_core.proofs.BlankLemmas.{length-blanked, blanked_gone, blanked_kept}
-use Rattle.pliron_core.proofs.LastLemmas.{last_in, last_none}
+use Rattle.pliron_core.proofs.LastLemmas.{last_in}
 use Rattle.pliron_core.proofs.TreeLemmas.{live-within, block-within, live_dead}
 use Rattle.pliron_core.proofs.PlacedLemmas.{taken-parents}
-use Rattle.pliron_core.proofs.WithinLemmas.{holder_steps, holder_from, met_here, met_below, within_is, is_within, in_block_is, is_in_block, stands_met, stands_from, equal_from, not_own_holder}
+use Rattle.pliron_core.proofs.WithinLemmas.{holder_steps, holder_from, met_here, met_below, within_is, in_block_is, is_in_block, stands_met, stands_from, not_own_holder}
 use Rattle.pliron_core.proofs.WalkLemmas.{inside_trans, not_inside-itself}
 use Rattle.pliron_core.proofs.ClearingLemmas.{IsClearing, op_gone, block_gone, region_gone, clearing_none, clearing_trans, block_holder_was, holder_was, cleared_all, gone_blocks}
 use Rattle.pliron_core.proofs.DescentLemmas.{set_default, taken-operations, taken-operands, taken-successors, taken-block_parents}
-use Rattle.pliron_core.proofs.DropLemmas.{IsBare, dropped_gone}
+use Rattle.pliron_core.proofs.DropLemmas.{dropped_gone}
 use Rattle.pliron_core.proofs.ErasedLemmas.{taken-slots, taken-definitions, taken-block_holder, cleared_dropped, dropped-operand, dropped-successor}
 
 -- after the drop nothing in the block is used any more

@@ -1,21 +1,21 @@
 -- What erasing an operation asks, and what it leaves.
-use Rattle.std.proofs.Common.{◌≡◌, ◌≢◌, ◌⊎◌, ℕ, zero, suc, ◌<◌, ◌≤◌, Bool, true, false, nat_eq, List, [], ◌∷◌, length, get_or, Option, Some, None, IsSome, is_some, refl, sym, ap, ◌∙◌, subst, inl, inr, arith, slice_get, slice_set, true≢false, if◌then◌else◌}
-use Rattle.std.proofs.lemmas.Bool.{cases_eq, eq-eqb}
+use Rattle.std.proofs.Common.{◌≡◌, ℕ, Bool, true, false, nat_eq, [], length, get_or, Option, Some, None, IsSome, refl, sym, ap, ◌∙◌, subst, slice_get, true≢false}
+use Rattle.std.proofs.lemmas.Bool.{eq-eqb}
 use Rattle.std.proofs.lemmas.List.{get_or-set_other}
 use Rattle.pliron_core.specs.declared.context.Def.{Def}
 use Rattle.pliron_core.specs.declared.context.Def.TheVariants.{Result, Argument}
-use Rattle.pliron_core.specs.Tree.{Tree, In, IsLive, IsWithin, IsMadeWithin, HoldsBlock, no_entry, up_from, head_of, operands_of, successors_of, parent_of, block_parent_of, definition_of, block_holder_of, holder_of, region_parent_of}
+use Rattle.pliron_core.specs.Tree.{Tree, In, IsLive, IsWithin, IsMadeWithin, HoldsBlock, no_entry, up_from, operands_of, successors_of, parent_of, definition_of, block_holder_of, holder_of}
 use Rattle.pliron_core.specs.Joined.{IsJoined, IsTree}
 use Rattle.pliron_core.specs.Writes.{taken_from, taken_out}
-use Rattle.pliron_core.specs.Erased.{is_met, is_met_above, cleared, erased, names_dropped, blanked, IsSelfContained}
+use Rattle.pliron_core.specs.Erased.{is_met_above, cleared, erased, names_dropped, blanked, IsSelfContained}
 use Rattle.pliron_core.specs.Dismantling.{IsUnused}
 use Rattle.pliron_core.proofs.ChainLemmas.{is_met_same}
 use Rattle.pliron_core.proofs.BlankLemmas.{blanked_twice}
 use Rattle.pliron_core.proofs.PlacedLemmas.{taken-parents}
 use Rattle.pliron_core.proofs.WithinLemmas.{is_within, within_is}
 use Rattle.pliron_core.proofs.ClearingLemmas.{op_gone}
-use Rattle.pliron_core.proofs.DescentLemmas.{taken-operations, taken-operands, taken-successors, taken-block_parents}
-use Rattle.pliron_core.proofs.DropLemmas.{IsBare, NamesSame, dropped_gone, dropped_kept}
+use Rattle.pliron_core.proofs.DescentLemmas.{taken-operations, taken-operands, taken-successors}
+use Rattle.pliron_core.proofs.DropLemmas.{dropped_gone, dropped_kept}
 
 pub taken-slots : (t : Tree) (op : ℕ) (o : Option ℕ) → (taken_from t op o).slots ≡ t.slots
 taken-slots t op None = refl

@@ -1,9 +1,9 @@
 -- What stands last inside an operation.
-use Rattle.std.proofs.Common.{◌≡◌, ℕ, ◌-◌, ◌<◌, List, [], length, get_or, Option, Some, None, refl, sym, ap, ◌∙◌, subst, arith, slice_get}
+use Rattle.std.proofs.Common.{◌≡◌, ℕ, ◌-◌, ◌<◌, length, get_or, Some, None, sym, ap, ◌∙◌, arith, slice_get}
 use Rattle.std.proofs.lemmas.List.{get_or_read}
 use Rattle.std.proofs.lemmas.Option.{slice_get_within}
 use Rattle.pliron_core.specs.declared.context.OperationEntry.{OperationEntry}
-use Rattle.pliron_core.specs.Tree.{Tree, IsLive, no_entry, op_of_slot, row_of, regions_of, slot_of, region_parent_of, layout_of, body_of, block_parent_of, block_holder_of, parent_of, holder_of, last_of}
+use Rattle.pliron_core.specs.Tree.{Tree, IsLive, no_entry, op_of_slot, row_of, regions_of, region_parent_of, layout_of, body_of, block_holder_of, parent_of, holder_of, last_of}
 use Rattle.pliron_core.specs.Joined.{IsTree}
 use Rattle.pliron_core.specs.Dismantling.{last_region_of}
 use Rattle.pliron_core.proofs.LastLemmas.{get_last_is, last_in}

@@ -1,12 +1,12 @@
 -- Each step of taking an operation apart leaves less to do.
-use Rattle.std.proofs.Common.{◌≡◌, ◌≢◌, ◌⊎◌, ℕ, zero, suc, ◌+◌, ◌-◌, ◌<◌, ◌≤◌, Bool, true, false, nat_eq, List, [], ◌∷◌, ◌++◌, length, get_or, take, Option, Some, None, IsSome, is_some, refl, sym, ap, ◌∙◌, subst, inl, inr, arith, slice_set, if◌then◌else◌, length-append}
+use Rattle.std.proofs.Common.{◌≡◌, ℕ, suc, ◌+◌, ◌-◌, ◌<◌, ◌≤◌, nat_eq, [], ◌∷◌, length, get_or, take, Option, Some, None, is_some, refl, ap, ◌∙◌, arith, slice_set, if◌then◌else◌, length-append}
 use Rattle.std.specs.List.{sum_by}
 use Rattle.std.proofs.lemmas.List.Sums.{sum_by-set}
 use Rattle.pliron_core.specs.declared.context.OperationEntry.{OperationEntry}
-use Rattle.pliron_core.specs.Tree.{Tree, IsLive, no_entry, row_of, head_of, regions_of, parent_of, block_parent_of, layout_of, holder_of}
+use Rattle.pliron_core.specs.Tree.{Tree, no_entry, row_of, head_of, regions_of, parent_of, block_parent_of, holder_of}
 use Rattle.pliron_core.specs.Joined.{IsTree}
-use Rattle.pliron_core.specs.Writes.{taken_from, taken_out}
-use Rattle.pliron_core.specs.Erased.{block_taken_from, block_taken_out}
+use Rattle.pliron_core.specs.Writes.{taken_from}
+use Rattle.pliron_core.specs.Erased.{block_taken_from}
 use Rattle.pliron_core.specs.Dismantling.{IsStep, Down, LessBlock, LessRegion, Up, buried, region_popped, last_region_of}
 use Rattle.pliron_core.proofs.TreeLemmas.{live-within, within-some}
 use Rattle.pliron_core.proofs.LastLemmas.{last_front, take_front}

@@ -1,5 +1,5 @@
 -- Lemmas on the members of a list.
-use Rattle.std.proofs.Common.{◌≡◌, ◌⊎◌, ℕ, zero, suc, List, [], ◌∷◌, Some, sym, ap, inl, inr, arith}
+use Rattle.std.proofs.Common.{◌≡◌, ℕ, zero, suc, List, [], ◌∷◌, Some, sym, ap, inl, inr, arith}
 use Rattle.std.specs.List.{slice_get}
 use Rattle.pliron_core.specs.Lists.{In}
 

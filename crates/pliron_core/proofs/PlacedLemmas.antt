@@ -1,11 +1,11 @@
 -- The invariant of a tree is kept where an operation comes to stand in a block, or leaves it.
-use Rattle.std.proofs.Common.{◌≡◌, ◌≢◌, ◌⊎◌, ℕ, zero, suc, ◌<◌, ◌≤◌, true, false, List, [], ◌∷◌, length, get_or, Option, Some, None, IsSome, is_some, refl, sym, ap, ◌∙◌, subst, inl, inr, ⊎_elim, arith, slice_set, true≢false}
+use Rattle.std.proofs.Common.{◌≡◌, ◌≢◌, ◌⊎◌, ℕ, ◌<◌, true, false, List, [], length, get_or, Option, Some, None, IsSome, is_some, refl, sym, ap, ◌∙◌, subst, inl, inr, ⊎_elim, arith, slice_set, true≢false}
 use Rattle.std.proofs.lemmas.Bool.{cases_eq}
 use Rattle.std.proofs.lemmas.List.{get_or-set_other, get_or-set_same}
-use Rattle.pliron_core.specs.Tree.{Tree, In, IsLive, IsBlock, IsRooted, IsInside, Directly, Deeper, HoldsBlock, climb, up_from, holder_of, block_holder_of, parent_of, block_parent_of, body_of}
+use Rattle.pliron_core.specs.Tree.{Tree, IsLive, IsBlock, IsRooted, IsInside, Directly, Deeper, HoldsBlock, climb, up_from, holder_of, block_holder_of, parent_of, block_parent_of}
 use Rattle.pliron_core.specs.Joined.{HaveSameKeys, IsJoined}
 use Rattle.pliron_core.specs.Writes.{placed, taken_from}
-use Rattle.pliron_core.proofs.TreeLemmas.{live-within, within-some, region_owner, outside_climb, rooted_cut}
+use Rattle.pliron_core.proofs.TreeLemmas.{live-within, within-some, outside_climb, rooted_cut}
 use Rattle.pliron_core.proofs.RootLemmas.{rooted-put}
 
 pub kept_put : (t : Tree) (op block : ℕ) (body : List ℕ) → HaveSameKeys t → IsJoined t → IsLive t op → IsBlock t block → parent_of t op ≡ None → (HoldsBlock t op block → ⊥) → IsJoined (placed t op block body)

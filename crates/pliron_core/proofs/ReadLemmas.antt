@@ -1,11 +1,11 @@
 -- What a read answers with stands.
-use Rattle.std.proofs.Common.{◌≡◌, ◌≢◌, ◌⊎◌, ℕ, zero, suc, ◌<◌, List, [], ◌∷◌, length, get_or, Option, Some, None, refl, sym, ap, ◌∙◌, subst, inl, inr, arith}
+use Rattle.std.proofs.Common.{◌≡◌, ◌⊎◌, ℕ, zero, suc, List, [], ◌∷◌, Option, Some, None, refl, sym, ◌∙◌, inl, inr}
 use Rattle.std.specs.Option.{IfSome}
 use Rattle.std.specs.List.{slice_get}
 use Rattle.std.proofs.lemmas.Bool.{cases_eq, ne_eqb, eq-eqb}
-use Rattle.std.proofs.lemmas.Option.{same_Some, none-some, slice_get-get_or}
-use Rattle.pliron_core.specs.Lists.{In, first_of, last_of, next_in, prev_in, AreOwned}
-use Rattle.pliron_core.specs.Tree.{Tree, IsLive, IsBlock, IsDefined, operands_of, successors_of, parent_of, body_of, block_parent_of, layout_of, up_from}
+use Rattle.std.proofs.lemmas.Option.{same_Some, none-some}
+use Rattle.pliron_core.specs.Lists.{In, first_of, last_of, next_in, prev_in}
+use Rattle.pliron_core.specs.Tree.{Tree, IsLive, IsBlock, parent_of, body_of, block_parent_of, layout_of, up_from}
 use Rattle.pliron_core.specs.Joined.{IsTree}
 
 pub In-at : (xs : List ℕ) (i x : ℕ) → slice_get xs i ≡ Some x → In x xs

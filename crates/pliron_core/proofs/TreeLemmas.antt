@@ -1,10 +1,8 @@
 -- Lemmas on trees and on the reading of their tables.
-use Rattle.std.proofs.Common.{◌≡◌, ◌≢◌, ◌⊎◌, ℕ, zero, suc, ◌+◌, ◌<◌, ◌≤◌, true, false, List, [], ◌∷◌, ◌++◌, length, map, get_or, Option, Some, None, IsSome, is_some, refl, sym, ap, ◌∙◌, subst, inl, inr, ⊎_elim, arith, slice_get, slice_set, true≢false}
-use Rattle.std.proofs.lemmas.Bool.{cases_eq, eq-eqb, ne_eqb}
-use Rattle.std.proofs.lemmas.List.{get_or_past, get_or-set_same, get_or-set_other}
-use Rattle.pliron_core.specs.Tree.{Tree, View, In, IsBlock, IsLive, IsRegion, IsListedBy, IsInside, Directly, Deeper, IsWithin, HoldsBlock, climb, up_from, holder_of, block_holder_of, parent_of, head_of, row_of, regions_of, slot_of, block_parent_of, no_entry}
+use Rattle.std.proofs.Common.{◌≡◌, ◌≢◌, ◌⊎◌, ℕ, zero, suc, ◌<◌, ◌≤◌, true, false, List, [], length, get_or, Option, Some, None, IsSome, is_some, refl, sym, ap, ◌∙◌, subst, inl, inr, ⊎_elim, arith, slice_get, true≢false}
+use Rattle.std.proofs.lemmas.List.{get_or_past}
+use Rattle.pliron_core.specs.Tree.{Tree, IsBlock, IsLive, IsRegion, IsListedBy, Directly, Deeper, IsWithin, HoldsBlock, climb, holder_of, block_holder_of, parent_of, head_of, regions_of, slot_of, no_entry}
 use Rattle.pliron_core.specs.declared.context.RegionSlot.{RegionSlot}
-use Rattle.pliron_core.specs.declared.context.OperationEntry.{OperationEntry}
 use Rattle.pliron_core.specs.Joined.{HaveSameKeys, IsJoined}
 pub use Rattle.pliron_core.proofs.MemberLemmas.{in_slice, in_at}
 

@@ -1,11 +1,11 @@
 -- The invariant of a tree is kept where only operands and successors change.
-use Rattle.std.proofs.Common.{◌≡◌, ◌≢◌, ◌⊎◌, ℕ, zero, suc, ◌<◌, ◌≤◌, List, [], ◌∷◌, ◌++◌, length, map, get_or, Option, Some, None, refl, sym, ap, ◌∙◌, subst, inl, inr, ⊎_elim, arith, slice_set, if◌then◌else◌, take, drop, remove}
+use Rattle.std.proofs.Common.{◌≡◌, ◌⊎◌, ℕ, zero, suc, ◌<◌, ◌≤◌, List, [], ◌∷◌, ◌++◌, length, map, get_or, None, refl, sym, ap, ◌∙◌, subst, inl, inr, ⊎_elim, arith, slice_set, if◌then◌else◌, remove}
 use Rattle.std.proofs.lemmas.Bool.{cases_eq, eq-eqb, ne_eqb}
 use Rattle.std.proofs.lemmas.Bool.Decides.{eqb_tells}
 use Rattle.std.proofs.lemmas.List.{get_or-set_other, get_or-set_same}
 use Rattle.pliron_core.specs.Uses.{replace_target}
 use Rattle.pliron_core.specs.Tree.{Tree, In, IsLive, IsBlock, IsDefined, head_of, operands_of, successors_of}
-use Rattle.pliron_core.specs.Joined.{HaveSameKeys, IsJoined}
+use Rattle.pliron_core.specs.Joined.{IsJoined}
 use Rattle.pliron_core.specs.Writes.{operand_pushed, successor_pushed, operand_removed, replaced}
 use Rattle.pliron_core.proofs.RemovalLemmas.{in_from-remove}
 use Rattle.pliron_core.proofs.TreeLemmas.{live_dead}

@@ -1,9 +1,8 @@
 -- What stands inside an operation, by tests and by steps up.
-use Rattle.std.proofs.Common.{◌≡◌, ◌≢◌, ◌⊎◌, ℕ, zero, suc, ◌<◌, ◌≤◌, Bool, true, false, nat_eq, List, [], ◌∷◌, length, get_or, Option, Some, None, IsSome, is_some, refl, sym, ap, ◌∙◌, subst, inl, inr, arith, if◌then◌else◌, true≢false, slice_get}
+use Rattle.std.proofs.Common.{◌≡◌, ◌≢◌, ℕ, zero, suc, ◌<◌, Bool, true, false, nat_eq, length, Option, Some, None, is_some, refl, sym, ap, ◌∙◌, subst, inl, inr, if◌then◌else◌, true≢false}
 use Rattle.std.proofs.lemmas.Bool.Decides.{eqb_tells}
 use Rattle.std.proofs.lemmas.Bool.{eq-eqb}
-use Rattle.pliron_core.specs.declared.context.RegionSlot.{RegionSlot}
-use Rattle.pliron_core.specs.Tree.{Tree, In, IsLive, IsBlock, IsRegion, IsInside, Directly, Deeper, IsWithin, HoldsBlock, climb, up_from, op_of_slot, holder_of, block_holder_of, region_parent_of, parent_of, block_parent_of, slot_of, regions_of, head_of}
+use Rattle.pliron_core.specs.Tree.{Tree, IsLive, IsRegion, IsInside, Directly, Deeper, IsWithin, climb, up_from, op_of_slot, holder_of, block_holder_of, region_parent_of, parent_of, block_parent_of}
 use Rattle.pliron_core.specs.Joined.{IsJoined}
 use Rattle.pliron_core.specs.Erased.{is_met, is_met_above, is_the, stands_in, StandsIn}
 use Rattle.pliron_core.proofs.TreeLemmas.{live-within, region_owner, region_live}

@@ -1,11 +1,11 @@
 -- The steps by which an operation is taken apart.
-use Rattle.std.specs.Prelude.{◌≡◌, ◌-◌, ℕ, List, [], length, take, Option, Some, None, slice_set}
+use Rattle.std.specs.Prelude.{◌≡◌, ◌-◌, ℕ, [], length, take, Option, Some, None, slice_set}
 use Rattle.pliron_core.specs.declared.context.Def.{Def}
 use Rattle.pliron_core.specs.declared.context.Def.TheVariants.{Result, Argument}
 use Rattle.pliron_core.specs.declared.context.erase.Inner.{Inner}
 use Rattle.pliron_core.specs.declared.context.erase.Inner.TheVariants.{Operation, Block, Region, Nothing}
 use Rattle.pliron_core.specs.Lists.{In, last_of}
-use Rattle.pliron_core.specs.Tree.{Tree, no_entry, row_of, regions_of, operands_of, successors_of, block_parent_of, body_of, layout_of, region_parent_of, holder_of, block_holder_of, definition_of, IsLive, IsWithin, IsMadeWithin, HoldsBlock}
+use Rattle.pliron_core.specs.Tree.{Tree, no_entry, row_of, regions_of, operands_of, successors_of, body_of, layout_of, holder_of, block_holder_of, definition_of, IsLive, IsWithin, IsMadeWithin, HoldsBlock}
 use Rattle.pliron_core.specs.Writes.{taken_out}
 use Rattle.pliron_core.specs.Erased.{block_taken_out, StandsIn, IsBlockWithin, IsMadeInBlock}
 

@@ -1,5 +1,5 @@
 -- How the uses of a block show its predecessors.
-use Rattle.std.specs.Prelude.{◌≡◌, ℕ, ◌<◌, List, Option, Some, None, slice_get, ◌≢◌}
+use Rattle.std.specs.Prelude.{◌≡◌, ℕ, ◌<◌, Some, None, slice_get, ◌≢◌}
 use Rattle.pliron_core.specs.declared.uses.Use.{Use}
 use Rattle.pliron_core.specs.Lists.{last_of}
 use Rattle.pliron_core.specs.Tree.{Tree, View, successors_of, parent_of, body_of, block_parent_of, uses_of}

@@ -1,5 +1,5 @@
 -- The edges between the blocks of a region.
-use Rattle.std.specs.Prelude.{ℕ, Bool, nat_eq, List, [], ◌∷◌, Option, Some, None, filter}
+use Rattle.std.specs.Prelude.{ℕ, Bool, nat_eq, List, [], Option, Some, None, filter}
 use Rattle.std.specs.List.{list_any}
 use Rattle.pliron_core.specs.Lists.{last_of}
 use Rattle.pliron_core.specs.Tree.{Tree, successors_of, body_of, block_parent_of, layout_of}

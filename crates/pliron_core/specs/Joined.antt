@@ -1,7 +1,7 @@
 -- What holds of each tree that a context has.
-use Rattle.std.specs.Prelude.{◌≡◌, ℕ, List, [], ◌∷◌, length, Option, Some, None, slice_index_or, slice_get}
+use Rattle.std.specs.Prelude.{◌≡◌, ℕ, [], length, Some, None, slice_get}
 use Rattle.pliron_core.specs.declared.context.Def.TheVariants.{Result, Argument}
-use Rattle.pliron_core.specs.Lists.{In, IsDistinct, AreOwned}
+use Rattle.pliron_core.specs.Lists.{In, AreOwned}
 use Rattle.pliron_core.specs.Rising.{IsRising}
 use Rattle.pliron_core.specs.Uses.{AreAgreed}
 use Rattle.pliron_core.specs.Tree.{Tree, View, IsLive, IsBlock, IsRegion, IsDefined, IsRooted, no_entry, row_of, head_of, results_of, regions_of, operands_of, successors_of, parent_of, body_of, arguments_of, block_parent_of, layout_of, slot_of, definition_of, holder_of}

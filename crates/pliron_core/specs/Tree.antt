@@ -1,7 +1,7 @@
 -- What a contract sees of a context.
 pub use Rattle.pliron_core.specs.Lists.{In, IsDistinct, without, put_before, next_in, prev_in, first_of, last_of}
 pub use Rattle.pliron_core.specs.Rising.{IsRising}
-use Rattle.std.specs.Prelude.{zero, suc, ◌≡◌, ℕ, List, [], ◌∷◌, Option, Some, None, IsSome, slice_index_or, slice_get, ◌⊎◌}
+use Rattle.std.specs.Prelude.{zero, suc, ◌≡◌, ℕ, List, [], Option, Some, None, IsSome, slice_index_or, slice_get, ◌⊎◌}
 use Rattle.pliron_core.specs.declared.attrs.Head.{Head}
 use Rattle.pliron_core.specs.declared.context.Def.{Def}
 use Rattle.pliron_core.specs.declared.context.Def.TheVariants.{Result, Argument}

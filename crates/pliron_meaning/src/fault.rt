@@ -64,22 +64,13 @@ mod tests {
         let alloc: Global = rt.alloc();
         let table = [
             (OptError::Memory, "want of memory"),
-            (
-                OptError::LiveUse,
-                "a value of an unreachable block is used",
-            ),
+            (OptError::LiveUse, "a value of an unreachable block is used"),
             (
                 OptError::VerifyBefore,
                 "verification failed before the pass",
             ),
-            (
-                OptError::VerifyAfter,
-                "verification failed after the pass",
-            ),
-            (
-                OptError::Pass(7),
-                "the pass failed with code 7",
-            ),
+            (OptError::VerifyAfter, "verification failed after the pass"),
+            (OptError::Pass(7), "the pass failed with code 7"),
         ];
         for (fault, text) in &table {
             assert_eq!(rt; fault.to_string(alloc)?.as_str(), *text);

@@ -1,4 +1,4 @@
-use Rattle.std.proofs.Common.{◌≡◌, ap, sym, ◌∙◌, arith, [], ◌∷◌, ◌++◌, replicate}
+use Rattle.std.proofs.Common.{ap, ◌∙◌, arith, [], replicate}
 use Rattle.pliron_core.specs.declared.context.RegionSlot.{RegionSlot}
 use Rattle.pliron_core.specs.Writes.{region_slots}
 use Rattle.pliron_core.proofs.GrownLemmas.{mapped_range_more, added_more, replicate_more}

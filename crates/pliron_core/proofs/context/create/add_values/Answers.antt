@@ -1,4 +1,4 @@
-use Rattle.std.proofs.Common.{◌≡◌, length, ap, ◌∙◌, arith, length-append, [], ◌∷◌, rules, sym, ◌++◌}
+use Rattle.std.proofs.Common.{length, ap, ◌∙◌, arith, length-append, [], ◌∷◌, sym, ◌++◌}
 use Rattle.pliron_core.specs.Making.{made_by, definitions_of}
 use Rattle.pliron_core.proofs.GrownLemmas.{mapped_range_more, added_more}
 use Rattle.pliron_core.proofs.context.create.add_values.Goals as goal

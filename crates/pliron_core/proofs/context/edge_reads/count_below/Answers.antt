@@ -1,8 +1,6 @@
-use Rattle.std.proofs.Common.{◌≡◌, ℕ, suc, ◌<◌, ◌≤◌, length, ◌∷◌, sym, ◌∙◌, arith}
-use Rattle.std.proofs.lemmas.Option.{MatchOption-at_none}
+use Rattle.std.proofs.Common.{◌≡◌, suc, ◌<◌, ◌≤◌, length, ◌∷◌, sym, ◌∙◌, arith}
 use Rattle.pliron_core.specs.Tree.{uses_of}
-use Rattle.pliron_core.specs.EdgeUses.{IsFirstEdge}
-use Rattle.pliron_core.proofs.EdgeLemmas.{AreFound, found-kept, found-over, found-more, found-all}
+use Rattle.pliron_core.proofs.EdgeLemmas.{found-kept, found-over, found-more, found-all}
 use Rattle.pliron_core.proofs.context.edge_reads.count_below.Goals as goal
 use Rattle.pliron_core.proofs.context.edge_reads.count_below.Goals.{in-Some+then-index-bound, in-Some+else-index-bound, in_default}
 

@@ -1,4 +1,4 @@
-use Rattle.std.proofs.Common.{◌≡◌, ◌-◌, length, take, drop}
+use Rattle.std.proofs.Common.{◌≡◌, ◌-◌, take, drop}
 use Rattle.pliron_core.specs.Writes.{numbered}
 use Rattle.pliron_core.proofs.context.edit.number_arguments.Given as goal
 

@@ -1,4 +1,4 @@
-use Rattle.std.proofs.Common.{rules, ◌≡◌, sym, ap, ◌∙◌, refl, subst, Some, None}
+use Rattle.std.proofs.Common.{rules, ◌≡◌, subst, None}
 use Rattle.std.specs.Vec.{with_item}
 use Rattle.pliron_core.specs.Tables.{view_of}
 use Rattle.pliron_core.specs.Joined.{IsWellFormed}

@@ -1,5 +1,4 @@
-use Rattle.std.proofs.Common.{◌≡◌, ◌<◌, ◌⊎◌, ℕ, Option, Some, None, sym, ap, ◌∙◌, subst, refl}
-use Rattle.pliron_core.specs.Tree.{IsLive}
+use Rattle.std.proofs.Common.{◌<◌, Some, sym, subst}
 use Rattle.pliron_core.proofs.DescentLemmas.{IsDescent, descent_start, descent_unnamed, descent_step, descent_end}
 use Rattle.pliron_core.proofs.MeasureLemmas.{left_over, descent_falls}
 use Rattle.pliron_core.proofs.context.erase.dismantle.Goals as goal

@@ -1,5 +1,5 @@
-use Rattle.std.proofs.Common.{rules, ◌≡◌, sym, ap, ◌∙◌, refl, subst, Some, None}
-use Rattle.pliron_core.specs.Dismantling.{Down, LessBlock, LessRegion, Up}
+use Rattle.std.proofs.Common.{ap, refl}
+use Rattle.pliron_core.specs.Dismantling.{Down, LessBlock, LessRegion}
 use Rattle.pliron_core.proofs.context.erase.dismantle_step.Goals as goal
 
 pub returns-in-Operation : goal.returns-in-Operation

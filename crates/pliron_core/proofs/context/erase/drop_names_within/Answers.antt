@@ -1,4 +1,4 @@
-use Rattle.std.proofs.Common.{rules, ◌≡◌, ◌<◌, ℕ, length, Option, Some, None, IfSome, sym, ap, ◌∙◌, subst, refl}
+use Rattle.std.proofs.Common.{◌≡◌, ◌<◌, ℕ, length, Option, Some, None, IfSome, sym, subst}
 use Rattle.pliron_core.specs.Tree.{Tree, IsLive}
 use Rattle.pliron_core.specs.Walks.{preorder}
 use Rattle.pliron_core.specs.WalkSteps.{rest_from}

@@ -1,4 +1,4 @@
-use Rattle.std.proofs.Common.{◌≡◌, ◌<◌, length, nat_eq, sym, ap, ◌∙◌, subst, Some, None}
+use Rattle.std.proofs.Common.{◌≡◌, nat_eq, sym, ap, ◌∙◌, subst, Some, None}
 use Rattle.pliron_core.specs.Tree.{View, IsLive, parent_of, body_of, last_of}
 use Rattle.pliron_core.specs.Writes.{taken_out}
 use Rattle.pliron_core.specs.Erased.{cleared}

@@ -1,4 +1,4 @@
-use Rattle.std.proofs.Common.{◌≡◌, sym, ap, ◌∙◌, subst}
+use Rattle.std.proofs.Common.{sym, ap, ◌∙◌, subst}
 use Rattle.pliron_core.specs.Tree.{View, IsBlock}
 use Rattle.pliron_core.specs.Dismantling.{IsUnusedBlock}
 use Rattle.pliron_core.proofs.EmptyingLemmas.{unused_block, emptied_block, emptied_body_of, emptied_not_named, emptied_unnamed, block_done}

@@ -1,4 +1,4 @@
-use Rattle.std.proofs.Common.{◌≡◌, nat_eq, sym, ap, ◌∙◌, subst, Some, None}
+use Rattle.std.proofs.Common.{◌≡◌, nat_eq, sym, ap, ◌∙◌, subst}
 use Rattle.pliron_core.specs.Tree.{View, IsLive}
 use Rattle.pliron_core.specs.Writes.{taken_out}
 use Rattle.pliron_core.specs.Erased.{names_dropped}

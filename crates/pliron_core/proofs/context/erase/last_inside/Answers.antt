@@ -1,8 +1,8 @@
-use Rattle.std.proofs.Common.{rules, ◌≡◌, ◌-◌, length, slice_get, sym, ap, ◌∙◌, refl, subst, Some, None}
-use Rattle.pliron_core.specs.Tree.{regions_of, layout_of, body_of, last_of}
+use Rattle.std.proofs.Common.{rules, ◌≡◌, Some, None}
+use Rattle.pliron_core.specs.Tree.{layout_of, body_of, last_of}
 use Rattle.pliron_core.specs.Tables.{view_of}
 use Rattle.pliron_core.specs.Dismantling.{last_region_of}
-use Rattle.pliron_core.proofs.LastLemmas.{get_last_is, last_none}
+use Rattle.pliron_core.proofs.LastLemmas.{last_none}
 use Rattle.pliron_core.proofs.InnerLemmas.{last_read, last_region_within, last_block_holder, last_operation}
 use Rattle.pliron_core.proofs.context.erase.last_inside.Goals as goal
 use Rattle.pliron_core.proofs.context.erase.last_inside.Goals.{After-index-3}

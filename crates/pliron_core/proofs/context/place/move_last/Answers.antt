@@ -1,4 +1,4 @@
-use Rattle.std.proofs.Common.{◌≡◌, refl, ap, subst}
+use Rattle.std.proofs.Common.{refl, subst}
 use Rattle.pliron_core.specs.Tree.{HoldsBlock, parent_of}
 use Rattle.pliron_core.proofs.PlacedLemmas.{taken_outside}
 use Rattle.pliron_core.proofs.context.place.move_last.Goals as goal

@@ -1,6 +1,6 @@
 use Rattle.std.proofs.Common.{rules, ◌≡◌, ◌+◌, ◌++◌, ◌∷◌, [], sym, ap, ◌∙◌, length, subst, slice_set, Some, None, length-append}
 use Rattle.std.specs.List.{range_with_len}
-use Rattle.pliron_core.specs.Tree.{View, Tree, layout_of}
+use Rattle.pliron_core.specs.Tree.{Tree, layout_of}
 use Rattle.pliron_core.specs.Joined.{IsWellFormed}
 use Rattle.pliron_core.specs.Tables.{view_of}
 use Rattle.pliron_core.specs.Writes.{block_created, argument_definitions}

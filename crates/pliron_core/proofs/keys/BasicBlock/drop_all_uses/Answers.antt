@@ -1,4 +1,4 @@
-use Rattle.std.proofs.Common.{◌≡◌, ◌<◌, ℕ, length, nat_eq, Option, Some, None, sym, ap, ◌∙◌, subst, refl, arith}
+use Rattle.std.proofs.Common.{◌≡◌, ◌<◌, length, nat_eq, Some, sym, ap, ◌∙◌, subst, arith}
 use Rattle.pliron_core.specs.Lists.{next_in_owner}
 use Rattle.pliron_core.specs.Tree.{View, IsLive, body_of, next_in, parent_of}
 use Rattle.pliron_core.specs.Erased.{names_dropped}

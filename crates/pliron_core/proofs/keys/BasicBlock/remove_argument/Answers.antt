@@ -1,4 +1,4 @@
-use Rattle.std.proofs.Common.{◌≡◌, ℕ, [], ◌<◌, length, sym, subst, slice_set, ap, Some}
+use Rattle.std.proofs.Common.{◌≡◌, ℕ, sym, subst, slice_set, ap, Some}
 use Rattle.std.specs.List.{slice_get}
 use Rattle.pliron_core.specs.Tables.{view_of}
 use Rattle.pliron_core.specs.Tree.{In, arguments_of, operands_of}

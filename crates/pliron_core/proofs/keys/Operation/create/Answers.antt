@@ -1,5 +1,4 @@
 use Rattle.std.proofs.Common.{rules, ◌≡◌, ◌+◌, length, subst}
-use Rattle.pliron_core.specs.Tree.{View}
 use Rattle.pliron_core.specs.Joined.{IsWellFormed}
 use Rattle.pliron_core.specs.Tables.{view_of}
 use Rattle.pliron_core.specs.Writes.{created}

@@ -1,4 +1,4 @@
-use Rattle.std.proofs.Common.{rules, ◌≡◌, sym, ap, ◌∙◌, refl, ◌++◌, ◌∷◌, [], slice_set}
+use Rattle.std.proofs.Common.{rules, ◌≡◌, ◌++◌, ◌∷◌, [], slice_set}
 use Rattle.pliron_core.specs.Tables.{view_of}
 use Rattle.pliron_core.specs.Tree.{operands_of}
 use Rattle.pliron_core.proofs.WellLemmas.{well_push}

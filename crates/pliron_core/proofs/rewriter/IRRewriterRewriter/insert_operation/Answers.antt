@@ -1,6 +1,5 @@
-use Rattle.std.proofs.Common.{◌≡◌, sym, ◌∙◌, Some, subst}
+use Rattle.std.proofs.Common.{◌≡◌, sym, ◌∙◌, Some}
 use Rattle.pliron_core.specs.Tree.{parent_of}
-use Rattle.pliron_core.specs.Insertion.{IsPointFor}
 use Rattle.pliron_core.proofs.TreeLemmas.{parented_live}
 use Rattle.pliron_core.proofs.PlacedLemmas.{before_outside}
 use Rattle.pliron_core.proofs.rewriter.IRRewriterRewriter.insert_operation.Goals as goal

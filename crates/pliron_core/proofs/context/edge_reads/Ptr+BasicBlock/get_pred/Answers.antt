@@ -1,4 +1,4 @@
-use Rattle.std.proofs.Common.{◌≡◌, suc, ◌<◌, ◌≤◌, length, nat_lt, Some, slice_get, sym, ap, ◌∙◌, rules, arith}
+use Rattle.std.proofs.Common.{◌≡◌, suc, ◌<◌, ◌≤◌, length, nat_lt, Some, sym, ap, ◌∙◌, rules, arith}
 use Rattle.std.specs.List.{filter}
 use Rattle.pliron_core.specs.Edges.{preds_of}
 use Rattle.pliron_core.proofs.ReadLemmas.{In-at}
