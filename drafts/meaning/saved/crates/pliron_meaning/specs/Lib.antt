@@ -1,0 +1,9 @@
+pub mod Datum
+pub mod States
+pub mod Tree
+pub mod Machine
+pub mod Agree
+pub mod Paths
+pub mod Root
+pub mod Linked
+pub mod Acting

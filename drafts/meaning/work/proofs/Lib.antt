@@ -1,0 +1,3 @@
+pub mod PassedLemmas
+pub mod EdgeLastLemmas
+pub mod ShapeLemmas

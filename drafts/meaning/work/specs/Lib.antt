@@ -1,0 +1,15 @@
+pub mod Datum
+pub mod States
+pub mod Tree
+pub mod Machine
+pub mod Agree
+pub mod Paths
+pub mod Root
+pub mod Linked
+pub mod Acting
+pub mod Laws
+pub mod Folding
+pub mod Outcomes
+pub mod Replacing
+pub mod Answers
+pub mod EdgeChecks
