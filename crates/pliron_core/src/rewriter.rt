@@ -125,6 +125,10 @@ impl IRRewriter {
 }
 
 impl Default for IRRewriter {
+    ghost use Rattle.pliron_core.specs.declared.rewriter.OpInsertionPoint.TheVariants.{Unset};
+
+    ghost is_default = { λ r. r.point ≡ Unset };
+
     fn default() -> Self {
         IRRewriter::new()
     }
