@@ -146,11 +146,21 @@ impl Attrs {
 }
 
 /// Whether a rewrite changed the tree.
-#[derive(Clone, Copy, Debug, Default, Drop, PartialEq, Eq)]
+#[derive(Clone, Copy, Debug, Drop, PartialEq, Eq)]
 pub enum IRStatus {
     Changed,
-    #[default]
     Unchanged,
+}
+
+impl Default for IRStatus {
+    ghost use Rattle.pliron_core.specs.declared.attrs.IRStatus.TheVariants.{Unchanged};
+
+    ghost is_default = { λ status. status ≡ Unchanged };
+
+    /// `Unchanged`.
+    fn default() -> Self {
+        IRStatus::Unchanged
+    }
 }
 
 impl BitOrAssign for IRStatus {

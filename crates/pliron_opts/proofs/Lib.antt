@@ -1,0 +1,10 @@
+pub mod LineLemmas
+pub mod EntryLemmas
+pub mod ChildLemmas
+pub mod StandLemmas
+pub mod MaterialLemmas
+pub mod Stages
+pub mod WalkLemmas
+pub mod CollectLemmas
+pub mod BuildLemmas
+pub mod CheckLemmas

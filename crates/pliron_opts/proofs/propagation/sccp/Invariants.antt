@@ -1,0 +1,8 @@
+use Rattle.std.proofs.Common.{drop}
+use Rattle.pliron_opts.specs.Straight.{region_of, block_of, data_of}
+use Rattle.pliron_opts.specs.Propagation.{chain}
+use Rattle.pliron_opts.proofs.Stages.{IsStage, IsLeft}
+use Rattle.pliron_opts.proofs.propagation.sccp.Given as goal
+
+abbrev pub invariant-loop-fold : goal.invariant-loop-fold
+invariant-loop-fold l = IsLeft l.fn.ctx.tree l.ctx.tree l.fn.root (drop l.fold-index l.fold-items) l.fold-items

@@ -1,0 +1,132 @@
+//! The program: from arguments and bytes to bytes and a status.
+use crate::fault::OptError;
+use crate::notation::{print_text, read_text};
+use crate::propagation::sccp;
+use pliron_core::{Context, IRStatus};
+use std::alloc::{AllocError, Global};
+use std::io::{ErrorKind, Read, Write};
+use thiserror::Error;
+
+/// The most bytes of a text.
+const MAX_TEXT: usize = 1_048_576;
+
+/// Why the program ends without an answer.
+#[derive(Clone, Copy, Debug, Drop, PartialEq, Eq, Error)]
+enum Failure {
+    #[error("usage: plir_opt LIST, or plir_opt graph")]
+    Arguments,
+    #[error("cannot read standard input")]
+    Reading,
+    #[error("unreadable text")]
+    Text,
+    #[error("refused: {0}")]
+    Refused(OptError),
+    #[error("cannot write standard output")]
+    Writing,
+}
+
+impl From<OptError> for Failure {
+    fn from(error: OptError) -> Self {
+        Failure::Refused(error)
+    }
+}
+
+impl From<AllocError> for Failure {
+    fn from(_: AllocError) -> Self {
+        Failure::Refused(OptError::Memory)
+    }
+}
+
+impl Failure {
+    fn status(self) -> u8 {
+        match self {
+            Failure::Refused(_) => 1,
+            _ => 2,
+        }
+    }
+}
+
+/// The input, of which no more is read than one byte past the longest text.
+fn read_input<R: Read>(alloc: Global, input: &mut R) -> Result<Vec<u8>, Failure> {
+    let mut text = Vec::new(alloc);
+    let mut buffer = [0u8; 4096];
+    // Each turn that doesn't end the loop reads a byte at least, or was interrupted.
+    for _ in 0..u64::MAX {
+        let room = (MAX_TEXT + 1).saturating_sub(text.len()).min(buffer.len());
+        match input.read(&mut buffer[..room]) {
+            Ok(0) => return Ok(text),
+            Ok(count) => text.extend_from_slice(&buffer[..count])?,
+            Err(error) => {
+                if error.kind() != ErrorKind::Interrupted {
+                    return Err(Failure::Reading);
+                }
+            }
+        }
+    }
+    Err(Failure::Reading)
+}
+
+/// What the program writes for a text.
+fn answer(alloc: Global, text: &[u8]) -> Result<String, Failure> {
+    if text.len() > MAX_TEXT {
+        return Err(Failure::Text);
+    }
+    let mut ctx = Context::new(alloc);
+    let Some(root) = read_text(alloc, text, &mut ctx)? else {
+        return Err(Failure::Text);
+    };
+    let status = sccp(alloc, root, &mut ctx)?;
+    let mut printed = print_text(alloc, root, &ctx)?;
+    printed.push_str(match status {
+        IRStatus::Changed => "\nchanged\n",
+        IRStatus::Unchanged => "\nunchanged\n",
+    })?;
+    Ok(printed)
+}
+
+/// Whether the arguments ask for what the program does.
+fn is_understood(args: &[String]) -> bool {
+    match args {
+        [list] => list.as_str() == "sccp",
+        _ => false,
+    }
+}
+
+fn run<R: Read, W: Write>(
+    alloc: Global,
+    args: &[String],
+    input: &mut R,
+    output: &mut W,
+) -> Result<(), Failure> {
+    if !is_understood(args) {
+        return Err(Failure::Arguments);
+    }
+    let text = read_input(alloc, input)?;
+    let answer = answer(alloc, &text)?;
+    if output.write_all(answer.as_bytes()).is_err() || output.flush().is_err() {
+        return Err(Failure::Writing);
+    }
+    Ok(())
+}
+
+/// Runs the program on the words after its name and these streams, and answers its status.
+///
+/// Faults are found in this order: arguments, reading, text, optimising and printing, writing. Nothing
+/// is written to `output` before the whole answer is known. Statuses: 0; 1 where memory was refused,
+/// with empty output; 2 for the rest, each with a line on `errors`. A failed write to `errors` is
+/// ignored. Cost: linear in the text.
+pub fn plir_run<R: Read, W: Write, E: Write>(
+    alloc: Global,
+    args: &[String],
+    input: &mut R,
+    output: &mut W,
+    errors: &mut E,
+) -> u8 {
+    match run(alloc, args, input, output) {
+        Ok(()) => 0,
+        Err(failure) => {
+            let _ = writeln!(errors, "{failure}");
+            failure.status()
+        }
+    }
+}
