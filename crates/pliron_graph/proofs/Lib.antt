@@ -10,5 +10,5 @@ pub mod PlaceLemmas
 pub mod EdgeKindLemmas
 pub mod ItemLemmas
 pub mod WalkLawLemmas
-pub mod RowLemmas
+pub mod AdjacencyLemmas
 pub mod CallerLemmas

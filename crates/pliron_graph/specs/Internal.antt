@@ -2,5 +2,5 @@
 pub mod Forest
 pub mod Steps
 pub mod Membership
-pub mod Rows
-pub mod RowsLawful
+pub mod AddedEdges
+pub mod AdjacencyLawful

@@ -3,4 +3,5 @@ pub mod Search
 pub mod Walks
 pub mod EdgeKinds
 pub mod Laws
+pub mod Adjacency
 pub mod Internal

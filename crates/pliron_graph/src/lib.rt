@@ -8,6 +8,7 @@
 //! No call goes deeper with the graph: each search has a stack of its own.
 #![tactic(auto)]
 
+mod adjacency;
 mod edge_kind;
 mod graph;
 mod iterators;
@@ -18,6 +19,7 @@ mod search;
 mod tests;
 mod traversal;
 
+pub use adjacency::AdjacencyList;
 pub use edge_kind::DFSEdgeKind;
 pub use graph::{ControlFlowGraph, HasLabel};
 pub use iterators::{OrderIter, ReverseOrderIter};

@@ -2,14 +2,15 @@
 #![tactic(auto)]
 
 mod dialect;
-mod fault;
+mod graph_lines;
 mod notation;
+mod numbered_graph;
 mod program;
 mod propagation;
 mod walk;
 
-pub use fault::OptError;
 pub use notation::{print_text, read_text};
+pub use pliron_meaning::OptError;
 pub use program::plir_run;
 pub use propagation::sccp;
 

@@ -11,10 +11,10 @@ mod stop;
 mod syntax;
 mod tokens;
 
-use crate::fault::OptError;
 use build::build;
 use parser::parse;
 use pliron_core::{Context, Operation, Ptr};
+use pliron_meaning::OptError;
 pub use printer::print_text;
 use std::alloc::Global;
 use stop::Stop;

@@ -11,11 +11,11 @@ ghost use Rattle.pliron_opts.specs.Propagation.{materialised, folded, IsPropagat
 ghost use Rattle.pliron_opts.specs.Straight.{IsScoped, IsStraight, lines_at, data_of};
 
 use crate::dialect::{BenchKind, constant_head};
-use crate::fault::OptError;
 use crate::walk::block_operations;
 use pliron_core::{
     AttrObj, Context, IRRewriter, IRStatus, NoMemory, Operation, Ptr, Rewriter, Value,
 };
+use pliron_meaning::OptError;
 use std::alloc::{AllocError, Global};
 use std::collections::HashMap;
 

@@ -2,9 +2,9 @@
 ghost use Rattle.pliron_core.specs.Tree.{IsLive};
 
 use crate::dialect::BenchKind;
-use crate::fault::OptError;
 use crate::walk::block_operations;
 use pliron_core::{AttrObj, Context, Operation, Ptr, Value};
+use pliron_meaning::OptError;
 use std::alloc::{AllocError, Global};
 use std::collections::HashMap;
 

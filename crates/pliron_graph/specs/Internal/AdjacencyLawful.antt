@@ -1,11 +1,11 @@
--- A graph by rows is lawful.
+-- A graph by adjacency lists is lawful.
 use Rattle.std.proofs.Common.{◌≡◌, ℕ, zero, suc, ◌+◌, ◌<◌, ◌≤◌, Bool, true, false, List, [], length, sym, ◌∙◌, arith, inl, inr, ◌⊎◌, Contains, true≢false, IfSome, nat_eq, refl}
 use Rattle.std.specs.List.{All, slice_index_or, IsDistinct, AllByRecursion}
 use Rattle.std.proofs.lemmas.List.Elements.{All-get_or, All-contains}
 use Rattle.std.proofs.lemmas.Bool.{eqb-true, eq-eqb}
 use Rattle.std.proofs.lemmas.Bool.Decides.{eqb_tells}
 use Rattle.pliron_graph.specs.Digraph.{IsLawful}
-use Rattle.pliron_graph.specs.Internal.Rows.{graph_of_rows, count_from, first_of, row, AreRows}
+use Rattle.pliron_graph.specs.Adjacency.{Adjacency, graph_of, count_from, first_of, row, AreInverse}
 use Rattle.pliron_graph.specs.Internal.Membership.{In, in_from, contains_from, in_from_any, any_from_in}
 
 pub same : (x y : ℕ) → nat_eq x y ≡ true → x ≡ y
@@ -49,16 +49,16 @@ below_node n v l = contains_from (count_from 0 n) v (count_has 0 n v (omega arit
 in_row : (n : ℕ) (rows : List (List ℕ)) (u v : ℕ) → u < length rows → All (λ r. All (λ x. x < n) r) rows → Contains (row rows u) v → v < n
 in_row n rows u v l h c = All-contains (λ x. x < n) (slice_index_or rows u []) v (All-get_or (λ r. All (λ x. x < n) r) rows u [] l h) c
 
-pub rows_lawful : (succ pred : List (List ℕ)) → AreRows succ pred → IsLawful nat_eq (graph_of_rows succ pred)
-rows_lawful succ pred h = record {
+pub adjacency_lawful : (g : Adjacency) → AreInverse g → IsLawful nat_eq (graph_of g)
+adjacency_lawful g h = record {
   same = same;
-  distinct = distinct 0 (length succ);
-  entry_in = entry (length succ);
-  succ_in = λ u v hu hv. below_node (length succ) v (in_row (length succ) succ u v (node_below (length succ) u hu) h.succ_below hv);
-  pred_in = λ u v hv hu. below_node (length succ) u (in_row (length succ) pred v u (let l = node_below (length succ) v hv in omega (arith, l, h.paired)) h.pred_below hu);
+  distinct = distinct 0 (length g.succ);
+  entry_in = entry (length g.succ);
+  succ_in = λ u v hu hv. below_node (length g.succ) v (in_row (length g.succ) g.succ u v (node_below (length g.succ) u hu) h.succ_below hv);
+  pred_in = λ u v hv hu. below_node (length g.succ) u (in_row (length g.succ) g.pred v u (let l = node_below (length g.succ) v hv in omega (arith, l, h.paired)) h.pred_below hu);
   inverse = λ u v hu hv.
-      let both = h.inverse u v (node_below (length succ) u hu) (node_below (length succ) v hv) in (
-        λ c. contains_from (row succ u) v (in_from_any nat_eq same reflexive (row succ u) v (sym both ∙ any_from_in nat_eq same reflexive (row pred v) u (in_from (row pred v) u c))),
-        λ c. contains_from (row pred v) u (in_from_any nat_eq same reflexive (row pred v) u (both ∙ any_from_in nat_eq same reflexive (row succ u) v (in_from (row succ u) v c))),
+      let both = h.inverse u v (node_below (length g.succ) u hu) (node_below (length g.succ) v hv) in (
+        λ c. contains_from (row g.succ u) v (in_from_any nat_eq same reflexive (row g.succ u) v (sym both ∙ any_from_in nat_eq same reflexive (row g.pred v) u (in_from (row g.pred v) u c))),
+        λ c. contains_from (row g.pred v) u (in_from_any nat_eq same reflexive (row g.pred v) u (both ∙ any_from_in nat_eq same reflexive (row g.succ u) v (in_from (row g.succ u) v c))),
       );
 }

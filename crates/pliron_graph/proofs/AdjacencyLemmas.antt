@@ -1,4 +1,4 @@
--- The tables of a graph by rows, as its builder fills them.
+-- The tables of a graph by adjacency lists, as its builder fills them.
 use Rattle.std.proofs.Common.{◌≡◌, ℕ, zero, suc, ◌+◌, ◌^◌, ◌<◌, ◌≤◌, Bool, true, false, ◌&&◌, ◌||◌, List, [], ◌∷◌, ◌++◌, length, set, get_or, replicate, length-set, map, take, drop, append-nil, Contains, nat_eq, refl, sym, ◌∙◌, ap, subst, arith, inl, inr, ◌⊎◌, true≢false, add-one}
 use Rattle.std.specs.Prelude.{nat_lt}
 use Rattle.std.specs.List.{All, list_any}
@@ -6,8 +6,9 @@ use Rattle.std.proofs.lemmas.List.{get_or-set_same, get_or-set_other, map-set, g
 use Rattle.std.proofs.lemmas.List.Elements.{All-nil, All-replicate, All-get_or, All-set, All-push, All-map}
 use Rattle.std.proofs.lemmas.Bool.Decides.{eqb_tells, nat_tests}
 use Rattle.pliron_graph.specs.Internal.Membership.{any_append}
-use Rattle.pliron_graph.specs.Internal.RowsLawful.{node_below}
-use Rattle.pliron_graph.specs.Internal.Rows.{row, count_from, AreBelow, AreRows, AddsEdges, AddsRows}
+use Rattle.pliron_graph.specs.Internal.AdjacencyLawful.{node_below}
+use Rattle.pliron_graph.specs.Adjacency.{Adjacency, row, count_from, AreBelow, AreInverse}
+use Rattle.pliron_graph.specs.Internal.AddedEdges.{AddsEdges, AddsRows}
 
 pub row_of_empty : (n v : ℕ) → row (replicate n []) v ≡ []
 row_of_empty zero v = refl
@@ -136,7 +137,7 @@ adds_row succ pred pred' i within rows edges = record {
         kept true = refl
         kept false = refl
 
-pub all_rows : (succ pred : List (List ℕ)) (i : ℕ) → length succ ≤ i → length succ < 2 ^ 32 → AreBelow (length succ) succ → AddsRows succ pred i → AreRows succ pred
+pub all_rows : (succ pred : List (List ℕ)) (i : ℕ) → length succ ≤ i → length succ < 2 ^ 32 → AreBelow (length succ) succ → AddsRows succ pred i → AreInverse (record { succ = succ; pred = pred })
 all_rows succ pred i past few below rows = record {
   few = few;
   paired = rows.paired;
@@ -160,7 +161,7 @@ module _ {A : Type 0} (f : A → List ℕ) where
   pub succ_row : (succ xs : List A) (v : ℕ) → Contains (count_from 0 (length (map f succ))) v → xs ≡ succ → v < length xs
   succ_row succ xs v member same = omega (arith, node_below (length (map f succ)) v member, length-map succ f, ap length same)
 
-  pub pred_row : (succ pred xs : List A) (v : ℕ) → AreRows (map f succ) (map f pred) → Contains (count_from 0 (length (map f succ))) v → xs ≡ pred → v < length xs
+  pub pred_row : (succ pred xs : List A) (v : ℕ) → AreInverse (record { succ = map f succ; pred = map f pred }) → Contains (count_from 0 (length (map f succ))) v → xs ≡ pred → v < length xs
   pred_row succ pred xs v rows member same = omega (arith, node_below (length (map f succ)) v member, rows.paired, length-map pred f, ap length same)
 
   pub adds_at : (first now : List A) (u i : ℕ) (ts : List ℕ) (y d : A) → i < length ts → get_or ts i 0 < length now
@@ -188,7 +189,7 @@ module _ {A : Type 0} (f : A → List ℕ) where
       let row_is : row (map f succ) i ≡ targets = get_or-map f succ i d [] l ∙ sym is in
       rw whole (adds_row (map f succ) (map f old) (map f new) i (omega (arith, l, length-map succ f)) rows (rw row_is edges))
 
-  pub rows_done : (succ pred : List A) (i : ℕ) → length succ ≤ i → length succ < 2 ^ 32 → All (λ r. All (λ v. v < length succ) (f r)) succ → AddsRows (map f succ) (map f pred) i → AreRows (map f succ) (map f pred)
+  pub rows_done : (succ pred : List A) (i : ℕ) → length succ ≤ i → length succ < 2 ^ 32 → All (λ r. All (λ v. v < length succ) (f r)) succ → AddsRows (map f succ) (map f pred) i → AreInverse (record { succ = map f succ; pred = map f pred })
   rows_done succ pred i past few below rows =
       let size : length (map f succ) ≡ length succ = length-map succ f in
       all_rows (map f succ) (map f pred) i (omega (arith, past, size)) (rw size few) (subst (λ n. AreBelow n (map f succ)) (sym size) (below_items (length succ) succ below)) rows

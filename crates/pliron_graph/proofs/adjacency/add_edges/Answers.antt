@@ -1,6 +1,6 @@
 use Rattle.std.proofs.Common.{arith}
-use Rattle.pliron_graph.proofs.RowLemmas.{adds_at}
-use Rattle.pliron_graph.proofs.tests.rows.add_edges.Goals as goal
+use Rattle.pliron_graph.proofs.AdjacencyLemmas.{adds_at}
+use Rattle.pliron_graph.proofs.adjacency.add_edges.Goals as goal
 
 pub loop-target-preserved : goal.loop-target-preserved
 loop-target-preserved c =
