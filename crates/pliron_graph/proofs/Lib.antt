@@ -12,3 +12,10 @@ pub mod ItemLemmas
 pub mod WalkLawLemmas
 pub mod AdjacencyLemmas
 pub mod CallerLemmas
+pub mod ComponentLemmas
+pub mod ComponentLawLemmas
+pub mod CollectLemmas
+pub mod SearchAllLemmas
+pub mod OrderLemmas
+pub mod TakingLemmas
+pub mod PartLemmas

@@ -4,3 +4,4 @@ pub mod Steps
 pub mod Membership
 pub mod AddedEdges
 pub mod AdjacencyLawful
+pub mod Collecting

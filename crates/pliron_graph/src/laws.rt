@@ -1,5 +1,5 @@
-//! What follows from the contracts of the orders and of the traversal. Each function does nothing: its contract is the law.
-ghost use Rattle.pliron_graph.specs.Laws.{EdgeInPostOrder, EdgeInTopologicalOrder, EdgeBetweenWalks, WalkFromFirstNode, BackEdgeOnCycle};
+//! What follows from the contracts of the orders, of the traversal and of the components. Each function does nothing: its contract is the law.
+ghost use Rattle.pliron_graph.specs.Laws.{EdgeInPostOrder, EdgeInTopologicalOrder, EdgeBetweenWalks, WalkFromFirstNode, BackEdgeOnCycle, EdgeBetweenComponents};
 
 /// In [`post_order`](crate::post_order) the target of an edge stands before its source, or reaches it.
 pub fn edge_in_post_order<N: Eq>()
@@ -26,4 +26,9 @@ pub fn walk_from_first_node<N: Eq>()
 /// An edge of what the entry reaches goes back exactly if that part has a cycle.
 pub fn back_edge_on_cycle<N: Eq>()
     ensures { BackEdgeOnCycle N.eq }
+{}
+
+/// An edge between two components goes from the earlier to the later.
+pub fn edge_between_components<N: Eq>()
+    ensures { EdgeBetweenComponents N.eq }
 {}

@@ -5,10 +5,13 @@
 //! it without the search: a node encloses another when it has the smaller pre-order number and the greater post-order number, and the
 //! clauses of a search numbering on this relation admit one numbering. The functions of [`laws`] hold what users may conclude from it.
 //!
+//! [`sccs_in_topological_order`] gives the strongly connected components, by the numbers of the search from the entry and then all nodes.
+//!
 //! No call goes deeper with the graph: each search has a stack of its own.
 #![tactic(auto)]
 
 mod adjacency;
+mod components;
 mod edge_kind;
 mod graph;
 mod iterators;
@@ -20,6 +23,7 @@ mod tests;
 mod traversal;
 
 pub use adjacency::AdjacencyList;
+pub use components::{Scc, sccs_in_topological_order};
 pub use edge_kind::DFSEdgeKind;
 pub use graph::{ControlFlowGraph, HasLabel};
 pub use iterators::{OrderIter, ReverseOrderIter};

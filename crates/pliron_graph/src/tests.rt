@@ -3,6 +3,8 @@ ghost use Rattle.std.specs.Prelude.{◌≡◌, ◌<◌, IfOk, map, length};
 ghost use Rattle.std.specs.Iterator.{IsFinite};
 ghost use Rattle.pliron_graph.specs.Adjacency.{AreInverse};
 
+mod component_table;
+mod components;
 mod numbering_table;
 
 use crate::{
