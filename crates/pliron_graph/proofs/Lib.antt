@@ -12,3 +12,8 @@ pub mod ItemLemmas
 pub mod WalkLawLemmas
 pub mod RowLemmas
 pub mod CallerLemmas
+pub mod ReverseLemmas
+pub mod PreSentinelLemmas
+pub mod ComponentLemmas
+pub mod ComponentLawLemmas
+pub mod ReverseLawLemmas

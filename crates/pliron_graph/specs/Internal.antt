@@ -3,4 +3,6 @@ pub mod Forest
 pub mod Steps
 pub mod Membership
 pub mod Rows
+pub mod Collecting
 pub mod RowsLawful
+pub mod ReverseLawful

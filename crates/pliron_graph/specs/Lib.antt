@@ -3,4 +3,7 @@ pub mod Search
 pub mod Walks
 pub mod EdgeKinds
 pub mod Laws
+pub mod Components
+pub mod Reverse
+pub mod ReverseLaws
 pub mod Internal

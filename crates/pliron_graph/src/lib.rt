@@ -5,23 +5,32 @@
 //! it without the search: a node encloses another when it has the smaller pre-order number and the greater post-order number, and the
 //! clauses of a search numbering on this relation admit one numbering. The functions of [`laws`] hold what users may conclude from it.
 //!
+//! A [`ReverseGraph`] is the reverse of a graph, and itself a graph, whose entry leads to one node of each component that no edge leaves.
+//!
 //! No call goes deeper with the graph: each search has a stack of its own.
 #![tactic(auto)]
 
+mod components;
 mod edge_kind;
 mod graph;
 mod iterators;
 pub mod laws;
 mod orders;
+mod pre_sentinels;
+mod reverse_graph;
+mod reverse_node;
 mod search;
 #[cfg(test)]
 mod tests;
 mod traversal;
 
+pub use components::{Scc, sccs_in_topological_order};
 pub use edge_kind::DFSEdgeKind;
 pub use graph::{ControlFlowGraph, HasLabel};
 pub use iterators::{OrderIter, ReverseOrderIter};
 pub use orders::{
     post_order, post_order_by_component, topological_order, topological_order_by_component,
 };
+pub use reverse_graph::ReverseGraph;
+pub use reverse_node::ReverseNode;
 pub use traversal::DFSTraversal;

@@ -4,6 +4,7 @@ ghost use Rattle.std.specs.Iterator.{IsFinite};
 ghost use Rattle.pliron_graph.specs.Internal.Rows.{AreRows};
 
 mod numbering_table;
+mod reverse;
 mod rows;
 
 use crate::{
