@@ -19,3 +19,6 @@ pub mod SearchAllLemmas
 pub mod OrderLemmas
 pub mod TakingLemmas
 pub mod PartLemmas
+pub mod ReverseLemmas
+pub mod PreSentinelLemmas
+pub mod ReverseLawLemmas

@@ -5,3 +5,4 @@ pub mod Membership
 pub mod AddedEdges
 pub mod AdjacencyLawful
 pub mod Collecting
+pub mod ReverseLawful

@@ -5,4 +5,6 @@ pub mod EdgeKinds
 pub mod Components
 pub mod Laws
 pub mod Adjacency
+pub mod Reverse
+pub mod ReverseLaws
 pub mod Internal

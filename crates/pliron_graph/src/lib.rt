@@ -7,6 +7,8 @@
 //!
 //! [`sccs_in_topological_order`] gives the strongly connected components, by the numbers of the search from the entry and then all nodes.
 //!
+//! A [`ReverseGraph`] is the reverse of a graph, and itself a graph, whose entry leads to one node of each component that no edge leaves.
+//!
 //! No call goes deeper with the graph: each search has a stack of its own.
 #![tactic(auto)]
 
@@ -17,6 +19,9 @@ mod graph;
 mod iterators;
 pub mod laws;
 mod orders;
+mod pre_sentinels;
+mod reverse_graph;
+mod reverse_node;
 mod search;
 #[cfg(test)]
 mod tests;
@@ -30,4 +35,6 @@ pub use iterators::{OrderIter, ReverseOrderIter};
 pub use orders::{
     post_order, post_order_by_component, topological_order, topological_order_by_component,
 };
+pub use reverse_graph::ReverseGraph;
+pub use reverse_node::ReverseNode;
 pub use traversal::DFSTraversal;

@@ -6,6 +6,7 @@ ghost use Rattle.pliron_graph.specs.Adjacency.{AreInverse};
 mod component_table;
 mod components;
 mod numbering_table;
+mod reverse;
 
 use crate::{
     AdjacencyList, ControlFlowGraph, DFSTraversal, HasLabel, post_order, post_order_by_component,
