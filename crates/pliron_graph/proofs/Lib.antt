@@ -12,3 +12,6 @@ pub mod ItemLemmas
 pub mod WalkLawLemmas
 pub mod RowLemmas
 pub mod CallerLemmas
+pub mod RegionLemmas
+pub mod AncestorLemmas
+pub mod PrecedesLemmas

@@ -4,3 +4,5 @@ pub mod Steps
 pub mod Membership
 pub mod Rows
 pub mod RowsLawful
+pub mod RegionLawful
+pub mod Sources

@@ -3,7 +3,9 @@ ghost use Rattle.std.specs.Prelude.{◌≡◌, ◌<◌, IfOk, map, length};
 ghost use Rattle.std.specs.Iterator.{IsFinite};
 ghost use Rattle.pliron_graph.specs.Internal.Rows.{AreRows};
 
+mod around;
 mod numbering_table;
+mod regions;
 mod rows;
 
 use crate::{
