@@ -22,3 +22,6 @@ pub mod PartLemmas
 pub mod ReverseLemmas
 pub mod PreSentinelLemmas
 pub mod ReverseLawLemmas
+pub mod RegionLemmas
+pub mod AncestorLemmas
+pub mod PrecedesLemmas

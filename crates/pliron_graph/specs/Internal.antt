@@ -6,3 +6,5 @@ pub mod AddedEdges
 pub mod AdjacencyLawful
 pub mod Collecting
 pub mod ReverseLawful
+pub mod RegionLawful
+pub mod Sources

@@ -7,4 +7,6 @@ pub mod Laws
 pub mod Adjacency
 pub mod Reverse
 pub mod ReverseLaws
+pub mod Regions
+pub mod Ancestors
 pub mod Internal

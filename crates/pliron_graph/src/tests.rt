@@ -3,9 +3,11 @@ ghost use Rattle.std.specs.Prelude.{◌≡◌, ◌<◌, IfOk, map, length};
 ghost use Rattle.std.specs.Iterator.{IsFinite};
 ghost use Rattle.pliron_graph.specs.Adjacency.{AreInverse};
 
+mod around;
 mod component_table;
 mod components;
 mod numbering_table;
+mod regions;
 mod reverse;
 
 use crate::{
