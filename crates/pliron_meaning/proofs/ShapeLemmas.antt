@@ -1,8 +1,8 @@
 -- What is read of an operation as one record.
-use Rattle.std.proofs.Common.{◌≡◌, ℕ, List, Option, Some, None, IsSome, ap, ◌∙◌, sym, refl, arith}
+use Rattle.std.proofs.Common.{◌≡◌, ℕ, Option, Some, None, IsSome, ap, sym, refl, arith}
 use Rattle.std.proofs.lemmas.Option.{same_Some}
 use Rattle.pliron_core.specs.Tree.{Tree, IsLive, head_of, operands_of}
-use Rattle.pliron_meaning.specs.Datum.{Head, Shape, Meaning}
+use Rattle.pliron_meaning.specs.Datum.{Head, Meaning}
 use Rattle.pliron_meaning.specs.Tree.{Operation, op_at, op_with, shape_of}
 
 head_with : (t : Tree) (k : ℕ) (o : Operation) (h : Option Head) → op_with t k h ≡ Some o → h ≡ Some o.head

@@ -1,10 +1,10 @@
 -- What the functions of the small dialect read and leave.
-use Rattle.std.proofs.Common.{◌≡◌, ℕ, zero, suc, ◌+◌, ◌<◌, List, [], ◌∷◌, length, map, slice_index_or, slice_set, Option, Some, refl, sym, ap, ◌∙◌, subst, arith}
+use Rattle.std.proofs.Common.{◌≡◌, ℕ, zero, suc, ◌<◌, List, [], ◌∷◌, length, map, slice_index_or, slice_set, Option, Some, refl, sym, ap, ◌∙◌, subst, arith}
 use Rattle.std.specs.List.{slice_get}
 use Rattle.pliron_core.specs.declared.attrs.AttrObj.{AttrObj}
 use Rattle.pliron_core.specs.Tree.{Tree, IsLive, head_of, row_of, no_entry, operands_of}
 use Rattle.pliron_core.specs.Writes.{operand_removed}
-use Rattle.pliron_core.proofs.GrownLemmas.{range_at}
+use Rattle.pliron_core.proofs.GrownLemmas.{range_at, range_get}
 use Rattle.pliron_meaning.specs.Datum.{Head}
 use Rattle.pliron_meaning.specs.Tree.{Operation, op_at, shape_of}
 use Rattle.pliron_meaning.specs.Acting.{pick}
@@ -63,3 +63,10 @@ loses_operand t op i j v e = λ o p at place.
       ap (slice_get o.operands) is ∙ ap (λ z. slice_get z j) (operands_at t op o at) ∙ e,
       sym (head_kept (operand_removed t op j) op o.head (head_at t op o at)) ∙ ap (λ z. with_head (operand_removed t op z) op o.head) (sym is),
     )
+
+-- each operand of a branch has a place on its edge
+pub place_of : (t : Tree) (op j : ℕ) → j < length (operands_of t op) → HasPlace tiny t op 0 j
+unfolding tiny shape_of
+place_of t op j lt = λ o at.
+    let within : j < length o.operands = subst (λ z. j < length z) (sym (operands_at t op o at)) lt in
+    (j, range_get 0 (length o.operands) j within ∙ ap Some (omega arith), within)

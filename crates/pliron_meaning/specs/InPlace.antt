@@ -1,5 +1,5 @@
 -- The law of a dialect on folding in place, and the tests that a branch keeps passing.
-use Rattle.std.specs.Prelude.{◌≡◌, ℕ, Bool, List, Option, Some, None}
+use Rattle.std.specs.Prelude.{◌≡◌, ℕ, Bool, true, false, List, Option, Some, None}
 use Rattle.pliron_core.specs.declared.attrs.AttrObj.{AttrObj}
 use Rattle.pliron_core.specs.declared.attrs.IRStatus.{IRStatus}
 use Rattle.pliron_core.specs.declared.attrs.IRStatus.TheVariants.{Changed, Unchanged}
@@ -9,7 +9,7 @@ use Rattle.pliron_meaning.specs.declared.dialect.Interface.{Interface}
 use Rattle.pliron_meaning.specs.Datum.{Head, Meaning}
 use Rattle.pliron_meaning.specs.Tree.{Operation, op_at, shape_of}
 use Rattle.pliron_meaning.specs.Folding.{Constants}
-use Rattle.pliron_meaning.specs.Outcomes.{MaterialisesSome}
+use Rattle.pliron_meaning.specs.Outcomes.{MaterialisesSome, Materialises}
 use Rattle.pliron_meaning.specs.Replacing.{FoldsBranch}
 
 -- the outcomes of folding an operation under these known constants: the tree before and after, and the
@@ -22,6 +22,15 @@ abbrev pub TellsChange : Option IRStatus → Tree → Tree → Type 0
 TellsChange None t t' = Unit {0}
 TellsChange (Some Changed) t t' = IsSameTree t t' → ⊥
 TellsChange (Some Unchanged) t t' = IsSameTree t t'
+
+abbrev pub is_complete : Option IRStatus → Bool
+is_complete None = false
+is_complete (Some status) = true
+
+-- the outcome of folding by constants for the results: for all that are answered and accepted, or for a
+-- first part of them where memory was refused
+abbrev pub materialising : Meaning → Constants → (AttrObj → Bool) → (AttrObj → Head) → Outcome
+materialising m constants accepts head t t' op known answer = ((o : Operation) → op_at t op ≡ Some o → Materialises accepts head op (is_complete answer) o.results (constants (shape_of m t o) known) t t') × TellsChange answer t t'
 
 -- each outcome of a constant fold materialises some of the answered results, each outcome of a branch
 -- fold keeps the branch or replaces it, and the answer tells whether the tree changed

@@ -16,3 +16,8 @@ pub mod Answers
 pub mod Tiny
 pub mod PlaceLaws
 pub mod TinyLaws
+pub mod EdgeChecks
+pub mod Keeps
+pub mod Sweeping
+pub mod Renaming
+pub mod RunLaws

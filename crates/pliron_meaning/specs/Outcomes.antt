@@ -1,6 +1,8 @@
 -- What folding an operation in place as a constant makes of a tree.
 use Rattle.std.specs.Prelude.{◌≡◌, ℕ, Bool, true, false, List, [], ◌∷◌, Option, Some, None, length, slice_get, IsTrue}
 use Rattle.pliron_core.specs.declared.attrs.AttrObj.{AttrObj}
+use Rattle.pliron_core.specs.declared.attrs.IRStatus.{IRStatus}
+use Rattle.pliron_core.specs.declared.attrs.IRStatus.TheVariants.{Changed, Unchanged}
 use Rattle.pliron_core.specs.Tree.{Tree, parent_of}
 use Rattle.pliron_core.specs.Writes.{created, replaced, put_next_to}
 use Rattle.pliron_core.specs.Changes.{IsSameTree}
@@ -24,11 +26,20 @@ pub data MaterialisesSome (accepts : AttrObj → Bool) (head : AttrObj → Head)
   Then : {t t' : Tree} (i v : ℕ) (attr : AttrObj) → slice_get results i ≡ Some v → slice_get answers i ≡ Some (Some attr) → IsTrue (accepts attr) → MaterialisesSome accepts head op results answers (materialised t op v (head attr)) t' → MaterialisesSome accepts head op results answers t t'
 
 -- constants are put just before op for these results in order, for each that is answered by an
--- attribute which the dialect accepts; for a first part of them where memory was refused, which may
--- have spent keys
+-- attribute which the dialect accepts, until there is no result left or no answer; for a first part of
+-- them where memory was refused, which may have spent keys
 pub data Materialises (accepts : AttrObj → Bool) (head : AttrObj → Head) (op : ℕ) : (complete : Bool) → List ℕ → List (Option AttrObj) → Tree → Tree → Type 0 where
-  Finished : {t : Tree} → Materialises accepts head op true [] [] t t
+  Finished : {answers : List (Option AttrObj)} {t : Tree} → Materialises accepts head op true [] answers t t
+  Unanswered : {vs : List ℕ} {t : Tree} → Materialises accepts head op true vs [] t t
   Refused : {vs : List ℕ} {answers : List (Option AttrObj)} {t t' : Tree} → IsSameTree t t' → Materialises accepts head op false vs answers t t'
   Unknown : {c : Bool} {v : ℕ} {vs : List ℕ} {answers : List (Option AttrObj)} {t t' : Tree} → Materialises accepts head op c vs answers t t' → Materialises accepts head op c (v ∷ vs) (None ∷ answers) t t'
   PassedOver : {c : Bool} {v : ℕ} {vs : List ℕ} {attr : AttrObj} {answers : List (Option AttrObj)} {t t' : Tree} → accepts attr ≡ false → Materialises accepts head op c vs answers t t' → Materialises accepts head op c (v ∷ vs) (Some attr ∷ answers) t t'
   Put : {c : Bool} {v : ℕ} {vs : List ℕ} {attr : AttrObj} {answers : List (Option AttrObj)} {t t' : Tree} → IsTrue (accepts attr) → Materialises accepts head op c vs answers (materialised t op v (head attr)) t' → Materialises accepts head op c (v ∷ vs) (Some attr ∷ answers) t t'
+
+-- what becomes of one result v with this answer: nothing, where it isn't known or the dialect doesn't
+-- accept it, or a constant is put
+abbrev pub FoldsResult : (AttrObj → Bool) → (AttrObj → Head) → (op v : ℕ) → Option AttrObj → IRStatus → Tree → Tree → Type 0
+FoldsResult accepts head op v None Unchanged t t' = t' ≡ t
+FoldsResult accepts head op v None Changed t t' = ⊥
+FoldsResult accepts head op v (Some attr) Unchanged t t' = (accepts attr ≡ false) × (t' ≡ t)
+FoldsResult accepts head op v (Some attr) Changed t t' = IsTrue (accepts attr) × (t' ≡ materialised t op v (head attr))

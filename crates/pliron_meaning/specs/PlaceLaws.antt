@@ -1,5 +1,5 @@
 -- Places among operands, in order.
-use Rattle.std.proofs.Common.{◌≡◌, ℕ, zero, suc, ◌+◌, ◌-◌, ◌<◌, ◌≤◌, nat_lt, Bool, true, false, if◌then◌else◌, List, [], ◌∷◌, ◌++◌, length, take, drop, map, Option, Some, refl, sym, ap, ◌∙◌, arith, rules, add-one, tests}
+use Rattle.std.proofs.Common.{◌≡◌, ℕ, zero, suc, ◌+◌, ◌<◌, ◌≤◌, List, [], ◌∷◌, length, map, Some, refl, sym, ap, ◌∙◌, arith, add-one, tests}
 use Rattle.std.specs.List.{range_with_len, slice_get, remove}
 use Rattle.pliron_core.proofs.GrownLemmas.{range_at}
 use Rattle.pliron_core.proofs.FlatLemmas.{slice_get-In}

@@ -1,29 +1,24 @@
 -- The small dialect keeps the laws.
-use Rattle.std.proofs.Common.{◌≡◌, ◌⊎◌, inl, inr, ℕ, zero, suc, ◌+◌, ◌-◌, ◌<◌, ◌≤◌, Bool, true, false, ◌&&◌, nat_eq, if◌then◌else◌, List, [], ◌∷◌, Option, Some, None, length, slice_get, map, IsTrue, refl, ap, sym, ◌∙◌, subst, arith, rules}
+use Rattle.std.proofs.Common.{◌≡◌, inl, ℕ, zero, suc, ◌+◌, ◌-◌, ◌<◌, Bool, true, false, ◌&&◌, nat_eq, if◌then◌else◌, List, [], ◌∷◌, Option, Some, None, length, slice_get, map, IsTrue, refl, ap, sym, ◌∙◌, subst, arith, rules}
 use Rattle.std.specs.List.{range_with_len, remove}
 use Rattle.std.proofs.lemmas.Option.{same_Some}
-use Rattle.pliron_core.specs.declared.attrs.AttrObj.{AttrObj}
 use Rattle.pliron_core.specs.declared.attrs.IRStatus.{IRStatus}
-use Rattle.pliron_core.specs.declared.attrs.IRStatus.TheVariants.{Changed, Unchanged}
+use Rattle.pliron_core.specs.declared.attrs.IRStatus.TheVariants.{Unchanged}
 use Rattle.pliron_core.specs.Tree.{Tree, In}
 use Rattle.pliron_core.specs.Changes.{IsSameTree}
 use Rattle.pliron_core.proofs.GrownLemmas.{range_at}
-use Rattle.pliron_meaning.specs.declared.dialect.Interface.{Interface}
 use Rattle.pliron_meaning.specs.declared.tiny.TinyKind.{TinyKind}
 use Rattle.pliron_meaning.specs.declared.tiny.TinyKind.TheVariants.{Const, Ask, Scope, Br}
-use Rattle.pliron_meaning.specs.Datum.{Datum, Empty, Number, datum_of, Head, Shape, Move, Give, Visit, Goto, Leave, Emit, Trap, Meaning}
-use Rattle.pliron_meaning.specs.Tree.{Operation, op_at, shape_of}
-use Rattle.pliron_meaning.specs.Acting.{Act, Comes, MovesAlike, ActAlike, PassesSame, DropsAt, pick, Known}
+use Rattle.pliron_meaning.specs.Datum.{Datum, Empty, datum_of, Head, Shape, Move, Give, Visit, Goto, Leave, Emit, Trap}
+use Rattle.pliron_meaning.specs.Acting.{Act, Comes, MovesAlike, PassesSame, DropsAt, pick, Known}
 use Rattle.pliron_meaning.specs.Acting.Comes.{Begins, Answered, Told}
 use Rattle.pliron_meaning.specs.Laws.{Admitted, CountsFit, KeepsCounts, IsGive, GivesAtOnce, ForwardsOperands, LosesOperand, ActsWithoutArgument, fewer_operands, moved_up}
-use Rattle.pliron_meaning.specs.Folding.{AnswersTrue, AnswersJumps, MakesConstant, MakesConstants}
-use Rattle.pliron_meaning.specs.Outcomes.{MaterialisesSome}
+use Rattle.pliron_meaning.specs.Folding.{AnswersTrue, AnswersJumps, MakesConstants}
 use Rattle.pliron_meaning.specs.Outcomes.MaterialisesSome.{Rest}
-use Rattle.pliron_meaning.specs.Replacing.{FoldsBranch}
 use Rattle.pliron_meaning.specs.Replacing.FoldsBranch.{Kept}
 use Rattle.pliron_meaning.specs.InPlace.{FoldsInPlace, TellsChange, PassSameTests}
 use Rattle.pliron_meaning.specs.PlaceLaws.{pick_all, in_places, moved_places}
-use Rattle.pliron_meaning.specs.Tiny.{first_attribute, first_datum, first_count, fitted, ask_move, scope_move, has_begun, act_of, admits_of, is_br, is_const, forwarded_along, kind_of, tiny, effects_of, tiny_side_effects, removable_of, tiny_removable, tiny_folds, tiny_constants, tiny_accepts, tiny_constant, tiny_folds_branch, tiny_feasible, tiny_outcome, has_tiny_kind, has_tiny_interface, tiny_shortened}
+use Rattle.pliron_meaning.specs.Tiny.{first_attribute, first_count, fitted, ask_move, scope_move, has_begun, act_of, admits_of, is_br, is_const, forwarded_along, kind_of, tiny, effects_of, tiny_side_effects, removable_of, tiny_removable, tiny_folds, tiny_constants, tiny_accepts, tiny_constant, tiny_folds_branch, tiny_feasible, tiny_outcome, has_tiny_kind, has_tiny_interface, tiny_shortened}
 
 -- the parts of a test of counts
 parts : (x y z : Bool) → IsTrue (x && y && z) → IsTrue x × IsTrue y × IsTrue z

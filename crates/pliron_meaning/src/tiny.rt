@@ -306,7 +306,7 @@ impl Dialect for Tiny {
 
     #[tactic(auto, unfolding(crate::specs::Tiny::tiny))]
     fn is_branch(op: Ptr<Operation>, ctx: &Context) -> bool {
-        is_jump(kind_at(op, ctx))
+        Tiny::is_terminator(op, ctx)
     }
 
     #[tactic(auto, using(crate::proofs::TinyLemmas::all_forwarded, crate::proofs::TinyLemmas::none_forwarded))]

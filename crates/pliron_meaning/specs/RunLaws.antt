@@ -1,0 +1,44 @@
+-- The main statements on runs.
+use Rattle.std.specs.Prelude.{◌≡◌, ◌≤◌, ℕ, Bool, true, false, List, ◌∷◌, Option, Some, None, length}
+use Rattle.pliron_core.specs.declared.attrs.Head.{Head}
+use Rattle.pliron_core.specs.declared.attrs.AttrObj.{AttrObj}
+use Rattle.pliron_core.specs.Tree.{Tree, In, IsLive, IsBlock, IsInside, head_of, operands_of, parent_of}
+use Rattle.pliron_core.specs.Joined.{IsTree}
+use Rattle.pliron_core.specs.Changes.{IsSameTree}
+use Rattle.pliron_core.specs.Erased.{erased, IsSelfContained}
+use Rattle.pliron_core.specs.Writes.{created, put_first, put_next_to, replaced}
+use Rattle.pliron_meaning.specs.Datum.{Datum, Meaning}
+use Rattle.pliron_meaning.specs.States.{State}
+use Rattle.pliron_meaning.specs.Laws.{KeepsCounts, GivesAtOnce}
+use Rattle.pliron_meaning.specs.Folding.{MakesConstant}
+use Rattle.pliron_meaning.specs.Keeps.{IsFit, KeepsRuns}
+use Rattle.pliron_meaning.specs.Sweeping.{IsSwept, AreGone, AreAway, ArePut, GivesNow, DeadGive}
+use Rattle.pliron_meaning.specs.Renaming.{IsRenamed, MayUse, IsReached, HaveSameData, HasSameDatum}
+
+-- keeping runs is reflexive and transitive, and spent keys are nothing to it
+pub record KeepingLaws : Type 0 where
+  pub reflexive : (m : Meaning) (t : Tree) → KeepsRuns m t t
+  pub transitive : (m : Meaning) (t u v : Tree) → KeepsRuns m t u → KeepsRuns m u v → KeepsRuns m t v
+  pub same : (m : Meaning) (t u : Tree) → IsTree t → IsTree u → IsSameTree t u → length t.operations ≤ length u.operations → KeepsRuns m t u
+
+-- in a root that is fit to run, each operand has a datum when an operation first reads it
+abbrev pub OperandsHaveData : Type 0
+OperandsHaveData = (m : Meaning) (t : Tree) (root : ℕ) → IsTree t → IsFit m t root → (s : State) → IsReached m t root s → (k v : ℕ) (rest : List ℕ) → s.rest ≡ k ∷ rest → s.answer ≡ None → In v (operands_of t k) → (d : Datum) × (s.environment v ≡ Some d)
+
+-- operations that give at once, and blocks that no run comes to, may go where nothing names them
+pub record SweepingLaws : Type 0 where
+  pub swept : (m : Meaning) (t t' : Tree) (dead dead_block : ℕ → Bool) → IsTree t → IsTree t' → IsSwept t t' dead dead_block → AreGone t' dead dead_block → length t.operations ≤ length t'.operations → ((root : ℕ) → IsFit m t root → DeadGive m t dead dead_block root) → KeepsRuns m t t'
+  -- an operation without side effects is erased with its contents
+  pub erased : (m : Meaning) (side_effects : Head → Option Bool) (t : Tree) (op : ℕ) → KeepsCounts m → GivesAtOnce m side_effects → IsTree t → IsTree (erased t op) → IsLive t op → IsSelfContained t op → ((h : Head) → head_of t op ≡ Some h → side_effects h ≡ Some false) → KeepsRuns m t (erased t op)
+
+-- operations that use nothing and give at once may be made and put into blocks, as constants before an
+-- operation or first in a block
+pub record MakingLaws : Type 0 where
+  pub put : (m : Meaning) (t t' : Tree) (new : ℕ → Bool) → IsTree t → IsTree t' → IsSwept t' t new (λ b. false) → AreAway t new (λ b. false) → ArePut m t' t new → length t.operations ≤ length t'.operations → ((k : ℕ) → new k ≡ true → length t.operations ≤ k) → ((k : ℕ) → new k ≡ true → GivesNow m t' k) → KeepsRuns m t t'
+  pub before : (m : Meaning) (t : Tree) (head : Head) (attr : AttrObj) (at block : ℕ) → IsTree t → MakesConstant m attr head → m.is_branch head ≡ false → parent_of t at ≡ Some block → IsTree (put_next_to (created t head 1 0) (length t.operations) at (Some block)) → KeepsRuns m t (put_next_to (created t head 1 0) (length t.operations) at (Some block))
+  pub first : (m : Meaning) (t : Tree) (head : Head) (attr : AttrObj) (block : ℕ) → IsTree t → MakesConstant m attr head → m.is_branch head ≡ false → IsBlock t block → IsTree (put_first (created t head 1 0) (length t.operations) block) → KeepsRuns m t (put_first (created t head 1 0) (length t.operations) block)
+
+-- operands may be renamed to values of the same data that the users may name
+pub record RenamingLaws : Type 0 where
+  pub renamed : (m : Meaning) (t t' : Tree) (rename : ℕ → ℕ) → IsRenamed t t' rename → length t.operations ≡ length t'.operations → ((root : ℕ) → IsFit m t root → (user v : ℕ) → In v (operands_of t user) → MayUse t root user (rename v)) → ((root : ℕ) → IsFit m t root → IsFit m t' root → HaveSameData m t t' rename root) → KeepsRuns m t t'
+  pub replaced : (m : Meaning) (t : Tree) (old new : ℕ) → ((root : ℕ) → IsFit m t root → (user : ℕ) → In old (operands_of t user) → MayUse t root user new) → ((root : ℕ) → IsFit m t root → IsFit m (replaced t old new) root → HasSameDatum m t (replaced t old new) old new root) → KeepsRuns m t (replaced t old new)

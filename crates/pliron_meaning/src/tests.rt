@@ -1,0 +1,6 @@
+//! Small trees of the tiny dialect: what they do when they run, and what the dialect answers of them.
+mod answers;
+mod edges;
+mod machine;
+mod runs;
+mod trees;
