@@ -28,3 +28,7 @@ pub mod Renamed
 pub mod ReplacedKeeps
 pub mod Reading
 pub mod Keeping
+pub mod GrowthLemmas
+pub mod BuildLemmas
+pub mod CheckLemmas
+pub mod UndoneLemmas

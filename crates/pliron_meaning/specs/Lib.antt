@@ -21,3 +21,7 @@ pub mod Keeps
 pub mod Sweeping
 pub mod Renaming
 pub mod RunLaws
+pub mod Bench
+pub mod Notation
+pub mod Building
+pub mod Printing

@@ -6,6 +6,7 @@
 //! conclude from the laws: which rewrites keep every run.
 #![tactic(auto)]
 
+pub mod bench;
 mod dialect;
 mod edges;
 mod fault;

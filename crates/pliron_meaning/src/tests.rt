@@ -2,5 +2,6 @@
 mod answers;
 mod edges;
 mod machine;
+mod notation;
 mod runs;
 mod trees;

@@ -6,12 +6,29 @@ ghost use Rattle.pliron_graph.specs.Search.{IsSearch, IsListed};
 
 use crate::numbered_graph::NumberedGraph;
 use pliron_graph::{
-    ControlFlowGraph, DFSTraversal, post_order_by_component, topological_order_by_component,
+    ControlFlowGraph, DFSTraversal, ReverseGraph, post_order_by_component,
+    sccs_in_topological_order, topological_order_by_component,
 };
 use pliron_meaning::OptError;
 use std::alloc::Global;
 
-/// Each list of nodes in brackets, after a blank.
+/// A list of nodes in brackets, after a blank.
+fn push_list(
+    alloc: Global,
+    graph: &NumberedGraph,
+    nodes: &[u32],
+    text: &mut String,
+) -> Result<(), OptError> {
+    let mut before = " [";
+    for node in nodes {
+        text.push_str(&format!(in alloc; "{before}{}", graph.number(*node))?)?;
+        before = " ";
+    }
+    text.push_str("]")?;
+    Ok(())
+}
+
+/// Each list of nodes in brackets.
 fn push_lists(
     alloc: Global,
     graph: &NumberedGraph,
@@ -19,12 +36,7 @@ fn push_lists(
     text: &mut String,
 ) -> Result<(), OptError> {
     for list in lists {
-        let mut before = " [";
-        for node in list {
-            text.push_str(&format!(in alloc; "{before}{}", graph.number(*node))?)?;
-            before = " ";
-        }
-        text.push_str("]")?;
+        push_list(alloc, graph, list, text)?;
     }
     Ok(())
 }
@@ -100,10 +112,40 @@ fn push_edges(
     Ok(())
 }
 
-/// The orders of a graph, its search numbers and the kinds of its edges, a line each, with the numbers
-/// of the nodes.
+/// The components, each with a star if it is cyclic.
+fn push_components(alloc: Global, graph: &NumberedGraph, text: &mut String) -> Result<(), OptError>
+    requires { AreInverse graph.now.edges }
+{
+    text.push_str("\ncomponents:")?;
+    for component in &sccs_in_topological_order(alloc, &(), &graph.edges)? {
+        push_list(alloc, graph, &component.nodes, text)?;
+        if component.is_cyclic {
+            text.push_str("*")?;
+        }
+    }
+    Ok(())
+}
+
+/// The pre-sentinels of the reverse graph.
+fn push_pre_sentinels(
+    alloc: Global,
+    graph: &NumberedGraph,
+    text: &mut String,
+) -> Result<(), OptError>
+    requires { AreInverse graph.now.edges }
+{
+    text.push_str("\npre-sentinels:")?;
+    let reverse = ReverseGraph::new(alloc, &(), &graph.edges)?;
+    for node in reverse.pre_sentinels() {
+        text.push_str(&format!(in alloc; " {}", graph.number(node))?)?;
+    }
+    Ok(())
+}
+
+/// What the program prints of a graph, with the numbers of its nodes: its orders, its search numbers, the
+/// kinds of its edges, its components and the pre-sentinels of its reverse, a line each.
 ///
-/// Errors: want of memory. Cost: linear in the nodes and edges.
+/// Errors: want of memory. Cost: linear in the nodes and edges, but for sorting each component.
 pub fn print_graph(alloc: Global, graph: &NumberedGraph) -> Result<String, OptError>
     requires { AreInverse graph.now.edges }
 {
@@ -112,6 +154,8 @@ pub fn print_graph(alloc: Global, graph: &NumberedGraph) -> Result<String, OptEr
     let search = DFSTraversal::new(alloc, &(), &graph.edges)?;
     push_numbers(alloc, graph, &search, &mut text)?;
     push_edges(alloc, graph, &search, &mut text)?;
+    push_components(alloc, graph, &mut text)?;
+    push_pre_sentinels(alloc, graph, &mut text)?;
     text.push_str("\n")?;
     Ok(text)
 }
