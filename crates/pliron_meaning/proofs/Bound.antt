@@ -62,7 +62,7 @@ all_data env (v ∷ vs) b =
     (x.0 ∷ y.0, ap₂ put_first x.1 y.1)
 
 -- where the last of a distinct list stands, the list ends
-last_ends : (k : ℕ) (done rest xs : List ℕ) → IsDistinct xs → xs ≡ done ++ k ∷ rest → last_of None xs ≡ Some k → rest ≡ []
+pub last_ends : (k : ℕ) (done rest xs : List ℕ) → IsDistinct xs → xs ≡ done ++ k ∷ rest → last_of None xs ≡ Some k → rest ≡ []
 last_ends k done [] xs d e l = refl
 last_ends k done (y ∷ ys) xs d e l =
     let there : last_of None (y ∷ ys) ≡ Some k = sym (last_of-append None done (k ∷ y ∷ ys)) ∙ ap (last_of None) (sym e) ∙ l in

@@ -1,6 +1,6 @@
 -- Trees while a new operation with one result is put before another, and where it is erased again.
-use Rattle.std.proofs.Common.{◌≡◌, ◌≢◌, ◌⊎◌, inl, inr, ℕ, zero, suc, ◌<◌, List, [], ◌∷◌, ◌++◌, length, get_or, set, nat_eq, Option, Some, None, IsSome, is_some, refl, sym, ap, ◌∙◌, subst, ⊎_elim, arith, slice_get}
-use Rattle.std.proofs.lemmas.List.{get_or_past, get_or-set_other, get_or-set_same, set-set, set-get_or}
+use Rattle.std.proofs.Common.{◌≡◌, ◌≢◌, ◌⊎◌, inl, inr, ℕ, zero, suc, ◌<◌, List, [], ◌∷◌, length, get_or, set, nat_eq, Option, Some, None, IsSome, is_some, refl, sym, ap, ◌∙◌, subst, ⊎_elim, arith, slice_get}
+use Rattle.std.proofs.lemmas.List.{get_or_past, get_or-set_same, set-set, set-get_or}
 use Rattle.std.proofs.lemmas.Option.{same_Some, slice_get_within}
 use Rattle.pliron_core.specs.declared.attrs.Head.{Head}
 use Rattle.pliron_core.specs.declared.context.Def.{Def}
@@ -9,7 +9,7 @@ use Rattle.pliron_core.specs.declared.context.OperationEntry.{OperationEntry}
 use Rattle.pliron_core.specs.declared.rewriter.OpInsertionPoint.{OpInsertionPoint}
 use Rattle.pliron_core.specs.declared.rewriter.OpInsertionPoint.TheVariants.{Unset, BeforeOperation, AtBlockStart}
 use Rattle.pliron_core.specs.Lists.{put_before, without}
-use Rattle.pliron_core.specs.Tree.{Tree, In, IsLive, IsBlock, IsRegion, IsDefined, IsMadeBy, IsMadeWithin, IsInside, HoldsBlock, no_entry, row_of, results_of, regions_of, operands_of, parent_of, body_of, block_holder_of}
+use Rattle.pliron_core.specs.Tree.{Tree, In, IsLive, IsDefined, IsMadeBy, IsMadeWithin, IsInside, HoldsBlock, no_entry, row_of, results_of, regions_of, operands_of, parent_of, body_of, block_holder_of}
 use Rattle.pliron_core.specs.Joined.{HaveSameKeys, IsTree}
 use Rattle.pliron_core.specs.Writes.{created, replaced, placed, put_next_to, taken_from}
 use Rattle.pliron_core.specs.Insertion.{IsPointFor, inserted}
@@ -78,7 +78,7 @@ made_parent t made x head e = ap (λ z. parent_of z x) e ∙ get_grown t.parents
 new_free : (t : Tree) → HaveSameKeys t → parent_of t (length t.operations) ≡ None
 new_free t keys = get_or_past t.parents (length t.operations) None (omega (arith, keys.parents))
 
-made_free : (t made : Tree) (c : ℕ) (head : Head) → IsTree t → made ≡ created t head 1 0 → c ≡ length t.operations → parent_of made c ≡ None
+pub made_free : (t made : Tree) (c : ℕ) (head : Head) → IsTree t → made ≡ created t head 1 0 → c ≡ length t.operations → parent_of made c ≡ None
 made_free t made c head w e k = made_parent t made c head e ∙ ap (parent_of t) k ∙ new_free t w.keys
 
 -- a value that stood is not the new one
@@ -118,6 +118,14 @@ IsUndone made z p c = (z ≡ made) ⊎ (z ≡ inserted made p c)
 undone_rows : (made z : Tree) (p : OpInsertionPoint) (c : ℕ) → IsUndone made z p c → (z.operations ≡ made.operations) × (z.operands ≡ made.operands)
 undone_rows made z p c (inl e) = (ap (λ x. x.operations) e, ap (λ x. x.operands) e)
 undone_rows made z p c (inr e) = let r = put_rows made p c in (ap (λ x. x.operations) e ∙ r.0, ap (λ x. x.operands) e ∙ r.1)
+
+pub undone_live : (t made z : Tree) (c : ℕ) (head : Head) (p : OpInsertionPoint) → made ≡ created t head 1 0 → c ≡ length t.operations → IsUndone made z p c → IsLive z c
+undone_live t made z c head p e k undone =
+    let rows = undone_rows made z p c undone in
+    ap (λ x. is_some (get_or x c no_entry).head) rows.0 ∙ ap (λ x. is_some x.head) (made_row t made c head e k)
+
+pub made_result : (t made : Tree) (c : ℕ) (head : Head) → made ≡ created t head 1 0 → c ≡ length t.operations → 0 < length (results_of made c)
+made_result t made c head e k = let one = ap (λ x. length x.results) (made_row t made c head e k) in omega (arith, one)
 
 pub undone_contained : (t made z : Tree) (c : ℕ) (head : Head) (p : OpInsertionPoint) → IsTree t → IsTree z → made ≡ created t head 1 0 → c ≡ length t.operations → IsUndone made z p c → IsSelfContained z c
 undone_contained t made z c head p wt wz e k undone =

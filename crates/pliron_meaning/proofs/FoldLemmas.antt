@@ -1,25 +1,25 @@
 -- Folding by constants, one result after the other.
-use Rattle.std.proofs.Common.{◌≡◌, ◌≢◌, ◌⊎◌, inl, inr, ℕ, zero, suc, ◌+◌, ◌<◌, ◌≤◌, Bool, true, false, List, [], ◌∷◌, ◌++◌, length, drop, Option, Some, None, is_some, Result, Ok, Err, min, refl, sym, ap, ◌∙◌, subst, arith, slice_get, IsTrue}
+use Rattle.std.proofs.Common.{◌≡◌, ◌≢◌, ◌⊎◌, inl, inr, ℕ, zero, suc, ◌+◌, ◌<◌, ◌≤◌, Bool, true, false, List, [], ◌∷◌, length, drop, Option, Some, None, is_some, Result, Ok, Err, min, refl, sym, ap, ◌∙◌, subst, arith, slice_get, IsSome, IsTrue}
 use Rattle.std.specs.Result.{OnErr}
 use Rattle.std.proofs.lemmas.List.{get_or_past, get_or-set_other, drop_all}
-use Rattle.std.proofs.lemmas.Option.{same_Some}
+use Rattle.std.proofs.lemmas.Option.{same_Some, slice_get-get_or}
 use Rattle.pliron_core.specs.declared.attrs.AttrObj.{AttrObj}
 use Rattle.pliron_core.specs.declared.attrs.IRStatus.{IRStatus}
 use Rattle.pliron_core.specs.declared.attrs.IRStatus.TheVariants.{Changed, Unchanged}
-use Rattle.pliron_core.specs.Status.{changed_by_either}
-use Rattle.pliron_core.specs.Tree.{Tree, IsLive, no_entry, row_of, head_of, results_of, parent_of}
+use Rattle.pliron_core.specs.Tree.{Tree, IsLive, IsDefined, no_entry, row_of, head_of, results_of, parent_of}
 use Rattle.pliron_core.specs.Writes.{created, put_next_to}
+use Rattle.pliron_core.specs.Joined.{IsTree}
 use Rattle.pliron_core.specs.Changes.{IsSameTree}
 use Rattle.pliron_core.proofs.GrownLemmas.{get_grown, get_last, get_last_same}
 use Rattle.pliron_core.proofs.SameTreeLemmas.{same_refl}
 use Rattle.pliron_core.proofs.TreeLemmas.{live-within, live_dead}
 use Rattle.pliron_meaning.specs.Datum.{Head, Meaning}
 use Rattle.pliron_meaning.specs.Tree.{Operation, op_at, op_with, shape_of}
-use Rattle.pliron_meaning.specs.Answers.{ReadsShape}
+use Rattle.pliron_meaning.specs.Answers.{ReadsShape, IsMaterialised}
 use Rattle.pliron_meaning.specs.Folding.{Constants}
-use Rattle.pliron_meaning.specs.Outcomes.{Materialises, FoldsResult, materialised}
+use Rattle.pliron_meaning.specs.Outcomes.{Materialises, IsFresh, materialised}
 use Rattle.pliron_meaning.specs.Outcomes.Materialises.{Finished, Unanswered, Refused, Unknown, PassedOver, Put}
-use Rattle.pliron_meaning.specs.InPlace.{TellsChange, materialising}
+use Rattle.pliron_meaning.specs.InPlace.{TellsChange}
 use Rattle.pliron_meaning.proofs.ConstantLemmas.{new_row}
 
 -- what holds anyway holds after an error
@@ -33,6 +33,20 @@ past_min a b x y m i e f g le = elim (cases a b) [ inl h ↦ inl (omega (arith, 
   where
     cases : (a b : ℕ) → (a ≤ b) ⊎ (b ≤ a)
     cases a b = grind arith
+
+-- what is no Some is None
+pub none_of : {A : Type 0} (o : Option A) → ((x : A) → o ≡ Some x → ⊥) → o ≡ None
+none_of None other = refl
+none_of (Some x) other = absurd (other x refl)
+
+-- what the dialect made, or that it made nothing
+pub passed_over : (accepts : AttrObj → Bool) (head : AttrObj → Head) (attr : AttrObj) (t now : Tree) (made : Option ℕ) → IsMaterialised accepts head attr t now made → made ≡ None → (accepts attr ≡ false) × (now ≡ t)
+passed_over accepts head attr t now made is e = subst (λ z. IsMaterialised accepts head attr t now z) e is
+
+pub fresh_made : (accepts : AttrObj → Bool) (head : AttrObj → Head) (attr : AttrObj) (t now : Tree) (op c v : ℕ) (made : Option ℕ) → IsTree t → IsLive t op → IsSome (parent_of t op) → IsDefined t v → IsMaterialised accepts head attr t now made → made ≡ Some c → IsTrue (accepts attr) × IsFresh t now op c v (head attr)
+fresh_made accepts head attr t now op c v made w live placed value is e =
+    let m : IsMaterialised accepts head attr t now (Some c) = subst (λ z. IsMaterialised accepts head attr t now z) e is in
+    (m.0, record { tree = w; made = m.2; key = m.1; live = live; placed = placed; value = value })
 
 -- rows and places of what stood, after a constant was put
 next_row : (t : Tree) (c at k : ℕ) (o : Option ℕ) → row_of (put_next_to t c at o) k ≡ row_of t k
@@ -59,14 +73,6 @@ put_parent t op v k head lt =
 abbrev pub IsTold : IRStatus → Tree → Tree → Type 0
 IsTold Unchanged t now = now ≡ t
 IsTold Changed t now = (k : ℕ) × (head_of t k ≡ None) × IsLive now k
-
-either_unchanged : (s : IRStatus) → changed_by_either s Unchanged ≡ s
-either_unchanged Changed = refl
-either_unchanged Unchanged = refl
-
-either_changed : (s : IRStatus) → changed_by_either s Changed ≡ Changed
-either_changed Changed = refl
-either_changed Unchanged = refl
 
 told_put : (status : IRStatus) (t now : Tree) (op v : ℕ) (head : Head) → IsTold status t now → IsTold Changed t (materialised now op v head)
 told_put Changed t now op v head (k, none, live) =
@@ -104,34 +110,34 @@ module _ (accepts : AttrObj → Bool) (head : AttrObj → Head) (op : ℕ) (answ
   pub folding_start : Folding 0 Unchanged t
   folding_start = record { row = refl; parent = refl; told = refl; rest = λ c u m. m }
 
-  -- one more result, of which nothing is changed
-  one_kept : (i v : ℕ) (answer : Option AttrObj) (status : IRStatus) (now : Tree) → Folding i status now → slice_get (results_of t op) i ≡ Some v → slice_get answers i ≡ Some answer → ((c : Bool) (vs : List ℕ) (more : List (Option AttrObj)) (u : Tree) → Later c vs more now u → Later c (v ∷ vs) (answer ∷ more) now u) → Folding (i + 1) (changed_by_either status Unchanged) now
+  -- one more result: nothing is changed, or a constant is put
+  one_kept : (i v : ℕ) (answer : Option AttrObj) (status : IRStatus) (now : Tree) → Folding i status now → slice_get (results_of t op) i ≡ Some v → slice_get answers i ≡ Some answer → ((c : Bool) (vs : List ℕ) (more : List (Option AttrObj)) (u : Tree) → Later c vs more now u → Later c (v ∷ vs) (answer ∷ more) now u) → Folding (i + 1) status now
   one_kept i v answer status now f at said step =
       record {
         row = f.row;
         parent = f.parent;
-        told = subst (λ s. IsTold s t now) (sym (either_unchanged status)) f.told;
+        told = f.told;
         rest = λ c u m. f.rest c u (subst (λ z. Later c z (drop i answers) now u) (sym (drop_at (results_of t op) i v at)) (subst (λ z. Later c (v ∷ drop (i + 1) (results_of t op)) z now u) (sym (drop_at answers i answer said)) (step c _ _ u m)));
       }
 
-  one_put : (i v : ℕ) (attr : AttrObj) (status : IRStatus) (now : Tree) → Folding i status now → IsLive now op → slice_get (results_of t op) i ≡ Some v → slice_get answers i ≡ Some (Some attr) → IsTrue (accepts attr) → Folding (i + 1) (changed_by_either status Changed) (materialised now op v (head attr))
-  one_put i v attr status now f live at said accepted =
+  pub folding_unknown : (i : ℕ) (answer : Option AttrObj) (status : IRStatus) (now : Tree) → Folding i status now → i < length (results_of t op) → slice_get answers i ≡ Some answer → answer ≡ None → Folding (i + 1) status now
+  folding_unknown i answer status now f lt said none =
+      one_kept i _ None status now f (slice_get-get_or (results_of t op) i 0 lt) (said ∙ ap Some none) (λ c vs more u m. Unknown m)
+
+  pub folding_over : (i v : ℕ) (answer : Option AttrObj) (attr : AttrObj) (status : IRStatus) (now next : Tree) → Folding i status now → slice_get (results_of t op) i ≡ Some v → slice_get answers i ≡ Some answer → answer ≡ Some attr → (accepts attr ≡ false) × (next ≡ now) → Folding (i + 1) status next
+  folding_over i v answer attr status now next f at said some over =
+      subst (Folding (i + 1) status) (sym over.1) (one_kept i v (Some attr) status now f at (said ∙ ap Some some) (λ c vs more u m. PassedOver over.0 m))
+
+  pub folding_put : (i v : ℕ) (answer : Option AttrObj) (attr : AttrObj) (status : IRStatus) (now next : Tree) → Folding i status now → IsLive now op → slice_get (results_of t op) i ≡ Some v → slice_get answers i ≡ Some answer → answer ≡ Some attr → IsTrue (accepts attr) → next ≡ materialised now op v (head attr) → Folding (i + 1) Changed next
+  folding_put i v answer attr status now next f live at said some accepted e =
       let lt = live-within now op live in
-      record {
+      let put : Tree = materialised now op v (head attr) in
+      subst (Folding (i + 1) Changed) (sym e) (record {
         row = put_row now op v op (head attr) lt ∙ f.row;
         parent = put_parent now op v op (head attr) lt ∙ f.parent;
-        told = subst (λ s. IsTold s t (materialised now op v (head attr))) (sym (either_changed status)) (told_put status t now op v (head attr) f.told);
-        rest = λ c u m. f.rest c u (subst (λ z. Later c z (drop i answers) now u) (sym (drop_at (results_of t op) i v at)) (subst (λ z. Later c (v ∷ drop (i + 1) (results_of t op)) z now u) (sym (drop_at answers i (Some attr) said)) (Put accepted m)));
-      }
-
-  pub folding_step : (i v : ℕ) (answer : Option AttrObj) (status s : IRStatus) (now next : Tree) → Folding i status now → IsLive now op → slice_get (results_of t op) i ≡ Some v → slice_get answers i ≡ Some answer → FoldsResult accepts head op v answer s now next → Folding (i + 1) (changed_by_either status s) next
-  folding_step i v None status Unchanged now next f live at said e =
-      subst (Folding (i + 1) (changed_by_either status Unchanged)) (sym e) (one_kept i v None status now f at said (λ c vs more u m. Unknown m))
-  folding_step i v None status Changed now next f live at said e = absurd e
-  folding_step i v (Some attr) status Unchanged now next f live at said (refused, e) =
-      subst (Folding (i + 1) (changed_by_either status Unchanged)) (sym e) (one_kept i v (Some attr) status now f at said (λ c vs more u m. PassedOver refused m))
-  folding_step i v (Some attr) status Changed now next f live at said (accepted, e) =
-      subst (Folding (i + 1) (changed_by_either status Changed)) (sym e) (one_put i v attr status now f live at said accepted)
+        told = told_put status t now op v (head attr) f.told;
+        rest = λ c u m. f.rest c u (subst (λ z. Later c z (drop i answers) now u) (sym (drop_at (results_of t op) i v at)) (subst (λ z. Later c (v ∷ drop (i + 1) (results_of t op)) z now u) (sym (drop_at answers i (Some attr) (said ∙ ap Some some))) (Put accepted m)));
+      })
 
   pub folding_refused : (i : ℕ) (status : IRStatus) (now next : Tree) → Folding i status now → IsSameTree now next → Later false (results_of t op) answers t next
   folding_refused i status now next f same = f.rest false next (Refused same)

@@ -5,6 +5,7 @@ pub mod PassedLemmas
 pub mod EdgeLastLemmas
 pub mod ConstantLemmas
 pub mod FoldLemmas
+pub mod OutcomeLemmas
 pub mod Simulation
 pub mod Lockstep
 pub mod Frames
@@ -32,3 +33,11 @@ pub mod GrowthLemmas
 pub mod BuildLemmas
 pub mod CheckLemmas
 pub mod UndoneLemmas
+pub mod ConstantData
+pub mod Keys
+pub mod RebranchedAgree
+pub mod RebranchedStays
+pub mod SplicedAgree
+pub mod SplicedStays
+pub mod JumpsNow
+pub mod LinkedLemmas

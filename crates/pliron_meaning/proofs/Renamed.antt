@@ -283,7 +283,7 @@ module _ (t t' : Tree) (rename : ℕ → ℕ) (h : IsRenamed t t' rename) where
       reads s s' i j r k rest o o' e none l oe oe' =
           let f = same_op k o o' oe oe' in
           first_alike m k o o' (shape_renamed m o ∙ ap (shape_of m t') f) (data_of s.environment o.operands) (data_of s'.environment o'.operands)
-          (data_renamed s.environment s'.environment o.operands (λ v q. same s s' k v rest i j (λ x. r.environment x refl) e none (subst (In v) (sym (op_shows t k o oe).operands) q) ∙ r.environment (rename v) refl) ∙ ap (λ z. data_of s'.environment z.operands) f)
+          (data_renamed s.environment s'.environment o.operands (λ v q. same s s' k v rest i j (λ x. r.environment x refl) e (r.place.0 ∙ sym (placed_same s.rest) ∙ e) none (sym r.answer ∙ none) (subst (In v) (sym (op_shows t k o oe).operands) q) ∙ r.environment (rename v) refl) ∙ ap (λ z. data_of s'.environment z.operands) f)
 
       begun : (inputs : List Datum) → Begun m t t' comparison root Empty inputs
       begun inputs =

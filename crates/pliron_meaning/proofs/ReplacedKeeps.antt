@@ -31,7 +31,7 @@ replaced_keeps m t old new uses same = renamed_keeps m t (replaced t old new) (r
     (λ y. subst (λ z. MayUse t root user z) (sym (ap (λ b. if b then new else v) y.0)) (uses root f user (subst (λ z. In z (operands_of t user)) y.1 i)))
     (λ n. subst (λ z. MayUse t root user z) (sym (ap (λ b. if b then new else v) n.0)) (may_use_own m t root user v f i))
     (eqb_tells v old))
-    (λ root f f' s s' k v rest i j e q none u. ⊎_elim
-    (λ y. ap s.environment y.1 ∙ same root f f' s s' k rest i j e q none (subst (λ z. In z (operands_of t k)) y.1 u) ∙ ap (λ b. s.environment (if b then new else v)) (sym y.0))
+    (λ root f f' s s' k v rest i j e q q' none none' u. ⊎_elim
+    (λ y. ap s.environment y.1 ∙ same root f f' s s' k rest i j e q q' none none' (subst (λ z. In z (operands_of t k)) y.1 u) ∙ ap (λ b. s.environment (if b then new else v)) (sym y.0))
     (λ n. ap (λ b. s.environment (if b then new else v)) (sym n.0))
     (eqb_tells v old))

@@ -25,3 +25,5 @@ pub mod Bench
 pub mod Notation
 pub mod Building
 pub mod Printing
+pub mod Rebranching
+pub mod Splicing

@@ -1,9 +1,8 @@
 -- What folding an operation in place as a constant makes of a tree.
-use Rattle.std.specs.Prelude.{◌≡◌, ℕ, Bool, true, false, List, [], ◌∷◌, Option, Some, None, length, slice_get, IsTrue}
+use Rattle.std.specs.Prelude.{◌≡◌, ℕ, Bool, true, false, List, [], ◌∷◌, Option, Some, None, length, slice_get, IsSome, IsTrue}
 use Rattle.pliron_core.specs.declared.attrs.AttrObj.{AttrObj}
-use Rattle.pliron_core.specs.declared.attrs.IRStatus.{IRStatus}
-use Rattle.pliron_core.specs.declared.attrs.IRStatus.TheVariants.{Changed, Unchanged}
-use Rattle.pliron_core.specs.Tree.{Tree, parent_of}
+use Rattle.pliron_core.specs.Tree.{Tree, IsLive, IsDefined, parent_of}
+use Rattle.pliron_core.specs.Joined.{IsTree}
 use Rattle.pliron_core.specs.Writes.{created, replaced, put_next_to}
 use Rattle.pliron_core.specs.Changes.{IsSameTree}
 use Rattle.pliron_meaning.specs.Datum.{Head}
@@ -36,10 +35,11 @@ pub data Materialises (accepts : AttrObj → Bool) (head : AttrObj → Head) (op
   PassedOver : {c : Bool} {v : ℕ} {vs : List ℕ} {attr : AttrObj} {answers : List (Option AttrObj)} {t t' : Tree} → accepts attr ≡ false → Materialises accepts head op c vs answers t t' → Materialises accepts head op c (v ∷ vs) (Some attr ∷ answers) t t'
   Put : {c : Bool} {v : ℕ} {vs : List ℕ} {attr : AttrObj} {answers : List (Option AttrObj)} {t t' : Tree} → IsTrue (accepts attr) → Materialises accepts head op c vs answers (materialised t op v (head attr)) t' → Materialises accepts head op c (v ∷ vs) (Some attr ∷ answers) t t'
 
--- what becomes of one result v with this answer: nothing, where it isn't known or the dialect doesn't
--- accept it, or a constant is put
-abbrev pub FoldsResult : (AttrObj → Bool) → (AttrObj → Head) → (op v : ℕ) → Option AttrObj → IRStatus → Tree → Tree → Type 0
-FoldsResult accepts head op v None Unchanged t t' = t' ≡ t
-FoldsResult accepts head op v None Changed t t' = ⊥
-FoldsResult accepts head op v (Some attr) Unchanged t t' = (accepts attr ≡ false) × (t' ≡ t)
-FoldsResult accepts head op v (Some attr) Changed t t' = IsTrue (accepts attr) × (t' ≡ materialised t op v (head attr))
+-- c was just made in t for a constant; op stands there in a block, and the value stands
+pub record IsFresh (t now : Tree) (op c v : ℕ) (head : Head) : Type 0 where
+  pub tree : IsTree t
+  pub made : now ≡ created t head 1 0
+  pub key : c ≡ length t.operations
+  pub live : IsLive t op
+  pub placed : IsSome (parent_of t op)
+  pub value : IsDefined t v

@@ -1,8 +1,9 @@
 -- Trees that differ in the values that operands name.
-use Rattle.std.specs.Prelude.{◌≡◌, ◌≢◌, ℕ, List, [], ◌∷◌, Option, None, map}
+use Rattle.std.specs.Prelude.{◌≡◌, ◌≢◌, ℕ, List, [], ◌∷◌, Option, Some, None, map}
 use Rattle.pliron_core.specs.Changes.{IsMakerInside}
-use Rattle.pliron_core.specs.Tree.{Tree, In, IsInside, row_of, operands_of, successors_of, results_of, parent_of, body_of, arguments_of, block_parent_of, layout_of, slot_of, definition_of}
-use Rattle.pliron_meaning.specs.Datum.{Datum, Meaning}
+use Rattle.pliron_core.specs.Tree.{Tree, In, IsInside, row_of, operands_of, successors_of, results_of, regions_of, parent_of, body_of, arguments_of, block_parent_of, layout_of, slot_of, definition_of}
+use Rattle.pliron_meaning.specs.Datum.{Datum, Empty, Meaning, Give}
+use Rattle.pliron_meaning.specs.Tree.{Operation, op_at, shape_of}
 use Rattle.pliron_meaning.specs.Machine.{State, Goes, run}
 use Rattle.pliron_meaning.specs.Root.{IsDominated}
 
@@ -31,8 +32,19 @@ IsReached m t root s = (inputs world : List Datum) × (n : ℕ) × (run m t root
 
 -- wherever an operation reads its operands, each has the same datum as the value that it is renamed to
 abbrev pub HaveSameData : Meaning → (t t' : Tree) → (ℕ → ℕ) → ℕ → Type 0
-HaveSameData m t t' rename root = (s s' : State) (k v : ℕ) (rest : List ℕ) → IsReached m t root s → IsReached m t' root s' → ((x : ℕ) → s.environment x ≡ s'.environment x) → s.rest ≡ k ∷ rest → s.answer ≡ None → In v (operands_of t k) → s.environment v ≡ s.environment (rename v)
+HaveSameData m t t' rename root = (s s' : State) (k v : ℕ) (rest : List ℕ) → IsReached m t root s → IsReached m t' root s' → ((x : ℕ) → s.environment x ≡ s'.environment x) → s.rest ≡ k ∷ rest → s'.rest ≡ k ∷ rest → s.answer ≡ None → s'.answer ≡ None → In v (operands_of t k) → s.environment v ≡ s.environment (rename v)
 
 -- wherever an operation reads the one value, the other one has the same datum
 abbrev pub HasSameDatum : Meaning → (t t' : Tree) → (old new : ℕ) → ℕ → Type 0
-HasSameDatum m t t' old new root = (s s' : State) (k : ℕ) (rest : List ℕ) → IsReached m t root s → IsReached m t' root s' → ((x : ℕ) → s.environment x ≡ s'.environment x) → s.rest ≡ k ∷ rest → s.answer ≡ None → In old (operands_of t k) → s.environment old ≡ s.environment new
+HasSameDatum m t t' old new root = (s s' : State) (k : ℕ) (rest : List ℕ) → IsReached m t root s → IsReached m t' root s' → ((x : ℕ) → s.environment x ≡ s'.environment x) → s.rest ≡ k ∷ rest → s'.rest ≡ k ∷ rest → s.answer ≡ None → s'.answer ≡ None → In old (operands_of t k) → s.environment old ≡ s.environment new
+
+-- the operation has this one result and neither operands nor regions, and gives this datum at once
+pub record GivesConstant (m : Meaning) (t : Tree) (n v : ℕ) (c : Datum) : Type 0 where
+  pub results : results_of t n ≡ v ∷ []
+  pub operands : operands_of t n ≡ []
+  pub regions : regions_of t n ≡ []
+  pub gives : (o : Operation) → op_at t n ≡ Some o → m.act (shape_of m t o) Empty [] ≡ Give (c ∷ [])
+
+-- wherever an operation reads the value, it has this datum
+abbrev pub IsReadAs : Meaning → Tree → (v : ℕ) → Datum → ℕ → Type 0
+IsReadAs m t v c root = (s : State) (k : ℕ) (rest : List ℕ) → IsReached m t root s → s.rest ≡ k ∷ rest → s.answer ≡ None → In v (operands_of t k) → s.environment v ≡ Some c

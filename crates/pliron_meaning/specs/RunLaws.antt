@@ -1,8 +1,8 @@
 -- The main statements on runs.
-use Rattle.std.specs.Prelude.{◌≡◌, ◌≤◌, ℕ, Bool, true, false, List, ◌∷◌, Option, Some, None, length}
+use Rattle.std.specs.Prelude.{◌≡◌, ◌≤◌, ℕ, Bool, true, false, List, [], ◌∷◌, Option, Some, None, length}
 use Rattle.pliron_core.specs.declared.attrs.Head.{Head}
 use Rattle.pliron_core.specs.declared.attrs.AttrObj.{AttrObj}
-use Rattle.pliron_core.specs.Tree.{Tree, In, IsLive, IsBlock, IsInside, head_of, operands_of, parent_of}
+use Rattle.pliron_core.specs.Tree.{Tree, In, IsLive, IsBlock, IsInside, head_of, operands_of, successors_of, parent_of}
 use Rattle.pliron_core.specs.Joined.{IsTree}
 use Rattle.pliron_core.specs.Changes.{IsSameTree}
 use Rattle.pliron_core.specs.Erased.{erased, IsSelfContained}
@@ -11,9 +11,12 @@ use Rattle.pliron_meaning.specs.Datum.{Datum, Meaning}
 use Rattle.pliron_meaning.specs.States.{State}
 use Rattle.pliron_meaning.specs.Laws.{KeepsCounts, GivesAtOnce}
 use Rattle.pliron_meaning.specs.Folding.{MakesConstant}
+use Rattle.pliron_meaning.specs.Answers.{HeadPasses}
 use Rattle.pliron_meaning.specs.Keeps.{IsFit, KeepsRuns}
 use Rattle.pliron_meaning.specs.Sweeping.{IsSwept, AreGone, AreAway, ArePut, GivesNow, DeadGive}
-use Rattle.pliron_meaning.specs.Renaming.{IsRenamed, MayUse, IsReached, HaveSameData, HasSameDatum}
+use Rattle.pliron_meaning.specs.Splicing.{IsSpliced, JumpsNow}
+use Rattle.pliron_meaning.specs.Rebranching.{IsRebranched, ActsInPlace, FitsInPlace}
+use Rattle.pliron_meaning.specs.Renaming.{IsRenamed, MayUse, IsReached, HaveSameData, HasSameDatum, GivesConstant, IsReadAs}
 
 -- keeping runs is reflexive and transitive, and spent keys are nothing to it
 pub record KeepingLaws : Type 0 where
@@ -41,4 +44,19 @@ pub record MakingLaws : Type 0 where
 -- operands may be renamed to values of the same data that the users may name
 pub record RenamingLaws : Type 0 where
   pub renamed : (m : Meaning) (t t' : Tree) (rename : ℕ → ℕ) → IsRenamed t t' rename → length t.operations ≡ length t'.operations → ((root : ℕ) → IsFit m t root → (user v : ℕ) → In v (operands_of t user) → MayUse t root user (rename v)) → ((root : ℕ) → IsFit m t root → IsFit m t' root → HaveSameData m t t' rename root) → KeepsRuns m t t'
+  -- as a value that is read as a constant, to the result of a constant
+  pub constant : (m : Meaning) (t : Tree) (old new n : ℕ) (c : Datum) → IsTree t → IsTree (replaced t old new) → GivesConstant m (replaced t old new) n new c → ((root : ℕ) → IsFit m t root → (user : ℕ) → In old (operands_of t user) → MayUse t root user new) → ((root : ℕ) → IsFit m t root → IsReadAs m t old c root) → KeepsRuns m t (replaced t old new)
+  -- as one value to another
   pub replaced : (m : Meaning) (t : Tree) (old new : ℕ) → ((root : ℕ) → IsFit m t root → (user : ℕ) → In old (operands_of t user) → MayUse t root user new) → ((root : ℕ) → IsFit m t root → IsFit m (replaced t old new) root → HasSameDatum m t (replaced t old new) old new root) → KeepsRuns m t (replaced t old new)
+
+-- a block may join the end of its only predecessor, whose last operation goes there at once
+abbrev pub SplicingLaw : Type 0
+SplicingLaw = (m : Meaning) (t t' : Tree) (a b jump : ℕ) (front : List ℕ) → IsTree t → IsTree t' → IsSpliced t t' a b jump front → length t.operations ≤ length t'.operations → ((root : ℕ) → IsFit m t root → IsInside t root jump → JumpsNow m t jump b) → KeepsRuns m t t'
+
+-- a branch inside a root that is fit to run goes at once where its only edge leads
+abbrev pub OneEdgeLaw : Meaning → Type 0
+OneEdgeLaw m = (t : Tree) (root jump b : ℕ) → IsFit m t root → IsInside t root jump → HeadPasses m.is_branch t jump → successors_of t jump ≡ b ∷ [] → JumpsNow m t jump b
+
+-- a branch may stand in the place of another one that it acts alike with, on what a run reads there
+abbrev pub RebranchingLaw : Type 0
+RebranchingLaw = (m : Meaning) (t t' : Tree) (a op new : ℕ) (front : List ℕ) → IsTree t → IsTree t' → IsRebranched t t' a op new front → length t.operations ≤ length t'.operations → length t.operations ≤ new → ((root : ℕ) → IsFit m t root → IsInside t root op → FitsInPlace m t' new) → ((root : ℕ) → IsFit m t root → ActsInPlace m t t' root op new) → KeepsRuns m t t'

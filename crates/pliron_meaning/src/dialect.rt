@@ -23,11 +23,12 @@ ghost use Rattle.pliron_meaning.specs.declared.fault.OptError.TheVariants.{Memor
 ghost use Rattle.pliron_meaning.specs.Datum.{Head, Shape, Meaning};
 ghost use Rattle.pliron_meaning.specs.Folding.{Constants, Feasible, AnswersTrue, AnswersJumps, MakesConstants};
 ghost use Rattle.pliron_meaning.specs.Laws.{KeepsCounts, GivesAtOnce, ForwardsOperands, ActsWithoutArgument};
-ghost use Rattle.pliron_meaning.specs.InPlace.{Outcome, FoldsInPlace, PassSameTests};
+ghost use Rattle.pliron_meaning.specs.InPlace.{Outcome, FoldsInPlace, PassSameTests, materialising};
 ghost use Rattle.pliron_meaning.specs.Answers.{ReadsHead, ReadsCounts, ReadsShape, ReadsEdges, ReadsPlace, HeadPasses, AreForwarded, HasPlace, LosesForwarded, IsMaterialised};
 ghost use Rattle.pliron_meaning.specs.declared.dialect.Interface.{Interface as InterfaceName};
 
 use crate::fault::OptError;
+use crate::materialise::put_constant;
 use crate::room::Room;
 use pliron_core::{AttrObj, BasicBlock, Context, IRStatus, Operation, Ptr, Rewriter, Value};
 use std::alloc::Global;
@@ -147,6 +148,51 @@ pub trait ConstFoldInterface: HasMeaning {
         ensures ok { IfOk result (λ status. outcome ctx.old.tree ctx.new.tree op operand_attrs.now (Some status)) }
         ensures refused { OnErr result (outcome ctx.old.tree ctx.new.tree op operand_attrs.now Option.None) }
         ensures err { IfErr result (λ e. e ≡ Memory) };
+
+    /// Folds the operation by constants: asks `check_fold` for the constants of its results, and puts,
+    /// for each that is known and that `materialize` makes, a new operation just before, which gets all
+    /// uses of the result. Each result is rewritten wholly or not at all. Most dialects fold in place by
+    /// this call.
+    ///
+    /// Asks as `fold_in_place` does. Errors: want of memory, after which a first part of the results is
+    /// rewritten. Cost: that of `check_fold`, one `materialize` for each answer, and one step for each
+    /// use of a result.
+    fn fold_with_materialization<R: Rewriter + Room>(
+        alloc: Global,
+        op: Ptr<Operation>,
+        ctx: &mut Context,
+        operand_attrs: &[Option<AttrObj>],
+        rewriter: &mut R,
+    ) -> Result<IRStatus, OptError>
+        requires live { IsLive ctx.old.tree op }
+        requires placed { IsSome (parent_of ctx.old.tree op) }
+        requires folds { HeadPasses can_fold ctx.old.tree op }
+        requires entries { length operand_attrs.now ≡ length (operands_of ctx.old.tree op) }
+        requires point { R.point rewriter.old ≡ BeforeOperation op }
+        ensures ok { IfOk result (λ status. materialising Self.meaning constants accepts constant_head ctx.old.tree ctx.new.tree op operand_attrs.now (Some status)) }
+        ensures refused { OnErr result (materialising Self.meaning constants accepts constant_head ctx.old.tree ctx.new.tree op operand_attrs.now Option.None) }
+        ensures err { IfErr result (λ e. e ≡ Memory) }
+        ensures point { R.point rewriter.new ≡ R.point rewriter.old }
+    {
+        let answers = Self::check_fold(alloc, op, ctx, operand_attrs)?;
+        let count = op.num_result(ctx).min(answers.len());
+        let mut status = IRStatus::Unchanged;
+        for i in 0..count {
+            let Some(attr) = &answers[i] else {
+                continue;
+            };
+            ctx.well_formed();
+            let old = op.get_result(ctx, i);
+            // an insertion, a replacement, and erasing on the way back
+            rewriter.room(alloc, 3)?;
+            let Some(constant) = Self::materialize(alloc, attr, ctx)? else {
+                continue;
+            };
+            put_constant(ctx, op, constant, old, rewriter)?;
+            status = IRStatus::Changed;
+        }
+        Ok(status)
+    }
 
     /// A new operation that makes this constant, which stands in no block; `None`, with nothing made,
     /// where the dialect has none for it.

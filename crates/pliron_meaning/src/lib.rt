@@ -21,7 +21,6 @@ pub use dialect::{
 };
 pub use edges::edges_last;
 pub use fault::OptError;
-pub use materialise::fold_by_constants;
 pub use room::Room;
 pub use tiny::{Tiny, TinyKind};
 

@@ -1,6 +1,8 @@
 //! The theory of runs, as calls that do nothing when they run: each contract is a law, for every
 //! dialect that keeps the laws which it names.
-ghost use Rattle.pliron_meaning.specs.RunLaws.{KeepingLaws, OperandsHaveData, SweepingLaws, MakingLaws, RenamingLaws};
+ghost use Rattle.pliron_meaning.specs.RunLaws.{KeepingLaws, OperandsHaveData, SweepingLaws, MakingLaws, RenamingLaws, SplicingLaw, OneEdgeLaw, RebranchingLaw};
+
+use crate::dialect::Dialect;
 
 /// "Runs are kept" is reflexive and transitive, and spent keys are nothing to it.
 pub fn runs_kept()
@@ -27,4 +29,19 @@ pub fn constants_are_made()
 /// Operands may be renamed to values that have the same data wherever they are read.
 pub fn operands_are_renamed()
     ensures { RenamingLaws }
+{}
+
+/// A block may join the end of its only predecessor, whose last operation goes there at once.
+pub fn blocks_are_joined()
+    ensures { SplicingLaw }
+{}
+
+/// A branch of the dialect goes at once where its only edge leads.
+pub fn one_edge_is_taken<D: Dialect>()
+    ensures { OneEdgeLaw D.meaning }
+{}
+
+/// A branch may stand in the place of another one that it acts alike with.
+pub fn branches_are_replaced()
+    ensures { RebranchingLaw }
 {}

@@ -66,7 +66,7 @@ fn numbers(alloc: Global, text: &[u8]) -> Result<Option<(Vec<u32>, &[u8])>, Allo
 }
 
 /// The line that the text begins with, and what follows it.
-fn line(alloc: Global, text: &[u8]) -> Result<Option<(Line, &[u8])>, AllocError>
+fn first_line(alloc: Global, text: &[u8]) -> Result<Option<(Line, &[u8])>, AllocError>
     ensures { IfOk result (λ found. IfSome found (λ read. length read.1.now < length text.now)) }
 {
     let Some((node, [b':', rest @ ..])) = number(text) else {
@@ -88,7 +88,7 @@ fn lines(alloc: Global, text: &[u8]) -> Result<Option<Vec<Line>>, AllocError> {
     let mut found = Vec::new(alloc);
     let mut rest = text;
     while !rest.is_empty() {
-        let Some((read, after)) = line(alloc, rest)? else {
+        let Some((read, after)) = first_line(alloc, rest)? else {
             return Ok(None);
         };
         found.push(read)?;

@@ -112,7 +112,7 @@ fn answer(alloc: Global, command: Command, text: &[u8]) -> Result<String, Failur
 }
 
 /// What the arguments ask for, if they are understood.
-fn command(args: &[String]) -> Option<Command> {
+fn asked(args: &[String]) -> Option<Command> {
     match args {
         [word] if word.as_str() == "sccp" => Some(Command::Propagate),
         [word] if word.as_str() == "graph" => Some(Command::Graph),
@@ -126,7 +126,7 @@ fn run<R: Read, W: Write>(
     input: &mut R,
     output: &mut W,
 ) -> Result<(), Failure> {
-    let Some(command) = command(args) else {
+    let Some(command) = asked(args) else {
         return Err(Failure::Arguments);
     };
     let text = read_input(alloc, input)?;
