@@ -66,24 +66,20 @@ fn edge(
     Ok(())
 }
 
-fn build(rt: &impl Abort, alloc: Global) -> Result<(Context, Nest), Fail> {
-    let mut ctx = Context::new(alloc);
-    let outer = operation(alloc, &mut ctx, 1)?;
-    let entry = block(rt, &mut ctx, outer)?;
-    let later = block(rt, &mut ctx, outer)?;
-    let inner = operation(alloc, &mut ctx, 1)?;
-    append(rt, &mut ctx, entry, inner)?;
-    let body = block(rt, &mut ctx, inner)?;
-    Ok((
-        ctx,
-        Nest {
-            outer,
-            entry,
-            later,
-            inner,
-            body,
-        },
-    ))
+fn build(rt: &impl Abort, alloc: Global, ctx: &mut Context) -> Result<Nest, Fail> {
+    let outer = operation(alloc, ctx, 1)?;
+    let entry = block(rt, ctx, outer)?;
+    let later = block(rt, ctx, outer)?;
+    let inner = operation(alloc, ctx, 1)?;
+    append(rt, ctx, entry, inner)?;
+    let body = block(rt, ctx, inner)?;
+    Ok(Nest {
+        outer,
+        entry,
+        later,
+        inner,
+        body,
+    })
 }
 
 // What is said of the whole tree, and of the operation inside it.
@@ -97,7 +93,8 @@ fn check(rt: &impl Abort, ctx: &Context, n: Nest, outer: bool, inner: bool) {
 #[test]
 fn edges_at_the_ends_of_blocks(rt: HostRuntime) -> Result<(), Fail> {
     let alloc: Global = rt.alloc();
-    let (mut ctx, n) = build(&rt, alloc)?;
+    let mut ctx = Context::new(alloc);
+    let n = build(&rt, alloc, &mut ctx)?;
     check(&rt, &ctx, n, true, true);
     edge(&rt, alloc, &mut ctx, n.entry, n.later)?;
     edge(&rt, alloc, &mut ctx, n.body, n.body)?;
@@ -108,7 +105,8 @@ fn edges_at_the_ends_of_blocks(rt: HostRuntime) -> Result<(), Fail> {
 #[test]
 fn an_edge_in_mid_block(rt: HostRuntime) -> Result<(), Fail> {
     let alloc: Global = rt.alloc();
-    let (mut ctx, n) = build(&rt, alloc)?;
+    let mut ctx = Context::new(alloc);
+    let n = build(&rt, alloc, &mut ctx)?;
     edge(&rt, alloc, &mut ctx, n.entry, n.later)?;
     edge(&rt, alloc, &mut ctx, n.entry, n.later)?;
     check(&rt, &ctx, n, false, true);
@@ -118,7 +116,8 @@ fn an_edge_in_mid_block(rt: HostRuntime) -> Result<(), Fail> {
 #[test]
 fn an_edge_into_an_operation(rt: HostRuntime) -> Result<(), Fail> {
     let alloc: Global = rt.alloc();
-    let (mut ctx, n) = build(&rt, alloc)?;
+    let mut ctx = Context::new(alloc);
+    let n = build(&rt, alloc, &mut ctx)?;
     edge(&rt, alloc, &mut ctx, n.entry, n.body)?;
     check(&rt, &ctx, n, false, false);
     Ok(())
@@ -127,7 +126,8 @@ fn an_edge_into_an_operation(rt: HostRuntime) -> Result<(), Fail> {
 #[test]
 fn an_edge_out_of_an_operation(rt: HostRuntime) -> Result<(), Fail> {
     let alloc: Global = rt.alloc();
-    let (mut ctx, n) = build(&rt, alloc)?;
+    let mut ctx = Context::new(alloc);
+    let n = build(&rt, alloc, &mut ctx)?;
     edge(&rt, alloc, &mut ctx, n.body, n.later)?;
     check(&rt, &ctx, n, false, false);
     Ok(())
@@ -136,7 +136,8 @@ fn an_edge_out_of_an_operation(rt: HostRuntime) -> Result<(), Fail> {
 #[test]
 fn an_edge_of_the_root_itself(rt: HostRuntime) -> Result<(), Fail> {
     let alloc: Global = rt.alloc();
-    let (mut ctx, n) = build(&rt, alloc)?;
+    let mut ctx = Context::new(alloc);
+    let n = build(&rt, alloc, &mut ctx)?;
     edge(&rt, alloc, &mut ctx, n.entry, n.later)?;
     assert!(&rt; n.inner.is_live(&ctx));
     assert!(&rt; n.later.is_live(&ctx));
