@@ -1,5 +1,5 @@
 //! What `plir_opt graph` prints.
-ghost use Rattle.std.specs.Prelude.{◌<◌, nat_eq, length};
+ghost use Rattle.std.specs.Prelude.{Contains, nat_eq};
 ghost use Rattle.std.specs.Option.{option_to_list};
 ghost use Rattle.pliron_graph.specs.Adjacency.{AreInverse, graph_of};
 ghost use Rattle.pliron_graph.specs.Search.{IsSearch, IsListed};
@@ -81,7 +81,7 @@ fn push_edges_of(
 ) -> Result<(), OptError>
     requires lawful { AreInverse graph.now.edges }
     requires search { IsSearch nat_eq (graph_of graph.now.edges) (option_to_list (graph_of graph.now.edges).entry) search.now }
-    requires member { node < length graph.now.edges.succ }
+    requires member { Contains (graph_of graph.now.edges).nodes node }
     requires reached { IsListed nat_eq search.now.pre node }
 {
     for i in 0..graph.edges.num_successors(&(), &node) {
