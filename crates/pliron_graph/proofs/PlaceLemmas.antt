@@ -1,8 +1,10 @@
 -- The place of a node in an order, which is its first.
-use Rattle.std.proofs.Common.{◌≡◌, ℕ, zero, suc, ◌<◌, Bool, true, false, List, [], ◌∷◌, length, take, get_or, refl, sym, ◌∙◌, subst, arith, inl, inr}
+use Rattle.std.proofs.Common.{◌≡◌, ℕ, zero, suc, ◌<◌, ◌≤◌, ◌⊎◌, Bool, true, false, true≢false, not, cond, ltb, Option, Some, None, ap, position, List, [], ◌∷◌, length, take, get_or, refl, sym, ◌∙◌, subst, arith, inl, inr}
 use Rattle.std.specs.Cmp.{IsEquivalence}
-use Rattle.std.specs.List.{list_any, IsDistinct, AllByRecursion}
-use Rattle.std.proofs.lemmas.List.Sums.{passes_at_first}
+use Rattle.std.specs.List.{list_any, position_or_len, IsDistinct, AllByRecursion}
+use Rattle.std.specs.Option.{unwrap_or}
+use Rattle.std.proofs.lemmas.Bool.Decides.{Decides-ltb}
+use Rattle.std.proofs.lemmas.List.Sums.{passes_at_first, prefix_len-le-length}
 use Rattle.pliron_graph.specs.Search.{number_in}
 use Rattle.pliron_graph.specs.Internal.Membership.{In}
 use Rattle.pliron_graph.proofs.GrowthLemmas.{Distinct}
@@ -49,3 +51,24 @@ module _ {N : Type 0} (eq : N → N → Bool) (same : (x y : N) → eq x y ≡ t
   unfolding IsDistinct
   is_distinct [] h = tt
   is_distinct (x ∷ xs) h = (differs x xs h.0, is_distinct xs h.1)
+
+-- the place that a look-up gives, or the length
+pub place_or_end : {X : Type 0} (p : X → Bool) (xs : List X) (found : Option ℕ) (n r : ℕ) → found ≡ position p xs → n ≡ length xs → r ≡ unwrap_or found n → r ≡ position_or_len p xs
+place_or_end p xs found n r is at_end says = by (ltb (position_or_len p xs) (length xs)) refl
+  where
+    order : (a b : ℕ) → (a < b) ⊎ (b ≤ a)
+    order a b = grind arith
+
+    read : (b : Bool) → ltb (position_or_len p xs) (length xs) ≡ b → found ≡ cond b (Some (position_or_len p xs)) None
+    read b e = is ∙ ap (λ t. cond t (Some (position_or_len p xs)) None) e
+
+    by : (b : Bool) → ltb (position_or_len p xs) (length xs) ≡ b → r ≡ position_or_len p xs
+    by true e = says ∙ ap (λ o. unwrap_or o n) (read true e)
+    by false e =
+        let past : r ≡ n = says ∙ ap (λ o. unwrap_or o n) (read false e) in
+        let most : position_or_len p xs ≤ length xs = prefix_len-le-length (λ x. not (p x)) xs in
+        let inside : position_or_len p xs < length xs → ⊥ = λ l. true≢false (sym ((Decides-ltb (position_or_len p xs) (length xs)).1 l) ∙ e) in
+        elim (order (position_or_len p xs) (length xs)) [
+          | inl l ↦ absurd (inside l)
+          | inr l ↦ omega (arith, l, past, at_end, most)
+        ]

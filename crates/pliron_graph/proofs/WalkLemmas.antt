@@ -48,7 +48,7 @@ module _ {N : Type 0} where
   trees_plus leaf h = refl
   trees_plus (grow r c s) h = ap (λ x. (postorder c ++ r ∷ []) ∷ x) (trees_plus s h)
 
-  pre_plus : (f h : Forest N) → preorder (plus f h) ≡ preorder f ++ preorder h
+  pub pre_plus : (f h : Forest N) → preorder (plus f h) ≡ preorder f ++ preorder h
   pre_plus leaf h = refl
   pre_plus (grow r c s) h = ap (λ x. r ∷ (preorder c ++ x)) (pre_plus s h) ∙ simp append_assoc
 
@@ -82,7 +82,7 @@ module _ {N : Type 0} where
     tree_below a b (grow t d s) r c v p (inr h) (inr (inr i)) = tree_below (a + 1 + size d) (b + size d + 1) s r c v p.3 h i
 
 module _ {N : Type 0} (eq : N → N → Bool) (g : Digraph N) where
-  grows_plus : {seen xs ys : List N} {f h : Forest N} → Grows eq g seen xs f → Grows eq g (seen ++ preorder f) ys h → Grows eq g seen (xs ++ ys) (plus f h)
+  pub grows_plus : {seen xs ys : List N} {f h : Forest N} → Grows eq g seen xs f → Grows eq g (seen ++ preorder f) ys h → Grows eq g seen (xs ++ ys) (plus f h)
   grows_plus {seen = p} {ys = ys} {h = h} done k = subst (λ x. Grows eq g x ys h) (append-nil p) k
   grows_plus (skip e gr) k = skip e (grows_plus gr k)
   grows_plus {ys = ys} {h = h} (visit {seen = p} {v = r} {c = c} {s = s} n gc gs) k =

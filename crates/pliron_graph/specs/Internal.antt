@@ -2,5 +2,10 @@
 pub mod Forest
 pub mod Steps
 pub mod Membership
-pub mod Rows
-pub mod RowsLawful
+pub mod AddedEdges
+pub mod AdjacencyLawful
+pub mod Collecting
+pub mod ReverseLawful
+pub mod RegionLawful
+pub mod Sources
+pub mod Lowlink

@@ -1,9 +1,11 @@
--- Laws of every list of walks and of every search, which users of the orders rely on.
+-- Laws of every list of walks, every search and every list of components, which users rely on.
 use Rattle.std.specs.Prelude.{◌≡◌, ℕ, ◌<◌, ◌≤◌, ◌⊎◌, ◌↔◌, Bool, List, Contains, slice_get, Some, take, reverse}
 use Rattle.pliron_graph.specs.Digraph.{Digraph, IsLawful, Reaches, HasCycle}
 use Rattle.pliron_graph.specs.Search.{Orders, IsSearch, StandsBefore}
 use Rattle.pliron_graph.specs.Walks.{joined, AreWalks}
 use Rattle.pliron_graph.specs.EdgeKinds.{HasBackEdge}
+use Rattle.pliron_graph.specs.Components.{AreComponents}
+use Rattle.pliron_graph.specs.declared.components.Scc.{Scc}
 
 module _ {N : Type 0} (eq : N → N → Bool) where
   -- in post-order the target of an edge stands before its source, or reaches it
@@ -42,3 +44,9 @@ module _ {N : Type 0} (eq : N → N → Bool) where
   abbrev pub BackEdgeOnCycle : Type 0
   BackEdgeOnCycle = (g : Digraph N) (roots : List N) (o : Orders N) → IsLawful eq g → IsSearch eq g roots o
       → (HasBackEdge eq g roots o ↔ HasCycle g roots)
+
+  -- an edge between two components goes from the earlier to the later
+  abbrev pub EdgeBetweenComponents : Type 0
+  EdgeBetweenComponents = (g : Digraph N) (components : List (Scc N)) → IsLawful eq g → AreComponents eq g components
+      → (i j : ℕ) (c d : Scc N) → slice_get components i ≡ Some c → slice_get components j ≡ Some d
+      → (u v : N) → Contains c.nodes.items u → Contains d.nodes.items v → Contains (g.succ u) v → i ≤ j

@@ -2,5 +2,11 @@ pub mod Digraph
 pub mod Search
 pub mod Walks
 pub mod EdgeKinds
+pub mod Components
 pub mod Laws
+pub mod Adjacency
+pub mod Reverse
+pub mod ReverseLaws
+pub mod Regions
+pub mod Ancestors
 pub mod Internal

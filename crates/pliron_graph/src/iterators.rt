@@ -1,8 +1,9 @@
 //! Iterators over a stored order.
-ghost use Rattle.std.specs.Prelude.{◌≡◌, IfSome, List, Some, length, reverse};
+ghost use Rattle.std.specs.Prelude.{◌≡◌, ⊤, IfSome, List, Some, length, reverse};
 ghost use Rattle.std.specs.Iterator.{UpTo, YieldsFirst, item_count};
 ghost use Rattle.std.specs.Iterator.SizeHint.{IsWithinCount};
 
+use std::alloc::AllocError;
 use std::iter::FusedIterator;
 use std::marker::Model;
 
@@ -23,6 +24,16 @@ impl<'a, N> OrderIter<'a, N> {
         ensures { result ≡ order.now }
     {
         OrderIter { left: order }
+    }
+}
+
+impl<'a, N> Clone for OrderIter<'a, N> {
+    ghost is_clone = { λ s r. r ≡ s };
+
+    ghost is_infallible = { λ _. ⊤ };
+
+    fn clone(&self) -> Result<Self, AllocError> {
+        Ok(OrderIter { left: self.left })
     }
 }
 

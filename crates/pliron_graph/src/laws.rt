@@ -1,5 +1,11 @@
-//! What follows from the contracts of the orders and of the traversal. Each function does nothing: its contract is the law.
-ghost use Rattle.pliron_graph.specs.Laws.{EdgeInPostOrder, EdgeInTopologicalOrder, EdgeBetweenWalks, WalkFromFirstNode, BackEdgeOnCycle};
+//! What follows from the contracts of the orders, the traversal, the components and the reverse graph. Each function does nothing: its
+//! contract is the law.
+ghost use Rattle.pliron_graph.specs.Laws.{EdgeInPostOrder, EdgeInTopologicalOrder, EdgeBetweenWalks, WalkFromFirstNode, BackEdgeOnCycle, EdgeBetweenComponents};
+ghost use Rattle.std.specs.Prelude.{◌≡◌, IsTrue, true, false};
+ghost use Rattle.pliron_graph.specs.ReverseLaws.{SentinelReachesAll, NoPreSentinelIsSpare};
+
+use crate::ReverseNode;
+use std::hash::Hash;
 
 /// In [`post_order`](crate::post_order) the target of an edge stands before its source, or reaches it.
 pub fn edge_in_post_order<N: Eq>()
@@ -26,4 +32,32 @@ pub fn walk_from_first_node<N: Eq>()
 /// An edge of what the entry reaches goes back exactly if that part has a cycle.
 pub fn back_edge_on_cycle<N: Eq>()
     ensures { BackEdgeOnCycle N.eq }
+{}
+
+/// An edge between two components goes from the earlier to the later.
+pub fn edge_between_components<N: Eq>()
+    ensures { EdgeBetweenComponents N.eq }
+{}
+
+/// The sentinel of a [`ReverseGraph`](crate::ReverseGraph) reaches every node.
+pub fn sentinel_reaches_all<N: Eq>()
+    ensures { SentinelReachesAll N.eq }
+{}
+
+/// With any one pre-sentinel left out, the sentinel would not reach that node.
+pub fn no_pre_sentinel_is_spare<N: Eq>()
+    ensures { NoPreSentinelIsSpare N.eq }
+{}
+
+/// Nodes of the original graph are equal in a [`ReverseGraph`](crate::ReverseGraph) exactly if they are so there, and the sentinel is
+/// equal to itself alone.
+pub fn equality_of_reverse_nodes<N: Eq>()
+    ensures real { (x y : N) → ⟦<ReverseNode<N> as PartialEq>⟧.eq (ReverseNode.Real x) (ReverseNode.Real y) ≡ N.eq x y }
+    ensures sentinel { ⟦<ReverseNode<N> as PartialEq>⟧.eq ReverseNode.Sentinel ReverseNode.Sentinel ≡ true }
+    ensures apart { (x : N) → (⟦<ReverseNode<N> as PartialEq>⟧.eq ReverseNode.Sentinel (ReverseNode.Real x) ≡ false) × (⟦<ReverseNode<N> as PartialEq>⟧.eq (ReverseNode.Real x) ReverseNode.Sentinel ≡ false) }
+{}
+
+/// Equal nodes of a [`ReverseGraph`](crate::ReverseGraph) write the same to a hasher.
+pub fn hashing_of_reverse_nodes<N: Eq + Hash>()
+    ensures { (x y : ReverseNode N) → IsTrue (⟦<ReverseNode<N> as PartialEq>⟧.eq x y) → ⟦<ReverseNode<N> as Hash>⟧.hash_input x ≡ ⟦<ReverseNode<N> as Hash>⟧.hash_input y }
 {}

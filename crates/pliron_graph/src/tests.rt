@@ -1,31 +1,36 @@
 //! Worked graphs, and all small ones against a recursive search.
 ghost use Rattle.std.specs.Prelude.{◌≡◌, ◌<◌, IfOk, map, length};
 ghost use Rattle.std.specs.Iterator.{IsFinite};
-ghost use Rattle.pliron_graph.specs.Internal.Rows.{AreRows};
+ghost use Rattle.pliron_graph.specs.Adjacency.{AreInverse};
 
+mod around;
+mod component_table;
+mod components;
+mod components_in_two_passes;
 mod numbering_table;
-mod rows;
+mod regions;
+mod reverse;
+mod reverse_regions;
 
 use crate::{
-    ControlFlowGraph, DFSTraversal, HasLabel, post_order, post_order_by_component,
+    AdjacencyList, ControlFlowGraph, DFSTraversal, HasLabel, post_order, post_order_by_component,
     topological_order, topological_order_by_component,
 };
 use numbering_table::NUMBERINGS;
 use pliron_meaning::OptError;
-use rows::Rows;
 use std::alloc::Global;
 use std::process::Abort;
 use std::test::Fail;
 
 // The graph with these rows of successors.
-fn graph_of(rt: &impl Abort, alloc: Global, rows: &[&[u32]]) -> Result<Rows, OptError>
-    ensures { IfOk result (λ g. AreRows (map (λ r. r.items) g.successors.items) (map (λ r. r.items) g.predecessors.items)) }
+fn graph_of(rt: &impl Abort, alloc: Global, rows: &[&[u32]]) -> Result<AdjacencyList, OptError>
+    ensures { IfOk result (λ g. AreInverse g) }
 {
     let mut successors = Vec::with_capacity(alloc, rows.len())?;
     for row in rows {
         successors.push(row.to_vec(alloc)?)?;
     }
-    Ok(Rows::new(alloc, successors)?.expect(rt, "a successor without a row"))
+    Ok(AdjacencyList::new(alloc, successors)?.expect(rt, "a successor without a row"))
 }
 
 // The labels of the nodes, with a text between each two.
@@ -50,8 +55,8 @@ fn bracketed(alloc: Global, lists: &[Vec<u32>]) -> Result<String, OptError> {
 }
 
 // The walks, then the same walks reversed.
-fn walk_lines(alloc: Global, graph: &Rows) -> Result<String, OptError>
-    requires { AreRows (map (λ r. r.items) graph.now.successors.items) (map (λ r. r.items) graph.now.predecessors.items) }
+fn walk_lines(alloc: Global, graph: &AdjacencyList) -> Result<String, OptError>
+    requires { AreInverse graph.now }
 {
     let walks = bracketed(alloc, &post_order_by_component(alloc, &(), graph)?)?;
     let reversed = bracketed(alloc, &topological_order_by_component(alloc, &(), graph)?)?;
@@ -59,8 +64,8 @@ fn walk_lines(alloc: Global, graph: &Rows) -> Result<String, OptError>
 }
 
 // The reached nodes by rising pre-order number, each with its numbers.
-fn number_line(alloc: Global, graph: &Rows) -> Result<String, OptError>
-    requires { AreRows (map (λ r. r.items) graph.now.successors.items) (map (λ r. r.items) graph.now.predecessors.items) }
+fn number_line(alloc: Global, graph: &AdjacencyList) -> Result<String, OptError>
+    requires { AreInverse graph.now }
 {
     let search = DFSTraversal::new(alloc, &(), graph)?;
     let mut text = String::new(alloc);
@@ -76,8 +81,8 @@ fn number_line(alloc: Global, graph: &Rows) -> Result<String, OptError>
 }
 
 // The edges of reached nodes, nodes in listed order and successors by index, each with its kind.
-fn edge_line(alloc: Global, graph: &Rows) -> Result<String, OptError>
-    requires { AreRows (map (λ r. r.items) graph.now.successors.items) (map (λ r. r.items) graph.now.predecessors.items) }
+fn edge_line(alloc: Global, graph: &AdjacencyList) -> Result<String, OptError>
+    requires { AreInverse graph.now }
 {
     let search = DFSTraversal::new(alloc, &(), graph)?;
     let mut text = String::new(alloc);
@@ -282,20 +287,20 @@ fn successors_and_predecessors(rt: HostRuntime) -> Result<(), Fail> {
 fn successor_without_a_row(rt: HostRuntime) -> Result<(), Fail> {
     let mut successors = Vec::new(rt.alloc());
     successors.push([1u32].to_vec(rt.alloc())?)?;
-    assert!(rt; Rows::new(rt.alloc(), successors)?.is_none());
+    assert!(rt; AdjacencyList::new(rt.alloc(), successors)?.is_none());
     Ok(())
 }
 
 // A chain of nodes, each with the next as its successor.
-fn chain_of(rt: &impl Abort, alloc: Global, count: u32) -> Result<Rows, OptError>
-    ensures { IfOk result (λ g. AreRows (map (λ r. r.items) g.successors.items) (map (λ r. r.items) g.predecessors.items)) }
+fn chain_of(rt: &impl Abort, alloc: Global, count: u32) -> Result<AdjacencyList, OptError>
+    ensures { IfOk result (λ g. AreInverse g) }
 {
     let mut successors = Vec::new(alloc);
     for next in 1..count {
         successors.push([next].to_vec(alloc)?)?;
     }
     successors.push(Vec::new(alloc))?;
-    Ok(Rows::new(alloc, successors)?.expect(rt, "a successor without a row"))
+    Ok(AdjacencyList::new(alloc, successors)?.expect(rt, "a successor without a row"))
 }
 
 #[test]
@@ -331,8 +336,8 @@ fn yielded<I: Iterator<Item = u32> + Drop>(alloc: Global, nodes: I) -> Result<St
 }
 
 // The nodes that node 0 reaches in both orders, each closed by a colon.
-fn search_text(alloc: Global, graph: &Rows) -> Result<String, OptError>
-    requires { AreRows (map (λ r. r.items) graph.now.successors.items) (map (λ r. r.items) graph.now.predecessors.items) }
+fn search_text(alloc: Global, graph: &AdjacencyList) -> Result<String, OptError>
+    requires { AreInverse graph.now }
 {
     let search = DFSTraversal::new(alloc, &(), graph)?;
     let mut text = yielded(alloc, search.pre_order())?;
@@ -343,8 +348,8 @@ fn search_text(alloc: Global, graph: &Rows) -> Result<String, OptError>
 }
 
 // The walks, each closed by a point.
-fn walk_text(alloc: Global, graph: &Rows) -> Result<String, OptError>
-    requires { AreRows (map (λ r. r.items) graph.now.successors.items) (map (λ r. r.items) graph.now.predecessors.items) }
+fn walk_text(alloc: Global, graph: &AdjacencyList) -> Result<String, OptError>
+    requires { AreInverse graph.now }
 {
     let mut text = String::new(alloc);
     for walk in &post_order_by_component(alloc, &(), graph)? {

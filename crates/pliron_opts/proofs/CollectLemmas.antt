@@ -1,5 +1,5 @@
 -- The facts about a straight block, collected in its order.
-use Rattle.std.proofs.Common.{◌≡◌, ◌≢◌, ◌⊎◌, ℕ, ℤ, pos, ◌+ℤ◌, Bool, true, false, cond, List, [], ◌∷◌, ◌++◌, map, Option, Some, None, IsSome, is_some, refl, sym, ap, ◌∙◌, subst, inl, inr, ⊎_elim, arith, append_assoc, append-nil, slice_get, FitsSigned}
+use Rattle.std.proofs.Common.{◌≡◌, ◌≢◌, ◌⊎◌, ℕ, ℤ, pos, ◌+ℤ◌, cond, List, [], ◌∷◌, ◌++◌, map, Option, Some, None, is_some, refl, sym, ap, ◌∙◌, subst, inl, inr, ⊎_elim, arith, append_assoc, append-nil, slice_get, FitsSigned}
 use Rattle.std.specs.Prelude.{nat_eq}
 use Rattle.std.specs.Int.{w64, int_wrap}
 use Rattle.std.proofs.lemmas.Bool.{cases_eq}
@@ -7,13 +7,13 @@ use Rattle.pliron_core.specs.declared.attrs.Head.{Head}
 use Rattle.pliron_core.specs.Tree.{Tree, In, head_of, operands_of, results_of}
 use Rattle.pliron_opts.specs.declared.propagation.Fold.{Fold}
 use Rattle.pliron_opts.specs.declared.propagation.Numbers.{Numbers}
-use Rattle.pliron_opts.specs.Bench.{Entry, Line, Is, Sum, Return, entry_of, written, line_in}
-use Rattle.pliron_opts.specs.Straight.{AllIn, IsScoped, with_number, lines_at}
-use Rattle.pliron_opts.specs.Facts.{Fact, Constant, AtMost, known, fact_of, sum_of, AreClosed, AreKnown}
+use Rattle.pliron_opts.specs.Lines.{Line, Is, Sum, Return, entry_of, written, line_in}
+use Rattle.pliron_opts.specs.Straight.{IsScoped, lines_at}
+use Rattle.pliron_opts.specs.Facts.{Fact, Constant, known, fact_of, sum_of, AreClosed, AreKnown}
 use Rattle.pliron_opts.specs.Propagation.{folds_of}
 use Rattle.pliron_opts.specs.Collected.{number_at, AreNumbers, AreFolds, AreCollected}
 use Rattle.pliron_opts.specs.Visits.{CanVisit, IsNoted, IsVisited}
-use Rattle.pliron_opts.proofs.LineLemmas.{here, elsewhere, eq_self, eq_other}
+use Rattle.pliron_opts.proofs.LineLemmas.{with_number, here, elsewhere, eq_self, eq_other}
 use Rattle.pliron_opts.proofs.EntryLemmas.{cons_head, cons_rest}
 
 -- the numbers after all lines

@@ -1,24 +1,21 @@
 -- What a tree has of an operation after a write.
-use Rattle.std.proofs.Common.{◌≡◌, ◌≢◌, ◌⊎◌, ℕ, ℤ, ◌<◌, ◌≤◌, List, [], ◌∷◌, ◌++◌, length, map, get_or, Option, Some, None, IsSome, is_some, refl, sym, ap, ◌∙◌, subst, inl, inr, arith, slice_get}
+use Rattle.std.proofs.Common.{◌≡◌, ◌≢◌, ℕ, ℤ, ◌<◌, List, [], ◌∷◌, ◌++◌, length, map, get_or, Some, is_some, refl, sym, ap, ◌∙◌, arith, slice_get}
 use Rattle.std.proofs.Math.ListN.{get_or-append, get_or-eq_default}
 use Rattle.std.proofs.lemmas.List.{get_or-set_other, get_or-set_same}
 use Rattle.std.proofs.lemmas.Option.{slice_get_within}
 use Rattle.std.specs.List.{range_with_len}
 use Rattle.pliron_core.specs.declared.attrs.Head.{Head}
-use Rattle.pliron_core.specs.declared.context.Def.{Def}
-use Rattle.pliron_core.specs.declared.context.Def.TheVariants.{Result, Argument}
+use Rattle.pliron_core.specs.declared.context.Def.TheVariants.{Result}
 use Rattle.pliron_core.specs.declared.context.OperationEntry.{OperationEntry}
-use Rattle.pliron_core.specs.declared.rewriter.OpInsertionPoint.TheVariants.{BeforeOperation}
 use Rattle.pliron_core.specs.Lists.{put_before}
-use Rattle.pliron_core.specs.Tree.{Tree, In, IsLive, IsBlock, row_of, no_entry, head_of, results_of, operands_of, successors_of, regions_of, parent_of, body_of, layout_of, definition_of}
+use Rattle.pliron_core.specs.Tree.{Tree, IsLive, row_of, no_entry, results_of, operands_of, successors_of, parent_of, body_of, layout_of}
 use Rattle.pliron_core.specs.Joined.{HaveSameKeys, IsJoined, IsTree}
 use Rattle.pliron_core.specs.Writes.{created, placed, put_next_to, replaced, operand_pushed}
-use Rattle.pliron_core.specs.Insertion.{inserted}
 use Rattle.pliron_core.specs.Uses.{replace_target}
 use Rattle.pliron_core.proofs.GrownLemmas.{get_grown, get_last_same, get_padded}
 use Rattle.pliron_core.proofs.UsedLemmas.{get_map}
 use Rattle.pliron_core.proofs.TreeLemmas.{live-within, block-within}
-use Rattle.pliron_opts.specs.Bench.{Entry, Line, Is, Sum, Return, entry_of, written, const_head}
+use Rattle.pliron_opts.specs.Lines.{Entry, Line, Is, Sum, Return, entry_of, written, const_head}
 use Rattle.pliron_opts.specs.Propagation.{materialised}
 use Rattle.pliron_opts.proofs.LineLemmas.{entry_renamed, renamed, written-renamed, IsNew}
 
@@ -87,9 +84,8 @@ module _ (t : Tree) (is : IsTree t) (x b v : ℕ) (n : ℤ) (at : parent_of t x 
 
   pub made : materialised t x n ≡ u
   made =
-      let p : parent_of (created t (const_head n) 1 0) x ≡ Some b = get_grown t.parents None x ∙ at in
       let first : get_or (results_of t x) 0 0 ≡ v = ap (λ z. get_or z 0 0) result in
-      ap (λ o. replaced (put_next_to (created t (const_head n) 1 0) c x o) (get_or (results_of t x) 0 0) w) p
+      ap (λ o. replaced (put_next_to (created t (const_head n) 1 0) c x o) (get_or (results_of t x) 0 0) w) at
       ∙ ap (λ z. replaced (placed (created t (const_head n) 1 0) c b (put_before x c (body_of t b))) z w) first
 
   pub made-entry : (k : ℕ) → k < length t.operations → entry_of u k ≡ entry_renamed v w (entry_of t k)

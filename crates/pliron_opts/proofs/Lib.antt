@@ -1,10 +1,9 @@
 pub mod LineLemmas
 pub mod EntryLemmas
-pub mod ChildLemmas
-pub mod StandLemmas
-pub mod MaterialLemmas
+pub mod FitLemmas
+pub mod CheckLemmas
+pub mod NumberLemmas
 pub mod Stages
 pub mod WalkLemmas
 pub mod CollectLemmas
-pub mod BuildLemmas
-pub mod CheckLemmas
+pub mod StraightFit

@@ -1,12 +1,11 @@
 -- Lines of straight blocks: what is in scope, what they return, and renamed values.
-use Rattle.std.proofs.Common.{◌≡◌, ◌≢◌, ◌⊎◌, ℕ, ℤ, pos, ◌+ℤ◌, true, false, Bool, cond, List, [], ◌∷◌, ◌++◌, map, Option, Some, None, refl, sym, ap, ◌∙◌, subst, inl, inr, ⊎_elim, arith, FitsSigned}
-use Rattle.std.proofs.lemmas.Bool.{cases_eq}
-use Rattle.std.specs.Prelude.{nat_eq}
+use Rattle.std.proofs.Common.{◌≡◌, ◌≢◌, ℕ, ℤ, ◌+ℤ◌, true, false, Bool, cond, List, [], ◌∷◌, ◌++◌, map, Some, refl, sym, ap, ◌∙◌, subst, inl, inr, arith, FitsSigned}
+use Rattle.std.specs.Prelude.{nat_eq, if◌then◌else◌}
 use Rattle.std.specs.Int.{w64, int_wrap}
 use Rattle.pliron_core.specs.Uses.{replace_target}
 use Rattle.pliron_opts.specs.declared.propagation.Fold.{Fold}
-use Rattle.pliron_opts.specs.Bench.{Entry, Line, Is, Sum, Return, written, line_in}
-use Rattle.pliron_opts.specs.Straight.{In, AllIn, IsScoped, run, with_number}
+use Rattle.pliron_opts.specs.Lines.{Entry, Line, Is, Sum, Return, written, line_in}
+use Rattle.pliron_opts.specs.Straight.{In, AllIn, IsScoped}
 use Rattle.pliron_opts.specs.Collected.{AreNumbers, AreFolds}
 
 pub eq_self : (x : ℕ) → nat_eq x x ≡ true
@@ -17,6 +16,10 @@ eq_true x y h = grind arith
 
 pub eq_other : (x y : ℕ) → x ≢ y → nat_eq x y ≡ false
 eq_other x y h = grind arith
+
+-- the numbers of the values, with another one for v
+abbrev pub with_number : (ℕ → ℤ) → ℕ → ℤ → ℕ → ℤ
+with_number numbers v n x = if nat_eq v x then n else numbers x
 
 pub here : (numbers : ℕ → ℤ) (v : ℕ) (n : ℤ) → with_number numbers v n v ≡ n
 here numbers v n = ap (λ b. cond b n (numbers v)) (eq_self v)
@@ -71,42 +74,11 @@ defining-scoped defined (Is x m ∷ lines) after rest a s = (a.0, a.1, defining-
 defining-scoped defined (Sum x p q ∷ lines) after rest a s = (a.0, a.1, a.2, defining-scoped (x ∷ defined) lines after rest a.3 s)
 defining-scoped defined (Return vs ∷ lines) after rest a s = absurd a
 
--- what the lines return
-abbrev pub returned : List Line → List ℕ
-returned [] = []
-returned (Is v n ∷ lines) = returned lines
-returned (Sum v a b ∷ lines) = returned lines
-returned (Return vs ∷ lines) = vs
-
-same_numbers : (f g : ℕ → ℤ) (defined vs : List ℕ) → ((x : ℕ) → In x defined → f x ≡ g x) → AllIn vs defined → map f vs ≡ map g vs
-same_numbers f g defined [] same a = refl
-same_numbers f g defined (v ∷ vs) same a = let e = same v a.0 in let r = same_numbers f g defined vs same a.1 in cc
-
-agree_with : (f g : ℕ → ℤ) (defined : List ℕ) (v : ℕ) (n : ℤ) → ((x : ℕ) → In x defined → f x ≡ g x) → (In v defined → ⊥) → g v ≡ n → (x : ℕ) → In x (v ∷ defined) → with_number f v n x ≡ g x
-agree_with f g defined v n same new e x (inl h) = subst (λ z. with_number f v n z ≡ g z) (sym h) (here f v n ∙ sym e)
-agree_with f g defined v n same new e x (inr h) = elsewhere f v n x (λ d. new (subst (λ z. In z defined) (sym d) h)) ∙ same x h
-
--- a straight block returns the numbers of what it returns
-pub run-numbers : (defined : List ℕ) (lines : List Line) (f g : ℕ → ℤ) → IsScoped defined lines → AreNumbers g lines → ((x : ℕ) → In x defined → f x ≡ g x) → run f lines ≡ map g (returned lines)
-run-numbers defined [] f g s a same = absurd s
-run-numbers defined (Is v n ∷ lines) f g s a same = run-numbers (v ∷ defined) lines (with_number f v n) g s.2 a.1 (agree_with f g defined v n same s.0 a.0)
-run-numbers defined (Sum v l r ∷ lines) f g s a same =
-    let e : int_wrap w64 (f l +ℤ f r) ≡ int_wrap w64 (g l +ℤ g r) = ap (λ z. int_wrap w64 (z +ℤ f r)) (same l s.1) ∙ ap (λ z. int_wrap w64 (g l +ℤ z)) (same r s.2) in
-    run-numbers (v ∷ defined) lines (with_number f v (int_wrap w64 (f l +ℤ f r))) g s.3 a.1 (agree_with f g defined v (int_wrap w64 (f l +ℤ f r)) same s.0 (a.0 ∙ sym e))
-run-numbers defined (Return vs ∷ []) f g s a same = same_numbers f g defined vs same s
-run-numbers defined (Return vs ∷ l ∷ ls) f g s a same = absurd s
-
 pub numbers-join : (g : ℕ → ℤ) (front rest : List Line) → AreNumbers g front → AreNumbers g rest → AreNumbers g (front ++ rest)
 numbers-join g [] rest a b = b
 numbers-join g (Is v n ∷ front) rest a b = (a.0, numbers-join g front rest a.1 b)
 numbers-join g (Sum v l r ∷ front) rest a b = (a.0, numbers-join g front rest a.1 b)
 numbers-join g (Return vs ∷ front) rest a b = numbers-join g front rest a b
-
-pub returned-join : (defined : List ℕ) (front : List Line) (after : List ℕ) (rest : List Line) → AreDefining defined front after → returned (front ++ rest) ≡ returned rest
-returned-join defined [] after rest a = refl
-returned-join defined (Is v n ∷ front) after rest a = returned-join (v ∷ defined) front after rest a.2
-returned-join defined (Sum v l r ∷ front) after rest a = returned-join (v ∷ defined) front after rest a.3
-returned-join defined (Return vs ∷ front) after rest a = absurd a
 
 -- uses of v become uses of w
 abbrev pub renamed : ℕ → ℕ → Line → Line
@@ -185,12 +157,6 @@ number-renamed g v w n x e d = go (nat_eq x v) refl
         ap (λ z. with_number g w n (replace_target v w z)) same ∙ ap (with_number g w n) (renamed_here v w) ∙ here g w n ∙ sym e ∙ sym (ap g same)
     go false h = ap (λ b. with_number g w n (cond b w x)) h ∙ elsewhere g w n x (λ f. d (sym f))
 
-number-renamed-all : (g : ℕ → ℤ) (v w : ℕ) (n : ℤ) (defined vs : List ℕ) → g v ≡ n → (In w defined → ⊥) → AllIn vs defined → map (with_number g w n) (map (replace_target v w) vs) ≡ map g vs
-number-renamed-all g v w n defined [] e new a = refl
-number-renamed-all g v w n defined (x ∷ vs) e new a =
-    let f = number-renamed g v w n x e (in_differ x w defined a.0 new) in
-    let h = number-renamed-all g v w n defined vs e new a.1 in cc
-
 not_in_cons : (w x : ℕ) (defined : List ℕ) → x ≢ w → (In w defined → ⊥) → In w (x ∷ defined) → ⊥
 not_in_cons w x defined d new (inl h) = d (sym h)
 not_in_cons w x defined d new (inr h) = new h
@@ -205,13 +171,6 @@ numbers-renamed g v w n defined (Sum x l r ∷ lines) s e new fresh m =
     (elsewhere g w n x (λ h. fresh.0 (sym h)) ∙ m.0 ∙ ap (λ z. int_wrap w64 (z +ℤ g r)) (sym a) ∙ ap (λ z. int_wrap w64 (with_number g w n (replace_target v w l) +ℤ z)) (sym b), numbers-renamed g v w n (x ∷ defined) lines s.3 e (not_in_cons w x defined fresh.0 new) fresh.1 m.1)
 numbers-renamed g v w n defined (Return vs ∷ []) s e new fresh m = m
 numbers-renamed g v w n defined (Return vs ∷ l ∷ ls) s e new fresh m = absurd s
-
-pub returned-renamed : (g : ℕ → ℤ) (v w : ℕ) (n : ℤ) (defined : List ℕ) (lines : List Line) → IsScoped defined lines → g v ≡ n → (In w defined → ⊥) → IsNew w lines → map (with_number g w n) (returned (map (renamed v w) lines)) ≡ map g (returned lines)
-returned-renamed g v w n defined [] s e new fresh = absurd s
-returned-renamed g v w n defined (Is x k ∷ lines) s e new fresh = returned-renamed g v w n (x ∷ defined) lines s.2 e (not_in_cons w x defined fresh.0 new) fresh.1
-returned-renamed g v w n defined (Sum x l r ∷ lines) s e new fresh = returned-renamed g v w n (x ∷ defined) lines s.3 e (not_in_cons w x defined fresh.0 new) fresh.1
-returned-renamed g v w n defined (Return vs ∷ []) s e new fresh = number-renamed-all g v w n defined vs e new s
-returned-renamed g v w n defined (Return vs ∷ l ∷ ls) s e new fresh = absurd s
 
 pub folds-renamed : (g : ℕ → ℤ) (v w : ℕ) (n : ℤ) (folds : List Fold) (ops : List ℕ) (lines : List Line) → IsNew w lines → AreFolds g folds ops lines → AreFolds (with_number g w n) folds ops (map (renamed v w) lines)
 folds-renamed g v w n [] [] lines fresh a = absurd a

@@ -1,6 +1,5 @@
 -- A straight block while its operations are folded in turn.
-use Rattle.std.proofs.Common.{◌≡◌, ◌≢◌, ◌⊎◌, ℕ, ℤ, pos, ◌+ℤ◌, List, [], ◌∷◌, ◌++◌, length, map, get_or, Option, Some, None, IsSome, is_some, refl, sym, ap, ◌∙◌, subst, inl, inr, ⊎_elim, arith, append_assoc, FitsSigned, ◌<◌, ◌≤◌, ◌+◌, zero, suc, drop, IfSome, slice_get}
-use Rattle.std.proofs.lemmas.Bool.{cases_eq}
+use Rattle.std.proofs.Common.{◌≡◌, ◌≢◌, ℕ, ℤ, ◌+ℤ◌, List, [], ◌∷◌, ◌++◌, length, map, get_or, Option, Some, None, is_some, refl, sym, ap, ◌∙◌, subst, inl, inr, ⊎_elim, arith, append_assoc, FitsSigned, ◌<◌, ◌≤◌, ◌+◌, zero, suc, drop, IfSome, slice_get}
 use Rattle.std.proofs.lemmas.List.{drop_more}
 use Rattle.std.specs.Int.{w64, int_wrap}
 use Rattle.std.proofs.lemmas.Int.{SFits-int_wrap}
@@ -10,17 +9,27 @@ use Rattle.pliron_core.specs.Joined.{IsTree}
 use Rattle.pliron_core.specs.Uses.{replace_target}
 use Rattle.pliron_core.proofs.ListLemmas.{In-right, distinct-apart, put_before-split}
 use Rattle.pliron_core.proofs.TreeLemmas.{live-within}
+use Rattle.pliron_core.specs.declared.attrs.AttrObj.TheVariants.{Int}
+use Rattle.pliron_core.proofs.HoldingLemmas.{some_is}
+use Rattle.pliron_meaning.specs.Keeps.{KeepsRuns}
+use Rattle.pliron_meaning.specs.RunLaws.{KeepingLaws}
+use Rattle.pliron_meaning.specs.BenchMoves.{bench}
+use Rattle.pliron_meaning.specs.BenchAnswers.{bench_folds, bench_constants}
+use Rattle.pliron_meaning.specs.Knowing.{FactsLaw}
+use Rattle.pliron_meaning.specs.Rewrites.{IsConstant}
 use Rattle.pliron_opts.specs.declared.propagation.Fold.{Fold}
-use Rattle.pliron_opts.specs.Bench.{Entry, Line, Is, Sum, Return, entry_of, written, line_in}
-use Rattle.pliron_opts.specs.Straight.{IsScoped, IsStraight, run, with_number, func_entry, region_of, block_of, operations_of, lines_at, lines_of, data_of}
+use Rattle.pliron_opts.specs.Lines.{Line, Is, Sum, Return, entry_of, written, line_in}
+use Rattle.pliron_opts.specs.Straight.{IsScoped, IsStraight, func_entry, region_of, block_of, operations_of, lines_at, lines_of}
 use Rattle.pliron_opts.specs.Propagation.{materialised, folded, chain, IsPropagated}
 use Rattle.pliron_opts.specs.Collected.{AreNumbers, AreFolds, AreCollected, CanMaterialise}
-use Rattle.pliron_opts.proofs.LineLemmas.{AreDefining, IsNew, renamed, entry_renamed, returned, here, elsewhere, renamed_here, renamed_other, lines-written, line-written, defining-is, defining-sum, defining-scoped, defining-renamed, defining-numbers, scoped-renamed, numbers-renamed, returned-renamed, folds-renamed, numbers-join, returned-join, run-numbers}
+use Rattle.pliron_opts.proofs.LineLemmas.{AreDefining, IsNew, with_number, renamed, entry_renamed, here, elsewhere, renamed_here, renamed_other, lines-written, defining-is, defining-sum, defining-scoped, defining-renamed, defining-numbers, scoped-renamed, numbers-renamed, folds-renamed, numbers-join}
+use Rattle.pliron_opts.proofs.CollectLemmas.{names}
+use Rattle.pliron_opts.proofs.NumberLemmas.{read_as_number}
 use Rattle.pliron_opts.proofs.EntryLemmas
 use Rattle.pliron_opts.proofs.EntryLemmas.{cons_head, cons_rest, live-written, lines-old}
 
 -- the operations that were folded and what still waits, with a number for each value
-pub record IsStage (t : Tree) (root region block : ℕ) (folds : List Fold) (results : List ℤ) : Type 0 where
+pub record IsStage (t : Tree) (root region block : ℕ) (folds : List Fold) : Type 0 where
   pub done : List ℕ
   pub ops : List ℕ
   pub front : List Line
@@ -38,7 +47,6 @@ pub record IsStage (t : Tree) (root region block : ℕ) (folds : List Fold) (res
   pub front_numbers : AreNumbers numbers front
   pub rest_numbers : AreNumbers numbers rest
   pub waiting : AreFolds numbers folds ops rest
-  pub returns : map numbers (returned rest) ≡ results
 
 -- no line before defines w
 pub defining-old : (w : ℕ) (before : List ℕ) (lines : List Line) (after : List ℕ) → AreDefining before lines after → IsNew w lines → (In w before → ⊥) → In w after → ⊥
@@ -54,12 +62,18 @@ map_append f (x ∷ xs) ys = ap (λ z. f x ∷ z) (map_append f xs ys)
 pub joined : (t : Tree) (xs ys : List ℕ) (front rest : List Line) → map (entry_of t) xs ≡ map written front → map (entry_of t) ys ≡ map written rest → map (entry_of t) (xs ++ ys) ≡ map written (front ++ rest)
 joined t xs ys front rest e f = map_append (entry_of t) xs ys ∙ ap (λ z. z ++ map (entry_of t) ys) e ∙ ap (λ z. map written front ++ z) f ∙ sym (map_append written front rest)
 
+names-join : (front rest : List Line) → (v : ℕ) → In v (names rest) → In v (names (front ++ rest))
+names-join [] rest v i = i
+names-join (Is x n ∷ front) rest v i = inr (names-join front rest v i)
+names-join (Sum x a b ∷ front) rest v i = inr (names-join front rest v i)
+names-join (Return vs ∷ front) rest v i = names-join front rest v i
+
 -- the stage after a sum gets a constant before it
-module _ (t : Tree) (is : IsTree t) (root region block : ℕ) (results : List ℤ) (done ops : List ℕ) (front rest : List Line) (defined : List ℕ) (numbers : ℕ → ℤ) (op v l r : ℕ) (n : ℤ) (folds : List Fold)
+module _ (t : Tree) (is : IsTree t) (root region block : ℕ) (done ops : List ℕ) (front rest : List Line) (defined : List ℕ) (numbers : ℕ → ℤ) (op v l r : ℕ) (n : ℤ) (folds : List Fold)
     (func : entry_of t root ≡ func_entry region) (layout : layout_of t region ≡ block ∷ []) (arguments : arguments_of t block ≡ []) (body : body_of t block ≡ done ++ op ∷ ops)
     (front_written : map (entry_of t) done ≡ map written front) (head : entry_of t op ≡ written (Sum v l r)) (rest_written : map (entry_of t) ops ≡ map written rest)
     (defining : AreDefining [] front defined) (scoped : IsScoped defined (Sum v l r ∷ rest)) (front_numbers : AreNumbers numbers front) (rest_numbers : AreNumbers numbers (Sum v l r ∷ rest))
-    (waiting : AreFolds numbers folds ops rest) (returns : map numbers (returned rest) ≡ results) (fits : FitsSigned w64 n) (value : numbers v ≡ n) where
+    (waiting : AreFolds numbers folds ops rest) (fits : FitsSigned w64 n) (value : numbers v ≡ n) where
   pub at : parent_of t op ≡ Some block
   at = is.bodies.owned op block (subst (In op) (sym body) (In-right op done (op ∷ ops) (inl refl)))
 
@@ -158,7 +172,7 @@ module _ (t : Tree) (is : IsTree t) (root region block : ℕ) (results : List �
       let e = same v (inl refl) in let f = same l (inr scoped.1) in let g = same r (inr scoped.2) in
       (here numbers w n, (e ∙ rest_numbers.0 ∙ ap (λ z. int_wrap w64 (z +ℤ numbers r)) (sym f) ∙ ap (λ z. int_wrap w64 (numbers' l +ℤ z)) (sym g), tt))
 
-  pub stage-sum : IsStage u root region block folds results
+  pub stage-sum : IsStage u root region block folds
   stage-sum = record {
     done = done ++ c ∷ op ∷ [];
     ops = ops;
@@ -177,41 +191,51 @@ module _ (t : Tree) (is : IsTree t) (root region block : ℕ) (results : List �
     front_numbers = numbers-join numbers' front (Is w n ∷ Sum v l r ∷ []) (defining-numbers numbers w n [] front defined defining out front_numbers) sum_numbers;
     rest_numbers = numbers-renamed numbers v w n (v ∷ defined) rest scoped.3 value out_v rest_old rest_numbers.1;
     waiting = folds-renamed numbers v w n folds ops rest rest_old waiting;
-    returns = returned-renamed numbers v w n (v ∷ defined) rest scoped.3 value out_v rest_old ∙ returns;
   }
 
   pub made-sum : materialised t op n ≡ u
   made-sum = EntryLemmas.made t is op block v n at result
 
-module _ (t : Tree) (is : IsTree t) (root region block : ℕ) (fold : Fold) (folds : List Fold) (results : List ℤ) where
+module _ (law : FactsLaw bench bench_folds bench_constants) (t : Tree) (is : IsTree t) (root region block : ℕ) (fold : Fold) (folds : List Fold) where
   at_block : (done ops : List ℕ) (op : ℕ) → body_of t block ≡ done ++ op ∷ ops → parent_of t op ≡ Some block
   at_block done ops op e = is.bodies.owned op block (subst (In op) (sym e) (In-right op done (op ∷ ops) (inl refl)))
 
-  can_fold : (done ops : List ℕ) (rest : List Line) (numbers : ℕ → ℤ) (n : ℤ) → fold.answer ≡ Some n → body_of t block ≡ done ++ ops → map (entry_of t) ops ≡ map written rest → AreFolds numbers (fold ∷ folds) ops rest → CanMaterialise t fold.op
-  can_fold done [] rest numbers n e body w a = absurd a
-  can_fold done (op ∷ ops) [] numbers n e body w a = absurd a
-  can_fold done (op ∷ ops) (Is v k ∷ rest) numbers n e body w a = absurd (let x : None ≡ Some n = sym a.1 ∙ e in cc)
-  can_fold done (op ∷ ops) (Sum v l r ∷ rest) numbers n e body w a =
+  can_fold : (s : IsStage t root region block (fold ∷ folds)) (n : ℤ) (ops : List ℕ) (rest : List Line) → fold.answer ≡ Some n → body_of t block ≡ s.done ++ ops → map (entry_of t) ops ≡ map written rest → IsScoped s.defined rest → AreNumbers s.numbers rest → AreFolds s.numbers (fold ∷ folds) ops rest → CanMaterialise t fold.op n
+  can_fold s n [] rest e body w scoped m a = absurd a
+  can_fold s n (op ∷ ops) [] e body w scoped m a = absurd a
+  can_fold s n (op ∷ ops) (Is v k ∷ rest) e body w scoped m a = absurd (let x : None ≡ Some n = sym a.1 ∙ e in cc)
+  can_fold s n (op ∷ ops) (Return vs ∷ rest) e body w scoped m a = absurd a
+  can_fold s n (op ∷ ops) (Sum v l r ∷ rest) e body w scoped m a =
       let h : entry_of t op ≡ written (Sum v l r) = cons_head _ _ _ _ w in
-      let x : CanMaterialise t op = record {
+      let f : results_of t op ≡ v ∷ [] = ap (λ z. z.results) h in
+      let value : s.numbers v ≡ n = let x : Some (s.numbers v) ≡ Some n = sym a.1 ∙ e in cc in
+      let lines : List Line = s.front ++ Sum v l r ∷ rest in
+      let said : map (entry_of t) (s.done ++ op ∷ ops) ≡ map written lines = joined t s.done (op ∷ ops) s.front (Sum v l r ∷ rest) s.front_written w in
+      let in_scope : IsScoped [] lines = defining-scoped [] s.front s.defined (Sum v l r ∷ rest) s.defining scoped in
+      let numbers : AreNumbers s.numbers lines = numbers-join s.numbers s.front (Sum v l r ∷ rest) s.front_numbers m in
+      let read : IsConstant bench t v (Int (s.numbers v)) = read_as_number t is s.numbers (s.done ++ op ∷ ops) lines said in_scope numbers law v (names-join s.front (Sum v l r ∷ rest) v (inl refl)) in
+      let x : CanMaterialise t op n = record {
         live = live-written t op (Sum v l r) h;
-        placed = ap is_some (at_block done ops op body);
-        result = let f : results_of t op ≡ v ∷ [] = ap (λ z. z.results) h in rw f (omega arith);
-      } in subst (CanMaterialise t) (sym a.0) x
-  can_fold done (op ∷ ops) (Return vs ∷ rest) numbers n e body w a = absurd a
+        placed = ap is_some (at_block s.done ops op body);
+        result = rw f (omega arith);
+        fits = subst (FitsSigned w64) (sym m.0 ∙ value) (SFits-int_wrap w64 (s.numbers l +ℤ s.numbers r));
+        constant = λ y i.
+            let same : v ≡ y = some_is (ap (λ z. slice_get z 0) (sym f) ∙ i) in
+            subst (λ z. IsConstant bench t z (Int n)) same (subst (λ k. IsConstant bench t v (Int k)) value read);
+      } in subst (λ k. CanMaterialise t k n) (sym a.0) x
 
-  can_by : IsStage t root region block (fold ∷ folds) results → (o : Option ℤ) → fold.answer ≡ o → IfSome o (λ n. CanMaterialise t fold.op)
+  can_by : IsStage t root region block (fold ∷ folds) → (o : Option ℤ) → fold.answer ≡ o → IfSome o (λ n. CanMaterialise t fold.op n)
   can_by s None e = tt
-  can_by s (Some n) e = can_fold s.done s.ops s.rest s.numbers n e s.body s.rest_written s.waiting
+  can_by s (Some n) e = can_fold s n s.ops s.rest e s.body s.rest_written s.scoped s.rest_numbers s.waiting
 
-  pub stage-can_fold : IsStage t root region block (fold ∷ folds) results → IfSome fold.answer (λ n. CanMaterialise t fold.op)
+  pub stage-can_fold : IsStage t root region block (fold ∷ folds) → IfSome fold.answer (λ n. CanMaterialise t fold.op n)
   stage-can_fold s = can_by s fold.answer refl
 
   -- an operation without an answer stays as it is
-  skipped : (s : IsStage t root region block (fold ∷ folds) results) (ops : List ℕ) (rest : List Line) → fold.answer ≡ None → body_of t block ≡ s.done ++ ops → map (entry_of t) ops ≡ map written rest → IsScoped s.defined rest → AreNumbers s.numbers rest → AreFolds s.numbers (fold ∷ folds) ops rest → map s.numbers (returned rest) ≡ results → IsStage t root region block folds results
-  skipped s [] rest e body w scoped m a back = absurd a
-  skipped s (op ∷ ops) [] e body w scoped m a back = absurd a
-  skipped s (op ∷ ops) (Is v k ∷ rest) e body w scoped m a back = record {
+  skipped : (s : IsStage t root region block (fold ∷ folds)) (ops : List ℕ) (rest : List Line) → fold.answer ≡ None → body_of t block ≡ s.done ++ ops → map (entry_of t) ops ≡ map written rest → IsScoped s.defined rest → AreNumbers s.numbers rest → AreFolds s.numbers (fold ∷ folds) ops rest → IsStage t root region block folds
+  skipped s [] rest e body w scoped m a = absurd a
+  skipped s (op ∷ ops) [] e body w scoped m a = absurd a
+  skipped s (op ∷ ops) (Is v k ∷ rest) e body w scoped m a = record {
     done = s.done ++ op ∷ [];
     ops = ops;
     front = s.front ++ Is v k ∷ [];
@@ -229,46 +253,45 @@ module _ (t : Tree) (is : IsTree t) (root region block : ℕ) (fold : Fold) (fol
     front_numbers = numbers-join s.numbers s.front (Is v k ∷ []) s.front_numbers (m.0, tt);
     rest_numbers = m.1;
     waiting = a.2;
-    returns = back;
   }
-  skipped s (op ∷ ops) (Sum v l r ∷ rest) e body w scoped m a back = absurd (let x : Some (s.numbers v) ≡ None = sym a.1 ∙ e in cc)
-  skipped s (op ∷ ops) (Return vs ∷ rest) e body w scoped m a back = absurd a
+  skipped s (op ∷ ops) (Sum v l r ∷ rest) e body w scoped m a = absurd (let x : Some (s.numbers v) ≡ None = sym a.1 ∙ e in cc)
+  skipped s (op ∷ ops) (Return vs ∷ rest) e body w scoped m a = absurd a
 
   -- a sum gets a constant before it
-  after_sum : (s : IsStage t root region block (fold ∷ folds) results) (n : ℤ) (ops : List ℕ) (rest : List Line) → fold.answer ≡ Some n → body_of t block ≡ s.done ++ ops → map (entry_of t) ops ≡ map written rest → IsScoped s.defined rest → AreNumbers s.numbers rest → AreFolds s.numbers (fold ∷ folds) ops rest → map s.numbers (returned rest) ≡ results → IsStage (materialised t fold.op n) root region block folds results
-  after_sum s n [] rest e body w scoped m a back = absurd a
-  after_sum s n (op ∷ ops) [] e body w scoped m a back = absurd a
-  after_sum s n (op ∷ ops) (Is v k ∷ rest) e body w scoped m a back = absurd (let x : None ≡ Some n = sym a.1 ∙ e in cc)
-  after_sum s n (op ∷ ops) (Return vs ∷ rest) e body w scoped m a back = absurd a
-  after_sum s n (op ∷ ops) (Sum v l r ∷ rest) e body w scoped m a back =
+  after_sum : (s : IsStage t root region block (fold ∷ folds)) (n : ℤ) (ops : List ℕ) (rest : List Line) → fold.answer ≡ Some n → body_of t block ≡ s.done ++ ops → map (entry_of t) ops ≡ map written rest → IsScoped s.defined rest → AreNumbers s.numbers rest → AreFolds s.numbers (fold ∷ folds) ops rest → IsStage (materialised t fold.op n) root region block folds
+  after_sum s n [] rest e body w scoped m a = absurd a
+  after_sum s n (op ∷ ops) [] e body w scoped m a = absurd a
+  after_sum s n (op ∷ ops) (Is v k ∷ rest) e body w scoped m a = absurd (let x : None ≡ Some n = sym a.1 ∙ e in cc)
+  after_sum s n (op ∷ ops) (Return vs ∷ rest) e body w scoped m a = absurd a
+  after_sum s n (op ∷ ops) (Sum v l r ∷ rest) e body w scoped m a =
       let head : entry_of t op ≡ written (Sum v l r) = cons_head _ _ _ _ w in
       let later : map (entry_of t) ops ≡ map written rest = cons_rest _ _ _ _ w in
       let value : s.numbers v ≡ n = let x : Some (s.numbers v) ≡ Some n = sym a.1 ∙ e in cc in
       let fits : FitsSigned w64 n = subst (FitsSigned w64) (sym m.0 ∙ value) (SFits-int_wrap w64 (s.numbers l +ℤ s.numbers r)) in
-      let made = made-sum t is root region block results s.done ops s.front rest s.defined s.numbers op v l r n folds s.func s.layout s.arguments body s.front_written head later s.defining scoped s.front_numbers m a.2 back fits value in
-      let stage = stage-sum t is root region block results s.done ops s.front rest s.defined s.numbers op v l r n folds s.func s.layout s.arguments body s.front_written head later s.defining scoped s.front_numbers m a.2 back fits value in
-      subst (λ z. IsStage (materialised t z n) root region block folds results) (sym a.0)
-      (subst (λ z. IsStage z root region block folds results) (sym made) stage)
+      let made = made-sum t is root region block s.done ops s.front rest s.defined s.numbers op v l r n folds s.func s.layout s.arguments body s.front_written head later s.defining scoped s.front_numbers m a.2 fits value in
+      let stage = stage-sum t is root region block s.done ops s.front rest s.defined s.numbers op v l r n folds s.func s.layout s.arguments body s.front_written head later s.defining scoped s.front_numbers m a.2 fits value in
+      subst (λ z. IsStage (materialised t z n) root region block folds) (sym a.0)
+      (subst (λ z. IsStage z root region block folds) (sym made) stage)
 
-  pub stage-materialised : (n : ℤ) → fold.answer ≡ Some n → IsStage t root region block (fold ∷ folds) results → IsStage (folded t fold.op fold.answer) root region block folds results
+  pub stage-materialised : (n : ℤ) → fold.answer ≡ Some n → IsStage t root region block (fold ∷ folds) → IsStage (folded t fold.op fold.answer) root region block folds
   stage-materialised n e s =
-      subst (λ z. IsStage (folded t fold.op z) root region block folds results) (sym e)
-      (after_sum s n s.ops s.rest e s.body s.rest_written s.scoped s.rest_numbers s.waiting s.returns)
+      subst (λ z. IsStage (folded t fold.op z) root region block folds) (sym e)
+      (after_sum s n s.ops s.rest e s.body s.rest_written s.scoped s.rest_numbers s.waiting)
 
-  pub stage-skipped : fold.answer ≡ None → IsStage t root region block (fold ∷ folds) results → IsStage (folded t fold.op fold.answer) root region block folds results
+  pub stage-skipped : fold.answer ≡ None → IsStage t root region block (fold ∷ folds) → IsStage (folded t fold.op fold.answer) root region block folds
   stage-skipped e s =
-      subst (λ z. IsStage (folded t fold.op z) root region block folds results) (sym e)
-      (skipped s s.ops s.rest e s.body s.rest_written s.scoped s.rest_numbers s.waiting s.returns)
+      subst (λ z. IsStage (folded t fold.op z) root region block folds) (sym e)
+      (skipped s s.ops s.rest e s.body s.rest_written s.scoped s.rest_numbers s.waiting)
 
-  by_answer : IsStage t root region block (fold ∷ folds) results → (o : Option ℤ) → fold.answer ≡ o → IsStage (folded t fold.op fold.answer) root region block folds results
+  by_answer : IsStage t root region block (fold ∷ folds) → (o : Option ℤ) → fold.answer ≡ o → IsStage (folded t fold.op fold.answer) root region block folds
   by_answer s None e = stage-skipped e s
   by_answer s (Some n) e = stage-materialised n e s
 
-  pub stage-folded : IsStage t root region block (fold ∷ folds) results → IsStage (folded t fold.op fold.answer) root region block folds results
+  pub stage-folded : IsStage t root region block (fold ∷ folds) → IsStage (folded t fold.op fold.answer) root region block folds
   stage-folded s = by_answer s fold.answer refl
 
 -- a straight block waits for all of its folds
-pub stage-start : (t : Tree) (root : ℕ) (folds : List Fold) → IsStraight t root → AreCollected (operations_of t root) (lines_of t root) folds → IsStage t root (region_of t root) (block_of t root) folds (data_of t root)
+pub stage-start : (t : Tree) (root : ℕ) (folds : List Fold) → IsStraight t root → AreCollected (operations_of t root) (lines_of t root) folds → IsStage t root (region_of t root) (block_of t root) folds
 stage-start t root folds s a = record {
   done = [];
   ops = operations_of t root;
@@ -287,7 +310,6 @@ stage-start t root folds s a = record {
   front_numbers = tt;
   rest_numbers = a.are_numbers;
   waiting = a.are_folds;
-  returns = sym (run-numbers [] (lines_of t root) (λ _. pos 0) a.numbers s.scoped a.are_numbers (λ x i. absurd i));
 }
 
 map_map : {A B C : Type 0} (f : B → C) (g : A → B) (xs : List A) → map f (map g xs) ≡ map (λ x. f (g x)) xs
@@ -297,8 +319,8 @@ map_map f g (x ∷ xs) = ap (λ z. f (g x) ∷ z) (map_map f g xs)
 pub lines-read : (t : Tree) (ops : List ℕ) (lines : List Line) → map (entry_of t) ops ≡ map written lines → lines_at t ops ≡ lines
 lines-read t ops lines e = sym (map_map line_in (entry_of t) ops) ∙ ap (map line_in) e ∙ map_map line_in written lines ∙ lines-written lines
 
--- where no fold waits, the block is straight, and returns what it did
-module _ (t : Tree) (root region block : ℕ) (results : List ℤ) (s : IsStage t root region block [] results) where
+-- where no fold waits, the block is straight
+module _ (t : Tree) (root region block : ℕ) (s : IsStage t root region block []) where
   region_is : region_of t root ≡ region
   region_is = ap (λ z. get_or z.regions 0 0) s.func
 
@@ -329,32 +351,27 @@ module _ (t : Tree) (root region block : ℕ) (results : List ℤ) (s : IsStage 
     scoped = subst (IsScoped []) (sym lines_is) in_scope;
   }
 
-  pub stage-data : data_of t root ≡ results
-  stage-data =
-      ap (run (λ _. pos 0)) lines_is
-      ∙ run-numbers [] lines (λ _. pos 0) s.numbers in_scope (numbers-join s.numbers s.front s.rest s.front_numbers s.rest_numbers) (λ x i. absurd i)
-      ∙ ap (map s.numbers) (returned-join [] s.front s.defined s.rest s.defining)
-      ∙ s.returns
-
--- these folds are left of all, and the tree is what the others made of the first
+-- these folds are left of all, and the tree is what the others made of the first, which keeps runs
 pub record IsLeft (first t : Tree) (root : ℕ) (left all : List Fold) : Type 0 where
-  pub stage : IsStage t root (region_of first root) (block_of first root) left (data_of first root)
+  pub stage : IsStage t root (region_of first root) (block_of first root) left
   pub same_end : chain t left ≡ chain first all
+  pub runs : KeepsRuns bench first t
 
-pub left-start : (t : Tree) (root : ℕ) (folds : List Fold) → IsStraight t root → AreCollected (operations_of t root) (lines_of t root) folds → IsLeft t t root folds folds
-left-start t root folds s a = record { stage = stage-start t root folds s a; same_end = refl }
+pub left-start : KeepingLaws → (t : Tree) (root : ℕ) (folds : List Fold) → IsStraight t root → AreCollected (operations_of t root) (lines_of t root) folds → IsLeft t t root folds folds
+left-start keeping t root folds s a = record { stage = stage-start t root folds s a; same_end = refl; runs = keeping.reflexive bench t }
 
-pub left-can : (first t : Tree) (root : ℕ) (fold : Fold) (left all : List Fold) → IsTree t → IsLeft first t root (fold ∷ left) all → IfSome fold.answer (λ n. CanMaterialise t fold.op)
-left-can first t root fold left all is s = stage-can_fold t is root (region_of first root) (block_of first root) fold left (data_of first root) s.stage
+pub left-can : FactsLaw bench bench_folds bench_constants → (first t : Tree) (root : ℕ) (fold : Fold) (left all : List Fold) → IsTree t → IsLeft first t root (fold ∷ left) all → IfSome fold.answer (λ n. CanMaterialise t fold.op n)
+left-can law first t root fold left all is s = stage-can_fold law t is root (region_of first root) (block_of first root) fold left s.stage
 
-pub left-next : (first t : Tree) (root : ℕ) (fold : Fold) (left all : List Fold) → IsTree t → IsLeft first t root (fold ∷ left) all → IsLeft first (folded t fold.op fold.answer) root left all
-left-next first t root fold left all is s = record { stage = stage-folded t is root (region_of first root) (block_of first root) fold left (data_of first root) s.stage; same_end = s.same_end }
+pub left-next : FactsLaw bench bench_folds bench_constants → KeepingLaws → (first t : Tree) (root : ℕ) (fold : Fold) (left all : List Fold) → IsTree t → KeepsRuns bench t (folded t fold.op fold.answer) → IsLeft first t root (fold ∷ left) all → IsLeft first (folded t fold.op fold.answer) root left all
+left-next law keeping first t root fold left all is runs s = record {
+  stage = stage-folded law t is root (region_of first root) (block_of first root) fold left s.stage;
+  same_end = s.same_end;
+  runs = keeping.transitive bench first t (folded t fold.op fold.answer) s.runs runs;
+}
 
 pub left-straight : (first t : Tree) (root : ℕ) (all : List Fold) → IsLeft first t root [] all → IsStraight t root
-left-straight first t root all s = stage-straight t root (region_of first root) (block_of first root) (data_of first root) s.stage
-
-pub left-data : (first t : Tree) (root : ℕ) (all : List Fold) → IsLeft first t root [] all → data_of t root ≡ data_of first root
-left-data first t root all s = stage-data t root (region_of first root) (block_of first root) (data_of first root) s.stage
+left-straight first t root all s = stage-straight t root (region_of first root) (block_of first root) s.stage
 
 pub left-propagated : (first t : Tree) (root : ℕ) (all : List Fold) → AreCollected (operations_of first root) (lines_of first root) all → IsLeft first t root [] all → IsPropagated first t root
 left-propagated first t root all a s = record { facts = a.facts; closed = a.closed; each_known = a.each_known; rewritten = s.same_end ∙ ap (chain first) a.answers }

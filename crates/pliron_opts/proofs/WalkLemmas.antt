@@ -1,11 +1,10 @@
 -- Going through a block from its first operation on.
-use Rattle.std.proofs.Common.{◌≡◌, ◌≢◌, ◌⊎◌, ℕ, ◌+◌, ◌-◌, ◌<◌, List, [], ◌∷◌, ◌++◌, length, Option, Some, None, refl, sym, ap, ◌∙◌, subst, inl, inr, arith, append_assoc, append-nil, length-append, get_or, zero, suc}
+use Rattle.std.proofs.Common.{◌≡◌, ℕ, ◌-◌, ◌<◌, List, [], ◌∷◌, ◌++◌, length, Option, Some, None, refl, sym, ap, ◌∙◌, subst, inl, inr, arith, append_assoc, append-nil, length-append, get_or, zero, suc}
 use Rattle.pliron_core.specs.Lists.{In, IsDistinct, first_of, next_in}
-use Rattle.pliron_core.specs.Tree.{Tree, IsLive, parent_of, body_of, up_from}
+use Rattle.pliron_core.specs.Tree.{Tree, IsLive, body_of, up_from}
 use Rattle.pliron_core.specs.Reads.{next_of}
 use Rattle.pliron_core.specs.Joined.{IsTree}
 use Rattle.pliron_core.proofs.ListLemmas.{In-right, distinct-apart, next_in-split}
-use Rattle.pliron_core.proofs.TreeLemmas.{parented_live}
 
 -- these operations were listed, and this is the next one
 pub record IsWalked (t : Tree) (block : ℕ) (ops : List ℕ) (at : Option ℕ) : Type 0 where

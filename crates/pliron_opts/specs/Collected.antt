@@ -1,14 +1,16 @@
 -- What the propagation knows between its steps.
-use Rattle.std.specs.Prelude.{◌≡◌, ℕ, ℤ, pos, ◌+ℤ◌, nat_eq, List, [], ◌∷◌, Option, Some, None, IsSome, ◌<◌, length}
+use Rattle.std.specs.Prelude.{◌≡◌, ℕ, ℤ, ◌+ℤ◌, nat_eq, List, [], ◌∷◌, Option, Some, None, IsSome, ◌<◌, length, slice_get, FitsSigned}
 use Rattle.std.specs.Int.{w64, int_wrap}
 use Rattle.std.specs.HashMap.{get}
+use Rattle.pliron_core.specs.declared.attrs.AttrObj.TheVariants.{Int}
 use Rattle.pliron_core.specs.Tree.{Tree, IsLive, parent_of, results_of}
+use Rattle.pliron_meaning.specs.BenchMoves.{bench}
+use Rattle.pliron_meaning.specs.Rewrites.{IsConstant}
 use Rattle.pliron_opts.specs.declared.propagation.Fold.{Fold}
 use Rattle.pliron_opts.specs.declared.propagation.Numbers.{Numbers}
-use Rattle.pliron_opts.specs.Bench.{Line, Is, Sum, Return}
+use Rattle.pliron_opts.specs.Lines.{Line, Is, Sum, Return}
 use Rattle.pliron_opts.specs.Facts.{Fact, AreClosed, AreKnown}
 use Rattle.pliron_opts.specs.Propagation.{folds_of}
-use Rattle.pliron_opts.specs.Straight.{In}
 
 -- the number of a value, where there is one
 abbrev pub number_at : Numbers → ℕ → Option ℤ
@@ -38,8 +40,11 @@ pub record AreCollected (ops : List ℕ) (lines : List Line) (folds : List Fold)
   pub are_numbers : AreNumbers numbers lines
   pub are_folds : AreFolds numbers folds ops lines
 
--- a constant can stand before the operation and take over the uses of its result
-pub record CanMaterialise (t : Tree) (op : ℕ) : Type 0 where
+-- a constant can stand before the operation and take over the uses of its result, which every run
+-- reads as this number
+pub record CanMaterialise (t : Tree) (op : ℕ) (n : ℤ) : Type 0 where
   pub live : IsLive t op
   pub placed : IsSome (parent_of t op)
   pub result : 0 < length (results_of t op)
+  pub fits : FitsSigned w64 n
+  pub constant : (v : ℕ) → slice_get (results_of t op) 0 ≡ Some v → IsConstant bench t v (Int n)

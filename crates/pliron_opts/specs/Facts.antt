@@ -1,7 +1,7 @@
 -- What may be known of values.
 use Rattle.std.specs.Prelude.{◌≡◌, ℕ, ℤ, ◌+ℤ◌, List, [], ◌∷◌, Option, Some, None, ◌⊎◌}
 use Rattle.std.specs.Int.{w64, int_wrap}
-use Rattle.pliron_opts.specs.Bench.{Line, Is, Sum, Return}
+use Rattle.pliron_opts.specs.Lines.{Line, Is, Sum, Return}
 
 -- nothing is known yet, the value is this number, or it isn't one number
 pub data Fact : Type 0 where

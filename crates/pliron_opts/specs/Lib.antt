@@ -1,8 +1,7 @@
-pub mod Bench
+pub mod Lines
 pub mod Straight
 pub mod Facts
 pub mod Propagation
-pub mod Notation
 pub mod Collected
-pub mod Building
 pub mod Visits
+pub mod Checking

@@ -1,17 +1,15 @@
 -- What constant propagation makes of a tree.
-use Rattle.std.specs.Prelude.{◌≡◌, ℕ, ℤ, List, [], ◌∷◌, length, Option, Some, None, slice_index_or}
-use Rattle.pliron_core.specs.declared.rewriter.OpInsertionPoint.TheVariants.{BeforeOperation}
+use Rattle.std.specs.Prelude.{◌≡◌, ℕ, ℤ, List, [], ◌∷◌, Option, Some, None, slice_index_or}
 use Rattle.pliron_core.specs.Tree.{Tree, results_of}
-use Rattle.pliron_core.specs.Writes.{created, replaced}
-use Rattle.pliron_core.specs.Insertion.{inserted}
+use Rattle.pliron_meaning.specs.Outcomes.{materialised as put_for}
 use Rattle.pliron_opts.specs.declared.propagation.Fold.{Fold}
-use Rattle.pliron_opts.specs.Bench.{Line, Is, Sum, Return, const_head}
+use Rattle.pliron_opts.specs.Lines.{Line, Is, Sum, Return, const_head}
 use Rattle.pliron_opts.specs.Facts.{Fact, known, sum_of, AreClosed, AreKnown}
 use Rattle.pliron_opts.specs.Straight.{operations_of, lines_of}
 
 -- a new constant stands directly before the operation and has the uses of its result
 abbrev pub materialised : Tree → ℕ → ℤ → Tree
-materialised t op n = replaced (inserted (created t (const_head n) 1 0) (BeforeOperation op) (length t.operations)) (slice_index_or (results_of t op) 0 0) (length t.definitions)
+materialised t op n = put_for t op (slice_index_or (results_of t op) 0 0) (const_head n)
 
 -- an operation is folded: without an answer it stays as it is
 abbrev pub folded : Tree → ℕ → Option ℤ → Tree

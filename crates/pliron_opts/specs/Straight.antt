@@ -1,10 +1,11 @@
--- Straight blocks, and what they return.
+-- Straight blocks.
 pub use Rattle.pliron_core.specs.Lists.{In}
-use Rattle.std.specs.Prelude.{◌≡◌, ℕ, ℤ, pos, ◌+ℤ◌, nat_eq, if◌then◌else◌, List, [], ◌∷◌, Some, map, slice_index_or, FitsSigned}
-use Rattle.std.specs.Int.{w64, int_wrap}
+use Rattle.std.specs.Prelude.{◌≡◌, ℕ, List, [], ◌∷◌, Some, map, slice_index_or, FitsSigned}
+use Rattle.std.specs.Int.{w64}
 use Rattle.pliron_core.specs.Tree.{Tree, regions_of, layout_of, body_of, arguments_of}
-use Rattle.pliron_opts.specs.declared.dialect.BenchKind.TheVariants.{Func}
-use Rattle.pliron_opts.specs.Bench.{Entry, Line, Is, Sum, Return, entry_of, written, line_in, plain_head}
+use Rattle.pliron_meaning.specs.declared.bench.kind.BenchKind.TheVariants.{Func}
+use Rattle.pliron_meaning.specs.Bench.{plain_head}
+use Rattle.pliron_opts.specs.Lines.{Entry, Line, Is, Sum, Return, entry_of, written, line_in}
 
 -- an operation's first region, its first block, and the lines of that block
 abbrev pub region_of : Tree → ℕ → ℕ
@@ -47,18 +48,3 @@ pub record IsStraight (t : Tree) (root : ℕ) : Type 0 where
   pub arguments : arguments_of t (block_of t root) ≡ []
   pub body : map (entry_of t) (operations_of t root) ≡ map written (lines_of t root)
   pub scoped : IsScoped [] (lines_of t root)
-
--- the numbers of the values, with another one for v
-abbrev pub with_number : (ℕ → ℤ) → ℕ → ℤ → ℕ → ℤ
-with_number numbers v n x = if nat_eq v x then n else numbers x
-
--- what the lines return, where each is done in turn: numbers are brought into 64 signed bits
-abbrev pub run : (ℕ → ℤ) → List Line → List ℤ
-run numbers [] = []
-run numbers (Is v n ∷ lines) = run (with_number numbers v n) lines
-run numbers (Sum v a b ∷ lines) = run (with_number numbers v (int_wrap w64 (numbers a +ℤ numbers b))) lines
-run numbers (Return vs ∷ lines) = map numbers vs
-
--- what the operation returns
-abbrev pub data_of : Tree → ℕ → List ℤ
-data_of t root = run (λ _. pos 0) (lines_of t root)

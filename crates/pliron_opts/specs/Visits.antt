@@ -1,11 +1,9 @@
 -- What looking at one operation does to the numbers that are known.
-use Rattle.std.specs.Prelude.{◌≡◌, ℕ, ℤ, nat_eq, if◌then◌else◌, List, [], ◌∷◌, Option, Some, None, IsSome, FitsSigned}
+use Rattle.std.specs.Prelude.{◌≡◌, ℕ, ℤ, nat_eq, if◌then◌else◌, Option, Some, None, IsSome, FitsSigned}
 use Rattle.std.specs.Int.{w64}
-use Rattle.pliron_core.specs.declared.attrs.Head.{Head}
-use Rattle.pliron_core.specs.declared.attrs.AttrObj.TheVariants.{Int}
 use Rattle.pliron_opts.specs.declared.propagation.Fold.{Fold}
 use Rattle.pliron_opts.specs.declared.propagation.Numbers.{Numbers}
-use Rattle.pliron_opts.specs.Bench.{Line, Is, Sum, Return}
+use Rattle.pliron_opts.specs.Lines.{Line, Is, Sum, Return}
 use Rattle.pliron_opts.specs.Facts.{sum_of}
 use Rattle.pliron_opts.specs.Collected.{number_at}
 

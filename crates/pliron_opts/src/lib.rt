@@ -1,17 +1,17 @@
 //! Optimisations of trees of operations, and the program that runs them.
 #![tactic(auto)]
 
-mod dialect;
-mod fault;
-mod notation;
+mod graph_lines;
+mod numbered_graph;
 mod program;
 mod propagation;
+mod straight;
 mod walk;
 
-pub use fault::OptError;
-pub use notation::{print_text, read_text};
+pub use pliron_meaning::OptError;
 pub use program::plir_run;
 pub use propagation::sccp;
+pub use straight::is_straight;
 
 #[cfg(test)]
 mod tests;

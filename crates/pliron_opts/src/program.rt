@@ -1,8 +1,11 @@
 //! The program: from arguments and bytes to bytes and a status.
-use crate::fault::OptError;
-use crate::notation::{print_text, read_text};
+use crate::graph_lines::print_graph;
+use crate::numbered_graph::read_graph;
 use crate::propagation::sccp;
+use crate::straight::is_straight;
 use pliron_core::{Context, IRStatus};
+use pliron_meaning::OptError;
+use pliron_meaning::bench::{print_text, read_text};
 use std::alloc::{AllocError, Global};
 use std::io::{ErrorKind, Read, Write};
 use thiserror::Error;
@@ -66,15 +69,24 @@ fn read_input<R: Read>(alloc: Global, input: &mut R) -> Result<Vec<u8>, Failure>
     Err(Failure::Reading)
 }
 
-/// What the program writes for a text.
-fn answer(alloc: Global, text: &[u8]) -> Result<String, Failure> {
-    if text.len() > MAX_TEXT {
-        return Err(Failure::Text);
-    }
+/// What the arguments ask for.
+#[derive(Clone, Copy, Debug, PartialEq, Eq)]
+enum Command {
+    /// The optimisation of a text.
+    Propagate,
+    /// The orders of a graph, its search numbers and the kinds of its edges.
+    Graph,
+}
+
+/// What the program writes for a text that is to be optimised.
+fn optimised(alloc: Global, text: &[u8]) -> Result<String, Failure> {
     let mut ctx = Context::new(alloc);
     let Some(root) = read_text(alloc, text, &mut ctx)? else {
         return Err(Failure::Text);
     };
+    if !is_straight(alloc, root, &ctx)? {
+        return Err(Failure::Text);
+    }
     let status = sccp(alloc, root, &mut ctx)?;
     let mut printed = print_text(alloc, root, &ctx)?;
     printed.push_str(match status {
@@ -84,11 +96,31 @@ fn answer(alloc: Global, text: &[u8]) -> Result<String, Failure> {
     Ok(printed)
 }
 
-/// Whether the arguments ask for what the program does.
-fn is_understood(args: &[String]) -> bool {
+/// What the program writes for a graph.
+fn described(alloc: Global, text: &[u8]) -> Result<String, Failure> {
+    match read_graph(alloc, text)? {
+        Some(graph) => Ok(print_graph(alloc, &graph)?),
+        None => Err(Failure::Text),
+    }
+}
+
+/// What the program writes for a text.
+fn answer(alloc: Global, command: Command, text: &[u8]) -> Result<String, Failure> {
+    if text.len() > MAX_TEXT {
+        return Err(Failure::Text);
+    }
+    match command {
+        Command::Propagate => optimised(alloc, text),
+        Command::Graph => described(alloc, text),
+    }
+}
+
+/// What the arguments ask for, if they are understood.
+fn asked(args: &[String]) -> Option<Command> {
     match args {
-        [list] => list.as_str() == "sccp",
-        _ => false,
+        [word] if word.as_str() == "sccp" => Some(Command::Propagate),
+        [word] if word.as_str() == "graph" => Some(Command::Graph),
+        _ => None,
     }
 }
 
@@ -98,11 +130,11 @@ fn run<R: Read, W: Write>(
     input: &mut R,
     output: &mut W,
 ) -> Result<(), Failure> {
-    if !is_understood(args) {
+    let Some(command) = asked(args) else {
         return Err(Failure::Arguments);
-    }
+    };
     let text = read_input(alloc, input)?;
-    let answer = answer(alloc, &text)?;
+    let answer = answer(alloc, command, &text)?;
     if output.write_all(answer.as_bytes()).is_err() || output.flush().is_err() {
         return Err(Failure::Writing);
     }

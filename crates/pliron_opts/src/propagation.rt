@@ -1,21 +1,25 @@
 //! Constant propagation of a straight block.
-ghost use Rattle.std.specs.Prelude.{◌≡◌, ◌∷◌, [], ℕ, nat_eq, if◌then◌else◌, map, Some, None, IsSome, IfOk, OnOk, OnErr, length, ◌<◌};
-ghost use Rattle.std.specs.Prelude.{FitsSigned, ℤ, IfSome};
+ghost use Rattle.std.specs.Prelude.{OnErr, ◌≡◌, ◌∷◌, [], ℕ, nat_eq, if◌then◌else◌, map, Some, None, IfOk, OnOk, FitsSigned, ℤ, IfSome};
 ghost use Rattle.std.specs.Int.{w64};
 ghost use Rattle.pliron_core.specs.declared.attrs.AttrObj.TheVariants.{Int};
 ghost use Rattle.pliron_core.specs.Tree.{IsLive, head_of};
-ghost use Rattle.pliron_opts.specs.Bench.{entry_of, written, line_in};
+ghost use Rattle.pliron_core.specs.Changes.{IsSameTree};
+ghost use Rattle.pliron_core.specs.Erased.{IsSelfContained};
+ghost use Rattle.pliron_meaning.specs.Agree.{Agree};
+ghost use Rattle.pliron_meaning.specs.Keeps.{KeepsRuns};
+ghost use Rattle.pliron_meaning.specs.BenchMoves.{bench};
+ghost use Rattle.pliron_opts.specs.Lines.{entry_of, written, line_in};
 ghost use Rattle.pliron_opts.specs.Collected.{AreCollected, CanMaterialise, number_at};
 ghost use Rattle.pliron_opts.specs.Visits.{CanVisit, IsVisited};
-ghost use Rattle.pliron_opts.specs.Propagation.{materialised, folded, IsPropagated};
-ghost use Rattle.pliron_opts.specs.Straight.{IsScoped, IsStraight, lines_at, data_of};
+ghost use Rattle.pliron_opts.specs.Propagation.{folded, IsPropagated};
+ghost use Rattle.pliron_opts.specs.Straight.{IsScoped, IsStraight, lines_at};
 
-use crate::dialect::{BenchKind, constant_head};
-use crate::fault::OptError;
 use crate::walk::block_operations;
-use pliron_core::{
-    AttrObj, Context, IRRewriter, IRStatus, NoMemory, Operation, Ptr, Rewriter, Value,
-};
+use pliron_core::{AttrObj, Context, IRRewriter, IRStatus, Operation, Ptr, Value};
+use pliron_meaning::OptError;
+use pliron_meaning::bench::{Bench, BenchKind};
+use pliron_meaning::rewrites::replace_result_by_constant;
+use pliron_meaning::theory::{facts_are_read, runs_kept};
 use std::alloc::{AllocError, Global};
 use std::collections::HashMap;
 
@@ -110,46 +114,36 @@ fn collect(alloc: Global, ctx: &Context, ops: &[Ptr<Operation>]) -> Result<Vec<F
     Ok(folds)
 }
 
-/// Puts a new constant directly before an operation, and gives it the uses of the operation's
-/// result.
-fn materialise(
-    alloc: Global,
-    ctx: &mut Context,
-    op: Ptr<Operation>,
-    number: i64,
-) -> Result<(), NoMemory>
-    requires { CanMaterialise ctx.old.tree op }
-    ensures { OnOk result (ctx.new.tree ≡ materialised ctx.old.tree op number) }
+/// Puts a constant of its number directly before an operation that folds, if it has one, and gives it
+/// the uses of the operation's result.
+///
+/// Errors: want of memory, which leaves the tree as it was but for spent keys.
+fn fold_in_place(alloc: Global, ctx: &mut Context, fold: Fold) -> Result<IRStatus, OptError>
+    requires { IfSome fold.answer (λ number. CanMaterialise ctx.old.tree fold.op number) }
+    ensures folded { OnOk result (ctx.new.tree ≡ folded ctx.old.tree fold.op fold.answer) }
+    ensures refused { OnErr result (IsSameTree ctx.old.tree ctx.new.tree) }
+    ensures runs { KeepsRuns bench ctx.old.tree ctx.new.tree }
 {
-    ctx.well_formed();
-    let old = op.get_result(ctx, 0);
-    let constant = Operation::create(ctx, constant_head(alloc, number)?, 1, 0)?;
-    ctx.well_formed();
+    runs_kept();
+    let Some(number) = fold.answer else {
+        return Ok(IRStatus::Unchanged);
+    };
+    let constant = AttrObj::Int(number as i128);
     let mut rewriter = IRRewriter::new();
-    rewriter.set_insertion_point_before_operation(op);
-    rewriter.insert_operation(ctx, constant)?;
-    ctx.well_formed();
-    let new = constant.get_result(ctx, 0);
-    rewriter.replace_value_uses_with(ctx, old, new)?;
-    Ok(())
-}
-
-/// Materialises the number of an operation that folds, if it has one.
-fn fold_in_place(alloc: Global, ctx: &mut Context, fold: Fold) -> Result<IRStatus, NoMemory>
-    requires { IfSome fold.answer (λ number. CanMaterialise ctx.old.tree fold.op) }
-    ensures { OnOk result (ctx.new.tree ≡ folded ctx.old.tree fold.op fold.answer) }
-{
-    match fold.answer {
-        None => Ok(IRStatus::Unchanged),
-        Some(number) => {
-            materialise(alloc, ctx, fold.op, number)?;
-            Ok(IRStatus::Changed)
-        }
-    }
+    replace_result_by_constant::<Bench, IRRewriter>(
+        alloc,
+        fold.op,
+        0,
+        &constant,
+        ctx,
+        &mut rewriter,
+    )
 }
 
 /// Propagates constants through the one block of a `func`: before each `add` whose operands are known,
-/// a constant of the sum, wrapped to 64 signed bits, takes over the uses of its result.
+/// a constant of the sum, wrapped to 64 signed bits, takes over the uses of its result. Every run of
+/// every root that is fit to run is what it was, whatever the answer, and so is every run of the `func`
+/// itself where nothing outside it uses what it makes.
 ///
 /// Asks that the `func` is straight. Errors: want of memory.
 /// Cost: one step for each operation and each use.
@@ -157,8 +151,11 @@ pub fn sccp(alloc: Global, root: Ptr<Operation>, ctx: &mut Context) -> Result<IR
     requires { IsStraight ctx.old.tree root }
     ensures propagated { OnOk result (IsPropagated ctx.old.tree ctx.new.tree root) }
     ensures straight { OnOk result (IsStraight ctx.new.tree root) }
-    ensures same_data { OnOk result (data_of ctx.new.tree root ≡ data_of ctx.old.tree root) }
+    ensures runs { KeepsRuns bench ctx.old.tree ctx.new.tree }
+    ensures agrees { IsSelfContained ctx.old.tree root → Agree bench ctx.old.tree ctx.new.tree root }
 {
+    facts_are_read::<Bench>();
+    runs_kept();
     ctx.well_formed();
     let Some(block) = root.get_region(ctx, 0).get_head(ctx) else {
         unreachable!();

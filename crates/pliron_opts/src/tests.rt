@@ -1,3 +1,4 @@
+mod graphs;
 mod streams;
 
 use crate::{OptError, plir_run};
@@ -190,7 +191,7 @@ fn bad_arguments(rt: HostRuntime) -> Result<(), Fail> {
     let usage = "usage: plir_opt LIST, or plir_opt graph\n";
     let lists: [&[&str]; 8] = [
         &[],
-        &["graph"],
+        &["graph", "graph"],
         &["dce"],
         &["sccp,sccp"],
         &["sccp", "sccp"],

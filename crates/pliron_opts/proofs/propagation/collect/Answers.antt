@@ -1,7 +1,6 @@
-use Rattle.std.proofs.Common.{◌≡◌, ◌≤◌, ◌<◌, ◌+◌, ◌++◌, ◌∷◌, List, [], ℕ, length, drop, get_or, sym, ap, ◌∙◌, subst, arith, Some, None}
-use Rattle.pliron_opts.specs.declared.propagation.Fold.{Fold}
+use Rattle.std.proofs.Common.{◌≡◌, ◌≤◌, ◌+◌, ◌++◌, ◌∷◌, [], length, drop, sym, ap, ◌∙◌, subst, arith, Some, None}
 use Rattle.std.proofs.lemmas.List.{drop_more}
-use Rattle.pliron_opts.specs.Bench.{line_in, entry_of}
+use Rattle.pliron_opts.specs.Lines.{line_in, entry_of}
 use Rattle.pliron_opts.specs.Visits.{IsVisited}
 use Rattle.pliron_opts.proofs.Stages.{drop-past}
 use Rattle.pliron_opts.proofs.CollectLemmas.{IsCollecting, collect-start, collect-can, collect-some, collect-none, collect-end}

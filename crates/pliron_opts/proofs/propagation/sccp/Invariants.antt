@@ -1,7 +1,5 @@
 use Rattle.std.proofs.Common.{drop}
-use Rattle.pliron_opts.specs.Straight.{region_of, block_of, data_of}
-use Rattle.pliron_opts.specs.Propagation.{chain}
-use Rattle.pliron_opts.proofs.Stages.{IsStage, IsLeft}
+use Rattle.pliron_opts.proofs.Stages.{IsLeft}
 use Rattle.pliron_opts.proofs.propagation.sccp.Given as goal
 
 abbrev pub invariant-loop-fold : goal.invariant-loop-fold

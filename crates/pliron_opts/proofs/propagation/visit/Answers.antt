@@ -1,8 +1,8 @@
-use Rattle.std.proofs.Common.{◌≡◌, ℤ, ◌+ℤ◌, ◌∙◌, sym, rules, arith}
-use Rattle.std.specs.Int.{w64, int_wrap, int_wrapping_add}
+use Rattle.std.proofs.Common.{◌≡◌, ◌∙◌, sym, rules, arith}
+use Rattle.std.specs.Int.{w64, int_wrapping_add}
 use Rattle.std.proofs.lemmas.Int.{wrapping_add_is}
 use mir.Val.{SFits}
-use Rattle.pliron_opts.specs.Bench.{entry_of, line_in}
+use Rattle.pliron_opts.specs.Lines.{entry_of, line_in}
 use Rattle.pliron_opts.proofs.CollectLemmas.{visited-sum}
 use Rattle.pliron_opts.proofs.propagation.visit.Goals as goal
 

@@ -1,4 +1,4 @@
-use Rattle.std.proofs.Common.{◌≡◌, List, [], ◌∷◌, ◌++◌, ℕ, subst, sym}
+use Rattle.std.proofs.Common.{◌≡◌, [], ◌∷◌, ◌++◌, subst, sym}
 use Rattle.pliron_opts.proofs.WalkLemmas.{IsWalked, walk-live, walk-step}
 use Rattle.pliron_opts.proofs.walk.block_operations.Goals as goal
 
