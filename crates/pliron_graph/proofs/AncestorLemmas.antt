@@ -11,8 +11,8 @@ use Rattle.pliron_core.specs.Walks.{contents}
 use Rattle.pliron_core.proofs.WalkLemmas.{holder_live, inside_step, inside_trans, inside_live-outer, not_inside-itself}
 use Rattle.pliron_core.proofs.WalkStepLemmas.{up_smaller}
 use Rattle.pliron_core.proofs.ContainedLemmas.{within_up}
-use Rattle.pliron_meaning.specs.Datum.{Head}
-use Rattle.pliron_meaning.specs.Answers.{ReadsHead, HeadPasses}
+use Rattle.pliron_laws.specs.Datum.{Head}
+use Rattle.pliron_laws.specs.Answers.{ReadsHead, HeadPasses}
 use Rattle.pliron_graph.specs.Ancestors.{IsAtOrAbove, IsAbove, IsDirectlyIn, IsDirectlyInRegion, IsBlockInside, IsNearest, FindsNearest}
 
 -- a search has come up to here: what is here is one of those that are looked at, and each of them that

@@ -2,11 +2,11 @@
 use Rattle.std.proofs.Common.{◌≡◌, ◌↔◌, ℕ, ◌+◌, ◌<◌, ◌≤◌, Bool, true, false, List, [], ◌∷◌, ◌++◌, length, reverse, slice_get, Some, refl, sym, ◌∙◌, ap, subst, arith, inl, inr, ◌⊎◌, true≢false, IsTrue, length-append}
 use Rattle.std.proofs.lemmas.Option.{slice_get_within}
 use Rattle.std.proofs.lemmas.List.{reverse-reverse}
-use Rattle.pliron_graph.specs.Digraph.{Digraph, IsReached}
-use Rattle.pliron_graph.specs.Search.{IsSearchNumbering}
+use Rattle.pliron_search.specs.Digraph.{Digraph, IsReached}
+use Rattle.pliron_search.specs.Search.{IsSearchNumbering}
 use Rattle.pliron_graph.specs.Components.{ReachEachOther, IsCyclic, Falls, HasGreatest}
 use Rattle.pliron_graph.specs.declared.components.Scc.{Scc}
-use Rattle.pliron_graph.specs.Internal.Membership.{In, in_from, contains_from, in_left, in_right, in_cases}
+use Rattle.pliron_search.specs.Internal.Membership.{In, in_from, contains_from, in_left, in_right, in_cases}
 use Rattle.pliron_graph.specs.Internal.Lowlink.{Rises, IsUnfinished, IsOnTheWay, AreClosed}
 use Rattle.pliron_graph.proofs.ItemLemmas.{in_from_item, item_from_in, item_left, item_right, item_of_reverse}
 use Rattle.pliron_graph.proofs.ComponentLemmas.{Holds}

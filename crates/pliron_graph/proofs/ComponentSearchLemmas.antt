@@ -4,20 +4,20 @@ use Rattle.std.specs.Cmp.{IsEquivalence}
 use Rattle.std.specs.List.{list_any}
 use Rattle.std.proofs.lemmas.Option.{slice_get_within}
 use Rattle.std.proofs.lemmas.List.{length-reverse}
-use Rattle.pliron_graph.specs.Digraph.{Digraph, IsLawful, IsReached}
-use Rattle.pliron_graph.specs.Search.{IsListed, number_in}
+use Rattle.pliron_search.specs.Digraph.{Digraph, IsLawful, IsReached}
+use Rattle.pliron_search.specs.Search.{IsListed, number_in}
 use Rattle.pliron_graph.specs.Components.{ReachEachOther, AreComponents, entry_then_nodes}
 use Rattle.pliron_graph.specs.declared.components.Scc.{Scc}
-use Rattle.pliron_graph.specs.Internal.Membership.{In, in_from, contains_from, any_from_in}
-use Rattle.pliron_graph.specs.Internal.Forest.{leaf, Grows, Grew, preorder, postorder}
-use Rattle.pliron_graph.specs.Internal.Steps.{Unwinds}
+use Rattle.pliron_search.specs.Internal.Membership.{In, in_from, contains_from, any_from_in}
+use Rattle.pliron_search.specs.Internal.Forest.{leaf, Grows, Grew, preorder, postorder}
+use Rattle.pliron_search.specs.Internal.Steps.{Unwinds}
 use Rattle.pliron_graph.specs.Internal.Lowlink.{Tables, IsSearching, Searches, AreTables, entered, closed_of}
 use Rattle.pliron_graph.proofs.ItemLemmas.{item_of_reverse}
-use Rattle.pliron_graph.proofs.NumberingLemmas.{search_from_growth}
+use Rattle.pliron_search.proofs.NumberingLemmas.{search_from_growth}
 use Rattle.pliron_graph.proofs.LawLemmas.{reaches_join}
 use Rattle.pliron_graph.proofs.TakingLemmas.{root_inside, reached_inside}
 use Rattle.pliron_graph.proofs.ComponentLawLemmas.{node_reached}
-use Rattle.pliron_graph.proofs.UnwindingLemmas.{to_push}
+use Rattle.pliron_search.proofs.UnwindingLemmas.{to_push}
 use Rattle.pliron_graph.proofs.ForwardLemmas.{passed_over, gone_through, nothing_left, left_over, grown}
 use Rattle.pliron_graph.proofs.ClosedLemmas.{closed_or_not, from_reverse, in_reverse}
 use Rattle.pliron_graph.proofs.LowlinkLemmas.{search_entered, below_seen}

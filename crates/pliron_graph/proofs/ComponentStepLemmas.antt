@@ -3,13 +3,13 @@ use Rattle.std.proofs.Common.{◌≡◌, ℕ, ◌+◌, ◌<◌, ◌≤◌, Bool,
 use Rattle.std.specs.Cmp.{IsEquivalence}
 use Rattle.std.specs.List.{list_any, All}
 use Rattle.std.proofs.lemmas.Option.{slice_get_within}
-use Rattle.pliron_graph.specs.Digraph.{Digraph, IsLawful}
-use Rattle.pliron_graph.specs.Search.{IsListed, number_in}
-use Rattle.pliron_graph.specs.Internal.Membership.{In, in_left, contains_from}
-use Rattle.pliron_graph.specs.Internal.Steps.{work}
+use Rattle.pliron_search.specs.Digraph.{Digraph, IsLawful}
+use Rattle.pliron_search.specs.Search.{IsListed, number_in}
+use Rattle.pliron_search.specs.Internal.Membership.{In, in_left, contains_from}
+use Rattle.pliron_search.specs.Internal.Steps.{work}
 use Rattle.pliron_graph.specs.Internal.Lowlink.{Tables, IsSearching, Searches, KeepsSearch, Follows, Leaves}
 use Rattle.pliron_graph.proofs.ItemLemmas.{in_from_item}
-use Rattle.pliron_graph.proofs.WorkLemmas.{falls_skipped, falls_visited, falls_left}
+use Rattle.pliron_search.proofs.WorkLemmas.{falls_skipped, falls_visited, falls_left}
 use Rattle.pliron_graph.proofs.WayLemmas.{order, in_last}
 use Rattle.pliron_graph.proofs.PendingLemmas.{all_from_in}
 use Rattle.pliron_graph.proofs.ClosedLemmas.{closed_or_not}

@@ -2,12 +2,12 @@
 use Rattle.std.proofs.Common.{◌≡◌, ℕ, zero, suc, ◌+◌, ◌≤◌, Bool, true, false, true≢false, List, [], ◌∷◌, ◌++◌, length, drop, slice_get, Some, refl, sym, ◌∙◌, ap, subst, arith, inl, inr, append_assoc, append-nil}
 use Rattle.std.specs.List.{list_any, sum_by}
 use Rattle.std.proofs.lemmas.List.{drop_all}
-use Rattle.pliron_graph.specs.Digraph.{Digraph, IsLawful}
-use Rattle.pliron_graph.specs.Internal.Forest.{Forest, leaf, grow, preorder, postorder, Grows, done, skip, visit}
-use Rattle.pliron_graph.specs.Internal.Steps.{Finishes, Unwinds, weight}
-use Rattle.pliron_graph.specs.Internal.Membership.{In, in_from, contains_from}
-use Rattle.pliron_graph.proofs.UnwindingLemmas.{from_push, to_push, drop_next}
-use Rattle.pliron_graph.proofs.WorkLemmas.{total_le, total_new}
+use Rattle.pliron_search.specs.Digraph.{Digraph, IsLawful}
+use Rattle.pliron_search.specs.Internal.Forest.{Forest, leaf, grow, preorder, postorder, Grows, done, skip, visit}
+use Rattle.pliron_search.specs.Internal.Steps.{Finishes, Unwinds, weight}
+use Rattle.pliron_search.specs.Internal.Membership.{In, in_from, contains_from}
+use Rattle.pliron_search.proofs.UnwindingLemmas.{from_push, to_push, drop_next}
+use Rattle.pliron_search.proofs.WorkLemmas.{total_le, total_new}
 
 module _ {N : Type 0} (eq : N → N → Bool) (g : Digraph N) where
   pub passed_over : {p : List N} {w : N} {vs : List N} {f : Forest N} → Grows eq g p (w ∷ vs) f → list_any (eq w) p ≡ true → Grows eq g p vs f

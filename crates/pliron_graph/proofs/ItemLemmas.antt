@@ -2,9 +2,9 @@
 use Rattle.std.proofs.Common.{◌≡◌, ℕ, zero, suc, ◌+◌, ◌-◌, ◌<◌, ◌≤◌, Bool, true, false, not, cond, List, [], ◌∷◌, ◌++◌, length, take, drop, get_or, reverse, Some, slice_get, refl, sym, ◌∙◌, ap, subst, arith, inl, inr, length-append, append_assoc}
 use Rattle.std.proofs.lemmas.List.{get_or-reverse, length-reverse}
 use Rattle.std.proofs.lemmas.Option.{slice_get_within, slice_get-get_or, get_or_from_slice_get}
-use Rattle.pliron_graph.specs.Search.{number_in}
-use Rattle.pliron_graph.specs.Walks.{joined}
-use Rattle.pliron_graph.specs.Internal.Membership.{In, in_left, in_right, in_cases}
+use Rattle.pliron_search.specs.Search.{number_in}
+use Rattle.pliron_search.specs.Walks.{joined}
+use Rattle.pliron_search.specs.Internal.Membership.{In, in_left, in_right, in_cases}
 
 module _ {X : Type 0} where
   pub in_from_item : (xs : List X) (k : ℕ) (v : X) → slice_get xs k ≡ Some v → In xs v

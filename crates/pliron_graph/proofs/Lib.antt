@@ -1,16 +1,6 @@
-pub mod UnwindingLemmas
-pub mod WorkLemmas
-pub mod InsertLemmas
-pub mod TreeLemmas
-pub mod GrowthLemmas
-pub mod NumberingLemmas
 pub mod LawLemmas
-pub mod WalkLemmas
-pub mod PlaceLemmas
-pub mod EdgeKindLemmas
 pub mod ItemLemmas
 pub mod WalkLawLemmas
-pub mod AdjacencyLemmas
 pub mod CallerLemmas
 pub mod ComponentLemmas
 pub mod ComponentLawLemmas
@@ -22,7 +12,6 @@ pub mod PartLemmas
 pub mod ReverseLemmas
 pub mod PreSentinelLemmas
 pub mod ReverseLawLemmas
-pub mod RegionLemmas
 pub mod AncestorLemmas
 pub mod PrecedesLemmas
 pub mod TarjanLemmas

@@ -1,10 +1,10 @@
 -- The low numbers of a search for components, step by step, by the final numbers.
 use Rattle.std.proofs.Common.{◌≡◌, ℕ, ◌+◌, ◌<◌, ◌≤◌, List, [], ◌∷◌, ◌++◌, length, slice_get, Some, sym, ◌∙◌, ap, subst, arith, inl, inr, Contains}
 use Rattle.std.proofs.lemmas.Option.{slice_get_within}
-use Rattle.pliron_graph.specs.Digraph.{Digraph, IsReached}
-use Rattle.pliron_graph.specs.Search.{IsNearest, IsSearchNumbering}
+use Rattle.pliron_search.specs.Digraph.{Digraph, IsReached}
+use Rattle.pliron_search.specs.Search.{IsNearest, IsSearchNumbering}
 use Rattle.pliron_graph.specs.Components.{ReachEachOther}
-use Rattle.pliron_graph.specs.Internal.Membership.{In, in_from, in_left}
+use Rattle.pliron_search.specs.Internal.Membership.{In, in_from, in_left}
 use Rattle.pliron_graph.specs.Internal.Lowlink.{IsOnTheWay, AreLow}
 use Rattle.pliron_graph.proofs.ItemLemmas.{item_from_in}
 use Rattle.pliron_graph.proofs.ComponentLemmas.{Holds, holder_reaches, last_of_path}

@@ -3,12 +3,12 @@ use Rattle.std.proofs.Common.{◌≡◌, ℕ, zero, suc, ◌+◌, ◌<◌, ◌�
 use Rattle.std.specs.Cmp.{IsEquivalence}
 use Rattle.std.specs.List.{list_any}
 use Rattle.std.proofs.lemmas.List.{get_or_append_left, get_or-set_same, get_or-set_other}
-use Rattle.pliron_graph.specs.Digraph.{Digraph, IsLawful, IsReached}
-use Rattle.pliron_graph.specs.Search.{Encloses, IsNearest, IsSearchNumbering, IsSearch, Orders, number_in}
+use Rattle.pliron_search.specs.Digraph.{Digraph, IsLawful, IsReached}
+use Rattle.pliron_search.specs.Search.{Encloses, IsNearest, IsSearchNumbering, IsSearch, Orders, number_in}
 use Rattle.pliron_graph.specs.Components.{ReachEachOther, entry_then_nodes}
-use Rattle.pliron_graph.specs.Internal.Membership.{In, contains_from, in_left, in_right, any_from_in, in_from_any, not_in_from_any}
-use Rattle.pliron_graph.specs.Internal.Forest.{Grew, preorder, postorder}
-use Rattle.pliron_graph.specs.Internal.Steps.{Unwinds}
+use Rattle.pliron_search.specs.Internal.Membership.{In, contains_from, in_left, in_right, any_from_in, in_from_any, not_in_from_any}
+use Rattle.pliron_search.specs.Internal.Forest.{Grew, preorder, postorder}
+use Rattle.pliron_search.specs.Internal.Steps.{Unwinds}
 use Rattle.pliron_graph.specs.Internal.Lowlink.{Tables, AreNested, IsOnTheWay, AreLow, AreClosed, IsSearching, low_of, closed_of, entered, lowered, Closes}
 use Rattle.pliron_graph.proofs.ItemLemmas.{in_from_item, item_left, item_right, item_at_place, place_within, in_first_part, place_in_first_part, place_of_item}
 use Rattle.pliron_graph.proofs.LawLemmas.{reached_next}

@@ -1,10 +1,10 @@
 -- The nodes of a component are taken from the end of a list and marked.
 use Rattle.std.proofs.Common.{◌≡◌, ℕ, zero, suc, ◌<◌, Bool, true, false, List, [], ◌∷◌, ◌++◌, length, reverse, set, get_or, refl, sym, ◌∙◌, ap, subst, arith, inl, inr, append_assoc, append-nil}
 use Rattle.std.proofs.lemmas.List.{get_or-set_same, get_or-set_other, reverse-append, reverse-reverse}
-use Rattle.pliron_graph.specs.Search.{number_in}
+use Rattle.pliron_search.specs.Search.{number_in}
 use Rattle.std.specs.List.{All}
 use Rattle.std.proofs.lemmas.List.Elements.{Contains-get_or}
-use Rattle.pliron_graph.specs.Internal.Membership.{In, in_from, in_left, in_right}
+use Rattle.pliron_search.specs.Internal.Membership.{In, in_from, in_left, in_right}
 use Rattle.pliron_graph.specs.Internal.Lowlink.{Takes}
 use Rattle.pliron_graph.proofs.WayLemmas.{order, in_split, in_last}
 use Rattle.pliron_graph.proofs.ClosedLemmas.{from_reverse, in_reverse}

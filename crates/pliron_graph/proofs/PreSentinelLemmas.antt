@@ -4,14 +4,14 @@ use Rattle.std.specs.List.{All, list_any, IsDistinct}
 use Rattle.std.proofs.lemmas.List.{take_all, take_more}
 use Rattle.std.proofs.lemmas.List.Elements.{All-more, All-get_or, All-contains, Contains-get_or, Contains-append_left, Contains-push, Contains-push_cases}
 use Rattle.std.proofs.lemmas.Option.{slice_get_within, slice_get-get_or}
-use Rattle.pliron_graph.specs.Digraph.{Digraph, Reaches}
-use Rattle.pliron_graph.specs.Search.{number_in}
+use Rattle.pliron_search.specs.Digraph.{Digraph, Reaches}
+use Rattle.pliron_search.specs.Search.{number_in}
 use Rattle.pliron_graph.specs.Components.{AreComponents, Falls}
 use Rattle.pliron_graph.specs.declared.components.Scc.{Scc}
 use Rattle.pliron_graph.specs.Reverse.{IsSink, IsLastListed, IsInEarlier, AreLastOfSinks, ArePreSentinels}
-use Rattle.pliron_graph.specs.Internal.Membership.{In, contains_from, in_from, in_from_any, any_from_in}
-use Rattle.pliron_graph.proofs.GrowthLemmas.{Distinct}
-use Rattle.pliron_graph.proofs.PlaceLemmas.{is_distinct}
+use Rattle.pliron_search.specs.Internal.Membership.{In, contains_from, in_from, in_from_any, any_from_in}
+use Rattle.pliron_search.proofs.GrowthLemmas.{Distinct}
+use Rattle.pliron_search.proofs.PlaceLemmas.{is_distinct}
 use Rattle.pliron_graph.proofs.ItemLemmas.{in_from_item, item_from_in, item_left, item_right, item_at_place, place_within}
 
 pub below_or_not : (m n : ℕ) → (m < n) ⊎ (n ≤ m)

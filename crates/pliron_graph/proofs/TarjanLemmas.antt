@@ -1,7 +1,7 @@
 -- What the search numbers say of components while a depth-first search goes on: the facts that a table of lowest numbers rests on.
 use Rattle.std.proofs.Common.{◌≡◌, ℕ, zero, suc, ◌<◌, ◌≤◌, List, [], ◌∷◌, refl, sym, ap, subst, arith, inl, inr, ◌⊎◌, Contains}
-use Rattle.pliron_graph.specs.Digraph.{Digraph, IsPath, Reaches, IsReached}
-use Rattle.pliron_graph.specs.Search.{Encloses, IsNearest, IsSearchNumbering}
+use Rattle.pliron_search.specs.Digraph.{Digraph, IsPath, Reaches, IsReached}
+use Rattle.pliron_search.specs.Search.{Encloses, IsNearest, IsSearchNumbering}
 use Rattle.pliron_graph.specs.Components.{ReachEachOther}
 use Rattle.pliron_graph.proofs.LawLemmas.{reaches_join, reached_next}
 use Rattle.pliron_graph.proofs.ComponentLemmas.{Holds, holder_reaches, last_of_path}

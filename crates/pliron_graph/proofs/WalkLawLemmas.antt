@@ -3,11 +3,11 @@ use Rattle.std.proofs.Common.{◌≡◌, ℕ, suc, ◌+◌, ◌-◌, ◌<◌, �
 use Rattle.std.proofs.lemmas.List.Elements.{All-contains}
 use Rattle.std.proofs.lemmas.Option.{slice_get_within}
 use Rattle.std.proofs.lemmas.List.{length-reverse}
-use Rattle.pliron_graph.specs.Digraph.{Digraph, IsLawful, IsPath, Reaches, IsReached}
-use Rattle.pliron_graph.specs.Search.{Encloses, IsSearchNumbering, StandsBefore, number_in}
-use Rattle.pliron_graph.specs.Walks.{joined, IsWalk, AreWalks}
+use Rattle.pliron_search.specs.Digraph.{Digraph, IsLawful, IsPath, Reaches, IsReached}
+use Rattle.pliron_search.specs.Search.{Encloses, IsSearchNumbering, StandsBefore, number_in}
+use Rattle.pliron_search.specs.Walks.{joined, IsWalk, AreWalks}
 use Rattle.pliron_graph.specs.Laws.{IsFirstOutside, IsWalkFrom}
-use Rattle.pliron_graph.specs.Internal.Membership.{In, in_from, contains_from, in_right, in_cases, in_from_any, any_from_in}
+use Rattle.pliron_search.specs.Internal.Membership.{In, in_from, contains_from, in_right, in_cases, in_from_any, any_from_in}
 use Rattle.pliron_graph.proofs.ItemLemmas.{in_from_item, item_from_in, item_left, item_right, item_of_reverse, item_in_reverse, split_joined, start_of_later, in_joined, list_of_joined, item_at_place, place_at_most, place_within, in_first_part, place_in_first_part, place_of_item}
 use Rattle.pliron_graph.proofs.LawLemmas.{edge_law, enclosed_reached, reached_next}
 

@@ -2,10 +2,10 @@
 use Rattle.std.proofs.Common.{◌≡◌, ℕ, zero, suc, ◌+◌, ◌-◌, ◌<◌, ◌≤◌, List, [], ◌∷◌, ◌++◌, length, reverse, slice_get, Some, refl, sym, ◌∙◌, ap, subst, arith, inl, inr, ◌⊎◌, Contains}
 use Rattle.std.proofs.lemmas.Option.{slice_get_within}
 use Rattle.std.proofs.lemmas.List.{length-reverse}
-use Rattle.pliron_graph.specs.Digraph.{Digraph, IsReached}
-use Rattle.pliron_graph.specs.Search.{Encloses, IsNearest, IsSearchNumbering}
+use Rattle.pliron_search.specs.Digraph.{Digraph, IsReached}
+use Rattle.pliron_search.specs.Search.{Encloses, IsNearest, IsSearchNumbering}
 use Rattle.pliron_graph.specs.Components.{ReachEachOther, Falls}
-use Rattle.pliron_graph.specs.Internal.Membership.{In, in_left, in_right, in_cases}
+use Rattle.pliron_search.specs.Internal.Membership.{In, in_left, in_right, in_cases}
 use Rattle.pliron_graph.specs.Internal.Lowlink.{Rises, AreNested, IsUnfinished, IsOnTheWay}
 use Rattle.pliron_graph.proofs.ItemLemmas.{in_from_item, item_of_reverse}
 use Rattle.pliron_graph.proofs.LawLemmas.{reaches_join, reached_next}

@@ -1,11 +1,4 @@
 -- What contracts inside the crate, the proofs of laws and the tests cite. No public clause names it.
-pub mod Forest
-pub mod Steps
-pub mod Membership
-pub mod AddedEdges
-pub mod AdjacencyLawful
 pub mod Collecting
 pub mod ReverseLawful
-pub mod RegionLawful
-pub mod Sources
 pub mod Lowlink

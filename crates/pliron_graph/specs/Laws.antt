@@ -1,9 +1,9 @@
 -- Laws of every list of walks, every search and every list of components, which users rely on.
 use Rattle.std.specs.Prelude.{◌≡◌, ℕ, ◌<◌, ◌≤◌, ◌⊎◌, ◌↔◌, Bool, List, Contains, slice_get, Some, take, reverse}
-use Rattle.pliron_graph.specs.Digraph.{Digraph, IsLawful, Reaches, HasCycle}
-use Rattle.pliron_graph.specs.Search.{Orders, IsSearch, StandsBefore}
-use Rattle.pliron_graph.specs.Walks.{joined, AreWalks}
-use Rattle.pliron_graph.specs.EdgeKinds.{HasBackEdge}
+use Rattle.pliron_search.specs.Digraph.{Digraph, IsLawful, Reaches, HasCycle}
+use Rattle.pliron_search.specs.Search.{Orders, IsSearch, StandsBefore}
+use Rattle.pliron_search.specs.Walks.{joined, AreWalks}
+use Rattle.pliron_search.specs.EdgeKinds.{HasBackEdge}
 use Rattle.pliron_graph.specs.Components.{AreComponents}
 use Rattle.pliron_graph.specs.declared.components.Scc.{Scc}
 

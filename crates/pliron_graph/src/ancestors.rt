@@ -3,11 +3,11 @@
 ghost use Rattle.std.specs.Prelude.{◌≡◌, ◌↔◌, IsTrue, IfSome};
 ghost use Rattle.pliron_core.specs.Tree.{IsLive, IsBlock, IsInside, parent_of};
 ghost use Rattle.pliron_core.specs.Erased.{StandsIn, IsBlockWithin};
-ghost use Rattle.pliron_meaning.specs.Answers.{HeadPasses};
+ghost use Rattle.pliron_laws.specs.Answers.{HeadPasses};
 ghost use Rattle.pliron_graph.specs.Ancestors.{IsAtOrAbove, IsAbove, IsDirectlyInBlock, IsDirectlyIn, IsDirectlyInRegion, IsBlockInside, FindsNearest, StrictlyPrecedes};
 
 use pliron_core::{BasicBlock, Context, Operation, Ptr, Region};
-use pliron_meaning::{Dialect, Interface};
+use pliron_laws::{Dialect, Interface};
 
 // Whether both operations stand in one block, or both in none.
 fn have_one_parent(ctx: &Context, a: Ptr<Operation>, b: Ptr<Operation>) -> bool

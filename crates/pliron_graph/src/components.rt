@@ -3,14 +3,14 @@ ghost use Rattle.std.specs.Prelude.{◌≡◌, ◌↔◌, ◌++◌, ◌∷◌, [
 ghost use Rattle.std.specs.List.{All, list_any};
 ghost use Rattle.indexmap.specs.IndexSet.{contains};
 ghost use Rattle.pliron_graph.specs.Components.{AreComponents, IsCyclic, entry_then_nodes};
-ghost use Rattle.pliron_graph.specs.Search.{IsListed, number_in};
-ghost use Rattle.pliron_graph.specs.Internal.Membership.{In};
-ghost use Rattle.pliron_graph.specs.Internal.Steps.{work};
+ghost use Rattle.pliron_search.specs.Search.{IsListed, number_in};
+ghost use Rattle.pliron_search.specs.Internal.Membership.{In};
+ghost use Rattle.pliron_search.specs.Internal.Steps.{work};
 ghost use Rattle.pliron_graph.specs.Internal.Lowlink.{AreTables, Closes, KeepsSearch, Leaves, Searches, SearchesFrom, EndsRoot, Takes, Follows, entered, tables_of};
 
-use crate::ControlFlowGraph;
+use pliron_search::ControlFlowGraph;
 use indexmap::IndexSet;
-use pliron_meaning::OptError;
+use pliron_laws::OptError;
 use std::alloc::Global;
 use std::hash::Hash;
 

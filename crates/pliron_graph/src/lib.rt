@@ -15,36 +15,23 @@
 //! No call goes deeper with the graph: each search has a stack of its own.
 #![tactic(auto)]
 
-mod adjacency;
 mod ancestors;
 mod components;
-mod edge_kind;
-mod graph;
-mod iterators;
 pub mod laws;
-mod orders;
 mod pre_sentinels;
-mod region;
 mod reverse_graph;
 mod reverse_node;
-mod search;
-#[cfg(test)]
-mod tests;
-mod traversal;
 
-pub use adjacency::AdjacencyList;
 pub use ancestors::{
     find_ancestor_block_of_block_in_region, find_ancestor_block_of_op_in_region,
     find_ancestor_of_op_interface, find_ancestor_of_op_type, find_ancestor_op_of_op_in_block,
     find_ancestor_op_of_op_in_region, strictly_precedes_in_block,
 };
 pub use components::{Scc, sccs_in_topological_order};
-pub use edge_kind::DFSEdgeKind;
-pub use graph::{ControlFlowGraph, HasLabel};
-pub use iterators::{OrderIter, ReverseOrderIter};
-pub use orders::{
-    post_order, post_order_by_component, topological_order, topological_order_by_component,
+pub use pliron_search::{
+    AdjacencyList, ControlFlowGraph, DFSEdgeKind, DFSTraversal, HasLabel, OrderIter,
+    ReverseOrderIter, post_order, post_order_by_component, topological_order,
+    topological_order_by_component,
 };
 pub use reverse_graph::ReverseGraph;
 pub use reverse_node::ReverseNode;
-pub use traversal::DFSTraversal;

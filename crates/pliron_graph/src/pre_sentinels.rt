@@ -1,13 +1,14 @@
 //! The nodes that the sentinel of a reverse graph stands in front of.
 ghost use Rattle.std.specs.Prelude.{◌≡◌, ◌↔◌, ◌<◌, ◌≤◌, IsTrue, Some, Contains, IfOk, IsOkUnless, length};
 ghost use Rattle.std.specs.List.{All, IsDistinct};
-ghost use Rattle.pliron_graph.specs.Search.{IsListed, number_in};
+ghost use Rattle.pliron_search.specs.Search.{IsListed, number_in};
 ghost use Rattle.pliron_graph.specs.Reverse.{ArePreSentinels, IsLastListed, IsSink};
 
-use crate::traversal::numbered;
-use crate::{ControlFlowGraph, sccs_in_topological_order};
+use pliron_search::traversal::numbered;
+use crate::sccs_in_topological_order;
+use pliron_search::ControlFlowGraph;
 use indexmap::IndexSet;
-use pliron_meaning::OptError;
+use pliron_laws::OptError;
 use std::alloc::Global;
 use std::hash::Hash;
 

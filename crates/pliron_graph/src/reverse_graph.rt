@@ -1,15 +1,16 @@
 //! The reverse of a graph.
 ghost use Rattle.std.specs.Prelude.{◌≡◌, ◌++◌, ◌∷◌, [], Contains, IfOk, IsOkUnless, Some, length, map, refl, slice_get};
 ghost use Rattle.std.specs.List.{All, IsDistinct};
-ghost use Rattle.pliron_graph.specs.Search.{IsListed, number_in};
+ghost use Rattle.pliron_search.specs.Search.{IsListed, number_in};
 ghost use Rattle.pliron_graph.specs.Reverse.{ArePreSentinels, Reversed, Fits, reverse_of, reverse_pred};
 ghost use Rattle.pliron_graph.specs.Internal.ReverseLawful.{reverse_lawful};
 
 use crate::pre_sentinels::find_pre_sentinels;
-use crate::traversal::numbered;
-use crate::{ControlFlowGraph, OrderIter, ReverseNode};
+use pliron_search::traversal::numbered;
+use crate::ReverseNode;
+use pliron_search::{ControlFlowGraph, OrderIter};
 use indexmap::IndexSet;
-use pliron_meaning::OptError;
+use pliron_laws::OptError;
 use std::alloc::Global;
 use std::marker::Model;
 

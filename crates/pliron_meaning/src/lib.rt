@@ -1,33 +1,20 @@
 //! What a program means, and what a dialect owes: the definitions and laws that the passes of this
-//! repository are proved against.
+//! repository are proved against, under the names that users take. What stands here is made in the crates
+//! below; this one has no function of its own.
 //!
 //! A dialect implements [`Dialect`] and its parents, and proves the laws that stand there as members.
 //! `docs/DIALECTS.md` says how, on the dialect [`Tiny`]. The functions of [`theory`] hold what passes
 //! conclude from the laws: which rewrites keep every run.
 #![tactic(auto)]
 
-mod arguments;
 pub mod bench;
-mod dialect;
-mod edges;
-pub mod evaluator;
-mod fault;
-mod materialise;
-mod reads;
-pub mod rewrites;
-mod room;
-pub mod theory;
-mod tiny;
 
-pub use arguments::lose_forwarded;
-pub use dialect::{
+pub use pliron_evaluator::evaluator as evaluator;
+pub use pliron_evaluator::{Tiny, TinyKind};
+pub use pliron_laws::{
     BlockArgRemoval, BranchOpFoldInterface, ConstFoldInterface, Dialect, HasMeaning, Interface,
-    SideEffects,
+    OptError, Room, SideEffects, edges_last,
 };
-pub use edges::edges_last;
-pub use fault::OptError;
-pub use room::Room;
-pub use tiny::{Tiny, TinyKind};
-
-#[cfg(test)]
-mod tests;
+pub use pliron_theory::lose_forwarded;
+pub use pliron_theory::rewrites as rewrites;
+pub use pliron_theory::theory as theory;

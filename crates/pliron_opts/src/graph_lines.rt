@@ -1,15 +1,15 @@
 //! What `plir_opt graph` prints.
 ghost use Rattle.std.specs.Prelude.{Contains, nat_eq};
 ghost use Rattle.std.specs.Option.{option_to_list};
-ghost use Rattle.pliron_graph.specs.Adjacency.{AreInverse, graph_of};
-ghost use Rattle.pliron_graph.specs.Search.{IsSearch, IsListed};
+ghost use Rattle.pliron_search.specs.Adjacency.{AreInverse, graph_of};
+ghost use Rattle.pliron_search.specs.Search.{IsSearch, IsListed};
 
 use crate::numbered_graph::NumberedGraph;
 use pliron_graph::{
     ControlFlowGraph, DFSTraversal, ReverseGraph, post_order_by_component,
     sccs_in_topological_order, topological_order_by_component,
 };
-use pliron_meaning::OptError;
+use pliron_laws::OptError;
 use std::alloc::Global;
 
 /// A list of nodes in brackets, after a blank.

@@ -1,17 +1,13 @@
 //! Optimisations of trees of operations, and the program that runs them.
+//!
+//! The optimisations stand in crates below, beside one another; this one passes their names on and knows of
+//! texts, arguments and streams.
 #![tactic(auto)]
 
 mod graph_lines;
 mod numbered_graph;
 mod program;
-mod propagation;
-mod straight;
-mod walk;
 
-pub use pliron_meaning::OptError;
+pub use pliron_laws::OptError;
+pub use pliron_sccp::{is_straight, sccp};
 pub use program::plir_run;
-pub use propagation::sccp;
-pub use straight::is_straight;
-
-#[cfg(test)]
-mod tests;

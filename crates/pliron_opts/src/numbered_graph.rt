@@ -1,9 +1,9 @@
 //! Graphs as texts: what `plir_opt graph` reads.
 ghost use Rattle.std.specs.Prelude.{◌<◌, ◌≤◌, ◌≡◌, IfOk, IfSome, length};
-ghost use Rattle.pliron_graph.specs.Adjacency.{AreInverse};
+ghost use Rattle.pliron_search.specs.Adjacency.{AreInverse};
 
 use pliron_graph::AdjacencyList;
-use pliron_meaning::OptError;
+use pliron_laws::OptError;
 use std::alloc::{AllocError, Global};
 use std::collections::BTreeMap;
 

@@ -1,11 +1,10 @@
 //! The program: from arguments and bytes to bytes and a status.
 use crate::graph_lines::print_graph;
 use crate::numbered_graph::read_graph;
-use crate::propagation::sccp;
-use crate::straight::is_straight;
 use pliron_core::{Context, IRStatus};
-use pliron_meaning::OptError;
-use pliron_meaning::bench::{print_text, read_text};
+use pliron_laws::OptError;
+use pliron_notation::{print_text, read_text};
+use pliron_sccp::{is_straight, sccp};
 use std::alloc::{AllocError, Global};
 use std::io::{ErrorKind, Read, Write};
 use thiserror::Error;
@@ -81,14 +80,18 @@ enum Command {
 /// What the program writes for a text that is to be optimised.
 fn optimised(alloc: Global, text: &[u8]) -> Result<String, Failure> {
     let mut ctx = Context::new(alloc);
-    let Some(root) = read_text(alloc, text, &mut ctx)? else {
+    optimised_in(alloc, text, &mut ctx)
+}
+
+fn optimised_in(alloc: Global, text: &[u8], ctx: &mut Context) -> Result<String, Failure> {
+    let Some(root) = read_text(alloc, text, ctx)? else {
         return Err(Failure::Text);
     };
-    if !is_straight(alloc, root, &ctx)? {
+    if !is_straight(alloc, root, ctx)? {
         return Err(Failure::Text);
     }
-    let status = sccp(alloc, root, &mut ctx)?;
-    let mut printed = print_text(alloc, root, &ctx)?;
+    let status = sccp(alloc, root, ctx)?;
+    let mut printed = print_text(alloc, root, ctx)?;
     printed.push_str(match status {
         IRStatus::Changed => "\nchanged\n",
         IRStatus::Unchanged => "\nunchanged\n",

@@ -1,11 +1,11 @@
 -- The collection of a component over predecessors, which contracts inside the crate cite.
 use Rattle.std.specs.Prelude.{◌≡◌, Bool, IsTrue, List, [], ◌∷◌, ◌++◌, Contains, ◌↔◌}
 use Rattle.std.specs.List.{IsDistinct}
-use Rattle.pliron_graph.specs.Digraph.{Digraph}
-use Rattle.pliron_graph.specs.Search.{number_in}
+use Rattle.pliron_search.specs.Digraph.{Digraph}
+use Rattle.pliron_search.specs.Search.{number_in}
 use Rattle.pliron_graph.specs.Components.{Falls, IsCyclic}
 use Rattle.pliron_graph.specs.declared.components.Scc.{Scc}
-use Rattle.pliron_graph.specs.Internal.Membership.{In}
+use Rattle.pliron_search.specs.Internal.Membership.{In}
 
 -- new is old with those of xs that it lacked
 pub record TakesIn {N : Type 0} (eq : N → N → Bool) (xs old new : List N) : Type 0 where

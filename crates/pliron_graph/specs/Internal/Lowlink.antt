@@ -1,14 +1,14 @@
 -- What a search for components knows while it goes on, which contracts inside the crate cite.
 use Rattle.std.specs.Prelude.{◌≡◌, ◌↔◌, ℕ, ◌<◌, ◌≤◌, min, Bool, true, false, IsTrue, List, [], ◌∷◌, ◌++◌, length, reverse, Contains, slice_get, slice_index_or, slice_set, Some}
 use Rattle.std.specs.List.{list_any}
-use Rattle.pliron_graph.specs.Digraph.{Digraph, IsReached}
-use Rattle.pliron_graph.specs.Search.{Encloses, IsNearest, Orders, IsSearch, IsListed, number_in}
+use Rattle.pliron_search.specs.Digraph.{Digraph, IsReached}
+use Rattle.pliron_search.specs.Search.{Encloses, IsNearest, Orders, IsSearch, IsListed, number_in}
 use Rattle.pliron_graph.specs.Components.{ReachEachOther, IsCyclic, Falls, HasGreatest, entry_then_nodes}
 use Rattle.pliron_graph.specs.declared.components.Scc.{Scc}
 use Rattle.pliron_graph.specs.declared.components.ComponentSearch.{ComponentSearch}
-use Rattle.pliron_graph.specs.Internal.Membership.{In}
-use Rattle.pliron_graph.specs.Internal.Forest.{Grew}
-use Rattle.pliron_graph.specs.Internal.Steps.{Unwinds}
+use Rattle.pliron_search.specs.Internal.Membership.{In}
+use Rattle.pliron_search.specs.Internal.Forest.{Grew}
+use Rattle.pliron_search.specs.Internal.Steps.{Unwinds}
 
 -- the nodes in the order in which the search came to them, for each the lowest number known and whether its component is closed,
 -- the nodes without a component, and the components

@@ -1,4 +1,4 @@
-use Rattle.pliron_meaning.specs.Answers.{HeadPasses}
+use Rattle.pliron_laws.specs.Answers.{HeadPasses}
 use Rattle.pliron_graph.specs.Ancestors.{IsAbove}
 use Rattle.pliron_graph.proofs.AncestorLemmas.{above_smaller, climb_above, climb_on_above, climb_found, climb_none, head_passes, head_fails}
 use Rattle.pliron_graph.proofs.ancestors.find_ancestor_of_op_interface.Goals as goal

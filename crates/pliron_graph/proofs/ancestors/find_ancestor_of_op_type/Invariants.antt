@@ -1,4 +1,4 @@
-use Rattle.pliron_meaning.specs.Answers.{HeadPasses}
+use Rattle.pliron_laws.specs.Answers.{HeadPasses}
 use Rattle.pliron_graph.specs.Ancestors.{IsAbove}
 use Rattle.pliron_graph.proofs.AncestorLemmas.{IsClimb, left_above}
 use Rattle.pliron_graph.proofs.ancestors.find_ancestor_of_op_type.Given as goal

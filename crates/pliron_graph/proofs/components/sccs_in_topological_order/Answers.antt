@@ -4,7 +4,7 @@ use Rattle.std.proofs.lemmas.List.{drop_all}
 use Rattle.pliron_graph.specs.Components.{entry_then_nodes}
 use Rattle.pliron_graph.specs.Internal.Lowlink.{IsSearching, tables_of}
 use Rattle.pliron_graph.proofs.CollectLemmas.{read_item}
-use Rattle.pliron_graph.proofs.UnwindingLemmas.{drop_next}
+use Rattle.pliron_search.proofs.UnwindingLemmas.{drop_next}
 use Rattle.pliron_graph.proofs.ComponentSearchLemmas.{search_begins, root_passed, search_ends}
 use Rattle.pliron_graph.proofs.components.sccs_in_topological_order.Goals as goal
 

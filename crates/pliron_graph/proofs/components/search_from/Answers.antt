@@ -1,5 +1,5 @@
 use Rattle.std.proofs.Common.{rules, ◌≡◌, ◌<◌, length, sym, subst}
-use Rattle.pliron_graph.specs.Internal.Steps.{work}
+use Rattle.pliron_search.specs.Internal.Steps.{work}
 use Rattle.pliron_graph.specs.Internal.Lowlink.{IsSearching, Searches, tables_of}
 use Rattle.pliron_graph.proofs.PendingLemmas.{nil_from_length}
 use Rattle.pliron_graph.proofs.ComponentSearchLemmas.{root_entered}

@@ -1,5 +1,5 @@
 use Rattle.std.proofs.Common.{List, ◌∷◌, []}
-use Rattle.pliron_graph.specs.Internal.Steps.{work}
+use Rattle.pliron_search.specs.Internal.Steps.{work}
 use Rattle.pliron_graph.specs.Internal.Lowlink.{IsSearching, tables_of}
 use Rattle.pliron_graph.proofs.components.search_from.Given as goal
 

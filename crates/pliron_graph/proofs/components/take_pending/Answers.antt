@@ -1,5 +1,5 @@
 use Rattle.std.proofs.Common.{rules, ◌≡◌, ◌<◌, length, true, false, true≢false, set, sym, ◌∙◌, subst, arith, inl, inr}
-use Rattle.pliron_graph.specs.Internal.Membership.{In}
+use Rattle.pliron_search.specs.Internal.Membership.{In}
 use Rattle.pliron_graph.proofs.WayLemmas.{in_split}
 use Rattle.pliron_graph.proofs.PendingLemmas.{taking_none, taking_next, taking_ends, still_there, was_there, length_of_set, nil_from_length}
 use Rattle.pliron_graph.proofs.components.take_pending.Goals as goal

@@ -1,5 +1,5 @@
 use Rattle.std.proofs.Common.{length}
-use Rattle.pliron_graph.specs.Internal.Membership.{In}
+use Rattle.pliron_search.specs.Internal.Membership.{In}
 use Rattle.pliron_graph.proofs.PendingLemmas.{Taking}
 use Rattle.pliron_graph.proofs.components.take_pending.Given as goal
 

@@ -3,7 +3,7 @@ use Rattle.std.specs.List.{All, IsDistinct}
 use Rattle.std.proofs.lemmas.Option.{slice_get_read}
 use Rattle.pliron_graph.specs.Components.{AreComponents}
 use Rattle.pliron_graph.specs.Reverse.{IsSink, IsLastListed}
-use Rattle.pliron_graph.proofs.InsertLemmas.{goes_last}
+use Rattle.pliron_search.proofs.InsertLemmas.{goes_last}
 use Rattle.pliron_graph.proofs.PreSentinelLemmas.{component_distinct, component_inside, last_is_new, last_once, passed_at, added_at}
 use Rattle.pliron_graph.proofs.pre_sentinels.find_pre_sentinels.Goals as goal
 

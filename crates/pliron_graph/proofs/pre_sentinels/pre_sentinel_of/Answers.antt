@@ -1,7 +1,7 @@
 use Rattle.std.proofs.Common.{◌≡◌, ◌≤◌, Some, true, false, get_or, sym, ◌∙◌, ap, subst, Contains, true≢false}
 use Rattle.std.specs.List.{All}
 use Rattle.std.proofs.lemmas.List.Elements.{All-contains}
-use Rattle.pliron_graph.specs.Search.{IsListed, number_in}
+use Rattle.pliron_search.specs.Search.{IsListed, number_in}
 use Rattle.pliron_graph.specs.Reverse.{IsSink, IsLastListed}
 use Rattle.pliron_graph.proofs.PreSentinelLemmas.{contains_listed, last_once}
 use Rattle.pliron_graph.proofs.pre_sentinels.pre_sentinel_of.Goals as goal

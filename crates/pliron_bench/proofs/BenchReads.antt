@@ -1,0 +1,109 @@
+-- What the functions of the dialect read of an operation.
+use Rattle.pliron_core.proofs.GrownLemmas.{range_more}
+use Rattle.std.proofs.Common.{◌≡◌, ℕ, ◌+◌, Bool, true, false, IsSome, List, [], ◌∷◌, ◌++◌, Option, Some, None, length, map, IsTrue, refl, ap, sym, ◌∙◌, subst, arith}
+use Rattle.std.specs.List.{slice_get, range_with_len}
+use Rattle.std.proofs.lemmas.Option.{same_Some}
+use Rattle.pliron_core.specs.declared.attrs.AttrObj.{AttrObj}
+use Rattle.pliron_core.specs.declared.attrs.IRStatus.{IRStatus}
+use Rattle.pliron_core.specs.declared.attrs.IRStatus.TheVariants.{Unchanged}
+use Rattle.pliron_laws.specs.InPlace.{materialising}
+use Rattle.pliron_bench.specs.BenchOutcomes.{kind_in, fold_of, bench_outcome}
+use Rattle.pliron_core.specs.Tree.{Tree, IsLive, head_of, operands_of, successors_of}
+use Rattle.pliron_bench.specs.declared.kind.BenchKind.{BenchKind}
+use Rattle.pliron_bench.specs.declared.kind.BenchKind.TheVariants.{Const, Add, Mul, Div, Cbr}
+use Rattle.pliron_laws.specs.Datum.{Head, Shape}
+use Rattle.pliron_laws.specs.Tree.{Operation, op_at, op_with, shape_of}
+use Rattle.pliron_laws.specs.Acting.{pick}
+use Rattle.pliron_laws.specs.Answers.{AreForwarded, ReadsHead, ReadsShape, ReadsEdges, HeadPasses}
+use Rattle.pliron_bench.specs.Bench.{by_kind, kind_of}
+use Rattle.pliron_bench.specs.BenchNumbers.{known_at}
+use Rattle.pliron_bench.specs.BenchMoves.{bench, places_in, no_places_in, places_of, no_places}
+use Rattle.pliron_bench.specs.BenchAnswers.{bench_folds, bench_constants, bench_accepts, bench_constant_head, is_constant, bench_folds_branch, bench_feasible, folds_of, folds_branch_of, answer_of, constants_of, no_constants, feasible_of, no_jump, taken}
+use Rattle.pliron_laws.proofs.ShapeLemmas.{head_at, operands_at}
+
+same_head : (t : Tree) (op : ℕ) (h : Head) (o : Operation) → head_of t op ≡ Some h → op_at t op ≡ Some o → h ≡ o.head
+same_head t op h o e at = same_Some h o.head (sym e ∙ head_at t op o at)
+
+-- ---- constants
+
+kind_answers : (k : BenchKind) (h : Head) (known : List (Option AttrObj)) → IsTrue (folds_of k) → answer_of k h known ∷ [] ≡ constants_of k h known
+kind_answers Const h known f = refl
+kind_answers Add h known f = refl
+kind_answers Mul h known f = refl
+kind_answers Div h known f = refl
+kind_answers _ h known f = grind arith
+
+pub answers_read : (t : Tree) (op : ℕ) (h : Head) (k : BenchKind) (known items : List (Option AttrObj)) → head_of t op ≡ Some h → Some k ≡ kind_of h.kind → IsTrue (bench_folds h) → items ≡ answer_of k h known ∷ [] → ReadsShape bench (λ s. bench_constants s known) t op items
+unfolding bench_folds bench_constants shape_of
+answers_read t op h k known items e f g i = λ o at.
+    let folds : IsTrue (folds_of k) = subst (λ z. IsTrue (by_kind false folds_of z)) (sym f) g in
+    i ∙ kind_answers k h known folds ∙ ap (λ z. by_kind no_constants constants_of z h known) f ∙ ap (λ z. by_kind no_constants constants_of (kind_of z.kind) z known) (same_head t op h o e at)
+
+pub no_answers_read : (t : Tree) (op : ℕ) (known items : List (Option AttrObj)) → ReadsHead (λ h. kind_of h.kind) t op None → items ≡ [] → ReadsShape bench (λ s. bench_constants s known) t op items
+unfolding bench_constants shape_of
+no_answers_read t op known items r e = λ o at. e ∙ ap (λ z. by_kind no_constants constants_of z o.head known) (r o.head (head_at t op o at))
+
+-- ---- jumps
+
+pub successors_with : (t : Tree) (op : ℕ) (o : Operation) → op_at t op ≡ Some o → o.successors ≡ successors_of t op
+unfolding op_at
+successors_with t op o at = go (head_of t op) at
+  where
+    go : (h : Option Head) → op_with t op h ≡ Some o → o.successors ≡ successors_of t op
+    go None e = grind arith
+    go (Some h) e = sym (ap (λ z. z.successors) (same_Some _ o e))
+
+kind_taken : (k : BenchKind) (targets : List ℕ) (known : List (Option AttrObj)) → IsTrue (folds_branch_of k) → taken targets (known_at known 0) ≡ feasible_of k targets known
+kind_taken Cbr targets known f = refl
+kind_taken _ targets known f = grind arith
+
+branch_taken : (o : Option BenchKind) (targets : List ℕ) (known : List (Option AttrObj)) → IsTrue (by_kind false folds_branch_of o) → taken targets (known_at known 0) ≡ by_kind no_jump feasible_of o targets known
+branch_taken None targets known f = grind arith
+branch_taken (Some k) targets known f = kind_taken k targets known f
+
+pub taken_read : (t : Tree) (op : ℕ) (known : List (Option AttrObj)) (items : List ℕ) → HeadPasses bench_folds_branch t op → items ≡ taken (successors_of t op) (known_at known 0) → ReadsEdges bench (λ s targets. bench_feasible s targets known) t op items
+unfolding bench_folds_branch bench_feasible shape_of
+taken_read t op known items g i = λ o at.
+    i ∙ ap (λ z. taken z (known_at known 0)) (sym (successors_with t op o at)) ∙ branch_taken (kind_of o.head.kind) o.successors known (g o.head (head_at t op o at))
+
+-- ---- places
+
+pub places_same : (o : Option BenchKind) (s : Shape) (i : ℕ) → by_kind no_places places_of o s i ≡ by_kind no_places_in places_in o s.head.attrs s.operands i
+places_same None s i = refl
+places_same (Some k) s i = refl
+
+pub forwarded_read : (t : Tree) (op i : ℕ) (places values : List ℕ) → ReadsHead (λ h. by_kind no_places_in places_in (kind_of h.kind) h.attrs (length (operands_of t op)) i) t op places → map Some values ≡ pick places (operands_of t op) → AreForwarded bench t op i values
+unfolding bench shape_of
+forwarded_read t op i places values f g = λ o at.
+    g ∙ ap (λ z. pick z (operands_of t op)) (f o.head (head_at t op o at)) ∙ ap (λ z. pick (by_kind no_places_in places_in (kind_of o.head.kind) o.head.attrs (length z) i) z) (sym (operands_at t op o at)) ∙ ap (λ z. pick z o.operands) (sym (places_same (kind_of o.head.kind) (shape_of bench t o) i))
+
+map_last : {A B : Type 0} (f : A → B) (xs : List A) (x : A) → map f (xs ++ x ∷ []) ≡ map f xs ++ f x ∷ []
+map_last f [] x = refl
+map_last f (y ∷ ys) x = ap (λ z. f y ∷ z) (map_last f ys x)
+
+-- one more place
+pub more_picked : (xs items items' : List ℕ) (first j v : ℕ) → items' ≡ items ++ v ∷ [] → map Some items ≡ pick (range_with_len first j) xs → slice_get xs (first + j) ≡ Some v → map Some items' ≡ pick (range_with_len first (j + 1)) xs
+more_picked xs items items' first j v e f g =
+    ap (map Some) e ∙ map_last Some items v ∙ ap (λ z. z ++ Some v ∷ []) f ∙ ap (λ z. pick (range_with_len first j) xs ++ z ∷ []) (sym g) ∙ sym (map_last (λ i. slice_get xs i) (range_with_len first j) (first + j)) ∙ ap (λ z. pick z xs) (sym (range_more first j))
+
+-- ---- folding in place
+
+kind_stays : (k : Option BenchKind) (t : Tree) (op : ℕ) (known : List (Option AttrObj)) → is_constant k ≡ true → fold_of k t t op known (Some Unchanged)
+kind_stays (Some Const) t op known e = (refl, refl)
+kind_stays _ t op known e = grind arith
+
+kind_folds : (k : Option BenchKind) (t u : Tree) (op : ℕ) (known : List (Option AttrObj)) (answer : Option IRStatus) → is_constant k ≡ false → materialising bench bench_constants bench_accepts bench_constant_head t u op known answer → fold_of k t u op known answer
+kind_folds (Some Const) t u op known answer e m = grind arith
+kind_folds _ t u op known answer e m = m
+
+head_kind : (t : Tree) (op : ℕ) (b : Bool) (o : Option Head) → IsSome o → head_of t op ≡ o → ReadsHead (λ h. is_constant (kind_of h.kind)) t op b → b ≡ is_constant (kind_in (head_of t op))
+head_kind t op b None s e r = grind arith
+head_kind t op b (Some h) s e r = r h e ∙ ap (λ o. is_constant (kind_in o)) (sym e)
+
+pub constant_stays : (t : Tree) (op : ℕ) (known : List (Option AttrObj)) (b : Bool) → IsLive t op → ReadsHead (λ h. is_constant (kind_of h.kind)) t op b → b ≡ true → bench_outcome t t op known (Some Unchanged)
+unfolding bench_outcome
+constant_stays t op known b live r e = kind_stays (kind_in (head_of t op)) t op known (sym (head_kind t op b (head_of t op) live refl r) ∙ e)
+
+pub others_fold : (t u : Tree) (op : ℕ) (known : List (Option AttrObj)) (b : Bool) (answer : Option IRStatus) → IsLive t op → ReadsHead (λ h. is_constant (kind_of h.kind)) t op b → b ≡ false → materialising bench bench_constants bench_accepts bench_constant_head t u op known answer → bench_outcome t u op known answer
+unfolding bench_outcome
+others_fold t u op known b answer live r e m = kind_folds (kind_in (head_of t op)) t u op known answer (sym (head_kind t op b (head_of t op) live refl r) ∙ e) m

@@ -1,0 +1,86 @@
+-- Folding in place comes to one tree and one answer.
+use Rattle.std.proofs.Common.{◌≡◌, ℕ, Bool, true, arith, if◌then◌else◌, List, [], ◌∷◌, Option, Some, None, refl, ap, sym, ◌∙◌, subst}
+use Rattle.std.proofs.lemmas.Option.{same_Some}
+use Rattle.pliron_core.specs.declared.attrs.AttrObj.{AttrObj}
+use Rattle.pliron_core.specs.declared.attrs.IRStatus.{IRStatus}
+use Rattle.pliron_core.specs.declared.attrs.IRStatus.TheVariants.{Changed, Unchanged}
+use Rattle.pliron_core.specs.Tree.{Tree, head_of}
+use Rattle.pliron_bench.specs.declared.kind.BenchKind.{BenchKind}
+use Rattle.pliron_bench.specs.declared.kind.BenchKind.TheVariants.{Const, Br}
+use Rattle.pliron_laws.specs.Datum.{Head, Meaning}
+use Rattle.pliron_laws.specs.Tree.{Operation, shape_of}
+use Rattle.pliron_laws.specs.Folding.{Constants}
+use Rattle.pliron_laws.specs.Outcomes.{materialised, Materialises}
+use Rattle.pliron_laws.specs.Outcomes.Materialises.{Finished, Unanswered, Refused, Unknown, PassedOver, Put}
+use Rattle.pliron_laws.specs.Replacing.{branch_replaced}
+use Rattle.pliron_laws.specs.InPlace.{IsSingle, TellsChange, materialising}
+use Rattle.pliron_bench.specs.Bench.{plain_head}
+use Rattle.pliron_bench.specs.BenchMoves.{bench}
+use Rattle.pliron_bench.specs.BenchAnswers.{bench_constants, bench_accepts, bench_constant_head}
+use Rattle.pliron_bench.specs.BenchLists.{same_data}
+use Rattle.pliron_bench.specs.BenchOutcomes.{kind_in, fold_of, bench_outcome, edge_under, BecomesJump, JumpsWhereKnown, bench_branch_outcome}
+
+-- ---- constants
+
+-- the tree with a constant put for each result that is answered by an attribute which is accepted
+put_all : (accepts : AttrObj → Bool) (head : AttrObj → Head) (op : ℕ) → List ℕ → List (Option AttrObj) → Tree → Tree
+put_all accepts head op [] answers t = t
+put_all accepts head op (v ∷ vs) [] t = t
+put_all accepts head op (v ∷ vs) (None ∷ answers) t = put_all accepts head op vs answers t
+put_all accepts head op (v ∷ vs) (Some attr ∷ answers) t = if accepts attr then put_all accepts head op vs answers (materialised t op v (head attr)) else put_all accepts head op vs answers t
+
+module _ (accepts : AttrObj → Bool) (head : AttrObj → Head) (op : ℕ) where
+  put_none : (vs : List ℕ) (t : Tree) → t ≡ put_all accepts head op vs [] t
+  unfolding put_all
+  put_none [] t = refl
+  put_none (v ∷ vs) t = refl
+
+  put_is : (c : Bool) (vs : List ℕ) (answers : List (Option AttrObj)) (t u : Tree) → c ≡ true → Materialises accepts head op c vs answers t u → u ≡ put_all accepts head op vs answers t
+  unfolding put_all
+  put_is c vs answers t u e Finished = refl
+  put_is c vs answers t u e Unanswered = put_none _ _
+  put_is c vs answers t u e (Refused same) = grind arith
+  put_is c vs answers t u e (Unknown m) = put_is _ _ _ _ _ e m
+  put_is c vs answers t u e (PassedOver {v = v} {vs = ws} {attr = attr} {answers = more} {t = now} over m) =
+      put_is _ _ _ _ _ e m ∙ sym (ap (λ b. if b then put_all accepts head op ws more (materialised now op v (head attr)) else put_all accepts head op ws more now) over)
+  put_is c vs answers t u e (Put {v = v} {vs = ws} {attr = attr} {answers = more} {t = now} accepted m) =
+      put_is _ _ _ _ _ e m ∙ sym (ap (λ b. if b then put_all accepts head op ws more (materialised now op v (head attr)) else put_all accepts head op ws more now) accepted)
+
+-- the answer tells of the tree
+one_answer : (a b : IRStatus) (t u : Tree) → TellsChange (Some a) t u → TellsChange (Some b) t u → a ≡ b
+one_answer Changed Changed t u x y = refl
+one_answer Changed Unchanged t u x y = absurd (x y)
+one_answer Unchanged Changed t u x y = absurd (y x)
+one_answer Unchanged Unchanged t u x y = refl
+
+put_single : (m : Meaning) (constants : Constants) (accepts : AttrObj → Bool) (head : AttrObj → Head) → IsSingle (materialising m constants accepts head)
+put_single m constants accepts head t u u' op known o a b at x y =
+    let all = constants (shape_of m t o) known in
+    let same : u ≡ u' = put_is accepts head op true o.results all t u refl (x.0 o at) ∙ sym (put_is accepts head op true o.results all t u' refl (y.0 o at)) in
+    (same, one_answer a b t u x.1 (subst (TellsChange (Some b) t) (sym same) y.1))
+
+kind_single : (k : Option BenchKind) → IsSingle (fold_of k)
+kind_single (Some Const) t u u' op known o a b at x y = (x.0 ∙ sym y.0, same_Some a b (x.1 ∙ sym y.1))
+kind_single _ t u u' op known o a b at x y = put_single bench bench_constants bench_accepts bench_constant_head t u u' op known o a b at x y
+
+pub constants_single : IsSingle bench_outcome
+unfolding bench_outcome
+constants_single t u u' op known o a b at x y = kind_single (kind_in (head_of t op)) t u u' op known o a b at x y
+
+-- ---- branches
+
+jump_single : (t u u' : Tree) (op : ℕ) (o : Operation) (edge : ℕ) → BecomesJump t u op o edge → BecomesJump t u' op o edge → u ≡ u'
+jump_single t u u' op o edge x y =
+    let block : x.block ≡ y.block = same_Some x.block y.block (sym x.target ∙ y.target) in
+    let values : x.values ≡ y.values = same_data x.values y.values (x.forwarded ∙ sym y.forwarded) in
+    x.tree ∙ ap (λ z. branch_replaced t op (plain_head Br) z (x.block ∷ [])) values ∙ ap (λ z. branch_replaced t op (plain_head Br) y.values (z ∷ [])) block ∙ sym y.tree
+
+edge_single : (edge : Option ℕ) (t u u' : Tree) (op : ℕ) (o : Operation) (a b : IRStatus) → JumpsWhereKnown edge t u op o (Some a) → JumpsWhereKnown edge t u' op o (Some b) → (u ≡ u') × (a ≡ b)
+edge_single None t u u' op o a b x y = (x.0 ∙ sym y.0, x.1 ∙ sym y.1)
+edge_single (Some edge) t u u' op o a b x y = (jump_single t u u' op o edge x.0 y.0, x.1 ∙ sym y.1)
+
+pub branches_single : IsSingle bench_branch_outcome
+unfolding bench_branch_outcome
+branches_single t u u' op known o a b at x y =
+    let same : y.0 ≡ x.0 = same_Some y.0 x.0 (sym y.1 ∙ x.1) in
+    edge_single (edge_under (shape_of bench t x.0) known) t u u' op x.0 a b x.2 (subst (λ z. JumpsWhereKnown (edge_under (shape_of bench t z) known) t u' op z (Some b)) same y.2)

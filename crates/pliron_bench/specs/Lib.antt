@@ -1,0 +1,12 @@
+pub mod BenchNumbers
+pub mod Bench
+pub mod BenchMoves
+pub mod BenchAnswers
+pub mod BenchOutcomes
+pub mod BenchLists
+pub mod BenchParts
+pub mod BenchLaws
+pub mod BenchFolds
+pub mod BenchBranches
+pub mod BenchRemoval
+pub mod BenchInPlace

@@ -1,0 +1,80 @@
+//! What operations fold to, and the heads of new ones.
+ghost use Rattle.std.specs.Prelude.{◌≡◌, ◌∷◌, [], IfOk};
+ghost use Rattle.pliron_core.specs.Tree.{IsLive};
+ghost use Rattle.pliron_laws.specs.Answers.{ReadsHead};
+ghost use Rattle.pliron_bench.specs.Bench.{first_attribute as first_of, kind_of};
+ghost use Rattle.pliron_bench.specs.BenchAnswers.{as_constant, answer_of as answer_in, is_constant};
+
+use crate::kind::BenchKind;
+use crate::numbers::{known_number, known_product, known_quotient, known_sum};
+use crate::tables::kind_at;
+use pliron_core::{AttrObj, Attrs, Context, Head, NoMemory, Operation, Ptr};
+use std::alloc::{AllocFailed, Global};
+
+// The first of the attributes, by default 0.
+fn first_attribute(alloc: Global, attrs: &Attrs) -> Result<AttrObj, NoMemory>
+    ensures { IfOk result (λ attr. attr ≡ first_of attrs.now) }
+{
+    if attrs.is_empty() {
+        Ok(AttrObj::Int(0))
+    } else {
+        attrs.get(0).copy(alloc)
+    }
+}
+
+// The number as a constant.
+fn constant(number: Option<i64>) -> Option<AttrObj>
+    ensures { result ≡ as_constant number }
+{
+    match number {
+        Some(number) => Some(AttrObj::Int(number as i128)),
+        None => None,
+    }
+}
+
+// The constant of the result of an operation that folds, where it is known.
+pub fn answer_of(
+    alloc: Global,
+    kind: BenchKind,
+    head: &Head,
+    operand_attrs: &[Option<AttrObj>],
+) -> Result<Option<AttrObj>, NoMemory>
+    ensures { IfOk result (λ answer. answer ≡ answer_in kind head.now operand_attrs.now) }
+{
+    match kind {
+        BenchKind::Const => Ok(Some(first_attribute(alloc, &head.attrs)?)),
+        BenchKind::Add => Ok(constant(known_sum(
+            known_number(operand_attrs, 0),
+            known_number(operand_attrs, 1),
+        ))),
+        BenchKind::Mul => Ok(constant(known_product(
+            known_number(operand_attrs, 0),
+            known_number(operand_attrs, 1),
+        ))),
+        BenchKind::Div => Ok(constant(known_quotient(
+            known_number(operand_attrs, 0),
+            known_number(operand_attrs, 1),
+        ))),
+        _ => Ok(None),
+    }
+}
+
+// The answer for an operation with one result.
+pub fn one_answer(
+    alloc: Global,
+    answer: Option<AttrObj>,
+) -> Result<Vec<Option<AttrObj>>, AllocFailed<Option<AttrObj>>>
+    ensures { IfOk result (λ answers. answers.items ≡ answer ∷ []) }
+{
+    let mut answers = Vec::new(alloc);
+    answers.push(answer)?;
+    Ok(answers)
+}
+
+// Whether the operation is a `const`.
+pub fn makes_constant(op: Ptr<Operation>, ctx: &Context) -> bool
+    requires { IsLive ctx.now.tree op }
+    ensures { ReadsHead (λ h. is_constant (kind_of h.kind)) ctx.now.tree op result }
+{
+    matches!(kind_at(op, ctx), Some(BenchKind::Const))
+}

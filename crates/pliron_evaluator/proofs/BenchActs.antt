@@ -1,0 +1,85 @@
+-- The moves of `Bench`, as the evaluator makes them.
+use Rattle.std.proofs.Common.{◌≡◌, ℕ, zero, suc, ◌+◌, false, List, [], ◌∷◌, map, drop, Some, None, Result, Ok, Err, refl, sym, ap, ◌∙◌, arith}
+use Rattle.std.specs.Prelude.{slice_index_or, pos, replicate}
+use Rattle.std.specs.Result.{IfOk}
+use Rattle.std.proofs.lemmas.List.{drop-map, take-map, get_or-drop}
+use Rattle.pliron_core.specs.Tree.{Tree, head_of, regions_of, successors_of}
+use Rattle.pliron_bench.specs.declared.kind.BenchKind.{BenchKind}
+use Rattle.pliron_bench.specs.declared.kind.BenchKind.TheVariants.{Fork}
+use Rattle.pliron_laws.specs.Datum.{Datum, Number, Head, Shape, Move, Visit, Goto, Trap}
+use Rattle.pliron_laws.specs.Tree.{Operation, op_at, shape_of, entry_block, block_at, count_arguments, unless}
+use Rattle.pliron_laws.specs.Answers.{ReadsHead, ReadsShape}
+use Rattle.pliron_bench.specs.Bench.{by_kind, kind_of}
+use Rattle.pliron_bench.specs.BenchNumbers.{datum_at, number_at}
+use Rattle.pliron_bench.specs.BenchMoves.{bench, act_of, no_act, branches, done, once, fitted, edge_of, edge_values, argument_count}
+use Rattle.pliron_evaluator.specs.declared.evaluator.values.Datum.{Datum as DatumValue}
+use Rattle.pliron_evaluator.specs.declared.evaluator.values.Move.{Move as MoveValue}
+use Rattle.pliron_evaluator.specs.Evaluator.{datum_of, move_of}
+use Rattle.pliron_laws.proofs.Records.{op_shows}
+use Rattle.pliron_laws.proofs.ShapeLemmas.{head_at, shape_head}
+
+-- data, cut or filled
+pub fitted_begins : (n : ℕ) (ds : List Datum) → fitted (suc n) ds ≡ datum_at ds 0 ∷ fitted n (drop 1 ds)
+fitted_begins n [] = refl
+fitted_begins n (d ∷ ds) = refl
+
+pub datum_behind : (xs : List DatumValue) (i : ℕ) → datum_at (map datum_of xs) i ≡ datum_at (map datum_of (drop i xs)) 0
+datum_behind xs i =
+    let same : i + 0 ≡ i = omega arith in
+    sym (ap (λ y. datum_at y 0) (sym (drop-map datum_of i xs)) ∙ get_or-drop i (map datum_of xs) 0 (Number (pos 0)) ∙ ap (datum_at (map datum_of xs)) same)
+
+-- the values along an edge
+pub along_edge : (n i : ℕ) (xs : List DatumValue) → map datum_of (edge_values n i xs) ≡ edge_values n i (map datum_of xs)
+along_edge n zero xs = sym (take-map datum_of n xs)
+along_edge n (suc i) xs = sym (drop-map datum_of n xs)
+
+module _ (t : Tree) (op : ℕ) (k : BenchKind) (memo : Datum) (input : List Datum) where
+  -- what an operation of the kind does
+  abbrev pub Acts : Operation → Move → Type 0
+  Acts o m = m ≡ act_of k (shape_of bench t o) memo input
+
+  -- the move is that of a table of one kind
+  pub acts : {E : Type 0} (r : Result MoveValue E) (m : Move) → ((o : Operation) → op_at t op ≡ Some o → Acts o m) → IfOk r (λ n. move_of n ≡ m) → IfOk r (λ n. (o : Operation) → op_at t op ≡ Some o → Acts o (move_of n))
+  acts (Ok n) m f e = λ o at. e ∙ f o at
+  acts (Err z) m f e = e
+
+  -- it reads the head
+  pub by_head : (f : Head → Move) (kind : BenchKind) (h : Head) → k ≡ kind → head_of t op ≡ Some h → ((s : Shape) → f s.head ≡ act_of kind s memo input) → (o : Operation) → op_at t op ≡ Some o → Acts o (f h)
+  by_head f kind h e at_head g = λ o at.
+      let same : Some h ≡ Some o.head = sym at_head ∙ head_at t op o at in
+      let heads : h ≡ o.head = cc in
+      ap f (heads ∙ sym (shape_head bench t o)) ∙ g (shape_of bench t o) ∙ ap (λ z. act_of z (shape_of bench t o) memo input) (sym e)
+
+  entries : (o : Operation) → op_at t op ≡ Some o → map (λ r. count_arguments (entry_block t r)) (regions_of t op) ≡ (shape_of bench t o).entry_arguments
+  unfolding shape_of
+  entries o at = ap (map (λ r. count_arguments (entry_block t r))) (op_shows t op o at).regions
+
+  -- it visits its region
+  pub by_entry : (after : Move) (count : ℕ) (kind : BenchKind) → k ≡ kind → count ≡ slice_index_or (map (λ r. count_arguments (entry_block t r)) (regions_of t op)) 0 0 → ((s : Shape) → once memo (Visit 0 (fitted (slice_index_or s.entry_arguments 0 0) input) done) after ≡ act_of kind s memo input) → (o : Operation) → op_at t op ≡ Some o → Acts o (once memo (Visit 0 (fitted count input) done) after)
+  by_entry after count kind e is f = λ o at.
+      ap (λ z. once memo (Visit 0 (fitted z input) done) after) (is ∙ ap (λ z. slice_index_or z 0 0) (entries o at)) ∙ f (shape_of bench t o) ∙ ap (λ z. act_of z (shape_of bench t o) memo input) (sym e)
+
+  target_counts : (o : Operation) → op_at t op ≡ Some o → kind_of o.head.kind ≡ Some Fork → (i : ℕ) → slice_index_or (map (λ b. count_arguments (block_at t b)) (successors_of t op)) i 0 ≡ argument_count (shape_of bench t o).target_arguments i
+  unfolding shape_of bench
+  target_counts o at e i =
+      ap (λ z. slice_index_or (map (λ b. count_arguments (block_at t b)) z) i 0) (op_shows t op o at).successors
+      ∙ ap (λ z. argument_count (unless (by_kind false branches z) (map (λ b. count_arguments (block_at t b)) o.successors)) i) (sym e)
+
+  -- it reads how many arguments the target has
+  pub by_target : k ≡ Fork → ReadsHead (λ h. kind_of h.kind) t op (Some k) → (o : Operation) → op_at t op ≡ Some o → Acts o (Goto (edge_of (number_at input 0)) (replicate (slice_index_or (map (λ b. count_arguments (block_at t b)) (successors_of t op)) (edge_of (number_at input 0)) 0) (datum_at input 0)))
+  by_target e reads = λ o at.
+      let kind : kind_of o.head.kind ≡ Some Fork = sym (reads o.head (head_at t op o at)) ∙ ap Some e in
+      ap (λ z. Goto (edge_of (number_at input 0)) (replicate z (datum_at input 0))) (target_counts o at kind (edge_of (number_at input 0))) ∙ ap (λ z. act_of z (shape_of bench t o) memo input) (sym e)
+
+  kind_acts : (o : Operation) → op_at t op ≡ Some o → ReadsHead (λ h. kind_of h.kind) t op (Some k) → act_of k (shape_of bench t o) memo input ≡ bench.act (shape_of bench t o) memo input
+  unfolding bench shape_of
+  kind_acts o at reads = ap (λ z. by_kind no_act act_of z (shape_of bench t o) memo input) (reads o.head (head_at t op o at))
+
+  -- an operation of the kind moves as its table says
+  pub moves : {E : Type 0} (r : Result MoveValue E) → ReadsHead (λ h. kind_of h.kind) t op (Some k) → IfOk r (λ n. (o : Operation) → op_at t op ≡ Some o → Acts o (move_of n)) → IfOk r (λ n. ReadsShape bench (λ s. bench.act s memo input) t op (move_of n))
+  moves (Ok n) reads e = λ o at. e o at ∙ kind_acts o at reads
+  moves (Err z) reads e = e
+
+pub others_trap : (t : Tree) (op : ℕ) (memo : Datum) (input : List Datum) → ReadsHead (λ h. kind_of h.kind) t op None → ReadsShape bench (λ s. bench.act s memo input) t op Trap
+unfolding bench shape_of
+others_trap t op memo input reads = λ o at. ap (λ z. by_kind no_act act_of z (shape_of bench t o) memo input) (reads o.head (head_at t op o at))

@@ -1,0 +1,5 @@
+pub mod TinyLemmas
+pub mod EvaluatorLemmas
+pub mod EvaluatorSteps
+pub mod TinyMoves
+pub mod BenchActs

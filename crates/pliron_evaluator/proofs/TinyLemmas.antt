@@ -1,0 +1,72 @@
+-- What the functions of the small dialect read and leave.
+use Rattle.std.proofs.Common.{◌≡◌, ℕ, zero, suc, ◌<◌, List, [], ◌∷◌, length, map, slice_index_or, slice_set, Option, Some, refl, sym, ap, ◌∙◌, subst, arith}
+use Rattle.std.specs.List.{slice_get}
+use Rattle.pliron_core.specs.declared.attrs.AttrObj.{AttrObj}
+use Rattle.pliron_core.specs.Tree.{Tree, IsLive, head_of, row_of, no_entry, operands_of}
+use Rattle.pliron_core.specs.Writes.{operand_removed}
+use Rattle.pliron_core.proofs.GrownLemmas.{range_at, range_get}
+use Rattle.pliron_laws.specs.Datum.{Head}
+use Rattle.pliron_laws.specs.Tree.{Operation, op_at, shape_of}
+use Rattle.pliron_laws.specs.Acting.{pick}
+use Rattle.pliron_laws.specs.Answers.{AreForwarded, HasPlace, LosesForwarded, with_head}
+use Rattle.pliron_laws.specs.PlaceLaws.{pick_all}
+use Rattle.pliron_evaluator.specs.Tiny.{first_attribute, forwarded_along, tiny, tiny_constants, tiny_shortened}
+use Rattle.pliron_laws.proofs.ShapeLemmas.{head_at, operands_at, live_at}
+
+-- what is written is what stood there
+rewritten : {A : Type 0} (xs : List A) (k : ℕ) (x d : A) → x ≡ slice_index_or xs k d → slice_set xs k x ≡ xs
+rewritten [] k x d e = refl
+rewritten (y ∷ ys) zero x d e = ap (λ z. z ∷ ys) e
+rewritten (y ∷ ys) (suc k) x d e = ap (λ z. y ∷ z) (rewritten ys k x d e)
+
+head_kept : (t : Tree) (op : ℕ) (h : Head) → head_of t op ≡ Some h → with_head t op h ≡ t
+head_kept t op h e = ap (λ z. record t { operations = z }) (rewritten t.operations op (record (row_of t op) { head = Some h }) no_entry (ap (λ z. record (row_of t op) { head = z }) (sym e)))
+
+-- a constant folds to its attribute
+pub constants_of : (t : Tree) (op : ℕ) (h : Head) (o : Operation) (known : List (Option AttrObj)) → head_of t op ≡ Some h → op_at t op ≡ Some o → tiny_constants (shape_of tiny t o) known ≡ Some (first_attribute h.attrs) ∷ []
+unfolding tiny_constants shape_of
+constants_of t op h o known e at =
+    let same : Some h ≡ Some o.head = sym e ∙ head_at t op o at in
+    let heads : h ≡ o.head = cc in
+    ap (λ z. Some (first_attribute z.attrs) ∷ []) (sym heads)
+
+place_is : (n i j p : ℕ) → slice_get (forwarded_along i n) j ≡ Some p → (p ≡ j) × (j < n)
+place_is n zero j p e = let at = range_at 0 n j p e in (omega (arith, at.0), at.1)
+place_is n (suc i) j p e = absurd (cc)
+
+-- all operands along the one edge, and none along another
+pub all_forwarded : (t : Tree) (op i : ℕ) (values : List ℕ) → i ≡ 0 → values ≡ operands_of t op → AreForwarded tiny t op i values
+unfolding tiny shape_of
+all_forwarded t op i values e f = λ o at.
+    let same : values ≡ o.operands = f ∙ sym (operands_at t op o at) in
+    ap (map Some) same ∙ sym (pick_all o.operands (length o.operands) refl) ∙ ap (λ z. pick (forwarded_along z (length o.operands)) o.operands) (sym e)
+
+nothing_along : (n i : ℕ) (xs : List ℕ) → (i ≡ 0 → ⊥) → pick (forwarded_along i n) xs ≡ []
+nothing_along n zero xs e = absurd (e refl)
+nothing_along n (suc i) xs e = refl
+
+pub none_forwarded : (t : Tree) (op i : ℕ) (values : List ℕ) → (i ≡ 0 → ⊥) → values ≡ [] → AreForwarded tiny t op i values
+unfolding tiny shape_of
+none_forwarded t op i values e f = λ o at. ap (map Some) f ∙ sym (nothing_along (length o.operands) i o.operands e)
+
+pub place_within : (t : Tree) (op i j : ℕ) → IsLive t op → HasPlace tiny t op i j → j < length (operands_of t op)
+unfolding tiny shape_of
+place_within t op i j live has =
+    let o = live_at t op live in
+    let p = has o.0 o.1 in
+    subst (λ z. j < length z) (operands_at t op o.0 o.1) (place_is (length o.0.operands) i j p.0 p.1).1
+
+pub loses_operand : (t : Tree) (op i j v : ℕ) → slice_get (operands_of t op) j ≡ Some v → LosesForwarded tiny tiny_shortened t (operand_removed t op j) op i j v
+unfolding tiny tiny_shortened shape_of
+loses_operand t op i j v e = λ o p at place.
+    let is : p ≡ j = (place_is (length o.operands) i j p place).0 in (
+      ap (slice_get o.operands) is ∙ ap (λ z. slice_get z j) (operands_at t op o at) ∙ e,
+      sym (head_kept (operand_removed t op j) op o.head (head_at t op o at)) ∙ ap (λ z. with_head (operand_removed t op z) op o.head) (sym is),
+    )
+
+-- each operand of a branch has a place on its edge
+pub place_of : (t : Tree) (op j : ℕ) → j < length (operands_of t op) → HasPlace tiny t op 0 j
+unfolding tiny shape_of
+place_of t op j lt = λ o at.
+    let within : j < length o.operands = subst (λ z. j < length z) (sym (operands_at t op o at)) lt in
+    (j, range_get 0 (length o.operands) j within ∙ ap Some (omega arith), within)

@@ -1,0 +1,3 @@
+pub mod Tiny
+pub mod Evaluator
+pub mod TinyLaws

@@ -1,0 +1,174 @@
+-- A small dialect: a constant, a question to the outside world, a scope whose region is visited once,
+-- and a branch that forwards its operands.
+use Rattle.std.specs.Prelude.{◌≡◌, ℕ, zero, suc, nat_eq, if◌then◌else◌, Bool, true, false, not, ◌&&◌, List, [], ◌∷◌, Option, Some, None, pos}
+use Rattle.std.specs.List.{range_with_len}
+use Rattle.pliron_core.specs.declared.attrs.AttrObj.{AttrObj}
+use Rattle.pliron_core.specs.declared.attrs.AttrObj.TheVariants.{Int}
+use Rattle.pliron_core.specs.declared.attrs.IRStatus.{IRStatus}
+use Rattle.pliron_core.specs.declared.attrs.IRStatus.TheVariants.{Unchanged}
+use Rattle.pliron_core.specs.Tree.{Tree}
+use Rattle.pliron_laws.specs.declared.dialect.Interface.{Interface}
+use Rattle.pliron_laws.specs.declared.dialect.Interface.TheVariants.{SideEffects, BlockArgRemoval, ConstFold, BranchFold, Branch, Terminator}
+use Rattle.pliron_evaluator.specs.declared.tiny.TinyKind.{TinyKind}
+use Rattle.pliron_evaluator.specs.declared.tiny.TinyKind.TheVariants.{Const, Ask, Scope, Br}
+use Rattle.pliron_laws.specs.Datum.{Datum, Empty, Number, datum_of, Head, Shape, Move, Give, Visit, Goto, Emit, Trap, Meaning}
+
+-- the number of a kind, and the kind with a number
+abbrev pub number_of : TinyKind → ℕ
+number_of Const = 0
+number_of Ask = 1
+number_of Scope = 2
+number_of Br = 3
+
+abbrev pub kind_of : ℕ → Option TinyKind
+kind_of n = if nat_eq n 0 then Some Const else if nat_eq n 1 then Some Ask else if nat_eq n 2 then Some Scope else if nat_eq n 3 then Some Br else None
+
+-- the first attribute, by default 0; the first datum; the first count
+abbrev pub first_attribute : List AttrObj → AttrObj
+first_attribute [] = Int (pos 0)
+first_attribute (a ∷ others) = a
+
+abbrev pub first_datum : List Datum → Datum
+first_datum [] = Empty
+first_datum (d ∷ ds) = d
+
+abbrev pub first_count : List ℕ → ℕ
+first_count [] = 0
+first_count (n ∷ ns) = n
+
+-- so many data, cut or filled
+abbrev pub fitted : ℕ → List Datum → List Datum
+fitted zero ds = []
+fitted (suc n) [] = Empty ∷ fitted n []
+fitted (suc n) (d ∷ ds) = d ∷ fitted n ds
+
+-- the memo after the first move
+abbrev pub begun : Datum
+begun = Number (pos 1)
+
+abbrev pub has_begun : Datum → Bool
+has_begun Empty = false
+has_begun d = true
+
+-- a question is asked first, and its answer is given then
+abbrev pub ask_move : Bool → List Datum → Move
+ask_move false input = Emit (first_datum input) begun
+ask_move true input = Give (first_datum input ∷ [])
+
+-- the region is visited first, and nothing is given then
+abbrev pub scope_move : Bool → ℕ → List Datum → Move
+scope_move false count input = Visit 0 (fitted count input) begun
+scope_move true count input = Give []
+
+-- what an operation of this kind does
+abbrev pub act_of : Option TinyKind → Shape → Datum → List Datum → Move
+act_of None s memo input = Trap
+act_of (Some Const) s memo input = Give (datum_of (first_attribute s.head.attrs) ∷ [])
+act_of (Some Ask) s memo input = ask_move (has_begun memo) input
+act_of (Some Scope) s memo input = scope_move (has_begun memo) (first_count s.entry_arguments) input
+act_of (Some Br) s memo input = Goto 0 input
+
+-- how many operands, results, successors and regions it has
+abbrev pub admits_of : Option TinyKind → (operands results successors regions : ℕ) → Bool
+admits_of None a b c d = false
+admits_of (Some Const) a b c d = nat_eq a 0 && nat_eq b 1 && nat_eq c 0 && nat_eq d 0
+admits_of (Some Ask) a b c d = nat_eq a 1 && nat_eq b 1 && nat_eq c 0 && nat_eq d 0
+admits_of (Some Scope) a b c d = nat_eq b 0 && nat_eq c 0 && nat_eq d 1
+admits_of (Some Br) a b c d = nat_eq b 0 && nat_eq c 1 && nat_eq d 0
+
+abbrev pub is_br : Option TinyKind → Bool
+is_br None = false
+is_br (Some Const) = false
+is_br (Some Ask) = false
+is_br (Some Scope) = false
+is_br (Some Br) = true
+
+abbrev pub is_const : Option TinyKind → Bool
+is_const None = false
+is_const (Some Const) = true
+is_const (Some Ask) = false
+is_const (Some Scope) = false
+is_const (Some Br) = false
+
+-- a branch forwards all its operands along its one edge
+abbrev pub forwarded_along : ℕ → ℕ → List ℕ
+forwarded_along zero operands = range_with_len 0 operands
+forwarded_along (suc i) operands = []
+
+unfoldable pub tiny : Meaning
+tiny = record {
+  act = λ s memo input. act_of (kind_of s.head.kind) s memo input;
+  admits = λ h a b c d. admits_of (kind_of h.kind) a b c d;
+  is_terminator = λ h. is_br (kind_of h.kind);
+  is_branch = λ h. is_br (kind_of h.kind);
+  forwarded = λ s i. forwarded_along i s.operands;
+}
+
+-- the answers on side effects, and on the removal of arguments: those of blocks that are entered by
+-- branches alone
+abbrev pub effects_of : Option TinyKind → Option Bool
+effects_of None = None
+effects_of (Some Const) = Some false
+effects_of (Some Ask) = Some true
+effects_of (Some Scope) = Some true
+effects_of (Some Br) = None
+
+unfoldable pub tiny_side_effects : Head → Option Bool
+tiny_side_effects h = effects_of (kind_of h.kind)
+
+abbrev pub removable_of : Option TinyKind → Bool → Option Bool
+removable_of None entry = None
+removable_of (Some Const) entry = None
+removable_of (Some Ask) entry = None
+removable_of (Some Scope) entry = Some (not entry)
+removable_of (Some Br) entry = None
+
+unfoldable pub tiny_removable : Head → ℕ → Bool → Option Bool
+tiny_removable h i entry = removable_of (kind_of h.kind) entry
+
+-- a constant folds to its attribute
+unfoldable pub tiny_folds : Head → Bool
+tiny_folds h = is_const (kind_of h.kind)
+
+unfoldable pub tiny_constants : Shape → List (Option AttrObj) → List (Option AttrObj)
+tiny_constants s known = Some (first_attribute s.head.attrs) ∷ []
+
+-- no branch folds, so its blocks are never asked for
+unfoldable pub tiny_folds_branch : Head → Bool
+tiny_folds_branch h = false
+
+unfoldable pub tiny_feasible : Shape → List ℕ → List (Option AttrObj) → List ℕ
+tiny_feasible s targets known = []
+
+-- folding in place leaves all as it is
+unfoldable pub tiny_outcome : Tree → Tree → ℕ → List (Option AttrObj) → Option IRStatus → Type 0
+tiny_outcome t t' op known answer = (t' ≡ t) × (answer ≡ Some Unchanged)
+
+-- every attribute can be made by a constant
+unfoldable pub tiny_accepts : AttrObj → Bool
+tiny_accepts attr = true
+
+unfoldable pub tiny_constant : AttrObj → Head
+tiny_constant attr = record { kind = 0; ssa = true; attrs = attr ∷ [] }
+
+unfoldable pub has_tiny_kind : Head → TinyKind → Bool
+has_tiny_kind h kind = nat_eq h.kind (number_of kind)
+
+abbrev pub answers_effects : Option Bool → Bool
+answers_effects None = false
+answers_effects (Some b) = true
+
+abbrev pub interface_of : Interface → Option TinyKind → Bool
+interface_of SideEffects k = answers_effects (effects_of k)
+interface_of BlockArgRemoval k = answers_effects (removable_of k true)
+interface_of ConstFold k = is_const k
+interface_of BranchFold k = false
+interface_of Branch k = is_br k
+interface_of Terminator k = is_br k
+
+unfoldable pub has_tiny_interface : Head → Interface → Bool
+has_tiny_interface h interface = interface_of interface (kind_of h.kind)
+
+-- a branch that lost an operand has its head as before
+unfoldable pub tiny_shortened : Shape → ℕ → ℕ → Head
+tiny_shortened s i j = s.head

@@ -1,0 +1,44 @@
+//! A plain evaluator of trees, to test dialects and texts by: what it answers is what is seen of the
+//! run, by the definition itself. No optimisation runs a program.
+//!
+//! It is slow: a step costs as much as the state and the block are large.
+ghost use Rattle.std.specs.Prelude.{◌≡◌, map, IfOk};
+ghost use Rattle.pliron_laws.specs.Machine.{run, seen};
+ghost use Rattle.pliron_evaluator.specs.Evaluator.{datum_of, sight_of};
+
+mod bench_moves;
+mod environment;
+mod shapes;
+mod state;
+mod tiny_moves;
+mod values;
+
+use crate::evaluator::state::{Next, start, step};
+use pliron_core::{Context, Operation, Ptr};
+use std::alloc::{AllocError, Global};
+pub use values::{Datum, Evaluate, Move, Sight};
+
+/// What is seen of the run of the root on these inputs, where the world gives these answers in order,
+/// after at most `fuel` steps. A root that doesn't stand traps.
+///
+/// Errors: want of memory. Cost: a step copies what the operation reads and the operations of the
+/// block that it enters, and moves all that the state has.
+pub fn evaluate<D: Evaluate>(
+    alloc: Global,
+    ctx: &Context,
+    root: Ptr<Operation>,
+    inputs: Vec<Datum>,
+    world: Vec<Datum>,
+    fuel: usize,
+) -> Result<Sight, AllocError>
+    ensures { IfOk result (λ sight. sight_of sight ≡ seen (run D.meaning ctx.now.tree root (map datum_of inputs.items) (map datum_of world.items) fuel)) }
+{
+    let mut state = start(alloc, root, inputs, world)?;
+    for _ in 0..fuel {
+        match step::<D>(alloc, ctx, state)? {
+            Next::Goes(next) => state = next,
+            Next::Over(sight) => return Ok(sight),
+        }
+    }
+    Ok(Sight::Reached(state.effects))
+}

@@ -1,0 +1,80 @@
+//! The data of values, as a list of bindings with the newest first.
+ghost use Rattle.std.specs.Prelude.{◌≡◌, [], ◌∷◌, map, Some, None, if◌then◌else◌, IfOk, OnOk, MatchOption};
+ghost use Rattle.std.specs.Option.{option_map};
+ghost use Rattle.pliron_laws.specs.States.{bind, data_of};
+ghost use Rattle.pliron_evaluator.specs.Evaluator.{datum_of, environment_of, answer_of};
+
+use crate::evaluator::values::Datum;
+use pliron_core::Value;
+use std::alloc::{AllocError, Global};
+
+/// Puts the item before all others.
+pub(super) fn put_first<T: Drop>(items: &mut Vec<T>, item: T) -> Result<(), AllocError>
+    ensures { OnOk result (items.new.items ≡ item ∷ items.old.items) }
+{
+    items.insert(0, item)?;
+    Ok(())
+}
+
+/// Takes the first item out, if there is one.
+pub(super) fn take_first<T>(items: &mut Vec<T>) -> Option<T>
+    ensures { MatchOption result ((items.old.items ≡ []) × (items.new.items ≡ [])) (λ item. items.old.items ≡ item ∷ items.new.items) }
+{
+    if items.is_empty() {
+        None
+    } else {
+        Some(items.remove(0))
+    }
+}
+
+/// Binds each of the values to its datum, in order. Answers whether there are as many of both.
+pub(super) fn bind(
+    alloc: Global,
+    environment: &mut Vec<(Value, Datum)>,
+    values: &[Value],
+    content: &[Datum],
+) -> Result<bool, AllocError>
+    ensures { IfOk result (λ fits. bind (environment_of environment.old.items) values.now (map datum_of content.now) ≡ (if fits then Some (environment_of environment.new.items) else None)) }
+{
+    if values.len() != content.len() {
+        return Ok(false);
+    }
+    for i in 0..values.len() {
+        put_first(environment, (values[i], content[i].copy(alloc)?))?;
+    }
+    Ok(true)
+}
+
+/// The datum of the value, if it has one.
+pub(super) fn datum_at(
+    alloc: Global,
+    environment: &[(Value, Datum)],
+    value: Value,
+) -> Result<Option<Datum>, AllocError>
+    ensures { IfOk result (λ found. option_map datum_of found ≡ environment_of environment.now value) }
+{
+    for (bound, datum) in environment {
+        if value == *bound {
+            return Ok(Some(datum.copy(alloc)?));
+        }
+    }
+    Ok(None)
+}
+
+/// The data of these values, where each has one.
+pub(super) fn all_data(
+    alloc: Global,
+    environment: &[(Value, Datum)],
+    values: &[Value],
+) -> Result<Option<Vec<Datum>>, AllocError>
+    ensures { IfOk result (λ found. answer_of found ≡ data_of (environment_of environment.now) values.now) }
+{
+    let mut data = Vec::new(alloc);
+    for value in values {
+        let Some(datum) = datum_at(alloc, environment, *value)? else {
+            return Ok(None);
+        };
+        data.push(datum)?;
+    }
+    Ok(Some(data))
+}

@@ -1,0 +1,32 @@
+//! How many values a visit or a jump of an operation is to pass.
+ghost use Rattle.std.specs.Prelude.{◌≡◌, map, slice_index_or};
+ghost use Rattle.pliron_core.specs.Tree.{IsLive, regions_of, successors_of};
+ghost use Rattle.pliron_laws.specs.Tree.{block_at, entry_block, count_arguments};
+
+use pliron_core::{Context, Operation, Ptr};
+
+/// How many arguments the entry block of the first region has, 0 if there is none.
+pub(super) fn num_entry_argument(ctx: &Context, op: Ptr<Operation>) -> usize
+    requires { IsLive ctx.now.tree op }
+    ensures { result ≡ slice_index_or (map (λ r. count_arguments (entry_block ctx.now.tree r)) (regions_of ctx.now.tree op)) 0 0 }
+{
+    if op.num_region(ctx) == 0 {
+        return 0;
+    }
+    match op.get_region(ctx, 0).get_head(ctx) {
+        Some(block) => block.num_argument(ctx),
+        None => 0,
+    }
+}
+
+/// How many arguments the successor with this index has, 0 if there is none.
+pub(super) fn num_target_argument(ctx: &Context, op: Ptr<Operation>, i: usize) -> usize
+    requires { IsLive ctx.now.tree op }
+    ensures { result ≡ slice_index_or (map (λ b. count_arguments (block_at ctx.now.tree b)) (successors_of ctx.now.tree op)) i 0 }
+{
+    if i < op.num_successor(ctx) {
+        op.get_successor(ctx, i).num_argument(ctx)
+    } else {
+        0
+    }
+}

@@ -1,0 +1,109 @@
+//! The moves of the tiny dialect.
+ghost use Rattle.std.specs.Prelude.{◌≡◌, map, drop, IfOk};
+ghost use Rattle.pliron_core.specs.Tree.{IsLive};
+ghost use Rattle.pliron_laws.specs.Datum.{datum_of as content_of};
+ghost use Rattle.pliron_laws.specs.Answers.{ReadsHead};
+ghost use Rattle.pliron_evaluator.specs.Tiny.{first_attribute, first_datum, fitted, begun, has_begun, ask_move, scope_move};
+ghost use Rattle.pliron_evaluator.specs.Evaluator.{datum_of, move_of};
+
+use crate::evaluator::shapes::num_entry_argument;
+use crate::evaluator::values::{Datum, Evaluate, Move, all_copies, one};
+use crate::tiny::{Tiny, TinyKind};
+use pliron_core::{Context, Operation, Ptr};
+use std::alloc::{AllocError, Global};
+
+// The datum of the first attribute, by default 0.
+fn constant(alloc: Global, ctx: &Context, op: Ptr<Operation>) -> Result<Datum, AllocError>
+    requires { IsLive ctx.now.tree op }
+    ensures { IfOk result (λ datum. ReadsHead (λ h. content_of (first_attribute h.attrs)) ctx.now.tree op (datum_of datum)) }
+{
+    let attrs = &op.head(ctx).attrs;
+    if attrs.is_empty() {
+        Ok(Datum::Number(0))
+    } else {
+        Datum::of(alloc, attrs.get(0))
+    }
+}
+
+// The datum at this index, if there is one.
+fn datum_or_empty(alloc: Global, input: &[Datum], i: usize) -> Result<Datum, AllocError>
+    ensures { IfOk result (λ datum. datum_of datum ≡ first_datum (map datum_of (drop i input.now))) }
+{
+    if i < input.len() {
+        input[i].copy(alloc)
+    } else {
+        Ok(Datum::Empty)
+    }
+}
+
+// So many data, cut or filled.
+fn fitted(alloc: Global, count: usize, input: &[Datum]) -> Result<Vec<Datum>, AllocError>
+    ensures { IfOk result (λ values. map datum_of values.items ≡ fitted count (map datum_of input.now)) }
+{
+    let mut data = Vec::new(alloc);
+    for i in 0..count {
+        data.push(datum_or_empty(alloc, input, i)?)?;
+    }
+    Ok(data)
+}
+
+// Whether the operation made its first move already.
+fn has_begun(memo: &Datum) -> bool
+    ensures { result ≡ has_begun (datum_of memo.now) }
+{
+    match memo {
+        Datum::Empty => false,
+        _ => true,
+    }
+}
+
+// The memo after the first move.
+fn begun() -> Datum
+    ensures { datum_of result ≡ begun }
+{
+    Datum::Number(1)
+}
+
+fn ask_move(alloc: Global, memo: &Datum, input: &[Datum]) -> Result<Move, AllocError>
+    ensures { IfOk result (λ next. move_of next ≡ ask_move (has_begun (datum_of memo.now)) (map datum_of input.now)) }
+{
+    let datum = datum_or_empty(alloc, input, 0)?;
+    if has_begun(memo) {
+        Ok(Move::Give(one(alloc, datum)?))
+    } else {
+        Ok(Move::Emit(datum, begun()))
+    }
+}
+
+fn scope_move(
+    alloc: Global,
+    memo: &Datum,
+    count: usize,
+    input: &[Datum],
+) -> Result<Move, AllocError>
+    ensures { IfOk result (λ next. move_of next ≡ scope_move (has_begun (datum_of memo.now)) count (map datum_of input.now)) }
+{
+    if has_begun(memo) {
+        Ok(Move::Give(Vec::new(alloc)))
+    } else {
+        Ok(Move::Visit(0, fitted(alloc, count, input)?, begun()))
+    }
+}
+
+impl Evaluate for Tiny {
+    fn next_move(
+        alloc: Global,
+        ctx: &Context,
+        op: Ptr<Operation>,
+        memo: &Datum,
+        input: &[Datum],
+    ) -> Result<Move, AllocError> {
+        match TinyKind::of(op.head(ctx).kind) {
+            Some(TinyKind::Const) => Ok(Move::Give(one(alloc, constant(alloc, ctx, op)?)?)),
+            Some(TinyKind::Ask) => ask_move(alloc, memo, input),
+            Some(TinyKind::Scope) => scope_move(alloc, memo, num_entry_argument(ctx, op), input),
+            Some(TinyKind::Br) => Ok(Move::Goto(0, all_copies(alloc, input)?)),
+            None => Ok(Move::Trap),
+        }
+    }
+}

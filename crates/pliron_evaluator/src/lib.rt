@@ -1,0 +1,10 @@
+//! The evaluator, which is slow and for tests: what is seen of a run, for `Bench` and for the tiny dialect,
+//! which stands here too.
+//!
+//! It knows the laws of dialects and these two dialects; of texts and of rewrites it knows nothing.
+#![tactic(auto)]
+
+pub mod evaluator;
+mod tiny;
+
+pub use tiny::{Tiny, TinyKind};

@@ -1,6 +1,0 @@
-use Rattle.std.proofs.Common.{◌≡◌, take, map}
-use Rattle.pliron_graph.specs.Walks.{joined}
-use Rattle.pliron_graph.proofs.orders.join.Given as goal
-
-abbrev pub invariant-loop-list : goal.invariant-loop-list
-invariant-loop-list g l = l.all.items ≡ joined (map (λ w. w.items) (take l.list-index l.lists))

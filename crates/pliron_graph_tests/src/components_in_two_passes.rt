@@ -1,0 +1,169 @@
+//! Components in two passes, for comparison.
+ghost use Rattle.std.specs.Prelude.{◌≡◌, ◌↔◌, ◌++◌, false, Contains, IsTrue, IfOk, OnOk, IsOkUnless, length, reverse, map};
+ghost use Rattle.std.specs.List.{All, IsDistinct};
+ghost use Rattle.indexmap.specs.IndexSet.{contains};
+ghost use Rattle.pliron_graph.specs.Components.{AreComponents, IsCyclic, Falls, entry_then_nodes};
+ghost use Rattle.pliron_search.specs.Search.{IsSearch, IsListed, number_in};
+ghost use Rattle.pliron_graph.specs.Internal.Collecting.{TakesIn, Collects, IsTaken};
+
+use pliron_graph::components::{is_cyclic, roots};
+use pliron_graph::search::walk;
+use pliron_graph::{ControlFlowGraph, Scc};
+use indexmap::IndexSet;
+use pliron_meaning::OptError;
+use std::alloc::Global;
+use std::hash::Hash;
+
+/// The components: a search gives the orders, and then the nodes are taken by falling post-order number. The nodes that lead to one over
+/// nodes without a component are its component.
+///
+/// Source: M. Sharir, A strong-connectivity algorithm and its applications in data flow analysis, 1981.
+pub fn components_in_two_passes<C, G: ControlFlowGraph<C>>(
+    alloc: Global,
+    ctx: &C,
+    graph: &G,
+) -> Result<Vec<Scc<G::Node>>, OptError>
+    requires { G.is_lawful graph.now ctx.now }
+    ensures components { IfOk result (λ r. AreComponents G.Node.eq (G.graph graph.now ctx.now) r.items) }
+    ensures memory { IsOkUnless result OptError.Memory }
+{
+    let (pre, post) = search_all(alloc, ctx, graph)?;
+    take_components(alloc, ctx, graph, &pre, post)
+}
+
+// The components, by the orders of the search.
+fn take_components<C, G: ControlFlowGraph<C>>(
+    alloc: Global,
+    ctx: &C,
+    graph: &G,
+    pre: &IndexSet<G::Node>,
+    mut post: Vec<G::Node>,
+) -> Result<Vec<Scc<G::Node>>, OptError>
+    requires lawful { G.is_lawful graph.now ctx.now }
+    requires search { IsSearch G.Node.eq (G.graph graph.now ctx.now) (entry_then_nodes (G.graph graph.now ctx.now)) (record { pre = pre.now.keys; post = post.items }) }
+    ensures components { IfOk result (λ r. AreComponents G.Node.eq (G.graph graph.now ctx.now) r.items) }
+    ensures memory { IsOkUnless result OptError.Memory }
+{
+    let mut held = IndexSet::new(alloc);
+    let mut components = Vec::new(alloc);
+    while let Some(root) = post.pop() {
+        if held.contains(&root) {
+            continue;
+        }
+        components.push(take_component(alloc, ctx, graph, root, pre, &mut held)?)?;
+    }
+    Ok(components)
+}
+
+// The nodes in the order in which a search from the entry and then all nodes comes to them, and in the order in which it leaves them.
+fn search_all<C, G: ControlFlowGraph<C>>(
+    alloc: Global,
+    ctx: &C,
+    graph: &G,
+) -> Result<(IndexSet<G::Node>, Vec<G::Node>), OptError>
+    requires { G.is_lawful graph.now ctx.now }
+    ensures search { IfOk result (λ r. IsSearch G.Node.eq (G.graph graph.now ctx.now) (entry_then_nodes (G.graph graph.now ctx.now)) (record { pre = r.0.keys; post = r.1.items })) }
+    ensures memory { IsOkUnless result OptError.Memory }
+{
+    let roots = roots(alloc, ctx, graph)?;
+    let mut pre = IndexSet::new(alloc);
+    let mut post = Vec::new(alloc);
+    for root in &roots {
+        if pre.contains(root) {
+            continue;
+        }
+        walk(alloc, ctx, graph, *root, &mut pre, &mut post)?;
+    }
+    Ok((pre, post))
+}
+
+// The nodes that lead to `root` over nodes that are not held, as a component. They are held then.
+fn take_component<C, G: ControlFlowGraph<C>>(
+    alloc: Global,
+    ctx: &C,
+    graph: &G,
+    root: G::Node,
+    pre: &IndexSet<G::Node>,
+    held: &mut IndexSet<G::Node>,
+) -> Result<Scc<G::Node>, OptError>
+    requires lawful { G.is_lawful graph.now ctx.now }
+    requires member { Contains (G.graph graph.now ctx.now).nodes root }
+    requires unheld { contains G.Node.eq held.old root ≡ false }
+    requires listed { All (IsListed G.Node.eq pre.now.keys) (G.graph graph.now ctx.now).nodes }
+    ensures taken { IfOk result (λ c. IsTaken (G.graph graph.now ctx.now) G.Node.eq pre.now.keys root held.old.keys held.new.keys c) }
+    ensures memory { IsOkUnless result OptError.Memory }
+{
+    let first = held.len();
+    collect(ctx, graph, root, held)?;
+    let nodes = by_falling_number(alloc, pre, &held.as_slice()[first..])?;
+    let is_cyclic = is_cyclic(ctx, graph, &nodes);
+    Ok(Scc { nodes, is_cyclic })
+}
+
+// Holds the nodes that lead to `root` over nodes that are not held. The set is its own queue.
+fn collect<C, G: ControlFlowGraph<C>>(
+    ctx: &C,
+    graph: &G,
+    root: G::Node,
+    held: &mut IndexSet<G::Node>,
+) -> Result<(), OptError>
+    requires lawful { G.is_lawful graph.now ctx.now }
+    requires member { Contains (G.graph graph.now ctx.now).nodes root }
+    requires unheld { contains G.Node.eq held.old root ≡ false }
+    ensures collected { OnOk result (Collects (G.graph graph.now ctx.now) G.Node.eq root held.old.keys held.new.keys) }
+    ensures memory { IsOkUnless result OptError.Memory }
+{
+    let mut next = held.len();
+    held.insert(root)?;
+    while next < held.len() {
+        let node = held.as_slice()[next];
+        next += 1;
+        hold_predecessors(ctx, graph, &node, held)?;
+    }
+    Ok(())
+}
+
+// Holds the predecessors of a node.
+fn hold_predecessors<C, G: ControlFlowGraph<C>>(
+    ctx: &C,
+    graph: &G,
+    node: &G::Node,
+    held: &mut IndexSet<G::Node>,
+) -> Result<(), OptError>
+    requires lawful { G.is_lawful graph.now ctx.now }
+    requires member { Contains (G.graph graph.now ctx.now).nodes node.now }
+    ensures holds { OnOk result (TakesIn G.Node.eq ((G.graph graph.now ctx.now).pred node.now) held.old.keys held.new.keys) }
+    ensures memory { IsOkUnless result OptError.Memory }
+{
+    for i in 0..graph.num_predecessors(ctx, node) {
+        held.insert(graph.get_predecessor(ctx, node, i))?;
+    }
+    Ok(())
+}
+
+// The nodes by falling place in `order`.
+fn by_falling_number<N: Eq + Hash + Copy>(
+    alloc: Global,
+    order: &IndexSet<N>,
+    nodes: &[N],
+) -> Result<Vec<N>, OptError>
+    requires same { (x y : N) → IsTrue (N.eq x y) → x ≡ y }
+    requires distinct { IsDistinct N.eq nodes.now }
+    requires listed { All (IsListed N.eq order.now.keys) nodes.now }
+    ensures same_nodes { IfOk result (λ r. (v : N) → (Contains r.items v ↔ Contains nodes.now v)) }
+    ensures falls { IfOk result (λ r. Falls (number_in N.eq order.now.keys) r.items) }
+    ensures memory { IsOkUnless result OptError.Memory }
+{
+    let mut sorted = Vec::with_capacity(alloc, nodes.len())?;
+    sorted.extend_from_slice(nodes)?;
+    sorted.sort_by_cached_key(|node| place_in(order, node))?;
+    sorted.reverse();
+    Ok(sorted)
+}
+
+// The place of a node in `order`, or past its end.
+fn place_in<N: Eq + Hash>(order: &IndexSet<N>, node: &N) -> usize
+    ensures { result ≡ number_in N.eq order.now.keys node.now }
+{
+    order.get_index_of(node).unwrap_or(order.len())
+}

@@ -1,0 +1,9 @@
+pub mod ShapeLemmas
+pub mod AnswerLemmas
+pub mod PassedLemmas
+pub mod EdgeLastLemmas
+pub mod ConstantLemmas
+pub mod FoldLemmas
+pub mod Records
+pub mod LinkedLemmas
+pub mod BodyLemmas

@@ -1,0 +1,6 @@
+use Rattle.std.proofs.Common.{◌≡◌, take}
+use Rattle.pliron_core.specs.Tree.{arguments_of}
+use Rattle.pliron_laws.proofs.reads.all_arguments.Given as goal
+
+abbrev pub invariant-loop-j : goal.invariant-loop-j
+invariant-loop-j l = l.values.items ≡ take l.j (arguments_of l.ctx.tree l.block)

@@ -1,0 +1,364 @@
+//! Dialects: what a pass may ask of an operation, and the laws that the answers keep.
+//!
+//! All functions go without `self`: a dialect is a type, and its values are never needed. A `ghost`
+//! member above a trait's last function is a table that the contracts speak of; those below it are the
+//! laws, which each `impl` proves.
+//!
+//! Some laws hold by type. What the answer on side effects reads is an argument of `side_effects`, the
+//! head; what the answer on removal reads are those of `removable`, the head, the region's index and
+//! whether the block is the entry. The tests read the head alone, since `ReadsHead` says so. But for
+//! `verify`, each error is want of memory.
+//!
+//! A tree that was well linked is so after each call, whatever it answers. Calls with a `&Context` only
+//! read. The contract of each other call names the tree that it leaves: `materialize` adds at most an
+//! admitted operation that stands nowhere and has no edges; `remove_successor_operand` leaves edges
+//! and places, and an operation that is still admitted; what the folds in place leave is made of
+//! such operations, put before others, of other operands, and of a branch put in the place of one, with
+//! successors that the old one had.
+ghost use Rattle.std.specs.Prelude.{◌≡◌, ◌<◌, ℕ, Bool, List, Option, Some, IfOk, IfErr, OnErr, IsTrue, IsSome, length};
+ghost use Rattle.pliron_core.specs.declared.attrs.AttrObj.{AttrObj as Attribute};
+ghost use Rattle.pliron_core.specs.declared.rewriter.OpInsertionPoint.TheVariants.{BeforeOperation};
+ghost use Rattle.pliron_core.specs.Tree.{IsLive, block_holder_of, operands_of, successors_of, parent_of};
+ghost use Rattle.pliron_laws.specs.declared.fault.OptError.TheVariants.{Memory};
+ghost use Rattle.pliron_laws.specs.Datum.{Head, Shape, Meaning};
+ghost use Rattle.pliron_laws.specs.Folding.{Constants, Feasible, AnswersTrue, AnswersJumps, MakesConstants};
+ghost use Rattle.pliron_laws.specs.Laws.{KeepsCounts, GivesAtOnce, ForwardsOperands, ActsWithoutArgument};
+ghost use Rattle.pliron_laws.specs.InPlace.{Outcome, FoldsInPlace, PassSameTests, materialising};
+ghost use Rattle.pliron_laws.specs.Answers.{ReadsHead, ReadsCounts, ReadsShape, ReadsEdges, ReadsPlace, HeadPasses, AreForwarded, HasPlace, LosesForwarded, IsMaterialised};
+ghost use Rattle.pliron_laws.specs.declared.dialect.Interface.{Interface as InterfaceName};
+
+use crate::fault::OptError;
+use crate::materialise::put_constant;
+use crate::room::Room;
+use pliron_core::{AttrObj, BasicBlock, Context, IRStatus, Operation, Ptr, Rewriter, Value};
+use std::alloc::Global;
+
+/// What an operation may implement.
+#[derive(Clone, Copy, Debug, PartialEq, Eq)]
+pub enum Interface {
+    SideEffects,
+    BlockArgRemoval,
+    ConstFold,
+    BranchFold,
+    Branch,
+    Terminator,
+}
+
+/// What the operations of a dialect mean. Contracts alone speak of it.
+pub trait HasMeaning {
+    ghost meaning: { Meaning };
+}
+
+/// Which operations have side effects.
+pub trait SideEffects {
+    // the answer for a head
+    ghost side_effects: { Head → Option Bool };
+
+    /// Whether the operation has side effects; `None` where it doesn't say. Reads the head alone.
+    fn has_side_effects(op: Ptr<Operation>, ctx: &Context) -> Option<bool>
+        requires { IsLive ctx.now.tree op }
+        ensures { ReadsHead side_effects ctx.now.tree op result };
+
+    /// The first fault that the dialect finds in the operation.
+    fn verify(_alloc: Global, _op: Ptr<Operation>, _ctx: &Context) -> Result<(), OptError>
+        requires { IsLive _ctx.now.tree _op }
+    {
+        Ok(())
+    }
+}
+
+/// Which arguments of blocks may go.
+pub trait BlockArgRemoval {
+    // the answer for a head, the index of a region and whether the block is its entry
+    ghost removable: { Head → ℕ → Bool → Option Bool };
+
+    /// Whether arguments of the block, which is directly in a region of `op`, may be removed; `None`
+    /// where the operation doesn't say. Reads the head, the index of the region, and whether the block
+    /// is its entry.
+    fn can_remove_block_args(
+        op: Ptr<Operation>,
+        ctx: &Context,
+        block: Ptr<BasicBlock>,
+    ) -> Option<bool>
+        requires live { IsLive ctx.now.tree op }
+        requires block { block_holder_of ctx.now.tree block ≡ Some op }
+        ensures { ReadsPlace removable ctx.now.tree op block result };
+
+    /// The first fault that the dialect finds in the operation.
+    fn verify(_alloc: Global, _op: Ptr<Operation>, _ctx: &Context) -> Result<(), OptError>
+        requires { IsLive _ctx.now.tree _op }
+    {
+        Ok(())
+    }
+}
+
+/// Operations whose results are constants where their operands are.
+pub trait ConstFoldInterface: HasMeaning {
+    // whether an operation with this head folds
+    ghost can_fold: { Head → Bool };
+
+    // the constant of each result, under known constants
+    ghost constants: { Constants };
+
+    // whether a constant can be made of the attribute, and the head that it has then
+    ghost accepts: { Attribute → Bool };
+
+    ghost constant_head: { Attribute → Head };
+
+    // what folding in place comes to
+    ghost outcome: { Outcome };
+
+    /// Whether the operation folds. Reads the head alone.
+    fn folds(op: Ptr<Operation>, ctx: &Context) -> bool
+        requires { IsLive ctx.now.tree op }
+        ensures { ReadsHead can_fold ctx.now.tree op result };
+
+    /// The constant that each result has, where it is known, if the operands have these constants.
+    /// Asks that the operation folds, and for one entry for each operand.
+    ///
+    /// Errors: want of memory.
+    fn check_fold(
+        alloc: Global,
+        op: Ptr<Operation>,
+        ctx: &Context,
+        operand_attrs: &[Option<AttrObj>],
+    ) -> Result<Vec<Option<AttrObj>>, OptError>
+        requires live { IsLive ctx.now.tree op }
+        requires folds { HeadPasses can_fold ctx.now.tree op }
+        requires entries { length operand_attrs.now ≡ length (operands_of ctx.now.tree op) }
+        ensures ok { IfOk result (λ answers. ReadsShape Self.meaning (λ s. constants s operand_attrs.now) ctx.now.tree op answers.items) }
+        ensures err { IfErr result (λ e. e ≡ Memory) };
+
+    /// Folds the operation where it stands, if its operands have these constants. Asks that the
+    /// operation folds, for one entry for each operand, and for an insertion point just before it.
+    ///
+    /// Errors: want of memory, which leaves an outcome of the dialect too.
+    fn fold_in_place<R: Rewriter + Room>(
+        alloc: Global,
+        op: Ptr<Operation>,
+        ctx: &mut Context,
+        operand_attrs: &[Option<AttrObj>],
+        rewriter: &mut R,
+    ) -> Result<IRStatus, OptError>
+        requires live { IsLive ctx.old.tree op }
+        requires placed { IsSome (parent_of ctx.old.tree op) }
+        requires folds { HeadPasses can_fold ctx.old.tree op }
+        requires entries { length operand_attrs.now ≡ length (operands_of ctx.old.tree op) }
+        requires point { R.point rewriter.old ≡ BeforeOperation op }
+        ensures ok { IfOk result (λ status. outcome ctx.old.tree ctx.new.tree op operand_attrs.now (Some status)) }
+        ensures refused { OnErr result (outcome ctx.old.tree ctx.new.tree op operand_attrs.now Option.None) }
+        ensures err { IfErr result (λ e. e ≡ Memory) };
+
+    /// Folds the operation by constants: asks `check_fold` for the constants of its results, and puts,
+    /// for each that is known and that `materialize` makes, a new operation just before, which gets all
+    /// uses of the result. Each result is rewritten wholly or not at all. Most dialects fold in place by
+    /// this call.
+    ///
+    /// Asks as `fold_in_place` does. Errors: want of memory, after which a first part of the results is
+    /// rewritten. Cost: that of `check_fold`, one `materialize` for each answer, and one step for each
+    /// use of a result.
+    fn fold_with_materialization<R: Rewriter + Room>(
+        alloc: Global,
+        op: Ptr<Operation>,
+        ctx: &mut Context,
+        operand_attrs: &[Option<AttrObj>],
+        rewriter: &mut R,
+    ) -> Result<IRStatus, OptError>
+        requires live { IsLive ctx.old.tree op }
+        requires placed { IsSome (parent_of ctx.old.tree op) }
+        requires folds { HeadPasses can_fold ctx.old.tree op }
+        requires entries { length operand_attrs.now ≡ length (operands_of ctx.old.tree op) }
+        requires point { R.point rewriter.old ≡ BeforeOperation op }
+        ensures ok { IfOk result (λ status. materialising Self.meaning constants accepts constant_head ctx.old.tree ctx.new.tree op operand_attrs.now (Some status)) }
+        ensures refused { OnErr result (materialising Self.meaning constants accepts constant_head ctx.old.tree ctx.new.tree op operand_attrs.now Option.None) }
+        ensures err { IfErr result (λ e. e ≡ Memory) }
+        ensures point { R.point rewriter.new ≡ R.point rewriter.old }
+    {
+        let answers = Self::check_fold(alloc, op, ctx, operand_attrs)?;
+        let count = op.num_result(ctx).min(answers.len());
+        let mut status = IRStatus::Unchanged;
+        for i in 0..count {
+            let Some(attr) = &answers[i] else {
+                continue;
+            };
+            ctx.well_formed();
+            let old = op.get_result(ctx, i);
+            // an insertion, a replacement, and erasing on the way back
+            rewriter.room(alloc, 3)?;
+            let Some(constant) = Self::materialize(alloc, attr, ctx)? else {
+                continue;
+            };
+            put_constant(ctx, constant, old, rewriter)?;
+            status = IRStatus::Changed;
+        }
+        Ok(status)
+    }
+
+    /// A new operation that makes this constant, which stands in no block; `None`, with nothing made,
+    /// where the dialect has none for it.
+    ///
+    /// Errors: want of memory, with nothing made.
+    fn materialize(
+        alloc: Global,
+        attr: &AttrObj,
+        ctx: &mut Context,
+    ) -> Result<Option<Ptr<Operation>>, OptError>
+        ensures ok { IfOk result (λ made. IsMaterialised accepts constant_head attr.now ctx.old.tree ctx.new.tree made) }
+        ensures refused { OnErr result (ctx.new ≡ ctx.old) }
+        ensures err { IfErr result (λ e. e ≡ Memory) };
+
+    /// The first fault that the dialect finds in the operation.
+    fn verify(_alloc: Global, _op: Ptr<Operation>, _ctx: &Context) -> Result<(), OptError>
+        requires { IsLive _ctx.now.tree _op }
+    {
+        Ok(())
+    }
+}
+
+/// Branches that go to fewer blocks where their operands are constants.
+pub trait BranchOpFoldInterface: HasMeaning {
+    // whether an operation with this head folds as a branch
+    ghost can_fold_branch: { Head → Bool };
+
+    // the blocks that a branch may go to, under known constants
+    ghost feasible: { Feasible };
+
+    // what folding in place comes to
+    ghost outcome: { Outcome };
+
+    /// Whether the operation folds as a branch. Reads the head alone.
+    fn folds_branch(op: Ptr<Operation>, ctx: &Context) -> bool
+        requires { IsLive ctx.now.tree op }
+        ensures { ReadsHead can_fold_branch ctx.now.tree op result };
+
+    /// The blocks that the branch may go to, if its operands have these constants. Asks that the
+    /// operation folds as a branch, and for one entry for each operand.
+    ///
+    /// Errors: want of memory.
+    fn check_fold(
+        alloc: Global,
+        op: Ptr<Operation>,
+        ctx: &Context,
+        operand_attrs: &[Option<AttrObj>],
+    ) -> Result<Vec<Ptr<BasicBlock>>, OptError>
+        requires live { IsLive ctx.now.tree op }
+        requires folds { HeadPasses can_fold_branch ctx.now.tree op }
+        requires entries { length operand_attrs.now ≡ length (operands_of ctx.now.tree op) }
+        ensures ok { IfOk result (λ blocks. ReadsEdges Self.meaning (λ s targets. feasible s targets operand_attrs.now) ctx.now.tree op blocks.items) }
+        ensures err { IfErr result (λ e. e ≡ Memory) };
+
+    /// Folds the branch where it stands, if its operands have these constants. Asks that the operation
+    /// folds as a branch, for one entry for each operand, and for an insertion point just before it.
+    ///
+    /// Errors: want of memory, which leaves an outcome of the dialect too.
+    fn fold_in_place<R: Rewriter + Room>(
+        alloc: Global,
+        op: Ptr<Operation>,
+        ctx: &mut Context,
+        operand_attrs: &[Option<AttrObj>],
+        rewriter: &mut R,
+    ) -> Result<IRStatus, OptError>
+        requires live { IsLive ctx.old.tree op }
+        requires placed { IsSome (parent_of ctx.old.tree op) }
+        requires folds { HeadPasses can_fold_branch ctx.old.tree op }
+        requires entries { length operand_attrs.now ≡ length (operands_of ctx.old.tree op) }
+        requires point { R.point rewriter.old ≡ BeforeOperation op }
+        ensures ok { IfOk result (λ status. outcome ctx.old.tree ctx.new.tree op operand_attrs.now (Some status)) }
+        ensures refused { OnErr result (outcome ctx.old.tree ctx.new.tree op operand_attrs.now Option.None) }
+        ensures err { IfErr result (λ e. e ≡ Memory) };
+
+    /// The first fault that the dialect finds in the operation.
+    fn verify(_alloc: Global, _op: Ptr<Operation>, _ctx: &Context) -> Result<(), OptError>
+        requires { IsLive _ctx.now.tree _op }
+    {
+        Ok(())
+    }
+}
+
+/// A dialect: its operations, what each means, and the laws that passes rest on.
+pub trait Dialect: SideEffects + BlockArgRemoval + ConstFoldInterface + BranchOpFoldInterface {
+    /// What tells its operations apart.
+    type Kind: Copy + Eq;
+
+    // whether an operation with this head is of the kind, and whether it implements the interface
+    ghost is_of_kind: { Head → Self.Kind → Bool };
+
+    ghost has_interface: { Head → InterfaceName → Bool };
+
+    // the head of a branch that lost the operand at this place of this edge
+    ghost shortened: { Shape → ℕ → ℕ → Head };
+
+    /// Whether the operation is of this kind. Reads the head alone.
+    fn is_kind(op: Ptr<Operation>, ctx: &Context, kind: Self::Kind) -> bool
+        requires { IsLive ctx.now.tree op }
+        ensures { ReadsHead (λ h. is_of_kind h kind) ctx.now.tree op result };
+
+    /// Whether the operation implements the interface. Reads the head alone.
+    fn implements(op: Ptr<Operation>, ctx: &Context, interface: Interface) -> bool
+        requires { IsLive ctx.now.tree op }
+        ensures { ReadsHead (λ h. has_interface h interface) ctx.now.tree op result };
+
+    /// Whether the dialect has operations with this head and these counts.
+    fn admits(op: Ptr<Operation>, ctx: &Context) -> bool
+        requires { IsLive ctx.now.tree op }
+        ensures { ReadsCounts Self.meaning.admits ctx.now.tree op result };
+
+    /// Whether the operation ends a block. Reads the head alone.
+    fn is_terminator(op: Ptr<Operation>, ctx: &Context) -> bool
+        requires { IsLive ctx.now.tree op }
+        ensures { ReadsHead Self.meaning.is_terminator ctx.now.tree op result };
+
+    /// Whether the operation is a branch. Reads the head alone.
+    fn is_branch(op: Ptr<Operation>, ctx: &Context) -> bool
+        requires { IsLive ctx.now.tree op }
+        ensures { ReadsHead Self.meaning.is_branch ctx.now.tree op result };
+
+    /// The operands that the branch forwards along its edge `i`. Asks for a branch with such an edge.
+    ///
+    /// Errors: want of memory.
+    fn successor_operands(
+        alloc: Global,
+        op: Ptr<Operation>,
+        ctx: &Context,
+        i: usize,
+    ) -> Result<Vec<Value>, OptError>
+        requires live { IsLive ctx.now.tree op }
+        requires branch { HeadPasses Self.meaning.is_branch ctx.now.tree op }
+        requires edge { i < length (successors_of ctx.now.tree op) }
+        ensures ok { IfOk result (λ values. AreForwarded Self.meaning ctx.now.tree op i values.items) }
+        ensures err { IfErr result (λ e. e ≡ Memory) };
+
+    /// Takes out the operand that the branch forwards at place `j` of its edge `i`, and answers it.
+    /// Asks for a branch with such an edge and place. Takes no memory.
+    fn remove_successor_operand(op: Ptr<Operation>, ctx: &mut Context, i: usize, j: usize) -> Value
+        requires live { IsLive ctx.old.tree op }
+        requires branch { HeadPasses Self.meaning.is_branch ctx.old.tree op }
+        requires edge { i < length (successors_of ctx.old.tree op) }
+        requires place { HasPlace Self.meaning ctx.old.tree op i j }
+        ensures lost { LosesForwarded Self.meaning shortened ctx.old.tree ctx.new.tree op i j result }
+        ensures block_uses { ctx.new.block_uses ≡ ctx.old.block_uses };
+
+    // What has successors is a terminator, and moves pass as many values as there are places for.
+    ghost keeps_counts: { KeepsCounts Self.meaning };
+
+    // What has no side effects gives its results at once.
+    ghost gives_at_once: { GivesAtOnce Self.meaning Self.side_effects };
+
+    // A branch passes along each edge the operands that it forwards there, and can lose each of them.
+    ghost forwards_operands: { ForwardsOperands Self.meaning Self.can_fold (PassSameTests Self.meaning Self.can_fold Self.can_fold_branch is_of_kind has_interface) shortened };
+
+    // Where an argument of an entry block may be removed, visits lose a value and nothing else changes.
+    ghost acts_without_argument: { ActsWithoutArgument Self.meaning Self.removable };
+
+    // Each constant that folding answers is what the operation gives.
+    ghost answers_true: { AnswersTrue Self.meaning Self.can_fold Self.constants };
+
+    // A branch goes to one of the blocks that folding answers.
+    ghost answers_jumps: { AnswersJumps Self.meaning Self.can_fold_branch Self.feasible };
+
+    // Folding in place puts constants for results, or another branch in the place of one, or nothing.
+    ghost folds_in_place: { FoldsInPlace Self.meaning Self.constants Self.accepts Self.constant_head Self.ConstFoldInterface.outcome Self.BranchOpFoldInterface.outcome };
+
+    // What is made for an attribute is a constant that gives its datum.
+    ghost makes_constants: { MakesConstants Self.meaning Self.accepts Self.constant_head };
+}

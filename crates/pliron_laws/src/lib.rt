@@ -1,0 +1,21 @@
+//! What a program means, and what a dialect owes: the faults, the traits of a dialect with the laws that
+//! stand there as members, and the first calls that need no more than these.
+//!
+//! Of rewrites that keep every run, of any dialect but the one at hand, and of texts it knows nothing.
+//! `docs/DIALECTS.md` says how a dialect is written.
+#![tactic(auto)]
+
+mod dialect;
+mod edges;
+mod fault;
+pub mod materialise;
+pub mod reads;
+mod room;
+
+pub use dialect::{
+    BlockArgRemoval, BranchOpFoldInterface, ConstFoldInterface, Dialect, HasMeaning, Interface,
+    SideEffects,
+};
+pub use edges::edges_last;
+pub use fault::OptError;
+pub use room::Room;

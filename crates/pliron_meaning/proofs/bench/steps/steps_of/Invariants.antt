@@ -1,6 +1,0 @@
-use Rattle.std.specs.Prelude.{IfSome}
-use Rattle.pliron_meaning.specs.Printing.{AllStand, IsStanding}
-use Rattle.pliron_meaning.proofs.bench.steps.steps_of.Given as goal
-
-abbrev pub invariant-loop : goal.invariant-loop
-invariant-loop l = AllStand l.ctx.tree l.steps.items × IfSome l.next (λ step. IsStanding l.ctx.tree step)

@@ -1,6 +1,0 @@
--- Each turn takes a lexeme, which isn't empty.
-use Rattle.std.proofs.Common.{length}
-use Rattle.pliron_meaning.proofs.bench.tokens.tokens.Given as goal
-
-abbrev pub decreases-loop-rest : goal.decreases-loop-rest
-decreases-loop-rest l = length l.rest

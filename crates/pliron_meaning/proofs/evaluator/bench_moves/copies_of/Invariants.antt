@@ -1,6 +1,0 @@
-use Rattle.std.proofs.Common.{◌≡◌, replicate, map}
-use Rattle.pliron_meaning.specs.Evaluator.{datum_of}
-use Rattle.pliron_meaning.proofs.evaluator.bench_moves.copies_of.Given as goal
-
-abbrev pub invariant-loop : goal.invariant-loop
-invariant-loop l = map datum_of l.copies.items ≡ replicate l.counter (datum_of l.datum)

@@ -1,6 +1,0 @@
-use Rattle.std.proofs.Common.{◌≡◌, map, take}
-use Rattle.pliron_meaning.specs.Evaluator.{datum_of}
-use Rattle.pliron_meaning.proofs.evaluator.values.all_copies.Given as goal
-
-abbrev pub invariant-loop-datum : goal.invariant-loop-datum
-invariant-loop-datum l = map datum_of l.copies.items ≡ map datum_of (take l.datum-index l.items)

@@ -1,0 +1,2 @@
+pub mod ReadConstants
+pub mod ForwardedLemmas

@@ -1,0 +1,74 @@
+//! Reading and printing where memory is refused. Run it by hand with each request for memory refused in
+//! turn: `rt try --test --fail-alloc N`.
+use pliron_meaning::OptError;
+use pliron_meaning::bench::{print_text, read_text};
+use pliron_core::{Context, Operation, Ptr};
+use std::alloc::Global;
+use std::process::Abort;
+use std::test::Fail;
+
+/// A text of all that a reading makes, and its line.
+const TEXT: &str =
+    "func { e(x): c = const 3; l, r = pair; scope c { e(p): sink p l r; ret }; cbr x b(c) d(); b(q): ret q; d(): fork x b b }";
+
+const LINE: &str =
+    "func { b0(v0): v1 = const 3; v2, v3 = pair; scope v1 { b0(v4): sink v4 v2 v3; ret }; cbr v0 b1(v1) b2(); b1(v5): ret v5; b2(): fork v0 b1 b1 }";
+
+/// The line of the operation, asked for once more where memory was refused.
+fn check_line(
+    rt: &impl Abort,
+    alloc: Global,
+    ctx: &Context,
+    root: Ptr<Operation>,
+    want: &str,
+) -> Result<(), Fail> {
+    assert!(rt; root.is_live(ctx));
+    let line = match print_text(alloc, root, ctx) {
+        Ok(line) => line,
+        Err(error) => {
+            assert_eq!(rt; error, OptError::Memory);
+            print_text(alloc, root, ctx)?
+        }
+    };
+    assert_eq!(rt; line.as_str(), want);
+    Ok(())
+}
+
+/// Reads a text beside an operation that stands. Where memory is refused that one stays as it is, and
+/// the text is read once more.
+fn read_beside(
+    rt: &impl Abort,
+    alloc: Global,
+    ctx: &mut Context,
+    first: Ptr<Operation>,
+) -> Result<Ptr<Operation>, Fail> {
+    let read = match read_text(alloc, TEXT.as_bytes(), ctx) {
+        Err(error) => {
+            assert_eq!(rt; error, OptError::Memory);
+            check_line(rt, alloc, ctx, first, "mod { }")?;
+            read_text(alloc, TEXT.as_bytes(), ctx)?
+        }
+        Ok(read) => read,
+    };
+    match read {
+        Some(root) => Ok(root),
+        None => panic!(rt; "unreadable"),
+    }
+}
+
+#[test]
+fn refused_requests_for_memory(rt: HostRuntime) -> Result<(), Fail> {
+    let alloc = rt.alloc();
+    let mut ctx = Context::new(alloc);
+    let first = match read_text(alloc, b"mod { }", &mut ctx) {
+        Err(error) => {
+            assert_eq!(rt; error, OptError::Memory);
+            read_text(alloc, b"mod { }", &mut ctx)?
+        }
+        Ok(read) => read,
+    };
+    let first = first.expect(&rt, "readable");
+    let second = read_beside(&rt, alloc, &mut ctx, first)?;
+    check_line(&rt, alloc, &ctx, second, LINE)?;
+    check_line(&rt, alloc, &ctx, first, "mod { }")
+}

@@ -1,0 +1,188 @@
+-- What is laid of a sound text is well linked.
+use Rattle.std.proofs.Common.{◌≡◌, ◌⊎◌, ℕ, ℤ, Bool, false, pos, ◌+◌, ◌-◌, ◌<◌, ◌≤◌, List, [], ◌∷◌, length, Option, Some, None, refl, sym, ap, ◌∙◌, subst, inl, inr, ⊎_elim, arith, slice_get, IsTrue}
+use Rattle.std.proofs.lemmas.Option.{slice_get_cases, slice_get_within}
+use Rattle.pliron_core.specs.declared.attrs.Head.{Head}
+use Rattle.pliron_core.specs.Tree.{Tree, In, IsLive, IsInside, IsWithin, head_of, results_of, regions_of, operands_of, successors_of, block_parent_of}
+use Rattle.pliron_core.specs.Joined.{IsTree}
+use Rattle.pliron_core.proofs.HoldingLemmas.{some_is, past_live, holder_live}
+use Rattle.pliron_core.proofs.TreeLemmas.{cases_lt}
+use Rattle.pliron_bench.specs.declared.kind.BenchKind.{BenchKind}
+use Rattle.pliron_bench.specs.declared.kind.BenchKind.TheVariants.{Mod, Func, Const, Add, Mul, Div, Read, Print, Pair, Sink, Scope, Box, Br, Cbr, Ret, Fork}
+use Rattle.pliron_notation.specs.declared.build.Built.{Built}
+use Rattle.pliron_notation.specs.declared.syntax.OperationText.{OperationText}
+use Rattle.pliron_notation.specs.declared.syntax.Syntax.{Syntax}
+use Rattle.pliron_bench.specs.Bench.{takes, by_kind, kind_of, head_with, number_of, plain_head, result_count, region_count}
+use Rattle.pliron_bench.specs.BenchMoves.{bench}
+use Rattle.pliron_laws.specs.Linked.{EndsBlock, EdgesLast, IsWellLinked}
+use Rattle.pliron_bench.specs.Bench.{IsTop}
+use Rattle.pliron_notation.specs.Notation.{IsUpToLast, IsSound}
+use Rattle.pliron_notation.specs.Building.{HasAllMade, IsGrown}
+use Rattle.pliron_notation.specs.Laid.{IsLastOf, IsLaid, IsAllLaid}
+use Rattle.pliron_notation.proofs.UndoneLemmas.{contained, old_not_within}
+
+past : (a b : ℕ) → a ≤ b → (n : ℕ) × (b ≡ a + n)
+past a b le = (b - a, omega (arith, le))
+
+some_member : (x : ℕ) (xs : List ℕ) → In x xs → 0 < length xs
+some_member x [] i = absurd i
+some_member x (y ∷ ys) i = omega arith
+
+-- no operation stands in the same block after one with successors
+not_after : (last : Option ℕ) (n m : ℕ) (o q : OperationText) → IsUpToLast last n o → IsUpToLast last m q → 0 < length o.successors.items → n < m → ⊥
+not_after None n m o q h g some lt = absurd h
+not_after (Some last) n m o q h g some lt = let e = h.1 some in let le = g.0 in omega (arith, e, le, lt)
+
+abbrev admits : Head → (operands results successors regions : ℕ) → Bool
+admits h a b c d = by_kind false (takes h a b c d) (kind_of h.kind)
+
+kind_back : (kind : BenchKind) → kind_of (number_of kind) ≡ Some kind
+unfolding kind_of
+kind_back Mod = refl
+kind_back Func = refl
+kind_back Const = refl
+kind_back Add = refl
+kind_back Mul = refl
+kind_back Div = refl
+kind_back Read = refl
+kind_back Print = refl
+kind_back Pair = refl
+kind_back Sink = refl
+kind_back Scope = refl
+kind_back Box = refl
+kind_back Br = refl
+kind_back Cbr = refl
+kind_back Ret = refl
+kind_back Fork = refl
+
+number_kept : (kind : BenchKind) (n first_edge : ℤ) → (head_with kind n first_edge).kind ≡ number_of kind
+number_kept Mod n f = refl
+number_kept Func n f = refl
+number_kept Const n f = refl
+number_kept Add n f = refl
+number_kept Mul n f = refl
+number_kept Div n f = refl
+number_kept Read n f = refl
+number_kept Print n f = refl
+number_kept Pair n f = refl
+number_kept Sink n f = refl
+number_kept Scope n f = refl
+number_kept Box n f = refl
+number_kept Br n f = refl
+number_kept Cbr n f = refl
+number_kept Ret n f = refl
+number_kept Fork n f = refl
+
+-- what the table of its kind takes is admitted
+taken_admitted : (kind : BenchKind) (h : Head) (a b c d : ℕ) → h.kind ≡ number_of kind → IsTrue (takes h a b c d kind) → IsTrue (admits h a b c d)
+taken_admitted kind h a b c d e is = subst (λ z. IsTrue (by_kind false (takes h a b c d) z)) (sym (ap kind_of e ∙ kind_back kind)) is
+
+admits_same : (h g : Head) (a b c d a' b' c' d' : ℕ) → h ≡ g → a ≡ a' → b ≡ b' → c ≡ c' → d ≡ d' → IsTrue (admits g a' b' c' d') → IsTrue (admits h a b c d)
+admits_same h g a b c d a' b' c' d' eh ea eb ec ed is = subst IsTrue (sym (ap (λ z. admits z a b c d) eh ∙ ap (λ z. admits g z b c d) ea ∙ ap (λ z. admits g a' z c d) eb ∙ ap (λ z. admits g a' b' z d) ec ∙ ap (λ z. admits g a' b' c' z) ed)) is
+
+whole_admitted : (kind : BenchKind) → IsTop kind → IsTrue (admits (plain_head kind) 0 0 0 1)
+whole_admitted kind (inl e) = subst (λ z. IsTrue (admits (plain_head z) 0 0 0 1)) (sym e) (taken_admitted Mod (plain_head Mod) 0 0 0 1 refl refl)
+whole_admitted kind (inr e) = subst (λ z. IsTrue (admits (plain_head z) 0 0 0 1)) (sym e) (taken_admitted Func (plain_head Func) 0 0 0 1 refl refl)
+
+module _ (s : Syntax) (t u : Tree) (root : ℕ) (wt : IsTree t) (wu : IsTree u) (g : IsGrown t u root) (sound : IsSound s) (built : Built) (all : HasAllMade s built) (l : IsLaid s root (length t.bodies) (length s.operations.items) u built) where
+  abbrev base : ℕ
+  base = length t.bodies
+
+  inside_live : (k : ℕ) → IsInside u root k → IsLive u k
+  inside_live k (IsInside.Directly e) = (holder_live u k root wu.joined e).0
+  inside_live k (IsInside.Deeper p e i) = (holder_live u k p wu.joined e).0
+
+  -- the text of what stands inside the root
+  abbrev HasText : ℕ → Type 0
+  HasText k = (n : ℕ) × (o : OperationText) × (slice_get s.operations.items n ≡ Some o) × (k ≡ root + 1 + n)
+
+  text_of : (k : ℕ) → root + 1 ≤ k → IsLive u k → HasText k
+  text_of k le live =
+      let p = past (root + 1) k le in
+      let lt : p.0 < length s.operations.items = (let a = past_live u k live in let b = l.operation_count in let c = all.operations in let d = p.1 in omega (arith, a, b, c, d)) in
+      ⊎_elim
+      (λ found. (p.0, found.0, found.2, p.1))
+      (λ none. absurd (let f = none.0 in omega (arith, lt, f)))
+      (slice_get_cases s.operations.items p.0).1
+
+  place : (k : ℕ) → IsWithin u root k → (k ≡ root) ⊎ HasText k
+  place k (inl e) = inl e
+  place k (inr i) = ⊎_elim
+      (λ old. absurd (old_not_within t u root wt wu g k old (inr i)))
+      (λ from. ⊎_elim
+      (λ lt. inl (omega (arith, from, lt)))
+      (λ le. inr (text_of k le (inside_live k i)))
+      (cases_lt k (root + 1)))
+      (cases_lt k root)
+
+  below : (n : ℕ) (o : OperationText) → slice_get s.operations.items n ≡ Some o → n < length built.operations.items
+  below n o at = let lt = slice_get_within s.operations.items n o at in let e = all.operations in omega (arith, lt, e)
+
+  root_admitted : (h : Head) → head_of u root ≡ Some h → IsTrue (admits h (length (operands_of u root)) (length (results_of u root)) (length (successors_of u root)) (length (regions_of u root)))
+  root_admitted h e = admits_same h (plain_head s.root) (length (operands_of u root)) (length (results_of u root)) (length (successors_of u root)) (length (regions_of u root)) 0 0 0 1
+      (some_is (sym e ∙ l.whole.head)) (ap length l.unused_whole.no_operands) l.whole.results (ap length l.unused_whole.no_successors) l.whole.regions (whole_admitted s.root sound.top)
+
+  text_admitted : (n : ℕ) (o : OperationText) → slice_get s.operations.items n ≡ Some o → (k : ℕ) → k ≡ root + 1 + n → (h : Head) → head_of u k ≡ Some h → IsTrue (admits h (length (operands_of u k)) (length (results_of u k)) (length (successors_of u k)) (length (regions_of u k)))
+  text_admitted n o at k e =
+      let made = l.made n o at (below n o at) in
+      let used = l.used n o at (slice_get_within s.operations.items n o at) in
+      let j : ℕ = root + 1 + n in
+      subst (λ z. (h : Head) → head_of u z ≡ Some h → IsTrue (admits h (length (operands_of u z)) (length (results_of u z)) (length (successors_of u z)) (length (regions_of u z)))) (sym e)
+      (λ h f. admits_same h (head_with o.kind o.number (pos o.first_edge)) (length (operands_of u j)) (length (results_of u j)) (length (successors_of u j)) (length (regions_of u j)) (length o.operands.items) (result_count o.kind) (length o.successors.items) (region_count o.kind)
+      (some_is (sym f ∙ made.head)) used.operand_count made.results used.successor_count made.regions
+      (taken_admitted o.kind (head_with o.kind o.number (pos o.first_edge)) (length o.operands.items) (result_count o.kind) (length o.successors.items) (region_count o.kind) (number_kept o.kind o.number (pos o.first_edge)) (sound.operations n o at).admitted))
+
+  all_admitted : (k : ℕ) → IsWithin u root k → (h : Head) → head_of u k ≡ Some h → IsTrue (admits h (length (operands_of u k)) (length (results_of u k)) (length (successors_of u k)) (length (regions_of u k)))
+  all_admitted k within h e = ⊎_elim
+      (λ same. subst (λ z. (f : Head) → head_of u z ≡ Some f → IsTrue (admits f (length (operands_of u z)) (length (results_of u z)) (length (successors_of u z)) (length (regions_of u z)))) (sym same) root_admitted h e)
+      (λ text. text_admitted text.0 text.1 text.2 k text.3 h e)
+      (place k within)
+
+  alone : (n : ℕ) (o : OperationText) → slice_get s.operations.items n ≡ Some o → 0 < length o.successors.items → IsLastOf s (length built.operations.items) n o
+  alone n o at some m q after less f same =
+      let here = sound.operations n o at in
+      let there = sound.operations m q f in
+      let block : there.block ≡ here.block = some_is (sym there.in_block ∙ ap (slice_get s.blocks.items) same ∙ here.in_block) in
+      not_after here.block.last n m o q here.last (subst (λ z. IsUpToLast z.last m q) block there.last) some after
+
+  same_region : (n : ℕ) (o : OperationText) → slice_get s.operations.items n ≡ Some o → (y : ℕ) → In y (successors_of u (root + 1 + n)) → block_parent_of u y ≡ block_parent_of u (base + o.block)
+  same_region n o at y i =
+      let here = sound.operations n o at in
+      let named = (l.used n o at (slice_get_within s.operations.items n o at)).named y i in
+      let target = here.own_region named.0 named.1 in
+      let inside : (j : ℕ) → j < length s.blocks.items → j < length built.blocks.items = λ j lt. (let e = all.blocks in omega (arith, lt, e)) in
+      let there = l.placed named.0 target.0 target.1 (inside named.0 (slice_get_within s.blocks.items named.0 target.0 target.1)) in
+      let own = l.placed o.block here.block here.in_block (inside o.block (slice_get_within s.blocks.items o.block here.block here.in_block)) in
+      ap (block_parent_of u) named.2 ∙ there.2 ∙ sym there.1 ∙ ap (slice_get built.regions.items) target.2 ∙ own.1 ∙ sym own.2
+
+  ends : (n : ℕ) (o : OperationText) → slice_get s.operations.items n ≡ Some o → (k x : ℕ) → k ≡ root + 1 + n → In x (successors_of u k) → EndsBlock u k
+  ends n o at k x e i =
+      let used = l.used n o at (slice_get_within s.operations.items n o at) in
+      let member : In x (successors_of u (root + 1 + n)) = subst (λ z. In x (successors_of u z)) e i in
+      let some : 0 < length o.successors.items = (let lt = some_member x (successors_of u (root + 1 + n)) member in let f = used.successor_count in omega (arith, lt, f)) in
+      subst (EndsBlock u) (sym e) (record {
+        block = base + o.block;
+        in_block = (l.made n o at (below n o at)).in_block;
+        last = l.last n o at (below n o at) (alone n o at some);
+        own_region = same_region n o at;
+      })
+
+  at_root : (x : ℕ) → In x (successors_of u root) → ⊥
+  at_root x i = subst (In x) l.unused_whole.no_successors i
+
+  within_ends : (k x : ℕ) → In x (successors_of u k) → IsWithin u root k → EndsBlock u k
+  within_ends k x i within = ⊎_elim
+      (λ same. absurd (at_root x (subst (λ z. In x (successors_of u z)) same i)))
+      (λ text. ends text.0 text.1 text.2 k x text.3 i)
+      (place k within)
+
+  all_edges : EdgesLast u root
+  all_edges k x i (inl inside) = within_ends k x i (inr inside)
+  all_edges k x i (inr held) = within_ends k x i ((contained t u root wt wu g).blocks k x i held)
+
+  linked : IsWellLinked bench u root
+  unfolding bench
+  linked = record { edges = all_edges; admitted = all_admitted }
+
+-- a text that is sound and all laid is well linked
+pub linked-text : (s : Syntax) (t u : Tree) (root : ℕ) → IsTree t → IsTree u → IsGrown t u root → IsSound s → IsAllLaid s t u root → IsWellLinked bench u root
+linked-text s t u root wt wu g sound h = linked s t u root wt wu g sound h.0 h.1 h.2

@@ -1,0 +1,4 @@
+pub mod Notation
+pub mod Building
+pub mod Laid
+pub mod Printing

@@ -1,0 +1,339 @@
+//! From syntax to a tree.
+ghost use Rattle.std.specs.Prelude.{pos, ℕ, ◌≡◌, Some, slice_get, ◌++◌, ◌∷◌, [], ◌+◌, ◌<◌, IfOk, OnOk, OnErr, length};
+ghost use Rattle.pliron_core.specs.declared.attrs.Head.{Head as TreeHead};
+ghost use Rattle.pliron_core.specs.declared.attrs.AttrObj.TheVariants.{Int};
+ghost use Rattle.pliron_core.specs.Tree.{Tree, In, IsLive, IsBlock, results_of, regions_of, arguments_of};
+ghost use Rattle.pliron_core.specs.Joined.{IsTree};
+ghost use Rattle.pliron_core.specs.Writes.{created};
+ghost use Rattle.pliron_core.specs.Changes.{IsSameTree};
+ghost use Rattle.pliron_notation.specs.declared.syntax.Syntax.{Syntax};
+ghost use Rattle.pliron_bench.specs.Bench.{head_with, plain_head as head_without, attribute_head as head_with_attribute, result_count, region_count as kind_regions};
+ghost use Rattle.pliron_bench.specs.BenchMoves.{bench};
+ghost use Rattle.pliron_laws.specs.Linked.{IsWellLinked};
+ghost use Rattle.pliron_notation.specs.Notation.{AllBelow, AreSoundOperations, IsSound, first_made};
+ghost use Rattle.pliron_notation.specs.Building.{AddsOnly, AreStanding, GoesOn, HasAllMade, HasMade, IsGrown, Keeps, appended};
+ghost use Rattle.pliron_notation.specs.Laid.{HasMoreOperands, HasMoreSuccessors, IsAllLaid, LaysBlock, LaysOn, LaysOperation, Wires};
+
+use pliron_bench::heads::{attribute_head, plain_head};
+use pliron_bench::BenchKind;
+use crate::syntax::{BlockText, OperationText, Step, Syntax};
+use pliron_core::{
+    AttrObj, BasicBlock, Context, Head, IRRewriter, NoMemory, Operation, Ptr, Region, Rewriter,
+    Value,
+};
+use std::alloc::{AllocError, Global};
+
+/// What is built so far, by number.
+#[derive(Drop)]
+struct Built {
+    operations: Vec<Ptr<Operation>>,
+    blocks: Vec<Ptr<BasicBlock>>,
+    regions: Vec<Ptr<Region>>,
+    values: Vec<Value>,
+}
+
+fn number_head(alloc: Global, kind: BenchKind, number: i128) -> Result<Head, AllocError>
+    ensures { IfOk result (λ head. head ≡ head_with_attribute kind (Int number)) }
+{
+    Ok(attribute_head(alloc, kind, AttrObj::Int(number))?)
+}
+
+fn head_of(alloc: Global, text: &OperationText) -> Result<Head, AllocError>
+    ensures { IfOk result (λ head. head ≡ head_with text.now.kind text.now.number (pos text.now.first_edge)) }
+{
+    match text.kind {
+        BenchKind::Const => number_head(alloc, BenchKind::Const, text.number as i128),
+        BenchKind::Cbr => number_head(alloc, BenchKind::Cbr, text.first_edge as i128),
+        kind => Ok(plain_head(alloc, kind)),
+    }
+}
+
+/// Builds the operation of a text, in no block and well linked.
+///
+/// Errors: want of memory, after which nothing of the text stands. Cost: linear in the text.
+pub fn build(alloc: Global, syntax: &Syntax, ctx: &mut Context) -> Result<Ptr<Operation>, NoMemory>
+    requires { IsSound syntax.now }
+    ensures built { IfOk result (λ root. IsGrown ctx.old.tree ctx.new.tree root) }
+    ensures linked { IfOk result (λ root. IsWellLinked bench ctx.new.tree root) }
+    ensures refused { OnErr result (IsSameTree ctx.old.tree ctx.new.tree) }
+{
+    ctx.well_formed();
+    let head = plain_head(alloc, syntax.root);
+    let root = Operation::create(ctx, head, 0, 1)?;
+    ctx.well_formed();
+    let filled = fill(alloc, syntax, ctx, root);
+    ctx.well_formed();
+    match filled {
+        Ok(()) => Ok(root),
+        Err(refused) => {
+            IRRewriter::new().erase_operation(ctx, root);
+            Err(refused)
+        }
+    }
+}
+
+/// Builds all that stands inside the operation of a text.
+fn fill(
+    alloc: Global,
+    syntax: &Syntax,
+    ctx: &mut Context,
+    root: Ptr<Operation>,
+) -> Result<(), NoMemory>
+    requires sound { IsSound syntax.now }
+    requires live { IsLive ctx.old.tree root }
+    requires region { length (regions_of ctx.old.tree root) ≡ 1 }
+    ensures grown { (t : Tree) (head : TreeHead) → IsTree t → root ≡ length t.operations → ctx.old.tree ≡ created t head 0 1 → IsGrown t ctx.new.tree root }
+    ensures laid { OnOk result ((t : Tree) → IsTree t → root ≡ length t.operations → ctx.old.tree ≡ created t (head_without syntax.now.root) 0 1 → IsAllLaid syntax.now t ctx.new.tree root) }
+{
+    ctx.well_formed();
+    let mut built = Built {
+        operations: Vec::new(alloc),
+        blocks: Vec::new(alloc),
+        regions: Vec::new(alloc),
+        values: Vec::new(alloc),
+    };
+    remember(&mut built.regions, root.get_region(ctx, 0))?;
+    make_all(alloc, syntax, ctx, &mut built)?;
+    connect_all(syntax, ctx, &built)
+}
+
+/// Makes all operations and blocks inside the operation of a text.
+fn make_all(
+    alloc: Global,
+    syntax: &Syntax,
+    ctx: &mut Context,
+    built: &mut Built,
+) -> Result<(), NoMemory>
+    requires sound { IsSound syntax.now }
+    requires first { HasMade built.old first_made }
+    requires standing { AreStanding ctx.old.tree built.old }
+    ensures goes_on { GoesOn ctx.old.tree built.old ctx.new.tree built.new }
+    ensures standing { AreStanding ctx.new.tree built.new }
+    ensures made { OnOk result (HasAllMade syntax.now built.new) }
+    ensures laid { OnOk result (LaysOn syntax.now ctx.old.tree built.old ctx.new.tree built.new) }
+{
+    for step in &syntax.steps {
+        match step {
+            Step::Operation(number) => {
+                add_operation(alloc, ctx, built, &syntax.operations[*number])?;
+            }
+            Step::Block(number) => add_block(ctx, built, &syntax.blocks[*number])?,
+        }
+    }
+    Ok(())
+}
+
+/// Gives all operations their operands and successors.
+fn connect_all(syntax: &Syntax, ctx: &mut Context, built: &Built) -> Result<(), NoMemory>
+    requires sound { AreSoundOperations syntax.now }
+    requires made { HasAllMade syntax.now built.now }
+    requires standing { AreStanding ctx.old.tree built.now }
+    ensures goes_on { GoesOn ctx.old.tree built.now ctx.new.tree built.now }
+    ensures wired { OnOk result (Wires syntax.now 0 (length syntax.now.operations.items) ctx.old.tree ctx.new.tree built.now) }
+{
+    for number in 0..syntax.operations.len() {
+        connect(ctx, built, number, &syntax.operations[number])?;
+    }
+    Ok(())
+}
+
+/// One more at the end. Errors: want of memory.
+fn remember<T: Copy + Drop>(table: &mut Vec<T>, item: T) -> Result<(), NoMemory>
+    ensures ok { OnOk result (table.new.items ≡ table.old.items ++ item ∷ []) }
+    ensures err { OnErr result (table.new.items ≡ table.old.items) }
+{
+    match table.push(item) {
+        Ok(()) => Ok(()),
+        Err(_) => Err(NoMemory),
+    }
+}
+
+/// A new operation at the end of the block. Errors: want of memory, which changes nothing.
+fn append_operation(
+    ctx: &mut Context,
+    block: Ptr<BasicBlock>,
+    head: Head,
+    results: usize,
+    regions: usize,
+) -> Result<Ptr<Operation>, NoMemory>
+    requires { IsBlock ctx.old.tree block }
+    ensures key { IfOk result (λ op. op ≡ length ctx.old.tree.operations) }
+    ensures ok { OnOk result (ctx.new.tree ≡ appended ctx.old.tree head results regions block) }
+    ensures err { OnErr result (ctx.new ≡ ctx.old) }
+{
+    ctx.well_formed();
+    let op = Operation::create(ctx, head, results, regions)?;
+    IRRewriter::new().move_operation_to_end(ctx, op, block);
+    Ok(op)
+}
+
+/// The next operation of the text, at the end of its block, without operands and successors.
+fn add_operation(
+    alloc: Global,
+    ctx: &mut Context,
+    built: &mut Built,
+    text: &OperationText,
+) -> Result<(), NoMemory>
+    requires block { text.now.block < length built.old.blocks.items }
+    requires standing { AreStanding ctx.old.tree built.old }
+    ensures goes_on { GoesOn ctx.old.tree built.old ctx.new.tree built.new }
+    ensures standing { AreStanding ctx.new.tree built.new }
+    ensures operations { OnOk result (length built.new.operations.items ≡ length built.old.operations.items + 1) }
+    ensures blocks { built.new.blocks.items ≡ built.old.blocks.items }
+    ensures regions { OnOk result (length built.new.regions.items ≡ length built.old.regions.items + kind_regions text.now.kind) }
+    ensures values { OnOk result (length built.new.values.items ≡ length built.old.values.items + result_count text.now.kind) }
+    ensures laid { OnOk result (LaysOperation text.now ctx.old.tree built.old ctx.new.tree built.new) }
+{
+    ctx.well_formed();
+    let head = head_of(alloc, text)?;
+    let block = built.blocks[text.block];
+    let results = text.kind.result_count();
+    let regions = text.kind.region_count();
+    let op = append_operation(ctx, block, head, results, regions)?;
+    ctx.well_formed();
+    remember_operation(ctx, built, op)
+}
+
+/// Remembers a new operation, its results and its regions.
+fn remember_operation(ctx: &Context, built: &mut Built, op: Ptr<Operation>) -> Result<(), NoMemory>
+    requires { IsLive ctx.now.tree op }
+    ensures blocks { built.new.blocks.items ≡ built.old.blocks.items }
+    ensures operations { AddsOnly built.old.operations.items built.new.operations.items (op ∷ []) }
+    ensures regions { AddsOnly built.old.regions.items built.new.regions.items (regions_of ctx.now.tree op) }
+    ensures values { AddsOnly built.old.values.items built.new.values.items (results_of ctx.now.tree op) }
+    ensures operation { OnOk result (built.new.operations.items ≡ built.old.operations.items ++ op ∷ []) }
+    ensures kept_regions { Keeps built.old.regions.items built.new.regions.items }
+    ensures operation_count { OnOk result (length built.new.operations.items ≡ length built.old.operations.items + 1) }
+    ensures region_count { OnOk result (length built.new.regions.items ≡ length built.old.regions.items + length (regions_of ctx.now.tree op)) }
+    ensures value_count { OnOk result (length built.new.values.items ≡ length built.old.values.items + length (results_of ctx.now.tree op)) }
+{
+    remember(&mut built.operations, op)?;
+    remember_results(ctx, &mut built.values, op)?;
+    remember_regions(ctx, &mut built.regions, op)
+}
+
+fn remember_results(
+    ctx: &Context,
+    values: &mut Vec<Value>,
+    op: Ptr<Operation>,
+) -> Result<(), NoMemory>
+    requires { IsLive ctx.now.tree op }
+    ensures added { AddsOnly values.old.items values.new.items (results_of ctx.now.tree op) }
+    ensures count { OnOk result (length values.new.items ≡ length values.old.items + length (results_of ctx.now.tree op)) }
+{
+    for i in 0..op.num_result(ctx) {
+        remember(values, op.get_result(ctx, i))?;
+    }
+    Ok(())
+}
+
+fn remember_regions(
+    ctx: &Context,
+    regions: &mut Vec<Ptr<Region>>,
+    op: Ptr<Operation>,
+) -> Result<(), NoMemory>
+    requires { IsLive ctx.now.tree op }
+    ensures added { AddsOnly regions.old.items regions.new.items (regions_of ctx.now.tree op) }
+    ensures kept { Keeps regions.old.items regions.new.items }
+    ensures count { OnOk result (length regions.new.items ≡ length regions.old.items + length (regions_of ctx.now.tree op)) }
+{
+    for i in 0..op.num_region(ctx) {
+        remember(regions, op.get_region(ctx, i))?;
+    }
+    Ok(())
+}
+
+fn remember_arguments(
+    ctx: &Context,
+    values: &mut Vec<Value>,
+    block: Ptr<BasicBlock>,
+) -> Result<(), NoMemory>
+    requires { IsBlock ctx.now.tree block }
+    ensures added { AddsOnly values.old.items values.new.items (arguments_of ctx.now.tree block) }
+    ensures count { OnOk result (length values.new.items ≡ length values.old.items + length (arguments_of ctx.now.tree block)) }
+{
+    for i in 0..block.num_argument(ctx) {
+        remember(values, block.get_argument(ctx, i))?;
+    }
+    Ok(())
+}
+
+/// The next block of the text, at the end of its region.
+fn add_block(ctx: &mut Context, built: &mut Built, text: &BlockText) -> Result<(), NoMemory>
+    requires region { text.now.region < length built.old.regions.items }
+    requires standing { AreStanding ctx.old.tree built.old }
+    ensures goes_on { GoesOn ctx.old.tree built.old ctx.new.tree built.new }
+    ensures standing { AreStanding ctx.new.tree built.new }
+    ensures operations { built.new.operations.items ≡ built.old.operations.items }
+    ensures blocks { OnOk result (length built.new.blocks.items ≡ length built.old.blocks.items + 1) }
+    ensures regions { built.new.regions.items ≡ built.old.regions.items }
+    ensures values { OnOk result (length built.new.values.items ≡ length built.old.values.items + text.now.arguments) }
+    ensures laid { OnOk result (LaysBlock text.now ctx.old.tree built.old ctx.new.tree built.new) }
+{
+    ctx.well_formed();
+    let region = built.regions[text.region];
+    let block = BasicBlock::create(ctx, region, text.arguments)?;
+    ctx.well_formed();
+    remember(&mut built.blocks, block)?;
+    remember_arguments(ctx, &mut built.values, block)
+}
+
+/// Gives the operation of this number its operands and successors.
+fn connect(
+    ctx: &mut Context,
+    built: &Built,
+    number: usize,
+    text: &OperationText,
+) -> Result<(), NoMemory>
+    requires number { number < length built.now.operations.items }
+    requires operands { AllBelow (length built.now.values.items) text.now.operands.items }
+    requires successors { AllBelow (length built.now.blocks.items) text.now.successors.items }
+    requires standing { AreStanding ctx.old.tree built.now }
+    ensures goes_on { GoesOn ctx.old.tree built.now ctx.new.tree built.now }
+    ensures standing { AreStanding ctx.new.tree built.now }
+    ensures wired { OnOk result ((s : Syntax) → slice_get s.operations.items number ≡ Some text.now → Wires s number (number + 1) ctx.old.tree ctx.new.tree built.now) }
+{
+    let op = built.operations[number];
+    add_operands(ctx, built, op, &text.operands)?;
+    add_successors(ctx, built, op, &text.successors)
+}
+
+fn add_operands(
+    ctx: &mut Context,
+    built: &Built,
+    op: Ptr<Operation>,
+    operands: &[usize],
+) -> Result<(), NoMemory>
+    requires op { In op built.now.operations.items }
+    requires operands { AllBelow (length built.now.values.items) operands.now }
+    requires standing { AreStanding ctx.old.tree built.now }
+    ensures goes_on { GoesOn ctx.old.tree built.now ctx.new.tree built.now }
+    ensures standing { AreStanding ctx.new.tree built.now }
+    ensures added { OnOk result (HasMoreOperands ctx.old.tree ctx.new.tree op (length operands.now)) }
+{
+    for number in operands {
+        ctx.well_formed();
+        Operation::push_operand(ctx, op, built.values[*number])?;
+    }
+    Ok(())
+}
+
+fn add_successors(
+    ctx: &mut Context,
+    built: &Built,
+    op: Ptr<Operation>,
+    successors: &[usize],
+) -> Result<(), NoMemory>
+    requires op { In op built.now.operations.items }
+    requires successors { AllBelow (length built.now.blocks.items) successors.now }
+    requires standing { AreStanding ctx.old.tree built.now }
+    ensures goes_on { GoesOn ctx.old.tree built.now ctx.new.tree built.now }
+    ensures standing { AreStanding ctx.new.tree built.now }
+    ensures added { OnOk result (HasMoreSuccessors built.now ctx.old.tree ctx.new.tree op (length successors.now) successors.now) }
+{
+    for number in successors {
+        ctx.well_formed();
+        Operation::push_successor(ctx, op, built.blocks[*number])?;
+    }
+    Ok(())
+}

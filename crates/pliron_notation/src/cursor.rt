@@ -1,0 +1,96 @@
+//! Tokens, taken one by one.
+use pliron_bench::BenchKind;
+use crate::stop::Stop;
+use crate::tokens::{Name, Token};
+
+/// The tokens that are left.
+#[derive(Drop)]
+pub struct Cursor<'t> {
+    rest: &'t [Token],
+}
+
+impl<'t> Cursor<'t> {
+    pub fn new(tokens: &'t [Token]) -> Self {
+        Cursor { rest: tokens }
+    }
+
+    /// How many tokens are left.
+    pub fn len(&self) -> usize {
+        self.rest.len()
+    }
+
+    /// Takes the next token.
+    pub fn next(&mut self) -> Result<Token, Stop> {
+        match self.rest.split_first() {
+            Some((token, rest)) => {
+                self.rest = rest;
+                Ok(*token)
+            }
+            None => Err(Stop::Unreadable),
+        }
+    }
+
+    /// Takes the next token if it is the given one.
+    pub fn accept(&mut self, token: Token) -> bool {
+        match self.rest.split_first() {
+            Some((first, rest)) if *first == token => {
+                self.rest = rest;
+                true
+            }
+            _ => false,
+        }
+    }
+
+    /// Takes the given token.
+    pub fn expect(&mut self, token: Token) -> Result<(), Stop> {
+        if self.next()? == token {
+            Ok(())
+        } else {
+            Err(Stop::Unreadable)
+        }
+    }
+
+    /// Takes a name.
+    pub fn name(&mut self) -> Result<Name, Stop> {
+        match self.next()? {
+            Token::Name(name) => Ok(name),
+            _ => Err(Stop::Unreadable),
+        }
+    }
+
+    /// Takes a number.
+    pub fn number(&mut self) -> Result<i64, Stop> {
+        match self.next()? {
+            Token::Number(number) => Ok(number),
+            _ => Err(Stop::Unreadable),
+        }
+    }
+
+    /// Takes a kind.
+    pub fn kind(&mut self) -> Result<BenchKind, Stop> {
+        match self.next()? {
+            Token::Kind(kind) => Ok(kind),
+            _ => Err(Stop::Unreadable),
+        }
+    }
+
+    /// Takes the next token if it is a name.
+    pub fn accept_name(&mut self) -> Option<Name> {
+        match self.rest.split_first() {
+            Some((Token::Name(name), rest)) => {
+                let name = *name;
+                self.rest = rest;
+                Some(name)
+            }
+            _ => None,
+        }
+    }
+
+    /// Whether a block comes next: a name and an opening bracket.
+    pub fn at_block(&self) -> bool {
+        match self.rest {
+            [Token::Name(_), Token::OpenRound, ..] => true,
+            _ => false,
+        }
+    }
+}

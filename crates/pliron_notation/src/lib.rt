@@ -1,0 +1,18 @@
+//! The bench notation: texts of the dialect `Bench`, read into a tree and printed from one.
+//!
+//! It knows the dialect and the tree; of runs it knows nothing.
+#![tactic(auto)]
+
+mod build;
+mod cursor;
+mod labels;
+mod parser;
+mod printer;
+mod reader;
+mod steps;
+mod stop;
+mod syntax;
+mod tokens;
+
+pub use printer::print_text;
+pub use reader::read_text;

@@ -1,0 +1,334 @@
+//! From a tree to text.
+ghost use Rattle.std.specs.Prelude.{◌≡◌, IfErr};
+ghost use Rattle.pliron_laws.specs.declared.fault.OptError.TheVariants.{Memory};
+ghost use Rattle.pliron_core.specs.Tree.{IsLive, IsBlock, IsRegion};
+ghost use Rattle.pliron_notation.specs.Printing.{AllStand, IsStanding};
+
+use pliron_bench::BenchKind;
+use crate::steps::{Step, steps_of};
+use pliron_laws::OptError;
+use pliron_core::{AttrObj, BasicBlock, Context, Operation, Ptr, Region, Value};
+use std::alloc::{AllocError, Global};
+use std::collections::HashMap;
+
+/// What was printed last.
+#[derive(Clone, Copy, PartialEq, Eq)]
+enum Last {
+    Nothing,
+    Opening,
+    Block,
+    Operation,
+}
+
+/// What is printed so far, and the numbers of values and blocks.
+#[derive(Drop)]
+struct Printer {
+    text: String,
+    values: HashMap<Value, usize>,
+    blocks: HashMap<Ptr<BasicBlock>, usize>,
+}
+
+/// The text of the operation in one line, where blocks are `b0`, `b1`, .. in each region and values are
+/// `v0`, `v1`, .. in each `func`. Of a tree that isn't one of this dialect the text is open.
+///
+/// Asks that the operation stands. Errors: want of memory. Cost: linear in the tree.
+pub fn print_text(alloc: Global, root: Ptr<Operation>, ctx: &Context) -> Result<String, OptError>
+    requires { IsLive ctx.now.tree root }
+    ensures { IfErr result (λ e. e ≡ Memory) }
+{
+    let steps = steps_of(alloc, root, ctx)?;
+    let mut printer = Printer {
+        text: String::new(alloc),
+        values: HashMap::new(alloc),
+        blocks: HashMap::new(alloc),
+    };
+    printer.number(ctx, &steps)?;
+    printer.print(ctx, &steps)?;
+    Ok(printer.text)
+}
+
+/// The kind of an operation, if it is one of this dialect.
+fn kind_of(ctx: &Context, op: Ptr<Operation>) -> Option<BenchKind>
+    requires { IsLive ctx.now.tree op }
+{
+    BenchKind::from_number(op.head(ctx).kind)
+}
+
+/// The number that an operation has as its first attribute, if it has one.
+fn number_of(ctx: &Context, op: Ptr<Operation>) -> Option<i128>
+    requires { IsLive ctx.now.tree op }
+{
+    let head = op.head(ctx);
+    if head.attrs.is_empty() {
+        return None;
+    }
+    match head.attrs.get(0) {
+        AttrObj::Int(number) => Some(*number),
+        AttrObj::Text(_) => None,
+    }
+}
+
+impl Printer {
+    /// Gives each value and each block its number.
+    fn number(&mut self, ctx: &Context, steps: &[Step]) -> Result<(), AllocError>
+        requires { AllStand ctx.now.tree steps.now }
+    {
+        let mut next: usize = 0;
+        for step in steps {
+            next = self.number_step(ctx, step, next)?;
+        }
+        Ok(())
+    }
+
+    /// Gives what the step makes its numbers, where `next` is the next number of a value, and answers
+    /// the number after them.
+    fn number_step(&mut self, ctx: &Context, step: &Step, next: usize) -> Result<usize, AllocError>
+        requires { IsStanding ctx.now.tree step.now }
+    {
+        match step {
+            Step::Operation(op) => {
+                let first = if kind_of(ctx, *op) == Some(BenchKind::Func) {
+                    0
+                } else {
+                    next
+                };
+                self.number_results(ctx, *op, first)
+            }
+            Step::Region(region) => {
+                self.number_blocks(ctx, *region)?;
+                Ok(next)
+            }
+            Step::Block(block) => self.number_arguments(ctx, *block, next),
+            Step::End(_) => Ok(next),
+        }
+    }
+
+    fn number_results(
+        &mut self,
+        ctx: &Context,
+        op: Ptr<Operation>,
+        first: usize,
+    ) -> Result<usize, AllocError>
+        requires { IsLive ctx.now.tree op }
+    {
+        for i in 0..op.num_result(ctx) {
+            self.values
+                .insert(op.get_result(ctx, i), first.saturating_add(i))?;
+        }
+        Ok(first.saturating_add(op.num_result(ctx)))
+    }
+
+    fn number_arguments(
+        &mut self,
+        ctx: &Context,
+        block: Ptr<BasicBlock>,
+        first: usize,
+    ) -> Result<usize, AllocError>
+        requires { IsBlock ctx.now.tree block }
+    {
+        for i in 0..block.num_argument(ctx) {
+            self.values
+                .insert(block.get_argument(ctx, i), first.saturating_add(i))?;
+        }
+        Ok(first.saturating_add(block.num_argument(ctx)))
+    }
+
+    fn number_blocks(&mut self, ctx: &Context, region: Ptr<Region>) -> Result<(), AllocError>
+        requires { IsRegion ctx.now.tree region }
+    {
+        let mut next = region.get_head(ctx);
+        // No region has as many blocks.
+        for number in 0..usize::MAX {
+            match next {
+                Some(block) => {
+                    self.blocks.insert(block, number)?;
+                    next = block.get_next(ctx);
+                }
+                None => break,
+            }
+        }
+        Ok(())
+    }
+
+    fn print(&mut self, ctx: &Context, steps: &[Step]) -> Result<(), AllocError>
+        requires { AllStand ctx.now.tree steps.now }
+    {
+        let mut last = Last::Nothing;
+        for step in steps {
+            last = self.print_step(ctx, step, &last)?;
+        }
+        Ok(())
+    }
+
+    /// Prints what the step names, and what parts it from what was printed last.
+    fn print_step(&mut self, ctx: &Context, step: &Step, last: &Last) -> Result<Last, AllocError>
+        requires { IsStanding ctx.now.tree step.now }
+    {
+        match step {
+            Step::Operation(op) => {
+                self.text.push_str(match last {
+                    Last::Nothing => "",
+                    Last::Operation => "; ",
+                    Last::Opening | Last::Block => " ",
+                })?;
+                self.operation(ctx, *op)?;
+                Ok(Last::Operation)
+            }
+            Step::Region(_) => {
+                self.text.push_str(" {")?;
+                Ok(Last::Opening)
+            }
+            Step::Block(block) => {
+                self.text.push_str(match last {
+                    Last::Opening => " ",
+                    _ => "; ",
+                })?;
+                self.block(ctx, *block)?;
+                Ok(Last::Block)
+            }
+            Step::End(_) => {
+                self.text.push_str(" }")?;
+                Ok(Last::Operation)
+            }
+        }
+    }
+
+    /// A value's name. A value that stands outside what is printed is written `_`.
+    fn value(&mut self, value: Value) -> Result<(), AllocError> {
+        match self.values.get(&value) {
+            Some(number) => {
+                let number = *number;
+                write!(self.text, "v{number}")
+            }
+            None => self.text.push_str("_"),
+        }
+    }
+
+    /// A block's name. A block that stands outside what is printed is written `_`.
+    fn block_name(&mut self, block: Ptr<BasicBlock>) -> Result<(), AllocError> {
+        match self.blocks.get(&block) {
+            Some(number) => {
+                let number = *number;
+                write!(self.text, "b{number}")
+            }
+            None => self.text.push_str("_"),
+        }
+    }
+
+    /// A block's name and arguments.
+    fn block(&mut self, ctx: &Context, block: Ptr<BasicBlock>) -> Result<(), AllocError>
+        requires { IsBlock ctx.now.tree block }
+    {
+        self.block_name(block)?;
+        self.text.push_str("(")?;
+        for i in 0..block.num_argument(ctx) {
+            self.text.push_str(if i == 0 { "" } else { ", " })?;
+            self.value(block.get_argument(ctx, i))?;
+        }
+        self.text.push_str("):")
+    }
+
+    /// An operation up to its regions.
+    fn operation(&mut self, ctx: &Context, op: Ptr<Operation>) -> Result<(), AllocError>
+        requires { IsLive ctx.now.tree op }
+    {
+        self.results(ctx, op)?;
+        let kind = kind_of(ctx, op);
+        self.text.push_str(match &kind {
+            Some(kind) => kind.word(),
+            None => "_",
+        })?;
+        let count = op.num_operand(ctx);
+        match (kind, number_of(ctx, op)) {
+            (Some(BenchKind::Const), Some(number)) => write!(self.text, " {number}"),
+            (Some(BenchKind::Br), _) => self.edges(ctx, op, 0, count),
+            (Some(BenchKind::Cbr), Some(number)) => {
+                let first = usize::try_from(number).unwrap_or(0).saturating_add(1);
+                self.operands(ctx, op, 1)?;
+                self.edges(ctx, op, 1, first)
+            }
+            _ => {
+                self.operands(ctx, op, count)?;
+                self.successors(ctx, op)
+            }
+        }
+    }
+
+    /// The results of an operation, and an equals sign behind them.
+    fn results(&mut self, ctx: &Context, op: Ptr<Operation>) -> Result<(), AllocError>
+        requires { IsLive ctx.now.tree op }
+    {
+        for i in 0..op.num_result(ctx) {
+            self.text.push_str(if i == 0 { "" } else { ", " })?;
+            self.value(op.get_result(ctx, i))?;
+        }
+        if op.num_result(ctx) > 0 {
+            self.text.push_str(" = ")?;
+        }
+        Ok(())
+    }
+
+    /// The operands before this index, with a blank before each.
+    fn operands(&mut self, ctx: &Context, op: Ptr<Operation>, end: usize) -> Result<(), AllocError>
+        requires { IsLive ctx.now.tree op }
+    {
+        for i in 0..end.min(op.num_operand(ctx)) {
+            self.text.push_str(" ")?;
+            self.value(op.get_operand(ctx, i))?;
+        }
+        Ok(())
+    }
+
+    /// The successors, with a blank before each.
+    fn successors(&mut self, ctx: &Context, op: Ptr<Operation>) -> Result<(), AllocError>
+        requires { IsLive ctx.now.tree op }
+    {
+        for i in 0..op.num_successor(ctx) {
+            self.text.push_str(" ")?;
+            self.block_name(op.get_successor(ctx, i))?;
+        }
+        Ok(())
+    }
+
+    /// The successors, the first with the operands from `start` to `cut`, the others with those from
+    /// there on.
+    fn edges(
+        &mut self,
+        ctx: &Context,
+        op: Ptr<Operation>,
+        start: usize,
+        cut: usize,
+    ) -> Result<(), AllocError>
+        requires { IsLive ctx.now.tree op }
+    {
+        let count = op.num_operand(ctx);
+        for i in 0..op.num_successor(ctx) {
+            self.text.push_str(" ")?;
+            self.block_name(op.get_successor(ctx, i))?;
+            if i == 0 {
+                self.forwarded(ctx, op, start, cut.min(count))?;
+            } else {
+                self.forwarded(ctx, op, cut, count)?;
+            }
+        }
+        Ok(())
+    }
+
+    /// The operands from `start` to `end`, in brackets.
+    fn forwarded(
+        &mut self,
+        ctx: &Context,
+        op: Ptr<Operation>,
+        start: usize,
+        end: usize,
+    ) -> Result<(), AllocError>
+        requires { IsLive ctx.now.tree op }
+    {
+        self.text.push_str("(")?;
+        for i in start..end.min(op.num_operand(ctx)) {
+            self.text.push_str(if i == start { "" } else { ", " })?;
+            self.value(op.get_operand(ctx, i))?;
+        }
+        self.text.push_str(")")
+    }
+}

@@ -1,0 +1,273 @@
+//! The program on texts, arguments and failing streams.
+use crate::streams::{Input, Output};
+use pliron_opts::{OptError, plir_run};
+use std::alloc::Global;
+use std::io;
+use std::process::Abort;
+use std::test::Fail;
+
+/// What the program writes to the output and to the errors, and its status, where the `failing_read`th
+/// read or the `failing_write`th write fails. They are counted from 1.
+#[derive(Drop)]
+pub struct Case<'t> {
+    pub args: &'t [&'t str],
+    pub text: &'t [u8],
+    pub failing_read: u32,
+    pub failing_write: u32,
+}
+
+pub fn expect_run(
+    rt: &impl Abort,
+    alloc: Global,
+    case: &Case<'_>,
+    status: u8,
+    written: &str,
+    reported: &str,
+) -> Result<(), Fail> {
+    let mut args = Vec::new(alloc);
+    for arg in case.args {
+        args.push(String::from_str(alloc, arg)?)?;
+    }
+    let mut input = Input::new(case.text, case.failing_read);
+    let mut output = Output::new(alloc, case.failing_write);
+    let mut errors = Output::new(alloc, 0);
+    let got = plir_run(alloc, &args, &mut input, &mut output, &mut errors);
+    let text = std::str::from_utf8(case.text).unwrap_or("");
+    assert_eq!(rt; got, status, "{text}");
+    assert_eq!(rt; output.text(), written.as_bytes(), "{text}");
+    assert_eq!(rt; errors.text(), reported.as_bytes(), "{text}");
+    Ok(())
+}
+
+fn propagation(text: &[u8]) -> Case<'_> {
+    Case {
+        args: &["sccp"],
+        text,
+        failing_read: 0,
+        failing_write: 0,
+    }
+}
+
+#[test]
+fn rows(rt: HostRuntime) -> Result<(), Fail> {
+    for (text, written) in [
+        (
+            "func { b0(): a = const 1; b = const 2; c = add a b; ret c }",
+            "func { b0(): v0 = const 1; v1 = const 2; v2 = const 3; v3 = add v0 v1; ret v2 }\nchanged\n",
+        ),
+        (
+            "func { b0(): a = const 9223372036854775807; b = const 1; c = add a b; ret c }",
+            "func { b0(): v0 = const 9223372036854775807; v1 = const 1; v2 = const -9223372036854775808; v3 = add v0 v1; ret v2 }\nchanged\n",
+        ),
+        ("func { b0(): ret }", "func { b0(): ret }\nunchanged\n"),
+        (
+            "func { b0(): a = const 5; b = add a a; c = add b a; ret c b }",
+            "func { b0(): v0 = const 5; v1 = const 10; v2 = add v0 v0; v3 = const 15; v4 = add v1 v0; ret v3 v1 }\nchanged\n",
+        ),
+        (
+            "func{b0():a=const -9223372036854775808;b=add a a;ret}",
+            "func { b0(): v0 = const -9223372036854775808; v1 = const 0; v2 = add v0 v0; ret }\nchanged\n",
+        ),
+        (
+            "func { a(): a = const 7; ret a a }",
+            "func { b0(): v0 = const 7; ret v0 v0 }\nunchanged\n",
+        ),
+    ] {
+        expect_run(
+            &rt,
+            rt.alloc(),
+            &propagation(text.as_bytes()),
+            0,
+            written,
+            "",
+        )?;
+    }
+    Ok(())
+}
+
+#[test]
+fn unreadable(rt: HostRuntime) -> Result<(), Fail> {
+    for text in [
+        "",
+        "func",
+        "func { b0(): a = const 1",
+        "func { }",
+        "func { b0(): a = const 1 }",
+        "func { b0(): c = add a a; a = const 1; ret c }",
+        "func { b0(): a = add a a; ret a }",
+        "func { b0(): ret a; a = const 1; ret a }",
+        "func { b0(): ret; ret }",
+        "func { b0(): ret; b1(): ret }",
+        "func { b0(x): ret x }",
+        "func { b0(): ret b0 }",
+        "func { b0(): a = const 1; a = const 2; ret a }",
+        "func { b0(): a = const 9223372036854775808; ret a }",
+        "func { b0(): a = const -9223372036854775809; ret a }",
+        "func { b0(): a = const -0; ret a }",
+        "func { b0(): a = const 01; ret a }",
+        "func { b0(): a = const -; ret a }",
+        "func { b0(): add = const 1; ret add }",
+        "func { b0(): mul = const 1; ret mul }",
+        "func { b0(): a = read; ret a }",
+        "func { b0(): ret; }",
+        "func { b0(): ret } func { b0(): ret }",
+        "mod { }",
+        "func { b0(): ret # }",
+        "func { b0(): \u{e4} = const 1; ret }",
+        "func { b0(): a234567890123456789012345678901234567890123456789012345678901234x = const 1; ret }",
+    ] {
+        expect_run(
+            &rt,
+            rt.alloc(),
+            &propagation(text.as_bytes()),
+            2,
+            "",
+            "unreadable text\n",
+        )?;
+    }
+    let longest =
+        "func { b0(): a23456789012345678901234567890123456789012345678901234567890123x = const 1; ret }";
+    let printed = "func { b0(): v0 = const 1; ret }\nunchanged\n";
+    expect_run(
+        &rt,
+        rt.alloc(),
+        &propagation(longest.as_bytes()),
+        0,
+        printed,
+        "",
+    )
+}
+
+/// A text followed by so many blanks.
+fn padded(alloc: Global, text: &str, blanks: usize) -> Result<Vec<u8>, Fail> {
+    let mut padded = Vec::from_slice(alloc, text.as_bytes())?;
+    padded.resize(text.len().saturating_add(blanks), b' ')?;
+    Ok(padded)
+}
+
+#[test]
+fn reads_no_more_than_one_byte_past_the_limit(rt: HostRuntime) -> Result<(), Fail> {
+    let text = "func { b0(): ret }";
+    let alloc = rt.alloc();
+    let longest = padded(alloc, text, 1_048_576 - 18)?;
+    expect_run(
+        &rt,
+        alloc,
+        &propagation(&longest),
+        0,
+        "func { b0(): ret }\nunchanged\n",
+        "",
+    )?;
+    let longer = padded(alloc, text, 1_048_577 - 18)?;
+    expect_run(
+        &rt,
+        alloc,
+        &propagation(&longer),
+        2,
+        "",
+        "unreadable text\n",
+    )?;
+    let longest_by_far = padded(alloc, text, 1_100_000)?;
+    let mut args = Vec::new(alloc);
+    args.push(String::from_str(alloc, "sccp")?)?;
+    let mut input = Input::new(&longest_by_far, 0);
+    let mut output = Output::new(alloc, 0);
+    let mut errors = Output::new(alloc, 0);
+    assert_eq!(rt;
+        plir_run(alloc, &args, &mut input, &mut output, &mut errors),
+        2
+    );
+    assert_eq!(rt;
+        longest_by_far.len().saturating_sub(input.left()),
+        1_048_577
+    );
+    Ok(())
+}
+
+#[test]
+fn bad_arguments(rt: HostRuntime) -> Result<(), Fail> {
+    let usage = "usage: plir_opt LIST, or plir_opt graph\n";
+    let lists: [&[&str]; 8] = [
+        &[],
+        &["graph", "graph"],
+        &["dce"],
+        &["sccp,sccp"],
+        &["sccp", "sccp"],
+        &["SCCP"],
+        &["sccp "],
+        &[""],
+    ];
+    for args in lists {
+        // A fault of the arguments is found before the text is read.
+        let case = Case {
+            args,
+            text: b"#",
+            failing_read: 1,
+            failing_write: 1,
+        };
+        expect_run(&rt, rt.alloc(), &case, 2, "", usage)?;
+    }
+    Ok(())
+}
+
+#[test]
+fn failing_streams(rt: HostRuntime) -> Result<(), Fail> {
+    let text = b"func { b0(): a = const 1; ret a }";
+    let printed = "func { b0(): v0 = const 1; ret v0 }\nunchanged\n";
+    let mut case = propagation(text);
+    for kth in [1u32, 2, 4] {
+        case.failing_read = kth;
+        expect_run(
+            &rt,
+            rt.alloc(),
+            &case,
+            2,
+            "",
+            "cannot read standard input\n",
+        )?;
+    }
+    case.failing_read = 1000;
+    expect_run(&rt, rt.alloc(), &case, 0, printed, "")?;
+    for (kth, written) in [(1u32, ""), (2, "func { b"), (3, "func { b0(): v0 ")] {
+        case.failing_write = kth;
+        expect_run(
+            &rt,
+            rt.alloc(),
+            &case,
+            2,
+            written,
+            "cannot write standard output\n",
+        )?;
+    }
+    Ok(())
+}
+
+#[test]
+fn a_failed_report_is_ignored(rt: HostRuntime) -> Result<(), Fail> {
+    let alloc = rt.alloc();
+    let mut input = Input::new(b"", 0);
+    let mut output = Output::new(alloc, 0);
+    let mut errors = Output::new(alloc, 1);
+    let status = plir_run(alloc, &[], &mut input, &mut output, &mut errors);
+    assert_eq!(rt; status, 2);
+    assert_eq!(rt; errors.text(), b"".as_slice());
+    Ok(())
+}
+
+#[test]
+fn texts_of_faults(rt: HostRuntime) -> Result<(), Fail> {
+    for (fault, text) in [
+        (OptError::Memory, "want of memory"),
+        (OptError::LiveUse, "a value of an unreachable block is used"),
+        (
+            OptError::VerifyBefore,
+            "verification failed before the pass",
+        ),
+        (OptError::VerifyAfter, "verification failed after the pass"),
+        (OptError::Pass(7), "the pass failed with code 7"),
+    ] {
+        let shown = format!(in rt.alloc(); "{fault}")?;
+        assert_eq!(rt; shown.as_str(), text);
+    }
+    Ok(())
+}

@@ -1,0 +1,6 @@
+use Rattle.std.proofs.Common.{drop}
+use Rattle.pliron_sccp.proofs.Stages.{IsLeft}
+use Rattle.pliron_sccp.proofs.propagation.sccp.Given as goal
+
+abbrev pub invariant-loop-fold : goal.invariant-loop-fold
+invariant-loop-fold l = IsLeft l.fn.ctx.tree l.ctx.tree l.fn.root (drop l.fold-index l.fold-items) l.fold-items

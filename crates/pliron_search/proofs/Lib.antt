@@ -1,0 +1,11 @@
+pub mod UnwindingLemmas
+pub mod WorkLemmas
+pub mod InsertLemmas
+pub mod TreeLemmas
+pub mod GrowthLemmas
+pub mod NumberingLemmas
+pub mod WalkLemmas
+pub mod PlaceLemmas
+pub mod EdgeKindLemmas
+pub mod AdjacencyLemmas
+pub mod RegionLemmas

@@ -1,0 +1,7 @@
+pub mod Digraph
+pub mod Search
+pub mod Walks
+pub mod EdgeKinds
+pub mod Adjacency
+pub mod Regions
+pub mod Internal

@@ -1,0 +1,23 @@
+//! Graphs that are read through a context: depth-first orders, search numbers and edge kinds.
+//!
+//! A graph implements [`ControlFlowGraph`]; adjacency lists and the regions of a tree do. It knows no dialect
+//! and of components nothing.
+#![tactic(auto)]
+
+mod adjacency;
+mod edge_kind;
+mod graph;
+mod iterators;
+mod orders;
+mod region;
+pub mod search;
+pub mod traversal;
+
+pub use adjacency::AdjacencyList;
+pub use edge_kind::DFSEdgeKind;
+pub use graph::{ControlFlowGraph, HasLabel};
+pub use iterators::{OrderIter, ReverseOrderIter};
+pub use orders::{
+    post_order, post_order_by_component, topological_order, topological_order_by_component,
+};
+pub use traversal::DFSTraversal;

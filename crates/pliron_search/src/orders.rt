@@ -1,0 +1,109 @@
+//! Orders of all nodes of a graph.
+ghost use Rattle.std.specs.Prelude.{◌≡◌, IfOk, IsOkUnless, map, reverse};
+ghost use Rattle.pliron_search.specs.Walks.{joined, AreWalks, AreReversedWalks, IsPostOrder, IsTopologicalOrder};
+
+use crate::ControlFlowGraph;
+use crate::search::walk;
+use indexmap::IndexSet;
+use pliron_laws::OptError;
+use std::alloc::Global;
+
+/// The walks of a depth-first search that starts from each node in listed order.
+///
+/// A walk starts from the first listed node that no earlier walk holds, takes successors by index, and lists a node when all its
+/// successors are done. So a walk ends with the node that it started from. Its only error is want of memory.
+///
+/// Cost: a table look-up for each node and each edge.
+pub fn post_order_by_component<C, G: ControlFlowGraph<C>>(
+    alloc: Global,
+    ctx: &C,
+    graph: &G,
+) -> Result<Vec<Vec<G::Node>>, OptError>
+    requires { G.is_lawful graph.now ctx.now }
+    ensures walks { IfOk result (λ r. AreWalks G.Node.eq (G.graph graph.now ctx.now) (map (λ w. w.items) r.items)) }
+    ensures memory { IsOkUnless result OptError.Memory }
+{
+    let mut seen = IndexSet::new(alloc);
+    let mut walks = Vec::new(alloc);
+    let nodes = graph.nodes(alloc, ctx)?;
+    for node in &nodes {
+        if seen.contains(node) {
+            continue;
+        }
+        let mut post = Vec::new(alloc);
+        walk(alloc, ctx, graph, *node, &mut seen, &mut post)?;
+        walks.push(post)?;
+    }
+    Ok(walks)
+}
+
+/// The walks of [`post_order_by_component`], in the same order, each reversed.
+///
+/// So a walk begins with the node that it started from, and an edge between two walks goes from the later to the earlier. Its only error
+/// is want of memory. Cost: as for [`post_order_by_component`].
+pub fn topological_order_by_component<C, G: ControlFlowGraph<C>>(
+    alloc: Global,
+    ctx: &C,
+    graph: &G,
+) -> Result<Vec<Vec<G::Node>>, OptError>
+    requires { G.is_lawful graph.now ctx.now }
+    ensures walks { IfOk result (λ r. AreReversedWalks G.Node.eq (G.graph graph.now ctx.now) (map (λ w. w.items) r.items)) }
+    ensures memory { IsOkUnless result OptError.Memory }
+{
+    let mut walks = post_order_by_component(alloc, ctx, graph)?;
+    reverse_each(&mut walks);
+    Ok(walks)
+}
+
+/// The walks of [`post_order_by_component`], one after the other.
+///
+/// Its only error is want of memory. Cost: as for [`post_order_by_component`].
+pub fn post_order<C, G: ControlFlowGraph<C>>(
+    alloc: Global,
+    ctx: &C,
+    graph: &G,
+) -> Result<Vec<G::Node>, OptError>
+    requires { G.is_lawful graph.now ctx.now }
+    ensures order { IfOk result (λ r. IsPostOrder G.Node.eq (G.graph graph.now ctx.now) r.items) }
+    ensures memory { IsOkUnless result OptError.Memory }
+{
+    let walks = post_order_by_component(alloc, ctx, graph)?;
+    join(alloc, &walks)
+}
+
+/// The walks of [`topological_order_by_component`], one after the other.
+///
+/// Its only error is want of memory. Cost: as for [`post_order_by_component`].
+pub fn topological_order<C, G: ControlFlowGraph<C>>(
+    alloc: Global,
+    ctx: &C,
+    graph: &G,
+) -> Result<Vec<G::Node>, OptError>
+    requires { G.is_lawful graph.now ctx.now }
+    ensures order { IfOk result (λ r. IsTopologicalOrder G.Node.eq (G.graph graph.now ctx.now) r.items) }
+    ensures memory { IsOkUnless result OptError.Memory }
+{
+    let walks = topological_order_by_component(alloc, ctx, graph)?;
+    join(alloc, &walks)
+}
+
+// Reverses each of the lists.
+fn reverse_each<N>(lists: &mut [Vec<N>])
+    ensures { map (λ w. w.items) lists.new ≡ map reverse (map (λ w. w.items) lists.old) }
+{
+    for list in lists {
+        list.reverse();
+    }
+}
+
+// The lists, one after the other.
+fn join<N: Copy>(alloc: Global, lists: &[Vec<N>]) -> Result<Vec<N>, OptError>
+    ensures joins { IfOk result (λ r. r.items ≡ joined (map (λ w. w.items) lists.now)) }
+    ensures memory { IsOkUnless result OptError.Memory }
+{
+    let mut all = Vec::new(alloc);
+    for list in lists {
+        all.extend_from_slice(list)?;
+    }
+    Ok(all)
+}

@@ -1,0 +1,10 @@
+pub mod Keeps
+pub mod Sweeping
+pub mod Renaming
+pub mod Knowing
+pub mod Finding
+pub mod RunLaws
+pub mod Rebranching
+pub mod Splicing
+pub mod Rewrites
+pub mod Dropping

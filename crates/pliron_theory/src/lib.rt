@@ -1,0 +1,11 @@
+//! The theory of runs: which rewrites keep every run, for every lawful dialect, and the calls that make
+//! them whole.
+//!
+//! It knows the laws of dialects alone, and no dialect, no text and no graph.
+#![tactic(auto)]
+
+mod arguments;
+pub mod rewrites;
+pub mod theory;
+
+pub use arguments::lose_forwarded;

@@ -1,0 +1,80 @@
+//! The theory of runs, as calls that do nothing when they run: each contract is a law, for every
+//! dialect that keeps the laws which it names.
+ghost use Rattle.pliron_theory.specs.Finding.{FindingsLaw};
+ghost use Rattle.pliron_theory.specs.Knowing.{FactsLaw};
+ghost use Rattle.pliron_laws.specs.LinkLaws.{FoldsKeepLinks};
+ghost use Rattle.pliron_theory.specs.RunLaws.{KeepingLaws, OperandsHaveData, SweepingLaws, MakingLaws, RenamingLaws, SplicingLaw, OneEdgeLaw, RebranchingLaw, DroppingLaw, RemovingLaw};
+
+use pliron_laws::Dialect;
+
+/// "Runs are kept" is reflexive and transitive, and spent keys are nothing to it.
+pub fn runs_kept()
+    ensures { KeepingLaws }
+{}
+
+/// In a root that is fit to run, each operand has a datum when an operation first reads it.
+pub fn operands_have_data()
+    ensures { OperandsHaveData }
+{}
+
+/// Operations that give at once, and blocks that no run comes to, may go with their contents where
+/// nothing that is left names them.
+pub fn dead_parts_go()
+    ensures { SweepingLaws }
+{}
+
+/// Operations that use nothing and give at once may be made and put into blocks: a constant before
+/// an operation, or first in a block.
+pub fn constants_are_made()
+    ensures { MakingLaws }
+{}
+
+/// Operands may be renamed to values that have the same data wherever they are read.
+pub fn operands_are_renamed()
+    ensures { RenamingLaws }
+{}
+
+/// Constants that are known of values by closed facts are what every run reads: each one of a result is
+/// what folding its operation answers, if the operands have the constants that are known of them, and
+/// nothing is known of the arguments of blocks.
+pub fn facts_are_read<D: Dialect>()
+    ensures { FactsLaw D.meaning D.can_fold D.constants }
+{}
+
+/// What is found of blocks and values by closed findings holds in every run: it comes only to blocks
+/// that it may come to, and reads each value as the constant that the value is known to be.
+pub fn findings_hold<D: Dialect>()
+    ensures { FindingsLaw D.meaning D.can_fold D.can_fold_branch D.constants D.feasible }
+{}
+
+/// A block may join the end of its only predecessor, whose last operation goes there at once.
+pub fn blocks_are_joined()
+    ensures { SplicingLaw }
+{}
+
+/// A branch of the dialect goes at once where its only edge leads.
+pub fn one_edge_is_taken<D: Dialect>()
+    ensures { OneEdgeLaw D.meaning }
+{}
+
+/// A branch may stand in the place of another one that it acts alike with.
+pub fn branches_are_replaced()
+    ensures { RebranchingLaw }
+{}
+
+/// An argument of a block may go with the operands that are forwarded to it, where nothing else uses
+/// it and what goes to the block acts alike without them.
+pub fn arguments_go()
+    ensures { DroppingLaw }
+{}
+
+/// An argument of a block may go after each edge to the block lost the operand that it forwarded to
+/// it, where the dialect lets it be removed and nothing else uses it.
+pub fn unused_arguments_go<D: Dialect>()
+    ensures { RemovingLaw D.meaning D.shortened D.removable }
+{}
+
+/// A tree that is well linked at a root is so after constants were put for results of an operation.
+pub fn folds_keep_links()
+    ensures { FoldsKeepLinks }
+{}
