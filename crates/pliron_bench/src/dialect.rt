@@ -18,13 +18,11 @@ use crate::numbers::{edge_of, is_number, known_number};
 use crate::replace::jump_in_place;
 use crate::tables::{begins_region, kind_at};
 use crate::verify::edges_fit;
+use pliron_core::{AttrObj, BasicBlock, Context, IRStatus, Operation, Ptr, Rewriter, Value};
 use pliron_laws::{
     BlockArgRemoval, BranchOpFoldInterface, ConstFoldInterface, Dialect, HasMeaning, Interface,
-    SideEffects,
+    OptError, Room, SideEffects,
 };
-use pliron_laws::OptError;
-use pliron_laws::Room;
-use pliron_core::{AttrObj, BasicBlock, Context, IRStatus, Operation, Ptr, Rewriter, Value};
 use std::alloc::Global;
 
 /// A dialect of sixteen kinds. An operation that wants a number of a datum takes what is left of a whole

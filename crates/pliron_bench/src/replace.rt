@@ -12,9 +12,8 @@ ghost use Rattle.pliron_bench.specs.BenchOutcomes.{BecomesJump};
 use crate::heads::plain_head;
 use crate::jumps::{operands_at, places_at};
 use crate::kind::BenchKind;
-use pliron_laws::OptError;
-use pliron_laws::Room;
 use pliron_core::{BasicBlock, Context, NoMemory, Operation, Ptr, Rewriter, Value};
+use pliron_laws::{OptError, Room};
 use std::alloc::Global;
 
 // The new operation gets these operands and this successor. Where memory is refused it has some of

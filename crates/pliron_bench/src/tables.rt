@@ -8,8 +8,8 @@ ghost use Rattle.pliron_bench.specs.BenchAnswers.{effects_of, removable_of, fold
 
 use crate::kind::BenchKind;
 use crate::numbers::is_number;
-use pliron_laws::Interface;
 use pliron_core::{AttrObj, Attrs, BasicBlock, Context, Head, Operation, Ptr};
+use pliron_laws::Interface;
 
 // The kind of the operation, if it is one of this dialect.
 pub fn kind_at(op: Ptr<Operation>, ctx: &Context) -> Option<BenchKind>

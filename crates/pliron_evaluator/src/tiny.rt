@@ -11,15 +11,13 @@ ghost use Rattle.pliron_laws.specs.Answers.{ReadsHead, is_entry};
 ghost use Rattle.pliron_evaluator.specs.Tiny.{number_of, kind_of, is_br, is_const, first_attribute, tiny, tiny_side_effects, tiny_removable, tiny_folds, tiny_constants, tiny_accepts, tiny_constant, tiny_folds_branch, tiny_feasible, tiny_outcome, has_tiny_kind, has_tiny_interface, tiny_shortened};
 ghost use Rattle.pliron_evaluator.specs.TinyLaws.{tiny_counts, tiny_effects, tiny_forwards, tiny_arguments, tiny_answers, tiny_jumps, tiny_in_place, tiny_makes};
 
-use pliron_laws::{
-    BlockArgRemoval, BranchOpFoldInterface, ConstFoldInterface, Dialect, HasMeaning, Interface,
-    SideEffects,
-};
-use pliron_laws::OptError;
-use pliron_laws::reads::all_operands;
-use pliron_laws::Room;
 use pliron_core::{
     AttrObj, Attrs, BasicBlock, Context, Head, IRStatus, NoMemory, Operation, Ptr, Rewriter, Value,
+};
+use pliron_laws::reads::all_operands;
+use pliron_laws::{
+    BlockArgRemoval, BranchOpFoldInterface, ConstFoldInterface, Dialect, HasMeaning, Interface,
+    OptError, Room, SideEffects,
 };
 use std::alloc::Global;
 

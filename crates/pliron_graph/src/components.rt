@@ -8,9 +8,9 @@ ghost use Rattle.pliron_search.specs.Internal.Membership.{In};
 ghost use Rattle.pliron_search.specs.Internal.Steps.{work};
 ghost use Rattle.pliron_graph.specs.Internal.Lowlink.{AreTables, Closes, KeepsSearch, Leaves, Searches, SearchesFrom, EndsRoot, Takes, Follows, entered, tables_of};
 
-use pliron_search::ControlFlowGraph;
 use indexmap::IndexSet;
 use pliron_laws::OptError;
+use pliron_search::ControlFlowGraph;
 use std::alloc::Global;
 use std::hash::Hash;
 

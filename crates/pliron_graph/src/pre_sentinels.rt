@@ -4,11 +4,11 @@ ghost use Rattle.std.specs.List.{All, IsDistinct};
 ghost use Rattle.pliron_search.specs.Search.{IsListed, number_in};
 ghost use Rattle.pliron_graph.specs.Reverse.{ArePreSentinels, IsLastListed, IsSink};
 
-use pliron_search::traversal::numbered;
 use crate::sccs_in_topological_order;
-use pliron_search::ControlFlowGraph;
 use indexmap::IndexSet;
 use pliron_laws::OptError;
+use pliron_search::ControlFlowGraph;
+use pliron_search::traversal::numbered;
 use std::alloc::Global;
 use std::hash::Hash;
 

@@ -5,12 +5,12 @@ ghost use Rattle.pliron_search.specs.Search.{IsListed, number_in};
 ghost use Rattle.pliron_graph.specs.Reverse.{ArePreSentinels, Reversed, Fits, reverse_of, reverse_pred};
 ghost use Rattle.pliron_graph.specs.Internal.ReverseLawful.{reverse_lawful};
 
-use crate::pre_sentinels::find_pre_sentinels;
-use pliron_search::traversal::numbered;
 use crate::ReverseNode;
-use pliron_search::{ControlFlowGraph, OrderIter};
+use crate::pre_sentinels::find_pre_sentinels;
 use indexmap::IndexSet;
 use pliron_laws::OptError;
+use pliron_search::traversal::numbered;
+use pliron_search::{ControlFlowGraph, OrderIter};
 use std::alloc::Global;
 use std::marker::Model;
 

@@ -9,12 +9,9 @@
 
 pub mod bench;
 
-pub use pliron_evaluator::evaluator as evaluator;
-pub use pliron_evaluator::{Tiny, TinyKind};
+pub use pliron_evaluator::{Tiny, TinyKind, evaluator};
 pub use pliron_laws::{
     BlockArgRemoval, BranchOpFoldInterface, ConstFoldInterface, Dialect, HasMeaning, Interface,
     OptError, Room, SideEffects, edges_last,
 };
-pub use pliron_theory::lose_forwarded;
-pub use pliron_theory::rewrites as rewrites;
-pub use pliron_theory::theory as theory;
+pub use pliron_theory::{lose_forwarded, rewrites, theory};

@@ -14,9 +14,9 @@ ghost use Rattle.pliron_notation.specs.Notation.{AllBelow, AreSoundOperations, I
 ghost use Rattle.pliron_notation.specs.Building.{AddsOnly, AreStanding, GoesOn, HasAllMade, HasMade, IsGrown, Keeps, appended};
 ghost use Rattle.pliron_notation.specs.Laid.{HasMoreOperands, HasMoreSuccessors, IsAllLaid, LaysBlock, LaysOn, LaysOperation, Wires};
 
-use pliron_bench::heads::{attribute_head, plain_head};
-use pliron_bench::BenchKind;
 use crate::syntax::{BlockText, OperationText, Step, Syntax};
+use pliron_bench::BenchKind;
+use pliron_bench::heads::{attribute_head, plain_head};
 use pliron_core::{
     AttrObj, BasicBlock, Context, Head, IRRewriter, NoMemory, Operation, Ptr, Region, Rewriter,
     Value,

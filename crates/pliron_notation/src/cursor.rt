@@ -1,7 +1,7 @@
 //! Tokens, taken one by one.
-use pliron_bench::BenchKind;
 use crate::stop::Stop;
 use crate::tokens::{Name, Token};
+use pliron_bench::BenchKind;
 
 /// The tokens that are left.
 #[derive(Drop)]

@@ -1,10 +1,10 @@
 //! From tokens to syntax.
 use crate::cursor::Cursor;
-use pliron_bench::BenchKind;
 use crate::labels::{Label, Labels};
 use crate::stop::Stop;
 use crate::syntax::{BlockText, OperationText, Step, Syntax};
 use crate::tokens::{Name, Token};
+use pliron_bench::BenchKind;
 use std::alloc::Global;
 
 /// The most regions that stand in one another.

@@ -4,10 +4,10 @@ ghost use Rattle.pliron_laws.specs.declared.fault.OptError.TheVariants.{Memory};
 ghost use Rattle.pliron_core.specs.Tree.{IsLive, IsBlock, IsRegion};
 ghost use Rattle.pliron_notation.specs.Printing.{AllStand, IsStanding};
 
-use pliron_bench::BenchKind;
 use crate::steps::{Step, steps_of};
-use pliron_laws::OptError;
+use pliron_bench::BenchKind;
 use pliron_core::{AttrObj, BasicBlock, Context, Operation, Ptr, Region, Value};
+use pliron_laws::OptError;
 use std::alloc::{AllocError, Global};
 use std::collections::HashMap;
 

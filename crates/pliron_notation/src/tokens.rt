@@ -1,8 +1,8 @@
 //! From bytes to tokens.
 ghost use Rattle.std.specs.Prelude.{◌≡◌, ◌+◌, ◌<◌, ◌≤◌, length};
 
-use pliron_bench::BenchKind;
 use crate::stop::Stop;
+use pliron_bench::BenchKind;
 use std::alloc::{AllocError, Global};
 use std::collections::BTreeMap;
 

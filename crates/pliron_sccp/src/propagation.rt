@@ -15,9 +15,9 @@ ghost use Rattle.pliron_sccp.specs.Propagation.{folded, IsPropagated};
 ghost use Rattle.pliron_sccp.specs.Straight.{IsScoped, IsStraight, lines_at};
 
 use crate::walk::block_operations;
+use pliron_bench::{Bench, BenchKind};
 use pliron_core::{AttrObj, Context, IRRewriter, IRStatus, Operation, Ptr, Value};
 use pliron_laws::OptError;
-use pliron_bench::{Bench, BenchKind};
 use pliron_theory::rewrites::replace_result_by_constant;
 use pliron_theory::theory::{facts_are_read, runs_kept};
 use std::alloc::{AllocError, Global};

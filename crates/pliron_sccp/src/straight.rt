@@ -9,8 +9,8 @@ ghost use Rattle.pliron_sccp.specs.Straight.{IsStraight};
 ghost use Rattle.pliron_sccp.specs.Checking.{is_defined, AreLive, AllDefined, IsDefinition, IsReturn, AreStraight, IsFuncOf};
 
 use crate::walk::block_operations;
-use pliron_core::{AttrObj, BasicBlock, Context, Operation, Ptr, Value};
 use pliron_bench::BenchKind;
+use pliron_core::{AttrObj, BasicBlock, Context, Operation, Ptr, Value};
 use std::alloc::{AllocError, Global};
 use std::collections::HashMap;
 

@@ -3,8 +3,8 @@ ghost use Rattle.std.specs.Prelude.{◌≡◌, length};
 ghost use Rattle.pliron_core.specs.Tree.{IsBlock, uses_of};
 ghost use Rattle.pliron_theory.specs.Dropping.{EdgesLose, AreOfBranches, TellPlaces};
 
-use pliron_laws::Dialect;
 use pliron_core::{BasicBlock, Context, Ptr};
+use pliron_laws::Dialect;
 
 /// Each edge to the block that forwards an operand at place `j` loses it, one edge after the other. With
 /// `remove_argument` thereafter this is the rewrite of `theory::unused_arguments_go`.

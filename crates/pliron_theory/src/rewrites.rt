@@ -12,11 +12,9 @@ ghost use Rattle.pliron_theory.specs.Keeps.{KeepsRuns};
 ghost use Rattle.pliron_laws.specs.Outcomes.{materialised_at};
 ghost use Rattle.pliron_theory.specs.Rewrites.{ErasesUnused, IsConstant, ReplacesResult, ReplacesArgument, BecomesIfAccepted, IsPoint, PutKeepsRuns};
 
-use pliron_laws::Dialect;
-use pliron_laws::OptError;
-use pliron_laws::materialise::put_constant;
-use pliron_laws::Room;
 use pliron_core::{AttrObj, BasicBlock, Context, IRStatus, Operation, Ptr, Rewriter, Value};
+use pliron_laws::materialise::put_constant;
+use pliron_laws::{Dialect, OptError, Room};
 use std::alloc::Global;
 
 /// Erases the operation with its contents, where the dialect answers that it has no side effects.

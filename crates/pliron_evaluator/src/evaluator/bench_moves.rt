@@ -9,12 +9,12 @@ ghost use Rattle.pliron_bench.specs.BenchNumbers.{datum_at, as_number, number_at
 ghost use Rattle.pliron_bench.specs.BenchMoves.{bench, act_of, done, once, fitted, read_word, print_word, give_or_trap, edge_of as edge_in, edge_values};
 ghost use Rattle.pliron_evaluator.specs.Evaluator.{datum_of, move_of};
 
+use crate::evaluator::shapes::{num_entry_argument, num_target_argument};
+use crate::evaluator::values::{Datum, Evaluate, Move, all_copies, one};
 use pliron_bench::jumps::first_edge_count;
 use pliron_bench::numbers::{edge_of, product, quotient, sum, wrapped};
 use pliron_bench::tables::kind_at;
 use pliron_bench::{Bench, BenchKind};
-use crate::evaluator::shapes::{num_entry_argument, num_target_argument};
-use crate::evaluator::values::{Datum, Evaluate, Move, all_copies, one};
 use pliron_core::{Attrs, Context, Operation, Ptr, Text};
 use std::alloc::{AllocError, Global};
 

@@ -9,8 +9,8 @@ ghost use Rattle.pliron_evaluator.specs.Evaluator.{datum_of, move_of, environmen
 
 use crate::evaluator::environment::{all_data, bind, put_first, take_first};
 use crate::evaluator::values::{Datum, Evaluate, Move, Sight, all_copies, one};
-use pliron_laws::reads::{all_arguments, all_operands, all_operations, all_results};
 use pliron_core::{BasicBlock, Context, Operation, Ptr, Value};
+use pliron_laws::reads::{all_arguments, all_operands, all_operations, all_results};
 use std::alloc::{AllocError, Global};
 use std::mem;
 

@@ -5,8 +5,8 @@ ghost use Rattle.pliron_laws.specs.Datum.{Join, datum_of as content_of};
 ghost use Rattle.pliron_laws.specs.Answers.{ReadsShape};
 ghost use Rattle.pliron_evaluator.specs.Evaluator.{datum_of, move_of};
 
-use pliron_laws::HasMeaning;
 use pliron_core::{AttrObj, Context, Operation, Ptr, Text};
+use pliron_laws::HasMeaning;
 use std::alloc::{AllocError, Global};
 
 /// What a value may be. A list of data is a chain of `Join`s that ends in `Empty`.
