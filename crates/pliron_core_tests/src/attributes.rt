@@ -1,6 +1,6 @@
 //! Attributes of operations, and statuses.
 
-use crate::steps::CONST;
+use crate::steps::{CONST, in_new_context};
 use crate::straight::build_sum;
 use pliron_core::{AttrObj, Context, IRStatus, Operation, Ptr, Text};
 use std::alloc::Global;
@@ -34,9 +34,7 @@ fn read_and_set(rt: &impl Abort, alloc: Global, ctx: &mut Context) -> Result<(),
 
 #[test]
 fn reads_and_sets_attributes(rt: HostRuntime) -> Result<(), Fail> {
-    let alloc = rt.alloc();
-    let mut ctx = Context::new(alloc);
-    read_and_set(&rt, alloc, &mut ctx)
+    in_new_context(&rt, rt.alloc(), read_and_set)
 }
 
 #[test]

@@ -2,7 +2,9 @@
 
 ghost use Rattle.pliron_core.specs.Tree.{IsLive};
 
-use crate::steps::{FUNC, append, block, check_links, erase, head, move_to_end, operation};
+use crate::steps::{
+    FUNC, append, block, check_links, erase, head, in_new_context, move_to_end, operation,
+};
 use pliron_core::{Context, Operation, Ptr};
 use std::alloc::Global;
 use std::process::Abort;
@@ -92,7 +94,5 @@ fn stand_deep(rt: &impl Abort, alloc: Global, ctx: &mut Context) -> Result<(), F
 
 #[test]
 fn stands_ten_thousand_deep(rt: HostRuntime) -> Result<(), Fail> {
-    let alloc = rt.alloc();
-    let mut ctx = Context::new(alloc);
-    stand_deep(&rt, alloc, &mut ctx)
+    in_new_context(&rt, rt.alloc(), stand_deep)
 }

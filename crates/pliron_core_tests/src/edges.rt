@@ -1,6 +1,6 @@
 //! Edges between blocks, and erasing of blocks.
 
-use crate::steps::{FUNC, add_successor, append, block, head, operation};
+use crate::steps::{FUNC, add_successor, append, block, head, in_new_context, operation};
 use pliron_core::{BasicBlock, Context, Head, IRRewriter, Operation, Ptr, Rewriter};
 use std::alloc::Global;
 use std::process::Abort;
@@ -94,9 +94,7 @@ fn read_successors(rt: &impl Abort, alloc: Global, ctx: &mut Context) -> Result<
 
 #[test]
 fn reads_successors(rt: HostRuntime) -> Result<(), Fail> {
-    let alloc = rt.alloc();
-    let mut ctx = Context::new(alloc);
-    read_successors(&rt, alloc, &mut ctx)
+    in_new_context(&rt, rt.alloc(), read_successors)
 }
 
 fn read_predecessors(rt: &impl Abort, alloc: Global, ctx: &mut Context) -> Result<(), Fail> {
@@ -112,9 +110,7 @@ fn read_predecessors(rt: &impl Abort, alloc: Global, ctx: &mut Context) -> Resul
 
 #[test]
 fn reads_predecessors(rt: HostRuntime) -> Result<(), Fail> {
-    let alloc = rt.alloc();
-    let mut ctx = Context::new(alloc);
-    read_predecessors(&rt, alloc, &mut ctx)
+    in_new_context(&rt, rt.alloc(), read_predecessors)
 }
 
 // The block's first use is an edge of this block's last operation.
@@ -145,9 +141,7 @@ fn read_uses(rt: &impl Abort, alloc: Global, ctx: &mut Context) -> Result<(), Fa
 
 #[test]
 fn reads_uses_and_neighbours(rt: HostRuntime) -> Result<(), Fail> {
-    let alloc = rt.alloc();
-    let mut ctx = Context::new(alloc);
-    read_uses(&rt, alloc, &mut ctx)
+    in_new_context(&rt, rt.alloc(), read_uses)
 }
 
 fn drop_uses(rt: &impl Abort, ctx: &mut Context, block: Ptr<BasicBlock>) {
@@ -180,7 +174,5 @@ fn erase_right(rt: &impl Abort, alloc: Global, ctx: &mut Context) -> Result<(), 
 
 #[test]
 fn drops_uses_and_erases_a_block(rt: HostRuntime) -> Result<(), Fail> {
-    let alloc = rt.alloc();
-    let mut ctx = Context::new(alloc);
-    erase_right(&rt, alloc, &mut ctx)
+    in_new_context(&rt, rt.alloc(), erase_right)
 }

@@ -1,6 +1,6 @@
 //! The straight block is read.
 
-use crate::steps::{check_links, count_uses, operand_of, region_of, result_of};
+use crate::steps::{check_links, count_uses, in_new_context, operand_of, region_of, result_of};
 use crate::straight::{Sum, build_sum};
 use pliron_core::{Context, Def};
 use std::alloc::Global;
@@ -50,9 +50,7 @@ fn read_straight(rt: &impl Abort, alloc: Global, ctx: &mut Context) -> Result<()
 
 #[test]
 fn reads_the_straight_block(rt: HostRuntime) -> Result<(), Fail> {
-    let alloc = rt.alloc();
-    let mut ctx = Context::new(alloc);
-    read_straight(&rt, alloc, &mut ctx)
+    in_new_context(&rt, rt.alloc(), read_straight)
 }
 
 fn used_outside(rt: &impl Abort, alloc: Global, ctx: &mut Context) -> Result<(), Fail> {
@@ -63,7 +61,5 @@ fn used_outside(rt: &impl Abort, alloc: Global, ctx: &mut Context) -> Result<(),
 
 #[test]
 fn tells_what_is_used_outside(rt: HostRuntime) -> Result<(), Fail> {
-    let alloc = rt.alloc();
-    let mut ctx = Context::new(alloc);
-    used_outside(&rt, alloc, &mut ctx)
+    in_new_context(&rt, rt.alloc(), used_outside)
 }

@@ -13,6 +13,17 @@ pub const FUNC: u32 = 1;
 
 pub const CONST: u32 = 2;
 
+// The body is lent a new context, which ends here.
+pub fn in_new_context<R, F>(rt: &R, alloc: Global, body: F) -> Result<(), Fail>
+where
+    R: Abort,
+    F: FnOnce(&R, Global, &mut Context) -> Result<(), Fail>,
+    requires { F.IsAlwaysCallable body }
+{
+    let mut ctx = Context::new(alloc);
+    body(rt, alloc, &mut ctx)
+}
+
 // A head with at most one number as its attribute.
 pub fn head(alloc: Global, kind: u32, number: Option<i128>) -> Result<Head, Fail> {
     let mut attrs = Vec::new(alloc);

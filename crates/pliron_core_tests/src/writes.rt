@@ -1,8 +1,8 @@
 //! The straight block is rewritten: inserted into, moved, replaced and erased in.
 
 use crate::steps::{
-    CONST, add_operand, block, check_links, count_uses, erase, head, move_to_end, operand_of,
-    operation, result_of,
+    CONST, add_operand, block, check_links, count_uses, erase, head, in_new_context, move_to_end,
+    operand_of, operation, result_of,
 };
 use crate::straight::{Sum, build_sum};
 use pliron_core::{BasicBlock, Context, Def, IRRewriter, Operation, Ptr, Rewriter, Value};
@@ -67,9 +67,7 @@ fn insert_both(rt: &impl Abort, alloc: Global, ctx: &mut Context) -> Result<(), 
 
 #[test]
 fn inserts(rt: HostRuntime) -> Result<(), Fail> {
-    let alloc = rt.alloc();
-    let mut ctx = Context::new(alloc);
-    insert_both(&rt, alloc, &mut ctx)
+    in_new_context(&rt, rt.alloc(), insert_both)
 }
 
 fn replace_sum(rt: &impl Abort, alloc: Global, ctx: &mut Context) -> Result<(), Fail> {
@@ -85,9 +83,7 @@ fn replace_sum(rt: &impl Abort, alloc: Global, ctx: &mut Context) -> Result<(), 
 
 #[test]
 fn replaces_uses(rt: HostRuntime) -> Result<(), Fail> {
-    let alloc = rt.alloc();
-    let mut ctx = Context::new(alloc);
-    replace_sum(&rt, alloc, &mut ctx)
+    in_new_context(&rt, rt.alloc(), replace_sum)
 }
 
 fn move_one(rt: &impl Abort, alloc: Global, ctx: &mut Context) -> Result<(), Fail> {
@@ -100,9 +96,7 @@ fn move_one(rt: &impl Abort, alloc: Global, ctx: &mut Context) -> Result<(), Fai
 
 #[test]
 fn moves_to_the_end(rt: HostRuntime) -> Result<(), Fail> {
-    let alloc = rt.alloc();
-    let mut ctx = Context::new(alloc);
-    move_one(&rt, alloc, &mut ctx)
+    in_new_context(&rt, rt.alloc(), move_one)
 }
 
 fn remove_operand(rt: &impl Abort, ctx: &mut Context, op: Ptr<Operation>, i: usize) -> Value {
@@ -126,9 +120,7 @@ fn remove_first_operand(rt: &impl Abort, alloc: Global, ctx: &mut Context) -> Re
 
 #[test]
 fn removes_operands(rt: HostRuntime) -> Result<(), Fail> {
-    let alloc = rt.alloc();
-    let mut ctx = Context::new(alloc);
-    remove_first_operand(&rt, alloc, &mut ctx)
+    in_new_context(&rt, rt.alloc(), remove_first_operand)
 }
 
 fn argument_of(rt: &impl Abort, ctx: &Context, block: Ptr<BasicBlock>, i: usize) -> Value {
@@ -167,9 +159,7 @@ fn remove_middle_argument(rt: &impl Abort, alloc: Global, ctx: &mut Context) -> 
 
 #[test]
 fn removes_arguments(rt: HostRuntime) -> Result<(), Fail> {
-    let alloc = rt.alloc();
-    let mut ctx = Context::new(alloc);
-    remove_middle_argument(&rt, alloc, &mut ctx)
+    in_new_context(&rt, rt.alloc(), remove_middle_argument)
 }
 
 // A sum that nothing uses any more goes, and with it its uses of the constants.
@@ -193,9 +183,7 @@ fn erase_one(rt: &impl Abort, alloc: Global, ctx: &mut Context) -> Result<(), Fa
 
 #[test]
 fn erases_an_operation(rt: HostRuntime) -> Result<(), Fail> {
-    let alloc = rt.alloc();
-    let mut ctx = Context::new(alloc);
-    erase_one(&rt, alloc, &mut ctx)
+    in_new_context(&rt, rt.alloc(), erase_one)
 }
 
 fn erase_func(rt: &impl Abort, alloc: Global, ctx: &mut Context) -> Result<(), Fail> {
@@ -208,7 +196,5 @@ fn erase_func(rt: &impl Abort, alloc: Global, ctx: &mut Context) -> Result<(), F
 
 #[test]
 fn erases_with_contents(rt: HostRuntime) -> Result<(), Fail> {
-    let alloc = rt.alloc();
-    let mut ctx = Context::new(alloc);
-    erase_func(&rt, alloc, &mut ctx)
+    in_new_context(&rt, rt.alloc(), erase_func)
 }
