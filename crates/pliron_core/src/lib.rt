@@ -17,6 +17,3 @@ pub use laws::change_laws;
 pub use rewriter::{IRRewriter, OpInsertionPoint, Rewriter};
 pub use row::Row;
 pub use uses::Use;
-
-#[cfg(test)]
-mod tests;

@@ -284,32 +284,3 @@ fn retarget(places: &mut Vec<Row<Place>>, moved: &Row<Use>, old: usize, new: usi
         );
     }
 }
-
-#[cfg(test)]
-mod tests {
-    use super::*;
-
-    // One user with targets 0, 1, 0 of two, which are then moved and taken away.
-    #[test]
-    fn moves_and_takes_away(rt: HostRuntime) -> Result<(), AllocError> {
-        let mut uses = Uses::new(rt.alloc());
-        uses.reserve(1, 2)?;
-        let user = uses.add_user(rt.alloc());
-        let first = uses.add_target(rt.alloc());
-        let second = uses.add_target(rt.alloc());
-        uses.push(user, first)?;
-        uses.push(user, second)?;
-        uses.push(user, first)?;
-        assert_eq!(rt; uses.num_uses(first), 2);
-        assert_eq!(rt; uses.remove(user, 0), first);
-        assert_eq!(rt; uses.target(user, 0), second);
-        assert_eq!(rt; uses.num_uses(first), 1);
-        assert_eq!(rt; uses.get_use(first, 0).place, 1);
-        uses.replace(rt.alloc(), first, second)?;
-        assert_eq!(rt; uses.num_uses(second), 2);
-        uses.clear(user);
-        assert_eq!(rt; uses.num_targets(user), 0);
-        assert_eq!(rt; uses.num_uses(second), 0);
-        Ok(())
-    }
-}

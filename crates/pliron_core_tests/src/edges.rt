@@ -1,6 +1,10 @@
 //! Edges between blocks, and erasing of blocks.
 
-use super::*;
+use crate::steps::{FUNC, add_successor, append, block, head, in_new_context, operation};
+use pliron_core::{BasicBlock, Context, Head, IRRewriter, Operation, Ptr, Rewriter};
+use std::alloc::Global;
+use std::process::Abort;
+use std::test::Fail;
 
 const BR: u32 = 12;
 
@@ -9,7 +13,6 @@ const FORK: u32 = 15;
 // A region with an entry, which leads to two blocks, twice to the second; both lead to the last.
 #[derive(Clone, Copy)]
 struct Diamond {
-    func: Ptr<Operation>,
     entry: Ptr<BasicBlock>,
     left: Ptr<BasicBlock>,
     right: Ptr<BasicBlock>,
@@ -32,14 +35,13 @@ fn branch(
     Ok(())
 }
 
-fn blocks(rt: &impl Abort, alloc: Global, ctx: &mut Context) -> Result<Diamond, Fail> {
+fn four_blocks(rt: &impl Abort, alloc: Global, ctx: &mut Context) -> Result<Diamond, Fail> {
     let func = operation(rt, ctx, head(alloc, FUNC, None)?, 0, 1)?;
     let entry = block(rt, ctx, func, 0, 0)?;
     let left = block(rt, ctx, func, 0, 0)?;
     let right = block(rt, ctx, func, 0, 0)?;
     let join = block(rt, ctx, func, 0, 1)?;
     Ok(Diamond {
-        func,
         entry,
         left,
         right,
@@ -47,33 +49,18 @@ fn blocks(rt: &impl Abort, alloc: Global, ctx: &mut Context) -> Result<Diamond, 
     })
 }
 
-fn four_blocks(rt: &impl Abort, alloc: Global) -> Result<(Context, Diamond), Fail> {
-    let mut ctx = Context::new(alloc);
-    let d = blocks(rt, alloc, &mut ctx)?;
+fn connect(rt: &impl Abort, alloc: Global, ctx: &mut Context, d: &Diamond) -> Result<(), Fail> {
     let to_join = [d.join];
     let apart = [d.left, d.right, d.right];
-    branch(
-        rt,
-        &mut ctx,
-        d.right,
-        head(alloc, BR, None)?,
-        to_join.as_slice(),
-    )?;
-    branch(
-        rt,
-        &mut ctx,
-        d.left,
-        head(alloc, BR, None)?,
-        to_join.as_slice(),
-    )?;
-    branch(
-        rt,
-        &mut ctx,
-        d.entry,
-        head(alloc, FORK, None)?,
-        apart.as_slice(),
-    )?;
-    Ok((ctx, d))
+    branch(rt, ctx, d.right, head(alloc, BR, None)?, to_join.as_slice())?;
+    branch(rt, ctx, d.left, head(alloc, BR, None)?, to_join.as_slice())?;
+    branch(rt, ctx, d.entry, head(alloc, FORK, None)?, apart.as_slice())
+}
+
+fn build_diamond(rt: &impl Abort, alloc: Global, ctx: &mut Context) -> Result<Diamond, Fail> {
+    let d = four_blocks(rt, alloc, ctx)?;
+    connect(rt, alloc, ctx, &d)?;
+    Ok(d)
 }
 
 fn check_preds(rt: &impl Abort, ctx: &Context, block: Ptr<BasicBlock>, want: &[Ptr<BasicBlock>]) {
@@ -95,27 +82,35 @@ fn check_succs(rt: &impl Abort, ctx: &Context, block: Ptr<BasicBlock>, want: &[P
     }
 }
 
-#[test]
-fn reads_successors(rt: HostRuntime) -> Result<(), Fail> {
-    let (ctx, d) = four_blocks(&rt, rt.alloc())?;
+fn read_successors(rt: &impl Abort, alloc: Global, ctx: &mut Context) -> Result<(), Fail> {
+    let d = build_diamond(rt, alloc, ctx)?;
     let apart = [d.left, d.right, d.right];
     let to_join = [d.join];
-    check_succs(&rt, &ctx, d.entry, apart.as_slice());
-    check_succs(&rt, &ctx, d.left, to_join.as_slice());
-    check_succs(&rt, &ctx, d.join, &apart[..0]);
+    check_succs(rt, ctx, d.entry, apart.as_slice());
+    check_succs(rt, ctx, d.left, to_join.as_slice());
+    check_succs(rt, ctx, d.join, &apart[..0]);
+    Ok(())
+}
+
+#[test]
+fn reads_successors(rt: HostRuntime) -> Result<(), Fail> {
+    in_new_context(&rt, rt.alloc(), read_successors)
+}
+
+fn read_predecessors(rt: &impl Abort, alloc: Global, ctx: &mut Context) -> Result<(), Fail> {
+    let d = build_diamond(rt, alloc, ctx)?;
+    let entry = [d.entry];
+    let both = [d.left, d.right];
+    check_preds(rt, ctx, d.entry, &entry[..0]);
+    check_preds(rt, ctx, d.left, entry.as_slice());
+    check_preds(rt, ctx, d.right, entry.as_slice());
+    check_preds(rt, ctx, d.join, both.as_slice());
     Ok(())
 }
 
 #[test]
 fn reads_predecessors(rt: HostRuntime) -> Result<(), Fail> {
-    let (ctx, d) = four_blocks(&rt, rt.alloc())?;
-    let entry = [d.entry];
-    let both = [d.left, d.right];
-    check_preds(&rt, &ctx, d.entry, &entry[..0]);
-    check_preds(&rt, &ctx, d.left, entry.as_slice());
-    check_preds(&rt, &ctx, d.right, entry.as_slice());
-    check_preds(&rt, &ctx, d.join, both.as_slice());
-    Ok(())
+    in_new_context(&rt, rt.alloc(), read_predecessors)
 }
 
 // The block's first use is an edge of this block's last operation.
@@ -137,12 +132,16 @@ fn check_neighbours(rt: &impl Abort, ctx: &Context, d: &Diamond) {
     assert!(rt; d.right.num_use(ctx) == 2);
 }
 
+fn read_uses(rt: &impl Abort, alloc: Global, ctx: &mut Context) -> Result<(), Fail> {
+    let d = build_diamond(rt, alloc, ctx)?;
+    check_use(rt, ctx, d.right, d.entry);
+    check_neighbours(rt, ctx, &d);
+    Ok(())
+}
+
 #[test]
 fn reads_uses_and_neighbours(rt: HostRuntime) -> Result<(), Fail> {
-    let (ctx, d) = four_blocks(&rt, rt.alloc())?;
-    check_use(&rt, &ctx, d.right, d.entry);
-    check_neighbours(&rt, &ctx, &d);
-    Ok(())
+    in_new_context(&rt, rt.alloc(), read_uses)
 }
 
 fn drop_uses(rt: &impl Abort, ctx: &mut Context, block: Ptr<BasicBlock>) {
@@ -157,15 +156,23 @@ fn erase_block(rt: &impl Abort, ctx: &mut Context, block: Ptr<BasicBlock>) {
     assert!(rt; !block.is_live(ctx));
 }
 
+fn check_used(rt: &impl Abort, ctx: &Context, block: Ptr<BasicBlock>) {
+    assert!(rt; block.is_live(ctx));
+    assert!(rt; !block.is_self_contained(ctx));
+}
+
+fn erase_right(rt: &impl Abort, alloc: Global, ctx: &mut Context) -> Result<(), Fail> {
+    let d = build_diamond(rt, alloc, ctx)?;
+    check_used(rt, ctx, d.right);
+    drop_uses(rt, ctx, d.entry);
+    let left = [d.left];
+    erase_block(rt, ctx, d.right);
+    check_preds(rt, ctx, d.join, left.as_slice());
+    check_preds(rt, ctx, d.left, &left[..0]);
+    Ok(())
+}
+
 #[test]
 fn drops_uses_and_erases_a_block(rt: HostRuntime) -> Result<(), Fail> {
-    let (mut ctx, d) = four_blocks(&rt, rt.alloc())?;
-    assert!(rt; d.right.is_live(&ctx));
-    assert!(rt; !d.right.is_self_contained(&ctx));
-    drop_uses(&rt, &mut ctx, d.entry);
-    let left = [d.left];
-    erase_block(&rt, &mut ctx, d.right);
-    check_preds(&rt, &ctx, d.join, left.as_slice());
-    check_preds(&rt, &ctx, d.left, &left[..0]);
-    Ok(())
+    in_new_context(&rt, rt.alloc(), erase_right)
 }

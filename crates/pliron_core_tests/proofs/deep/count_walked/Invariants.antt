@@ -1,5 +1,5 @@
 use Rattle.pliron_core.specs.Tree.{IsWithin}
-use Rattle.pliron_core.proofs.tests.deep.count_walked.Given as goal
+use Rattle.pliron_core_tests.proofs.deep.count_walked.Given as goal
 
 abbrev pub invariant-loop-count : goal.invariant-loop-count
 invariant-loop-count l = IsWithin l.ctx.tree l.root l.at

@@ -1,0 +1,18 @@
+//! Tests of `pliron_core` by trees that are built by calls, read by every read and rewritten by every
+//! write. They stand in a crate of their own, so that the tree itself is proved once.
+#![tactic(auto)]
+
+#[cfg(test)]
+mod attributes;
+#[cfg(test)]
+mod deep;
+#[cfg(test)]
+mod edges;
+#[cfg(test)]
+mod reads;
+#[cfg(test)]
+mod steps;
+#[cfg(test)]
+mod straight;
+#[cfg(test)]
+mod writes;

@@ -1,0 +1,200 @@
+//! The straight block is rewritten: inserted into, moved, replaced and erased in.
+
+use crate::steps::{
+    CONST, add_operand, block, check_links, count_uses, erase, head, in_new_context, move_to_end,
+    operand_of, operation, result_of,
+};
+use crate::straight::{Sum, build_sum};
+use pliron_core::{BasicBlock, Context, Def, IRRewriter, Operation, Ptr, Rewriter, Value};
+use std::alloc::Global;
+use std::process::Abort;
+use std::test::Fail;
+
+// The operation is inserted directly before `at`.
+fn insert_before(
+    rt: &impl Abort,
+    ctx: &mut Context,
+    op: Ptr<Operation>,
+    at: Ptr<Operation>,
+) -> Result<(), Fail> {
+    let mut rewriter = IRRewriter::new();
+    rewriter.set_insertion_point_before_operation(at);
+    assert!(rt; op.is_live(ctx));
+    assert!(rt; at.is_live(ctx));
+    assert!(rt; op.get_parent_block(ctx).is_none());
+    assert!(rt; at.get_parent_block(ctx).is_some());
+    assert!(rt; at != op);
+    assert!(rt; !at.is_inside(op, ctx));
+    rewriter.insert_operation(ctx, op)?;
+    Ok(())
+}
+
+fn insert_first(
+    rt: &impl Abort,
+    ctx: &mut Context,
+    op: Ptr<Operation>,
+    block: Ptr<BasicBlock>,
+) -> Result<(), Fail> {
+    let mut rewriter = IRRewriter::default();
+    rewriter.set_insertion_point_to_block_start(block);
+    assert!(rt; op.is_live(ctx));
+    assert!(rt; block.is_live(ctx));
+    assert!(rt; op.get_parent_block(ctx).is_none());
+    assert!(rt; !op.holds_block(block, ctx));
+    rewriter.insert_operation(ctx, op)?;
+    Ok(())
+}
+
+fn replace(rt: &impl Abort, ctx: &mut Context, old: Value, new: Value) -> Result<(), Fail> {
+    assert!(rt; old.is_live(ctx));
+    assert!(rt; new.is_live(ctx));
+    IRRewriter::new().replace_value_uses_with(ctx, old, new)?;
+    Ok(())
+}
+
+fn insert_both(rt: &impl Abort, alloc: Global, ctx: &mut Context) -> Result<(), Fail> {
+    let sum = build_sum(rt, alloc, ctx)?;
+    let three = operation(rt, ctx, head(alloc, CONST, Some(3))?, 1, 0)?;
+    insert_before(rt, ctx, three, sum.add)?;
+    let want = [sum.one, sum.two, three, sum.add, sum.ret];
+    check_links(rt, ctx, sum.block, want.as_slice());
+    let four = operation(rt, ctx, head(alloc, CONST, Some(4))?, 1, 0)?;
+    insert_first(rt, ctx, four, sum.block)?;
+    let want = [four, sum.one, sum.two, three, sum.add, sum.ret];
+    check_links(rt, ctx, sum.block, want.as_slice());
+    Ok(())
+}
+
+#[test]
+fn inserts(rt: HostRuntime) -> Result<(), Fail> {
+    in_new_context(&rt, rt.alloc(), insert_both)
+}
+
+fn replace_sum(rt: &impl Abort, alloc: Global, ctx: &mut Context) -> Result<(), Fail> {
+    let sum = build_sum(rt, alloc, ctx)?;
+    let old = result_of(rt, ctx, sum.add, 0);
+    let new = result_of(rt, ctx, sum.one, 0);
+    replace(rt, ctx, old, new)?;
+    assert!(rt; operand_of(rt, ctx, sum.ret, 0) == new);
+    assert!(rt; count_uses(rt, ctx, old) == 0);
+    assert!(rt; count_uses(rt, ctx, new) == 2);
+    Ok(())
+}
+
+#[test]
+fn replaces_uses(rt: HostRuntime) -> Result<(), Fail> {
+    in_new_context(&rt, rt.alloc(), replace_sum)
+}
+
+fn move_one(rt: &impl Abort, alloc: Global, ctx: &mut Context) -> Result<(), Fail> {
+    let sum = build_sum(rt, alloc, ctx)?;
+    move_to_end(rt, ctx, sum.one, sum.block);
+    let want = [sum.two, sum.add, sum.ret, sum.one];
+    check_links(rt, ctx, sum.block, want.as_slice());
+    Ok(())
+}
+
+#[test]
+fn moves_to_the_end(rt: HostRuntime) -> Result<(), Fail> {
+    in_new_context(&rt, rt.alloc(), move_one)
+}
+
+fn remove_operand(rt: &impl Abort, ctx: &mut Context, op: Ptr<Operation>, i: usize) -> Value {
+    assert!(rt; op.is_live(ctx));
+    assert!(rt; i < op.num_operand(ctx));
+    Operation::remove_operand(ctx, op, i)
+}
+
+fn remove_first_operand(rt: &impl Abort, alloc: Global, ctx: &mut Context) -> Result<(), Fail> {
+    let sum = build_sum(rt, alloc, ctx)?;
+    let a = result_of(rt, ctx, sum.one, 0);
+    let b = result_of(rt, ctx, sum.two, 0);
+    add_operand(rt, ctx, sum.add, a)?;
+    let gone = remove_operand(rt, ctx, sum.add, 0);
+    assert!(rt; gone == a);
+    assert!(rt; operand_of(rt, ctx, sum.add, 0) == b);
+    assert!(rt; operand_of(rt, ctx, sum.add, 1) == a);
+    assert!(rt; count_uses(rt, ctx, a) == 1);
+    Ok(())
+}
+
+#[test]
+fn removes_operands(rt: HostRuntime) -> Result<(), Fail> {
+    in_new_context(&rt, rt.alloc(), remove_first_operand)
+}
+
+fn argument_of(rt: &impl Abort, ctx: &Context, block: Ptr<BasicBlock>, i: usize) -> Value {
+    assert!(rt; block.is_live(ctx));
+    assert!(rt; i < block.num_argument(ctx));
+    block.get_argument(ctx, i)
+}
+
+fn remove_argument(rt: &impl Abort, ctx: &mut Context, block: Ptr<BasicBlock>, i: usize) {
+    assert!(rt; block.is_live(ctx));
+    assert!(rt; i < block.num_argument(ctx));
+    let gone = block.get_argument(ctx, i);
+    assert!(rt; gone.is_live(ctx));
+    assert!(rt; gone.num_use(ctx) == 0);
+    BasicBlock::remove_argument(ctx, block, i);
+}
+
+fn check_argument(rt: &impl Abort, ctx: &Context, block: Ptr<BasicBlock>, i: usize, want: Value) {
+    assert!(rt; argument_of(rt, ctx, block, i) == want);
+    assert!(rt; want.is_live(ctx));
+    assert!(rt; want.def(ctx) == Def::Argument(block, i));
+}
+
+fn remove_middle_argument(rt: &impl Abort, alloc: Global, ctx: &mut Context) -> Result<(), Fail> {
+    let sum = build_sum(rt, alloc, ctx)?;
+    let block = block(rt, ctx, sum.func, 0, 3)?;
+    let first = argument_of(rt, ctx, block, 0);
+    let middle = argument_of(rt, ctx, block, 1);
+    let last = argument_of(rt, ctx, block, 2);
+    remove_argument(rt, ctx, block, 1);
+    check_argument(rt, ctx, block, 0, first);
+    check_argument(rt, ctx, block, 1, last);
+    assert!(rt; !middle.is_live(ctx));
+    Ok(())
+}
+
+#[test]
+fn removes_arguments(rt: HostRuntime) -> Result<(), Fail> {
+    in_new_context(&rt, rt.alloc(), remove_middle_argument)
+}
+
+// A sum that nothing uses any more goes, and with it its uses of the constants.
+fn erase_add(rt: &impl Abort, ctx: &mut Context, sum: &Sum) -> Result<(), Fail> {
+    let old = result_of(rt, ctx, sum.add, 0);
+    let new = result_of(rt, ctx, sum.one, 0);
+    replace(rt, ctx, old, new)?;
+    erase(rt, ctx, sum.add);
+    assert!(rt; !old.is_live(ctx));
+    assert!(rt; count_uses(rt, ctx, new) == 1);
+    Ok(())
+}
+
+fn erase_one(rt: &impl Abort, alloc: Global, ctx: &mut Context) -> Result<(), Fail> {
+    let sum = build_sum(rt, alloc, ctx)?;
+    erase_add(rt, ctx, &sum)?;
+    let want = [sum.one, sum.two, sum.ret];
+    check_links(rt, ctx, sum.block, want.as_slice());
+    Ok(())
+}
+
+#[test]
+fn erases_an_operation(rt: HostRuntime) -> Result<(), Fail> {
+    in_new_context(&rt, rt.alloc(), erase_one)
+}
+
+fn erase_func(rt: &impl Abort, alloc: Global, ctx: &mut Context) -> Result<(), Fail> {
+    let sum = build_sum(rt, alloc, ctx)?;
+    erase(rt, ctx, sum.func);
+    assert!(rt; !sum.block.is_live(ctx));
+    assert!(rt; !sum.ret.is_live(ctx));
+    Ok(())
+}
+
+#[test]
+fn erases_with_contents(rt: HostRuntime) -> Result<(), Fail> {
+    in_new_context(&rt, rt.alloc(), erase_func)
+}
