@@ -34,6 +34,7 @@ pub mod NextLemmas
 pub mod WalkStepLemmas
 pub mod HoldingLemmas
 pub mod SameTreeLemmas
+pub mod SameReadLemmas
 pub mod InsideLemmas
 pub mod WriteInsideLemmas
 pub mod MoveInsideLemmas
