@@ -36,6 +36,8 @@ pub mod HoldingLemmas
 pub mod SameTreeLemmas
 pub mod SameReadLemmas
 pub mod InsideLemmas
+pub mod StandingLemmas
+pub mod AroundLemmas
 pub mod WriteInsideLemmas
 pub mod MoveInsideLemmas
 pub mod ClearedLemmas
