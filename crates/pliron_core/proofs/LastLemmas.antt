@@ -22,6 +22,11 @@ in_end x (y ∷ ys) = inr (in_end x ys)
 pub last_in : (xs : List ℕ) (x : ℕ) → last_of None xs ≡ Some x → In x xs
 last_in xs x e = let s = last_front xs x e in subst (In x) (sym s.1) (in_end x s.0)
 
+-- what a list has last, it has last after anything
+pub last_after : (before : Option ℕ) (xs : List ℕ) (x : ℕ) → last_of None xs ≡ Some x → last_of before xs ≡ Some x
+last_after before [] x e = absurd (cc)
+last_after before (y ∷ ys) x e = e
+
 last_some : (y : ℕ) (ys : List ℕ) → (x : ℕ) × (last_of (Some y) ys ≡ Some x)
 last_some y [] = (y, refl)
 last_some y (z ∷ zs) = last_some z zs

@@ -34,7 +34,10 @@ pub mod NextLemmas
 pub mod WalkStepLemmas
 pub mod HoldingLemmas
 pub mod SameTreeLemmas
+pub mod SameReadLemmas
 pub mod InsideLemmas
+pub mod StandingLemmas
+pub mod AroundLemmas
 pub mod WriteInsideLemmas
 pub mod MoveInsideLemmas
 pub mod ClearedLemmas

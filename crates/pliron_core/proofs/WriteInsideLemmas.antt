@@ -7,12 +7,13 @@ use Rattle.std.proofs.lemmas.List.{get_or-set_other, get_or_past, length-map}
 use Rattle.std.proofs.Math.ListN.{get_or-map, get_or-append}
 use Rattle.pliron_core.specs.declared.attrs.AttrObj.{AttrObj}
 use Rattle.pliron_core.specs.declared.context.Def.{Def}
+use Rattle.pliron_core.specs.declared.context.OperationEntry.{OperationEntry}
 use Rattle.pliron_core.specs.declared.context.Def.TheVariants.{Argument}
 use Rattle.pliron_core.specs.Lists.{In}
 use Rattle.pliron_core.specs.Uses.{replace_target}
-use Rattle.pliron_core.specs.Tree.{Tree, no_entry, up_from, row_of, operands_of, successors_of, parent_of, body_of, arguments_of, block_parent_of, region_parent_of, holder_of, IsLive, IsBlock, IsInside, HoldsBlock}
+use Rattle.pliron_core.specs.Tree.{Tree, no_entry, up_from, row_of, head_of, operands_of, successors_of, parent_of, body_of, arguments_of, block_parent_of, region_parent_of, holder_of, IsLive, IsBlock, IsInside, HoldsBlock}
 use Rattle.pliron_core.specs.Joined.{IsJoined, IsTree}
-use Rattle.pliron_core.specs.Writes.{argument_definitions, operand_pushed, successor_pushed, operand_removed, attribute_set, numbered, argument_removed, replaced, block_created}
+use Rattle.pliron_core.specs.Writes.{argument_definitions, operand_pushed, successor_pushed, operand_removed, with_attribute, attribute_set, numbered, argument_removed, replaced, block_created}
 use Rattle.pliron_core.specs.Changes.{HoldsRegion, IsMakerInside, IsMadeInside, IsOutside, IsBlockOutside, IsValueOutside, IsKeptOperation, IsKeptBlock, IsInsideChange}
 use Rattle.pliron_core.proofs.MoveLemmas.{set-other}
 use Rattle.pliron_core.proofs.PlaceLemmas.{get_or-pad}
@@ -71,14 +72,14 @@ module _ (t : Tree) (op x : ℕ) (w : IsJoined t) (i : IsInside t op x) where
         values = λ v o. refl;
       }
 
-  pub attribute_set_inside : (n : ℕ) (attr : AttrObj) → IsInsideChange t (attribute_set t x n attr) op
-  attribute_set_inside n attr = change_of_kept t u op w kept no_new_operation (λ b o. (o.0, λ h. o.1 (h.0, h.1, within_alike t u (λ z. refl) h.2)))
+  pub row_set_inside : (entry : OperationEntry) → IsInsideChange t (record t { operations = slice_set t.operations x entry }) op
+  row_set_inside entry = change_of_kept t u op w kept no_new_operation (λ b o. (o.0, λ h. o.1 (h.0, h.1, within_alike t u (λ z. refl) h.2)))
     where
       u : Tree
-      u = attribute_set t x n attr
+      u = record t { operations = slice_set t.operations x entry }
 
       row : (y : ℕ) → y ≢ x → row_of u y ≡ row_of t y
-      row y ne = get_or-set_other t.operations x y _ no_entry ne
+      row y ne = get_or-set_other t.operations x y entry no_entry ne
 
       kept : AreKeptOutside t u op
       kept = record {
@@ -94,6 +95,9 @@ module _ (t : Tree) (op x : ℕ) (w : IsJoined t) (i : IsInside t op x) where
           live : (y ≡ x) ⊎ (y ≢ x) → IsLive t y
           live (inl e) = absurd (o.1 (inside_alike t u (λ z. refl) (subst (IsInside t op) (sym e) i)))
           live (inr ne) = subst (λ z. IsSome z.head) (row y ne) o.0
+
+  pub attribute_set_inside : (n : ℕ) (attr : AttrObj) → IsInsideChange t (attribute_set t x n attr) op
+  attribute_set_inside n attr = row_set_inside (record (row_of t x) { head = with_attribute (head_of t x) n attr })
 
 -- a value made inside op gives way
 pub replaced_inside : (t : Tree) (op old new : ℕ) → IsJoined t → IsMadeInside t op old → IsInsideChange t (replaced t old new) op

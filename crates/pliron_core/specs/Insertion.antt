@@ -1,9 +1,14 @@
 -- Where a rewriter inserts.
 use Rattle.std.specs.Prelude.{◌≢◌, ℕ, IsSome}
 use Rattle.pliron_core.specs.declared.rewriter.OpInsertionPoint.{OpInsertionPoint}
+use Rattle.pliron_core.specs.declared.rewriter.IRRewriter.{IRRewriter}
 use Rattle.pliron_core.specs.declared.rewriter.OpInsertionPoint.TheVariants.{Unset, BeforeOperation, AtBlockStart}
 use Rattle.pliron_core.specs.Tree.{Tree, IsBlock, IsInside, HoldsBlock, parent_of}
 use Rattle.pliron_core.specs.Writes.{put_next_to, put_first}
+
+-- where the rewriter inserts
+abbrev pub point_of : IRRewriter → OpInsertionPoint
+point_of r = r.point
 
 -- a point is set, and what it names stands, isn't the operation and isn't inside it; a named operation
 -- stands in a block

@@ -1,5 +1,5 @@
 -- What holds of each tree that a context has.
-use Rattle.std.specs.Prelude.{◌≡◌, ℕ, [], length, Some, None, slice_get}
+use Rattle.std.specs.Prelude.{◌≡◌, ◌<◌, ◌^◌, ℕ, [], length, Some, None, slice_get}
 use Rattle.pliron_core.specs.declared.context.Def.TheVariants.{Result, Argument}
 use Rattle.pliron_core.specs.Lists.{In, AreOwned}
 use Rattle.pliron_core.specs.Rising.{IsRising}
@@ -14,6 +14,13 @@ pub record HaveSameKeys (t : Tree) : Type 0 where
   pub arguments : length t.arguments ≡ length t.bodies
   pub block_parents : length t.block_parents ≡ length t.bodies
   pub slots : length t.slots ≡ length t.layouts
+
+-- there are fewer than 2 ^ 64 keys of each kind
+pub record HaveFewKeys (t : Tree) : Type 0 where
+  pub operations : length t.operations < 2 ^ 64
+  pub blocks : length t.bodies < 2 ^ 64
+  pub regions : length t.layouts < 2 ^ 64
+  pub values : length t.definitions < 2 ^ 64
 
 -- what is named stands, and it names back
 pub record IsJoined (t : Tree) : Type 0 where

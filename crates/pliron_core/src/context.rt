@@ -1,6 +1,6 @@
 //! The tables of a tree.
 ghost use Rattle.std.specs.Prelude.{◌≡◌, []};
-ghost use Rattle.pliron_core.specs.Joined.{IsTree, HaveUses};
+ghost use Rattle.pliron_core.specs.Joined.{IsTree, HaveUses, HaveFewKeys};
 ghost use Rattle.pliron_core.specs.Writes.{no_tree};
 
 mod block_reads;
@@ -99,12 +99,17 @@ impl Context {
         }
     }
 
-    /// The law of every context: its tables are those of a tree, and its lists of uses have each use
-    /// once. Does nothing when it runs.
+    /// The law of every context: its tables are those of a tree, its lists of uses have each use
+    /// once, and there are fewer than 2^64 keys of each kind. Does nothing when it runs.
     pub fn well_formed(&self)
         ensures tree { IsTree self.now.tree }
         ensures uses { HaveUses self.now }
+        ensures keys { HaveFewKeys self.now.tree }
     {
+        let _ = self.operations.len();
+        let _ = self.arguments.len();
+        let _ = self.slots.len();
+        let _ = self.values.len();
         self.order.agree();
         self.layout.agree();
         self.operands.agree();

@@ -3,7 +3,7 @@ ghost use Rattle.std.specs.Prelude.{◌≡◌, Some, None, IsSome, OnOk, OnErr};
 ghost use Rattle.pliron_core.specs.Tree.{IsLive, IsBlock, IsDefined, HoldsBlock, parent_of};
 ghost use Rattle.pliron_core.specs.Writes.{replaced, moved_last};
 ghost use Rattle.pliron_core.specs.Erased.{IsSelfContained, IsSelfContainedBlock, erased, block_erased};
-ghost use Rattle.pliron_core.specs.Insertion.{IsPointFor, inserted};
+ghost use Rattle.pliron_core.specs.Insertion.{IsPointFor, inserted, point_of};
 
 use crate::context::edit::replace_uses;
 use crate::context::erase::{erase_block, erase_operation};
@@ -116,7 +116,7 @@ pub struct IRRewriter {
 impl IRRewriter {
     /// A rewriter whose insertion point isn't set yet.
     pub fn new() -> Self
-        ensures { result.point ≡ OpInsertionPoint.Unset }
+        ensures { point_of result ≡ OpInsertionPoint.Unset }
     {
         IRRewriter {
             point: OpInsertionPoint::Unset,
@@ -127,7 +127,7 @@ impl IRRewriter {
 impl Default for IRRewriter {
     ghost use Rattle.pliron_core.specs.declared.rewriter.OpInsertionPoint.TheVariants.{Unset};
 
-    ghost is_default = { λ r. r.point ≡ Unset };
+    ghost is_default = { λ r. point_of r ≡ Unset };
 
     fn default() -> Self {
         IRRewriter::new()
@@ -135,7 +135,7 @@ impl Default for IRRewriter {
 }
 
 impl Rewriter for IRRewriter {
-    ghost point = { λ r. r.point };
+    ghost point = { λ r. point_of r };
 
     fn set_insertion_point_before_operation(&mut self, op: Ptr<Operation>) {
         self.point = OpInsertionPoint::BeforeOperation(op);

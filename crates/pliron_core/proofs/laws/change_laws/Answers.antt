@@ -1,4 +1,5 @@
-use Rattle.pliron_core.proofs.SameTreeLemmas.{same_refl, same_sym, same_trans, same_live, same_block, same_region, same_value, same_slot, same_definition, same_inside, same_holds}
+use Rattle.pliron_core.proofs.SameTreeLemmas.{same_refl, same_sym, same_trans}
+use Rattle.pliron_core.proofs.SameReadLemmas.{stand_alike, read_alike, allow_alike}
 use Rattle.pliron_core.proofs.InsideLemmas.{inside_refl, inside_trans, same_change, widen, sibling}
 use Rattle.pliron_core.proofs.BesideLemmas.{same_created_erased}
 use Rattle.pliron_core.proofs.laws.change_laws.Goals as goal
@@ -9,16 +10,9 @@ returns c = record {
     reflexive = same_refl;
     symmetric = same_sym;
     transitive = same_trans;
-    alike = λ t u wt wu s. record {
-      operations = same_live t u wt.joined wu.joined s;
-      blocks = same_block t u wt.joined wu.joined s;
-      regions = same_region t u wt.joined wu.joined s;
-      values = same_value t u wt.joined wu.joined s;
-      slots = same_slot t u wt.joined wu.joined s;
-      definitions = same_definition t u wt.joined wu.joined s;
-      inside = same_inside t u wt.joined wu.joined s;
-      holds = same_holds t u wt.joined wu.joined s;
-    };
+    alike = stand_alike;
+    read = read_alike;
+    allow = allow_alike;
     undone = same_created_erased;
   };
   inside = record {
