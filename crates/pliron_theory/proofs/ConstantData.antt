@@ -168,6 +168,7 @@ put_constant_keeps m t u old new n c keeps w w' g uses reads = record {
   agrees = λ root f l.
       let fu = keeps.stays root f l in
       agree_trans (keeps.agrees root f l) (replaced_agree m u old new root fu (same_by_constant m u old new n c w w' g root fu (replaced_fit m u old new root fu (uses root fu)) (reads root f)));
+  heads = keeps.heads;
   stays = λ root f l. let fu = keeps.stays root f l in replaced_fit m u old new root fu (uses root fu);
   grows = keeps.grows;
   fewer = keeps.fewer;

@@ -21,6 +21,7 @@ pub mod Renamed
 pub mod ReplacedKeeps
 pub mod Reading
 pub mod Keeping
+pub mod FewerRoots
 pub mod ConstantData
 pub mod MaterialisedKeeps
 pub mod Keys

@@ -207,7 +207,7 @@ module _ (t t' : Tree) (rename : ℕ → ℕ) (h : IsRenamed t t' rename) where
         }
 
     pub renamed_fit : IsFit m t' root
-    renamed_fit = record { live = subst (λ z. IsSome z.head) (sym (h.rows root)) f.live; defined = defined; linked = linked }
+    renamed_fit = record { live = subst (λ z. IsSome z.head) (sym (h.rows root)) f.live; chosen = λ x e. f.chosen x (sym (ap (λ z. z.head) (h.rows root)) ∙ e); defined = defined; linked = linked }
 
   -- it does the same
 
@@ -294,6 +294,7 @@ module _ (t t' : Tree) (rename : ℕ → ℕ) (h : IsRenamed t t' rename) where
 pub renamed_keeps : (m : Meaning) (t t' : Tree) (rename : ℕ → ℕ) → IsRenamed t t' rename → length t.operations ≡ length t'.operations → ((root : ℕ) → IsFit m t root → (user v : ℕ) → In v (operands_of t user) → MayUse t root user (rename v)) → ((root : ℕ) → IsFit m t root → IsFit m t' root → HaveSameData m t t' rename root) → KeepsRuns m t t'
 renamed_keeps m t t' rename h long uses same = record {
   agrees = λ root f l. renamed_agree t t' rename h m root f.live (same root f (renamed_fit t t' rename h m root f (uses root f)));
+  heads = λ root f l. ap (λ z. z.head) (h.rows root);
   stays = λ root f l. renamed_fit t t' rename h m root f (uses root f);
   grows = omega (arith, long);
   fewer = λ root lt l. subst (λ z. IsSome z.head) (h.rows root) l;

@@ -48,6 +48,7 @@ module _ (m : Meaning) (t : Tree) (old new root : ℕ) where
 pub replaced_keeps : (m : Meaning) (t : Tree) (old new : ℕ) → ((root : ℕ) → IsFit m t root → (user : ℕ) → In old (operands_of t user) → MayUse t root user new) → ((root : ℕ) → IsFit m t root → IsFit m (replaced t old new) root → HasSameDatum m t (replaced t old new) old new root) → KeepsRuns m t (replaced t old new)
 replaced_keeps m t old new uses same = record {
   agrees = λ root f l. replaced_agree m t old new root f (same root f (replaced_fit m t old new root f (uses root f)));
+  heads = λ root f l. refl;
   stays = λ root f l. replaced_fit m t old new root f (uses root f);
   grows = omega arith;
   fewer = λ root lt l. l;

@@ -3,13 +3,20 @@
 ghost use Rattle.pliron_theory.specs.Finding.{FindingsLaw};
 ghost use Rattle.pliron_theory.specs.Knowing.{FactsLaw};
 ghost use Rattle.pliron_laws.specs.LinkLaws.{FoldsKeepLinks};
-ghost use Rattle.pliron_theory.specs.RunLaws.{KeepingLaws, OperandsHaveData, SweepingLaws, MakingLaws, RenamingLaws, SplicingLaw, OneEdgeLaw, RebranchingLaw, DroppingLaw, RemovingLaw};
+ghost use Rattle.pliron_theory.specs.RunLaws.{KeepingLaws, FewerRootsLaw, OperandsHaveData, SweepingLaws, MakingLaws, RenamingLaws, SplicingLaw, OneEdgeLaw, RebranchingLaw, DroppingLaw, RemovingLaw};
 
 use pliron_laws::Dialect;
 
 /// "Runs are kept" is reflexive and transitive, and spent keys are nothing to it.
 pub fn runs_kept()
     ensures { KeepingLaws }
+{}
+
+/// What keeps the runs of roots keeps those of roots with fewer heads. A dialect's meaning says which
+/// heads may be those of roots; where a rewrite is right for some of them alone, its promise is about the
+/// same meaning with these heads, and other promises are brought there by this law.
+pub fn fewer_roots_kept()
+    ensures { FewerRootsLaw }
 {}
 
 /// In a root that is fit to run, each operand has a datum when an operation first reads it.
