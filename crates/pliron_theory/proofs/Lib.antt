@@ -30,9 +30,14 @@ pub mod RebranchedStays
 pub mod SplicedAgree
 pub mod SplicedStays
 pub mod JumpsNow
+pub mod Refolded
+pub mod FoldedBranches
 pub mod KnownData
 pub mod FoundRuns
 pub mod KnownRuns
+pub mod Answered
+pub mod AnsweredReads
+pub mod FoldedConstants
 pub mod RewriteLemmas
 pub mod DroppedAgree
 pub mod DroppedStays

@@ -1,5 +1,8 @@
 //! The theory of runs, as calls that do nothing when they run: each contract is a law, for every
 //! dialect that keeps the laws which it names.
+ghost use Rattle.pliron_theory.specs.Answered.{AnsweredLaw};
+ghost use Rattle.pliron_theory.specs.Refolded.{RefoldingLaw};
+ghost use Rattle.pliron_theory.specs.Folded.{BranchFoldsLaw, ConstantFoldsLaw};
 ghost use Rattle.pliron_theory.specs.Finding.{FindingsLaw};
 ghost use Rattle.pliron_theory.specs.Knowing.{FactsLaw};
 ghost use Rattle.pliron_laws.specs.LinkLaws.{FoldsKeepLinks};
@@ -67,6 +70,28 @@ pub fn one_edge_is_taken<D: Dialect>()
 /// A branch may stand in the place of another one that it acts alike with.
 pub fn branches_are_replaced()
     ensures { RebranchingLaw }
+{}
+
+/// A constant that folding answers for a result with no operand known is what every run reads.
+pub fn answers_are_read<D: Dialect>()
+    ensures { AnsweredLaw D.meaning D.can_fold D.constants }
+{}
+
+/// A branch may be folded by constants that every run reads of its operands.
+pub fn branches_are_refolded()
+    ensures { RefoldingLaw }
+{}
+
+/// Each outcome of a dialect's fold by constants in place keeps runs, also after a refusal, where the
+/// handed constants are what every run reads of the operands.
+pub fn constant_folds_keep_runs<D: Dialect>()
+    ensures { ConstantFoldsLaw D.meaning D.can_fold D.ConstFoldInterface.outcome }
+{}
+
+/// Each outcome of a dialect's fold of a branch in place keeps runs, also after a refusal, where the
+/// handed constants are what every run reads of its operands.
+pub fn branch_folds_keep_runs<D: Dialect>()
+    ensures { BranchFoldsLaw D.meaning D.can_fold_branch D.BranchOpFoldInterface.outcome }
 {}
 
 /// An argument of a block may go with the operands that are forwarded to it, where nothing else uses
