@@ -44,3 +44,4 @@ pub mod DroppedStays
 pub mod ShortenedBranches
 pub mod RemovedKeeps
 pub mod EdgesLost
+pub mod ChosenRoots

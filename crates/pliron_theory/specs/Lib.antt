@@ -11,3 +11,4 @@ pub mod Folded
 pub mod Splicing
 pub mod Rewrites
 pub mod Dropping
+pub mod ChosenRoots

@@ -3,6 +3,7 @@
 ghost use Rattle.pliron_theory.specs.Answered.{AnsweredLaw};
 ghost use Rattle.pliron_theory.specs.Refolded.{RefoldingLaw};
 ghost use Rattle.pliron_theory.specs.Folded.{BranchFoldsLaw, ConstantFoldsLaw};
+ghost use Rattle.pliron_theory.specs.ChosenRoots.{ChosenRootsLaw};
 ghost use Rattle.pliron_theory.specs.Finding.{FindingsLaw};
 ghost use Rattle.pliron_theory.specs.Knowing.{FactsLaw};
 ghost use Rattle.pliron_laws.specs.LinkLaws.{FoldsKeepLinks};
@@ -20,6 +21,12 @@ pub fn runs_kept()
 /// same meaning with these heads, and other promises are brought there by this law.
 pub fn fewer_roots_kept()
     ensures { FewerRootsLaw }
+{}
+
+/// The laws of a dialect on runs, those of the calls below that name it, hold whatever heads are chosen
+/// to be those of roots.
+pub fn roots_may_be_chosen<D: Dialect>()
+    ensures { ChosenRootsLaw D.meaning D.can_fold D.can_fold_branch D.constants D.feasible D.shortened D.removable D.ConstFoldInterface.outcome D.BranchOpFoldInterface.outcome }
 {}
 
 /// In a root that is fit to run, each operand has a datum when an operation first reads it.
