@@ -243,8 +243,7 @@ impl BranchOpFoldInterface for Bench {
     /// passes.
     ///
     /// Errors: `Pass(1)` where an edge does not. Takes no memory. Cost: constant.
-    fn verify(_alloc: Global, op: Ptr<Operation>, ctx: &Context) -> Result<(), OptError>
-    {
+    fn verify(_alloc: Global, op: Ptr<Operation>, ctx: &Context) -> Result<(), OptError> {
         if edges_fit(op, ctx) {
             Ok(())
         } else {

@@ -1,20 +1,20 @@
 -- A result that folding answers with no operand known is read as that constant.
-use Rattle.std.proofs.Common.{◌≡◌, ◌≢◌, ◌⊎◌, inl, inr, ⊎_elim, ℕ, zero, suc, Bool, List, [], ◌∷◌, length, map, Option, Some, None, IsTrue, slice_get, refl, sym, ap, ap₂, ◌∙◌, subst, arith, if◌then◌else◌, nat_eq}
+use Rattle.std.proofs.Common.{◌≡◌, ◌≢◌, ◌⊎◌, inl, inr, ⊎_elim, ℕ, Bool, List, [], ◌∷◌, length, map, Option, Some, None, IsTrue, slice_get, refl, sym, ap, ◌∙◌, subst, arith, if◌then◌else◌, nat_eq}
 use Rattle.std.specs.Prelude.{replicate}
 use Rattle.std.proofs.lemmas.Bool.Decides.{eqb_tells}
 use Rattle.pliron_core.specs.declared.attrs.AttrObj.{AttrObj}
 use Rattle.pliron_core.specs.declared.context.Def.TheVariants.{Result, Argument}
 use Rattle.pliron_core.specs.Tree.{Tree, In, IsInside, operands_of, results_of, arguments_of, definition_of}
 use Rattle.pliron_core.specs.Joined.{IsTree}
-use Rattle.pliron_core.proofs.HoldingLemmas.{some_is, not_none, slice_in, in_slice, inside_or, not_itself}
+use Rattle.pliron_core.proofs.HoldingLemmas.{some_is, not_none, slice_in, inside_or, not_itself}
 use Rattle.pliron_laws.specs.Datum.{Datum, datum_of, Head, Meaning, Move}
-use Rattle.pliron_laws.specs.Tree.{Operation, op_at, shape_of}
-use Rattle.pliron_laws.specs.States.{Environment, State, bound, bind, put_first, data_of, input_of}
+use Rattle.pliron_laws.specs.Tree.{op_at, shape_of}
+use Rattle.pliron_laws.specs.States.{Environment, bound, bind, put_first, data_of, input_of}
 use Rattle.pliron_laws.specs.Machine.{start}
 use Rattle.pliron_laws.specs.Folding.{Constants, Feasible, AnswersTrue, AnswersJumps}
 use Rattle.pliron_theory.specs.Keeps.{IsFit}
 use Rattle.pliron_theory.specs.Knowing.{AreClosed}
-use Rattle.pliron_theory.specs.Renaming.{IsReached, IsReadAs}
+use Rattle.pliron_theory.specs.Renaming.{IsReadAs}
 use Rattle.pliron_theory.proofs.Frames.{Facts, Makes, Rules, Holding, holding_kept}
 use Rattle.pliron_laws.proofs.Records.{op_shows, block_shows, entry_shows}
 use Rattle.pliron_theory.proofs.Reached.{reached_holds}

@@ -1,5 +1,5 @@
 -- Results that folding answers where the known operands are read as the constants that are known.
-use Rattle.std.proofs.Common.{◌≡◌, ◌≢◌, ℕ, Bool, true, false, List, [], ◌∷◌, length, Option, Some, None, IsTrue, slice_get, refl, sym, ap, ◌∙◌, subst, inr, arith}
+use Rattle.std.proofs.Common.{◌≡◌, ℕ, Bool, true, false, List, [], ◌∷◌, length, Option, Some, None, IsTrue, slice_get, refl, sym, ap, ◌∙◌, subst, inr, arith}
 use Rattle.pliron_core.specs.declared.attrs.AttrObj.{AttrObj}
 use Rattle.pliron_core.specs.declared.context.Def.TheVariants.{Result, Argument}
 use Rattle.pliron_core.specs.Changes.{IsMakerInside}
@@ -9,12 +9,11 @@ use Rattle.pliron_core.proofs.HoldingLemmas.{some_is, in_slice, not_itself}
 use Rattle.pliron_laws.specs.Datum.{Datum, Empty, datum_of, Head, Meaning, Move, Give, Visit, Goto, Leave, Emit, Trap}
 use Rattle.pliron_laws.specs.Tree.{Operation, Block, op_at, block_at, entry_block, shape_of}
 use Rattle.pliron_laws.specs.States.{Environment, Waiting, State, Next, Goes, Over, bind, data_of, input_of}
-use Rattle.pliron_laws.specs.Machine.{leave, given, begin, enter, entry_in, block_in, go_to, emit, perform, move, turn, step_at, step, start}
+use Rattle.pliron_laws.specs.Machine.{leave, given, begin, enter, entry_in, go_to, emit, perform, move, turn, step_at, step, start}
 use Rattle.pliron_laws.specs.Acting.{Comes, Begins, Answered, Told, Known}
 use Rattle.pliron_laws.specs.Folding.{Constants, AnswersTrue}
 use Rattle.pliron_theory.specs.Keeps.{IsFit}
 use Rattle.pliron_theory.specs.Renaming.{IsReached, IsReadAs}
-use Rattle.pliron_theory.specs.Refolded.{AreReadAs}
 use Rattle.pliron_laws.proofs.Records.{op_shows, block_shows, entry_shows}
 use Rattle.pliron_theory.proofs.Simulation.{Kept, IfGoes}
 use Rattle.pliron_theory.proofs.Alike.{data_long}
@@ -117,8 +116,8 @@ module _ (m : Meaning) (can_fold : Head → Bool) (constants : Constants) (answe
                 first = input;
                 counted = data_long s.environment o'.operands input has_data ∙ ap (λ z. length z.operands) (same e);
                 knows = known_read s.environment known o'.operands input (entries ∙ ap length listed_o) has_data (λ j x a there is.
-                  let y = ap (λ l. slice_get l j) listed_o ∙ there in
-                  reads j x a y is s k rest r at q (subst (λ z. In x (operands_of t z)) (sym e) (in_slice (operands_of t op) j x y)));
+                    let y = ap (λ l. slice_get l j) listed_o ∙ there in
+                    reads j x a y is s k rest r at q (subst (λ z. In x (operands_of t z)) (sym e) (in_slice (operands_of t op) j x y)));
                 later = false;
                 comes = subst (λ z. Comes m.act (shape_of m t o) input false z input) (sym mind) Begins;
               }
@@ -148,8 +147,8 @@ module _ (m : Meaning) (can_fold : Head → Bool) (constants : Constants) (answe
       told_holds x next acts (d ∷ world) = record {
         always = g.always;
         mind = subst (λ z. Mind z next (Some (d ∷ []))) (sym at) (λ e.
-          let q = minds e in
-          record { first = q.first; counted = q.counted; knows = q.knows; later = true; comes = Told x next d q.comes (ap (λ p. m.act (shape_of m t p) s.memo input) (sym (same e)) ∙ acts) });
+            let q = minds e in
+            record { first = q.first; counted = q.counted; knows = q.knows; later = true; comes = Told x next d q.comes (ap (λ p. m.act (shape_of m t p) s.memo input) (sym (same e)) ∙ acts) });
         waits = g.waits;
       }
 

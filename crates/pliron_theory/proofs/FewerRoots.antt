@@ -1,14 +1,13 @@
 -- What keeps the runs of roots keeps those of fewer.
-use Rattle.std.proofs.Common.{◌≡◌, ℕ, Bool, IsTrue, refl, sym, ◌∙◌}
-use Rattle.pliron_core.specs.Tree.{Tree, head_of}
+use Rattle.std.proofs.Common.{ℕ, Bool, IsTrue, sym, ◌∙◌}
+use Rattle.pliron_core.specs.Tree.{Tree}
 use Rattle.pliron_laws.specs.Datum.{Head, Meaning}
 use Rattle.pliron_laws.specs.Tree.{shape_of}
 use Rattle.pliron_laws.specs.Machine.{step}
 use Rattle.pliron_laws.specs.Agree.{Agree}
 use Rattle.pliron_laws.specs.Root.{WellDefined}
-use Rattle.pliron_laws.specs.Linked.{IsWellLinked}
 use Rattle.pliron_laws.specs.Answers.{HeadPasses}
-use Rattle.pliron_theory.specs.Keeps.{IsFit, KeepsRuns, with_roots}
+use Rattle.pliron_theory.specs.Keeps.{IsFit, with_roots}
 use Rattle.pliron_theory.specs.RunLaws.{FewerRootsLaw}
 
 module _ (m : Meaning) (fewer : Head → Bool) where

@@ -1,29 +1,27 @@
 -- What folding a branch in place leaves.
-use Rattle.std.proofs.Common.{◌≡◌, ◌≢◌, ◌⊎◌, inl, inr, ⊎_elim, ℕ, zero, suc, ◌<◌, ◌≤◌, Bool, true, false, true≢false, nat_eq, if◌then◌else◌, List, [], ◌∷◌, ◌++◌, length, map, get_or, Option, Some, None, slice_get, slice_set, refl, sym, ap, ◌∙◌, subst, IsTrue, append_assoc, append-nil, length-append, arith}
-use Rattle.std.proofs.lemmas.Bool.{cases_eq}
+use Rattle.std.proofs.Common.{◌≡◌, ◌≢◌, ◌⊎◌, inl, inr, ⊎_elim, ℕ, zero, suc, ◌<◌, ◌≤◌, Bool, true, false, nat_eq, List, [], ◌∷◌, ◌++◌, length, map, get_or, Option, Some, None, slice_get, slice_set, refl, sym, ap, ◌∙◌, subst, IsTrue, append_assoc, append-nil, length-append, arith}
 use Rattle.std.proofs.lemmas.List.{get_or-set_other, get_or-set_same, get_or_past, length-map}
 use Rattle.pliron_core.specs.declared.attrs.AttrObj.{AttrObj}
 use Rattle.pliron_core.specs.declared.attrs.Head.{Head}
 use Rattle.pliron_core.specs.declared.context.OperationEntry.{OperationEntry}
 use Rattle.pliron_core.specs.Lists.{IsDistinct, without, put_before}
 use Rattle.pliron_core.specs.Rising.{IsRising}
-use Rattle.pliron_core.specs.Tree.{Tree, In, IsLive, IsInside, IsInside.Directly, IsInside.Deeper, IsWithin, no_entry, row_of, head_of, operands_of, successors_of, results_of, regions_of, parent_of, body_of, arguments_of, block_parent_of, layout_of, slot_of, region_parent_of, block_holder_of, holder_of, up_from, op_of_slot}
+use Rattle.pliron_core.specs.Tree.{Tree, In, IsInside, IsInside.Directly, IsInside.Deeper, no_entry, row_of, head_of, operands_of, successors_of, results_of, regions_of, parent_of, body_of, arguments_of, block_parent_of, layout_of, region_parent_of, block_holder_of, up_from, op_of_slot}
 use Rattle.pliron_core.specs.Joined.{IsTree}
-use Rattle.pliron_core.specs.Writes.{created, taken_from, taken_out, put_next_to}
-use Rattle.pliron_core.specs.Erased.{is_met_above, cleared, blanked, erased}
+use Rattle.pliron_core.specs.Writes.{created, taken_from, put_next_to}
+use Rattle.pliron_core.specs.Erased.{is_met_above, cleared, erased}
 use Rattle.pliron_core.proofs.TreeLemmas.{live-within}
-use Rattle.pliron_core.proofs.ListLemmas.{In-left, In-right, In-cases, put_before-split, without-split, distinct-apart}
+use Rattle.pliron_core.proofs.ListLemmas.{In-right, In-cases, put_before-split, without-split, distinct-apart}
 use Rattle.pliron_core.proofs.BlankLemmas.{blanked_gone, blanked_kept}
 use Rattle.pliron_core.proofs.ClearedLemmas.{met_above, met_itself}
-use Rattle.pliron_core.proofs.WithinLemmas.{within_is, block_steps}
-use Rattle.pliron_core.proofs.HoldingLemmas.{some_is, not_none, some_of, in_slice, slice_in, slot_is, region_parent_is, block_held, held_block, holder_is}
+use Rattle.pliron_core.proofs.WithinLemmas.{within_is}
+use Rattle.pliron_core.proofs.HoldingLemmas.{some_is, not_none, some_of, in_slice, slot_is, region_parent_is, block_held, held_block, holder_is}
 use Rattle.pliron_core.proofs.LastLemmas.{last_front}
 use Rattle.pliron_core.proofs.WalkLemmas.{inside_live}
 use Rattle.pliron_laws.specs.Datum.{Shape, Meaning}
-use Rattle.pliron_laws.specs.Tree.{Operation, op_at, entry_block, count_arguments, shape_of}
+use Rattle.pliron_laws.specs.Tree.{op_at, entry_block, count_arguments, shape_of}
 use Rattle.pliron_laws.specs.Acting.{pick}
 use Rattle.pliron_laws.specs.Answers.{HeadPasses}
-use Rattle.pliron_laws.specs.Outcomes.{next_op}
 use Rattle.pliron_theory.specs.Keeps.{KeepsRuns}
 use Rattle.pliron_theory.specs.Rebranching.{IsRebranched}
 use Rattle.pliron_laws.specs.Replacing.{ReplacesBranch, with_edges, branch_replaced, FoldsBranch, FoldsBranch.Kept, FoldsBranch.Replaced}
@@ -31,9 +29,8 @@ use Rattle.pliron_laws.specs.Folding.{Constants, Feasible, AnswersJumps}
 use Rattle.pliron_laws.specs.Laws.{ForwardsOperands}
 use Rattle.pliron_laws.specs.InPlace.{Outcome, FoldsInPlace}
 use Rattle.pliron_laws.proofs.Records.{operation_of, op_shows, make_op}
-use Rattle.pliron_theory.proofs.KnownData.{picked_at}
 use Rattle.pliron_theory.proofs.SweptKeeps.{admitted_shape, same_keeps}
-use Rattle.pliron_theory.specs.Refolded.{AreReadAs, IsRefolded}
+use Rattle.pliron_theory.specs.Refolded.{AreReadAs}
 use Rattle.pliron_theory.specs.Folded.{BranchFoldsLaw}
 use Rattle.pliron_theory.proofs.Refolded.{refolded}
 
@@ -237,16 +234,16 @@ folding m t t' a op front known w w' longer split childless no_results branch lo
     let e = same t a op head operands successors front w w' split childless in
     let x = op_shows t op o stands in
     let r = rebranched t a op head operands successors front w w' split childless no_results
-        (λ v i. subst (In v) (sym x.operands) (picked_in operands o.operands places picked v i))
-        (λ c i. subst (In c) (sym x.successors) (picked_in successors o.successors edges replaces.targets_kept c i)) in
+    (λ v i. subst (In v) (sym x.operands) (picked_in operands o.operands places picked v i))
+    (λ c i. subst (In c) (sym x.successors) (picked_in successors o.successors edges replaces.targets_kept c i)) in
     let new_ops = operands_new t a op head operands successors front w w' split childless in
     let new_targets = successors_new t a op head operands successors front w w' split childless in
     let row = row_new t a op head operands successors front w w' split childless in
     let l = last t a op head operands successors front w w' split childless in
     subst (λ (z : Tree). KeepsRuns m t z) (sym e)
     (refolded m t l a op (length t.operations) front known w (subst IsTree e w') (subst (λ (z : Tree). length t.operations ≤ length z.operations) e longer) (omega arith) branch long
-      (record { placed = r; operation = o; stands = stands; head = head; places = places; edges = edges; new_head = ap (λ z. z.head) row; operands = ap (map Some) new_ops ∙ picked; replaces = subst (λ ts. ReplacesBranch m (shape_of m t o) o.successors ts known head places edges) (sym new_targets) replaces })
-      so)
+    (record { placed = r; operation = o; stands = stands; head = head; places = places; edges = edges; new_head = ap (λ z. z.head) row; operands = ap (map Some) new_ops ∙ picked; replaces = subst (λ ts. ReplacesBranch m (shape_of m t o) o.successors ts known head places edges) (sym new_targets) replaces })
+    so)
 
 no_items : {A : Type 0} (xs : List A) → length xs ≡ 0 → xs ≡ []
 no_items [] e = refl

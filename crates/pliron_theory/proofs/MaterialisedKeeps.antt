@@ -100,11 +100,12 @@ module _ (m : Meaning) (t : Tree) (head : Head) (attr : AttrObj) (w : IsTree t) 
     pub result_keeps_on : (t₀ : Tree) → KeepsRuns m t₀ t → ((root : ℕ) → IsFit m t₀ root → IsLive t root → IsReadAs m t old (datum_of attr) root) → IsTree (put_next_to made n at (Some block)) → IsTree (replaced (put_next_to made n at (Some block)) old v) → KeepsRuns m t₀ (replaced (put_next_to made n at (Some block)) old v) × ((root : ℕ) → IsFit m t₀ root → IsLive t root → (x : ℕ) (d : Datum) → x ≢ v → IsReadAs m t x d root → IsReadAs m (replaced (put_next_to made n at (Some block)) old v) x d root)
     result_keeps_on t₀ keeps reads wu wv =
         let x = before_well m t head attr w makes plain at block standing wu in
-        let there = keeps_trans m t₀ t (u block (body_before at block)) keeps x.0 in
-        (put_constant_keeps m t₀ (u block (body_before at block)) old v n (datum_of attr) there wu wv (gives block (body_before at block) old) (result_uses wu) (λ root f l. let old_l = before root f l in x.1 root (keeps.stays root f old_l) old (datum_of attr) (reads root f old_l)),
-        λ root f l y d ne known.
-            let fu = keeps.stays root f l in
-            put_constant_reads m t (u block (body_before at block)) old v n (datum_of attr) x.0 wu wv (gives block (body_before at block) old) (result_uses wu) root fu (x.0.stays root fu (forth root fu)).live (x.1 root fu old (datum_of attr) (reads root f l)) y d ne (x.1 root fu y d known))
+        let there = keeps_trans m t₀ t (u block (body_before at block)) keeps x.0 in (
+          put_constant_keeps m t₀ (u block (body_before at block)) old v n (datum_of attr) there wu wv (gives block (body_before at block) old) (result_uses wu) (λ root f l. let old_l = before root f l in x.1 root (keeps.stays root f old_l) old (datum_of attr) (reads root f old_l)),
+          λ root f l y d ne known.
+              let fu = keeps.stays root f l in
+              put_constant_reads m t (u block (body_before at block)) old v n (datum_of attr) x.0 wu wv (gives block (body_before at block) old) (result_uses wu) root fu (x.0.stays root fu (forth root fu)).live (x.1 root fu old (datum_of attr) (reads root f l)) y d ne (x.1 root fu y d known),
+        )
       where
         before : (root : ℕ) → IsFit m t₀ root → IsLive (u block (body_before at block)) root → IsLive t root
         before root f l = (before_well m t head attr w makes plain at block standing wu).0.fewer root (let g = keeps.grows in let lt = past_live t₀ root f.live in omega (arith, g, lt)) l

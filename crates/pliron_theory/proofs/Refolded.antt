@@ -1,23 +1,20 @@
 -- Folding a branch by constants that are read keeps what roots do.
-use Rattle.std.proofs.Common.{◌≡◌, ℕ, zero, suc, ◌≤◌, Bool, true, List, [], ◌∷◌, length, map, Option, Some, None, IsTrue, slice_get, refl, sym, ap, ap₂, ◌∙◌, subst, arith}
+use Rattle.std.proofs.Common.{◌≡◌, ℕ, zero, suc, true, List, [], ◌∷◌, length, map, Option, Some, None, IsTrue, slice_get, refl, sym, ap, ap₂, ◌∙◌, subst, arith}
 use Rattle.std.proofs.lemmas.List.{length-map}
 use Rattle.pliron_core.specs.declared.attrs.AttrObj.{AttrObj}
 use Rattle.pliron_core.specs.Tree.{Tree, In, IsInside, head_of, operands_of, successors_of, results_of, regions_of, arguments_of}
-use Rattle.pliron_core.specs.Joined.{IsTree}
 use Rattle.pliron_core.proofs.HoldingLemmas.{some_is, not_none, in_slice}
 use Rattle.pliron_laws.specs.Datum.{Datum, datum_of, Head, Shape, Meaning}
 use Rattle.pliron_laws.specs.Tree.{Operation, op_at, block_at, entry_block, count_arguments, shape_of, unless}
-use Rattle.pliron_laws.specs.States.{Environment, State, put_first, data_of}
+use Rattle.pliron_laws.specs.States.{Environment, put_first, data_of}
 use Rattle.pliron_laws.specs.Acting.{ActAlike, PassesSame, Known, pick}
 use Rattle.pliron_laws.specs.Answers.{HeadPasses}
-use Rattle.pliron_laws.specs.Linked.{IsAdmitted}
-use Rattle.pliron_theory.specs.Keeps.{IsFit, KeepsRuns}
-use Rattle.pliron_theory.specs.Renaming.{IsReached}
-use Rattle.pliron_theory.specs.Rebranching.{IsRebranched, ActsInPlace, FitsInPlace}
-use Rattle.pliron_laws.specs.Replacing.{branch_shape, JumpsTo, ReplacesBranch}
+use Rattle.pliron_theory.specs.Keeps.{IsFit}
+use Rattle.pliron_theory.specs.Rebranching.{ActsInPlace, FitsInPlace}
+use Rattle.pliron_laws.specs.Replacing.{branch_shape, JumpsTo}
 use Rattle.pliron_laws.proofs.Records.{op_shows}
 use Rattle.pliron_theory.proofs.Alike.{data_long}
-use Rattle.pliron_theory.proofs.KnownData.{picked_at, put_both, some_at}
+use Rattle.pliron_theory.proofs.KnownData.{picked_at, put_both}
 use Rattle.pliron_theory.proofs.RebranchedStays.{rebranched_keeps}
 use Rattle.pliron_theory.specs.Refolded.{AreReadAs, IsRefolded, RefoldingLaw}
 
@@ -94,10 +91,13 @@ module _ (m : Meaning) (t t' : Tree) (a op new : ℕ) (front : List ℕ) (known 
       let old = op_shows t op o e in
       let knows : Known known first = known_read st.environment known o.operands first (long ∙ ap length old.operands) reads (λ j v c at' is. so root j v c f (ap (λ z. slice_get z j) old.operands ∙ at') is st op rest r at none (subst (In v) (sym old.operands) (in_slice o.operands j v at'))) in
       let alike = h.replaces.alike first y.0 (data_long st.environment o.operands first reads ∙ ap (λ z. length z.operands) (sym same) ∙ counted m t h.operation) knows y.2 in
-      let targets : h.operation.successors ≡ successors_of t op = sym (op_shows t op h.operation h.stands).successors in
-      (y.0, y.1, subst (λ z. ActAlike m.act PassesSame (JumpsTo (successors_of t op) (successors_of t' new)) z (shape_of m t' o') first y.0) (ap (shape_of m t) same)
-        (subst (λ z. ActAlike m.act PassesSame (JumpsTo (successors_of t op) (successors_of t' new)) (shape_of m t h.operation) z first y.0) (sym (new_shape o' e'))
-        (subst (λ z. ActAlike m.act PassesSame (JumpsTo z (successors_of t' new)) (shape_of m t h.operation) (branch_shape h.head (length h.places) (length h.edges)) first y.0) targets alike)))
+      let targets : h.operation.successors ≡ successors_of t op = sym (op_shows t op h.operation h.stands).successors in (
+        y.0,
+        y.1,
+        subst (λ z. ActAlike m.act PassesSame (JumpsTo (successors_of t op) (successors_of t' new)) z (shape_of m t' o') first y.0) (ap (shape_of m t) same)
+            (subst (λ z. ActAlike m.act PassesSame (JumpsTo (successors_of t op) (successors_of t' new)) (shape_of m t h.operation) z first y.0) (sym (new_shape o' e'))
+            (subst (λ z. ActAlike m.act PassesSame (JumpsTo z (successors_of t' new)) (shape_of m t h.operation) (branch_shape h.head (length h.places) (length h.edges)) first y.0) targets alike)),
+      )
 
   fits : (root : ℕ) → IsFit m t root → IsInside t root op → FitsInPlace m t' new
   fits root f inside = record {

@@ -1,5 +1,5 @@
 -- Constants that folding answers where no operand is known.
-use Rattle.std.specs.Prelude.{◌≡◌, ℕ, Bool, List, Option, Some, None, IsTrue, slice_get, length, replicate}
+use Rattle.std.specs.Prelude.{◌≡◌, ℕ, Bool, Some, None, IsTrue, slice_get, length, replicate}
 use Rattle.pliron_core.specs.declared.attrs.AttrObj.{AttrObj}
 use Rattle.pliron_core.specs.Tree.{Tree}
 use Rattle.pliron_core.specs.Joined.{IsTree}

@@ -1,5 +1,5 @@
 -- Branches that are folded by what every run reads of their operands.
-use Rattle.std.specs.Prelude.{◌≡◌, ◌≤◌, ℕ, List, ◌∷◌, Option, Some, length, map, slice_get, IsTrue}
+use Rattle.std.specs.Prelude.{◌≡◌, ◌≤◌, ℕ, List, Option, Some, length, map, slice_get}
 use Rattle.pliron_core.specs.declared.attrs.AttrObj.{AttrObj}
 use Rattle.pliron_core.specs.Tree.{Tree, head_of, operands_of, successors_of}
 use Rattle.pliron_core.specs.Joined.{IsTree}
