@@ -25,6 +25,15 @@ kind_alone Br s br h = (h.results, no_length s.entry_arguments h.regions, refl)
 kind_alone Cbr s br h = (h.results, no_length s.entry_arguments h.regions, refl)
 kind_alone _ s br h = grind arith
 
+kind_edge : (k : BenchKind) (s : Shape) → IsTrue (branches k) → IsOfKind k s → 0 < s.successors
+kind_edge Br s br h = omega (arith, h.successors)
+kind_edge Cbr s br h = omega (arith, h.successors)
+kind_edge _ s br h = grind arith
+
+pub some_edge : (o : Option BenchKind) (s : Shape) → Admits o s → IsTrue (by_kind false branches o) → 0 < s.successors
+some_edge None s h br = grind arith
+some_edge (Some k) s h br = kind_edge k s br (of_kind k s h)
+
 pub alone : (o : Option BenchKind) (s : Shape) → Admits o s → IsTrue (by_kind false branches o) → (s.results ≡ 0) × (s.entry_arguments ≡ []) × (by_kind false folds_of o ≡ false)
 alone None s h br = grind arith
 alone (Some k) s h br = kind_alone k s br (of_kind k s h)

@@ -124,6 +124,7 @@ unfoldable pub bench : Meaning
 bench = record {
   act = λ s memo input. by_kind no_act act_of (kind_of s.head.kind) s memo input;
   admits = λ h a b c d. by_kind false (takes h a b c d) (kind_of h.kind);
+  may_be_root = λ h. true;
   is_terminator = λ h. by_kind false ends_block (kind_of h.kind);
   is_branch = λ h. by_kind false branches (kind_of h.kind);
   forwarded = λ s i. by_kind no_places places_of (kind_of s.head.kind) s i;

@@ -19,7 +19,7 @@ use Rattle.pliron_bench.specs.BenchParts.{Admits, of_kind, takes_again, count_be
 use Rattle.pliron_bench.specs.BenchFolds.{branch_quiet}
 use Rattle.pliron_laws.specs.PlaceLaws.{shifted}
 use Rattle.pliron_bench.specs.BenchLists.{range_below, range_without, take_without, drop_without, take_kept, drop_kept, not_cut}
-use Rattle.pliron_bench.specs.BenchBranches.{alone, within, distinct, PassesAt, passes, at_once, goto_alike, nowhere}
+use Rattle.pliron_bench.specs.BenchBranches.{alone, some_edge, within, distinct, PassesAt, passes, at_once, goto_alike, nowhere}
 
 -- the tests of the dialect read the same of both heads
 abbrev pub SameTests : Head → Head → Type 0
@@ -161,6 +161,7 @@ pub bench_forwards : ForwardsOperands bench bench_folds SameTests bench_shortene
 unfolding bench bench_folds bench_shortened
 bench_forwards = record {
   alone = λ s h br. alone (kind_of s.head.kind) s h br;
+  some_edge = λ s h br. some_edge (kind_of s.head.kind) s h br;
   places = λ s h br i p l. within (kind_of s.head.kind) s i p h br l;
   distinct = λ s h br i j k l p e f. distinct (kind_of s.head.kind) s i j k l p br e f;
   passes = λ s h br first l later memo input i ds comes e.

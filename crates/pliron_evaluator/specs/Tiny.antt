@@ -99,6 +99,7 @@ unfoldable pub tiny : Meaning
 tiny = record {
   act = λ s memo input. act_of (kind_of s.head.kind) s memo input;
   admits = λ h a b c d. admits_of (kind_of h.kind) a b c d;
+  may_be_root = λ h. true;
   is_terminator = λ h. is_br (kind_of h.kind);
   is_branch = λ h. is_br (kind_of h.kind);
   forwarded = λ s i. forwarded_along i s.operands;

@@ -195,6 +195,7 @@ pub tiny_forwards : ForwardsOperands tiny tiny_folds SameTests tiny_shortened
 unfolding tiny tiny_folds tiny_shortened
 tiny_forwards = record {
   alone = λ s h br. let c = counts_of_branch s h br in (c.0, no_length s.entry_arguments c.2, ap is_const (br_alone _ br));
+  some_edge = λ s h br. let c = counts_of_branch s h br in omega (arith, c.1);
   places = λ s h br i p l. in_edge s.operands i p l;
   distinct = λ s h br i j k l p e f. apart s.operands i j k l p e f;
   passes = λ s h br first l later memo input i ds comes e. passes_all s.operands i first input ds l (goes_at_once _ s (goes s br) first later memo input comes).1 (sym (goes s br memo input) ∙ e);

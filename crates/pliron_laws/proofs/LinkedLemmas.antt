@@ -181,7 +181,7 @@ module _ (t : Tree) (op v b : ℕ) (head : Head) (w : IsTree t) (at : parent_of 
       let d : definition_of made₁ (length t.definitions) ≡ Some (Result c 0) = ap (definition_of made₁) (sym n) ∙ slice_get_added t.definitions (Result c 0 ∷ []) 0 in
       subst (IsMadeBy put₁ (length t.definitions)) (sym d) (ap (λ z. slice_get z.results 0) row₁)
 
-  tree_put₁ : IsTree put₁
+  pub tree_put₁ : IsTree put₁
   tree_put₁ =
       tree_placed made₁ c op b (tree_created t head w) (ap (λ z. is_some z.head) row₁) free₁ (parent₁ op ∙ at) (ap (λ z. z.regions) row₁)
 

@@ -43,6 +43,8 @@ pub record Meaning : Type 0 where
   -- whether the dialect has operations with this head and these counts of operands, results,
   -- successors and regions
   pub admits : Head → (operands results successors regions : ℕ) → Bool
+  -- whether an operation with this head may be a root that is run by itself
+  pub may_be_root : Head → Bool
   pub is_terminator : Head → Bool
   pub is_branch : Head → Bool
   -- the places of the operands that a branch of this shape forwards along the edge with this index

@@ -59,6 +59,7 @@ pub record LosesOperand (m : Meaning) (SameTests : Head → Head → Type 0) (s 
 -- on one edge alone; with one edge it goes there at once; it can lose a forwarded operand
 pub record ForwardsOperands (m : Meaning) (can_fold : Head → Bool) (SameTests : Head → Head → Type 0) (shortened : Shape → ℕ → ℕ → Head) : Type 0 where
   pub alone : (s : Shape) → Admitted m s → IsTrue (m.is_branch s.head) → (s.results ≡ 0) × (s.entry_arguments ≡ []) × (can_fold s.head ≡ false)
+  pub some_edge : (s : Shape) → Admitted m s → IsTrue (m.is_branch s.head) → 0 < s.successors
   pub places : (s : Shape) → Admitted m s → IsTrue (m.is_branch s.head) → (i p : ℕ) → In p (m.forwarded s i) → p < s.operands
   pub distinct : (s : Shape) → Admitted m s → IsTrue (m.is_branch s.head) → (i j k l p : ℕ) → slice_get (m.forwarded s i) k ≡ Some p → slice_get (m.forwarded s j) l ≡ Some p → (i ≡ j) × (k ≡ l)
   pub passes : (s : Shape) → Admitted m s → IsTrue (m.is_branch s.head) → (first : List Datum) → length first ≡ s.operands → (later : Bool) (memo : Datum) (input : List Datum) (i : ℕ) (ds : List Datum) → Comes m.act s first later memo input → m.act s memo input ≡ Goto i ds → map Some ds ≡ pick (m.forwarded s i) first

@@ -112,6 +112,11 @@ module _ (t : Tree) where
 heads_same : (t : Tree) (k : ℕ) (l : Line) (h g : Head) → entry_of t k ≡ written l → head_of t k ≡ Some h → (written l).head ≡ Some g → g ≡ h
 heads_same t k l h g e f w = some_is (sym w ∙ sym (ap (λ z. z.head) e) ∙ f)
 
+-- each operation may be a root
+any_root : (h : Head) → IsTrue (bench.may_be_root h)
+unfolding bench
+any_root h = refl
+
 -- no line is a branch
 no_branch : (t : Tree) (k : ℕ) (l : Line) (h : Head) → entry_of t k ≡ written l → head_of t k ≡ Some h → IsTrue (bench.is_branch h) → ⊥
 unfolding bench kind_of
@@ -323,7 +328,7 @@ module _ (t : Tree) (root : ℕ) (is : IsTree t) (s : IsStraight t root) where
     }
 
     fit : IsFit bench t root
-    fit = record { live = ap (λ z. is_some z.head) s.func; defined = well_defined; linked = record { edges = edges; admitted = all_admitted } }
+    fit = record { live = ap (λ z. is_some z.head) s.func; chosen = λ h e. any_root h; defined = well_defined; linked = record { edges = edges; admitted = all_admitted } }
 
 pub straight-fit : (t : Tree) (root : ℕ) → IsTree t → IsStraight t root → IsSelfContained t root → IsFit bench t root
 straight-fit t root is s own = fit t root is s own

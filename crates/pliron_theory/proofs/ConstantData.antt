@@ -6,7 +6,7 @@ use Rattle.pliron_core.specs.Writes.{replaced}
 use Rattle.pliron_core.proofs.WalkLemmas.{inside_first, place_of, place_listed}
 use Rattle.std.proofs.lemmas.Bool.Decides.{eqb_tells}
 use Rattle.pliron_core.specs.declared.context.Def.TheVariants.{Result, Argument}
-use Rattle.pliron_core.specs.Tree.{Tree, In, operands_of, results_of, regions_of, arguments_of, definition_of}
+use Rattle.pliron_core.specs.Tree.{Tree, In, IsLive, operands_of, results_of, regions_of, arguments_of, definition_of}
 use Rattle.pliron_core.specs.Joined.{IsTree}
 use Rattle.pliron_core.proofs.HoldingLemmas.{some_is, slice_in, in_slice}
 use Rattle.pliron_laws.specs.Datum.{Datum, Empty, Meaning, Move, Give, Visit, Emit}
@@ -20,7 +20,7 @@ use Rattle.pliron_theory.proofs.Frames.{Facts, Makes, Rules, Holding, holding_ke
 use Rattle.pliron_laws.proofs.Records.{op_shows, block_shows, entry_shows}
 use Rattle.pliron_theory.proofs.Reached.{reached_holds}
 use Rattle.pliron_theory.proofs.Reading.{read_data, ready_when_reached}
-use Rattle.pliron_theory.proofs.ReplacedKeeps.{replaced_renamed, replaced_fit, replaced_agree, replaced_keeps}
+use Rattle.pliron_theory.proofs.ReplacedKeeps.{replaced_reads, replaced_renamed, replaced_fit, replaced_agree, replaced_keeps}
 
 -- the value has no other datum
 abbrev pub IsOnly : ℕ → Datum → Environment → Type 0
@@ -163,12 +163,19 @@ constant_keeps m t old new n c w w' g uses reads = replaced_keeps m t old new us
 
 -- a tree came from another one and keeps its runs; then the value may be replaced by a constant's result
 -- where the roots of that other one read it as the constant
-pub put_constant_keeps : (m : Meaning) (t u : Tree) (old new n : ℕ) (c : Datum) → KeepsRuns m t u → IsTree u → IsTree (replaced u old new) → GivesConstant m (replaced u old new) n new c → ((root : ℕ) → IsFit m u root → (user : ℕ) → In old (operands_of u user) → MayUse u root user new) → ((root : ℕ) → IsFit m t root → IsReadAs m u old c root) → KeepsRuns m t (replaced u old new)
+pub put_constant_keeps : (m : Meaning) (t u : Tree) (old new n : ℕ) (c : Datum) → KeepsRuns m t u → IsTree u → IsTree (replaced u old new) → GivesConstant m (replaced u old new) n new c → ((root : ℕ) → IsFit m u root → (user : ℕ) → In old (operands_of u user) → MayUse u root user new) → ((root : ℕ) → IsFit m t root → IsLive u root → IsReadAs m u old c root) → KeepsRuns m t (replaced u old new)
 put_constant_keeps m t u old new n c keeps w w' g uses reads = record {
   agrees = λ root f l.
       let fu = keeps.stays root f l in
-      agree_trans (keeps.agrees root f l) (replaced_agree m u old new root fu (same_by_constant m u old new n c w w' g root fu (replaced_fit m u old new root fu (uses root fu)) (reads root f)));
+      agree_trans (keeps.agrees root f l) (replaced_agree m u old new root fu (same_by_constant m u old new n c w w' g root fu (replaced_fit m u old new root fu (uses root fu)) (reads root f l)));
+  heads = keeps.heads;
   stays = λ root f l. let fu = keeps.stays root f l in replaced_fit m u old new root fu (uses root fu);
   grows = keeps.grows;
   fewer = keeps.fewer;
 }
+
+-- and each value that they read as a constant is still read so
+pub put_constant_reads : (m : Meaning) (t u : Tree) (old new n : ℕ) (c : Datum) → KeepsRuns m t u → IsTree u → IsTree (replaced u old new) → GivesConstant m (replaced u old new) n new c → ((root : ℕ) → IsFit m u root → (user : ℕ) → In old (operands_of u user) → MayUse u root user new) → (root : ℕ) → IsFit m t root → IsLive u root → IsReadAs m u old c root → (v : ℕ) (d : Datum) → v ≢ new → IsReadAs m u v d root → IsReadAs m (replaced u old new) v d root
+put_constant_reads m t u old new n c keeps w w' g uses root f l reads v d ne known =
+    let fu = keeps.stays root f l in
+    replaced_reads m u old new root fu (same_by_constant m u old new n c w w' g root fu (replaced_fit m u old new root fu (uses root fu)) reads) v d ne known

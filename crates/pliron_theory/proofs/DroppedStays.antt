@@ -225,11 +225,12 @@ module _ (m : Meaning) (t t' : Tree) (block index v : ℕ) (kept : ℕ → List 
         ]
 
     pub dropped_fit : IsFit m t' root
-    dropped_fit = record { live = live_forth m t t' block index v kept w w' h root f.live; defined = defined; linked = linked }
+    dropped_fit = record { live = live_forth m t t' block index v kept w w' h root f.live; chosen = λ x e. f.chosen x (sym (ap (λ z. z.head) (h.rows root (λ i. subst (In block) f.defined.no_successors i))) ∙ e); defined = defined; linked = linked }
 
 pub dropped_keeps : (m : Meaning) (t t' : Tree) (block index v : ℕ) (kept : ℕ → List ℕ) → IsTree t → IsTree t' → IsArgumentDropped t t' block index v kept → length t.operations ≤ length t'.operations → ((root : ℕ) → IsFit m t root → (k : ℕ) → IsInside t root k → In block (successors_of t k) → LeadsWithout m t t' block index (kept k) k) → ((root : ℕ) → IsFit m t root → (k r : ℕ) → IsWithin t root k → In r (regions_of t k) → first_of (layout_of t r) None ≡ Some block → HoldsWithout m t t' block index k) → KeepsRuns m t t'
 dropped_keeps m t t' block index v kept w w' h longer leads holds = record {
   agrees = λ root f l. dropped_agree m t t' block index v kept w w' h root f (leads root f) (holds root f);
+  heads = λ root f l. ap (λ z. z.head) (h.rows root (λ i. subst (In block) f.defined.no_successors i));
   stays = λ root f l. dropped_fit m t t' block index v kept w w' h root f (leads root f) (holds root f);
   grows = longer;
   fewer = λ root lt l. live_back m t t' block index v kept w w' h root l;

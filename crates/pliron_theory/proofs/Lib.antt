@@ -21,6 +21,7 @@ pub mod Renamed
 pub mod ReplacedKeeps
 pub mod Reading
 pub mod Keeping
+pub mod FewerRoots
 pub mod ConstantData
 pub mod MaterialisedKeeps
 pub mod Keys
@@ -29,12 +30,18 @@ pub mod RebranchedStays
 pub mod SplicedAgree
 pub mod SplicedStays
 pub mod JumpsNow
+pub mod Refolded
+pub mod FoldedBranches
 pub mod KnownData
 pub mod FoundRuns
 pub mod KnownRuns
+pub mod Answered
+pub mod AnsweredReads
+pub mod FoldedConstants
 pub mod RewriteLemmas
 pub mod DroppedAgree
 pub mod DroppedStays
 pub mod ShortenedBranches
 pub mod RemovedKeeps
 pub mod EdgesLost
+pub mod ChosenRoots

@@ -1,28 +1,29 @@
 -- A constant that is made, put and used in the place of a value keeps what roots do.
-use Rattle.std.proofs.Common.{◌≡◌, ◌≢◌, ℕ, false, List, ◌∷◌, [], length, map, Some, None, refl, sym, ap, ◌∙◌, arith}
+use Rattle.std.proofs.Common.{◌≡◌, ◌≢◌, ℕ, false, List, ◌∷◌, [], length, map, Some, None, IsSome, refl, sym, ap, ◌∙◌, subst, arith}
 use Rattle.std.proofs.lemmas.List.{get_or-set_other, get_or-set_same}
 use Rattle.pliron_core.specs.declared.attrs.Head.{Head}
 use Rattle.pliron_core.specs.declared.attrs.AttrObj.{AttrObj}
 use Rattle.pliron_core.specs.declared.context.Def.TheVariants.{Result, Argument}
 use Rattle.pliron_core.specs.Lists.{put_before}
 use Rattle.pliron_core.specs.Uses.{replace_target}
-use Rattle.pliron_core.specs.Tree.{Tree, IsBlock, row_of, operands_of, parent_of, body_of, definition_of}
+use Rattle.pliron_core.specs.Tree.{Tree, In, IsBlock, IsLive, row_of, operands_of, parent_of, body_of, definition_of}
 use Rattle.pliron_core.specs.Joined.{IsTree}
 use Rattle.pliron_core.specs.Writes.{created, placed, put_first, put_next_to, replaced}
 use Rattle.pliron_core.proofs.BesideLemmas.{IsBeside, created_beside}
 use Rattle.pliron_core.proofs.HoldingLemmas.{some_is, past_live}
 use Rattle.pliron_core.proofs.TreeLemmas.{block-within}
 use Rattle.pliron_core.proofs.UsedLemmas.{get_map}
-use Rattle.pliron_laws.specs.Datum.{Empty, datum_of, Meaning, Give}
+use Rattle.pliron_laws.specs.Datum.{Datum, Empty, datum_of, Meaning, Give}
 use Rattle.pliron_laws.specs.Tree.{Operation, op_at, shape_of}
 use Rattle.pliron_laws.specs.Folding.{MakesConstant}
 use Rattle.pliron_laws.specs.Root.{defining_block}
-use Rattle.pliron_theory.specs.Keeps.{KeepsRuns}
-use Rattle.pliron_theory.specs.Renaming.{GivesConstant}
+use Rattle.pliron_theory.specs.Keeps.{IsFit, KeepsRuns}
+use Rattle.pliron_theory.specs.Renaming.{GivesConstant, MayUse, IsReadAs}
 use Rattle.pliron_theory.specs.Rewrites.{IsConstant}
 use Rattle.pliron_laws.proofs.Records.{op_shows}
 use Rattle.pliron_theory.proofs.ConstantKeeps.{shape_plain, row, no_operands, no_successors, range_of, before_well, first_well}
-use Rattle.pliron_theory.proofs.ConstantData.{put_constant_keeps}
+use Rattle.pliron_theory.proofs.ConstantData.{put_constant_keeps, put_constant_reads}
+use Rattle.pliron_theory.proofs.Keeping.{keeps_trans}
 use Rattle.pliron_theory.proofs.PutUses.{IsPut, may_use_before, may_use_first}
 
 module _ (m : Meaning) (t : Tree) (head : Head) (attr : AttrObj) (w : IsTree t) (makes : MakesConstant m attr head) (plain : m.is_branch head ≡ false) where
@@ -54,7 +55,7 @@ module _ (m : Meaning) (t : Tree) (head : Head) (attr : AttrObj) (w : IsTree t) 
       parent = get_or-set_same made.parents n (Some block) None beside.place;
     }
 
-    gives : (old : ℕ) → GivesConstant m (replaced u old v) n v (datum_of attr)
+    pub gives : (old : ℕ) → GivesConstant m (replaced u old v) n v (datum_of attr)
     gives old = record { results = is_put.results; operands = none; regions = is_put.regions; gives = given }
       where
         none : operands_of (replaced u old v) n ≡ []
@@ -74,24 +75,43 @@ module _ (m : Meaning) (t : Tree) (head : Head) (attr : AttrObj) (w : IsTree t) 
   body_first block = length t.operations ∷ body_of t block
 
   -- before the operation whose result the value is
-  pub result_keeps : (at block old j : ℕ) → parent_of t at ≡ Some block → definition_of t old ≡ Some (Result at j) → IsConstant m t old attr → IsTree (put_next_to made n at (Some block)) → IsTree (replaced (put_next_to made n at (Some block)) old v) → KeepsRuns m t (replaced (put_next_to made n at (Some block)) old v)
-  result_keeps at block old j standing def reads wu wv =
-      let x = before_well m t head attr w makes plain at block standing wu in
-      put_constant_keeps m t (u block (body_before at block)) old v n (datum_of attr) x.0 wu wv (gives block (body_before at block) old)
-      (may_use_before m (u block (body_before at block)) wu n v block old (is_put block (body_before at block)) home at j (body_of t block) new_def here)
-      (λ root f. x.1 root f old (datum_of attr) (reads root f))
-    where
-      new_def : definition_of (u block (body_before at block)) old ≡ Some (Result at j)
-      new_def = beside.definitions old (Result at j) def
+  module _ (at block old j : ℕ) (standing : parent_of t at ≡ Some block) (def : definition_of t old ≡ Some (Result at j)) where
+    pub result_uses : IsTree (u block (body_before at block)) → (root : ℕ) → IsFit m (u block (body_before at block)) root → (user : ℕ) → In old (operands_of (u block (body_before at block)) user) → MayUse (u block (body_before at block)) root user v
+    result_uses wu = may_use_before m (u block (body_before at block)) wu n v block old (is_put block (body_before at block)) home at j (body_of t block) new_def here
+      where
+        new_def : definition_of (u block (body_before at block)) old ≡ Some (Result at j)
+        new_def = beside.definitions old (Result at j) def
 
-      other : at ≢ n
-      other e = let lt = past_live t at (w.joined.standing at block standing).0 in omega (arith, lt, e)
+        other : at ≢ n
+        other e = let lt = past_live t at (w.joined.standing at block standing).0 in omega (arith, lt, e)
 
-      home : defining_block (u block (body_before at block)) (definition_of (u block (body_before at block)) old) ≡ Some block
-      home = ap (defining_block (u block (body_before at block))) new_def ∙ get_or-set_other made.parents n at (Some block) None other ∙ beside.parents at other ∙ standing
+        home : defining_block (u block (body_before at block)) (definition_of (u block (body_before at block)) old) ≡ Some block
+        home = ap (defining_block (u block (body_before at block))) new_def ∙ get_or-set_other made.parents n at (Some block) None other ∙ beside.parents at other ∙ standing
 
-      here : body_of (u block (body_before at block)) block ≡ body_before at block
-      here = get_or-set_same made.bodies block (body_before at block) [] (range_of m t head attr w makes plain block at (w.bodies.listed at block standing))
+        here : body_of (u block (body_before at block)) block ≡ body_before at block
+        here = get_or-set_same made.bodies block (body_before at block) [] (range_of m t head attr w makes plain block at (w.bodies.listed at block standing))
+
+    pub result_keeps : IsConstant m t old attr → IsTree (put_next_to made n at (Some block)) → IsTree (replaced (put_next_to made n at (Some block)) old v) → KeepsRuns m t (replaced (put_next_to made n at (Some block)) old v)
+    result_keeps reads wu wv =
+        let x = before_well m t head attr w makes plain at block standing wu in
+        put_constant_keeps m t (u block (body_before at block)) old v n (datum_of attr) x.0 wu wv (gives block (body_before at block) old) (result_uses wu) (λ root f l. x.1 root f old (datum_of attr) (reads root f))
+
+    -- in a tree that came from another one, whose roots read the value as the constant
+    pub result_keeps_on : (t₀ : Tree) → KeepsRuns m t₀ t → ((root : ℕ) → IsFit m t₀ root → IsLive t root → IsReadAs m t old (datum_of attr) root) → IsTree (put_next_to made n at (Some block)) → IsTree (replaced (put_next_to made n at (Some block)) old v) → KeepsRuns m t₀ (replaced (put_next_to made n at (Some block)) old v) × ((root : ℕ) → IsFit m t₀ root → IsLive t root → (x : ℕ) (d : Datum) → x ≢ v → IsReadAs m t x d root → IsReadAs m (replaced (put_next_to made n at (Some block)) old v) x d root)
+    result_keeps_on t₀ keeps reads wu wv =
+        let x = before_well m t head attr w makes plain at block standing wu in
+        let there = keeps_trans m t₀ t (u block (body_before at block)) keeps x.0 in (
+          put_constant_keeps m t₀ (u block (body_before at block)) old v n (datum_of attr) there wu wv (gives block (body_before at block) old) (result_uses wu) (λ root f l. let old_l = before root f l in x.1 root (keeps.stays root f old_l) old (datum_of attr) (reads root f old_l)),
+          λ root f l y d ne known.
+              let fu = keeps.stays root f l in
+              put_constant_reads m t (u block (body_before at block)) old v n (datum_of attr) x.0 wu wv (gives block (body_before at block) old) (result_uses wu) root fu (x.0.stays root fu (forth root fu)).live (x.1 root fu old (datum_of attr) (reads root f l)) y d ne (x.1 root fu y d known),
+        )
+      where
+        before : (root : ℕ) → IsFit m t₀ root → IsLive (u block (body_before at block)) root → IsLive t root
+        before root f l = (before_well m t head attr w makes plain at block standing wu).0.fewer root (let g = keeps.grows in let lt = past_live t₀ root f.live in omega (arith, g, lt)) l
+
+        forth : (root : ℕ) → IsFit m t root → IsLive (u block (body_before at block)) root
+        forth root f = subst (λ z. IsSome z.head) (sym (beside.operations root (λ e. let lt = past_live t root f.live in omega (arith, lt, e)))) f.live
 
   -- first in the block whose argument the value is
   pub argument_keeps : (block old j : ℕ) → IsBlock t block → definition_of t old ≡ Some (Argument block j) → IsConstant m t old attr → IsTree (put_first made n block) → IsTree (replaced (put_first made n block) old v) → KeepsRuns m t (replaced (put_first made n block) old v)
@@ -99,7 +119,7 @@ module _ (m : Meaning) (t : Tree) (head : Head) (attr : AttrObj) (w : IsTree t) 
       let x = first_well m t head attr w makes plain block standing wu in
       put_constant_keeps m t (u block (body_first block)) old v n (datum_of attr) x.0 wu wv (gives block (body_first block) old)
       (may_use_first m (u block (body_first block)) wu n v block old (is_put block (body_first block)) (ap (defining_block (u block (body_first block))) new_def) j (body_of t block) new_def here)
-      (λ root f. x.1 root f old (datum_of attr) (reads root f))
+      (λ root f l. x.1 root f old (datum_of attr) (reads root f))
     where
       new_def : definition_of (u block (body_first block)) old ≡ Some (Argument block j)
       new_def = beside.definitions old (Argument block j) def

@@ -34,6 +34,7 @@ module _ (m : Meaning) (t t' : Tree) (dead : ℕ → Bool) (w : IsTree t) (w' : 
     agrees = λ root f l.
         let f' = fit root f in
         agree_sym (swept_agree m t t' dead no_block_dead w w' h root f'.linked.edges f'.defined (λ k b i d e q. gives k d) (old root (past_live t' root f.live)) f'.live);
+    heads = λ root f l. sym (ap (λ z. z.head) (h.rows root (old root (past_live t' root f.live))));
     stays = λ root f l. fit root f;
     grows = longer;
     fewer = λ root lt l. subst (λ z. IsSome z.head) (sym (h.rows root (old root lt))) l;

@@ -202,4 +202,4 @@ module _ (m : Meaning) (t t' : Tree) (dead : ℕ → Bool) (w : IsTree t) (w' : 
       admit k i false lk = admitted_same m t' t k (sym (ap (λ z. z.head) (h.rows k lk))) (sym (ap length (h.operands k lk))) (sym (ap (λ z. length z.results) (h.rows k lk))) (sym (ap length (h.successors k lk))) (sym (ap (λ z. length z.regions) (h.rows k lk))) (f.linked.admitted k (within_forth t t' dead no_block_dead w w' h root k lk i).0)
 
   pub put_fit : IsFit m t root
-  put_fit = record { live = subst (λ z. IsSome z.head) (h.rows root left) f.live; defined = defined; linked = linked }
+  put_fit = record { live = subst (λ z. IsSome z.head) (h.rows root left) f.live; chosen = λ x e. f.chosen x (ap (λ z. z.head) (h.rows root left) ∙ e); defined = defined; linked = linked }

@@ -399,11 +399,12 @@ module _ (m : Meaning) (t t' : Tree) (a op new : ℕ) (front : List ℕ) (w : Is
         ]
 
     pub rebranched_fit : IsFit m t' root
-    rebranched_fit = record { live = subst (λ z. IsSome z.head) (sym (h.rows root left (old_op root f.live))) f.live; defined = defined; linked = linked }
+    rebranched_fit = record { live = subst (λ z. IsSome z.head) (sym (h.rows root left (old_op root f.live))) f.live; chosen = λ x e. f.chosen x (sym (ap (λ z. z.head) (h.rows root left (old_op root f.live))) ∙ e); defined = defined; linked = linked }
 
 pub rebranched_keeps : (m : Meaning) (t t' : Tree) (a op new : ℕ) (front : List ℕ) → IsTree t → IsTree t' → IsRebranched t t' a op new front → length t.operations ≤ length t'.operations → length t.operations ≤ new → ((root : ℕ) → IsFit m t root → IsInside t root op → FitsInPlace m t' new) → ((root : ℕ) → IsFit m t root → ActsInPlace m t t' root op new) → KeepsRuns m t t'
 rebranched_keeps m t t' a op new front w w' h longer made fits alike = record {
   agrees = λ root f l. rebranched_agree m t t' a op new front w w' h root f (alike root f) (live_new m t t' a op new front w w' h root l);
+  heads = λ root f l. ap (λ z. z.head) (h.rows root (live_new m t t' a op new front w w' h root l) (live_old m t t' a op new front w w' h root f.live));
   stays = λ root f l. rebranched_fit m t t' a op new front w w' h root f (live_new m t t' a op new front w w' h root l) (fits root f);
   grows = longer;
   fewer = λ root lt l. subst (λ z. IsSome z.head) (h.rows root (live_new m t t' a op new front w w' h root l) (λ s. not_made root s lt)) l;

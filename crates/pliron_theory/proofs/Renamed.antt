@@ -10,7 +10,7 @@ use Rattle.pliron_core.specs.Reads.{has_ssa_at, ssa_in}
 use Rattle.pliron_core.proofs.HoldingLemmas.{some_is, some_of, inside_alike, within_alike}
 use Rattle.pliron_laws.specs.Datum.{Datum, Empty, Head, Meaning}
 use Rattle.pliron_laws.specs.Tree.{Operation, Block, op_at, block_with, block_at, region_with, region_at, entry_of, and_block, entry_block, count_arguments, shape_of}
-use Rattle.pliron_laws.specs.States.{Environment, bind, put_first, data_of}
+use Rattle.pliron_laws.specs.States.{Environment, State, bind, put_first, data_of}
 use Rattle.pliron_laws.specs.Machine.{entry_in, block_in}
 use Rattle.pliron_laws.specs.Agree.{Agree}
 use Rattle.pliron_laws.specs.Acting.{PassesSame, JumpsSame}
@@ -22,7 +22,7 @@ use Rattle.pliron_theory.specs.Renaming.{IsRenamed, MayUse, IsReached, HaveSameD
 use Rattle.pliron_theory.proofs.Lockstep.{EnvsTied}
 use Rattle.pliron_laws.proofs.Records.{op_shows, operation_of, make_op, no_op}
 use Rattle.pliron_theory.proofs.Alike.{alike_refl, shape_same, SameBut, bind_same}
-use Rattle.pliron_theory.proofs.Substitute.{placed, Comparison, Begun, Starts, Enters, Substitutes, FirstAlike, Reads, substituted_agree}
+use Rattle.pliron_theory.proofs.Substitute.{placed, Comparison, Begun, Starts, Enters, Substitutes, FirstAlike, Reads, Skips, BeginsAlike, substituted_agree, substituted_back}
 use Rattle.pliron_theory.proofs.SweptStays.{admitted_same}
 use Rattle.pliron_theory.proofs.Reached.{reached_kept, reached_start}
 
@@ -207,7 +207,7 @@ module _ (t t' : Tree) (rename : ℕ → ℕ) (h : IsRenamed t t' rename) where
         }
 
     pub renamed_fit : IsFit m t' root
-    renamed_fit = record { live = subst (λ z. IsSome z.head) (sym (h.rows root)) f.live; defined = defined; linked = linked }
+    renamed_fit = record { live = subst (λ z. IsSome z.head) (sym (h.rows root)) f.live; chosen = λ x e. f.chosen x (sym (ap (λ z. z.head) (h.rows root)) ∙ e); defined = defined; linked = linked }
 
   -- it does the same
 
@@ -266,34 +266,47 @@ module _ (t t' : Tree) (rename : ℕ → ℕ) (h : IsRenamed t t' rename) where
   data_renamed env env' [] f = refl
   data_renamed env env' (v ∷ vs) f = ap₂ put_first (f v (inl refl)) (data_renamed env env' vs (λ w i. f w (inr i)))
 
-  pub renamed_agree : (m : Meaning) (root : ℕ) → IsLive t root → HaveSameData m t t' rename root → Agree m t t' root
-  renamed_agree m root live same =
-      substituted_agree m t t' comparison (substitutes m) (IsReached m t root) (IsReached m t' root) reads (λ s s' i r k rest l e q. grind arith) root (reached_kept m t root) (reached_kept m t' root) (record {
-        stays = refl;
-        same = refl;
-        own = tt;
-        empty = λ v g. refl;
-        alike = λ inputs. begun inputs;
-        left = λ inputs world. reached_start m t root inputs world;
-        right = λ inputs world. reached_start m t' root inputs world;
-      })
-    where
-      reads : Reads m t t' comparison (IsReached m t root) (IsReached m t' root)
-      reads s s' i j r k rest o o' e none l oe oe' =
-          let f = same_op k o o' oe oe' in
-          first_alike m k o o' (shape_renamed m o ∙ ap (shape_of m t') f) (data_of s.environment o.operands) (data_of s'.environment o'.operands)
-          (data_renamed s.environment s'.environment o.operands (λ v q. same s s' k v rest i j (λ x. r.environment x refl) e (r.place.0 ∙ sym (placed_same s.rest) ∙ e) none (sym r.answer ∙ none) (subst (In v) (sym (op_shows t k o oe).operands) q) ∙ r.environment (rename v) refl) ∙ ap (λ z. data_of s'.environment z.operands) f)
+  module _ (m : Meaning) (root : ℕ) (live : IsLive t root) (same : HaveSameData m t t' rename root) where
+    reads : Reads m t t' comparison (IsReached m t root) (IsReached m t' root)
+    reads s s' i j r k rest o o' e none l oe oe' =
+        let f = same_op k o o' oe oe' in
+        first_alike m k o o' (shape_renamed m o ∙ ap (shape_of m t') f) (data_of s.environment o.operands) (data_of s'.environment o'.operands)
+        (data_renamed s.environment s'.environment o.operands (λ v q. same s s' k v rest i j (λ x. r.environment x refl) e (r.place.0 ∙ sym (placed_same s.rest) ∙ e) none (sym r.answer ∙ none) (subst (In v) (sym (op_shows t k o oe).operands) q) ∙ r.environment (rename v) refl) ∙ ap (λ z. data_of s'.environment z.operands) f)
 
-      begun : (inputs : List Datum) → Begun m t t' comparison root Empty inputs
-      begun inputs =
-          let x = some_of (head_of t root) live in
-          let o = operation_of t root x.0 in
-          let oe = make_op t root x.0 x.1 in
-          Starts o (record o { operands = map rename o.operands }) oe (op_renamed root o oe) (alike_refl m.act _ _ inputs inputs (shape_renamed m o) refl) refl
+    skips : Skips m t t' comparison (IsReached m t root)
+    skips s s' i r k rest l e q = grind arith
+
+    begun : (inputs : List Datum) → Begun m t t' comparison root Empty inputs
+    begun inputs =
+        let x = some_of (head_of t root) live in
+        let o = operation_of t root x.0 in
+        let oe = make_op t root x.0 x.1 in
+        Starts o (record o { operands = map rename o.operands }) oe (op_renamed root o oe) (alike_refl m.act _ _ inputs inputs (shape_renamed m o) refl) refl
+
+    begins : BeginsAlike m t t' comparison (substitutes m) (IsReached m t root) (IsReached m t' root) reads skips root
+    begins = record {
+      stays = refl;
+      same = refl;
+      own = tt;
+      empty = λ v g. refl;
+      alike = λ inputs. begun inputs;
+      left = λ inputs world. reached_start m t root inputs world;
+      right = λ inputs world. reached_start m t' root inputs world;
+    }
+
+    pub renamed_agree : Agree m t t' root
+    renamed_agree = substituted_agree m t t' comparison (substitutes m) (IsReached m t root) (IsReached m t' root) reads skips root (reached_kept m t root) (reached_kept m t' root) begins
+
+    -- a state of a run after it has its like before
+    pub renamed_back : (s' : State) → IsReached m t' root s' → (k : ℕ) (rest : List ℕ) → s'.rest ≡ k ∷ rest → s'.answer ≡ None → (s : State) × IsReached m t root s × (s.rest ≡ k ∷ rest) × (s.answer ≡ None) × ((v : ℕ) → s.environment v ≡ s'.environment v)
+    renamed_back s' r k rest e none =
+        let x = substituted_back m t t' comparison (substitutes m) (IsReached m t root) (IsReached m t' root) reads skips root (reached_kept m t root) (reached_kept m t' root) begins s' r in
+        (x.0, x.1, placed_same x.0.rest ∙ sym x.2.place.0 ∙ e, x.2.answer ∙ none, λ v. x.2.environment v refl)
 
 pub renamed_keeps : (m : Meaning) (t t' : Tree) (rename : ℕ → ℕ) → IsRenamed t t' rename → length t.operations ≡ length t'.operations → ((root : ℕ) → IsFit m t root → (user v : ℕ) → In v (operands_of t user) → MayUse t root user (rename v)) → ((root : ℕ) → IsFit m t root → IsFit m t' root → HaveSameData m t t' rename root) → KeepsRuns m t t'
 renamed_keeps m t t' rename h long uses same = record {
   agrees = λ root f l. renamed_agree t t' rename h m root f.live (same root f (renamed_fit t t' rename h m root f (uses root f)));
+  heads = λ root f l. ap (λ z. z.head) (h.rows root);
   stays = λ root f l. renamed_fit t t' rename h m root f (uses root f);
   grows = omega (arith, long);
   fewer = λ root lt l. subst (λ z. IsSome z.head) (h.rows root) l;

@@ -50,7 +50,7 @@ unfolding Matches
 matches f g R left k zero s s' r = (zero, ap Reached (sym (k.effects s s' r)))
 matches f g R left k (suc n) s s' r = matches_suc f g R left k n (matches f g R left k n) (suc (left s s')) s s' (omega arith) r
 
-other_way : (f g : State → Next) (R : State → State → Type 0) (left : State → State → ℕ) → KeepPace f g R left → KeepPace g f (λ s s'. R s' s) (λ s s'. left s' s)
+pub other_way : (f g : State → Next) (R : State → State → Type 0) (left : State → State → ℕ) → KeepPace f g R left → KeepPace g f (λ s s'. R s' s) (λ s s'. left s' s)
 other_way f g R left k = record {
   effects = λ s s' r. sym (k.effects s' s r);
   pace = λ s s' r. turned s s' (k.pace s' s r);

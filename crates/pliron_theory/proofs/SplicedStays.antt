@@ -470,11 +470,12 @@ module _ (m : Meaning) (t t' : Tree) (a b jump : ℕ) (front : List ℕ) (w : Is
             }
 
     pub spliced_fit : IsFit m t' root
-    spliced_fit = record { live = subst (λ z. IsSome z.head) (sym (h.rows root left)) f.live; defined = defined; linked = linked }
+    spliced_fit = record { live = subst (λ z. IsSome z.head) (sym (h.rows root left)) f.live; chosen = λ x e. f.chosen x (sym (ap (λ z. z.head) (h.rows root left)) ∙ e); defined = defined; linked = linked }
 
 pub spliced_keeps : (m : Meaning) (t t' : Tree) (a b jump : ℕ) (front : List ℕ) → IsTree t → IsTree t' → IsSpliced t t' a b jump front → length t.operations ≤ length t'.operations → ((root : ℕ) → IsFit m t root → IsInside t root jump → JumpsNow m t jump b) → KeepsRuns m t t'
 spliced_keeps m t t' a b jump front w w' h longer jumps = record {
   agrees = λ root f l. spliced_agree m t t' a b jump front w w' h root f.linked.edges f.defined (jumps root f) (not_jump root l) f.live;
+  heads = λ root f l. ap (λ z. z.head) (h.rows root (not_jump root l));
   stays = λ root f l. spliced_fit m t t' a b jump front w w' h root f (not_jump root l);
   grows = longer;
   fewer = λ root lt l. subst (λ z. IsSome z.head) (h.rows root (not_jump root l)) l;

@@ -1,5 +1,5 @@
 -- Leaving operations and blocks away keeps what roots do.
-use Rattle.std.proofs.Common.{◌≡◌, ℕ, ◌≤◌, Bool, false, true≢false, List, length, Option, Some, None, IsSome, IsTrue, refl, sym, ◌∙◌, subst}
+use Rattle.std.proofs.Common.{◌≡◌, ℕ, ◌≤◌, Bool, false, true≢false, List, length, Option, Some, None, IsSome, IsTrue, refl, sym, ap, ◌∙◌, subst}
 use Rattle.std.proofs.lemmas.List.{length-map}
 use Rattle.pliron_core.specs.declared.context.Def.{Def}
 use Rattle.pliron_core.specs.declared.context.Def.TheVariants.{Result, Argument}
@@ -22,6 +22,7 @@ use Rattle.pliron_theory.proofs.SweptAgree.{swept_agree}
 pub swept_keeps : (m : Meaning) (t t' : Tree) (dead dead_block : ℕ → Bool) → IsTree t → IsTree t' → IsSwept t t' dead dead_block → AreGone t' dead dead_block → length t.operations ≤ length t'.operations → ((root : ℕ) → IsFit m t root → DeadGive m t dead dead_block root) → KeepsRuns m t t'
 swept_keeps m t t' dead dead_block w w' h g longer gives = record {
   agrees = λ root f l. swept_agree m t t' dead dead_block w w' h root f.linked.edges f.defined (gives root f) (lives t' dead dead_block w' g root l) f.live;
+  heads = λ root f l. ap (λ z. z.head) (h.rows root (lives t' dead dead_block w' g root l));
   stays = λ root f l. swept_fit m t t' dead dead_block w w' h (gone_away t' dead dead_block w' g) root f (lives t' dead dead_block w' g root l);
   grows = longer;
   fewer = λ root lt l. subst (λ z. IsSome z.head) (h.rows root (lives t' dead dead_block w' g root l)) l;

@@ -229,4 +229,4 @@ module _ (m : Meaning) (t t' : Tree) (dead dead_block : ℕ → Bool) (w : IsTre
           }
 
   pub swept_fit : IsFit m t' root
-  swept_fit = record { live = subst (λ z. IsSome z.head) (sym (h.rows root left)) f.live; defined = defined; linked = linked }
+  swept_fit = record { live = subst (λ z. IsSome z.head) (sym (h.rows root left)) f.live; chosen = λ x e. f.chosen x (sym (ap (λ z. z.head) (h.rows root left)) ∙ e); defined = defined; linked = linked }

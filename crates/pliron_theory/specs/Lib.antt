@@ -5,6 +5,10 @@ pub mod Knowing
 pub mod Finding
 pub mod RunLaws
 pub mod Rebranching
+pub mod Answered
+pub mod Refolded
+pub mod Folded
 pub mod Splicing
 pub mod Rewrites
 pub mod Dropping
+pub mod ChosenRoots

@@ -1,5 +1,5 @@
 -- The main statements on runs.
-use Rattle.std.specs.Prelude.{◌≡◌, ◌≤◌, ℕ, Bool, true, false, List, [], ◌∷◌, Option, Some, None, length, slice_get}
+use Rattle.std.specs.Prelude.{◌≡◌, ◌≤◌, ℕ, Bool, true, false, List, [], ◌∷◌, Option, Some, None, length, slice_get, IsTrue}
 use Rattle.pliron_core.specs.declared.attrs.Head.{Head}
 use Rattle.pliron_core.specs.declared.attrs.AttrObj.{AttrObj}
 use Rattle.pliron_core.specs.declared.uses.Use.{Use}
@@ -13,7 +13,7 @@ use Rattle.pliron_laws.specs.States.{State}
 use Rattle.pliron_laws.specs.Laws.{KeepsCounts, GivesAtOnce}
 use Rattle.pliron_laws.specs.Folding.{MakesConstant}
 use Rattle.pliron_laws.specs.Answers.{HeadPasses, ReadsPlace}
-use Rattle.pliron_theory.specs.Keeps.{IsFit, KeepsRuns}
+use Rattle.pliron_theory.specs.Keeps.{IsFit, KeepsRuns, with_roots}
 use Rattle.pliron_theory.specs.Sweeping.{IsSwept, AreGone, AreAway, ArePut, GivesNow, DeadGive}
 use Rattle.pliron_theory.specs.Splicing.{IsSpliced, JumpsNow}
 use Rattle.pliron_theory.specs.Rebranching.{IsRebranched, ActsInPlace, FitsInPlace}
@@ -25,6 +25,10 @@ pub record KeepingLaws : Type 0 where
   pub reflexive : (m : Meaning) (t : Tree) → KeepsRuns m t t
   pub transitive : (m : Meaning) (t u v : Tree) → KeepsRuns m t u → KeepsRuns m u v → KeepsRuns m t v
   pub same : (m : Meaning) (t u : Tree) → IsTree t → IsTree u → IsSameTree t u → length t.operations ≤ length u.operations → KeepsRuns m t u
+
+-- what keeps the runs of roots keeps those of roots with fewer heads
+abbrev pub FewerRootsLaw : Type 0
+FewerRootsLaw = (m : Meaning) (fewer : Head → Bool) (t u : Tree) → ((h : Head) → IsTrue (fewer h) → IsTrue (m.may_be_root h)) → KeepsRuns m t u → KeepsRuns (with_roots m fewer) t u
 
 -- in a root that is fit to run, each operand has a datum when an operation first reads it
 abbrev pub OperandsHaveData : Type 0

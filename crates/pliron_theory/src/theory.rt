@@ -1,15 +1,32 @@
 //! The theory of runs, as calls that do nothing when they run: each contract is a law, for every
 //! dialect that keeps the laws which it names.
+ghost use Rattle.pliron_theory.specs.Answered.{AnsweredLaw};
+ghost use Rattle.pliron_theory.specs.Refolded.{RefoldingLaw};
+ghost use Rattle.pliron_theory.specs.Folded.{BranchFoldsLaw, ConstantFoldsLaw};
+ghost use Rattle.pliron_theory.specs.ChosenRoots.{ChosenRootsLaw};
 ghost use Rattle.pliron_theory.specs.Finding.{FindingsLaw};
 ghost use Rattle.pliron_theory.specs.Knowing.{FactsLaw};
 ghost use Rattle.pliron_laws.specs.LinkLaws.{FoldsKeepLinks};
-ghost use Rattle.pliron_theory.specs.RunLaws.{KeepingLaws, OperandsHaveData, SweepingLaws, MakingLaws, RenamingLaws, SplicingLaw, OneEdgeLaw, RebranchingLaw, DroppingLaw, RemovingLaw};
+ghost use Rattle.pliron_theory.specs.RunLaws.{KeepingLaws, FewerRootsLaw, OperandsHaveData, SweepingLaws, MakingLaws, RenamingLaws, SplicingLaw, OneEdgeLaw, RebranchingLaw, DroppingLaw, RemovingLaw};
 
 use pliron_laws::Dialect;
 
 /// "Runs are kept" is reflexive and transitive, and spent keys are nothing to it.
 pub fn runs_kept()
     ensures { KeepingLaws }
+{}
+
+/// What keeps the runs of roots keeps those of roots with fewer heads. A dialect's meaning says which
+/// heads may be those of roots; where a rewrite is right for some of them alone, its promise is about the
+/// same meaning with these heads, and other promises are brought there by this law.
+pub fn fewer_roots_kept()
+    ensures { FewerRootsLaw }
+{}
+
+/// The laws of a dialect on runs, those of the calls below that name it, hold whatever heads are chosen
+/// to be those of roots.
+pub fn roots_may_be_chosen<D: Dialect>()
+    ensures { ChosenRootsLaw D.meaning D.can_fold D.can_fold_branch D.constants D.feasible D.shortened D.removable D.ConstFoldInterface.outcome D.BranchOpFoldInterface.outcome }
 {}
 
 /// In a root that is fit to run, each operand has a datum when an operation first reads it.
@@ -60,6 +77,28 @@ pub fn one_edge_is_taken<D: Dialect>()
 /// A branch may stand in the place of another one that it acts alike with.
 pub fn branches_are_replaced()
     ensures { RebranchingLaw }
+{}
+
+/// A constant that folding answers for a result with no operand known is what every run reads.
+pub fn answers_are_read<D: Dialect>()
+    ensures { AnsweredLaw D.meaning D.can_fold D.constants }
+{}
+
+/// A branch may be folded by constants that every run reads of its operands.
+pub fn branches_are_refolded()
+    ensures { RefoldingLaw }
+{}
+
+/// Each outcome of a dialect's fold by constants in place keeps runs, also after a refusal, where the
+/// handed constants are what every run reads of the operands.
+pub fn constant_folds_keep_runs<D: Dialect>()
+    ensures { ConstantFoldsLaw D.meaning D.can_fold D.ConstFoldInterface.outcome }
+{}
+
+/// Each outcome of a dialect's fold of a branch in place keeps runs, also after a refusal, where the
+/// handed constants are what every run reads of its operands.
+pub fn branch_folds_keep_runs<D: Dialect>()
+    ensures { BranchFoldsLaw D.meaning D.can_fold_branch D.BranchOpFoldInterface.outcome }
 {}
 
 /// An argument of a block may go with the operands that are forwarded to it, where nothing else uses
