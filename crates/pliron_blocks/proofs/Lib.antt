@@ -1,0 +1,15 @@
+pub mod ListLemmas
+pub mod Bindings
+pub mod Ways
+pub mod ForwardedUses
+pub mod ForwardedData
+pub mod ForwardedKeeps
+pub mod PairEdges
+pub mod NoNewPairs
+pub mod CutBlocks
+pub mod LeftBlocks
+pub mod CutLinks
+pub mod MovedBodies
+pub mod JoinedPairs
+pub mod JoinedReach
+pub mod JoinedLinks
