@@ -1,11 +1,11 @@
 -- Erasing blocks one after the other.
-use Rattle.std.proofs.Common.{◌≡◌, inl, inr, ⊎_elim, ℕ, Bool, true, false, true≢false, nat_eq, if◌then◌else◌, List, [], ◌∷◌, length, get_or, Option, Some, None, is_some, slice_get, slice_set, refl, sym, ap, ◌∙◌, subst}
+use Rattle.std.proofs.Common.{◌≡◌, ◌⊎◌, inl, inr, ⊎_elim, ℕ, zero, suc, Bool, true, false, true≢false, nat_eq, if◌then◌else◌, List, [], ◌∷◌, length, get_or, Option, Some, None, is_some, slice_get, slice_set, refl, sym, ap, ◌∙◌, subst}
 use Rattle.std.proofs.lemmas.Bool.{cases_eq, eq-eqb, false_from_ne_true}
 use Rattle.std.proofs.lemmas.Bool.Decides.{eqb_tells}
 use Rattle.std.proofs.lemmas.List.{get_or-set_other, length-set}
 use Rattle.pliron_core.specs.Tree.{Tree, In, IsLive, IsRegion, IsInside, IsInside.Directly, IsInside.Deeper, IsWithin, no_entry, head_of, parent_of, block_parent_of, region_parent_of, block_holder_of, holder_of, op_of_slot}
 use Rattle.pliron_core.specs.Joined.{IsTree}
-use Rattle.pliron_core.specs.Erased.{is_met_above, blanked, stands_in, StandsIn, block_emptied, block_taken_from, block_erased}
+use Rattle.pliron_core.specs.Erased.{is_met, is_met_above, blanked, stands_in, StandsIn, block_emptied, block_taken_from, block_erased}
 use Rattle.pliron_core.proofs.TreeLemmas.{live-within}
 use Rattle.pliron_core.proofs.BlankLemmas.{length-blanked, blanked_gone, blanked_kept}
 use Rattle.pliron_core.proofs.ClearingLemmas.{IsClearing, clearing_none, clearing_trans, set_kept}
@@ -43,6 +43,25 @@ one_stands t (c ∷ bs) x e = go (stands_in t c x) refl e (λ f. one_stands t bs
     go : (z : Bool) → stands_in t c x ≡ z → (if z then true else stands_in_one t bs x) ≡ true → (stands_in_one t bs x ≡ true → (b : ℕ) × In b bs × (parent_of t x ≡ Some b)) → (b : ℕ) × In b (c ∷ bs) × (parent_of t x ≡ Some b)
     go true f g again = (c, inl refl, stands_from t c x f)
     go false f g again = let y = again g in (y.0, inr y.1, y.2)
+
+pub nothing_met : (t : Tree) (p : ℕ → Bool) → is_met_above t p None ≡ false
+nothing_met t p = none (length t.operations)
+  where
+    none : (n : ℕ) → is_met (holder_of t) p n None ≡ false
+    none zero = refl
+    none (suc n) = refl
+
+-- a block goes if it is listed or what holds it goes
+pub block_cases : (t : Tree) (bs : List ℕ) (c : ℕ) → cut_block t bs c ≡ true → In c bs ⊎ ((q : ℕ) × (block_holder_of t c ≡ Some q) × (cut_op t bs q ≡ true))
+block_cases t bs c e = go (is_listed bs c) refl e
+  where
+    above : (o : Option ℕ) → block_holder_of t c ≡ o → is_met_above t (stands_in_one t bs) o ≡ true → (q : ℕ) × (block_holder_of t c ≡ Some q) × (cut_op t bs q ≡ true)
+    above None f g = absurd (true≢false (sym g ∙ nothing_met t (stands_in_one t bs)))
+    above (Some q) f g = (q, f, g)
+
+    go : (z : Bool) → is_listed bs c ≡ z → (if z then true else is_met_above t (stands_in_one t bs) (block_holder_of t c)) ≡ true → In c bs ⊎ ((q : ℕ) × (block_holder_of t c ≡ Some q) × (cut_op t bs q ≡ true))
+    go true l g = inl (is_listed_in bs c l)
+    go false l g = inr (above (block_holder_of t c) refl g)
 
 module _ (t : Tree) (w : IsTree t) (region : ℕ) (bs : List ℕ) (own : (b : ℕ) → In b bs → block_parent_of t b ≡ Some region) where
   abbrev ops : ℕ → Bool

@@ -10,11 +10,9 @@ use Rattle.pliron_core.proofs.NeighbourLemmas.{last_of-In}
 use Rattle.pliron_core.proofs.RowLemmas.{last_of-append}
 use Rattle.pliron_core.proofs.HoldingLemmas.{some_is, holder_by}
 use Rattle.pliron_laws.specs.Linked.{EdgesLast}
+use Rattle.pliron_laws.specs.Paths.{Path, Leads}
 use Rattle.pliron_theory.specs.Splicing.{IsSpliced}
-use Rattle.pliron_blocks.specs.Reaching.{IsWay, Leads, ReachingLaw}
-
-last_any : (o : Option ℕ) (x : ℕ) (xs : List ℕ) → last_of o (x ∷ xs) ≡ last_of None (x ∷ xs)
-last_any o x xs = refl
+use Rattle.pliron_blocks.specs.Reaching.{LeadsTo, ReachingLaw}
 
 module _ (t t' : Tree) (holder a b jump : ℕ) (front : List ℕ) (w : IsTree t) (w' : IsTree t') (edges : EdgesLast t holder) (held : block_holder_of t a ≡ Some holder) (h : IsSpliced t t' a b jump front) where
   in_a : parent_of t jump ≡ Some a
@@ -62,6 +60,26 @@ module _ (t t' : Tree) (holder a b jump : ℕ) (front : List ℕ) (w : IsTree t)
       go [] e = ap (λ l. succs_from t' (last_of None l)) (append-nil front) ∙ empty (last_of None front) refl
       go (x ∷ xs) e = ap (succs_from t') (last_of-append None front (x ∷ xs)) ∙ from_same b (λ s. h.apart (sym s)) (last_of None (x ∷ xs)) (ap (last_of None) e)
 
+  only_b : (x : ℕ) → In x (succs_of t a) → x ≡ b
+  only_b x i = ⊎_elim (λ e. e) (λ z. absurd z) (subst (In x) succs_a i)
+
+  -- steps between blocks that are left
+  step_forth : (c v : ℕ) → c ≢ a → c ≢ b → v ≢ b → Leads t c v → Leads t' c v
+  step_forth c v na nb nv l = record { successor = subst (In v) (sym (succs_other c na nb)) l.successor; same_region = h.block_parents v nv ∙ l.same_region ∙ sym (h.block_parents c nb) }
+
+  step_back : (c v : ℕ) → c ≢ a → c ≢ b → v ≢ b → Leads t' c v → Leads t c v
+  step_back c v na nb nv l = record { successor = subst (In v) (succs_other c na nb) l.successor; same_region = sym (h.block_parents v nv) ∙ l.same_region ∙ h.block_parents c nb }
+
+  -- steps from the joined block
+  joined_forth : (v : ℕ) → v ≢ b → Leads t b v → Leads t' a v
+  joined_forth v nv l = record { successor = subst (In v) (sym succs_joined) l.successor; same_region = h.block_parents v nv ∙ l.same_region ∙ h.beside ∙ sym (h.block_parents a h.apart) }
+
+  joined_back : (v : ℕ) → v ≢ b → Leads t' a v → Leads t b v
+  joined_back v nv l = record { successor = subst (In v) succs_joined l.successor; same_region = sym (h.block_parents v nv) ∙ l.same_region ∙ h.block_parents a h.apart ∙ sym h.beside }
+
+  a_to_b : Leads t a b
+  a_to_b = record { successor = subst (In b) (sym succs_a) (inl refl); same_region = h.beside }
+
   -- only a leads to b
   to_b : (c : ℕ) → In b (succs_of t c) → c ≡ a
   to_b c i = go (last_of None (body_of t c)) refl i
@@ -70,41 +88,39 @@ module _ (t t' : Tree) (holder a b jump : ℕ) (front : List ℕ) (w : IsTree t)
       go None e j = absurd j
       go (Some k) e j = some_is (sym (w.bodies.owned k c (last_of-In k (body_of t c) e)) ∙ ap (parent_of t) (h.only k j) ∙ in_a)
 
-  not_b : (c x : ℕ) → c ≢ a → In x (succs_of t c) → x ≢ b
-  not_b c x ne i e = ne (to_b c (subst (λ z. In z (succs_of t c)) e i))
+  -- the block that went leads nowhere
+  gone_leads : (v : ℕ) → In v (succs_of t' b) → ⊥
+  gone_leads v i = subst (λ l. In v (succs_from t' (last_of None l))) (w'.joined.unplaced b h.gone_block).1 i
 
-  forth : (u : ℕ) (xs : List ℕ) (v : ℕ) → u ≢ b → v ≢ b → IsWay t u xs v → Leads t' u v
-  forth u [] v nu nv way = ([], way)
-  forth u (x ∷ []) v nu nv way = ⊎_elim
-      (λ e. absurd (nv (sym way.1 ∙ ⊎_elim (λ s. s) (λ z. absurd z) (subst (In x) (ap (succs_of t) e ∙ succs_a) way.0))))
-      (λ na. (x ∷ [], (subst (In x) (sym (succs_other u na nu)) way.0, way.1)))
-      (cases_eq u a)
-  forth u (x ∷ y ∷ ys) v nu nv way = ⊎_elim
+  forth : (u v : ℕ) (before : List ℕ) → u ≢ b → v ≢ b → Path t u v before → LeadsTo t' u v
+  forth u v [] nu nv p = ([], p)
+  forth u v (c ∷ []) nu nv p = ⊎_elim
+      (λ e. absurd (nv (only_b v (subst (λ z. In v (succs_of t z)) e p.0.successor))))
+      (λ na. (c ∷ [], (step_forth c v na (λ e. nu (p.1 ∙ e)) nv p.0, p.1)))
+      (cases_eq c a)
+  forth u v (c ∷ d ∷ ds) nu nv p = ⊎_elim
       (λ e.
-      let s : x ≡ b = ⊎_elim (λ s. s) (λ z. absurd z) (subst (In x) (ap (succs_of t) e ∙ succs_a) way.0) in
-      let step : In y (succs_of t b) = subst (λ z. In y (succs_of t z)) s way.1.0 in
-      let r = forth y ys v (not_b b y (λ z. h.apart (sym z)) step) nv way.1.1 in
-      (y ∷ r.0, (subst (λ z. In y (succs_of t' z)) (sym e) (subst (In y) (sym succs_joined) step), r.1)))
-      (λ na.
-      let r = forth x (y ∷ ys) v (not_b u x na way.0) nv way.1 in
-      (x ∷ r.0, (subst (In x) (sym (succs_other u na nu)) way.0, r.1)))
-      (cases_eq u a)
+      let s : d ≡ a = to_b d (subst (λ z. In z (succs_of t d)) e p.1.0.successor) in
+      let r = forth u d ds nu (λ z. h.apart (sym s ∙ z)) p.1.1 in
+      (a ∷ r.0, (joined_forth v nv (subst (λ z. Leads t z v) e p.0), subst (λ z. Path t' u z r.0) s r.1)))
+      (λ nb. ⊎_elim
+      (λ e. absurd (nv (only_b v (subst (λ z. In v (succs_of t z)) e p.0.successor))))
+      (λ na. let r = forth u c (d ∷ ds) nu nb p.1 in (c ∷ r.0, (step_forth c v na nb nv p.0, r.1)))
+      (cases_eq c a))
+      (cases_eq c b)
 
-  back : (u : ℕ) (xs : List ℕ) (v : ℕ) → u ≢ b → v ≢ b → IsWay t' u xs v → Leads t u v
-  back u [] v nu nv way = ([], way)
-  back u (x ∷ xs) v nu nv way = ⊎_elim
-      (λ e.
-      let step : In x (succs_of t b) = subst (In x) (ap (succs_of t') e ∙ succs_joined) way.0 in
-      let r = back x xs v (not_b b x (λ z. h.apart (sym z)) step) nv way.1 in
-      (b ∷ x ∷ r.0, (subst (λ z. In b (succs_of t z)) (sym e) (subst (In b) (sym succs_a) (inl refl)), (step, r.1))))
-      (λ na.
-      let step : In x (succs_of t u) = subst (In x) (succs_other u na nu) way.0 in
-      let r = back x xs v (not_b u x na step) nv way.1 in
-      (x ∷ r.0, (step, r.1)))
-      (cases_eq u a)
+  back : (u v : ℕ) (before : List ℕ) → u ≢ b → v ≢ b → Path t' u v before → LeadsTo t u v
+  back u v [] nu nv p = ([], p)
+  back u v (c ∷ before) nu nv p =
+      let nb : c ≢ b = λ e. gone_leads v (subst (λ z. In v (succs_of t' z)) e p.0.successor) in
+      let r = back u c before nu nb p.1 in
+      ⊎_elim
+      (λ e. (b ∷ a ∷ r.0, (joined_back v nv (subst (λ z. Leads t' z v) e p.0), (a_to_b, subst (λ z. Path t u z r.0) e r.1))))
+      (λ na. (c ∷ r.0, (step_back c v na nb nv p.0, r.1)))
+      (cases_eq c a)
 
 pub reaching : ReachingLaw
 reaching t t' holder a b jump front w w' edges held h = record {
-  forth = λ u v nu nv l. forth t t' holder a b jump front w w' edges held h u l.0 v nu nv l.1;
-  back = λ u v nu nv l. back t t' holder a b jump front w w' edges held h u l.0 v nu nv l.1;
+  forth = λ u v nu nv l. forth t t' holder a b jump front w w' edges held h u v l.0 nu nv l.1;
+  back = λ u v nu nv l. back t t' holder a b jump front w w' edges held h u v l.0 nu nv l.1;
 }

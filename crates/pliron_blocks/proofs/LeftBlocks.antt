@@ -1,10 +1,10 @@
 -- The unreachable blocks of a region go in one rewrite.
-use Rattle.std.proofs.Common.{◌≡◌, ◌⊎◌, inl, inr, ⊎_elim, ℕ, zero, suc, Bool, true, false, true≢false, if◌then◌else◌, List, [], ◌∷◌, length, Option, Some, None, refl, sym, ap, ◌∙◌, subst, arith}
+use Rattle.std.proofs.Common.{◌≡◌, inl, inr, ⊎_elim, ℕ, Bool, true, false, true≢false, if◌then◌else◌, List, [], ◌∷◌, length, Some, None, refl, sym, ap, ◌∙◌, subst, arith}
 use Rattle.std.proofs.lemmas.Bool.{false_from_ne_true}
 use Rattle.pliron_core.specs.Tree.{Tree, In, first_of, IsInside.Directly, IsWithin, HoldsBlock, row_of, successors_of, regions_of, parent_of, body_of, arguments_of, block_parent_of, layout_of, region_parent_of, block_holder_of, holder_of, up_from, op_of_slot}
 use Rattle.pliron_core.specs.Joined.{IsTree}
 use Rattle.pliron_core.specs.Edges.{succs_from}
-use Rattle.pliron_core.specs.Erased.{is_met, is_met_above, stands_in, uses_dropped}
+use Rattle.pliron_core.specs.Erased.{is_met_above, stands_in, uses_dropped}
 use Rattle.pliron_core.proofs.TreeLemmas.{live-within}
 use Rattle.pliron_core.proofs.DropLemmas.{IsNamesOnly, names_none, names_trans, names_of_dropped, NamesSame, dropped_kept}
 use Rattle.pliron_core.proofs.NeighbourLemmas.{first_of-In}
@@ -18,14 +18,7 @@ use Rattle.pliron_theory.proofs.SweptKeeps.{swept_keeps}
 use Rattle.pliron_blocks.specs.Cutting.{is_listed, stands_in_one, cut_op, cut_block, ErasesAll, AreCut}
 use Rattle.pliron_blocks.specs.Leaving.{DropsAll, DropsAll.Done, DropsAll.Then, MayGo, GoesWell, LeavingLaw}
 use Rattle.pliron_blocks.proofs.ListLemmas.{rising_same, rising_swept}
-use Rattle.pliron_blocks.proofs.CutBlocks.{or_true, listed, is_listed_in, stands_one, one_stands, cut_all}
-
-pub nothing_met : (t : Tree) (p : ℕ → Bool) → is_met_above t p None ≡ false
-nothing_met t p = none (length t.operations)
-  where
-    none : (n : ℕ) → is_met (holder_of t) p n None ≡ false
-    none zero = refl
-    none (suc n) = refl
+use Rattle.pliron_blocks.proofs.CutBlocks.{or_true, block_cases, listed, stands_one, one_stands, cut_all}
 
 -- dropping changes names alone, and none of what is left
 drops_names : (rest : List ℕ) (t u : Tree) → DropsAll rest t u → IsNamesOnly t u
@@ -83,18 +76,6 @@ module _ (m : Meaning) (t u v : Tree) (holder region : ℕ) (bs : List ℕ) (w :
     layouts = λ r ne e. cut_u.layouts r ne (ap (λ (z : Tree). is_met_above z (stands_in_one z bs) (region_parent_of z r)) names.shape ∙ e) ∙ ap (λ (z : Tree). layout_of z r) names.shape;
   }
 
-  -- a block is dead if it is listed or what holds it is dead
-  block_cases : (c : ℕ) → dead_block c ≡ true → In c bs ⊎ ((q : ℕ) × (block_holder_of t c ≡ Some q) × (dead q ≡ true))
-  block_cases c e = go (is_listed bs c) refl e
-    where
-      above : (o : Option ℕ) → block_holder_of t c ≡ o → is_met_above t (stands_in_one t bs) o ≡ true → (q : ℕ) × (block_holder_of t c ≡ Some q) × (dead q ≡ true)
-      above None f g = absurd (true≢false (sym g ∙ nothing_met t (stands_in_one t bs)))
-      above (Some q) f g = (q, f, g)
-
-      go : (z : Bool) → is_listed bs c ≡ z → (if z then true else is_met_above t (stands_in_one t bs) (block_holder_of t c)) ≡ true → In c bs ⊎ ((q : ℕ) × (block_holder_of t c ≡ Some q) × (dead q ≡ true))
-      go true l g = inl (is_listed_in bs c l)
-      go false l g = inr (above (block_holder_of t c) refl g)
-
   listed_dead : (c : ℕ) → In c bs → dead_block c ≡ true
   listed_dead c i = ap (λ z. if z then true else is_met_above t (stands_in_one t bs) (block_holder_of t c)) (listed bs c i)
 
@@ -128,10 +109,10 @@ module _ (m : Meaning) (t u v : Tree) (holder region : ℕ) (bs : List ℕ) (w :
       ⊎_elim
       (λ j. may.no_entry b (ap (λ z. first_of (layout_of t z) None) (some_is (sym (may.own b j) ∙ in_r)) ∙ e) j)
       (λ y. let s : y.0 ≡ k = some_is (sym y.1 ∙ ap (λ o. up_from o (λ z. region_parent_of t z)) in_r ∙ held_by k r i) in true≢false (sym y.2 ∙ ap dead s ∙ l))
-      (block_cases b d))
+      (block_cases t bs b d))
 
   target_left : (k b : ℕ) → dead k ≡ false → In b (successors_of t k) → dead_block b ≡ false
-  target_left k b l j = false_from_ne_true _ (λ d. ⊎_elim direct_target inner_target (block_cases b d))
+  target_left k b l j = false_from_ne_true _ (λ d. ⊎_elim direct_target inner_target (block_cases t bs b d))
     where
       direct_target : In b bs → ⊥
       direct_target i =
@@ -149,7 +130,7 @@ module _ (m : Meaning) (t u v : Tree) (holder region : ℕ) (bs : List ℕ) (w :
           true≢false (sym (below_dead k y.0 above y.2) ∙ l)
 
   parent_left : (k b : ℕ) → parent_of t k ≡ Some b → dead k ≡ false → dead_block b ≡ false
-  parent_left k b e l = false_from_ne_true _ (λ d. ⊎_elim (λ i. true≢false (sym (direct b k i e) ∙ l)) (λ y. true≢false (sym (below_dead k y.0 (holder_from t k b e ∙ y.1) y.2) ∙ l)) (block_cases b d))
+  parent_left k b e l = false_from_ne_true _ (λ d. ⊎_elim (λ i. true≢false (sym (direct b k i e) ∙ l)) (λ y. true≢false (sym (below_dead k y.0 (holder_from t k b e ∙ y.1) y.2) ∙ l)) (block_cases t bs b d))
 
   -- the blocks of a region that are left
   layout_left : (r : ℕ) → layout_of v r ≡ swept dead_block (layout_of t r)

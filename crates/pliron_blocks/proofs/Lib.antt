@@ -8,8 +8,10 @@ pub mod PairEdges
 pub mod NoNewPairs
 pub mod CutBlocks
 pub mod LeftBlocks
+pub mod StandingLemmas
 pub mod CutLinks
 pub mod MovedBodies
 pub mod JoinedPairs
 pub mod JoinedReach
 pub mod JoinedLinks
+pub mod ReplacedInside

@@ -6,3 +6,4 @@ pub mod Leaving
 pub mod Joining
 pub mod Reaching
 pub mod Links
+pub mod Inside

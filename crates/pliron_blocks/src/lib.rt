@@ -5,6 +5,7 @@
 #![tactic(auto)]
 
 pub mod forwarding;
+pub mod inside;
 pub mod joining;
 pub mod links;
 pub mod pairs;
