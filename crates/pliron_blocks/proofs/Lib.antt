@@ -15,3 +15,5 @@ pub mod JoinedPairs
 pub mod JoinedReach
 pub mod JoinedLinks
 pub mod ReplacedInside
+pub mod RewriteLinks
+pub mod LostLinks
