@@ -17,3 +17,4 @@ pub mod JoinedLinks
 pub mod ReplacedInside
 pub mod RewriteLinks
 pub mod LostLinks
+pub mod RebranchedLinks

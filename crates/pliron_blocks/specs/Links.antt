@@ -7,9 +7,10 @@ use Rattle.pliron_core.specs.Writes.{replaced, argument_removed}
 use Rattle.pliron_core.specs.Erased.{erased, IsSelfContained}
 use Rattle.pliron_laws.specs.Datum.{Head, Shape, Meaning}
 use Rattle.pliron_laws.specs.Answers.{HeadPasses}
-use Rattle.pliron_laws.specs.Linked.{IsWellLinked}
+use Rattle.pliron_laws.specs.Linked.{IsAdmitted, IsWellLinked}
 use Rattle.pliron_theory.specs.Renaming.{IsRenamed}
 use Rattle.pliron_theory.specs.Sweeping.{IsSwept, AreGone}
+use Rattle.pliron_theory.specs.Rebranching.{IsRebranched}
 use Rattle.pliron_theory.specs.Splicing.{IsSpliced}
 use Rattle.pliron_theory.specs.Dropping.{EdgesLose}
 use Rattle.pliron_blocks.specs.Cutting.{AreCut}
@@ -39,6 +40,10 @@ CutLinksLaw = (m : Meaning) (t v : Tree) (region : ℕ) (bs : List ℕ) → IsTr
 -- a block joined the end of its only predecessor
 abbrev pub JoinedLinksLaw : Type 0
 JoinedLinksLaw = (m : Meaning) (t t' : Tree) (a b jump : ℕ) (front : List ℕ) → IsTree t → IsTree t' → IsSpliced t t' a b jump front → KeepsLinks m t t'
+
+-- another branch that the dialect admits stands in the place of a branch
+abbrev pub RebranchedLinksLaw : Type 0
+RebranchedLinksLaw = (m : Meaning) (t t' : Tree) (a op new : ℕ) (front : List ℕ) → IsTree t → IsTree t' → IsRebranched t t' a op new front → IsAdmitted m t' new → KeepsLinks m t t'
 
 -- these edges lead to the block
 abbrev pub LeadThere : Tree → ℕ → List Use → Type 0

@@ -1,5 +1,5 @@
 //! Trees that are well linked at a root, and stay so there, whether the root is fit to run or not.
-ghost use Rattle.pliron_blocks.specs.Links.{RenamedLinksLaw, ReplacedLinksLaw, SweptLinksLaw, ErasedLinksLaw, CutLinksLaw, JoinedLinksLaw, LosingLinks};
+ghost use Rattle.pliron_blocks.specs.Links.{RenamedLinksLaw, ReplacedLinksLaw, SweptLinksLaw, ErasedLinksLaw, CutLinksLaw, JoinedLinksLaw, RebranchedLinksLaw, LosingLinks};
 
 use pliron_laws::Dialect;
 
@@ -24,6 +24,12 @@ pub fn removing_keeps_links()
 /// A tree that is well linked at a root is so after a block joined the end of its only predecessor.
 pub fn joining_keeps_links()
     ensures { JoinedLinksLaw }
+{}
+
+/// A tree that is well linked at a root is so after another branch that the dialect admits took the place
+/// of a branch.
+pub fn replacing_branches_keeps_links()
+    ensures { RebranchedLinksLaw }
 {}
 
 /// A tree that is well linked at a root is so after edges to a block, to which branches alone lead, lost
