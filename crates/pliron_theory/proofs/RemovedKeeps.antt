@@ -73,7 +73,7 @@ map_set f g (y ∷ ys) (suc i) x n e q others = ap₂ (λ a b. a ∷ b) (others 
     down l i r = omega (arith, r)
 
 -- the dialect admits an operation by its shape
-shape_admitted : (m : Meaning) (t : Tree) (k : ℕ) (o : Operation) → op_at t k ≡ Some o → Admitted m (shape_of m t o) → IsAdmitted m t k
+pub shape_admitted : (m : Meaning) (t : Tree) (k : ℕ) (o : Operation) → op_at t k ≡ Some o → Admitted m (shape_of m t o) → IsAdmitted m t k
 unfolding shape_of
 shape_admitted m t k o e a h hd =
     let s = op_shows t k o e in

@@ -1,0 +1,12 @@
+//! The theory of rewrites of blocks: what forwarding, removing and joining keep.
+//!
+//! As in the theory of runs, a call here does nothing when it runs: its contract is a law, for every
+//! dialect that keeps the laws which it names.
+#![tactic(auto)]
+
+pub mod forwarding;
+pub mod inside;
+pub mod joining;
+pub mod links;
+pub mod pairs;
+pub mod removal;
