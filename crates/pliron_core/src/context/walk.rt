@@ -1,7 +1,7 @@
 //! Walks over the operations inside an operation. They take no memory.
-ghost use Rattle.std.specs.Prelude.{◌≡◌, ◌+◌, ℕ, Some, IsTrue, IfSome, ◌↔◌};
+ghost use Rattle.std.specs.Prelude.{◌≡◌, ◌+◌, ℕ, None, Some, IsTrue, IfSome, ◌↔◌};
 ghost use Rattle.std.specs.Option.{ForSome};
-ghost use Rattle.pliron_core.specs.Lists.{next_in};
+ghost use Rattle.pliron_core.specs.Lists.{first_of, next_in};
 ghost use Rattle.pliron_core.specs.Tree.{IsLive, IsBlock, IsRegion, IsInside, IsWithin, slot_of, holder_of};
 ghost use Rattle.pliron_core.specs.Walks.{children, preorder, HasExactContents};
 ghost use Rattle.pliron_core.specs.WalkSteps.{first_in_blocks, first_in_regions, GoesOn};
@@ -117,6 +117,26 @@ impl Ptr<Operation> {
             above = holder.get_parent_op(ctx);
         }
         false
+    }
+
+    /// The first operation directly inside this one, in the order of its regions, their blocks and
+    /// their bodies. The operation stands. Cost: one step for each empty region and block before it.
+    pub fn first_inside(self, ctx: &Context) -> Option<Ptr<Operation>>
+        requires { IsLive ctx.now.tree self }
+        ensures { result ≡ first_of (children ctx.now.tree self) None }
+    {
+        ctx.first_from_region(self.index(), 0)
+            .map(|key| Ptr::new(key))
+    }
+
+    /// The operation after this one among those directly inside the operation that holds both. The
+    /// operation stands. Cost: one step for each empty region and block between them.
+    pub fn next_beside(self, ctx: &Context) -> Option<Ptr<Operation>>
+        requires { IsLive ctx.now.tree self }
+        ensures { ForSome (holder_of ctx.now.tree self) (λ holder.
+            result ≡ next_in self (children ctx.now.tree holder)) }
+    {
+        ctx.next_sibling(self.index()).map(|key| Ptr::new(key))
     }
 
     // The operation that follows this one and its contents on the walk over `root`.
