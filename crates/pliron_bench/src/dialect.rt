@@ -1,5 +1,5 @@
 //! What the dialect answers, by its kinds.
-ghost use Rattle.std.specs.Prelude.{◌≡◌, ℕ, ◌∷◌, ◌+◌, ◌<◌, [], Some, IfOk, IfErr, OnOk, OnErr, IsSome, length, slice_get, IsTrue};
+ghost use Rattle.std.specs.Prelude.{◌≡◌, MatchResult, Ok, ℕ, ◌∷◌, ◌+◌, ◌<◌, [], Some, IfOk, IfErr, OnOk, OnErr, IsSome, length, slice_get, IsTrue};
 ghost use Rattle.pliron_core.specs.Tree.{IsLive, operands_of};
 ghost use Rattle.pliron_laws.specs.declared.fault.OptError.TheVariants.{Pass};
 ghost use Rattle.pliron_bench.specs.BenchMoves.{bench, bench_shortened};
@@ -57,6 +57,8 @@ impl HasMeaning for Bench {
 }
 
 impl SideEffects for Bench {
+    ghost verdict = { λ t op r. r ≡ Ok tt };
+
     ghost side_effects = { bench_side_effects };
 
     /// `Some(false)` for `const`, `add`, `mul`, `pair`, `sink` and `box`, `Some(true)` for `div`, `read`,
@@ -68,9 +70,15 @@ impl SideEffects for Bench {
             None => None,
         }
     }
+
+    fn verify(_alloc: Global, _op: Ptr<Operation>, _ctx: &Context) -> Result<(), OptError> {
+        Ok(())
+    }
 }
 
 impl BlockArgRemoval for Bench {
+    ghost verdict = { λ t op r. r ≡ Ok tt };
+
     ghost removable = { bench_removable };
 
     /// For `func` and `scope` whether the block isn't the entry, `Some(true)` for `box`, else `None`.
@@ -86,9 +94,15 @@ impl BlockArgRemoval for Bench {
             None => None,
         }
     }
+
+    fn verify(_alloc: Global, _op: Ptr<Operation>, _ctx: &Context) -> Result<(), OptError> {
+        Ok(())
+    }
 }
 
 impl ConstFoldInterface for Bench {
+    ghost verdict = { λ t op r. r ≡ Ok tt };
+
     ghost can_fold = { bench_folds };
 
     ghost constants = { bench_constants };
@@ -159,9 +173,15 @@ impl ConstFoldInterface for Bench {
         let head = attribute_head(alloc, BenchKind::Const, attr.copy(alloc)?)?;
         Ok(Some(Operation::create(ctx, head, 1, 0)?))
     }
+
+    fn verify(_alloc: Global, _op: Ptr<Operation>, _ctx: &Context) -> Result<(), OptError> {
+        Ok(())
+    }
 }
 
 impl BranchOpFoldInterface for Bench {
+    ghost verdict = { λ t op r. MatchResult r (λ _. EdgesFit t op) (λ e. (e ≡ Pass 1) × (EdgesFit t op → ⊥)) };
+
     ghost can_fold_branch = { bench_folds_branch };
 
     ghost feasible = { bench_feasible };
@@ -226,9 +246,6 @@ impl BranchOpFoldInterface for Bench {
     ///
     /// Errors: `Pass(1)` where an edge does not. Takes no memory. Cost: constant.
     fn verify(_alloc: Global, op: Ptr<Operation>, ctx: &Context) -> Result<(), OptError>
-        requires { IsLive ctx.now.tree op }
-        ensures ok { IfOk result (λ _. EdgesFit ctx.now.tree op) }
-        ensures err { IfErr result (λ e. (e ≡ Pass 1) × (EdgesFit ctx.now.tree op → ⊥)) }
     {
         if edges_fit(op, ctx) {
             Ok(())

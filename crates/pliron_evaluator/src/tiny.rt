@@ -5,7 +5,7 @@
 //! outside world and gives the answer. A scope visits its region once with its operands, cut or filled
 //! to the arguments of the entry block, and gives nothing. A branch goes to its one successor with all
 //! its operands.
-ghost use Rattle.std.specs.Prelude.{◌≡◌, ℕ, Some, IfOk};
+ghost use Rattle.std.specs.Prelude.{◌≡◌, Ok, ℕ, Some, IfOk};
 ghost use Rattle.pliron_core.specs.Tree.{IsLive, IsBlock, block_parent_of, operands_of};
 ghost use Rattle.pliron_laws.specs.Answers.{ReadsHead, is_entry};
 ghost use Rattle.pliron_evaluator.specs.Tiny.{number_of, kind_of, is_br, is_const, first_attribute, tiny, tiny_side_effects, tiny_removable, tiny_folds, tiny_constants, tiny_accepts, tiny_constant, tiny_folds_branch, tiny_feasible, tiny_outcome, has_tiny_kind, has_tiny_interface, tiny_shortened};
@@ -113,6 +113,8 @@ impl HasMeaning for Tiny {
 }
 
 impl SideEffects for Tiny {
+    ghost verdict = { λ t op r. r ≡ Ok tt };
+
     ghost side_effects = { tiny_side_effects };
 
     #[tactic(auto, unfolding(crate::specs::Tiny::tiny_side_effects))]
@@ -124,9 +126,15 @@ impl SideEffects for Tiny {
             TinyKind::Br => None,
         }
     }
+
+    fn verify(_alloc: Global, _op: Ptr<Operation>, _ctx: &Context) -> Result<(), OptError> {
+        Ok(())
+    }
 }
 
 impl BlockArgRemoval for Tiny {
+    ghost verdict = { λ t op r. r ≡ Ok tt };
+
     ghost removable = { tiny_removable };
 
     #[tactic(auto, unfolding(crate::specs::Tiny::tiny_removable))]
@@ -140,9 +148,15 @@ impl BlockArgRemoval for Tiny {
             _ => None,
         }
     }
+
+    fn verify(_alloc: Global, _op: Ptr<Operation>, _ctx: &Context) -> Result<(), OptError> {
+        Ok(())
+    }
 }
 
 impl ConstFoldInterface for Tiny {
+    ghost verdict = { λ t op r. r ≡ Ok tt };
+
     ghost can_fold = { tiny_folds };
 
     ghost constants = { tiny_constants };
@@ -197,9 +211,15 @@ impl ConstFoldInterface for Tiny {
         };
         Ok(Some(Operation::create(ctx, head, 1, 0)?))
     }
+
+    fn verify(_alloc: Global, _op: Ptr<Operation>, _ctx: &Context) -> Result<(), OptError> {
+        Ok(())
+    }
 }
 
 impl BranchOpFoldInterface for Tiny {
+    ghost verdict = { λ t op r. r ≡ Ok tt };
+
     ghost can_fold_branch = { tiny_folds_branch };
 
     ghost feasible = { tiny_feasible };
@@ -230,6 +250,10 @@ impl BranchOpFoldInterface for Tiny {
         _rewriter: &mut R,
     ) -> Result<IRStatus, OptError> {
         Ok(IRStatus::Unchanged)
+    }
+
+    fn verify(_alloc: Global, _op: Ptr<Operation>, _ctx: &Context) -> Result<(), OptError> {
+        Ok(())
     }
 }
 

@@ -18,7 +18,9 @@
 ghost use Rattle.std.specs.Prelude.{◌≡◌, ◌<◌, ◌≤◌, ℕ, Bool, List, Option, Some, IfOk, IfErr, OnErr, IsTrue, IsSome, length};
 ghost use Rattle.pliron_core.specs.declared.attrs.AttrObj.{AttrObj as Attribute};
 ghost use Rattle.pliron_core.specs.declared.rewriter.OpInsertionPoint.TheVariants.{BeforeOperation};
-ghost use Rattle.pliron_core.specs.Tree.{IsLive, block_holder_of, operands_of, successors_of, parent_of};
+ghost use Rattle.std.specs.Prelude.{Result as ResultOf};
+ghost use Rattle.pliron_laws.specs.declared.fault.OptError.{OptError as FaultName};
+ghost use Rattle.pliron_core.specs.Tree.{Tree, IsLive, block_holder_of, operands_of, successors_of, parent_of};
 ghost use Rattle.pliron_laws.specs.declared.fault.OptError.TheVariants.{Memory};
 ghost use Rattle.pliron_laws.specs.Datum.{Head, Shape, Meaning};
 ghost use Rattle.pliron_laws.specs.Folding.{Constants, Feasible, AnswersTrue, AnswersJumps, MakesConstants};
@@ -59,12 +61,13 @@ pub trait SideEffects {
         requires { IsLive ctx.now.tree op }
         ensures { ReadsHead side_effects ctx.now.tree op result };
 
+    // what the check may answer for an operation
+    ghost verdict: { Tree → ℕ → ResultOf (Unit {0}) FaultName → Type 0 };
+
     /// The first fault that the dialect finds in the operation.
-    fn verify(_alloc: Global, _op: Ptr<Operation>, _ctx: &Context) -> Result<(), OptError>
-        requires { IsLive _ctx.now.tree _op }
-    {
-        Ok(())
-    }
+    fn verify(alloc: Global, op: Ptr<Operation>, ctx: &Context) -> Result<(), OptError>
+        requires { IsLive ctx.now.tree op }
+        ensures { verdict ctx.now.tree op result };
 }
 
 /// Which arguments of blocks may go.
@@ -84,12 +87,13 @@ pub trait BlockArgRemoval {
         requires block { block_holder_of ctx.now.tree block ≡ Some op }
         ensures { ReadsPlace removable ctx.now.tree op block result };
 
+    // what the check may answer for an operation
+    ghost verdict: { Tree → ℕ → ResultOf (Unit {0}) FaultName → Type 0 };
+
     /// The first fault that the dialect finds in the operation.
-    fn verify(_alloc: Global, _op: Ptr<Operation>, _ctx: &Context) -> Result<(), OptError>
-        requires { IsLive _ctx.now.tree _op }
-    {
-        Ok(())
-    }
+    fn verify(alloc: Global, op: Ptr<Operation>, ctx: &Context) -> Result<(), OptError>
+        requires { IsLive ctx.now.tree op }
+        ensures { verdict ctx.now.tree op result };
 }
 
 /// Operations whose results are constants where their operands are.
@@ -209,12 +213,13 @@ pub trait ConstFoldInterface: HasMeaning {
         ensures refused { OnErr result (ctx.new ≡ ctx.old) }
         ensures err { IfErr result (λ e. e ≡ Memory) };
 
+    // what the check may answer for an operation
+    ghost verdict: { Tree → ℕ → ResultOf (Unit {0}) FaultName → Type 0 };
+
     /// The first fault that the dialect finds in the operation.
-    fn verify(_alloc: Global, _op: Ptr<Operation>, _ctx: &Context) -> Result<(), OptError>
-        requires { IsLive _ctx.now.tree _op }
-    {
-        Ok(())
-    }
+    fn verify(alloc: Global, op: Ptr<Operation>, ctx: &Context) -> Result<(), OptError>
+        requires { IsLive ctx.now.tree op }
+        ensures { verdict ctx.now.tree op result };
 }
 
 /// Branches that go to fewer blocks where their operands are constants.
@@ -270,12 +275,13 @@ pub trait BranchOpFoldInterface: HasMeaning {
         ensures err { IfErr result (λ e. e ≡ Memory) }
         ensures longer { length ctx.old.tree.operations ≤ length ctx.new.tree.operations };
 
+    // what the check may answer for an operation
+    ghost verdict: { Tree → ℕ → ResultOf (Unit {0}) FaultName → Type 0 };
+
     /// The first fault that the dialect finds in the operation.
-    fn verify(_alloc: Global, _op: Ptr<Operation>, _ctx: &Context) -> Result<(), OptError>
-        requires { IsLive _ctx.now.tree _op }
-    {
-        Ok(())
-    }
+    fn verify(alloc: Global, op: Ptr<Operation>, ctx: &Context) -> Result<(), OptError>
+        requires { IsLive ctx.now.tree op }
+        ensures { verdict ctx.now.tree op result };
 }
 
 /// A dialect: its operations, what each means, and the laws that passes rest on.
