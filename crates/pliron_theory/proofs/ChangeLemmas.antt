@@ -1,17 +1,20 @@
 -- What passes may do to a tree, one after the other and on an operation inside another.
-use Rattle.std.proofs.Common.{◌≡◌, ◌⊎◌, inl, inr, ℕ, [], length, Option, Some, None, IsSome, IsTrue, refl, sym, ap, ◌∙◌, subst}
+use Rattle.std.proofs.Common.{◌≡◌, ◌⊎◌, inl, inr, ℕ, ◌≤◌, [], length, Option, Some, None, IsSome, IsTrue, refl, sym, ap, ◌∙◌, subst}
 use Rattle.pliron_core.specs.Tree.{Tree, In, IsLive, IsInside, IsInside.Directly, IsInside.Deeper, IsWithin, HoldsBlock, head_of, successors_of, regions_of, body_of, block_parent_of, last_of, region_parent_of, layout_of, holder_of, up_from, op_of_slot}
 use Rattle.pliron_core.specs.Joined.{IsTree}
 use Rattle.pliron_core.specs.Walks.{children, children_of_region}
-use Rattle.pliron_core.specs.Changes.{IsInsideChange, IsOutside, IsBlockOutside}
+use Rattle.pliron_core.specs.Changes.{IsSameTree, IsInsideChange, IsOutside, IsBlockOutside}
+use Rattle.pliron_core.proofs.SameTreeLemmas.{same_live}
 use Rattle.pliron_core.proofs.HoldingLemmas.{deeper, holds_deeper, inside_or, holds_or, region_by}
-use Rattle.pliron_core.proofs.InsideLemmas.{inside_refl, inside_trans, widen, holder_is_outside, holder_stands, holder_row, sibling, sibling_region, sibling_block, parent_outside, holder_outside, block_holder_outside, holder_kept, block_holder_kept, kept_of}
+use Rattle.pliron_core.proofs.InsideLemmas.{same_change, inside_refl, inside_trans, widen, holder_is_outside, holder_stands, holder_row, sibling, sibling_region, sibling_block, parent_outside, holder_outside, block_holder_outside, holder_kept, block_holder_kept, kept_of}
 use Rattle.pliron_core.proofs.FlatLemmas.{flat_map-same, slice_get-In}
 use Rattle.std.specs.List.{flat_map, slice_get}
 use Rattle.pliron_core.proofs.WalkLemmas.{within_live}
 use Rattle.pliron_laws.specs.Datum.{Head, Meaning}
 use Rattle.pliron_laws.specs.Linked.{EndsBlock, IsAdmitted, IsWellLinked}
+use Rattle.pliron_laws.proofs.LinkedLemmas.{linked_same}
 use Rattle.pliron_theory.proofs.Keeping.{keeps_refl, keeps_trans}
+use Rattle.pliron_theory.proofs.SweptKeeps.{same_keeps}
 use Rattle.pliron_theory.specs.Change.{IsPassChange}
 
 pub change_refl : (m : Meaning) (t : Tree) (op : ℕ) → IsLive t op → IsWellLinked m t op → IsPassChange m t t op
@@ -23,6 +26,15 @@ change_trans m t u v op a b = record {
   linked = b.linked;
   inside = inside_trans t u v op a.inside b.inside;
   runs = keeps_trans m t u v a.runs b.runs;
+}
+
+-- spent keys are nothing to it
+pub same_passes : (m : Meaning) (t u : Tree) (op : ℕ) → IsTree t → IsTree u → IsSameTree t u → length t.operations ≤ length u.operations → IsLive t op → IsWellLinked m t op → IsPassChange m t u op
+same_passes m t u op wt wu s longer live linked = record {
+  stands = (same_live t u wt.joined wu.joined s op).0 live;
+  linked = linked_same m t u op wt wu s linked;
+  inside = same_change t u op wt.joined wu.joined s;
+  runs = same_keeps m t u wt wu s longer;
 }
 
 -- what is well linked at an operation is so at each one inside it

@@ -81,8 +81,9 @@ pub fn folds_keep_links()
     ensures { FoldsKeepLinks }
 {}
 
-/// What passes do to a tree is reflexive and transitive, holds of the operation around theirs too, and
-/// leaves each operation that was well linked, and still stands, well linked.
+/// What passes do to a tree is reflexive and transitive, and spent keys are nothing to it; it holds of
+/// the operation around theirs too, and leaves each operation that was well linked, and still stands,
+/// well linked.
 pub fn passes_compose()
     ensures { PassLaws }
 {}
