@@ -4,6 +4,7 @@ pub mod Config
 pub mod Stage
 pub mod Verifying
 pub mod Grown
+pub mod Computing
 pub mod Lending
 pub mod Outcome
 pub mod Combined

@@ -1,5 +1,5 @@
 //! Computing analyses.
-ghost use Rattle.std.specs.Prelude.{◌≡◌, ℕ, Bool, true, ◌+◌, ◌<◌, Option, IsSome, IsTrue, IfOk, OnOk, OnErr, IfErr, length, option_map, slice_get};
+ghost use Rattle.std.specs.Prelude.{◌≡◌, ℕ, Bool, true, ◌+◌, ◌<◌, Option, IsSome, IsTrue, IfOk, OnOk, OnErr, IsOk, IfErr, length, option_map, slice_get};
 ghost use Rattle.std.specs.Borrow.{sem};
 ghost use Rattle.std.specs.Option.{option_copied_mut};
 ghost use Rattle.pliron_core.specs.Tree.{Tree, IsLive};
@@ -10,8 +10,9 @@ ghost use Rattle.pliron_pass.specs.Answer.{has_changed, kept_kinds};
 ghost use Rattle.pliron_theory.specs.Edges.{edges_inside};
 ghost use Rattle.pliron_pass.specs.Optimising.{edge_kinds, with_edge_kind};
 ghost use Rattle.pliron_pass.specs.Cache.{IsFresh};
+ghost use Rattle.pliron_pass.specs.Computing.{Computes};
 ghost use Rattle.pliron_pass.specs.Grown.{cached_at, HasNeeds, Grows};
-ghost use Rattle.pliron_pass.specs.Lending.{LendsEntry, LendsAdded, EndsAdded};
+ghost use Rattle.pliron_pass.specs.Lending.{LendsEntry, LendsComputed, EndsComputed};
 
 use crate::kinds::AnalysisKind;
 use crate::manager::AnalysisManager;
@@ -91,6 +92,8 @@ impl<E: Analyses + Drop> AnalysisManager<E> {
         requires { IsLive ctx.now.tree op }
         ensures cached { OnOk result (IsSome (cached_at E.Kind.eq self.new.cache.entries kind op)) }
         ensures fresh { IsFresh E.Kind.eq E.kind E.holds ctx.now.tree self.old.cache.entries → IsFresh E.Kind.eq E.kind E.holds ctx.now.tree self.new.cache.entries }
+        ensures found { IsSome (cached_at E.Kind.eq self.old.cache.entries kind op) → IsOk result }
+        ensures computed { OnOk result (Computes E.Kind.eq E.needs E.need op kind self.old.cache.entries self.new.cache.entries) }
         ensures grows { Grows E.rank op (E.rank kind + 1) self.old.cache.entries self.new.cache.entries }
         ensures refused { OnErr result (Grows E.rank op (E.rank kind) self.old.cache.entries self.new.cache.entries) }
         ensures data { self.new.pm_data ≡ self.old.pm_data }
@@ -156,8 +159,7 @@ impl<E: Analyses + Drop> AnalysisManager<E> {
         ctx: &Context,
     ) -> Result<&mut E, OptError>
         requires { IsLive ctx.now.tree op }
-        ensures* writes_back { sem 𝓛 (LendsAdded E.row E.Kind.row E.Kind.Eq.own E.Kind.PartialEq E.Kind.Hash.own self.entry (λ es es'. Grows E.rank op (E.rank kind + 1) es es' × (IsFresh E.Kind.eq E.kind E.holds ctx.now.tree es → IsFresh E.Kind.eq E.kind E.holds ctx.now.tree es')) kind op result) }
-        ensures now { IfOk result (λ e. E.Kind.eq (E.kind e.now) (E.kind e.now) ≡ true) }
+        ensures* writes_back { sem 𝓛 (LendsComputed E.row E.Kind.row E.Kind.Eq.own E.Kind.PartialEq E.Kind.Hash.own self.entry (λ es es'. IsFresh E.Kind.eq E.kind E.holds ctx.now.tree es → IsFresh E.Kind.eq E.kind E.holds ctx.now.tree es') (λ es es'. Computes E.Kind.eq E.needs E.need op kind es es') (λ es es'. Grows E.rank op (E.rank kind) es es') kind op result) }
     {
         self.compute_analysis(kind, op, ctx)?;
         match self.cache.get_mut(&(kind, op)) {
@@ -174,7 +176,7 @@ impl<E: Analyses + Drop> AnalysisManager<E> {
         ctx: &Context,
     ) -> Result<&E, OptError>
         requires { IsLive ctx.now.tree op }
-        ensures* ends { sem 𝓛 (EndsAdded E.row E.Kind.row E.Kind.Eq.own E.Kind.PartialEq E.Kind.Hash.own self.entry (λ es es'. Grows E.rank op (E.rank kind + 1) es es' × (IsFresh E.Kind.eq E.kind E.holds ctx.now.tree es → IsFresh E.Kind.eq E.kind E.holds ctx.now.tree es')) kind op result) }
+        ensures* ends { sem 𝓛 (EndsComputed E.row E.Kind.row E.Kind.Eq.own E.Kind.PartialEq E.Kind.Hash.own self.entry (λ es es'. IsFresh E.Kind.eq E.kind E.holds ctx.now.tree es → IsFresh E.Kind.eq E.kind E.holds ctx.now.tree es') (λ es es'. Computes E.Kind.eq E.needs E.need op kind es es') (λ es es'. Grows E.rank op (E.rank kind) es es') kind op result) }
     {
         self.compute_analysis(kind, op, ctx)?;
         match self.cache.get(&(kind, op)) {
