@@ -45,3 +45,6 @@ pub mod ShortenedBranches
 pub mod RemovedKeeps
 pub mod EdgesLost
 pub mod ChosenRoots
+pub mod ChangeLemmas
+pub mod EdgeLemmas
+pub mod PutEdges

@@ -12,3 +12,5 @@ pub mod Splicing
 pub mod Rewrites
 pub mod Dropping
 pub mod ChosenRoots
+pub mod Edges
+pub mod Change

@@ -4,6 +4,8 @@ ghost use Rattle.pliron_theory.specs.Answered.{AnsweredLaw};
 ghost use Rattle.pliron_theory.specs.Refolded.{RefoldingLaw};
 ghost use Rattle.pliron_theory.specs.Folded.{BranchFoldsLaw, ConstantFoldsLaw};
 ghost use Rattle.pliron_theory.specs.ChosenRoots.{ChosenRootsLaw};
+ghost use Rattle.pliron_theory.specs.Change.{PassLaws};
+ghost use Rattle.pliron_theory.specs.Edges.{EdgeLaws};
 ghost use Rattle.pliron_theory.specs.Finding.{FindingsLaw};
 ghost use Rattle.pliron_theory.specs.Knowing.{FactsLaw};
 ghost use Rattle.pliron_laws.specs.LinkLaws.{FoldsKeepLinks};
@@ -116,4 +118,17 @@ pub fn unused_arguments_go<D: Dialect>()
 /// A tree that is well linked at a root is so after constants were put for results of an operation.
 pub fn folds_keep_links()
     ensures { FoldsKeepLinks }
+{}
+
+/// What passes do to a tree is reflexive and transitive, and spent keys are nothing to it; it holds of
+/// the operation around theirs too, and leaves each operation that was well linked, and still stands,
+/// well linked.
+pub fn passes_compose()
+    ensures { PassLaws }
+{}
+
+/// Edges inside operations stay where blocks keep their successors and their operations with regions:
+/// where keys alone were spent, and where a constant is put. What keeps edges twice keeps them.
+pub fn edges_stay()
+    ensures { EdgeLaws }
 {}

@@ -1,0 +1,12 @@
+pub mod Cache
+pub mod Answer
+pub mod Config
+pub mod Stage
+pub mod Verifying
+pub mod Grown
+pub mod Computing
+pub mod Lending
+pub mod Outcome
+pub mod Combined
+pub mod Optimising
+pub mod Repeating

@@ -1,0 +1,32 @@
+//! Passes over operations, guards, verification, and a cache of analyses.
+//!
+//! It stands on the theory of runs and the laws of dialects, and knows no optimisation, no dialect and
+//! no graph.
+#![tactic(auto)]
+
+mod analyses;
+mod config;
+mod guard;
+mod kinds;
+mod manager;
+mod nested;
+mod pass;
+mod passes;
+mod repeat;
+mod result;
+mod run;
+mod verify;
+
+pub use analyses::Analyses;
+pub use config::{PMConfig, PMData, PMState};
+pub use guard::{Guard, GuardedPass, OpGuard, OpInterfaceGuard, OpInterfacePass, OpPass};
+pub use kinds::AnalysisKind;
+pub use manager::AnalysisManager;
+pub use nested::NestedOpsPass;
+pub use pass::Pass;
+pub use passes::Passes;
+pub use pliron_laws::OptError;
+pub use repeat::Repeat;
+pub use result::PassResult;
+pub use run::PassManager;
+pub use verify::verify_operation;
