@@ -38,3 +38,6 @@ pub mod DroppedStays
 pub mod ShortenedBranches
 pub mod RemovedKeeps
 pub mod EdgesLost
+pub mod ChangeLemmas
+pub mod EdgeLemmas
+pub mod PutEdges

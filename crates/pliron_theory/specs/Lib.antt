@@ -8,3 +8,5 @@ pub mod Rebranching
 pub mod Splicing
 pub mod Rewrites
 pub mod Dropping
+pub mod Edges
+pub mod Change

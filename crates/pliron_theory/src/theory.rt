@@ -1,5 +1,7 @@
 //! The theory of runs, as calls that do nothing when they run: each contract is a law, for every
 //! dialect that keeps the laws which it names.
+ghost use Rattle.pliron_theory.specs.Change.{PassLaws};
+ghost use Rattle.pliron_theory.specs.Edges.{EdgeLaws};
 ghost use Rattle.pliron_theory.specs.Finding.{FindingsLaw};
 ghost use Rattle.pliron_theory.specs.Knowing.{FactsLaw};
 ghost use Rattle.pliron_laws.specs.LinkLaws.{FoldsKeepLinks};
@@ -77,4 +79,16 @@ pub fn unused_arguments_go<D: Dialect>()
 /// A tree that is well linked at a root is so after constants were put for results of an operation.
 pub fn folds_keep_links()
     ensures { FoldsKeepLinks }
+{}
+
+/// What passes do to a tree is reflexive and transitive, holds of the operation around theirs too, and
+/// leaves each operation that was well linked, and still stands, well linked.
+pub fn passes_compose()
+    ensures { PassLaws }
+{}
+
+/// Edges inside operations stay where blocks keep their successors and their operations with regions:
+/// where keys alone were spent, and where a constant is put. What keeps edges twice keeps them.
+pub fn edges_stay()
+    ensures { EdgeLaws }
 {}

@@ -1,0 +1,27 @@
+-- What a pass may do to a tree.
+use Rattle.std.specs.Prelude.{◌≡◌, ℕ, Some}
+use Rattle.pliron_core.specs.Tree.{Tree, IsLive, holder_of}
+use Rattle.pliron_core.specs.Joined.{IsTree}
+use Rattle.pliron_core.specs.Changes.{IsInsideChange}
+use Rattle.pliron_laws.specs.Datum.{Meaning}
+use Rattle.pliron_theory.specs.Keeps.{KeepsRuns}
+use Rattle.pliron_laws.specs.Linked.{IsWellLinked}
+
+-- what a pass on op does to the tree, whatever it answers
+pub record IsPassChange (m : Meaning) (t u : Tree) (op : ℕ) : Type 0 where
+  -- op stands and is well linked
+  pub stands : IsLive u op
+  pub linked : IsWellLinked m u op
+  -- outside it only operands change that named a value made inside it
+  pub inside : IsInsideChange t u op
+  -- each fit root that still stands does as before and is fit
+  pub runs : KeepsRuns m t u
+
+-- what passes do is reflexive and transitive, and seen from the operation that holds theirs it is a
+-- pass on that one
+pub record PassLaws : Type 0 where
+  pub reflexive : (m : Meaning) (t : Tree) (op : ℕ) → IsLive t op → IsWellLinked m t op → IsPassChange m t t op
+  pub transitive : (m : Meaning) (t u v : Tree) (op : ℕ) → IsPassChange m t u op → IsPassChange m u v op → IsPassChange m t v op
+  pub held : (m : Meaning) (t u : Tree) (op inner : ℕ) → IsTree t → IsTree u → holder_of t inner ≡ Some op → IsWellLinked m t op → IsPassChange m t u inner → IsPassChange m t u op
+  -- each operation that was well linked and still stands is so after a pass, wherever it stands
+  pub linked : (m : Meaning) (t u : Tree) (op root : ℕ) → IsTree t → IsTree u → IsPassChange m t u op → IsLive t root → IsLive u root → IsWellLinked m t root → IsWellLinked m u root

@@ -1,0 +1,54 @@
+-- The blocks and edges inside an operation.
+use Rattle.std.specs.Prelude.{◌≡◌, ◌≤◌, zero, suc, ℕ, Bool, true, false, List, [], ◌∷◌, length, filter, Some}
+use Rattle.std.specs.List.{flat_map}
+use Rattle.pliron_core.specs.Tree.{Tree, IsLive, regions_of, layout_of, body_of, parent_of, IsBlock}
+use Rattle.pliron_core.specs.Writes.{created, replaced, put_first}
+use Rattle.pliron_laws.specs.Datum.{Head}
+use Rattle.pliron_laws.specs.Outcomes.{materialised}
+use Rattle.pliron_core.specs.Edges.{succs_of}
+use Rattle.pliron_core.specs.Joined.{IsTree}
+use Rattle.pliron_core.specs.Changes.{IsSameTree}
+
+-- the blocks in the regions of the operations, n levels deep, each with its successors and before the
+-- blocks inside it
+abbrev pub blocks_below : Tree → ℕ → ℕ → List (ℕ × List ℕ)
+blocks_below t zero op = []
+blocks_below t (suc n) op = flat_map (λ r. flat_map (λ b. (b, succs_of t b) ∷ flat_map (λ k. blocks_below t n k) (body_of t b)) (layout_of t r)) (regions_of t op)
+
+-- all blocks inside the operation, in pre-order, each with its successors
+abbrev pub edges_inside : Tree → ℕ → List (ℕ × List ℕ)
+edges_inside t op = blocks_below t (suc (length t.operations)) op
+
+-- the blocks and edges inside each operation that still stands are as before
+abbrev pub KeepsEdges : Tree → Tree → Type 0
+KeepsEdges t u = (op : ℕ) → IsLive t op → IsLive u op → edges_inside u op ≡ edges_inside t op
+
+-- whether a list has an entry
+abbrev pub has_entries : List ℕ → Bool
+has_entries [] = false
+has_entries (x ∷ xs) = true
+
+-- whether the operation has regions
+abbrev pub has_regions : Tree → ℕ → Bool
+has_regions t op = has_entries (regions_of t op)
+
+-- regions, their blocks and the successors of blocks are as before, and each block has the same
+-- operations with regions; others may be made, put, moved and erased
+pub record EdgesAlike (t u : Tree) : Type 0 where
+  pub grows : length t.operations ≤ length u.operations
+  pub regions : (op : ℕ) → regions_of u op ≡ regions_of t op
+  pub layouts : (r : ℕ) → layout_of u r ≡ layout_of t r
+  pub successors : (b : ℕ) → succs_of u b ≡ succs_of t b
+  pub bodies : (b : ℕ) → filter (λ k. has_regions t k) (body_of u b) ≡ filter (λ k. has_regions t k) (body_of t b)
+
+-- spent keys are nothing to edges; and where operations that stand before and after stand between, edges
+-- that are kept twice are kept
+pub record EdgeLaws : Type 0 where
+  pub same : (t u : Tree) (op : ℕ) → IsTree t → IsTree u → IsSameTree t u → edges_inside u op ≡ edges_inside t op
+  pub kept : (t u : Tree) → IsTree t → IsTree u → IsSameTree t u → KeepsEdges t u
+  pub alike : (t u : Tree) → IsTree t → IsTree u → EdgesAlike t u → KeepsEdges t u
+  -- a constant that is put before an operation, and has the uses of a value
+  pub put : (t : Tree) (op v b : ℕ) (head : Head) → IsTree t → parent_of t op ≡ Some b → EdgesAlike t (materialised t op v head)
+  -- a constant that is put first in a block, and has the uses of a value
+  pub first : (t : Tree) (v b : ℕ) (head : Head) → IsTree t → IsBlock t b → EdgesAlike t (replaced (put_first (created t head 1 0) (length t.operations) b) v (length t.definitions))
+  pub transitive : (t u v : Tree) → ((op : ℕ) → IsLive t op → IsLive v op → IsLive u op) → KeepsEdges t u → KeepsEdges u v → KeepsEdges t v
