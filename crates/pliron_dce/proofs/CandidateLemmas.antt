@@ -1,5 +1,5 @@
 -- All that may be dead inside an operation, as it is listed.
-use Rattle.std.proofs.Common.{◌≡◌, ◌≢◌, ◌⊎◌, inl, inr, ⊎_elim, ℕ, Bool, List, Option, Some, None, sym, subst, refl}
+use Rattle.std.proofs.Common.{IfOk, Result, Ok, Err, ◌≡◌, ◌≢◌, ◌⊎◌, inl, inr, ⊎_elim, ℕ, Bool, List, Option, Some, None, sym, subst, refl}
 use Rattle.std.proofs.lemmas.Option.{same_Some}
 use Rattle.pliron_core.specs.declared.context.RegionSlot.{RegionSlot}
 use Rattle.pliron_core.specs.Tree.{Tree, In, IsInside, IsWithin, IsListedBy, HoldsBlock, op_of_slot, arguments_of, regions_of, block_parent_of, block_holder_of, region_parent_of, slot_of, up_from}
@@ -52,3 +52,8 @@ pub all_ready : (m : Meaning) (side_effects : Head → Option Bool) (removable :
 all_ready m side_effects removable t root work all (Op k) r = all.operations k r.may.inside
 all_ready m side_effects removable t root work all (Arg v) r = all.arguments r.may.block v r.may.inside (in_slice (arguments_of t r.may.block) r.may.index v r.may.argument)
 all_ready m side_effects removable t root work all (Use user place) r = absurd r
+
+-- what holds of an answer
+pub ok_weaker : {T E : Type 0} (r : Result T E) (P Q : T → Type 0) → ((x : T) → P x → Q x) → IfOk r P → IfOk r Q
+ok_weaker (Ok x) P Q weaker p = weaker x p
+ok_weaker (Err e) P Q weaker p = tt

@@ -1,5 +1,5 @@
 -- Ready things go, one after the other: what holds all the way, and at the end.
-use Rattle.std.proofs.Common.{◌≡◌, ◌⊎◌, inl, inr, ⊎_elim, ℕ, true, Bool, List, [], ◌∷◌, ◌++◌, Option, Some, None, slice_get, refl, sym, ap, ◌∙◌, subst}
+use Rattle.std.proofs.Common.{◌≡◌, ◌↔◌, ◌⊎◌, inl, inr, ⊎_elim, ℕ, true, Bool, List, [], ◌∷◌, ◌++◌, Option, Some, None, slice_get, refl, sym, ap, ◌∙◌, subst}
 use Rattle.pliron_core.specs.declared.uses.Use.{Use as Edge}
 use Rattle.pliron_core.specs.declared.context.Def.{Def}
 use Rattle.pliron_core.specs.declared.context.Def.TheVariants.{Result, Argument}
@@ -18,10 +18,14 @@ use Rattle.pliron_theory.proofs.Keeping.{keeps_refl, keeps_trans}
 use Rattle.pliron_theory.proofs.RemovedKeeps.{removed_keeps}
 use Rattle.pliron_dce.specs.Dead.{Item, Op, Arg, Use, IsDead, MayBeRemoved}
 use Rattle.pliron_dce.specs.Steps.{IsReady, Among}
-use Rattle.pliron_dce.specs.Going.{Goes, Removes, GoInTurn, AreTheDead, IsOnTheWay}
+use Rattle.pliron_dce.specs.Going.{Goes, Removes, GoInTurn, LeavesNoDead, HasDead, TellsDead, TellsGone, IsOnTheWay}
 use Rattle.pliron_dce.proofs.ReadyLemmas.{ready_dead, no_dead}
 use Rattle.pliron_dce.proofs.Thinned.{IsThinned, back, forth}
-use Rattle.pliron_dce.proofs.RemovedThins.{removed_thins, removed_linked, removed_unused, root_stands as root_stands_removed, removed_gone, inside_live}
+use Rattle.pliron_core.specs.declared.attrs.IRStatus.{IRStatus}
+use Rattle.pliron_core.specs.declared.attrs.IRStatus.TheVariants.{Changed, Unchanged}
+use Rattle.pliron_core.proofs.EraseInsideLemmas.{erased_inside}
+use Rattle.pliron_core.proofs.InsideLemmas.{inside_refl, inside_trans}
+use Rattle.pliron_dce.proofs.RemovedThins.{removed_thins, removed_inside, removed_linked, removed_unused, root_stands as root_stands_removed, removed_gone, inside_live}
 use Rattle.pliron_dce.proofs.ReadySteps.{erased_thins, erased_linked, ready_keeps, ready_contained, root_stands as root_stands_erased}
 use Rattle.pliron_core.proofs.HoldingLemmas.{some_of}
 use Rattle.pliron_core.proofs.WithinLemmas.{is_within}
@@ -30,6 +34,7 @@ use Rattle.pliron_theory.proofs.ErasedKeeps.{erased_gone}
 -- one ready thing went
 pub record IsStep (m : Meaning) (side_effects : Head → Option Bool) (removable : Head → ℕ → Bool → Option Bool) (t t' : Tree) (root : ℕ) : Type 0 where
   pub keeps : KeepsRuns m t t'
+  pub inside : IsInsideChange t t' root
   pub linked : (r : ℕ) → IsWellLinked m t r → IsLive t' r → IsWellLinked m t' r
   pub root_stands : IsLive t root → IsLive t' root
   pub thins : IsThinned m side_effects removable t t' root
@@ -41,6 +46,7 @@ module _ (m : Meaning) (can_fold : Head → Bool) (SameTests : Head → Head →
   erase_step : (t t' : Tree) (root k : ℕ) → IsTree t → IsTree t' → IsWellLinked m t root → IsReady m side_effects removable t root (Op k) → t' ≡ erased t k → IsStep m side_effects removable t t' root
   erase_step t t' root k w w' linked r same = subst (λ z. IsStep m side_effects removable t z root) (sym same) (record {
     keeps = ready_keeps m side_effects removable counts free t root w linked k r.may r.none at;
+    inside = erased_inside t root k w at.joined r.may.inside;
     linked = erased_linked m side_effects removable counts free t root w linked k r.may r.none at;
     root_stands = root_stands_erased m side_effects removable counts free t root w linked k r.may r.none at;
     thins = erased_thins m side_effects removable counts free t root w linked k r.may r.none at;
@@ -53,6 +59,7 @@ module _ (m : Meaning) (can_fold : Head → Bool) (SameTests : Head → Head →
   remove_step : (t t' : Tree) (root v : ℕ) → IsTree t → IsTree t' → IsWellLinked m t root → IsReady m side_effects removable t root (Arg v) → Removes m shortened t t' v → IsStep m side_effects removable t t' root
   remove_step t t' root v w w' linked r g = subst (λ z. IsStep m side_effects removable t z root) (sym g.removed) (record {
     keeps = removed_keeps m can_fold SameTests shortened law tests counts removable without t g.between g.block g.index v g.edges w at g.argument g.complete branches allowed g.lose (removed_unused m can_fold SameTests shortened law tests counts side_effects removable t g.between root g.block g.index v g.edges w at linked g.argument held branches g.complete g.lose dead r.none);
+    inside = removed_inside m can_fold SameTests shortened law tests counts side_effects removable t g.between root g.block g.index v g.edges w at linked g.argument held branches g.complete g.lose dead;
     linked = λ q y l. removed_linked m can_fold SameTests shortened law tests counts side_effects removable t g.between root g.block g.index v g.edges w at linked g.argument held branches g.complete g.lose dead q y;
     root_stands = root_stands_removed m can_fold SameTests shortened law tests counts side_effects removable t g.between root g.block g.index v g.edges w at linked g.argument held branches g.complete g.lose dead;
     thins = removed_thins m can_fold SameTests shortened law tests counts side_effects removable t g.between root g.block g.index v g.edges w at linked g.argument held branches g.complete g.lose dead r.none;
@@ -89,6 +96,7 @@ module _ (m : Meaning) (can_fold : Head → Bool) (SameTests : Head → Head →
     went = refl;
     dead = λ x i. absurd i;
     keeps = keeps_refl m t;
+    inside = inside_refl t root;
     linked = λ r y s. y;
     stands = l;
     operations_back = λ k d. d;
@@ -117,6 +125,7 @@ module _ (m : Meaning) (can_fold : Head → Bool) (SameTests : Head → Head →
     went = turn_more gone x t0 t t' h.went g;
     dead = λ y i. ⊎_elim (λ j. h.dead y j) (λ e. subst (D t0 root) (sym e) (back_to t0 t root gone h x r)) (among_more gone x y i);
     keeps = keeps_trans m t0 t t' h.keeps s.keeps;
+    inside = inside_trans t0 t t' root h.inside s.inside;
     linked = λ q y l. s.linked q (h.linked q y (s.thins.live_before q l)) l;
     stands = s.root_stands h.stands;
     operations_back = λ k d. h.operations_back k (back m side_effects removable t t' root s.thins d);
@@ -130,12 +139,29 @@ module _ (m : Meaning) (can_fold : Head → Bool) (SameTests : Head → Head →
 
 
   -- nothing is ready any more
-  pub at_the_end : (t0 t : Tree) (root : ℕ) (gone : List Item) → OnWay t0 t root gone → ((x : Item) → IsReady m side_effects removable t root x → ⊥) → AreTheDead m side_effects removable t0 t root gone
+  pub at_the_end : (t0 t : Tree) (root : ℕ) (gone : List Item) → OnWay t0 t root gone → ((x : Item) → IsReady m side_effects removable t root x → ⊥) → LeavesNoDead m side_effects removable t0 t root
   at_the_end t0 t root gone h never = record {
-    dead = h.dead;
     operations = λ k d l. no_dead m side_effects removable t root never (h.operations_forth k d l);
     arguments = λ v d l. no_dead m side_effects removable t root never (h.arguments_forth v d l);
+    none = λ some. ⊎_elim (λ x. no_dead m side_effects removable t root never x.1) (λ x. no_dead m side_effects removable t root never x.1) some;
   }
+
+  -- what the answer says
+  some_dead : (t0 t : Tree) (root : ℕ) (x : Item) (xs : List Item) → OnWay t0 t root (x ∷ xs) → HasDead m side_effects removable t0 root
+  some_dead t0 t root (Op k) xs h = inl (k, h.dead (Op k) (inl refl))
+  some_dead t0 t root (Arg v) xs h = inr (v, h.dead (Arg v) (inl refl))
+  some_dead t0 t root (Use user place) xs h = absurd h.went.1
+
+  not_both : (s : IRStatus) → s ≡ Changed → s ≡ Unchanged → ⊥
+  not_both s e f = let q : Changed ≡ Unchanged = sym e ∙ f in absurd (cc)
+
+  pub tells_dead : (t0 t : Tree) (root : ℕ) (gone : List Item) (status : IRStatus) → OnWay t0 t root gone → LeavesNoDead m side_effects removable t0 t root → TellsGone gone status → TellsDead m side_effects removable t0 root status
+  tells_dead t0 t root [] status h end told = (λ e. absurd (not_both status e told), λ some. absurd (end.none (subst (λ z. HasDead m side_effects removable z root) (sym h.went) some)))
+  tells_dead t0 t root (x ∷ xs) status h end told = (λ e. some_dead t0 t root x xs h, λ some. told)
+
+  pub tells_same : (t0 t : Tree) (root : ℕ) (gone : List Item) (status : IRStatus) → OnWay t0 t root gone → LeavesNoDead m side_effects removable t0 t root → TellsGone gone status → (status ≡ Unchanged) ↔ (t ≡ t0)
+  tells_same t0 t root [] status h end told = (λ e. h.went, λ same. told)
+  tells_same t0 t root (x ∷ xs) status h end told = (λ e. absurd (not_both status told e), λ same. absurd (end.none (subst (λ z. HasDead m side_effects removable z root) (sym same) (some_dead t0 t root x xs h))))
 
   -- what went is ready no more
   pub gone_unready : (t t' : Tree) (root : ℕ) (x : Item) → IsTree t → IsTree t' → IsWellLinked m t root → IsReady m side_effects removable t root x → Goes m shortened t t' x → IsReady m side_effects removable t' root x → ⊥
@@ -150,3 +176,7 @@ module _ (m : Meaning) (can_fold : Head → Bool) (SameTests : Head → Head →
       let same : r.may.block ≡ g.block = cc in
       removed_gone m can_fold SameTests shortened law tests counts side_effects removable t g.between root g.block g.index v g.edges w (subst IsTree g.removed w') linked g.argument (subst (HoldsBlock t root) same r.may.inside) (subst (λ z. (k : ℕ) → In z (successors_of t k) → HeadPasses m.is_branch t k) same r.may.branches) g.complete g.lose (ready_dead m side_effects removable t root (Arg v) r) r'.may.block r'.may.index (ap (λ z. slice_get (arguments_of z r'.may.block) r'.may.index) (sym g.removed) ∙ r'.may.argument)
   gone_unready t t' root (Use user place) w w' linked r g r' = absurd r
+
+pub tells_more : (xs : List Item) (x : Item) → TellsGone (xs ++ x ∷ []) Changed
+tells_more [] x = refl
+tells_more (y ∷ ys) x = refl

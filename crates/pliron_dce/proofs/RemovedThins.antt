@@ -7,7 +7,7 @@ use Rattle.std.specs.List.{range_with_len}
 use Rattle.pliron_core.specs.declared.context.Def.{Def}
 use Rattle.pliron_core.specs.declared.context.Def.TheVariants.{Result, Argument}
 use Rattle.pliron_core.specs.declared.uses.Use.{Use as Edge}
-use Rattle.pliron_core.specs.Changes.{IsMadeInside, IsMakerInside}
+use Rattle.pliron_core.specs.Changes.{IsMadeInside, IsMakerInside, IsInsideChange, IsOutside, IsBlockOutside, IsValueOutside}
 use Rattle.pliron_core.specs.Tree.{Tree, In, IsDistinct, IsLive, IsBlock, IsDefined, IsMadeBy, IsInside, IsWithin, Directly, Deeper, HoldsBlock, row_of, head_of, operands_of, successors_of, results_of, regions_of, parent_of, arguments_of, block_parent_of, slot_of, region_parent_of, holder_of, block_holder_of, definition_of, op_of_slot, up_from, first_of, last_of, layout_of}
 use Rattle.pliron_core.specs.Joined.{IsTree, IsJoined}
 use Rattle.pliron_core.specs.Writes.{argument_removed}
@@ -16,6 +16,8 @@ use Rattle.pliron_core.proofs.TreeLemmas.{cases_lt}
 use Rattle.pliron_core.proofs.RemovalLemmas.{slice_get-remove_below, slice_get-remove_above, in-remove_cases}
 use Rattle.pliron_core.proofs.HoldingLemmas.{some_is, some_of, in_slice, slice_in, slot_is, maker_is, holder_live, inside_up, inside_alike, within_alike, inside_block, holder_by}
 use Rattle.pliron_core.proofs.WithinLemmas.{block_steps}
+use Rattle.pliron_core.proofs.InsideLemmas.{AreKeptOutside, change_of_kept}
+use Rattle.pliron_core.proofs.WriteInsideLemmas.{same_block, same_operation}
 use Rattle.pliron_laws.specs.Datum.{Head, Shape, Meaning}
 use Rattle.pliron_laws.specs.Tree.{Operation, op_at, block_at, entry_block, count_arguments, unless, shape_of}
 use Rattle.pliron_laws.specs.Acting.{pick}
@@ -600,3 +602,24 @@ module _ (m : Meaning) (can_fold : Head → Bool) (SameTests : Head → Head →
 
       home : {b i : ℕ} → Some (Argument b i) ≡ Some (Argument block index) → b ≡ block
       home s = cc
+
+  -- only what is inside the root changes
+  pub removed_inside : IsInsideChange t t' root
+  removed_inside = change_of_kept t t' root w.joined same (λ x o. (live_back x o.0, λ i. o.1 (inside_forth root x i))) (λ b o. (subst IsSome (same_block_parent b) o.0, λ h. o.1 (holds_block_forth root b h)))
+    where
+      value : (x : ℕ) → IsValueOutside t root x → (q : Def) → definition_of t x ≡ Some q → IsMadeBy t x (Some q) → definition_of t' x ≡ definition_of t x
+      value x o (Result k i) e s = w'.joined.results k i x (ap (λ z. slice_get z i) (same_results k) ∙ s) ∙ sym e
+      value x o (Argument b i) e s = elim (cases_eq b block) [
+        | inl q ↦ absurd (o.1 (subst (IsMakerInside t root) (sym e) (subst (HoldsBlock t root) (sym q) held)))
+        | inr ne ↦ w'.joined.arguments b i x (ap (λ z. slice_get z i) (arguments_other b ne) ∙ s) ∙ sym e
+      ]
+
+      same : AreKeptOutside t t' root
+      same = record {
+        operations = λ x o.
+            let a = alone x (λ i. o.1 (leads_inside x block i held)) in
+            same_operation t t' root x a.0 a.1 (same_successors x) (same_parent x);
+        blocks = λ b o. same_block t t' b (arguments_other b (λ e. o.1 (subst (HoldsBlock t root) (sym e) held))) (ap (λ z. slice_index_or z b []) f.bodies) (same_block_parent b);
+        regions = λ r o. record { layout = ap (λ z. slice_index_or z r []) f.layouts; slot = ap (λ z. slice_get z r) f.slots };
+        values = λ x o. let y = maker_is t x o.0 in value x o y.0 y.1 y.2;
+      }

@@ -6,6 +6,7 @@ use Rattle.pliron_core.specs.declared.uses.Use.{Use as Edge}
 use Rattle.pliron_core.specs.Tree.{Tree, IsLive, IsDefined, arguments_of}
 use Rattle.pliron_core.specs.Writes.{argument_removed}
 use Rattle.pliron_core.specs.Erased.{erased}
+use Rattle.pliron_core.specs.Changes.{IsInsideChange}
 use Rattle.pliron_laws.specs.Datum.{Head, Shape, Meaning}
 use Rattle.pliron_theory.specs.Dropping.{AreEdgesTo, EdgesLose}
 use Rattle.pliron_theory.specs.Keeps.{KeepsRuns}
@@ -39,26 +40,32 @@ GoInTurn m shortened (x ∷ xs) t t' = (u : Tree) × Goes m shortened t u x × G
 abbrev pub AreDeadThings : Meaning → (Head → Option Bool) → (Head → ℕ → Bool → Option Bool) → Tree → ℕ → List Item → Type 0
 AreDeadThings m side_effects removable t root gone = (x : Item) → Among x gone → IsDead m side_effects removable t root x
 
--- only dead things of the tree before went, and none of them stands
-pub record AreTheDead (m : Meaning) (side_effects : Head → Option Bool) (removable : Head → ℕ → Bool → Option Bool) (t t' : Tree) (root : ℕ) (gone : List Item) : Type 0 where
-  pub dead : (x : Item) → Among x gone → IsDead m side_effects removable t root x
-  pub operations : (k : ℕ) → IsDead m side_effects removable t root (Op k) → IsLive t' k → ⊥
-  pub arguments : (v : ℕ) → IsDead m side_effects removable t root (Arg v) → IsDefined t' v → ⊥
-
 -- some operation or argument is dead
 abbrev pub HasDead : Meaning → (Head → Option Bool) → (Head → ℕ → Bool → Option Bool) → Tree → ℕ → Type 0
 HasDead m side_effects removable t root = ((k : ℕ) × IsDead m side_effects removable t root (Op k)) ⊎ ((v : ℕ) × IsDead m side_effects removable t root (Arg v))
+
+-- no operation or argument that is dead in the first tree stands in the second, and nothing is dead there
+pub record LeavesNoDead (m : Meaning) (side_effects : Head → Option Bool) (removable : Head → ℕ → Bool → Option Bool) (t t' : Tree) (root : ℕ) : Type 0 where
+  pub operations : (k : ℕ) → IsDead m side_effects removable t root (Op k) → IsLive t' k → ⊥
+  pub arguments : (v : ℕ) → IsDead m side_effects removable t root (Arg v) → IsDefined t' v → ⊥
+  pub none : HasDead m side_effects removable t' root → ⊥
 
 -- `Changed` exactly if something is dead
 abbrev pub TellsDead : Meaning → (Head → Option Bool) → (Head → ℕ → Bool → Option Bool) → Tree → ℕ → IRStatus → Type 0
 TellsDead m side_effects removable t root status = (status ≡ Changed) ↔ HasDead m side_effects removable t root
 
--- what holds on the way from the tree t0: dead things of t0 went in turn, all runs are kept and links stay,
--- and what is dead is what was dead in t0 and still stands
+-- `Changed` exactly if something went
+abbrev pub TellsGone : List Item → IRStatus → Type 0
+TellsGone [] status = status ≡ Unchanged
+TellsGone (x ∷ xs) status = status ≡ Changed
+
+-- what holds on the way from the tree t0: dead things of t0 went in turn, all runs are kept, links stay,
+-- only what is inside the root changed, and what is dead is what was dead in t0 and still stands
 pub record IsOnTheWay (m : Meaning) (shortened : Shape → ℕ → ℕ → Head) (side_effects : Head → Option Bool) (removable : Head → ℕ → Bool → Option Bool) (t0 t : Tree) (root : ℕ) (gone : List Item) : Type 0 where
   pub went : GoInTurn m shortened gone t0 t
   pub dead : (x : Item) → Among x gone → IsDead m side_effects removable t0 root x
   pub keeps : KeepsRuns m t0 t
+  pub inside : IsInsideChange t0 t root
   pub linked : (r : ℕ) → IsWellLinked m t0 r → IsLive t r → IsWellLinked m t r
   pub stands : IsLive t root
   pub operations_back : (k : ℕ) → IsDead m side_effects removable t root (Op k) → IsDead m side_effects removable t0 root (Op k)

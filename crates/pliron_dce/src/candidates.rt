@@ -58,7 +58,7 @@ fn push_held(
     Ok(())
 }
 
-// So does the operation, unless it is the root, and before these arguments.
+// These arguments go there, and then the operation itself, unless it is the root.
 fn push_operation(
     work: &mut Vec<Candidate>,
     op: Ptr<Operation>,
@@ -69,10 +69,12 @@ fn push_operation(
     ensures kept { OnOk result ((x : Item) → Among x (items_of work.old.items) → Among x (items_of work.new.items)) }
     ensures covered { OnOk result (IsCovered ctx.now.tree root (items_of work.new.items) op) }
 {
-    if op != root {
-        work.push(Candidate::Operation(op))?;
+    push_held(work, op, ctx)?;
+    if op == root {
+        return Ok(());
     }
-    push_held(work, op, ctx)
+    work.push(Candidate::Operation(op))?;
+    Ok(())
 }
 
 // All operations inside the root and all arguments of blocks there, in the order of a text.

@@ -1,14 +1,17 @@
-//! A design trial: dead things.
+//! Dead code elimination, with arguments of blocks.
+//!
+//! Dead operations and dead arguments go one after the other, each as one whole rewrite, in an order in
+//! which nothing uses what goes.
 #![tactic(auto)]
 ghost use Rattle.std.specs.Prelude.{◌≡◌, ◌↔◌, ℕ, List, IfOk, IfErr, OnErr, IsTrue};
 ghost use Rattle.pliron_core.specs.Tree.{IsLive};
-ghost use Rattle.pliron_core.specs.declared.attrs.IRStatus.TheVariants.{Changed};
+ghost use Rattle.pliron_core.specs.declared.attrs.IRStatus.TheVariants.{Unchanged};
 ghost use Rattle.pliron_laws.specs.declared.fault.OptError.TheVariants.{Memory};
-ghost use Rattle.pliron_theory.specs.Keeps.{KeepsRuns};
+ghost use Rattle.pliron_theory.specs.Change.{IsPassChange};
 ghost use Rattle.pliron_laws.specs.Linked.{IsWellLinked};
 ghost use Rattle.pliron_dce.specs.DeadLaws.{ReadyLaws, GoingLaws, PendingLaw};
 ghost use Rattle.pliron_dce.specs.Dead.{Item};
-ghost use Rattle.pliron_dce.specs.Going.{GoInTurn, AreDeadThings, AreTheDead, TellsDead};
+ghost use Rattle.pliron_dce.specs.Going.{GoInTurn, AreDeadThings, LeavesNoDead, TellsDead};
 
 mod candidates;
 mod ready;
@@ -46,11 +49,12 @@ pub fn dce<D: Dialect>(
 ) -> Result<IRStatus, OptError>
     requires live { IsLive ctx.old.tree op }
     requires linked { IsWellLinked D.meaning ctx.old.tree op }
-    ensures gone { (gone : List Item) × GoInTurn D.meaning D.shortened gone ctx.old.tree ctx.new.tree × AreDeadThings D.meaning D.side_effects D.removable ctx.old.tree op gone × IfOk result (λ status. AreTheDead D.meaning D.side_effects D.removable ctx.old.tree ctx.new.tree op gone) }
+    ensures change { IsPassChange D.meaning ctx.old.tree ctx.new.tree op }
+    ensures gone { (gone : List Item) × GoInTurn D.meaning D.shortened gone ctx.old.tree ctx.new.tree × AreDeadThings D.meaning D.side_effects D.removable ctx.old.tree op gone }
+    ensures none { IfOk result (λ status. LeavesNoDead D.meaning D.side_effects D.removable ctx.old.tree ctx.new.tree op) }
     ensures status { IfOk result (λ status. TellsDead D.meaning D.side_effects D.removable ctx.old.tree op status) }
-    ensures runs { KeepsRuns D.meaning ctx.old.tree ctx.new.tree }
+    ensures tells { IfOk result (λ status. (status ≡ Unchanged) ↔ (ctx.new.tree ≡ ctx.old.tree)) }
     ensures links { (root : ℕ) → IsWellLinked D.meaning ctx.old.tree root → IsLive ctx.new.tree root → IsWellLinked D.meaning ctx.new.tree root }
-    ensures stands { IsLive ctx.new.tree op }
     ensures err { IfErr result (λ e. e ≡ Memory) }
 {
     let work = all_candidates(alloc, op, ctx)?;

@@ -6,7 +6,7 @@ ghost use Rattle.pliron_theory.specs.Keeps.{KeepsRuns};
 ghost use Rattle.pliron_laws.specs.Linked.{IsWellLinked};
 ghost use Rattle.pliron_dce.specs.Dead.{Item};
 ghost use Rattle.pliron_dce.specs.Steps.{IsReady};
-ghost use Rattle.pliron_dce.specs.Going.{Goes, IsOnTheWay, AreTheDead};
+ghost use Rattle.pliron_dce.specs.Going.{Goes, IsOnTheWay, LeavesNoDead, TellsGone};
 ghost use Rattle.pliron_dce.specs.Work.{item_of, HasReady};
 
 use crate::ready::holder_of;
@@ -65,7 +65,7 @@ pub(crate) fn sweep<D: Dialect>(
     requires live { IsLive ctx.old.tree root }
     requires linked { IsWellLinked D.meaning ctx.old.tree root }
     requires all { HasReady D.meaning D.side_effects D.removable ctx.old.tree root work.items }
-    ensures gone { (gone : List Item) × IsOnTheWay D.meaning D.shortened D.side_effects D.removable ctx.old.tree ctx.new.tree root gone × IfOk result (λ status. AreTheDead D.meaning D.side_effects D.removable ctx.old.tree ctx.new.tree root gone) }
+    ensures gone { (gone : List Item) × IsOnTheWay D.meaning D.shortened D.side_effects D.removable ctx.old.tree ctx.new.tree root gone × IfOk result (λ status. LeavesNoDead D.meaning D.side_effects D.removable ctx.old.tree ctx.new.tree root × TellsGone gone status) }
     ensures err { IfErr result (λ e. e ≡ Memory) }
 {
     let mut status = IRStatus::Unchanged;

@@ -26,7 +26,7 @@ loop-at-preserved c =
     let within = c.loop-at.invariant.within c.in-Some.op c.in-Some.is in
     let adds = c.in_ok-push_operation.ensures in
     let before = subst (ArePassed (λ k. IsCovered t c.args.root (items_of c.loop-at.work.items) k) (preorder t c.args.root)) c.in-Some.is c.loop-at.invariant.passed in
-    let more = passed_weaker (λ k. IsCovered t c.args.root (items_of c.loop-at.work.items) k) (λ k. IsCovered t c.args.root (items_of c.push_operation.new.work.items) k) (preorder t c.args.root) _ (λ k h. covered_more t c.args.root k _ _ adds.kept h) before in
+    let more = passed_weaker (λ k. IsCovered t c.args.root (items_of c.loop-at.work.items) k) (λ k. IsCovered t c.args.root (items_of c.push_operation.new.work.items) k) (preorder t c.args.root) (Some c.in-Some.op) (λ k h. covered_more t c.args.root k _ _ adds.kept h) before in
     record {
       within = λ k e. inr (next_inside t w c.args.root c.in-Some.op k (sym c.next_in_preorder-at.ensures.next ∙ e));
       passed = walk_passed t w (λ k. IsCovered t c.args.root (items_of c.push_operation.new.work.items) k) c.args.root c.in-Some.op c.next_in_preorder-at.result within c.next_in_preorder-at.ensures.next adds.covered more;

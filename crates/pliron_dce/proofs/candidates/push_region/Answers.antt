@@ -1,9 +1,9 @@
-use Rattle.std.proofs.Common.{◌<◌, ℕ, length, refl, sym, subst}
+use Rattle.std.proofs.Common.{◌<◌, ℕ, Some, length, refl, sym, subst}
 use Rattle.pliron_core.specs.Tree.{layout_of}
 use Rattle.pliron_core.specs.WalkSteps.{rest_from}
 use Rattle.pliron_laws.proofs.PassedLemmas.{ArePassed, passed_all, passed_start}
 use Rattle.pliron_laws.proofs.EdgeLastLemmas.{layout_first, layout_placed, layout_smaller, layout_passed}
-use Rattle.pliron_dce.specs.Dead.{Item}
+use Rattle.pliron_dce.specs.Dead.{Arg}
 use Rattle.pliron_dce.specs.Work.{items_of}
 use Rattle.pliron_dce.proofs.CandidateLemmas.{HasArguments, passed_weaker}
 use Rattle.pliron_dce.proofs.candidates.push_region.Goals as goal
@@ -32,7 +32,7 @@ loop-at-preserved c =
     let adds = c.in_ok-push_arguments.ensures in
     let xs = layout_of t c.args.region in
     let before = subst (ArePassed (λ b. HasArguments t (items_of c.loop-at.work.items) b) xs) c.in-Some.is c.loop-at.invariant.passed in
-    let more = passed_weaker (λ b. HasArguments t (items_of c.loop-at.work.items) b) (λ b. HasArguments t (items_of c.push_arguments.new.work.items) b) xs _ (λ b h v i. adds.kept _ (h v i)) before in
+    let more = passed_weaker (λ b. HasArguments t (items_of c.loop-at.work.items) b) (λ b. HasArguments t (items_of c.push_arguments.new.work.items) b) xs (Some c.in-Some.block) (λ b h v i. adds.kept (Arg v) (h v i)) before in
     record {
       kept = λ x i. adds.kept x (c.loop-at.invariant.kept x i);
       placed = layout_placed t w c.args.region c.in-Some.block c.get_next-at.result here c.get_next-at.ensures.next;
