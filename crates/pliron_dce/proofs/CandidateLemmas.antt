@@ -1,8 +1,8 @@
 -- All that may be dead inside an operation, as it is listed.
-use Rattle.std.proofs.Common.{IfOk, Result, Ok, Err, ◌≡◌, ◌≢◌, ◌⊎◌, inl, inr, ⊎_elim, ℕ, Bool, List, Option, Some, None, sym, subst, refl}
+use Rattle.std.proofs.Common.{IfOk, Result, Ok, Err, ◌≡◌, inl, inr, ⊎_elim, ℕ, Bool, List, Option, Some, None, subst, refl}
 use Rattle.std.proofs.lemmas.Option.{same_Some}
 use Rattle.pliron_core.specs.declared.context.RegionSlot.{RegionSlot}
-use Rattle.pliron_core.specs.Tree.{Tree, In, IsInside, IsWithin, IsListedBy, HoldsBlock, op_of_slot, arguments_of, regions_of, block_parent_of, block_holder_of, region_parent_of, slot_of, up_from}
+use Rattle.pliron_core.specs.Tree.{Tree, In, IsInside, IsWithin, IsListedBy, op_of_slot, arguments_of, regions_of, block_parent_of, block_holder_of, region_parent_of, slot_of, up_from}
 use Rattle.pliron_core.specs.Joined.{IsTree}
 use Rattle.pliron_core.proofs.HoldingLemmas.{in_slice}
 use Rattle.pliron_core.proofs.WalkLemmas.{not_inside-itself}
@@ -10,7 +10,7 @@ use Rattle.pliron_laws.proofs.PassedLemmas.{ArePassed}
 use Rattle.pliron_laws.specs.Datum.{Head, Meaning}
 use Rattle.pliron_dce.specs.declared.work.Candidate.{Candidate}
 use Rattle.pliron_dce.specs.Dead.{Item, Op, Arg, Use}
-use Rattle.pliron_dce.specs.Steps.{IsReady, Among}
+use Rattle.pliron_dce.specs.Steps.{Among}
 use Rattle.pliron_dce.specs.Work.{items_of, HasReady, IsCovered, AreAllInside}
 
 -- the arguments of the block are among these

@@ -1,8 +1,8 @@
 -- Fewer things stand after each whole rewrite.
-use Rattle.std.proofs.Common.{◌≡◌, ◌≢◌, ◌⊎◌, inl, inr, ⊎_elim, ℕ, zero, suc, ◌+◌, ◌<◌, ◌≤◌, List, [], ◌∷◌, length, Option, Some, None, IsSome, slice_index_or, refl, sym, ap, ◌∙◌, subst, arith}
+use Rattle.std.proofs.Common.{◌≡◌, ◌⊎◌, inl, inr, ℕ, zero, suc, ◌+◌, ◌<◌, ◌≤◌, List, [], ◌∷◌, length, Option, Some, None, IsSome, slice_index_or, refl, arith}
 use Rattle.pliron_core.specs.declared.attrs.Head.{Head}
 use Rattle.pliron_core.specs.declared.context.OperationEntry.{OperationEntry}
-use Rattle.pliron_core.specs.Tree.{Tree, IsLive, no_entry, row_of, head_of, arguments_of}
+use Rattle.pliron_core.specs.Tree.{Tree, IsLive, no_entry, arguments_of}
 use Rattle.pliron_dce.specs.Measures.{one, count_live, total, things}
 
 one_most : (a b : Option Head) → (IsSome b → IsSome a) → one b ≤ one a

@@ -1,16 +1,14 @@
 -- What is ready after a whole rewrite was ready before it, or is looked at.
-use Rattle.std.proofs.Common.{◌≡◌, ◌≢◌, ◌⊎◌, inl, inr, ⊎_elim, ℕ, Bool, List, [], ◌∷◌, Option, Some, slice_get, refl, sym, ap, ◌∙◌, subst}
+use Rattle.std.proofs.Common.{◌≡◌, ◌≢◌, ◌⊎◌, inl, inr, ⊎_elim, ℕ, Bool, List, [], ◌∷◌, Option, Some, sym, ap, subst}
 use Rattle.std.proofs.lemmas.Bool.{cases_eq}
-use Rattle.pliron_core.specs.declared.context.Def.{Def}
-use Rattle.pliron_core.specs.declared.context.Def.TheVariants.{Result, Argument}
-use Rattle.pliron_core.specs.Changes.{IsMadeInside}
-use Rattle.pliron_core.specs.Tree.{Tree, In, IsLive, IsDefined, IsMadeBy, IsInside, IsWithin, operands_of, results_of, arguments_of, definition_of}
+use Rattle.pliron_core.specs.declared.context.Def.TheVariants.{Argument}
+use Rattle.pliron_core.specs.Tree.{Tree, In, IsLive, IsMadeBy, IsInside, IsWithin, operands_of, results_of, definition_of}
 use Rattle.pliron_core.specs.Joined.{IsTree}
-use Rattle.pliron_core.proofs.HoldingLemmas.{in_slice, slice_in, deeper, maker_is, some_is}
+use Rattle.pliron_core.proofs.HoldingLemmas.{in_slice, slice_in, deeper}
 use Rattle.pliron_laws.specs.Datum.{Head, Meaning}
-use Rattle.pliron_dce.specs.Dead.{Item, Op, Arg, Use, IsDead, MayGo, MayBeRemoved, Holds, OfResult, OfInside}
+use Rattle.pliron_dce.specs.Dead.{Item, Op, Arg, Use, Holds, OfResult, OfInside}
 use Rattle.pliron_dce.specs.Steps.{IsReady, IsReadyOperation, IsReadyArgument, Among, AreNoted, AreLookedAt}
-use Rattle.pliron_dce.proofs.Thinned.{IsThinned, Fate, Went, Stands}
+use Rattle.pliron_dce.proofs.Thinned.{IsThinned}
 
 same_item : (x y : Item) → (x ≡ y) ⊎ (x ≢ y)
 same_item (Op a) (Op b) = ⊎_elim (λ e. inl (ap Op e)) (λ n. inr (λ e. n (key e))) (cases_eq a b)

@@ -1,13 +1,11 @@
 -- Places among operands that stay when one goes.
-use Rattle.std.proofs.Common.{◌≡◌, ◌≢◌, ◌⊎◌, inl, inr, ℕ, zero, suc, ◌+◌, ◌-◌, ◌<◌, ◌≤◌, nat_lt, if◌then◌else◌, List, [], ◌∷◌, length, map, Option, Some, None, slice_get, remove, refl, sym, ap, ap₂, ◌∙◌, subst, arith, tests}
+use Rattle.std.proofs.Common.{◌≡◌, ◌≢◌, ◌⊎◌, inl, inr, ℕ, zero, suc, ◌+◌, ◌<◌, ◌≤◌, List, [], ◌∷◌, length, map, Some, None, slice_get, remove, refl, sym, ap, ap₂, ◌∙◌, subst, arith, tests}
 use Rattle.std.proofs.lemmas.List.{length-map}
 use Rattle.std.specs.List.{range_with_len}
 use Rattle.pliron_core.specs.Lists.{In, IsDistinct}
 use Rattle.pliron_core.proofs.HoldingLemmas.{some_is, in_slice, slice_in}
 use Rattle.pliron_core.proofs.TreeLemmas.{cases_lt}
-use Rattle.pliron_core.proofs.RemovalLemmas.{slice_get-remove_below, slice_get-remove_above, in_from-remove, in-remove_cases}
-use Rattle.pliron_core.proofs.GrownLemmas.{range_at}
-use Rattle.pliron_core.proofs.FlatLemmas.{slice_get-In}
+use Rattle.pliron_core.proofs.RemovalLemmas.{slice_get-remove_below, slice_get-remove_above, in_from-remove}
 use Rattle.pliron_laws.specs.Acting.{pick}
 use Rattle.pliron_laws.specs.Laws.{moved_up}
 

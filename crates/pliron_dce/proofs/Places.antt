@@ -1,6 +1,6 @@
 -- Which places operands had before each edge to a block lost the one that it forwarded to an argument, and
 -- which places the edges forward then.
-use Rattle.std.proofs.Common.{◌≡◌, ◌≢◌, ◌⊎◌, inl, inr, ⊎_elim, ℕ, zero, suc, ◌+◌, ◌<◌, Bool, true, false, nat_eq, if◌then◌else◌, List, [], ◌∷◌, length, map, Option, Some, None, IsTrue, slice_get, slice_index_or, remove, refl, sym, ap, ap₂, ◌∙◌, subst, arith}
+use Rattle.std.proofs.Common.{◌≡◌, ◌≢◌, ◌⊎◌, inl, inr, ⊎_elim, ℕ, zero, suc, ◌<◌, Bool, true, false, nat_eq, if◌then◌else◌, List, [], ◌∷◌, length, map, Some, None, IsTrue, slice_get, remove, refl, sym, ap, ◌∙◌, subst, arith}
 use Rattle.std.proofs.lemmas.Bool.{cases_eq, eq-eqb}
 use Rattle.std.proofs.lemmas.List.{get_or-set_same}
 use Rattle.pliron_core.proofs.TreeLemmas.{live-within}
@@ -20,7 +20,7 @@ use Rattle.pliron_laws.proofs.Records.{op_shows, operation_of}
 use Rattle.pliron_theory.proofs.Keys.{not_is}
 use Rattle.pliron_laws.proofs.ShapeLemmas.{shape_head}
 use Rattle.pliron_theory.proofs.ShortenedBranches.{Among, lost, shape_operands, SameFrame, same_frame, Steps, Stays, Goes, steps, frame_step, Untouched, untouched, user_live, AreListed, loses_one, branch_less, shape_less, stands_less}
-use Rattle.pliron_dce.proofs.PlaceLists.{map_remove, remove_none, pick_moved, in_others, picked_at, picked_from, picked_none, distinct_remove, distinct_gone, distinct_range, range_in, pick_range}
+use Rattle.pliron_dce.proofs.PlaceLists.{map_remove, remove_none, pick_moved, in_others, picked_at, picked_none, distinct_remove, distinct_gone, distinct_range, range_in, pick_range}
 
 module _ (m : Meaning) (can_fold : Head → Bool) (SameTests : Head → Head → Type 0) (shortened : Shape → ℕ → ℕ → Head) (law : ForwardsOperands m can_fold SameTests shortened) (tests : (h h' : Head) → SameTests h h' → m.is_branch h' ≡ m.is_branch h) (t : Tree) (w : IsTree t) (block index : ℕ) where
   -- a branch that the dialect admits

@@ -1,22 +1,19 @@
 -- Ready things go, one after the other: what holds all the way, and at the end.
 use Rattle.std.proofs.Common.{◌≡◌, ◌↔◌, ◌⊎◌, inl, inr, ⊎_elim, ℕ, true, Bool, List, [], ◌∷◌, ◌++◌, Option, Some, None, slice_get, refl, sym, ap, ◌∙◌, subst}
-use Rattle.pliron_core.specs.declared.uses.Use.{Use as Edge}
-use Rattle.pliron_core.specs.declared.context.Def.{Def}
-use Rattle.pliron_core.specs.declared.context.Def.TheVariants.{Result, Argument}
+use Rattle.pliron_core.specs.declared.context.Def.TheVariants.{Argument}
 use Rattle.pliron_laws.specs.Answers.{HeadPasses, ReadsPlace}
 use Rattle.pliron_core.specs.Changes.{IsInsideChange}
-use Rattle.pliron_core.specs.Tree.{Tree, In, IsLive, head_of, IsDefined, HoldsBlock, operands_of, successors_of, arguments_of, block_holder_of}
+use Rattle.pliron_core.specs.Tree.{Tree, In, IsLive, head_of, HoldsBlock, successors_of, arguments_of, block_holder_of}
 use Rattle.pliron_core.specs.Joined.{IsTree}
 use Rattle.pliron_core.specs.Erased.{erased}
 use Rattle.pliron_core.specs.Writes.{argument_removed}
 use Rattle.pliron_laws.specs.Datum.{Head, Shape, Meaning}
 use Rattle.pliron_laws.specs.Laws.{KeepsCounts, GivesAtOnce, ForwardsOperands, ActsWithoutArgument}
 use Rattle.pliron_laws.specs.Linked.{IsWellLinked}
-use Rattle.pliron_theory.specs.Keeps.{IsFit, KeepsRuns}
-use Rattle.pliron_theory.specs.Dropping.{AreEdgesTo, EdgesLose}
+use Rattle.pliron_theory.specs.Keeps.{KeepsRuns}
 use Rattle.pliron_theory.proofs.Keeping.{keeps_refl, keeps_trans}
 use Rattle.pliron_theory.proofs.RemovedKeeps.{removed_keeps}
-use Rattle.pliron_dce.specs.Dead.{Item, Op, Arg, Use, IsDead, MayBeRemoved}
+use Rattle.pliron_dce.specs.Dead.{Item, Op, Arg, Use, IsDead}
 use Rattle.pliron_dce.specs.Steps.{IsReady, Among}
 use Rattle.pliron_dce.specs.Going.{Goes, Removes, GoInTurn, LeavesNoDead, HasDead, TellsDead, TellsGone, IsOnTheWay}
 use Rattle.pliron_dce.proofs.ReadyLemmas.{ready_dead, no_dead}
@@ -136,7 +133,6 @@ module _ (m : Meaning) (can_fold : Head → Bool) (SameTests : Head → Head →
     where
       s : IsStep m side_effects removable t t' root
       s = step t t' root x w w' (h.linked root linked h.stands) r g
-
 
   -- nothing is ready any more
   pub at_the_end : (t0 t : Tree) (root : ℕ) (gone : List Item) → OnWay t0 t root gone → ((x : Item) → IsReady m side_effects removable t root x → ⊥) → LeavesNoDead m side_effects removable t0 t root

@@ -1,9 +1,9 @@
 -- What is ready is dead, and where nothing is ready nothing is dead.
-use Rattle.std.proofs.Common.{◌≡◌, ℕ, Bool, Option, Some, slice_get}
-use Rattle.pliron_core.specs.Tree.{Tree, In, operands_of}
+use Rattle.std.proofs.Common.{ℕ, Bool, Option}
+use Rattle.pliron_core.specs.Tree.{Tree, operands_of}
 use Rattle.pliron_core.proofs.HoldingLemmas.{in_slice, slice_in}
 use Rattle.pliron_laws.specs.Datum.{Head, Meaning}
-use Rattle.pliron_dce.specs.Dead.{Item, Op, Arg, Use, IsDead, DeadOperation, DeadArgument, UsedByDead, Forwarded, MayGo, Holds}
+use Rattle.pliron_dce.specs.Dead.{Item, Op, Arg, Use, IsDead, DeadOperation, DeadArgument, UsedByDead, Forwarded}
 use Rattle.pliron_dce.specs.Steps.{IsReady}
 
 module _ (m : Meaning) (side_effects : Head → Option Bool) (removable : Head → ℕ → Bool → Option Bool) (t : Tree) (root : ℕ) where

@@ -1,32 +1,28 @@
 -- A thing that is ready goes: runs are kept, links stay, and one dead thing is less.
-use Rattle.std.proofs.Common.{◌≡◌, ◌≢◌, ◌⊎◌, inl, inr, ⊎_elim, ℕ, ◌+◌, ◌<◌, Bool, true, false, true≢false, nat_eq, List, [], ◌∷◌, length, Option, Some, None, IsSome, IsTrue, slice_get, refl, sym, ap, ◌∙◌, subst, arith}
+use Rattle.std.proofs.Common.{◌≡◌, ◌⊎◌, inl, inr, ⊎_elim, ℕ, ◌<◌, Bool, true, false, true≢false, nat_eq, length, Option, Some, None, IsSome, IsTrue, slice_get, refl, sym, ap, ◌∙◌, subst, arith}
 use Rattle.std.proofs.lemmas.Bool.{cases_eq}
 use Rattle.std.proofs.lemmas.Option.{slice_get_within}
 use Rattle.pliron_core.specs.declared.context.Def.{Def}
 use Rattle.pliron_core.specs.declared.context.Def.TheVariants.{Result, Argument}
-use Rattle.pliron_core.specs.declared.uses.Use.{Use as Edge}
 use Rattle.pliron_core.specs.Changes.{IsMadeInside, IsMakerInside}
-use Rattle.pliron_core.specs.Tree.{Tree, In, IsLive, IsDefined, IsMadeBy, IsMadeWithin, IsInside, Directly, Deeper, IsWithin, HoldsBlock, head_of, operands_of, successors_of, results_of, regions_of, arguments_of, parent_of, block_parent_of, region_parent_of, block_holder_of, definition_of, up_from}
+use Rattle.pliron_core.specs.Tree.{Tree, In, IsLive, IsMadeBy, IsMadeWithin, IsInside, Directly, Deeper, IsWithin, HoldsBlock, head_of, operands_of, successors_of, results_of, region_parent_of, block_holder_of, definition_of, up_from}
 use Rattle.pliron_core.specs.Joined.{IsTree}
 use Rattle.pliron_core.specs.Erased.{erased, is_met_above, IsSelfContained}
-use Rattle.pliron_core.specs.Writes.{argument_removed}
-use Rattle.pliron_core.proofs.HoldingLemmas.{some_is, some_of, in_slice, slice_in, maker_is, holder_live, inside_up, inside_by, inside_or, inside_block, block_inside, within_inside, holds_or, not_itself, deeper}
+use Rattle.pliron_core.proofs.HoldingLemmas.{some_is, some_of, in_slice, slice_in, maker_is, inside_up, inside_or, inside_block, block_inside, within_inside, not_itself, deeper}
 use Rattle.pliron_core.proofs.ClearedLemmas.{met_above}
 use Rattle.pliron_core.proofs.WithinLemmas.{is_within, within_is}
-use Rattle.pliron_core.proofs.ListLemmas.{decide_in}
-use Rattle.pliron_laws.specs.Datum.{Head, Shape, Meaning}
-use Rattle.pliron_laws.specs.Tree.{Operation, op_at, shape_of}
-use Rattle.pliron_laws.specs.Laws.{Admitted, KeepsCounts, GivesAtOnce, ForwardsOperands, ActsWithoutArgument}
-use Rattle.pliron_laws.specs.Linked.{IsWellLinked, EndsBlock}
-use Rattle.pliron_theory.specs.Keeps.{IsFit, KeepsRuns}
-use Rattle.pliron_theory.specs.Dropping.{AreEdgesTo, EdgesLose}
+use Rattle.pliron_laws.specs.Datum.{Head, Meaning}
+use Rattle.pliron_laws.specs.Tree.{shape_of}
+use Rattle.pliron_laws.specs.Laws.{KeepsCounts, GivesAtOnce}
+use Rattle.pliron_laws.specs.Linked.{IsWellLinked}
+use Rattle.pliron_theory.specs.Keeps.{KeepsRuns}
 use Rattle.pliron_theory.specs.Sweeping.{is_maker_dead}
 use Rattle.pliron_laws.proofs.Records.{op_shows, operation_of, make_op}
 use Rattle.pliron_laws.proofs.ShapeLemmas.{shape_head}
 use Rattle.pliron_theory.proofs.SweptKeeps.{admitted_shape, gives_now}
 use Rattle.pliron_theory.proofs.SweptParts.{gone_away}
 use Rattle.pliron_theory.proofs.ErasedKeeps.{op_erased, block_erased_with, erased_swept, erased_gone, erased_keeps}
-use Rattle.pliron_dce.specs.Dead.{Item, Op, Arg, Use, IsDead, UsedByDead, MayGo, MayBeRemoved, Holds, OfResult, OfInside, IsForwardedTo}
+use Rattle.pliron_dce.specs.Dead.{Op, UsedByDead, MayGo, Holds, OfResult, OfInside}
 use Rattle.pliron_dce.proofs.ReadyLemmas.{ready_dead}
 use Rattle.pliron_dce.proofs.Thinned.{IsThinned}
 use Rattle.pliron_dce.proofs.RemovedThins.{inside_live, shape_successors}

@@ -1,27 +1,23 @@
 -- What the tests for ready things find.
-use Rattle.std.proofs.Common.{◌≡◌, ◌≢◌, ◌↔◌, ◌⊎◌, inl, inr, ⊎_elim, ℕ, zero, suc, ◌+◌, ◌<◌, ◌≤◌, Bool, true, false, true≢false, List, [], ◌∷◌, length, Option, Some, None, IsSome, is_some, IsTrue, slice_get, slice_index_or, refl, sym, ap, ◌∙◌, subst, arith}
+use Rattle.std.proofs.Common.{◌≡◌, ◌↔◌, ◌⊎◌, inl, inr, ℕ, ◌+◌, ◌<◌, ◌≤◌, Bool, true, false, true≢false, List, [], ◌∷◌, length, Option, Some, None, IsTrue, slice_get, refl, sym, ap, ◌∙◌, subst, arith}
 use mathlib.Core.Bool.{not}
 use Rattle.std.proofs.lemmas.Option.{slice_get_within}
 use Rattle.pliron_core.specs.declared.uses.Use.{Use as Edge}
 use Rattle.pliron_core.specs.declared.context.Def.{Def}
 use Rattle.pliron_core.specs.declared.context.Def.TheVariants.{Result, Argument}
 use Rattle.pliron_core.specs.Uses.{AreAgreed}
-use Rattle.pliron_core.specs.Tree.{Tree, In, IsLive, IsBlock, IsDefined, IsMadeBy, IsMadeWithin, IsInside, IsWithin, HoldsBlock, head_of, operands_of, successors_of, results_of, arguments_of, block_holder_of, definition_of, uses_of}
+use Rattle.pliron_core.specs.Tree.{Tree, In, IsLive, IsDefined, IsMadeBy, IsMadeWithin, IsInside, IsWithin, head_of, operands_of, successors_of, block_holder_of, definition_of, uses_of}
 use Rattle.pliron_core.specs.Changes.{IsMadeInside, IsMakerInside}
 use Rattle.pliron_core.specs.Joined.{IsTree}
 use Rattle.pliron_core.specs.Erased.{IsSelfContained}
-use Rattle.pliron_core.proofs.HoldingLemmas.{some_is, some_of, in_slice, slice_in, maker_is}
+use Rattle.pliron_core.proofs.HoldingLemmas.{some_is, some_of, in_slice, slice_in}
 use Rattle.pliron_core.proofs.TreeLemmas.{cases_lt}
 use Rattle.pliron_laws.specs.Datum.{Head, Meaning}
-use Rattle.pliron_laws.specs.Laws.{KeepsCounts, GivesAtOnce}
-use Rattle.pliron_laws.specs.Linked.{IsWellLinked}
 use Rattle.pliron_laws.specs.Answers.{ReadsHead, ReadsPlace, HeadPasses}
-use Rattle.pliron_dce.specs.Dead.{Item, Op, Arg, IsHarmless, MayGo, MayLose, MayBeRemoved, Holds, OfResult, OfInside}
+use Rattle.pliron_dce.specs.Dead.{IsHarmless, MayLose, Holds, OfResult, OfInside}
 use Rattle.pliron_dce.specs.Steps.{IsReadyOperation, IsReadyArgument, HaveNoUse}
-use Rattle.pliron_dce.proofs.RemovedThins.{inside_live}
-use Rattle.pliron_dce.proofs.ReadySteps.{ready_contained}
 use Rattle.pliron_core.proofs.WithinLemmas.{block_holder_live}
-use Rattle.pliron_theory.proofs.SweptParts.{HasBlockPlace, block_place_of}
+use Rattle.pliron_theory.proofs.SweptParts.{block_place_of}
 
 pub no_false : {A : Type 0} → (A → ⊥) → IsTrue false ↔ A
 no_false n = ((λ e. absurd (true≢false (sym e))), (λ a. absurd (n a)))

@@ -1,5 +1,5 @@
 -- An argument that nothing uses goes: one dead thing less.
-use Rattle.std.proofs.Common.{◌≡◌, ◌≢◌, ◌⊎◌, inl, inr, ⊎_elim, ℕ, zero, suc, ◌+◌, ◌<◌, ◌≤◌, Bool, true, false, true≢false, nat_lt, if◌then◌else◌, List, [], ◌∷◌, length, map, Option, Some, None, IsSome, is_some, IsTrue, slice_get, slice_index_or, remove, refl, sym, ap, ap₂, ◌∙◌, subst, arith, tests}
+use Rattle.std.proofs.Common.{◌≡◌, ◌≢◌, ◌⊎◌, inl, inr, ℕ, ◌+◌, ◌<◌, ◌≤◌, Bool, true, false, true≢false, nat_lt, if◌then◌else◌, List, [], length, map, Option, Some, None, IsSome, is_some, IsTrue, slice_get, slice_index_or, remove, refl, sym, ap, ap₂, ◌∙◌, subst, arith, tests}
 use Rattle.std.proofs.lemmas.Bool.{cases_eq}
 use Rattle.std.proofs.lemmas.List.{get_or-set_other, get_or-set_same, get_or_past, length-map}
 use Rattle.std.proofs.lemmas.Option.{slice_get_within}
@@ -7,14 +7,14 @@ use Rattle.std.specs.List.{range_with_len}
 use Rattle.pliron_core.specs.declared.context.Def.{Def}
 use Rattle.pliron_core.specs.declared.context.Def.TheVariants.{Result, Argument}
 use Rattle.pliron_core.specs.declared.uses.Use.{Use as Edge}
-use Rattle.pliron_core.specs.Changes.{IsMadeInside, IsMakerInside, IsInsideChange, IsOutside, IsBlockOutside, IsValueOutside}
-use Rattle.pliron_core.specs.Tree.{Tree, In, IsDistinct, IsLive, IsBlock, IsDefined, IsMadeBy, IsInside, IsWithin, Directly, Deeper, HoldsBlock, row_of, head_of, operands_of, successors_of, results_of, regions_of, parent_of, arguments_of, block_parent_of, slot_of, region_parent_of, holder_of, block_holder_of, definition_of, op_of_slot, up_from, first_of, last_of, layout_of}
+use Rattle.pliron_core.specs.Changes.{IsMadeInside, IsMakerInside, IsInsideChange, IsValueOutside}
+use Rattle.pliron_core.specs.Tree.{Tree, In, IsLive, IsDefined, IsMadeBy, IsInside, IsWithin, Directly, Deeper, HoldsBlock, row_of, head_of, operands_of, successors_of, results_of, regions_of, parent_of, arguments_of, block_parent_of, region_parent_of, holder_of, block_holder_of, definition_of, op_of_slot, up_from, first_of, last_of}
 use Rattle.pliron_core.specs.Joined.{IsTree, IsJoined}
 use Rattle.pliron_core.specs.Writes.{argument_removed}
 use Rattle.pliron_core.proofs.ListLemmas.{decide_in}
 use Rattle.pliron_core.proofs.TreeLemmas.{cases_lt}
-use Rattle.pliron_core.proofs.RemovalLemmas.{slice_get-remove_below, slice_get-remove_above, in-remove_cases}
-use Rattle.pliron_core.proofs.HoldingLemmas.{some_is, some_of, in_slice, slice_in, slot_is, maker_is, holder_live, inside_up, inside_alike, within_alike, inside_block, holder_by}
+use Rattle.pliron_core.proofs.RemovalLemmas.{slice_get-remove_below, slice_get-remove_above}
+use Rattle.pliron_core.proofs.HoldingLemmas.{some_is, some_of, in_slice, slice_in, slot_is, maker_is, holder_live, inside_alike, within_alike, inside_block}
 use Rattle.pliron_core.proofs.WithinLemmas.{block_steps}
 use Rattle.pliron_core.proofs.InsideLemmas.{AreKeptOutside, change_of_kept}
 use Rattle.pliron_core.proofs.WriteInsideLemmas.{same_block, same_operation}
@@ -30,7 +30,7 @@ use Rattle.pliron_laws.proofs.ShapeLemmas.{shape_head}
 use Rattle.pliron_theory.proofs.SweptKeeps.{admitted_shape}
 use Rattle.pliron_theory.proofs.SweptStays.{admitted_same}
 use Rattle.pliron_theory.proofs.ShortenedBranches.{SameFrame, childless, user_live, op_kept}
-use Rattle.pliron_dce.specs.Dead.{Item, Op, Arg, Use, IsDead, Forwarded, MayGo, MayBeRemoved, Holds, OfResult, OfInside, IsForwardedTo}
+use Rattle.pliron_dce.specs.Dead.{Arg, IsDead, Forwarded, MayGo, MayBeRemoved, Holds, OfResult, OfInside, IsForwardedTo}
 use Rattle.pliron_dce.proofs.Thinned.{IsThinned, Fate, Went, Stands}
 use Rattle.pliron_dce.proofs.PlaceLists.{get_moved, in_others, picked_at, picked_from, distinct_same, range_get}
 use Rattle.pliron_dce.proofs.Places.{IsBranchAt, PlacesStill, Placed, placed_end, all_lost, none_lost}
@@ -476,8 +476,7 @@ module _ (m : Meaning) (can_fold : Head → Bool) (SameTests : Head → Head →
       let hd = some_of (head_of t' user) live in
       let o' = operation_of t' user hd.0 in
       let e' = make_op t' user hd.0 hd.1 in
-      let y = place_forth user b o' e' h.edge h.block h.index x place place' h.target (ap (λ z. slice_get (m.forwarded (shape_of m t z) h.edge) h.index) so ∙ h.forwards) h.argument kp in
-      (
+      let y = place_forth user b o' e' h.edge h.block h.index x place place' h.target (ap (λ z. slice_get (m.forwarded (shape_of m t z) h.edge) h.index) so ∙ h.forwards) h.argument kp in (
         subst (IsMadeBy t' x) (sym (w'.joined.arguments h.block y.0 x y.2)) y.2,
         record {
           operation = o';

@@ -1,5 +1,5 @@
 -- Each whole rewrite leaves fewer things.
-use Rattle.std.proofs.Common.{◌≡◌, ◌≢◌, ◌⊎◌, inl, inr, ℕ, ◌+◌, ◌<◌, ◌≤◌, Bool, true, false, nat_eq, List, [], length, Option, Some, None, slice_get, slice_index_or, remove, refl, sym, ap, ◌∙◌, subst, arith}
+use Rattle.std.proofs.Common.{◌≡◌, ◌≢◌, ◌⊎◌, inl, inr, ℕ, ◌<◌, ◌≤◌, Bool, true, false, nat_eq, [], length, Option, Some, None, slice_get, slice_index_or, remove, refl, sym, ap, ◌∙◌, subst, arith}
 use Rattle.std.proofs.lemmas.Bool.{cases_eq}
 use Rattle.std.proofs.lemmas.List.{get_or-set_other, get_or-set_same, get_or_past, length-set}
 use Rattle.std.proofs.lemmas.List.Edits.{length-remove}
@@ -10,7 +10,6 @@ use Rattle.pliron_core.specs.Writes.{taken_from, argument_removed}
 use Rattle.pliron_core.specs.Erased.{erased, cleared, IsSelfContained}
 use Rattle.pliron_core.proofs.BlankLemmas.{length-blanked}
 use Rattle.pliron_core.proofs.TreeLemmas.{cases_lt}
-use Rattle.pliron_laws.specs.Datum.{Head, Shape, Meaning}
 use Rattle.pliron_core.proofs.HoldingLemmas.{some_of}
 use Rattle.pliron_core.proofs.WithinLemmas.{is_within}
 use Rattle.pliron_core.specs.Tree.{head_of}

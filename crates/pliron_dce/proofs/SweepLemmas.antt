@@ -1,6 +1,6 @@
 -- What the loop knows after a thing went.
-use Rattle.std.proofs.Common.{◌≡◌, ◌⊎◌, inl, inr, ⊎_elim, ℕ, Bool, true, false, List, [], ◌∷◌, ◌++◌, ◌<◌, Option, Some, IsSome, slice_get, refl, sym, ap, ◌∙◌, subst}
-use Rattle.pliron_core.specs.declared.context.Def.TheVariants.{Result, Argument}
+use Rattle.std.proofs.Common.{◌≡◌, ⊎_elim, ℕ, Bool, true, false, List, [], ◌∷◌, ◌++◌, ◌<◌, Option, Some, IsSome, slice_get, refl, sym, subst}
+use Rattle.pliron_core.specs.declared.context.Def.TheVariants.{Argument}
 use Rattle.pliron_core.specs.Tree.{Tree, IsLive, IsMadeBy, IsWithin, holder_of, definition_of, arguments_of}
 use Rattle.pliron_dce.proofs.ReadyTests.{ready_defined}
 use Rattle.pliron_core.specs.Erased.{erased, IsSelfContained}

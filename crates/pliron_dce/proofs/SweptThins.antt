@@ -1,26 +1,24 @@
 -- Operations go with their contents, all of whose uses are dead: less dead things.
-use Rattle.std.proofs.Common.{◌≡◌, ◌≢◌, ◌⊎◌, inl, inr, ℕ, ◌+◌, ◌<◌, Bool, true, false, true≢false, List, [], ◌∷◌, length, Option, Some, None, IsSome, IsTrue, slice_get, refl, sym, ap, ◌∙◌, subst, arith}
+use Rattle.std.proofs.Common.{◌≡◌, ◌⊎◌, inl, inr, ℕ, Bool, true, false, List, [], ◌∷◌, length, Option, Some, None, IsSome, slice_get, refl, sym, ap, ◌∙◌, subst, arith}
 use Rattle.std.proofs.lemmas.Option.{slice_get_within}
 use Rattle.std.specs.List.{range_with_len}
 use Rattle.pliron_core.specs.declared.context.Def.{Def}
 use Rattle.pliron_core.specs.declared.context.Def.TheVariants.{Result, Argument}
 use Rattle.pliron_core.specs.Changes.{IsMadeInside, IsMakerInside}
-use Rattle.pliron_core.specs.Tree.{Tree, In, IsLive, IsDefined, IsMadeBy, IsInside, IsWithin, HoldsBlock, head_of, operands_of, successors_of, results_of, regions_of, arguments_of, block_parent_of, slot_of, block_holder_of, definition_of, first_of, last_of, body_of, layout_of, op_of_slot}
+use Rattle.pliron_core.specs.Tree.{Tree, In, IsLive, IsDefined, IsMadeBy, IsInside, IsWithin, HoldsBlock, head_of, operands_of, successors_of, results_of, regions_of, arguments_of, block_parent_of, slot_of, block_holder_of, definition_of, first_of, last_of, body_of, layout_of}
 use Rattle.pliron_core.specs.Joined.{IsTree}
 use Rattle.pliron_core.proofs.GrownLemmas.{range_at}
-use Rattle.pliron_core.proofs.HoldingLemmas.{some_is, some_of, in_slice, slice_in, slot_is, maker_is, argument_stands, result_live}
-use Rattle.pliron_core.proofs.WithinLemmas.{block_steps}
+use Rattle.pliron_core.proofs.HoldingLemmas.{some_is, some_of, in_slice, slice_in, maker_is, argument_stands, result_live}
 use Rattle.pliron_laws.specs.Datum.{Head, Meaning}
-use Rattle.pliron_laws.specs.Tree.{Operation, op_at, shape_of}
+use Rattle.pliron_laws.specs.Tree.{op_at}
 use Rattle.pliron_laws.specs.Linked.{IsWellLinked, EndsBlock}
-use Rattle.pliron_laws.specs.Answers.{HeadPasses, ReadsPlace, is_first, is_entry}
+use Rattle.pliron_laws.specs.Answers.{ReadsPlace, is_first}
 use Rattle.pliron_theory.specs.Sweeping.{swept, is_maker_dead, IsSwept, AreAway}
-use Rattle.pliron_laws.proofs.Records.{op_shows}
 use Rattle.pliron_theory.proofs.SweptLists.{first_swept, last_swept}
 use Rattle.pliron_theory.proofs.SweptRecords.{op_same, shape_swept}
 use Rattle.pliron_theory.proofs.SweptStays.{admitted_same}
-use Rattle.pliron_theory.proofs.SweptParts.{HasBlockPlace, block_place_of, block_place_back, block_place_forth, within_forth, inside_forth, made_forth, made_same, block_lives, user_lives, jumper_lives, inside_back, inside_lives, within_back, made_back}
-use Rattle.pliron_dce.specs.Dead.{Item, Op, Arg, Use, IsDead, MayGo, MayBeRemoved, Holds, OfResult, OfInside, IsForwardedTo}
+use Rattle.pliron_theory.proofs.SweptParts.{block_place_of, block_place_back, block_place_forth, within_forth, inside_forth, made_forth, made_same, block_lives, user_lives, jumper_lives, inside_back, inside_lives, within_back, made_back}
+use Rattle.pliron_dce.specs.Dead.{Use, IsDead, MayGo, MayBeRemoved, Holds, OfResult, OfInside, IsForwardedTo}
 use Rattle.pliron_dce.proofs.Thinned.{IsThinned, Fate, Went, Stands}
 use Rattle.pliron_dce.proofs.PlaceLists.{range_get}
 use Rattle.pliron_dce.proofs.RemovedThins.{inside_live, used_live}
@@ -291,8 +289,7 @@ module _ (m : Meaning) (t t' : Tree) (dead dead_block : ℕ → Bool) (w : IsTre
         forwarded_forth user place place' v y live e f =
             let lk = lives user live in
             let lb = h.targets user f.block lk (in_slice (successors_of t user) f.edge f.block f.target) in
-            let there : slice_get (arguments_of t' f.block) f.index ≡ Some v = ap (λ z. slice_get z f.index) (h.arguments f.block lb) ∙ f.argument in
-            (
+            let there : slice_get (arguments_of t' f.block) f.index ≡ Some v = ap (λ z. slice_get z f.index) (h.arguments f.block lb) ∙ f.argument in (
               subst (IsMadeBy t' v) (sym (w'.joined.arguments f.block f.index v there)) there,
               record {
                 operation = f.operation;

@@ -1,8 +1,8 @@
 -- What is known of the edges to a block before they lose an operand.
-use Rattle.std.proofs.Common.{◌≡◌, ◌≢◌, ◌⊎◌, inl, inr, ⊎_elim, ℕ, zero, suc, ◌+◌, ◌<◌, ◌≤◌, ◌↔◌, Bool, true, false, true≢false, nat_lt, List, [], ◌∷◌, ◌++◌, length, map, Option, Some, None, IsSome, IfSome, IsTrue, slice_get, slice_index_or, refl, sym, ap, ◌∙◌, subst, arith, tests}
+use Rattle.std.proofs.Common.{◌≡◌, ◌⊎◌, inl, inr, ⊎_elim, ℕ, zero, suc, ◌+◌, ◌<◌, ◌≤◌, ◌↔◌, Bool, true, false, true≢false, nat_lt, List, [], ◌∷◌, ◌++◌, length, Option, Some, None, IsSome, IfSome, IsTrue, slice_get, slice_index_or, refl, sym, ap, ◌∙◌, subst, arith, tests}
 use Rattle.std.proofs.lemmas.Option.{slice_get_within}
 use Rattle.pliron_core.specs.declared.uses.Use.{Use as Edge}
-use Rattle.pliron_core.specs.declared.context.Def.TheVariants.{Result, Argument}
+use Rattle.pliron_core.specs.declared.context.Def.TheVariants.{Argument}
 use Rattle.pliron_core.specs.Uses.{AreAgreed}
 use Rattle.pliron_core.specs.Joined.{IsTree}
 use Rattle.pliron_core.specs.Writes.{argument_removed}
@@ -27,7 +27,6 @@ use Rattle.pliron_dce.proofs.RemovedThins.{inside_live}
 use Rattle.pliron_dce.proofs.ReadySteps.{ready_contained}
 use Rattle.pliron_dce.proofs.Places.{IsBranchAt, Placed, placed_end, none_lost}
 use Rattle.pliron_laws.specs.Tree.{Operation, op_at, shape_of}
-use Rattle.pliron_laws.specs.Acting.{pick}
 use Rattle.pliron_laws.specs.Answers.{AreForwarded, HeadPasses}
 use Rattle.pliron_laws.proofs.Records.{op_shows, operation_of, make_op}
 use Rattle.pliron_dce.proofs.PlaceLists.{picked_at, picked_from, picked_length}
@@ -63,10 +62,10 @@ module _ (m : Meaning) (t : Tree) (index : ℕ) (edges : List Edge) (n : ℕ) (f
   told_more b tell i f c o ef ec oe = ⊎_elim
       (λ q. r.told i f c o ef q.1 oe)
       (λ q.
-          let same : e ≡ f = some_is (sym here ∙ ap (slice_get edges) (sym q.0) ∙ ef) in
-          let oe' : op_at t e.user ≡ Some o = ap (λ z. op_at t z.user) same ∙ oe in
-          let l : length (m.forwarded (shape_of m t o) f.place) ≡ length values = ap (λ z. length (m.forwarded (shape_of m t o) z.place)) (sym same) ∙ as_many o oe' in
-          subst (λ z. IsTrue z ↔ (index < length (m.forwarded (shape_of m t o) f.place))) q.1 (subst (λ z. IsTrue b ↔ (index < z)) (sym l) tell))
+      let same : e ≡ f = some_is (sym here ∙ ap (slice_get edges) (sym q.0) ∙ ef) in
+      let oe' : op_at t e.user ≡ Some o = ap (λ z. op_at t z.user) same ∙ oe in
+      let l : length (m.forwarded (shape_of m t o) f.place) ≡ length values = ap (λ z. length (m.forwarded (shape_of m t o) z.place)) (sym same) ∙ as_many o oe' in
+      subst (λ z. IsTrue z ↔ (index < length (m.forwarded (shape_of m t o) f.place))) q.1 (subst (λ z. IsTrue b ↔ (index < z)) (sym l) tell))
       (at_end forwards b c i n r.count ec)
 
   pub tells_place : (v : ℕ) → index < length values → slice_get values index ≡ Some v → TellsSoFar m t index edges (n + 1) (forwards ++ true ∷ []) (used ++ v ∷ [])
@@ -196,12 +195,12 @@ module _ (m : Meaning) (can_fold : Head → Bool) (SameTests : Head → Head →
             let p = slice_in (operands_of t user) x i in
             ⊎_elim
             (λ q.
-                let y = slice_in (placed user).places p.0 q in
-                let z = picked_at (placed user).places (operands_of t user) (operands_of u user) y.0 p.0 (sym (placed user).left) y.1 in
-                inr (in_slice (operands_of u user) y.0 x (z.1 ∙ sym z.2 ∙ p.1)))
+            let y = slice_in (placed user).places p.0 q in
+            let z = picked_at (placed user).places (operands_of t user) (operands_of u user) y.0 p.0 (sym (placed user).left) y.1 in
+            inr (in_slice (operands_of u user) y.0 x (z.1 ∙ sym z.2 ∙ p.1)))
             (λ q.
-                let n = agreed.complete user q.0 block ((placed user).sound q.0 q.1) in
-                inl (tells.values n.0 p.0 x (record { user = user; place = q.0 }) o (slice_get_within edges n.0 (record { user = user; place = q.0 }) n.1) n.1 oe q.2 p.1, Directly (beside user site j held_by)))
+            let n = agreed.complete user q.0 block ((placed user).sound q.0 q.1) in
+            inl (tells.values n.0 p.0 x (record { user = user; place = q.0 }) o (slice_get_within edges n.0 (record { user = user; place = q.0 }) n.1) n.1 oe q.2 p.1, Directly (beside user site j held_by)))
             (a.1.there p.0 (slice_get_within (operands_of t user) p.0 x p.1))
 
 pub argument_at : (t : Tree) (block index : ℕ) → index < length (arguments_of t block) → (v : ℕ) × (slice_get (arguments_of t block) index ≡ Some v)

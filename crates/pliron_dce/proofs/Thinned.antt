@@ -1,6 +1,6 @@
 -- One dead thing less: what is dead in the tree after is dead in the tree before, and what is dead before
 -- is dead after or is gone.
-use Rattle.std.proofs.Common.{◌≡◌, ◌⊎◌, inl, inr, ℕ, Bool, List, Option, Some, slice_get}
+use Rattle.std.proofs.Common.{◌≡◌, ℕ, Bool, List, Option, Some, slice_get}
 use Rattle.pliron_core.specs.Tree.{Tree, In, IsLive, IsDefined, IsInside, IsWithin, operands_of, results_of}
 use Rattle.pliron_core.specs.Changes.{IsMadeInside}
 use Rattle.pliron_laws.specs.Datum.{Head, Meaning}

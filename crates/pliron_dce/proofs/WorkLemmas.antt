@@ -1,9 +1,9 @@
 -- What is still to be looked at, as items.
-use Rattle.std.proofs.Common.{◌≡◌, ◌⊎◌, inl, inr, ⊎_elim, ℕ, ◌+◌, add-one, take, slice_get, Bool, List, [], ◌∷◌, ◌++◌, map, Option, Some, None, IfSome, refl, sym, ap, ◌∙◌, subst}
+use Rattle.std.proofs.Common.{◌≡◌, ◌⊎◌, inl, inr, ⊎_elim, ℕ, ◌+◌, add-one, take, slice_get, Bool, List, [], ◌∷◌, ◌++◌, Option, Some, None, IfSome, refl, sym, ap, ◌∙◌, subst}
 use Rattle.pliron_core.specs.declared.context.Def.{Def}
 use Rattle.pliron_core.specs.declared.context.Def.TheVariants.{Result, Argument as Definition}
 use Rattle.pliron_core.specs.Changes.{IsMadeInside}
-use Rattle.pliron_core.specs.Tree.{Tree, In, IsDefined, IsInside, IsWithin, holder_of, definition_of}
+use Rattle.pliron_core.specs.Tree.{Tree, In, IsDefined, IsWithin, holder_of, definition_of}
 use Rattle.pliron_core.proofs.ArgumentLemmas.{take_more}
 use Rattle.pliron_core.proofs.HoldingLemmas.{inside_up, within_inside}
 use Rattle.pliron_laws.specs.Datum.{Head, Meaning}

@@ -1,5 +1,5 @@
 -- What is dead inside an operation.
-use Rattle.std.specs.Prelude.{◌≡◌, ℕ, Bool, false, true, Option, Some, ◌⊎◌, slice_get, IsTrue}
+use Rattle.std.specs.Prelude.{◌≡◌, ℕ, Bool, false, true, Option, Some, slice_get, IsTrue}
 use Rattle.pliron_core.specs.Tree.{Tree, In, IsInside, IsWithin, HoldsBlock, head_of, operands_of, successors_of, results_of, arguments_of, block_holder_of}
 use Rattle.pliron_core.specs.Changes.{IsMadeInside}
 use Rattle.pliron_laws.specs.Datum.{Head, Meaning}

@@ -1,10 +1,9 @@
 -- The statements on dead things.
-use Rattle.std.specs.Prelude.{◌≡◌, ◌⊎◌, ℕ, Bool, List, [], ◌∷◌, ◌++◌, Option}
-use Rattle.pliron_core.specs.Tree.{Tree, IsLive, IsDefined}
+use Rattle.std.specs.Prelude.{◌⊎◌, ℕ, Bool, List, [], ◌∷◌, ◌++◌, Option}
+use Rattle.pliron_core.specs.Tree.{Tree, IsLive}
 use Rattle.pliron_core.specs.Joined.{IsTree}
 use Rattle.pliron_laws.specs.Datum.{Head, Shape, Meaning}
 use Rattle.pliron_laws.specs.Linked.{IsWellLinked}
-use Rattle.pliron_theory.specs.Keeps.{KeepsRuns}
 use Rattle.pliron_dce.specs.Dead.{Item, Op, Arg, IsDead}
 use Rattle.pliron_dce.specs.Steps.{IsReady, Among, AreNoted, AreLookedAt}
 use Rattle.pliron_dce.specs.Going.{Goes, IsOnTheWay, LeavesNoDead}

@@ -1,5 +1,5 @@
 -- When a thing may go at once.
-use Rattle.std.specs.Prelude.{◌≡◌, ◌⊎◌, ℕ, Bool, List, [], ◌∷◌, Option, Some, slice_get}
+use Rattle.std.specs.Prelude.{◌≡◌, ◌⊎◌, ℕ, Bool, List, [], ◌∷◌, Option, Some}
 use Rattle.pliron_core.specs.declared.context.Def.TheVariants.{Result, Argument}
 use Rattle.pliron_core.specs.Changes.{IsMadeInside}
 use Rattle.pliron_core.specs.Tree.{Tree, In, IsDefined, IsInside, IsWithin, operands_of, results_of, definition_of}

@@ -43,11 +43,7 @@ fn push_region(
 }
 
 // The arguments of all blocks that the operation holds directly go there.
-fn push_held(
-    work: &mut Vec<Candidate>,
-    op: Ptr<Operation>,
-    ctx: &Context,
-) -> Result<(), AllocError>
+fn push_held(work: &mut Vec<Candidate>, op: Ptr<Operation>, ctx: &Context) -> Result<(), AllocError>
     requires { IsLive ctx.now.tree op }
     ensures { OnOk result (AddsArguments ctx.now.tree (λ b. block_holder_of ctx.now.tree b ≡ Some op) work.old.items work.new.items) }
 {

@@ -14,7 +14,11 @@ use pliron_theory::lose_forwarded;
 use std::alloc::{AllocError, Global};
 
 // The operands of this operation go to the end of the list.
-fn push_operands(values: &mut Vec<Value>, op: Ptr<Operation>, ctx: &Context) -> Result<(), AllocError>
+fn push_operands(
+    values: &mut Vec<Value>,
+    op: Ptr<Operation>,
+    ctx: &Context,
+) -> Result<(), AllocError>
     requires { IsLive ctx.now.tree op }
     ensures { OnOk result (AddsOperands ctx.now.tree op values.old.items values.new.items) }
 {

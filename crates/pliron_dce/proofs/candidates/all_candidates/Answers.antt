@@ -1,4 +1,4 @@
-use Rattle.std.proofs.Common.{◌<◌, ℕ, length, Some, sym, subst, inr, ◌∙◌}
+use Rattle.std.proofs.Common.{◌<◌, length, Some, sym, subst, inr, ◌∙◌}
 use Rattle.pliron_core.specs.Walks.{preorder}
 use Rattle.pliron_core.specs.WalkSteps.{rest_from}
 use Rattle.pliron_core.proofs.WalkLemmas.{within_live, In-preorder}

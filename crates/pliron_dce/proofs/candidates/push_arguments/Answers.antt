@@ -1,4 +1,4 @@
-use Rattle.std.proofs.Common.{◌≡◌, ◌<◌, ◌+◌, ℕ, Some, slice_get, sym, ap, subst, ◌∙◌, arith}
+use Rattle.std.proofs.Common.{slice_get, sym, ap, subst, ◌∙◌, arith}
 use Rattle.std.proofs.lemmas.Option.{slice_get_within}
 use Rattle.pliron_core.specs.Tree.{In, arguments_of}
 use Rattle.pliron_core.proofs.HoldingLemmas.{some_is, slice_in}
@@ -16,8 +16,8 @@ loop-i-preserved c =
     record {
       kept = λ x i. subst (λ z. Among x (items_of z)) (sym same) (among_front x _ _ (c.loop-i.invariant.kept x i));
       added = λ j v l e. less_or_same c.loop-i.i j l
-      (λ lt. subst (λ z. Among (Arg v) (items_of z)) (sym same) (among_front (Arg v) _ _ (c.loop-i.invariant.added j v lt e)))
-      (λ s. subst (λ z. Among (Arg z) (items_of c.push.new.self.items)) (some_is (sym c.get_argument.ensures.argument ∙ ap (slice_get (arguments_of c.args.ctx.now.tree c.args.block)) (sym s) ∙ e)) (subst (λ z. Among (Arg c.get_argument.result) (items_of z)) (sym same) (among_last _ (Argument c.get_argument.result))));
+          (λ lt. subst (λ z. Among (Arg v) (items_of z)) (sym same) (among_front (Arg v) _ _ (c.loop-i.invariant.added j v lt e)))
+          (λ s. subst (λ z. Among (Arg z) (items_of c.push.new.self.items)) (some_is (sym c.get_argument.ensures.argument ∙ ap (slice_get (arguments_of c.args.ctx.now.tree c.args.block)) (sym s) ∙ e)) (subst (λ z. Among (Arg c.get_argument.result) (items_of z)) (sym same) (among_last _ (Argument c.get_argument.result))));
     }
 
 pub returns : goal.returns

@@ -1,10 +1,8 @@
-use Rattle.std.proofs.Common.{◌≡◌, ◌<◌, ◌+◌, ℕ, Some, slice_get, sym, ap, subst, ◌∙◌, arith}
+use Rattle.std.proofs.Common.{Some, slice_get, sym, ap, ◌∙◌, arith}
 use Rattle.std.proofs.lemmas.Option.{slice_get_within}
-use Rattle.pliron_core.specs.Tree.{In, regions_of, block_parent_of}
+use Rattle.pliron_core.specs.Tree.{regions_of}
 use Rattle.pliron_core.proofs.HoldingLemmas.{some_is, slice_in}
 use Rattle.pliron_dce.specs.Dead.{Arg}
-use Rattle.pliron_dce.specs.Steps.{Among}
-use Rattle.pliron_dce.specs.Work.{items_of}
 use Rattle.pliron_dce.proofs.ReadyTests.{less_or_same}
 use Rattle.pliron_dce.proofs.CandidateLemmas.{region_of_held}
 use Rattle.pliron_dce.proofs.candidates.push_held.Goals as goal
@@ -16,8 +14,8 @@ loop-i-preserved c =
     record {
       kept = λ x i. adds.kept x (c.loop-i.invariant.kept x i);
       added = λ j r b v l e p i. less_or_same c.loop-i.i j l
-      (λ lt. adds.kept (Arg v) (c.loop-i.invariant.added j r b v lt e p i))
-      (λ s. adds.added b v (p ∙ ap Some (sym (some_is (sym c.get_region.ensures.region ∙ ap (slice_get (regions_of t c.args.op)) (sym s) ∙ e)))) i);
+          (λ lt. adds.kept (Arg v) (c.loop-i.invariant.added j r b v lt e p i))
+          (λ s. adds.added b v (p ∙ ap Some (sym (some_is (sym c.get_region.ensures.region ∙ ap (slice_get (regions_of t c.args.op)) (sym s) ∙ e)))) i);
     }
 
 pub returns : goal.returns

@@ -1,4 +1,4 @@
-use Rattle.std.proofs.Common.{◌<◌, ℕ, Some, length, refl, sym, subst}
+use Rattle.std.proofs.Common.{◌<◌, Some, length, refl, sym, subst}
 use Rattle.pliron_core.specs.Tree.{layout_of}
 use Rattle.pliron_core.specs.WalkSteps.{rest_from}
 use Rattle.pliron_laws.proofs.PassedLemmas.{ArePassed, passed_all, passed_start}

@@ -1,9 +1,9 @@
-use Rattle.std.proofs.Common.{rules, ◌≡◌, refl, true, false, Some, None, arith}
+use Rattle.std.proofs.Common.{rules, ◌≡◌, false, Some, arith}
 use Rattle.pliron_dce.proofs.ReadyTests.{harmless_told, harmful_told}
 use Rattle.pliron_dce.proofs.ready.is_harmless.Goals as goal
 
 pub returns-in-Some-false : goal.returns-in-Some-false
-returns-in-Some-false g c = 
+returns-in-Some-false g c =
     let said : c.has_side_effects.result ≡ Some false = search (rules, c.in-Some-false) in
     harmless_told g.D.HasMeaning.meaning g.D.SideEffects.side_effects c.args.ctx.now.tree c.args.op c.has_side_effects.result c.is_terminator.result c.requires c.has_side_effects.ensures said c.is_terminator.ensures
 

@@ -1,4 +1,3 @@
-use Rattle.std.proofs.Common.{◌≡◌, false, refl, sym}
 use Rattle.pliron_laws.proofs.AnswerLemmas.{no, refuted}
 use Rattle.pliron_dce.specs.Steps.{IsReadyOperation}
 use Rattle.pliron_dce.proofs.ReadyTests.{ready_told, ready_unused}

@@ -1,12 +1,10 @@
-use Rattle.std.proofs.Common.{rules, ◌≡◌, ◌<◌, ◌+◌, ◌∙◌, ℕ, Some, true, false, refl, sym, ap, subst, slice_get, arith}
+use Rattle.std.proofs.Common.{rules, ◌≡◌, Some, true, arith}
 use Rattle.std.proofs.lemmas.Option.{slice_get_within}
-use Rattle.pliron_core.specs.declared.uses.Use.{Use}
 use Rattle.pliron_core.specs.Tree.{uses_of, successors_of}
-use Rattle.pliron_core.proofs.HoldingLemmas.{some_is, some_of, slice_in, in_slice}
-use Rattle.pliron_laws.specs.Answers.{HeadPasses}
+use Rattle.pliron_core.proofs.HoldingLemmas.{slice_in, in_slice}
 use Rattle.pliron_laws.proofs.AnswerLemmas.{no, yes, refuted}
 use Rattle.pliron_dce.specs.Dead.{MayLose}
-use Rattle.pliron_dce.proofs.ReadyTests.{place_answer, allowed_told, less_or_same, head_told}
+use Rattle.pliron_dce.proofs.ReadyTests.{place_answer, allowed_told, head_told}
 use Rattle.pliron_dce.proofs.ready.may_lose.Goals as goal
 
 pub returns-in_default : goal.returns-in_default

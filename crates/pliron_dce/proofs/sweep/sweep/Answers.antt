@@ -1,5 +1,4 @@
-use Rattle.std.proofs.Common.{refl, rules, ◌≡◌, ◌++◌, ◌∷◌, List, [], IfOk, inl, inr, ⊎_elim, Some, sym, ap, ◌∙◌, subst}
-use Rattle.pliron_laws.proofs.FoldLemmas.{on_err}
+use Rattle.std.proofs.Common.{refl, rules, ◌++◌, ◌∷◌, List, [], IfOk, ⊎_elim, sym, subst}
 use Rattle.pliron_dce.specs.Dead.{Item}
 use Rattle.pliron_dce.specs.Going.{IsOnTheWay, LeavesNoDead, TellsGone}
 use Rattle.pliron_dce.specs.Work.{item_of}

@@ -1,9 +1,7 @@
-use Rattle.std.proofs.Common.{rules, ◌≡◌, ◌++◌, ◌∷◌, [], inr, Some, sym, ap, ◌∙◌, subst, slice_get}
+use Rattle.std.proofs.Common.{rules, ◌++◌, ◌∷◌, [], inr, sym, subst}
 use Rattle.std.proofs.lemmas.Option.{slice_get_within}
 use Rattle.pliron_core.specs.Tree.{IsLive, arguments_of}
-use Rattle.pliron_laws.specs.Datum.{Meaning}
 use Rattle.pliron_dce.specs.declared.work.Candidate.TheVariants.{Operation, Argument}
-use Rattle.pliron_dce.specs.Dead.{Op, Arg}
 use Rattle.pliron_dce.specs.Steps.{IsReady}
 use Rattle.pliron_dce.specs.Going.{Goes}
 use Rattle.pliron_dce.specs.Work.{item_of, HasReady}

@@ -1,9 +1,9 @@
-use Rattle.std.proofs.Common.{rules, tests, ◌≡◌, ◌↔◌, ℕ, ◌+◌, ◌<◌, ◌≤◌, ◌++◌, ◌∷◌, [], true, false, IsTrue, length, Some, IfSome, slice_get, sym, ap, ◌∙◌, subst, arith, refl}
+use Rattle.std.proofs.Common.{tests, ◌≡◌, ◌+◌, ◌<◌, ◌≤◌, ◌++◌, ◌∷◌, [], true, false, length, Some, slice_get, sym, ap, ◌∙◌, subst, arith}
 use Rattle.std.proofs.lemmas.Option.{slice_get-get_or}
 use Rattle.pliron_core.specs.declared.uses.Use.{Use}
-use Rattle.pliron_core.specs.Tree.{uses_of, arguments_of}
+use Rattle.pliron_core.specs.Tree.{uses_of}
 use Rattle.pliron_dce.specs.Steps.{AreNoted}
-use Rattle.pliron_dce.proofs.TakeLemmas.{TellsSoFar, edge_branch, edge_place, are_of_branches, lost_block, lost_arguments, lost_no_uses, removes, noted, tells_place, tells_none, argument_at, told_if_some, below, not_below}
+use Rattle.pliron_dce.proofs.TakeLemmas.{TellsSoFar, edge_branch, edge_place, are_of_branches, lost_block, lost_arguments, lost_no_uses, noted, tells_place, tells_none, argument_at, told_if_some, below, not_below}
 use Rattle.pliron_dce.proofs.take.take_argument.Goals as goal
 use Rattle.pliron_dce.proofs.take.take_argument.Goals.{then-has_place+in_ok-push, else-has_place}
 

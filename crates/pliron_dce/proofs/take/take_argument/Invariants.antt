@@ -1,5 +1,4 @@
-use Rattle.std.proofs.Common.{◌≡◌, ℕ, Bool, ◌<◌, Some, slice_get, length}
-use Rattle.pliron_core.specs.Tree.{In, uses_of}
+use Rattle.pliron_core.specs.Tree.{uses_of}
 use Rattle.pliron_dce.proofs.TakeLemmas.{TellsSoFar}
 use Rattle.pliron_dce.proofs.take.take_argument.Given as goal
 

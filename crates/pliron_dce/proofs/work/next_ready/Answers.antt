@@ -1,4 +1,4 @@
-use Rattle.std.proofs.Common.{rules, ◌≡◌, ◌++◌, ◌∷◌, [], sym, ap, ◌∙◌, subst}
+use Rattle.std.proofs.Common.{rules, ◌≡◌, ◌++◌, ◌∷◌, [], ap, ◌∙◌}
 use Rattle.pliron_laws.proofs.AnswerLemmas.{refuted}
 use Rattle.pliron_dce.specs.declared.work.Candidate.TheVariants.{Operation, Argument}
 use Rattle.pliron_dce.proofs.WorkLemmas.{has_ready_still}

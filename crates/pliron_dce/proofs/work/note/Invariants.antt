@@ -1,4 +1,4 @@
-use Rattle.std.proofs.Common.{◌≡◌, take}
+use Rattle.std.proofs.Common.{take}
 use Rattle.pliron_dce.specs.Dead.{Item}
 use Rattle.pliron_dce.specs.Steps.{Among, AreLookedAt}
 use Rattle.pliron_dce.specs.Work.{items_of}

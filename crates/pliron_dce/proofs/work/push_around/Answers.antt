@@ -1,9 +1,8 @@
-use Rattle.std.proofs.Common.{◌≡◌, ◌<◌, ◌-◌, ◌∙◌, ◌⊎◌, inl, inr, ⊎_elim, ℕ, Some, None, sym, subst, length, suc}
+use Rattle.std.proofs.Common.{◌<◌, ◌-◌, ◌∙◌, inl, inr, ⊎_elim, sym, subst, length, suc}
 use Rattle.std.specs.Option.{option_map_or}
 use Rattle.pliron_core.specs.Tree.{IsLive, IsWithin}
 use Rattle.pliron_core.specs.Walks.{contents}
 use Rattle.pliron_core.proofs.HoldingLemmas.{some_is}
-use Rattle.pliron_core.proofs.WalkLemmas.{holder_live}
 use Rattle.pliron_core.proofs.WalkStepLemmas.{up_smaller}
 use Rattle.pliron_dce.specs.declared.work.Candidate.TheVariants.{Operation}
 use Rattle.pliron_dce.specs.Work.{items_of}
