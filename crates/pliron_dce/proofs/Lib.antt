@@ -14,3 +14,4 @@ pub mod WorkLemmas
 pub mod SweepLemmas
 pub mod StepMeasure
 pub mod CandidateLemmas
+pub mod ErasedEdges
