@@ -1,0 +1,17 @@
+pub mod ReadyLemmas
+pub mod Thinned
+pub mod PlaceLists
+pub mod Places
+pub mod RemovedThins
+pub mod SweptThins
+pub mod ReadySteps
+pub mod Progress
+pub mod ReadyTests
+pub mod Pending
+pub mod MeasureLemmas
+pub mod TakeLemmas
+pub mod WorkLemmas
+pub mod SweepLemmas
+pub mod StepMeasure
+pub mod CandidateLemmas
+pub mod ErasedEdges

@@ -1,0 +1,178 @@
+-- Ready things go, one after the other: what holds all the way, and at the end.
+use Rattle.std.proofs.Common.{◌≡◌, ◌↔◌, ◌⊎◌, inl, inr, ⊎_elim, ℕ, true, Bool, List, [], ◌∷◌, ◌++◌, Option, Some, None, slice_get, refl, sym, ap, ◌∙◌, subst}
+use Rattle.pliron_core.specs.declared.context.Def.TheVariants.{Argument}
+use Rattle.pliron_laws.specs.Answers.{HeadPasses, ReadsPlace}
+use Rattle.pliron_core.specs.Changes.{IsInsideChange}
+use Rattle.pliron_core.specs.Tree.{Tree, In, IsLive, head_of, HoldsBlock, successors_of, arguments_of, block_holder_of}
+use Rattle.pliron_core.specs.Joined.{IsTree}
+use Rattle.pliron_core.specs.Erased.{erased}
+use Rattle.pliron_core.specs.Writes.{argument_removed}
+use Rattle.pliron_laws.specs.Datum.{Head, Shape, Meaning}
+use Rattle.pliron_laws.specs.Laws.{KeepsCounts, GivesAtOnce, ForwardsOperands, ActsWithoutArgument}
+use Rattle.pliron_laws.specs.Linked.{IsWellLinked}
+use Rattle.pliron_theory.specs.Keeps.{KeepsRuns}
+use Rattle.pliron_theory.proofs.Keeping.{keeps_refl, keeps_trans}
+use Rattle.pliron_theory.proofs.RemovedKeeps.{removed_keeps}
+use Rattle.pliron_dce.specs.Dead.{Item, Op, Arg, Use, IsDead}
+use Rattle.pliron_dce.specs.Steps.{IsReady, Among}
+use Rattle.pliron_dce.specs.Going.{Goes, Removes, GoInTurn, LeavesNoDead, HasDead, TellsDead, TellsGone, IsOnTheWay}
+use Rattle.pliron_dce.proofs.ReadyLemmas.{ready_dead, no_dead}
+use Rattle.pliron_dce.proofs.Thinned.{IsThinned, back, forth}
+use Rattle.pliron_core.specs.declared.attrs.IRStatus.{IRStatus}
+use Rattle.pliron_core.specs.declared.attrs.IRStatus.TheVariants.{Changed, Unchanged}
+use Rattle.pliron_core.proofs.EraseInsideLemmas.{erased_inside}
+use Rattle.pliron_core.proofs.InsideLemmas.{inside_refl, inside_trans}
+use Rattle.pliron_dce.proofs.RemovedThins.{removed_thins, removed_inside, removed_linked, removed_unused, root_stands as root_stands_removed, removed_gone, inside_live}
+use Rattle.pliron_dce.proofs.ReadySteps.{erased_thins, erased_linked, ready_keeps, ready_contained, root_stands as root_stands_erased}
+use Rattle.pliron_core.proofs.HoldingLemmas.{some_of}
+use Rattle.pliron_core.proofs.WithinLemmas.{is_within}
+use Rattle.pliron_theory.proofs.ErasedKeeps.{erased_gone}
+
+-- one ready thing went
+pub record IsStep (m : Meaning) (side_effects : Head → Option Bool) (removable : Head → ℕ → Bool → Option Bool) (t t' : Tree) (root : ℕ) : Type 0 where
+  pub keeps : KeepsRuns m t t'
+  pub inside : IsInsideChange t t' root
+  pub linked : (r : ℕ) → IsWellLinked m t r → IsLive t' r → IsWellLinked m t' r
+  pub root_stands : IsLive t root → IsLive t' root
+  pub thins : IsThinned m side_effects removable t t' root
+
+module _ (m : Meaning) (can_fold : Head → Bool) (SameTests : Head → Head → Type 0) (shortened : Shape → ℕ → ℕ → Head) (law : ForwardsOperands m can_fold SameTests shortened) (tests : (h h' : Head) → SameTests h h' → m.is_branch h' ≡ m.is_branch h) (counts : KeepsCounts m) (side_effects : Head → Option Bool) (free : GivesAtOnce m side_effects) (removable : Head → ℕ → Bool → Option Bool) (without : ActsWithoutArgument m removable) where
+  abbrev D : Tree → ℕ → Item → Type 0
+  D t root x = IsDead m side_effects removable t root x
+
+  erase_step : (t t' : Tree) (root k : ℕ) → IsTree t → IsTree t' → IsWellLinked m t root → IsReady m side_effects removable t root (Op k) → t' ≡ erased t k → IsStep m side_effects removable t t' root
+  erase_step t t' root k w w' linked r same = subst (λ z. IsStep m side_effects removable t z root) (sym same) (record {
+    keeps = ready_keeps m side_effects removable counts free t root w linked k r.may r.none at;
+    inside = erased_inside t root k w at.joined r.may.inside;
+    linked = erased_linked m side_effects removable counts free t root w linked k r.may r.none at;
+    root_stands = root_stands_erased m side_effects removable counts free t root w linked k r.may r.none at;
+    thins = erased_thins m side_effects removable counts free t root w linked k r.may r.none at;
+  })
+    where
+      at : IsTree (erased t k)
+      at = subst IsTree same w'
+
+  -- the block of an argument is the one that it may be removed from
+  remove_step : (t t' : Tree) (root v : ℕ) → IsTree t → IsTree t' → IsWellLinked m t root → IsReady m side_effects removable t root (Arg v) → Removes m shortened t t' v → IsStep m side_effects removable t t' root
+  remove_step t t' root v w w' linked r g = subst (λ z. IsStep m side_effects removable t z root) (sym g.removed) (record {
+    keeps = removed_keeps m can_fold SameTests shortened law tests counts removable without t g.between g.block g.index v g.edges w at g.argument g.complete branches allowed g.lose (removed_unused m can_fold SameTests shortened law tests counts side_effects removable t g.between root g.block g.index v g.edges w at linked g.argument held branches g.complete g.lose dead r.none);
+    inside = removed_inside m can_fold SameTests shortened law tests counts side_effects removable t g.between root g.block g.index v g.edges w at linked g.argument held branches g.complete g.lose dead;
+    linked = λ q y l. removed_linked m can_fold SameTests shortened law tests counts side_effects removable t g.between root g.block g.index v g.edges w at linked g.argument held branches g.complete g.lose dead q y;
+    root_stands = root_stands_removed m can_fold SameTests shortened law tests counts side_effects removable t g.between root g.block g.index v g.edges w at linked g.argument held branches g.complete g.lose dead;
+    thins = removed_thins m can_fold SameTests shortened law tests counts side_effects removable t g.between root g.block g.index v g.edges w at linked g.argument held branches g.complete g.lose dead r.none;
+  })
+    where
+      at : IsTree (argument_removed g.between g.block g.index)
+      at = subst IsTree g.removed w'
+
+      same : r.may.block ≡ g.block
+      same = let s : Some (Argument r.may.block r.may.index) ≡ Some (Argument g.block g.index) = sym (w.joined.arguments r.may.block r.may.index v r.may.argument) ∙ w.joined.arguments g.block g.index v g.argument in cc
+
+      held : HoldsBlock t root g.block
+      held = subst (HoldsBlock t root) same r.may.inside
+
+      branches : (k : ℕ) → In g.block (successors_of t k) → HeadPasses m.is_branch t k
+      branches = subst (λ z. (k : ℕ) → In z (successors_of t k) → HeadPasses m.is_branch t k) same r.may.branches
+
+      allowed : (k : ℕ) → block_holder_of t g.block ≡ Some k → ReadsPlace removable t k g.block (Some true)
+      allowed = subst (λ z. (k : ℕ) → block_holder_of t z ≡ Some k → ReadsPlace removable t k z (Some true)) same r.may.allowed
+
+      dead : D t root (Arg v)
+      dead = ready_dead m side_effects removable t root (Arg v) r
+
+  pub step : (t t' : Tree) (root : ℕ) (x : Item) → IsTree t → IsTree t' → IsWellLinked m t root → IsReady m side_effects removable t root x → Goes m shortened t t' x → IsStep m side_effects removable t t' root
+  step t t' root (Op k) w w' linked r g = erase_step t t' root k w w' linked r g.1
+  step t t' root (Arg v) w w' linked r g = remove_step t t' root v w w' linked r g
+  step t t' root (Use user place) w w' linked r g = absurd g
+
+  abbrev OnWay : Tree → Tree → ℕ → List Item → Type 0
+  OnWay t0 t root gone = IsOnTheWay m shortened side_effects removable t0 t root gone
+
+  pub on_the_way : (t : Tree) (root : ℕ) → IsLive t root → OnWay t t root []
+  on_the_way t root l = record {
+    went = refl;
+    dead = λ x i. absurd i;
+    keeps = keeps_refl m t;
+    inside = inside_refl t root;
+    linked = λ r y s. y;
+    stands = l;
+    operations_back = λ k d. d;
+    arguments_back = λ v d. d;
+    operations_forth = λ k d s. d;
+    arguments_forth = λ v d s. d;
+  }
+
+  turn_more : (xs : List Item) (x : Item) (t u v : Tree) → GoInTurn m shortened xs t u → Goes m shortened u v x → GoInTurn m shortened (xs ++ x ∷ []) t v
+  turn_more [] x t u v e g = (v, subst (λ z. Goes m shortened z v x) e g, refl)
+  turn_more (y ∷ ys) x t u v q g = (q.0, q.1, turn_more ys x q.0 u v q.2 g)
+
+  among_more : (xs : List Item) (x y : Item) → Among y (xs ++ x ∷ []) → Among y xs ⊎ (y ≡ x)
+  among_more [] x y (inl e) = inr e
+  among_more [] x y (inr i) = absurd i
+  among_more (z ∷ zs) x y (inl e) = inl (inl e)
+  among_more (z ∷ zs) x y (inr i) = ⊎_elim (λ j. inl (inr j)) (λ e. inr e) (among_more zs x y i)
+
+  back_to : (t0 t : Tree) (root : ℕ) (gone : List Item) → OnWay t0 t root gone → (x : Item) → IsReady m side_effects removable t root x → D t0 root x
+  back_to t0 t root gone h (Op k) r = h.operations_back k (ready_dead m side_effects removable t root (Op k) r)
+  back_to t0 t root gone h (Arg v) r = h.arguments_back v (ready_dead m side_effects removable t root (Arg v) r)
+  back_to t0 t root gone h (Use user place) r = absurd r
+
+  pub one_more : (t0 t t' : Tree) (root : ℕ) (gone : List Item) (x : Item) → IsWellLinked m t0 root → IsTree t → IsTree t' → OnWay t0 t root gone → IsReady m side_effects removable t root x → Goes m shortened t t' x → OnWay t0 t' root (gone ++ x ∷ [])
+  one_more t0 t t' root gone x linked w w' h r g = record {
+    went = turn_more gone x t0 t t' h.went g;
+    dead = λ y i. ⊎_elim (λ j. h.dead y j) (λ e. subst (D t0 root) (sym e) (back_to t0 t root gone h x r)) (among_more gone x y i);
+    keeps = keeps_trans m t0 t t' h.keeps s.keeps;
+    inside = inside_trans t0 t t' root h.inside s.inside;
+    linked = λ q y l. s.linked q (h.linked q y (s.thins.live_before q l)) l;
+    stands = s.root_stands h.stands;
+    operations_back = λ k d. h.operations_back k (back m side_effects removable t t' root s.thins d);
+    arguments_back = λ v d. h.arguments_back v (back m side_effects removable t t' root s.thins d);
+    operations_forth = λ k d l. forth m side_effects removable t t' root s.thins (h.operations_forth k d (s.thins.live_before k l)) l;
+    arguments_forth = λ v d l. forth m side_effects removable t t' root s.thins (h.arguments_forth v d (s.thins.defined_before v l)) l;
+  }
+    where
+      s : IsStep m side_effects removable t t' root
+      s = step t t' root x w w' (h.linked root linked h.stands) r g
+
+  -- nothing is ready any more
+  pub at_the_end : (t0 t : Tree) (root : ℕ) (gone : List Item) → OnWay t0 t root gone → ((x : Item) → IsReady m side_effects removable t root x → ⊥) → LeavesNoDead m side_effects removable t0 t root
+  at_the_end t0 t root gone h never = record {
+    operations = λ k d l. no_dead m side_effects removable t root never (h.operations_forth k d l);
+    arguments = λ v d l. no_dead m side_effects removable t root never (h.arguments_forth v d l);
+    none = λ some. ⊎_elim (λ x. no_dead m side_effects removable t root never x.1) (λ x. no_dead m side_effects removable t root never x.1) some;
+  }
+
+  -- what the answer says
+  some_dead : (t0 t : Tree) (root : ℕ) (x : Item) (xs : List Item) → OnWay t0 t root (x ∷ xs) → HasDead m side_effects removable t0 root
+  some_dead t0 t root (Op k) xs h = inl (k, h.dead (Op k) (inl refl))
+  some_dead t0 t root (Arg v) xs h = inr (v, h.dead (Arg v) (inl refl))
+  some_dead t0 t root (Use user place) xs h = absurd h.went.1
+
+  not_both : (s : IRStatus) → s ≡ Changed → s ≡ Unchanged → ⊥
+  not_both s e f = let q : Changed ≡ Unchanged = sym e ∙ f in absurd (cc)
+
+  pub tells_dead : (t0 t : Tree) (root : ℕ) (gone : List Item) (status : IRStatus) → OnWay t0 t root gone → LeavesNoDead m side_effects removable t0 t root → TellsGone gone status → TellsDead m side_effects removable t0 root status
+  tells_dead t0 t root [] status h end told = (λ e. absurd (not_both status e told), λ some. absurd (end.none (subst (λ z. HasDead m side_effects removable z root) (sym h.went) some)))
+  tells_dead t0 t root (x ∷ xs) status h end told = (λ e. some_dead t0 t root x xs h, λ some. told)
+
+  pub tells_same : (t0 t : Tree) (root : ℕ) (gone : List Item) (status : IRStatus) → OnWay t0 t root gone → LeavesNoDead m side_effects removable t0 t root → TellsGone gone status → (status ≡ Unchanged) ↔ (t ≡ t0)
+  tells_same t0 t root [] status h end told = (λ e. h.went, λ same. told)
+  tells_same t0 t root (x ∷ xs) status h end told = (λ e. absurd (not_both status told e), λ same. absurd (end.none (subst (λ z. HasDead m side_effects removable z root) (sym same) (some_dead t0 t root x xs h))))
+
+  -- what went is ready no more
+  pub gone_unready : (t t' : Tree) (root : ℕ) (x : Item) → IsTree t → IsTree t' → IsWellLinked m t root → IsReady m side_effects removable t root x → Goes m shortened t t' x → IsReady m side_effects removable t' root x → ⊥
+  gone_unready t t' root (Op k) w w' linked r g r' =
+      let live = (inside_live t w.joined r.may.inside).1 in
+      let gone = (erased_gone t k w live (ready_contained m side_effects removable counts free t root w linked k r.may r.none)).operations k (is_within t k k w.joined live (inl refl)) in
+      let stands = some_of (head_of t' k) (inside_live t' w'.joined r'.may.inside).1 in
+      let f : None ≡ Some stands.0 = sym gone ∙ ap (λ z. head_of z k) (sym g.1) ∙ stands.1 in
+      absurd (cc)
+  gone_unready t t' root (Arg v) w w' linked r g r' =
+      let s : Some (Argument r.may.block r.may.index) ≡ Some (Argument g.block g.index) = sym (w.joined.arguments r.may.block r.may.index v r.may.argument) ∙ w.joined.arguments g.block g.index v g.argument in
+      let same : r.may.block ≡ g.block = cc in
+      removed_gone m can_fold SameTests shortened law tests counts side_effects removable t g.between root g.block g.index v g.edges w (subst IsTree g.removed w') linked g.argument (subst (HoldsBlock t root) same r.may.inside) (subst (λ z. (k : ℕ) → In z (successors_of t k) → HeadPasses m.is_branch t k) same r.may.branches) g.complete g.lose (ready_dead m side_effects removable t root (Arg v) r) r'.may.block r'.may.index (ap (λ z. slice_get (arguments_of z r'.may.block) r'.may.index) (sym g.removed) ∙ r'.may.argument)
+  gone_unready t t' root (Use user place) w w' linked r g r' = absurd r
+
+pub tells_more : (xs : List Item) (x : Item) → TellsGone (xs ++ x ∷ []) Changed
+tells_more [] x = refl
+tells_more (y ∷ ys) x = refl

@@ -1,0 +1,51 @@
+-- When a thing may go at once.
+use Rattle.std.specs.Prelude.{◌≡◌, ◌⊎◌, ℕ, Bool, List, [], ◌∷◌, Option, Some}
+use Rattle.pliron_core.specs.declared.context.Def.TheVariants.{Result, Argument}
+use Rattle.pliron_core.specs.Changes.{IsMadeInside}
+use Rattle.pliron_core.specs.Tree.{Tree, In, IsDefined, IsInside, IsWithin, operands_of, results_of, definition_of}
+use Rattle.pliron_laws.specs.Datum.{Head, Meaning}
+use Rattle.pliron_dce.specs.Dead.{Item, Op, Arg, Use, MayGo, MayBeRemoved, Holds}
+
+-- what is among these
+abbrev pub Among : Item → List Item → Type 0
+Among x [] = ⊥
+Among x (y ∷ ys) = (x ≡ y) ⊎ Among x ys
+
+-- the operation may go, and nothing holds it
+pub record IsReadyOperation (m : Meaning) (side_effects : Head → Option Bool) (t : Tree) (root k : ℕ) : Type 0 where
+  pub may : MayGo m side_effects t root k
+  pub none : (user place : ℕ) → Holds t k user place → ⊥
+
+-- the argument may be removed, and nothing uses it
+pub record IsReadyArgument (m : Meaning) (removable : Head → ℕ → Bool → Option Bool) (t : Tree) (root v : ℕ) : Type 0 where
+  pub may : MayBeRemoved m removable t root v
+  pub none : (user : ℕ) → In v (operands_of t user) → ⊥
+
+abbrev pub IsReady : Meaning → (Head → Option Bool) → (Head → ℕ → Bool → Option Bool) → Tree → ℕ → Item → Type 0
+IsReady m side_effects removable t root (Op k) = IsReadyOperation m side_effects t root k
+IsReady m side_effects removable t root (Arg v) = IsReadyArgument m removable t root v
+IsReady m side_effects removable t root (Use user place) = ⊥
+
+-- no result of the operation is used
+abbrev pub HaveNoUse : Tree → ℕ → Type 0
+HaveNoUse t k = (v user : ℕ) → In v (results_of t k) → In v (operands_of t user) → ⊥
+
+-- these are the operands of the operation and of all operations inside it
+abbrev pub AreOperandsWithin : Tree → ℕ → List ℕ → Type 0
+AreOperandsWithin t k values = (user v : ℕ) → IsWithin t k user → In v (operands_of t user) → In v values
+
+-- each value that an operation uses no more is among these, and the site held that operation
+abbrev pub AreNoted : (t t' : Tree) → (site : ℕ) → List ℕ → Type 0
+AreNoted t t' site used = (user v : ℕ) → In v (operands_of t user) → (In v used × IsInside t site user) ⊎ In v (operands_of t' user)
+
+-- what makes each of these values, where it stands, is among the items, and so is each operation around
+-- it that does not hold the site
+pub record AreLookedAt (t : Tree) (site : ℕ) (used : List ℕ) (items : List Item) : Type 0 where
+  pub makers : (v k i : ℕ) → In v used → IsDefined t v → definition_of t v ≡ Some (Result k i) → Among (Op k) items
+  pub arguments : (v b i : ℕ) → In v used → IsDefined t v → definition_of t v ≡ Some (Argument b i) → Among (Arg v) items
+  pub around : (v k : ℕ) → In v used → IsDefined t v → IsMadeInside t k v → (IsWithin t k site → ⊥) → Among (Op k) items
+
+-- the values are as before, and the operands of the operation
+pub record AddsOperands (t : Tree) (k : ℕ) (old new : List ℕ) : Type 0 where
+  pub kept : (v : ℕ) → In v old → In v new
+  pub added : (v : ℕ) → In v (operands_of t k) → In v new

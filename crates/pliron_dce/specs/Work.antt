@@ -1,0 +1,44 @@
+-- What is still to be looked at.
+use Rattle.std.specs.Prelude.{◌≡◌, ◌≢◌, ℕ, Bool, List, map, Option, Some}
+use Rattle.pliron_core.specs.Tree.{Tree, In, IsInside, IsWithin, HoldsBlock, arguments_of, block_holder_of}
+use Rattle.pliron_core.specs.Changes.{IsMadeInside}
+use Rattle.pliron_laws.specs.Datum.{Head, Meaning}
+use Rattle.pliron_dce.specs.declared.work.Candidate.{Candidate}
+use Rattle.pliron_dce.specs.declared.work.Candidate.TheVariants.{Operation, Argument}
+use Rattle.pliron_dce.specs.Dead.{Item, Op, Arg}
+use Rattle.pliron_dce.specs.Steps.{IsReady, Among}
+
+abbrev pub item_of : Candidate → Item
+item_of (Operation k) = Op k
+item_of (Argument v) = Arg v
+
+abbrev pub items_of : List Candidate → List Item
+items_of cs = map item_of cs
+
+-- each thing that is ready is among these
+abbrev pub HasReady : Meaning → (Head → Option Bool) → (Head → ℕ → Bool → Option Bool) → Tree → ℕ → List Candidate → Type 0
+HasReady m side_effects removable t root work = (x : Item) → IsReady m side_effects removable t root x → Among x (items_of work)
+
+-- what was there is there, and each operation around the value that does not hold the site
+pub record LooksAround (t : Tree) (site v : ℕ) (old new : List Candidate) : Type 0 where
+  pub kept : (x : Item) → Among x (items_of old) → Among x (items_of new)
+  pub around : (k : ℕ) → IsMadeInside t k v → (IsWithin t k site → ⊥) → Among (Op k) (items_of new)
+
+-- the operation directly around what makes the value
+abbrev pub IsAroundMaker : Tree → ℕ → Option ℕ → Type 0
+IsAroundMaker t v o = (k : ℕ) → IsMadeInside t k v → (a : ℕ) × (o ≡ Some a) × IsWithin t k a
+
+-- what was there is there, and all arguments of these blocks
+pub record AddsArguments (t : Tree) (IsOne : ℕ → Type 0) (old new : List Candidate) : Type 0 where
+  pub kept : (x : Item) → Among x (items_of old) → Among x (items_of new)
+  pub added : (b v : ℕ) → IsOne b → In v (arguments_of t b) → Among (Arg v) (items_of new)
+
+-- the operation is among these, unless it is the root, and all arguments of blocks that it holds directly
+pub record IsCovered (t : Tree) (root : ℕ) (items : List Item) (k : ℕ) : Type 0 where
+  pub operation : k ≢ root → Among (Op k) items
+  pub arguments : (b v : ℕ) → block_holder_of t b ≡ Some k → In v (arguments_of t b) → Among (Arg v) items
+
+-- all operations inside the root are among these, and all arguments of blocks there
+pub record AreAllInside (t : Tree) (root : ℕ) (items : List Item) : Type 0 where
+  pub operations : (k : ℕ) → IsInside t root k → Among (Op k) items
+  pub arguments : (b v : ℕ) → HoldsBlock t root b → In v (arguments_of t b) → Among (Arg v) items

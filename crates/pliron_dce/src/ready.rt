@@ -1,0 +1,124 @@
+//! What may go at once.
+ghost use Rattle.std.specs.Prelude.{◌≡◌, ◌↔◌, ℕ, Some, IsTrue, slice_get};
+ghost use Rattle.pliron_core.specs.Tree.{In, IsLive, IsBlock, IsWithin, operands_of, results_of, block_holder_of};
+ghost use Rattle.pliron_laws.specs.Linked.{IsWellLinked};
+ghost use Rattle.pliron_dce.specs.Dead.{IsHarmless, MayLose};
+ghost use Rattle.pliron_dce.specs.Steps.{IsReadyOperation, IsReadyArgument, HaveNoUse};
+
+use pliron_core::{BasicBlock, Context, Def, Operation, Ptr, Value};
+use pliron_laws::Dialect;
+
+// Whether the operation is no terminator and answers that it has no side effects.
+fn is_harmless<D: Dialect>(op: Ptr<Operation>, ctx: &Context) -> bool
+    requires { IsLive ctx.now.tree op }
+    ensures { IsTrue result ↔ IsHarmless D.meaning D.side_effects ctx.now.tree op }
+{
+    match D::has_side_effects(op, ctx) {
+        Some(false) => !D::is_terminator(op, ctx),
+        _ => false,
+    }
+}
+
+// Whether no result of the operation is used.
+fn is_unused(op: Ptr<Operation>, ctx: &Context) -> bool
+    requires { IsLive ctx.now.tree op }
+    ensures { IsTrue result ↔ HaveNoUse ctx.now.tree op }
+{
+    ctx.well_formed();
+    for i in 0..op.num_result(ctx) {
+        if op.get_result(ctx, i).num_use(ctx) != 0 {
+            return false;
+        }
+    }
+    true
+}
+
+// Whether the operation may go at once.
+pub(crate) fn is_ready_operation<D: Dialect>(
+    op: Ptr<Operation>,
+    root: Ptr<Operation>,
+    ctx: &Context,
+) -> bool
+    requires linked { IsWellLinked D.meaning ctx.now.tree root }
+    ensures { IsTrue result ↔ IsReadyOperation D.meaning D.side_effects ctx.now.tree root op }
+{
+    ctx.well_formed();
+    if !op.is_live(ctx) {
+        return false;
+    }
+    if !op.is_inside(root, ctx) {
+        return false;
+    }
+    if !is_harmless::<D>(op, ctx) {
+        return false;
+    }
+    if !is_unused(op, ctx) {
+        return false;
+    }
+    op.is_self_contained(ctx)
+}
+
+// Whether the operation that holds the block lets its arguments go, and branches alone lead to it.
+fn may_lose<D: Dialect>(block: Ptr<BasicBlock>, holder: Ptr<Operation>, ctx: &Context) -> bool
+    requires block { IsBlock ctx.now.tree block }
+    requires holder { block_holder_of ctx.now.tree block ≡ Some holder }
+    ensures { IsTrue result ↔ MayLose D.meaning D.removable ctx.now.tree block }
+{
+    ctx.well_formed();
+    let Some(true) = D::can_remove_block_args(holder, ctx, block) else {
+        return false;
+    };
+    for i in 0..block.num_use(ctx) {
+        let (user, _) = block.get_use(ctx, i);
+        if !D::is_branch(user, ctx) {
+            return false;
+        }
+    }
+    true
+}
+
+// Whether the operation is the root or stands inside it.
+pub(crate) fn is_within(op: Ptr<Operation>, root: Ptr<Operation>, ctx: &Context) -> bool
+    requires { IsLive ctx.now.tree op }
+    ensures { IsTrue result ↔ IsWithin ctx.now.tree root op }
+{
+    op == root || op.is_inside(root, ctx)
+}
+
+// Whether the value is an argument that may go at once.
+pub(crate) fn is_ready_argument<D: Dialect>(
+    value: Value,
+    root: Ptr<Operation>,
+    ctx: &Context,
+) -> bool
+    ensures { IsTrue result ↔ IsReadyArgument D.meaning D.removable ctx.now.tree root value }
+{
+    ctx.well_formed();
+    if !value.is_live(ctx) {
+        return false;
+    }
+    if value.num_use(ctx) != 0 {
+        return false;
+    }
+    let Def::Argument(block, _) = value.def(ctx) else {
+        return false;
+    };
+    let holder = holder_of(block, ctx);
+    if !is_within(holder, root, ctx) {
+        return false;
+    }
+    may_lose::<D>(block, holder, ctx)
+}
+
+// The operation that holds the block directly.
+pub(crate) fn holder_of(block: Ptr<BasicBlock>, ctx: &Context) -> Ptr<Operation>
+    requires { IsBlock ctx.now.tree block }
+    ensures holder { block_holder_of ctx.now.tree block ≡ Some result }
+    ensures live { IsLive ctx.now.tree result }
+{
+    ctx.well_formed();
+    match block.get_parent_region(ctx) {
+        Some(region) => region.get_parent_op(ctx),
+        None => unreachable!(),
+    }
+}

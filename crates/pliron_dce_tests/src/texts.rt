@@ -1,0 +1,117 @@
+//! Texts, what `dce` leaves of them, and what it answers.
+ghost use Rattle.pliron_core.specs.Tree.{IsLive};
+use super::cases::{DEFINED, HOSTILE, ROWS};
+use pliron_bench::Bench;
+use pliron_core::{Context, IRStatus, Operation, Ptr};
+use pliron_dce::dce;
+use pliron_notation::{print_text, read_text};
+use std::alloc::Global;
+use std::process::Abort;
+use std::test::Fail;
+
+// What is printed of the operation, after `dce` on the root answered this, and `Unchanged` right after.
+fn left_of(
+    rt: &impl Abort,
+    alloc: Global,
+    ctx: &mut Context,
+    whole: Ptr<Operation>,
+    root: Ptr<Operation>,
+    status: IRStatus,
+) -> Result<String, Fail> {
+    let first = dce::<Bench>(alloc, root, ctx)?;
+    assert!(rt; first == status);
+    let again = dce::<Bench>(alloc, root, ctx)?;
+    assert!(rt; again == IRStatus::Unchanged);
+    Ok(print_text(alloc, whole, ctx)?)
+}
+
+fn check_in(
+    rt: &impl Abort,
+    alloc: Global,
+    ctx: &mut Context,
+    text: &str,
+    after: &str,
+    status: IRStatus,
+) -> Result<(), Fail> {
+    let Some(root) = read_text(alloc, text.as_bytes(), ctx)? else {
+        return Err(Fail::from("unreadable"));
+    };
+    let printed = left_of(rt, alloc, ctx, root, root, status)?;
+    assert_eq!(rt; printed.as_str(), after, "{text}");
+    Ok(())
+}
+
+fn check(
+    rt: &impl Abort,
+    alloc: Global,
+    text: &str,
+    after: &str,
+    status: IRStatus,
+) -> Result<(), Fail> {
+    let mut ctx = Context::new(alloc);
+    check_in(rt, alloc, &mut ctx, text, after, status)
+}
+
+fn check_all(rt: &impl Abort, alloc: Global, cases: &str) -> Result<(), Fail> {
+    for case in cases.lines() {
+        let Some((line, after)) = case.split_once(" => ") else {
+            return Err(Fail::from("no arrow"));
+        };
+        let Some((answer, text)) = line.split_once(" ") else {
+            return Err(Fail::from("no answer"));
+        };
+        let status = if answer == "C" {
+            IRStatus::Changed
+        } else {
+            IRStatus::Unchanged
+        };
+        check(rt, alloc, text, after, status)?;
+    }
+    Ok(())
+}
+
+#[test]
+fn rows(rt: HostRuntime) -> Result<(), Fail> {
+    check_all(&rt, rt.alloc(), ROWS)
+}
+
+#[test]
+fn hostile_texts(rt: HostRuntime) -> Result<(), Fail> {
+    check_all(&rt, rt.alloc(), HOSTILE)
+}
+
+#[test]
+fn defined_texts(rt: HostRuntime) -> Result<(), Fail> {
+    check_all(&rt, rt.alloc(), DEFINED)
+}
+
+// The second operation of the first block of the operation.
+fn second_inside(ctx: &Context, whole: Ptr<Operation>) -> Option<Ptr<Operation>>
+    requires { IsLive ctx.now.tree whole }
+{
+    if whole.num_region(ctx) == 0 {
+        return None;
+    }
+    whole.get_region(ctx, 0).get_head(ctx)?.get_head(ctx)?.get_next(ctx)
+}
+
+// Only what is inside the root goes.
+fn nested_root(rt: &impl Abort, alloc: Global, ctx: &mut Context) -> Result<(), Fail> {
+    let text = "func { b0(): k = const 4; box { b0(): sink k }; ret }";
+    let Some(whole) = read_text(alloc, text.as_bytes(), ctx)? else {
+        return Err(Fail::from("unreadable"));
+    };
+    let Some(root) = second_inside(ctx, whole) else {
+        return Err(Fail::from("no second operation"));
+    };
+    let printed = left_of(rt, alloc, ctx, whole, root, IRStatus::Changed)?;
+    assert_eq!(rt; printed.as_str(), "func { b0(): v0 = const 4; box { b0(): }; ret }");
+    Ok(())
+}
+
+#[test]
+fn a_nested_root(rt: HostRuntime) -> Result<(), Fail> {
+    let alloc = rt.alloc();
+    let mut ctx = Context::new(alloc);
+    nested_root(&rt, alloc, &mut ctx)
+}
