@@ -1,7 +1,7 @@
 -- Edges stay where an operation without regions is erased.
-use Rattle.std.proofs.Common.{◌≡◌, ◌≢◌, ◌⊎◌, inl, inr, ⊎_elim, ℕ, ◌≤◌, Bool, true, false, true≢false, cond, List, [], ◌∷◌, length, filter, nat_eq, get_or, if◌then◌else◌, Option, Some, None, refl, sym, ap, ◌∙◌, subst, arith}
+use Rattle.std.proofs.Common.{◌≡◌, inl, inr, ⊎_elim, ℕ, Bool, true, false, true≢false, cond, List, [], ◌∷◌, filter, nat_eq, get_or, Option, Some, None, refl, sym, ap, ◌∙◌, subst, arith}
 use Rattle.pliron_core.specs.Lists.{In, last_of}
-use Rattle.pliron_core.specs.Tree.{Tree, IsLive, IsInside, Directly, Deeper, IsWithin, HoldsBlock, regions_of, successors_of, parent_of, body_of, block_parent_of, block_holder_of, region_parent_of, holder_of, layout_of, up_from}
+use Rattle.pliron_core.specs.Tree.{Tree, IsLive, IsInside, Directly, Deeper, HoldsBlock, regions_of, successors_of, parent_of, body_of, block_holder_of, region_parent_of, layout_of, up_from}
 use Rattle.pliron_core.specs.Edges.{succs_of, succs_from}
 use Rattle.pliron_core.specs.Joined.{IsTree}
 use Rattle.pliron_core.specs.Erased.{erased, is_met_above, IsSelfContained}
@@ -12,7 +12,7 @@ use Rattle.pliron_core.proofs.ErasedLemmas.{taken-met}
 use Rattle.pliron_core.proofs.HoldingLemmas.{some_is, holder_is}
 use Rattle.pliron_core.proofs.LastLemmas.{last_in}
 use Rattle.pliron_core.proofs.WithinLemmas.{within_is}
-use Rattle.pliron_laws.specs.Linked.{EdgesLast, EndsBlock}
+use Rattle.pliron_laws.specs.Linked.{EdgesLast}
 use Rattle.pliron_theory.specs.Edges.{EdgesAlike, has_regions, has_entries}
 use Rattle.pliron_theory.specs.Sweeping.{swept, keep}
 use Rattle.pliron_theory.proofs.ErasedKeeps.{op_erased, block_erased_with, erased_swept, erased_gone, as_many}

@@ -16,7 +16,7 @@ use Rattle.pliron_core.proofs.TreeLemmas.{cases_lt}
 use Rattle.pliron_core.proofs.RemovalLemmas.{slice_get-remove_below, slice_get-remove_above}
 use Rattle.pliron_core.proofs.HoldingLemmas.{some_is, some_of, in_slice, slice_in, slot_is, maker_is, holder_live, inside_alike, within_alike, inside_block}
 use Rattle.pliron_core.proofs.WithinLemmas.{block_steps}
-use Rattle.pliron_core.specs.Edges.{succs_of, succs_from}
+use Rattle.pliron_core.specs.Edges.{succs_from}
 use Rattle.pliron_theory.specs.Edges.{EdgesAlike, has_regions}
 use Rattle.pliron_core.proofs.InsideLemmas.{AreKeptOutside, change_of_kept}
 use Rattle.pliron_core.proofs.WriteInsideLemmas.{same_block, same_operation}
