@@ -1,17 +1,18 @@
 -- Edges stay where an operation without regions is erased.
-use Rattle.std.proofs.Common.{◌≡◌, ◌≢◌, ◌⊎◌, inl, inr, ⊎_elim, ℕ, ◌≤◌, Bool, true, false, true≢false, cond, List, [], ◌∷◌, length, filter, nat_eq, get_or, if◌then◌else◌, Option, Some, None, refl, sym, ap, ◌∙◌, subst, arith}
+use Rattle.std.proofs.Common.{◌≡◌, inl, inr, ⊎_elim, ℕ, Bool, true, false, true≢false, cond, List, [], ◌∷◌, filter, nat_eq, get_or, Option, Some, None, refl, sym, ap, ◌∙◌, subst, arith}
 use Rattle.pliron_core.specs.Lists.{In, last_of}
-use Rattle.pliron_core.specs.Tree.{Tree, IsLive, IsInside, Directly, Deeper, IsWithin, HoldsBlock, regions_of, successors_of, parent_of, body_of, block_parent_of, block_holder_of, region_parent_of, holder_of, layout_of, up_from}
+use Rattle.pliron_core.specs.Tree.{Tree, IsLive, IsInside, Directly, Deeper, HoldsBlock, regions_of, successors_of, parent_of, body_of, block_holder_of, region_parent_of, layout_of, up_from}
 use Rattle.pliron_core.specs.Edges.{succs_of, succs_from}
 use Rattle.pliron_core.specs.Joined.{IsTree}
 use Rattle.pliron_core.specs.Erased.{erased, is_met_above, IsSelfContained}
 use Rattle.pliron_core.specs.Writes.{taken_from}
 use Rattle.pliron_core.proofs.BlankLemmas.{blanked_kept, blanked_gone}
-use Rattle.pliron_core.proofs.ClearedLemmas.{met_above, taken-met, taken-region_parent, taken-layouts}
+use Rattle.pliron_core.proofs.ClearedLemmas.{met_above}
+use Rattle.pliron_core.proofs.ErasedLemmas.{taken-met}
 use Rattle.pliron_core.proofs.HoldingLemmas.{some_is, holder_is}
 use Rattle.pliron_core.proofs.LastLemmas.{last_in}
 use Rattle.pliron_core.proofs.WithinLemmas.{within_is}
-use Rattle.pliron_laws.specs.Linked.{EdgesLast, EndsBlock}
+use Rattle.pliron_laws.specs.Linked.{EdgesLast}
 use Rattle.pliron_theory.specs.Edges.{EdgesAlike, has_regions, has_entries}
 use Rattle.pliron_theory.specs.Sweeping.{swept, keep}
 use Rattle.pliron_theory.proofs.ErasedKeeps.{op_erased, block_erased_with, erased_swept, erased_gone, as_many}
@@ -28,6 +29,14 @@ filter_swept dead p (k ∷ ks) h = go (dead k) refl (filter_swept dead p ks h)
     go true d e = e ∙ ap (λ b. cond b (k ∷ filter p ks) (filter p ks)) (sym (h k d))
     go false d e = ap (λ zs. cond (p k) (k ∷ zs) zs) e
 
+taken-layouts : (t : Tree) (op : ℕ) (o : Option ℕ) → (taken_from t op o).layouts ≡ t.layouts
+taken-layouts t op None = refl
+taken-layouts t op (Some b) = refl
+
+taken-region_parent : (t : Tree) (op : ℕ) (o : Option ℕ) (r : ℕ) → region_parent_of (taken_from t op o) r ≡ region_parent_of t r
+taken-region_parent t op None r = refl
+taken-region_parent t op (Some b) r = refl
+
 empty_entries : (xs : List ℕ) → xs ≡ [] → has_entries xs ≡ false
 empty_entries xs e = ap has_entries e
 
@@ -41,7 +50,7 @@ module _ (t : Tree) (op : ℕ) (w : IsTree t) (none : regions_of t op ≡ []) wh
   no_inside x (Deeper p e i) = no_inside p i
 
   no_held : (b : ℕ) → HoldsBlock t op b → ⊥
-  no_held b (k, e, inl s) = no_block b (e ∙ ap Some (sym s))
+  no_held b (k, e, inl s) = no_block b (e ∙ ap Some s)
   no_held b (k, e, inr i) = no_inside k i
 
   told : (b : Bool) → (b ≡ true → ⊥) → b ≡ false

@@ -1,9 +1,9 @@
 -- Ready things go, one after the other: what holds all the way, and at the end.
-use Rattle.std.proofs.Common.{◌≡◌, ◌↔◌, ◌⊎◌, inl, inr, ⊎_elim, ℕ, true, Bool, List, [], ◌∷◌, ◌++◌, Option, Some, None, slice_get, refl, sym, ap, ◌∙◌, subst}
+use Rattle.std.proofs.Common.{◌≡◌, ◌↔◌, ◌⊎◌, inl, inr, ⊎_elim, ℕ, true, Bool, List, [], ◌∷◌, ◌++◌, Option, Some, None, IsTrue, slice_get, refl, sym, ap, ◌∙◌, subst}
 use Rattle.pliron_core.specs.declared.context.Def.TheVariants.{Argument}
 use Rattle.pliron_laws.specs.Answers.{HeadPasses, ReadsPlace}
 use Rattle.pliron_core.specs.Changes.{IsInsideChange}
-use Rattle.pliron_core.specs.Tree.{Tree, In, IsLive, head_of, HoldsBlock, successors_of, arguments_of, block_holder_of}
+use Rattle.pliron_core.specs.Tree.{Tree, In, IsLive, head_of, HoldsBlock, successors_of, arguments_of, regions_of, block_holder_of}
 use Rattle.pliron_core.specs.Joined.{IsTree}
 use Rattle.pliron_core.specs.Erased.{erased}
 use Rattle.pliron_core.specs.Writes.{argument_removed}
@@ -11,27 +11,31 @@ use Rattle.pliron_laws.specs.Datum.{Head, Shape, Meaning}
 use Rattle.pliron_laws.specs.Laws.{KeepsCounts, GivesAtOnce, ForwardsOperands, ActsWithoutArgument}
 use Rattle.pliron_laws.specs.Linked.{IsWellLinked}
 use Rattle.pliron_theory.specs.Keeps.{KeepsRuns}
+use Rattle.pliron_theory.specs.Edges.{KeepsEdges, has_entries}
+use Rattle.pliron_theory.proofs.EdgeLemmas.{edges_alike, edges_transitive}
 use Rattle.pliron_theory.proofs.Keeping.{keeps_refl, keeps_trans}
 use Rattle.pliron_theory.proofs.RemovedKeeps.{removed_keeps}
 use Rattle.pliron_dce.specs.Dead.{Item, Op, Arg, Use, IsDead}
 use Rattle.pliron_dce.specs.Steps.{IsReady, Among}
-use Rattle.pliron_dce.specs.Going.{Goes, Removes, GoInTurn, LeavesNoDead, HasDead, TellsDead, TellsGone, IsOnTheWay}
+use Rattle.pliron_dce.specs.Going.{Goes, Removes, GoInTurn, LeavesNoDead, HasDead, TellsDead, TellsGone, HasRegions, SomeHasRegions, IsOnTheWay}
 use Rattle.pliron_dce.proofs.ReadyLemmas.{ready_dead, no_dead}
 use Rattle.pliron_dce.proofs.Thinned.{IsThinned, back, forth}
 use Rattle.pliron_core.specs.declared.attrs.IRStatus.{IRStatus}
 use Rattle.pliron_core.specs.declared.attrs.IRStatus.TheVariants.{Changed, Unchanged}
 use Rattle.pliron_core.proofs.EraseInsideLemmas.{erased_inside}
 use Rattle.pliron_core.proofs.InsideLemmas.{inside_refl, inside_trans}
-use Rattle.pliron_dce.proofs.RemovedThins.{removed_thins, removed_inside, removed_linked, removed_unused, root_stands as root_stands_removed, removed_gone, inside_live}
-use Rattle.pliron_dce.proofs.ReadySteps.{erased_thins, erased_linked, ready_keeps, ready_contained, root_stands as root_stands_erased}
+use Rattle.pliron_dce.proofs.RemovedThins.{removed_thins, removed_inside, removed_regions, removed_alike, removed_linked, removed_unused, root_stands as root_stands_removed, removed_gone, inside_live}
+use Rattle.pliron_dce.proofs.ReadySteps.{erased_thins, erased_linked, erased_regions, erased_edges, ready_keeps, ready_contained, root_stands as root_stands_erased}
 use Rattle.pliron_core.proofs.HoldingLemmas.{some_of}
 use Rattle.pliron_core.proofs.WithinLemmas.{is_within}
 use Rattle.pliron_theory.proofs.ErasedKeeps.{erased_gone}
 
 -- one ready thing went
-pub record IsStep (m : Meaning) (side_effects : Head → Option Bool) (removable : Head → ℕ → Bool → Option Bool) (t t' : Tree) (root : ℕ) : Type 0 where
+pub record IsStep (m : Meaning) (side_effects : Head → Option Bool) (removable : Head → ℕ → Bool → Option Bool) (t t' : Tree) (root : ℕ) (x : Item) : Type 0 where
   pub keeps : KeepsRuns m t t'
   pub inside : IsInsideChange t t' root
+  pub regions : (k : ℕ) → IsLive t' k → regions_of t' k ≡ regions_of t k
+  pub edges : (HasRegions t x → ⊥) → KeepsEdges t t'
   pub linked : (r : ℕ) → IsWellLinked m t r → IsLive t' r → IsWellLinked m t' r
   pub root_stands : IsLive t root → IsLive t' root
   pub thins : IsThinned m side_effects removable t t' root
@@ -40,10 +44,12 @@ module _ (m : Meaning) (can_fold : Head → Bool) (SameTests : Head → Head →
   abbrev D : Tree → ℕ → Item → Type 0
   D t root x = IsDead m side_effects removable t root x
 
-  erase_step : (t t' : Tree) (root k : ℕ) → IsTree t → IsTree t' → IsWellLinked m t root → IsReady m side_effects removable t root (Op k) → t' ≡ erased t k → IsStep m side_effects removable t t' root
-  erase_step t t' root k w w' linked r same = subst (λ z. IsStep m side_effects removable t z root) (sym same) (record {
+  erase_step : (t t' : Tree) (root k : ℕ) → IsTree t → IsTree t' → IsWellLinked m t root → IsReady m side_effects removable t root (Op k) → t' ≡ erased t k → IsStep m side_effects removable t t' root (Op k)
+  erase_step t t' root k w w' linked r same = subst (λ z. IsStep m side_effects removable t z root (Op k)) (sym same) (record {
     keeps = ready_keeps m side_effects removable counts free t root w linked k r.may r.none at;
     inside = erased_inside t root k w at.joined r.may.inside;
+    regions = erased_regions m side_effects removable counts free t root w linked k r.may r.none at;
+    edges = λ n. erased_edges m side_effects removable counts free t root w linked k r.may r.none at (bare (regions_of t k) n);
     linked = erased_linked m side_effects removable counts free t root w linked k r.may r.none at;
     root_stands = root_stands_erased m side_effects removable counts free t root w linked k r.may r.none at;
     thins = erased_thins m side_effects removable counts free t root w linked k r.may r.none at;
@@ -52,10 +58,16 @@ module _ (m : Meaning) (can_fold : Head → Bool) (SameTests : Head → Head →
       at : IsTree (erased t k)
       at = subst IsTree same w'
 
+      bare : (rs : List ℕ) → (IsTrue (has_entries rs) → ⊥) → rs ≡ []
+      bare [] n = refl
+      bare (r ∷ rs) n = absurd (n refl)
+
   -- the block of an argument is the one that it may be removed from
-  remove_step : (t t' : Tree) (root v : ℕ) → IsTree t → IsTree t' → IsWellLinked m t root → IsReady m side_effects removable t root (Arg v) → Removes m shortened t t' v → IsStep m side_effects removable t t' root
-  remove_step t t' root v w w' linked r g = subst (λ z. IsStep m side_effects removable t z root) (sym g.removed) (record {
+  remove_step : (t t' : Tree) (root v : ℕ) → IsTree t → IsTree t' → IsWellLinked m t root → IsReady m side_effects removable t root (Arg v) → Removes m shortened t t' v → IsStep m side_effects removable t t' root (Arg v)
+  remove_step t t' root v w w' linked r g = subst (λ z. IsStep m side_effects removable t z root (Arg v)) (sym g.removed) (record {
     keeps = removed_keeps m can_fold SameTests shortened law tests counts removable without t g.between g.block g.index v g.edges w at g.argument g.complete branches allowed g.lose (removed_unused m can_fold SameTests shortened law tests counts side_effects removable t g.between root g.block g.index v g.edges w at linked g.argument held branches g.complete g.lose dead r.none);
+    regions = λ k l. removed_regions m can_fold SameTests shortened law tests counts side_effects removable t g.between root g.block g.index v g.edges w at linked g.argument held branches g.complete g.lose dead k;
+    edges = λ n. edges_alike t (argument_removed g.between g.block g.index) w at (removed_alike m can_fold SameTests shortened law tests counts side_effects removable t g.between root g.block g.index v g.edges w at linked g.argument held branches g.complete g.lose dead);
     inside = removed_inside m can_fold SameTests shortened law tests counts side_effects removable t g.between root g.block g.index v g.edges w at linked g.argument held branches g.complete g.lose dead;
     linked = λ q y l. removed_linked m can_fold SameTests shortened law tests counts side_effects removable t g.between root g.block g.index v g.edges w at linked g.argument held branches g.complete g.lose dead q y;
     root_stands = root_stands_removed m can_fold SameTests shortened law tests counts side_effects removable t g.between root g.block g.index v g.edges w at linked g.argument held branches g.complete g.lose dead;
@@ -80,7 +92,7 @@ module _ (m : Meaning) (can_fold : Head → Bool) (SameTests : Head → Head →
       dead : D t root (Arg v)
       dead = ready_dead m side_effects removable t root (Arg v) r
 
-  pub step : (t t' : Tree) (root : ℕ) (x : Item) → IsTree t → IsTree t' → IsWellLinked m t root → IsReady m side_effects removable t root x → Goes m shortened t t' x → IsStep m side_effects removable t t' root
+  pub step : (t t' : Tree) (root : ℕ) (x : Item) → IsTree t → IsTree t' → IsWellLinked m t root → IsReady m side_effects removable t root x → Goes m shortened t t' x → IsStep m side_effects removable t t' root x
   step t t' root (Op k) w w' linked r g = erase_step t t' root k w w' linked r g.1
   step t t' root (Arg v) w w' linked r g = remove_step t t' root v w w' linked r g
   step t t' root (Use user place) w w' linked r g = absurd g
@@ -96,6 +108,7 @@ module _ (m : Meaning) (can_fold : Head → Bool) (SameTests : Head → Head →
     inside = inside_refl t root;
     linked = λ r y s. y;
     stands = l;
+    before = λ k y. (y, refl);
     operations_back = λ k d. d;
     arguments_back = λ v d. d;
     operations_forth = λ k d s. d;
@@ -125,13 +138,14 @@ module _ (m : Meaning) (can_fold : Head → Bool) (SameTests : Head → Head →
     inside = inside_trans t0 t t' root h.inside s.inside;
     linked = λ q y l. s.linked q (h.linked q y (s.thins.live_before q l)) l;
     stands = s.root_stands h.stands;
+    before = λ k l. let b = h.before k (s.thins.live_before k l) in (b.0, s.regions k l ∙ b.1);
     operations_back = λ k d. h.operations_back k (back m side_effects removable t t' root s.thins d);
     arguments_back = λ v d. h.arguments_back v (back m side_effects removable t t' root s.thins d);
     operations_forth = λ k d l. forth m side_effects removable t t' root s.thins (h.operations_forth k d (s.thins.live_before k l)) l;
     arguments_forth = λ v d l. forth m side_effects removable t t' root s.thins (h.arguments_forth v d (s.thins.defined_before v l)) l;
   }
     where
-      s : IsStep m side_effects removable t t' root
+      s : IsStep m side_effects removable t t' root x
       s = step t t' root x w w' (h.linked root linked h.stands) r g
 
   -- nothing is ready any more
@@ -158,6 +172,32 @@ module _ (m : Meaning) (can_fold : Head → Bool) (SameTests : Head → Head →
   pub tells_same : (t0 t : Tree) (root : ℕ) (gone : List Item) (status : IRStatus) → OnWay t0 t root gone → LeavesNoDead m side_effects removable t0 t root → TellsGone gone status → (status ≡ Unchanged) ↔ (t ≡ t0)
   tells_same t0 t root [] status h end told = (λ e. h.went, λ same. told)
   tells_same t0 t root (x ∷ xs) status h end told = (λ e. absurd (not_both status told e), λ same. absurd (end.none (subst (λ z. HasDead m side_effects removable z root) (sym same) (some_dead t0 t root x xs h))))
+
+  -- edges stay until an operation with regions goes
+  pub edges_more : (t0 t t' : Tree) (root : ℕ) (x : Item) → IsTree t → IsTree t' → IsWellLinked m t root → IsReady m side_effects removable t root x → Goes m shortened t t' x → KeepsEdges t0 t → (HasRegions t x → ⊥) → KeepsEdges t0 t'
+  edges_more t0 t t' root x w w' linked r g kept n =
+      let s = step t t' root x w w' linked r g in
+      edges_transitive t0 t t' (λ op l0 l. s.thins.live_before op l) kept (s.edges n)
+
+  regions_before : (t0 t t' : Tree) (root : ℕ) (gone : List Item) (x : Item) → OnWay t0 t root gone → Goes m shortened t t' x → HasRegions t x ↔ HasRegions t0 x
+  regions_before t0 t t' root gone (Op k) h g = let e = (h.before k g.0).1 in (λ y. subst (λ z. IsTrue (has_entries z)) e y, λ y. subst (λ z. IsTrue (has_entries z)) (sym e) y)
+  regions_before t0 t t' root gone (Arg v) h g = (λ y. y, λ y. y)
+  regions_before t0 t t' root gone (Use user place) h g = (λ y. y, λ y. y)
+
+  pub regions_more : (t0 t t' : Tree) (root : ℕ) (gone : List Item) (x : Item) (old had new : Bool) → OnWay t0 t root gone → Goes m shortened t t' x → IsTrue old ↔ SomeHasRegions t0 gone → IsTrue had ↔ HasRegions t x → IsTrue new ↔ (IsTrue old ⊎ IsTrue had) → IsTrue new ↔ SomeHasRegions t0 (gone ++ x ∷ [])
+  regions_more t0 t t' root gone x old had new h g before here either = (
+    (λ n. ⊎_elim (λ o. let y = before.0 o in (y.0, front gone x y.0 y.1, y.2)) (λ o. (x, last gone x, (regions_before t0 t t' root gone x h g).0 (here.0 o))) (either.0 n)),
+    (λ y. either.1 (⊎_elim (λ i. inl (before.1 (y.0, i, y.2))) (λ e. inr (here.1 ((regions_before t0 t t' root gone x h g).1 (subst (HasRegions t0) e y.2)))) (among_more gone x y.0 y.1))),
+  )
+    where
+      front : (xs : List Item) (x y : Item) → Among y xs → Among y (xs ++ x ∷ [])
+      front [] x y i = absurd i
+      front (z ∷ zs) x y (inl e) = inl e
+      front (z ∷ zs) x y (inr i) = inr (front zs x y i)
+
+      last : (xs : List Item) (x : Item) → Among x (xs ++ x ∷ [])
+      last [] x = inl refl
+      last (z ∷ zs) x = inr (last zs x)
 
   -- what went is ready no more
   pub gone_unready : (t t' : Tree) (root : ℕ) (x : Item) → IsTree t → IsTree t' → IsWellLinked m t root → IsReady m side_effects removable t root x → Goes m shortened t t' x → IsReady m side_effects removable t' root x → ⊥

@@ -1,11 +1,11 @@
 -- A thing that is ready goes: runs are kept, links stay, and one dead thing is less.
-use Rattle.std.proofs.Common.{◌≡◌, ◌⊎◌, inl, inr, ⊎_elim, ℕ, ◌<◌, Bool, true, false, true≢false, nat_eq, length, Option, Some, None, IsSome, IsTrue, slice_get, refl, sym, ap, ◌∙◌, subst, arith}
+use Rattle.std.proofs.Common.{◌≡◌, ◌⊎◌, inl, inr, ⊎_elim, ℕ, ◌<◌, Bool, true, false, true≢false, nat_eq, length, Option, Some, None, IsSome, IsTrue, slice_get, refl, sym, ap, ◌∙◌, subst, arith, []}
 use Rattle.std.proofs.lemmas.Bool.{cases_eq}
 use Rattle.std.proofs.lemmas.Option.{slice_get_within}
 use Rattle.pliron_core.specs.declared.context.Def.{Def}
 use Rattle.pliron_core.specs.declared.context.Def.TheVariants.{Result, Argument}
 use Rattle.pliron_core.specs.Changes.{IsMadeInside, IsMakerInside}
-use Rattle.pliron_core.specs.Tree.{Tree, In, IsLive, IsMadeBy, IsMadeWithin, IsInside, Directly, Deeper, IsWithin, HoldsBlock, head_of, operands_of, successors_of, results_of, region_parent_of, block_holder_of, definition_of, up_from}
+use Rattle.pliron_core.specs.Tree.{Tree, In, IsLive, IsMadeBy, IsMadeWithin, IsInside, Directly, Deeper, IsWithin, HoldsBlock, head_of, operands_of, successors_of, results_of, region_parent_of, block_holder_of, definition_of, up_from, regions_of}
 use Rattle.pliron_core.specs.Joined.{IsTree}
 use Rattle.pliron_core.specs.Erased.{erased, is_met_above, IsSelfContained}
 use Rattle.pliron_core.proofs.HoldingLemmas.{some_is, some_of, in_slice, slice_in, maker_is, inside_up, inside_or, inside_block, block_inside, within_inside, not_itself, deeper}
@@ -26,6 +26,9 @@ use Rattle.pliron_dce.specs.Dead.{Op, UsedByDead, MayGo, Holds, OfResult, OfInsi
 use Rattle.pliron_dce.proofs.ReadyLemmas.{ready_dead}
 use Rattle.pliron_dce.proofs.Thinned.{IsThinned}
 use Rattle.pliron_dce.proofs.RemovedThins.{inside_live, shape_successors}
+use Rattle.pliron_theory.specs.Edges.{KeepsEdges}
+use Rattle.pliron_theory.proofs.EdgeLemmas.{edges_alike}
+use Rattle.pliron_dce.proofs.ErasedEdges.{erased_alike}
 use Rattle.pliron_dce.proofs.SweptThins.{swept_thins, swept_linked}
 
 -- of two operations that something stands inside, one stands inside the other
@@ -141,6 +144,13 @@ module _ (m : Meaning) (side_effects : Head → Option Bool) (removable : Head �
       erased_linked r y l =
           swept_linked m t t' (λ x. op_erased t k x) (λ b. block_erased_with t k b) w w' (erased_swept t k w live ready_contained) (gone_away t' (λ x. op_erased t k x) (λ b. block_erased_with t k b) w' (erased_gone t k w live ready_contained)) (erased_gone t k w live ready_contained).operations r y
           (not_met _ (λ d. let e : None ≡ Some (some_of (head_of t' r) l).0 = sym ((erased_gone t k w live ready_contained).operations r d) ∙ (some_of (head_of t' r) l).1 in absurd (cc)))
+
+      -- regions stay, and edges where it has no region
+      pub erased_regions : (q : ℕ) → IsLive t' q → regions_of t' q ≡ regions_of t q
+      erased_regions q l = ap (λ z. z.regions) ((erased_swept t k w live ready_contained).rows q (not_met _ (λ d. let e : None ≡ Some (some_of (head_of t' q) l).0 = sym ((erased_gone t k w live ready_contained).operations q d) ∙ (some_of (head_of t' q) l).1 in absurd (cc))))
+
+      pub erased_edges : regions_of t k ≡ [] → KeepsEdges t t'
+      erased_edges bare = edges_alike t t' w w' (erased_alike t k w bare live ready_contained w' root linked.edges may.inside (λ b i. leads_nowhere k b may i))
 
       pub ready_keeps : KeepsRuns m t t'
       ready_keeps = erased_keeps t k w live ready_contained m w' (λ r f i. gives_now m side_effects counts free t k (f.linked.admitted k (inr i)) (λ o e. may.harmless o.head (op_shows t k o e).head))

@@ -1,5 +1,5 @@
 -- An argument that nothing uses goes: one dead thing less.
-use Rattle.std.proofs.Common.{◌≡◌, ◌≢◌, ◌⊎◌, inl, inr, ℕ, ◌+◌, ◌<◌, ◌≤◌, Bool, true, false, true≢false, nat_lt, if◌then◌else◌, List, [], length, map, Option, Some, None, IsSome, is_some, IsTrue, slice_get, slice_index_or, remove, refl, sym, ap, ap₂, ◌∙◌, subst, arith, tests}
+use Rattle.std.proofs.Common.{◌≡◌, ◌≢◌, ◌⊎◌, inl, inr, ℕ, ◌+◌, ◌<◌, ◌≤◌, Bool, true, false, true≢false, nat_lt, if◌then◌else◌, List, [], length, map, Option, Some, None, IsSome, is_some, IsTrue, slice_get, slice_index_or, remove, refl, sym, ap, ap₂, ◌∙◌, subst, arith, tests, filter}
 use Rattle.std.proofs.lemmas.Bool.{cases_eq}
 use Rattle.std.proofs.lemmas.List.{get_or-set_other, get_or-set_same, get_or_past, length-map}
 use Rattle.std.proofs.lemmas.Option.{slice_get_within}
@@ -8,7 +8,7 @@ use Rattle.pliron_core.specs.declared.context.Def.{Def}
 use Rattle.pliron_core.specs.declared.context.Def.TheVariants.{Result, Argument}
 use Rattle.pliron_core.specs.declared.uses.Use.{Use as Edge}
 use Rattle.pliron_core.specs.Changes.{IsMadeInside, IsMakerInside, IsInsideChange, IsValueOutside}
-use Rattle.pliron_core.specs.Tree.{Tree, In, IsLive, IsDefined, IsMadeBy, IsInside, IsWithin, Directly, Deeper, HoldsBlock, row_of, head_of, operands_of, successors_of, results_of, regions_of, parent_of, arguments_of, block_parent_of, region_parent_of, holder_of, block_holder_of, definition_of, op_of_slot, up_from, first_of, last_of}
+use Rattle.pliron_core.specs.Tree.{Tree, In, IsLive, IsDefined, IsMadeBy, IsInside, IsWithin, Directly, Deeper, HoldsBlock, row_of, head_of, operands_of, successors_of, results_of, regions_of, parent_of, arguments_of, block_parent_of, region_parent_of, holder_of, block_holder_of, definition_of, op_of_slot, up_from, first_of, last_of, body_of}
 use Rattle.pliron_core.specs.Joined.{IsTree, IsJoined}
 use Rattle.pliron_core.specs.Writes.{argument_removed}
 use Rattle.pliron_core.proofs.ListLemmas.{decide_in}
@@ -16,6 +16,8 @@ use Rattle.pliron_core.proofs.TreeLemmas.{cases_lt}
 use Rattle.pliron_core.proofs.RemovalLemmas.{slice_get-remove_below, slice_get-remove_above}
 use Rattle.pliron_core.proofs.HoldingLemmas.{some_is, some_of, in_slice, slice_in, slot_is, maker_is, holder_live, inside_alike, within_alike, inside_block}
 use Rattle.pliron_core.proofs.WithinLemmas.{block_steps}
+use Rattle.pliron_core.specs.Edges.{succs_from}
+use Rattle.pliron_theory.specs.Edges.{EdgesAlike, has_regions}
 use Rattle.pliron_core.proofs.InsideLemmas.{AreKeptOutside, change_of_kept}
 use Rattle.pliron_core.proofs.WriteInsideLemmas.{same_block, same_operation}
 use Rattle.pliron_laws.specs.Datum.{Head, Shape, Meaning}
@@ -622,3 +624,23 @@ module _ (m : Meaning) (can_fold : Head → Bool) (SameTests : Head → Head →
         regions = λ r o. record { layout = ap (λ z. slice_index_or z r []) f.layouts; slot = ap (λ z. slice_get z r) f.slots };
         values = λ x o. let y = maker_is t x o.0 in value x o y.0 y.1 y.2;
       }
+
+  -- regions, blocks and edges stay
+  pub removed_regions : (k : ℕ) → regions_of t' k ≡ regions_of t k
+  removed_regions k = f.regions k
+
+  same_body : (b : ℕ) → body_of t' b ≡ body_of t b
+  same_body b = ap (λ z. slice_index_or z b []) f.bodies
+
+  pub removed_alike : EdgesAlike t t'
+  removed_alike = record {
+    grows = omega (arith, f.operations);
+    regions = removed_regions;
+    layouts = λ r. ap (λ z. slice_index_or z r []) f.layouts;
+    successors = λ b. ap (λ ks. succs_from t' (last_of None ks)) (same_body b) ∙ succs (last_of None (body_of t b));
+    bodies = λ b. ap (filter (λ k. has_regions t k)) (same_body b);
+  }
+    where
+      succs : (o : Option ℕ) → succs_from t' o ≡ succs_from t o
+      succs None = refl
+      succs (Some k) = same_successors k

@@ -1,15 +1,16 @@
 -- The whole rewrites that take dead things out, and what is left.
-use Rattle.std.specs.Prelude.{◌≡◌, ◌↔◌, ℕ, Bool, List, [], ◌∷◌, Option, Some, ◌⊎◌, slice_get}
+use Rattle.std.specs.Prelude.{◌≡◌, ◌↔◌, ℕ, Bool, List, [], ◌∷◌, Option, Some, ◌⊎◌, slice_get, IsTrue}
 use Rattle.pliron_core.specs.declared.attrs.IRStatus.{IRStatus}
 use Rattle.pliron_core.specs.declared.attrs.IRStatus.TheVariants.{Changed, Unchanged}
 use Rattle.pliron_core.specs.declared.uses.Use.{Use as Edge}
-use Rattle.pliron_core.specs.Tree.{Tree, IsLive, IsDefined, arguments_of}
+use Rattle.pliron_core.specs.Tree.{Tree, IsLive, IsDefined, arguments_of, regions_of}
 use Rattle.pliron_core.specs.Writes.{argument_removed}
 use Rattle.pliron_core.specs.Erased.{erased}
 use Rattle.pliron_core.specs.Changes.{IsInsideChange}
 use Rattle.pliron_laws.specs.Datum.{Head, Shape, Meaning}
 use Rattle.pliron_theory.specs.Dropping.{AreEdgesTo, EdgesLose}
 use Rattle.pliron_theory.specs.Keeps.{KeepsRuns}
+use Rattle.pliron_theory.specs.Edges.{has_regions}
 use Rattle.pliron_laws.specs.Linked.{IsWellLinked}
 use Rattle.pliron_dce.specs.Dead.{Item, Op, Arg, Use, IsDead}
 use Rattle.pliron_dce.specs.Steps.{Among}
@@ -59,6 +60,16 @@ abbrev pub TellsGone : List Item → IRStatus → Type 0
 TellsGone [] status = status ≡ Unchanged
 TellsGone (x ∷ xs) status = status ≡ Changed
 
+-- the operation has regions
+abbrev pub HasRegions : Tree → Item → Type 0
+HasRegions t (Op k) = IsTrue (has_regions t k)
+HasRegions t (Arg v) = ⊥
+HasRegions t (Use user place) = ⊥
+
+-- an operation with regions is among these
+abbrev pub SomeHasRegions : Tree → List Item → Type 0
+SomeHasRegions t gone = (x : Item) × Among x gone × HasRegions t x
+
 -- what holds on the way from the tree t0: dead things of t0 went in turn, all runs are kept, links stay,
 -- only what is inside the root changed, and what is dead is what was dead in t0 and still stands
 pub record IsOnTheWay (m : Meaning) (shortened : Shape → ℕ → ℕ → Head) (side_effects : Head → Option Bool) (removable : Head → ℕ → Bool → Option Bool) (t0 t : Tree) (root : ℕ) (gone : List Item) : Type 0 where
@@ -68,6 +79,7 @@ pub record IsOnTheWay (m : Meaning) (shortened : Shape → ℕ → ℕ → Head)
   pub inside : IsInsideChange t0 t root
   pub linked : (r : ℕ) → IsWellLinked m t0 r → IsLive t r → IsWellLinked m t r
   pub stands : IsLive t root
+  pub before : (k : ℕ) → IsLive t k → IsLive t0 k × (regions_of t k ≡ regions_of t0 k)
   pub operations_back : (k : ℕ) → IsDead m side_effects removable t root (Op k) → IsDead m side_effects removable t0 root (Op k)
   pub arguments_back : (v : ℕ) → IsDead m side_effects removable t root (Arg v) → IsDead m side_effects removable t0 root (Arg v)
   pub operations_forth : (k : ℕ) → IsDead m side_effects removable t0 root (Op k) → IsLive t k → IsDead m side_effects removable t root (Op k)

@@ -9,10 +9,11 @@ ghost use Rattle.pliron_core.specs.Tree.{IsLive};
 ghost use Rattle.pliron_core.specs.declared.attrs.IRStatus.TheVariants.{Unchanged};
 ghost use Rattle.pliron_laws.specs.declared.fault.OptError.TheVariants.{Memory};
 ghost use Rattle.pliron_theory.specs.Change.{IsPassChange};
+ghost use Rattle.pliron_theory.specs.Edges.{KeepsEdges};
 ghost use Rattle.pliron_laws.specs.Linked.{IsWellLinked};
 ghost use Rattle.pliron_dce.specs.DeadLaws.{ReadyLaws, GoingLaws, PendingLaw};
 ghost use Rattle.pliron_dce.specs.Dead.{Item};
-ghost use Rattle.pliron_dce.specs.Going.{GoInTurn, AreDeadThings, LeavesNoDead, TellsDead};
+ghost use Rattle.pliron_dce.specs.Going.{GoInTurn, AreDeadThings, LeavesNoDead, TellsDead, SomeHasRegions};
 
 mod candidates;
 mod ready;
@@ -41,8 +42,22 @@ pub fn ready_things_are_seen<D: Dialect>()
     ensures { PendingLaw D.meaning D.shortened D.side_effects D.removable }
 {}
 
-/// Takes out all that is dead inside the operation: the operations without side effects and the
-/// arguments of blocks that nothing uses but what is dead too.
+/// Takes out all that is dead inside the operation: operations without side effects that are no
+/// terminators, and arguments of blocks that their holder lets go and that branches alone lead to, where
+/// only what is dead too uses them. The operands that branches forwarded to such an argument go with it.
+/// Values and operations that stay keep their keys; the operation itself stays.
+///
+/// What is dead is a least set: a ring of arguments that feed each other stays.
+///
+/// Asks that the operation stands and is well linked. Answers `Changed` exactly if something was dead;
+/// nothing is dead then, so a second call answers `Unchanged`.
+///
+/// Errors: want of memory. The tree is then one after some whole rewrites: dead operations with their
+/// contents, and dead arguments with the operands forwarded to them.
+///
+/// Cost: one look at each operation and argument inside, and one more for each use that it loses. An
+/// argument that goes asks each edge to its block for all values that it forwards, and later arguments and
+/// operands are moved up.
 pub fn dce<D: Dialect>(
     alloc: Global,
     op: Ptr<Operation>,
@@ -52,9 +67,32 @@ pub fn dce<D: Dialect>(
     requires linked { IsWellLinked D.meaning ctx.old.tree op }
     ensures change { IsPassChange D.meaning ctx.old.tree ctx.new.tree op }
     ensures gone { (gone : List Item) × GoInTurn D.meaning D.shortened gone ctx.old.tree ctx.new.tree × AreDeadThings D.meaning D.side_effects D.removable ctx.old.tree op gone }
-    ensures none { IfOk result (λ status. LeavesNoDead D.meaning D.side_effects D.removable ctx.old.tree ctx.new.tree op) }
-    ensures status { IfOk result (λ status. TellsDead D.meaning D.side_effects D.removable ctx.old.tree op status) }
-    ensures tells { IfOk result (λ status. (status ≡ Unchanged) ↔ (ctx.new.tree ≡ ctx.old.tree)) }
+    ensures none { IfOk result (λ a. LeavesNoDead D.meaning D.side_effects D.removable ctx.old.tree ctx.new.tree op) }
+    ensures status { IfOk result (λ a. TellsDead D.meaning D.side_effects D.removable ctx.old.tree op a) }
+    ensures tells { IfOk result (λ a. (a ≡ Unchanged) ↔ (ctx.new.tree ≡ ctx.old.tree)) }
+    ensures links { (root : ℕ) → IsWellLinked D.meaning ctx.old.tree root → IsLive ctx.new.tree root → IsWellLinked D.meaning ctx.new.tree root }
+    ensures err { IfErr result (λ e. e ≡ Memory) }
+{
+    let (status, _) = dce_with_regions::<D>(alloc, op, ctx)?;
+    Ok(status)
+}
+
+/// As `dce`; answers too whether an operation with regions went. Where none did, the blocks and edges
+/// inside each operation that stands are as before.
+#[doc(hidden)]
+pub fn dce_with_regions<D: Dialect>(
+    alloc: Global,
+    op: Ptr<Operation>,
+    ctx: &mut Context,
+) -> Result<(IRStatus, bool), OptError>
+    requires live { IsLive ctx.old.tree op }
+    requires linked { IsWellLinked D.meaning ctx.old.tree op }
+    ensures change { IsPassChange D.meaning ctx.old.tree ctx.new.tree op }
+    ensures gone { (gone : List Item) × GoInTurn D.meaning D.shortened gone ctx.old.tree ctx.new.tree × AreDeadThings D.meaning D.side_effects D.removable ctx.old.tree op gone × IfOk result (λ a. IsTrue a.1 ↔ SomeHasRegions ctx.old.tree gone) }
+    ensures none { IfOk result (λ a. LeavesNoDead D.meaning D.side_effects D.removable ctx.old.tree ctx.new.tree op) }
+    ensures status { IfOk result (λ a. TellsDead D.meaning D.side_effects D.removable ctx.old.tree op a.0) }
+    ensures tells { IfOk result (λ a. (a.0 ≡ Unchanged) ↔ (ctx.new.tree ≡ ctx.old.tree)) }
+    ensures edges { IfOk result (λ a. (IsTrue a.1 → ⊥) → KeepsEdges ctx.old.tree ctx.new.tree) }
     ensures links { (root : ℕ) → IsWellLinked D.meaning ctx.old.tree root → IsLive ctx.new.tree root → IsWellLinked D.meaning ctx.new.tree root }
     ensures err { IfErr result (λ e. e ≡ Memory) }
 {

@@ -4,9 +4,10 @@ ghost use Rattle.pliron_core.specs.Tree.{IsLive};
 ghost use Rattle.pliron_laws.specs.declared.fault.OptError.TheVariants.{Memory};
 ghost use Rattle.pliron_theory.specs.Keeps.{KeepsRuns};
 ghost use Rattle.pliron_laws.specs.Linked.{IsWellLinked};
+ghost use Rattle.pliron_theory.specs.Edges.{KeepsEdges, has_regions as is_with_regions};
 ghost use Rattle.pliron_dce.specs.Dead.{Item};
 ghost use Rattle.pliron_dce.specs.Steps.{IsReady};
-ghost use Rattle.pliron_dce.specs.Going.{Goes, IsOnTheWay, LeavesNoDead, TellsGone};
+ghost use Rattle.pliron_dce.specs.Going.{Goes, HasRegions, SomeHasRegions, IsOnTheWay, LeavesNoDead, TellsGone};
 ghost use Rattle.pliron_dce.specs.Work.{item_of, HasReady};
 
 use crate::ready::holder_of;
@@ -16,19 +17,34 @@ use pliron_core::{Context, Def, IRStatus, Operation, Ptr};
 use pliron_laws::{Dialect, OptError};
 use std::alloc::Global;
 
-// A ready thing goes, and what may be ready then is noted.
+// Whether the operation has regions.
+fn has_regions(op: Ptr<Operation>, ctx: &Context) -> bool
+    requires { IsLive ctx.now.tree op }
+    ensures { IsTrue result ↔ IsTrue (is_with_regions ctx.now.tree op) }
+{
+    op.num_region(ctx) != 0
+}
+
+fn either(a: bool, b: bool) -> bool
+    ensures { IsTrue result ↔ (IsTrue a ⊎ IsTrue b) }
+{
+    a || b
+}
+
+// A ready thing goes, and what may be ready then is noted. Answers whether it had regions.
 fn take_one<D: Dialect>(
     alloc: Global,
     next: Candidate,
     root: Ptr<Operation>,
     work: &mut Vec<Candidate>,
     ctx: &mut Context,
-) -> Result<(), OptError>
+) -> Result<bool, OptError>
     requires linked { IsWellLinked D.meaning ctx.old.tree root }
     requires ready { IsReady D.meaning D.side_effects D.removable ctx.old.tree root (item_of next) }
     requires all { HasReady D.meaning D.side_effects D.removable ctx.old.tree root (work.old.items ++ next ∷ []) }
     ensures goes { OnOk result (Goes D.meaning D.shortened ctx.old.tree ctx.new.tree (item_of next)) }
     ensures all { OnOk result (HasReady D.meaning D.side_effects D.removable ctx.new.tree root work.new.items) }
+    ensures regions { IfOk result (λ had. IsTrue had ↔ HasRegions ctx.old.tree (item_of next)) }
     ensures refused { OnErr result ((ctx.new.tree ≡ ctx.old.tree) ⊎ Goes D.meaning D.shortened ctx.old.tree ctx.new.tree (item_of next)) }
     ensures err { IfErr result (λ e. e ≡ Memory) }
 {
@@ -36,9 +52,11 @@ fn take_one<D: Dialect>(
     match next {
         Candidate::Operation(op) => match op.get_parent_op(ctx) {
             Some(site) => {
+                let had = has_regions(op, ctx);
                 let used = take_operation::<D>(alloc, op, root, ctx)?;
                 ctx.well_formed();
                 note(work, site, &used, ctx)?;
+                Ok(had)
             }
             None => unreachable!(),
         },
@@ -48,33 +66,36 @@ fn take_one<D: Dialect>(
                 let used = take_argument::<D>(alloc, block, index, root, ctx)?;
                 ctx.well_formed();
                 note(work, site, &used, ctx)?;
+                Ok(false)
             }
             Def::Result(_, _) => unreachable!(),
         },
     }
-    Ok(())
 }
 
-// What is ready goes, until nothing is.
+// What is ready goes, until nothing is. Answers whether something went, and whether regions did.
 pub(crate) fn sweep<D: Dialect>(
     alloc: Global,
     root: Ptr<Operation>,
     mut work: Vec<Candidate>,
     ctx: &mut Context,
-) -> Result<IRStatus, OptError>
+) -> Result<(IRStatus, bool), OptError>
     requires live { IsLive ctx.old.tree root }
     requires linked { IsWellLinked D.meaning ctx.old.tree root }
     requires all { HasReady D.meaning D.side_effects D.removable ctx.old.tree root work.items }
-    ensures gone { (gone : List Item) × IsOnTheWay D.meaning D.shortened D.side_effects D.removable ctx.old.tree ctx.new.tree root gone × IfOk result (λ status. LeavesNoDead D.meaning D.side_effects D.removable ctx.old.tree ctx.new.tree root × TellsGone gone status) }
+    ensures gone { (gone : List Item) × IsOnTheWay D.meaning D.shortened D.side_effects D.removable ctx.old.tree ctx.new.tree root gone × IfOk result (λ a. LeavesNoDead D.meaning D.side_effects D.removable ctx.old.tree ctx.new.tree root × TellsGone gone a.0 × (IsTrue a.1 ↔ SomeHasRegions ctx.old.tree gone)) }
+    ensures edges { IfOk result (λ a. (IsTrue a.1 → ⊥) → KeepsEdges ctx.old.tree ctx.new.tree) }
     ensures err { IfErr result (λ e. e ≡ Memory) }
 {
     let mut status = IRStatus::Unchanged;
+    let mut regions = false;
     while let Some(next) = next_ready::<D>(&mut work, root, ctx) {
         ctx.well_formed();
         let taken = take_one::<D>(alloc, next, root, &mut work, ctx);
         ctx.well_formed();
-        taken?;
+        let had = taken?;
+        regions = either(regions, had);
         status = IRStatus::Changed;
     }
-    Ok(status)
+    Ok((status, regions))
 }

@@ -31,12 +31,7 @@ fn seen(
     evaluate::<Bench>(alloc, ctx, root, inputs, answers, ENOUGH)
 }
 
-fn compare(
-    rt: &impl Abort,
-    alloc: Global,
-    ctx: &mut Context,
-    text: &str,
-) -> Result<(), Fail> {
+fn compare(rt: &impl Abort, alloc: Global, ctx: &mut Context, text: &str) -> Result<(), Fail> {
     let Some(root) = read_text(alloc, text.as_bytes(), ctx)? else {
         return Err(Fail::from("unreadable"));
     };

@@ -1,5 +1,6 @@
 //! Texts, what `dce` leaves of them, and what it answers.
 ghost use Rattle.pliron_core.specs.Tree.{IsLive};
+
 use super::cases::{DEFINED, HOSTILE, ROWS};
 use pliron_bench::Bench;
 use pliron_core::{Context, IRStatus, Operation, Ptr};
@@ -92,7 +93,11 @@ fn second_inside(ctx: &Context, whole: Ptr<Operation>) -> Option<Ptr<Operation>>
     if whole.num_region(ctx) == 0 {
         return None;
     }
-    whole.get_region(ctx, 0).get_head(ctx)?.get_head(ctx)?.get_next(ctx)
+    whole
+        .get_region(ctx, 0)
+        .get_head(ctx)?
+        .get_head(ctx)?
+        .get_next(ctx)
 }
 
 // Only what is inside the root goes.
@@ -105,7 +110,10 @@ fn nested_root(rt: &impl Abort, alloc: Global, ctx: &mut Context) -> Result<(), 
         return Err(Fail::from("no second operation"));
     };
     let printed = left_of(rt, alloc, ctx, whole, root, IRStatus::Changed)?;
-    assert_eq!(rt; printed.as_str(), "func { b0(): v0 = const 4; box { b0(): }; ret }");
+    assert_eq!(rt;
+        printed.as_str(),
+        "func { b0(): v0 = const 4; box { b0(): }; ret }"
+    );
     Ok(())
 }
 
