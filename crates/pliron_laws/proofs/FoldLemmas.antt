@@ -1,7 +1,7 @@
 -- Folding by constants, one result after the other.
 use Rattle.std.proofs.Common.{◌≡◌, ◌≢◌, ◌⊎◌, inl, inr, ℕ, zero, suc, ◌+◌, ◌<◌, ◌≤◌, Bool, true, false, List, [], ◌∷◌, length, drop, Option, Some, None, is_some, Result, Ok, Err, min, refl, sym, ap, ◌∙◌, subst, arith, slice_get, IsTrue}
 use Rattle.std.specs.Result.{OnErr}
-use Rattle.std.proofs.lemmas.List.{get_or_past, get_or-set_other, drop_all}
+use Rattle.std.proofs.lemmas.List.{get_or_past, get_or-set_other, drop_all, length-append}
 use Rattle.std.proofs.lemmas.Option.{same_Some, slice_get-get_or}
 use Rattle.pliron_core.specs.declared.attrs.AttrObj.{AttrObj}
 use Rattle.pliron_core.specs.declared.attrs.IRStatus.{IRStatus}
@@ -47,6 +47,9 @@ pub fresh_made : (accepts : AttrObj → Bool) (head : AttrObj → Head) (attr : 
 fresh_made accepts head attr t now c v made w value is e =
     let m : IsMaterialised accepts head attr t now (Some c) = subst (λ z. IsMaterialised accepts head attr t now z) e is in
     (m.0, record { tree = w; made = m.2; key = m.1; value = value })
+
+pub made_long : (t made : Tree) (head : Head) → made ≡ created t head 1 0 → length made.operations ≡ length t.operations + 1
+made_long t made head e = ap (λ z. length z.operations) e ∙ length-append t.operations (new_row t head ∷ [])
 
 -- rows and places of what stood, after a constant was put
 next_row : (t : Tree) (c at k : ℕ) (o : Option ℕ) → row_of (put_next_to t c at o) k ≡ row_of t k

@@ -15,7 +15,7 @@
 //! and places, and an operation that is still admitted; what the folds in place leave is made of
 //! such operations, put before others, of other operands, and of a branch put in the place of one, with
 //! successors that the old one had.
-ghost use Rattle.std.specs.Prelude.{◌≡◌, ◌<◌, ℕ, Bool, List, Option, Some, IfOk, IfErr, OnErr, IsTrue, IsSome, length};
+ghost use Rattle.std.specs.Prelude.{◌≡◌, ◌<◌, ◌≤◌, ℕ, Bool, List, Option, Some, IfOk, IfErr, OnErr, IsTrue, IsSome, length};
 ghost use Rattle.pliron_core.specs.declared.attrs.AttrObj.{AttrObj as Attribute};
 ghost use Rattle.pliron_core.specs.declared.rewriter.OpInsertionPoint.TheVariants.{BeforeOperation};
 ghost use Rattle.pliron_core.specs.Tree.{IsLive, block_holder_of, operands_of, successors_of, parent_of};
@@ -147,7 +147,8 @@ pub trait ConstFoldInterface: HasMeaning {
         requires point { R.point rewriter.old ≡ BeforeOperation op }
         ensures ok { IfOk result (λ status. outcome ctx.old.tree ctx.new.tree op operand_attrs.now (Some status)) }
         ensures refused { OnErr result (outcome ctx.old.tree ctx.new.tree op operand_attrs.now Option.None) }
-        ensures err { IfErr result (λ e. e ≡ Memory) };
+        ensures err { IfErr result (λ e. e ≡ Memory) }
+        ensures longer { length ctx.old.tree.operations ≤ length ctx.new.tree.operations };
 
     /// Folds the operation by constants: asks `check_fold` for the constants of its results, and puts,
     /// for each that is known and that `materialize` makes, a new operation just before, which gets all
@@ -172,6 +173,7 @@ pub trait ConstFoldInterface: HasMeaning {
         ensures ok { IfOk result (λ status. materialising Self.meaning constants accepts constant_head ctx.old.tree ctx.new.tree op operand_attrs.now (Some status)) }
         ensures refused { OnErr result (materialising Self.meaning constants accepts constant_head ctx.old.tree ctx.new.tree op operand_attrs.now Option.None) }
         ensures err { IfErr result (λ e. e ≡ Memory) }
+        ensures longer { length ctx.old.tree.operations ≤ length ctx.new.tree.operations }
         ensures point { R.point rewriter.new ≡ R.point rewriter.old }
     {
         let answers = Self::check_fold(alloc, op, ctx, operand_attrs)?;
@@ -265,7 +267,8 @@ pub trait BranchOpFoldInterface: HasMeaning {
         requires point { R.point rewriter.old ≡ BeforeOperation op }
         ensures ok { IfOk result (λ status. outcome ctx.old.tree ctx.new.tree op operand_attrs.now (Some status)) }
         ensures refused { OnErr result (outcome ctx.old.tree ctx.new.tree op operand_attrs.now Option.None) }
-        ensures err { IfErr result (λ e. e ≡ Memory) };
+        ensures err { IfErr result (λ e. e ≡ Memory) }
+        ensures longer { length ctx.old.tree.operations ≤ length ctx.new.tree.operations };
 
     /// The first fault that the dialect finds in the operation.
     fn verify(_alloc: Global, _op: Ptr<Operation>, _ctx: &Context) -> Result<(), OptError>

@@ -47,7 +47,7 @@ pub fn put_constant<R: Rewriter>(
     ensures ok { OnOk result ((t : Tree) (head : Head) → IsFresh t ctx.old.tree constant old head → ctx.new.tree ≡ materialised_at t (R.point rewriter.old) old head) }
     ensures tree { OnOk result (IsTree (inserted ctx.old.tree (R.point rewriter.old) constant)) }
     ensures err { OnErr result ((t : Tree) (head : Head) → IsFresh t ctx.old.tree constant old head → IsSameTree t ctx.new.tree) }
-    ensures longer { OnErr result (length ctx.old.tree.operations ≤ length ctx.new.tree.operations) }
+    ensures longer { length ctx.old.tree.operations ≤ length ctx.new.tree.operations }
     ensures point { R.point rewriter.new ≡ R.point rewriter.old }
 {
     ctx.well_formed();

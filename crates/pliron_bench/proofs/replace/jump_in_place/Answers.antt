@@ -4,7 +4,7 @@ use Rattle.pliron_core.specs.Tree.{In}
 use Rattle.pliron_bench.specs.declared.kind.BenchKind.TheVariants.{Br}
 use Rattle.pliron_bench.specs.Bench.{plain_head}
 use Rattle.pliron_bench.proofs.BenchEdges.{becomes_jump}
-use Rattle.pliron_bench.proofs.BenchReplace.{jump_values, jump_point, old_contained, new_contained, jump_undone, jump_done}
+use Rattle.pliron_bench.proofs.BenchReplace.{jump_values, jump_point, old_contained, new_contained, jump_undone, jump_done, jump_long, undone_jump_long}
 use Rattle.pliron_bench.proofs.replace.jump_in_place.Goals as goal
 
 pub put_jump-requires-clause-values : goal.put_jump-requires-clause-values
@@ -36,3 +36,12 @@ pub returns-clause-refused : goal.returns-clause-refused
 returns-clause-refused g c =
     let put = c.in-Err.ensures.err in
     jump_undone c.args.ctx.now.tree c.create.new.ctx.tree c.put_jump.new.ctx.tree c.erase_operation-in-Err.new.ctx.tree c.in_ok-jump.jump c.plain_head.result put.0 put.1 c.well_formed-2.ensures.tree c.in_ok-jump.ensures.ok c.in_ok-jump.ensures.key put.2 c.erase_operation-in-Err.ensures.erased
+
+pub returns-in-Ok-clause-longer : goal.returns-in-Ok-clause-longer
+returns-in-Ok-clause-longer g c =
+    jump_long c.args.ctx.now.tree c.create.new.ctx.tree c.put_jump.new.ctx.tree c.erase_operation.new.ctx.tree c.args.op c.in_ok-jump.jump c.plain_head.result _ _ _ c.in_ok-jump.ensures.ok c.in-Ok.ensures.ok c.erase_operation.ensures.erased
+
+pub returns-clause-longer : goal.returns-clause-longer
+returns-clause-longer g c =
+    let put = c.in-Err.ensures.err in
+    undone_jump_long c.args.ctx.now.tree c.create.new.ctx.tree c.put_jump.new.ctx.tree c.erase_operation-in-Err.new.ctx.tree c.in_ok-jump.jump c.plain_head.result put.0 put.1 c.in_ok-jump.ensures.ok put.2 c.erase_operation-in-Err.ensures.erased

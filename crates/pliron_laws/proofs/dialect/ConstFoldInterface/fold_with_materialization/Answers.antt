@@ -8,7 +8,7 @@ use Rattle.pliron_core.specs.Changes.{IsSameTree}
 use Rattle.pliron_laws.specs.Outcomes.Materialises.{Refused}
 use Rattle.pliron_laws.proofs.ConstantLemmas.{made_point, put_before_is}
 use Rattle.pliron_laws.proofs.LinkedLemmas.{tree_created}
-use Rattle.pliron_laws.proofs.FoldLemmas.{folding_unknown, folding_over, folding_put, folding_refused, folding_end, none_of, passed_over, fresh_made, told_change, outcome_of, on_err, past_min}
+use Rattle.pliron_laws.proofs.FoldLemmas.{made_long, folding_unknown, folding_over, folding_put, folding_refused, folding_end, none_of, passed_over, fresh_made, told_change, outcome_of, on_err, past_min}
 use Rattle.pliron_laws.proofs.dialect.ConstFoldInterface.fold_with_materialization.Goals as goal
 
 pub returns-in_err-answers-clause-refused : goal.returns-in_err-answers-clause-refused
@@ -56,6 +56,7 @@ loop-i-preserved-in_default g c =
     let within : c.loop-i.i < length (results_of t c.args.op) = omega arith in
     record {
       folding = folding_unknown d.accepts d.constant_head c.args.op items t c.loop-i.i c.index.result.now c.loop-i.status now f within said (none_of _ c.in_default.not-Some);
+      longer = c.loop-i.invariant.longer;
       point = c.loop-i.invariant.point;
     }
 
@@ -72,6 +73,7 @@ loop-i-preserved-in_default-2 g c =
     let over = passed_over d.accepts d.constant_head _ now c.materialize.new.ctx.tree _ c.in_ok-constant.ensures.ok (none_of _ c.in_default-2.not-Some) in
     record {
       folding = folding_over d.accepts d.constant_head c.args.op items t c.loop-i.i c.get_result-old.result c.index.result.now _ c.loop-i.status now c.materialize.new.ctx.tree f at said c.in-Some.is over;
+      longer = let same = ap (λ z. length z.operations) over.1 in let l = c.loop-i.invariant.longer in omega (arith, same, l);
       point = c.room.ensures.point ∙ c.loop-i.invariant.point;
     }
 
@@ -114,5 +116,10 @@ loop-i-preserved g c =
     let made = fresh_made d.accepts d.constant_head _ now c.materialize.new.ctx.tree c.in-Some-2.constant c.get_result-old.result c.in_ok-constant.field-0 c.well_formed-in-loop-i.ensures.tree c.get_result-old.ensures.stands c.in_ok-constant.ensures.ok c.in-Some-2.is in
     record {
       folding = folding_put d.accepts d.constant_head c.args.op items t c.loop-i.i c.get_result-old.result c.index.result.now _ c.loop-i.status now c.put_constant.new.ctx.tree f live at said c.in-Some.is made.0 (c.in_ok-put_constant.ensures.ok now _ made.1 ∙ put_before_is now c.args.op c.get_result-old.result _ _ (c.room.ensures.point ∙ c.loop-i.invariant.point));
+      longer =
+          let same = made_long now _ _ made.1.made in
+          let l = c.loop-i.invariant.longer in
+          let put = c.put_constant.ensures.longer in
+          omega (arith, same, l, put);
       point = c.in_ok-put_constant.ensures.point ∙ c.room.ensures.point ∙ c.loop-i.invariant.point;
     }
