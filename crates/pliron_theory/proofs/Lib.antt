@@ -38,3 +38,12 @@ pub mod DroppedStays
 pub mod ShortenedBranches
 pub mod RemovedKeeps
 pub mod EdgesLost
+pub mod FactLattice
+pub mod SoundRuns
+pub mod SoundEverywhere
+pub mod ClosedSound
+pub mod ClosedRead
+pub mod CarriedFacts
+pub mod PutFacts
+pub mod FirstLinks
+pub mod FollowedFacts

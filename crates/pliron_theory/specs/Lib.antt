@@ -8,3 +8,6 @@ pub mod Rebranching
 pub mod Splicing
 pub mod Rewrites
 pub mod Dropping
+pub mod Facts
+pub mod Sound
+pub mod Following
