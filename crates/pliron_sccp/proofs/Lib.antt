@@ -7,3 +7,10 @@ pub mod Stages
 pub mod WalkLemmas
 pub mod CollectLemmas
 pub mod StraightFit
+pub mod StepLemmas
+pub mod ArgumentStep
+pub mod WholeRewrite
+pub mod Determined
+pub mod Above
+pub mod Settled
+pub mod Counting

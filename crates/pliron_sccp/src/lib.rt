@@ -4,6 +4,7 @@
 #![tactic(auto)]
 
 mod propagation;
+pub mod rewriting;
 mod straight;
 mod walk;
 
