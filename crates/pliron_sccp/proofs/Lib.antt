@@ -14,3 +14,6 @@ pub mod Determined
 pub mod Above
 pub mod Settled
 pub mod Counting
+pub mod Waiting
+pub mod Demanded
+pub mod Applied

@@ -12,3 +12,6 @@ pub mod Steps
 pub mod Settling
 pub mod Visiting
 pub mod Found
+pub mod Tables
+pub mod Demands
+pub mod Falling
