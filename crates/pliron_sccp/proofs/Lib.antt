@@ -7,3 +7,13 @@ pub mod Stages
 pub mod WalkLemmas
 pub mod CollectLemmas
 pub mod StraightFit
+pub mod StepLemmas
+pub mod ArgumentStep
+pub mod WholeRewrite
+pub mod Determined
+pub mod Above
+pub mod Settled
+pub mod Counting
+pub mod Waiting
+pub mod Demanded
+pub mod Applied

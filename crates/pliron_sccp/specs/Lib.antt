@@ -5,3 +5,13 @@ pub mod Propagation
 pub mod Collected
 pub mod Visits
 pub mod Checking
+pub mod Precise
+pub mod Chain
+pub mod Propagated
+pub mod Steps
+pub mod Settling
+pub mod Visiting
+pub mod Found
+pub mod Tables
+pub mod Demands
+pub mod Falling

@@ -3,8 +3,12 @@
 //! It stands on the theory of runs and knows nothing of the other optimisations, of passes and of the program.
 #![tactic(auto)]
 
+pub mod applying;
+pub mod demands;
 mod propagation;
+pub mod rewriting;
 mod straight;
+pub mod tables;
 mod walk;
 
 pub use propagation::sccp;

@@ -48,3 +48,12 @@ pub mod ChosenRoots
 pub mod ChangeLemmas
 pub mod EdgeLemmas
 pub mod PutEdges
+pub mod FactLattice
+pub mod SoundRuns
+pub mod SoundEverywhere
+pub mod ClosedSound
+pub mod ClosedRead
+pub mod CarriedFacts
+pub mod PutFacts
+pub mod FirstLinks
+pub mod FollowedFacts

@@ -14,3 +14,6 @@ pub mod Dropping
 pub mod ChosenRoots
 pub mod Edges
 pub mod Change
+pub mod Facts
+pub mod Sound
+pub mod Following

@@ -13,6 +13,8 @@ use Rattle.pliron_core.specs.Writes.{created, replaced, put_first}
 use Rattle.pliron_laws.specs.Datum.{datum_of, Head, Meaning}
 use Rattle.pliron_theory.specs.Keeps.{IsFit, KeepsRuns}
 use Rattle.pliron_theory.specs.Renaming.{IsReadAs}
+use Rattle.pliron_laws.specs.Folding.{MakesConstant}
+use Rattle.pliron_laws.specs.Linked.{IsWellLinked}
 use Rattle.pliron_laws.specs.Outcomes.{next_op, next_value, materialised, materialised_at}
 
 -- the dialect answers of the operation's head that it has no side effects
@@ -47,6 +49,10 @@ ReplacesResult accepts head attr op i t t' status = (v : ℕ) → slice_get (res
 -- index, where the dialect accepts the attribute
 abbrev pub ReplacesArgument : (AttrObj → Bool) → (AttrObj → Head) → AttrObj → (block i : ℕ) → (t t' : Tree) → IRStatus → Type 0
 ReplacesArgument accepts head attr block i t t' status = (v : ℕ) → slice_get (arguments_of t block) i ≡ Some v → BecomesIfAccepted accepts attr (materialised_first t block v (head attr)) t t' status
+
+-- where a tree is well linked, it is so after a constant was put first in a block for a value
+abbrev pub FirstKeepsLinks : Type 0
+FirstKeepsLinks = (m : Meaning) (attr : AttrObj) (head : Head) (t : Tree) (block v root : ℕ) → IsTree t → IsBlock t block → MakesConstant m attr head → IsWellLinked m t root → IsWellLinked m (materialised_first t block v head) root
 
 -- the point names an operation that stands in a block, or a block that stands
 abbrev pub IsPoint : Tree → OpInsertionPoint → Type 0

@@ -1,0 +1,75 @@
+-- Operations stay settled while no operand of theirs falls, and where all are settled facts are closed.
+use Rattle.std.proofs.Common.{◌≡◌, ◌⊎◌, inl, inr, ⊎_elim, ℕ, List, Some, None, slice_get, sym, ap, ◌∙◌, subst, arith}
+use Rattle.pliron_core.specs.Tree.{Tree, In, head_of, regions_of, layout_of, first_of}
+use Rattle.pliron_core.specs.Joined.{IsTree}
+use Rattle.pliron_core.proofs.HoldingLemmas.{in_slice, some_of}
+use Rattle.pliron_laws.specs.Tree.{Operation, op_at, shape_of}
+use Rattle.pliron_laws.proofs.Records.{make_op}
+use Rattle.pliron_theory.proofs.Alike.{map_same}
+use Rattle.pliron_theory.proofs.KnownData.{picked_at}
+use Rattle.pliron_theory.specs.Facts.{Fact, Undetermined, NotAConstant, AtMost, known, answered, Facts, Says, handed, Stands, IsEntered, AreClosed}
+use Rattle.pliron_sccp.specs.Settling.{IsMet, AreBelow, AreSettledBut, AreStarted}
+use Rattle.pliron_theory.proofs.FactLattice.{at_most_trans}
+
+-- what isn't constant stays so
+varies_still : (f g : Fact) → AtMost g f → f ≡ NotAConstant → g ≡ NotAConstant
+varies_still f g (inl u) e = let x : Undetermined ≡ NotAConstant = sym u ∙ e in absurd (grind arith)
+varies_still f g (inr (inl n)) e = n
+varies_still f g (inr (inr s)) e = s ∙ e
+
+module _ (x : Says) (t : Tree) where
+  entered_still : (f g : Facts) (b : ℕ) → AreBelow g f → IsEntered t f b → IsEntered t g b
+  entered_still f g b below (reached, varies) = (below.reaches b reached, λ v i. varies_still (f.fact v) (g.fact v) (below.fact v) (varies v i))
+
+  -- facts that fall go on meeting what was asked
+  pub met_still : (f now later : Facts) (k : ℕ) (o : Operation) → AreBelow later now → IsMet x t f now k o → IsMet x t f later k o
+  met_still f now later k o below m = record {
+    entries = λ r b i e. entered_still now later b below (m.entries r b i e);
+    branches = λ i b branch go.
+        let y = m.branches i b branch go in
+        (below.reaches b y.0, λ j v w at g. at_most_trans (later.fact v) (now.fact v) (f.fact w) (below.fact v) (y.1 j v w at g));
+    jumps = λ i b no_branch at. entered_still now later b below (m.jumps i b no_branch at);
+    folded = λ i v a folds at said. at_most_trans (later.fact v) (now.fact v) (answered a) (below.fact v) (m.folded i v a folds at said);
+    others = λ v none i. varies_still (now.fact v) (later.fact v) (below.fact v) (m.others v none i);
+  }
+
+  handed_same : (f g : Facts) (vs : List ℕ) → ((v : ℕ) → In v vs → g.fact v ≡ f.fact v) → handed g vs ≡ handed f vs
+  handed_same f g vs same = map_same (λ v. known (g.fact v)) (λ v. known (f.fact v)) vs (λ v i. ap known (same v i))
+
+  -- only the facts of operands were read
+  pub met_same : (f g now : Facts) (k : ℕ) (o : Operation) → ((v : ℕ) → In v o.operands → g.fact v ≡ f.fact v) → IsMet x t f now k o → IsMet x t g now k o
+  met_same f g now k o same m = record {
+    entries = m.entries;
+    branches = λ i b branch go.
+        let y = m.branches i b branch (go.0, λ folds. subst (λ ks. In b (x.feasible (shape_of x.meaning t o) o.successors ks)) (handed_same f g o.operands same) (go.1 folds)) in (
+          y.0,
+          λ j v w at forwards.
+              let p = picked_at (x.meaning.forwarded (shape_of x.meaning t o) i) o.operands j (Some w) forwards in
+              subst (AtMost (now.fact v)) (sym (same w (in_slice o.operands p.0 w p.2))) (y.1 j v w at forwards),
+        );
+    jumps = m.jumps;
+    folded = λ i v a folds at said. m.folded i v a folds at (ap (λ ks. slice_get (x.constants (shape_of x.meaning t o) ks) i) (sym (handed_same f g o.operands same)) ∙ said);
+    others = m.others;
+  }
+
+  -- where nothing waits the facts are closed
+  pub closed_when_settled : (root : ℕ) (f : Facts) → AreStarted t root f → AreSettledBut x t f (λ b. ⊥) (λ v. ⊥) (λ k. ⊥) → IsTree t → AreClosed x t root f
+  closed_when_settled root f started settled w = record {
+    inside = started.inside;
+    outside = started.outside;
+    entries = entries;
+    branches = λ k i b o stands at branch go. (met k o stands at).branches i b branch go;
+    jumps = λ k i b o stands at no_branch e. (met k o stands at).jumps i b no_branch e;
+    folded = λ k i v a o stands at folds e said. (met k o stands at).folded i v a folds e said;
+    others = λ k v o stands at none i. (met k o stands at).others v none i;
+  }
+    where
+      met : (k : ℕ) (o : Operation) → Stands t f k → op_at t k ≡ Some o → IsMet x t f f k o
+      met k o (b, p, r) at = ⊎_elim (λ z. absurd z) (λ y. ⊎_elim (λ m. m) (λ z. ⊎_elim (λ q. absurd q.2) (λ q. absurd q) z) y) (settled k b o p r at)
+
+      entries : (k r b : ℕ) → (k ≡ root) ⊎ Stands t f k → In r (regions_of t k) → first_of (layout_of t r) None ≡ Some b → IsEntered t f b
+      entries k r b (inl s) i e = started.entries r b (subst (λ z. In r (regions_of t z)) s i) e
+      entries k r b (inr (d, p, q)) i e =
+          let live = (w.joined.standing k d p).0 in
+          let h = some_of (head_of t k) live in
+          (met k _ (d, p, q) (make_op t k h.0 h.1)).entries r b i e

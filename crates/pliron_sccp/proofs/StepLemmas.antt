@@ -1,0 +1,142 @@
+-- One fold of the chain.
+use Rattle.std.proofs.Common.{◌≡◌, ◌⊎◌, inl, inr, slice_get, map, drop, ◌∷◌, [], ℕ, zero, suc, ◌+◌, Bool, false, List, Option, Some, None, Result, Ok, Err, length, IsSome, is_some, sym, ap, ap₂, ◌∙◌, subst, arith, ◌≤◌, IsTrue}
+use Rattle.std.specs.Result.{IfOk, OnErr}
+use Rattle.pliron_core.specs.declared.attrs.AttrObj.{AttrObj}
+use Rattle.pliron_core.specs.declared.attrs.IRStatus.{IRStatus}
+use Rattle.pliron_core.specs.Tree.{Tree, IsLive, no_entry, head_of, operands_of, parent_of}
+use Rattle.pliron_core.specs.Joined.{IsTree}
+use Rattle.pliron_core.proofs.HoldingLemmas.{some_is}
+use Rattle.pliron_core.proofs.UsedLemmas.{length_map}
+use Rattle.pliron_laws.specs.declared.fault.OptError.{OptError}
+use Rattle.pliron_laws.specs.Datum.{Head}
+use Rattle.pliron_laws.specs.Tree.{shape_of}
+use Rattle.pliron_laws.specs.Folding.{AnswersTrue, AnswersJumps, MakesConstants}
+use Rattle.pliron_laws.specs.InPlace.{Outcome, FoldsInPlace, TellsChange}
+use Rattle.pliron_laws.specs.Outcomes.{MaterialisesSome, materialised}
+use Rattle.pliron_laws.specs.Outcomes.MaterialisesSome.{Rest, Then}
+use Rattle.pliron_laws.proofs.FoldLemmas.{put_row, put_row-new}
+use Rattle.pliron_core.proofs.SameTreeLemmas.{same_refl, same_trans}
+use Rattle.pliron_core.proofs.TreeLemmas.{live-within}
+use Rattle.pliron_core.specs.Changes.{IsSameTree}
+use Rattle.pliron_core.specs.Status.{changed_by_either}
+use Rattle.pliron_core.specs.declared.attrs.IRStatus.TheVariants.{Changed, Unchanged}
+use Rattle.std.proofs.lemmas.List.{get_or_past}
+use Rattle.pliron_theory.proofs.FoundRuns.{PassesForwarded}
+use Rattle.pliron_laws.proofs.Records.{ShowsOperation, op_shows}
+use Rattle.pliron_theory.specs.Facts.{Facts, Says, known, handed, answers_of}
+use Rattle.pliron_theory.specs.Following.{StandsAsBefore, Follows}
+use Rattle.pliron_sccp.specs.Steps.{IsFoldStep, AreFoldSteps, IsFoldingOn, IsTold}
+use Rattle.pliron_sccp.specs.declared.rewriting.Fold.{Fold}
+use Rattle.pliron_sccp.specs.Chain.{FoldsInTurn, FoldsPartly}
+use Rattle.pliron_sccp.specs.Chain.FoldsPartly.{Broken, After}
+use Rattle.pliron_sccp.specs.Chain.FoldsInTurn.{NoMore, Next}
+use Rattle.pliron_theory.proofs.FollowedFacts.{fold_on}
+
+-- what stands goes on standing, and where something was materialised an operation stands that did not
+module _ (accepts : AttrObj → Bool) (head : AttrObj → Head) (k : ℕ) (results : List ℕ) (more : List (Option AttrObj)) where
+  pub some_stays : (t u : Tree) → MaterialisesSome accepts head k results more t u → (z : ℕ) → IsLive t z → IsLive u z
+  some_stays t u (Rest same) z l = subst (λ r. IsSome r.head) (sym (same.operations z)) l
+  some_stays t u (Then i v attr at said accepted done) z l =
+      some_stays (materialised t k v (head attr)) u done z (subst (λ r. IsSome r.head) (sym (put_row t k v z (head attr) (live-within t z l))) l)
+
+  pub some_told : (t u : Tree) → MaterialisesSome accepts head k results more t u → IsSameTree t u ⊎ ((z : ℕ) × (head_of t z ≡ None) × IsLive u z)
+  some_told t u (Rest same) = inl same
+  some_told t u (Then i v attr at said accepted done) = inr (
+    length t.operations,
+    ap (λ z. z.head) (get_or_past t.operations (length t.operations) no_entry (omega arith)),
+    some_stays (materialised t k v (head attr)) u done (length t.operations) (ap (λ z. is_some z.head) (put_row-new t k v (head attr))),
+  )
+
+pub told_of : (t u : Tree) (status : IRStatus) → TellsChange (Some status) t u → IsSameTree t u ⊎ ((z : ℕ) × (head_of t z ≡ None) × IsLive u z) → IsTold status t u
+told_of t u Unchanged is some = is
+told_of t u Changed is (inl same) = absurd (is same)
+told_of t u Changed is (inr new) = new
+
+pub told_then : (t u v : Tree) (a b : IRStatus) → ((k : ℕ) → IsLive u k → IsLive v k) → IsTold a t u → IsTold b u v → IsTold (changed_by_either a b) t v
+told_then t u v Unchanged Unchanged stays p q = same_trans t u v p q
+told_then t u v Unchanged Changed stays p (k, none, live) = (k, ap (λ z. z.head) (sym (p.operations k)) ∙ none, live)
+told_then t u v Changed Unchanged stays (k, none, live) q = (k, none, stays k live)
+told_then t u v Changed Changed stays (k, none, live) q = (k, none, stays k live)
+
+module _ (x : Says) (t₀ : Tree) (root : ℕ) (f₀ : Facts) (t : Tree) (op : ℕ) (ks : List (Option AttrObj)) (s : IsFoldStep x t₀ root f₀ t op ks) where
+  now : StandsAsBefore x t₀ t f₀ s.follows.facts op s.operation
+  now = s.follows.operations op s.operation s.at
+
+  shows : ShowsOperation t op now.operation
+  shows = op_shows t op now.operation now.stands
+
+  pub step_live : IsLive t op
+  step_live = ap is_some shows.head
+
+  pub step_placed : IsSome (parent_of t op)
+  step_placed = ap is_some (s.follows.parents op (ap is_some (op_shows t₀ op s.operation s.at).head) ∙ s.stands.1)
+
+  pub step_folds : (h : Head) → head_of t op ≡ Some h → IsTrue (x.can_fold h)
+  step_folds h e = ap x.can_fold (some_is (sym e ∙ shows.head) ∙ now.head) ∙ s.folds
+
+  pub step_entries : length ks ≡ length (operands_of t op)
+  step_entries =
+      ap length (s.known_is ∙ sym now.handed_same) ∙ length_map (λ v. known (s.follows.facts.fact v)) now.operation.operands ∙ ap length (sym shows.operands)
+
+  module _ (accepts : AttrObj → Bool) (head : AttrObj → Head) (outcome branch_outcome : Outcome) (law : FoldsInPlace x.meaning x.constants accepts head outcome branch_outcome) where
+    pub step_told : (u : Tree) (status : IRStatus) → outcome t u op ks (Some status) → IsTold status t u
+    step_told u status is =
+        let p = law.constant t u op ks (Some status) now.operation now.stands is in
+        told_of t u status p.1 (some_told accepts head op now.operation.results (x.constants (shape_of x.meaning t now.operation) ks) t u p.0)
+
+    pub step_stays : (u : Tree) (answer : Option IRStatus) → outcome t u op ks answer → (k : ℕ) → IsLive t k → IsLive u k
+    step_stays u answer is =
+        some_stays accepts head op now.operation.results (x.constants (shape_of x.meaning t now.operation) ks) t u (law.constant t u op ks answer now.operation now.stands is).0
+
+    step_some : (u : Tree) (answer : Option IRStatus) → outcome t u op ks answer → MaterialisesSome accepts head op s.operation.results (answers_of x t₀ f₀ s.operation) t u
+    step_some u answer is =
+        subst (λ z. MaterialisesSome accepts head op s.operation.results z t u) (ap₂ (λ p q. x.constants p q) now.shape s.known_is)
+        (subst (λ z. MaterialisesSome accepts head op z (x.constants (shape_of x.meaning t now.operation) ks) t u) now.results (law.constant t u op ks answer now.operation now.stands is).0)
+
+    pub step_follows : AnswersTrue x.meaning x.can_fold x.constants → AnswersJumps x.meaning x.can_fold_branch x.feasible → PassesForwarded x.meaning → MakesConstants x.meaning accepts head → ((attr : AttrObj) → IsTrue (accepts attr) → x.meaning.is_branch (head attr) ≡ false) → (u : Tree) (answer : Option IRStatus) → outcome t u op ks answer → IsTree u → length t.operations ≤ length u.operations → Follows x t₀ root f₀ u
+    step_follows answers jumps passes makes plain u answer is w longer =
+        fold_on x t₀ root f₀ s.first answers jumps passes accepts head makes plain op s.operation s.stands s.at s.folds t u s.follows w (step_some u answer is) longer
+
+-- the outcome, whatever was answered
+pub either : (P : Option IRStatus → Type 0) (r : Result IRStatus OptError) → IfOk r (λ status. P (Some status)) → OnErr r (P None) → (a : Option IRStatus) × P a
+either P (Ok status) ok err = (Some status, ok)
+either P (Err e) ok err = (None, err)
+
+drop_at : (xs : List Fold) (i : ℕ) (x : Fold) → slice_get xs i ≡ Some x → drop i xs ≡ x ∷ drop (i + 1) xs
+drop_at [] i x e = absurd (grind arith)
+drop_at (y ∷ ys) zero x e = ap (λ z. z ∷ ys) (some_is e)
+drop_at (y ∷ ys) (suc i) x e =
+    let one : suc i + 1 ≡ suc (i + 1) = omega arith in drop_at ys i x e ∙ ap (λ n. x ∷ drop n (y ∷ ys)) (sym one)
+
+module _ (x : Says) (outcome : Outcome) (start : Tree) (folds : List Fold) where
+  pub folding_start : IsFoldingOn x outcome start folds 0 Unchanged start
+  folding_start = record { follows = λ t₀ root f₀ s. s.follows; partly = λ t₀ root f₀ s u z. z; turns = λ t₀ root f₀ s u z. z; told = same_refl start; stays = λ k l. l }
+
+  pub folding_can : (i : ℕ) (status : IRStatus) (now : Tree) → IsFoldingOn x outcome start folds i status now → (fold : Fold) → slice_get folds i ≡ Some fold → (t₀ : Tree) (root : ℕ) (f₀ : Facts) → AreFoldSteps x t₀ root f₀ start folds → IsFoldStep x t₀ root f₀ now fold.op fold.known.items
+  folding_can i status now g fold at t₀ root f₀ s =
+      let e = s.each i fold at in
+      record { first = s.first; follows = g.follows t₀ root f₀ s; operation = e.0; at = e.1; stands = e.2; folds = e.3; known_is = e.4 }
+
+  pub folding_next : (i : ℕ) (status : IRStatus) (now : Tree) → IsFoldingOn x outcome start folds i status now → (fold : Fold) → slice_get folds i ≡ Some fold → (next : Tree) (one : IRStatus) → outcome now next fold.op fold.known.items (Some one) → IsTold one now next → ((k : ℕ) → IsLive now k → IsLive next k) → ((t₀ : Tree) (root : ℕ) (f₀ : Facts) → IsFoldStep x t₀ root f₀ now fold.op fold.known.items → Follows x t₀ root f₀ next) → IsFoldingOn x outcome start folds (i + 1) (changed_by_either status one) next
+  folding_next i status now g fold at next one is told stays follows = record {
+    follows = λ t₀ root f₀ s. follows t₀ root f₀ (folding_can i status now g fold at t₀ root f₀ s);
+    partly = λ t₀ root f₀ s u z.
+        let e = s.each i fold at in
+        let known = e.4 ∙ ap (handed f₀) (sym (op_shows t₀ fold.op e.0 e.1).operands) in
+        g.partly t₀ root f₀ s u (subst (λ l. FoldsPartly outcome t₀ f₀ (map (λ q. q.op) l) now u) (sym (drop_at folds i fold at)) (After fold.op next one (subst (λ ks. outcome now next fold.op ks (Some one)) known is) z));
+    turns = λ t₀ root f₀ s u z.
+        let e = s.each i fold at in
+        let known = e.4 ∙ ap (handed f₀) (sym (op_shows t₀ fold.op e.0 e.1).operands) in
+        g.turns t₀ root f₀ s u (subst (λ l. FoldsInTurn outcome t₀ f₀ (map (λ q. q.op) l) now u) (sym (drop_at folds i fold at)) (Next fold.op next one (subst (λ ks. outcome now next fold.op ks (Some one)) known is) z));
+    told = told_then start now next status one stays g.told told;
+    stays = λ k l. stays k (g.stays k l);
+  }
+
+  pub folding_end : (i : ℕ) (status : IRStatus) (now : Tree) → IsFoldingOn x outcome start folds i status now → drop i folds ≡ [] → (t₀ : Tree) (root : ℕ) (f₀ : Facts) → AreFoldSteps x t₀ root f₀ start folds → FoldsInTurn outcome t₀ f₀ (map (λ fold. fold.op) folds) start now
+  folding_end i status now g none t₀ root f₀ s = g.turns t₀ root f₀ s now (subst (λ l. FoldsInTurn outcome t₀ f₀ (map (λ q. q.op) l) now now) (sym none) NoMore)
+
+  pub folding_broken : (i : ℕ) (status : IRStatus) (now : Tree) → IsFoldingOn x outcome start folds i status now → (fold : Fold) → slice_get folds i ≡ Some fold → (next : Tree) → outcome now next fold.op fold.known.items None → (t₀ : Tree) (root : ℕ) (f₀ : Facts) → AreFoldSteps x t₀ root f₀ start folds → FoldsPartly outcome t₀ f₀ (map (λ fold. fold.op) folds) start next
+  folding_broken i status now g fold at next is t₀ root f₀ s =
+      let e = s.each i fold at in
+      let known = e.4 ∙ ap (handed f₀) (sym (op_shows t₀ fold.op e.0 e.1).operands) in
+      g.partly t₀ root f₀ s next (subst (λ l. FoldsPartly outcome t₀ f₀ (map (λ q. q.op) l) now next) (sym (drop_at folds i fold at)) (Broken fold.op (subst (λ ks. outcome now next fold.op ks None) known is)))

@@ -1,0 +1,15 @@
+use Rattle.std.proofs.Common.{◌≤◌, ◌<◌, ◌≡◌, Some, length, slice_get, sym, ap, ◌∙◌, subst, refl, arith}
+use Rattle.pliron_core.specs.Tree.{arguments_of, results_of, regions_of, successors_of, operands_of, layout_of, first_of}
+use Rattle.pliron_theory.specs.Facts.{IsEntered}
+use Rattle.pliron_sccp.proofs.Demanded.{adds_next, adds_end}
+use Rattle.pliron_sccp.proofs.demands.ask_jumps.Goals as goal
+
+pub loop-i-preserved : goal.loop-i-preserved
+loop-i-preserved c =
+    adds_next (successors_of c.args.ctx.now.tree c.args.op) (λ now j b. IsEntered c.args.ctx.now.tree now b) c.loop-i.i c.get_successor.result c.args.asked.now.items c.loop-i.asked.items c.ask_entry.new.asked.items c.get_successor.ensures.successor c.loop-i.invariant c.in_ok-ask_entry.ensures.ok
+
+pub returns-clause-ok : goal.returns-clause-ok
+returns-clause-ok c =
+    let bs = successors_of c.args.ctx.now.tree c.args.op in
+    let whole : length bs ≤ c.loop-i.i = omega arith in
+    adds_end bs (λ now j b. IsEntered c.args.ctx.now.tree now b) c.loop-i.i c.args.asked.now.items c.loop-i.asked.items whole c.loop-i.invariant

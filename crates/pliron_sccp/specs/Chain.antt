@@ -1,0 +1,105 @@
+-- The chain of rewrites from the tree before to the tree after, by facts on the first.
+use Rattle.std.specs.Prelude.{◌≡◌, zero, suc, ℕ, Bool, true, false, if◌then◌else◌, List, [], ◌∷◌, ◌++◌, Option, Some, None, ◌⊎◌, take, filter, length}
+use Rattle.std.specs.List.{flat_map}
+use Rattle.pliron_core.specs.declared.attrs.AttrObj.{AttrObj}
+use Rattle.pliron_core.specs.declared.attrs.IRStatus.{IRStatus}
+use Rattle.pliron_core.specs.Tree.{Tree, head_of, operands_of, regions_of, results_of, parent_of, body_of, arguments_of, layout_of}
+use Rattle.pliron_core.specs.Walks.{contents}
+use Rattle.pliron_core.specs.Changes.{IsSameTree}
+use Rattle.pliron_laws.specs.Datum.{Head}
+use Rattle.pliron_laws.specs.InPlace.{Outcome}
+use Rattle.pliron_theory.specs.Rewrites.{materialised_first}
+use Rattle.pliron_theory.specs.Facts.{Fact, Undetermined, Constant, NotAConstant, Facts, handed}
+
+-- the blocks inside an operation, at most n levels deep, in pre-order: each is followed by those inside its operations
+abbrev pub blocks_below : Tree → ℕ → ℕ → List ℕ
+blocks_below t zero x = []
+blocks_below t (suc n) x = flat_map (λ r. flat_map (λ b. b ∷ flat_map (λ k. blocks_below t n k) (body_of t b)) (layout_of t r)) (regions_of t x)
+
+-- all blocks inside the operation; nothing is nested deeper than there are operations
+abbrev pub blocks_inside : Tree → ℕ → List ℕ
+blocks_inside t root = blocks_below t (length t.operations) root
+
+abbrev pub is_reached : Facts → Option ℕ → Bool
+is_reached f None = false
+is_reached f (Some b) = f.reaches b
+
+abbrev pub has_head : (Head → Bool) → Option Head → Bool
+has_head p None = false
+has_head p (Some h) = p h
+
+abbrev pub both : Bool → Bool → Bool
+both true b = b
+both false b = false
+
+-- the operations inside the root that fold and stand in blocks that are reached, in pre-order
+abbrev pub folding : (Head → Bool) → Tree → ℕ → Facts → List ℕ
+folding can_fold t root f = filter (λ k. both (has_head can_fold (head_of t k)) (is_reached f (parent_of t k))) (contents t root)
+
+-- these operations are folded in turn, each in place by what the facts know of the operands that it had in t₀
+pub data FoldsInTurn (outcome : Outcome) (t₀ : Tree) (f : Facts) : List ℕ → Tree → Tree → Type 0 where
+  NoMore : {t : Tree} → FoldsInTurn outcome t₀ f [] t t
+  Next : {t v : Tree} {ks : List ℕ} (k : ℕ) (u : Tree) (answer : IRStatus) → outcome t u k (handed f (operands_of t₀ k)) (Some answer) → FoldsInTurn outcome t₀ f ks u v → FoldsInTurn outcome t₀ f (k ∷ ks) t v
+
+-- a first part of these folds, where memory was refused: none of the rest was begun, or the next one was broken off
+-- after an outcome that the dialect names
+pub data FoldsPartly (outcome : Outcome) (t₀ : Tree) (f : Facts) : List ℕ → Tree → Tree → Type 0 where
+  Stopped : {t u : Tree} {ks : List ℕ} → IsSameTree t u → FoldsPartly outcome t₀ f ks t u
+  Broken : {t u : Tree} {ks : List ℕ} (k : ℕ) → outcome t u k (handed f (operands_of t₀ k)) None → FoldsPartly outcome t₀ f (k ∷ ks) t u
+  After : {t v : Tree} {ks : List ℕ} (k : ℕ) (u : Tree) (answer : IRStatus) → outcome t u k (handed f (operands_of t₀ k)) (Some answer) → FoldsPartly outcome t₀ f ks u v → FoldsPartly outcome t₀ f (k ∷ ks) t v
+
+-- the blocks that are reached, in pre-order
+abbrev pub reached_blocks : Tree → ℕ → Facts → List ℕ
+reached_blocks t root f = filter (λ b. f.reaches b) (blocks_inside t root)
+
+-- an argument of a block that is known to be a constant
+pub record KnownArgument : Type 0 where
+  pub block : ℕ
+  pub value : ℕ
+  pub attr : AttrObj
+
+abbrev pub known_with : Fact → (block v : ℕ) → List KnownArgument → List KnownArgument
+known_with Undetermined block v more = more
+known_with (Constant c) block v more = record { block = block; value = v; attr = c } ∷ more
+known_with NotAConstant block v more = more
+
+abbrev pub known_in_block : Facts → ℕ → List ℕ → List KnownArgument
+known_in_block f block [] = []
+known_in_block f block (v ∷ vs) = known_with (f.fact v) block v (known_in_block f block vs)
+
+-- the constant arguments of blocks that are reached, in pre-order and in the order of their indices
+abbrev pub known_arguments : Tree → ℕ → Facts → List KnownArgument
+known_arguments t root f = flat_map (λ b. known_in_block f b (arguments_of t b)) (reached_blocks t root f)
+
+-- for each of these whose attribute the dialect accepts, in turn, a constant is put first in the block
+abbrev pub all_put : (AttrObj → Bool) → (AttrObj → Head) → List KnownArgument → Tree → Tree
+all_put accepts head [] t = t
+all_put accepts head (a ∷ others) t = all_put accepts head others (if accepts a.attr then materialised_first t a.block a.value (head a.attr) else t)
+
+-- first the operations that fold, then the constant arguments of blocks that are reached, in pre-order
+pub record IsRewritten (can_fold : Head → Bool) (accepts : AttrObj → Bool) (head : AttrObj → Head) (outcome : Outcome) (t₀ : Tree) (root : ℕ) (f : Facts) (t : Tree) : Type 0 where
+  pub folded : Tree
+  pub folds : FoldsInTurn outcome t₀ f (folding can_fold t₀ root f) t₀ folded
+  pub arguments : t ≡ all_put accepts head (known_arguments t₀ root f) folded
+
+-- constants are put for a first part of these arguments
+abbrev pub IsPartlyPut : (AttrObj → Bool) → (AttrObj → Head) → List KnownArgument → Tree → Tree → Type 0
+IsPartlyPut accepts head known t u = (n : ℕ) × IsSameTree (all_put accepts head (take n known) t) u
+
+-- some of the folds, or all of them and some of the arguments: the tree where memory was refused
+abbrev pub IsPartlyRewritten : (Head → Bool) → (AttrObj → Bool) → (AttrObj → Head) → Outcome → Tree → ℕ → Facts → Tree → Type 0
+IsPartlyRewritten can_fold accepts head outcome t₀ root f t = FoldsPartly outcome t₀ f (folding can_fold t₀ root f) t₀ t ⊎ ((folded : Tree) × FoldsInTurn outcome t₀ f (folding can_fold t₀ root f) t₀ folded × IsPartlyPut accepts head (known_arguments t₀ root f) folded t)
+
+-- the values that are made in blocks that are reached
+abbrev pub values_there : Tree → ℕ → Facts → List ℕ
+values_there t root f = flat_map (λ b. arguments_of t b ++ flat_map (λ k. results_of t k) (body_of t b)) (reached_blocks t root f)
+
+abbrev pub is_constant : Fact → Bool
+is_constant Undetermined = false
+is_constant (Constant c) = true
+is_constant NotAConstant = false
+
+abbrev pub varies : Fact → Bool
+varies Undetermined = false
+varies (Constant c) = false
+varies NotAConstant = true

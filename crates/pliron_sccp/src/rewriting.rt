@@ -1,0 +1,165 @@
+//! Rewriting a tree by facts about it.
+ghost use Rattle.std.specs.Prelude.{◌≡◌, ◌≤◌, ◌<◌, ℕ, List, Some, None, IsSome, IfOk, IfErr, OnErr, OnOk, length, map, slice_get};
+ghost use Rattle.pliron_core.specs.Tree.{Tree, IsLive};
+ghost use Rattle.pliron_core.specs.Changes.{IsSameTree};
+ghost use Rattle.pliron_laws.specs.declared.fault.OptError.TheVariants.{Memory};
+ghost use Rattle.pliron_theory.specs.Facts.{Facts, Says};
+ghost use Rattle.pliron_theory.specs.Following.{Follows};
+ghost use Rattle.pliron_sccp.specs.Steps.{IsFoldStep, AreFoldSteps, IsTold, IsArgumentStep, AreArgumentSteps, StandForEach, IsFound};
+ghost use Rattle.pliron_theory.specs.Rewrites.{ReplacesArgument};
+ghost use Rattle.pliron_theory.specs.Keeps.{KeepsRuns};
+ghost use Rattle.pliron_laws.specs.Linked.{IsWellLinked};
+ghost use Rattle.pliron_laws.specs.InPlace.{TellsChange};
+ghost use Rattle.pliron_sccp.specs.Chain.{FoldsInTurn, FoldsPartly, KnownArgument, all_put, IsPartlyPut, IsRewritten, IsPartlyRewritten};
+
+use pliron_core::{AttrObj, BasicBlock, Context, IRStatus, Operation, Ptr, Rewriter};
+use pliron_laws::{ConstFoldInterface, Dialect, OptError, Room};
+use pliron_theory::rewrites::replace_argument_by_constant;
+use std::alloc::Global;
+
+/// An operation that folds, with the constants that are known of its operands.
+#[derive(Drop)]
+pub struct Fold {
+    op: Ptr<Operation>,
+    known: Vec<Option<AttrObj>>,
+}
+
+/// Folds one operation in place by facts about the first tree.
+///
+/// Errors: want of memory, after which the tree is one that the facts still follow.
+pub fn fold_one<D: Dialect, R: Rewriter + Room>(
+    alloc: Global,
+    fold: &Fold,
+    ctx: &mut Context,
+    rewriter: &mut R,
+) -> Result<IRStatus, OptError>
+    requires step { (t₀ : Tree) × (root : ℕ) × (f₀ : Facts) × IsFoldStep (record { meaning = D.meaning; can_fold = D.can_fold; can_fold_branch = D.can_fold_branch; constants = D.constants; feasible = D.feasible }) t₀ root f₀ ctx.old.tree fold.now.op fold.now.known.items }
+    ensures ok { IfOk result (λ status. D.ConstFoldInterface.outcome ctx.old.tree ctx.new.tree fold.now.op fold.now.known.items (Some status)) }
+    ensures refused { OnErr result (D.ConstFoldInterface.outcome ctx.old.tree ctx.new.tree fold.now.op fold.now.known.items None) }
+    ensures told { IfOk result (λ status. IsTold status ctx.old.tree ctx.new.tree) }
+    ensures stays { (k : ℕ) → IsLive ctx.old.tree k → IsLive ctx.new.tree k }
+    ensures err { IfErr result (λ e. e ≡ Memory) }
+    ensures follows { (t₀ : Tree) (root : ℕ) (f₀ : Facts) → IsFoldStep (record { meaning = D.meaning; can_fold = D.can_fold; can_fold_branch = D.can_fold_branch; constants = D.constants; feasible = D.feasible }) t₀ root f₀ ctx.old.tree fold.now.op fold.now.known.items → Follows (record { meaning = D.meaning; can_fold = D.can_fold; can_fold_branch = D.can_fold_branch; constants = D.constants; feasible = D.feasible }) t₀ root f₀ ctx.new.tree }
+{
+    ctx.well_formed();
+    rewriter.set_insertion_point_before_operation(fold.op);
+    let done = <D as ConstFoldInterface>::fold_in_place(alloc, fold.op, ctx, &fold.known, rewriter);
+    ctx.well_formed();
+    done
+}
+
+/// Folds these operations in place, one after the other.
+///
+/// Errors: want of memory, after some of the folds.
+pub fn fold_all<D: Dialect, R: Rewriter + Room>(
+    alloc: Global,
+    folds: &[Fold],
+    ctx: &mut Context,
+    rewriter: &mut R,
+) -> Result<IRStatus, OptError>
+    requires steps { (t₀ : Tree) × (root : ℕ) × (f₀ : Facts) × AreFoldSteps (record { meaning = D.meaning; can_fold = D.can_fold; can_fold_branch = D.can_fold_branch; constants = D.constants; feasible = D.feasible }) t₀ root f₀ ctx.old.tree folds.now }
+    ensures folded { OnOk result ((t₀ : Tree) (root : ℕ) (f₀ : Facts) → AreFoldSteps (record { meaning = D.meaning; can_fold = D.can_fold; can_fold_branch = D.can_fold_branch; constants = D.constants; feasible = D.feasible }) t₀ root f₀ ctx.old.tree folds.now → FoldsInTurn D.ConstFoldInterface.outcome t₀ f₀ (map (λ fold. fold.op) folds.now) ctx.old.tree ctx.new.tree) }
+    ensures refused { OnErr result ((t₀ : Tree) (root : ℕ) (f₀ : Facts) → AreFoldSteps (record { meaning = D.meaning; can_fold = D.can_fold; can_fold_branch = D.can_fold_branch; constants = D.constants; feasible = D.feasible }) t₀ root f₀ ctx.old.tree folds.now → FoldsPartly D.ConstFoldInterface.outcome t₀ f₀ (map (λ fold. fold.op) folds.now) ctx.old.tree ctx.new.tree) }
+    ensures told { IfOk result (λ status. IsTold status ctx.old.tree ctx.new.tree) }
+    ensures stays { (k : ℕ) → IsLive ctx.old.tree k → IsLive ctx.new.tree k }
+    ensures err { IfErr result (λ e. e ≡ Memory) }
+    ensures follows { (t₀ : Tree) (root : ℕ) (f₀ : Facts) → AreFoldSteps (record { meaning = D.meaning; can_fold = D.can_fold; can_fold_branch = D.can_fold_branch; constants = D.constants; feasible = D.feasible }) t₀ root f₀ ctx.old.tree folds.now → Follows (record { meaning = D.meaning; can_fold = D.can_fold; can_fold_branch = D.can_fold_branch; constants = D.constants; feasible = D.feasible }) t₀ root f₀ ctx.new.tree }
+{
+    let mut status = IRStatus::Unchanged;
+    for i in 0..folds.len() {
+        status |= fold_one::<D, R>(alloc, &folds[i], ctx, rewriter)?;
+    }
+    Ok(status)
+}
+
+/// An argument of a block that is a constant.
+#[derive(Drop)]
+pub struct ConstantArgument {
+    block: Ptr<BasicBlock>,
+    index: usize,
+    attr: AttrObj,
+}
+
+/// Puts a constant first in its block for an argument, by facts about the first tree.
+///
+/// Errors: want of memory, which leaves the tree as it was but for spent keys.
+pub fn put_argument<D: Dialect, R: Rewriter + Room>(
+    alloc: Global,
+    argument: &ConstantArgument,
+    ctx: &mut Context,
+    rewriter: &mut R,
+) -> Result<IRStatus, OptError>
+    requires step { (t₀ : Tree) × (root : ℕ) × (f₀ : Facts) × IsArgumentStep (record { meaning = D.meaning; can_fold = D.can_fold; can_fold_branch = D.can_fold_branch; constants = D.constants; feasible = D.feasible }) t₀ root f₀ ctx.old.tree argument.now }
+    ensures ok { IfOk result (λ status. ReplacesArgument D.accepts D.constant_head argument.now.attr argument.now.block argument.now.index ctx.old.tree ctx.new.tree status) }
+    ensures refused { OnErr result (IsSameTree ctx.old.tree ctx.new.tree) }
+    ensures told { IfOk result (λ status. IsTold status ctx.old.tree ctx.new.tree) }
+    ensures stays { (k : ℕ) → IsLive ctx.old.tree k → IsLive ctx.new.tree k }
+    ensures err { IfErr result (λ e. e ≡ Memory) }
+    ensures follows { (t₀ : Tree) (root : ℕ) (f₀ : Facts) → IsArgumentStep (record { meaning = D.meaning; can_fold = D.can_fold; can_fold_branch = D.can_fold_branch; constants = D.constants; feasible = D.feasible }) t₀ root f₀ ctx.old.tree argument.now → Follows (record { meaning = D.meaning; can_fold = D.can_fold; can_fold_branch = D.can_fold_branch; constants = D.constants; feasible = D.feasible }) t₀ root f₀ ctx.new.tree }
+{
+    let done = replace_argument_by_constant::<D, R>(
+        alloc,
+        argument.block,
+        argument.index,
+        &argument.attr,
+        ctx,
+        rewriter,
+    );
+    ctx.well_formed();
+    done
+}
+
+/// Puts constants for these arguments, one after the other.
+///
+/// Errors: want of memory, after some of them.
+pub fn put_all<D: Dialect, R: Rewriter + Room>(
+    alloc: Global,
+    arguments: &[ConstantArgument],
+    ctx: &mut Context,
+    rewriter: &mut R,
+) -> Result<IRStatus, OptError>
+    requires steps { (t₀ : Tree) × (root : ℕ) × (f₀ : Facts) × AreArgumentSteps (record { meaning = D.meaning; can_fold = D.can_fold; can_fold_branch = D.can_fold_branch; constants = D.constants; feasible = D.feasible }) t₀ root f₀ ctx.old.tree arguments.now }
+    ensures puts { OnOk result ((t₀ : Tree) (root : ℕ) (f₀ : Facts) → AreArgumentSteps (record { meaning = D.meaning; can_fold = D.can_fold; can_fold_branch = D.can_fold_branch; constants = D.constants; feasible = D.feasible }) t₀ root f₀ ctx.old.tree arguments.now → (known : List KnownArgument) → StandForEach t₀ arguments.now known → ctx.new.tree ≡ all_put D.accepts D.constant_head known ctx.old.tree) }
+    ensures refused { OnErr result ((t₀ : Tree) (root : ℕ) (f₀ : Facts) → AreArgumentSteps (record { meaning = D.meaning; can_fold = D.can_fold; can_fold_branch = D.can_fold_branch; constants = D.constants; feasible = D.feasible }) t₀ root f₀ ctx.old.tree arguments.now → (known : List KnownArgument) → StandForEach t₀ arguments.now known → IsPartlyPut D.accepts D.constant_head known ctx.old.tree ctx.new.tree) }
+    ensures told { IfOk result (λ status. IsTold status ctx.old.tree ctx.new.tree) }
+    ensures stays { (k : ℕ) → IsLive ctx.old.tree k → IsLive ctx.new.tree k }
+    ensures err { IfErr result (λ e. e ≡ Memory) }
+    ensures follows { (t₀ : Tree) (root : ℕ) (f₀ : Facts) → AreArgumentSteps (record { meaning = D.meaning; can_fold = D.can_fold; can_fold_branch = D.can_fold_branch; constants = D.constants; feasible = D.feasible }) t₀ root f₀ ctx.old.tree arguments.now → Follows (record { meaning = D.meaning; can_fold = D.can_fold; can_fold_branch = D.can_fold_branch; constants = D.constants; feasible = D.feasible }) t₀ root f₀ ctx.new.tree }
+{
+    let mut status = IRStatus::Unchanged;
+    for i in 0..arguments.len() {
+        status |= put_argument::<D, R>(alloc, &arguments[i], ctx, rewriter)?;
+    }
+    Ok(status)
+}
+
+/// What was found of a tree: the operations that fold and the constant arguments, both where runs may
+/// come, in pre-order.
+#[derive(Drop)]
+pub struct Found {
+    folds: Vec<Fold>,
+    arguments: Vec<ConstantArgument>,
+}
+
+/// Rewrites a tree by what was found of it: first the folds, then the arguments.
+///
+/// Errors: want of memory, after some whole rewrites.
+pub fn rewrite<D: Dialect, R: Rewriter + Room>(
+    alloc: Global,
+    found: &Found,
+    ctx: &mut Context,
+    rewriter: &mut R,
+) -> Result<IRStatus, OptError>
+    requires found { (root : ℕ) × (f : Facts) × IsFound (record { meaning = D.meaning; can_fold = D.can_fold; can_fold_branch = D.can_fold_branch; constants = D.constants; feasible = D.feasible }) D.can_fold ctx.old.tree root f found.now }
+    ensures rewritten { OnOk result ((root : ℕ) (f : Facts) → IsFound (record { meaning = D.meaning; can_fold = D.can_fold; can_fold_branch = D.can_fold_branch; constants = D.constants; feasible = D.feasible }) D.can_fold ctx.old.tree root f found.now → IsRewritten D.can_fold D.accepts D.constant_head D.ConstFoldInterface.outcome ctx.old.tree root f ctx.new.tree) }
+    ensures refused { OnErr result ((root : ℕ) (f : Facts) → IsFound (record { meaning = D.meaning; can_fold = D.can_fold; can_fold_branch = D.can_fold_branch; constants = D.constants; feasible = D.feasible }) D.can_fold ctx.old.tree root f found.now → IsPartlyRewritten D.can_fold D.accepts D.constant_head D.ConstFoldInterface.outcome ctx.old.tree root f ctx.new.tree) }
+    ensures told { IfOk result (λ status. TellsChange (Some status) ctx.old.tree ctx.new.tree) }
+    ensures err { IfErr result (λ e. e ≡ Memory) }
+    ensures linked { (r : ℕ) → IsWellLinked D.meaning ctx.old.tree r → IsWellLinked D.meaning ctx.new.tree r }
+    ensures runs { KeepsRuns D.meaning ctx.old.tree ctx.new.tree }
+{
+    ctx.well_formed();
+    let mut status = fold_all::<D, R>(alloc, &found.folds, ctx, rewriter)?;
+    status |= put_all::<D, R>(alloc, &found.arguments, ctx, rewriter)?;
+    Ok(status)
+}

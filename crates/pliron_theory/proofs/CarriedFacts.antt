@@ -1,0 +1,283 @@
+-- Facts that stay sound while constants are put for values.
+use Rattle.std.proofs.Common.{◌≡◌, ◌⊎◌, inl, inr, ⊎_elim, ℕ, zero, suc, List, [], ◌∷◌, map, length, Option, Some, None, slice_get, refl, sym, ap, ap₂, ◌∙◌, subst, IsTrue}
+use Rattle.pliron_core.specs.declared.attrs.AttrObj.{AttrObj}
+use Rattle.pliron_core.specs.Tree.{Tree, In, IsInside, HoldsBlock, no_entry, row_of, head_of, operands_of, successors_of, results_of, regions_of, parent_of, arguments_of, block_parent_of, layout_of, first_of, region_parent_of, block_holder_of, holder_of, up_from, op_of_slot}
+use Rattle.pliron_core.specs.Joined.{IsTree}
+use Rattle.pliron_core.proofs.HoldingLemmas.{some_is, not_none, in_slice, slice_in, slot_is, holder_is, holder_by, inside_more, within_more, inside_block}
+use Rattle.pliron_core.proofs.UsedLemmas.{length_map}
+use Rattle.pliron_laws.specs.Datum.{Empty, datum_of, Meaning}
+use Rattle.pliron_laws.specs.Tree.{Operation, op_at, block_at, block_with, and_block, entry_block, count_arguments, shape_of}
+use Rattle.pliron_theory.specs.Renaming.{GivesConstant}
+use Rattle.pliron_laws.proofs.Records.{ShowsOperation, operation_of, op_shows, make_op, region_entry}
+use Rattle.pliron_theory.proofs.Alike.{shape_same}
+use Rattle.pliron_theory.proofs.KnownData.{picked_at}
+use Rattle.pliron_theory.specs.Facts.{Fact, Constant, NotAConstant, AtMost, known, answered, Facts, Says, handed, answers_of, Stands, MayGo, Forwards}
+use Rattle.pliron_theory.specs.Sound.{AreSound, IsRightResult}
+use Rattle.pliron_theory.proofs.FactLattice.{picked_in}
+
+-- the second tree is the first one with operands renamed and with new operations that give constants, and the facts
+-- about it say the same
+pub record IsCarried (x : Says) (t t' : Tree) (f f' : Facts) (read read' : ℕ → Fact) (rename : ℕ → ℕ) (New : ℕ → Type 0) : Type 0 where
+  pub told : (k : ℕ) → New k ⊎ (New k → ⊥)
+  pub rows : (k : ℕ) → (New k → ⊥) → row_of t' k ≡ row_of t k
+  pub operands : (k : ℕ) → (New k → ⊥) → operands_of t' k ≡ map rename (operands_of t k)
+  pub successors : (k : ℕ) → (New k → ⊥) → successors_of t' k ≡ successors_of t k
+  pub parents : (k : ℕ) → (New k → ⊥) → parent_of t' k ≡ parent_of t k
+  pub arguments : (b : ℕ) → arguments_of t' b ≡ arguments_of t b
+  pub block_parents : (b : ℕ) → block_parent_of t' b ≡ block_parent_of t b
+  pub layouts : (r : ℕ) → layout_of t' r ≡ layout_of t r
+  pub fresh : (k : ℕ) → New k → (row_of t k ≡ no_entry) × (parent_of t k ≡ None)
+  pub childless : (k : ℕ) → New k → regions_of t' k ≡ []
+  pub edgeless : (k : ℕ) → New k → successors_of t' k ≡ []
+  pub placed : (k : ℕ) → New k → Stands t' f' k
+  pub gives : (k : ℕ) → New k → (v : ℕ) × (c : AttrObj) × GivesConstant x.meaning t' k v (datum_of c) × (read' v ≡ Constant c)
+  pub reaches : (b : ℕ) → f'.reaches b ≡ f.reaches b
+  pub used : (k v : ℕ) → In v (operands_of t k) → (f'.fact (rename v) ≡ f.fact v) × (read' (rename v) ≡ read v)
+  pub listed_results : (k v : ℕ) → In v (results_of t k) → read' v ≡ read v
+  pub listed_arguments : (b v : ℕ) → In v (arguments_of t b) → read' v ≡ read v
+  pub finer : (v : ℕ) → AtMost (f'.fact v) (read' v)
+
+shape_longer : (m : Meaning) (t : Tree) (o : Operation) (xs : List ℕ) → length o.operands ≡ length xs → shape_of m t o ≡ shape_of m t (record o { operands = xs })
+unfolding shape_of
+shape_longer m t o xs e = ap (λ n. record (shape_of m t o) { operands = n }) e
+
+no_item : (i b : ℕ) (xs : List ℕ) → xs ≡ [] → slice_get xs i ≡ Some b → ⊥
+no_item i b xs none e = not_none (sym (ap (λ z. slice_get z i) none) ∙ e)
+
+not_in : (b : ℕ) (xs : List ℕ) → xs ≡ [] → In b xs → ⊥
+not_in b xs none i = subst (In b) none i
+
+only_item : (xs : List ℕ) (v w i : ℕ) → xs ≡ v ∷ [] → slice_get xs i ≡ Some w → w ≡ v
+only_item xs v w i one e = go i (ap (λ z. slice_get z i) (sym one) ∙ e)
+  where
+    go : (i : ℕ) → slice_get (v ∷ []) i ≡ Some w → w ≡ v
+    go zero e = sym (some_is e)
+    go (suc i) e = absurd (not_none e)
+
+mapped : (f : ℕ → ℕ) (xs : List ℕ) (i y : ℕ) → slice_get (map f xs) i ≡ Some y → (x : ℕ) × (slice_get xs i ≡ Some x) × (y ≡ f x)
+mapped f [] i y e = absurd (not_none e)
+mapped f (x ∷ xs) zero y e = (x, refl, sym (some_is e))
+mapped f (x ∷ xs) (suc i) y e = mapped f xs i y e
+
+map_twice : {B : Type 0} (g h : ℕ → B) (f : ℕ → ℕ) (xs : List ℕ) → ((v : ℕ) → In v xs → g (f v) ≡ h v) → map g (map f xs) ≡ map h xs
+map_twice g h f [] e = refl
+map_twice g h f (x ∷ xs) e = ap₂ (λ y ys. y ∷ ys) (e x (inl refl)) (map_twice g h f xs (λ v i. e v (inr i)))
+
+module _ (x : Says) (t t' : Tree) (root : ℕ) (f f' : Facts) (read read' : ℕ → Fact) (rename : ℕ → ℕ) (New : ℕ → Type 0) (w : IsTree t) (w' : IsTree t') (c : IsCarried x t t' f f' read read' rename New) (sound : AreSound x t root f read) where
+  -- places
+  old_slot : (r k i : ℕ) → slice_get (regions_of t k) i ≡ Some r → slice_get (regions_of t' k) i ≡ Some r
+  old_slot r k i e = ⊎_elim
+      (λ n. absurd (no_item i r (regions_of t k) (ap (λ z. z.regions) (c.fresh k n).0) e))
+      (λ n. ap (λ z. slice_get z.regions i) (c.rows k n) ∙ e)
+      (c.told k)
+
+  pub block_holders : (b : ℕ) → block_holder_of t' b ≡ block_holder_of t b
+  block_holders b = ap (λ o. up_from o (λ r. region_parent_of t' r)) (c.block_parents b) ∙ go (block_parent_of t b) refl
+    where
+      go : (o : Option ℕ) → block_parent_of t b ≡ o → up_from o (λ r. region_parent_of t' r) ≡ up_from o (λ r. region_parent_of t r)
+      go None e = refl
+      go (Some r) e =
+          let s = slot_is t r (w.joined.placed b r e) in
+          ap op_of_slot (w'.joined.regions s.0.op s.0.index r (old_slot r s.0.op s.0.index s.2) ∙ sym s.1)
+
+  not_new : (k b : ℕ) → parent_of t k ≡ Some b → New k → ⊥
+  not_new k b e n = not_none (sym (c.fresh k n).1 ∙ e)
+
+  holders : (k p : ℕ) → holder_of t k ≡ Some p → holder_of t' k ≡ Some p
+  holders k p e =
+      let h = holder_is t k p e in
+      holder_by t' k h.0 p (c.parents k (not_new k h.0 h.1) ∙ h.1) (block_holders h.0 ∙ h.2)
+
+  pub inside_too : (op k : ℕ) → IsInside t op k → IsInside t' op k
+  inside_too op k i = inside_more t t' holders i
+
+  pub holds_too : (op b : ℕ) → HoldsBlock t op b → HoldsBlock t' op b
+  holds_too op b (k, e, within) = (k, block_holders b ∙ e, within_more t t' holders within)
+
+  stands_too : (k : ℕ) → Stands t f k → Stands t' f' k
+  stands_too k (b, p, r) = (b, c.parents k (not_new k b p) ∙ p, c.reaches b ∙ r)
+
+  stands_back : (k : ℕ) → (New k → ⊥) → Stands t' f' k → Stands t f k
+  stands_back k n (b, p, r) = (b, sym (c.parents k n) ∙ p, sym (c.reaches b) ∙ r)
+
+  -- shapes
+  count_block : (b : ℕ) → count_arguments (block_at t b) ≡ count_arguments (block_at t' b)
+  unfolding block_at
+  count_block b = go (block_parent_of t b) ∙ ap (λ o. count_arguments (block_with t' b o)) (sym (c.block_parents b))
+    where
+      go : (o : Option ℕ) → count_arguments (block_with t b o) ≡ count_arguments (block_with t' b o)
+      go None = refl
+      go (Some r) = ap length (sym (c.arguments b))
+
+  count_entry : (k i r : ℕ) → slice_get (regions_of t k) i ≡ Some r → count_arguments (entry_block t r) ≡ count_arguments (entry_block t' r)
+  count_entry k i r e =
+      ap count_arguments (region_entry t r k (ap op_of_slot (w.joined.regions k i r e)))
+      ∙ go (first_of (layout_of t r) None)
+      ∙ ap (λ z. count_arguments (and_block t' (first_of z None))) (sym (c.layouts r))
+      ∙ ap count_arguments (sym (region_entry t' r k (ap op_of_slot (w'.joined.regions k i r (old_slot r k i e)))))
+    where
+      go : (o : Option ℕ) → count_arguments (and_block t o) ≡ count_arguments (and_block t' o)
+      go None = refl
+      go (Some b) = count_block b
+
+  -- the operation as it was before
+  pub record WasBefore (k : ℕ) (o' : Operation) : Type 0 where
+    pub operation : Operation
+    pub stands : op_at t k ≡ Some operation
+    pub head : o'.head ≡ operation.head
+    pub operands : o'.operands ≡ map rename operation.operands
+    pub was : operation.operands ≡ operands_of t k
+    pub results : o'.results ≡ operation.results
+    pub successors : o'.successors ≡ operation.successors
+    pub shape : shape_of x.meaning t' o' ≡ shape_of x.meaning t operation
+
+  pub before : (k : ℕ) → (New k → ⊥) → (o' : Operation) → op_at t' k ≡ Some o' → WasBefore k o'
+  before k n o' e = record {
+    operation = record o' { operands = operands_of t k };
+    stands = make_op t k o'.head head_was ∙ ap Some same;
+    head = refl;
+    operands = sym s.operands ∙ c.operands k n;
+    was = refl;
+    results = refl;
+    successors = refl;
+    shape = sym (shape_same x.meaning t t' o' entries (λ b i. count_block b)) ∙ shape_longer x.meaning t o' (operands_of t k) (ap length (sym s.operands ∙ c.operands k n) ∙ length_map rename (operands_of t k));
+  }
+    where
+      s : ShowsOperation t' k o'
+      s = op_shows t' k o' e
+
+      head_was : head_of t k ≡ Some o'.head
+      head_was = sym (ap (λ z. z.head) (c.rows k n)) ∙ s.head
+
+      regions_were : regions_of t k ≡ o'.regions
+      regions_were = sym (ap (λ z. z.regions) (c.rows k n)) ∙ s.regions
+
+      same : operation_of t k o'.head ≡ record o' { operands = operands_of t k }
+      same =
+          let a : results_of t k ≡ o'.results = sym (ap (λ z. z.results) (c.rows k n)) ∙ s.results in
+          let b : successors_of t k ≡ o'.successors = sym (c.successors k n) ∙ s.successors in
+          let d : regions_of t k ≡ o'.regions = regions_were in
+          let g : parent_of t k ≡ o'.parent = sym (c.parents k n) ∙ s.parent in
+          cc
+
+      entries : (r : ℕ) → In r o'.regions → count_arguments (entry_block t r) ≡ count_arguments (entry_block t' r)
+      entries r i = let at = slice_in o'.regions r i in count_entry k at.0 r (ap (λ z. slice_get z at.0) regions_were ∙ at.1)
+
+  -- what is handed to folds, and what they answer
+  pub handed_same : (k : ℕ) (o' : Operation) (b : WasBefore k o') → handed f' o'.operands ≡ handed f b.operation.operands
+  handed_same k o' b =
+      ap (handed f') b.operands
+      ∙ map_twice (λ v. known (f'.fact v)) (λ v. known (f.fact v)) rename b.operation.operands (λ v i. ap known (c.used k v (subst (In v) b.was i)).0)
+
+  pub answers_same : (k : ℕ) (o' : Operation) (b : WasBefore k o') → answers_of x t' f' o' ≡ answers_of x t f b.operation
+  answers_same k o' b = ap₂ (λ s ks. x.constants s ks) b.shape (handed_same k o' b)
+
+  forwards_back : (k i j y : ℕ) (o' : Operation) (b : WasBefore k o') → Forwards x t' o' i j y → (u : ℕ) × Forwards x t b.operation i j u × (read' y ≡ read u)
+  forwards_back k i j y o' b g =
+      let p = picked_at (x.meaning.forwarded (shape_of x.meaning t' o') i) o'.operands j (Some y) g in
+      let q = mapped rename b.operation.operands p.0 y (ap (λ z. slice_get z p.0) (sym b.operands) ∙ p.2) in
+      let place = ap (λ s. slice_get (x.meaning.forwarded s i) j) (sym b.shape) ∙ p.1 in
+      (q.0, picked_in (x.meaning.forwarded (shape_of x.meaning t b.operation) i) b.operation.operands j p.0 q.0 place q.1, ap read' q.2 ∙ (c.used k q.0 (subst (In q.0) b.was (in_slice b.operation.operands p.0 q.0 q.1))).1)
+
+  no_results : (k v : ℕ) → (IsInside t' root k → ⊥) → In v (results_of t' k) → read' v ≡ NotAConstant
+  no_results k v never i = ⊎_elim
+      (λ n. let p = c.placed k n in absurd (never (inside_block p.0 p.1 (holds_too root p.0 (sound.inside p.0 (sym (c.reaches p.0) ∙ p.2))))))
+      (λ n. let j = subst (In v) (ap (λ z. z.results) (c.rows k n)) i in c.listed_results k v j ∙ sound.no_results k v (λ inside. never (inside_too root k inside)) j)
+      (c.told k)
+
+  no_arguments : (b v : ℕ) → (HoldsBlock t' root b → ⊥) → In v (arguments_of t' b) → read' v ≡ NotAConstant
+  no_arguments b v never i = let j = subst (In v) (c.arguments b) i in c.listed_arguments b v j ∙ sound.no_arguments b v (λ h. never (holds_too root b h)) j
+
+  held : (b k : ℕ) → IsTrue (f'.reaches b) → block_holder_of t' b ≡ Some k → (k ≡ root) ⊎ Stands t' f' k
+  held b k r e = ⊎_elim (λ s. inl s) (λ s. inr (stands_too k s)) (sound.held b k (sym (c.reaches b) ∙ r) (sym (block_holders b) ∙ e))
+
+  entries : (k r b : ℕ) → (k ≡ root) ⊎ Stands t' f' k → In r (regions_of t' k) → first_of (layout_of t' r) None ≡ Some b → IsTrue (f'.reaches b) × ((v : ℕ) → In v (arguments_of t' b) → read' v ≡ NotAConstant)
+  entries k r b may i e = ⊎_elim
+      (λ n. absurd (not_in r (regions_of t' k) (c.childless k n) i))
+      (λ n.
+      let y = sound.entries k r b (⊎_elim (λ s. inl s) (λ s. inr (stands_back k n s)) may) (subst (In r) (ap (λ z. z.regions) (c.rows k n)) i) (ap (λ z. first_of z None) (sym (c.layouts r)) ∙ e) in
+      (c.reaches b ∙ y.0, λ v j. let u = subst (In v) (c.arguments b) j in c.listed_arguments b v u ∙ y.1 v u))
+      (c.told k)
+
+  jumps : (k i b : ℕ) (o : Operation) → Stands t' f' k → op_at t' k ≡ Some o → MayGo x t' f' o i b → IsTrue (f'.reaches b) × ((j v : ℕ) → slice_get (arguments_of t' b) j ≡ Some v → (read' v ≡ NotAConstant) ⊎ (IsTrue (x.meaning.is_branch o.head) × ((y : ℕ) → Forwards x t' o i j y → AtMost (read' v) (read' y))))
+  jumps k i b o' stands at go = by (c.told k)
+    where
+      by : New k ⊎ (New k → ⊥) → IsTrue (f'.reaches b) × ((j v : ℕ) → slice_get (arguments_of t' b) j ≡ Some v → (read' v ≡ NotAConstant) ⊎ (IsTrue (x.meaning.is_branch o'.head) × ((y : ℕ) → Forwards x t' o' i j y → AtMost (read' v) (read' y))))
+      by (inl n) = absurd (no_item i b o'.successors (sym (op_shows t' k o' at).successors ∙ c.edgeless k n) go.0)
+      by (inr n) = (c.reaches b ∙ old.0, arguments)
+        where
+          b4 : WasBefore k o'
+          b4 = before k n o' at
+
+          went : MayGo x t f b4.operation i b
+          went = (ap (λ z. slice_get z i) (sym b4.successors) ∙ go.0, λ folds. feasible_was (go.1 (ap x.can_fold_branch b4.head ∙ folds)))
+            where
+              feasible_was : In b (x.feasible (shape_of x.meaning t' o') o'.successors (handed f' o'.operands)) → In b (x.feasible (shape_of x.meaning t b4.operation) b4.operation.successors (handed f b4.operation.operands))
+              feasible_was j =
+                  subst (λ z. In b (x.feasible (shape_of x.meaning t b4.operation) b4.operation.successors z)) (handed_same k o' b4)
+                  (subst (λ z. In b (x.feasible z b4.operation.successors (handed f' o'.operands))) b4.shape
+                  (subst (λ z. In b (x.feasible (shape_of x.meaning t' o') z (handed f' o'.operands))) b4.successors j))
+
+          old : IsTrue (f.reaches b) × ((j v : ℕ) → slice_get (arguments_of t b) j ≡ Some v → (read v ≡ NotAConstant) ⊎ (IsTrue (x.meaning.is_branch b4.operation.head) × ((y : ℕ) → Forwards x t b4.operation i j y → AtMost (read v) (read y))))
+          old = sound.jumps k i b b4.operation (stands_back k n stands) b4.stands went
+
+          arguments : (j v : ℕ) → slice_get (arguments_of t' b) j ≡ Some v → (read' v ≡ NotAConstant) ⊎ (IsTrue (x.meaning.is_branch o'.head) × ((y : ℕ) → Forwards x t' o' i j y → AtMost (read' v) (read' y)))
+          arguments j v e = ⊎_elim
+              (λ z. inl (same ∙ z))
+              (λ z. inr (
+                ap x.meaning.is_branch b4.head ∙ z.0,
+                λ y g.
+                    let u = forwards_back k i j y o' b4 g in
+                    subst (λ q. AtMost q (read' y)) (sym same) (subst (AtMost (read v)) (sym u.2) (z.1 u.0 u.1)),
+              ))
+              (old.1 j v at_old)
+            where
+              at_old : slice_get (arguments_of t b) j ≡ Some v
+              at_old = ap (λ z. slice_get z j) (sym (c.arguments b)) ∙ e
+
+              same : read' v ≡ read v
+              same = c.listed_arguments b v (in_slice (arguments_of t b) j v at_old)
+
+  results : (k i v : ℕ) (o : Operation) → Stands t' f' k → op_at t' k ≡ Some o → slice_get o.results i ≡ Some v → IsRightResult x t' f' read' k i v o
+  results k i v o' stands at listed = by (c.told k)
+    where
+      by : New k ⊎ (New k → ⊥) → IsRightResult x t' f' read' k i v o'
+      by (inl n) =
+          let g = c.gives k n in
+          let one : v ≡ g.0 = only_item o'.results g.0 v i (sym (op_shows t' k o' at).results ∙ g.2.results) listed in
+          inr (inr (g.1, subst (λ z. GivesConstant x.meaning t' k z (datum_of g.1)) (sym one) g.2, ap read' one ∙ g.3))
+      by (inr n) = right (sound.results k i v b4.operation (stands_back k n stands) b4.stands listed_old)
+        where
+          b4 : WasBefore k o'
+          b4 = before k n o' at
+
+          listed_old : slice_get b4.operation.results i ≡ Some v
+          listed_old = ap (λ z. slice_get z i) (sym b4.results) ∙ listed
+
+          same : read' v ≡ read v
+          same = c.listed_results k v (in_slice (results_of t k) i v (ap (λ z. slice_get z i) (op_shows t k b4.operation b4.stands).results ∙ listed_old))
+
+          still : (d : AttrObj) → GivesConstant x.meaning t k v (datum_of d) → GivesConstant x.meaning t' k v (datum_of d)
+          still d g = record {
+            results = ap (λ z. z.results) (c.rows k n) ∙ g.results;
+            operands = c.operands k n ∙ ap (map rename) g.operands;
+            regions = ap (λ z. z.regions) (c.rows k n) ∙ g.regions;
+            gives = λ o e. let b = before k n o e in ap (λ s. x.meaning.act s Empty []) b.shape ∙ g.gives b.operation b.stands;
+          }
+
+          right : IsRightResult x t f read k i v b4.operation → IsRightResult x t' f' read' k i v o'
+          right (inl z) = inl (same ∙ z)
+          right (inr (inl (folds, below))) = inr (inl (ap x.can_fold b4.head ∙ folds, λ a e. subst (λ q. AtMost q (answered a)) (sym same) (below a (ap (λ z. slice_get z i) (sym (answers_same k o' b4)) ∙ e))))
+          right (inr (inr (d, g, z))) = inr (inr (d, still d g, same ∙ z))
+
+  pub carried_sound : AreSound x t' root f' read'
+  carried_sound = record {
+    finer = c.finer;
+    inside = λ b r. holds_too root b (sound.inside b (sym (c.reaches b) ∙ r));
+    held = held;
+    no_results = no_results;
+    no_arguments = no_arguments;
+    entries = entries;
+    jumps = jumps;
+    results = results;
+  }

@@ -1,0 +1,143 @@
+-- Closed facts are sound on the tree that they are about.
+use Rattle.std.proofs.Common.{◌≡◌, ◌⊎◌, inl, inr, ⊎_elim, ℕ, Bool, true, false, true≢false, if◌then◌else◌, Option, Some, None, slice_get, refl, sym, ap, ◌∙◌, subst, IsTrue}
+use Rattle.std.proofs.lemmas.Bool.{eq-eqb}
+use Rattle.std.proofs.lemmas.Bool.Decides.{eqb_tells}
+use Rattle.pliron_core.specs.declared.attrs.AttrObj.{AttrObj}
+use Rattle.pliron_core.specs.declared.context.Def.{Def}
+use Rattle.pliron_core.specs.declared.context.Def.TheVariants.{Result, Argument}
+use Rattle.pliron_core.specs.Changes.{IsMakerInside}
+use Rattle.pliron_core.specs.Tree.{Tree, In, IsInside, HoldsBlock, parent_of, results_of, arguments_of, regions_of, layout_of, first_of, definition_of}
+use Rattle.pliron_core.specs.Joined.{IsTree}
+use Rattle.pliron_core.proofs.HoldingLemmas.{some_is, in_slice, slice_in, inside_block}
+use Rattle.pliron_laws.specs.Tree.{Operation, op_at}
+use Rattle.pliron_laws.proofs.Records.{op_shows}
+use Rattle.pliron_theory.specs.Facts.{NotAConstant, AtMost, answered, Facts, Says, answers_of, Stands, MayGo, Forwards, AreClosed, AreHeld}
+use Rattle.pliron_theory.specs.Sound.{AreSound, IsRightResult, is_it, answer_or, both, read_result, read_from, read_of}
+use Rattle.pliron_theory.proofs.FactLattice.{at_most_refl, at_most_trans}
+
+module _ (x : Says) (t : Tree) (f : Facts) where
+  -- the value is a result of an operation that folds and stands in a block that is reached
+  pub record IsFold (v : ℕ) : Type 0 where
+    pub op : ℕ
+    pub index : ℕ
+    pub operation : Operation
+    pub answer : Option AttrObj
+    pub made : definition_of t v ≡ Some (Result op index)
+    pub stands : Stands t f op
+    pub at : op_at t op ≡ Some operation
+    pub folds : IsTrue (x.can_fold operation.head)
+    pub result : slice_get operation.results index ≡ Some v
+    pub answers : slice_get (answers_of x t f operation) index ≡ Some answer
+    pub read : read_of x t f v ≡ answered answer
+
+  is_there : (v : ℕ) (o : Option ℕ) → is_it v o ≡ true → o ≡ Some v
+  is_there v None e = absurd (true≢false (sym e))
+  is_there v (Some w) e = ⊎_elim (λ y. ap Some (sym y.1)) (λ n. absurd (true≢false (sym e ∙ n.0))) (eqb_tells v w)
+
+  pub read_cases : (v : ℕ) → IsFold v ⊎ (read_of x t f v ≡ f.fact v)
+  unfolding read_of
+  read_cases v = from (definition_of t v) refl
+    where
+      given : (k i b : ℕ) (o : Operation) → definition_of t v ≡ Some (Result k i) → parent_of t k ≡ Some b → op_at t k ≡ Some o → f.reaches b ≡ true → x.can_fold o.head ≡ true → is_it v (slice_get o.results i) ≡ true → (a : Option (Option AttrObj)) → slice_get (answers_of x t f o) i ≡ a → read_of x t f v ≡ answer_or a (f.fact v) → IsFold v ⊎ (read_of x t f v ≡ f.fact v)
+      given k i b o d p q r c s None e is = inr is
+      given k i b o d p q r c s (Some a) e is = inl (record { op = k; index = i; operation = o; answer = a; made = d; stands = (b, p, r); at = q; folds = c; result = is_there v (slice_get o.results i) s; answers = e; read = is })
+
+      tested : (k i b : ℕ) (o : Operation) → definition_of t v ≡ Some (Result k i) → parent_of t k ≡ Some b → op_at t k ≡ Some o → (r c s : Bool) → f.reaches b ≡ r → x.can_fold o.head ≡ c → is_it v (slice_get o.results i) ≡ s → read_of x t f v ≡ (if both r (both c s) then answer_or (slice_get (answers_of x t f o) i) (f.fact v) else f.fact v) → IsFold v ⊎ (read_of x t f v ≡ f.fact v)
+      tested k i b o d p q false c s re ce se is = inr is
+      tested k i b o d p q true false s re ce se is = inr is
+      tested k i b o d p q true true false re ce se is = inr is
+      tested k i b o d p q true true true re ce se is = given k i b o d p q re ce se _ refl is
+
+      result : (k i : ℕ) → definition_of t v ≡ Some (Result k i) → (p : Option ℕ) (q : Option Operation) → parent_of t k ≡ p → op_at t k ≡ q → read_of x t f v ≡ read_result x t f v i p q → IsFold v ⊎ (read_of x t f v ≡ f.fact v)
+      result k i d None q pe qe is = inr is
+      result k i d (Some b) None pe qe is = inr is
+      result k i d (Some b) (Some o) pe qe is = tested k i b o d pe qe _ _ _ refl refl refl is
+
+      from : (d : Option Def) → definition_of t v ≡ d → IsFold v ⊎ (read_of x t f v ≡ f.fact v)
+      from None e = inr (ap (read_from x t f v) e)
+      from (Some (Argument b i)) e = inr (ap (read_from x t f v) e)
+      from (Some (Result k i)) e = result k i e _ _ refl refl (ap (read_from x t f v) e)
+
+  -- of such a result its answer is read
+  pub read_fold : (k i v : ℕ) (o : Operation) (a : Option AttrObj) → definition_of t v ≡ Some (Result k i) → Stands t f k → op_at t k ≡ Some o → IsTrue (x.can_fold o.head) → slice_get o.results i ≡ Some v → slice_get (answers_of x t f o) i ≡ Some a → read_of x t f v ≡ answered a
+  unfolding read_of
+  read_fold k i v o a d (b, p, r) q c s e =
+      ap (read_from x t f v) d
+      ∙ ap (λ z. read_result x t f v i z (op_at t k)) p
+      ∙ ap (λ z. read_result x t f v i (Some b) z) q
+      ∙ ap (λ z. if both z (both (x.can_fold o.head) (is_it v (slice_get o.results i))) then answer_or (slice_get (answers_of x t f o) i) (f.fact v) else f.fact v) r
+      ∙ ap (λ z. if both z (is_it v (slice_get o.results i)) then answer_or (slice_get (answers_of x t f o) i) (f.fact v) else f.fact v) c
+      ∙ ap (λ z. if is_it v z then answer_or (slice_get (answers_of x t f o) i) (f.fact v) else f.fact v) s
+      ∙ ap (λ z. if z then answer_or (slice_get (answers_of x t f o) i) (f.fact v) else f.fact v) (eq-eqb v v refl)
+      ∙ ap (λ z. answer_or z (f.fact v)) e
+
+module _ (x : Says) (t : Tree) (root : ℕ) (f : Facts) (w : IsTree t) (closed : AreClosed x t root f) (held : AreHeld t root f) where
+  stands_inside : (k : ℕ) → Stands t f k → IsInside t root k
+  stands_inside k (b, p, r) = inside_block b p (closed.inside b r)
+
+  made_result : (k v : ℕ) → In v (results_of t k) → (i : ℕ) × (slice_get (results_of t k) i ≡ Some v) × (definition_of t v ≡ Some (Result k i))
+  made_result k v i = let at = slice_in (results_of t k) v i in (at.0, at.1, w.joined.results k at.0 v at.1)
+
+  made_argument : (b v : ℕ) → In v (arguments_of t b) → (i : ℕ) × (definition_of t v ≡ Some (Argument b i))
+  made_argument b v i = let at = slice_in (arguments_of t b) v i in (at.0, w.joined.arguments b at.0 v at.1)
+
+  not_both : (k i b j : ℕ) → Some (Argument b j) ≡ Some (Result k i) → ⊥
+  not_both k i b j e = cc
+
+  -- arguments are read as their facts
+  pub read_argument : (b v : ℕ) → In v (arguments_of t b) → read_of x t f v ≡ f.fact v
+  read_argument b v i = ⊎_elim
+      (λ (y : IsFold x t f v). let m = made_argument b v i in absurd (not_both y.op y.index b m.0 (sym m.1 ∙ y.made)))
+      (λ e. e)
+      (read_cases x t f v)
+
+  same_op : (k v : ℕ) → In v (results_of t k) → (y : IsFold x t f v) → y.op ≡ k
+  same_op k v i y = let m = made_result k v i in let e : Result y.op y.index ≡ Result k m.0 = some_is (sym y.made ∙ m.2) in cc
+
+  finer : (v : ℕ) → AtMost (f.fact v) (read_of x t f v)
+  finer v = ⊎_elim
+      (λ (y : IsFold x t f v). subst (AtMost (f.fact v)) (sym y.read) (closed.folded y.op y.index v y.answer y.operation y.stands y.at y.folds y.result y.answers))
+      (λ e. subst (AtMost (f.fact v)) (sym e) (at_most_refl (f.fact v)))
+      (read_cases x t f v)
+
+  no_results : (k v : ℕ) → (IsInside t root k → ⊥) → In v (results_of t k) → read_of x t f v ≡ NotAConstant
+  no_results k v never i = ⊎_elim
+      (λ (y : IsFold x t f v). absurd (never (subst (IsInside t root) (same_op k v i y) (stands_inside y.op y.stands))))
+      (λ e. e ∙ closed.outside v (λ made. never (subst (IsMakerInside t root) (made_result k v i).2 made)))
+      (read_cases x t f v)
+
+  no_arguments : (b v : ℕ) → (HoldsBlock t root b → ⊥) → In v (arguments_of t b) → read_of x t f v ≡ NotAConstant
+  no_arguments b v never i = read_argument b v i ∙ closed.outside v (λ made. never (subst (IsMakerInside t root) (made_argument b v i).1 made))
+
+  entries : (k r b : ℕ) → (k ≡ root) ⊎ Stands t f k → In r (regions_of t k) → first_of (layout_of t r) None ≡ Some b → IsTrue (f.reaches b) × ((v : ℕ) → In v (arguments_of t b) → read_of x t f v ≡ NotAConstant)
+  entries k r b may i e = let y = closed.entries k r b may i e in (y.0, λ v j. read_argument b v j ∙ y.1 v j)
+
+  jumps : (k i b : ℕ) (o : Operation) → Stands t f k → op_at t k ≡ Some o → MayGo x t f o i b → IsTrue (f.reaches b) × ((j v : ℕ) → slice_get (arguments_of t b) j ≡ Some v → (read_of x t f v ≡ NotAConstant) ⊎ (IsTrue (x.meaning.is_branch o.head) × ((y : ℕ) → Forwards x t o i j y → AtMost (read_of x t f v) (read_of x t f y))))
+  jumps k i b o stands at go = by _ refl
+    where
+      by : (c : Bool) → x.meaning.is_branch o.head ≡ c → IsTrue (f.reaches b) × ((j v : ℕ) → slice_get (arguments_of t b) j ≡ Some v → (read_of x t f v ≡ NotAConstant) ⊎ (IsTrue (x.meaning.is_branch o.head) × ((y : ℕ) → Forwards x t o i j y → AtMost (read_of x t f v) (read_of x t f y))))
+      by true e =
+          let y = closed.branches k i b o stands at e go in
+          (y.0, λ j v a. inr (e, λ u p. subst (λ z. AtMost z (read_of x t f u)) (sym (read_argument b v (in_slice (arguments_of t b) j v a))) (at_most_trans (f.fact v) (f.fact u) (read_of x t f u) (y.1 j v u a p) (finer u))))
+      by false e =
+          let y = closed.jumps k i b o stands at e go.0 in
+          (y.0, λ j v a. inl (let i = in_slice (arguments_of t b) j v a in read_argument b v i ∙ y.1 v i))
+
+  results : (k i v : ℕ) (o : Operation) → Stands t f k → op_at t k ≡ Some o → slice_get o.results i ≡ Some v → IsRightResult x t f (read_of x t f) k i v o
+  results k i v o stands at listed = by _ refl
+    where
+      listed_there : slice_get (results_of t k) i ≡ Some v
+      listed_there = ap (λ z. slice_get z i) (op_shows t k o at).results ∙ listed
+
+      by : (c : Bool) → x.can_fold o.head ≡ c → IsRightResult x t f (read_of x t f) k i v o
+      by true e = inr (inl (e, λ a answers. subst (λ z. AtMost z (answered a)) (sym (read_fold x t f k i v o a (w.joined.results k i v listed_there) stands at e listed answers)) (at_most_refl (answered a))))
+      by false e = ⊎_elim
+          (λ (y : IsFold x t f v).
+          let same = same_op k v (in_slice (results_of t k) i v listed_there) y in
+          let one : y.operation ≡ o = some_is (sym y.at ∙ ap (op_at t) same ∙ at) in
+          absurd (true≢false (sym y.folds ∙ ap (λ z. x.can_fold z.head) one ∙ e)))
+          (λ is. inl (is ∙ closed.others k v o stands at e (in_slice o.results i v listed)))
+          (read_cases x t f v)
+
+  pub closed_sound : AreSound x t root f (read_of x t f)
+  closed_sound = record { finer = finer; inside = closed.inside; held = held; no_results = no_results; no_arguments = no_arguments; entries = entries; jumps = jumps; results = results }

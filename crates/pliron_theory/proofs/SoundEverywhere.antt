@@ -1,0 +1,155 @@
+-- Sound facts inside one operation are confirmed by the runs of every root that is fit to run.
+use Rattle.std.proofs.Common.{◌≡◌, ◌≢◌, ◌⊎◌, inl, inr, ⊎_elim, ℕ, Bool, true, false, true≢false, List, [], ◌∷◌, Some, None, slice_get, refl, sym, ap, ◌∙◌, subst, arith, IsTrue}
+use Rattle.std.proofs.lemmas.Bool.{cases_eq}
+use Rattle.pliron_core.specs.Changes.{IsMadeInside, IsMakerInside}
+use Rattle.pliron_core.specs.Tree.{Tree, In, IsInside, IsWithin, HoldsBlock, first_of, parent_of, successors_of, results_of, arguments_of, regions_of, layout_of, block_holder_of, region_parent_of, holder_of, up_from, op_of_slot}
+use Rattle.pliron_core.specs.Tree.IsInside.{Directly, Deeper}
+use Rattle.pliron_core.specs.Joined.{IsTree}
+use Rattle.pliron_core.proofs.HoldingLemmas.{some_is, in_slice, slice_in, holder_is, holder_by, inside_up, inside_by, deeper, not_itself, inside_or, block_inside}
+use Rattle.pliron_laws.specs.Datum.{datum_of}
+use Rattle.pliron_laws.specs.Tree.{Operation, op_at}
+use Rattle.pliron_laws.specs.Folding.{AnswersTrue, AnswersJumps}
+use Rattle.pliron_laws.specs.Linked.{EndsBlock}
+use Rattle.pliron_theory.specs.Keeps.{IsFit}
+use Rattle.pliron_theory.specs.Renaming.{IsReadAs}
+use Rattle.pliron_laws.proofs.Records.{op_shows}
+use Rattle.pliron_theory.proofs.Reading.{ready_when_reached}
+use Rattle.pliron_theory.proofs.FoundRuns.{PassesForwarded}
+use Rattle.pliron_theory.specs.Facts.{Fact, NotAConstant, AtMost, Facts, Says, Stands, MayGo, Forwards}
+use Rattle.pliron_theory.specs.Sound.{AreSound, IsMadeThere, IsRightResult, SoundFactsLaw}
+use Rattle.pliron_theory.proofs.SoundRuns.{MayMove, AreKept, constants_read}
+
+module _ (t : Tree) (w : IsTree t) where
+  first_in : (xs : List ℕ) (a : ℕ) → first_of xs None ≡ Some a → In a xs
+  first_in [] a e = grind arith
+  first_in (x ∷ xs) a e = inl (sym (some_is e))
+
+  -- the entry of a region is held by the region's operation
+  pub entry_holder : (k r b : ℕ) → In r (regions_of t k) → first_of (layout_of t r) None ≡ Some b → block_holder_of t b ≡ Some k
+  entry_holder k r b i e =
+      let at = slice_in (regions_of t k) r i in
+      ap (λ o. up_from o (λ r. region_parent_of t r)) (w.layouts.owned b r (first_in (layout_of t r) b e)) ∙ ap op_of_slot (w.joined.regions k at.0 r at.1)
+
+  -- what holds a block beside the one that an operation ends holds the operation too
+  pub beside_holder : (k c h : ℕ) → (ends : EndsBlock t k) → In c (successors_of t k) → block_holder_of t c ≡ Some h → holder_of t k ≡ Some h
+  beside_holder k c h ends i e =
+      holder_by t k ends.block h ends.in_block (ap (λ o. up_from o (λ r. region_parent_of t r)) (sym (ends.own_region c i)) ∙ e)
+
+module _ (says : Says) (t : Tree) (root : ℕ) (f : Facts) (read : ℕ → Fact) (w : IsTree t) (sound : AreSound says t root f read) where
+  -- a block inside the root is one that is reached
+  abbrev pub Comes_to : ℕ → Type 0
+  Comes_to b = HoldsBlock t root b → IsTrue (f.reaches b)
+
+  -- the other root is in a block that is reached, where it is inside this one
+  abbrev pub Counts : ℕ → Type 0
+  Counts other = IsWithin t root other → (other ≡ root) ⊎ Stands t f other
+
+  module _ (other : ℕ) (counts : Counts other) (fit : IsFit says.meaning t other) where
+    stands : (k : ℕ) → MayMove t other Comes_to k → IsInside t root k → Stands t f k
+    stands k may inside = (may.1.0, may.1.1, may.1.2 (block_inside may.1.0 may.1.1 inside))
+
+    counted : (k : ℕ) → (k ≡ other) ⊎ MayMove t other Comes_to k → IsWithin t root k → (k ≡ root) ⊎ Stands t f k
+    counted k may (inl e) = inl e
+    counted k (inl e) (inr inside) = subst (λ z. (z ≡ root) ⊎ Stands t f z) (sym e) (counts (inr (subst (IsInside t root) e inside)))
+    counted k (inr may) (inr inside) = inr (stands k may inside)
+
+    within_or : (k : ℕ) → IsWithin t root k ⊎ (IsWithin t root k → ⊥)
+    within_or k = elim (cases_eq k root) [
+      | inl e ↦ inl (inl e)
+      | inr ne ↦ ⊎_elim (λ i. inl (inr i)) (λ never. inr (λ x. neither k ne never x)) (inside_or t root k w.joined.rooted)
+    ]
+      where
+        neither : (k : ℕ) → k ≢ root → (IsInside t root k → ⊥) → IsWithin t root k → ⊥
+        neither k ne never (inl e) = ne e
+        neither k ne never (inr i) = never i
+
+    visits : (k r b : ℕ) → (k ≡ other) ⊎ MayMove t other Comes_to k → In r (regions_of t k) → first_of (layout_of t r) None ≡ Some b → Comes_to b × ((v : ℕ) → In v (arguments_of t b) → read v ≡ NotAConstant)
+    visits k r b may i e = (comes, arguments (within_or k))
+      where
+        held : block_holder_of t b ≡ Some k
+        held = entry_holder t w k r b i e
+
+        comes : Comes_to b
+        comes (h, is, within) =
+            let same : h ≡ k = some_is (sym is ∙ held) in
+            (sound.entries k r b (counted k may (subst (IsWithin t root) same within)) i e).0
+
+        arguments : IsWithin t root k ⊎ (IsWithin t root k → ⊥) → (v : ℕ) → In v (arguments_of t b) → read v ≡ NotAConstant
+        arguments (inl within) v j = (sound.entries k r b (counted k may within) i e).1 v j
+        arguments (inr never) v j = sound.no_arguments b v (λ h. never (subst (IsWithin t root) (some_is (sym h.1 ∙ held)) h.2)) j
+
+    jumps : (k i b : ℕ) (o : Operation) → MayMove t other Comes_to k → op_at t k ≡ Some o → MayGo says t f o i b → Comes_to b × ((j v : ℕ) → slice_get (arguments_of t b) j ≡ Some v → (read v ≡ NotAConstant) ⊎ (IsTrue (says.meaning.is_branch o.head) × ((y : ℕ) → Forwards says t o i j y → AtMost (read v) (read y))))
+    jumps k i b o may e go = by (inside_or t root k w.joined.rooted)
+      where
+        target : In b (successors_of t k)
+        target = subst (In b) (sym (op_shows t k o e).successors) (in_slice o.successors i b go.0)
+
+        not_held : (IsInside t root k → ⊥) → HoldsBlock t root b → ⊥
+        not_held never (h, is, within) = never (inside_by h (beside_holder t w k b h (fit.linked.edges k b target (inl may.0)) target is) within)
+
+        by : IsInside t root k ⊎ (IsInside t root k → ⊥) → Comes_to b × ((j v : ℕ) → slice_get (arguments_of t b) j ≡ Some v → (read v ≡ NotAConstant) ⊎ (IsTrue (says.meaning.is_branch o.head) × ((y : ℕ) → Forwards says t o i j y → AtMost (read v) (read y))))
+        by (inl inside) = let x = sound.jumps k i b o (stands k may inside) e go in ((λ h. x.0), x.1)
+        by (inr never) = ((λ h. absurd (not_held never h)), λ j v at. inl (sound.no_arguments b v (not_held never) (in_slice (arguments_of t b) j v at)))
+
+    results : (k i v : ℕ) (o : Operation) → MayMove t other Comes_to k → op_at t k ≡ Some o → slice_get o.results i ≡ Some v → IsRightResult says t f read k i v o
+    results k i v o may e at = by (inside_or t root k w.joined.rooted)
+      where
+        by : IsInside t root k ⊎ (IsInside t root k → ⊥) → IsRightResult says t f read k i v o
+        by (inl inside) = sound.results k i v o (stands k may inside) e at
+        by (inr never) = inl (sound.no_results k v never (subst (In v) (sym (op_shows t k o e).results) (in_slice o.results i v at)))
+
+    pub kept : AreKept says t other Comes_to f read
+    kept = record { finer = sound.finer; visits = visits; jumps = jumps; results = results }
+
+  -- nothing in a root that stands where runs do not come is in a block that is reached
+  module _ (other : ℕ) (inside : IsInside t root other) (away : Stands t f other → ⊥) where
+    not_root : (k : ℕ) → IsWithin t other k → k ≢ root
+    not_root k (inl e) s = not_itself w.joined.rooted (subst (λ z. IsInside t root z) (sym e ∙ s) inside)
+    not_root k (inr i) s = not_itself w.joined.rooted (deeper inside (subst (IsInside t other) s i))
+
+    held_stands : (b k : ℕ) → IsWithin t other k → IsTrue (f.reaches b) → block_holder_of t b ≡ Some k → Stands t f k
+    held_stands b k within reached e = ⊎_elim (λ s. absurd (not_root k within s)) (λ x. x) (sound.held b k reached e)
+
+    none_inside : (k : ℕ) → IsInside t other k → Stands t f k → ⊥
+    none_inside k (Directly e) (b, p, reached) = away (held_stands b other (inl refl) reached (sym (ap (λ o. up_from o (λ b. block_holder_of t b)) p) ∙ e))
+    none_inside k (Deeper h e i) (b, p, reached) = none_inside h i (held_stands b h (inr i) reached (sym (ap (λ o. up_from o (λ b. block_holder_of t b)) p) ∙ e))
+
+    none_within : (k : ℕ) → IsWithin t other k → Stands t f k → ⊥
+    none_within k (inl e) s = away (subst (Stands t f) e s)
+    none_within k (inr i) s = none_inside k i s
+
+    pub not_made : (v : ℕ) → IsMadeThere t f v → IsMadeInside t other v → ⊥
+    not_made v (inl (k, s, i)) made =
+        let at = slice_in (results_of t k) v i in
+        none_inside k (subst (IsMakerInside t other) (w.joined.results k at.0 v at.1) made) s
+    not_made v (inr (b, reached, i)) made =
+        let at = slice_in (arguments_of t b) v i in
+        let holds : HoldsBlock t other b = subst (IsMakerInside t other) (w.joined.arguments b at.0 v at.1) made in
+        none_within holds.0 holds.2 (held_stands b holds.0 holds.2 reached holds.1)
+
+-- every root that is fit to run, whether it stands inside this one, around it or elsewhere
+pub sound_facts : (says : Says) → AnswersTrue says.meaning says.can_fold says.constants → AnswersJumps says.meaning says.can_fold_branch says.feasible → PassesForwarded says.meaning → SoundFactsLaw says
+sound_facts says answers branches passes t root f read w sound v c made is other fit = by (inside_or t root other w.joined.rooted)
+  where
+    counts_then : Counts says t root f read w sound other → IsReadAs says.meaning t v (datum_of c) other
+    counts_then counts = constants_read says answers branches passes t other (Comes_to says t root f read w sound) f read w fit (kept says t root f read w sound other counts fit) v c is
+
+    outer : (IsInside t root other → ⊥) → Counts says t root f read w sound other
+    outer never (inl e) = inl e
+    outer never (inr i) = absurd (never i)
+
+    here : IsInside t root other → (b : ℕ) → parent_of t other ≡ Some b → (x : Bool) → f.reaches b ≡ x → IsReadAs says.meaning t v (datum_of c) other
+    here inside b p true e = counts_then (λ within. inr (b, p, e))
+    here inside b p false e = λ s k rest r q none i.
+        let ready = ready_when_reached says.meaning t other w fit s r k rest q none in
+        absurd (not_made says t root f read w sound other inside away v made (fit.defined.own_values k v ready.inside i))
+      where
+        away : Stands t f other → ⊥
+        away (d, q, reached) = let same : d ≡ b = some_is (sym q ∙ p) in absurd (true≢false (sym reached ∙ ap f.reaches same ∙ e))
+
+    by : IsInside t root other ⊎ (IsInside t root other → ⊥) → IsReadAs says.meaning t v (datum_of c) other
+    by (inl inside) =
+        let up = inside_up inside in
+        let p = holder_is t other up.0 up.1 in
+        here inside p.0 p.1 _ refl
+    by (inr never) = counts_then (outer never)

@@ -1,0 +1,5 @@
+use Rattle.pliron_theory.proofs.ClosedRead.{closed_facts}
+use Rattle.pliron_theory.proofs.theory.closed_facts_are_read.Goals as goal
+
+pub returns : goal.returns
+returns g c = closed_facts _ g.met.D.Dialect.answers_true g.met.D.Dialect.answers_jumps g.met.D.Dialect.forwards_operands.passes
