@@ -7,3 +7,4 @@ pub mod Stages
 pub mod WalkLemmas
 pub mod CollectLemmas
 pub mod StraightFit
+pub mod StraightLinks
