@@ -7,6 +7,7 @@ ghost use Rattle.pliron_core.specs.Changes.{IsSameTree};
 ghost use Rattle.pliron_core.specs.Erased.{IsSelfContained};
 ghost use Rattle.pliron_laws.specs.Agree.{Agree};
 ghost use Rattle.pliron_theory.specs.Keeps.{KeepsRuns};
+ghost use Rattle.pliron_laws.specs.Linked.{IsWellLinked};
 ghost use Rattle.pliron_bench.specs.BenchMoves.{bench};
 ghost use Rattle.pliron_sccp.specs.Lines.{entry_of, written, line_in};
 ghost use Rattle.pliron_sccp.specs.Collected.{AreCollected, CanMaterialise, number_at};
@@ -19,7 +20,7 @@ use pliron_bench::{Bench, BenchKind};
 use pliron_core::{AttrObj, Context, IRRewriter, IRStatus, Operation, Ptr, Value};
 use pliron_laws::OptError;
 use pliron_theory::rewrites::replace_result_by_constant;
-use pliron_theory::theory::{facts_are_read, runs_kept};
+use pliron_theory::theory::{facts_are_read, folds_keep_links, runs_kept};
 use std::alloc::{AllocError, Global};
 use std::collections::HashMap;
 
@@ -123,27 +124,32 @@ fn fold_in_place(alloc: Global, ctx: &mut Context, fold: Fold) -> Result<IRStatu
     ensures folded { OnOk result (ctx.new.tree ≡ folded ctx.old.tree fold.op fold.answer) }
     ensures refused { OnErr result (IsSameTree ctx.old.tree ctx.new.tree) }
     ensures runs { KeepsRuns bench ctx.old.tree ctx.new.tree }
+    ensures linked { (at : ℕ) → IsWellLinked bench ctx.old.tree at → IsWellLinked bench ctx.new.tree at }
 {
     runs_kept();
+    folds_keep_links();
     let Some(number) = fold.answer else {
         return Ok(IRStatus::Unchanged);
     };
+    ctx.well_formed();
     let constant = AttrObj::Int(number as i128);
     let mut rewriter = IRRewriter::new();
-    replace_result_by_constant::<Bench, IRRewriter>(
+    let answer = replace_result_by_constant::<Bench, IRRewriter>(
         alloc,
         fold.op,
         0,
         &constant,
         ctx,
         &mut rewriter,
-    )
+    );
+    ctx.well_formed();
+    answer
 }
 
 /// Propagates constants through the one block of a `func`: before each `add` whose operands are known,
 /// a constant of the sum, wrapped to 64 signed bits, takes over the uses of its result. Every run of
 /// every root that is fit to run is what it was, whatever the answer, and so is every run of the `func`
-/// itself where nothing outside it uses what it makes.
+/// itself where nothing outside it uses what it makes. The tree is well linked where it was.
 ///
 /// Asks that the `func` is straight. Errors: want of memory.
 /// Cost: one step for each operation and each use.
@@ -153,6 +159,8 @@ pub fn sccp(alloc: Global, root: Ptr<Operation>, ctx: &mut Context) -> Result<IR
     ensures straight { OnOk result (IsStraight ctx.new.tree root) }
     ensures runs { KeepsRuns bench ctx.old.tree ctx.new.tree }
     ensures agrees { IsSelfContained ctx.old.tree root → Agree bench ctx.old.tree ctx.new.tree root }
+    ensures linked { (at : ℕ) → IsWellLinked bench ctx.old.tree at → IsWellLinked bench ctx.new.tree at }
+    ensures stands { IsLive ctx.new.tree root }
 {
     facts_are_read::<Bench>();
     runs_kept();
