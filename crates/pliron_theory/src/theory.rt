@@ -135,6 +135,8 @@ pub fn passes_compose()
 /// where keys alone were spent, and where a constant is put. What keeps edges twice keeps them.
 pub fn edges_stay()
     ensures { EdgeLaws }
+{}
+
 /// A tree that is well linked at a root is so after a constant was put first in a block for a value.
 pub fn constants_first_keep_links()
     ensures { FirstKeepsLinks }
