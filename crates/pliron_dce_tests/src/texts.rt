@@ -1,5 +1,7 @@
 //! Texts, what `dce` leaves of them, and what it answers.
+ghost use Rattle.pliron_bench.specs.BenchMoves.{bench};
 ghost use Rattle.pliron_core.specs.Tree.{IsLive};
+ghost use Rattle.pliron_laws.specs.Linked.{IsWellLinked};
 
 use super::cases::{DEFINED, HOSTILE, ROWS};
 use pliron_bench::Bench;
@@ -18,11 +20,17 @@ fn left_of(
     whole: Ptr<Operation>,
     root: Ptr<Operation>,
     status: IRStatus,
-) -> Result<String, Fail> {
+) -> Result<String, Fail>
+    requires live { IsLive ctx.old.tree root }
+    requires linked { IsWellLinked bench ctx.old.tree root }
+{
     let first = dce::<Bench>(alloc, root, ctx)?;
     assert!(rt; first == status);
     let again = dce::<Bench>(alloc, root, ctx)?;
     assert!(rt; again == IRStatus::Unchanged);
+    if !whole.is_live(ctx) {
+        return Err(Fail::from("gone"));
+    }
     Ok(print_text(alloc, whole, ctx)?)
 }
 
@@ -100,6 +108,25 @@ fn second_inside(ctx: &Context, whole: Ptr<Operation>) -> Option<Ptr<Operation>>
         .get_next(ctx)
 }
 
+// What is left of the whole where the root stands inside it.
+fn left_around(
+    rt: &impl Abort,
+    alloc: Global,
+    ctx: &mut Context,
+    whole: Ptr<Operation>,
+    root: Ptr<Operation>,
+) -> Result<String, Fail>
+    requires { IsWellLinked bench ctx.old.tree whole }
+{
+    if !root.is_live(ctx) {
+        return Err(Fail::from("no operation"));
+    }
+    if !root.is_inside(whole, ctx) {
+        return Err(Fail::from("not inside"));
+    }
+    left_of(rt, alloc, ctx, whole, root, IRStatus::Changed)
+}
+
 // Only what is inside the root goes.
 fn nested_root(rt: &impl Abort, alloc: Global, ctx: &mut Context) -> Result<(), Fail> {
     let text = "func { b0(): k = const 4; box { b0(): sink k }; ret }";
@@ -109,7 +136,7 @@ fn nested_root(rt: &impl Abort, alloc: Global, ctx: &mut Context) -> Result<(), 
     let Some(root) = second_inside(ctx, whole) else {
         return Err(Fail::from("no second operation"));
     };
-    let printed = left_of(rt, alloc, ctx, whole, root, IRStatus::Changed)?;
+    let printed = left_around(rt, alloc, ctx, whole, root)?;
     assert_eq!(rt;
         printed.as_str(),
         "func { b0(): v0 = const 4; box { b0(): }; ret }"
