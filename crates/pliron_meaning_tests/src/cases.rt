@@ -1,0 +1,100 @@
+//! How cases are read. A case is a line, with what is asked to the left of ` => ` and the answer to its
+//! right; fields are set apart by `/`.
+use pliron_core::{AttrObj, BasicBlock, Context, Operation, Ptr, Text};
+use pliron_meaning::bench::{print_text, read_text};
+use std::alloc::{AllocError, Global};
+use std::process::Abort;
+use std::test::Fail;
+
+/// Both sides of a case.
+pub(crate) fn sides<'t>(rt: &impl Abort, line: &'t str) -> (&'t str, &'t str) {
+    line.split_once(" => ").expect(rt, "a case")
+}
+
+/// The first two fields.
+pub(crate) fn fields<'t>(rt: &impl Abort, case: &'t str) -> (&'t str, &'t str) {
+    case.split_once(" / ").expect(rt, "two fields")
+}
+
+/// A number for a place or a count.
+pub(crate) fn number(rt: &impl Abort, word: &str) -> usize {
+    word.parse::<usize>().ok().expect(rt, "a number")
+}
+
+/// What is known of an operand: a number, a text behind an apostrophe, or nothing behind `?`.
+pub(crate) fn known(alloc: Global, word: &str) -> Result<Option<AttrObj>, AllocError> {
+    match word.strip_prefix('\'') {
+        Some(text) => Ok(Some(AttrObj::Text(Text::new(String::from_str(alloc, text)?)))),
+        None => Ok(word.parse::<i128>().ok().map(|number| AttrObj::Int(number))),
+    }
+}
+
+/// What is known of several operands.
+pub(crate) fn all_known(alloc: Global, words: &str) -> Result<Vec<Option<AttrObj>>, AllocError> {
+    let mut all = Vec::new(alloc);
+    for word in words.split_ascii_whitespace() {
+        all.push(known(alloc, word)?)?;
+    }
+    Ok(all)
+}
+
+/// The operation of the text, in no block.
+pub(crate) fn read(
+    rt: &impl Abort,
+    alloc: Global,
+    ctx: &mut Context,
+    text: &str,
+) -> Result<Ptr<Operation>, Fail> {
+    match read_text(alloc, text.as_bytes(), ctx)? {
+        Some(root) => Ok(root),
+        None => panic!(rt; "unreadable: {text}"),
+    }
+}
+
+/// The line of the operation.
+pub(crate) fn line(
+    rt: &impl Abort,
+    alloc: Global,
+    ctx: &Context,
+    root: Ptr<Operation>,
+) -> Result<String, Fail> {
+    assert!(rt; root.is_live(ctx));
+    Ok(print_text(alloc, root, ctx)?)
+}
+
+/// The block with this index in the only region of the operation.
+pub(crate) fn block_of(
+    rt: &impl Abort,
+    ctx: &Context,
+    op: Ptr<Operation>,
+    index: usize,
+) -> Ptr<BasicBlock> {
+    assert!(rt; op.is_live(ctx));
+    assert_eq!(rt; op.num_region(ctx), 1);
+    let mut block = op.get_region(ctx, 0).get_head(ctx).expect(rt, "a block");
+    for _ in 0..index {
+        assert!(rt; block.is_live(ctx));
+        block = block.get_next(ctx).expect(rt, "another block");
+    }
+    block
+}
+
+/// The operation with this index in the first block, or the root itself at the place `root`.
+pub(crate) fn operation_at(
+    rt: &impl Abort,
+    ctx: &Context,
+    root: Ptr<Operation>,
+    place: &str,
+) -> Ptr<Operation> {
+    if place == "root" {
+        return root;
+    }
+    let block = block_of(rt, ctx, root, 0);
+    assert!(rt; block.is_live(ctx));
+    let mut op = block.get_head(ctx).expect(rt, "an operation");
+    for _ in 0..number(rt, place) {
+        assert!(rt; op.is_live(ctx));
+        op = op.get_next(ctx).expect(rt, "another operation");
+    }
+    op
+}
