@@ -4,7 +4,6 @@ use pliron_core::{Context, Operation, Ptr};
 use pliron_meaning::{Dialect, Interface};
 use std::alloc::Global;
 use std::process::Abort;
-use std::test::Fail;
 
 /// The answer on side effects.
 pub(crate) fn effects<D: Dialect>(
@@ -12,10 +11,10 @@ pub(crate) fn effects<D: Dialect>(
     alloc: Global,
     ctx: &Context,
     op: Ptr<Operation>,
-) -> Result<String, Fail> {
+) -> String {
     assert!(rt; op.is_live(ctx));
     assert!(rt; D::admits(op, ctx));
-    Ok(format!(in alloc; "{:?}", D::has_side_effects(op, ctx))?)
+    format!(in alloc; "{:?}", D::has_side_effects(op, ctx)).expect(rt, "memory")
 }
 
 /// The interfaces that the operation implements, a blank before each.
@@ -24,23 +23,23 @@ pub(crate) fn interfaces<D: Dialect>(
     alloc: Global,
     ctx: &Context,
     op: Ptr<Operation>,
-) -> Result<String, Fail> {
-    let table = [
-        (Interface::SideEffects, " SideEffects"),
-        (Interface::BlockArgRemoval, " BlockArgRemoval"),
-        (Interface::ConstFold, " ConstFold"),
-        (Interface::BranchFold, " BranchFold"),
-        (Interface::Branch, " Branch"),
-        (Interface::Terminator, " Terminator"),
+) -> String {
+    let all = [
+        Interface::SideEffects,
+        Interface::BlockArgRemoval,
+        Interface::ConstFold,
+        Interface::BranchFold,
+        Interface::Branch,
+        Interface::Terminator,
     ];
     assert!(rt; op.is_live(ctx));
     let mut names = String::new(alloc);
-    for (interface, name) in &table {
+    for interface in &all {
         if D::implements(op, ctx, *interface) {
-            names.push_str(name)?;
+            write!(names, " {interface:?}").expect(rt, "memory");
         }
     }
-    Ok(names)
+    names
 }
 
 /// Whether arguments of the block with this index in the operation may be removed.
@@ -50,11 +49,11 @@ pub(crate) fn removable<D: Dialect>(
     ctx: &Context,
     op: Ptr<Operation>,
     index: usize,
-) -> Result<String, Fail> {
+) -> String {
     let block = block_of(rt, ctx, op, index);
     assert!(rt; op.is_live(ctx));
     assert!(rt; block.is_live(ctx));
     let region = block.get_parent_region(ctx).expect(rt, "a region");
     assert_eq!(rt; region.get_parent_op(ctx), op);
-    Ok(format!(in alloc; "{:?}", D::can_remove_block_args(op, ctx, block))?)
+    format!(in alloc; "{:?}", D::can_remove_block_args(op, ctx, block)).expect(rt, "memory")
 }

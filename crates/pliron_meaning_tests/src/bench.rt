@@ -1,14 +1,13 @@
 //! What the dialect `Bench` answers, on texts of its notation and asked through the traits, and what
 //! folding constants in place leaves: by values worked out by hand.
 use crate::answers::{effects, interfaces, removable};
-use crate::cases::{all_known, fields, known, line, number, operation_at, read, sides};
+use crate::cases::{all_known, check, fields, known, line, number, operation_at, read, sides};
 use crate::trees::build;
 use pliron_core::{AttrObj, Context, IRRewriter, IRStatus, Operation, Ptr, Rewriter};
 use pliron_meaning::bench::{Bench, BenchKind};
 use pliron_meaning::{BlockArgRemoval, ConstFoldInterface, Dialect, SideEffects};
 use std::alloc::Global;
 use std::process::Abort;
-use std::test::Fail;
 
 /// An operation of each kind but the branches.
 static KINDS: &str =
@@ -52,48 +51,42 @@ root / 1 => Some(true)
 1 / 0 => Some(true)
 1 / 1 => Some(true)";
 
-fn answers_in(rt: &impl Abort, alloc: Global, ctx: &mut Context) -> Result<(), Fail> {
-    let root = read(rt, alloc, ctx, KINDS)?;
+fn answers_in(rt: &impl Abort, alloc: Global, ctx: &mut Context) {
+    let root = read(rt, alloc, ctx, KINDS);
     for case in EFFECTS.lines() {
         let (place, want) = sides(rt, case);
         let op = operation_at(rt, ctx, root, place);
-        assert_eq!(rt;
-            effects::<Bench>(rt, alloc, ctx, op)?.as_str(),
+        check(
+            rt,
+            effects::<Bench>(rt, alloc, ctx, op).as_str(),
             want,
-            "{case}"
+            case,
         );
     }
     for case in INTERFACES.lines() {
         let (text, want) = case.split_once(" =>").expect(rt, "a case");
-        let root = read(rt, alloc, ctx, text)?;
+        let root = read(rt, alloc, ctx, text);
         let op = operation_at(rt, ctx, root, "0");
-        assert_eq!(rt;
-            interfaces::<Bench>(rt, alloc, ctx, op)?.as_str(),
+        check(
+            rt,
+            interfaces::<Bench>(rt, alloc, ctx, op).as_str(),
             want,
-            "{case}"
+            case,
         );
     }
-    let root = read(rt, alloc, ctx, HOLDERS)?;
+    let root = read(rt, alloc, ctx, HOLDERS);
     for case in REMOVALS.lines() {
         let (asked, want) = sides(rt, case);
         let (place, index) = fields(rt, asked);
         let op = operation_at(rt, ctx, root, place);
-        let answer = removable::<Bench>(rt, alloc, ctx, op, number(rt, index))?;
-        assert_eq!(rt; answer.as_str(), want, "{case}");
+        let answer = removable::<Bench>(rt, alloc, ctx, op, number(rt, index));
+        check(rt, answer.as_str(), want, case);
     }
-    Ok(())
-}
-
-#[test]
-fn answers_on_operations(rt: HostRuntime) -> Result<(), Fail> {
-    let alloc = rt.alloc();
-    let mut ctx = Context::new(alloc);
-    answers_in(&rt, alloc, &mut ctx)
 }
 
 /// An operation of another dialect: this one has no answer on it.
-fn check_outside(rt: &impl Abort, alloc: Global, ctx: &mut Context) -> Result<(), Fail> {
-    let op = build(rt, alloc, ctx, "0 / kind 16")?;
+fn check_outside(rt: &impl Abort, alloc: Global, ctx: &mut Context) {
+    let op = build(rt, alloc, ctx, "0 / kind 16");
     assert!(rt; op.is_live(ctx));
     assert!(rt; !Bench::admits(op, ctx));
     assert_eq!(rt; Bench::has_side_effects(op, ctx), None);
@@ -101,14 +94,6 @@ fn check_outside(rt: &impl Abort, alloc: Global, ctx: &mut Context) -> Result<()
     assert!(rt; !Bench::is_terminator(op, ctx));
     assert!(rt; !Bench::is_branch(op, ctx));
     assert!(rt; !Bench::is_kind(op, ctx, BenchKind::Fork));
-    Ok(())
-}
-
-#[test]
-fn operation_of_no_kind(rt: HostRuntime) -> Result<(), Fail> {
-    let alloc = rt.alloc();
-    let mut ctx = Context::new(alloc);
-    check_outside(&rt, alloc, &mut ctx)
 }
 
 /// What is known of both operands, and what is known of the result then.
@@ -147,39 +132,36 @@ fn folded(
     ctx: &Context,
     op: Ptr<Operation>,
     words: &str,
-) -> Result<Option<i128>, Fail> {
-    let operands = all_known(alloc, words)?;
+) -> Option<i128> {
+    let operands = all_known(rt, alloc, words);
     assert!(rt; op.is_live(ctx));
     assert!(rt; Bench::folds(op, ctx));
     assert_eq!(rt; op.num_operand(ctx), operands.len());
-    let answers = <Bench as ConstFoldInterface>::check_fold(alloc, op, ctx, operands.as_slice())?;
+    let answers = <Bench as ConstFoldInterface>::check_fold(
+        alloc,
+        op,
+        ctx,
+        operands.as_slice(),
+    ).expect(rt, "memory");
     assert_eq!(rt; answers.len(), 1);
     match &answers[0] {
-        Some(AttrObj::Int(number)) => Ok(Some(*number)),
+        Some(AttrObj::Int(number)) => Some(*number),
         Some(AttrObj::Text(_)) => panic!(rt; "a text"),
-        None => Ok(None),
+        None => None,
     }
 }
 
-fn folds_in(rt: &impl Abort, alloc: Global, ctx: &mut Context) -> Result<(), Fail> {
+fn folds_in(rt: &impl Abort, alloc: Global, ctx: &mut Context) {
     let text = "func { b0(x, y): a = add x y; b = mul x y; c = div x y }";
-    let root = read(rt, alloc, ctx, text)?;
+    let root = read(rt, alloc, ctx, text);
     for (place, table) in [("0", SUMS), ("1", PRODUCTS), ("2", QUOTIENTS)] {
         let op = operation_at(rt, ctx, root, place);
         for case in table.lines() {
             let (words, want) = sides(rt, case);
-            let got = folded(rt, alloc, ctx, op, words)?;
+            let got = folded(rt, alloc, ctx, op, words);
             assert_eq!(rt; got, want.parse::<i128>().ok(), "{case}");
         }
     }
-    Ok(())
-}
-
-#[test]
-fn folds(rt: HostRuntime) -> Result<(), Fail> {
-    let alloc = rt.alloc();
-    let mut ctx = Context::new(alloc);
-    folds_in(&rt, alloc, &mut ctx)
 }
 
 /// What is known of the operands of the first operation, its text, and what folding it in place leaves.
@@ -196,8 +178,8 @@ fn fold_in_place(
     ctx: &mut Context,
     op: Ptr<Operation>,
     words: &str,
-) -> Result<IRStatus, Fail> {
-    let operands = all_known(alloc, words)?;
+) -> IRStatus {
+    let operands = all_known(rt, alloc, words);
     assert!(rt; op.is_live(ctx));
     assert!(rt; Bench::folds(op, ctx));
     assert_eq!(rt; op.num_operand(ctx), operands.len());
@@ -205,27 +187,21 @@ fn fold_in_place(
     let mut rewriter = IRRewriter::new();
     rewriter.set_insertion_point_before_operation(op);
     let operands = operands.as_slice();
-    Ok(<Bench as ConstFoldInterface>::fold_in_place(alloc, op, ctx, operands, &mut rewriter)?)
+    <Bench as ConstFoldInterface>::fold_in_place(alloc, op, ctx, operands, &mut rewriter).expect(
+        rt, "memory",
+    )
 }
 
-fn in_place_in(rt: &impl Abort, alloc: Global, ctx: &mut Context) -> Result<(), Fail> {
+fn in_place_in(rt: &impl Abort, alloc: Global, ctx: &mut Context) {
     for case in IN_PLACE.lines() {
         let (asked, want) = sides(rt, case);
         let (words, text) = fields(rt, asked);
-        let root = read(rt, alloc, ctx, text)?;
+        let root = read(rt, alloc, ctx, text);
         let op = operation_at(rt, ctx, root, "0");
-        let status = fold_in_place(rt, alloc, ctx, op, words)?;
+        let status = fold_in_place(rt, alloc, ctx, op, words);
         assert_eq!(rt; status == IRStatus::Changed, text != want, "{case}");
-        assert_eq!(rt; line(rt, alloc, ctx, root)?.as_str(), want, "{case}");
+        check(rt, line(rt, alloc, ctx, root).as_str(), want, case);
     }
-    Ok(())
-}
-
-#[test]
-fn folds_in_place(rt: HostRuntime) -> Result<(), Fail> {
-    let alloc = rt.alloc();
-    let mut ctx = Context::new(alloc);
-    in_place_in(&rt, alloc, &mut ctx)
 }
 
 /// Data, and the number of the constant that is made of them: of 64-bit numbers alone.
@@ -236,34 +212,32 @@ static MADE: &str = "'7 => ?
 -9223372036854775808 => -9223372036854775808";
 
 /// The number of the constant that is made of the datum.
-fn made(
-    rt: &impl Abort,
-    alloc: Global,
-    ctx: &mut Context,
-    word: &str,
-) -> Result<Option<i128>, Fail> {
-    let attr = known(alloc, word)?.expect(rt, "a datum");
-    match Bench::materialize(alloc, &attr, ctx)? {
+fn made(rt: &impl Abort, alloc: Global, ctx: &mut Context, word: &str) -> Option<i128> {
+    let attr = known(rt, alloc, word).expect(rt, "a datum");
+    match Bench::materialize(alloc, &attr, ctx).expect(rt, "memory") {
         Some(op) => folded(rt, alloc, ctx, op, ""),
-        None => Ok(None),
+        None => None,
     }
 }
 
-fn made_in(rt: &impl Abort, alloc: Global, ctx: &mut Context) -> Result<(), Fail> {
+fn made_in(rt: &impl Abort, alloc: Global, ctx: &mut Context) {
     for case in MADE.lines() {
         let (word, want) = sides(rt, case);
         assert_eq!(rt;
-            made(rt, alloc, ctx, word)?,
+            made(rt, alloc, ctx, word),
             want.parse::<i128>().ok(),
             "{case}"
         );
     }
-    Ok(())
 }
 
 #[test]
-fn constants_are_made_of_numbers_alone(rt: HostRuntime) -> Result<(), Fail> {
+fn answers_and_folds(rt: HostRuntime) {
     let alloc = rt.alloc();
     let mut ctx = Context::new(alloc);
-    made_in(&rt, alloc, &mut ctx)
+    answers_in(&rt, alloc, &mut ctx);
+    check_outside(&rt, alloc, &mut ctx);
+    folds_in(&rt, alloc, &mut ctx);
+    in_place_in(&rt, alloc, &mut ctx);
+    made_in(&rt, alloc, &mut ctx);
 }

@@ -1,13 +1,12 @@
 //! The edges of branches of the dialect `Bench`, and branches that fold: on texts of its notation, by
 //! values worked out by hand.
-use crate::cases::{fields, known, line, number, operation_at, read, sides};
+use crate::cases::{check, fields, known, line, number, operation_at, read, sides};
 use crate::losses::{lose, lose_along};
 use pliron_core::{Context, IRRewriter, IRStatus, Operation, Ptr, Rewriter};
 use pliron_meaning::bench::Bench;
 use pliron_meaning::{BranchOpFoldInterface, Dialect};
 use std::alloc::Global;
 use std::process::Abort;
-use std::test::Fail;
 
 /// Texts, and the fault that verifying the first operation finds.
 static VERIFIED: &str = "func { b0(x): cbr x b1(x) b2(x, x); b1(a): ret; b2(b, c): ret } => None
@@ -15,23 +14,16 @@ func { b0(x): cbr x b1() b2(x, x); b1(a): ret; b2(b, c): ret } => Some(Pass(1))
 func { b0(x): cbr x b1(x) b2(x); b1(a): ret; b2(b, c): ret } => Some(Pass(1))
 func { b0(x): br b1(x); b1(): ret } => None";
 
-fn verified_in(rt: &impl Abort, alloc: Global, ctx: &mut Context) -> Result<(), Fail> {
+fn verified_in(rt: &impl Abort, alloc: Global, ctx: &mut Context) {
     for case in VERIFIED.lines() {
         let (text, want) = sides(rt, case);
-        let root = read(rt, alloc, ctx, text)?;
+        let root = read(rt, alloc, ctx, text);
         let op = operation_at(rt, ctx, root, "0");
         assert!(rt; op.is_live(ctx));
         let fault = <Bench as BranchOpFoldInterface>::verify(alloc, op, ctx).err();
-        assert_eq!(rt; format!(in alloc; "{fault:?}")?.as_str(), want, "{case}");
+        let fault = format!(in alloc; "{fault:?}").expect(rt, "memory");
+        check(rt, fault.as_str(), want, case);
     }
-    Ok(())
-}
-
-#[test]
-fn edges_that_fit_their_targets(rt: HostRuntime) -> Result<(), Fail> {
-    let alloc = rt.alloc();
-    let mut ctx = Context::new(alloc);
-    verified_in(&rt, alloc, &mut ctx)
 }
 
 static BRANCH: &str =
@@ -50,26 +42,21 @@ static IN_PLACE: &str = "5 => func { b0(v0, v1, v2): br b1(v1); b1(v3): ret v3; 
 ? => func { b0(v0, v1, v2): cbr v0 b1(v1) b2(v2, v1); b1(v3): ret v3; b2(v4, v5): ret v5 }";
 
 /// The blocks that the branch with four operands may go to are its successors with these indices.
-fn check_targets(
-    rt: &impl Abort,
-    alloc: Global,
-    ctx: &Context,
-    op: Ptr<Operation>,
-    case: &str,
-) -> Result<(), Fail> {
+fn check_targets(rt: &impl Abort, alloc: Global, ctx: &Context, op: Ptr<Operation>, case: &str) {
     let (word, want) = sides(rt, case);
-    let operands = [known(alloc, word)?, None, None, None];
+    let operands = [known(rt, alloc, word), None, None, None];
     assert!(rt; op.is_live(ctx));
     assert!(rt; Bench::folds_branch(op, ctx));
     assert_eq!(rt; op.num_operand(ctx), 4);
-    let blocks = <Bench as BranchOpFoldInterface>::check_fold(alloc, op, ctx, &operands)?;
+    let blocks = <Bench as BranchOpFoldInterface>::check_fold(alloc, op, ctx, &operands).expect(
+        rt, "memory",
+    );
     assert_eq!(rt; blocks.len(), want.split(' ').count(), "{case}");
     for (block, index) in blocks.iter().zip(want.split(' ')) {
         let index = number(rt, index);
         assert!(rt; index < op.num_successor(ctx));
         assert_eq!(rt; *block, op.get_successor(ctx, index), "{case}");
     }
-    Ok(())
 }
 
 /// Folds the branch with four operands in place.
@@ -79,39 +66,37 @@ fn fold_in_place(
     ctx: &mut Context,
     op: Ptr<Operation>,
     word: &str,
-) -> Result<IRStatus, Fail> {
-    let operands = [known(alloc, word)?, None, None, None];
+) -> IRStatus {
+    let operands = [known(rt, alloc, word), None, None, None];
     assert!(rt; op.is_live(ctx));
     assert!(rt; Bench::folds_branch(op, ctx));
     assert_eq!(rt; op.num_operand(ctx), 4);
     assert!(rt; op.get_parent_block(ctx).is_some());
     let mut rewriter = IRRewriter::new();
     rewriter.set_insertion_point_before_operation(op);
-    Ok(<Bench as BranchOpFoldInterface>::fold_in_place(alloc, op, ctx, &operands, &mut rewriter)?)
+    <Bench as BranchOpFoldInterface>::fold_in_place(
+        alloc,
+        op,
+        ctx,
+        &operands,
+        &mut rewriter,
+    ).expect(rt, "memory")
 }
 
-fn folds_in(rt: &impl Abort, alloc: Global, ctx: &mut Context) -> Result<(), Fail> {
-    let root = read(rt, alloc, ctx, BRANCH)?;
+fn folds_in(rt: &impl Abort, alloc: Global, ctx: &mut Context) {
+    let root = read(rt, alloc, ctx, BRANCH);
     let op = operation_at(rt, ctx, root, "0");
     for case in TARGETS.lines() {
-        check_targets(rt, alloc, ctx, op, case)?;
+        check_targets(rt, alloc, ctx, op, case);
     }
     for case in IN_PLACE.lines() {
         let (word, want) = sides(rt, case);
-        let root = read(rt, alloc, ctx, BRANCH)?;
+        let root = read(rt, alloc, ctx, BRANCH);
         let op = operation_at(rt, ctx, root, "0");
-        let status = fold_in_place(rt, alloc, ctx, op, word)?;
+        let status = fold_in_place(rt, alloc, ctx, op, word);
         assert_eq!(rt; status == IRStatus::Changed, BRANCH != want, "{case}");
-        assert_eq!(rt; line(rt, alloc, ctx, root)?.as_str(), want, "{case}");
+        check(rt, line(rt, alloc, ctx, root).as_str(), want, case);
     }
-    Ok(())
-}
-
-#[test]
-fn branches_with_a_known_condition(rt: HostRuntime) -> Result<(), Fail> {
-    let alloc = rt.alloc();
-    let mut ctx = Context::new(alloc);
-    folds_in(&rt, alloc, &mut ctx)
 }
 
 /// An edge and a place of the branch, and the text without the value there.
@@ -128,28 +113,29 @@ static FORWARDED: &str = "0 => func { b0(v0, v1): br b1(v1); b1(v2, v3): ret v3 
 1 => func { b0(v0, v1): br b1(v0); b1(v2, v3): ret v3 }
 2 => func { b0(v0, v1): br b1(v0, v1); b1(v2, v3): ret v3 }";
 
-fn losses_in(rt: &impl Abort, alloc: Global, ctx: &mut Context) -> Result<(), Fail> {
+fn losses_in(rt: &impl Abort, alloc: Global, ctx: &mut Context) {
     for case in LOST.lines() {
         let (asked, want) = sides(rt, case);
         let (edge, place) = fields(rt, asked);
-        let root = read(rt, alloc, ctx, BRANCH)?;
+        let root = read(rt, alloc, ctx, BRANCH);
         let op = operation_at(rt, ctx, root, "0");
-        lose::<Bench>(rt, alloc, ctx, op, number(rt, edge), number(rt, place))?;
-        assert_eq!(rt; line(rt, alloc, ctx, root)?.as_str(), want, "{case}");
+        lose::<Bench>(rt, alloc, ctx, op, number(rt, edge), number(rt, place));
+        check(rt, line(rt, alloc, ctx, root).as_str(), want, case);
     }
     for case in FORWARDED.lines() {
         let (place, want) = sides(rt, case);
-        let root = read(rt, alloc, ctx, JUMP)?;
+        let root = read(rt, alloc, ctx, JUMP);
         let op = operation_at(rt, ctx, root, "0");
-        lose_along::<Bench>(rt, alloc, ctx, op, number(rt, place))?;
-        assert_eq!(rt; line(rt, alloc, ctx, root)?.as_str(), want, "{case}");
+        lose_along::<Bench>(rt, alloc, ctx, op, number(rt, place));
+        check(rt, line(rt, alloc, ctx, root).as_str(), want, case);
     }
-    Ok(())
 }
 
 #[test]
-fn branches_without_one_of_their_values(rt: HostRuntime) -> Result<(), Fail> {
+fn edges_folds_and_losses(rt: HostRuntime) {
     let alloc = rt.alloc();
     let mut ctx = Context::new(alloc);
-    losses_in(&rt, alloc, &mut ctx)
+    verified_in(&rt, alloc, &mut ctx);
+    folds_in(&rt, alloc, &mut ctx);
+    losses_in(&rt, alloc, &mut ctx);
 }

@@ -2,13 +2,17 @@
 //! right; fields are set apart by `/`.
 use pliron_core::{AttrObj, BasicBlock, Context, Operation, Ptr, Text};
 use pliron_meaning::bench::{print_text, read_text};
-use std::alloc::{AllocError, Global};
+use std::alloc::Global;
 use std::process::Abort;
-use std::test::Fail;
 
 /// Both sides of a case.
 pub(crate) fn sides<'t>(rt: &impl Abort, line: &'t str) -> (&'t str, &'t str) {
     line.split_once(" => ").expect(rt, "a case")
+}
+
+/// What was found is what the case says.
+pub(crate) fn check(rt: &impl Abort, got: &str, want: &str, case: &str) {
+    assert_eq!(rt; got, want, "{case}");
 }
 
 /// The first two fields.
@@ -22,20 +26,26 @@ pub(crate) fn number(rt: &impl Abort, word: &str) -> usize {
 }
 
 /// What is known of an operand: a number, a text behind an apostrophe, or nothing behind `?`.
-pub(crate) fn known(alloc: Global, word: &str) -> Result<Option<AttrObj>, AllocError> {
+pub(crate) fn known(rt: &impl Abort, alloc: Global, word: &str) -> Option<AttrObj> {
     match word.strip_prefix('\'') {
-        Some(text) => Ok(Some(AttrObj::Text(Text::new(String::from_str(alloc, text)?)))),
-        None => Ok(word.parse::<i128>().ok().map(|number| AttrObj::Int(number))),
+        Some(text) => {
+            let text = String::from_str(alloc, text).expect(rt, "memory");
+            Some(AttrObj::Text(Text::new(text)))
+        }
+        None => match word.parse::<i128>() {
+            Ok(number) => Some(AttrObj::Int(number)),
+            Err(_) => None,
+        },
     }
 }
 
 /// What is known of several operands.
-pub(crate) fn all_known(alloc: Global, words: &str) -> Result<Vec<Option<AttrObj>>, AllocError> {
+pub(crate) fn all_known(rt: &impl Abort, alloc: Global, words: &str) -> Vec<Option<AttrObj>> {
     let mut all = Vec::new(alloc);
     for word in words.split_ascii_whitespace() {
-        all.push(known(alloc, word)?)?;
+        all.push(known(rt, alloc, word)).expect(rt, "memory");
     }
-    Ok(all)
+    all
 }
 
 /// The operation of the text, in no block.
@@ -44,22 +54,17 @@ pub(crate) fn read(
     alloc: Global,
     ctx: &mut Context,
     text: &str,
-) -> Result<Ptr<Operation>, Fail> {
-    match read_text(alloc, text.as_bytes(), ctx)? {
-        Some(root) => Ok(root),
+) -> Ptr<Operation> {
+    match read_text(alloc, text.as_bytes(), ctx).expect(rt, "memory") {
+        Some(root) => root,
         None => panic!(rt; "unreadable: {text}"),
     }
 }
 
 /// The line of the operation.
-pub(crate) fn line(
-    rt: &impl Abort,
-    alloc: Global,
-    ctx: &Context,
-    root: Ptr<Operation>,
-) -> Result<String, Fail> {
+pub(crate) fn line(rt: &impl Abort, alloc: Global, ctx: &Context, root: Ptr<Operation>) -> String {
     assert!(rt; root.is_live(ctx));
-    Ok(print_text(alloc, root, ctx)?)
+    print_text(alloc, root, ctx).expect(rt, "memory")
 }
 
 /// The block with this index in the only region of the operation.

@@ -3,7 +3,6 @@ use crate::cases::sides;
 use pliron_core::NoMemory;
 use pliron_meaning::OptError;
 use std::alloc::AllocError;
-use std::test::Fail;
 
 static TEXTS: &str = "Memory => want of memory
 LiveUse => a value of an unreachable block is used
@@ -12,7 +11,7 @@ VerifyAfter => verification failed after the pass
 Pass(7) => the pass failed with code 7";
 
 #[test]
-fn texts_of_the_five_faults(rt: HostRuntime) -> Result<(), Fail> {
+fn texts_of_the_five_faults(rt: HostRuntime) {
     let faults = [
         OptError::Memory,
         OptError::LiveUse,
@@ -22,10 +21,19 @@ fn texts_of_the_five_faults(rt: HostRuntime) -> Result<(), Fail> {
     ];
     for (fault, case) in faults.iter().zip(TEXTS.lines()) {
         let (name, want) = sides(&rt, case);
-        assert_eq!(&rt; format!(in rt.alloc(); "{fault:?}")?.as_str(), name);
-        assert_eq!(&rt; format!(in rt.alloc(); "{fault}")?.as_str(), want);
+        assert_eq!(&rt;
+            format!(in rt.alloc(); "{fault:?}")
+                .expect(&rt, "memory")
+                .as_str(),
+            name
+        );
+        assert_eq!(&rt;
+            format!(in rt.alloc(); "{fault}")
+                .expect(&rt, "memory")
+                .as_str(),
+            want
+        );
     }
-    Ok(())
 }
 
 #[test]

@@ -3,7 +3,6 @@ use pliron_core::{Context, Operation, Ptr};
 use pliron_meaning::{Dialect, lose_forwarded};
 use std::alloc::Global;
 use std::process::Abort;
-use std::test::Fail;
 
 /// Takes out the value at place j that the branch forwards along edge i, which has such a place.
 pub(crate) fn lose<D: Dialect>(
@@ -13,15 +12,14 @@ pub(crate) fn lose<D: Dialect>(
     op: Ptr<Operation>,
     i: usize,
     j: usize,
-) -> Result<(), Fail> {
+) {
     assert!(rt; op.is_live(ctx));
     assert!(rt; D::is_branch(op, ctx));
     assert!(rt; i < op.num_successor(ctx));
-    let values = D::successor_operands(alloc, op, ctx, i)?;
+    let values = D::successor_operands(alloc, op, ctx, i).expect(rt, "memory");
     assert!(rt; j < values.len());
     let value = D::remove_successor_operand(op, ctx, i, j);
     assert_eq!(rt; value, values[j]);
-    Ok(())
 }
 
 /// The only edge to the operation's first successor loses the operand that it forwards at place j, if it
@@ -32,7 +30,7 @@ pub(crate) fn lose_along<D: Dialect>(
     ctx: &mut Context,
     op: Ptr<Operation>,
     j: usize,
-) -> Result<(), Fail> {
+) {
     assert!(rt; op.is_live(ctx));
     assert!(rt; op.num_successor(ctx) > 0);
     let block = op.get_successor(ctx, 0);
@@ -42,7 +40,6 @@ pub(crate) fn lose_along<D: Dialect>(
     assert!(rt; D::admits(op, ctx));
     assert!(rt; D::is_branch(op, ctx));
     assert!(rt; edge < op.num_successor(ctx));
-    let values = D::successor_operands(alloc, op, ctx, edge)?;
+    let values = D::successor_operands(alloc, op, ctx, edge).expect(rt, "memory");
     lose_forwarded::<D>(ctx, block, j, &[j < values.len()]);
-    Ok(())
 }

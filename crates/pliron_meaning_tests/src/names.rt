@@ -15,7 +15,6 @@ use pliron_meaning::{
 };
 use std::alloc::Global;
 use std::process::Abort;
-use std::test::Fail;
 
 /// A type has each trait of a dialect.
 fn is_dialect<D>()
@@ -45,12 +44,19 @@ fn laws_of_runs(_rt: HostRuntime) {
     folds_have_one_outcome();
 }
 
-fn names_in(rt: &impl Abort, alloc: Global, ctx: &mut Context) -> Result<(), Fail> {
-    let root = read_text(alloc, b"mod { }", ctx)?.expect(rt, "readable");
+fn names_in(rt: &impl Abort, alloc: Global, ctx: &mut Context) {
+    let root = read_text(alloc, b"mod { }", ctx)
+        .expect(rt, "memory")
+        .expect(rt, "readable");
     assert!(rt; edges_last(root, ctx));
     assert!(rt; !Bench::implements(root, ctx, Interface::BlockArgRemoval));
-    assert_eq!(rt; print_text(alloc, root, ctx)?.as_str(), "mod { }");
-    let sight = evaluate::<Bench>(alloc, ctx, root, Vec::new(alloc), Vec::new(alloc), 9)?;
+    assert_eq!(rt;
+        print_text(alloc, root, ctx).expect(rt, "memory").as_str(),
+        "mod { }"
+    );
+    let sight = evaluate::<Bench>(alloc, ctx, root, Vec::new(alloc), Vec::new(alloc), 9).expect(
+        rt, "memory",
+    );
     assert_eq!(rt; sight, Sight::Ended(Vec::new(alloc), Vec::new(alloc)));
     assert_eq!(rt; BenchKind::Mod.number(), 0);
     assert_eq!(rt; TinyKind::Const.number(), 0);
@@ -58,11 +64,10 @@ fn names_in(rt: &impl Abort, alloc: Global, ctx: &mut Context) -> Result<(), Fai
     is_dialect::<Bench>();
     is_dialect::<Tiny>();
     has_room::<IRRewriter>();
-    Ok(())
 }
 
 #[test]
-fn names_of_users(rt: HostRuntime) -> Result<(), Fail> {
+fn names_of_users(rt: HostRuntime) {
     let alloc = rt.alloc();
     let mut ctx = Context::new(alloc);
     names_in(&rt, alloc, &mut ctx)

@@ -10,29 +10,31 @@ use pliron_core::Context;
 use pliron_meaning::bench::{print_text, read_text};
 use pliron_meaning::edges_last;
 use std::alloc::Global;
-use std::test::Fail;
+use std::process::Abort;
 
 /// The line of the text, where edges stand last, or `unreadable`. Ends of lines stand as `|` in the text.
-fn printed(alloc: Global, text: &str) -> Result<String, Fail> {
+fn printed(rt: &impl Abort, alloc: Global, text: &str) -> String {
     let mut bytes = Vec::new(alloc);
     for byte in text.as_bytes() {
-        bytes.push(if *byte == b'|' { b'\n' } else { *byte })?;
+        bytes
+            .push(if *byte == b'|' { b'\n' } else { *byte })
+            .expect(rt, "memory");
     }
-    printed_bytes(alloc, bytes.as_slice())
+    printed_bytes(rt, alloc, bytes.as_slice())
 }
 
 /// The line of the bytes, where edges stand last, or `unreadable`.
-fn printed_bytes(alloc: Global, text: &[u8]) -> Result<String, Fail> {
+fn printed_bytes(rt: &impl Abort, alloc: Global, text: &[u8]) -> String {
     let mut ctx = Context::new(alloc);
-    printed_in(alloc, text, &mut ctx)
+    printed_in(rt, alloc, text, &mut ctx)
 }
 
-fn printed_in(alloc: Global, text: &[u8], ctx: &mut Context) -> Result<String, Fail> {
-    let Some(root) = read_text(alloc, text, ctx)? else {
-        return Ok(String::from_str(alloc, "unreadable")?);
+fn printed_in(rt: &impl Abort, alloc: Global, text: &[u8], ctx: &mut Context) -> String {
+    let Some(root) = read_text(alloc, text, ctx).expect(rt, "memory") else {
+        return String::from_str(alloc, "unreadable").expect(rt, "memory");
     };
     if !edges_last(root, ctx) {
-        return Ok(String::from_str(alloc, "edges in mid-block")?);
+        return String::from_str(alloc, "edges in mid-block").expect(rt, "memory");
     }
-    Ok(print_text(alloc, root, ctx)?)
+    print_text(alloc, root, ctx).expect(rt, "memory")
 }

@@ -14,18 +14,17 @@ use pliron_meaning::rewrites::{
     erase_unused, replace_argument_by_constant, replace_result_by_constant,
 };
 use pliron_meaning::{Dialect, Tiny, TinyKind};
-use std::alloc::{AllocError, Global};
+use std::alloc::Global;
 use std::process::Abort;
-use std::test::Fail;
 
 /// A constant that is asked, a question and a constant without uses, in a block with an argument.
 static STEPS: &str = "scope; block 0 1; const 0 @0; ask @0 v1; const 0 @0";
 
 /// What is seen of the run of the root on one input, in a world that answers once.
-fn seen(alloc: Global, ctx: &Context, root: Ptr<Operation>) -> Result<Sight, AllocError> {
-    let inputs = Vec::from_array(alloc, [Datum::Number(3)])?;
-    let world = Vec::from_array(alloc, [Datum::Number(8)])?;
-    evaluate::<Tiny>(alloc, ctx, root, inputs, world, 100)
+fn seen(rt: &impl Abort, alloc: Global, ctx: &Context, root: Ptr<Operation>) -> Sight {
+    let inputs = Vec::from_array(alloc, [Datum::Number(3)]).expect(rt, "memory");
+    let world = Vec::from_array(alloc, [Datum::Number(8)]).expect(rt, "memory");
+    evaluate::<Tiny>(alloc, ctx, root, inputs, world, 100).expect(rt, "memory")
 }
 
 /// Whether the operation is a constant of this number.
@@ -44,11 +43,11 @@ fn erase<D: Dialect>(
     alloc: Global,
     ctx: &mut Context,
     op: Ptr<Operation>,
-) -> Result<IRStatus, Fail> {
+) -> IRStatus {
     assert!(rt; op.is_live(ctx));
     assert!(rt; op.is_self_contained(ctx));
     let mut rewriter = IRRewriter::new();
-    Ok(erase_unused::<D, IRRewriter>(alloc, op, ctx, &mut rewriter)?)
+    erase_unused::<D, IRRewriter>(alloc, op, ctx, &mut rewriter).expect(rt, "memory")
 }
 
 /// Replaces the result of a constant of this number by another one of the same number.
@@ -58,7 +57,7 @@ fn replace_result(
     ctx: &mut Context,
     op: Ptr<Operation>,
     number: i128,
-) -> Result<IRStatus, Fail> {
+) -> IRStatus {
     assert!(rt; op.is_live(ctx));
     assert!(rt; op.get_parent_block(ctx).is_some());
     assert!(rt; makes(ctx, op, number));
@@ -68,7 +67,9 @@ fn replace_result(
     ctx.well_formed();
     let attr = AttrObj::Int(number);
     let mut rewriter = IRRewriter::new();
-    Ok(replace_result_by_constant::<Tiny, IRRewriter>(alloc, op, 0, &attr, ctx, &mut rewriter)?)
+    replace_result_by_constant::<Tiny, IRRewriter>(alloc, op, 0, &attr, ctx, &mut rewriter).expect(
+        rt, "memory",
+    )
 }
 
 /// Replaces the argument of the block, which has no uses, by a constant.
@@ -78,55 +79,53 @@ fn replace_argument<D: Dialect>(
     ctx: &mut Context,
     body: Ptr<BasicBlock>,
     number: i128,
-) -> Result<IRStatus, Fail> {
+) -> IRStatus {
     assert!(rt; body.is_live(ctx));
     assert_eq!(rt; body.num_argument(ctx), 1);
     assert_eq!(rt; body.get_argument(ctx, 0).num_use(ctx), 0);
     ctx.well_formed();
     let attr = AttrObj::Int(number);
     let mut rewriter = IRRewriter::new();
-    Ok(replace_argument_by_constant::<D, IRRewriter>(alloc, body, 0, &attr, ctx, &mut rewriter)?)
+    replace_argument_by_constant::<D, IRRewriter>(alloc, body, 0, &attr, ctx, &mut rewriter).expect(
+        rt, "memory",
+    )
 }
 
 /// A constant without uses goes, and a question stays; the question asks the new constant; and the
 /// constant for the argument stands first in the block, though the argument has no uses.
-fn rewrites_in(rt: &impl Abort, alloc: Global, ctx: &mut Context) -> Result<(), Fail> {
+fn rewrites_in(rt: &impl Abort, alloc: Global, ctx: &mut Context) {
     let mut made = Made::new(alloc);
-    make(rt, alloc, ctx, &mut made, STEPS)?;
+    make(rt, alloc, ctx, &mut made, STEPS);
     let (root, body) = (made.operation(rt, "0"), made.block(rt, "0"));
     let (asked, question) = (made.operation(rt, "1"), made.operation(rt, "2"));
     let unused = made.operation(rt, "3");
-    let before = seen(alloc, ctx, root)?;
+    let before = seen(rt, alloc, ctx, root);
 
-    assert_eq!(rt; erase::<Tiny>(rt, alloc, ctx, unused)?, IRStatus::Changed);
+    assert_eq!(rt; erase::<Tiny>(rt, alloc, ctx, unused), IRStatus::Changed);
     assert!(rt; !unused.is_live(ctx));
     assert_eq!(rt;
-        erase::<Tiny>(rt, alloc, ctx, question)?,
+        erase::<Tiny>(rt, alloc, ctx, question),
         IRStatus::Unchanged
     );
     assert!(rt; question.is_live(ctx));
-    assert_eq!(rt; seen(alloc, ctx, root)?, before);
+    assert_eq!(rt; seen(rt, alloc, ctx, root), before);
 
-    assert_eq!(rt;
-        replace_result(rt, alloc, ctx, asked, 0)?,
-        IRStatus::Changed
-    );
+    assert_eq!(rt; replace_result(rt, alloc, ctx, asked, 0), IRStatus::Changed);
     assert_eq!(rt; number_asked(rt, ctx, asked, question), Some(0));
-    assert_eq!(rt; seen(alloc, ctx, root)?, before);
+    assert_eq!(rt; seen(rt, alloc, ctx, root), before);
 
     assert_eq!(rt;
-        replace_argument::<Tiny>(rt, alloc, ctx, body, 3)?,
+        replace_argument::<Tiny>(rt, alloc, ctx, body, 3),
         IRStatus::Changed
     );
     assert!(rt; body.is_live(ctx));
     let first = body.get_head(ctx).expect(rt, "a constant");
     assert_eq!(rt; number_of(rt, ctx, first), Some(3));
-    assert_eq!(rt; seen(alloc, ctx, root)?, before);
-    Ok(())
+    assert_eq!(rt; seen(rt, alloc, ctx, root), before);
 }
 
 #[test]
-fn rewrites_keep_the_run(rt: HostRuntime) -> Result<(), Fail> {
+fn rewrites_keep_the_run(rt: HostRuntime) {
     let alloc = rt.alloc();
     let mut ctx = Context::new(alloc);
     rewrites_in(&rt, alloc, &mut ctx)

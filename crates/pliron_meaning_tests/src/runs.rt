@@ -9,9 +9,8 @@ use pliron_core::{AttrObj, Attrs, Context, Head, IRRewriter, Operation, Ptr, Rew
 use pliron_meaning::bench::Bench;
 use pliron_meaning::evaluator::{Datum, Sight, evaluate};
 use pliron_meaning::{Tiny, TinyKind};
-use std::alloc::{AllocError, Global};
+use std::alloc::Global;
 use std::process::Abort;
-use std::test::Fail;
 
 const ENOUGH: usize = 200;
 
@@ -77,33 +76,31 @@ static BOUNDS: &str = "3 =>
 static LOOP: &str =
     "0 / scope; block 0; block 0 1; const 1 @0; br @0 b1 v1; ask @1 v0; br @1 b1 v2";
 
-fn simple(alloc: Global, word: &str) -> Result<Datum, AllocError> {
+fn simple(rt: &impl Abort, alloc: Global, word: &str) -> Datum {
     match word.parse::<i128>() {
-        Ok(number) => Ok(Datum::Number(number)),
-        Err(_) => Ok(Datum::Text(Text::new(String::from_str(alloc, word)?))),
+        Ok(number) => Datum::Number(number),
+        Err(_) => Datum::Text(Text::new(String::from_str(alloc, word).expect(rt, "memory"))),
     }
 }
 
-/// The datum of the word, which joins two or three at most.
-fn datum(alloc: Global, word: &str) -> Result<Datum, AllocError> {
-    match word.rsplit_once(':') {
-        None => simple(alloc, word),
-        Some((first, last)) => match first.split_once(':') {
-            None => Datum::join(alloc, simple(alloc, first)?, simple(alloc, last)?),
-            Some((first, second)) => {
-                let rest = Datum::join(alloc, simple(alloc, second)?, simple(alloc, last)?)?;
-                Datum::join(alloc, simple(alloc, first)?, rest)
-            }
-        },
+/// The datum of the word.
+fn datum(rt: &impl Abort, alloc: Global, word: &str) -> Datum {
+    let (rest, last) = word.rsplit_once(':').unwrap_or(("", word));
+    let mut datum = simple(rt, alloc, last);
+    for first in rest.rsplit(':') {
+        if !first.is_empty() {
+            datum = Datum::join(alloc, simple(rt, alloc, first), datum).expect(rt, "memory");
+        }
     }
+    datum
 }
 
-fn data(alloc: Global, words: &str) -> Result<Vec<Datum>, AllocError> {
+fn data(rt: &impl Abort, alloc: Global, words: &str) -> Vec<Datum> {
     let mut data = Vec::new(alloc);
     for word in words.split_ascii_whitespace() {
-        data.push(datum(alloc, word)?)?;
+        data.push(datum(rt, alloc, word)).expect(rt, "memory");
     }
-    Ok(data)
+    data
 }
 
 /// The two last fields of a side, and what stands before them.
@@ -114,100 +111,97 @@ fn last_fields<'t>(rt: &impl Abort, side: &'t str) -> (&'t str, &'t str, &'t str
 }
 
 /// How a run is to end.
-fn sight(rt: &impl Abort, alloc: Global, side: &str) -> Result<Sight, Fail> {
+fn sight(rt: &impl Abort, alloc: Global, side: &str) -> Sight {
     let (end, values, effects) = last_fields(rt, side);
-    let effects = data(alloc, effects)?;
+    let effects = data(rt, alloc, effects);
     match end {
-        "ended" => Ok(Sight::Ended(data(alloc, values)?, effects)),
-        "trapped" => Ok(Sight::Trapped(effects)),
-        "reached" => Ok(Sight::Reached(effects)),
+        "ended" => Sight::Ended(data(rt, alloc, values), effects),
+        "trapped" => Sight::Trapped(effects),
+        "reached" => Sight::Reached(effects),
         _ => panic!(rt; "no end: {side}"),
     }
 }
 
-fn runs_in(rt: &impl Abort, alloc: Global, ctx: &mut Context) -> Result<(), Fail> {
+fn runs_in(rt: &impl Abort, alloc: Global, ctx: &mut Context) {
     for case in RUNS.lines() {
         let (asked, want) = sides(rt, case);
         let (text, inputs, world) = last_fields(rt, asked);
-        let root = read(rt, alloc, ctx, text)?;
-        let inputs = data(alloc, inputs)?;
-        let got = evaluate::<Bench>(alloc, ctx, root, inputs, data(alloc, world)?, ENOUGH)?;
-        assert_eq!(rt; got, sight(rt, alloc, want)?, "{case}");
+        let root = read(rt, alloc, ctx, text);
+        let inputs = data(rt, alloc, inputs);
+        let got = evaluate::<Bench>(
+            alloc,
+            ctx,
+            root,
+            inputs,
+            data(rt, alloc, world),
+            ENOUGH,
+        ).expect(rt, "memory");
+        assert_eq!(rt; got, sight(rt, alloc, want), "{case}");
     }
     // An operation of no kind traps.
-    let root = build(rt, alloc, ctx, "0 / kind 16")?;
-    let got = evaluate::<Bench>(alloc, ctx, root, Vec::new(alloc), Vec::new(alloc), ENOUGH)?;
+    let root = build(rt, alloc, ctx, "0 / kind 16");
+    let got = evaluate::<Bench>(alloc, ctx, root, Vec::new(alloc), Vec::new(alloc), ENOUGH).expect(
+        rt, "memory",
+    );
     assert_eq!(rt; got, Sight::Trapped(Vec::new(alloc)));
-    Ok(())
-}
-
-#[test]
-fn runs_of_texts(rt: HostRuntime) -> Result<(), Fail> {
-    let alloc = rt.alloc();
-    let mut ctx = Context::new(alloc);
-    runs_in(&rt, alloc, &mut ctx)
 }
 
 /// What is seen of the run of the tree.
 fn seen(
+    rt: &impl Abort,
     alloc: Global,
     ctx: &Context,
     root: Ptr<Operation>,
     asked: (&str, &str),
     fuel: usize,
-) -> Result<Sight, AllocError> {
-    let inputs = data(alloc, asked.0)?;
-    evaluate::<Tiny>(alloc, ctx, root, inputs, data(alloc, asked.1)?, fuel)
+) -> Sight {
+    let inputs = data(rt, alloc, asked.0);
+    evaluate::<Tiny>(alloc, ctx, root, inputs, data(rt, alloc, asked.1), fuel).expect(rt, "memory")
 }
 
-fn trees_in(rt: &impl Abort, alloc: Global, ctx: &mut Context) -> Result<(), Fail> {
+fn trees_in(rt: &impl Abort, alloc: Global, ctx: &mut Context) {
     for case in TREES.lines() {
         let (asked, want) = sides(rt, case);
         let (steps, inputs, world) = last_fields(rt, asked);
-        let root = build(rt, alloc, ctx, steps)?;
-        let got = seen(alloc, ctx, root, (inputs, world), ENOUGH)?;
-        assert_eq!(rt; got, sight(rt, alloc, want)?, "{case}");
+        let root = build(rt, alloc, ctx, steps);
+        let got = seen(rt, alloc, ctx, root, (inputs, world), ENOUGH);
+        assert_eq!(rt; got, sight(rt, alloc, want), "{case}");
     }
-    let root = build(rt, alloc, ctx, LOOP)?;
+    let root = build(rt, alloc, ctx, LOOP);
     for case in BOUNDS.lines() {
         let (fuel, effects) = case.split_once(" =>").expect(rt, "a case");
-        let got = seen(alloc, ctx, root, ("", "8 8 8"), number(rt, fuel))?;
-        assert_eq!(rt; got, Sight::Reached(data(alloc, effects)?), "{case}");
+        let got = seen(rt, alloc, ctx, root, ("", "8 8 8"), number(rt, fuel));
+        assert_eq!(rt; got, Sight::Reached(data(rt, alloc, effects)), "{case}");
     }
-    Ok(())
-}
-
-#[test]
-fn runs_of_trees(rt: HostRuntime) -> Result<(), Fail> {
-    let alloc = rt.alloc();
-    let mut ctx = Context::new(alloc);
-    trees_in(&rt, alloc, &mut ctx)
 }
 
 /// A root that was erased traps, and a constant's text is given as it is.
-fn roots_in(rt: &impl Abort, alloc: Global, ctx: &mut Context) -> Result<(), Fail> {
-    let root = build(rt, alloc, ctx, "0 / ask")?;
+fn roots_in(rt: &impl Abort, alloc: Global, ctx: &mut Context) {
+    let root = build(rt, alloc, ctx, "0 / ask");
     assert!(rt; root.is_live(ctx));
     assert!(rt; root.is_self_contained(ctx));
     IRRewriter::new().erase_operation(ctx, root);
-    let got = seen(alloc, ctx, root, ("4", "2"), ENOUGH)?;
+    let got = seen(rt, alloc, ctx, root, ("4", "2"), ENOUGH);
     assert_eq!(rt; got, Sight::Trapped(Vec::new(alloc)));
     let mut attrs = Vec::new(alloc);
-    attrs.push(AttrObj::Text(Text::new(String::from_str(alloc, "ab")?)))?;
+    attrs
+        .push(AttrObj::Text(Text::new(String::from_str(alloc, "ab").expect(rt, "memory"))))
+        .expect(rt, "memory");
     let head = Head {
         kind: TinyKind::Const.number(),
         ssa: true,
         attrs: Attrs::new(attrs),
     };
-    let root = Operation::create(ctx, head, 1, 0)?;
-    let got = seen(alloc, ctx, root, ("", ""), ENOUGH)?;
-    assert_eq!(rt; got, Sight::Ended(data(alloc, "ab")?, Vec::new(alloc)));
-    Ok(())
+    let root = Operation::create(ctx, head, 1, 0).expect(rt, "memory");
+    let got = seen(rt, alloc, ctx, root, ("", ""), ENOUGH);
+    assert_eq!(rt; got, Sight::Ended(data(rt, alloc, "ab"), Vec::new(alloc)));
 }
 
 #[test]
-fn erased_roots_and_texts(rt: HostRuntime) -> Result<(), Fail> {
+fn runs_of_texts_and_trees(rt: HostRuntime) {
     let alloc = rt.alloc();
     let mut ctx = Context::new(alloc);
-    roots_in(&rt, alloc, &mut ctx)
+    runs_in(&rt, alloc, &mut ctx);
+    trees_in(&rt, alloc, &mut ctx);
+    roots_in(&rt, alloc, &mut ctx);
 }

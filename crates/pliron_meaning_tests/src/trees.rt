@@ -15,7 +15,6 @@ use pliron_core::{
 use pliron_meaning::TinyKind;
 use std::alloc::Global;
 use std::process::Abort;
-use std::test::Fail;
 
 /// What was made.
 #[derive(Drop)]
@@ -53,12 +52,13 @@ impl Made {
 
 /// A new operation of this kind, with the number for its attribute.
 fn operation(
+    rt: &impl Abort,
     alloc: Global,
     ctx: &mut Context,
     made: &mut Made,
     name: &str,
     number: i128,
-) -> Result<Ptr<Operation>, Fail> {
+) -> Ptr<Operation> {
     let (kind, results, regions) = match name {
         "const" => (TinyKind::Const.number(), 1, 0),
         "ask" => (TinyKind::Ask.number(), 1, 0),
@@ -67,18 +67,18 @@ fn operation(
         _ => (u32::try_from(number).unwrap_or(u32::MAX), 1, 0),
     };
     let mut attrs = Vec::new(alloc);
-    attrs.push(AttrObj::Int(number))?;
+    attrs.push(AttrObj::Int(number)).expect(rt, "memory");
     let head = Head {
         kind,
         ssa: true,
         attrs: Attrs::new(attrs),
     };
-    let op = Operation::create(ctx, head, results, regions)?;
-    made.operations.push(op)?;
+    let op = Operation::create(ctx, head, results, regions).expect(rt, "memory");
+    made.operations.push(op).expect(rt, "memory");
     if results == 1 {
-        made.values.push(op.get_result(ctx, 0))?;
+        made.values.push(op.get_result(ctx, 0)).expect(rt, "memory");
     }
-    Ok(op)
+    op
 }
 
 /// A new last block of the operation's region.
@@ -88,16 +88,17 @@ fn block(
     made: &mut Made,
     op: Ptr<Operation>,
     arguments: usize,
-) -> Result<(), Fail> {
+) {
     assert!(rt; op.is_live(ctx));
     assert_eq!(rt; op.num_region(ctx), 1);
-    let block = BasicBlock::create(ctx, op.get_region(ctx, 0), arguments)?;
-    made.blocks.push(block)?;
+    let block = BasicBlock::create(ctx, op.get_region(ctx, 0), arguments).expect(rt, "memory");
+    made.blocks.push(block).expect(rt, "memory");
     assert!(rt; block.is_live(ctx));
     for i in 0..block.num_argument(ctx) {
-        made.values.push(block.get_argument(ctx, i))?;
+        made.values
+            .push(block.get_argument(ctx, i))
+            .expect(rt, "memory");
     }
-    Ok(())
 }
 
 /// The operation becomes the last of the block.
@@ -109,13 +110,7 @@ fn put(rt: &impl Abort, ctx: &mut Context, op: Ptr<Operation>, block: Ptr<BasicB
 }
 
 /// The operation gets its place, an operand or a successor.
-fn give(
-    rt: &impl Abort,
-    ctx: &mut Context,
-    made: &Made,
-    op: Ptr<Operation>,
-    word: &str,
-) -> Result<(), Fail> {
+fn give(rt: &impl Abort, ctx: &mut Context, made: &Made, op: Ptr<Operation>, word: &str) {
     if let Some(index) = word.strip_prefix('@') {
         put(rt, ctx, op, made.block(rt, index));
     }
@@ -123,25 +118,18 @@ fn give(
         let value = made.value(rt, index);
         assert!(rt; op.is_live(ctx));
         assert!(rt; value.is_live(ctx));
-        Operation::push_operand(ctx, op, value)?;
+        Operation::push_operand(ctx, op, value).expect(rt, "memory");
     }
     if let Some(index) = word.strip_prefix('b') {
         let block = made.block(rt, index);
         assert!(rt; op.is_live(ctx));
         assert!(rt; block.is_live(ctx));
-        Operation::push_successor(ctx, op, block)?;
+        Operation::push_successor(ctx, op, block).expect(rt, "memory");
     }
-    Ok(())
 }
 
 /// Does a step.
-fn step(
-    rt: &impl Abort,
-    alloc: Global,
-    ctx: &mut Context,
-    made: &mut Made,
-    text: &str,
-) -> Result<(), Fail> {
+fn step(rt: &impl Abort, alloc: Global, ctx: &mut Context, made: &mut Made, text: &str) {
     let (name, rest) = text.split_once(' ').unwrap_or((text, ""));
     if name == "block" {
         let (op, arguments) = rest.split_once(' ').unwrap_or((rest, "0"));
@@ -152,12 +140,18 @@ fn step(
     let op = if name == "on" {
         made.operation(rt, first)
     } else {
-        operation(alloc, ctx, made, name, first.parse::<i128>().unwrap_or(0))?
+        operation(
+            rt,
+            alloc,
+            ctx,
+            made,
+            name,
+            first.parse::<i128>().unwrap_or(0),
+        )
     };
     for word in rest.split_ascii_whitespace() {
-        give(rt, ctx, made, op, word)?;
+        give(rt, ctx, made, op, word);
     }
-    Ok(())
 }
 
 /// Does the steps, which `; ` sets apart.
@@ -167,11 +161,10 @@ pub(crate) fn make(
     ctx: &mut Context,
     made: &mut Made,
     steps: &str,
-) -> Result<(), Fail> {
+) {
     for text in steps.split(';') {
-        step(rt, alloc, ctx, made, text.trim())?;
+        step(rt, alloc, ctx, made, text.trim());
     }
-    Ok(())
 }
 
 /// Does the steps behind a number, and answers the operation with this number.
@@ -180,9 +173,9 @@ pub(crate) fn build(
     alloc: Global,
     ctx: &mut Context,
     case: &str,
-) -> Result<Ptr<Operation>, Fail> {
+) -> Ptr<Operation> {
     let (index, steps) = fields(rt, case);
     let mut made = Made::new(alloc);
-    make(rt, alloc, ctx, &mut made, steps)?;
-    Ok(made.operation(rt, index))
+    make(rt, alloc, ctx, &mut made, steps);
+    made.operation(rt, index)
 }

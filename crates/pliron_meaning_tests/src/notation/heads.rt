@@ -1,9 +1,8 @@
 //! The operations that a text makes: by their heads, and by how much they have of what.
-use crate::cases::{fields, operation_at, read, sides};
+use crate::cases::{check, fields, operation_at, read, sides};
 use pliron_core::{AttrObj, Context, Operation, Ptr};
 use std::alloc::Global;
 use std::process::Abort;
-use std::test::Fail;
 
 /// The place of an operation and its text, and its kind, whether it has dominance, its only attribute if
 /// it has one, and how many operands, results, successors and regions it has. A `mod` alone has no
@@ -43,9 +42,9 @@ fn number_of(rt: &impl Abort, ctx: &Context, op: Ptr<Operation>) -> Option<i128>
     }
 }
 
-fn head_in(rt: &impl Abort, alloc: Global, case: &str, ctx: &mut Context) -> Result<String, Fail> {
+fn head(rt: &impl Abort, alloc: Global, ctx: &mut Context, case: &str) -> String {
     let (place, text) = fields(rt, case);
-    let root = read(rt, alloc, ctx, text)?;
+    let root = read(rt, alloc, ctx, text);
     let op = operation_at(rt, ctx, root, place);
     assert!(rt; op.is_live(ctx));
     let counts = [
@@ -56,21 +55,7 @@ fn head_in(rt: &impl Abort, alloc: Global, case: &str, ctx: &mut Context) -> Res
     ];
     let number = number_of(rt, ctx, op);
     let head = op.head(ctx);
-    Ok(format!(in alloc; "{} {} {number:?} {counts:?}", head.kind, head.ssa)?)
-}
-
-fn head(rt: &impl Abort, alloc: Global, case: &str) -> Result<String, Fail> {
-    let mut ctx = Context::new(alloc);
-    head_in(rt, alloc, case, &mut ctx)
-}
-
-#[test]
-fn heads_of_operations(rt: HostRuntime) -> Result<(), Fail> {
-    for case in HEADS.lines() {
-        let (asked, want) = sides(&rt, case);
-        assert_eq!(&rt; head(&rt, rt.alloc(), asked)?.as_str(), want, "{case}");
-    }
-    Ok(())
+    format!(in alloc; "{} {} {number:?} {counts:?}", head.kind, head.ssa).expect(rt, "memory")
 }
 
 /// The operands are the block's arguments in order, and the successors are the two blocks after it.
@@ -96,17 +81,24 @@ fn check_branch(rt: &impl Abort, ctx: &Context, op: Ptr<Operation>) {
 static BRANCHES: &str = "func { b0(c, x, y, z): cbr c b1(x, y) b2(z); b1(p, q):; b2(r): }
 func { b0(c): fork c b1 b2; b1():; b2(): }";
 
-fn order_in(rt: &impl Abort, alloc: Global, ctx: &mut Context) -> Result<(), Fail> {
+fn heads_in(rt: &impl Abort, alloc: Global, ctx: &mut Context) {
+    for case in HEADS.lines() {
+        let (asked, want) = sides(rt, case);
+        check(rt, head(rt, alloc, ctx, asked).as_str(), want, case);
+    }
+}
+
+fn order_in(rt: &impl Abort, alloc: Global, ctx: &mut Context) {
     for text in BRANCHES.lines() {
-        let root = read(rt, alloc, ctx, text)?;
+        let root = read(rt, alloc, ctx, text);
         check_branch(rt, ctx, operation_at(rt, ctx, root, "0"));
     }
-    Ok(())
 }
 
 #[test]
-fn operands_and_successors_in_order(rt: HostRuntime) -> Result<(), Fail> {
+fn heads_operands_and_successors(rt: HostRuntime) {
     let alloc = rt.alloc();
     let mut ctx = Context::new(alloc);
-    order_in(&rt, alloc, &mut ctx)
+    heads_in(&rt, alloc, &mut ctx);
+    order_in(&rt, alloc, &mut ctx);
 }

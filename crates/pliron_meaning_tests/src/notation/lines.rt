@@ -1,7 +1,6 @@
 //! Texts and the lines that they are printed as.
 use super::printed;
-use crate::cases::sides;
-use std::test::Fail;
+use crate::cases::{check, sides};
 
 /// Blanks, ends of lines as `|`, and names.
 static LAYOUTS: &str =
@@ -107,22 +106,20 @@ mod { b0(): func { b0(): ret }; b1(): func { b0(): ret } }";
 
 /// Each text is printed as its line, and this once more in the same way.
 #[test]
-fn texts_and_their_lines(rt: HostRuntime) -> Result<(), Fail> {
+fn texts_and_their_lines(rt: HostRuntime) {
     let alloc = rt.alloc();
     for table in [LAYOUTS, KINDS, JUMPS, BRANCHES, REGIONS] {
         for case in table.lines() {
             let (text, want) = sides(&rt, case);
-            assert_eq!(&rt; printed(alloc, text)?.as_str(), want);
-            assert_eq!(&rt; printed(alloc, want)?.as_str(), want);
+            check(&rt, printed(&rt, alloc, text).as_str(), want, case);
+            check(&rt, printed(&rt, alloc, want).as_str(), want, case);
         }
     }
-    Ok(())
 }
 
 #[test]
-fn printed_lines(rt: HostRuntime) -> Result<(), Fail> {
+fn printed_lines(rt: HostRuntime) {
     for line in PRINTED.lines() {
-        assert_eq!(&rt; printed(rt.alloc(), line)?.as_str(), line);
+        check(&rt, printed(&rt, rt.alloc(), line).as_str(), line, line);
     }
-    Ok(())
 }

@@ -2,7 +2,6 @@
 //! one that is read. `|` stands for the end of a line.
 use super::printed;
 use crate::cases::sides;
-use std::test::Fail;
 
 /// Blocks and their arguments.
 static BLOCKS: &str = "mod => mod { }
@@ -203,20 +202,19 @@ func { b0(): a = const } => func { b0(): a = const 0 }
 func { b0(a): b = const a } => func { b0(a): b = const 0 }";
 
 #[test]
-fn rules_broken_and_kept(rt: HostRuntime) -> Result<(), Fail> {
+fn rules_broken_and_kept(rt: HostRuntime) {
     let alloc = rt.alloc();
     for table in [BLOCKS, OPERANDS, EDGES, PLACES, MEANINGS, NAMES, NUMBERS] {
         for case in table.lines() {
             let (broken, kept) = sides(&rt, case);
             assert!(&rt;
-                printed(alloc, broken)?.as_str() == "unreadable",
+                printed(&rt, alloc, broken).as_str() == "unreadable",
                 "readable: {broken}"
             );
             assert!(&rt;
-                printed(alloc, kept)?.as_str() != "unreadable",
+                printed(&rt, alloc, kept).as_str() != "unreadable",
                 "unreadable: {kept}"
             );
         }
     }
-    Ok(())
 }

@@ -1,15 +1,17 @@
 //! Words and bytes, each where it is read and where it is not.
 use super::printed_bytes;
 use std::alloc::Global;
-use std::test::Fail;
+use std::process::Abort;
 
 /// Whether the text with this piece at its place is read.
-fn is_read(alloc: Global, piece: &[u8], around: (&str, &str)) -> Result<bool, Fail> {
+fn is_read(rt: &impl Abort, alloc: Global, piece: &[u8], around: (&str, &str)) -> bool {
     let mut text = Vec::new(alloc);
-    text.extend_from_slice(around.0.as_bytes())?;
-    text.extend_from_slice(piece)?;
-    text.extend_from_slice(around.1.as_bytes())?;
-    Ok(printed_bytes(alloc, text.as_slice())?.as_str() != "unreadable")
+    text.extend_from_slice(around.0.as_bytes())
+        .expect(rt, "memory");
+    text.extend_from_slice(piece).expect(rt, "memory");
+    text.extend_from_slice(around.1.as_bytes())
+        .expect(rt, "memory");
+    printed_bytes(rt, alloc, text.as_slice()).as_str() != "unreadable"
 }
 
 /// Words that are no names.
@@ -17,7 +19,7 @@ static WORDS: &str = "mod func const add mul div read print pair sink scope box 
 
 /// No word of the notation is a name, and each is one with a letter more.
 #[test]
-fn words_that_are_no_names(rt: HostRuntime) -> Result<(), Fail> {
+fn words_that_are_no_names(rt: HostRuntime) {
     let alloc = rt.alloc();
     for around in [
         ("func { b0(): ", " = read }"),
@@ -25,23 +27,22 @@ fn words_that_are_no_names(rt: HostRuntime) -> Result<(), Fail> {
         ("func { ", "(): }"),
     ] {
         for word in WORDS.split_ascii_whitespace() {
-            let longer = format!(in alloc; "{word}_")?;
+            let longer = format!(in alloc; "{word}_").expect(&rt, "memory");
             assert!(&rt;
-                !is_read(alloc, word.as_bytes(), around)?,
+                !is_read(&rt, alloc, word.as_bytes(), around),
                 "readable: {word}"
             );
             assert!(&rt;
-                is_read(alloc, longer.as_bytes(), around)?,
+                is_read(&rt, alloc, longer.as_bytes(), around),
                 "unreadable: {longer}"
             );
         }
     }
-    Ok(())
 }
 
 /// Each byte as a blank, as the first letter of a name and as a later one.
 #[test]
-fn bytes(rt: HostRuntime) -> Result<(), Fail> {
+fn bytes(rt: HostRuntime) {
     let alloc = rt.alloc();
     for byte in 0..=255_u8 {
         let is_blank = byte == b' ' || byte == b'\t' || byte == b'\r' || byte == b'\n';
@@ -54,11 +55,10 @@ fn bytes(rt: HostRuntime) -> Result<(), Fail> {
         ];
         for (around, want) in &table {
             assert!(&rt;
-                is_read(alloc, &[byte], *around)? == *want,
+                is_read(&rt, alloc, &[byte], *around) == *want,
                 "byte {byte} in {}",
                 around.0
             );
         }
     }
-    Ok(())
 }
