@@ -2,7 +2,6 @@
 use crate::texts::{Case, expect_run, with_lines};
 use std::alloc::Global;
 use std::process::Abort;
-use std::test::Fail;
 
 /// The program ends with this status on the graph, and has written and reported this. `|` stands for the
 /// end of a line.
@@ -13,15 +12,15 @@ fn expect_graph(
     status: u8,
     written: &str,
     reported: &str,
-) -> Result<(), Fail> {
-    let bytes = with_lines(alloc, text)?;
+) {
+    let bytes = with_lines(rt, alloc, text);
     let case = Case {
         args: &["graph"],
         text: bytes.as_slice(),
         failing_read: 0,
         failing_write: 0,
     };
-    expect_run(rt, alloc, &case, status, written, reported)
+    expect_run(rt, alloc, &case, status, written, reported);
 }
 
 /// Graphs, and what is written of them.
@@ -33,12 +32,11 @@ static GRAPHS: &str =
 7: 4294967295 7 4294967295|4294967295: 7| => post-order: [4294967295 7]|topological: [7 4294967295]|numbers: 7=0/1 4294967295=1/0|edges: 7>4294967295:Forward 7>7:Back 7>4294967295:Forward 4294967295>7:Back|components: [4294967295 7]*|pre-sentinels: 4294967295|";
 
 #[test]
-fn worked_graphs(rt: HostRuntime) -> Result<(), Fail> {
+fn worked_graphs(rt: HostRuntime) {
     for case in GRAPHS.lines() {
         let (text, written) = case.split_once(" => ").expect(&rt, "a case");
-        expect_graph(&rt, rt.alloc(), text, 0, written, "")?;
+        expect_graph(&rt, rt.alloc(), text, 0, written, "");
     }
-    Ok(())
 }
 
 /// Texts that cannot be read, one a line.
@@ -67,9 +65,8 @@ a:
 0:|1: 2|";
 
 #[test]
-fn unreadable_graphs(rt: HostRuntime) -> Result<(), Fail> {
+fn unreadable_graphs(rt: HostRuntime) {
     for text in UNREADABLE.lines() {
-        expect_graph(&rt, rt.alloc(), text, 2, "", "unreadable text|")?;
+        expect_graph(&rt, rt.alloc(), text, 2, "", "unreadable text|");
     }
-    Ok(())
 }

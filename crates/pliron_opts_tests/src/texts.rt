@@ -1,9 +1,8 @@
 //! The program on texts, arguments and failing streams.
 use crate::streams::{Input, Output};
 use pliron_opts::{OptError, plir_run};
-use std::alloc::{AllocError, Global};
+use std::alloc::Global;
 use std::process::Abort;
-use std::test::Fail;
 
 /// What the program is run on. The `failing_read`th read or the `failing_write`th write fails, counted
 /// from 1.
@@ -16,12 +15,14 @@ pub struct Case<'t> {
 }
 
 /// The bytes of the text, in which `|` stands for the end of a line.
-pub fn with_lines(alloc: Global, text: &str) -> Result<Vec<u8>, AllocError> {
+pub fn with_lines(rt: &impl Abort, alloc: Global, text: &str) -> Vec<u8> {
     let mut bytes = Vec::new(alloc);
     for byte in text.as_bytes() {
-        bytes.push(if *byte == b'|' { b'\n' } else { *byte })?;
+        bytes
+            .push(if *byte == b'|' { b'\n' } else { *byte })
+            .expect(rt, "memory");
     }
-    Ok(bytes)
+    bytes
 }
 
 /// The program ends with this status, and has written these texts to the output and to the errors.
@@ -32,10 +33,11 @@ pub fn expect_run(
     status: u8,
     written: &str,
     reported: &str,
-) -> Result<(), Fail> {
+) {
     let mut args = Vec::new(alloc);
     for arg in case.args {
-        args.push(String::from_str(alloc, arg)?)?;
+        args.push(String::from_str(alloc, arg).expect(rt, "memory"))
+            .expect(rt, "memory");
     }
     let mut input = Input::new(case.text, case.failing_read);
     let mut output = Output::new(alloc, case.failing_write);
@@ -45,15 +47,14 @@ pub fn expect_run(
     assert_eq!(rt; got, status, "{text}");
     assert_eq!(rt;
         output.text(),
-        with_lines(alloc, written)?.as_slice(),
+        with_lines(rt, alloc, written).as_slice(),
         "{text}"
     );
     assert_eq!(rt;
         errors.text(),
-        with_lines(alloc, reported)?.as_slice(),
+        with_lines(rt, alloc, reported).as_slice(),
         "{text}"
     );
-    Ok(())
 }
 
 fn propagation(text: &[u8]) -> Case<'_> {
@@ -75,7 +76,7 @@ func{b0():a=const -9223372036854775808;b=add a a;ret} => func { b0(): v0 = const
 func { a(): a = const 7; ret a a } => func { b0(): v0 = const 7; ret v0 v0 }|unchanged|";
 
 #[test]
-fn rows(rt: HostRuntime) -> Result<(), Fail> {
+fn rows(rt: HostRuntime) {
     for case in ROWS.lines() {
         let (text, written) = case.split_once(" => ").expect(&rt, "a case");
         expect_run(
@@ -85,9 +86,8 @@ fn rows(rt: HostRuntime) -> Result<(), Fail> {
             0,
             written,
             "",
-        )?;
+        );
     }
-    Ok(())
 }
 
 /// Texts that cannot be read, one a line. The first is empty.
@@ -120,7 +120,7 @@ func { b0(): \u{e4} = const 1; ret }
 func { b0(): a234567890123456789012345678901234567890123456789012345678901234x = const 1; ret }";
 
 #[test]
-fn unreadable(rt: HostRuntime) -> Result<(), Fail> {
+fn unreadable(rt: HostRuntime) {
     for text in UNREADABLE.lines() {
         expect_run(
             &rt,
@@ -129,7 +129,7 @@ fn unreadable(rt: HostRuntime) -> Result<(), Fail> {
             2,
             "",
             "unreadable text|",
-        )?;
+        );
     }
     let longest =
         "func { b0(): a23456789012345678901234567890123456789012345678901234567890123x = const 1; ret }";
@@ -145,17 +145,19 @@ fn unreadable(rt: HostRuntime) -> Result<(), Fail> {
 }
 
 /// A text followed by so many blanks.
-fn padded(alloc: Global, text: &str, blanks: usize) -> Result<Vec<u8>, Fail> {
-    let mut padded = Vec::from_slice(alloc, text.as_bytes())?;
-    padded.resize(text.len().saturating_add(blanks), b' ')?;
-    Ok(padded)
+fn padded(rt: &impl Abort, alloc: Global, text: &str, blanks: usize) -> Vec<u8> {
+    let mut padded = Vec::from_slice(alloc, text.as_bytes()).expect(rt, "memory");
+    padded
+        .resize(text.len().saturating_add(blanks), b' ')
+        .expect(rt, "memory");
+    padded
 }
 
 #[test]
-fn reads_no_more_than_one_byte_past_the_limit(rt: HostRuntime) -> Result<(), Fail> {
+fn reads_no_more_than_one_byte_past_the_limit(rt: HostRuntime) {
     let text = "func { b0(): ret }";
     let alloc = rt.alloc();
-    let longest = padded(alloc, text, 1_048_576 - 18)?;
+    let longest = padded(&rt, alloc, text, 1_048_576 - 18);
     expect_run(
         &rt,
         alloc,
@@ -163,12 +165,13 @@ fn reads_no_more_than_one_byte_past_the_limit(rt: HostRuntime) -> Result<(), Fai
         0,
         "func { b0(): ret }|unchanged|",
         "",
-    )?;
-    let longer = padded(alloc, text, 1_048_577 - 18)?;
-    expect_run(&rt, alloc, &propagation(&longer), 2, "", "unreadable text|")?;
-    let longest_by_far = padded(alloc, text, 1_100_000)?;
+    );
+    let longer = padded(&rt, alloc, text, 1_048_577 - 18);
+    expect_run(&rt, alloc, &propagation(&longer), 2, "", "unreadable text|");
+    let longest_by_far = padded(&rt, alloc, text, 1_100_000);
     let mut args = Vec::new(alloc);
-    args.push(String::from_str(alloc, "sccp")?)?;
+    args.push(String::from_str(alloc, "sccp").expect(&rt, "memory"))
+        .expect(&rt, "memory");
     let mut input = Input::new(&longest_by_far, 0);
     let mut output = Output::new(alloc, 0);
     let mut errors = Output::new(alloc, 0);
@@ -180,11 +183,10 @@ fn reads_no_more_than_one_byte_past_the_limit(rt: HostRuntime) -> Result<(), Fai
         longest_by_far.len().saturating_sub(input.left()),
         1_048_577
     );
-    Ok(())
 }
 
 #[test]
-fn bad_arguments(rt: HostRuntime) -> Result<(), Fail> {
+fn bad_arguments(rt: HostRuntime) {
     let usage = "usage: plir_opt LIST, or plir_opt graph|";
     let lists: [&[&str]; 8] = [
         &[],
@@ -204,22 +206,21 @@ fn bad_arguments(rt: HostRuntime) -> Result<(), Fail> {
             failing_read: 1,
             failing_write: 1,
         };
-        expect_run(&rt, rt.alloc(), &case, 2, "", usage)?;
+        expect_run(&rt, rt.alloc(), &case, 2, "", usage);
     }
-    Ok(())
 }
 
 #[test]
-fn failing_streams(rt: HostRuntime) -> Result<(), Fail> {
+fn failing_streams(rt: HostRuntime) {
     let text = b"func { b0(): a = const 1; ret a }";
     let printed = "func { b0(): v0 = const 1; ret v0 }|unchanged|";
     let mut case = propagation(text);
     for kth in [1u32, 2, 4] {
         case.failing_read = kth;
-        expect_run(&rt, rt.alloc(), &case, 2, "", "cannot read standard input|")?;
+        expect_run(&rt, rt.alloc(), &case, 2, "", "cannot read standard input|");
     }
     case.failing_read = 1000;
-    expect_run(&rt, rt.alloc(), &case, 0, printed, "")?;
+    expect_run(&rt, rt.alloc(), &case, 0, printed, "");
     for (kth, written) in [(1u32, ""), (2, "func { b"), (3, "func { b0(): v0 ")] {
         case.failing_write = kth;
         expect_run(
@@ -229,13 +230,12 @@ fn failing_streams(rt: HostRuntime) -> Result<(), Fail> {
             2,
             written,
             "cannot write standard output|",
-        )?;
+        );
     }
-    Ok(())
 }
 
 #[test]
-fn a_failed_report_is_ignored(rt: HostRuntime) -> Result<(), Fail> {
+fn a_failed_report_is_ignored(rt: HostRuntime) {
     let alloc = rt.alloc();
     let mut input = Input::new(b"", 0);
     let mut output = Output::new(alloc, 0);
@@ -243,7 +243,6 @@ fn a_failed_report_is_ignored(rt: HostRuntime) -> Result<(), Fail> {
     let status = plir_run(alloc, &[], &mut input, &mut output, &mut errors);
     assert_eq!(rt; status, 2);
     assert_eq!(rt; errors.text(), b"".as_slice());
-    Ok(())
 }
 
 static FAULTS: &str = "want of memory
@@ -253,7 +252,7 @@ verification failed after the pass
 the pass failed with code 7";
 
 #[test]
-fn texts_of_faults(rt: HostRuntime) -> Result<(), Fail> {
+fn texts_of_faults(rt: HostRuntime) {
     let faults = [
         OptError::Memory,
         OptError::LiveUse,
@@ -262,7 +261,11 @@ fn texts_of_faults(rt: HostRuntime) -> Result<(), Fail> {
         OptError::Pass(7),
     ];
     for (fault, want) in faults.iter().zip(FAULTS.lines()) {
-        assert_eq!(&rt; format!(in rt.alloc(); "{fault}")?.as_str(), want);
+        assert_eq!(&rt;
+            format!(in rt.alloc(); "{fault}")
+                .expect(&rt, "memory")
+                .as_str(),
+            want
+        );
     }
-    Ok(())
 }
