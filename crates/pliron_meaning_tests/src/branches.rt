@@ -119,14 +119,14 @@ fn losses_in(rt: &impl Abort, alloc: Global, ctx: &mut Context) {
         let (edge, place) = fields(rt, asked);
         let root = read(rt, alloc, ctx, BRANCH);
         let op = operation_at(rt, ctx, root, "0");
-        lose::<Bench>(rt, alloc, ctx, op, number(rt, edge), number(rt, place));
+        lose::<Bench>(rt, alloc, ctx, op, number(rt, edge), number(rt, place)).expect(rt, "memory");
         check(rt, line(rt, alloc, ctx, root).as_str(), want, case);
     }
     for case in FORWARDED.lines() {
         let (place, want) = sides(rt, case);
         let root = read(rt, alloc, ctx, JUMP);
         let op = operation_at(rt, ctx, root, "0");
-        lose_along::<Bench>(rt, alloc, ctx, op, number(rt, place));
+        lose_along::<Bench>(rt, alloc, ctx, op, number(rt, place)).expect(rt, "memory");
         check(rt, line(rt, alloc, ctx, root).as_str(), want, case);
     }
 }

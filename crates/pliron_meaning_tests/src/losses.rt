@@ -1,6 +1,6 @@
 //! Branches that lose a value which they forward.
 use pliron_core::{Context, Operation, Ptr};
-use pliron_meaning::{Dialect, lose_forwarded};
+use pliron_meaning::{Dialect, OptError, lose_forwarded};
 use std::alloc::Global;
 use std::process::Abort;
 
@@ -12,14 +12,15 @@ pub(crate) fn lose<D: Dialect>(
     op: Ptr<Operation>,
     i: usize,
     j: usize,
-) {
+) -> Result<(), OptError> {
     assert!(rt; op.is_live(ctx));
     assert!(rt; D::is_branch(op, ctx));
     assert!(rt; i < op.num_successor(ctx));
-    let values = D::successor_operands(alloc, op, ctx, i).expect(rt, "memory");
+    let values = D::successor_operands(alloc, op, ctx, i)?;
     assert!(rt; j < values.len());
     let value = D::remove_successor_operand(op, ctx, i, j);
     assert_eq!(rt; value, values[j]);
+    Ok(())
 }
 
 /// The only edge to the operation's first successor loses the operand that it forwards at place j, if it
@@ -30,7 +31,7 @@ pub(crate) fn lose_along<D: Dialect>(
     ctx: &mut Context,
     op: Ptr<Operation>,
     j: usize,
-) {
+) -> Result<(), OptError> {
     assert!(rt; op.is_live(ctx));
     assert!(rt; op.num_successor(ctx) > 0);
     let block = op.get_successor(ctx, 0);
@@ -40,6 +41,7 @@ pub(crate) fn lose_along<D: Dialect>(
     assert!(rt; D::admits(op, ctx));
     assert!(rt; D::is_branch(op, ctx));
     assert!(rt; edge < op.num_successor(ctx));
-    let values = D::successor_operands(alloc, op, ctx, edge).expect(rt, "memory");
+    let values = D::successor_operands(alloc, op, ctx, edge)?;
     lose_forwarded::<D>(ctx, block, j, &[j < values.len()]);
+    Ok(())
 }

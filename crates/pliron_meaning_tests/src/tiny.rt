@@ -184,7 +184,7 @@ fn loss_in(rt: &impl Abort, alloc: Global, ctx: &mut Context) {
     let op = made.operation(rt, "2");
     let value = made.value(rt, "1");
     check_forwarded(rt, alloc, ctx, op, &[value, value]);
-    lose::<Tiny>(rt, alloc, ctx, op, 0, 0);
+    lose::<Tiny>(rt, alloc, ctx, op, 0, 0).expect(rt, "memory");
     check_forwarded(rt, alloc, ctx, op, &[value])
 }
 
