@@ -1,25 +1,39 @@
 //! The texts of the faults, and what becomes want of memory.
+use crate::cases::sides;
 use pliron_core::NoMemory;
 use pliron_meaning::OptError;
-use std::alloc::{AllocError, Global};
+use std::alloc::AllocError;
+
+static TEXTS: &str = "Memory => want of memory
+LiveUse => a value of an unreachable block is used
+VerifyBefore => verification failed before the pass
+VerifyAfter => verification failed after the pass
+Pass(7) => the pass failed with code 7";
 
 #[test]
-fn texts_of_the_five_faults(rt: HostRuntime) -> Result<(), AllocError> {
-    let alloc: Global = rt.alloc();
-    let table = [
-        (OptError::Memory, "want of memory"),
-        (OptError::LiveUse, "a value of an unreachable block is used"),
-        (
-            OptError::VerifyBefore,
-            "verification failed before the pass",
-        ),
-        (OptError::VerifyAfter, "verification failed after the pass"),
-        (OptError::Pass(7), "the pass failed with code 7"),
+fn texts_of_the_five_faults(rt: HostRuntime) {
+    let faults = [
+        OptError::Memory,
+        OptError::LiveUse,
+        OptError::VerifyBefore,
+        OptError::VerifyAfter,
+        OptError::Pass(7),
     ];
-    for (fault, text) in &table {
-        assert_eq!(rt; fault.to_string(alloc)?.as_str(), *text);
+    for (fault, case) in faults.iter().zip(TEXTS.lines()) {
+        let (name, want) = sides(&rt, case);
+        assert_eq!(&rt;
+            format!(in rt.alloc(); "{fault:?}")
+                .expect(&rt, "memory")
+                .as_str(),
+            name
+        );
+        assert_eq!(&rt;
+            format!(in rt.alloc(); "{fault}")
+                .expect(&rt, "memory")
+                .as_str(),
+            want
+        );
     }
-    Ok(())
 }
 
 #[test]

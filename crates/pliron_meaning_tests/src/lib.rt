@@ -5,24 +5,24 @@
 #[cfg(test)]
 mod answers;
 #[cfg(test)]
-mod arguments;
-#[cfg(test)]
 mod bench;
-#[cfg(test)]
-mod bench_runs;
 #[cfg(test)]
 mod branches;
 #[cfg(test)]
-mod edges;
+mod cases;
 #[cfg(test)]
 mod faults;
 #[cfg(test)]
-mod folding;
+mod losses;
+#[cfg(test)]
+mod names;
 #[cfg(test)]
 mod notation;
 #[cfg(test)]
 mod rewrites;
 #[cfg(test)]
 mod runs;
+#[cfg(test)]
+mod tiny;
 #[cfg(test)]
 mod trees;

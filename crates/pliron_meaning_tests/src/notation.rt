@@ -6,44 +6,35 @@ mod refusals;
 mod rules;
 mod tokens;
 
+use pliron_core::Context;
 use pliron_meaning::bench::{print_text, read_text};
 use pliron_meaning::edges_last;
-use pliron_core::Context;
 use std::alloc::Global;
 use std::process::Abort;
-use std::test::Fail;
 
-/// The text of what is read, where edges stand last, or `None` of an unreadable text.
-fn printed(rt: &impl Abort, alloc: Global, text: &[u8]) -> Result<Option<String>, Fail> {
+/// The line of the text, where edges stand last, or `unreadable`. Ends of lines stand as `|` in the text.
+fn printed(rt: &impl Abort, alloc: Global, text: &str) -> String {
+    let mut bytes = Vec::new(alloc);
+    for byte in text.as_bytes() {
+        bytes
+            .push(if *byte == b'|' { b'\n' } else { *byte })
+            .expect(rt, "memory");
+    }
+    printed_bytes(rt, alloc, bytes.as_slice())
+}
+
+/// The line of the bytes, where edges stand last, or `unreadable`.
+fn printed_bytes(rt: &impl Abort, alloc: Global, text: &[u8]) -> String {
     let mut ctx = Context::new(alloc);
-    match read_text(alloc, text, &mut ctx)? {
-        Some(root) => {
-            assert!(rt; root.is_live(&ctx));
-            assert!(rt; edges_last(root, &ctx));
-            Ok(Some(print_text(alloc, root, &ctx)?))
-        }
-        None => Ok(None),
-    }
+    printed_in(rt, alloc, text, &mut ctx)
 }
 
-/// The text is printed so, and this once more in the same way.
-fn check_print(rt: &impl Abort, alloc: Global, text: &str, want: &str) -> Result<(), Fail> {
-    for text in [text, want] {
-        match printed(rt, alloc, text.as_bytes())? {
-            Some(got) => assert_eq!(rt; got.as_str(), want),
-            None => assert!(rt; false, "unreadable: {text}"),
-        }
+fn printed_in(rt: &impl Abort, alloc: Global, text: &[u8], ctx: &mut Context) -> String {
+    let Some(root) = read_text(alloc, text, ctx).expect(rt, "memory") else {
+        return String::from_str(alloc, "unreadable").expect(rt, "memory");
+    };
+    if !edges_last(root, ctx) {
+        return String::from_str(alloc, "edges in mid-block").expect(rt, "memory");
     }
-    Ok(())
-}
-
-/// The first text of each pair is unreadable, the second is read.
-fn check_rules(rt: &impl Abort, alloc: Global, table: &[(&str, &str)]) -> Result<(), Fail> {
-    for (broken, kept) in table {
-        let is_read = printed(rt, alloc, broken.as_bytes())?.is_some();
-        assert!(rt; !is_read, "readable: {broken}");
-        let is_read = printed(rt, alloc, kept.as_bytes())?.is_some();
-        assert!(rt; is_read, "unreadable: {kept}");
-    }
-    Ok(())
+    print_text(alloc, root, ctx).expect(rt, "memory")
 }

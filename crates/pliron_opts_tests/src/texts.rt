@@ -2,12 +2,10 @@
 use crate::streams::{Input, Output};
 use pliron_opts::{OptError, plir_run};
 use std::alloc::Global;
-use std::io;
 use std::process::Abort;
-use std::test::Fail;
 
-/// What the program writes to the output and to the errors, and its status, where the `failing_read`th
-/// read or the `failing_write`th write fails. They are counted from 1.
+/// What the program is run on. The `failing_read`th read or the `failing_write`th write fails, counted
+/// from 1.
 #[derive(Drop)]
 pub struct Case<'t> {
     pub args: &'t [&'t str],
@@ -16,6 +14,18 @@ pub struct Case<'t> {
     pub failing_write: u32,
 }
 
+/// The bytes of the text, in which `|` stands for the end of a line.
+pub fn with_lines(rt: &impl Abort, alloc: Global, text: &str) -> Vec<u8> {
+    let mut bytes = Vec::new(alloc);
+    for byte in text.as_bytes() {
+        bytes
+            .push(if *byte == b'|' { b'\n' } else { *byte })
+            .expect(rt, "memory");
+    }
+    bytes
+}
+
+/// The program ends with this status, and has written these texts to the output and to the errors.
 pub fn expect_run(
     rt: &impl Abort,
     alloc: Global,
@@ -23,10 +33,11 @@ pub fn expect_run(
     status: u8,
     written: &str,
     reported: &str,
-) -> Result<(), Fail> {
+) {
     let mut args = Vec::new(alloc);
     for arg in case.args {
-        args.push(String::from_str(alloc, arg)?)?;
+        args.push(String::from_str(alloc, arg).expect(rt, "memory"))
+            .expect(rt, "memory");
     }
     let mut input = Input::new(case.text, case.failing_read);
     let mut output = Output::new(alloc, case.failing_write);
@@ -34,9 +45,16 @@ pub fn expect_run(
     let got = plir_run(alloc, &args, &mut input, &mut output, &mut errors);
     let text = std::str::from_utf8(case.text).unwrap_or("");
     assert_eq!(rt; got, status, "{text}");
-    assert_eq!(rt; output.text(), written.as_bytes(), "{text}");
-    assert_eq!(rt; errors.text(), reported.as_bytes(), "{text}");
-    Ok(())
+    assert_eq!(rt;
+        output.text(),
+        with_lines(rt, alloc, written).as_slice(),
+        "{text}"
+    );
+    assert_eq!(rt;
+        errors.text(),
+        with_lines(rt, alloc, reported).as_slice(),
+        "{text}"
+    );
 }
 
 fn propagation(text: &[u8]) -> Case<'_> {
@@ -48,31 +66,19 @@ fn propagation(text: &[u8]) -> Case<'_> {
     }
 }
 
+/// Texts, and what is written of them, with ends of lines as `|`.
+static ROWS: &str =
+    "func { b0(): a = const 1; b = const 2; c = add a b; ret c } => func { b0(): v0 = const 1; v1 = const 2; v2 = const 3; v3 = add v0 v1; ret v2 }|changed|
+func { b0(): a = const 9223372036854775807; b = const 1; c = add a b; ret c } => func { b0(): v0 = const 9223372036854775807; v1 = const 1; v2 = const -9223372036854775808; v3 = add v0 v1; ret v2 }|changed|
+func { b0(): ret } => func { b0(): ret }|unchanged|
+func { b0(): a = const 5; b = add a a; c = add b a; ret c b } => func { b0(): v0 = const 5; v1 = const 10; v2 = add v0 v0; v3 = const 15; v4 = add v1 v0; ret v3 v1 }|changed|
+func{b0():a=const -9223372036854775808;b=add a a;ret} => func { b0(): v0 = const -9223372036854775808; v1 = const 0; v2 = add v0 v0; ret }|changed|
+func { a(): a = const 7; ret a a } => func { b0(): v0 = const 7; ret v0 v0 }|unchanged|";
+
 #[test]
-fn rows(rt: HostRuntime) -> Result<(), Fail> {
-    for (text, written) in [
-        (
-            "func { b0(): a = const 1; b = const 2; c = add a b; ret c }",
-            "func { b0(): v0 = const 1; v1 = const 2; v2 = const 3; v3 = add v0 v1; ret v2 }\nchanged\n",
-        ),
-        (
-            "func { b0(): a = const 9223372036854775807; b = const 1; c = add a b; ret c }",
-            "func { b0(): v0 = const 9223372036854775807; v1 = const 1; v2 = const -9223372036854775808; v3 = add v0 v1; ret v2 }\nchanged\n",
-        ),
-        ("func { b0(): ret }", "func { b0(): ret }\nunchanged\n"),
-        (
-            "func { b0(): a = const 5; b = add a a; c = add b a; ret c b }",
-            "func { b0(): v0 = const 5; v1 = const 10; v2 = add v0 v0; v3 = const 15; v4 = add v1 v0; ret v3 v1 }\nchanged\n",
-        ),
-        (
-            "func{b0():a=const -9223372036854775808;b=add a a;ret}",
-            "func { b0(): v0 = const -9223372036854775808; v1 = const 0; v2 = add v0 v0; ret }\nchanged\n",
-        ),
-        (
-            "func { a(): a = const 7; ret a a }",
-            "func { b0(): v0 = const 7; ret v0 v0 }\nunchanged\n",
-        ),
-    ] {
+fn rows(rt: HostRuntime) {
+    for case in ROWS.lines() {
+        let (text, written) = case.split_once(" => ").expect(&rt, "a case");
         expect_run(
             &rt,
             rt.alloc(),
@@ -80,54 +86,54 @@ fn rows(rt: HostRuntime) -> Result<(), Fail> {
             0,
             written,
             "",
-        )?;
+        );
     }
-    Ok(())
 }
 
+/// Texts that cannot be read, one a line. The first is empty.
+static UNREADABLE: &str = "
+func
+func { b0(): a = const 1
+func { }
+func { b0(): a = const 1 }
+func { b0(): c = add a a; a = const 1; ret c }
+func { b0(): a = add a a; ret a }
+func { b0(): ret a; a = const 1; ret a }
+func { b0(): ret; ret }
+func { b0(): ret; b1(): ret }
+func { b0(x): ret x }
+func { b0(): ret b0 }
+func { b0(): a = const 1; a = const 2; ret a }
+func { b0(): a = const 9223372036854775808; ret a }
+func { b0(): a = const -9223372036854775809; ret a }
+func { b0(): a = const -0; ret a }
+func { b0(): a = const 01; ret a }
+func { b0(): a = const -; ret a }
+func { b0(): add = const 1; ret add }
+func { b0(): mul = const 1; ret mul }
+func { b0(): a = read; ret a }
+func { b0(): ret; }
+func { b0(): ret } func { b0(): ret }
+mod { }
+func { b0(): ret # }
+func { b0(): \u{e4} = const 1; ret }
+func { b0(): a234567890123456789012345678901234567890123456789012345678901234x = const 1; ret }";
+
 #[test]
-fn unreadable(rt: HostRuntime) -> Result<(), Fail> {
-    for text in [
-        "",
-        "func",
-        "func { b0(): a = const 1",
-        "func { }",
-        "func { b0(): a = const 1 }",
-        "func { b0(): c = add a a; a = const 1; ret c }",
-        "func { b0(): a = add a a; ret a }",
-        "func { b0(): ret a; a = const 1; ret a }",
-        "func { b0(): ret; ret }",
-        "func { b0(): ret; b1(): ret }",
-        "func { b0(x): ret x }",
-        "func { b0(): ret b0 }",
-        "func { b0(): a = const 1; a = const 2; ret a }",
-        "func { b0(): a = const 9223372036854775808; ret a }",
-        "func { b0(): a = const -9223372036854775809; ret a }",
-        "func { b0(): a = const -0; ret a }",
-        "func { b0(): a = const 01; ret a }",
-        "func { b0(): a = const -; ret a }",
-        "func { b0(): add = const 1; ret add }",
-        "func { b0(): mul = const 1; ret mul }",
-        "func { b0(): a = read; ret a }",
-        "func { b0(): ret; }",
-        "func { b0(): ret } func { b0(): ret }",
-        "mod { }",
-        "func { b0(): ret # }",
-        "func { b0(): \u{e4} = const 1; ret }",
-        "func { b0(): a234567890123456789012345678901234567890123456789012345678901234x = const 1; ret }",
-    ] {
+fn unreadable(rt: HostRuntime) {
+    for text in UNREADABLE.lines() {
         expect_run(
             &rt,
             rt.alloc(),
             &propagation(text.as_bytes()),
             2,
             "",
-            "unreadable text\n",
-        )?;
+            "unreadable text|",
+        );
     }
     let longest =
         "func { b0(): a23456789012345678901234567890123456789012345678901234567890123x = const 1; ret }";
-    let printed = "func { b0(): v0 = const 1; ret }\nunchanged\n";
+    let printed = "func { b0(): v0 = const 1; ret }|unchanged|";
     expect_run(
         &rt,
         rt.alloc(),
@@ -139,37 +145,33 @@ fn unreadable(rt: HostRuntime) -> Result<(), Fail> {
 }
 
 /// A text followed by so many blanks.
-fn padded(alloc: Global, text: &str, blanks: usize) -> Result<Vec<u8>, Fail> {
-    let mut padded = Vec::from_slice(alloc, text.as_bytes())?;
-    padded.resize(text.len().saturating_add(blanks), b' ')?;
-    Ok(padded)
+fn padded(rt: &impl Abort, alloc: Global, text: &str, blanks: usize) -> Vec<u8> {
+    let mut padded = Vec::from_slice(alloc, text.as_bytes()).expect(rt, "memory");
+    padded
+        .resize(text.len().saturating_add(blanks), b' ')
+        .expect(rt, "memory");
+    padded
 }
 
 #[test]
-fn reads_no_more_than_one_byte_past_the_limit(rt: HostRuntime) -> Result<(), Fail> {
+fn reads_no_more_than_one_byte_past_the_limit(rt: HostRuntime) {
     let text = "func { b0(): ret }";
     let alloc = rt.alloc();
-    let longest = padded(alloc, text, 1_048_576 - 18)?;
+    let longest = padded(&rt, alloc, text, 1_048_576 - 18);
     expect_run(
         &rt,
         alloc,
         &propagation(&longest),
         0,
-        "func { b0(): ret }\nunchanged\n",
+        "func { b0(): ret }|unchanged|",
         "",
-    )?;
-    let longer = padded(alloc, text, 1_048_577 - 18)?;
-    expect_run(
-        &rt,
-        alloc,
-        &propagation(&longer),
-        2,
-        "",
-        "unreadable text\n",
-    )?;
-    let longest_by_far = padded(alloc, text, 1_100_000)?;
+    );
+    let longer = padded(&rt, alloc, text, 1_048_577 - 18);
+    expect_run(&rt, alloc, &propagation(&longer), 2, "", "unreadable text|");
+    let longest_by_far = padded(&rt, alloc, text, 1_100_000);
     let mut args = Vec::new(alloc);
-    args.push(String::from_str(alloc, "sccp")?)?;
+    args.push(String::from_str(alloc, "sccp").expect(&rt, "memory"))
+        .expect(&rt, "memory");
     let mut input = Input::new(&longest_by_far, 0);
     let mut output = Output::new(alloc, 0);
     let mut errors = Output::new(alloc, 0);
@@ -181,12 +183,11 @@ fn reads_no_more_than_one_byte_past_the_limit(rt: HostRuntime) -> Result<(), Fai
         longest_by_far.len().saturating_sub(input.left()),
         1_048_577
     );
-    Ok(())
 }
 
 #[test]
-fn bad_arguments(rt: HostRuntime) -> Result<(), Fail> {
-    let usage = "usage: plir_opt LIST, or plir_opt graph\n";
+fn bad_arguments(rt: HostRuntime) {
+    let usage = "usage: plir_opt LIST, or plir_opt graph|";
     let lists: [&[&str]; 8] = [
         &[],
         &["graph", "graph"],
@@ -205,29 +206,21 @@ fn bad_arguments(rt: HostRuntime) -> Result<(), Fail> {
             failing_read: 1,
             failing_write: 1,
         };
-        expect_run(&rt, rt.alloc(), &case, 2, "", usage)?;
+        expect_run(&rt, rt.alloc(), &case, 2, "", usage);
     }
-    Ok(())
 }
 
 #[test]
-fn failing_streams(rt: HostRuntime) -> Result<(), Fail> {
+fn failing_streams(rt: HostRuntime) {
     let text = b"func { b0(): a = const 1; ret a }";
-    let printed = "func { b0(): v0 = const 1; ret v0 }\nunchanged\n";
+    let printed = "func { b0(): v0 = const 1; ret v0 }|unchanged|";
     let mut case = propagation(text);
     for kth in [1u32, 2, 4] {
         case.failing_read = kth;
-        expect_run(
-            &rt,
-            rt.alloc(),
-            &case,
-            2,
-            "",
-            "cannot read standard input\n",
-        )?;
+        expect_run(&rt, rt.alloc(), &case, 2, "", "cannot read standard input|");
     }
     case.failing_read = 1000;
-    expect_run(&rt, rt.alloc(), &case, 0, printed, "")?;
+    expect_run(&rt, rt.alloc(), &case, 0, printed, "");
     for (kth, written) in [(1u32, ""), (2, "func { b"), (3, "func { b0(): v0 ")] {
         case.failing_write = kth;
         expect_run(
@@ -236,14 +229,13 @@ fn failing_streams(rt: HostRuntime) -> Result<(), Fail> {
             &case,
             2,
             written,
-            "cannot write standard output\n",
-        )?;
+            "cannot write standard output|",
+        );
     }
-    Ok(())
 }
 
 #[test]
-fn a_failed_report_is_ignored(rt: HostRuntime) -> Result<(), Fail> {
+fn a_failed_report_is_ignored(rt: HostRuntime) {
     let alloc = rt.alloc();
     let mut input = Input::new(b"", 0);
     let mut output = Output::new(alloc, 0);
@@ -251,23 +243,29 @@ fn a_failed_report_is_ignored(rt: HostRuntime) -> Result<(), Fail> {
     let status = plir_run(alloc, &[], &mut input, &mut output, &mut errors);
     assert_eq!(rt; status, 2);
     assert_eq!(rt; errors.text(), b"".as_slice());
-    Ok(())
 }
 
+static FAULTS: &str = "want of memory
+a value of an unreachable block is used
+verification failed before the pass
+verification failed after the pass
+the pass failed with code 7";
+
 #[test]
-fn texts_of_faults(rt: HostRuntime) -> Result<(), Fail> {
-    for (fault, text) in [
-        (OptError::Memory, "want of memory"),
-        (OptError::LiveUse, "a value of an unreachable block is used"),
-        (
-            OptError::VerifyBefore,
-            "verification failed before the pass",
-        ),
-        (OptError::VerifyAfter, "verification failed after the pass"),
-        (OptError::Pass(7), "the pass failed with code 7"),
-    ] {
-        let shown = format!(in rt.alloc(); "{fault}")?;
-        assert_eq!(rt; shown.as_str(), text);
+fn texts_of_faults(rt: HostRuntime) {
+    let faults = [
+        OptError::Memory,
+        OptError::LiveUse,
+        OptError::VerifyBefore,
+        OptError::VerifyAfter,
+        OptError::Pass(7),
+    ];
+    for (fault, want) in faults.iter().zip(FAULTS.lines()) {
+        assert_eq!(&rt;
+            format!(in rt.alloc(); "{fault}")
+                .expect(&rt, "memory")
+                .as_str(),
+            want
+        );
     }
-    Ok(())
 }

@@ -1,20 +1,32 @@
 //! The operations that a text makes: by their heads, and by how much they have of what.
-use crate::bench::{operation_of, read};
+use crate::cases::{check, fields, operation_at, read, sides};
 use pliron_core::{AttrObj, Context, Operation, Ptr};
 use std::alloc::Global;
 use std::process::Abort;
-use std::test::Fail;
 
-/// What an operation is to have.
-#[derive(Clone, Copy, Drop)]
-struct Wanted {
-    /// The place of its kind among the kinds.
-    kind: u32,
-    /// Its only attribute, if it has one.
-    number: Option<i128>,
-    /// How many operands, results, successors and regions.
-    counts: [usize; 4],
-}
+/// The place of an operation and its text, and its kind, whether it has dominance, its only attribute if
+/// it has one, and how many operands, results, successors and regions it has. A `mod` alone has no
+/// dominance.
+static HEADS: &str = "0 / mod { b0(): mod { } } => 0 false None [0, 0, 0, 1]
+0 / mod { b0(): func { b0(): } } => 1 true None [0, 0, 0, 1]
+0 / func { b0(): a = const -7 } => 2 true Some(-7) [0, 1, 0, 0]
+0 / func { b0(a): b = add a a } => 3 true None [2, 1, 0, 0]
+0 / func { b0(a): b = mul a a } => 4 true None [2, 1, 0, 0]
+0 / func { b0(a): b = div a a } => 5 true None [2, 1, 0, 0]
+0 / func { b0(): a = read } => 6 true None [0, 1, 0, 0]
+0 / func { b0(a): print a } => 7 true None [1, 0, 0, 0]
+0 / func { b0(): a, b = pair } => 8 true None [0, 2, 0, 0]
+0 / func { b0(a): sink a a a } => 9 true None [3, 0, 0, 0]
+0 / func { b0(a): scope a a { b0(): } } => 10 true None [2, 0, 0, 1]
+0 / func { b0(): box { } } => 11 true None [0, 0, 0, 1]
+0 / func { b0(a): br b0(a) } => 12 true None [1, 0, 1, 0]
+0 / func { b0(a): cbr a b0(a) b0(a, a) } => 13 true Some(1) [4, 0, 2, 0]
+0 / func { b0(a): cbr a b0() b0(a) } => 13 true Some(0) [2, 0, 2, 0]
+0 / func { b0(a): cbr a b0(a, a) b0() } => 13 true Some(2) [3, 0, 2, 0]
+0 / func { b0(a): ret a a } => 14 true None [2, 0, 0, 0]
+0 / func { b0(a): fork a b0 b0 } => 15 true None [1, 0, 2, 0]
+root / mod { } => 0 false None [0, 0, 0, 1]
+root / func { b0(): } => 1 true None [0, 0, 0, 1]";
 
 /// The only attribute of the operation, if it has one.
 fn number_of(rt: &impl Abort, ctx: &Context, op: Ptr<Operation>) -> Option<i128> {
@@ -30,129 +42,20 @@ fn number_of(rt: &impl Abort, ctx: &Context, op: Ptr<Operation>) -> Option<i128>
     }
 }
 
-fn check_operation(rt: &impl Abort, ctx: &Context, op: Ptr<Operation>, want: &Wanted) {
+fn head(rt: &impl Abort, alloc: Global, ctx: &mut Context, case: &str) -> String {
+    let (place, text) = fields(rt, case);
+    let root = read(rt, alloc, ctx, text);
+    let op = operation_at(rt, ctx, root, place);
     assert!(rt; op.is_live(ctx));
-    assert_eq!(rt; op.head(ctx).kind, want.kind);
-    // A `mod` alone has no dominance.
-    assert_eq!(rt; op.head(ctx).ssa, want.kind != 0);
     let counts = [
         op.num_operand(ctx),
         op.num_result(ctx),
         op.num_successor(ctx),
         op.num_region(ctx),
     ];
-    assert!(rt; counts == want.counts, "kind {}", want.kind);
-    assert_eq!(rt; number_of(rt, ctx, op), want.number);
-}
-
-/// The first operation of the text's first block.
-fn check_first(rt: &impl Abort, alloc: Global, text: &str, want: &Wanted) -> Result<(), Fail> {
-    let mut ctx = Context::new(alloc);
-    let root = read(rt, alloc, &mut ctx, text)?;
-    let op = operation_of(rt, &ctx, root, 0);
-    check_operation(rt, &ctx, op, want);
-    Ok(())
-}
-
-const fn operation_with(kind: u32, number: Option<i128>, counts: [usize; 4]) -> Wanted {
-    Wanted {
-        kind,
-        number,
-        counts,
-    }
-}
-
-#[test]
-fn operation_of_each_kind(rt: HostRuntime) -> Result<(), Fail> {
-    let table = [
-        (
-            "mod { b0(): mod { } }",
-            operation_with(0, None, [0, 0, 0, 1]),
-        ),
-        (
-            "mod { b0(): func { b0(): } }",
-            operation_with(1, None, [0, 0, 0, 1]),
-        ),
-        (
-            "func { b0(): a = const -7 }",
-            operation_with(2, Some(-7), [0, 1, 0, 0]),
-        ),
-        (
-            "func { b0(a): b = add a a }",
-            operation_with(3, None, [2, 1, 0, 0]),
-        ),
-        (
-            "func { b0(a): b = mul a a }",
-            operation_with(4, None, [2, 1, 0, 0]),
-        ),
-        (
-            "func { b0(a): b = div a a }",
-            operation_with(5, None, [2, 1, 0, 0]),
-        ),
-        (
-            "func { b0(): a = read }",
-            operation_with(6, None, [0, 1, 0, 0]),
-        ),
-        (
-            "func { b0(a): print a }",
-            operation_with(7, None, [1, 0, 0, 0]),
-        ),
-        (
-            "func { b0(): a, b = pair }",
-            operation_with(8, None, [0, 2, 0, 0]),
-        ),
-        (
-            "func { b0(a): sink a a a }",
-            operation_with(9, None, [3, 0, 0, 0]),
-        ),
-        (
-            "func { b0(a): scope a a { b0(): } }",
-            operation_with(10, None, [2, 0, 0, 1]),
-        ),
-        (
-            "func { b0(): box { } }",
-            operation_with(11, None, [0, 0, 0, 1]),
-        ),
-        (
-            "func { b0(a): br b0(a) }",
-            operation_with(12, None, [1, 0, 1, 0]),
-        ),
-        (
-            "func { b0(a): cbr a b0(a) b0(a, a) }",
-            operation_with(13, Some(1), [4, 0, 2, 0]),
-        ),
-        (
-            "func { b0(a): cbr a b0() b0(a) }",
-            operation_with(13, Some(0), [2, 0, 2, 0]),
-        ),
-        (
-            "func { b0(a): cbr a b0(a, a) b0() }",
-            operation_with(13, Some(2), [3, 0, 2, 0]),
-        ),
-        (
-            "func { b0(a): ret a a }",
-            operation_with(14, None, [2, 0, 0, 0]),
-        ),
-        (
-            "func { b0(a): fork a b0 b0 }",
-            operation_with(15, None, [1, 0, 2, 0]),
-        ),
-    ];
-    for (text, want) in &table {
-        check_first(&rt, rt.alloc(), text, want)?;
-    }
-    Ok(())
-}
-
-#[test]
-fn whole_texts(rt: HostRuntime) -> Result<(), Fail> {
-    let alloc = rt.alloc();
-    let mut ctx = Context::new(alloc);
-    let module = read(&rt, alloc, &mut ctx, "mod { }")?;
-    let function = read(&rt, alloc, &mut ctx, "func { b0(): }")?;
-    check_operation(&rt, &ctx, module, &operation_with(0, None, [0, 0, 0, 1]));
-    check_operation(&rt, &ctx, function, &operation_with(1, None, [0, 0, 0, 1]));
-    Ok(())
+    let number = number_of(rt, ctx, op);
+    let head = op.head(ctx);
+    format!(in alloc; "{} {} {number:?} {counts:?}", head.kind, head.ssa).expect(rt, "memory")
 }
 
 /// The operands are the block's arguments in order, and the successors are the two blocks after it.
@@ -175,17 +78,27 @@ fn check_branch(rt: &impl Abort, ctx: &Context, op: Ptr<Operation>) {
 }
 
 /// The condition comes first, then what the first edge forwards, then the second.
+static BRANCHES: &str = "func { b0(c, x, y, z): cbr c b1(x, y) b2(z); b1(p, q):; b2(r): }
+func { b0(c): fork c b1 b2; b1():; b2(): }";
+
+fn heads_in(rt: &impl Abort, alloc: Global, ctx: &mut Context) {
+    for case in HEADS.lines() {
+        let (asked, want) = sides(rt, case);
+        check(rt, head(rt, alloc, ctx, asked).as_str(), want, case);
+    }
+}
+
+fn order_in(rt: &impl Abort, alloc: Global, ctx: &mut Context) {
+    for text in BRANCHES.lines() {
+        let root = read(rt, alloc, ctx, text);
+        check_branch(rt, ctx, operation_at(rt, ctx, root, "0"));
+    }
+}
+
 #[test]
-fn operands_and_successors_in_order(rt: HostRuntime) -> Result<(), Fail> {
+fn heads_operands_and_successors(rt: HostRuntime) {
     let alloc = rt.alloc();
     let mut ctx = Context::new(alloc);
-    let text = "func { b0(c, x, y, z): cbr c b1(x, y) b2(z); b1(p, q):; b2(r): }";
-    let root = read(&rt, alloc, &mut ctx, text)?;
-    let branch = operation_of(&rt, &ctx, root, 0);
-    check_branch(&rt, &ctx, branch);
-    let text = "func { b0(c): fork c b1 b2; b1():; b2(): }";
-    let root = read(&rt, alloc, &mut ctx, text)?;
-    let fork = operation_of(&rt, &ctx, root, 0);
-    check_branch(&rt, &ctx, fork);
-    Ok(())
+    heads_in(&rt, alloc, &mut ctx);
+    order_in(&rt, alloc, &mut ctx);
 }

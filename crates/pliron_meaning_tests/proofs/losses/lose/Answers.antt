@@ -1,6 +1,6 @@
 use Rattle.std.proofs.Common.{◌<◌, length, arith}
 use Rattle.pliron_meaning_tests.proofs.ForwardedLemmas.{place_forwarded}
-use Rattle.pliron_meaning_tests.proofs.branches.lose.Goals as goal
+use Rattle.pliron_meaning_tests.proofs.losses.lose.Goals as goal
 
 pub remove_successor_operand-value-requires-clause-place : goal.remove_successor_operand-value-requires-clause-place
 remove_successor_operand-value-requires-clause-place g c =

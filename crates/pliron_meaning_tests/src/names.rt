@@ -1,0 +1,74 @@
+//! The public names of `pliron_meaning`, at their places. The calls of `rewrites` and `lose_forwarded` are
+//! named so in the tests of rewrites and of losses.
+use pliron_core::{Context, IRRewriter};
+use pliron_meaning::bench::laws::{folds_are_monotone, folds_have_one_outcome};
+use pliron_meaning::bench::{Bench, BenchKind, print_text, read_text};
+use pliron_meaning::evaluator::{Evaluate, Sight, evaluate};
+use pliron_meaning::theory::{
+    arguments_go, blocks_are_joined, branches_are_replaced, constants_are_made, dead_parts_go,
+    facts_are_read, findings_hold, folds_keep_links, one_edge_is_taken, operands_are_renamed,
+    operands_have_data, runs_kept, unused_arguments_go,
+};
+use pliron_meaning::{
+    BlockArgRemoval, BranchOpFoldInterface, ConstFoldInterface, Dialect, HasMeaning, Interface,
+    OptError, Room, SideEffects, Tiny, TinyKind, edges_last,
+};
+use std::alloc::Global;
+use std::process::Abort;
+
+/// A type has each trait of a dialect.
+fn is_dialect<D>()
+where
+    D: HasMeaning + SideEffects + BlockArgRemoval + ConstFoldInterface + BranchOpFoldInterface,
+    D: Dialect + Evaluate,
+{}
+
+fn has_room<R: Room>() {}
+
+#[test]
+fn laws_of_runs(_rt: HostRuntime) {
+    runs_kept();
+    operands_have_data();
+    dead_parts_go();
+    constants_are_made();
+    operands_are_renamed();
+    facts_are_read::<Bench>();
+    findings_hold::<Tiny>();
+    blocks_are_joined();
+    one_edge_is_taken::<Bench>();
+    branches_are_replaced();
+    arguments_go();
+    unused_arguments_go::<Tiny>();
+    folds_keep_links();
+    folds_are_monotone();
+    folds_have_one_outcome();
+}
+
+fn names_in(rt: &impl Abort, alloc: Global, ctx: &mut Context) {
+    let root = read_text(alloc, b"mod { }", ctx)
+        .expect(rt, "memory")
+        .expect(rt, "readable");
+    assert!(rt; edges_last(root, ctx));
+    assert!(rt; !Bench::implements(root, ctx, Interface::BlockArgRemoval));
+    assert_eq!(rt;
+        print_text(alloc, root, ctx).expect(rt, "memory").as_str(),
+        "mod { }"
+    );
+    let sight = evaluate::<Bench>(alloc, ctx, root, Vec::new(alloc), Vec::new(alloc), 9).expect(
+        rt, "memory",
+    );
+    assert_eq!(rt; sight, Sight::Ended(Vec::new(alloc), Vec::new(alloc)));
+    assert_eq!(rt; BenchKind::Mod.number(), 0);
+    assert_eq!(rt; TinyKind::Const.number(), 0);
+    assert!(rt; OptError::Memory != OptError::LiveUse);
+    is_dialect::<Bench>();
+    is_dialect::<Tiny>();
+    has_room::<IRRewriter>();
+}
+
+#[test]
+fn names_of_users(rt: HostRuntime) {
+    let alloc = rt.alloc();
+    let mut ctx = Context::new(alloc);
+    names_in(&rt, alloc, &mut ctx)
+}

@@ -1,0 +1,213 @@
+//! What the tiny dialect answers, asked through the traits, and folding by constants that are put for
+//! results.
+use crate::answers::{effects, interfaces, removable};
+use crate::cases::{check, number, sides};
+use crate::losses::lose;
+use crate::trees::{Made, build, make};
+use pliron_core::{AttrObj, Context, IRRewriter, IRStatus, Operation, Ptr, Rewriter, Value};
+use pliron_meaning::{
+    BranchOpFoldInterface, ConstFoldInterface, Dialect, Room, Tiny, TinyKind, edges_last,
+};
+use std::alloc::Global;
+use std::process::Abort;
+
+/// Operations of trees, and what is said of their heads: on side effects, whether they fold, whether they
+/// fold as branches, and their interfaces.
+static HEADS: &str = "1 / scope; block 0; const 0 @0 => Some(false) true false SideEffects ConstFold
+0 / scope; block 0; block 0 1 => Some(true) false false SideEffects BlockArgRemoval
+2 / scope; block 0; block 0 1; const 1 @0; br @0 b1 v1 v1 => None false false Branch Terminator";
+
+/// Blocks of a scope, and whether their arguments may be removed.
+static REMOVALS: &str = "0 => Some(false)
+1 => Some(true)";
+
+fn head(rt: &impl Abort, alloc: Global, ctx: &mut Context, case: &str) -> String {
+    let op = build(rt, alloc, ctx, case);
+    let effects = effects::<Tiny>(rt, alloc, ctx, op);
+    let interfaces = interfaces::<Tiny>(rt, alloc, ctx, op);
+    assert!(rt; op.is_live(ctx));
+    assert_eq!(rt; Tiny::is_branch(op, ctx), Tiny::is_terminator(op, ctx));
+    assert_eq!(rt; Tiny::is_branch(op, ctx), effects.as_str() == "None");
+    let folds = Tiny::folds(op, ctx);
+    let folds_branch = Tiny::folds_branch(op, ctx);
+    format!(in alloc; "{effects} {folds} {folds_branch}{interfaces}").expect(rt, "memory")
+}
+
+fn heads_in(rt: &impl Abort, alloc: Global, ctx: &mut Context) {
+    for case in HEADS.lines() {
+        let (asked, want) = sides(rt, case);
+        check(rt, head(rt, alloc, ctx, asked).as_str(), want, case);
+    }
+    let scope = build(rt, alloc, ctx, "0 / scope; block 0; block 0 1");
+    for case in REMOVALS.lines() {
+        let (index, want) = sides(rt, case);
+        let got = removable::<Tiny>(rt, alloc, ctx, scope, number(rt, index));
+        check(rt, got.as_str(), want, case);
+    }
+}
+
+/// Trees, and whether edges stand last in the first operation and in the second, which is in it.
+static EDGES: &str = "scope; block 0; block 0; scope @0; block 1 => true true
+scope; block 0; block 0; scope @0; block 1; br @0 b1; br @2 b2 => true true
+scope; block 0; block 0; scope @0; block 1; br @0 b1; br @0 b1 => false true
+scope; block 0; block 0; scope @0; block 1; br @0 b2 => false false
+scope; block 0; block 0; scope @0; block 1; br @2 b1 => false false
+scope; block 0; block 0; scope @0; block 1; br @0 b1; on 1 b1 => false true";
+
+fn edges_in(rt: &impl Abort, alloc: Global, ctx: &mut Context) {
+    for case in EDGES.lines() {
+        let (steps, want) = sides(rt, case);
+        let mut made = Made::new(alloc);
+        make(rt, alloc, ctx, &mut made, steps);
+        let outer = made.operation(rt, "0");
+        let inner = made.operation(rt, "1");
+        assert!(rt; outer.is_live(ctx));
+        assert!(rt; inner.is_live(ctx));
+        let (outer, inner) = (edges_last(outer, ctx), edges_last(inner, ctx));
+        let answer = format!(in alloc; "{outer} {inner}").expect(rt, "memory");
+        check(rt, answer.as_str(), want, case);
+    }
+}
+
+/// The operation in a block is a constant of this number and folds to it. Folding in place leaves it.
+fn constant_in(rt: &impl Abort, alloc: Global, ctx: &mut Context) {
+    let op = build(rt, alloc, ctx, "1 / scope; block 0; const 0 @0");
+    assert!(rt; op.is_live(ctx));
+    assert!(rt; Tiny::folds(op, ctx));
+    assert_eq!(rt; op.num_operand(ctx), 0);
+    assert!(rt; op.get_parent_block(ctx).is_some());
+    let answers = <Tiny as ConstFoldInterface>::check_fold(alloc, op, ctx, &[]).expect(
+        rt, "memory",
+    );
+    assert_eq!(rt; answers.len(), 1);
+    assert!(rt; answers[0] == Some(AttrObj::Int(0)));
+    let mut rewriter = IRRewriter::new();
+    rewriter.set_insertion_point_before_operation(op);
+    rewriter.room(alloc, 2).expect(rt, "memory");
+    let status = <Tiny as ConstFoldInterface>::fold_in_place(
+        alloc,
+        op,
+        ctx,
+        &[],
+        &mut rewriter,
+    ).expect(rt, "memory");
+    assert_eq!(rt; status, IRStatus::Unchanged);
+    assert!(rt;
+        Tiny::materialize(alloc, &AttrObj::Int(0), ctx)
+            .expect(rt, "memory")
+            .is_some()
+    );
+}
+
+/// Folds the operation, which has no operands, by constants.
+fn fold<D: Dialect>(
+    rt: &impl Abort,
+    alloc: Global,
+    ctx: &mut Context,
+    op: Ptr<Operation>,
+) -> IRStatus {
+    assert!(rt; op.is_live(ctx));
+    assert!(rt; D::folds(op, ctx));
+    assert_eq!(rt; op.num_operand(ctx), 0);
+    assert!(rt; op.get_parent_block(ctx).is_some());
+    let mut rewriter = IRRewriter::new();
+    rewriter.set_insertion_point_before_operation(op);
+    D::fold_with_materialization(alloc, op, ctx, &[], &mut rewriter).expect(rt, "memory")
+}
+
+/// The number of the constant that the question asks, which stands just before `op`.
+pub(crate) fn number_asked(
+    rt: &impl Abort,
+    ctx: &Context,
+    op: Ptr<Operation>,
+    question: Ptr<Operation>,
+) -> Option<i128> {
+    assert!(rt; op.is_live(ctx));
+    assert!(rt; question.is_live(ctx));
+    assert_eq!(rt; question.num_operand(ctx), 1);
+    let before = op.get_prev(ctx).expect(rt, "a constant");
+    assert_eq!(rt; before.num_result(ctx), 1);
+    assert_eq!(rt; question.get_operand(ctx, 0), before.get_result(ctx, 0));
+    number_of(rt, ctx, before)
+}
+
+/// The number of the operation, if it is a constant of one.
+pub(crate) fn number_of(rt: &impl Abort, ctx: &Context, op: Ptr<Operation>) -> Option<i128> {
+    assert!(rt; op.is_live(ctx));
+    let head = op.head(ctx);
+    assert_eq!(rt; TinyKind::of(head.kind), Some(TinyKind::Const));
+    assert_eq!(rt; head.attrs.len(), 1);
+    match head.attrs.get(0) {
+        AttrObj::Int(number) => Some(*number),
+        AttrObj::Text(_) => None,
+    }
+}
+
+fn folding_in(rt: &impl Abort, alloc: Global, ctx: &mut Context) {
+    let mut made = Made::new(alloc);
+    make(
+        rt,
+        alloc,
+        ctx,
+        &mut made,
+        "scope; block 0; const 0 @0; ask @0 v0",
+    );
+    let op = made.operation(rt, "1");
+    assert_eq!(rt; fold::<Tiny>(rt, alloc, ctx, op), IRStatus::Changed);
+    assert_eq!(rt; number_asked(rt, ctx, op, made.operation(rt, "2")), Some(0));
+}
+
+/// The values that the branch forwards along its edge.
+fn check_forwarded(
+    rt: &impl Abort,
+    alloc: Global,
+    ctx: &Context,
+    op: Ptr<Operation>,
+    want: &[Value],
+) {
+    assert!(rt; op.is_live(ctx));
+    assert!(rt; Tiny::is_branch(op, ctx));
+    assert_eq!(rt; op.num_successor(ctx), 1);
+    let values = Tiny::successor_operands(alloc, op, ctx, 0).expect(rt, "memory");
+    assert!(rt; values.as_slice() == want);
+}
+
+fn loss_in(rt: &impl Abort, alloc: Global, ctx: &mut Context) {
+    let mut made = Made::new(alloc);
+    make(
+        rt,
+        alloc,
+        ctx,
+        &mut made,
+        "scope; block 0; block 0 1; const 1 @0; br @0 b1 v1 v1",
+    );
+    let op = made.operation(rt, "2");
+    let value = made.value(rt, "1");
+    check_forwarded(rt, alloc, ctx, op, &[value, value]);
+    lose::<Tiny>(rt, alloc, ctx, op, 0, 0).expect(rt, "memory");
+    check_forwarded(rt, alloc, ctx, op, &[value])
+}
+
+#[test]
+fn kinds_and_their_numbers(rt: HostRuntime) {
+    for kind in &[
+        TinyKind::Const,
+        TinyKind::Ask,
+        TinyKind::Scope,
+        TinyKind::Br,
+    ] {
+        assert_eq!(rt; TinyKind::of(kind.number()), Some(*kind));
+    }
+    assert!(rt; TinyKind::of(4).is_none());
+}
+
+#[test]
+fn answers_folds_and_losses(rt: HostRuntime) {
+    let alloc = rt.alloc();
+    let mut ctx = Context::new(alloc);
+    heads_in(&rt, alloc, &mut ctx);
+    edges_in(&rt, alloc, &mut ctx);
+    constant_in(&rt, alloc, &mut ctx);
+    folding_in(&rt, alloc, &mut ctx);
+    loss_in(&rt, alloc, &mut ctx);
+}
