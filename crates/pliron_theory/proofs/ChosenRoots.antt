@@ -72,5 +72,5 @@ chosen_roots m can_fold can_fold_branch constants feasible accepts head shortene
       one_edge = jumps_now (with_roots m chosen) can_fold SameTests shortened f;
       removing = λ t u block index v edges w w' argument to branches answer lose unused. removed_keeps (with_roots m chosen) can_fold SameTests shortened f same_branch (counts m chosen keeps) removable without t u block index v edges w w' argument to branches answer lose unused;
       constant_folds = constant_folds (with_roots m chosen) can_fold constants accepts head fold branch_fold SameTests shortened p f a (makes_constants m chosen accepts head makes);
-      branch_folds = branch_folds (with_roots m chosen) can_fold can_fold_branch constants feasible accepts head fold branch_fold SameTests shortened p f j;
+      branch_folds = branch_folds (with_roots m chosen) can_fold can_fold_branch feasible SameTests shortened f j constants accepts head fold branch_fold p;
     }

@@ -1,12 +1,12 @@
 -- What folding a branch in place leaves.
-use Rattle.std.proofs.Common.{◌≡◌, ◌≢◌, ◌⊎◌, inl, inr, ⊎_elim, ℕ, zero, suc, ◌<◌, ◌≤◌, Bool, true, false, nat_eq, List, [], ◌∷◌, ◌++◌, length, map, get_or, Option, Some, None, slice_get, slice_set, refl, sym, ap, ◌∙◌, subst, IsTrue, append_assoc, append-nil, length-append, arith}
+use Rattle.std.proofs.Common.{◌≡◌, ◌≢◌, ◌⊎◌, inl, inr, ⊎_elim, ℕ, zero, suc, ◌<◌, ◌≤◌, Bool, true, false, true≢false, nat_eq, List, [], ◌∷◌, ◌++◌, length, map, get_or, Option, Some, None, is_some, slice_get, slice_set, refl, sym, ap, ◌∙◌, subst, IsTrue, append_assoc, append-nil, length-append, arith}
 use Rattle.std.proofs.lemmas.List.{get_or-set_other, get_or-set_same, get_or_past, length-map}
 use Rattle.pliron_core.specs.declared.attrs.AttrObj.{AttrObj}
 use Rattle.pliron_core.specs.declared.attrs.Head.{Head}
 use Rattle.pliron_core.specs.declared.context.OperationEntry.{OperationEntry}
 use Rattle.pliron_core.specs.Lists.{IsDistinct, without, put_before}
 use Rattle.pliron_core.specs.Rising.{IsRising}
-use Rattle.pliron_core.specs.Tree.{Tree, In, IsInside, IsInside.Directly, IsInside.Deeper, no_entry, row_of, head_of, operands_of, successors_of, results_of, regions_of, parent_of, body_of, arguments_of, block_parent_of, layout_of, region_parent_of, block_holder_of, up_from, op_of_slot}
+use Rattle.pliron_core.specs.Tree.{Tree, In, IsLive, IsInside, IsInside.Directly, IsInside.Deeper, no_entry, row_of, head_of, operands_of, successors_of, results_of, regions_of, parent_of, body_of, arguments_of, block_parent_of, layout_of, region_parent_of, block_holder_of, up_from, op_of_slot}
 use Rattle.pliron_core.specs.Joined.{IsTree}
 use Rattle.pliron_core.specs.Writes.{created, taken_from, put_next_to}
 use Rattle.pliron_core.specs.Erased.{is_met_above, cleared, erased}
@@ -19,20 +19,23 @@ use Rattle.pliron_core.proofs.HoldingLemmas.{some_is, not_none, some_of, in_slic
 use Rattle.pliron_core.proofs.LastLemmas.{last_front}
 use Rattle.pliron_core.proofs.WalkLemmas.{inside_live}
 use Rattle.pliron_laws.specs.Datum.{Shape, Meaning}
-use Rattle.pliron_laws.specs.Tree.{op_at, entry_block, count_arguments, shape_of}
+use Rattle.pliron_laws.specs.Tree.{Operation, op_at, entry_block, count_arguments, shape_of}
 use Rattle.pliron_laws.specs.Acting.{pick}
 use Rattle.pliron_laws.specs.Answers.{HeadPasses}
 use Rattle.pliron_theory.specs.Keeps.{KeepsRuns}
+use Rattle.pliron_laws.specs.Linked.{IsWellLinked}
 use Rattle.pliron_theory.specs.Rebranching.{IsRebranched}
 use Rattle.pliron_laws.specs.Replacing.{ReplacesBranch, with_edges, branch_replaced, FoldsBranch, FoldsBranch.Kept, FoldsBranch.Replaced}
 use Rattle.pliron_laws.specs.Folding.{Constants, Feasible, AnswersJumps}
 use Rattle.pliron_laws.specs.Laws.{ForwardsOperands}
 use Rattle.pliron_laws.specs.InPlace.{Outcome, FoldsInPlace}
 use Rattle.pliron_laws.proofs.Records.{operation_of, op_shows, make_op}
+use Rattle.pliron_laws.proofs.LinkedLemmas.{linked_same}
+use Rattle.pliron_theory.proofs.RebranchedStays.{rebranched_linked}
 use Rattle.pliron_theory.proofs.SweptKeeps.{admitted_shape, same_keeps}
-use Rattle.pliron_theory.specs.Refolded.{AreReadAs}
-use Rattle.pliron_theory.specs.Folded.{BranchFoldsLaw}
-use Rattle.pliron_theory.proofs.Refolded.{refolded}
+use Rattle.pliron_theory.specs.Refolded.{AreReadAs, IsRefolded}
+use Rattle.pliron_theory.specs.Folded.{BranchFoldsLaw, BranchLinksLaw}
+use Rattle.pliron_theory.proofs.Refolded.{refolded, refolded_admitted}
 
 told : (b : Bool) → (b ≡ true → ⊥) → b ≡ false
 told true f = absurd (f refl)
@@ -227,11 +230,9 @@ picked_in (z ∷ xs) ys [] e x i = grind arith
 picked_in (z ∷ xs) ys (p ∷ places) e x (inl s) = let here : Some z ≡ slice_get ys p = cc in in_slice ys p x (sym here ∙ ap Some (sym s))
 picked_in (z ∷ xs) ys (p ∷ places) e x (inr i) = let rest : map Some xs ≡ pick places ys = cc in picked_in xs ys places rest x i
 
--- a branch that ends its block, without results and regions
-folding : (m : Meaning) (t t' : Tree) (a op : ℕ) (front : List ℕ) (known : List (Option AttrObj)) → IsTree t → IsTree t' → length t.operations ≤ length t'.operations → body_of t a ≡ front ++ op ∷ [] → regions_of t op ≡ [] → results_of t op ≡ [] → HeadPasses m.is_branch t op → length known ≡ length (operands_of t op) → AreReadAs m t op known → FoldsBranch m op known t t' → KeepsRuns m t t'
-folding m t t' a op front known w w' longer split childless no_results branch long so (Kept s) = same_keeps m t t' w w' s longer
-folding m t t' a op front known w w' longer split childless no_results branch long so (Replaced o head operands successors places edges stands picked replaces) =
-    let e = same t a op head operands successors front w w' split childless in
+-- what folding puts in the place of a branch that ends its block, without results and regions
+refolded_as : (m : Meaning) (t : Tree) (a op : ℕ) (front : List ℕ) (known : List (Option AttrObj)) (o : Operation) (head : Head) (operands successors places edges : List ℕ) → IsTree t → IsTree (branch_replaced t op head operands successors) → body_of t a ≡ front ++ op ∷ [] → regions_of t op ≡ [] → results_of t op ≡ [] → op_at t op ≡ Some o → map Some operands ≡ pick places o.operands → ReplacesBranch m (shape_of m t o) o.successors successors known head places edges → IsRefolded m t (branch_replaced t op head operands successors) a op (length t.operations) front known
+refolded_as m t a op front known o head operands successors places edges w w' split childless no_results stands picked replaces =
     let x = op_shows t op o stands in
     let r = rebranched t a op head operands successors front w w' split childless no_results
     (λ v i. subst (In v) (sym x.operands) (picked_in operands o.operands places picked v i))
@@ -239,11 +240,29 @@ folding m t t' a op front known w w' longer split childless no_results branch lo
     let new_ops = operands_new t a op head operands successors front w w' split childless in
     let new_targets = successors_new t a op head operands successors front w w' split childless in
     let row = row_new t a op head operands successors front w w' split childless in
-    let l = last t a op head operands successors front w w' split childless in
-    subst (λ (z : Tree). KeepsRuns m t z) (sym e)
-    (refolded m t l a op (length t.operations) front known w (subst IsTree e w') (subst (λ (z : Tree). length t.operations ≤ length z.operations) e longer) (omega arith) branch long
+    subst (λ (z : Tree). IsRefolded m t z a op (length t.operations) front known) (sym (same t a op head operands successors front w w' split childless))
     (record { placed = r; operation = o; stands = stands; head = head; places = places; edges = edges; new_head = ap (λ z. z.head) row; operands = ap (map Some) new_ops ∙ picked; replaces = subst (λ ts. ReplacesBranch m (shape_of m t o) o.successors ts known head places edges) (sym new_targets) replaces })
-    so)
+
+-- a branch that ends its block, without results and regions
+record EndsAlone (m : Meaning) (t : Tree) (op : ℕ) : Type 0 where
+  pub block : ℕ
+  pub front : List ℕ
+  pub split : body_of t block ≡ front ++ op ∷ []
+  pub childless : regions_of t op ≡ []
+  pub no_results : results_of t op ≡ []
+  pub branch : HeadPasses m.is_branch t op
+
+folding : (m : Meaning) (t t' : Tree) (op : ℕ) (known : List (Option AttrObj)) → IsTree t → IsTree t' → length t.operations ≤ length t'.operations → EndsAlone m t op → length known ≡ length (operands_of t op) → AreReadAs m t op known → FoldsBranch m op known t t' → KeepsRuns m t t'
+folding m t t' op known w w' longer ends long so (Kept s) = same_keeps m t t' w w' s longer
+folding m t t' op known w w' longer ends long so (Replaced o head operands successors places edges stands picked replaces) =
+    refolded m t t' ends.block op (length t.operations) ends.front known w w' longer (omega arith) ends.branch long (refolded_as m t ends.block op ends.front known o head operands successors places edges w w' ends.split ends.childless ends.no_results stands picked replaces) so
+
+linking : (m : Meaning) (t t' : Tree) (op : ℕ) (known : List (Option AttrObj)) → IsTree t → IsTree t' → EndsAlone m t op → (root : ℕ) → IsWellLinked m t root → IsLive t root → IsLive t' root → FoldsBranch m op known t t' → IsWellLinked m t' root
+linking m t t' op known w w' ends root links live left (Kept s) = linked_same m t t' root w w' s links
+linking m t t' op known w w' ends root links live left (Replaced o head operands successors places edges stands picked replaces) =
+    let h = refolded_as m t ends.block op ends.front known o head operands successors places edges w w' ends.split ends.childless ends.no_results stands picked replaces in
+    rebranched_linked m t t' ends.block op (length t.operations) ends.front w w' h.placed root links live (λ e. true≢false (sym left ∙ ap (λ z. is_some (head_of t' z)) e ∙ ap is_some h.placed.gone))
+    (λ i. refolded_admitted m t t' ends.block op (length t.operations) ends.front known h)
 
 no_items : {A : Type 0} (xs : List A) → length xs ≡ 0 → xs ≡ []
 no_items [] e = refl
@@ -253,19 +272,36 @@ some_item : (xs : List ℕ) → 0 < length xs → (x : ℕ) × In x xs
 some_item [] lt = absurd (omega (arith, lt))
 some_item (x ∷ xs) lt = (x, inl refl)
 
--- a branch of a lawful dialect, inside a root where the tree is well linked
-pub branch_folds : (m : Meaning) (can_fold can_fold_branch : Head → Bool) (constants : Constants) (feasible : Feasible) (accepts : AttrObj → Bool) (head : AttrObj → Head) (fold branch_fold : Outcome) (SameTests : Head → Head → Type 0) (shortened : Shape → ℕ → ℕ → Head) → FoldsInPlace m constants accepts head fold branch_fold → ForwardsOperands m can_fold SameTests shortened → AnswersJumps m can_fold_branch feasible → BranchFoldsLaw m can_fold_branch branch_fold
-unfolding shape_of
-branch_folds m can_fold can_fold_branch constants feasible accepts head fold branch_fold SameTests shortened folds forwards jumps t t' root op known answer w w' longer linked inside tests entries reads outcome =
-    let h = some_of (head_of t op) (inside_live t w root op inside) in
-    let o = operation_of t op h.0 in
-    let oe : op_at t op ≡ Some o = make_op t op h.0 h.1 in
-    let s = op_shows t op o oe in
-    let ad = admitted_shape m t op o oe (linked.admitted op (inr inside)) in
-    let br : IsTrue (m.is_branch o.head) = jumps.branches (shape_of m t o) ad (tests o.head s.head) in
-    let alone = forwards.alone (shape_of m t o) ad br in
-    let edge = some_item o.successors (forwards.some_edge (shape_of m t o) ad br) in
-    let ends = linked.edges op edge.0 (subst (In edge.0) (sym s.successors) edge.1) (inl inside) in
-    let split = last_front (body_of t ends.block) op ends.last in
-    let childless : o.regions ≡ [] = no_items o.regions (sym (length-map o.regions (λ r. count_arguments (entry_block t r))) ∙ ap length alone.1) in
-    folding m t t' ends.block op split.0 known w w' longer split.1 (s.regions ∙ childless) (s.results ∙ no_items o.results alone.0) (λ x e. subst (λ z. IsTrue (m.is_branch z)) (some_is (sym s.head ∙ e)) br) entries reads (folds.branch t t' op known answer outcome).0
+-- a branch of a lawful dialect that folds, inside a root where the tree is well linked
+module _ (m : Meaning) (can_fold can_fold_branch : Head → Bool) (feasible : Feasible) (SameTests : Head → Head → Type 0) (shortened : Shape → ℕ → ℕ → Head) (forwards : ForwardsOperands m can_fold SameTests shortened) (jumps : AnswersJumps m can_fold_branch feasible) where
+  ends_alone : (t : Tree) (root op : ℕ) → IsTree t → IsWellLinked m t root → IsInside t root op → HeadPasses can_fold_branch t op → EndsAlone m t op
+  unfolding shape_of
+  ends_alone t root op w linked inside tests =
+      let h = some_of (head_of t op) (inside_live t w root op inside) in
+      let o = operation_of t op h.0 in
+      let oe : op_at t op ≡ Some o = make_op t op h.0 h.1 in
+      let s = op_shows t op o oe in
+      let ad = admitted_shape m t op o oe (linked.admitted op (inr inside)) in
+      let br : IsTrue (m.is_branch o.head) = jumps.branches (shape_of m t o) ad (tests o.head s.head) in
+      let alone = forwards.alone (shape_of m t o) ad br in
+      let edge = some_item o.successors (forwards.some_edge (shape_of m t o) ad br) in
+      let ends = linked.edges op edge.0 (subst (In edge.0) (sym s.successors) edge.1) (inl inside) in
+      let split = last_front (body_of t ends.block) op ends.last in
+      let childless : o.regions ≡ [] = no_items o.regions (sym (length-map o.regions (λ r. count_arguments (entry_block t r))) ∙ ap length alone.1) in
+      record {
+        block = ends.block;
+        front = split.0;
+        split = split.1;
+        childless = s.regions ∙ childless;
+        no_results = s.results ∙ no_items o.results alone.0;
+        branch = λ x e. subst (λ z. IsTrue (m.is_branch z)) (some_is (sym s.head ∙ e)) br;
+      }
+
+  module _ (constants : Constants) (accepts : AttrObj → Bool) (head : AttrObj → Head) (fold branch_fold : Outcome) (folds : FoldsInPlace m constants accepts head fold branch_fold) where
+    pub branch_folds : BranchFoldsLaw m can_fold_branch branch_fold
+    branch_folds t t' root op known answer w w' longer linked inside tests entries reads outcome =
+        folding m t t' op known w w' longer (ends_alone t root op w linked inside tests) entries reads (folds.branch t t' op known answer outcome).0
+
+    pub branch_links : BranchLinksLaw m can_fold_branch branch_fold
+    branch_links t t' root other op known answer w w' linked inside tests outcome links live left =
+        linking m t t' op known w w' (ends_alone t root op w linked inside tests) other links live left (folds.branch t t' op known answer outcome).0

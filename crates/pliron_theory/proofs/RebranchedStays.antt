@@ -163,6 +163,48 @@ module _ (m : Meaning) (t t' : Tree) (a op new : ℕ) (front : List ℕ) (w : Is
   IsPlain (Some (Argument c j)) = Unit {0}
   IsPlain (Some (Result k j)) = (k ≢ op) × (k ≢ new)
 
+  -- where a tree is well linked it is so afterwards
+  module _ (root : ℕ) (links : IsWellLinked m t root) (live : IsLive t root) (left : root ≢ op) (fits : IsInside t root op → IsAdmitted m t' new) where
+    pub rebranched_linked : IsWellLinked m t' root
+    rebranched_linked = record { edges = λ k s i held. edge k s i held; admitted = λ k i. admitted k i }
+      where
+        held_back : (k s : ℕ) → IsInside t' root k ⊎ HoldsBlock t' root s → IsInside t root (other k) ⊎ HoldsBlock t root s
+        held_back k s (inl i) = inl (inside_back root k i)
+        held_back k s (inr x) = let b = block_back s x.0 x.1 in inr (x.0, b.0, subst (IsWithin t root) (is_else x.0 b.1 b.2) (within_back root x.0 (is_else root left (old_op root live)) x.2))
+
+        edge : (k s : ℕ) → In s (successors_of t' k) → IsInside t' root k ⊎ HoldsBlock t' root s → EndsBlock t' k
+        edge k s i held =
+            let ends = links.edges (other k) s (target_back k s i) (held_back k s held) in
+            let np : k ≢ op = λ q. subst (In s) (ap (successors_of t') q ∙ (w'.joined.erased op h.gone).1) i in
+            record {
+              block = ends.block;
+              in_block = parent_other k np ∙ ends.in_block;
+              last = ended k np ends;
+              own_region = λ z j. h.block_parents z ∙ ends.own_region z (target_back k z j) ∙ sym (h.block_parents ends.block);
+            }
+          where
+            ended : (k : ℕ) → k ≢ op → (ends : EndsBlock t (other k)) → last_of None (body_of t' ends.block) ≡ Some k
+            ended k np ends = elim (cases_eq ends.block a) [
+              | inl s ↦
+                  let e : other k ≡ op = some_is (sym ends.last ∙ ap (λ z. last_of None (body_of t z)) s ∙ op_last) in
+                  ap (λ z. last_of None (body_of t' z)) s ∙ new_last ∙ ap Some (sym is_op ∙ ap other (sym e) ∙ twice k)
+              | inr ne ↦ elim (cases_eq k new) [
+                | inl q ↦ absurd (ne (some_is (sym ends.in_block ∙ ap (parent_of t) (ap other q ∙ is_new) ∙ op_at_a)))
+                | inr nq ↦ ap (last_of None) (h.bodies ends.block ne) ∙ ends.last ∙ ap Some (is_else k np nq)
+              ]
+            ]
+
+        stays : (k : ℕ) → k ≢ op → k ≢ new → IsWithin t root k → IsAdmitted m t' k
+        stays k np nq i = admitted_same m t t' k (ap (λ z. z.head) (h.rows k np nq)) (ap length (h.operands k np nq)) (ap (λ z. length z.results) (h.rows k np nq)) (ap length (h.successors k np nq)) (ap (λ z. length z.regions) (h.rows k np nq)) (links.admitted k i)
+
+        admitted : (k : ℕ) → IsWithin t' root k → IsAdmitted m t' k
+        admitted k (inl e) = stays k (λ s. left (sym e ∙ s)) (λ s. old_op root live (sym e ∙ s)) (inl e)
+        admitted k (inr i) = elim (cases_eq k new) [
+          | inl q ↦ subst (IsAdmitted m t') (sym q) (fits (subst (IsInside t root) is_new (inside_back root new (subst (IsInside t' root) q i))))
+          | inr nq ↦
+              stays k (inside_not root k i).0 nq (inr (subst (IsInside t root) (is_else k (inside_not root k i).0 nq) (inside_back root k i)))
+        ]
+
   module _ (root : ℕ) (f : IsFit m t root) (left : root ≢ op) (fits : IsInside t root op → FitsInPlace m t' new) where
     root_same : other root ≡ root
     root_same = is_else root left (old_op root f.live)
@@ -359,44 +401,7 @@ module _ (m : Meaning) (t t' : Tree) (a op new : ℕ) (front : List ℕ) (w : Is
         ]
 
     linked : IsWellLinked m t' root
-    linked = record { edges = λ k s i held. edge k s i held; admitted = λ k i. admitted k i }
-      where
-        held_back : (k s : ℕ) → IsInside t' root k ⊎ HoldsBlock t' root s → IsInside t root (other k) ⊎ HoldsBlock t root s
-        held_back k s (inl i) = inl (inner k i)
-        held_back k s (inr x) = let b = block_back s x.0 x.1 in inr (x.0, b.0, subst (IsWithin t root) (is_else x.0 b.1 b.2) (within_back root x.0 root_same x.2))
-
-        edge : (k s : ℕ) → In s (successors_of t' k) → IsInside t' root k ⊎ HoldsBlock t' root s → EndsBlock t' k
-        edge k s i held =
-            let ends = f.linked.edges (other k) s (target_back k s i) (held_back k s held) in
-            let np : k ≢ op = λ q. subst (In s) (ap (successors_of t') q ∙ (w'.joined.erased op h.gone).1) i in
-            record {
-              block = ends.block;
-              in_block = parent_other k np ∙ ends.in_block;
-              last = ended k np ends;
-              own_region = λ z j. h.block_parents z ∙ ends.own_region z (target_back k z j) ∙ sym (h.block_parents ends.block);
-            }
-          where
-            ended : (k : ℕ) → k ≢ op → (ends : EndsBlock t (other k)) → last_of None (body_of t' ends.block) ≡ Some k
-            ended k np ends = elim (cases_eq ends.block a) [
-              | inl s ↦
-                  let e : other k ≡ op = some_is (sym ends.last ∙ ap (λ z. last_of None (body_of t z)) s ∙ op_last) in
-                  ap (λ z. last_of None (body_of t' z)) s ∙ new_last ∙ ap Some (sym is_op ∙ ap other (sym e) ∙ twice k)
-              | inr ne ↦ elim (cases_eq k new) [
-                | inl q ↦ absurd (ne (some_is (sym ends.in_block ∙ ap (parent_of t) (ap other q ∙ is_new) ∙ op_at_a)))
-                | inr nq ↦ ap (last_of None) (h.bodies ends.block ne) ∙ ends.last ∙ ap Some (is_else k np nq)
-              ]
-            ]
-
-        stays : (k : ℕ) → k ≢ op → k ≢ new → IsWithin t root k → IsAdmitted m t' k
-        stays k np nq i = admitted_same m t t' k (ap (λ z. z.head) (h.rows k np nq)) (ap length (h.operands k np nq)) (ap (λ z. length z.results) (h.rows k np nq)) (ap length (h.successors k np nq)) (ap (λ z. length z.regions) (h.rows k np nq)) (f.linked.admitted k i)
-
-        admitted : (k : ℕ) → IsWithin t' root k → IsAdmitted m t' k
-        admitted k (inl e) = stays k (λ s. left (sym e ∙ s)) (λ s. old_op root f.live (sym e ∙ s)) (inl e)
-        admitted k (inr i) = elim (cases_eq k new) [
-          | inl q ↦ subst (IsAdmitted m t') (sym q) (new_fits (subst (IsInside t' root) q i)).admitted
-          | inr nq ↦
-              stays k (inside_not root k i).0 nq (inr (inner_old k nq i))
-        ]
+    linked = rebranched_linked root f.linked f.live left (λ i. (fits i).admitted)
 
     pub rebranched_fit : IsFit m t' root
     rebranched_fit = record { live = subst (λ z. IsSome z.head) (sym (h.rows root left (old_op root f.live))) f.live; chosen = λ x e. f.chosen x (sym (ap (λ z. z.head) (h.rows root left (old_op root f.live))) ∙ e); defined = defined; linked = linked }

@@ -9,6 +9,7 @@ use Rattle.pliron_laws.specs.Tree.{Operation, op_at, block_at, entry_block, coun
 use Rattle.pliron_laws.specs.States.{Environment, put_first, data_of}
 use Rattle.pliron_laws.specs.Acting.{ActAlike, PassesSame, Known, pick}
 use Rattle.pliron_laws.specs.Answers.{HeadPasses}
+use Rattle.pliron_laws.specs.Linked.{IsAdmitted}
 use Rattle.pliron_theory.specs.Keeps.{IsFit}
 use Rattle.pliron_theory.specs.Rebranching.{ActsInPlace, FitsInPlace}
 use Rattle.pliron_laws.specs.Replacing.{branch_shape, JumpsTo}
@@ -62,6 +63,14 @@ counted : (m : Meaning) (t : Tree) (o : Operation) → length o.operands ≡ (sh
 unfolding shape_of
 counted m t o = refl
 
+-- the new branch is admitted
+pub refolded_admitted : (m : Meaning) (t t' : Tree) (a op new : ℕ) (front : List ℕ) (known : List (Option AttrObj)) → IsRefolded m t t' a op new front known → IsAdmitted m t' new
+refolded_admitted m t t' a op new front known h x e =
+    let p = length_picked (operands_of t' new) h.places h.operation.operands h.operands in
+    let q = length_picked (successors_of t' new) h.edges h.operation.successors h.replaces.targets_kept in
+    let z : h.head ≡ x = some_is (sym h.new_head ∙ e) in
+    rw (p, q, ap length h.placed.new_no_results, ap length h.placed.new_childless, sym z) h.replaces.admitted
+
 module _ (m : Meaning) (t t' : Tree) (a op new : ℕ) (front : List ℕ) (known : List (Option AttrObj)) (branch : HeadPasses m.is_branch t op) (long : length known ≡ length (operands_of t op)) (h : IsRefolded m t t' a op new front known) (so : AreReadAs m t op known) where
   s : Shape
   s = shape_of m t h.operation
@@ -101,17 +110,10 @@ module _ (m : Meaning) (t t' : Tree) (a op new : ℕ) (front : List ℕ) (known 
 
   fits : (root : ℕ) → IsFit m t root → IsInside t root op → FitsInPlace m t' new
   fits root f inside = record {
-    admitted = λ x e. admitted x e;
+    admitted = refolded_admitted m t t' a op new front known h;
     forwards = λ o i c e is at. forwards o i c e at;
   }
     where
-      admitted : (x : Head) → head_of t' new ≡ Some x → IsTrue (m.admits x (length (operands_of t' new)) (length (results_of t' new)) (length (successors_of t' new)) (length (regions_of t' new)))
-      admitted x e =
-          let p = length_picked (operands_of t' new) h.places h.operation.operands h.operands in
-          let q = length_picked (successors_of t' new) h.edges h.operation.successors h.replaces.targets_kept in
-          let z : h.head ≡ x = some_is (sym h.new_head ∙ e) in
-          rw (p, q, ap length h.placed.new_no_results, ap length h.placed.new_childless, sym z) h.replaces.admitted
-
       forwards : (o : Operation) (i c : ℕ) → op_at t' new ≡ Some o → slice_get o.successors i ≡ Some c → length (m.forwarded (shape_of m t' o) i) ≡ length (arguments_of t' c)
       forwards o i c e at =
           let x = op_shows t' new o e in

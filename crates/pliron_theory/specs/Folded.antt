@@ -2,7 +2,7 @@
 use Rattle.std.specs.Prelude.{◌≡◌, ◌≤◌, ℕ, Bool, List, Option, Some, length}
 use Rattle.pliron_core.specs.declared.attrs.AttrObj.{AttrObj}
 use Rattle.pliron_core.specs.declared.attrs.IRStatus.{IRStatus}
-use Rattle.pliron_core.specs.Tree.{Tree, IsInside, operands_of, parent_of}
+use Rattle.pliron_core.specs.Tree.{Tree, IsLive, IsInside, operands_of, parent_of}
 use Rattle.pliron_core.specs.Joined.{IsTree}
 use Rattle.pliron_laws.specs.Datum.{Head, Meaning}
 use Rattle.pliron_laws.specs.InPlace.{Outcome}
@@ -20,3 +20,8 @@ BranchFoldsLaw m can_fold_branch outcome = (t t' : Tree) (root op : ℕ) (known 
 -- constants are what every run reads of its operands
 abbrev pub ConstantFoldsLaw : Meaning → (Head → Bool) → Outcome → Type 0
 ConstantFoldsLaw m can_fold outcome = (t t' : Tree) (op block : ℕ) (known : List (Option AttrObj)) (answer : Option IRStatus) → IsTree t → IsTree t' → length t.operations ≤ length t'.operations → parent_of t op ≡ Some block → HeadPasses can_fold t op → length known ≡ length (operands_of t op) → AreReadAs m t op known → outcome t t' op known answer → KeepsRuns m t t'
+
+-- after each outcome of folding such a branch the tree is well linked at each root where it was, and which
+-- still stands
+abbrev pub BranchLinksLaw : Meaning → (Head → Bool) → Outcome → Type 0
+BranchLinksLaw m can_fold_branch outcome = (t t' : Tree) (root other op : ℕ) (known : List (Option AttrObj)) (answer : Option IRStatus) → IsTree t → IsTree t' → IsWellLinked m t root → IsInside t root op → HeadPasses can_fold_branch t op → outcome t t' op known answer → IsWellLinked m t other → IsLive t other → IsLive t' other → IsWellLinked m t' other

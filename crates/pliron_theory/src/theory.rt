@@ -2,7 +2,7 @@
 //! dialect that keeps the laws which it names.
 ghost use Rattle.pliron_theory.specs.Answered.{AnsweredLaw};
 ghost use Rattle.pliron_theory.specs.Refolded.{RefoldingLaw};
-ghost use Rattle.pliron_theory.specs.Folded.{BranchFoldsLaw, ConstantFoldsLaw};
+ghost use Rattle.pliron_theory.specs.Folded.{BranchFoldsLaw, BranchLinksLaw, ConstantFoldsLaw};
 ghost use Rattle.pliron_theory.specs.ChosenRoots.{ChosenRootsLaw};
 ghost use Rattle.pliron_theory.specs.Change.{PassLaws};
 ghost use Rattle.pliron_theory.specs.Edges.{EdgeLaws};
@@ -105,6 +105,12 @@ pub fn constant_folds_keep_runs<D: Dialect>()
 /// handed constants are what every run reads of its operands.
 pub fn branch_folds_keep_runs<D: Dialect>()
     ensures { BranchFoldsLaw D.meaning D.can_fold_branch D.BranchOpFoldInterface.outcome }
+{}
+
+/// After each outcome of a dialect's fold of a branch in place the tree is well linked at each root where
+/// it was, and which still stands.
+pub fn branch_folds_keep_links<D: Dialect>()
+    ensures { BranchLinksLaw D.meaning D.can_fold_branch D.BranchOpFoldInterface.outcome }
 {}
 
 /// An argument of a block may go with the operands that are forwarded to it, where nothing else uses

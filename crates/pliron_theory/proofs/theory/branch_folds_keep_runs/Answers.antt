@@ -2,4 +2,6 @@ use Rattle.pliron_theory.proofs.FoldedBranches.{branch_folds}
 use Rattle.pliron_theory.proofs.theory.branch_folds_keep_runs.Goals as goal
 
 pub returns : goal.returns
-returns g c = branch_folds _ _ _ _ _ _ _ _ _ _ _ g.met.D.Dialect.folds_in_place g.met.D.Dialect.forwards_operands g.met.D.Dialect.answers_jumps
+returns g c =
+    let d = g.met.D.Dialect in
+    branch_folds _ _ _ _ _ _ d.forwards_operands d.answers_jumps _ _ _ _ _ d.folds_in_place
