@@ -1,6 +1,6 @@
 use Rattle.pliron_search.specs.Search.{IsListed}
 use Rattle.pliron_graph.proofs.PartLemmas.{part_distinct, part_all, members, taken}
-use Rattle.pliron_graph_tests.proofs.components_in_two_passes.take_component.Goals as goal
+use Rattle.pliron_graph.proofs.components.take_component.Goals as goal
 
 pub by_falling_number-requires-clause-distinct : goal.by_falling_number-requires-clause-distinct
 by_falling_number-requires-clause-distinct g c =

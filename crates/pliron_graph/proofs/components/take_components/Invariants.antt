@@ -2,7 +2,7 @@ use Rattle.std.proofs.Common.{◌≡◌, ◌++◌, length, List}
 use Rattle.pliron_graph.specs.Components.{entry_then_nodes}
 use Rattle.pliron_search.specs.Search.{number_in}
 use Rattle.pliron_graph.proofs.ComponentLemmas.{AreTaken}
-use Rattle.pliron_graph_tests.proofs.components_in_two_passes.take_components.Given as goal
+use Rattle.pliron_graph.proofs.components.take_components.Given as goal
 
 abbrev pub invariant-loop-root : goal.invariant-loop-root
 invariant-loop-root g l =

@@ -4,7 +4,7 @@ use Rattle.pliron_graph.specs.Components.{entry_then_nodes}
 use Rattle.pliron_search.specs.Search.{number_in}
 use Rattle.pliron_graph.proofs.ComponentLemmas.{AreTaken}
 use Rattle.pliron_graph.proofs.TakingLemmas.{all_listed, start, root_member, over, more, finish}
-use Rattle.pliron_graph_tests.proofs.components_in_two_passes.take_components.Goals as goal
+use Rattle.pliron_graph.proofs.components.take_components.Goals as goal
 
 pub loop-root-init : goal.loop-root-init
 loop-root-init g c =

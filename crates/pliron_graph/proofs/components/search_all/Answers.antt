@@ -5,7 +5,7 @@ use Rattle.pliron_search.specs.Internal.Forest.{Grew}
 use Rattle.pliron_graph.proofs.CollectLemmas.{read_item}
 use Rattle.pliron_search.proofs.NumberingLemmas.{search_from_growth}
 use Rattle.pliron_graph.proofs.SearchAllLemmas.{grew_none, grew_over, grew_more, grew_all}
-use Rattle.pliron_graph_tests.proofs.components_in_two_passes.search_all.Goals as goal
+use Rattle.pliron_graph.proofs.components.search_all.Goals as goal
 
 pub loop-root-init : goal.loop-root-init
 loop-root-init g c =

@@ -1,7 +1,7 @@
 use Rattle.std.proofs.Common.{◌≡◌, ◌<◌, ◌≤◌, length, arith, rules}
 use Rattle.pliron_search.proofs.InsertLemmas.{goes_last}
 use Rattle.pliron_graph.proofs.CollectLemmas.{read_item, collects_root, collects_next, collected, few, item_inside}
-use Rattle.pliron_graph_tests.proofs.components_in_two_passes.collect.Goals as goal
+use Rattle.pliron_graph.proofs.components.collect.Goals as goal
 
 pub loop-next-init : goal.loop-next-init
 loop-next-init g c =

@@ -3,7 +3,7 @@ use Rattle.std.specs.List.Sorted.{IsPermutation}
 use Rattle.std.proofs.lemmas.List.Sorted.{IsNonDecreasingBy-from_sort_by_key}
 use Rattle.pliron_search.specs.Search.{number_in}
 use Rattle.pliron_graph.proofs.OrderLemmas.{reversed_same, reversed_falls}
-use Rattle.pliron_graph_tests.proofs.components_in_two_passes.by_falling_number.Goals as goal
+use Rattle.pliron_graph.proofs.components.by_falling_number.Goals as goal
 
 pub returns-clause-same_nodes : goal.returns-clause-same_nodes
 returns-clause-same_nodes g c =

@@ -1,5 +1,5 @@
 use Rattle.pliron_graph.proofs.CollectLemmas.{takes_none, takes_next}
-use Rattle.pliron_graph_tests.proofs.components_in_two_passes.hold_predecessors.Goals as goal
+use Rattle.pliron_graph.proofs.components.hold_predecessors.Goals as goal
 
 pub loop-i-init : goal.loop-i-init
 loop-i-init g c =
