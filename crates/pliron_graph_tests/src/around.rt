@@ -1,7 +1,7 @@
 //! The searches for what stands around an operation or a block.
 ghost use Rattle.pliron_core.specs.Tree.{IsLive, IsBlock};
 
-use super::*;
+
 use pliron_graph::{
     find_ancestor_block_of_block_in_region, find_ancestor_block_of_op_in_region,
     find_ancestor_of_op_interface, find_ancestor_of_op_type, find_ancestor_op_of_op_in_block,
@@ -10,6 +10,9 @@ use pliron_graph::{
 use pliron_core::{BasicBlock, Context, Operation, Ptr, Region};
 use pliron_meaning::Interface;
 use pliron_meaning::bench::{Bench, BenchKind, read_text};
+use std::alloc::Global;
+use std::process::Abort;
+use std::test::Fail;
 
 const TEXT: &str = "func { b0(): a = const 2; scope a { b0(p): print p; ret }; ret a }";
 

@@ -1,9 +1,9 @@
 //! Components of worked graphs, and of all small ones against mutual reach and against another method.
 ghost use Rattle.pliron_search.specs.Adjacency.{AreInverse};
 
-use super::component_table::COMPONENTS;
-use super::components_in_two_passes::components_in_two_passes;
-use super::{chain_of, graph_of, labels};
+use crate::component_table::COMPONENTS;
+use crate::components_by_low_numbers::components_by_low_numbers;
+use crate::orders::{chain_of, graph_of, labels};
 use pliron_graph::{AdjacencyList, Scc, sccs_in_topological_order};
 use pliron_meaning::OptError;
 use std::alloc::Global;
@@ -97,11 +97,10 @@ fn component_text(alloc: Global, components: &[Scc<u32>]) -> Result<String, OptE
 }
 
 // The components as text, the same by both methods.
-fn compared_text(rt: &impl Abort, alloc: Global, graph: &AdjacencyList) -> Result<String, OptError>
-    requires { AreInverse graph.now }
-{
-    let text = component_text(alloc, &sccs_in_topological_order(alloc, &(), graph)?)?;
-    let other = component_text(alloc, &components_in_two_passes(alloc, &(), graph)?)?;
+fn compared_text(rt: &impl Abort, alloc: Global, rows: &[&[u32]]) -> Result<String, OptError> {
+    let graph = graph_of(rt, alloc, rows)?;
+    let text = component_text(alloc, &sccs_in_topological_order(alloc, &(), &graph)?)?;
+    let other = component_text(alloc, &components_by_low_numbers(alloc, rows)?)?;
     assert_eq!(rt; text.as_str(), other.as_str());
     Ok(text)
 }
@@ -116,11 +115,10 @@ fn component_table_line(
 ) -> Result<String, OptError> {
     let mut line = String::new(alloc);
     for third in thirds {
-        let graph = graph_of(rt, alloc, &[first, second, *third])?;
         if !line.is_empty() {
             line.push(' ')?;
         }
-        line.push_str(&compared_text(rt, alloc, &graph)?)?;
+        line.push_str(&compared_text(rt, alloc, &[first, second, *third])?)?;
     }
     Ok(line)
 }

@@ -9,7 +9,7 @@ mod component_table;
 #[cfg(test)]
 mod components;
 #[cfg(test)]
-mod components_in_two_passes;
+mod components_by_low_numbers;
 #[cfg(test)]
 mod numbering_table;
 #[cfg(test)]

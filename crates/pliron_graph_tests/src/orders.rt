@@ -15,7 +15,7 @@ use std::process::Abort;
 use std::test::Fail;
 
 // The graph with these rows of successors.
-fn graph_of(rt: &impl Abort, alloc: Global, rows: &[&[u32]]) -> Result<AdjacencyList, OptError>
+pub fn graph_of(rt: &impl Abort, alloc: Global, rows: &[&[u32]]) -> Result<AdjacencyList, OptError>
     ensures { IfOk result (λ g. AreInverse g) }
 {
     let mut successors = Vec::with_capacity(alloc, rows.len())?;
@@ -26,7 +26,7 @@ fn graph_of(rt: &impl Abort, alloc: Global, rows: &[&[u32]]) -> Result<Adjacency
 }
 
 // The labels of the nodes, with a text between each two.
-fn labels(alloc: Global, nodes: &[u32], between: &str) -> Result<String, OptError> {
+pub fn labels(alloc: Global, nodes: &[u32], between: &str) -> Result<String, OptError> {
     let mut text = String::new(alloc);
     for node in nodes {
         if !text.is_empty() {
@@ -284,7 +284,7 @@ fn successor_without_a_row(rt: HostRuntime) -> Result<(), Fail> {
 }
 
 // A chain of nodes, each with the next as its successor.
-fn chain_of(rt: &impl Abort, alloc: Global, count: u32) -> Result<AdjacencyList, OptError>
+pub fn chain_of(rt: &impl Abort, alloc: Global, count: u32) -> Result<AdjacencyList, OptError>
     ensures { IfOk result (λ g. AreInverse g) }
 {
     let mut successors = Vec::new(alloc);
@@ -316,7 +316,7 @@ fn numbers_of_a_chain(rt: HostRuntime) -> Result<(), Fail> {
 }
 
 // The labels of what an iterator yields.
-fn yielded<I: Iterator<Item = u32> + Drop>(alloc: Global, nodes: I) -> Result<String, OptError>
+pub fn yielded<I: Iterator<Item = u32> + Drop>(alloc: Global, nodes: I) -> Result<String, OptError>
     requires can { I.can_next nodes }
     requires ends { IsFinite (I.remaining nodes) }
 {

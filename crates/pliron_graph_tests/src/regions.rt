@@ -2,9 +2,13 @@
 ghost use Rattle.pliron_core.specs.Tree.{IsRegion};
 ghost use Rattle.pliron_search.specs.Regions.{IsLawfulRegion};
 
-use super::*;
+
 use pliron_core::{Attrs, BasicBlock, Context, Head, Operation, Ptr, Region};
-use pliron_meaning::edges_last;
+use pliron_graph::{ControlFlowGraph, DFSTraversal, HasLabel, post_order, post_order_by_component, topological_order, topological_order_by_component};
+use pliron_meaning::{OptError, edges_last};
+use std::alloc::Global;
+use std::process::Abort;
+use std::test::Fail;
 
 // A new operation in no block, with this many regions.
 pub fn operation(alloc: Global, ctx: &mut Context, regions: usize) -> Result<Ptr<Operation>, Fail> {

@@ -1,5 +1,5 @@
 //! Reverse graphs of worked graphs.
-use super::{graph_of, yielded};
+use crate::orders::{graph_of, yielded};
 use pliron_graph::{
     ControlFlowGraph, DFSTraversal, HasLabel, ReverseGraph, ReverseNode, topological_order,
 };

@@ -1,7 +1,7 @@
 //! Components and the reverse graph of regions, and components of reverse graphs.
-use super::graph_of;
-use super::regions::{Made, build, check_lawful};
-use super::reverse::{edge_text, label_text, order_text};
+use crate::orders::graph_of;
+use crate::regions::{Made, build, check_lawful};
+use crate::reverse::{edge_text, label_text, order_text};
 use pliron_graph::{ControlFlowGraph, ReverseGraph, post_order, sccs_in_topological_order};
 use pliron_meaning::OptError;
 use std::alloc::Global;
