@@ -9,7 +9,7 @@ use std::alloc::{AllocError, Global};
 struct LowNumberSearch<'r> {
     alloc: Global,
     // The successors of each node.
-    rows: &'r [&'r [u32]],
+    rows: &'r [Vec<u32>],
     // For each node its number and whether its component is closed, once it was seen.
     seen: Vec<Option<Seen>>,
     count: usize,
@@ -17,7 +17,6 @@ struct LowNumberSearch<'r> {
     pending: Vec<u32>,
     // The way to the node at hand, each with how many of its successors were followed.
     path: Vec<(u32, usize)>,
-    components: Vec<Scc<u32>>,
 }
 
 #[derive(Clone, Copy, Debug)]
@@ -25,6 +24,14 @@ struct Seen {
     number: usize,
     low: usize,
     is_closed: bool,
+}
+
+// The successors of a node.
+fn row_of(rows: &[Vec<u32>], node: u32) -> &[u32] {
+    match rows.get(node as usize) {
+        Some(row) => row,
+        None => &[],
+    }
 }
 
 impl<'r> LowNumberSearch<'r> {
@@ -64,23 +71,29 @@ impl<'r> LowNumberSearch<'r> {
         Ok(())
     }
 
-    fn step(&mut self, node: u32, followed: usize) -> Result<(), AllocError> {
-        let row: &[u32] = self.rows.get(node as usize).copied().unwrap_or(&[]);
+    fn step(
+        &mut self,
+        node: u32,
+        followed: usize,
+        components: &mut Vec<Scc<u32>>,
+    ) -> Result<(), AllocError> {
+        let row = row_of(self.rows, node);
         match row.get(followed) {
             Some(next) => {
                 self.path.push((node, followed.saturating_add(1)))?;
                 self.follow(node, *next)
             }
-            None => self.leave(node),
+            None => self.leave(node, components),
         }
     }
 
-    fn leave(&mut self, node: u32) -> Result<(), AllocError> {
+    fn leave(&mut self, node: u32, components: &mut Vec<Scc<u32>>) -> Result<(), AllocError> {
         let Some(own) = self.seen(node) else {
             return Ok(());
         };
         if own.low == own.number {
-            return self.close(node);
+            let component = self.close(node)?;
+            return components.push(component);
         }
         let parent = self.path.last().map(|(parent, _)| *parent);
         if let Some(parent) = parent {
@@ -89,7 +102,7 @@ impl<'r> LowNumberSearch<'r> {
         Ok(())
     }
 
-    fn close(&mut self, first: u32) -> Result<(), AllocError> {
+    fn close(&mut self, first: u32) -> Result<Scc<u32>, AllocError> {
         let mut nodes = Vec::new(self.alloc);
         for _ in 0..self.pending.len() {
             let Some(node) = self.pending.pop() else {
@@ -103,49 +116,58 @@ impl<'r> LowNumberSearch<'r> {
                 break;
             }
         }
-        let row: &[u32] = self.rows.get(first as usize).copied().unwrap_or(&[]);
+        let row = row_of(self.rows, first);
         let is_cyclic = nodes.len() > 1 || row.contains(&first);
-        self.components.push(Scc { nodes, is_cyclic })
+        Ok(Scc { nodes, is_cyclic })
     }
 }
 
 /// The components of the graph with these rows of successors, in the order of the call that is tested.
 pub fn components_by_low_numbers(
     alloc: Global,
-    rows: &[&[u32]],
+    rows: &[Vec<u32>],
 ) -> Result<Vec<Scc<u32>>, AllocError> {
-    let mut seen = Vec::with_capacity(alloc, rows.len())?;
-    for _ in rows {
-        seen.push(None)?;
-    }
+    let mut components = Vec::new(alloc);
     let mut search = LowNumberSearch {
         alloc,
         rows,
-        seen,
+        seen: Vec::new(alloc),
         count: 0,
         pending: Vec::new(alloc),
         path: Vec::new(alloc),
-        components: Vec::new(alloc),
     };
-    search_all(&mut search)?;
-    let mut components = search.components;
+    search_all(&mut search, &mut components)?;
     components.reverse();
     Ok(components)
 }
 
-// The entry is the first node, so the listed order begins with it.
-fn search_all(search: &mut LowNumberSearch<'_>) -> Result<(), AllocError> {
+// Searches from each node that was not seen. The entry is the first node, so the listed order begins with it.
+fn search_all(
+    search: &mut LowNumberSearch<'_>,
+    components: &mut Vec<Scc<u32>>,
+) -> Result<(), AllocError> {
+    for _ in search.rows {
+        search.seen.push(None)?;
+    }
     for root in 0..search.rows.len() as u32 {
-        if search.seen(root).is_some() {
-            continue;
+        if search.seen(root).is_none() {
+            search.enter(root)?;
+            search_from(search, components)?;
         }
-        search.enter(root)?;
-        for _ in 0..u64::MAX {
-            let Some((node, followed)) = search.path.pop() else {
-                break;
-            };
-            search.step(node, followed)?;
-        }
+    }
+    Ok(())
+}
+
+// Goes the way to its end.
+fn search_from(
+    search: &mut LowNumberSearch<'_>,
+    components: &mut Vec<Scc<u32>>,
+) -> Result<(), AllocError> {
+    for _ in 0..u64::MAX {
+        let Some((node, followed)) = search.path.pop() else {
+            break;
+        };
+        search.step(node, followed, components)?;
     }
     Ok(())
 }
