@@ -15,6 +15,7 @@ use std::test::Fail;
 const TEXT: &str = "func { b0(): a = const 2; scope a { b0(p): print p; ret }; ret a }";
 
 // The operations and blocks of the text.
+#[derive(Clone, Copy)]
 struct Nest {
     func: Ptr<Operation>,
     outer: Ptr<Region>,

@@ -58,7 +58,8 @@ impl<'r> LowNumberSearch<'r> {
         }
         self.count = self.count.saturating_add(1);
         self.pending.push(node)?;
-        self.path.push((node, 0))
+        self.path.push((node, 0))?;
+        Ok(())
     }
 
     fn follow(&mut self, node: u32, next: u32) -> Result<(), AllocError> {
@@ -93,7 +94,8 @@ impl<'r> LowNumberSearch<'r> {
         };
         if own.low == own.number {
             let component = self.close(node)?;
-            return components.push(component);
+            components.push(component)?;
+            return Ok(());
         }
         let parent = self.path.last().map(|(parent, _)| *parent);
         if let Some(parent) = parent {

@@ -29,8 +29,8 @@ fn check_last(rt: &impl Abort, nodes: ReverseOrderIter<'_, u32>, want: Option<u3
 fn check_orders(rt: &impl Abort, alloc: Global, graph: &AdjacencyList) -> Result<(), Fail>
     requires { AreInverse graph.now }
 {
-    assert_eq!(rt; post_order(alloc, &(), graph)?.as_slice(), [1, 0]);
-    assert_eq!(rt; topological_order(alloc, &(), graph)?.as_slice(), [0, 1]);
+    assert_eq!(rt; post_order(alloc, &(), graph)?.as_slice(), [1, 0].as_slice());
+    assert_eq!(rt; topological_order(alloc, &(), graph)?.as_slice(), [0, 1].as_slice());
     assert_eq!(rt; post_order_by_component(alloc, &(), graph)?.len(), 1);
     assert_eq!(rt; topological_order_by_component(alloc, &(), graph)?.len(), 1);
     Ok(())
@@ -39,7 +39,7 @@ fn check_orders(rt: &impl Abort, alloc: Global, graph: &AdjacencyList) -> Result
 // The first component.
 fn check_component(rt: &impl Abort, components: &[Scc<u32>]) {
     let Scc { nodes, is_cyclic } = components.first().expect(rt, "a component");
-    assert_eq!(rt; nodes.as_slice(), [0]);
+    assert_eq!(rt; nodes.as_slice(), [0].as_slice());
     assert!(rt; *is_cyclic);
 }
 

@@ -6,7 +6,7 @@ use crate::cases::{parts, rows_of};
 use crate::texts::answer;
 use pliron_core::{Attrs, BasicBlock, Context, Head, Operation, Ptr, Region};
 use pliron_laws::edges_last;
-use std::alloc::{AllocError, Global};
+use std::alloc::Global;
 use std::process::Abort;
 use std::test::Fail;
 
@@ -30,13 +30,13 @@ reverse components: 1 2;3;4;;2;3; => [sentinel] [block3] [block5] [block1] [bloc
 reverse indices: 1 2;3;4;;2;3; => >sentinel>block4 block3, block1 block2>block0>, block3>block1>block0, block4>block2>block0 block4, sentinel>block3>block1 block5, block2 sentinel>block4>block2, block3>block5>";
 
 // A new operation in no block, with this many regions.
-fn operation(alloc: Global, ctx: &mut Context, regions: usize) -> Result<Ptr<Operation>, AllocError> {
+fn operation(alloc: Global, ctx: &mut Context, regions: usize) -> Result<Ptr<Operation>, Fail> {
     let head = Head {
         kind: 1,
         ssa: true,
         attrs: Attrs::new(Vec::new(alloc)),
     };
-    Operation::create(ctx, head, 0, regions)
+    Ok(Operation::create(ctx, head, 0, regions)?)
 }
 
 // The first region of the operation.
@@ -54,7 +54,7 @@ fn appended(
     alloc: Global,
     ctx: &mut Context,
     block: Ptr<BasicBlock>,
-) -> Result<Ptr<Operation>, AllocError> {
+) -> Result<Ptr<Operation>, Fail> {
     let op = operation(alloc, ctx, 0)?;
     assert!(rt; block.is_live(ctx));
     assert!(rt; op.is_live(ctx));
@@ -71,11 +71,11 @@ fn lead(
     op: Ptr<Operation>,
     blocks: &[Ptr<BasicBlock>],
     target: u32,
-) -> Result<(), AllocError> {
+) -> Result<(), Fail> {
     let block = *blocks.get(target as usize).expect(rt, "a block");
     assert!(rt; op.is_live(ctx));
     assert!(rt; block.is_live(ctx));
-    Operation::push_successor(ctx, op, block)
+    Ok(Operation::push_successor(ctx, op, block)?)
 }
 
 // The block ends with an operation that has these blocks as successors.
@@ -86,7 +86,7 @@ fn branch(
     from: Ptr<BasicBlock>,
     blocks: &[Ptr<BasicBlock>],
     targets: &[u32],
-) -> Result<(), AllocError> {
+) -> Result<(), Fail> {
     let op = appended(rt, alloc, ctx, from)?;
     for target in targets {
         lead(rt, ctx, op, blocks, *target)?;
@@ -102,7 +102,7 @@ fn fill(
     ctx: &mut Context,
     region: Ptr<Region>,
     rows: &[Vec<u32>],
-) -> Result<(), AllocError> {
+) -> Result<(), Fail> {
     let mut blocks = Vec::new(alloc);
     for _ in rows {
         assert!(rt; region.is_live(ctx));

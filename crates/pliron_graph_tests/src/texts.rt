@@ -1,9 +1,8 @@
 //! What the calls of `pliron_graph` answer on any graph, as text.
 ghost use Rattle.std.specs.Iterator.{IsFinite};
-ghost use Rattle.std.specs.Prelude.{IsTrue, IfOk};
 ghost use Rattle.std.specs.Option.{option_to_list};
-ghost use Rattle.pliron_search.specs.Search.{IsSearch, IsListed};
 ghost use Rattle.std.specs.Prelude.{Contains};
+ghost use Rattle.pliron_search.specs.Search.{IsListed, IsSearch};
 
 use pliron_graph::{
     ControlFlowGraph, DFSEdgeKind, DFSTraversal, HasLabel, ReverseGraph, Scc, post_order,
@@ -12,6 +11,7 @@ use pliron_graph::{
 };
 use pliron_laws::OptError;
 use std::alloc::Global;
+use std::hash::Hash;
 
 /// The answer of a graph, or of its reverse.
 pub fn answer<C, G: ControlFlowGraph<C>>(
@@ -84,7 +84,7 @@ pub fn push_labels<C, N: HasLabel<C>>(
 }
 
 // The labels of what an iterator yields, with a blank between each two.
-fn push_yielded<C, N: HasLabel<C>, I: Iterator<Item = N> + Drop>(
+fn push_yielded<C, N: HasLabel<C> + Copy, I: Iterator<Item = N> + Drop>(
     alloc: Global,
     ctx: &C,
     nodes: I,
@@ -158,7 +158,7 @@ fn push_search<C, G: ControlFlowGraph<C>>(
 }
 
 // The three numbers of a reached node.
-fn push_numbers<C, N: HasLabel<C>>(
+fn push_numbers<C, N: HasLabel<C> + Eq + Hash + Copy>(
     alloc: Global,
     ctx: &C,
     search: &DFSTraversal<N>,
@@ -187,12 +187,30 @@ fn push_edges<C, G: ControlFlowGraph<C>>(
     let search = DFSTraversal::new(alloc, ctx, graph)?;
     for node in &graph.nodes(alloc, ctx)? {
         if search.is_reached(node) {
-            for i in 0..graph.num_successors(ctx, node) {
-                let next = graph.get_successor(ctx, node, i);
-                let kind = search.edge_kind(node, &next);
-                push_edge(alloc, ctx, node, &next, kind, text)?;
-            }
+            push_edges_of(alloc, ctx, graph, &search, node, text)?;
         }
+    }
+    Ok(())
+}
+
+// The edges of a node that the search from the entry reached.
+fn push_edges_of<C, G: ControlFlowGraph<C>>(
+    alloc: Global,
+    ctx: &C,
+    graph: &G,
+    search: &DFSTraversal<G::Node>,
+    node: &G::Node,
+    text: &mut String,
+) -> Result<(), OptError>
+    requires lawful { G.is_lawful graph.now ctx.now }
+    requires member { Contains (G.graph graph.now ctx.now).nodes node.now }
+    requires search { IsSearch G.Node.eq (G.graph graph.now ctx.now) (option_to_list (G.graph graph.now ctx.now).entry) search.now }
+    requires reached { IsListed G.Node.eq search.now.pre node.now }
+{
+    for i in 0..graph.num_successors(ctx, node) {
+        let next = graph.get_successor(ctx, node, i);
+        let kind = search.edge_kind(node, &next);
+        push_edge(alloc, ctx, node, &next, kind, text)?;
     }
     Ok(())
 }
@@ -235,12 +253,12 @@ fn push_neighbours<C, G: ControlFlowGraph<C>>(
     requires { G.is_lawful graph.now ctx.now }
 {
     for node in &graph.nodes(alloc, ctx)? {
+        text.push_str(if text.is_empty() { "" } else { ", " })?;
         push_labels(alloc, ctx, &graph.predecessors(alloc, ctx, node)?, " ", text)?;
         text.push('>')?;
         text.push_str(&node.label(alloc, ctx)?)?;
         text.push('>')?;
         push_labels(alloc, ctx, &graph.successors(alloc, ctx, node)?, " ", text)?;
-        text.push_str(", ")?;
     }
     Ok(())
 }
@@ -255,6 +273,7 @@ fn push_indices<C, G: ControlFlowGraph<C>>(
     requires { G.is_lawful graph.now ctx.now }
 {
     for node in &graph.nodes(alloc, ctx)? {
+        text.push_str(if text.is_empty() { "" } else { ", " })?;
         for i in 0..graph.num_predecessors(ctx, node) {
             text.push_str(if i > 0 { " " } else { "" })?;
             text.push_str(&graph.get_predecessor(ctx, node, i).label(alloc, ctx)?)?;
@@ -266,7 +285,6 @@ fn push_indices<C, G: ControlFlowGraph<C>>(
             text.push_str(if i > 0 { " " } else { "" })?;
             text.push_str(&graph.get_successor(ctx, node, i).label(alloc, ctx)?)?;
         }
-        text.push_str(", ")?;
     }
     Ok(())
 }

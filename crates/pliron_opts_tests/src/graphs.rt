@@ -28,6 +28,10 @@ fn worked_graphs(rt: HostRuntime) -> Result<(), Fail> {
             "post-order: [0] [1]\ntopological: [0] [1]\nnumbers: 0=0/0\nedges:\ncomponents: [1] [0]\npre-sentinels: 0\n",
         ),
         (
+            "0: 2\n1: 0 3\n2: 0 4\n3: 1\n4:\n",
+            "post-order: [4 2 0] [3 1]\ntopological: [0 2 4] [1 3]\nnumbers: 0=0/2 2=1/1 4=2/0\nedges: 0>2:Forward 2>0:Back 2>4:Forward\ncomponents: [3 1]* [2 0]* [4]\npre-sentinels: 4\n",
+        ),
+        (
             "",
             "post-order:\ntopological:\nnumbers:\nedges:\ncomponents:\npre-sentinels:\n",
         ),
