@@ -7,7 +7,8 @@ use std::alloc::Global;
 use std::process::Abort;
 use std::test::Fail;
 
-static GRAPHS: &str = "orders: 1 5;2 4;3 6;4 2;5 1;;3; => [5 4 3 6 2 1 0] / [0 1 2 6 3 4 5] / 5 4 3 6 2 1 0 / 0 1 2 6 3 4 5
+static GRAPHS: &str =
+    "orders: 1 5;2 4;3 6;4 2;5 1;;3; => [5 4 3 6 2 1 0] / [0 1 2 6 3 4 5] / 5 4 3 6 2 1 0 / 0 1 2 6 3 4 5
 orders: 1 2;3;4;;2;3; => [3 1 4 2 0][5] / [0 2 4 1 3][5] / 3 1 4 2 0 5 / 0 2 4 1 3 5
 orders: ;0; => [0][1] / [0][1] / 0 1 / 0 1
 orders:  =>  /  /  /

@@ -1,4 +1,5 @@
 //! The searches for what stands around an operation or a block.
+use pliron_bench::{Bench, BenchKind};
 use pliron_core::{BasicBlock, Context, Operation, Ptr, Region};
 use pliron_graph::{
     find_ancestor_block_of_block_in_region, find_ancestor_block_of_op_in_region,
@@ -6,7 +7,6 @@ use pliron_graph::{
     find_ancestor_op_of_op_in_region, strictly_precedes_in_block,
 };
 use pliron_laws::Interface;
-use pliron_bench::{Bench, BenchKind};
 use pliron_notation::read_text;
 use std::alloc::Global;
 use std::process::Abort;
@@ -75,14 +75,32 @@ fn nest_of(rt: &impl Abort, ctx: &Context, func: Ptr<Operation>) -> Nest {
 }
 
 // The nearest ancestor of the `print` of this kind, and with this interface.
-fn check_kind(rt: &impl Abort, ctx: &Context, nest: &Nest, kind: BenchKind, want: Option<Ptr<Operation>>) {
+fn check_kind(
+    rt: &impl Abort,
+    ctx: &Context,
+    nest: &Nest,
+    kind: BenchKind,
+    want: Option<Ptr<Operation>>,
+) {
     assert!(rt; nest.print.is_live(ctx));
-    assert_eq!(rt; find_ancestor_of_op_type::<Bench>(ctx, nest.print, kind), want);
+    assert_eq!(rt;
+        find_ancestor_of_op_type::<Bench>(ctx, nest.print, kind),
+        want
+    );
 }
 
-fn check_interface(rt: &impl Abort, ctx: &Context, nest: &Nest, interface: Interface, want: Option<Ptr<Operation>>) {
+fn check_interface(
+    rt: &impl Abort,
+    ctx: &Context,
+    nest: &Nest,
+    interface: Interface,
+    want: Option<Ptr<Operation>>,
+) {
     assert!(rt; nest.print.is_live(ctx));
-    assert_eq!(rt; find_ancestor_of_op_interface::<Bench>(ctx, nest.print, interface), want);
+    assert_eq!(rt;
+        find_ancestor_of_op_interface::<Bench>(ctx, nest.print, interface),
+        want
+    );
 }
 
 fn check_kinds(rt: &impl Abort, ctx: &Context, nest: &Nest) {
@@ -94,11 +112,26 @@ fn check_kinds(rt: &impl Abort, ctx: &Context, nest: &Nest) {
 }
 
 // What the searches upwards from the operation answer in the outer region and in its block.
-fn check_above(rt: &impl Abort, ctx: &Context, nest: &Nest, op: Ptr<Operation>, above: Ptr<Operation>) {
+fn check_above(
+    rt: &impl Abort,
+    ctx: &Context,
+    nest: &Nest,
+    op: Ptr<Operation>,
+    above: Ptr<Operation>,
+) {
     assert!(rt; op.is_live(ctx));
-    assert_eq!(rt; find_ancestor_op_of_op_in_region(ctx, op, nest.outer), Some(above));
-    assert_eq!(rt; find_ancestor_op_of_op_in_block(ctx, op, nest.body), Some(above));
-    assert_eq!(rt; find_ancestor_block_of_op_in_region(ctx, op, nest.outer), Some(nest.body));
+    assert_eq!(rt;
+        find_ancestor_op_of_op_in_region(ctx, op, nest.outer),
+        Some(above)
+    );
+    assert_eq!(rt;
+        find_ancestor_op_of_op_in_block(ctx, op, nest.body),
+        Some(above)
+    );
+    assert_eq!(rt;
+        find_ancestor_block_of_op_in_region(ctx, op, nest.outer),
+        Some(nest.body)
+    );
 }
 
 // What stands outside the inner region has nothing around it there.
@@ -123,10 +156,19 @@ fn check_operations(rt: &impl Abort, ctx: &Context, nest: &Nest) {
 
 fn check_block_above(rt: &impl Abort, ctx: &Context, nest: &Nest, block: Ptr<BasicBlock>) {
     assert!(rt; block.is_live(ctx));
-    assert_eq!(rt; find_ancestor_block_of_block_in_region(ctx, block, nest.outer), Some(nest.body));
+    assert_eq!(rt;
+        find_ancestor_block_of_block_in_region(ctx, block, nest.outer),
+        Some(nest.body)
+    );
 }
 
-fn check_precedes(rt: &impl Abort, ctx: &Context, a: Ptr<Operation>, b: Ptr<Operation>, want: bool) {
+fn check_precedes(
+    rt: &impl Abort,
+    ctx: &Context,
+    a: Ptr<Operation>,
+    b: Ptr<Operation>,
+    want: bool,
+) {
     assert!(rt; a.is_live(ctx));
     assert!(rt; b.is_live(ctx));
     assert_eq!(rt; strictly_precedes_in_block(ctx, a, b), want);

@@ -1,5 +1,4 @@
 //! Each public name of `pliron_graph` at its place.
-ghost use Rattle.std.specs.Prelude.{IfOk};
 ghost use Rattle.pliron_search.specs.Adjacency.{AreInverse};
 
 use crate::cases::{graph_of, rows_of};
@@ -25,12 +24,17 @@ fn check_last(rt: &impl Abort, nodes: ReverseOrderIter<'_, u32>, want: Option<u3
     assert_eq!(rt; rest.next(), want);
 }
 
-
 fn check_orders(rt: &impl Abort, alloc: Global, graph: &AdjacencyList) -> Result<(), Fail>
     requires { AreInverse graph.now }
 {
-    assert_eq!(rt; post_order(alloc, &(), graph)?.as_slice(), [1, 0].as_slice());
-    assert_eq!(rt; topological_order(alloc, &(), graph)?.as_slice(), [0, 1].as_slice());
+    assert_eq!(rt;
+        post_order(alloc, &(), graph)?.as_slice(),
+        [1, 0].as_slice()
+    );
+    assert_eq!(rt;
+        topological_order(alloc, &(), graph)?.as_slice(),
+        [0, 1].as_slice()
+    );
     assert_eq!(rt; post_order_by_component(alloc, &(), graph)?.len(), 1);
     assert_eq!(rt; topological_order_by_component(alloc, &(), graph)?.len(), 1);
     Ok(())
@@ -49,15 +53,22 @@ fn check_search(rt: &impl Abort, search: &DFSTraversal<u32>) {
     check_last(rt, search.reverse_post_order(), Some(0), 2);
 }
 
-fn check_graph<G: ControlFlowGraph<(), Node = u32>>(rt: &impl Abort, graph: &G, entry: Option<u32>)
-    requires { G.is_lawful graph.now () }
+fn check_entry<C, G: ControlFlowGraph<C, Node = u32>>(
+    rt: &impl Abort,
+    ctx: &C,
+    graph: &G,
+    entry: Option<u32>,
+)
+    requires { G.is_lawful graph.now ctx.now }
 {
-    assert_eq!(rt; graph.entry_node(&()), entry);
+    assert_eq!(rt; graph.entry_node(ctx), entry);
 }
 
-fn check_reverse(rt: &impl Abort, reverse: &ReverseGraph<'_, AdjacencyList, ()>) -> Result<(), Fail> {
+fn check_reverse(rt: &impl Abort, reverse: &ReverseGraph<'_, AdjacencyList, ()>) -> Result<(), Fail>
+    requires { AreInverse reverse.now.original }
+{
     check_first(rt, reverse.pre_sentinels().clone()?, Some(1), 1);
-    check_graph(rt, reverse.original(), Some(0));
+    check_entry(rt, &(), reverse.original(), Some(0));
     Ok(())
 }
 
@@ -65,14 +76,19 @@ fn check_reverse(rt: &impl Abort, reverse: &ReverseGraph<'_, AdjacencyList, ()>)
 fn calls_on_a_graph(rt: HostRuntime) -> Result<(), Fail> {
     let alloc = rt.alloc();
     let graph = graph_of(&rt, alloc, rows_of(&rt, alloc, "0 1;1;")?)?;
-    check_graph(&rt, &graph, Some(0));
+    check_entry(&rt, &(), &graph, Some(0));
     check_orders(&rt, alloc, &graph)?;
     check_component(&rt, &sccs_in_topological_order(alloc, &(), &graph)?);
     check_search(&rt, &DFSTraversal::new(alloc, &(), &graph)?);
     check_reverse(&rt, &ReverseGraph::new(alloc, &(), &graph)?)
 }
 
-fn check_label(rt: &impl Abort, alloc: Global, node: ReverseNode<u32>, want: &str) -> Result<(), Fail> {
+fn check_label(
+    rt: &impl Abort,
+    alloc: Global,
+    node: ReverseNode<u32>,
+    want: &str,
+) -> Result<(), Fail> {
     assert_eq!(rt; node.label(alloc, &())?.as_str(), want);
     Ok(())
 }

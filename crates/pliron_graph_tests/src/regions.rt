@@ -10,7 +10,8 @@ use std::alloc::Global;
 use std::process::Abort;
 use std::test::Fail;
 
-static REGIONS: &str = "orders: 1 2;3;3;; => [block3 block1 block2 block0] / [block0 block2 block1 block3] / block3 block1 block2 block0 / block0 block2 block1 block3
+static REGIONS: &str =
+    "orders: 1 2;3;3;; => [block3 block1 block2 block0] / [block0 block2 block1 block3] / block3 block1 block2 block0 / block0 block2 block1 block3
 orders: 1;2;0;; => [block2 block1 block0][block3] / [block0 block1 block2][block3] / block2 block1 block0 block3 / block0 block1 block2 block3
 orders: ;0 2;1; => [block0][block2 block1] / [block0][block1 block2] / block0 block2 block1 / block0 block1 block2
 searches: 1 2;2;1;0; => block0 block1 block2 / block2 block1 block0 / block0 block1 block2 / block0=0/2/0 block1=1/1/1 block2=2/0/2 block3=-
@@ -123,12 +124,7 @@ fn check_lawful(rt: &impl Abort, ctx: &Context, region: Ptr<Region>)
     assert!(rt; edges_last(region.get_parent_op(ctx), ctx));
 }
 
-fn check_in(
-    rt: &impl Abort,
-    alloc: Global,
-    ctx: &mut Context,
-    case: &str,
-) -> Result<(), Fail> {
+fn check_in(rt: &impl Abort, alloc: Global, ctx: &mut Context, case: &str) -> Result<(), Fail> {
     let (what, rows, want) = parts(rt, case);
     let func = operation(alloc, ctx, 1)?;
     let region = region_of(rt, ctx, func);

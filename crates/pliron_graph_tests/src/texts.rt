@@ -57,9 +57,20 @@ fn push_plain<C, G: ControlFlowGraph<C>>(
 {
     match what {
         "orders" => push_orders(alloc, ctx, graph, text),
-        "searches" => push_search(alloc, ctx, graph, &DFSTraversal::new(alloc, ctx, graph)?, text),
+        "searches" => push_search(
+            alloc,
+            ctx,
+            graph,
+            &DFSTraversal::new(alloc, ctx, graph)?,
+            text,
+        ),
         "edges" => push_edges(alloc, ctx, graph, text),
-        "components" => push_components(alloc, ctx, &sccs_in_topological_order(alloc, ctx, graph)?, text),
+        "components" => push_components(
+            alloc,
+            ctx,
+            &sccs_in_topological_order(alloc, ctx, graph)?,
+            text,
+        ),
         "indices" => push_indices(alloc, ctx, graph, text),
         "entry" => push_entry(alloc, ctx, graph, text),
         _ => push_neighbours(alloc, ctx, graph, text),
@@ -126,13 +137,29 @@ fn push_orders<C, G: ControlFlowGraph<C>>(
 ) -> Result<(), OptError>
     requires { G.is_lawful graph.now ctx.now }
 {
-    push_bracketed(alloc, ctx, &post_order_by_component(alloc, ctx, graph)?, text)?;
+    push_bracketed(
+        alloc,
+        ctx,
+        &post_order_by_component(alloc, ctx, graph)?,
+        text,
+    )?;
     text.push_str(" / ")?;
-    push_bracketed(alloc, ctx, &topological_order_by_component(alloc, ctx, graph)?, text)?;
+    push_bracketed(
+        alloc,
+        ctx,
+        &topological_order_by_component(alloc, ctx, graph)?,
+        text,
+    )?;
     text.push_str(" / ")?;
     push_labels(alloc, ctx, &post_order(alloc, ctx, graph)?, " ", text)?;
     text.push_str(" / ")?;
-    push_labels(alloc, ctx, &topological_order(alloc, ctx, graph)?, " ", text)
+    push_labels(
+        alloc,
+        ctx,
+        &topological_order(alloc, ctx, graph)?,
+        " ",
+        text,
+    )
 }
 
 // The reached nodes in the three orders of the search, and the numbers of each node.
@@ -254,7 +281,13 @@ fn push_neighbours<C, G: ControlFlowGraph<C>>(
 {
     for node in &graph.nodes(alloc, ctx)? {
         text.push_str(if text.is_empty() { "" } else { ", " })?;
-        push_labels(alloc, ctx, &graph.predecessors(alloc, ctx, node)?, " ", text)?;
+        push_labels(
+            alloc,
+            ctx,
+            &graph.predecessors(alloc, ctx, node)?,
+            " ",
+            text,
+        )?;
         text.push('>')?;
         text.push_str(&node.label(alloc, ctx)?)?;
         text.push('>')?;

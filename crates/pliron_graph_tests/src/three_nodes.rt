@@ -8,8 +8,7 @@ use crate::components_by_low_numbers::components_by_low_numbers;
 use crate::numbering_table::NUMBERINGS;
 use crate::texts::push_labels;
 use pliron_graph::{
-    AdjacencyList, DFSTraversal, OrderIter, Scc, post_order_by_component,
-    sccs_in_topological_order,
+    AdjacencyList, DFSTraversal, OrderIter, Scc, post_order_by_component, sccs_in_topological_order,
 };
 use pliron_laws::OptError;
 use std::alloc::Global;
@@ -19,11 +18,7 @@ use std::test::Fail;
 /// The lists of successors, as the bits of the numbers below 8.
 static SETS: &str = ";0;1;0 1;2;0 2;1 2;0 1 2";
 
-fn push_order(
-    alloc: Global,
-    nodes: OrderIter<'_, u32>,
-    text: &mut String,
-) -> Result<(), OptError> {
+fn push_order(alloc: Global, nodes: OrderIter<'_, u32>, text: &mut String) -> Result<(), OptError> {
     for node in nodes {
         push_labels(alloc, &(), &[node], "", text)?;
     }
@@ -51,7 +46,12 @@ fn numbering(alloc: Global, graph: &AdjacencyList) -> Result<String, OptError>
 {
     let mut text = String::new(alloc);
     let search = DFSTraversal::new(alloc, &(), graph)?;
-    push_numbering(alloc, &search, &post_order_by_component(alloc, &(), graph)?, &mut text)?;
+    push_numbering(
+        alloc,
+        &search,
+        &post_order_by_component(alloc, &(), graph)?,
+        &mut text,
+    )?;
     Ok(text)
 }
 
@@ -65,7 +65,12 @@ pub fn component_text(alloc: Global, components: &[Scc<u32>]) -> Result<String, 
     Ok(text)
 }
 
-fn check_numbering(rt: &impl Abort, alloc: Global, graph: &AdjacencyList, want: &str) -> Result<(), Fail>
+fn check_numbering(
+    rt: &impl Abort,
+    alloc: Global,
+    graph: &AdjacencyList,
+    want: &str,
+) -> Result<(), Fail>
     requires { AreInverse graph.now }
 {
     assert_eq!(rt; numbering(alloc, graph)?.as_str(), want);
@@ -89,9 +94,19 @@ fn check_graph(
     numbers: &str,
     components: &str,
 ) -> Result<(), Fail> {
-    check_components(rt, alloc, &components_by_low_numbers(alloc, &rows)?, components)?;
+    check_components(
+        rt,
+        alloc,
+        &components_by_low_numbers(alloc, &rows)?,
+        components,
+    )?;
     let graph = graph_of(rt, alloc, rows)?;
-    check_components(rt, alloc, &sccs_in_topological_order(alloc, &(), &graph)?, components)?;
+    check_components(
+        rt,
+        alloc,
+        &sccs_in_topological_order(alloc, &(), &graph)?,
+        components,
+    )?;
     check_numbering(rt, alloc, &graph, numbers)
 }
 
