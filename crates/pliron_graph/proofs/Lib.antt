@@ -14,12 +14,3 @@ pub mod PreSentinelLemmas
 pub mod ReverseLawLemmas
 pub mod AncestorLemmas
 pub mod PrecedesLemmas
-pub mod TarjanLemmas
-pub mod ForwardLemmas
-pub mod WayLemmas
-pub mod LowNumberLemmas
-pub mod ClosedLemmas
-pub mod LowlinkLemmas
-pub mod PendingLemmas
-pub mod ComponentSearchLemmas
-pub mod ComponentStepLemmas

@@ -1,4 +1,3 @@
 -- What contracts inside the crate, the proofs of laws and the tests cite. No public clause names it.
 pub mod Collecting
 pub mod ReverseLawful
-pub mod Lowlink

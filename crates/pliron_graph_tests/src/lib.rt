@@ -1,22 +1,28 @@
-//! Tests of `pliron_graph`: worked graphs, tables of all graphs of three nodes, regions of texts and searches
-//! for ancestors. It has no function of its own.
+//! Tests of `pliron_graph`: worked graphs, all graphs of three nodes against tables and another method,
+//! regions, reverse graphs and searches for ancestors. It has no function of its own.
+//!
+//! A case is a line: what is asked of a graph, the graph, ` => ` and the answer as text.
 #![tactic(auto)]
 
 #[cfg(test)]
+mod adjacency;
+#[cfg(test)]
 mod around;
+#[cfg(test)]
+mod cases;
+#[cfg(test)]
+mod chains;
 #[cfg(test)]
 mod component_table;
 #[cfg(test)]
-mod components;
+mod components_by_low_numbers;
 #[cfg(test)]
-mod components_in_two_passes;
+mod names;
 #[cfg(test)]
 mod numbering_table;
 #[cfg(test)]
-mod orders;
-#[cfg(test)]
 mod regions;
 #[cfg(test)]
-mod reverse;
+mod texts;
 #[cfg(test)]
-mod reverse_regions;
+mod three_nodes;

@@ -41,7 +41,7 @@ fn step<C, G: ControlFlowGraph<C>>(
 /// The nodes that it passes by are those of `seen`. The stack has each node on the way from the root with the index of its next
 /// successor. Cost: a look-up in `seen` for each edge from a node that is found. Source: R. Tarjan, Depth-first search and linear graph
 /// algorithms, 1972.
-pub(crate) fn walk<C, G: ControlFlowGraph<C>>(
+pub fn walk<C, G: ControlFlowGraph<C>>(
     alloc: Global,
     ctx: &C,
     graph: &G,

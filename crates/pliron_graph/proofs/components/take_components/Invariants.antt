@@ -1,0 +1,18 @@
+use Rattle.std.proofs.Common.{◌≡◌, ◌++◌, length, List}
+use Rattle.pliron_graph.specs.Components.{entry_then_nodes}
+use Rattle.pliron_search.specs.Search.{number_in}
+use Rattle.pliron_graph.proofs.ComponentLemmas.{AreTaken}
+use Rattle.pliron_graph.proofs.components.take_components.Given as goal
+
+abbrev pub invariant-loop-root : goal.invariant-loop-root
+invariant-loop-root g l =
+    let graph = g.G.ControlFlowGraph.graph l.graph l.ctx in
+    let eq = g.G.Node.PartialEq.eq in
+    record {
+      gone : List g.row.G-Node.Denot;
+      left : l.initial.post.items ≡ l.post.items ++ gone;
+      taken : AreTaken graph (entry_then_nodes graph) (number_in eq l.pre.keys) (number_in eq l.initial.post.items) l.held.keys l.components.items (length l.post.items);
+    }
+
+abbrev pub decreases-loop-root : goal.decreases-loop-root
+decreases-loop-root g l = length l.post.items

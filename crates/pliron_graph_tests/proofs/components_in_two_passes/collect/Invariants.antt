@@ -1,9 +1,0 @@
-use Rattle.std.proofs.Common.{◌+◌, ◌-◌, length}
-use Rattle.pliron_graph.proofs.CollectLemmas.{IsCollecting}
-use Rattle.pliron_graph_tests.proofs.components_in_two_passes.collect.Given as goal
-
-abbrev pub invariant-loop-next : goal.invariant-loop-next
-invariant-loop-next g l = IsCollecting g.G.Node.PartialEq.eq (g.G.ControlFlowGraph.graph l.graph l.ctx) l.fn.root l.fn.held.keys l.held.keys l.next
-
-abbrev pub decreases-loop-next : goal.decreases-loop-next
-decreases-loop-next g l = length l.fn.held.keys + length (g.G.ControlFlowGraph.graph l.graph l.ctx).nodes - l.next

@@ -1,0 +1,175 @@
+//! Components by one search that keeps the lowest number that each node is known to reach, for comparison.
+use pliron_graph::Scc;
+use std::alloc::{AllocError, Global};
+
+/// A search that closes a component as it leaves the node of it that it came to first.
+///
+/// Source: R. Tarjan, Depth-first search and linear graph algorithms, 1972, section on strongly connected components.
+#[derive(Drop)]
+struct LowNumberSearch<'r> {
+    alloc: Global,
+    // The successors of each node.
+    rows: &'r [Vec<u32>],
+    // For each node its number and whether its component is closed, once it was seen.
+    seen: Vec<Option<Seen>>,
+    count: usize,
+    // The nodes whose component is not closed, in the order in which it came to them.
+    pending: Vec<u32>,
+    // The way to the node at hand, each with how many of its successors were followed.
+    path: Vec<(u32, usize)>,
+}
+
+#[derive(Clone, Copy, Debug)]
+struct Seen {
+    number: usize,
+    low: usize,
+    is_closed: bool,
+}
+
+// The successors of a node.
+fn row_of(rows: &[Vec<u32>], node: u32) -> &[u32] {
+    match rows.get(node as usize) {
+        Some(row) => row,
+        None => &[],
+    }
+}
+
+impl<'r> LowNumberSearch<'r> {
+    fn seen(&self, node: u32) -> Option<Seen> {
+        match self.seen.get(node as usize) {
+            Some(entry) => *entry,
+            None => None,
+        }
+    }
+
+    fn lower(&mut self, node: u32, number: usize) {
+        if let Some(Some(entry)) = self.seen.get_mut(node as usize) {
+            entry.low = entry.low.min(number);
+        }
+    }
+
+    fn enter(&mut self, node: u32) -> Result<(), AllocError> {
+        if let Some(entry) = self.seen.get_mut(node as usize) {
+            *entry = Some(Seen {
+                number: self.count,
+                low: self.count,
+                is_closed: false,
+            });
+        }
+        self.count = self.count.saturating_add(1);
+        self.pending.push(node)?;
+        self.path.push((node, 0))?;
+        Ok(())
+    }
+
+    fn follow(&mut self, node: u32, next: u32) -> Result<(), AllocError> {
+        let Some(target) = self.seen(next) else {
+            return self.enter(next);
+        };
+        if !target.is_closed {
+            self.lower(node, target.number);
+        }
+        Ok(())
+    }
+
+    fn step(
+        &mut self,
+        node: u32,
+        followed: usize,
+        components: &mut Vec<Scc<u32>>,
+    ) -> Result<(), AllocError> {
+        let row = row_of(self.rows, node);
+        match row.get(followed) {
+            Some(next) => {
+                self.path.push((node, followed.saturating_add(1)))?;
+                self.follow(node, *next)
+            }
+            None => self.leave(node, components),
+        }
+    }
+
+    fn leave(&mut self, node: u32, components: &mut Vec<Scc<u32>>) -> Result<(), AllocError> {
+        let Some(own) = self.seen(node) else {
+            return Ok(());
+        };
+        if own.low == own.number {
+            let component = self.close(node)?;
+            components.push(component)?;
+            return Ok(());
+        }
+        let parent = self.path.last().map(|(parent, _)| *parent);
+        if let Some(parent) = parent {
+            self.lower(parent, own.low);
+        }
+        Ok(())
+    }
+
+    fn close(&mut self, first: u32) -> Result<Scc<u32>, AllocError> {
+        let mut nodes = Vec::new(self.alloc);
+        for _ in 0..self.pending.len() {
+            let Some(node) = self.pending.pop() else {
+                break;
+            };
+            if let Some(Some(entry)) = self.seen.get_mut(node as usize) {
+                entry.is_closed = true;
+            }
+            nodes.push(node)?;
+            if node == first {
+                break;
+            }
+        }
+        let row = row_of(self.rows, first);
+        let is_cyclic = nodes.len() > 1 || row.contains(&first);
+        Ok(Scc { nodes, is_cyclic })
+    }
+}
+
+/// The components of the graph with these rows of successors, in the order of the call that is tested.
+pub fn components_by_low_numbers(
+    alloc: Global,
+    rows: &[Vec<u32>],
+) -> Result<Vec<Scc<u32>>, AllocError> {
+    let mut components = Vec::new(alloc);
+    let mut search = LowNumberSearch {
+        alloc,
+        rows,
+        seen: Vec::new(alloc),
+        count: 0,
+        pending: Vec::new(alloc),
+        path: Vec::new(alloc),
+    };
+    search_all(&mut search, &mut components)?;
+    components.reverse();
+    Ok(components)
+}
+
+// Searches from each node that was not seen. The entry is the first node, so the listed order begins with it.
+fn search_all(
+    search: &mut LowNumberSearch<'_>,
+    components: &mut Vec<Scc<u32>>,
+) -> Result<(), AllocError> {
+    for _ in search.rows {
+        search.seen.push(None)?;
+    }
+    for root in 0..search.rows.len() as u32 {
+        if search.seen(root).is_none() {
+            search.enter(root)?;
+            search_from(search, components)?;
+        }
+    }
+    Ok(())
+}
+
+// Goes the way to its end.
+fn search_from(
+    search: &mut LowNumberSearch<'_>,
+    components: &mut Vec<Scc<u32>>,
+) -> Result<(), AllocError> {
+    for _ in 0..u64::MAX {
+        let Some((node, followed)) = search.path.pop() else {
+            break;
+        };
+        search.step(node, followed, components)?;
+    }
+    Ok(())
+}
