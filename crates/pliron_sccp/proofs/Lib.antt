@@ -17,3 +17,4 @@ pub mod Counting
 pub mod Waiting
 pub mod Demanded
 pub mod Applied
+pub mod EdgesAsked
