@@ -10,6 +10,7 @@ use Rattle.pliron_theory.specs.Facts.{NotAConstant, AtMost, answered, Facts, Say
 use Rattle.pliron_sccp.specs.declared.applying.Demand.{Demand}
 use Rattle.pliron_sccp.specs.declared.applying.Demand.TheVariants.{Enter, Lower}
 use Rattle.pliron_sccp.specs.Tables.{meant}
+use Rattle.pliron_sccp.specs.Settling.{IsMet}
 
 -- the block is reached, or the value's fact is at or below this one
 abbrev pub Meets : Facts → Demand → Type 0
@@ -60,6 +61,10 @@ abbrev pub MayLead : {S : Type 0} → Option (HashSet ℕ S) → ℕ → Bool �
 MayLead None b answer = IsTrue answer
 MayLead (Some blocks) b answer = answer ≡ contains nat_eq blocks b
 
+-- facts meet all that is asked exactly if they meet the operation, as it was read under the facts f
+abbrev pub Asks : Says → Tree → Facts → ℕ → List Demand → Type 0
+Asks x t f op asked = (o : Operation) → op_at t op ≡ Some o → (now : Facts) → MeetsAll now asked ↔ IsMet x t f now op o
+
 -- what is asked for the item at one index
 abbrev pub IsNotConstant : Facts → (j v : ℕ) → Type 0
 IsNotConstant now j v = now.fact v ≡ NotAConstant
@@ -75,3 +80,7 @@ GetsForwarded f values now j v = (w : ℕ) → slice_get values j ≡ Some w →
 
 abbrev pub FollowsEdge : Says → Tree → Facts → Operation → Facts → (i b : ℕ) → Type 0
 FollowsEdge x t f o now i b = MayGo x t f o i b → IsTrue (now.reaches b) × ((j v w : ℕ) → slice_get (arguments_of t b) j ≡ Some v → Forwards x t o i j w → AtMost (now.fact v) (f.fact w))
+
+-- where it is a branch what that asks, else that each successor is entered
+abbrev pub AsksEdges : Says → Tree → Facts → ℕ → Operation → Facts → Type 0
+AsksEdges x t f op o now = (IsTrue (x.meaning.is_branch o.head) → AsksBranches x t f o now) × (x.meaning.is_branch o.head ≡ false → AsksJumps t op now)

@@ -1,17 +1,18 @@
-//! What an operation asks of the facts, read under the facts so far, piece by piece.
-ghost use Rattle.std.specs.Prelude.{◌≡◌, ◌<◌, ℕ, Some, OnOk, IfOk, IfErr, length, slice_get};
+//! What an operation asks of the facts, read under the facts so far.
+ghost use Rattle.std.specs.Prelude.{◌≡◌, ◌<◌, ◌↔◌, ℕ, nat_eq, true, if◌then◌else◌, Some, OnOk, IfOk, IfErr, IsTrue, length, slice_get};
+ghost use Rattle.std.specs.HashSet.{contains};
 ghost use Rattle.pliron_core.specs.Tree.{IsLive, IsBlock, IsRegion, In, operands_of, results_of, successors_of};
 ghost use Rattle.pliron_laws.specs.Tree.{Operation as OperationOf, op_at, shape_of};
 ghost use Rattle.pliron_laws.specs.Answers.{HeadPasses};
 ghost use Rattle.pliron_laws.specs.declared.fault.OptError.TheVariants.{Memory};
 ghost use Rattle.pliron_theory.specs.Facts.{Says, answered, handed, IsEntered, known as known_of, NotAConstant as Varies};
 ghost use Rattle.pliron_sccp.specs.Tables.{facts_of, fact_in, meant};
-ghost use Rattle.pliron_sccp.specs.Demands.{Adds, AsksEntries, AsksJumps, AsksAnswers, AsksResults, AsksForwarded, FollowsEdge, AreFeasible, MayLead, EntryEntered};
+ghost use Rattle.pliron_sccp.specs.Demands.{Adds, Asks, AsksEntries, AsksEdges, AsksJumps, AsksAnswers, AsksResults, AsksForwarded, AsksBranches, FollowsEdge, AreFeasible, MayLead, EntryEntered};
 
 use crate::applying::Demand;
 use crate::tables::{Fact, Solver};
 use pliron_core::{AttrObj, BasicBlock, Context, Operation, Ptr, Region, Value};
-use pliron_laws::{ConstFoldInterface, Dialect, OptError};
+use pliron_laws::{BranchOpFoldInterface, ConstFoldInterface, Dialect, OptError};
 use std::alloc::Global;
 use std::collections::HashSet;
 
@@ -53,11 +54,7 @@ fn ask_region(region: Ptr<Region>, ctx: &Context, asked: &mut Vec<Demand>) -> Re
 }
 
 /// The entry of each region is entered.
-pub fn ask_entries(
-    op: Ptr<Operation>,
-    ctx: &Context,
-    asked: &mut Vec<Demand>,
-) -> Result<(), OptError>
+fn ask_entries(op: Ptr<Operation>, ctx: &Context, asked: &mut Vec<Demand>) -> Result<(), OptError>
     requires { IsLive ctx.now.tree op }
     ensures ok { OnOk result (Adds asked.old.items asked.new.items (λ now. AsksEntries ctx.now.tree op now)) }
     ensures err { IfErr result (λ e. e ≡ Memory) }
@@ -69,7 +66,7 @@ pub fn ask_entries(
 }
 
 /// Each successor is entered.
-pub fn ask_jumps(op: Ptr<Operation>, ctx: &Context, asked: &mut Vec<Demand>) -> Result<(), OptError>
+fn ask_jumps(op: Ptr<Operation>, ctx: &Context, asked: &mut Vec<Demand>) -> Result<(), OptError>
     requires { IsLive ctx.now.tree op }
     ensures ok { OnOk result (Adds asked.old.items asked.new.items (λ now. AsksJumps ctx.now.tree op now)) }
     ensures err { IfErr result (λ e. e ≡ Memory) }
@@ -92,7 +89,7 @@ fn known(alloc: Global, value: Value, solver: &Solver) -> Result<Option<AttrObj>
 }
 
 /// The constants that are known of the operands, for a fold.
-pub fn known_operands(
+fn known_operands(
     alloc: Global,
     op: Ptr<Operation>,
     ctx: &Context,
@@ -145,25 +142,75 @@ fn ask_forwarded(
     Ok(())
 }
 
+/// One block more.
+fn add_block(blocks: &mut HashSet<u64>, block: Ptr<BasicBlock>) -> Result<(), OptError>
+    ensures ok { OnOk result ((b : ℕ) → contains nat_eq blocks.new b ≡ (if nat_eq block b then true else contains nat_eq blocks.old b)) }
+    ensures err { IfErr result (λ e. e ≡ Memory) }
+{
+    blocks.insert(block.key())?;
+    Ok(())
+}
+
+/// The blocks that a branch may go to, where it folds.
+fn branch_blocks<D: Dialect>(
+    alloc: Global,
+    op: Ptr<Operation>,
+    ctx: &Context,
+    known: &[Option<AttrObj>],
+) -> Result<HashSet<u64>, OptError>
+    requires live { IsLive ctx.now.tree op }
+    requires folds { HeadPasses D.can_fold_branch ctx.now.tree op }
+    requires entries { length known.now ≡ length (operands_of ctx.now.tree op) }
+    ensures ok { IfOk result (λ blocks. (o : OperationOf) → op_at ctx.now.tree op ≡ Some o → (b : ℕ) → IsTrue (contains nat_eq blocks b) ↔ In b (D.feasible (shape_of D.meaning ctx.now.tree o) o.successors known.now)) }
+    ensures err { IfErr result (λ e. e ≡ Memory) }
+{
+    let targets = <D as BranchOpFoldInterface>::check_fold(alloc, op, ctx, known)?;
+    let mut blocks = HashSet::new(alloc);
+    for block in &targets {
+        add_block(&mut blocks, *block)?;
+    }
+    Ok(blocks)
+}
+
+/// The blocks that a branch may go to; `None` where it doesn't fold, and may go to all.
+fn feasible_blocks<D: Dialect>(
+    alloc: Global,
+    op: Ptr<Operation>,
+    ctx: &Context,
+    known: &[Option<AttrObj>],
+) -> Result<Option<HashSet<u64>>, OptError>
+    requires live { IsLive ctx.now.tree op }
+    requires entries { length known.now ≡ length (operands_of ctx.now.tree op) }
+    ensures ok { IfOk result (λ blocks. AreFeasible D.meaning D.can_fold_branch D.feasible ctx.now.tree op known.now blocks) }
+    ensures err { IfErr result (λ e. e ≡ Memory) }
+{
+    if D::folds_branch(op, ctx) {
+        let blocks = branch_blocks::<D>(alloc, op, ctx, known)?;
+        Ok(Some(blocks))
+    } else {
+        Ok(None)
+    }
+}
+
 /// Whether the branch may go to the block.
-fn may_go(feasible: &Option<HashSet<Ptr<BasicBlock>>>, block: Ptr<BasicBlock>) -> bool
+fn may_go(feasible: &Option<HashSet<u64>>, block: Ptr<BasicBlock>) -> bool
     ensures { MayLead feasible.now block result }
 {
     match feasible {
-        Some(blocks) => blocks.contains(&block),
+        Some(blocks) => blocks.contains(&block.key()),
         None => true,
     }
 }
 
 /// Where the edge may be taken, its block is reached, with the values that it forwards.
-pub fn ask_edge<D: Dialect>(
+fn ask_edge<D: Dialect>(
     alloc: Global,
     op: Ptr<Operation>,
     i: usize,
     ctx: &Context,
     solver: &Solver,
     known: &[Option<AttrObj>],
-    feasible: &Option<HashSet<Ptr<BasicBlock>>>,
+    feasible: &Option<HashSet<u64>>,
     asked: &mut Vec<Demand>,
 ) -> Result<(), OptError>
     requires live { IsLive ctx.now.tree op }
@@ -181,6 +228,48 @@ pub fn ask_edge<D: Dialect>(
     } else {
         Ok(())
     }
+}
+
+/// Where an edge may be taken, its block is reached, with the values that it forwards.
+fn ask_each_edge<D: Dialect>(
+    alloc: Global,
+    op: Ptr<Operation>,
+    ctx: &Context,
+    solver: &Solver,
+    known: &[Option<AttrObj>],
+    feasible: &Option<HashSet<u64>>,
+    asked: &mut Vec<Demand>,
+) -> Result<(), OptError>
+    requires live { IsLive ctx.now.tree op }
+    requires branch { HeadPasses D.meaning.is_branch ctx.now.tree op }
+    requires known { known.now ≡ handed (facts_of solver.now) (operands_of ctx.now.tree op) }
+    requires feasible { AreFeasible D.meaning D.can_fold_branch D.feasible ctx.now.tree op known.now feasible.now }
+    ensures ok { OnOk result ((o : OperationOf) → op_at ctx.now.tree op ≡ Some o → Adds asked.old.items asked.new.items (λ now. AsksBranches (record { meaning = D.meaning; can_fold = D.can_fold; can_fold_branch = D.can_fold_branch; constants = D.constants; feasible = D.feasible }) ctx.now.tree (facts_of solver.now) o now)) }
+    ensures err { IfErr result (λ e. e ≡ Memory) }
+{
+    for i in 0..op.num_successor(ctx) {
+        ask_edge::<D>(alloc, op, i, ctx, solver, known, feasible, asked)?;
+    }
+    Ok(())
+}
+
+/// Each block that the branch may go to is reached, with the values that its edges forward.
+fn ask_branches<D: Dialect>(
+    alloc: Global,
+    op: Ptr<Operation>,
+    ctx: &Context,
+    solver: &Solver,
+    known: &[Option<AttrObj>],
+    asked: &mut Vec<Demand>,
+) -> Result<(), OptError>
+    requires live { IsLive ctx.now.tree op }
+    requires branch { HeadPasses D.meaning.is_branch ctx.now.tree op }
+    requires known { known.now ≡ handed (facts_of solver.now) (operands_of ctx.now.tree op) }
+    ensures ok { OnOk result ((o : OperationOf) → op_at ctx.now.tree op ≡ Some o → Adds asked.old.items asked.new.items (λ now. AsksBranches (record { meaning = D.meaning; can_fold = D.can_fold; can_fold_branch = D.can_fold_branch; constants = D.constants; feasible = D.feasible }) ctx.now.tree (facts_of solver.now) o now)) }
+    ensures err { IfErr result (λ e. e ≡ Memory) }
+{
+    let feasible = feasible_blocks::<D>(alloc, op, ctx, known)?;
+    ask_each_edge::<D>(alloc, op, ctx, solver, known, &feasible, asked)
 }
 
 /// Each result is at or below its answer.
@@ -204,7 +293,7 @@ fn ask_answers(
 }
 
 /// Results of what folds are at or below their answers, other results are not constants.
-pub fn ask_results<D: Dialect>(
+fn ask_results<D: Dialect>(
     alloc: Global,
     op: Ptr<Operation>,
     ctx: &Context,
@@ -233,4 +322,48 @@ fn answered_fact(alloc: Global, answer: &Option<AttrObj>) -> Result<Fact, OptErr
         Some(attr) => Ok(Fact::Constant(attr.copy(alloc)?)),
         None => Ok(Fact::NotAConstant),
     }
+}
+
+/// What the edges of the operation ask.
+fn ask_edges<D: Dialect>(
+    alloc: Global,
+    op: Ptr<Operation>,
+    ctx: &Context,
+    solver: &Solver,
+    known: &[Option<AttrObj>],
+    asked: &mut Vec<Demand>,
+) -> Result<(), OptError>
+    requires live { IsLive ctx.now.tree op }
+    requires known { known.now ≡ handed (facts_of solver.now) (operands_of ctx.now.tree op) }
+    ensures ok { OnOk result ((o : OperationOf) → op_at ctx.now.tree op ≡ Some o → Adds asked.old.items asked.new.items (λ now. AsksEdges (record { meaning = D.meaning; can_fold = D.can_fold; can_fold_branch = D.can_fold_branch; constants = D.constants; feasible = D.feasible }) ctx.now.tree (facts_of solver.now) op o now)) }
+    ensures err { IfErr result (λ e. e ≡ Memory) }
+{
+    if D::is_branch(op, ctx) {
+        ask_branches::<D>(alloc, op, ctx, solver, known, asked)
+    } else {
+        ask_jumps(op, ctx, asked)
+    }
+}
+
+/// What the operation asks of the facts: the entries of its regions are entered, blocks that it may go
+/// to are reached with what is forwarded to them, and its results are at or below what it answers.
+///
+/// Reads the facts and changes nothing. Errors: want of memory. Cost: one step for each operand,
+/// result, region, successor and argument of these, and what the dialect's answers cost.
+pub fn demands<D: Dialect>(
+    alloc: Global,
+    op: Ptr<Operation>,
+    ctx: &Context,
+    solver: &Solver,
+) -> Result<Vec<Demand>, OptError>
+    requires { IsLive ctx.now.tree op }
+    ensures ok { IfOk result (λ asked. Asks (record { meaning = D.meaning; can_fold = D.can_fold; can_fold_branch = D.can_fold_branch; constants = D.constants; feasible = D.feasible }) ctx.now.tree (facts_of solver.now) op asked.items) }
+    ensures err { IfErr result (λ e. e ≡ Memory) }
+{
+    let known = known_operands(alloc, op, ctx, solver)?;
+    let mut asked = Vec::new(alloc);
+    ask_entries(op, ctx, &mut asked)?;
+    ask_edges::<D>(alloc, op, ctx, solver, &known, &mut asked)?;
+    ask_results::<D>(alloc, op, ctx, &known, &mut asked)?;
+    Ok(asked)
 }
