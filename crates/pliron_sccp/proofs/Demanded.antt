@@ -1,9 +1,10 @@
 -- Lists of what is asked, as they grow.
-use Rattle.std.proofs.Common.{◌≡◌, ◌↔◌, ◌⊎◌, inl, inr, ⊎_elim, ℕ, zero, suc, ◌+◌, ◌<◌, ◌≤◌, Bool, true, false, true≢false, List, [], ◌∷◌, ◌++◌, length, take, add-one, Option, Some, None, slice_get, refl, sym, ap, ◌∙◌, subst, arith, IsTrue}
+use Rattle.std.proofs.Common.{◌≡◌, ◌↔◌, ◌⊎◌, inl, inr, ⊎_elim, ℕ, zero, suc, ◌+◌, ◌<◌, ◌≤◌, Bool, true, false, true≢false, nat_eq, if◌then◌else◌, List, [], ◌∷◌, ◌++◌, length, take, add-one, Option, Some, None, slice_get, refl, sym, ap, ◌∙◌, subst, arith, IsTrue}
+use Rattle.std.proofs.lemmas.Bool.{eqb-true, eq-eqb}
 use Rattle.pliron_core.specs.declared.attrs.AttrObj.{AttrObj}
 use Rattle.pliron_core.proofs.ArgumentLemmas.{take_more}
 use Rattle.pliron_core.proofs.HoldingLemmas.{some_is, in_slice, slice_in, not_none}
-use Rattle.pliron_core.specs.Tree.{Tree, In, layout_of, first_of}
+use Rattle.pliron_core.specs.Tree.{Tree, In, arguments_of, layout_of, first_of}
 use Rattle.pliron_laws.specs.Datum.{Head}
 use Rattle.pliron_laws.specs.Tree.{Operation}
 use Rattle.pliron_theory.specs.Facts.{Fact, Undetermined, NotAConstant, AtMost, Facts, known, handed, answered, IsEntered}
@@ -12,7 +13,7 @@ use Rattle.pliron_sccp.specs.declared.applying.Demand.TheVariants.{Enter, Lower}
 use Rattle.pliron_sccp.specs.declared.tables.Fact.{Fact as TableFact}
 use Rattle.pliron_sccp.specs.declared.tables.Fact.TheVariants.{NotAConstant as Varying}
 use Rattle.pliron_sccp.specs.Tables.{meant}
-use Rattle.pliron_sccp.specs.Demands.{Meets, MeetsAll, Adds, EachBefore, IsNotConstant, EntryEntered, GetsAnswer, AsksAnswers, AsksResults}
+use Rattle.pliron_sccp.specs.Demands.{Meets, MeetsAll, Adds, EachBefore, IsNotConstant, EntryEntered, GetsAnswer, GetsForwarded, AsksAnswers, AsksResults, AsksForwarded}
 
 meets_append : (now : Facts) (ds : List Demand) (d : Demand) → MeetsAll now (ds ++ d ∷ []) ↔ (MeetsAll now ds × Meets now d)
 meets_append now [] d = (λ m. (tt, m.0), λ m. (m.1, tt))
@@ -155,3 +156,57 @@ pub others_asked : (can_fold : Head → Bool) (answers : List (Option AttrObj)) 
 others_asked can_fold answers o a b none p =
     adds_as (λ now. (v : ℕ) → In v o.results → now.fact v ≡ NotAConstant) (AsksResults can_fold answers o) a b p
     (λ now. (λ m. (λ yes. absurd (true≢false (sym yes ∙ none)), λ same. m), λ m. m.1 none))
+
+pub region_asked : (t : Tree) (r e : ℕ) (a b : List Demand) → first_of (layout_of t r) None ≡ Some e → Adds a b (λ now. IsEntered t now e) → Adds a b (λ now. EntryEntered t now 0 r)
+region_asked t r e a b is p =
+    adds_as (λ now. IsEntered t now e) (λ now. EntryEntered t now 0 r) a b p
+    (λ now. (λ m x at. subst (IsEntered t now) (some_is (sym is ∙ at)) m, λ m. m e is))
+
+-- what an edge forwards
+pub forward_asked : (f : Facts) (values : List ℕ) (j v w : ℕ) (fact : TableFact) (ds es : List Demand) → slice_get values j ≡ Some w → ((y : ℕ) → slice_get values j ≡ Some y → meant fact ≡ f.fact y) → es ≡ ds ++ Lower v fact ∷ [] → Adds ds es (λ now. GetsForwarded f values now j v)
+forward_asked f values j v w fact ds es is said e =
+    adds_as (λ now. Meets now (Lower v fact)) (λ now. GetsForwarded f values now j v) ds es (adds_one ds es (Lower v fact) e)
+    (λ now. (λ m y at. subst (AtMost (now.fact v)) (said y at) m, λ g. subst (AtMost (now.fact v)) (sym (said w is)) (g w is)))
+
+pub forwarded_asked : (t : Tree) (f : Facts) (values : List ℕ) (block i : ℕ) (a b c : List Demand) → b ≡ a ++ Enter block ∷ [] → ((k : ℕ) → k < length (arguments_of t block) → k < length values → k < i) → Adds b c (λ now. EachBefore (arguments_of t block) i (GetsForwarded f values now)) → Adds a c (AsksForwarded t f block values)
+forwarded_asked t f values block i a b c e all p =
+    adds_then (λ now. IsTrue (now.reaches block)) (λ now. EachBefore (arguments_of t block) i (GetsForwarded f values now)) (AsksForwarded t f block values) a b c
+    (adds_one a b (Enter block) e)
+    p
+    (λ now. (
+      λ m. (m.0, λ k v w at is. m.1 k v (all k (past (arguments_of t block) k v at) (past values k w is)) at w is),
+      λ m. (m.0, λ k v lt at w is. m.1 k v w at is),
+    ))
+
+-- a set of blocks grows by each of a list
+in_end : (b x : ℕ) (ys : List ℕ) → In b (ys ++ x ∷ []) ↔ (In b ys ⊎ (b ≡ x))
+in_end b x [] = (λ i. ⊎_elim (λ e. inr e) (λ n. absurd n) i, λ i. ⊎_elim (λ n. absurd n) (λ e. inl e) i)
+in_end b x (y ∷ ys) =
+    let r = in_end b x ys in
+    (λ i. ⊎_elim (λ e. inl (inl e)) (λ k. ⊎_elim (λ z. inl (inr z)) (λ e. inr e) (r.0 k)) i, λ i. ⊎_elim (λ k. ⊎_elim (λ e. inl e) (λ z. inr (r.1 (inl z))) k) (λ e. inr (r.1 (inr e))) i)
+
+pub more_blocks : (xs : List ℕ) (i x : ℕ) (old new : ℕ → Bool) → slice_get xs i ≡ Some x → ((b : ℕ) → new b ≡ (if nat_eq x b then true else old b)) → ((b : ℕ) → IsTrue (old b) ↔ In b (take i xs)) → (b : ℕ) → IsTrue (new b) ↔ In b (take (i + 1) xs)
+more_blocks xs i x old new at grown so b = by (nat_eq x b) refl
+  where
+    whole : take (i + 1) xs ≡ take i xs ++ x ∷ []
+    whole = ap (λ n. take n xs) (add-one i) ∙ take_more xs i x at
+
+    put : In b (take i xs) ⊎ (b ≡ x) → In b (take (i + 1) xs)
+    put k = subst (In b) (sym whole) ((in_end b x (take i xs)).1 k)
+
+    got : In b (take (i + 1) xs) → In b (take i xs) ⊎ (b ≡ x)
+    got k = (in_end b x (take i xs)).0 (subst (In b) whole k)
+
+    by : (c : Bool) → nat_eq x b ≡ c → IsTrue (new b) ↔ In b (take (i + 1) xs)
+    by true same = (λ m. put (inr (sym (eqb-true x b same))), λ m. grown b ∙ ap (λ z. if z then true else old b) same)
+    by false other =
+        let as_old : new b ≡ old b = grown b ∙ ap (λ z. if z then true else old b) other in (
+          λ m. put (inl ((so b).0 (sym as_old ∙ m))),
+          λ m. as_old ∙ ⊎_elim (λ k. (so b).1 k) (λ e. absurd (true≢false (sym (eq-eqb x b (sym e)) ∙ other))) (got m),
+        )
+
+pub take_all : (xs : List ℕ) (i : ℕ) → length xs ≤ i → take i xs ≡ xs
+take_all [] zero l = refl
+take_all [] (suc i) l = refl
+take_all (x ∷ xs) zero l = absurd (omega (arith, l))
+take_all (x ∷ xs) (suc i) l = ap (λ z. x ∷ z) (take_all xs i (omega (arith, l)))

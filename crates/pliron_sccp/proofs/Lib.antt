@@ -18,3 +18,4 @@ pub mod Waiting
 pub mod Demanded
 pub mod Applied
 pub mod StraightLinks
+pub mod EdgesAsked

@@ -1,13 +1,16 @@
 -- What an operation asks of the facts, one thing at a time.
-use Rattle.std.specs.Prelude.{◌≡◌, ◌↔◌, ◌<◌, ℕ, Bool, false, List, [], ◌∷◌, Option, Some, None, slice_get, IsTrue}
+use Rattle.std.specs.Prelude.{◌≡◌, ◌↔◌, ◌<◌, ℕ, Bool, false, nat_eq, List, [], ◌∷◌, Option, Some, None, slice_get, IsTrue}
+use Rattle.std.specs.HashSet.{HashSet, contains}
 use Rattle.pliron_core.specs.declared.attrs.AttrObj.{AttrObj}
-use Rattle.pliron_core.specs.Tree.{Tree, In, regions_of, successors_of, layout_of, first_of}
-use Rattle.pliron_laws.specs.Datum.{Head}
-use Rattle.pliron_laws.specs.Tree.{Operation}
-use Rattle.pliron_theory.specs.Facts.{NotAConstant, AtMost, answered, Facts, IsEntered}
+use Rattle.pliron_core.specs.Tree.{Tree, In, head_of, regions_of, successors_of, arguments_of, layout_of, first_of}
+use Rattle.pliron_laws.specs.Datum.{Head, Meaning}
+use Rattle.pliron_laws.specs.Tree.{Operation, op_at, shape_of}
+use Rattle.pliron_laws.specs.Folding.{Feasible}
+use Rattle.pliron_theory.specs.Facts.{NotAConstant, AtMost, answered, Facts, Says, MayGo, Forwards, IsEntered}
 use Rattle.pliron_sccp.specs.declared.applying.Demand.{Demand}
 use Rattle.pliron_sccp.specs.declared.applying.Demand.TheVariants.{Enter, Lower}
 use Rattle.pliron_sccp.specs.Tables.{meant}
+use Rattle.pliron_sccp.specs.Settling.{IsMet}
 
 -- the block is reached, or the value's fact is at or below this one
 abbrev pub Meets : Facts → Demand → Type 0
@@ -32,6 +35,19 @@ AsksEntries t op now = (r b : ℕ) → In r (regions_of t op) → first_of (layo
 abbrev pub AsksJumps : Tree → ℕ → Facts → Type 0
 AsksJumps t op now = (i b : ℕ) → slice_get (successors_of t op) i ≡ Some b → IsEntered t now b
 
+-- the block is reached, and each argument that gets one of these values is at or below its fact
+abbrev pub AsksForwarded : Tree → Facts → ℕ → List ℕ → Facts → Type 0
+AsksForwarded t f b values now = IsTrue (now.reaches b) × ((j v w : ℕ) → slice_get (arguments_of t b) j ≡ Some v → slice_get values j ≡ Some w → AtMost (now.fact v) (f.fact w))
+
+-- the operation doesn't fold as a branch, or it does and these are the blocks that it may go to
+abbrev pub AreFeasible : {S : Type 0} → Meaning → (Head → Bool) → Feasible → Tree → ℕ → List (Option AttrObj) → Option (HashSet ℕ S) → Type 0
+AreFeasible m can_fold feasible t op known None = (h : Head) → head_of t op ≡ Some h → can_fold h ≡ false
+AreFeasible m can_fold feasible t op known (Some blocks) = (o : Operation) → op_at t op ≡ Some o → IsTrue (can_fold o.head) × ((b : ℕ) → IsTrue (contains nat_eq blocks b) ↔ In b (feasible (shape_of m t o) o.successors known))
+
+-- where the branch may go, the block is reached, with what the edge forwards
+abbrev pub AsksBranches : Says → Tree → Facts → Operation → Facts → Type 0
+AsksBranches x t f o now = (i b : ℕ) → MayGo x t f o i b → IsTrue (now.reaches b) × ((j v w : ℕ) → slice_get (arguments_of t b) j ≡ Some v → Forwards x t o i j w → AtMost (now.fact v) (f.fact w))
+
 -- each result is at or below its answer
 abbrev pub AsksAnswers : List ℕ → List (Option AttrObj) → Facts → Type 0
 AsksAnswers results answers now = (i v : ℕ) (a : Option AttrObj) → slice_get results i ≡ Some v → slice_get answers i ≡ Some a → AtMost (now.fact v) (answered a)
@@ -39,6 +55,15 @@ AsksAnswers results answers now = (i v : ℕ) (a : Option AttrObj) → slice_get
 -- results of what folds are at or below these answers, other results are not constants
 abbrev pub AsksResults : (Head → Bool) → List (Option AttrObj) → Operation → Facts → Type 0
 AsksResults can_fold answers o now = (IsTrue (can_fold o.head) → AsksAnswers o.results answers now) × (can_fold o.head ≡ false → (v : ℕ) → In v o.results → now.fact v ≡ NotAConstant)
+
+-- whether one of these is the block, where there are any
+abbrev pub MayLead : {S : Type 0} → Option (HashSet ℕ S) → ℕ → Bool → Type 0
+MayLead None b answer = IsTrue answer
+MayLead (Some blocks) b answer = answer ≡ contains nat_eq blocks b
+
+-- facts meet all that is asked exactly if they meet the operation, as it was read under the facts f
+abbrev pub Asks : Says → Tree → Facts → ℕ → List Demand → Type 0
+Asks x t f op asked = (o : Operation) → op_at t op ≡ Some o → (now : Facts) → MeetsAll now asked ↔ IsMet x t f now op o
 
 -- what is asked for the item at one index
 abbrev pub IsNotConstant : Facts → (j v : ℕ) → Type 0
@@ -49,3 +74,13 @@ EntryEntered t now j r = (b : ℕ) → first_of (layout_of t r) None ≡ Some b 
 
 abbrev pub GetsAnswer : List (Option AttrObj) → Facts → (i v : ℕ) → Type 0
 GetsAnswer answers now i v = (a : Option AttrObj) → slice_get answers i ≡ Some a → AtMost (now.fact v) (answered a)
+
+abbrev pub GetsForwarded : Facts → List ℕ → Facts → (j v : ℕ) → Type 0
+GetsForwarded f values now j v = (w : ℕ) → slice_get values j ≡ Some w → AtMost (now.fact v) (f.fact w)
+
+abbrev pub FollowsEdge : Says → Tree → Facts → Operation → Facts → (i b : ℕ) → Type 0
+FollowsEdge x t f o now i b = MayGo x t f o i b → IsTrue (now.reaches b) × ((j v w : ℕ) → slice_get (arguments_of t b) j ≡ Some v → Forwards x t o i j w → AtMost (now.fact v) (f.fact w))
+
+-- where it is a branch what that asks, else that each successor is entered
+abbrev pub AsksEdges : Says → Tree → Facts → ℕ → Operation → Facts → Type 0
+AsksEdges x t f op o now = (IsTrue (x.meaning.is_branch o.head) → AsksBranches x t f o now) × (x.meaning.is_branch o.head ≡ false → AsksJumps t op now)

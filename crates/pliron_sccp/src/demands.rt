@@ -1,18 +1,20 @@
-//! What an operation asks of the facts, read under the facts so far: for now what its jumps and
-//! its results ask.
-ghost use Rattle.std.specs.Prelude.{◌≡◌, ℕ, Some, OnOk, IfOk, IfErr, length};
-ghost use Rattle.pliron_core.specs.Tree.{IsLive, IsBlock, In, operands_of, results_of};
+//! What an operation asks of the facts, read under the facts so far.
+ghost use Rattle.std.specs.Prelude.{◌≡◌, ◌<◌, ◌↔◌, ℕ, nat_eq, true, if◌then◌else◌, Some, OnOk, IfOk, IfErr, IsTrue, length, slice_get};
+ghost use Rattle.std.specs.HashSet.{contains};
+ghost use Rattle.pliron_core.specs.Tree.{IsLive, IsBlock, IsRegion, In, operands_of, results_of, successors_of};
 ghost use Rattle.pliron_laws.specs.Tree.{Operation as OperationOf, op_at, shape_of};
+ghost use Rattle.pliron_laws.specs.Answers.{HeadPasses};
 ghost use Rattle.pliron_laws.specs.declared.fault.OptError.TheVariants.{Memory};
-ghost use Rattle.pliron_theory.specs.Facts.{answered, handed, IsEntered, known as known_of, NotAConstant as Varies};
+ghost use Rattle.pliron_theory.specs.Facts.{Says, answered, handed, IsEntered, known as known_of, NotAConstant as Varies};
 ghost use Rattle.pliron_sccp.specs.Tables.{facts_of, fact_in, meant};
-ghost use Rattle.pliron_sccp.specs.Demands.{Adds, AsksJumps, AsksAnswers, AsksResults};
+ghost use Rattle.pliron_sccp.specs.Demands.{Adds, Asks, AsksEntries, AsksEdges, AsksJumps, AsksAnswers, AsksResults, AsksForwarded, AsksBranches, FollowsEdge, AreFeasible, MayLead, EntryEntered};
 
 use crate::applying::Demand;
 use crate::tables::{Fact, Solver};
-use pliron_core::{AttrObj, BasicBlock, Context, Operation, Ptr, Value};
-use pliron_laws::{ConstFoldInterface, Dialect, OptError};
+use pliron_core::{AttrObj, BasicBlock, Context, Operation, Ptr, Region, Value};
+use pliron_laws::{BranchOpFoldInterface, ConstFoldInterface, Dialect, OptError};
 use std::alloc::Global;
+use std::collections::HashSet;
 
 /// The block is reached, and its arguments are not constants.
 fn ask_entry(block: Ptr<BasicBlock>, ctx: &Context, asked: &mut Vec<Demand>) -> Result<(), OptError>
@@ -39,8 +41,32 @@ fn ask_unknown(op: Ptr<Operation>, ctx: &Context, asked: &mut Vec<Demand>) -> Re
     Ok(())
 }
 
+/// The region's entry is entered, if it has one.
+fn ask_region(region: Ptr<Region>, ctx: &Context, asked: &mut Vec<Demand>) -> Result<(), OptError>
+    requires { IsRegion ctx.now.tree region }
+    ensures ok { OnOk result (Adds asked.old.items asked.new.items (λ now. EntryEntered ctx.now.tree now 0 region)) }
+    ensures err { IfErr result (λ e. e ≡ Memory) }
+{
+    match region.get_head(ctx) {
+        Some(entry) => ask_entry(entry, ctx, asked),
+        None => Ok(()),
+    }
+}
+
+/// The entry of each region is entered.
+fn ask_entries(op: Ptr<Operation>, ctx: &Context, asked: &mut Vec<Demand>) -> Result<(), OptError>
+    requires { IsLive ctx.now.tree op }
+    ensures ok { OnOk result (Adds asked.old.items asked.new.items (λ now. AsksEntries ctx.now.tree op now)) }
+    ensures err { IfErr result (λ e. e ≡ Memory) }
+{
+    for i in 0..op.num_region(ctx) {
+        ask_region(op.get_region(ctx, i), ctx, asked)?;
+    }
+    Ok(())
+}
+
 /// Each successor is entered.
-pub fn ask_jumps(op: Ptr<Operation>, ctx: &Context, asked: &mut Vec<Demand>) -> Result<(), OptError>
+fn ask_jumps(op: Ptr<Operation>, ctx: &Context, asked: &mut Vec<Demand>) -> Result<(), OptError>
     requires { IsLive ctx.now.tree op }
     ensures ok { OnOk result (Adds asked.old.items asked.new.items (λ now. AsksJumps ctx.now.tree op now)) }
     ensures err { IfErr result (λ e. e ≡ Memory) }
@@ -63,7 +89,7 @@ fn known(alloc: Global, value: Value, solver: &Solver) -> Result<Option<AttrObj>
 }
 
 /// The constants that are known of the operands, for a fold.
-pub fn known_operands(
+fn known_operands(
     alloc: Global,
     op: Ptr<Operation>,
     ctx: &Context,
@@ -78,6 +104,172 @@ pub fn known_operands(
         attrs.push(known(alloc, op.get_operand(ctx, i), solver)?)?;
     }
     Ok(attrs)
+}
+
+/// The fact of one of these values.
+fn forwarded_fact(
+    alloc: Global,
+    values: &[Value],
+    j: usize,
+    solver: &Solver,
+) -> Result<Fact, OptError>
+    requires { j < length values.now }
+    ensures ok { IfOk result (λ fact. (w : ℕ) → slice_get values.now j ≡ Some w → meant fact ≡ fact_in solver.now w) }
+    ensures err { IfErr result (λ e. e ≡ Memory) }
+{
+    solver.copied_fact(alloc, values[j])
+}
+
+/// The block is reached, and each argument that gets one of these values is at or below its fact.
+fn ask_forwarded(
+    alloc: Global,
+    block: Ptr<BasicBlock>,
+    values: &[Value],
+    ctx: &Context,
+    solver: &Solver,
+    asked: &mut Vec<Demand>,
+) -> Result<(), OptError>
+    requires { IsBlock ctx.now.tree block }
+    ensures ok { OnOk result (Adds asked.old.items asked.new.items (λ now. AsksForwarded ctx.now.tree (facts_of solver.now) block values.now now)) }
+    ensures err { IfErr result (λ e. e ≡ Memory) }
+{
+    asked.push(Demand::Enter(block))?;
+    let count = block.num_argument(ctx).min(values.len());
+    for j in 0..count {
+        let fact = forwarded_fact(alloc, values, j, solver)?;
+        asked.push(Demand::Lower(block.get_argument(ctx, j), fact))?;
+    }
+    Ok(())
+}
+
+/// One block more.
+fn add_block(blocks: &mut HashSet<u64>, block: Ptr<BasicBlock>) -> Result<(), OptError>
+    ensures ok { OnOk result ((b : ℕ) → contains nat_eq blocks.new b ≡ (if nat_eq block b then true else contains nat_eq blocks.old b)) }
+    ensures err { IfErr result (λ e. e ≡ Memory) }
+{
+    blocks.insert(block.key())?;
+    Ok(())
+}
+
+/// The blocks that a branch may go to, where it folds.
+fn branch_blocks<D: Dialect>(
+    alloc: Global,
+    op: Ptr<Operation>,
+    ctx: &Context,
+    known: &[Option<AttrObj>],
+) -> Result<HashSet<u64>, OptError>
+    requires live { IsLive ctx.now.tree op }
+    requires folds { HeadPasses D.can_fold_branch ctx.now.tree op }
+    requires entries { length known.now ≡ length (operands_of ctx.now.tree op) }
+    ensures ok { IfOk result (λ blocks. (o : OperationOf) → op_at ctx.now.tree op ≡ Some o → (b : ℕ) → IsTrue (contains nat_eq blocks b) ↔ In b (D.feasible (shape_of D.meaning ctx.now.tree o) o.successors known.now)) }
+    ensures err { IfErr result (λ e. e ≡ Memory) }
+{
+    let targets = <D as BranchOpFoldInterface>::check_fold(alloc, op, ctx, known)?;
+    let mut blocks = HashSet::new(alloc);
+    for block in &targets {
+        add_block(&mut blocks, *block)?;
+    }
+    Ok(blocks)
+}
+
+/// The blocks that a branch may go to; `None` where it doesn't fold, and may go to all.
+fn feasible_blocks<D: Dialect>(
+    alloc: Global,
+    op: Ptr<Operation>,
+    ctx: &Context,
+    known: &[Option<AttrObj>],
+) -> Result<Option<HashSet<u64>>, OptError>
+    requires live { IsLive ctx.now.tree op }
+    requires entries { length known.now ≡ length (operands_of ctx.now.tree op) }
+    ensures ok { IfOk result (λ blocks. AreFeasible D.meaning D.can_fold_branch D.feasible ctx.now.tree op known.now blocks) }
+    ensures err { IfErr result (λ e. e ≡ Memory) }
+{
+    if D::folds_branch(op, ctx) {
+        let blocks = branch_blocks::<D>(alloc, op, ctx, known)?;
+        Ok(Some(blocks))
+    } else {
+        Ok(None)
+    }
+}
+
+/// Whether the branch may go to the block.
+fn may_go(feasible: &Option<HashSet<u64>>, block: Ptr<BasicBlock>) -> bool
+    ensures { MayLead feasible.now block result }
+{
+    match feasible {
+        Some(blocks) => blocks.contains(&block.key()),
+        None => true,
+    }
+}
+
+/// Where the edge may be taken, its block is reached, with the values that it forwards.
+fn ask_edge<D: Dialect>(
+    alloc: Global,
+    op: Ptr<Operation>,
+    i: usize,
+    ctx: &Context,
+    solver: &Solver,
+    known: &[Option<AttrObj>],
+    feasible: &Option<HashSet<u64>>,
+    asked: &mut Vec<Demand>,
+) -> Result<(), OptError>
+    requires live { IsLive ctx.now.tree op }
+    requires branch { HeadPasses D.meaning.is_branch ctx.now.tree op }
+    requires edge { i < length (successors_of ctx.now.tree op) }
+    requires known { known.now ≡ handed (facts_of solver.now) (operands_of ctx.now.tree op) }
+    requires feasible { AreFeasible D.meaning D.can_fold_branch D.feasible ctx.now.tree op known.now feasible.now }
+    ensures ok { OnOk result ((o : OperationOf) → op_at ctx.now.tree op ≡ Some o → (b : ℕ) → slice_get (successors_of ctx.now.tree op) i ≡ Some b → Adds asked.old.items asked.new.items (λ now. FollowsEdge (record { meaning = D.meaning; can_fold = D.can_fold; can_fold_branch = D.can_fold_branch; constants = D.constants; feasible = D.feasible }) ctx.now.tree (facts_of solver.now) o now i b)) }
+    ensures err { IfErr result (λ e. e ≡ Memory) }
+{
+    let block = op.get_successor(ctx, i);
+    if may_go(feasible, block) {
+        let values = D::successor_operands(alloc, op, ctx, i)?;
+        ask_forwarded(alloc, block, &values, ctx, solver, asked)
+    } else {
+        Ok(())
+    }
+}
+
+/// Where an edge may be taken, its block is reached, with the values that it forwards.
+fn ask_each_edge<D: Dialect>(
+    alloc: Global,
+    op: Ptr<Operation>,
+    ctx: &Context,
+    solver: &Solver,
+    known: &[Option<AttrObj>],
+    feasible: &Option<HashSet<u64>>,
+    asked: &mut Vec<Demand>,
+) -> Result<(), OptError>
+    requires live { IsLive ctx.now.tree op }
+    requires branch { HeadPasses D.meaning.is_branch ctx.now.tree op }
+    requires known { known.now ≡ handed (facts_of solver.now) (operands_of ctx.now.tree op) }
+    requires feasible { AreFeasible D.meaning D.can_fold_branch D.feasible ctx.now.tree op known.now feasible.now }
+    ensures ok { OnOk result ((o : OperationOf) → op_at ctx.now.tree op ≡ Some o → Adds asked.old.items asked.new.items (λ now. AsksBranches (record { meaning = D.meaning; can_fold = D.can_fold; can_fold_branch = D.can_fold_branch; constants = D.constants; feasible = D.feasible }) ctx.now.tree (facts_of solver.now) o now)) }
+    ensures err { IfErr result (λ e. e ≡ Memory) }
+{
+    for i in 0..op.num_successor(ctx) {
+        ask_edge::<D>(alloc, op, i, ctx, solver, known, feasible, asked)?;
+    }
+    Ok(())
+}
+
+/// Each block that the branch may go to is reached, with the values that its edges forward.
+fn ask_branches<D: Dialect>(
+    alloc: Global,
+    op: Ptr<Operation>,
+    ctx: &Context,
+    solver: &Solver,
+    known: &[Option<AttrObj>],
+    asked: &mut Vec<Demand>,
+) -> Result<(), OptError>
+    requires live { IsLive ctx.now.tree op }
+    requires branch { HeadPasses D.meaning.is_branch ctx.now.tree op }
+    requires known { known.now ≡ handed (facts_of solver.now) (operands_of ctx.now.tree op) }
+    ensures ok { OnOk result ((o : OperationOf) → op_at ctx.now.tree op ≡ Some o → Adds asked.old.items asked.new.items (λ now. AsksBranches (record { meaning = D.meaning; can_fold = D.can_fold; can_fold_branch = D.can_fold_branch; constants = D.constants; feasible = D.feasible }) ctx.now.tree (facts_of solver.now) o now)) }
+    ensures err { IfErr result (λ e. e ≡ Memory) }
+{
+    let feasible = feasible_blocks::<D>(alloc, op, ctx, known)?;
+    ask_each_edge::<D>(alloc, op, ctx, solver, known, &feasible, asked)
 }
 
 /// Each result is at or below its answer.
@@ -101,7 +293,7 @@ fn ask_answers(
 }
 
 /// Results of what folds are at or below their answers, other results are not constants.
-pub fn ask_results<D: Dialect>(
+fn ask_results<D: Dialect>(
     alloc: Global,
     op: Ptr<Operation>,
     ctx: &Context,
@@ -130,4 +322,48 @@ fn answered_fact(alloc: Global, answer: &Option<AttrObj>) -> Result<Fact, OptErr
         Some(attr) => Ok(Fact::Constant(attr.copy(alloc)?)),
         None => Ok(Fact::NotAConstant),
     }
+}
+
+/// What the edges of the operation ask.
+fn ask_edges<D: Dialect>(
+    alloc: Global,
+    op: Ptr<Operation>,
+    ctx: &Context,
+    solver: &Solver,
+    known: &[Option<AttrObj>],
+    asked: &mut Vec<Demand>,
+) -> Result<(), OptError>
+    requires live { IsLive ctx.now.tree op }
+    requires known { known.now ≡ handed (facts_of solver.now) (operands_of ctx.now.tree op) }
+    ensures ok { OnOk result ((o : OperationOf) → op_at ctx.now.tree op ≡ Some o → Adds asked.old.items asked.new.items (λ now. AsksEdges (record { meaning = D.meaning; can_fold = D.can_fold; can_fold_branch = D.can_fold_branch; constants = D.constants; feasible = D.feasible }) ctx.now.tree (facts_of solver.now) op o now)) }
+    ensures err { IfErr result (λ e. e ≡ Memory) }
+{
+    if D::is_branch(op, ctx) {
+        ask_branches::<D>(alloc, op, ctx, solver, known, asked)
+    } else {
+        ask_jumps(op, ctx, asked)
+    }
+}
+
+/// What the operation asks of the facts: the entries of its regions are entered, blocks that it may go
+/// to are reached with what is forwarded to them, and its results are at or below what it answers.
+///
+/// Reads the facts and changes nothing. Errors: want of memory. Cost: one step for each operand,
+/// result, region, successor and argument of these, and what the dialect's answers cost.
+pub fn demands<D: Dialect>(
+    alloc: Global,
+    op: Ptr<Operation>,
+    ctx: &Context,
+    solver: &Solver,
+) -> Result<Vec<Demand>, OptError>
+    requires { IsLive ctx.now.tree op }
+    ensures ok { IfOk result (λ asked. Asks (record { meaning = D.meaning; can_fold = D.can_fold; can_fold_branch = D.can_fold_branch; constants = D.constants; feasible = D.feasible }) ctx.now.tree (facts_of solver.now) op asked.items) }
+    ensures err { IfErr result (λ e. e ≡ Memory) }
+{
+    let known = known_operands(alloc, op, ctx, solver)?;
+    let mut asked = Vec::new(alloc);
+    ask_entries(op, ctx, &mut asked)?;
+    ask_edges::<D>(alloc, op, ctx, solver, &known, &mut asked)?;
+    ask_results::<D>(alloc, op, ctx, &known, &mut asked)?;
+    Ok(asked)
 }
