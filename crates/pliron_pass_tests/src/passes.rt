@@ -106,9 +106,10 @@ impl Pass for Touch {
         &mut self,
         _alloc: Global,
         _op: Ptr<Operation>,
-        _ctx: &mut Context,
+        ctx: &mut Context,
         analyses: &mut AnalysisManager<Fact>,
     ) -> Result<PassResult<u32>, OptError> {
+        ctx.well_formed();
         analyses.keep_edge_kinds(IRStatus::Changed)
     }
 
