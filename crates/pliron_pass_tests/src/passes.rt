@@ -1,7 +1,7 @@
 //! Passes of a caller, and the caller's enum that hands each call on.
 ghost use Rattle.std.specs.Prelude.{◌≡◌, ℕ, ◌+◌, ◌^◌, ◌-◌, Bool, false, [], ◌∷◌, Err, min};
 ghost use Rattle.pliron_laws.specs.declared.fault.OptError.TheVariants.{Pass as Code};
-ghost use Rattle.pliron_pass_tests.specs.declared.passes.Step.TheVariants.{Idle as AnIdle, Touch as ATouch, Fail as AFail, Tally as ATally};
+ghost use Rattle.pliron_pass_tests.specs.declared.passes.Step.TheVariants.{Idle as AIdle, Touch as ATouch, Fail as AFail, Tally as ATally};
 
 use super::facts::Fact;
 use pliron_bench::Bench;
@@ -106,9 +106,10 @@ impl Pass for Touch {
         &mut self,
         _alloc: Global,
         _op: Ptr<Operation>,
-        _ctx: &mut Context,
+        ctx: &mut Context,
         analyses: &mut AnalysisManager<Fact>,
     ) -> Result<PassResult<u32>, OptError> {
+        ctx.well_formed();
         analyses.keep_edge_kinds(IRStatus::Changed)
     }
 
