@@ -17,3 +17,5 @@ pub mod Counting
 pub mod Waiting
 pub mod Demanded
 pub mod Applied
+pub mod DistinctLists
+pub mod Listing
