@@ -67,7 +67,7 @@ module _ (t : Tree) (w : IsTree t) where
       let held = held_directly x r.0 b.0 r.1 b.1 in
       elim (from_is n b.0 z (below_held n) b.2) [
         | inl e ↦ (x, subst (λ y. block_holder_of t y ≡ Some x) (sym e) held, inl refl)
-        | inr f ↦ (f.2.2.0, f.2.2.1, inr (up_within x f.0 f.2.2.0 (held_by b.0 f.0 x held f.1) f.2.2.2))
+        | inr f ↦ (f.2.0, f.2.1, inr (up_within x f.0 f.2.0 (held_by b.0 f.0 x held f.1) f.2.2))
       ]
 
   pub inside_block : (x z : ℕ) → In z (blocks_inside t x) → IsBlock t z

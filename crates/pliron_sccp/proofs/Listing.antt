@@ -81,7 +81,7 @@ module _ (t : Tree) (w : IsTree t) where
       ap (λ xs. flat_map (λ b. from_here t b) (reverse xs)) e ∙ ap (flat_map (λ b. from_here t b)) (reverse-reverse (blocks_of t root)) ∙ sym (inside_from_blocks root live)
 
   -- the block on top of the stack comes next
-  owing_top : (root b : ℕ) (found stack rest : List ℕ) → stack ≡ rest ++ b ∷ [] → AreOwing root found stack → found ++ from_here t b ++ flat_map (λ b. from_here t b) (reverse rest) ≡ blocks_inside t root
+  owing_top : (root b : ℕ) (found stack rest : List ℕ) → stack ≡ rest ++ b ∷ [] → AreOwing root found stack → found ++ (from_here t b ++ flat_map (λ b. from_here t b) (reverse rest)) ≡ blocks_inside t root
   owing_top root b found stack rest e o =
       ap (λ xs. found ++ flat_map (λ b. from_here t b) xs) (sym (ap reverse e ∙ reverse-append rest (b ∷ []))) ∙ o
 

@@ -6,7 +6,7 @@ use Rattle.pliron_sccp.proofs.Listing.{IsListing}
 use Rattle.pliron_sccp.proofs.collecting.list_body.Given as goal
 
 abbrev pub invariant-loop-at : goal.invariant-loop-at
-invariant-loop-at l = IsListing (λ k. blocks_of l.ctx.tree k) (body_of l.ctx.tree l.block) l.initial.blocks.items l.blocks.items l.at
+invariant-loop-at l = IsListing (λ k. blocks_of l.ctx.tree k) (body_of l.ctx.tree l.fn.block) l.initial.blocks.items l.blocks.items l.at
 
 abbrev pub decreases-loop-at : goal.decreases-loop-at
-decreases-loop-at l = length (rest_from l.at (body_of l.ctx.tree l.block))
+decreases-loop-at l = length (rest_from l.at (body_of l.ctx.tree l.fn.block))
