@@ -63,6 +63,10 @@ flat_flat f g (x ∷ xs) = flat_map-append f (g x) (flat_map g xs) ∙ ap (λ ys
 abbrev pub from_here : Tree → ℕ → List ℕ
 from_here t b = b ∷ flat_map (λ k. blocks_inside t k) (body_of t b)
 
+-- what was found, and what the stack stands for, is the whole
+abbrev pub AreOwing : Tree → ℕ → List ℕ → List ℕ → Type 0
+AreOwing t root found stack = found ++ flat_map (λ b. from_here t b) (reverse stack) ≡ blocks_inside t root
+
 module _ (t : Tree) (w : IsTree t) where
   pub inside_from_blocks : (x : ℕ) → IsLive t x → blocks_inside t x ≡ flat_map (λ b. from_here t b) (blocks_of t x)
   inside_from_blocks x live = inside_nested t w x live ∙ sym (flat_flat (λ b. from_here t b) (λ r. layout_of t r) (regions_of t x))
@@ -72,24 +76,20 @@ module _ (t : Tree) (w : IsTree t) where
       flat_map-same (λ k. blocks_inside t k) (λ k. flat_map (λ b. from_here t b) (blocks_of t k)) (body_of t b) (λ k i. inside_from_blocks k (w.joined.standing k b (w.bodies.owned k b i)).0)
       ∙ sym (flat_flat (λ b. from_here t b) (λ k. blocks_of t k) (body_of t b))
 
-  -- what was found, and what the stack stands for, is the whole
-  abbrev pub AreOwing : ℕ → List ℕ → List ℕ → Type 0
-  AreOwing root found stack = found ++ flat_map (λ b. from_here t b) (reverse stack) ≡ blocks_inside t root
-
-  pub owing_start : (root : ℕ) (stack : List ℕ) → IsLive t root → stack ≡ reverse (blocks_of t root) → AreOwing root [] stack
+  pub owing_start : (root : ℕ) (stack : List ℕ) → IsLive t root → stack ≡ reverse (blocks_of t root) → AreOwing t root [] stack
   owing_start root stack live e =
       ap (λ xs. flat_map (λ b. from_here t b) (reverse xs)) e ∙ ap (flat_map (λ b. from_here t b)) (reverse-reverse (blocks_of t root)) ∙ sym (inside_from_blocks root live)
 
   -- the block on top of the stack comes next
-  owing_top : (root b : ℕ) (found stack rest : List ℕ) → stack ≡ rest ++ b ∷ [] → AreOwing root found stack → found ++ (from_here t b ++ flat_map (λ b. from_here t b) (reverse rest)) ≡ blocks_inside t root
+  owing_top : (root b : ℕ) (found stack rest : List ℕ) → stack ≡ rest ++ b ∷ [] → AreOwing t root found stack → found ++ (from_here t b ++ flat_map (λ b. from_here t b) (reverse rest)) ≡ blocks_inside t root
   owing_top root b found stack rest e o =
       ap (λ xs. found ++ flat_map (λ b. from_here t b) xs) (sym (ap reverse e ∙ reverse-append rest (b ∷ []))) ∙ o
 
-  pub owing_inside : (root b : ℕ) (found stack rest : List ℕ) → stack ≡ rest ++ b ∷ [] → AreOwing root found stack → IsBlock t b
+  pub owing_inside : (root b : ℕ) (found stack rest : List ℕ) → stack ≡ rest ++ b ∷ [] → AreOwing t root found stack → IsBlock t b
   owing_inside root b found stack rest e o =
       inside_block t w root b (subst (In b) (owing_top root b found stack rest e o) (In-right b found (from_here t b ++ flat_map (λ b. from_here t b) (reverse rest)) (inl refl)))
 
-  pub owing_step : (root b : ℕ) (found more stack rest later : List ℕ) → stack ≡ rest ++ b ∷ [] → AreOwing root found stack → more ≡ found ++ b ∷ [] → later ≡ rest ++ reverse (flat_map (λ k. blocks_of t k) (body_of t b)) → AreOwing root more later
+  pub owing_step : (root b : ℕ) (found more stack rest later : List ℕ) → stack ≡ rest ++ b ∷ [] → AreOwing t root found stack → more ≡ found ++ b ∷ [] → later ≡ rest ++ reverse (flat_map (λ k. blocks_of t k) (body_of t b)) → AreOwing t root more later
   owing_step root b found more stack rest later e o m l =
       let f : ℕ → List ℕ = λ b. from_here t b in
       let inner : List ℕ = flat_map (λ k. blocks_of t k) (body_of t b) in
@@ -101,14 +101,14 @@ module _ (t : Tree) (w : IsTree t) where
       ∙ ap (λ xs. found ++ b ∷ xs) owed
       ∙ owing_top root b found stack rest e o
 
-  pub owing_smaller : (root b : ℕ) (found more stack rest : List ℕ) → stack ≡ rest ++ b ∷ [] → AreOwing root found stack → more ≡ found ++ b ∷ [] → length (blocks_inside t root) - length more < length (blocks_inside t root) - length found
+  pub owing_smaller : (root b : ℕ) (found more stack rest : List ℕ) → stack ≡ rest ++ b ∷ [] → AreOwing t root found stack → more ≡ found ++ b ∷ [] → length (blocks_inside t root) - length more < length (blocks_inside t root) - length found
   owing_smaller root b found more stack rest e o m =
       let all = ap length (owing_top root b found stack rest e o) in
       let parts = length-append found (from_here t b ++ flat_map (λ b. from_here t b) (reverse rest)) in
       let one = ap length m ∙ length-append found (b ∷ []) in
       omega (arith, all, parts, one)
 
-  pub owing_end : (root : ℕ) (found stack : List ℕ) → AreOwing root found stack → stack ≡ [] → found ≡ blocks_inside t root
+  pub owing_end : (root : ℕ) (found stack : List ℕ) → AreOwing t root found stack → stack ≡ [] → found ≡ blocks_inside t root
   owing_end root found stack o e =
       sym (append-nil found) ∙ ap (λ xs. found ++ flat_map (λ b. from_here t b) (reverse xs)) (sym e) ∙ o
 
