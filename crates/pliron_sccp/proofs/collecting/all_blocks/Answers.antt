@@ -1,4 +1,4 @@
-use Rattle.std.proofs.Common.{◌≡◌, [], ◌++◌, reverse, ap, ◌∙◌, subst, sym}
+use Rattle.std.proofs.Common.{◌≡◌, [], ◌++◌, reverse, ap, ◌∙◌, subst, sym, arith}
 use Rattle.pliron_sccp.specs.Inside.{blocks_of}
 use Rattle.pliron_sccp.proofs.Listing.{AreOwing, owing_start, owing_inside, owing_step, owing_smaller, owing_end}
 use Rattle.pliron_sccp.proofs.collecting.all_blocks.Goals as goal
@@ -23,4 +23,5 @@ loop-block-smaller c =
 
 pub returns-clause-ok : goal.returns-clause-ok
 returns-clause-ok c =
-    owing_end c.args.ctx.now.tree c.well_formed-2.ensures.tree c.args.root c.loop-block.found.items c.loop-block.stack.items c.loop-block.invariant c.in_default.ensures.items
+    let none : c.loop-block.stack.items ≡ [] = grind (arith) in
+    owing_end c.args.ctx.now.tree c.well_formed-2.ensures.tree c.args.root c.loop-block.found.items c.loop-block.stack.items c.loop-block.invariant none
