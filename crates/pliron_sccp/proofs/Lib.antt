@@ -19,3 +19,5 @@ pub mod Demanded
 pub mod Applied
 pub mod StraightLinks
 pub mod EdgesAsked
+pub mod DistinctLists
+pub mod Listing

@@ -15,3 +15,4 @@ pub mod Found
 pub mod Tables
 pub mod Demands
 pub mod Falling
+pub mod Inside

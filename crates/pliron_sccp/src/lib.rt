@@ -4,6 +4,7 @@
 #![tactic(auto)]
 
 pub mod applying;
+pub mod collecting;
 pub mod demands;
 mod propagation;
 pub mod rewriting;

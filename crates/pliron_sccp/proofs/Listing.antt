@@ -1,0 +1,127 @@
+-- What is listed by going through a list from its first item on.
+use Rattle.std.proofs.Common.{◌≡◌, ℕ, suc, ◌+◌, ◌-◌, ◌<◌, List, [], ◌∷◌, ◌++◌, length, take, reverse, slice_get, Option, Some, None, refl, sym, ap, ◌∙◌, subst, inl, arith, append_assoc, append-nil, length-append}
+use Rattle.std.proofs.lemmas.List.{reverse-append, reverse-reverse}
+use Rattle.std.specs.List.{flat_map}
+use Rattle.std.proofs.lemmas.List.Concat.{flat_map-append}
+use Rattle.pliron_core.specs.Lists.{In, IsDistinct, first_of, next_in}
+use Rattle.pliron_core.specs.Tree.{Tree, IsLive, IsBlock, body_of, layout_of, regions_of}
+use Rattle.pliron_core.specs.Joined.{IsTree}
+use Rattle.pliron_core.specs.WalkSteps.{rest_from}
+use Rattle.pliron_core.proofs.FlatLemmas.{flat_map-same}
+use Rattle.pliron_core.proofs.NeighbourLemmas.{next_in-In, first_of-In}
+use Rattle.pliron_core.proofs.NextLemmas.{rest_from-step, rest_from-first}
+use Rattle.pliron_core.proofs.ListLemmas.{In-right}
+use Rattle.pliron_core.proofs.ArgumentLemmas.{take_more}
+use Rattle.pliron_sccp.specs.Chain.{blocks_inside}
+use Rattle.pliron_sccp.specs.Inside.{blocks_of}
+use Rattle.pliron_sccp.proofs.DistinctLists.{inside_nested, inside_block}
+
+-- what each item of `whole` lists was added to `before`, but for the items from `at` on
+pub record IsListing (f : ℕ → List ℕ) (whole before now : List ℕ) (at : Option ℕ) : Type 0 where
+  pub items : now ++ flat_map f (rest_from at whole) ≡ before ++ flat_map f whole
+  pub within : (x : ℕ) → at ≡ Some x → In x whole
+
+module _ (f : ℕ → List ℕ) (whole before : List ℕ) where
+  pub listing_start : (at : Option ℕ) → at ≡ first_of whole None → IsListing f whole before before at
+  listing_start at e = record {
+    items = ap (λ xs. before ++ flat_map f xs) (ap (λ o. rest_from o whole) e ∙ all whole);
+    within = λ x g. first_of-In x whole (sym e ∙ g);
+  }
+    where
+      all : (xs : List ℕ) → rest_from (first_of xs None) xs ≡ xs
+      all [] = refl
+      all (x ∷ xs) = rest_from-first x xs
+
+  pub listing_step : (now more : List ℕ) (at o : Option ℕ) (x : ℕ) → IsDistinct whole → IsListing f whole before now at → at ≡ Some x → o ≡ next_in x whole → more ≡ now ++ f x → IsListing f whole before more o
+  listing_step now more at o x d l e g m = record {
+    items =
+        ap (λ xs. xs ++ flat_map f (rest_from o whole)) m
+        ∙ append_assoc now (f x) (flat_map f (rest_from o whole))
+        ∙ ap (λ xs. now ++ flat_map f xs) (sym (rest_from-step whole x o d (l.within x e) g))
+        ∙ ap (λ q. now ++ flat_map f (rest_from q whole)) (sym e)
+        ∙ l.items;
+    within = λ y h. next_in-In y x whole (sym g ∙ h);
+  }
+
+  pub listing_end : (now : List ℕ) (at : Option ℕ) → IsListing f whole before now at → at ≡ None → now ≡ before ++ flat_map f whole
+  listing_end now at l e = sym (append-nil now) ∙ ap (λ o. now ++ flat_map f (rest_from o whole)) (sym e) ∙ l.items
+
+  pub listing_smaller : (now : List ℕ) (at o : Option ℕ) (x : ℕ) → IsDistinct whole → IsListing f whole before now at → at ≡ Some x → o ≡ next_in x whole → length (rest_from o whole) < length (rest_from at whole)
+  listing_smaller now at o x d l e g =
+      let here : rest_from at whole ≡ x ∷ rest_from o whole = ap (λ q. rest_from q whole) e ∙ rest_from-step whole x o d (l.within x e) g in
+      omega (arith, ap length here)
+
+pub flat_alone : (xs : List ℕ) → flat_map (λ x. x ∷ []) xs ≡ xs
+flat_alone [] = refl
+flat_alone (x ∷ xs) = ap (λ ys. x ∷ ys) (flat_alone xs)
+
+pub flat_flat : (f g : ℕ → List ℕ) (xs : List ℕ) → flat_map f (flat_map g xs) ≡ flat_map (λ x. flat_map f (g x)) xs
+flat_flat f g [] = refl
+flat_flat f g (x ∷ xs) = flat_map-append f (g x) (flat_map g xs) ∙ ap (λ ys. flat_map f (g x) ++ ys) (flat_flat f g xs)
+
+-- a block, and the blocks inside its operations
+abbrev pub from_here : Tree → ℕ → List ℕ
+from_here t b = b ∷ flat_map (λ k. blocks_inside t k) (body_of t b)
+
+-- what was found, and what the stack stands for, is the whole
+abbrev pub AreOwing : Tree → ℕ → List ℕ → List ℕ → Type 0
+AreOwing t root found stack = found ++ flat_map (λ b. from_here t b) (reverse stack) ≡ blocks_inside t root
+
+module _ (t : Tree) (w : IsTree t) where
+  pub inside_from_blocks : (x : ℕ) → IsLive t x → blocks_inside t x ≡ flat_map (λ b. from_here t b) (blocks_of t x)
+  inside_from_blocks x live = inside_nested t w x live ∙ sym (flat_flat (λ b. from_here t b) (λ r. layout_of t r) (regions_of t x))
+
+  body_from_blocks : (b : ℕ) → flat_map (λ k. blocks_inside t k) (body_of t b) ≡ flat_map (λ b. from_here t b) (flat_map (λ k. blocks_of t k) (body_of t b))
+  body_from_blocks b =
+      flat_map-same (λ k. blocks_inside t k) (λ k. flat_map (λ b. from_here t b) (blocks_of t k)) (body_of t b) (λ k i. inside_from_blocks k (w.joined.standing k b (w.bodies.owned k b i)).0)
+      ∙ sym (flat_flat (λ b. from_here t b) (λ k. blocks_of t k) (body_of t b))
+
+  pub owing_start : (root : ℕ) (stack : List ℕ) → IsLive t root → stack ≡ reverse (blocks_of t root) → AreOwing t root [] stack
+  owing_start root stack live e =
+      ap (λ xs. flat_map (λ b. from_here t b) (reverse xs)) e ∙ ap (flat_map (λ b. from_here t b)) (reverse-reverse (blocks_of t root)) ∙ sym (inside_from_blocks root live)
+
+  -- the block on top of the stack comes next
+  owing_top : (root b : ℕ) (found stack rest : List ℕ) → stack ≡ rest ++ b ∷ [] → AreOwing t root found stack → found ++ (from_here t b ++ flat_map (λ b. from_here t b) (reverse rest)) ≡ blocks_inside t root
+  owing_top root b found stack rest e o =
+      ap (λ xs. found ++ flat_map (λ b. from_here t b) xs) (sym (ap reverse e ∙ reverse-append rest (b ∷ []))) ∙ o
+
+  pub owing_inside : (root b : ℕ) (found stack rest : List ℕ) → stack ≡ rest ++ b ∷ [] → AreOwing t root found stack → IsBlock t b
+  owing_inside root b found stack rest e o =
+      inside_block t w root b (subst (In b) (owing_top root b found stack rest e o) (In-right b found (from_here t b ++ flat_map (λ b. from_here t b) (reverse rest)) (inl refl)))
+
+  pub owing_step : (root b : ℕ) (found more stack rest later : List ℕ) → stack ≡ rest ++ b ∷ [] → AreOwing t root found stack → more ≡ found ++ b ∷ [] → later ≡ rest ++ reverse (flat_map (λ k. blocks_of t k) (body_of t b)) → AreOwing t root more later
+  owing_step root b found more stack rest later e o m l =
+      let f : ℕ → List ℕ = λ b. from_here t b in
+      let inner : List ℕ = flat_map (λ k. blocks_of t k) (body_of t b) in
+      let turned : reverse later ≡ inner ++ reverse rest = ap reverse l ∙ reverse-append rest (reverse inner) ∙ ap (λ xs. xs ++ reverse rest) (reverse-reverse inner) in
+      let owed : flat_map f (reverse later) ≡ flat_map (λ k. blocks_inside t k) (body_of t b) ++ flat_map f (reverse rest) =
+      ap (flat_map f) turned ∙ flat_map-append f inner (reverse rest) ∙ ap (λ xs. xs ++ flat_map f (reverse rest)) (sym (body_from_blocks b)) in
+      ap (λ xs. xs ++ flat_map f (reverse later)) m
+      ∙ append_assoc found (b ∷ []) (flat_map f (reverse later))
+      ∙ ap (λ xs. found ++ b ∷ xs) owed
+      ∙ owing_top root b found stack rest e o
+
+  pub owing_smaller : (root b : ℕ) (found more stack rest : List ℕ) → stack ≡ rest ++ b ∷ [] → AreOwing t root found stack → more ≡ found ++ b ∷ [] → length (blocks_inside t root) - length more < length (blocks_inside t root) - length found
+  owing_smaller root b found more stack rest e o m =
+      let all = ap length (owing_top root b found stack rest e o) in
+      let parts = length-append found (from_here t b ++ flat_map (λ b. from_here t b) (reverse rest)) in
+      let one = ap length m ∙ length-append found (b ∷ []) in
+      omega (arith, all, parts, one)
+
+  pub owing_end : (root : ℕ) (found stack : List ℕ) → AreOwing t root found stack → stack ≡ [] → found ≡ blocks_inside t root
+  owing_end root found stack o e =
+      sym (append-nil found) ∙ ap (λ xs. found ++ flat_map (λ b. from_here t b) (reverse xs)) (sym e) ∙ o
+
+-- what each item before index i lists was added
+pub flat_taken : (f : ℕ → List ℕ) (xs : List ℕ) (i x : ℕ) (before now more : List ℕ) → slice_get xs i ≡ Some x → now ≡ before ++ flat_map f (take i xs) → more ≡ now ++ f x → more ≡ before ++ flat_map f (take (i + 1) xs)
+flat_taken f xs i x before now more at so_far grown =
+    grown ∙ ap (λ ys. ys ++ f x) so_far ∙ append_assoc before (flat_map f (take i xs)) (f x)
+    ∙ ap (λ ys. before ++ ys) (ap (λ ys. flat_map f (take i xs) ++ ys) (sym (append-nil (f x))) ∙ sym (flat_map-append f (take i xs) (x ∷ [])) ∙ ap (flat_map f) (sym (take_more xs i x at) ∙ ap (λ n. take n xs) (add-one i)))
+  where
+    add-one : (i : ℕ) → suc i ≡ i + 1
+    add-one i = omega arith
+
+-- the first item of a list comes off a stack last that was put on it from its end
+pub stacked_next : (stack before whole rest left more : List ℕ) (x : ℕ) → stack ++ reverse rest ≡ before ++ reverse whole → rest ≡ left ++ x ∷ [] → more ≡ stack ++ x ∷ [] → more ++ reverse left ≡ before ++ reverse whole
+stacked_next stack before whole rest left more x so_far e m =
+    ap (λ xs. xs ++ reverse left) m ∙ append_assoc stack (x ∷ []) (reverse left) ∙ ap (λ xs. stack ++ xs) (sym (ap reverse e ∙ reverse-append left (x ∷ []))) ∙ so_far

@@ -1,0 +1,135 @@
+//! Listing what stands inside an operation.
+ghost use Rattle.std.specs.Prelude.{◌≡◌, ◌++◌, OnOk, IfOk, IfErr, reverse};
+ghost use Rattle.std.specs.List.{flat_map};
+ghost use Rattle.pliron_core.specs.Tree.{IsLive, IsBlock, IsRegion, body_of, layout_of, regions_of};
+ghost use Rattle.pliron_laws.specs.declared.fault.OptError.TheVariants.{Memory};
+ghost use Rattle.pliron_sccp.specs.Chain.{blocks_inside};
+ghost use Rattle.pliron_sccp.specs.Inside.{blocks_of};
+
+use pliron_core::{BasicBlock, Context, Operation, Ptr, Region};
+use pliron_laws::OptError;
+use std::alloc::Global;
+
+/// Adds the blocks of the region, in order.
+fn list_region(
+    region: Ptr<Region>,
+    ctx: &Context,
+    blocks: &mut Vec<Ptr<BasicBlock>>,
+) -> Result<(), OptError>
+    requires { IsRegion ctx.now.tree region }
+    ensures ok { OnOk result (blocks.new.items ≡ blocks.old.items ++ layout_of ctx.now.tree region) }
+    ensures err { IfErr result (λ e. e ≡ Memory) }
+{
+    ctx.well_formed();
+    let mut at = region.get_head(ctx);
+    while let Some(block) = at {
+        blocks.push(block)?;
+        at = block.get_next(ctx);
+    }
+    Ok(())
+}
+
+/// Adds the blocks of the operation's regions, in order.
+fn list_regions(
+    op: Ptr<Operation>,
+    ctx: &Context,
+    blocks: &mut Vec<Ptr<BasicBlock>>,
+) -> Result<(), OptError>
+    requires { IsLive ctx.now.tree op }
+    ensures ok { OnOk result (blocks.new.items ≡ blocks.old.items ++ blocks_of ctx.now.tree op) }
+    ensures err { IfErr result (λ e. e ≡ Memory) }
+{
+    for i in 0..op.num_region(ctx) {
+        list_region(op.get_region(ctx, i), ctx, blocks)?;
+    }
+    Ok(())
+}
+
+/// Adds the blocks of the regions of the block's operations, in order.
+fn list_body(
+    block: Ptr<BasicBlock>,
+    ctx: &Context,
+    blocks: &mut Vec<Ptr<BasicBlock>>,
+) -> Result<(), OptError>
+    requires { IsBlock ctx.now.tree block }
+    ensures ok { OnOk result (blocks.new.items ≡ blocks.old.items ++ flat_map (λ k. blocks_of ctx.now.tree k) (body_of ctx.now.tree block)) }
+    ensures err { IfErr result (λ e. e ≡ Memory) }
+{
+    ctx.well_formed();
+    let mut at = block.get_head(ctx);
+    while let Some(op) = at {
+        list_regions(op, ctx, blocks)?;
+        at = op.get_next(ctx);
+    }
+    Ok(())
+}
+
+/// Puts these on the stack, so that the first comes off first.
+fn stack_up(blocks: Vec<Ptr<BasicBlock>>, stack: &mut Vec<Ptr<BasicBlock>>) -> Result<(), OptError>
+    ensures ok { OnOk result (stack.new.items ≡ stack.old.items ++ reverse blocks.items) }
+    ensures err { IfErr result (λ e. e ≡ Memory) }
+{
+    let mut rest = blocks;
+    while let Some(block) = rest.pop() {
+        stack.push(block)?;
+    }
+    Ok(())
+}
+
+/// Puts the blocks of the operation's regions on the stack, so that the first comes off first.
+fn stack_regions(
+    alloc: Global,
+    op: Ptr<Operation>,
+    ctx: &Context,
+    stack: &mut Vec<Ptr<BasicBlock>>,
+) -> Result<(), OptError>
+    requires { IsLive ctx.now.tree op }
+    ensures ok { OnOk result (stack.new.items ≡ stack.old.items ++ reverse (blocks_of ctx.now.tree op)) }
+    ensures err { IfErr result (λ e. e ≡ Memory) }
+{
+    let mut blocks = Vec::new(alloc);
+    list_regions(op, ctx, &mut blocks)?;
+    stack_up(blocks, stack)
+}
+
+/// Puts the blocks of the regions of the block's operations on the stack, so that the first comes off
+/// first.
+fn stack_body(
+    alloc: Global,
+    block: Ptr<BasicBlock>,
+    ctx: &Context,
+    stack: &mut Vec<Ptr<BasicBlock>>,
+) -> Result<(), OptError>
+    requires { IsBlock ctx.now.tree block }
+    ensures ok { OnOk result (stack.new.items ≡ stack.old.items ++ reverse (flat_map (λ k. blocks_of ctx.now.tree k) (body_of ctx.now.tree block))) }
+    ensures err { IfErr result (λ e. e ≡ Memory) }
+{
+    let mut blocks = Vec::new(alloc);
+    list_body(block, ctx, &mut blocks)?;
+    stack_up(blocks, stack)
+}
+
+/// The blocks inside the operation, at any depth, in pre-order: each is followed by those inside its
+/// operations.
+///
+/// Asks that the operation stands. Errors: want of memory. Cost: one step for each operation, block and
+/// region inside it; the depth takes memory on a list alone.
+pub fn all_blocks(
+    alloc: Global,
+    root: Ptr<Operation>,
+    ctx: &Context,
+) -> Result<Vec<Ptr<BasicBlock>>, OptError>
+    requires { IsLive ctx.now.tree root }
+    ensures ok { IfOk result (λ blocks. blocks.items ≡ blocks_inside ctx.now.tree root) }
+    ensures err { IfErr result (λ e. e ≡ Memory) }
+{
+    ctx.well_formed();
+    let mut stack = Vec::new(alloc);
+    stack_regions(alloc, root, ctx, &mut stack)?;
+    let mut found = Vec::new(alloc);
+    while let Some(block) = stack.pop() {
+        found.push(block)?;
+        stack_body(alloc, block, ctx, &mut stack)?;
+    }
+    Ok(found)
+}
