@@ -134,6 +134,7 @@ fn run_list(
 ) -> Result<IRStatus, Failure>
     requires live { IsLive ctx.old.tree root }
     requires linked { IsWellLinked bench ctx.old.tree root }
+    ensures { OnOk result (IsLive ctx.new.tree root) }
 {
     let mut status = IRStatus::Unchanged;
     for optimisation in list {
