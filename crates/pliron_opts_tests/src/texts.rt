@@ -90,6 +90,32 @@ fn rows(rt: HostRuntime) {
     }
 }
 
+/// Lists of optimisations and texts, and what is written of them.
+static LISTS: &str =
+    "sccp,dce :: func { b0(): a = const 1; b = const 2; c = add a b; ret c } => func { b0(): v0 = const 3; ret v0 }|changed|
+sccp,sccp :: func { b0(): a = const 1; b = const 2; c = add a b; ret c } => func { b0(): v0 = const 1; v1 = const 2; v2 = const 3; v3 = const 3; v4 = add v0 v1; ret v2 }|changed|
+dce,dce :: func { b0(): x = const 1; br b1(x); b1(a): c = const 7; ret c } => func { b0(): br b1(); b1(): v0 = const 7; ret v0 }|changed|
+dce :: func { b0(): a = const 1; z = const 0; d = div a z; ret a } => func { b0(): v0 = const 1; v1 = const 0; v2 = div v0 v1; ret v0 }|unchanged|
+dce :: func { b0(): l, r = pair; sink l l r r; br b1(l, r); b1(a, b): k = const 99; ret k } => func { b0(): br b1(); b1(): v0 = const 99; ret v0 }|changed|
+dce :: func { b0(): k = const 4; box { b0(): sink k }; ret } => func { b0(): ret }|changed|
+dce :: func { b0(): z = const 0; br b1(z); b1(i): r = read; cbr r b1(i) b2(); b2(): ret } => func { b0(): v0 = const 0; br b1(v0); b1(v1): v2 = read; cbr v2 b1(v1) b2(); b2(): ret }|unchanged|";
+
+#[test]
+fn lists(rt: HostRuntime) {
+    for line in LISTS.lines() {
+        let (list, rest) = line.split_once(" :: ").expect(&rt, "a list");
+        let (text, written) = rest.split_once(" => ").expect(&rt, "a case");
+        let args = [list];
+        let case = Case {
+            args: &args,
+            text: text.as_bytes(),
+            failing_read: 0,
+            failing_write: 0,
+        };
+        expect_run(&rt, rt.alloc(), &case, 0, written, "");
+    }
+}
+
 /// Texts that cannot be read, one a line. The first is empty.
 static UNREADABLE: &str = "
 func
@@ -191,8 +217,8 @@ fn bad_arguments(rt: HostRuntime) {
     let lists: [&[&str]; 8] = [
         &[],
         &["graph", "graph"],
-        &["dce"],
-        &["sccp,sccp"],
+        &["dce,,sccp"],
+        &["dce,"],
         &["sccp", "sccp"],
         &["SCCP"],
         &["sccp "],
