@@ -151,7 +151,10 @@ fn search_all(
     for _ in search.rows {
         search.seen.push(None)?;
     }
-    for root in 0..search.rows.len() as u32 {
+    for place in 0..search.rows.len() {
+        let Ok(root) = u32::try_from(place) else {
+            break;
+        };
         if search.seen(root).is_none() {
             search.enter(root)?;
             search_from(search, components)?;

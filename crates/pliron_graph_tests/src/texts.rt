@@ -104,11 +104,13 @@ fn push_yielded<C, N: HasLabel<C> + Copy, I: Iterator<Item = N> + Drop>(
     requires can { I.can_next nodes }
     requires ends { IsFinite (I.remaining nodes) }
 {
-    let mut between = "";
+    let mut is_first = true;
     for node in nodes {
-        text.push_str(between)?;
+        if !is_first {
+            text.push(' ')?;
+        }
         text.push_str(&node.label(alloc, ctx)?)?;
-        between = " ";
+        is_first = false;
     }
     Ok(())
 }
