@@ -1,11 +1,14 @@
 -- Visited regions may be read as graphs, and what is entered stands in them.
-use Rattle.std.proofs.Common.{◌≡◌, ◌↔◌, ◌⊎◌, inl, inr, ℕ, Bool, true, false, List, [], ◌∷◌, Option, Some, None, Contains, IsSome, IsTrue, refl, sym, ap, ◌∙◌, subst}
-use Rattle.pliron_core.specs.Tree.{Tree, In, IsBlock, IsInside, IsInside.Directly, HoldsBlock, first_of, successors_of, regions_of, block_parent_of, layout_of, region_parent_of, op_of_slot}
+use Rattle.std.proofs.Common.{◌≡◌, ◌⊎◌, inl, inr, ℕ, ◌<◌, ◌≤◌, ◌+◌, ◌-◌, arith, length, Bool, true, false, List, [], ◌∷◌, Option, Some, None, Contains, IsSome, IsTrue, refl, sym, ap, ◌∙◌, subst}
+use Rattle.std.proofs.lemmas.Option.{slice_get_within}
+use Rattle.pliron_core.specs.Lists.{IsDistinct}
+use Rattle.pliron_core.specs.Tree.{Tree, In, IsBlock, IsRegion, IsInside, IsInside.Directly, HoldsBlock, first_of, successors_of, regions_of, block_parent_of, layout_of, region_parent_of, op_of_slot}
 use Rattle.pliron_core.specs.Joined.{IsTree}
 use Rattle.pliron_core.specs.Reads.{has_ssa}
+use Rattle.pliron_core.proofs.ListLemmas.{distinct-length}
 use Rattle.pliron_core.proofs.NeighbourLemmas.{first_of-In}
 use Rattle.pliron_core.proofs.WithinLemmas.{block_holder_from}
-use Rattle.pliron_core.proofs.HoldingLemmas.{slice_in, region_by, holder_by, deeper, holds_deeper}
+use Rattle.pliron_core.proofs.HoldingLemmas.{slice_in, slot_is, region_by, holder_by, deeper, holds_deeper}
 use Rattle.pliron_laws.specs.Linked.{EdgesLast}
 use Rattle.pliron_search.specs.Digraph.{IsPath, IsLawful}
 use Rattle.pliron_search.specs.Regions.{graph_of_region, IsLawfulRegion}
@@ -48,3 +51,13 @@ visited_lawful t w Start f r (Nested outer b k v e p i) =
     let l = visited_lawful t w Start f outer v in
     let inside : IsInside t l.holder k = Directly (holder_by t k b l.holder p (block_holder_from t b outer (entered_in t w outer l b e) ∙ l.held)) in
     region_of_op t w k r i (edges_held t l.holder k inside l.edges)
+
+pub region_below : (t : Tree) (r : ℕ) → IsRegion t r → r < length t.slots
+region_below t r is = let s = slot_is t r is in slice_get_within t.slots r s.0 s.1
+
+-- visited regions are no more than regions
+pub seen_few : (t : Tree) → IsTree t → (Start : ℕ → Type 0) → ((r : ℕ) → Start r → IsLawfulRegion t r) → (seen : List ℕ) → IsDistinct seen → ((r : ℕ) → In r seen → IsVisited t Start r) → length seen ≤ length t.slots
+seen_few t w Start f seen d v = distinct-length (length t.slots) seen d (λ r i. region_below t r (visited_lawful t w Start f r (v r i)).stands)
+
+pub fewer_left : (a x y rest s waiting : ℕ) → s ≤ a → y ≤ a → x + s ≡ rest + y → waiting ≡ rest + 1 → a + x - y < a + waiting - s
+fewer_left a x y rest s waiting h k e f = omega (arith, h, k, e, f)

@@ -155,11 +155,7 @@ fn push_new(
 }
 
 // Visits the regions, and so on down.
-fn visit(
-    alloc: Global,
-    ctx: &Context,
-    starts: &[Ptr<Region>],
-) -> Result<Visits, OptError>
+fn visit(alloc: Global, ctx: &Context, starts: &[Ptr<Region>]) -> Result<Visits, OptError>
     requires lawful { (r : ℕ) → In r starts.now → IsLawfulRegion ctx.now.tree r }
     ensures visits { IfOk result (λ v. AreVisits ctx.now.tree (λ r. In r starts.now) v.regions.items v.blocks.items) }
     ensures memory { IsOkUnless result OptError.Memory }
