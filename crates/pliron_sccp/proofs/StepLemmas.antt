@@ -112,31 +112,31 @@ module _ (x : Says) (outcome : Outcome) (start : Tree) (folds : List Fold) where
   pub folding_start : IsFoldingOn x outcome start folds 0 Unchanged start
   folding_start = record { follows = λ t₀ root f₀ s. s.follows; partly = λ t₀ root f₀ s u z. z; turns = λ t₀ root f₀ s u z. z; told = same_refl start; stays = λ k l. l }
 
-  pub folding_can : (i : ℕ) (status : IRStatus) (now : Tree) → IsFoldingOn x outcome start folds i status now → (fold : Fold) → slice_get folds i ≡ Some fold → (t₀ : Tree) (root : ℕ) (f₀ : Facts) → AreFoldSteps x t₀ root f₀ start folds → IsFoldStep x t₀ root f₀ now fold.op fold.known.items
-  folding_can i status now g fold at t₀ root f₀ s =
+  pub folding_can : (i : ℕ) (status : IRStatus) (here : Tree) → IsFoldingOn x outcome start folds i status here → (fold : Fold) → slice_get folds i ≡ Some fold → (t₀ : Tree) (root : ℕ) (f₀ : Facts) → AreFoldSteps x t₀ root f₀ start folds → IsFoldStep x t₀ root f₀ here fold.op fold.known.items
+  folding_can i status here g fold at t₀ root f₀ s =
       let e = s.each i fold at in
       record { first = s.first; follows = g.follows t₀ root f₀ s; operation = e.0; at = e.1; stands = e.2; folds = e.3; known_is = e.4 }
 
-  pub folding_next : (i : ℕ) (status : IRStatus) (now : Tree) → IsFoldingOn x outcome start folds i status now → (fold : Fold) → slice_get folds i ≡ Some fold → (next : Tree) (one : IRStatus) → outcome now next fold.op fold.known.items (Some one) → IsTold one now next → ((k : ℕ) → IsLive now k → IsLive next k) → ((t₀ : Tree) (root : ℕ) (f₀ : Facts) → IsFoldStep x t₀ root f₀ now fold.op fold.known.items → Follows x t₀ root f₀ next) → IsFoldingOn x outcome start folds (i + 1) (changed_by_either status one) next
-  folding_next i status now g fold at next one is told stays follows = record {
-    follows = λ t₀ root f₀ s. follows t₀ root f₀ (folding_can i status now g fold at t₀ root f₀ s);
+  pub folding_next : (i : ℕ) (status : IRStatus) (here : Tree) → IsFoldingOn x outcome start folds i status here → (fold : Fold) → slice_get folds i ≡ Some fold → (next : Tree) (one : IRStatus) → outcome here next fold.op fold.known.items (Some one) → IsTold one here next → ((k : ℕ) → IsLive here k → IsLive next k) → ((t₀ : Tree) (root : ℕ) (f₀ : Facts) → IsFoldStep x t₀ root f₀ here fold.op fold.known.items → Follows x t₀ root f₀ next) → IsFoldingOn x outcome start folds (i + 1) (changed_by_either status one) next
+  folding_next i status here g fold at next one is told stays follows = record {
+    follows = λ t₀ root f₀ s. follows t₀ root f₀ (folding_can i status here g fold at t₀ root f₀ s);
     partly = λ t₀ root f₀ s u z.
         let e = s.each i fold at in
         let known = e.4 ∙ ap (handed f₀) (sym (op_shows t₀ fold.op e.0 e.1).operands) in
-        g.partly t₀ root f₀ s u (subst (λ l. FoldsPartly outcome t₀ f₀ (map (λ q. q.op) l) now u) (sym (drop_at folds i fold at)) (After fold.op next one (subst (λ ks. outcome now next fold.op ks (Some one)) known is) z));
+        g.partly t₀ root f₀ s u (subst (λ l. FoldsPartly outcome t₀ f₀ (map (λ q. q.op) l) here u) (sym (drop_at folds i fold at)) (After fold.op next one (subst (λ ks. outcome here next fold.op ks (Some one)) known is) z));
     turns = λ t₀ root f₀ s u z.
         let e = s.each i fold at in
         let known = e.4 ∙ ap (handed f₀) (sym (op_shows t₀ fold.op e.0 e.1).operands) in
-        g.turns t₀ root f₀ s u (subst (λ l. FoldsInTurn outcome t₀ f₀ (map (λ q. q.op) l) now u) (sym (drop_at folds i fold at)) (Next fold.op next one (subst (λ ks. outcome now next fold.op ks (Some one)) known is) z));
-    told = told_then start now next status one stays g.told told;
+        g.turns t₀ root f₀ s u (subst (λ l. FoldsInTurn outcome t₀ f₀ (map (λ q. q.op) l) here u) (sym (drop_at folds i fold at)) (Next fold.op next one (subst (λ ks. outcome here next fold.op ks (Some one)) known is) z));
+    told = told_then start here next status one stays g.told told;
     stays = λ k l. stays k (g.stays k l);
   }
 
-  pub folding_end : (i : ℕ) (status : IRStatus) (now : Tree) → IsFoldingOn x outcome start folds i status now → drop i folds ≡ [] → (t₀ : Tree) (root : ℕ) (f₀ : Facts) → AreFoldSteps x t₀ root f₀ start folds → FoldsInTurn outcome t₀ f₀ (map (λ fold. fold.op) folds) start now
-  folding_end i status now g none t₀ root f₀ s = g.turns t₀ root f₀ s now (subst (λ l. FoldsInTurn outcome t₀ f₀ (map (λ q. q.op) l) now now) (sym none) NoMore)
+  pub folding_end : (i : ℕ) (status : IRStatus) (here : Tree) → IsFoldingOn x outcome start folds i status here → drop i folds ≡ [] → (t₀ : Tree) (root : ℕ) (f₀ : Facts) → AreFoldSteps x t₀ root f₀ start folds → FoldsInTurn outcome t₀ f₀ (map (λ fold. fold.op) folds) start here
+  folding_end i status here g none t₀ root f₀ s = g.turns t₀ root f₀ s here (subst (λ l. FoldsInTurn outcome t₀ f₀ (map (λ q. q.op) l) here here) (sym none) NoMore)
 
-  pub folding_broken : (i : ℕ) (status : IRStatus) (now : Tree) → IsFoldingOn x outcome start folds i status now → (fold : Fold) → slice_get folds i ≡ Some fold → (next : Tree) → outcome now next fold.op fold.known.items None → (t₀ : Tree) (root : ℕ) (f₀ : Facts) → AreFoldSteps x t₀ root f₀ start folds → FoldsPartly outcome t₀ f₀ (map (λ fold. fold.op) folds) start next
-  folding_broken i status now g fold at next is t₀ root f₀ s =
+  pub folding_broken : (i : ℕ) (status : IRStatus) (here : Tree) → IsFoldingOn x outcome start folds i status here → (fold : Fold) → slice_get folds i ≡ Some fold → (next : Tree) → outcome here next fold.op fold.known.items None → (t₀ : Tree) (root : ℕ) (f₀ : Facts) → AreFoldSteps x t₀ root f₀ start folds → FoldsPartly outcome t₀ f₀ (map (λ fold. fold.op) folds) start next
+  folding_broken i status here g fold at next is t₀ root f₀ s =
       let e = s.each i fold at in
       let known = e.4 ∙ ap (handed f₀) (sym (op_shows t₀ fold.op e.0 e.1).operands) in
-      g.partly t₀ root f₀ s next (subst (λ l. FoldsPartly outcome t₀ f₀ (map (λ q. q.op) l) now next) (sym (drop_at folds i fold at)) (Broken fold.op (subst (λ ks. outcome now next fold.op ks None) known is)))
+      g.partly t₀ root f₀ s next (subst (λ l. FoldsPartly outcome t₀ f₀ (map (λ q. q.op) l) here next) (sym (drop_at folds i fold at)) (Broken fold.op (subst (λ ks. outcome here next fold.op ks None) known is)))
