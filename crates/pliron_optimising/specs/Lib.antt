@@ -1,0 +1,2 @@
+pub mod Optimising
+pub mod DeadCode

@@ -1,0 +1,10 @@
+//! Passes made of optimisations.
+//!
+//! It knows passes, the cache and the calls that optimise, and no dialect and no text.
+#![tactic(auto)]
+
+mod dead_code;
+mod optimisation;
+
+pub use dead_code::{DCEPass, DeadCode};
+pub use optimisation::{Effect, Optimisation, OptimisingPass};
