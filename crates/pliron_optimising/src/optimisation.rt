@@ -10,7 +10,7 @@ ghost use Rattle.pliron_optimising.specs.declared.optimisation.Effect.{Effect as
 
 use pliron_core::{Context, IRStatus, Operation, Ptr};
 use pliron_laws::{Dialect, OptError};
-use pliron_pass::{AnalysisKind, AnalysisManager, Analyses, Pass, PassResult};
+use pliron_pass::{Analyses, AnalysisKind, AnalysisManager, Pass, PassResult};
 use std::alloc::Global;
 use std::hash::Hash;
 use std::marker::PhantomData;
