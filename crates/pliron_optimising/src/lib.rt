@@ -4,7 +4,9 @@
 #![tactic(auto)]
 
 mod dead_code;
+mod headline;
 mod optimisation;
 
 pub use dead_code::{DCEPass, DeadCode};
+pub use headline::run_pipeline;
 pub use optimisation::{Effect, Optimisation, OptimisingPass};
