@@ -1,8 +1,10 @@
 -- What the functions of the dialect read of an operation.
 use Rattle.pliron_core.proofs.GrownLemmas.{range_more}
-use Rattle.std.proofs.Common.{◌≡◌, ℕ, ◌+◌, Bool, true, false, IsSome, List, [], ◌∷◌, ◌++◌, Option, Some, None, length, map, IsTrue, refl, ap, sym, ◌∙◌, subst, arith}
+use Rattle.std.proofs.Common.{◌≡◌, ℕ, zero, suc, ◌+◌, ◌≤◌, Bool, true, false, IsSome, List, [], ◌∷◌, ◌++◌, Option, Some, None, length, map, IsTrue, refl, ap, sym, ◌∙◌, subst, arith}
 use Rattle.std.specs.List.{slice_get, range_with_len}
-use Rattle.std.proofs.lemmas.Option.{same_Some}
+use Rattle.std.specs.Option.{option_map}
+use Rattle.std.proofs.lemmas.List.{length-map}
+use Rattle.std.proofs.lemmas.Option.{same_Some, slice_get_past}
 use Rattle.pliron_core.specs.declared.attrs.AttrObj.{AttrObj}
 use Rattle.pliron_core.specs.declared.attrs.IRStatus.{IRStatus}
 use Rattle.pliron_core.specs.declared.attrs.IRStatus.TheVariants.{Unchanged}
@@ -14,7 +16,7 @@ use Rattle.pliron_bench.specs.declared.kind.BenchKind.TheVariants.{Const, Add, M
 use Rattle.pliron_laws.specs.Datum.{Head, Shape}
 use Rattle.pliron_laws.specs.Tree.{Operation, op_at, op_with, shape_of}
 use Rattle.pliron_laws.specs.Acting.{pick}
-use Rattle.pliron_laws.specs.Answers.{AreForwarded, ReadsHead, ReadsShape, ReadsEdges, HeadPasses}
+use Rattle.pliron_laws.specs.Answers.{AreForwarded, IsForwardedAt, ReadsHead, ReadsShape, ReadsEdges, HeadPasses}
 use Rattle.pliron_bench.specs.Bench.{by_kind, kind_of}
 use Rattle.pliron_bench.specs.BenchNumbers.{known_at}
 use Rattle.pliron_bench.specs.BenchMoves.{bench, places_in, no_places_in, places_of, no_places}
@@ -72,10 +74,24 @@ pub places_same : (o : Option BenchKind) (s : Shape) (i : ℕ) → by_kind no_pl
 places_same None s i = refl
 places_same (Some k) s i = refl
 
-pub forwarded_read : (t : Tree) (op i : ℕ) (places values : List ℕ) → ReadsHead (λ h. by_kind no_places_in places_in (kind_of h.kind) h.attrs (length (operands_of t op)) i) t op places → map Some values ≡ pick places (operands_of t op) → AreForwarded bench t op i values
+picked_same : (t : Tree) (op i : ℕ) (places : List ℕ) (o : Operation) → ReadsHead (λ h. by_kind no_places_in places_in (kind_of h.kind) h.attrs (length (operands_of t op)) i) t op places → op_at t op ≡ Some o → pick places (operands_of t op) ≡ pick (bench.forwarded (shape_of bench t o) i) o.operands
 unfolding bench shape_of
-forwarded_read t op i places values f g = λ o at.
-    g ∙ ap (λ z. pick z (operands_of t op)) (f o.head (head_at t op o at)) ∙ ap (λ z. pick (by_kind no_places_in places_in (kind_of o.head.kind) o.head.attrs (length z) i) z) (sym (operands_at t op o at)) ∙ ap (λ z. pick z o.operands) (sym (places_same (kind_of o.head.kind) (shape_of bench t o) i))
+picked_same t op i places o f at =
+    ap (λ z. pick z (operands_of t op)) (f o.head (head_at t op o at)) ∙ ap (λ z. pick (by_kind no_places_in places_in (kind_of o.head.kind) o.head.attrs (length z) i) z) (sym (operands_at t op o at)) ∙ ap (λ z. pick z o.operands) (sym (places_same (kind_of o.head.kind) (shape_of bench t o) i))
+
+pub forwarded_read : (t : Tree) (op i : ℕ) (places values : List ℕ) → ReadsHead (λ h. by_kind no_places_in places_in (kind_of h.kind) h.attrs (length (operands_of t op)) i) t op places → map Some values ≡ pick places (operands_of t op) → AreForwarded bench t op i values
+forwarded_read t op i places values f g = λ o at. g ∙ picked_same t op i places o f at
+
+pub forwarded_at_read : (t : Tree) (op i j : ℕ) (places : List ℕ) (value : Option ℕ) → ReadsHead (λ h. by_kind no_places_in places_in (kind_of h.kind) h.attrs (length (operands_of t op)) i) t op places → option_map Some value ≡ slice_get (pick places (operands_of t op)) j → IsForwardedAt bench t op i j value
+forwarded_at_read t op i j places value f g = λ o at. g ∙ ap (λ z. slice_get z j) (picked_same t op i places o f at)
+
+-- past the last of places in a row there is none
+pub picked_past : (xs : List ℕ) (first count j : ℕ) → count ≤ j → slice_get (pick (range_with_len first count) xs) j ≡ None
+picked_past xs first count j le = slice_get_past (pick (range_with_len first count) xs) j (subst (λ z. z ≤ j) (sym (length-map (range_with_len first count) (λ i. slice_get xs i) ∙ length-range first count)) le)
+  where
+    length-range : (a n : ℕ) → length (range_with_len a n) ≡ n
+    length-range a zero = refl
+    length-range a (suc n) = ap suc (length-range (a + 1) n)
 
 map_last : {A B : Type 0} (f : A → B) (xs : List A) (x : A) → map f (xs ++ x ∷ []) ≡ map f xs ++ f x ∷ []
 map_last f [] x = refl

@@ -12,7 +12,9 @@ ghost use Rattle.pliron_bench.specs.BenchInPlace.{bench_in_place};
 
 use crate::folds::{answer_of, makes_constant, one_answer};
 use crate::heads::attribute_head;
-use crate::jumps::{all_successors, only_successor, operands_at, places_at, shorten};
+use crate::jumps::{
+    all_successors, only_successor, operand_among, operands_at, places_at, shorten,
+};
 use crate::kind::BenchKind;
 use crate::numbers::{edge_of, is_number, known_number};
 use crate::replace::jump_in_place;
@@ -325,6 +327,18 @@ impl Dialect for Bench {
         let places = places_at(op, ctx, i);
         let values = operands_at(alloc, op, ctx, places)?;
         Ok(values)
+    }
+
+    /// Takes no memory. Cost: constant.
+    fn successor_operand(
+        _alloc: Global,
+        op: Ptr<Operation>,
+        ctx: &Context,
+        i: usize,
+        j: usize,
+    ) -> Result<Option<Value>, OptError> {
+        let places = places_at(op, ctx, i);
+        Ok(operand_among(op, ctx, places, j))
     }
 
     /// A `cbr` that lost a value of its first edge counts one fewer there. Cost: one step for each later

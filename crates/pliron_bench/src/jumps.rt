@@ -1,6 +1,7 @@
 //! The edges of branches.
 ghost use Rattle.std.specs.Prelude.{pos, ◌≡◌, ℕ, ◌+◌, ◌-◌, ◌<◌, ◌≤◌, min, map, length, IfOk, Some, slice_get};
 ghost use Rattle.std.specs.List.{range_with_len};
+ghost use Rattle.std.specs.Option.{option_map};
 ghost use Rattle.pliron_core.specs.declared.attrs.AttrObj.TheVariants.{Int};
 ghost use Rattle.pliron_core.specs.Tree.{IsLive, head_of, operands_of, successors_of};
 ghost use Rattle.pliron_laws.specs.Datum.{Head as HeadOf};
@@ -106,6 +107,20 @@ pub fn operands_at(
         values.push(op.get_operand(ctx, places.first + j))?;
     }
     Ok(values)
+}
+
+// The operand at place `j` of these, if there are so many.
+pub fn operand_among(op: Ptr<Operation>, ctx: &Context, places: Places, j: usize) -> Option<Value>
+    requires live { IsLive ctx.now.tree op }
+    requires within { (k : ℕ) → k < places.count → places.first + k < length (operands_of ctx.now.tree op) }
+    requires fits { places.first + places.count ≤ 18446744073709551615 }
+    ensures { option_map Some result ≡ slice_get (pick (range_with_len places.first places.count) (operands_of ctx.now.tree op)) j }
+{
+    if j < places.count {
+        Some(op.get_operand(ctx, places.first + j))
+    } else {
+        None
+    }
 }
 
 // The successors, in order.

@@ -92,6 +92,17 @@ picked_none (l ∷ ls) xs (m ∷ ms) zero e s = absurd (cc)
 picked_none (l ∷ ls) xs (m ∷ ms) (suc j) e s =
     let rest : pick ls xs ≡ map Some ms = cc in picked_none ls xs ms j rest s
 
+-- a place where something was picked, and one past the last
+pub picked_some : (ls xs : List ℕ) (j v : ℕ) → Some (Some v) ≡ slice_get (pick ls xs) j → (p : ℕ) × (slice_get ls j ≡ Some p) × (slice_get xs p ≡ Some v)
+picked_some [] xs j v e = grind arith
+picked_some (l ∷ ls) xs zero v e = (l, refl, sym (some_is e))
+picked_some (l ∷ ls) xs (suc j) v e = picked_some ls xs j v e
+
+pub picked_past : (ls xs : List ℕ) (j : ℕ) → None ≡ slice_get (pick ls xs) j → length ls ≤ j
+picked_past [] xs j e = omega arith
+picked_past (l ∷ ls) xs zero e = absurd (cc)
+picked_past (l ∷ ls) xs (suc j) e = let y = picked_past ls xs j e in omega (arith, y)
+
 -- distinct lists
 pub distinct_remove : (xs : List ℕ) (i : ℕ) → IsDistinct xs → IsDistinct (remove xs i)
 distinct_remove [] zero d = d

@@ -1,5 +1,5 @@
 -- What is known of the edges to a block before they lose an operand.
-use Rattle.std.proofs.Common.{◌≡◌, ◌⊎◌, inl, inr, ⊎_elim, ℕ, zero, suc, ◌+◌, ◌<◌, ◌≤◌, ◌↔◌, Bool, true, false, true≢false, nat_lt, List, [], ◌∷◌, ◌++◌, length, Option, Some, None, IsSome, IfSome, IsTrue, slice_get, slice_index_or, refl, sym, ap, ◌∙◌, subst, arith, tests}
+use Rattle.std.proofs.Common.{◌≡◌, ◌⊎◌, inl, inr, ⊎_elim, ℕ, zero, suc, ◌+◌, ◌<◌, ◌↔◌, Bool, true, false, true≢false, List, [], ◌∷◌, ◌++◌, length, Option, Some, None, IsSome, IfSome, IsTrue, slice_get, slice_index_or, refl, sym, ap, ◌∙◌, subst, arith}
 use Rattle.std.proofs.lemmas.Option.{slice_get_within}
 use Rattle.pliron_core.specs.declared.uses.Use.{Use as Edge}
 use Rattle.pliron_core.specs.declared.context.Def.TheVariants.{Argument}
@@ -27,9 +27,9 @@ use Rattle.pliron_dce.proofs.RemovedThins.{inside_live}
 use Rattle.pliron_dce.proofs.ReadySteps.{ready_contained}
 use Rattle.pliron_dce.proofs.Places.{IsBranchAt, Placed, placed_end, none_lost}
 use Rattle.pliron_laws.specs.Tree.{Operation, op_at, shape_of}
-use Rattle.pliron_laws.specs.Answers.{AreForwarded, HeadPasses}
+use Rattle.pliron_laws.specs.Answers.{IsForwardedAt, HeadPasses}
 use Rattle.pliron_laws.proofs.Records.{op_shows, operation_of, make_op}
-use Rattle.pliron_dce.proofs.PlaceLists.{picked_at, picked_from, picked_length}
+use Rattle.pliron_dce.proofs.PlaceLists.{picked_at, picked_from, picked_some, picked_past}
 
 -- for the first n edges: whether each forwards an operand at this place, and these operands are used
 pub record TellsSoFar (m : Meaning) (t : Tree) (index : ℕ) (edges : List Edge) (n : ℕ) (forwards : List Bool) (used : List ℕ) : Type 0 where
@@ -53,64 +53,57 @@ pub in_last : (y : ℕ) (xs : List ℕ) → In y (xs ++ y ∷ [])
 in_last y [] = inl refl
 in_last y (z ∷ xs) = inr (in_last y xs)
 
--- one more edge e, whose forwarded values are these
-module _ (m : Meaning) (t : Tree) (index : ℕ) (edges : List Edge) (n : ℕ) (forwards : List Bool) (used : List ℕ) (r : TellsSoFar m t index edges n forwards used) (e : Edge) (here : slice_get edges n ≡ Some e) (values : List ℕ) (are : AreForwarded m t e.user e.place values) where
-  as_many : (o : Operation) → op_at t e.user ≡ Some o → length (m.forwarded (shape_of m t o) e.place) ≡ length values
-  as_many o oe = picked_length (m.forwarded (shape_of m t o) e.place) o.operands values (sym (are o oe))
+length_more : {A : Type 0} (xs : List A) (x : A) → length (xs ++ x ∷ []) ≡ length xs + 1
+length_more [] x = refl
+length_more (y ∷ ys) x = let z = length_more ys x in omega (arith, z)
 
-  told_more : (b : Bool) → (IsTrue b ↔ (index < length values)) → (i : ℕ) (f : Edge) (c : Bool) (o : Operation) → slice_get edges i ≡ Some f → slice_get (forwards ++ b ∷ []) i ≡ Some c → op_at t f.user ≡ Some o → IsTrue c ↔ (index < length (m.forwarded (shape_of m t o) f.place))
+before_or_last : (i n : ℕ) → i < n + 1 → (i < n) ⊎ (i ≡ n)
+before_or_last i n l = ⊎_elim (λ y. inl y) (λ y. inr (omega (arith, l, y))) (cases_lt i n)
+
+-- one more edge e
+module _ (m : Meaning) (t : Tree) (index : ℕ) (edges : List Edge) (n : ℕ) (forwards : List Bool) (used : List ℕ) (r : TellsSoFar m t index edges n forwards used) (e : Edge) (here : slice_get edges n ≡ Some e) where
+  same_edge : (i : ℕ) (f : Edge) → i ≡ n → slice_get edges i ≡ Some f → e ≡ f
+  same_edge i f q ef = some_is (sym here ∙ ap (slice_get edges) (sym q) ∙ ef)
+
+  told_more : (b : Bool) → ((o : Operation) → op_at t e.user ≡ Some o → IsTrue b ↔ (index < length (m.forwarded (shape_of m t o) e.place))) → (i : ℕ) (f : Edge) (c : Bool) (o : Operation) → slice_get edges i ≡ Some f → slice_get (forwards ++ b ∷ []) i ≡ Some c → op_at t f.user ≡ Some o → IsTrue c ↔ (index < length (m.forwarded (shape_of m t o) f.place))
   told_more b tell i f c o ef ec oe = ⊎_elim
       (λ q. r.told i f c o ef q.1 oe)
       (λ q.
-      let same : e ≡ f = some_is (sym here ∙ ap (slice_get edges) (sym q.0) ∙ ef) in
-      let oe' : op_at t e.user ≡ Some o = ap (λ z. op_at t z.user) same ∙ oe in
-      let l : length (m.forwarded (shape_of m t o) f.place) ≡ length values = ap (λ z. length (m.forwarded (shape_of m t o) z.place)) (sym same) ∙ as_many o oe' in
-      subst (λ z. IsTrue z ↔ (index < length (m.forwarded (shape_of m t o) f.place))) q.1 (subst (λ z. IsTrue b ↔ (index < z)) (sym l) tell))
+      let same : e ≡ f = same_edge i f q.0 ef in
+      let at : op_at t e.user ≡ Some o = ap (λ z. op_at t z.user) same ∙ oe in
+      subst (λ z. IsTrue z ↔ (index < length (m.forwarded (shape_of m t o) f.place))) q.1 (subst (λ z. IsTrue b ↔ (index < length (m.forwarded (shape_of m t o) z.place))) same (tell o at)))
       (at_end forwards b c i n r.count ec)
 
-  pub tells_place : (v : ℕ) → index < length values → slice_get values index ≡ Some v → TellsSoFar m t index edges (n + 1) (forwards ++ true ∷ []) (used ++ v ∷ [])
-  tells_place v lt ev = record {
+  pub tells_place : (v : ℕ) → IsForwardedAt m t e.user e.place index (Some v) → TellsSoFar m t index edges (n + 1) (forwards ++ true ∷ []) (used ++ v ∷ [])
+  tells_place v is = record {
     count = length_more forwards true ∙ ap (λ z. z + 1) r.count;
-    told = told_more true ((λ x. lt), (λ x. refl));
-    values = λ i p x f o l ef oe fw op. ⊎_elim (λ y. in_more x v used (r.values i p x f o y ef oe fw op)) (λ y. last i p x f o y ef oe fw op) (before i l);
+    told = told_more true (λ o oe. let y = picked_some (m.forwarded (shape_of m t o) e.place) o.operands index v (is o oe) in ((λ x. slice_get_within (m.forwarded (shape_of m t o) e.place) index y.0 y.1), (λ x. refl)));
+    values = λ i p x f o l ef oe fw op. ⊎_elim (λ y. in_more x v used (r.values i p x f o y ef oe fw op)) (λ y. last i p x f o y ef oe fw op) (before_or_last i n l);
   }
     where
-      length_more : {A : Type 0} (xs : List A) (x : A) → length (xs ++ x ∷ []) ≡ length xs + 1
-      length_more [] x = refl
-      length_more (y ∷ ys) x = let z = length_more ys x in omega (arith, z)
-
-      before : (i : ℕ) → i < n + 1 → (i < n) ⊎ (i ≡ n)
-      before i l = ⊎_elim (λ y. inl y) (λ y. inr (omega (arith, l, y))) (cases_lt i n)
-
       last : (i p x : ℕ) (f : Edge) (o : Operation) → i ≡ n → slice_get edges i ≡ Some f → op_at t f.user ≡ Some o → slice_get (m.forwarded (shape_of m t o) f.place) index ≡ Some p → slice_get (operands_of t f.user) p ≡ Some x → In x (used ++ v ∷ [])
       last i p x f o q ef oe fw op =
-          let same : e ≡ f = some_is (sym here ∙ ap (slice_get edges) (sym q) ∙ ef) in
-          let oe' : op_at t e.user ≡ Some o = ap (λ z. op_at t z.user) same ∙ oe in
-          let y = picked_at (m.forwarded (shape_of m t o) e.place) o.operands values index p (sym (are o oe')) (ap (λ z. slice_get (m.forwarded (shape_of m t o) z.place) index) same ∙ fw) in
-          let sv : x ≡ v = some_is (sym op ∙ ap (λ z. slice_get z p) (op_shows t f.user o oe).operands ∙ y.2 ∙ sym y.1 ∙ ev) in
+          let same : e ≡ f = same_edge i f q ef in
+          let at : op_at t e.user ≡ Some o = ap (λ z. op_at t z.user) same ∙ oe in
+          let y = picked_some (m.forwarded (shape_of m t o) e.place) o.operands index v (is o at) in
+          let place : p ≡ y.0 = some_is (sym fw ∙ ap (λ z. slice_get (m.forwarded (shape_of m t o) z.place) index) (sym same) ∙ y.1) in
+          let sv : x ≡ v = some_is (sym op ∙ ap (slice_get (operands_of t f.user)) place ∙ ap (λ z. slice_get z y.0) (op_shows t f.user o oe).operands ∙ y.2) in
           subst (λ z. In z (used ++ v ∷ [])) (sym sv) (in_last v used)
 
-  pub tells_none : length values ≤ index → TellsSoFar m t index edges (n + 1) (forwards ++ false ∷ []) used
-  tells_none le = record {
+  pub tells_none : IsForwardedAt m t e.user e.place index None → TellsSoFar m t index edges (n + 1) (forwards ++ false ∷ []) used
+  tells_none is = record {
     count = length_more forwards false ∙ ap (λ z. z + 1) r.count;
-    told = told_more false ((λ x. absurd (true≢false (sym x))), (λ x. absurd (omega (arith, le, x))));
-    values = λ i p x f o l ef oe fw op. ⊎_elim (λ y. r.values i p x f o y ef oe fw op) (λ y. absurd (none i p f o y ef oe fw)) (before i l);
+    told = told_more false (λ o oe. ((λ x. absurd (true≢false (sym x))), (λ x. absurd (beyond o oe x))));
+    values = λ i p x f o l ef oe fw op. ⊎_elim (λ y. r.values i p x f o y ef oe fw op) (λ y. absurd (none i p f o y ef oe fw)) (before_or_last i n l);
   }
     where
-      length_more : {A : Type 0} (xs : List A) (x : A) → length (xs ++ x ∷ []) ≡ length xs + 1
-      length_more [] x = refl
-      length_more (y ∷ ys) x = let z = length_more ys x in omega (arith, z)
-
-      before : (i : ℕ) → i < n + 1 → (i < n) ⊎ (i ≡ n)
-      before i l = ⊎_elim (λ y. inl y) (λ y. inr (omega (arith, l, y))) (cases_lt i n)
+      beyond : (o : Operation) → op_at t e.user ≡ Some o → index < length (m.forwarded (shape_of m t o) e.place) → ⊥
+      beyond o oe x = let y = picked_past (m.forwarded (shape_of m t o) e.place) o.operands index (is o oe) in omega (arith, x, y)
 
       none : (i p : ℕ) (f : Edge) (o : Operation) → i ≡ n → slice_get edges i ≡ Some f → op_at t f.user ≡ Some o → slice_get (m.forwarded (shape_of m t o) f.place) index ≡ Some p → ⊥
       none i p f o q ef oe fw =
-          let same : e ≡ f = some_is (sym here ∙ ap (slice_get edges) (sym q) ∙ ef) in
-          let oe' : op_at t e.user ≡ Some o = ap (λ z. op_at t z.user) same ∙ oe in
-          let l : length (m.forwarded (shape_of m t o) f.place) ≡ length values = ap (λ z. length (m.forwarded (shape_of m t o) z.place)) (sym same) ∙ as_many o oe' in
-          let s = slice_get_within (m.forwarded (shape_of m t o) f.place) index p fw in
-          omega (arith, le, s, l)
+          let same : e ≡ f = same_edge i f q ef in
+          beyond o (ap (λ z. op_at t z.user) same ∙ oe) (slice_get_within (m.forwarded (shape_of m t o) e.place) index p (ap (λ z. slice_get (m.forwarded (shape_of m t o) z.place) index) same ∙ fw))
 
 -- a ready argument of a block: what its removal asks and leaves
 module _ (m : Meaning) (can_fold : Head → Bool) (SameTests : Head → Head → Type 0) (shortened : Shape → ℕ → ℕ → Head) (law : ForwardsOperands m can_fold SameTests shortened) (tests : (h h' : Head) → SameTests h h' → m.is_branch h' ≡ m.is_branch h) (removable : Head → ℕ → Bool → Option Bool) (t : Tree) (uses : List (List Edge)) (root block index v : ℕ) (w : IsTree t) (agreed : AreAgreed t.successors uses) (linked : IsWellLinked m t root) (argument : slice_get (arguments_of t block) index ≡ Some v) (r : IsReadyArgument m removable t root v) where
@@ -213,12 +206,6 @@ argument_at t block index l = go (arguments_of t block) index l
 
 pub told_if_some : {A : Type 0} {o : Option A} {x : A} (P : A → Type 0) → o ≡ Some x → P x → IfSome o P
 told_if_some P e p = subst (λ z. IfSome z P) (sym e) p
-
-pub below : (a b : ℕ) → a < b → nat_lt a b ≡ true
-below a b l = grind (arith, tests)
-
-pub not_below : (a b : ℕ) → b ≤ a → nat_lt a b ≡ false
-not_below a b l = grind (arith, tests)
 
 -- the operands of the operation are among these values
 abbrev pub HasOperands : Tree → List ℕ → ℕ → Type 0

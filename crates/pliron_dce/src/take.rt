@@ -90,12 +90,11 @@ pub(crate) fn take_argument<D: Dialect>(
     let mut used = Vec::new(alloc);
     for i in 0..block.num_use(ctx) {
         let (branch, edge) = block.get_use(ctx, i);
-        let values = D::successor_operands(alloc, branch, ctx, edge)?;
-        let has_place = index < values.len();
-        if has_place {
-            used.push(values[index])?;
+        let forwarded = D::successor_operand(alloc, branch, ctx, edge, index)?;
+        if let Some(value) = forwarded {
+            used.push(value)?;
         }
-        forwards.push(has_place)?;
+        forwards.push(forwarded.is_some())?;
     }
     lose_forwarded::<D>(ctx, block, index, &forwards);
     ctx.well_formed();

@@ -1,6 +1,8 @@
 -- What the functions of the small dialect read and leave.
-use Rattle.std.proofs.Common.{◌≡◌, ℕ, zero, suc, ◌<◌, List, [], ◌∷◌, length, map, slice_index_or, slice_set, Option, Some, refl, sym, ap, ◌∙◌, subst, arith}
+use Rattle.std.proofs.Common.{◌≡◌, ℕ, zero, suc, ◌<◌, List, [], ◌∷◌, length, map, slice_index_or, slice_set, Option, Some, None, refl, sym, ap, ◌∙◌, subst, arith}
 use Rattle.std.specs.List.{slice_get}
+use Rattle.std.specs.Option.{option_map}
+use Rattle.std.proofs.lemmas.Option.{slice_get-map, slice_get_past}
 use Rattle.pliron_core.specs.declared.attrs.AttrObj.{AttrObj}
 use Rattle.pliron_core.specs.Tree.{Tree, IsLive, head_of, row_of, no_entry, operands_of}
 use Rattle.pliron_core.specs.Writes.{operand_removed}
@@ -8,7 +10,7 @@ use Rattle.pliron_core.proofs.GrownLemmas.{range_at, range_get}
 use Rattle.pliron_laws.specs.Datum.{Head}
 use Rattle.pliron_laws.specs.Tree.{Operation, op_at, shape_of}
 use Rattle.pliron_laws.specs.Acting.{pick}
-use Rattle.pliron_laws.specs.Answers.{AreForwarded, HasPlace, LosesForwarded, with_head}
+use Rattle.pliron_laws.specs.Answers.{AreForwarded, IsForwardedAt, HasPlace, LosesForwarded, with_head}
 use Rattle.pliron_laws.specs.PlaceLaws.{pick_all}
 use Rattle.pliron_evaluator.specs.Tiny.{first_attribute, forwarded_along, tiny, tiny_constants, tiny_shortened}
 use Rattle.pliron_laws.proofs.ShapeLemmas.{head_at, operands_at, live_at}
@@ -48,6 +50,14 @@ nothing_along n (suc i) xs e = refl
 pub none_forwarded : (t : Tree) (op i : ℕ) (values : List ℕ) → (i ≡ 0 → ⊥) → values ≡ [] → AreForwarded tiny t op i values
 unfolding tiny shape_of
 none_forwarded t op i values e f = λ o at. ap (map Some) f ∙ sym (nothing_along (length o.operands) i o.operands e)
+
+-- the one edge forwards at place j what stands there among the operands, another edge nothing
+pub one_forwarded : (t : Tree) (op i j : ℕ) (value : Option ℕ) → i ≡ 0 → value ≡ slice_get (operands_of t op) j → IsForwardedAt tiny t op i j value
+one_forwarded t op i j value e f = λ o at.
+    ap (option_map Some) f ∙ sym (slice_get-map Some (operands_of t op) j) ∙ ap (λ z. slice_get z j) (all_forwarded t op i (operands_of t op) e refl o at)
+
+pub no_one_forwarded : (t : Tree) (op i j : ℕ) → (i ≡ 0 → ⊥) → IsForwardedAt tiny t op i j None
+no_one_forwarded t op i j e = λ o at. sym (slice_get_past [] j (omega arith)) ∙ ap (λ z. slice_get z j) (none_forwarded t op i [] e refl o at)
 
 pub place_within : (t : Tree) (op i j : ℕ) → IsLive t op → HasPlace tiny t op i j → j < length (operands_of t op)
 unfolding tiny shape_of

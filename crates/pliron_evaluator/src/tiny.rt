@@ -5,7 +5,7 @@
 //! outside world and gives the answer. A scope visits its region once with its operands, cut or filled
 //! to the arguments of the entry block, and gives nothing. A branch goes to its one successor with all
 //! its operands.
-ghost use Rattle.std.specs.Prelude.{◌≡◌, Ok, ℕ, Some, IfOk};
+ghost use Rattle.std.specs.Prelude.{◌≡◌, Ok, ℕ, Some, IfOk, slice_get};
 ghost use Rattle.pliron_core.specs.Tree.{IsLive, IsBlock, block_parent_of, operands_of};
 ghost use Rattle.pliron_laws.specs.Answers.{ReadsHead, is_entry};
 ghost use Rattle.pliron_evaluator.specs.Tiny.{number_of, kind_of, is_br, is_const, first_attribute, tiny, tiny_side_effects, tiny_removable, tiny_folds, tiny_constants, tiny_accepts, tiny_constant, tiny_folds_branch, tiny_feasible, tiny_outcome, has_tiny_kind, has_tiny_interface, tiny_shortened};
@@ -103,6 +103,18 @@ fn first_of_attrs(alloc: Global, attrs: &Attrs) -> Result<AttrObj, NoMemory>
         Ok(AttrObj::Int(0))
     } else {
         attrs.get(0).copy(alloc)
+    }
+}
+
+// The operand at place `j`, if there are so many.
+fn operand_at(op: Ptr<Operation>, ctx: &Context, j: usize) -> Option<Value>
+    requires { IsLive ctx.now.tree op }
+    ensures { result ≡ slice_get (operands_of ctx.now.tree op) j }
+{
+    if j < op.num_operand(ctx) {
+        Some(op.get_operand(ctx, j))
+    } else {
+        None
     }
 }
 
@@ -328,6 +340,20 @@ impl Dialect for Tiny {
         } else {
             Ok(Vec::new(alloc))
         }
+    }
+
+    #[tactic(auto, using(crate::proofs::TinyLemmas::one_forwarded, crate::proofs::TinyLemmas::no_one_forwarded))]
+    fn successor_operand(
+        _alloc: Global,
+        op: Ptr<Operation>,
+        ctx: &Context,
+        i: usize,
+        j: usize,
+    ) -> Result<Option<Value>, OptError> {
+        if i != 0 {
+            return Ok(None);
+        }
+        Ok(operand_at(op, ctx, j))
     }
 
     fn remove_successor_operand(

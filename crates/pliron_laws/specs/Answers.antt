@@ -1,5 +1,6 @@
 -- What the answers of a dialect may read.
 use Rattle.std.specs.Prelude.{◌≡◌, ◌<◌, ℕ, Bool, nat_eq, false, List, Option, Some, None, slice_get, slice_set, length, map, IsTrue}
+use Rattle.std.specs.Option.{option_map}
 use Rattle.pliron_core.specs.declared.attrs.AttrObj.{AttrObj}
 use Rattle.pliron_core.specs.Tree.{Tree, head_of, row_of, operands_of, results_of, successors_of, regions_of, block_parent_of, slot_of, layout_of, first_of}
 use Rattle.pliron_core.specs.Writes.{operand_removed, created}
@@ -44,6 +45,11 @@ HeadPasses f t op = (h : Head) → head_of t op ≡ Some h → IsTrue (f h)
 -- these are the operands that the branch forwards along the edge with this index
 abbrev pub AreForwarded : Meaning → Tree → (op i : ℕ) → List ℕ → Type 0
 AreForwarded m t op i values = (o : Operation) → op_at t op ≡ Some o → map Some values ≡ pick (m.forwarded (shape_of m t o) i) o.operands
+
+-- this is the operand that the branch forwards at place j of the edge with index i, if there is such a
+-- place
+abbrev pub IsForwardedAt : Meaning → Tree → (op i j : ℕ) → Option ℕ → Type 0
+IsForwardedAt m t op i j value = (o : Operation) → op_at t op ≡ Some o → option_map Some value ≡ slice_get (pick (m.forwarded (shape_of m t o) i) o.operands) j
 
 -- the edge with index i of the branch has a place j
 abbrev pub HasPlace : Meaning → Tree → (op i j : ℕ) → Type 0

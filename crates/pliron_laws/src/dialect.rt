@@ -26,7 +26,7 @@ ghost use Rattle.pliron_laws.specs.Datum.{Head, Shape, Meaning};
 ghost use Rattle.pliron_laws.specs.Folding.{Constants, Feasible, AnswersTrue, AnswersJumps, MakesConstants};
 ghost use Rattle.pliron_laws.specs.Laws.{KeepsCounts, GivesAtOnce, ForwardsOperands, ActsWithoutArgument};
 ghost use Rattle.pliron_laws.specs.InPlace.{Outcome, FoldsInPlace, PassSameTests, materialising};
-ghost use Rattle.pliron_laws.specs.Answers.{ReadsHead, ReadsCounts, ReadsShape, ReadsEdges, ReadsPlace, HeadPasses, AreForwarded, HasPlace, LosesForwarded, IsMaterialised};
+ghost use Rattle.pliron_laws.specs.Answers.{ReadsHead, ReadsCounts, ReadsShape, ReadsEdges, ReadsPlace, HeadPasses, AreForwarded, IsForwardedAt, HasPlace, LosesForwarded, IsMaterialised};
 ghost use Rattle.pliron_laws.specs.declared.dialect.Interface.{Interface as InterfaceName};
 
 use crate::fault::OptError;
@@ -336,6 +336,28 @@ pub trait Dialect: SideEffects + BlockArgRemoval + ConstFoldInterface + BranchOp
         requires edge { i < length (successors_of ctx.now.tree op) }
         ensures ok { IfOk result (λ values. AreForwarded Self.meaning ctx.now.tree op i values.items) }
         ensures err { IfErr result (λ e. e ≡ Memory) };
+
+    /// The operand that the branch forwards at place `j` of its edge `i`; `None` where the edge has no
+    /// such place. Asks for a branch with such an edge.
+    ///
+    /// Errors: want of memory. Cost: that of `successor_operands`, which this body asks; a dialect that
+    /// can tell in one step writes its own.
+    fn successor_operand(
+        alloc: Global,
+        op: Ptr<Operation>,
+        ctx: &Context,
+        i: usize,
+        j: usize,
+    ) -> Result<Option<Value>, OptError>
+        requires live { IsLive ctx.now.tree op }
+        requires branch { HeadPasses Self.meaning.is_branch ctx.now.tree op }
+        requires edge { i < length (successors_of ctx.now.tree op) }
+        ensures ok { IfOk result (λ value. IsForwardedAt Self.meaning ctx.now.tree op i j value) }
+        ensures err { IfErr result (λ e. e ≡ Memory) }
+    {
+        let values = Self::successor_operands(alloc, op, ctx, i)?;
+        Ok(values.get(j).copied())
+    }
 
     /// Takes out the operand that the branch forwards at place `j` of its edge `i`, and answers it.
     /// Asks for a branch with such an edge and place. Takes no memory.
