@@ -1,4 +1,6 @@
-//! Which regions and blocks the simplification of control flow looks at.
+//! Simplifying the control flow of a tree: so far, which regions and blocks a call looks at.
 //!
-//! It knows regions as graphs, and nothing of rewrites or dialects.
+//! It stands on the theory of rewrites of blocks and on the graphs of regions, and knows no dialect.
 #![tactic(auto)]
+
+pub mod visits;

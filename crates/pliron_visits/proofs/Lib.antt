@@ -1,0 +1,5 @@
+pub mod WalkLemmas
+pub mod Growing
+pub mod Visiting
+pub mod Lawful
+pub mod Tested
