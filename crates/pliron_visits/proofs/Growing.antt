@@ -1,5 +1,5 @@
 -- Regions that are seen for the first time wait.
-use Rattle.std.proofs.Common.{◌≡◌, ◌⊎◌, inl, inr, ⊎_elim, ℕ, List, [], ◌∷◌, ◌++◌, length, length-append, refl, sym, subst, arith}
+use Rattle.std.proofs.Common.{inl, inr, ⊎_elim, ℕ, List, [], ◌∷◌, ◌++◌, length-append, refl, sym, subst, arith}
 use Rattle.pliron_core.specs.Lists.{In, IsDistinct}
 use Rattle.pliron_core.proofs.ListLemmas.{In-left, In-right, In-cases}
 use Rattle.pliron_visits.specs.Visits.{Grew}

@@ -1,16 +1,18 @@
 -- Visited regions may be read as graphs, and what is entered stands in them.
-use Rattle.std.proofs.Common.{◌≡◌, ◌⊎◌, inl, inr, ℕ, ◌<◌, ◌≤◌, ◌+◌, ◌-◌, arith, length, Bool, true, false, List, [], ◌∷◌, Option, Some, None, Contains, IsSome, IsTrue, refl, sym, ap, ◌∙◌, subst}
+use Rattle.std.proofs.Common.{◌≡◌, inl, inr, ℕ, ◌<◌, ◌≤◌, ◌+◌, ◌-◌, arith, length, Bool, true, false, List, [], ◌∷◌, Some, Contains, IsSome, refl, sym, ap, ◌∙◌, subst}
 use Rattle.std.proofs.lemmas.Option.{slice_get_within}
 use Rattle.pliron_core.specs.Lists.{IsDistinct}
-use Rattle.pliron_core.specs.Tree.{Tree, In, IsBlock, IsRegion, IsInside, IsInside.Directly, HoldsBlock, first_of, successors_of, regions_of, block_parent_of, layout_of, region_parent_of, op_of_slot}
+use Rattle.pliron_core.specs.Tree.{Tree, In, IsBlock, IsRegion, IsInside, IsInside.Directly, regions_of, body_of, block_parent_of, layout_of, block_holder_of, region_parent_of, op_of_slot}
 use Rattle.pliron_core.specs.Joined.{IsTree}
 use Rattle.pliron_core.specs.Reads.{has_ssa}
+use Rattle.std.specs.List.{flat_map}
+use Rattle.pliron_core.proofs.FlatLemmas.{flat_map-In}
 use Rattle.pliron_core.proofs.ListLemmas.{distinct-length}
 use Rattle.pliron_core.proofs.NeighbourLemmas.{first_of-In}
 use Rattle.pliron_core.proofs.WithinLemmas.{block_holder_from}
-use Rattle.pliron_core.proofs.HoldingLemmas.{slice_in, slot_is, region_by, holder_by, deeper, holds_deeper}
+use Rattle.pliron_core.proofs.HoldingLemmas.{slice_in, slot_is, region_by, region_parent_is, block_held, holder_by, deeper, holds_deeper}
 use Rattle.pliron_laws.specs.Linked.{EdgesLast}
-use Rattle.pliron_search.specs.Digraph.{IsPath, IsLawful}
+use Rattle.pliron_search.specs.Digraph.{IsPath}
 use Rattle.pliron_search.specs.Regions.{graph_of_region, IsLawfulRegion}
 use Rattle.pliron_search.specs.Internal.RegionLawful.{in_keys, keys_have, region_lawful, same_key}
 use Rattle.pliron_visits.specs.Visited.{IsVisited, IsVisited.Starts, IsVisited.Nested, IsEntered, IsEnteredIf, IsReachedIn}
@@ -61,3 +63,17 @@ seen_few t w Start f seen d v = distinct-length (length t.slots) seen d (λ r i.
 
 pub fewer_left : (a x y rest s waiting : ℕ) → s ≤ a → y ≤ a → x + s ≡ rest + y → waiting ≡ rest + 1 → a + x - y < a + waiting - s
 fewer_left a x y rest s waiting h k e f = omega (arith, h, k, e, f)
+
+-- what a call on a block, on a region starts with may be read as a graph
+pub region_in_block : (t : Tree) → IsTree t → (block r : ℕ) → IsBlock t block → ((holder : ℕ) → block_holder_of t block ≡ Some holder → EdgesLast t holder) → In r (flat_map (λ k. regions_of t k) (body_of t block)) → IsLawfulRegion t r
+region_in_block t w block r stands edges i =
+    let up = block_held t block w.joined stands in
+    let k = flat_map-In (λ k. regions_of t k) (body_of t block) r i in
+    let inside : IsInside t up.1 k.0 = Directly (holder_by t k.0 block up.1 (w.bodies.owned k.0 block k.1) up.5) in
+    region_of_op t w k.0 r k.2 (edges_held t up.1 k.0 inside (edges up.1 up.5))
+
+pub region_itself : (t : Tree) → IsTree t → (r : ℕ) → IsRegion t r → ((holder : ℕ) → region_parent_of t r ≡ Some holder → EdgesLast t holder) → IsLawfulRegion t r
+region_itself t w r stands edges =
+    let s = slot_is t r stands in
+    let up = region_parent_is t r s.0 s.1 in
+    record { tree = w; stands = stands; holder = s.0.op; held = up; edges = edges s.0.op up }

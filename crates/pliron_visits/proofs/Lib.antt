@@ -1,3 +1,4 @@
+pub mod ListLemmas
 pub mod WalkLemmas
 pub mod Growing
 pub mod Visiting

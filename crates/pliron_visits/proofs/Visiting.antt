@@ -1,5 +1,5 @@
 -- The search for visited regions.
-use Rattle.std.proofs.Common.{◌≡◌, ◌⊎◌, inl, inr, ⊎_elim, ℕ, ◌<◌, ◌≤◌, ◌+◌, ◌-◌, List, [], ◌∷◌, ◌++◌, length, length-append, Some, IsTrue, refl, sym, ap, ◌∙◌, subst, arith}
+use Rattle.std.proofs.Common.{◌≡◌, ◌⊎◌, inl, inr, ⊎_elim, ℕ, List, [], ◌∷◌, ◌++◌, Some, IsTrue, refl, sym, subst}
 use Rattle.std.specs.List.{flat_map}
 use Rattle.pliron_core.specs.Lists.{IsDistinct}
 use Rattle.pliron_core.specs.Tree.{Tree, In, regions_of, parent_of, body_of}
@@ -98,4 +98,17 @@ module _ (t : Tree) (Start : ℕ → Type 0) (seen rs bs : List ℕ) (h : IsVisi
   visits_found = record {
     regions = λ r. (λ i. let f = h.found r i in (h.visited r f.0, f.1), λ v. (all_done r (all_seen r v.0)).listed v.1);
     blocks = λ b. (λ i. let f = h.reached b i in let s = h.found f.0 f.1 in (f.0, h.visited f.0 s.0, s.1, f.2), λ v. (all_done v.0 (all_seen v.0 v.1)).blocks v.2 b v.3);
+  }
+
+-- visits are those of any other start with the same regions
+module _ (t : Tree) (A B : ℕ → Type 0) where
+  visited_alike : ((r : ℕ) → A r → B r) → (r : ℕ) → IsVisited t A r → IsVisited t B r
+  visited_alike f r (Starts s) = Starts (f r s)
+  visited_alike f r (Nested outer b k v e p i) = Nested outer b k (visited_alike f outer v) e p i
+
+module _ (t : Tree) (A B : ℕ → Type 0) (to : (r : ℕ) → A r → B r) (from : (r : ℕ) → B r → A r) where
+  pub visits_alike : (rs bs : List ℕ) → AreVisits t A rs bs → AreVisits t B rs bs
+  visits_alike rs bs v = record {
+    regions = λ r. (λ i. let x = (v.regions r).0 i in (visited_alike t A B to r x.0, x.1), λ x. (v.regions r).1 (visited_alike t B A from r x.0, x.1));
+    blocks = λ b. (λ i. let x = (v.blocks b).0 i in (x.0, visited_alike t A B to x.0 x.1, x.2, x.3), λ x. (v.blocks b).1 (x.0, visited_alike t B A from x.0 x.1, x.2, x.3));
   }

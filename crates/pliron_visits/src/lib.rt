@@ -1,6 +1,9 @@
-//! Simplifying the control flow of a tree: so far, which regions and blocks a call looks at.
+//! Which regions and blocks the simplification of control flow looks at.
 //!
-//! It stands on the theory of rewrites of blocks and on the graphs of regions, and knows no dialect.
+//! It knows regions as graphs, and nothing of rewrites or dialects.
 #![tactic(auto)]
 
+mod last_first;
 pub mod visits;
+
+pub use visits::{Visits, visits_inside_block, visits_inside_op, visits_inside_region};

@@ -1,12 +1,13 @@
 //! Which regions and blocks a call looks at.
-ghost use Rattle.std.specs.Prelude.{◌≡◌, ◌↔◌, ◌++◌, ℕ, IfOk, OnOk, IsOkUnless};
+ghost use Rattle.std.specs.Prelude.{Some, ◌≡◌, ◌↔◌, ◌++◌, ℕ, IfOk, OnOk, IsOkUnless};
 ghost use Rattle.std.specs.List.{flat_map};
-ghost use Rattle.pliron_core.specs.Tree.{In, IsLive, IsBlock, body_of, regions_of};
+ghost use Rattle.pliron_core.specs.Tree.{In, IsLive, IsBlock, IsRegion, body_of, regions_of, block_holder_of, region_parent_of};
 ghost use Rattle.pliron_laws.specs.Linked.{EdgesLast};
 ghost use Rattle.pliron_search.specs.Regions.{IsLawfulRegion};
-ghost use Rattle.pliron_visits.specs.Visited.{IsReachedIn, IsEntered, OfOperation};
+ghost use Rattle.pliron_visits.specs.Visited.{IsReachedIn, IsEntered, OfOperation, OfBlock, OfRegion};
 ghost use Rattle.pliron_visits.specs.Visits.{AreVisits, Grew};
 
+use crate::last_first::LastFirst;
 use indexmap::IndexSet;
 use pliron_core::{BasicBlock, Context, Operation, Ptr, Region};
 use pliron_laws::OptError;
@@ -113,7 +114,8 @@ fn reached_blocks(
     ensures reached { IfOk result (λ r. (b : ℕ) → In b r.items ↔ IsReachedIn ctx.now.tree region b) }
     ensures memory { IsOkUnless result OptError.Memory }
 {
-    let search = DFSTraversal::new(alloc, ctx, &region)?;
+    let graph = LastFirst { region };
+    let search = DFSTraversal::new(alloc, ctx, &graph)?;
     Ok(in_visiting_order(alloc, &search)?)
 }
 
@@ -160,6 +162,7 @@ fn visit(alloc: Global, ctx: &Context, starts: &[Ptr<Region>]) -> Result<Visits,
     ensures visits { IfOk result (λ v. AreVisits ctx.now.tree (λ r. In r starts.now) v.regions.items v.blocks.items) }
     ensures memory { IsOkUnless result OptError.Memory }
 {
+    ctx.well_formed();
     let mut regions = Vec::new(alloc);
     let mut blocks = Vec::new(alloc);
     let mut seen = IndexSet::new(alloc);
@@ -180,7 +183,8 @@ fn visit(alloc: Global, ctx: &Context, starts: &[Ptr<Region>]) -> Result<Visits,
 /// What a call on the operation looks at.
 ///
 /// Asks that the operation stands and that edges stand last in it. Errors: want of memory. Cost: linear in
-/// the blocks and edges that it looks at, with one table look-up for each edge and each visited region.
+/// the blocks, edges and operations that it looks at, with one table look-up for each edge and each visited
+/// region.
 pub fn visits_inside_op(
     alloc: Global,
     ctx: &Context,
@@ -194,5 +198,45 @@ pub fn visits_inside_op(
     ctx.well_formed();
     let mut starts = Vec::new(alloc);
     push_regions(ctx, op, &mut starts)?;
+    visit(alloc, ctx, &starts)
+}
+
+/// What a call on the block looks at: the regions of its operations, and so on down.
+///
+/// Asks that the block stands and that edges stand last in what holds it. Errors and cost are those of
+/// [`visits_inside_op`].
+pub fn visits_inside_block(
+    alloc: Global,
+    ctx: &Context,
+    block: Ptr<BasicBlock>,
+) -> Result<Visits, OptError>
+    requires block { IsBlock ctx.now.tree block }
+    requires edges { (holder : ℕ) → block_holder_of ctx.now.tree block ≡ Some holder → EdgesLast ctx.now.tree holder }
+    ensures visits { IfOk result (λ v. AreVisits ctx.now.tree (OfBlock block ctx.now.tree) v.regions.items v.blocks.items) }
+    ensures memory { IsOkUnless result OptError.Memory }
+{
+    ctx.well_formed();
+    let mut starts = Vec::new(alloc);
+    push_nested(alloc, ctx, block, &mut starts)?;
+    visit(alloc, ctx, &starts)
+}
+
+/// What a call on the region looks at: the region itself, and so on down.
+///
+/// Asks that the region stands and that edges stand last in what holds it. Errors and cost are those of
+/// [`visits_inside_op`].
+pub fn visits_inside_region(
+    alloc: Global,
+    ctx: &Context,
+    region: Ptr<Region>,
+) -> Result<Visits, OptError>
+    requires region { IsRegion ctx.now.tree region }
+    requires edges { (holder : ℕ) → region_parent_of ctx.now.tree region ≡ Some holder → EdgesLast ctx.now.tree holder }
+    ensures visits { IfOk result (λ v. AreVisits ctx.now.tree (OfRegion region ctx.now.tree) v.regions.items v.blocks.items) }
+    ensures memory { IsOkUnless result OptError.Memory }
+{
+    ctx.well_formed();
+    let mut starts = Vec::new(alloc);
+    starts.push(region)?;
     visit(alloc, ctx, &starts)
 }
