@@ -16,6 +16,7 @@ use crate::work::{Candidate, next_ready, note};
 use pliron_core::{Context, Def, IRStatus, Operation, Ptr};
 use pliron_laws::{Dialect, OptError};
 use std::alloc::Global;
+use std::collections::VecDeque;
 
 // Whether the operation has regions.
 fn has_regions(op: Ptr<Operation>, ctx: &Context) -> bool
@@ -36,7 +37,7 @@ fn take_one<D: Dialect>(
     alloc: Global,
     next: Candidate,
     root: Ptr<Operation>,
-    work: &mut Vec<Candidate>,
+    work: &mut VecDeque<Candidate>,
     ctx: &mut Context,
 ) -> Result<bool, OptError>
     requires linked { IsWellLinked D.meaning ctx.old.tree root }
@@ -77,16 +78,17 @@ fn take_one<D: Dialect>(
 pub(crate) fn sweep<D: Dialect>(
     alloc: Global,
     root: Ptr<Operation>,
-    mut work: Vec<Candidate>,
+    candidates: Vec<Candidate>,
     ctx: &mut Context,
 ) -> Result<(IRStatus, bool), OptError>
     requires live { IsLive ctx.old.tree root }
     requires linked { IsWellLinked D.meaning ctx.old.tree root }
-    requires all { HasReady D.meaning D.side_effects D.removable ctx.old.tree root work.items }
+    requires all { HasReady D.meaning D.side_effects D.removable ctx.old.tree root candidates.items }
     ensures gone { (gone : List Item) × IsOnTheWay D.meaning D.shortened D.side_effects D.removable ctx.old.tree ctx.new.tree root gone × IfOk result (λ a. LeavesNoDead D.meaning D.side_effects D.removable ctx.old.tree ctx.new.tree root × TellsGone gone a.0 × (IsTrue a.1 ↔ SomeHasRegions ctx.old.tree gone)) }
     ensures edges { IfOk result (λ a. (IsTrue a.1 → ⊥) → KeepsEdges ctx.old.tree ctx.new.tree) }
     ensures err { IfErr result (λ e. e ≡ Memory) }
 {
+    let mut work = VecDeque::from_vec(candidates);
     let mut status = IRStatus::Unchanged;
     let mut regions = false;
     while let Some(next) = next_ready::<D>(&mut work, root, ctx) {

@@ -10,6 +10,7 @@ use crate::ready::{holder_of, is_ready_argument, is_ready_operation, is_within};
 use pliron_core::{Context, Def, Operation, Ptr, Value};
 use pliron_laws::Dialect;
 use std::alloc::AllocError;
+use std::collections::VecDeque;
 
 // What may be dead.
 #[derive(Clone, Copy, PartialEq, Eq)]
@@ -20,7 +21,7 @@ pub(crate) enum Candidate {
 
 // The last one that is ready; those after it are not, and go.
 pub(crate) fn next_ready<D: Dialect>(
-    work: &mut Vec<Candidate>,
+    work: &mut VecDeque<Candidate>,
     root: Ptr<Operation>,
     ctx: &Context,
 ) -> Option<Candidate>
@@ -30,7 +31,7 @@ pub(crate) fn next_ready<D: Dialect>(
     ensures all { IfSome result (λ next. HasReady D.meaning D.side_effects D.removable ctx.now.tree root (work.new.items ++ next ∷ [])) }
     ensures none { IfNone result ((x : Item) → IsReady D.meaning D.side_effects D.removable ctx.now.tree root x → ⊥) }
 {
-    while let Some(next) = work.pop() {
+    while let Some(next) = work.pop_back() {
         match next {
             Candidate::Operation(op) => {
                 if is_ready_operation::<D>(op, root, ctx) {
@@ -62,7 +63,7 @@ fn holder_of_maker(value: Value, ctx: &Context) -> Option<Ptr<Operation>>
 
 // The operations around what makes the value, up to the first that holds the site.
 fn push_around(
-    work: &mut Vec<Candidate>,
+    work: &mut VecDeque<Candidate>,
     value: Value,
     site: Ptr<Operation>,
     ctx: &Context,
@@ -77,7 +78,7 @@ fn push_around(
         if is_within(site, op, ctx) {
             return Ok(());
         }
-        work.push(Candidate::Operation(op))?;
+        work.push_front(Candidate::Operation(op))?;
         around = op.get_parent_op(ctx);
     }
     Ok(())
@@ -86,7 +87,7 @@ fn push_around(
 // What may have become ready when these values lost uses by operations that `site` holds: what makes
 // each of them, and the operations around it that do not hold those.
 pub(crate) fn note(
-    work: &mut Vec<Candidate>,
+    work: &mut VecDeque<Candidate>,
     site: Ptr<Operation>,
     used: &[Value],
     ctx: &Context,
@@ -100,8 +101,8 @@ pub(crate) fn note(
             continue;
         }
         match value.def(ctx) {
-            Def::Result(op, _) => work.push(Candidate::Operation(op))?,
-            Def::Argument(_, _) => work.push(Candidate::Argument(*value))?,
+            Def::Result(op, _) => work.push_front(Candidate::Operation(op))?,
+            Def::Argument(_, _) => work.push_front(Candidate::Argument(*value))?,
         }
         push_around(work, *value, site, ctx)?;
     }

@@ -1,7 +1,7 @@
 use Rattle.std.proofs.Common.{refl, rules, inl, inr, ◌↔◌, IsTrue, ◌++◌, ◌∷◌, List, [], IfOk, ⊎_elim, sym, subst}
 use Rattle.pliron_dce.specs.Dead.{Item}
 use Rattle.pliron_dce.specs.Going.{IsOnTheWay, LeavesNoDead, TellsGone, SomeHasRegions}
-use Rattle.pliron_dce.specs.Work.{item_of}
+use Rattle.pliron_dce.specs.Work.{item_of, HasReady}
 use Rattle.pliron_dce.proofs.SweepLemmas.{step_less}
 use Rattle.pliron_dce.proofs.Progress.{on_the_way, one_more, at_the_end, tells_more, edges_more, regions_more}
 use Rattle.pliron_dce.proofs.sweep.sweep.Goals as goal
@@ -10,7 +10,7 @@ pub loop-next-init : goal.loop-next-init
 loop-next-init g c = record {
   way = ([], on_the_way _ _ _ _ g.met.D.Dialect.forwards_operands (λ h h' s. s.branch) g.met.D.Dialect.keeps_counts g.D.SideEffects.side_effects g.met.D.Dialect.gives_at_once g.D.BlockArgRemoval.removable g.met.D.Dialect.acts_without_argument c.args.ctx.now.tree c.args.root c.requires.live, refl, search rules);
   edges = λ n op before after. refl;
-  all = c.requires.all;
+  all = subst (λ z. HasReady g.D.HasMeaning.meaning g.D.SideEffects.side_effects g.D.BlockArgRemoval.removable c.args.ctx.now.tree c.args.root z) (sym c.from_vec-work.ensures.items) c.requires.all;
 }
 
 pub loop-next-smaller : goal.loop-next-smaller

@@ -1,15 +1,14 @@
-use Rattle.std.proofs.Common.{◌≡◌, ℕ, Some, sym, ap, ◌∙◌, subst}
+use Rattle.std.proofs.Common.{◌≡◌, ℕ, Some, inl, inr, refl, sym, ap, ◌∙◌, subst}
 use Rattle.std.proofs.lemmas.Option.{slice_get-get_or}
 use Rattle.pliron_core.specs.declared.context.Def.TheVariants.{Result, Argument}
 use Rattle.pliron_core.specs.Tree.{definition_of}
 use Rattle.pliron_laws.proofs.AnswerLemmas.{refuted}
-use Rattle.pliron_dce.specs.declared.work.Candidate.TheVariants.{Operation as Made, Argument as Passed}
 use Rattle.pliron_dce.specs.Dead.{Item, Op, Arg}
 use Rattle.pliron_dce.specs.Steps.{Among}
 use Rattle.pliron_dce.specs.Work.{items_of}
-use Rattle.pliron_dce.proofs.WorkLemmas.{looked_more, looked_past, among_front, among_last, same_maker, other_maker}
+use Rattle.pliron_dce.proofs.WorkLemmas.{looked_more, looked_past, same_maker, other_maker}
 use Rattle.pliron_dce.proofs.work.note.Goals as goal
-use Rattle.pliron_dce.proofs.work.note.Goals.{in-Result+in_ok-push-in-Result, in-Argument+in_ok-push-in-Argument}
+use Rattle.pliron_dce.proofs.work.note.Goals.{in-Result+in_ok-push_front-in-Result, in-Argument+in_ok-push_front-in-Argument}
 
 pub loop-value-preserved-then-not-is_live : goal.loop-value-preserved-then-not-is_live
 loop-value-preserved-then-not-is_live c = record {
@@ -22,16 +21,16 @@ loop-value-preserved c =
     let at = slice_get-get_or c.args.used.now c.loop-value.value-index _ c.loop-value-test.true ∙ ap Some (sym c.value-item.is) in
     let looks = c.in_ok-push_around.ensures in
     let more : (x : Item) → Among x (items_of c.loop-value.work.items) → Among x (items_of c.match-def.work.items) = elim c.match-def.branch [
-      | in-Result+in_ok-push-in-Result w ↦ λ x i. subst (λ z. Among x (items_of z)) (sym (ap (λ z. z.items) w.work-is ∙ w.in_ok-push-in-Result.ensures.items)) (among_front x c.loop-value.work.items (Made w.in-Result.op) i)
-      | in-Argument+in_ok-push-in-Argument w ↦ λ x i. subst (λ z. Among x (items_of z)) (sym (ap (λ z. z.items) w.work-is ∙ w.in_ok-push-in-Argument.ensures.items)) (among_front x c.loop-value.work.items (Passed c.value-item.result) i)
+      | in-Result+in_ok-push_front-in-Result w ↦ λ x i. subst (λ z. Among x (items_of z)) (sym (ap (λ z. z.items) w.work-is ∙ w.in_ok-push_front-in-Result.ensures.items)) (inr i)
+      | in-Argument+in_ok-push_front-in-Argument w ↦ λ x i. subst (λ z. Among x (items_of z)) (sym (ap (λ z. z.items) w.work-is ∙ w.in_ok-push_front-in-Argument.ensures.items)) (inr i)
     ] in
     let makers : (k n : ℕ) → definition_of c.args.ctx.now.tree c.value-item.result ≡ Some (Result k n) → Among (Op k) (items_of c.match-def.work.items) = elim c.match-def.branch [
-      | in-Result+in_ok-push-in-Result w ↦ λ k n e. subst (λ z. Among (Op z) (items_of c.match-def.work.items)) (same_maker w.in-Result.ensures.definition e) (subst (λ z. Among (Op w.in-Result.op) (items_of z)) (sym (ap (λ z. z.items) w.work-is ∙ w.in_ok-push-in-Result.ensures.items)) (among_last c.loop-value.work.items (Made w.in-Result.op)))
-      | in-Argument+in_ok-push-in-Argument w ↦ λ k n e. absurd (other_maker e w.in-Argument.ensures.definition)
+      | in-Result+in_ok-push_front-in-Result w ↦ λ k n e. subst (λ z. Among (Op z) (items_of c.match-def.work.items)) (same_maker w.in-Result.ensures.definition e) (subst (λ z. Among (Op w.in-Result.op) (items_of z)) (sym (ap (λ z. z.items) w.work-is ∙ w.in_ok-push_front-in-Result.ensures.items)) (inl refl))
+      | in-Argument+in_ok-push_front-in-Argument w ↦ λ k n e. absurd (other_maker e w.in-Argument.ensures.definition)
     ] in
     let arguments : (b n : ℕ) → definition_of c.args.ctx.now.tree c.value-item.result ≡ Some (Argument b n) → Among (Arg c.value-item.result) (items_of c.match-def.work.items) = elim c.match-def.branch [
-      | in-Result+in_ok-push-in-Result w ↦ λ b n e. absurd (other_maker w.in-Result.ensures.definition e)
-      | in-Argument+in_ok-push-in-Argument w ↦ λ b n e. subst (λ z. Among (Arg c.value-item.result) (items_of z)) (sym (ap (λ z. z.items) w.work-is ∙ w.in_ok-push-in-Argument.ensures.items)) (among_last c.loop-value.work.items (Passed c.value-item.result))
+      | in-Result+in_ok-push_front-in-Result w ↦ λ b n e. absurd (other_maker w.in-Result.ensures.definition e)
+      | in-Argument+in_ok-push_front-in-Argument w ↦ λ b n e. subst (λ z. Among (Arg c.value-item.result) (items_of z)) (sym (ap (λ z. z.items) w.work-is ∙ w.in_ok-push_front-in-Argument.ensures.items)) (inl refl)
     ] in
     record {
       kept = λ x i. looks.kept x (more x (c.loop-value.invariant.kept x i));
