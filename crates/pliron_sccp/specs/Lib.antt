@@ -17,3 +17,4 @@ pub mod Demands
 pub mod Falling
 pub mod Inside
 pub mod Looking
+pub mod Accounts
