@@ -20,9 +20,9 @@ pub data LooksThrough (x : Says) (t : Tree) : List ℕ → Solver → Solver →
   Then : {s s' : Solver} {ks : List ℕ} (k : ℕ) (u : Solver) → LooksAt x t k s u → LooksThrough x t ks u s' → LooksThrough x t (k ∷ ks) s s'
 
 -- all values that waited wait no longer, and nothing else changed; these are they, each once
-pub record TakesValues (values : List ℕ) (s s' : Solver) : Type 0 where
+pub record TakesValues (taken : List ℕ) (s s' : Solver) : Type 0 where
   pub distinct : IsDistinct values
-  pub waited : (v : ℕ) → waits_value s v ≡ true ↔ In v values
+  pub waited : (v : ℕ) → waits_value s v ≡ true ↔ In v taken
   pub values : (v : ℕ) → waits_value s' v ≡ false
   pub facts : (v : ℕ) → fact_in s' v ≡ fact_in s v
   pub reached : (b : ℕ) → reaches s' b ≡ reaches s b
