@@ -1,5 +1,5 @@
 -- What was looked at, and what that did to the tables of the search for facts.
-use Rattle.std.specs.Prelude.{◌≡◌, ◌↔◌, ℕ, true, false, List, [], ◌∷◌, Some}
+use Rattle.std.specs.Prelude.{◌≡◌, ◌↔◌, ◌⊎◌, ℕ, true, false, List, [], ◌∷◌, Some}
 use Rattle.pliron_core.specs.Tree.{Tree, In, IsDistinct, operands_of, parent_of}
 use Rattle.pliron_theory.specs.Facts.{Says}
 use Rattle.pliron_sccp.specs.declared.applying.Demand.{Demand}
@@ -21,7 +21,7 @@ pub data LooksThrough (x : Says) (t : Tree) : List ℕ → Solver → Solver →
 
 -- all values that waited wait no longer, and nothing else changed; these are they, each once
 pub record TakesValues (taken : List ℕ) (s s' : Solver) : Type 0 where
-  pub distinct : IsDistinct values
+  pub distinct : IsDistinct taken
   pub waited : (v : ℕ) → waits_value s v ≡ true ↔ In v taken
   pub values : (v : ℕ) → waits_value s' v ≡ false
   pub facts : (v : ℕ) → fact_in s' v ≡ fact_in s v
@@ -34,6 +34,16 @@ pub record IsVisited (t : Tree) (s : Solver) (k : ℕ) : Type 0 where
   pub in_block : parent_of t k ≡ Some block
   pub reached : reaches s block ≡ true
   pub taken : waits_block s block ≡ false
+
+-- the operation reads the value, and stands in such a block
+pub record IsUserOf (t : Tree) (s : Solver) (v k : ℕ) : Type 0 where
+  pub visited : IsVisited t s k
+  pub reads : In v (operands_of t k)
+
+-- the list grows by what is so, each once
+pub record AddsEach (old new : List ℕ) (IsSo : ℕ → Type 0) : Type 0 where
+  pub distinct : IsDistinct old → IsDistinct new
+  pub members : (k : ℕ) → In k new ↔ (In k old ⊎ IsSo k)
 
 -- the users of these values that stand where was looked, each once, and no others
 pub record AreUsersOf (t : Tree) (values users : List ℕ) (s : Solver) : Type 0 where
