@@ -21,3 +21,5 @@ pub mod StraightLinks
 pub mod EdgesAsked
 pub mod DistinctLists
 pub mod Listing
+pub mod Going
+pub mod Tracked
