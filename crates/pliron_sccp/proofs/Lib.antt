@@ -23,3 +23,4 @@ pub mod DistinctLists
 pub mod Listing
 pub mod Going
 pub mod Tracked
+pub mod Accounting
