@@ -1,5 +1,5 @@
 -- The count of what was taken is kept by each step of the search for facts.
-use Rattle.std.proofs.Common.{◌≡◌, ◌≢◌, ◌⊎◌, ◌↔◌, inl, inr, ⊎_elim, ℕ, ◌+◌, ◌*◌, ◌≤◌, Bool, true, false, true≢false, nat_eq, if◌then◌else◌, List, [], ◌∷◌, length, filter, refl, sym, ap, ap₂, ◌∙◌, subst, arith}
+use Rattle.std.proofs.Common.{◌≡◌, ◌≢◌, ◌⊎◌, ◌↔◌, inl, inr, ⊎_elim, ℕ, ◌+◌, ◌*◌, ◌≤◌, Bool, true, false, true≢false, nat_eq, if◌then◌else◌, List, [], ◌∷◌, length, filter, refl, sym, ap, ap₂, ◌∙◌, subst, arith, IsTrue}
 use Rattle.std.specs.List.{flat_map}
 use Rattle.std.proofs.lemmas.Bool.{eqb-true, eq-eqb}
 use Rattle.pliron_core.specs.Lists.{In, IsDistinct}
@@ -15,9 +15,10 @@ use Rattle.pliron_sccp.specs.Inside.{values_of, values_inside}
 use Rattle.pliron_sccp.specs.Falling.{Falls}
 use Rattle.pliron_sccp.specs.Looking.{TakesValues}
 use Rattle.pliron_sccp.specs.Propagated.{CountsPops}
-use Rattle.pliron_sccp.specs.Accounts.{IsAccounted, WaitsInside, IsUnsearched, IsSearched, AreKnownThere}
+use Rattle.pliron_sccp.specs.Accounts.{IsAccounted, WaitsInside, IsUnsearched, NothingWaits, AreKnownThere}
 use Rattle.pliron_sccp.proofs.Counting.{sum_of, sum_same, sum_changed, least, most, one_if, counted_filter, sum_least, sum_most, sum_reached}
 use Rattle.pliron_sccp.proofs.DistinctLists.{distinct-blocks, distinct-values}
+use Rattle.pliron_sccp.proofs.Settled.{varies_still}
 
 -- sums item by item
 pub sum_both : (a b c d : ℕ → ℕ) (xs : List ℕ) → ((x : ℕ) → In x xs → a x + b x ≤ c x + d x) → sum_of a xs + sum_of b xs ≤ sum_of c xs + sum_of d xs
@@ -175,3 +176,102 @@ module _ (t : Tree) (root : ℕ) where
       let vl = sum_both (λ v. least (fact_in s' v)) (λ v. one_if (waits_value s v)) (λ v. least (fact_in s v)) (λ v. one_if (waits_value s' v)) (values_inside t root) (λ v i. value_least (fact_in s v) (fact_in s' v) (waits_value s v) (waits_value s' v) (λ y. (w.values v y).1) (f.values v) (f.told v)) in
       let vm = sum_both (λ v. one_if (waits_value s' v)) (λ v. most (fact_in s v)) (λ v. one_if (waits_value s v)) (λ v. most (fact_in s' v)) (values_inside t root) (λ v i. value_most (fact_in s v) (fact_in s' v) (waits_value s v) (waits_value s' v) (f.below.fact v) (f.fell v)) in
       from_sums s' pops (record { least = omega (arith, o.least, bl, vl); most = omega (arith, o.most, bm, vm) })
+
+  pub falls_inside : (s s' : Solver) → WaitsInside t root s → Falls s s' → ((b : ℕ) → IsTrue (reaches s' b) → In b (blocks_inside t root)) → WaitsInside t root s'
+  falls_inside s s' w f inside = record {
+    blocks = λ b y. ⊎_elim (λ old. let z = w.blocks b old in (z.0, f.below.reaches b z.1)) (λ new. (inside b new.1, new.1)) (f.came b y);
+    values = λ v y. ⊎_elim
+        (λ old. let z = w.values v old in (z.0, below_undetermined (fact_in s v) (fact_in s' v) (f.below.fact v) z.1))
+        (λ new. (⊎_elim (λ i. i) (λ out. absurd (new (still v out ∙ sym (w.outside v out)))) (decide_in v (values_inside t root)), fallen (fact_in s v) (fact_in s' v) (f.below.fact v) new))
+        (f.fell v y);
+    outside = still;
+  }
+    where
+      still : (v : ℕ) → (In v (values_inside t root) → ⊥) → fact_in s' v ≡ NotAConstant
+      still v out = varies_still (fact_in s v) (fact_in s' v) (f.below.fact v) (w.outside v out)
+
+      fallen : (f g : Fact) → AtMost g f → g ≢ f → g ≢ Undetermined
+      fallen f g (inl u) other e = other (e ∙ sym u)
+      fallen f g (inr (inl n)) other e = let x : Undetermined ≡ NotAConstant = sym e ∙ n in absurd (grind arith)
+      fallen f g (inr (inr same)) other e = other same
+
+  module _ (w : IsTree t) where
+    -- one block was taken
+    pub block_accounted : (b : ℕ) (s s' : Solver) (pops : ℕ) → WaitsInside t root s → TakesBlock b s s' → IsAccounted t root s pops → IsAccounted t root s' (pops + 1)
+    block_accounted b s s' pops inside k a =
+        let o = to_sums s pops a in
+        let r = sum_same (λ c. one_if (reaches s' c)) (λ c. one_if (reaches s c)) (blocks_inside t root) (λ c i. ap one_if (k.reached c)) in
+        let l = sum_same (λ v. least (fact_in s' v)) (λ v. least (fact_in s v)) (values_inside t root) (λ v i. ap least (k.facts v)) in
+        let m = sum_same (λ v. most (fact_in s' v)) (λ v. most (fact_in s v)) (values_inside t root) (λ v i. ap most (k.facts v)) in
+        let v = sum_same (λ v. one_if (waits_value s' v)) (λ v. one_if (waits_value s v)) (values_inside t root) (λ v i. ap one_if (k.values v)) in
+        let c = sum_changed one_if (λ c. waits_block s c) b false (blocks_inside t root) (distinct-blocks t w root) (inside.blocks b k.waited).0 in
+        let e = sum_same (λ c. one_if (waits_block s' c)) (λ c. one_if (instead b false (λ c. waits_block s c) c)) (blocks_inside t root) (λ c i. ap one_if (now c)) in
+        let one = ap one_if k.waited in
+        from_sums s' (pops + 1) (record { least = omega (arith, o.least, r, l, v, c, e, one); most = omega (arith, o.most, r, m, v, c, e, one) })
+      where
+        turned : (x y : ℕ) → nat_eq x y ≡ nat_eq y x
+        turned x y = by (nat_eq x y) (nat_eq y x) refl refl
+          where
+            by : (p q : Bool) → nat_eq x y ≡ p → nat_eq y x ≡ q → p ≡ q
+            by true q e f = sym (sym f ∙ eq-eqb y x (sym (eqb-true x y e)))
+            by false true e f = absurd (true≢false (sym (eq-eqb x y (sym (eqb-true y x f))) ∙ e))
+            by false false e f = refl
+
+        now : (c : ℕ) → waits_block s' c ≡ instead b false (λ c. waits_block s c) c
+        now c = k.blocks c ∙ ap (λ z. if z then false else waits_block s c) (turned b c)
+
+    -- all values that waited were taken
+    pub values_accounted : (taken : List ℕ) (s s' : Solver) (pops : ℕ) → WaitsInside t root s → TakesValues taken s s' → IsAccounted t root s pops → IsAccounted t root s' (pops + length taken)
+    values_accounted taken s s' pops inside k a =
+        let o = to_sums s pops a in
+        let r = sum_same (λ c. one_if (reaches s' c)) (λ c. one_if (reaches s c)) (blocks_inside t root) (λ c i. ap one_if (k.reached c)) in
+        let l = sum_same (λ v. least (fact_in s' v)) (λ v. least (fact_in s v)) (values_inside t root) (λ v i. ap least (k.facts v)) in
+        let m = sum_same (λ v. most (fact_in s' v)) (λ v. most (fact_in s v)) (values_inside t root) (λ v i. ap most (k.facts v)) in
+        let b = sum_same (λ c. one_if (waits_block s' c)) (λ c. one_if (waits_block s c)) (blocks_inside t root) (λ c i. ap one_if (k.blocks c)) in
+        let none = sum_none (λ v. one_if (waits_value s' v)) (values_inside t root) (λ v i. ap one_if (k.values v)) in
+        let all = sum_members taken (values_inside t root) (λ v. waits_value s v) (distinct-values t w root) k.distinct (λ v i. (inside.values v ((k.waited v).1 i)).0) k.waited in
+        from_sums s' (pops + length taken) (record { least = omega (arith, o.least, r, l, b, none, all); most = omega (arith, o.most, r, m, b, none, all) })
+
+  pub block_inside : (b : ℕ) (s s' : Solver) → WaitsInside t root s → TakesBlock b s s' → WaitsInside t root s'
+  block_inside b s s' w k = record {
+    blocks = λ c y. let z = w.blocks c (before (nat_eq b c) c (sym (k.blocks c) ∙ y)) in (z.0, k.reached c ∙ z.1);
+    values = λ v y. let z = w.values v (sym (k.values v) ∙ y) in (z.0, λ e. z.1 (sym (k.facts v) ∙ e));
+    outside = λ v out. k.facts v ∙ w.outside v out;
+  }
+    where
+      before : (p : Bool) (c : ℕ) → (if p then false else waits_block s c) ≡ true → waits_block s c ≡ true
+      before true c e = absurd (true≢false (sym e))
+      before false c e = e
+
+  pub values_kept_inside : (taken : List ℕ) (s s' : Solver) → WaitsInside t root s → TakesValues taken s s' → WaitsInside t root s'
+  values_kept_inside taken s s' w k = record {
+    blocks = λ c y. let z = w.blocks c (sym (k.blocks c) ∙ y) in (z.0, k.reached c ∙ z.1);
+    values = λ v y. absurd (true≢false (sym y ∙ k.values v));
+    outside = λ v out. k.facts v ∙ w.outside v out;
+  }
+
+  -- the count is bounded by the tree alone, and where something waits there is room for one more
+  pub accounted_bound : (s : Solver) (pops : ℕ) → IsAccounted t root s pops → pops ≤ length (blocks_inside t root) + 2 * length (values_inside t root)
+  accounted_bound s pops a =
+      let o = to_sums s pops a in
+      let r = sum_bound (λ b. one_if (reaches s b)) 1 (blocks_inside t root) (λ b i. one_one (reaches s b)) in
+      let m = sum_bound (λ v. most (fact_in s v)) 2 (values_inside t root) (λ v i. most_two (fact_in s v)) in
+      omega (arith, o.most, r, m)
+    where
+      one_one : (b : Bool) → one_if b ≤ 1
+      one_one true = omega arith
+      one_one false = omega arith
+
+  -- where nothing waits any more the account is the count that is owed
+  pub accounted_counts : (s : Solver) (pops : ℕ) → NothingWaits s → AreKnownThere t root s → IsAccounted t root s pops → CountsPops t root (facts_of s) pops
+  accounted_counts s pops done there a =
+      let o = to_sums s pops a in
+      let b = sum_none (λ b. one_if (waits_block s b)) (blocks_inside t root) (λ b i. ap one_if (done.blocks b)) in
+      let v = sum_none (λ v. one_if (waits_value s v)) (values_inside t root) (λ v i. ap one_if (done.values v)) in
+      let r = counted_filter (λ b. reaches s b) (blocks_inside t root) in
+      let known = flat_map (λ b. values_of t b) (reached_blocks t root (facts_of s)) in
+      let k = sum_least (λ v. fact_in s v) known in
+      let m = sum_most (λ v. fact_in s v) known in
+      let kl = sum_reached (λ v. least (fact_in s v)) (λ b. reaches s b) (λ b. values_of t b) (blocks_inside t root) (λ c v i e j. ap least (there c v i j e)) in
+      let ml = sum_reached (λ v. most (fact_in s v)) (λ b. reaches s b) (λ b. values_of t b) (blocks_inside t root) (λ c v i e j. ap most (there c v i j e)) in
+      record { least = omega (arith, o.least, b, v, r, k, kl); most = omega (arith, o.most, b, v, r, m, ml) }
