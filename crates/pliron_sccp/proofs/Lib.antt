@@ -24,3 +24,4 @@ pub mod Listing
 pub mod Going
 pub mod Tracked
 pub mod Accounting
+pub mod InsideLists
