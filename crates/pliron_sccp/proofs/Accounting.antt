@@ -53,7 +53,7 @@ one_less : (b c : Bool) → (b ≡ true → c ≡ true) → one_if b ≤ one_if 
 one_less true c h = let e = ap one_if (h refl) in omega (arith, e)
 one_less false c h = omega arith
 
-below_undetermined : (f g : Fact) → AtMost g f → f ≢ Undetermined → g ≢ Undetermined
+pub below_undetermined : (f g : Fact) → AtMost g f → f ≢ Undetermined → g ≢ Undetermined
 below_undetermined f g (inl u) some e = some u
 below_undetermined f g (inr (inl n)) some e = let x : Undetermined ≡ NotAConstant = sym e ∙ n in absurd (grind arith)
 below_undetermined f g (inr (inr s)) some e = some (sym s ∙ e)

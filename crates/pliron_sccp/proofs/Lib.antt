@@ -25,3 +25,5 @@ pub mod Going
 pub mod Tracked
 pub mod Accounting
 pub mod InsideLists
+pub mod BestLook
+pub mod BestSteps
