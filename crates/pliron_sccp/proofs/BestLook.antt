@@ -22,7 +22,7 @@ use Rattle.pliron_theory.specs.Facts.{Fact, Undetermined, Constant, NotAConstant
 use Rattle.pliron_theory.proofs.FactLattice.{at_most_refl, same_index, picked_in}
 use Rattle.pliron_theory.proofs.SweptKeeps.{admitted_shape}
 use Rattle.pliron_sccp.specs.declared.tables.Solver.{Solver}
-use Rattle.pliron_sccp.specs.Tables.{fact_in, reaches, facts_of}
+use Rattle.pliron_sccp.specs.Tables.{reaches, facts_of}
 use Rattle.pliron_sccp.specs.Inside.{values_inside}
 use Rattle.pliron_sccp.specs.Settling.{IsMet, AreBelow}
 use Rattle.pliron_sccp.specs.Precise.{AreOwed}

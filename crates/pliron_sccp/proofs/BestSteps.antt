@@ -1,10 +1,10 @@
 -- The facts go on standing above every closed set of facts while blocks and values are taken.
-use Rattle.std.proofs.Common.{◌≡◌, ◌≢◌, ◌⊎◌, inl, inr, ⊎_elim, ℕ, Bool, true, false, true≢false, nat_eq, if◌then◌else◌, List, [], ◌∷◌, ◌++◌, append_assoc, Option, Some, None, refl, sym, ap, ◌∙◌, subst, arith, IsTrue}
+use Rattle.std.proofs.Common.{◌≡◌, ◌≢◌, ◌⊎◌, inl, inr, ⊎_elim, ℕ, Bool, true, false, true≢false, nat_eq, if◌then◌else◌, List, [], ◌∷◌, ◌++◌, append_assoc, Some, None, refl, sym, ap, ◌∙◌, subst, arith, IsTrue}
 use Rattle.std.proofs.lemmas.List.{append-nil}
 use Rattle.std.proofs.lemmas.Bool.{eqb-true, eq-eqb}
 use Rattle.pliron_core.specs.declared.attrs.AttrObj.{AttrObj}
 use Rattle.pliron_core.specs.Lists.{In, first_of}
-use Rattle.pliron_core.specs.Tree.{Tree, HoldsBlock, results_of, regions_of, parent_of, body_of, arguments_of, layout_of, block_holder_of}
+use Rattle.pliron_core.specs.Tree.{Tree, HoldsBlock, results_of, regions_of, parent_of, body_of, layout_of}
 use Rattle.pliron_core.specs.Joined.{IsTree}
 use Rattle.pliron_core.proofs.ListLemmas.{In-left, In-right, In-cases, split_at}
 use Rattle.pliron_core.proofs.FlatLemmas.{In-flat_map, flat_map-In}
@@ -13,11 +13,10 @@ use Rattle.pliron_core.proofs.HoldingLemmas.{some_is}
 use Rattle.pliron_laws.specs.Linked.{IsWellLinked}
 use Rattle.pliron_laws.specs.Folding.{AnswersTrue}
 use Rattle.pliron_laws.proofs.ShapeLemmas.{live_at}
-use Rattle.pliron_theory.specs.Facts.{Fact, Undetermined, Constant, NotAConstant, AtMost, Facts, Says, AreClosed, IsEntered}
+use Rattle.pliron_theory.specs.Facts.{Fact, Undetermined, Constant, NotAConstant, AtMost, Facts, Says, AreClosed}
 use Rattle.pliron_theory.specs.Sound.{IsMadeThere}
 use Rattle.pliron_sccp.specs.declared.tables.Solver.{Solver}
 use Rattle.pliron_sccp.specs.Tables.{fact_in, reaches, waits_block, facts_of, TakesBlock}
-use Rattle.pliron_sccp.specs.Settling.{AreBelow}
 use Rattle.pliron_sccp.specs.Falling.{Falls}
 use Rattle.pliron_sccp.specs.Inside.{values_inside}
 use Rattle.pliron_sccp.specs.Precise.{AreMostPrecise, AreOwed}
@@ -115,9 +114,9 @@ module _ (x : Says) (t : Tree) (root : ℕ) (w : IsTree t) (linked : IsWellLinke
         let n : IsNext k c done ks s = record { placed = w.bodies.owned k c (subst (In k) (sym body) (In-right k done (k ∷ ks) (inl refl))); reached = reached; came = came; body = body; on = on; front = front } in
         through_block c reached came ks q u d (done ++ k ∷ []) (body ∙ sym (append_assoc done (k ∷ []) ks)) (one_on k c done ks s q a n)
         (λ y v i j. ⊎_elim
-            (λ old. below_undetermined (fact_in s v) (fact_in q v) (a.applied.falls.below.fact v) (front y v old j))
-            (λ last. ⊎_elim (λ e. one_results k c done ks s q a n v (subst (λ z. In v (results_of t z)) e j)) (λ none. absurd none) last)
-            (In-cases y done (k ∷ []) i))
+        (λ old. below_undetermined (fact_in s v) (fact_in q v) (a.applied.falls.below.fact v) (front y v old j))
+        (λ last. ⊎_elim (λ e. one_results k c done ks s q a n v (subst (λ z. In v (results_of t z)) e j)) (λ none. absurd none) last)
+        (In-cases y done (k ∷ []) i))
 
     through_users : (ks : List ℕ) (s u : Solver) → LooksThrough x t ks s u → ((k : ℕ) → In k ks → (c : ℕ) × (parent_of t k ≡ Some c) × IsTrue (visited c)) → IsOn x t root f seen (facts_of s) → IsOn x t root f seen (facts_of u)
     through_users [] s u Nothing placed on = on
@@ -164,9 +163,9 @@ module _ (x : Says) (t : Tree) (root : ℕ) (w : IsTree t) (linked : IsWellLinke
         let falls = looks_fall x t (body_of t c) u s' d in
         finish (facts_of s) (is_visited s) (is_visited u) inside best.grounded best.ready more s' r.0 (visited_still u s' falls) (visited_before u s' falls)
         (λ b q v y p i. ⊎_elim
-            (λ same. r.1 q v (w.bodies.listed q c (p ∙ ap Some (sym same))) i)
-            (λ old. below_undetermined (fact_in s v) (fact_in s' v) (r.0.below.fact v) (best.ready.results b q v old p i))
-            (before b y))
+        (λ same. r.1 q v (w.bodies.listed q c (p ∙ ap Some (sym same))) i)
+        (λ old. below_undetermined (fact_in s v) (fact_in s' v) (r.0.below.fact v) (best.ready.results b q v old p i))
+        (before b y))
       where
         waits_then : (b : ℕ) (z : Bool) → nat_eq c b ≡ z → waits_block u b ≡ (if z then false else waits_block s b)
         waits_then b z e = k.blocks b ∙ ap (λ z. if z then false else waits_block s b) e
