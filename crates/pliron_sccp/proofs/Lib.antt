@@ -21,3 +21,9 @@ pub mod StraightLinks
 pub mod EdgesAsked
 pub mod DistinctLists
 pub mod Listing
+pub mod Going
+pub mod Tracked
+pub mod Accounting
+pub mod InsideLists
+pub mod BestLook
+pub mod BestSteps

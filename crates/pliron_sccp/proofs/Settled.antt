@@ -12,7 +12,7 @@ use Rattle.pliron_sccp.specs.Settling.{IsMet, AreBelow, AreSettledBut, AreStarte
 use Rattle.pliron_theory.proofs.FactLattice.{at_most_trans}
 
 -- what isn't constant stays so
-varies_still : (f g : Fact) → AtMost g f → f ≡ NotAConstant → g ≡ NotAConstant
+pub varies_still : (f g : Fact) → AtMost g f → f ≡ NotAConstant → g ≡ NotAConstant
 varies_still f g (inl u) e = let x : Undetermined ≡ NotAConstant = sym u ∙ e in absurd (grind arith)
 varies_still f g (inr (inl n)) e = n
 varies_still f g (inr (inr s)) e = s ∙ e

@@ -16,3 +16,9 @@ pub mod Tables
 pub mod Demands
 pub mod Falling
 pub mod Inside
+pub mod Looking
+pub mod Searched
+pub mod Starting
+pub mod Searching
+pub mod Accounts
+pub mod Best

@@ -6,10 +6,14 @@
 pub mod applying;
 pub mod collecting;
 pub mod demands;
+pub mod looking;
 mod propagation;
 pub mod rewriting;
+pub mod searching;
+pub mod starting;
 mod straight;
 pub mod tables;
+pub mod users;
 mod walk;
 
 pub use propagation::sccp;
