@@ -22,6 +22,10 @@ passes test (Some h) = test h
 abbrev pub branches_of : (Head → Bool) → Tree → ℕ → List ℕ
 branches_of can_fold_branch t root = filter (λ k. passes can_fold_branch (head_of t k)) (contents t root)
 
+-- the operation alone, where it folds as a branch
+abbrev pub branch_at : (Head → Bool) → Tree → ℕ → List ℕ
+branch_at can_fold_branch t op = filter (λ k. passes can_fold_branch (head_of t k)) (op ∷ [])
+
 -- what is answered for one result, where there is an answer for it
 abbrev pub one_answer : Option (Option AttrObj) → Option AttrObj
 one_answer None = None
