@@ -21,7 +21,7 @@ module _ (t v : Tree) (a op new : ℕ) (front : List ℕ) (w : IsTree t) (wv : I
   new_in_a = wv.bodies.owned new a (subst (In new) (sym h.put) (In-right new front (new ∷ []) (inl refl)))
 
   -- the new operation did not stand, and the old one does not
-  not_new : (x : ℕ) → IsLive t x → x ≢ new
+  pub not_new : (x : ℕ) → IsLive t x → x ≢ new
   not_new x l e = let y = some_of (head_of t x) l in not_none (sym h.fresh ∙ ap (head_of t) (sym e) ∙ y.1)
 
   not_op : (x : ℕ) → IsLive v x → x ≢ op
@@ -45,7 +45,7 @@ module _ (t v : Tree) (a op new : ℕ) (front : List ℕ) (w : IsTree t) (wv : I
       holder_by v x s.0 p (h.parents x other old ∙ s.1) (block_stays s.0 p (stands x s.0 s.1) s.2)
 
   -- what stands after and holds something stood before
-  inside_stays : (k x : ℕ) → IsLive v x → x ≢ new → IsInside t k x → IsInside v k x
+  pub inside_stays : (k x : ℕ) → IsLive v x → x ≢ new → IsInside t k x → IsInside v k x
   inside_stays k x l old (Directly e) = Directly (holder_stays x k (not_op x l) old e)
   inside_stays k x l old (Deeper p e i) =
       let up = holder_stays x p (not_op x l) old e in

@@ -3,7 +3,7 @@
 //! It knows what every run reads of constants, and no dialect.
 #![tactic(auto)]
 
-mod known;
 mod folding;
+mod known;
 
-
+pub use folding::fold_branches;

@@ -1,4 +1,4 @@
-use Rattle.std.proofs.Common.{inr, sym, subst, ◌∙◌, List, []}
+use Rattle.std.proofs.Common.{inr, sym, subst, ◌∙◌, []}
 use Rattle.pliron_core.specs.Walks.{contents}
 use Rattle.pliron_core.specs.Tree.{head_of}
 use Rattle.pliron_core.proofs.WalkLemmas.{inside_live}
@@ -36,5 +36,4 @@ loop-at-preserved g c =
 pub returns-clause-ok : goal.returns-clause-ok
 returns-clause-ok g c =
     let t = c.args.ctx.now.tree in
-    let test = λ k. passes g.D.BranchOpFoldInterface.can_fold_branch (head_of t k) in
-    walk_end (branch_at g.D.BranchOpFoldInterface.can_fold_branch t) t c.args.root c.well_formed-2.ensures.tree c.loop-at.branches.items c.loop-at.at c.loop-at.invariant c.in_default.is ∙ filter_each test (contents t c.args.root)
+    walk_end (branch_at g.D.BranchOpFoldInterface.can_fold_branch t) t c.args.root c.well_formed-2.ensures.tree c.loop-at.branches.items c.loop-at.at c.loop-at.invariant c.in_default.is ∙ filter_each (λ k. passes g.D.BranchOpFoldInterface.can_fold_branch (head_of t k)) (contents t c.args.root)

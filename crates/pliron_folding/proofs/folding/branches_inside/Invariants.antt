@@ -1,4 +1,4 @@
-use Rattle.std.proofs.Common.{List, [], length}
+use Rattle.std.proofs.Common.{[], length}
 use Rattle.pliron_core.specs.Walks.{contents}
 use Rattle.pliron_core.specs.WalkSteps.{rest_from}
 use Rattle.pliron_theory.proofs.Listing.{IsListing}
