@@ -1,8 +1,8 @@
 -- Trees in which branches were folded.
-use Rattle.std.specs.Prelude.{◌≡◌, ℕ, Bool, true, false, List, [], ◌∷◌, Option, Some, None, filter, map, replicate, slice_get, length}
+use Rattle.std.specs.Prelude.{ℕ, Bool, true, false, List, [], ◌∷◌, Option, Some, None, filter, map, replicate, slice_get, length}
 use Rattle.pliron_core.specs.declared.attrs.AttrObj.{AttrObj}
 use Rattle.pliron_core.specs.declared.attrs.IRStatus.{IRStatus}
-use Rattle.pliron_core.specs.declared.attrs.IRStatus.TheVariants.{Changed, Unchanged}
+use Rattle.pliron_core.specs.declared.attrs.IRStatus.TheVariants.{Unchanged}
 use Rattle.pliron_core.specs.declared.context.Def.{Def}
 use Rattle.pliron_core.specs.declared.context.Def.TheVariants.{Result, Argument}
 use Rattle.pliron_core.specs.Status.{changed_by_either}
@@ -21,6 +21,10 @@ passes test (Some h) = test h
 -- the operations inside the root that fold as branches, in pre-order
 abbrev pub branches_of : (Head → Bool) → Tree → ℕ → List ℕ
 branches_of can_fold_branch t root = filter (λ k. passes can_fold_branch (head_of t k)) (contents t root)
+
+-- the operation alone, where it folds as a branch
+abbrev pub branch_at : (Head → Bool) → Tree → ℕ → List ℕ
+branch_at can_fold_branch t op = filter (λ k. passes can_fold_branch (head_of t k)) (op ∷ [])
 
 -- what is answered for one result, where there is an answer for it
 abbrev pub one_answer : Option (Option AttrObj) → Option AttrObj

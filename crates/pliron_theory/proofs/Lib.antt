@@ -32,6 +32,7 @@ pub mod SplicedStays
 pub mod JumpsNow
 pub mod Refolded
 pub mod FoldedBranches
+pub mod Listing
 pub mod KnownData
 pub mod FoundRuns
 pub mod KnownRuns
