@@ -23,3 +23,6 @@ pub mod DistinctLists
 pub mod Listing
 pub mod Going
 pub mod Tracked
+pub mod UserLists
+pub mod InsideLists
+pub mod Stepping
