@@ -26,3 +26,5 @@ pub mod Tracked
 pub mod UserLists
 pub mod InsideLists
 pub mod Stepping
+pub mod Accounting
+pub mod OnTheWay

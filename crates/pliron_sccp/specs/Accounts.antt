@@ -51,6 +51,6 @@ abbrev pub AreKnownThere : Tree → ℕ → Solver → Type 0
 AreKnownThere t root s = (b v : ℕ) → In b (blocks_inside t root) → In v (values_of t b) → reaches s b ≡ false → fact_in s v ≡ Undetermined
 
 -- nothing waits
-pub record IsSearched (s : Solver) : Type 0 where
+pub record NothingWaits (s : Solver) : Type 0 where
   pub blocks : (b : ℕ) → waits_block s b ≡ false
   pub values : (v : ℕ) → waits_value s v ≡ false
