@@ -1,14 +1,15 @@
 -- What the search for facts knows holds at its start and after each step, and at its end the facts are closed.
-use Rattle.std.proofs.Common.{◌≡◌, ◌⊎◌, inl, inr, ⊎_elim, ℕ, ◌+◌, ◌*◌, ◌≤◌, ◌<◌, ◌^◌, Bool, true, false, true≢false, nat_eq, List, [], ◌∷◌, length, Option, Some, None, slice_get, refl, sym, ap, ◌∙◌, subst, arith, IsTrue}
+use Rattle.std.proofs.Common.{◌≡◌, ◌⊎◌, inl, inr, ⊎_elim, ℕ, zero, suc, ◌+◌, ◌*◌, ◌≤◌, ◌<◌, ◌^◌, Bool, true, false, true≢false, not, nat_eq, List, [], ◌∷◌, length, Option, Some, None, slice_get, slice_index_or, refl, sym, ap, ◌∙◌, subst, arith, IsTrue}
 use Rattle.std.specs.List.{flat_map}
+use Rattle.std.proofs.lemmas.Bool.{eq-eqb}
 use Rattle.std.proofs.lemmas.Option.{slice_get_within}
 use Rattle.pliron_core.specs.Lists.{In, first_of}
 use Rattle.pliron_core.specs.Tree.{Tree, IsLive, IsBlock, IsInside, HoldsBlock, regions_of, results_of, arguments_of, parent_of, body_of, layout_of, block_holder_of, definition_of}
 use Rattle.pliron_core.specs.Joined.{IsTree, HaveFewKeys}
 use Rattle.pliron_core.specs.Changes.{IsMadeInside, IsMakerInside}
-use Rattle.pliron_core.proofs.FlatLemmas.{flat_map-In, slice_get-In}
+use Rattle.pliron_core.proofs.FlatLemmas.{In-flat_map, flat_map-In, slice_get-In}
 use Rattle.pliron_core.proofs.ListLemmas.{decide_in, In-cases, distinct-length}
-use Rattle.pliron_core.proofs.HoldingLemmas.{in_slice, some_is, some_of, inside_block}
+use Rattle.pliron_core.proofs.HoldingLemmas.{some_is, some_of, not_none, inside_block}
 use Rattle.pliron_laws.specs.Linked.{EdgesLast}
 use Rattle.pliron_laws.specs.Tree.{Operation, op_at}
 use Rattle.pliron_theory.specs.Facts.{Fact, Undetermined, NotAConstant, Facts, Says, AreClosed, AreHeld}
@@ -21,12 +22,13 @@ use Rattle.pliron_sccp.specs.Settling.{AreBelow, AreStarted}
 use Rattle.pliron_sccp.specs.Looking.{LooksThrough, TakesValues, AreUsersOf, IsVisited}
 use Rattle.pliron_sccp.specs.Looking.LooksThrough.{Nothing, Then}
 use Rattle.pliron_sccp.specs.Starting.{IsStarted}
-use Rattle.pliron_sccp.specs.Searching.{VisitsValues, Steps, IsOnTheWay}
+use Rattle.pliron_sccp.specs.Searched.{IsSearched}
+use Rattle.pliron_sccp.specs.Searching.{VisitsValues, Steps, IsOnTheWay, IsSearching}
 use Rattle.pliron_sccp.specs.Searching.Steps.{Block, Values}
 use Rattle.pliron_sccp.specs.Accounts.{IsAccounted, WaitsInside, AreKnownThere, NothingWaits}
 use Rattle.pliron_sccp.proofs.DistinctLists.{below_held, distinct-blocks, distinct-values}
 use Rattle.pliron_sccp.proofs.DistinctLists.{inside_block as stands_inside}
-use Rattle.pliron_sccp.proofs.InsideLists.{held_listed}
+use Rattle.pliron_sccp.proofs.InsideLists.{holds_listed}
 use Rattle.pliron_sccp.proofs.Settled.{entered_still, varies_still, closed_when_settled}
 use Rattle.pliron_sccp.proofs.Stepping.{entries_of, others_reached, another, entry_apart, entry_held, all_but_one, argument_but, below_but, unknown_but, not_yet, below_same, through_settles, through_falls, block_settles, values_settle, look_starts, look_holds, look_known}
 use Rattle.pliron_sccp.proofs.Accounting.{unsearched_accounted, unsearched_inside, falls_accounted, falls_inside, block_accounted, values_accounted, block_inside, values_kept_inside, accounted_bound, accounted_counts}
@@ -57,7 +59,7 @@ pub record IsLaidOut (t : Tree) (root : ℕ) (s : Solver) : Type 0 where
 
 module _ (x : Says) (t : Tree) (root : ℕ) (w : IsTree t) (live : IsLive t root) where
   reached_listed : (s : Solver) → AreStarted t root (facts_of s) → (b : ℕ) → IsTrue (reaches s b) → In b (blocks_inside t root)
-  reached_listed s started b r = held_listed t w root b live (started.inside b r)
+  reached_listed s started b r = holds_listed t w root b (started.inside b r)
 
   -- at the start
   module _ (s : Solver) (start : IsStarted t root s) where
@@ -74,14 +76,7 @@ module _ (x : Says) (t : Tree) (root : ℕ) (w : IsTree t) (live : IsLive t root
             g = others_reached b
 
             no_other : g.reaches b ≡ false
-            no_other = by (g.reaches b) refl
-              where
-                by : (q : Bool) → g.reaches b ≡ q → g.reaches b ≡ false
-                by true e = itself e
-                  where
-                    itself : g.reaches b ≡ true → g.reaches b ≡ false
-                    itself e = grind (arith, e)
-                by false e = e
+            no_other = ap not (eq-eqb b b refl)
 
             below : AreBelow g (facts_of start.before)
             below = record { reaches = λ z r. absurd (true≢false (sym r ∙ start.unsearched.reached z)); fact = λ v. inr (inl refl) }
@@ -111,7 +106,7 @@ module _ (x : Says) (t : Tree) (root : ℕ) (w : IsTree t) (live : IsLive t root
             (start.applied.least g (below_but t w start.before s b v listed none unknown none_before) ((start.asks g).1 (λ r z i e. let y = entered r z i e in (y.0, λ a j. argument_but t w start.before s b v listed none unknown none_before a z j y.0))))
           where
             in_values : (b v : ℕ) → In b (blocks_inside t root) → In v (values_of t b) → In v (values_inside t root)
-            in_values b v i j = Rattle.pliron_core.proofs.FlatLemmas.In-flat_map (λ b. values_of t b) (blocks_inside t root) b v i j
+            in_values b v i j = In-flat_map (λ b. values_of t b) (blocks_inside t root) b v i j
 
     pub start_on_way : IsOnTheWay x t root s
     start_on_way = record {
@@ -191,11 +186,11 @@ module _ (x : Says) (t : Tree) (root : ℕ) (w : IsTree t) (live : IsLive t root
 
   -- where nothing was taken nothing waits
   pub nothing_waits : (s s' : Solver) (taken : ℕ) → taken ≡ 0 → Steps x t s s' taken → NothingWaits s'
-  nothing_waits s s' taken zero (Block c u k d e) = absurd (one_is_none (sym e ∙ zero))
+  nothing_waits s s' taken none_taken (Block c u k d e) = absurd (one_is_none (sym e ∙ none_taken))
     where
       one_is_none : 1 ≡ 0 → ⊥
       one_is_none e = omega (arith, e)
-  nothing_waits s s' taken zero (Values none v) = same (no_users v.users v.are_users (no_values v.values (sym v.counted ∙ zero))) v.looks
+  nothing_waits s s' taken none_taken (Values none v) = same (no_users v.users v.are_users (no_values v.values (sym v.counted ∙ none_taken))) v.looks
     where
       no_values : (vs : List ℕ) → length vs ≡ 0 → vs ≡ []
       no_values [] e = refl
@@ -236,10 +231,10 @@ module _ (x : Says) (t : Tree) (root : ℕ) (w : IsTree t) (live : IsLive t root
           let l = past t.block_parents b p.0 p.1 in
           omega (arith, l, w.keys.block_parents)
         where
-          past : (ps : List (Option ℕ)) (b r : ℕ) → Rattle.std.specs.Prelude.slice_index_or ps b None ≡ Some r → b < length ps
-          past [] b r e = absurd (Rattle.pliron_core.proofs.HoldingLemmas.not_none e)
-          past (p ∷ ps) 0 r e = omega arith
-          past (p ∷ ps) (Rattle.std.specs.Prelude.suc b) r e = let l = past ps b r e in omega (arith, l)
+          past : (ps : List (Option ℕ)) (b r : ℕ) → slice_index_or ps b None ≡ Some r → b < length ps
+          past [] b r e = absurd (not_none e)
+          past (p ∷ ps) zero r e = omega arith
+          past (p ∷ ps) (suc b) r e = let l = past ps b r e in omega (arith, l)
 
   pub few_values : HaveFewKeys t → length (values_inside t root) < 2 ^ 64
   few_values few =
@@ -252,3 +247,27 @@ module _ (x : Says) (t : Tree) (root : ℕ) (w : IsTree t) (live : IsLive t root
           by : (o : _) → definition_of t v ≡ o → IsMakerInside t root o → v < length t.definitions
           by None e z = absurd z
           by (Some d) e z = slice_get_within t.definitions v d e
+
+  -- between the steps
+  pub few_to_take : HaveFewKeys t → length (blocks_inside t root) + 2 * length (values_inside t root) < 2 ^ 128
+  few_to_take few = let b = few_blocks few in let v = few_values few in omega (arith, b, v)
+
+  pub started_search : (s : Solver) → IsStarted t root s → IsSearching x t root s 0
+  started_search s start = record { way = start_on_way s start; accounted = start_accounted s start }
+
+  module _ (edges : EdgesLast t root) (s s' : Solver) (pops taken : ℕ) (step : Steps x t s s' taken) (so_far : IsSearching x t root s pops) where
+    pub next_search : IsSearching x t root s' (pops + taken)
+    next_search = record { way = step_on_way edges s s' taken step so_far.way; accounted = step_accounted edges s s' pops taken step so_far.way so_far.accounted }
+
+    pub search_bound : pops + taken ≤ length (blocks_inside t root) + 2 * length (values_inside t root)
+    search_bound = accounted_bound t root s' (pops + taken) next_search.accounted
+
+    pub end_search : taken ≡ 0 → IsSearched x t root s' pops
+    end_search none =
+        let done = nothing_waits s s' taken none step in
+        let last : IsSearching x t root s' pops = subst (IsSearching x t root s') (omega (arith, none)) next_search in
+        record {
+          closed = closed_at_end s' done last.way;
+          held = last.way.held;
+          count = accounted_counts t root s' pops done last.way.there last.accounted;
+        }

@@ -1,5 +1,5 @@
 -- Lists of users, each once.
-use Rattle.std.proofs.Common.{◌≡◌, ◌⊎◌, ◌↔◌, ⊎_elim, inl, inr, ℕ, zero, suc, ◌+◌, ◌<◌, ◌≤◌, Bool, true, false, true≢false, not, nat_eq, if◌then◌else◌, List, [], ◌∷◌, ◌++◌, length, take, slice_get, Option, Some, None, refl, sym, ap, ◌∙◌, subst, arith, IsTrue}
+use Rattle.std.proofs.Common.{◌≡◌, ◌⊎◌, ◌↔◌, ⊎_elim, inl, inr, ℕ, zero, suc, ◌+◌, ◌<◌, ◌≤◌, Bool, true, false, true≢false, ◌&&◌, nat_eq, if◌then◌else◌, List, [], ◌∷◌, ◌++◌, length, take, slice_get, Option, Some, None, refl, sym, ap, ◌∙◌, subst, arith, IsTrue}
 use Rattle.std.specs.List.{list_any, IsDistinct as IsDistinctBy, AllByRecursion}
 use Rattle.std.proofs.lemmas.Bool.{eqb-true, eq-eqb}
 use Rattle.std.proofs.lemmas.Option.{slice_get_within}
@@ -12,34 +12,45 @@ use Rattle.pliron_core.proofs.ListLemmas.{In-left, In-right, In-cases, distinct-
 use Rattle.pliron_core.proofs.HoldingLemmas.{some_is, in_slice, slice_in}
 use Rattle.pliron_core.proofs.ArgumentLemmas.{take_more}
 use Rattle.pliron_sccp.specs.declared.tables.Solver.{Solver}
-use Rattle.pliron_sccp.specs.Looking.{IsVisited, IsUserOf, AddsEach, AreUsersOf}
+use Rattle.pliron_sccp.specs.Looking.{TakesValues, IsVisited, IsUserOf, AddsEach, AreUsersOf}
+use Rattle.pliron_sccp.specs.Tables.{fact_in, reaches, waits_block, waits_value}
 
 -- a set's test, in the words of lists
 pub any_in : (x : ℕ) (xs : List ℕ) → list_any (nat_eq x) xs ≡ true → In x xs
 any_in x [] e = absurd (true≢false (sym e))
-any_in x (y ∷ ys) e = by (nat_eq x y) refl
+any_in x (y ∷ ys) e = by (nat_eq x y) refl (any_in x ys)
   where
-    by : (b : Bool) → nat_eq x y ≡ b → In x (y ∷ ys)
-    by true same = inl (eqb-true x y same)
-    by false other = inr (any_in x ys (grind (arith, e, other)))
+    by : (b : Bool) → nat_eq x y ≡ b → (list_any (nat_eq x) ys ≡ true → In x ys) → In x (y ∷ ys)
+    by true same more = inl (eqb-true x y same)
+    by false other more = inr (more (grind (arith, e, other)))
 
 pub in_any : (x : ℕ) (xs : List ℕ) → In x xs → list_any (nat_eq x) xs ≡ true
 in_any x [] i = absurd i
 in_any x (y ∷ ys) (inl e) = let s : nat_eq x y ≡ true = eq-eqb x y e in grind (arith, s)
-in_any x (y ∷ ys) (inr i) = by (nat_eq x y) refl
+in_any x (y ∷ ys) (inr i) = by (nat_eq x y) refl (in_any x ys i)
   where
-    by : (b : Bool) → nat_eq x y ≡ b → list_any (nat_eq x) (y ∷ ys) ≡ true
-    by true s = grind (arith, s)
-    by false s = let r = in_any x ys i in grind (arith, s, r)
+    by : (b : Bool) → nat_eq x y ≡ b → list_any (nat_eq x) ys ≡ true → list_any (nat_eq x) (y ∷ ys) ≡ true
+    by true s r = grind (arith, s)
+    by false s r = grind (arith, s, r)
 
-pub distinct_by : (xs : List ℕ) → IsDistinctBy nat_eq xs → IsDistinct xs
-distinct_by [] d = tt
-distinct_by (x ∷ xs) d = (λ i. apart xs d.0 i, distinct_by xs d.1)
-  where
-    apart : (ys : List ℕ) → AllByRecursion (λ y. nat_eq x y ≡ false) ys → In x ys → ⊥
-    apart [] all i = i
-    apart (y ∷ ys) all (inl e) = true≢false (sym (eq-eqb x y e) ∙ all.0)
-    apart (y ∷ ys) all (inr i) = apart ys all.1 i
+-- the equality of keys, as a set has it
+any_same : (p q : ℕ → Bool) → ((y : ℕ) → p y ≡ q y) → (xs : List ℕ) → list_any p xs ≡ list_any q xs
+any_same p q e [] = refl
+any_same p q e (y ∷ ys) = let h = e y in let r = any_same p q e ys in grind (arith, h, r)
+
+pub and_true : (b : Bool) → (b && true) ≡ b
+and_true true = refl
+and_true false = refl
+
+apart_by : {eq : ℕ → ℕ → Bool} → ((x y : ℕ) → eq x y ≡ nat_eq x y) → (x : ℕ) (ys : List ℕ) → AllByRecursion (λ y. eq x y ≡ false) ys → In x ys → ⊥
+apart_by same x [] all i = i
+apart_by same x (y ∷ ys) all (inl e) = true≢false (sym (same x y ∙ eq-eqb x y e) ∙ all.0)
+apart_by same x (y ∷ ys) all (inr i) = apart_by same x ys all.1 i
+
+pub distinct_by : {eq : ℕ → ℕ → Bool} → ((x y : ℕ) → eq x y ≡ nat_eq x y) → (xs : List ℕ) → IsDistinctBy eq xs → IsDistinct xs
+unfolding IsDistinctBy
+distinct_by same [] d = tt
+distinct_by same (x ∷ xs) d = (λ i. apart_by same x xs d.0 i, distinct_by same xs d.1)
 
 pub adds_none : (xs : List ℕ) (So : ℕ → Type 0) → ((k : ℕ) → So k → ⊥) → AddsEach xs xs So
 adds_none xs So none = record { distinct = λ d. d; members = λ k. (λ i. inl i, λ s. ⊎_elim (λ i. i) (λ p. absurd (none k p)) s) }
@@ -57,9 +68,12 @@ pub adds_as : (xs ys : List ℕ) (P R : ℕ → Type 0) → AddsEach xs ys P →
 adds_as xs ys P R p same = adds_more xs ys ys P (λ k. ⊥) R p (adds_none ys (λ k. ⊥) (λ k z. z)) (λ k. (λ s. ⊎_elim (λ h. (same k).0 h) (λ z. absurd z) s, λ r. inl ((same k).1 r)))
 
 -- one more key
-pub key_added : (xs ys : List ℕ) (x : ℕ) → ys ≡ insert_key nat_eq xs x → AddsEach xs ys (λ k. x ≡ k)
-key_added xs ys x e = by (list_any (nat_eq x) xs) refl
+pub key_added : {eq : ℕ → ℕ → Bool} → ((x y : ℕ) → eq x y ≡ nat_eq x y) → (xs ys : List ℕ) (x : ℕ) → ys ≡ insert_key eq xs x → AddsEach xs ys (λ k. x ≡ k)
+key_added {eq} same_eq xs ys x first = by (list_any (nat_eq x) xs) refl
   where
+    e : ys ≡ (if list_any (nat_eq x) xs then xs else xs ++ x ∷ [])
+    e = first ∙ ap (λ b. if b then xs else xs ++ x ∷ []) (any_same (eq x) (nat_eq x) (same_eq x) xs)
+
     at_end : (k : ℕ) → In k (xs ++ x ∷ []) → In k xs ⊎ (x ≡ k)
     at_end k i = ⊎_elim (λ j. inl j) (λ j. inr (⊎_elim (λ s. sym s) (λ z. absurd z) j)) (In-cases k xs (x ∷ []) i)
 
@@ -77,8 +91,8 @@ key_added xs ys x e = by (list_any (nat_eq x) xs) refl
           members = λ k. (λ i. at_end k (subst (In k) grown i), λ s. subst (In k) (sym grown) (⊎_elim (λ i. In-left k xs (x ∷ []) i) (λ h. In-right k xs (x ∷ []) (inl (sym h))) s));
         }
 
-pub user_added : (t : Tree) (s : Solver) (xs ys : List ℕ) (x : ℕ) → ys ≡ insert_key nat_eq xs x → IsVisited t s x → AddsEach xs ys (λ k. (x ≡ k) × IsVisited t s k)
-user_added t s xs ys x e seen = adds_as xs ys (λ k. x ≡ k) (λ k. (x ≡ k) × IsVisited t s k) (key_added xs ys x e) (λ k. (λ h. (h, subst (IsVisited t s) h seen), λ p. p.0))
+pub user_added : {eq : ℕ → ℕ → Bool} → ((x y : ℕ) → eq x y ≡ nat_eq x y) → (t : Tree) (s : Solver) (xs ys : List ℕ) (x : ℕ) → ys ≡ insert_key eq xs x → IsVisited t s x → AddsEach xs ys (λ k. (x ≡ k) × IsVisited t s k)
+user_added same t s xs ys x e seen = adds_as xs ys (λ k. x ≡ k) (λ k. (x ≡ k) × IsVisited t s k) (key_added same xs ys x e) (λ k. (λ h. (h, subst (IsVisited t s) h seen), λ p. p.0))
 
 pub user_passed : (t : Tree) (s : Solver) (xs : List ℕ) (x : ℕ) → (IsVisited t s x → ⊥) → AddsEach xs xs (λ k. (x ≡ k) × IsVisited t s k)
 user_passed t s xs x none = adds_none xs (λ k. (x ≡ k) × IsVisited t s k) (λ k p. none (subst (IsVisited t s) (sym p.0) p.1))
@@ -87,7 +101,7 @@ user_passed t s xs x none = adds_none xs (λ k. (x ≡ k) × IsVisited t s k) (�
 abbrev pub IsUserBefore : Tree → Solver → List Use → ℕ → ℕ → Type 0
 IsUserBefore t s uses i k = ((j place : ℕ) × (j < i) × (slice_get uses j ≡ Some (record { user = k; place = place }))) × IsVisited t s k
 
-use_is : {u k p q : ℕ} → Some (record { user = u; place = p }) ≡ Some (record { user = k; place = q }) → u ≡ k
+use_is : {u k p q : ℕ} → ◌≡◌ {A = Option Use} (Some (record { user = u; place = p })) (Some (record { user = k; place = q })) → u ≡ k
 use_is e = ap (λ x. x.user) (some_is e)
 
 below_or : (j i : ℕ) → j < i + 1 → (j < i) ⊎ (j ≡ i)
@@ -144,4 +158,20 @@ reads_end t s values i xs ys e all a = record {
       let p = slice_in values v j in
       let l = slice_get_within values p.0 v p.1 in
       (a.members k).1 (inr (p.0, v, omega (arith, l, all), p.1, record { visited = seen; reads = reads }));
+}
+
+-- the keys of an empty set
+pub no_keys : (xs : List ℕ) → length xs ≡ 0 → xs ≡ []
+no_keys [] e = refl
+no_keys (x ∷ xs) e = absurd (omega (arith, e))
+
+-- all keys of a set of what waits are taken
+pub set_taken : {eq : ℕ → ℕ → Bool} → ((x y : ℕ) → eq x y ≡ nat_eq x y) → (keys none : List ℕ) (s s' : Solver) → IsDistinctBy eq keys → length none ≡ 0 → ((v : ℕ) → waits_value s v ≡ list_any (nat_eq v) keys) → ((v : ℕ) → waits_value s' v ≡ list_any (nat_eq v) none) → ((v : ℕ) → fact_in s' v ≡ fact_in s v) → ((b : ℕ) → reaches s' b ≡ reaches s b) → ((b : ℕ) → waits_block s' b ≡ waits_block s b) → TakesValues keys s s'
+set_taken same keys none s s' d empty before after facts reached blocks = record {
+  distinct = distinct_by same keys d;
+  waited = λ v. (λ w. any_in v keys (sym (before v) ∙ w), λ i. before v ∙ in_any v keys i);
+  values = λ v. after v ∙ ap (list_any (nat_eq v)) (no_keys none empty);
+  facts = facts;
+  reached = reached;
+  blocks = blocks;
 }
