@@ -1,16 +1,16 @@
 -- The count of what was taken is kept by each step of the search for facts.
-use Rattle.std.proofs.Common.{◌≡◌, ◌≢◌, ◌⊎◌, ◌↔◌, inl, inr, ⊎_elim, ℕ, ◌+◌, ◌*◌, ◌≤◌, Bool, true, false, true≢false, nat_eq, if◌then◌else◌, List, [], ◌∷◌, length, filter, refl, sym, ap, ap₂, ◌∙◌, subst, arith, IsTrue}
+use Rattle.std.proofs.Common.{◌≡◌, ◌≢◌, ◌⊎◌, ◌↔◌, inl, inr, ⊎_elim, ℕ, ◌+◌, ◌*◌, ◌≤◌, Bool, true, false, true≢false, nat_eq, if◌then◌else◌, List, [], ◌∷◌, length, refl, sym, ap, ◌∙◌, subst, arith, IsTrue}
 use Rattle.std.specs.List.{flat_map}
 use Rattle.std.proofs.lemmas.Bool.{eqb-true, eq-eqb}
 use Rattle.pliron_core.specs.Lists.{In, IsDistinct}
 use Rattle.pliron_core.specs.Tree.{Tree}
 use Rattle.pliron_core.specs.Joined.{IsTree}
 use Rattle.pliron_core.proofs.ListLemmas.{decide_in}
-use Rattle.pliron_theory.specs.Facts.{Fact, Undetermined, Constant, NotAConstant, AtMost, Says}
+use Rattle.pliron_theory.specs.Facts.{Fact, Undetermined, Constant, NotAConstant, AtMost}
 use Rattle.pliron_theory.proofs.PutFacts.{instead, instead_it, instead_other}
 use Rattle.pliron_sccp.specs.declared.tables.Solver.{Solver}
 use Rattle.pliron_sccp.specs.Tables.{fact_in, reaches, waits_block, waits_value, facts_of, TakesBlock}
-use Rattle.pliron_sccp.specs.Chain.{is_constant, varies, blocks_inside, reached_blocks}
+use Rattle.pliron_sccp.specs.Chain.{blocks_inside, reached_blocks}
 use Rattle.pliron_sccp.specs.Inside.{values_of, values_inside}
 use Rattle.pliron_sccp.specs.Falling.{Falls}
 use Rattle.pliron_sccp.specs.Looking.{TakesValues}
@@ -53,7 +53,7 @@ one_less : (b c : Bool) → (b ≡ true → c ≡ true) → one_if b ≤ one_if 
 one_less true c h = let e = ap one_if (h refl) in omega (arith, e)
 one_less false c h = omega arith
 
-below_undetermined : (f g : Fact) → AtMost g f → f ≢ Undetermined → g ≢ Undetermined
+pub below_undetermined : (f g : Fact) → AtMost g f → f ≢ Undetermined → g ≢ Undetermined
 below_undetermined f g (inl u) some e = some u
 below_undetermined f g (inr (inl n)) some e = let x : Undetermined ≡ NotAConstant = sym e ∙ n in absurd (grind arith)
 below_undetermined f g (inr (inr s)) some e = some (sym s ∙ e)

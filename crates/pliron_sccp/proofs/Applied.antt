@@ -9,7 +9,7 @@ use Rattle.pliron_sccp.specs.declared.tables.Fact.{Fact as TableFact}
 use Rattle.pliron_sccp.specs.declared.applying.Demand.{Demand}
 use Rattle.pliron_sccp.specs.declared.applying.Demand.TheVariants.{Enter, Lower}
 use Rattle.pliron_sccp.specs.Tables.{meant, fact_in, reaches, waits_block, waits_value, facts_of, Enters, Lowers}
-use Rattle.pliron_sccp.specs.Demands.{Meets, MeetsAll}
+use Rattle.pliron_sccp.specs.Demands.{MeetsAll}
 use Rattle.pliron_sccp.specs.Settling.{AreBelow}
 use Rattle.pliron_sccp.specs.Falling.{Falls, IsApplied}
 

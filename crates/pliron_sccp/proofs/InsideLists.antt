@@ -1,16 +1,16 @@
 -- What stands inside an operation is on the lists of its blocks and values.
-use Rattle.std.proofs.Common.{◌≡◌, inl, inr, ℕ, List, [], ◌∷◌, Option, Some, None, slice_get, refl, sym, ap, ◌∙◌, subst}
+use Rattle.std.proofs.Common.{◌≡◌, inl, inr, ℕ, List, ◌∷◌, Some, refl, sym, ◌∙◌, subst}
 use Rattle.std.specs.List.{flat_map}
 use Rattle.pliron_core.specs.declared.context.Def.{Def}
 use Rattle.pliron_core.specs.declared.context.Def.TheVariants.{Result, Argument}
 use Rattle.pliron_core.specs.Lists.{In}
 use Rattle.pliron_core.specs.Changes.{IsMakerInside, IsMadeInside}
-use Rattle.pliron_core.specs.Tree.{Tree, IsLive, IsInside, IsWithin, IsMadeBy, IsDefined, HoldsBlock, regions_of, results_of, parent_of, body_of, arguments_of, layout_of, block_holder_of, holder_of, definition_of}
+use Rattle.pliron_core.specs.Tree.{Tree, IsLive, IsInside, IsMadeBy, IsDefined, HoldsBlock, regions_of, results_of, parent_of, body_of, arguments_of, layout_of, block_holder_of, holder_of}
 use Rattle.pliron_core.specs.Tree.IsInside.{Directly, Deeper}
 use Rattle.pliron_core.specs.Joined.{IsTree}
 use Rattle.pliron_core.proofs.ListLemmas.{In-left, In-right}
 use Rattle.pliron_core.proofs.FlatLemmas.{In-flat_map}
-use Rattle.pliron_core.proofs.HoldingLemmas.{some_is, in_slice, slot_is, region_parent_is, maker_is, block_held, held_block, holder_is, holder_live, inside_up, block_inside}
+use Rattle.pliron_core.proofs.HoldingLemmas.{some_is, in_slice, slot_is, region_parent_is, maker_is, block_held, held_block, holder_is, inside_up, block_inside}
 use Rattle.pliron_sccp.specs.Chain.{blocks_inside}
 use Rattle.pliron_sccp.specs.Inside.{values_of, values_inside}
 use Rattle.pliron_sccp.proofs.DistinctLists.{inside_nested}

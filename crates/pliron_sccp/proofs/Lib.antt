@@ -28,3 +28,5 @@ pub mod InsideLists
 pub mod Stepping
 pub mod Accounting
 pub mod OnTheWay
+pub mod BestLook
+pub mod BestSteps

@@ -1,5 +1,5 @@
 -- What the search for facts knows holds at its start and after each step, and at its end the facts are closed.
-use Rattle.std.proofs.Common.{◌≡◌, ◌⊎◌, inl, inr, ⊎_elim, ℕ, zero, suc, ◌+◌, ◌*◌, ◌≤◌, ◌<◌, ◌^◌, Bool, true, false, true≢false, not, nat_eq, List, [], ◌∷◌, length, Option, Some, None, slice_get, slice_index_or, refl, sym, ap, ◌∙◌, subst, arith, IsTrue}
+use Rattle.std.proofs.Common.{◌≡◌, ◌⊎◌, inl, inr, ⊎_elim, ℕ, zero, suc, ◌+◌, ◌*◌, ◌-◌, ◌≤◌, ◌<◌, ◌^◌, Bool, true, false, true≢false, not, nat_eq, List, [], ◌∷◌, length, Option, Some, None, slice_get, slice_index_or, refl, sym, ap, ◌∙◌, subst, arith, IsTrue}
 use Rattle.std.specs.List.{flat_map}
 use Rattle.std.proofs.lemmas.Bool.{eq-eqb}
 use Rattle.std.proofs.lemmas.Option.{slice_get_within}
@@ -10,7 +10,8 @@ use Rattle.pliron_core.specs.Changes.{IsMadeInside, IsMakerInside}
 use Rattle.pliron_core.proofs.FlatLemmas.{In-flat_map, flat_map-In, slice_get-In}
 use Rattle.pliron_core.proofs.ListLemmas.{decide_in, In-cases, distinct-length}
 use Rattle.pliron_core.proofs.HoldingLemmas.{some_is, some_of, not_none, inside_block}
-use Rattle.pliron_laws.specs.Linked.{EdgesLast}
+use Rattle.pliron_laws.specs.Linked.{IsWellLinked, EdgesLast}
+use Rattle.pliron_laws.specs.Folding.{AnswersTrue}
 use Rattle.pliron_laws.specs.Tree.{Operation, op_at}
 use Rattle.pliron_theory.specs.Facts.{Fact, Undetermined, NotAConstant, Facts, Says, AreClosed, AreHeld}
 use Rattle.pliron_sccp.specs.declared.tables.Solver.{Solver}
@@ -31,6 +32,8 @@ use Rattle.pliron_sccp.proofs.DistinctLists.{inside_block as stands_inside}
 use Rattle.pliron_sccp.proofs.InsideLists.{holds_listed}
 use Rattle.pliron_sccp.proofs.Settled.{entered_still, varies_still, closed_when_settled}
 use Rattle.pliron_sccp.proofs.Stepping.{entries_of, others_reached, another, entry_apart, entry_held, all_but_one, argument_but, below_but, unknown_but, not_yet, below_same, through_settles, through_falls, block_settles, values_settle, look_starts, look_holds, look_known}
+use Rattle.pliron_sccp.proofs.BestLook.{ForwardsItsOperands}
+use Rattle.pliron_sccp.proofs.BestSteps.{start_best, step_best, best_precise}
 use Rattle.pliron_sccp.proofs.Accounting.{unsearched_accounted, unsearched_inside, falls_accounted, falls_inside, block_accounted, values_accounted, block_inside, values_kept_inside, accounted_bound, accounted_counts}
 
 -- a value that a block inside the root lists is made inside it
@@ -50,6 +53,10 @@ listed_inside t w root v i =
         let k = flat_map-In (λ k. results_of t k) (body_of t b) v j in
         let s = slice_get-In v (results_of t k.0) k.2 in
         subst (IsMakerInside t root) (sym (w.joined.results k.0 s.0 v s.1)) (inside_block b (w.bodies.owned k.0 b k.1) h)
+
+pub fewer : (all pops taken : ℕ) → pops + taken ≤ all → (taken ≡ 0 → ⊥) → all - (pops + taken) < all - pops
+fewer all pops zero l none = absurd (none refl)
+fewer all pops (suc taken) l none = omega (arith, l)
 
 -- what is reached is laid out as closed facts owe
 pub record IsLaidOut (t : Tree) (root : ℕ) (s : Solver) : Type 0 where
@@ -134,8 +141,8 @@ module _ (x : Says) (t : Tree) (root : ℕ) (w : IsTree t) (live : IsLive t root
 
   module _ (edges : EdgesLast t root) where
     through_laid : (ks : List ℕ) (s u : Solver) → LooksThrough x t ks s u → ((k : ℕ) → In k ks → (c : ℕ) × (parent_of t k ≡ Some c) × (reaches s c ≡ true)) → IsLaidOut t root s → IsLaidOut t root u
-    through_laid [] s s Nothing placed l = l
-    through_laid (k ∷ ks) s u (Then k q a d) placed l =
+    through_laid [] s u Nothing placed l = l
+    through_laid (k ∷ ks) s u (Then _ q a d) placed l =
         let p = placed k (inl refl) in
         through_laid ks q u d
         (λ j i. let y = placed j (inr i) in (y.0, y.1, a.applied.falls.below.reaches y.0 y.2))
@@ -188,7 +195,7 @@ module _ (x : Says) (t : Tree) (root : ℕ) (w : IsTree t) (live : IsLive t root
   pub nothing_waits : (s s' : Solver) (taken : ℕ) → taken ≡ 0 → Steps x t s s' taken → NothingWaits s'
   nothing_waits s s' taken none_taken (Block c u k d e) = absurd (one_is_none (sym e ∙ none_taken))
     where
-      one_is_none : 1 ≡ 0 → ⊥
+      one_is_none : ◌≡◌ {A = ℕ} 1 0 → ⊥
       one_is_none e = omega (arith, e)
   nothing_waits s s' taken none_taken (Values none v) = same (no_users v.users v.are_users (no_values v.values (sym v.counted ∙ none_taken))) v.looks
     where
@@ -252,22 +259,30 @@ module _ (x : Says) (t : Tree) (root : ℕ) (w : IsTree t) (live : IsLive t root
   pub few_to_take : HaveFewKeys t → length (blocks_inside t root) + 2 * length (values_inside t root) < 2 ^ 128
   few_to_take few = let b = few_blocks few in let v = few_values few in omega (arith, b, v)
 
-  pub started_search : (s : Solver) → IsStarted t root s → IsSearching x t root s 0
-  started_search s start = record { way = start_on_way s start; accounted = start_accounted s start }
+  module _ (linked : IsWellLinked x.meaning t root) (answers : AnswersTrue x.meaning x.can_fold x.constants) (places : ForwardsItsOperands x) where
+    pub started_search : (s : Solver) → IsStarted t root s → IsSearching x t root s 0
+    started_search s start = record { way = start_on_way s start; accounted = start_accounted s start; best = λ owed. start_best x t root w linked answers places owed s start }
 
-  module _ (edges : EdgesLast t root) (s s' : Solver) (pops taken : ℕ) (step : Steps x t s s' taken) (so_far : IsSearching x t root s pops) where
-    pub next_search : IsSearching x t root s' (pops + taken)
-    next_search = record { way = step_on_way edges s s' taken step so_far.way; accounted = step_accounted edges s s' pops taken step so_far.way so_far.accounted }
+    module _ (s s' : Solver) (pops taken : ℕ) (step : Steps x t s s' taken) (so_far : IsSearching x t root s pops) where
+      pub next_search : IsSearching x t root s' (pops + taken)
+      next_search = record {
+        way = step_on_way linked.edges s s' taken step so_far.way;
+        accounted = step_accounted linked.edges s s' pops taken step so_far.way so_far.accounted;
+        best = λ owed. step_best x t root w linked answers places owed s s' taken step so_far.way (so_far.best owed);
+      }
 
-    pub search_bound : pops + taken ≤ length (blocks_inside t root) + 2 * length (values_inside t root)
-    search_bound = accounted_bound t root s' (pops + taken) next_search.accounted
+      pub search_bound : pops + taken ≤ length (blocks_inside t root) + 2 * length (values_inside t root)
+      search_bound = accounted_bound t root s' (pops + taken) next_search.accounted
 
-    pub end_search : taken ≡ 0 → IsSearched x t root s' pops
-    end_search none =
-        let done = nothing_waits s s' taken none step in
-        let last : IsSearching x t root s' pops = subst (IsSearching x t root s') (omega (arith, none)) next_search in
-        record {
-          closed = closed_at_end s' done last.way;
-          held = last.way.held;
-          count = accounted_counts t root s' pops done last.way.there last.accounted;
-        }
+      pub end_search : taken ≡ 0 → IsSearched x t root s' pops
+      end_search none =
+          let done = nothing_waits s s' taken none step in
+          let same : pops + taken ≡ pops = omega (arith, none) in
+          let last : IsSearching x t root s' pops = subst (IsSearching x t root s') same next_search in
+          let closed = closed_at_end s' done last.way in
+          record {
+            closed = closed;
+            held = last.way.held;
+            precise = λ owed. best_precise x t root w linked answers places owed s' done closed (last.best owed);
+            count = accounted_counts t root s' pops done last.way.there last.accounted;
+          }

@@ -65,7 +65,7 @@ in_first (c ∷ bs) b (inl e) = ap (λ z. Some z) (sym e)
 in_first (c ∷ bs) b (inr i) = absurd i
 
 -- facts by which all blocks but one are reached, and nothing is a constant
-pub others_reached : ℕ → Facts
+abbrev pub others_reached : ℕ → Facts
 others_reached b = record { reaches = λ z. not (nat_eq b z); fact = λ v. NotAConstant }
 
 pub another : (b z : ℕ) → (b ≡ z → ⊥) → not (nat_eq b z) ≡ true
@@ -87,7 +87,7 @@ entry_held t w k b i =
 -- facts by which the same blocks are reached, nothing is known of one value, and all others are not constant: where
 -- that value is listed by a block that is not reached
 module _ (t : Tree) (w : IsTree t) (s u : Solver) (b v : ℕ) (listed : In v (values_of t b)) (none : reaches u b ≡ false) (unknown : fact_in s v ≡ Undetermined) (still : (z : ℕ) → reaches s z ≡ true → reaches u z ≡ true) where
-  pub all_but_one : Facts
+  abbrev pub all_but_one : Facts
   all_but_one = record { reaches = λ z. reaches u z; fact = λ z. if nat_eq v z then Undetermined else NotAConstant }
 
   pub varies_but : (z d : ℕ) → In z (values_of t d) → reaches u d ≡ true → all_but_one.fact z ≡ NotAConstant
@@ -144,26 +144,26 @@ module _ (x : Says) (t : Tree) where
       f : Falls s u
       f = l.applied.falls
 
-      then : IsMet x t (facts_of s) (facts_of u) j o → (waits_block u b ≡ true) ⊎ IsMet x t (facts_of u) (facts_of u) j o ⊎ ((v : ℕ) × In v o.operands × (waits_value u v ≡ true)) ⊎ In j ks
-      then m = ⊎_elim (λ y. inr (inl y)) (λ z. inr (inr (inl z))) (met_or_waits s u j o f m)
+      after_it : IsMet x t (facts_of s) (facts_of u) j o → (waits_block u b ≡ true) ⊎ IsMet x t (facts_of u) (facts_of u) j o ⊎ ((v : ℕ) × In v o.operands × (waits_value u v ≡ true)) ⊎ In j ks
+      after_it m = ⊎_elim (λ y. inr (inl y)) (λ z. inr (inr (inl z))) (met_or_waits s u j o f m)
 
       here : j ≡ k → IsMet x t (facts_of s) (facts_of u) j o
       here e = subst (λ z. IsMet x t (facts_of s) (facts_of u) z o) (sym e) ((l.asks o (subst (λ z. op_at t z ≡ Some o) e at) (facts_of u)).0 l.applied.met)
 
       before : (waits_block s b ≡ true) ⊎ IsMet x t (facts_of s) (facts_of s) j o ⊎ ((v : ℕ) × In v o.operands × (waits_value s v ≡ true)) ⊎ In j (k ∷ ks) → (waits_block u b ≡ true) ⊎ IsMet x t (facts_of u) (facts_of u) j o ⊎ ((v : ℕ) × In v o.operands × (waits_value u v ≡ true)) ⊎ In j ks
       before (inl waits) = inl (f.blocks b waits)
-      before (inr (inl m)) = then (met_still x t (facts_of s) (facts_of s) (facts_of u) j o f.below m)
+      before (inr (inl m)) = after_it (met_still x t (facts_of s) (facts_of s) (facts_of u) j o f.below m)
       before (inr (inr (inl w))) = inr (inr (inl (w.0, w.1, f.values w.0 w.2)))
-      before (inr (inr (inr (inl e)))) = then (here e)
+      before (inr (inr (inr (inl e)))) = after_it (here e)
       before (inr (inr (inr (inr i)))) = inr (inr (inr i))
 
   pub through_settles : (ks : List ℕ) (s u : Solver) → LooksThrough x t ks s u → IsSettled s (λ j. In j ks) → IsSettled u (λ j. ⊥)
-  through_settles [] s s Nothing settled = settled
-  through_settles (k ∷ ks) s u (Then k q l d) settled = through_settles ks q u d (look_settles k ks s q l settled)
+  through_settles [] s u Nothing settled = settled
+  through_settles (k ∷ ks) s u (Then _ q l d) settled = through_settles ks q u d (look_settles k ks s q l settled)
 
   pub through_falls : (ks : List ℕ) (s u : Solver) → LooksThrough x t ks s u → Falls s u
-  through_falls [] s s Nothing = falls_refl s
-  through_falls (k ∷ ks) s u (Then k q l d) = falls_trans s q u l.applied.falls (through_falls ks q u d)
+  through_falls [] s u Nothing = falls_refl s
+  through_falls (k ∷ ks) s u (Then _ q l d) = falls_trans s q u l.applied.falls (through_falls ks q u d)
 
   module _ (w : IsTree t) where
     -- a block is taken: its operations are still to be looked at

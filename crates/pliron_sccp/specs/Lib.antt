@@ -21,3 +21,4 @@ pub mod Searched
 pub mod Starting
 pub mod Searching
 pub mod Accounts
+pub mod Best

@@ -11,5 +11,5 @@ use Rattle.pliron_sccp.specs.Propagated.{CountsPops}
 pub record IsSearched (x : Says) (t : Tree) (root : ℕ) (s : Solver) (pops : ℕ) : Type 0 where
   pub closed : AreClosed x t root (facts_of s)
   pub held : AreHeld t root (facts_of s)
-  -- pub precise : AreOwed x t root → AreMostPrecise x t root (facts_of s)
+  pub precise : AreOwed x t root → AreMostPrecise x t root (facts_of s)
   pub count : CountsPops t root (facts_of s) pops
