@@ -1,10 +1,10 @@
 -- What the search for facts knows holds at its start and after each step, and at its end the facts are closed.
-use Rattle.std.proofs.Common.{◌≡◌, ◌⊎◌, inl, inr, ⊎_elim, ℕ, zero, suc, ◌+◌, ◌*◌, ◌-◌, ◌≤◌, ◌<◌, ◌^◌, Bool, true, false, true≢false, not, nat_eq, List, [], ◌∷◌, length, Option, Some, None, slice_get, slice_index_or, refl, sym, ap, ◌∙◌, subst, arith, IsTrue}
+use Rattle.std.proofs.Common.{◌≡◌, inl, inr, ⊎_elim, ℕ, zero, suc, ◌+◌, ◌*◌, ◌-◌, ◌≤◌, ◌<◌, ◌^◌, true, false, true≢false, not, List, [], ◌∷◌, length, Option, Some, None, slice_index_or, refl, sym, ap, ◌∙◌, subst, arith, IsTrue}
 use Rattle.std.specs.List.{flat_map}
 use Rattle.std.proofs.lemmas.Bool.{eq-eqb}
 use Rattle.std.proofs.lemmas.Option.{slice_get_within}
-use Rattle.pliron_core.specs.Lists.{In, first_of}
-use Rattle.pliron_core.specs.Tree.{Tree, IsLive, IsBlock, IsInside, HoldsBlock, regions_of, results_of, arguments_of, parent_of, body_of, layout_of, block_holder_of, definition_of}
+use Rattle.pliron_core.specs.Lists.{In}
+use Rattle.pliron_core.specs.Tree.{Tree, IsLive, IsBlock, HoldsBlock, results_of, arguments_of, parent_of, body_of, definition_of}
 use Rattle.pliron_core.specs.Joined.{IsTree, HaveFewKeys}
 use Rattle.pliron_core.specs.Changes.{IsMadeInside, IsMakerInside}
 use Rattle.pliron_core.proofs.FlatLemmas.{In-flat_map, flat_map-In, slice_get-In}
@@ -12,26 +12,25 @@ use Rattle.pliron_core.proofs.ListLemmas.{decide_in, In-cases, distinct-length}
 use Rattle.pliron_core.proofs.HoldingLemmas.{some_is, some_of, not_none, inside_block}
 use Rattle.pliron_laws.specs.Linked.{IsWellLinked, EdgesLast}
 use Rattle.pliron_laws.specs.Folding.{AnswersTrue}
-use Rattle.pliron_laws.specs.Tree.{Operation, op_at}
-use Rattle.pliron_theory.specs.Facts.{Fact, Undetermined, NotAConstant, Facts, Says, AreClosed, AreHeld}
+use Rattle.pliron_theory.specs.Facts.{Facts, Says, AreClosed, AreHeld}
 use Rattle.pliron_sccp.specs.declared.tables.Solver.{Solver}
 use Rattle.pliron_sccp.specs.Tables.{fact_in, reaches, waits_block, waits_value, facts_of, TakesBlock}
 use Rattle.pliron_sccp.specs.Chain.{blocks_inside}
 use Rattle.pliron_sccp.specs.Inside.{values_of, values_inside}
 use Rattle.pliron_sccp.specs.Demands.{AsksEntries}
 use Rattle.pliron_sccp.specs.Settling.{AreBelow, AreStarted}
-use Rattle.pliron_sccp.specs.Looking.{LooksThrough, TakesValues, AreUsersOf, IsVisited}
+use Rattle.pliron_sccp.specs.Looking.{LooksThrough, TakesValues, AreUsersOf}
 use Rattle.pliron_sccp.specs.Looking.LooksThrough.{Nothing, Then}
 use Rattle.pliron_sccp.specs.Starting.{IsStarted}
 use Rattle.pliron_sccp.specs.Searched.{IsSearched}
-use Rattle.pliron_sccp.specs.Searching.{VisitsValues, Steps, IsOnTheWay, IsSearching}
+use Rattle.pliron_sccp.specs.Searching.{Steps, IsOnTheWay, IsSearching}
 use Rattle.pliron_sccp.specs.Searching.Steps.{Block, Values}
-use Rattle.pliron_sccp.specs.Accounts.{IsAccounted, WaitsInside, AreKnownThere, NothingWaits}
+use Rattle.pliron_sccp.specs.Accounts.{IsAccounted, AreKnownThere, NothingWaits}
 use Rattle.pliron_sccp.proofs.DistinctLists.{below_held, distinct-blocks, distinct-values}
 use Rattle.pliron_sccp.proofs.DistinctLists.{inside_block as stands_inside}
 use Rattle.pliron_sccp.proofs.InsideLists.{holds_listed}
 use Rattle.pliron_sccp.proofs.Settled.{entered_still, varies_still, closed_when_settled}
-use Rattle.pliron_sccp.proofs.Stepping.{entries_of, others_reached, another, entry_apart, entry_held, all_but_one, argument_but, below_but, unknown_but, not_yet, below_same, through_settles, through_falls, block_settles, values_settle, look_starts, look_holds, look_known}
+use Rattle.pliron_sccp.proofs.Stepping.{entries_of, others_reached, entry_apart, entry_held, all_but_one, argument_but, below_but, unknown_but, below_same, through_settles, through_falls, block_settles, values_settle, look_starts, look_holds, look_known}
 use Rattle.pliron_sccp.proofs.BestLook.{ForwardsItsOperands}
 use Rattle.pliron_sccp.proofs.BestSteps.{start_best, step_best, best_precise}
 use Rattle.pliron_sccp.proofs.Accounting.{unsearched_accounted, unsearched_inside, falls_accounted, falls_inside, block_accounted, values_accounted, block_inside, values_kept_inside, accounted_bound, accounted_counts}
@@ -221,9 +220,9 @@ module _ (x : Says) (t : Tree) (root : ℕ) (w : IsTree t) (live : IsLive t root
   pub closed_at_end : (s : Solver) → NothingWaits s → IsOnTheWay x t root s → AreClosed x t root (facts_of s)
   closed_at_end s done o = closed_when_settled x t root (facts_of s) o.started
       (λ k b q p r at. ⊎_elim
-          (λ y. absurd (true≢false (sym y ∙ done.blocks b)))
-          (λ y. ⊎_elim (λ m. inr (inl m)) (λ z. ⊎_elim (λ h. absurd (true≢false (sym h.2 ∙ done.values h.0))) (λ n. absurd n) z) y)
-          (o.settled k b q p r at))
+      (λ y. absurd (true≢false (sym y ∙ done.blocks b)))
+      (λ y. ⊎_elim (λ m. inr (inl m)) (λ z. ⊎_elim (λ h. absurd (true≢false (sym h.2 ∙ done.values h.0))) (λ n. absurd n) z) y)
+      (o.settled k b q p r at))
       w
 
   -- there are few blocks and values

@@ -1,27 +1,24 @@
 -- What looking at operations does to what is settled and to what is reached.
-use Rattle.std.proofs.Common.{◌≡◌, ◌⊎◌, inl, inr, ⊎_elim, ℕ, Bool, true, false, true≢false, not, nat_eq, if◌then◌else◌, List, [], ◌∷◌, Option, Some, None, slice_get, refl, sym, ap, ◌∙◌, subst, arith, IsTrue}
+use Rattle.std.proofs.Common.{◌≡◌, ◌⊎◌, inl, inr, ⊎_elim, ℕ, Bool, true, false, true≢false, not, nat_eq, if◌then◌else◌, List, [], ◌∷◌, Some, None, slice_get, refl, sym, ap, ◌∙◌, subst, arith}
 use Rattle.std.specs.List.{flat_map}
 use Rattle.std.proofs.lemmas.Bool.{eqb-true, eq-eqb}
-use Rattle.pliron_core.specs.declared.attrs.AttrObj.{AttrObj}
 use Rattle.pliron_core.specs.Lists.{In, first_of}
-use Rattle.pliron_core.specs.Tree.{Tree, IsInside, HoldsBlock, regions_of, results_of, operands_of, successors_of, arguments_of, parent_of, body_of, layout_of, block_parent_of, block_holder_of, region_parent_of, up_from}
+use Rattle.pliron_core.specs.Tree.{Tree, IsInside, regions_of, results_of, successors_of, arguments_of, parent_of, body_of, layout_of, block_parent_of, block_holder_of, region_parent_of, up_from}
 use Rattle.pliron_core.specs.Joined.{IsTree}
 use Rattle.pliron_core.proofs.FlatLemmas.{In-flat_map, flat_map-In}
 use Rattle.pliron_core.proofs.ListLemmas.{decide_in, In-left, In-right}
 use Rattle.pliron_core.proofs.NeighbourLemmas.{first_of-In}
 use Rattle.pliron_core.proofs.HoldingLemmas.{in_slice, some_is, not_none, inside_block, some_of}
-use Rattle.pliron_laws.specs.Datum.{Meaning}
-use Rattle.pliron_laws.specs.Linked.{IsWellLinked, EdgesLast}
+use Rattle.pliron_laws.specs.Linked.{EdgesLast}
 use Rattle.pliron_laws.specs.Tree.{Operation, op_at}
 use Rattle.pliron_laws.proofs.Records.{make_op, op_shows}
 use Rattle.pliron_theory.specs.Facts.{Fact, Undetermined, NotAConstant, Facts, Says, Stands, AreHeld}
 use Rattle.pliron_sccp.specs.declared.tables.Solver.{Solver}
 use Rattle.pliron_sccp.specs.Tables.{fact_in, reaches, waits_block, waits_value, facts_of, TakesBlock}
-use Rattle.pliron_sccp.specs.Chain.{blocks_inside}
 use Rattle.pliron_sccp.specs.Inside.{values_of}
 use Rattle.pliron_sccp.specs.Settling.{IsMet, AreBelow, AreSettledBut, AreStarted}
-use Rattle.pliron_sccp.specs.Falling.{Falls, IsApplied}
-use Rattle.pliron_sccp.specs.Looking.{LooksAt, LooksThrough, TakesValues, AreUsersOf, IsVisited}
+use Rattle.pliron_sccp.specs.Falling.{Falls}
+use Rattle.pliron_sccp.specs.Looking.{LooksAt, LooksThrough, TakesValues, AreUsersOf}
 use Rattle.pliron_sccp.specs.Looking.LooksThrough.{Nothing, Then}
 use Rattle.pliron_sccp.specs.Accounts.{AreKnownThere}
 use Rattle.pliron_sccp.proofs.DistinctLists.{held_directly, values_apart}
@@ -41,25 +38,26 @@ pub same_or_waits : (s u : Solver) → Falls s u → (vs : List ℕ) → ((v : �
 same_or_waits s u f [] = inl (λ v i. absurd i)
 same_or_waits s u f (x ∷ vs) = ⊎_elim
     (λ e. ⊎_elim
-        (λ same. inl (λ v i. ⊎_elim (λ h. subst (λ z. fact_in u z ≡ fact_in s z) (sym h) e) (λ j. same v j) i))
-        (λ w. inr (w.0, inr w.1, w.2))
-        (same_or_waits s u f vs))
+    (λ same. inl (λ v i. ⊎_elim (λ h. subst (λ z. fact_in u z ≡ fact_in s z) (sym h) e) (λ j. same v j) i))
+    (λ w. inr (w.0, inr w.1, w.2))
+    (same_or_waits s u f vs))
     (λ w. inr (x, inl refl, w))
     (f.told x)
 
--- a block that is one of its regions' first
+-- a region's first block, as a list
 abbrev pub first_blocks : List ℕ → List ℕ
 first_blocks [] = []
 first_blocks (b ∷ bs) = b ∷ []
 
+-- the entries of an operation's regions
 abbrev pub entries_of : Tree → ℕ → List ℕ
 entries_of t k = flat_map (λ r. first_blocks (layout_of t r)) (regions_of t k)
 
-first_in : (bs : List ℕ) (b : ℕ) → first_of bs None ≡ Some b → In b (first_blocks bs)
+pub first_in : (bs : List ℕ) (b : ℕ) → first_of bs None ≡ Some b → In b (first_blocks bs)
 first_in [] b e = absurd (not_none e)
 first_in (c ∷ bs) b e = inl (sym (some_is e))
 
-in_first : (bs : List ℕ) (b : ℕ) → In b (first_blocks bs) → first_of bs None ≡ Some b
+pub in_first : (bs : List ℕ) (b : ℕ) → In b (first_blocks bs) → first_of bs None ≡ Some b
 in_first [] b i = absurd i
 in_first (c ∷ bs) b (inl e) = ap (λ z. Some z) (sym e)
 in_first (c ∷ bs) b (inr i) = absurd i
@@ -267,9 +265,9 @@ module _ (x : Says) (t : Tree) (root : ℕ) (w : IsTree t) (edges : EdgesLast t 
     look_holds held b j r e = ⊎_elim
         (λ old. ⊎_elim (λ h. inl h) (λ y. inr (stands_still j y)) (held b j old e))
         (λ y. ⊎_elim
-            (λ h. inr (subst (Stands t (facts_of u)) (some_is (sym h ∙ e)) (c, placed, still c here)))
-            (λ h. ⊎_elim (λ q. inl q) (λ z. inr (stands_still j z)) (held c j here (sym h ∙ e)))
-            y)
+        (λ h. inr (subst (Stands t (facts_of u)) (some_is (sym h ∙ e)) (c, placed, still c here)))
+        (λ h. ⊎_elim (λ q. inl q) (λ z. inr (stands_still j z)) (held c j here (sym h ∙ e)))
+        y)
         (held_near b r)
 
     pub look_known : AreKnownThere t root s → AreKnownThere t root u

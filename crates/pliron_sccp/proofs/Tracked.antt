@@ -1,15 +1,14 @@
 -- Values of which nothing is known yet, one after the other.
-use Rattle.std.proofs.Common.{◌≡◌, ⊎_elim, inl, inr, ℕ, Bool, true, false, true≢false, nat_eq, cond, List, [], ◌∷◌, ◌++◌, Option, Some, None, refl, sym, ap, ◌∙◌, subst}
+use Rattle.std.proofs.Common.{◌≡◌, ⊎_elim, inl, ℕ, Bool, true, false, nat_eq, cond, List, [], ◌∷◌, ◌++◌, Some, refl, sym, ap, ◌∙◌, subst}
 use Rattle.std.specs.List.{flat_map}
 use Rattle.std.proofs.lemmas.Bool.{eqb-true, eq-eqb}
 use Rattle.pliron_core.specs.Lists.{In}
 use Rattle.pliron_core.specs.Tree.{Tree}
 use Rattle.pliron_core.proofs.ListLemmas.{In-left, In-right, In-cases, decide_in}
-use Rattle.pliron_theory.specs.Facts.{Undetermined}
 use Rattle.pliron_sccp.specs.declared.tables.Solver.{Solver}
 use Rattle.std.specs.HashMap.{get}
 use Rattle.pliron_sccp.specs.declared.tables.Fact.TheVariants.{Undetermined as Unknown}
-use Rattle.pliron_sccp.specs.Tables.{meant_or, fact_in, reaches, waits_block, waits_value, IsEmptySolver}
+use Rattle.pliron_sccp.specs.Tables.{meant_or, reaches, waits_block, waits_value, IsEmptySolver}
 use Rattle.pliron_sccp.specs.Chain.{blocks_inside}
 use Rattle.pliron_sccp.specs.Inside.{values_of}
 use Rattle.pliron_sccp.specs.Accounts.{IsUnsearched}

@@ -1,5 +1,5 @@
 -- Lists of users, each once.
-use Rattle.std.proofs.Common.{◌≡◌, ◌⊎◌, ◌↔◌, ⊎_elim, inl, inr, ℕ, zero, suc, ◌+◌, ◌<◌, ◌≤◌, Bool, true, false, true≢false, ◌&&◌, nat_eq, if◌then◌else◌, List, [], ◌∷◌, ◌++◌, length, take, slice_get, Option, Some, None, refl, sym, ap, ◌∙◌, subst, arith, IsTrue}
+use Rattle.std.proofs.Common.{◌≡◌, ◌⊎◌, ◌↔◌, ⊎_elim, inl, inr, ℕ, zero, suc, ◌+◌, ◌<◌, ◌≤◌, Bool, true, false, true≢false, ◌&&◌, nat_eq, if◌then◌else◌, List, [], ◌∷◌, ◌++◌, length, slice_get, Option, Some, refl, sym, ap, ◌∙◌, subst, arith}
 use Rattle.std.specs.List.{list_any, IsDistinct as IsDistinctBy, AllByRecursion}
 use Rattle.std.proofs.lemmas.Bool.{eqb-true, eq-eqb}
 use Rattle.std.proofs.lemmas.Option.{slice_get_within}
@@ -10,7 +10,6 @@ use Rattle.pliron_core.specs.Tree.{Tree, View, IsDefined, operands_of, uses_of}
 use Rattle.pliron_core.specs.Joined.{IsTree, HaveUses}
 use Rattle.pliron_core.proofs.ListLemmas.{In-left, In-right, In-cases, distinct-join}
 use Rattle.pliron_core.proofs.HoldingLemmas.{some_is, in_slice, slice_in}
-use Rattle.pliron_core.proofs.ArgumentLemmas.{take_more}
 use Rattle.pliron_sccp.specs.declared.tables.Solver.{Solver}
 use Rattle.pliron_sccp.specs.Looking.{TakesValues, IsVisited, IsUserOf, AddsEach, AreUsersOf}
 use Rattle.pliron_sccp.specs.Tables.{fact_in, reaches, waits_block, waits_value}

@@ -1,5 +1,4 @@
-use Rattle.std.proofs.Common.{[], subst, sym}
-use Rattle.pliron_theory.specs.Facts.{Facts}
+use Rattle.std.proofs.Common.{subst, sym}
 use Rattle.pliron_sccp.specs.Demands.{MeetsAll}
 use Rattle.pliron_sccp.proofs.starting.start.Goals as goal
 

@@ -1,4 +1,4 @@
-use Rattle.std.proofs.Common.{ap, ◌∙◌, subst}
+use Rattle.std.proofs.Common.{◌∙◌, subst}
 use Rattle.pliron_core.specs.Lists.{In}
 use Rattle.pliron_sccp.proofs.DistinctLists.{inside_block}
 use Rattle.pliron_sccp.proofs.Tracked.{unsearched_when}
