@@ -22,7 +22,7 @@ use Rattle.pliron_theory.specs.Facts.{Fact, Undetermined, Constant, NotAConstant
 use Rattle.pliron_theory.proofs.FactLattice.{at_most_refl, same_index, picked_in}
 use Rattle.pliron_theory.proofs.SweptKeeps.{admitted_shape}
 use Rattle.pliron_sccp.specs.declared.tables.Solver.{Solver}
-use Rattle.pliron_sccp.specs.Tables.{reaches, facts_of}
+use Rattle.pliron_sccp.specs.Tables.{facts_of}
 use Rattle.pliron_sccp.specs.Inside.{values_inside}
 use Rattle.pliron_sccp.specs.Settling.{IsMet, AreBelow}
 use Rattle.pliron_sccp.specs.Precise.{AreOwed}
@@ -36,6 +36,7 @@ use Rattle.pliron_sccp.proofs.DistinctLists.{held_directly}
 use Rattle.pliron_sccp.proofs.InsideLists.{made_listed}
 use Rattle.pliron_sccp.proofs.Accounting.{below_undetermined}
 use Rattle.pliron_sccp.proofs.Determined.{operand_determined}
+use Rattle.pliron_sccp.proofs.Stepping.{first_blocks, entries_of, first_in, in_first}
 use Rattle.pliron_sccp.proofs.Above.{above_result, above_jump, above_argument}
 
 -- whether something is on a list
@@ -105,26 +106,9 @@ within [] p l = absurd (omega (arith, l))
 within (x ∷ xs) zero l = (x, refl)
 within (x ∷ xs) (suc p) l = within xs p (omega (arith, l))
 
--- a region's first block, as a list
-abbrev pub entry_list : List ℕ → List ℕ
-entry_list [] = []
-entry_list (b ∷ bs) = b ∷ []
-
-pub in_entry : (bs : List ℕ) (b : ℕ) → In b (entry_list bs) → first_of bs None ≡ Some b
-in_entry [] b i = absurd i
-in_entry (c ∷ bs) b (inl e) = ap Some (sym e)
-in_entry (c ∷ bs) b (inr i) = absurd i
-
-pub entry_in : (bs : List ℕ) (b : ℕ) → first_of bs None ≡ Some b → In b (entry_list bs)
-entry_in [] b e = absurd (not_none e)
-entry_in (c ∷ bs) b e = inl (sym (some_is e))
-
 -- the blocks that an operation may enter: its successors, and the entries of its regions
-abbrev pub entries_list : Tree → ℕ → List ℕ
-entries_list t k = flat_map (λ r. entry_list (layout_of t r)) (regions_of t k)
-
 abbrev targets_of : Tree → ℕ → List ℕ
-targets_of t k = successors_of t k ++ entries_list t k
+targets_of t k = successors_of t k ++ entries_of t k
 
 -- a closed set, with values of which nothing is asked as not constant
 abbrev pub only_inside : Tree → ℕ → Facts → Facts
@@ -250,7 +234,7 @@ module _ (x : Says) (t : Tree) (root : ℕ) (w : IsTree t) (linked : IsWellLinke
       entry_target b i e = (try_target b (i, λ v j. varying (new.fact v) (e.1 v j)), e.1)
 
       successor_in : (i b : ℕ) → slice_get o.successors i ≡ Some b → In b (targets_of t k)
-      successor_in i b e = In-left b (successors_of t k) (entries_list t k) (in_slice (successors_of t k) i b (ap (λ l. slice_get l i) shows.successors ∙ e))
+      successor_in i b e = In-left b (successors_of t k) (entries_of t k) (in_slice (successors_of t k) i b (ap (λ l. slice_get l i) shows.successors ∙ e))
 
       -- each argument of a block that a branch may go to gets a value that is determined
       forwarded_determined : (i b : ℕ) → IsTrue (x.meaning.is_branch o.head) → slice_get o.successors i ≡ Some b → ((j v u : ℕ) → slice_get (arguments_of t b) j ≡ Some v → Forwards x t o i j u → AtMost (new.fact v) (now.fact u)) → (v : ℕ) → In v (arguments_of t b) → new.fact v ≢ Undetermined
@@ -264,7 +248,7 @@ module _ (x : Says) (t : Tree) (root : ℕ) (w : IsTree t) (linked : IsWellLinke
 
       trial_met : IsMet x t now trial k o
       trial_met = record {
-        entries = λ r b i e. entry_target b (In-right b (successors_of t k) (entries_list t k) (In-flat_map (λ r. entry_list (layout_of t r)) (regions_of t k) r b i (entry_in (layout_of t r) b e))) (met.entries r b i e);
+        entries = λ r b i e. entry_target b (In-right b (successors_of t k) (entries_of t k) (In-flat_map (λ r. first_blocks (layout_of t r)) (regions_of t k) r b i (first_in (layout_of t r) b e))) (met.entries r b i e);
         branches = λ i b branch go.
             let m = met.branches i b branch go in
             (try_target b (successor_in i b go.0, forwarded_determined i b branch go.0 m.1), m.1);
@@ -292,8 +276,8 @@ module _ (x : Says) (t : Tree) (root : ℕ) (w : IsTree t) (linked : IsWellLinke
       is_placed : (b : ℕ) → In b (targets_of t k) → IsPlaced b
       is_placed b i = ⊎_elim
           (λ j. inl (j, (ends b j).1))
-          (λ j. let r = flat_map-In (λ r. entry_list (layout_of t r)) (regions_of t k) b j in inr (r.0, r.1, in_entry (layout_of t r.0) b r.2))
-          (In-cases b (successors_of t k) (entries_list t k) i)
+          (λ j. let r = flat_map-In (λ r. first_blocks (layout_of t r)) (regions_of t k) b j in inr (r.0, r.1, in_first (layout_of t r.0) b r.2))
+          (In-cases b (successors_of t k) (entries_of t k) i)
 
       target_way : (b : ℕ) → IsPlaced b → HasWay t seen b
       target_way b (inl (i, same_region)) =

@@ -23,7 +23,10 @@ pub mod DistinctLists
 pub mod Listing
 pub mod Going
 pub mod Tracked
-pub mod Accounting
+pub mod UserLists
 pub mod InsideLists
+pub mod Stepping
+pub mod Accounting
+pub mod OnTheWay
 pub mod BestLook
 pub mod BestSteps

@@ -1,13 +1,14 @@
 -- Values of which nothing is known yet, one after the other.
-use Rattle.std.proofs.Common.{◌≡◌, ⊎_elim, inl, inr, ℕ, Bool, true, false, true≢false, nat_eq, if◌then◌else◌, List, [], ◌∷◌, ◌++◌, Option, Some, None, refl, sym, ap, ◌∙◌, subst}
+use Rattle.std.proofs.Common.{◌≡◌, ⊎_elim, inl, ℕ, Bool, true, false, nat_eq, cond, List, [], ◌∷◌, ◌++◌, Some, refl, sym, ap, ◌∙◌, subst}
 use Rattle.std.specs.List.{flat_map}
 use Rattle.std.proofs.lemmas.Bool.{eqb-true, eq-eqb}
 use Rattle.pliron_core.specs.Lists.{In}
 use Rattle.pliron_core.specs.Tree.{Tree}
 use Rattle.pliron_core.proofs.ListLemmas.{In-left, In-right, In-cases, decide_in}
-use Rattle.pliron_theory.specs.Facts.{Undetermined}
 use Rattle.pliron_sccp.specs.declared.tables.Solver.{Solver}
-use Rattle.pliron_sccp.specs.Tables.{IsEmptySolver}
+use Rattle.std.specs.HashMap.{get}
+use Rattle.pliron_sccp.specs.declared.tables.Fact.TheVariants.{Undetermined as Unknown}
+use Rattle.pliron_sccp.specs.Tables.{meant_or, reaches, waits_block, waits_value, IsEmptySolver}
 use Rattle.pliron_sccp.specs.Chain.{blocks_inside}
 use Rattle.pliron_sccp.specs.Inside.{values_of}
 use Rattle.pliron_sccp.specs.Accounts.{IsUnsearched}
@@ -43,3 +44,20 @@ unsearched_when t root blocks s s' e empty k = record {
   blocks = λ b. k.blocks b ∙ empty.blocks b;
   values = λ v. k.waiting v ∙ empty.values v;
 }
+
+-- one value is put into the table
+pub tracked_one : (x : ℕ) (s s' : Solver) → ((v : ℕ) → get nat_eq s'.facts v ≡ cond (nat_eq x v) (Some Unknown) (get nat_eq s.facts v)) → ((b : ℕ) → reaches s' b ≡ reaches s b) → ((b : ℕ) → waits_block s' b ≡ waits_block s b) → ((v : ℕ) → waits_value s' v ≡ waits_value s v) → Tracks (x ∷ []) s s'
+tracked_one x s s' put reached blocks waiting = record {
+  tracked = λ v i. ⊎_elim (λ e. ap meant_or (put v ∙ ap (λ b. cond b (Some Unknown) (get nat_eq s.facts v)) (eq-eqb x v (sym e)))) (λ z. absurd z) i;
+  others = λ v n. ap meant_or (put v ∙ ap (λ b. cond b (Some Unknown) (get nat_eq s.facts v)) (other v (λ e. n (inl (sym e)))));
+  reached = reached;
+  blocks = blocks;
+  waiting = waiting;
+}
+  where
+    other : (v : ℕ) → (x ≡ v → ⊥) → nat_eq x v ≡ false
+    other v n = by (nat_eq x v) refl
+      where
+        by : (b : Bool) → nat_eq x v ≡ b → nat_eq x v ≡ false
+        by true e = absurd (n (eqb-true x v e))
+        by false e = e

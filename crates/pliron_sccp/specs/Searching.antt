@@ -6,7 +6,9 @@ use Rattle.pliron_sccp.specs.declared.tables.Solver.{Solver}
 use Rattle.pliron_sccp.specs.Tables.{waits_block, waits_value, facts_of, TakesBlock}
 use Rattle.pliron_sccp.specs.Looking.{LooksThrough, TakesValues, AreUsersOf}
 use Rattle.pliron_sccp.specs.Settling.{AreSettledBut, AreStarted}
-use Rattle.pliron_sccp.specs.Accounts.{WaitsInside, AreKnownThere}
+use Rattle.pliron_sccp.specs.Precise.{AreOwed}
+use Rattle.pliron_sccp.specs.Best.{IsBest}
+use Rattle.pliron_sccp.specs.Accounts.{IsAccounted, WaitsInside, AreKnownThere}
 
 -- all values that waited were taken, so many, and their users were looked at
 pub record VisitsValues (x : Says) (t : Tree) (s s' : Solver) (taken : ℕ) : Type 0 where
@@ -32,3 +34,9 @@ pub record IsOnTheWay (x : Says) (t : Tree) (root : ℕ) (s : Solver) : Type 0 w
   pub held : AreHeld t root (facts_of s)
   pub there : AreKnownThere t root s
   pub waits : WaitsInside t root s
+
+-- this, and the count so far; where the most precise facts are owed, the facts stand above every closed set of facts
+pub record IsSearching (x : Says) (t : Tree) (root : ℕ) (s : Solver) (pops : ℕ) : Type 0 where
+  pub way : IsOnTheWay x t root s
+  pub accounted : IsAccounted t root s pops
+  pub best : AreOwed x t root → IsBest x t root s

@@ -69,11 +69,7 @@ fn track_block(block: Ptr<BasicBlock>, ctx: &Context, solver: &mut Solver) -> Re
 }
 
 /// Nothing is known yet of the values that these blocks list.
-fn track_all(
-    blocks: &[Ptr<BasicBlock>],
-    ctx: &Context,
-    solver: &mut Solver,
-) -> Result<(), OptError>
+fn track_all(blocks: &[Ptr<BasicBlock>], ctx: &Context, solver: &mut Solver) -> Result<(), OptError>
     requires { (b : ℕ) → In b blocks.now → IsBlock ctx.now.tree b }
     ensures ok { OnOk result (Tracks (flat_map (λ b. values_of ctx.now.tree b) blocks.now) solver.old solver.new) }
     ensures err { IfErr result (λ e. e ≡ Memory) }

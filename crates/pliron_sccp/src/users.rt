@@ -1,6 +1,5 @@
 //! The operations that read values whose facts fell.
-ghost use Rattle.std.specs.Prelude.{◌≡◌, ◌↔◌, ◌⊎◌, ℕ, nat_eq, OnOk, IfOk, IfErr, IsTrue};
-ghost use Rattle.indexmap.specs.IndexSet.{contains};
+ghost use Rattle.std.specs.Prelude.{◌≡◌, ◌↔◌, ℕ, OnOk, IfOk, IfErr, IsTrue};
 ghost use Rattle.pliron_core.specs.Tree.{IsLive};
 ghost use Rattle.pliron_laws.specs.declared.fault.OptError.TheVariants.{Memory};
 ghost use Rattle.pliron_sccp.specs.Looking.{IsVisited, IsUserOf, AreUsersOf, AddsEach};

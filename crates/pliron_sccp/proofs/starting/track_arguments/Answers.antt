@@ -10,7 +10,7 @@ loop-i-init c = λ u d. d
 
 pub loop-i-preserved : goal.loop-i-preserved
 loop-i-preserved c =
-    counted_next Tracks (arguments_of c.args.ctx.now.tree c.args.block) c.loop-i.i c.get_argument.result c.args.solver.now c.loop-i.solver c.track.new.self c.get_argument.ensures.listed (one_step c.get_argument.result c.loop-i.solver c.track.new.self c.in_ok-track.ensures.tracked) c.loop-i.invariant
+    counted_next Tracks (arguments_of c.args.ctx.now.tree c.args.block) c.loop-i.i c.get_argument.result c.args.solver.now c.loop-i.solver c.track.new.self c.get_argument.ensures.argument (one_step c.get_argument.result c.loop-i.solver c.track.new.self c.in_ok-track.ensures.tracked) c.loop-i.invariant
 
 pub returns-clause-ok : goal.returns-clause-ok
 returns-clause-ok c = counted_end Tracks (arguments_of c.args.ctx.now.tree c.args.block) c.loop-i.i c.args.solver.now c.loop-i.solver (omega arith) (tracks_none c.loop-i.solver) c.loop-i.invariant

@@ -1,4 +1,4 @@
-use Rattle.std.proofs.Common.{◌≡◌, ℕ, List, ap, ◌∙◌}
+use Rattle.std.proofs.Common.{ℕ, List, ap, ◌∙◌}
 use Rattle.pliron_core.specs.Tree.{body_of, results_of, up_from}
 use Rattle.pliron_core.specs.Lists.{next_in}
 use Rattle.pliron_sccp.proofs.Going.{walk_start, walk_next, walk_smaller, walk_end}
