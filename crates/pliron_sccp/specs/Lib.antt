@@ -16,3 +16,4 @@ pub mod Tables
 pub mod Demands
 pub mod Falling
 pub mod Inside
+pub mod Searched

@@ -8,6 +8,7 @@ pub mod collecting;
 pub mod demands;
 mod propagation;
 pub mod rewriting;
+pub mod searching;
 mod straight;
 pub mod tables;
 mod walk;
