@@ -1,10 +1,3 @@
-pub mod Lines
-pub mod Straight
-pub mod Facts
-pub mod Propagation
-pub mod Collected
-pub mod Visits
-pub mod Checking
 pub mod Precise
 pub mod Chain
 pub mod Propagated
@@ -17,3 +10,4 @@ pub mod Demands
 pub mod Falling
 pub mod Inside
 pub mod Searched
+pub mod Listed
