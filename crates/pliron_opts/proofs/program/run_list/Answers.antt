@@ -7,3 +7,6 @@ loop-optimisation-init c = change_refl bench c.args.ctx.now.tree c.args.root c.r
 
 pub loop-optimisation-preserved : goal.loop-optimisation-preserved
 loop-optimisation-preserved c = change_trans bench c.args.ctx.now.tree c.loop-optimisation.ctx.tree c.run.new.ctx.tree c.args.root c.loop-optimisation.invariant c.run.ensures
+
+pub returns-in_err-run : goal.returns-in_err-run
+returns-in_err-run c = change_trans bench c.args.ctx.now.tree c.loop-optimisation.ctx.tree c.run.new.ctx.tree c.args.root c.loop-optimisation.invariant c.run.ensures
