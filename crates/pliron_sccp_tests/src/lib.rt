@@ -7,3 +7,5 @@ mod cases;
 mod runs;
 #[cfg(test)]
 mod texts;
+#[cfg(test)]
+mod tiny;
