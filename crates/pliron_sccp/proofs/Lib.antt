@@ -1,12 +1,3 @@
-pub mod LineLemmas
-pub mod EntryLemmas
-pub mod FitLemmas
-pub mod CheckLemmas
-pub mod NumberLemmas
-pub mod Stages
-pub mod WalkLemmas
-pub mod CollectLemmas
-pub mod StraightFit
 pub mod StepLemmas
 pub mod ArgumentStep
 pub mod WholeRewrite
@@ -17,7 +8,6 @@ pub mod Counting
 pub mod Waiting
 pub mod Demanded
 pub mod Applied
-pub mod StraightLinks
 pub mod EdgesAsked
 pub mod DistinctLists
 pub mod Listing
@@ -30,3 +20,6 @@ pub mod Accounting
 pub mod OnTheWay
 pub mod BestLook
 pub mod BestSteps
+pub mod ListedFolds
+pub mod ListedArguments
+pub mod FoundChange

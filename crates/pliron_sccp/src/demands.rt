@@ -85,7 +85,11 @@ fn ask_jumps(op: Ptr<Operation>, ctx: &Context, asked: &mut Vec<Demand>) -> Resu
 }
 
 /// The constant that is known of a value, for a fold.
-fn known(alloc: Global, value: Value, solver: &Solver) -> Result<Option<AttrObj>, OptError>
+pub(crate) fn known(
+    alloc: Global,
+    value: Value,
+    solver: &Solver,
+) -> Result<Option<AttrObj>, OptError>
     ensures ok { IfOk result (λ attr. attr ≡ known_of (fact_in solver.now value)) }
     ensures err { IfErr result (λ e. e ≡ Memory) }
 {
@@ -96,7 +100,7 @@ fn known(alloc: Global, value: Value, solver: &Solver) -> Result<Option<AttrObj>
 }
 
 /// The constants that are known of the operands, for a fold.
-fn known_operands(
+pub(crate) fn known_operands(
     alloc: Global,
     op: Ptr<Operation>,
     ctx: &Context,

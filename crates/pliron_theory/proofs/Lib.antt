@@ -57,4 +57,5 @@ pub mod ClosedRead
 pub mod CarriedFacts
 pub mod PutFacts
 pub mod FirstLinks
+pub mod PutInside
 pub mod FollowedFacts
