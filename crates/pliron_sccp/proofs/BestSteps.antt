@@ -29,16 +29,11 @@ use Rattle.pliron_sccp.specs.Searching.{Steps, IsOnTheWay}
 use Rattle.pliron_sccp.specs.Searching.Steps.{Block, Values}
 use Rattle.pliron_sccp.specs.Accounts.{NothingWaits}
 use Rattle.pliron_sccp.specs.Best.{is_visited, IsAbove, IsBest}
-use Rattle.pliron_sccp.proofs.Applied.{falls_refl, falls_trans}
+use Rattle.pliron_sccp.proofs.Stepping.{through_falls}
 use Rattle.pliron_sccp.proofs.Accounting.{below_undetermined}
 use Rattle.pliron_sccp.proofs.DistinctLists.{held_directly}
 use Rattle.pliron_sccp.proofs.InsideLists.{holds_listed, argument_listed, result_listed}
 use Rattle.pliron_sccp.proofs.BestLook.{lists, lists_in, in_lists, varying, entry_list, in_entry, entry_in, entries_list, only_inside, only_below, only_above, IsOn, ForwardsItsOperands, look_on, look_results}
-
--- looking at operations lets facts fall
-looks_fall : (x : Says) (t : Tree) (ks : List ℕ) (s u : Solver) → LooksThrough x t ks s u → Falls s u
-looks_fall x t [] s u Nothing = falls_refl s
-looks_fall x t (k ∷ ks) s u (Then _ q a d) = falls_trans s q u a.applied.falls (looks_fall x t ks q u d)
 
 -- blocks that were looked through
 module _ (s : Solver) (b : ℕ) where
@@ -160,7 +155,7 @@ module _ (x : Says) (t : Tree) (root : ℕ) (w : IsTree t) (linked : IsWellLinke
     pub block_best : (c : ℕ) (u s' : Solver) → TakesBlock c s u → IsTrue (reaches s c) → LooksThrough x t (body_of t c) u s' → IsBest x t root s'
     block_best c u s' k reached d =
         let r = through_block (facts_of s) (is_visited s) (is_visited u) inside best.grounded best.ready more c reached came (body_of t c) u s' d [] refl (begin (is_visited u) more u k.facts k.reached) (λ q v i. absurd i) in
-        let falls = looks_fall x t (body_of t c) u s' d in
+        let falls = through_falls x t (body_of t c) u s' d in
         finish (facts_of s) (is_visited s) (is_visited u) inside best.grounded best.ready more s' r.0 (visited_still u s' falls) (visited_before u s' falls)
         (λ b q v y p i. ⊎_elim
         (λ same. r.1 q v (w.bodies.listed q c (p ∙ ap Some (sym same))) i)
@@ -191,7 +186,7 @@ module _ (x : Says) (t : Tree) (root : ℕ) (w : IsTree t) (linked : IsWellLinke
     pub values_best : (taken users : List ℕ) (u s' : Solver) → TakesValues taken s u → AreUsersOf t taken users u → LooksThrough x t users u s' → IsBest x t root s'
     values_best taken users u s' k a d =
         let r = through_users (facts_of s) (is_visited s) (is_visited s) inside best.grounded best.ready (λ b y. y) users u s' d placed (begin (is_visited s) (λ b y. y) u k.facts k.reached) in
-        let falls = looks_fall x t users u s' d in
+        let falls = through_falls x t users u s' d in
         finish (facts_of s) (is_visited s) (is_visited s) inside best.grounded best.ready (λ b y. y) s' r
         (λ b y. visited_still u s' falls b (make_visited u b (k.reached b ∙ visited_reached s b y) (k.blocks b ∙ visited_rests s b y)))
         (λ b y. let z = visited_before u s' falls b y in make_visited s b (sym (k.reached b) ∙ visited_reached u b z) (sym (k.blocks b) ∙ visited_rests u b z))
