@@ -265,9 +265,9 @@ linking m t t' op known w w' ends root links live left (Replaced o head operands
     rebranched_linked m t t' ends.block op (length t.operations) ends.front w w' h.placed root links live (λ e. true≢false (sym left ∙ ap (λ z. is_some (head_of t' z)) e ∙ ap is_some h.placed.gone))
     (λ i. refolded_admitted m t t' ends.block op (length t.operations) ends.front known h)
 
-replacing : (m : Meaning) (t t' : Tree) (op : ℕ) (known : List (Option AttrObj)) → IsTree t → IsTree t' → EndsAlone m t op → FoldsBranch m op known t t' → IsSameTree t t' ⊎ ((a new : ℕ) × (front : List ℕ) × IsRebranched t t' a op new front)
-replacing m t t' op known w w' ends (Kept s) = inl s
-replacing m t t' op known w w' ends (Replaced o head operands successors places edges stands picked replaces) =
+replacing : (m : Meaning) (t u : Tree) (op : ℕ) (known : List (Option AttrObj)) → IsTree t → IsTree u → EndsAlone m t op → FoldsBranch m op known t u → IsSameTree t u ⊎ ((a new : ℕ) × (front : List ℕ) × IsRebranched t u a op new front)
+replacing m t u op known w w' ends (Kept s) = inl s
+replacing m t u op known w w' ends (Replaced o head operands successors places edges stands picked replaces) =
     inr (ends.block, length t.operations, ends.front, (refolded_as m t ends.block op ends.front known o head operands successors places edges w w' ends.split ends.childless ends.no_results stands picked replaces).placed)
 
 no_items : {A : Type 0} (xs : List A) → length xs ≡ 0 → xs ≡ []
