@@ -1,1 +1,5 @@
 pub mod PairLemmas
+pub mod JoinLemmas
+pub mod Joinable
+pub mod Forwarded
+pub mod MergedTrees
