@@ -4,4 +4,5 @@
 #![tactic(auto)]
 
 mod joining;
+mod merging;
 mod pairs;
