@@ -6,3 +6,5 @@ pub mod MergedTrees
 pub mod ChainLemmas
 pub mod RegionReach
 pub mod VisitsKept
+pub mod Opens
+pub mod Whole

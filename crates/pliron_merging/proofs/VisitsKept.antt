@@ -22,23 +22,31 @@ use Rattle.pliron_blocks.proofs.JoinedReach.{reaching}
 use Rattle.pliron_merging.proofs.RegionReach.{IsHeld, step_in, reaches_leads, reached_in, entered_in, entry_in, visited_held, reaches_more, leads_reaches, within_still}
 
 -- operands are nothing to visits
+entered_same : (t : Tree) (operands : List (List ℕ)) (z : Bool) (r b : ℕ) → IsEnteredIf z t r b → IsEnteredIf z (record t { operands = operands }) r b
+entered_same t operands true r b x = x
+entered_same t operands false r b x = x
+
 pub visited_same : (t : Tree) (operands : List (List ℕ)) (S R : ℕ → Type 0) → ((r : ℕ) → S r → R r) → (r : ℕ) → IsVisited t S r → IsVisited (record t { operands = operands }) R r
 visited_same t operands S R more r (Starts s) = Starts (more r s)
-visited_same t operands S R more r (Nested outer b k v e at i) = Nested outer b k (visited_same t operands S R more outer v) e at i
+visited_same t operands S R more r (Nested outer b k v e at i) = Nested outer b k (visited_same t operands S R more outer v) (entered_same t operands (has_ssa t outer) outer b e) at i
 
 first_same : (b : ℕ) (xs : List ℕ) → first_of xs None ≢ Some b → first_of (without b xs) None ≡ first_of xs None
 first_same b [] ne = refl
 first_same b (x ∷ xs) ne = ⊎_elim (λ y. absurd (ne (ap Some (sym y.1)))) (λ n. ap (λ z. first_of (if z then xs else x ∷ without b xs) None) n.0) (eqb_tells b x)
+
+-- the jump has no regions, and neither has what is gone
+pub spliced_regions : (u v : Tree) → IsTree v → (a b jump : ℕ) (front : List ℕ) → IsSpliced u v a b jump front → (k : ℕ) → regions_of v k ≡ regions_of u k
+spliced_regions u v wv a b jump front s k = ⊎_elim
+    (λ e. ap (regions_of v) e ∙ ap (λ z. z.regions) (wv.joined.erased jump s.gone).2 ∙ sym s.childless ∙ ap (regions_of u) (sym e))
+    (λ ne. ap (λ z. z.regions) (s.rows k ne))
+    (cases_eq k jump)
 
 module _ (u v : Tree) (w : IsTree u) (wv : IsTree v) (root holder a b jump : ℕ) (front : List ℕ) (s : IsSpliced u v a b jump front) (edges : EdgesLast u root) (edges_v : EdgesLast v root) (near : EdgesLast u holder) (held : block_holder_of u a ≡ Some holder) (inside : IsInsideChange u v root) where
   not_jump : (k r : ℕ) → In r (regions_of u k) → k ≢ jump
   not_jump k r i e = subst (In r) (ap (regions_of u) e ∙ s.childless) i
 
   regions_same : (k : ℕ) → regions_of v k ≡ regions_of u k
-  regions_same k = ⊎_elim
-      (λ e. ap (regions_of v) e ∙ ap (λ z. z.regions) (wv.joined.erased jump s.gone).2 ∙ sym s.childless ∙ ap (regions_of u) (sym e))
-      (λ ne. ap (λ z. z.regions) (s.rows k ne))
-      (cases_eq k jump)
+  regions_same k = spliced_regions u v wv a b jump front s k
 
   alike : LeadsAlike u v b
   alike = reaching u v holder a b jump front w wv near held s
@@ -61,7 +69,7 @@ module _ (u v : Tree) (w : IsTree u) (wv : IsTree v) (root holder a b jump : ℕ
         within = within_still u v root h.holder wv inside (subst (IsLive v) same (region_live v wv.joined x.0.op x.0.index r there)) h.within;
       }
 
-  ssa_same : (r : ℕ) → IsHeld u root r → has_ssa v r ≡ has_ssa u r
+  pub ssa_same : (r : ℕ) → IsHeld u root r → has_ssa v r ≡ has_ssa u r
   ssa_same r h =
       let x = slot_is u r h.stands in
       let ne = not_jump x.0.op r (in_slice (regions_of u x.0.op) x.0.index r x.2) in
