@@ -63,15 +63,15 @@ module _ (m : Meaning) (can_fold : Head → Bool) (SameTests : Head → Head →
       let o = one_merge t x linked k a b jump values listed pair tree well in
       let there = none_still done t x w linked held before none in
       λ c d j vs i q. ⊎_elim
-          (λ e. there a b jump values (subst (λ z. In z done) e i) pair)
-          (λ ne.
-          let is = first_held m (merged x a b jump values) tree c d j vs q in
-          let all = (λ (holder : ℕ) (e : block_holder_of (merged x a b jump values) c ≡ Some holder). (o.links holder (k.links holder (held c holder i (k.blocks c holder (o.blocks c holder e))))).edges) in
-          let z = way_jump m (merged x a b jump values) c d j j (way_of_pair m (merged x a b jump values) c d j vs q) (sym q.ends) in
-          let beside = second_beside (merged x a b jump values) tree c d j (ap is_some is.2) all (sym q.ends) z.1 in
-          let y = o.before c d j vs ne beside q in
-          there c d j y.0 i y.1)
-          (cases_eq c a)
+      (λ e. there a b jump values (subst (λ z. In z done) e i) pair)
+      (λ ne.
+      let is = first_held m (merged x a b jump values) tree c d j vs q in
+      let all = (λ (holder : ℕ) (e : block_holder_of (merged x a b jump values) c ≡ Some holder). (o.links holder (k.links holder (held c holder i (k.blocks c holder (o.blocks c holder e))))).edges) in
+      let z = way_jump m (merged x a b jump values) c d j j (way_of_pair m (merged x a b jump values) c d j vs q) (sym q.ends) in
+      let beside = second_beside (merged x a b jump values) tree c d j (ap is_some is.2) all (sym q.ends) z.1 in
+      let y = o.before c d j vs ne beside q in
+      there c d j y.0 i y.1)
+      (cases_eq c a)
 
 pub tells_more : (m : Meaning) (blocks few : List ℕ) (t u v : Tree) (s r : IRStatus) → ((c : ℕ) → In c few → In c blocks) → TellsMerged m blocks t u s → TellsMerged m few u v r → TellsMerged m blocks t v (changed_by_either s r)
 tells_more m blocks few t u v Changed r more x y = x

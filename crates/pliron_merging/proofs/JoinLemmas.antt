@@ -68,8 +68,8 @@ moves_on u w a b k rest ne in_a in_b e =
     let k_in = live-within u k (w.joined.standing k b at).0 in
     let keys = w.keys.parents in
     let m = moved_on u a b ne (body_of u a) (block-within u a w.keys in_a) (block-within u b w.keys in_b) u [] rest k
-        (record { shape = refl; long = refl; parents_long = refl; at_a = sym (append-nil (body_of u a)); at_b = e; others = λ c na nb. refl; moved = λ j i. absurd i; stays = λ j f. refl })
-        at (omega (arith, k_in, keys)) (λ z. z) in
+    (record { shape = refl; long = refl; parents_long = refl; at_a = sym (append-nil (body_of u a)); at_b = e; others = λ c na nb. refl; moved = λ j i. absurd i; stays = λ j f. refl })
+    at (omega (arith, k_in, keys)) (λ z. z) in
     record { body = m.at_b; block_parents = λ c. ap (λ (z : Tree). block_parent_of z c) m.shape }
 
 pub head_rest : (xs : List ℕ) (k : ℕ) → Some k ≡ first_of xs None → (rest : List ℕ) × (xs ≡ k ∷ rest)

@@ -8,3 +8,4 @@ pub mod RegionReach
 pub mod VisitsKept
 pub mod Opens
 pub mod Whole
+pub mod BlockStarts

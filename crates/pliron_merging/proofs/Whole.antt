@@ -130,3 +130,7 @@ either_way m blocks t v (Err e) x y = y
 pub err_weaker : {A E : Type 0} (r : Result A E) {P Q : Type 0} → (P → Q) → OnErr r P → OnErr r Q
 err_weaker (Ok a) f x = tt
 err_weaker (Err e) f x = f x
+
+-- where a call on a region starts
+pub region_starts : (t : Tree) (region root : ℕ) → IsRegion t region → region_parent_of t region ≡ Some root → (r : ℕ) → r ≡ region → IsHeld t root r
+region_starts t region root is e r same = subst (IsHeld t root) (sym same) (record { holder = root; held = e; stands = is; within = inl refl })

@@ -4,13 +4,14 @@
 //! values that the branch forwards stand for the arguments of the second block, the branch goes, and the
 //! operations of the second block become the last of the first one.
 #![tactic(auto)]
+
 ghost use Rattle.std.specs.Prelude.{◌≡◌, ℕ, Some, IfOk, OnErr, IfErr};
-ghost use Rattle.pliron_core.specs.Tree.{IsLive, IsRegion, region_parent_of};
+ghost use Rattle.pliron_core.specs.Tree.{IsBlock, IsLive, IsRegion, block_holder_of, region_parent_of};
 ghost use Rattle.pliron_laws.specs.declared.fault.OptError.TheVariants.{Memory};
 ghost use Rattle.pliron_laws.specs.Linked.{IsWellLinked};
 ghost use Rattle.pliron_theory.specs.Change.{IsPassChange};
 ghost use Rattle.pliron_blocks.specs.Links.{KeepsLinks};
-ghost use Rattle.pliron_visits.specs.Visited.{OfOperation, OfRegion};
+ghost use Rattle.pliron_visits.specs.Visited.{OfBlock, OfOperation, OfRegion};
 ghost use Rattle.pliron_merging.specs.Merged.{MergesAll, MergesPartly};
 
 mod joining;
@@ -18,9 +19,9 @@ mod merging;
 mod pairs;
 
 use crate::merging::merge_among;
-use pliron_core::{Context, IRStatus, Operation, Ptr, Region, Rewriter};
+use pliron_core::{BasicBlock, Context, IRStatus, Operation, Ptr, Region, Rewriter};
 use pliron_laws::{Dialect, OptError, Room};
-use pliron_visits::{visits_inside_op, visits_inside_region};
+use pliron_visits::{visits_inside_block, visits_inside_op, visits_inside_region};
 use std::alloc::Global;
 
 /// Merges pairs of blocks in the regions with SSA dominance that it looks at inside the operation, until
@@ -56,6 +57,27 @@ pub fn merge_inside_op<D: Dialect, R: Rewriter + Room>(
 {
     ctx.well_formed();
     let visits = visits_inside_op(alloc, ctx, op)?;
+    merge_among::<D, R>(alloc, &visits.blocks, ctx, rewriter)
+}
+
+/// Merges pairs of blocks in the regions that it looks at inside the operations of the block. Asks that the
+/// block stands and that what holds it is well linked; answers, errors and costs as [`merge_inside_op`].
+pub fn merge_inside_block<D: Dialect, R: Rewriter + Room>(
+    alloc: Global,
+    block: Ptr<BasicBlock>,
+    ctx: &mut Context,
+    rewriter: &mut R,
+) -> Result<IRStatus, OptError>
+    requires block { IsBlock ctx.old.tree block }
+    requires linked { (holder : ℕ) → block_holder_of ctx.old.tree block ≡ Some holder → IsWellLinked D.meaning ctx.old.tree holder }
+    ensures ok { IfOk result (λ status. MergesAll (OfBlock block) D.meaning ctx.old.tree ctx.new.tree status) }
+    ensures refused { OnErr result (MergesPartly (OfBlock block) D.meaning ctx.old.tree ctx.new.tree) }
+    ensures err { IfErr result (λ e. e ≡ Memory) }
+    ensures change { (holder : ℕ) → block_holder_of ctx.old.tree block ≡ Some holder → IsPassChange D.meaning ctx.old.tree ctx.new.tree holder }
+    ensures links { KeepsLinks D.meaning ctx.old.tree ctx.new.tree }
+{
+    ctx.well_formed();
+    let visits = visits_inside_block(alloc, ctx, block)?;
     merge_among::<D, R>(alloc, &visits.blocks, ctx, rewriter)
 }
 

@@ -1,4 +1,6 @@
-use Rattle.std.proofs.Common.{◌≡◌, sym, subst}
+use Rattle.std.proofs.Common.{◌≡◌, sym, subst, inl}
+use Rattle.pliron_laws.proofs.FoldLemmas.{on_err}
+use Rattle.pliron_merging.specs.Merged.{MergesSome.Nothing}
 use Rattle.pliron_visits.specs.Visited.{OfOperation}
 use Rattle.pliron_visits.specs.Visits.{AreVisits}
 use Rattle.pliron_theory.proofs.ChangeLemmas.{change_refl}
@@ -48,3 +50,6 @@ returns-clause-links g c =
 
 pub returns-in_err-visits-clause-change : goal.returns-in_err-visits-clause-change
 returns-in_err-visits-clause-change g c = change_refl g.D.HasMeaning.meaning c.args.ctx.now.tree c.args.op c.requires.live c.requires.linked
+
+pub returns-in_err-visits-clause-refused : goal.returns-in_err-visits-clause-refused
+returns-in_err-visits-clause-refused g c = on_err _ c.from_residual.result (inl Nothing)
