@@ -1,7 +1,7 @@
 -- Where a call on a block starts, and that this stays.
-use Rattle.std.proofs.Common.{◌≡◌, ◌≢◌, inl, inr, ⊎_elim, ℕ, List, Option, Some, None, slice_get, refl, sym, ap, ◌∙◌, subst}
+use Rattle.std.proofs.Common.{◌≡◌, ◌≢◌, inl, inr, ⊎_elim, ℕ, List, Option, Some, None, refl, sym, ap, ◌∙◌, subst}
 use Rattle.std.proofs.lemmas.Bool.{cases_eq}
-use Rattle.pliron_core.specs.Tree.{Tree, In, IsInside, IsInside.Directly, IsWithin, regions_of, parent_of, block_parent_of, block_holder_of, region_parent_of, holder_of}
+use Rattle.pliron_core.specs.Tree.{Tree, In, IsInside.Directly, IsWithin, regions_of, parent_of, block_parent_of, block_holder_of, region_parent_of}
 use Rattle.pliron_core.specs.Joined.{IsTree}
 use Rattle.pliron_core.proofs.HoldingLemmas.{some_is, not_none, slice_in, holder_by, inside_by, not_itself, region_parent_is, region_by}
 use Rattle.pliron_core.proofs.WithinLemmas.{block_holder_from}

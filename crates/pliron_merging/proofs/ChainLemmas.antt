@@ -1,13 +1,13 @@
 -- Merges one after the other.
-use Rattle.std.proofs.Common.{◌≡◌, ◌≢◌, ◌⊎◌, inl, inr, ⊎_elim, ℕ, zero, suc, ◌+◌, ◌<◌, Bool, List, [], ◌∷◌, length, take, Some, None, is_some, slice_get, refl, sym, ap, ◌∙◌, subst, arith}
+use Rattle.std.proofs.Common.{◌≡◌, ◌⊎◌, inl, inr, ⊎_elim, ℕ, zero, suc, ◌<◌, Bool, List, [], ◌∷◌, length, take, Some, is_some, slice_get, refl, sym, ap, ◌∙◌, subst, arith}
 use Rattle.std.proofs.lemmas.Bool.{cases_eq}
 use Rattle.pliron_core.specs.declared.attrs.IRStatus.{IRStatus}
 use Rattle.pliron_core.specs.declared.attrs.IRStatus.TheVariants.{Changed, Unchanged}
 use Rattle.pliron_core.specs.Status.{changed_by_either}
 use Rattle.pliron_core.specs.Edges.{blocks_in}
-use Rattle.pliron_core.specs.Tree.{Tree, In, IsBlock, last_of, body_of, arguments_of, block_parent_of, block_holder_of}
+use Rattle.pliron_core.specs.Tree.{Tree, In, IsBlock, arguments_of, block_parent_of, block_holder_of}
 use Rattle.pliron_core.specs.Joined.{IsTree}
-use Rattle.pliron_core.proofs.HoldingLemmas.{some_is, not_none, block_held}
+use Rattle.pliron_core.proofs.HoldingLemmas.{some_is, not_none}
 use Rattle.pliron_laws.specs.Datum.{Head, Shape, Meaning}
 use Rattle.pliron_laws.specs.Laws.{ForwardsOperands}
 use Rattle.pliron_laws.specs.Linked.{IsWellLinked}
@@ -16,7 +16,7 @@ use Rattle.pliron_theory.proofs.Keeping.{keeps_refl, keeps_trans}
 use Rattle.pliron_blocks.specs.Links.{KeepsLinks}
 use Rattle.pliron_blocks.specs.Joining.{JoinsWell}
 use Rattle.pliron_blocks.specs.Pairs.{IsMergeable, forwarded_uses, merged}
-use Rattle.pliron_merging.specs.Chains.{MergesAmong, MergesAmong.Nothing, MergesAmong.Then, HasNoPairAmong, TellsMerged, IsHalfMergedAmong, MergesAmongPartly}
+use Rattle.pliron_merging.specs.Chains.{MergesAmong, MergesAmong.Nothing, MergesAmong.Then, HasNoPairAmong, TellsMerged, MergesAmongPartly}
 use Rattle.pliron_merging.proofs.PairLemmas.{second_beside, way_jump, way_of_pair}
 use Rattle.pliron_merging.proofs.MergedTrees.{IsMerge, merges, first_held}
 

@@ -1,5 +1,5 @@
 -- A pair whose arguments were replaced one after the other.
-use Rattle.std.proofs.Common.{◌≡◌, ◌≢◌, inl, inr, ℕ, zero, suc, ◌≤◌, Bool, List, [], ◌∷◌, length, map, take, Some, slice_get, refl, sym, ap, ◌∙◌, subst, arith}
+use Rattle.std.proofs.Common.{◌≡◌, ◌≢◌, inl, inr, ℕ, suc, ◌≤◌, Bool, List, [], ◌∷◌, length, map, take, Some, slice_get, refl, sym, ap, ◌∙◌, subst, arith}
 use Rattle.pliron_core.specs.Uses.{replace_target}
 use Rattle.pliron_core.specs.Changes.{IsInsideChange}
 use Rattle.pliron_core.specs.Tree.{Tree, In, HoldsBlock, IsDefined, operands_of, arguments_of, block_parent_of, block_holder_of, region_parent_of, up_from}
@@ -20,7 +20,7 @@ use Rattle.pliron_blocks.proofs.RewriteLinks.{replaced_links}
 use Rattle.pliron_blocks.proofs.ReplacedInside.{replaced_argument}
 use Rattle.pliron_blocks.proofs.NoNewPairs.{no_new_by_uses}
 use Rattle.pliron_merging.proofs.PairLemmas.{values_defined, way_of_pair}
-use Rattle.pliron_merging.proofs.JoinLemmas.{get_take, length_take, take_all}
+use Rattle.pliron_merging.proofs.JoinLemmas.{get_take, length_take}
 
 tree_replaced : (t : Tree) (old new : ℕ) → IsTree t → IsDefined t new → IsTree (replaced t old new)
 tree_replaced t old new w d = record {

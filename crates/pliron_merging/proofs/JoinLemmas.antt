@@ -1,37 +1,25 @@
 -- What each step of a merge may do.
-use Rattle.std.proofs.Common.{◌≡◌, ◌≢◌, ◌⊎◌, inl, inr, ⊎_elim, ℕ, zero, suc, ◌+◌, ◌<◌, ◌≤◌, Bool, true, false, List, [], ◌∷◌, ◌++◌, length, take, map, Option, Some, None, IsSome, IsTrue, is_some, slice_get, refl, sym, ap, ◌∙◌, subst, append-nil, arith, ◌^◌}
-use Rattle.std.proofs.lemmas.Bool.{false_from_ne_true}
+use Rattle.std.proofs.Common.{◌≡◌, ◌≢◌, inl, inr, ⊎_elim, ℕ, zero, suc, ◌+◌, ◌<◌, ◌≤◌, List, [], ◌∷◌, length, take, Option, Some, None, slice_get, refl, sym, ap, ◌∙◌, subst, append-nil, arith}
 use Rattle.pliron_core.specs.declared.context.Def.{Def}
 use Rattle.pliron_core.specs.declared.context.Def.TheVariants.{Argument, Result}
-use Rattle.pliron_core.specs.Lists.{IsDistinct, next_in}
-use Rattle.pliron_core.specs.Tree.{Tree, In, IsLive, IsBlock, IsRegion, IsDefined, IsMadeBy, IsMadeWithin, IsInside, IsInside.Directly, IsInside.Deeper, IsWithin, HoldsBlock, first_of, last_of, up_from, head_of, successors_of, operands_of, results_of, regions_of, parent_of, body_of, arguments_of, block_parent_of, block_holder_of, region_parent_of, holder_of, definition_of}
-use Rattle.pliron_core.specs.Joined.{IsTree, HaveFewKeys}
+use Rattle.pliron_core.specs.Lists.{next_in}
+use Rattle.pliron_core.specs.Tree.{Tree, In, IsLive, IsBlock, IsRegion, IsDefined, IsMadeBy, IsInside.Directly, HoldsBlock, first_of, up_from, parent_of, body_of, arguments_of, block_parent_of, block_holder_of, region_parent_of, holder_of, definition_of}
+use Rattle.pliron_core.specs.Joined.{IsTree}
 use Rattle.pliron_core.specs.Reads.{next_of}
 use Rattle.pliron_core.specs.Writes.{replaced, moved_last}
 use Rattle.pliron_core.specs.WalkSteps.{rest_from}
 use Rattle.pliron_core.specs.Edges.{succs_from}
-use Rattle.pliron_core.specs.Erased.{erased, IsSelfContained, IsSelfContainedBlock, StandsIn, IsBlockWithin, IsMadeInBlock}
 use Rattle.pliron_core.proofs.ListLemmas.{distinct-length}
 use Rattle.pliron_core.proofs.TreeLemmas.{live-within, block-within}
-use Rattle.pliron_core.proofs.NextLemmas.{rest_from-first, rest_from-step, next_in-member}
-use Rattle.pliron_core.proofs.NeighbourLemmas.{first_of-In, last_of-In, next_in-In}
-use Rattle.pliron_core.proofs.WithinLemmas.{within_is, not_own_holder}
-use Rattle.pliron_core.proofs.ClearedLemmas.{met_above}
-use Rattle.pliron_core.proofs.HoldingLemmas.{some_is, not_none, some_of, in_slice, slice_in, holder_by, inside_by, not_itself, within_inside, maker_is, block_held, held_block, holder_live}
-use Rattle.pliron_laws.specs.Datum.{Head, Shape, Meaning}
-use Rattle.pliron_laws.specs.Laws.{ForwardsOperands}
-use Rattle.pliron_laws.specs.Tree.{Operation, op_at, shape_of, count_arguments, entry_block}
-use Rattle.pliron_laws.specs.Answers.{HeadPasses}
-use Rattle.pliron_laws.specs.Linked.{EdgesLast, IsAdmitted, IsWellLinked}
-use Rattle.pliron_laws.proofs.ConstantLemmas.{insideless, blockless}
-use Rattle.pliron_theory.specs.Sweeping.{IsSwept, swept}
-use Rattle.pliron_theory.proofs.SweptLists.{swept_all}
-use Rattle.pliron_theory.proofs.ErasedKeeps.{op_erased, block_erased_with, erased_swept, erased_gone}
-use Rattle.pliron_blocks.specs.Forwarding.{LeadsAlone}
-use Rattle.pliron_blocks.specs.Joining.{JoinsWell}
-use Rattle.pliron_blocks.specs.Pairs.{IsMergeable, forwarded_uses, all_moved_last, joined}
+use Rattle.pliron_core.proofs.NextLemmas.{rest_from-first, rest_from-step}
+use Rattle.pliron_core.proofs.NeighbourLemmas.{last_of-In}
+use Rattle.pliron_core.proofs.WithinLemmas.{not_own_holder}
+use Rattle.pliron_core.proofs.HoldingLemmas.{some_is, not_none, holder_by, inside_by, not_itself, block_held}
+use Rattle.pliron_laws.specs.Datum.{Meaning}
+use Rattle.pliron_laws.specs.Linked.{IsWellLinked}
+use Rattle.pliron_blocks.specs.Pairs.{IsMergeable, forwarded_uses}
 use Rattle.pliron_blocks.proofs.PairEdges.{leads_alone}
-use Rattle.pliron_blocks.proofs.MovedBodies.{IsMoving, moved_on, all_moved}
+use Rattle.pliron_blocks.proofs.MovedBodies.{moved_on}
 
 -- a block has fewer operations than there are keys
 pub body_fits : (t : Tree) → IsTree t → (block : ℕ) → length (body_of t block) ≤ length t.operations

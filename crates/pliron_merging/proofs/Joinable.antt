@@ -1,10 +1,10 @@
 -- A pair whose second block's arguments have no use: each step of joining may be done, and joins it.
-use Rattle.std.proofs.Common.{◌≡◌, ◌≢◌, ◌⊎◌, inl, inr, ⊎_elim, ℕ, zero, suc, ◌<◌, Bool, true, false, List, [], ◌∷◌, ◌++◌, length, Option, Some, None, IsSome, is_some, slice_get, refl, sym, ap, ◌∙◌, subst, append-nil, arith}
+use Rattle.std.proofs.Common.{◌≡◌, ◌≢◌, inl, inr, ⊎_elim, ℕ, Bool, true, false, List, [], ◌∷◌, length, Option, Some, None, is_some, slice_get, refl, sym, ap, ◌∙◌, subst, append-nil, arith}
 use Rattle.std.proofs.lemmas.Bool.{false_from_ne_true}
 use Rattle.std.proofs.lemmas.List.{length-map}
 use Rattle.pliron_core.specs.declared.context.Def.{Def}
 use Rattle.pliron_core.specs.declared.context.Def.TheVariants.{Argument, Result}
-use Rattle.pliron_core.specs.Tree.{Tree, In, IsLive, IsBlock, IsRegion, IsDefined, IsMadeBy, IsMadeWithin, IsInside, IsInside.Directly, IsWithin, HoldsBlock, last_of, head_of, successors_of, operands_of, results_of, regions_of, parent_of, body_of, arguments_of, block_parent_of, block_holder_of, region_parent_of, definition_of}
+use Rattle.pliron_core.specs.Tree.{Tree, In, IsLive, IsBlock, IsRegion, IsMadeBy, IsMadeWithin, IsInside.Directly, head_of, successors_of, operands_of, results_of, regions_of, parent_of, body_of, arguments_of, block_parent_of, block_holder_of, region_parent_of, definition_of}
 use Rattle.pliron_core.specs.Joined.{IsTree}
 use Rattle.pliron_core.specs.Erased.{erased, IsSelfContained, IsSelfContainedBlock, StandsIn, IsBlockWithin, IsMadeInBlock}
 use Rattle.pliron_core.proofs.TreeLemmas.{live-within, block-within}
@@ -12,12 +12,12 @@ use Rattle.pliron_core.proofs.NeighbourLemmas.{last_of-In}
 use Rattle.pliron_core.proofs.WithinLemmas.{within_is, is_within}
 use Rattle.pliron_core.proofs.EdgeLemmas.{operand-user, successor-user}
 use Rattle.pliron_core.proofs.ClearedLemmas.{met_above}
-use Rattle.pliron_core.proofs.HoldingLemmas.{some_is, not_none, some_of, in_slice, slice_in, holder_by, maker_is, block_held}
+use Rattle.pliron_core.proofs.HoldingLemmas.{some_is, not_none, some_of, in_slice, slice_in, holder_by, block_held}
 use Rattle.pliron_laws.specs.Datum.{Head, Shape, Meaning}
 use Rattle.pliron_laws.specs.Laws.{ForwardsOperands}
 use Rattle.pliron_laws.specs.Tree.{shape_of, count_arguments, entry_block}
 use Rattle.pliron_laws.specs.Answers.{HeadPasses}
-use Rattle.pliron_laws.specs.Linked.{EdgesLast, IsAdmitted, IsWellLinked}
+use Rattle.pliron_laws.specs.Linked.{IsAdmitted, IsWellLinked}
 use Rattle.pliron_laws.proofs.Records.{operation_of, make_op}
 use Rattle.pliron_laws.proofs.ConstantLemmas.{insideless, blockless}
 use Rattle.pliron_theory.specs.Sweeping.{IsSwept}
@@ -26,7 +26,7 @@ use Rattle.pliron_theory.proofs.ErasedKeeps.{op_erased, block_erased_with, erase
 use Rattle.pliron_theory.proofs.SweptKeeps.{admitted_shape}
 use Rattle.pliron_blocks.specs.Forwarding.{LeadsAlone}
 use Rattle.pliron_blocks.specs.Joining.{JoinsWell}
-use Rattle.pliron_blocks.specs.Pairs.{IsMergeable, all_moved_last, joined}
+use Rattle.pliron_blocks.specs.Pairs.{all_moved_last, joined}
 use Rattle.pliron_blocks.proofs.PairEdges.{leads_alone}
 use Rattle.pliron_blocks.proofs.JoinedPairs.{joining}
 use Rattle.pliron_blocks.proofs.MovedBodies.{IsMoving, all_moved}

@@ -1,6 +1,6 @@
 -- What a merge leaves.
-use Rattle.std.proofs.Common.{◌≡◌, ◌≢◌, ℕ, ◌<◌, Bool, List, length, Some, None, is_some, refl, sym, ap, ◌∙◌, subst, arith}
-use Rattle.pliron_core.specs.Tree.{Tree, In, without, IsLive, IsBlock, IsRegion, last_of, head_of, layout_of, arguments_of, parent_of, body_of, block_parent_of, block_holder_of, region_parent_of}
+use Rattle.std.proofs.Common.{◌≡◌, ◌≢◌, ℕ, ◌<◌, Bool, List, length, Some, is_some, refl, sym, ap, ◌∙◌, subst, arith}
+use Rattle.pliron_core.specs.Tree.{Tree, In, without, IsLive, IsBlock, IsRegion, head_of, layout_of, arguments_of, body_of, block_parent_of, block_holder_of, region_parent_of}
 use Rattle.pliron_core.specs.Joined.{IsTree}
 use Rattle.pliron_core.proofs.NeighbourLemmas.{last_of-In}
 use Rattle.pliron_core.proofs.HoldingLemmas.{some_is, not_none, some_of, block_held}

@@ -1,9 +1,8 @@
 -- Blocks whose pairs are due, before and after merges.
-use Rattle.std.proofs.Common.{◌≡◌, ◌≢◌, ◌⊎◌, inl, inr, ⊎_elim, ℕ, Bool, true, IsTrue, List, [], ◌∷◌, length, take, Some, None, is_some, refl, sym, ap, ◌∙◌, subst}
-use Rattle.pliron_core.specs.Tree.{Tree, In, IsLive, IsBlock, IsInside, IsInside.Directly, IsInside.Deeper, IsWithin, head_of, last_of, regions_of, arguments_of, parent_of, body_of, block_parent_of, block_holder_of, layout_of}
+use Rattle.std.proofs.Common.{◌≡◌, ◌≢◌, inl, inr, ℕ, Bool, true, List, Some, is_some, sym, ap, ◌∙◌, subst}
+use Rattle.pliron_core.specs.Tree.{Tree, IsLive, IsBlock, IsInside, IsInside.Directly, IsInside.Deeper, IsWithin, arguments_of, block_parent_of, block_holder_of}
 use Rattle.pliron_core.specs.Joined.{IsTree}
-use Rattle.pliron_core.specs.Reads.{has_ssa}
-use Rattle.pliron_core.specs.Changes.{IsInsideChange, IsOutside}
+use Rattle.pliron_core.specs.Changes.{IsInsideChange}
 use Rattle.pliron_core.proofs.HoldingLemmas.{some_is, not_none, some_of, outside_itself}
 use Rattle.pliron_core.proofs.WithinLemmas.{block_holder_from}
 use Rattle.pliron_core.proofs.InsideLemmas.{widen}
@@ -12,11 +11,9 @@ use Rattle.pliron_laws.specs.Laws.{ForwardsOperands}
 use Rattle.pliron_laws.specs.Linked.{EdgesLast, IsWellLinked}
 use Rattle.pliron_theory.specs.Change.{IsPassChange}
 use Rattle.pliron_theory.specs.Splicing.{IsSpliced}
-use Rattle.pliron_theory.proofs.ChangeLemmas.{linked_inside, change_trans, change_refl}
-use Rattle.pliron_theory.proofs.Keeping.{keeps_trans}
+use Rattle.pliron_theory.proofs.ChangeLemmas.{linked_inside}
 use Rattle.pliron_visits.specs.Visited.{Start, IsReachedIn, IsVisited, IsSearched}
 use Rattle.pliron_blocks.specs.Joining.{JoinsWell}
-use Rattle.pliron_blocks.specs.Links.{KeepsLinks}
 use Rattle.pliron_blocks.specs.Pairs.{IsMergeable, forwarded_uses, merged}
 use Rattle.pliron_blocks.proofs.JoinedLinks.{joined_inside}
 use Rattle.pliron_merging.specs.Merged.{IsDue}

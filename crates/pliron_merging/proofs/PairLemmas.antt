@@ -1,28 +1,28 @@
 -- When two blocks are a pair.
-use Rattle.std.proofs.Common.{◌≡◌, ◌≢◌, ◌⊎◌, inl, inr, ℕ, zero, suc, ◌<◌, Bool, true, false, not, IsTrue, List, [], ◌∷◌, length, map, Option, Some, None, IsSome, is_some, slice_get, refl, sym, ap, ◌∙◌, subst, arith}
+use Rattle.std.proofs.Common.{◌≡◌, ◌≢◌, inl, inr, ℕ, zero, suc, Bool, true, false, not, IsTrue, List, [], ◌∷◌, length, map, Option, Some, None, IsSome, is_some, slice_get, refl, sym, ap, ◌∙◌, subst, arith}
 use Rattle.std.proofs.lemmas.Bool.{false≢true}
 use Rattle.pliron_core.specs.declared.context.Def.{Def}
 use Rattle.pliron_core.specs.declared.context.Def.TheVariants.{Argument, Result}
 use Rattle.pliron_core.specs.declared.uses.Use.{Use}
-use Rattle.pliron_core.specs.Tree.{Tree, View, In, first_of, last_of, IsBlock, IsDefined, IsMadeBy, IsInside.Directly, HoldsBlock, uses_of, successors_of, operands_of, parent_of, body_of, arguments_of, block_parent_of, block_holder_of, region_parent_of, layout_of, definition_of, head_of, up_from}
+use Rattle.pliron_core.specs.Tree.{Tree, View, In, first_of, last_of, IsBlock, IsDefined, IsMadeBy, IsInside.Directly, uses_of, successors_of, operands_of, body_of, arguments_of, block_parent_of, block_holder_of, region_parent_of, layout_of, definition_of, head_of, up_from}
 use Rattle.pliron_core.specs.Joined.{IsTree, HaveUses}
 use Rattle.pliron_core.specs.Reads.{prev_block_of}
 use Rattle.pliron_core.specs.Lists.{prev_in}
-use Rattle.pliron_core.specs.Edges.{succs_of, succs_from, preds_of}
-use Rattle.pliron_core.specs.EdgeUses.{IsSource, IsFirstEdge, IsEdge}
+use Rattle.pliron_core.specs.Edges.{succs_from, preds_of}
+use Rattle.pliron_core.specs.EdgeUses.{IsSource, IsEdge}
 use Rattle.pliron_core.proofs.NeighbourLemmas.{first_of-In, last_of-In, first_of-prev_in, prev_in-head}
-use Rattle.pliron_core.proofs.EdgeLemmas.{pred-source, source-pred, preds-distinct, pred-edge, edge-one}
+use Rattle.pliron_core.proofs.EdgeLemmas.{source-pred, preds-distinct, pred-edge, edge-one}
 use Rattle.pliron_core.proofs.FilterLemmas.{one_all}
 use Rattle.pliron_core.proofs.HoldingLemmas.{some_is, not_none, some_of, in_slice, slice_in, block_held, holder_by, maker_is}
 use Rattle.pliron_laws.specs.Datum.{Meaning}
-use Rattle.pliron_laws.specs.Tree.{op_at, shape_of}
+use Rattle.pliron_laws.specs.Tree.{shape_of}
 use Rattle.pliron_laws.specs.Acting.{pick}
 use Rattle.pliron_laws.specs.Answers.{AreForwarded}
 use Rattle.pliron_laws.specs.Linked.{EdgesLast, EndsBlock}
 use Rattle.pliron_laws.proofs.Records.{operation_of, make_op}
 use Rattle.pliron_blocks.proofs.ListLemmas.{in_one}
 use Rattle.pliron_blocks.specs.Pairs.{IsMergeable}
-use Rattle.pliron_merging.specs.Steps.{IsOnlyWay, AllDefined}
+use Rattle.pliron_merging.specs.Steps.{IsOnlyWay}
 
 -- a block with none before it is the first of its region, and the other way round
 pub entry_is : (t : Tree) → IsTree t → (block : ℕ) → IsBlock t block → prev_block_of t block ≡ None → (r : ℕ) × (first_of (layout_of t r) None ≡ Some block)

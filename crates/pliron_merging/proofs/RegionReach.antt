@@ -1,19 +1,19 @@
 -- Reach in a region, by paths of the graph and by paths of the tree.
-use Rattle.std.proofs.Common.{◌≡◌, ◌≢◌, inl, inr, ℕ, Bool, true, false, IsTrue, List, [], ◌∷◌, ◌++◌, Option, Some, None, IsSome, Contains, slice_get, refl, sym, ap, ◌∙◌, subst}
-use Rattle.pliron_core.specs.Tree.{Tree, In, first_of, last_of, without, IsLive, IsRegion, IsInside, IsWithin, head_of, regions_of, parent_of, body_of, block_parent_of, block_holder_of, region_parent_of, layout_of, holder_of}
+use Rattle.std.proofs.Common.{◌≡◌, inl, inr, ℕ, Bool, true, false, List, [], ◌∷◌, ◌++◌, Option, Some, None, Contains, refl, sym, ap, ◌∙◌, subst}
+use Rattle.pliron_core.specs.Tree.{Tree, In, first_of, last_of, IsLive, IsRegion, IsWithin, regions_of, parent_of, body_of, block_parent_of, region_parent_of, layout_of}
 use Rattle.pliron_core.specs.Joined.{IsTree}
 use Rattle.pliron_core.specs.Edges.{succs_of, succs_from}
 use Rattle.pliron_core.specs.Reads.{has_ssa}
 use Rattle.pliron_core.specs.Changes.{IsInsideChange}
 use Rattle.pliron_core.proofs.NeighbourLemmas.{first_of-In, last_of-In}
 use Rattle.pliron_core.proofs.WithinLemmas.{block_holder_from}
-use Rattle.pliron_core.proofs.HoldingLemmas.{some_is, not_none, slice_in, holder_by, inside_by, inside_or, region_parent_is, region_by}
+use Rattle.pliron_core.proofs.HoldingLemmas.{some_is, slice_in, holder_by, inside_by, inside_or, region_parent_is, region_by}
 use Rattle.pliron_laws.specs.Linked.{EdgesLast}
 use Rattle.pliron_laws.specs.Paths.{Path, Leads}
 use Rattle.pliron_search.specs.Digraph.{Reaches, IsPath}
 use Rattle.pliron_search.specs.Regions.{graph_of_region}
 use Rattle.pliron_search.specs.Internal.RegionLawful.{in_keys, keys_have}
-use Rattle.pliron_visits.specs.Visited.{IsReachedIn, IsEnteredIf, IsEntered, IsVisited, IsVisited.Starts, IsVisited.Nested, Start}
+use Rattle.pliron_visits.specs.Visited.{IsReachedIn, IsEnteredIf, IsEntered, IsVisited, IsVisited.Starts, IsVisited.Nested}
 use Rattle.pliron_blocks.specs.Reaching.{LeadsTo}
 
 -- the region stands, and what holds it is the root or inside it

@@ -1,25 +1,23 @@
 -- Which regions are visited and which blocks are reached, before and after two blocks were joined.
-use Rattle.std.proofs.Common.{◌≡◌, ◌≢◌, ◌⊎◌, inl, inr, ⊎_elim, ℕ, Bool, true, false, IsTrue, List, [], ◌∷◌, ◌++◌, Option, Some, None, IsSome, is_some, slice_get, refl, sym, ap, ◌∙◌, subst}
+use Rattle.std.proofs.Common.{◌≡◌, ◌≢◌, inl, ⊎_elim, ℕ, Bool, true, false, List, [], ◌∷◌, Option, Some, None, slice_get, refl, sym, ap, ◌∙◌, subst}
 use Rattle.std.proofs.lemmas.Bool.{cases_eq, false≢true}
 use Rattle.std.proofs.lemmas.Bool.Decides.{eqb_tells}
 use Rattle.std.proofs.Common.{if◌then◌else◌}
-use Rattle.pliron_core.specs.Tree.{Tree, In, first_of, last_of, without, IsLive, IsBlock, IsRegion, IsWithin, head_of, regions_of, successors_of, parent_of, body_of, block_parent_of, block_holder_of, region_parent_of, slot_of, layout_of, op_of_slot}
+use Rattle.pliron_core.specs.Tree.{Tree, In, first_of, last_of, without, IsLive, IsRegion, regions_of, parent_of, body_of, block_parent_of, block_holder_of, region_parent_of, slot_of, layout_of, op_of_slot}
 use Rattle.pliron_core.specs.Joined.{IsTree}
 use Rattle.pliron_core.specs.Edges.{succs_of, succs_from}
 use Rattle.pliron_core.specs.Reads.{has_ssa, has_ssa_at, ssa_in}
 use Rattle.pliron_core.specs.Changes.{IsInsideChange}
-use Rattle.pliron_core.proofs.NeighbourLemmas.{first_of-In, last_of-In}
+use Rattle.pliron_core.proofs.NeighbourLemmas.{last_of-In}
 use Rattle.pliron_core.proofs.RowLemmas.{last_of-append}
-use Rattle.pliron_core.proofs.HoldingLemmas.{some_is, not_none, slice_in, slot_is, region_by, region_live, in_slice, some_of}
+use Rattle.pliron_core.proofs.HoldingLemmas.{some_is, not_none, slot_is, region_by, region_live, in_slice}
 use Rattle.pliron_laws.specs.Linked.{EdgesLast}
-use Rattle.pliron_laws.specs.Paths.{Path, Leads}
+use Rattle.pliron_laws.specs.Paths.{Path}
 use Rattle.pliron_theory.specs.Splicing.{IsSpliced}
-use Rattle.pliron_search.specs.Digraph.{Reaches}
-use Rattle.pliron_search.specs.Regions.{graph_of_region}
 use Rattle.pliron_visits.specs.Visited.{IsReachedIn, IsEnteredIf, IsEntered, IsVisited, IsVisited.Starts, IsVisited.Nested}
 use Rattle.pliron_blocks.specs.Reaching.{LeadsTo, LeadsAlike}
 use Rattle.pliron_blocks.proofs.JoinedReach.{reaching}
-use Rattle.pliron_merging.proofs.RegionReach.{IsHeld, step_in, reaches_leads, reached_in, entered_in, entry_in, visited_held, reaches_more, leads_reaches, within_still}
+use Rattle.pliron_merging.proofs.RegionReach.{IsHeld, reaches_leads, reached_in, entry_in, visited_held, reaches_more, leads_reaches, within_still}
 
 -- operands are nothing to visits
 entered_same : (t : Tree) (operands : List (List ℕ)) (z : Bool) (r b : ℕ) → IsEnteredIf z t r b → IsEnteredIf z (record t { operands = operands }) r b

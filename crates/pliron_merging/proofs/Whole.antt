@@ -1,8 +1,8 @@
 -- From merges among the blocks that a search found to merges of pairs that are due.
-use Rattle.std.proofs.Common.{◌≡◌, ◌↔◌, ◌⊎◌, inl, inr, ℕ, Bool, true, IsTrue, List, [], ◌∷◌, take, Some, None, is_some, IfOk, OnErr, Result, Ok, Err, slice_get, refl, sym, ap, ◌∙◌, subst}
+use Rattle.std.proofs.Common.{◌≡◌, inl, inr, ℕ, Bool, List, take, Some, is_some, IfOk, OnErr, Result, Ok, Err, refl, sym, ap, ◌∙◌, subst}
 use Rattle.pliron_core.specs.declared.attrs.IRStatus.{IRStatus}
 use Rattle.pliron_core.specs.declared.attrs.IRStatus.TheVariants.{Changed, Unchanged}
-use Rattle.pliron_core.specs.Tree.{Tree, In, IsLive, IsBlock, IsRegion, IsWithin, regions_of, arguments_of, block_parent_of, block_holder_of, region_parent_of, slot_of}
+use Rattle.pliron_core.specs.Tree.{Tree, In, IsLive, IsBlock, IsRegion, regions_of, arguments_of, block_holder_of, region_parent_of}
 use Rattle.pliron_core.specs.Joined.{IsTree}
 use Rattle.pliron_core.specs.Changes.{IsInsideChange}
 use Rattle.pliron_core.proofs.HoldingLemmas.{some_is, slice_in, region_parent_is, region_by, outside_itself}
@@ -13,18 +13,18 @@ use Rattle.pliron_laws.specs.Laws.{ForwardsOperands}
 use Rattle.pliron_laws.specs.Linked.{IsWellLinked}
 use Rattle.pliron_theory.specs.Change.{IsPassChange}
 use Rattle.pliron_theory.proofs.ChangeLemmas.{linked_inside, change_trans, change_refl}
-use Rattle.pliron_visits.specs.Visited.{Start, OfOperation, OfRegion, IsReachedIn, IsVisited, IsSearched}
+use Rattle.pliron_visits.specs.Visited.{Start, OfOperation, OfRegion, IsVisited}
 use Rattle.pliron_visits.specs.Visits.{AreVisits}
 use Rattle.pliron_blocks.specs.Links.{KeepsLinks}
 use Rattle.pliron_blocks.specs.Pairs.{IsMergeable, forwarded_uses, merged}
-use Rattle.pliron_merging.specs.Merged.{IsDue, MergesSome, MergesSome.Nothing as NoneMerged, MergesSome.Then as OneMerged, HasPair, MergesAll, MergesPartly, IsHalfMerged}
+use Rattle.pliron_merging.specs.Merged.{MergesSome, MergesSome.Nothing as NoneMerged, MergesSome.Then as OneMerged, MergesAll, MergesPartly, IsHalfMerged}
 use Rattle.pliron_merging.specs.Chains.{MergesAmong, MergesAmong.Nothing, MergesAmong.Then, HasNoPairAmong, TellsMerged, IsHalfMergedAmong, MergesAmongPartly}
-use Rattle.pliron_merging.proofs.Forwarded.{IsForwarded, forwarded_first}
+use Rattle.pliron_merging.proofs.Forwarded.{forwarded_first}
 use Rattle.pliron_merging.proofs.MergedTrees.{first_held}
 use Rattle.pliron_merging.proofs.ChainLemmas.{AreLinked, chain}
 use Rattle.pliron_merging.proofs.RegionReach.{IsHeld, visited_held, reached_in}
 use Rattle.pliron_merging.proofs.VisitsKept.{spliced_regions}
-use Rattle.pliron_merging.proofs.Opens.{IsOpen, IsLasting, IsKept, due_of, kept}
+use Rattle.pliron_merging.proofs.Opens.{IsOpen, IsLasting, due_of, kept}
 
 -- a region of an operation is held by it
 pub own_region : (t : Tree) → IsTree t → (op r : ℕ) → In r (regions_of t op) → IsHeld t op r

@@ -1,9 +1,7 @@
-use Rattle.std.proofs.Common.{◌≡◌, sym, ap, ◌∙◌, subst, inl}
-use Rattle.pliron_laws.specs.Linked.{IsWellLinked}
+use Rattle.std.proofs.Common.{sym, ◌∙◌, subst, inl}
 use Rattle.pliron_theory.specs.Change.{IsPassChange}
 use Rattle.pliron_laws.proofs.FoldLemmas.{on_err}
 use Rattle.pliron_core.proofs.HoldingLemmas.{some_is, block_held}
-use Rattle.pliron_core.proofs.WithinLemmas.{region_has, region_parent_live}
 use Rattle.pliron_core.proofs.WithinLemmas.{block_holder_live}
 use Rattle.pliron_merging.proofs.BlockStarts.{block_lasts, block_starts}
 use Rattle.pliron_visits.specs.Visited.{OfBlock}

@@ -1,4 +1,4 @@
-use Rattle.std.proofs.Common.{◌≡◌, sym, subst, inl}
+use Rattle.std.proofs.Common.{sym, subst, inl}
 use Rattle.pliron_laws.proofs.FoldLemmas.{on_err}
 use Rattle.pliron_merging.specs.Merged.{MergesSome.Nothing}
 use Rattle.pliron_visits.specs.Visited.{OfOperation}

@@ -1,8 +1,7 @@
-use Rattle.std.proofs.Common.{◌≡◌, sym, ap, ◌∙◌, subst, inl}
-use Rattle.pliron_laws.specs.Linked.{IsWellLinked}
+use Rattle.std.proofs.Common.{sym, ◌∙◌, subst, inl}
 use Rattle.pliron_theory.specs.Change.{IsPassChange}
 use Rattle.pliron_laws.proofs.FoldLemmas.{on_err}
-use Rattle.pliron_core.proofs.HoldingLemmas.{some_is, block_held}
+use Rattle.pliron_core.proofs.HoldingLemmas.{some_is}
 use Rattle.pliron_core.proofs.WithinLemmas.{region_has, region_parent_live}
 use Rattle.pliron_merging.proofs.Whole.{region_lasts, region_starts}
 use Rattle.pliron_visits.specs.Visited.{OfRegion}

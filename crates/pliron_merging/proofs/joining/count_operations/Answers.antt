@@ -1,5 +1,5 @@
-use Rattle.std.proofs.Common.{◌≡◌, ◌+◌, ◌<◌, length, Some, sym, subst, ap, ◌∙◌, arith}
-use Rattle.pliron_core.specs.Tree.{In, body_of}
+use Rattle.std.proofs.Common.{◌≡◌, ◌+◌, ◌<◌, length, sym, subst, ◌∙◌, arith}
+use Rattle.pliron_core.specs.Tree.{body_of}
 use Rattle.pliron_core.specs.WalkSteps.{rest_from}
 use Rattle.pliron_core.proofs.NeighbourLemmas.{first_of-In, next_in-In}
 use Rattle.pliron_merging.proofs.JoinLemmas.{body_fits, first_rest, next_inside, rest_step}

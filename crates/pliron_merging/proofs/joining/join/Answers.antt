@@ -1,9 +1,9 @@
-use Rattle.std.proofs.Common.{◌≡◌, sym, subst, ap, ◌∙◌, IsSome}
-use Rattle.pliron_core.specs.Tree.{Tree, IsBlock, block_parent_of, body_of}
+use Rattle.std.proofs.Common.{◌≡◌, sym, subst, ap, ◌∙◌}
+use Rattle.pliron_core.specs.Tree.{Tree, IsBlock, block_parent_of}
 use Rattle.pliron_core.specs.Joined.{IsTree}
-use Rattle.pliron_core.specs.Erased.{erased, block_erased, IsSelfContainedBlock}
-use Rattle.pliron_blocks.specs.Pairs.{all_moved_last, joined}
-use Rattle.pliron_merging.proofs.Joinable.{contained, first_stands, second_stands, still_beside, moves_from, second_left, contained_block, joins}
+use Rattle.pliron_core.specs.Erased.{block_erased, IsSelfContainedBlock}
+use Rattle.pliron_blocks.specs.Pairs.{joined}
+use Rattle.pliron_merging.proofs.Joinable.{contained, first_stands, still_beside, moves_from, second_left, contained_block, joins}
 use Rattle.pliron_merging.proofs.joining.join.Goals as goal
 
 pub erase_operation-requires-clause-contained : goal.erase_operation-requires-clause-contained

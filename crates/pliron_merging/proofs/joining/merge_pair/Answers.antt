@@ -1,6 +1,5 @@
-use Rattle.std.proofs.Common.{◌≡◌, length, arith, sym, subst, ap, ◌∙◌, Some}
-use Rattle.pliron_core.specs.Tree.{Tree, In, arguments_of, operands_of, body_of, block_holder_of, parent_of}
-use Rattle.pliron_blocks.specs.Pairs.{forwarded_uses}
+use Rattle.std.proofs.Common.{arith, sym, subst}
+use Rattle.pliron_core.specs.Tree.{Tree}
 use Rattle.pliron_merging.specs.Steps.{IsReadyToJoin}
 use Rattle.pliron_merging.proofs.JoinLemmas.{moves_fit}
 use Rattle.pliron_merging.proofs.MergedTrees.{ready}

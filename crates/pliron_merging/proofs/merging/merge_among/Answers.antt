@@ -1,10 +1,10 @@
-use Rattle.std.proofs.Common.{◌≡◌, ◌∷◌, [], ℕ, List, sym, subst, ap, ◌∙◌, Some, refl, arith, suc, ◌+◌, ◌≤◌, length, take, false}
+use Rattle.std.proofs.Common.{◌≡◌, ◌∷◌, [], ℕ, List, sym, subst, ap, ◌∙◌, Some, refl, arith, suc, ◌+◌, ◌≤◌, length, take}
 use Rattle.std.proofs.lemmas.Option.{slice_get-get_or}
 use Rattle.std.proofs.lemmas.Bool.{false≢true}
-use Rattle.pliron_core.specs.Tree.{Tree, In}
+use Rattle.pliron_core.specs.Tree.{In}
 use Rattle.pliron_core.proofs.HoldingLemmas.{in_slice}
 use Rattle.pliron_laws.proofs.FoldLemmas.{on_err}
-use Rattle.pliron_merging.specs.Chains.{MergesAmong.Nothing, MergesAmong, TellsMerged, HasNoPairAmong}
+use Rattle.pliron_merging.specs.Chains.{MergesAmong.Nothing, HasNoPairAmong}
 use Rattle.pliron_merging.proofs.JoinLemmas.{take_all}
 use Rattle.pliron_merging.proofs.ChainLemmas.{IsDone, moved_to, done_dead, done_more, linked_there, half_among, one_in}
 use Rattle.pliron_merging.proofs.merging.merge_among.Goals as goal

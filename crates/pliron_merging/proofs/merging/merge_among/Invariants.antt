@@ -1,6 +1,4 @@
-use Rattle.std.proofs.Common.{◌≡◌, ℕ, take, Some}
-use Rattle.pliron_core.specs.Tree.{In, block_holder_of}
-use Rattle.pliron_laws.specs.Linked.{IsWellLinked}
+use Rattle.std.proofs.Common.{take}
 use Rattle.pliron_merging.specs.Chains.{MergesAmong, HasNoPairAmong, TellsMerged}
 use Rattle.pliron_merging.proofs.merging.merge_among.Given as goal
 

@@ -1,11 +1,8 @@
-use Rattle.std.proofs.Common.{◌≡◌, ◌∷◌, [], ℕ, List, sym, subst, refl, MatchOption}
-use Rattle.pliron_laws.specs.Datum.{Meaning}
-use Rattle.pliron_core.specs.Tree.{Tree}
+use Rattle.std.proofs.Common.{◌≡◌, ℕ, List, subst, refl, MatchOption}
 use Rattle.pliron_blocks.specs.Pairs.{IsMergeable}
 use Rattle.pliron_merging.specs.declared.pairs.Pair.{Pair}
 use Rattle.pliron_merging.specs.Chains.{MergesAmong.Nothing}
-use Rattle.pliron_merging.proofs.ChainLemmas.{IsStep, step_at, linked_one}
-use Rattle.pliron_merging.proofs.merging.merge_at.Given.{Over}
+use Rattle.pliron_merging.proofs.ChainLemmas.{step_at, linked_one}
 use Rattle.pliron_merging.proofs.merging.merge_at.Goals as goal
 
 pub loop-pair-init : goal.loop-pair-init

@@ -1,6 +1,6 @@
-use Rattle.std.proofs.Common.{◌≡◌, ◌∷◌, [], length, sym, ap, ◌∙◌, subst, arith, refl}
+use Rattle.std.proofs.Common.{sym, ◌∙◌, subst, refl}
 use Rattle.std.proofs.lemmas.Bool.{false≢true}
-use Rattle.pliron_core.specs.Tree.{In, arguments_of}
+use Rattle.pliron_core.specs.Tree.{In}
 use Rattle.pliron_merging.proofs.PairLemmas.{values_defined, not_by_count, not_by_argument, pair_of}
 use Rattle.pliron_merging.proofs.pairs.find_pair.Goals as goal
 use Rattle.pliron_merging.proofs.pairs.find_pair.Goals.{then-len-num_argument-via-then-len-num_argument, then-len-num_argument-via-else-len-num_argument+then-has_argument}

@@ -1,12 +1,12 @@
-use Rattle.std.proofs.Common.{◌≡◌, ◌∷◌, [], length, sym, ap, ◌∙◌, subst, arith, refl, Some, slice_get}
+use Rattle.std.proofs.Common.{sym, ap, ◌∙◌, subst, arith, refl, Some}
 use Rattle.std.proofs.lemmas.Option.{slice_get-get_or}
 use Rattle.std.proofs.lemmas.Bool.{false≢true}
-use Rattle.pliron_core.proofs.HoldingLemmas.{in_slice, some_is}
+use Rattle.pliron_core.proofs.HoldingLemmas.{in_slice}
 use Rattle.pliron_core.proofs.EdgeLemmas.{same_key}
 use Rattle.pliron_core.proofs.NextLemmas.{keys_differ}
 use Rattle.pliron_core.proofs.ContainedLemmas.{passed-more, passed-all}
 use Rattle.pliron_core.specs.Tree.{In, arguments_of}
-use Rattle.pliron_merging.proofs.PairLemmas.{argument_told, other_argument, no_argument, another_maker}
+use Rattle.pliron_merging.proofs.PairLemmas.{argument_told, other_argument, another_maker}
 use Rattle.pliron_merging.proofs.pairs.has_argument.Goals as goal
 use Rattle.pliron_merging.proofs.pairs.has_argument.Goals.{in-Argument+else-eq, in_default}
 

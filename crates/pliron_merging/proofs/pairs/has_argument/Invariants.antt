@@ -1,4 +1,4 @@
-use Rattle.std.proofs.Common.{◌≡◌, ℕ}
+use Rattle.std.proofs.Common.{ℕ}
 use Rattle.pliron_core.specs.Tree.{In, arguments_of}
 use Rattle.pliron_core.proofs.ContainedLemmas.{ArePassed}
 use Rattle.pliron_merging.proofs.pairs.has_argument.Given as goal

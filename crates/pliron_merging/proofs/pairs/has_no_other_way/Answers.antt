@@ -1,4 +1,4 @@
-use Rattle.std.proofs.Common.{◌≡◌, sym, ◌∙◌, eq-eqb}
+use Rattle.std.proofs.Common.{sym, ◌∙◌, eq-eqb}
 use Rattle.std.proofs.lemmas.Bool.{eqb-true}
 use Rattle.pliron_merging.proofs.PairLemmas.{use_is_one, pred_is_one}
 use Rattle.pliron_merging.proofs.pairs.has_no_other_way.Goals as goal

@@ -1,4 +1,4 @@
-use Rattle.std.proofs.Common.{◌≡◌, sym, ◌∙◌}
+use Rattle.std.proofs.Common.{sym, ◌∙◌}
 use Rattle.pliron_merging.proofs.PairLemmas.{entry_is, entry_has, none_by, none_so}
 use Rattle.pliron_merging.proofs.pairs.is_entry.Goals as goal
 

@@ -1,7 +1,6 @@
-use Rattle.std.proofs.Common.{◌≡◌, ◌∷◌, [], length, sym, ap, ◌∙◌, subst, arith, refl, false, true, true≢false}
+use Rattle.std.proofs.Common.{length, sym, ap, ◌∙◌}
 use Rattle.std.proofs.lemmas.Bool.{false≢true}
 use Rattle.pliron_core.specs.Edges.{succs_from}
-use Rattle.pliron_core.proofs.HoldingLemmas.{some_of}
 use Rattle.pliron_core.proofs.NextLemmas.{keys_differ}
 use Rattle.pliron_merging.proofs.PairLemmas.{one_item, way_jump, second_beside, same_holder_beside, not_branch}
 use Rattle.pliron_merging.proofs.pairs.only_way.Goals as goal
