@@ -1,9 +1,10 @@
 -- Blocks whose pairs are due, before and after merges.
-use Rattle.std.proofs.Common.{◌≡◌, ◌≢◌, inl, inr, ℕ, Bool, true, List, Some, is_some, sym, ap, ◌∙◌, subst}
-use Rattle.pliron_core.specs.Tree.{Tree, IsLive, IsBlock, IsInside, IsInside.Directly, IsInside.Deeper, IsWithin, arguments_of, block_parent_of, block_holder_of}
+use Rattle.std.proofs.Common.{◌≡◌, ◌≢◌, inl, inr, ℕ, Bool, true, List, [], ◌∷◌, Some, None, is_some, refl, sym, ap, ◌∙◌, subst}
+use Rattle.pliron_core.specs.Tree.{Tree, In, head_of, IsLive, IsBlock, IsInside, IsInside.Directly, IsInside.Deeper, IsWithin, arguments_of, block_parent_of, block_holder_of}
 use Rattle.pliron_core.specs.Joined.{IsTree}
 use Rattle.pliron_core.specs.Changes.{IsInsideChange}
 use Rattle.pliron_core.proofs.HoldingLemmas.{some_is, not_none, some_of, outside_itself}
+use Rattle.pliron_core.proofs.ListLemmas.{In-right}
 use Rattle.pliron_core.proofs.WithinLemmas.{block_holder_from}
 use Rattle.pliron_core.proofs.InsideLemmas.{widen}
 use Rattle.pliron_laws.specs.Datum.{Head, Shape, Meaning}
@@ -12,7 +13,7 @@ use Rattle.pliron_laws.specs.Linked.{EdgesLast, IsWellLinked}
 use Rattle.pliron_theory.specs.Change.{IsPassChange}
 use Rattle.pliron_theory.specs.Splicing.{IsSpliced}
 use Rattle.pliron_theory.proofs.ChangeLemmas.{linked_inside}
-use Rattle.pliron_visits.specs.Visited.{Start, IsReachedIn, IsVisited, IsSearched}
+use Rattle.pliron_visits.specs.Visited.{Start, IsReachedIn, IsVisited, IsSearched, IsUnreachable}
 use Rattle.pliron_blocks.specs.Joining.{JoinsWell}
 use Rattle.pliron_blocks.specs.Pairs.{IsMergeable, forwarded_uses, merged}
 use Rattle.pliron_blocks.proofs.JoinedLinks.{joined_inside}
@@ -52,6 +53,8 @@ pub record IsKept (m : Meaning) (start : Start) (t v : Tree) (root : ℕ) : Type
   pub forth : (c : ℕ) → IsOpen start t c → IsBlock v c → IsOpen start v c
   pub back : (c : ℕ) → IsOpen start v c → IsOpen start t c
   pub were : (c : ℕ) → IsBlock v c → IsBlock t c
+  pub cut : (c : ℕ) → IsUnreachable start v c → IsUnreachable start t c
+  pub lives : (k : ℕ) → IsLive v k → IsLive t k
   pub change : IsPassChange m t v root
 
 module _ (m : Meaning) (can_fold : Head → Bool) (SameTests : Head → Head → Type 0) (shortened : Shape → ℕ → ℕ → Head) (law : ForwardsOperands m can_fold SameTests shortened) (start : Start) (root : ℕ) (lasting : IsLasting start root) where
@@ -129,6 +132,13 @@ module _ (m : Meaning) (can_fold : Head → Bool) (SameTests : Head → Head →
     held_u : (r : ℕ) → IsVisited u (start u) r → IsHeld u root r
     held_u = visited_held u wu root linked_u.edges (start u) starts_u
 
+    -- the jump goes
+    pub jump_gone : head_of v jump ≡ None
+    jump_gone = s.gone
+
+    pub jump_live : IsLive t jump
+    jump_live = (wu.joined.standing jump a (wu.bodies.owned jump a (subst (In jump) (sym s.split) (In-right jump well.front (jump ∷ []) (inl refl))))).0
+
     root_stands : IsLive v root
     root_stands = (o_inside.operations root (outside_itself w.joined.rooted live)).0.0
       where
@@ -159,5 +169,14 @@ module _ (m : Meaning) (can_fold : Head → Bool) (SameTests : Head → Head →
             reached = reached_back u v wu wv root holds.holder a b jump well.front s linked_u.edges linked_v.edges near_u.edges held inside x.region c hx x.reached;
           };
       were = λ c is. let ne : c ≢ b = λ e. let y = some_of (block_parent_of v c) is in not_none (sym s.gone_block ∙ ap (block_parent_of v) (sym e) ∙ y.1) in subst (λ z. is_some z ≡ true) (s.block_parents c ne) is;
+      cut = λ c x.
+          let vis = visited_back u v wu wv root holds.holder a b jump well.front s linked_u.edges linked_v.edges near_u.edges held inside opened.region opened.in_region opened.searched.1 (start u) (start v) starts_u fewer x.0 x.1.0 in
+          let hx = held_u x.0 vis in
+          let ne : c ≢ b = λ e. not_none (sym s.gone_block ∙ ap (block_parent_of v) (sym e) ∙ x.2.0) in (
+            x.0,
+            (visited_t x.0 vis, sym (ssa_same u v wu wv root holds.holder a b jump well.front s linked_u.edges linked_v.edges near_u.edges held inside x.0 hx) ∙ x.1.1),
+            (sym (s.block_parents c ne) ∙ x.2.0, λ reached. x.2.1 (reached_forth u v wu wv root holds.holder a b jump well.front s linked_u.edges linked_v.edges near_u.edges held inside x.0 c hx ne reached)),
+          );
+      lives = λ k is. let ne : k ≢ jump = λ e. let y = some_of (head_of v k) is in not_none (sym s.gone ∙ ap (head_of v) (sym e) ∙ y.1) in subst (λ z. is_some z.head ≡ true) (s.rows k ne) is;
       change = record { stands = root_stands; linked = linked_v; inside = wide t v w holds.within (o.inside holds.holder held); runs = o.runs };
     }

@@ -1,8 +1,8 @@
 -- From merges among the blocks that a search found to merges of pairs that are due.
-use Rattle.std.proofs.Common.{◌≡◌, inl, inr, ℕ, Bool, List, take, Some, is_some, IfOk, OnErr, Result, Ok, Err, refl, sym, ap, ◌∙◌, subst}
+use Rattle.std.proofs.Common.{◌≡◌, ◌⊎◌, ⊎_elim, inl, inr, ℕ, Bool, List, take, Some, None, is_some, IfOk, OnOk, OnErr, Result, Ok, Err, refl, sym, ap, ◌∙◌, subst}
 use Rattle.pliron_core.specs.declared.attrs.IRStatus.{IRStatus}
 use Rattle.pliron_core.specs.declared.attrs.IRStatus.TheVariants.{Changed, Unchanged}
-use Rattle.pliron_core.specs.Tree.{Tree, In, IsLive, IsBlock, IsRegion, regions_of, arguments_of, block_holder_of, region_parent_of}
+use Rattle.pliron_core.specs.Tree.{Tree, In, head_of, IsLive, IsBlock, IsRegion, regions_of, arguments_of, block_holder_of, region_parent_of}
 use Rattle.pliron_core.specs.Joined.{IsTree}
 use Rattle.pliron_core.specs.Changes.{IsInsideChange}
 use Rattle.pliron_core.proofs.HoldingLemmas.{some_is, slice_in, region_parent_is, region_by, outside_itself}
@@ -13,18 +13,18 @@ use Rattle.pliron_laws.specs.Laws.{ForwardsOperands}
 use Rattle.pliron_laws.specs.Linked.{IsWellLinked}
 use Rattle.pliron_theory.specs.Change.{IsPassChange}
 use Rattle.pliron_theory.proofs.ChangeLemmas.{linked_inside, change_trans, change_refl}
-use Rattle.pliron_visits.specs.Visited.{Start, OfOperation, OfRegion, IsVisited}
+use Rattle.pliron_visits.specs.Visited.{Start, OfOperation, OfRegion, IsVisited, IsUnreachable}
 use Rattle.pliron_visits.specs.Visits.{AreVisits}
 use Rattle.pliron_blocks.specs.Links.{KeepsLinks}
 use Rattle.pliron_blocks.specs.Pairs.{IsMergeable, forwarded_uses, merged}
-use Rattle.pliron_merging.specs.Merged.{MergesSome, MergesSome.Nothing as NoneMerged, MergesSome.Then as OneMerged, MergesAll, MergesPartly, IsHalfMerged}
+use Rattle.pliron_merging.specs.Merged.{MergesSome, MergesSome.Nothing as NoneMerged, MergesSome.Then as OneMerged, MergesAll, MergesPartly, IsHalfMerged, LosesOperation}
 use Rattle.pliron_merging.specs.Chains.{MergesAmong, MergesAmong.Nothing, MergesAmong.Then, HasNoPairAmong, TellsMerged, IsHalfMergedAmong, MergesAmongPartly}
 use Rattle.pliron_merging.proofs.Forwarded.{forwarded_first}
 use Rattle.pliron_merging.proofs.MergedTrees.{first_held}
 use Rattle.pliron_merging.proofs.ChainLemmas.{AreLinked, chain}
 use Rattle.pliron_merging.proofs.RegionReach.{IsHeld, visited_held, reached_in}
 use Rattle.pliron_merging.proofs.VisitsKept.{spliced_regions}
-use Rattle.pliron_merging.proofs.Opens.{IsOpen, IsLasting, due_of, kept}
+use Rattle.pliron_merging.proofs.Opens.{IsOpen, IsLasting, due_of, kept, jump_live, jump_gone}
 
 -- a region of an operation is held by it
 pub own_region : (t : Tree) → IsTree t → (op r : ℕ) → In r (regions_of t op) → IsHeld t op r
@@ -74,10 +74,14 @@ module _ (m : Meaning) (can_fold : Head → Bool) (SameTests : Head → Head →
     begins : (r : ℕ) → start u r → IsHeld u root r
     forth : (c : ℕ) → In c blocks → IsBlock u c → IsOpen start u c
     back : (c : ℕ) → IsOpen start u c → In c blocks
+    cut : (c : ℕ) → IsUnreachable start u c → IsUnreachable start t c
+    were : (c : ℕ) → IsBlock u c → IsBlock t c
+    lives : (k : ℕ) → IsLive u k → IsLive t k
+    went : (u ≡ t) ⊎ ((k : ℕ) × IsLive t k × (head_of u k ≡ None))
     change : IsPassChange m t u root
 
   whole : (u : Tree) → MergesAmong m blocks t u → IsWhole u
-  whole u Nothing = record { tree = w; some = NoneMerged; begins = starts; forth = λ c i is. open_of c i; back = listed_of; change = change_refl m t root live linked }
+  whole u Nothing = record { tree = w; some = NoneMerged; begins = starts; forth = λ c i is. open_of c i; back = listed_of; cut = λ c x. x; were = λ c is. is; lives = λ k l. l; went = inl refl; change = change_refl m t root live linked }
   whole u (Then {u = x} a b jump values before listed pair tree well) =
       let r = whole x before in
       let opened = r.forth a listed (ap is_some (first_held m x r.tree a b jump values pair).2) in
@@ -88,8 +92,24 @@ module _ (m : Meaning) (can_fold : Head → Bool) (SameTests : Head → Head →
         begins = k.starts;
         forth = λ c i is. k.forth c (r.forth c i (k.were c is)) is;
         back = λ c o. r.back c (k.back c o);
+        cut = λ c y. r.cut c (k.cut c y);
+        were = λ c is. r.were c (k.were c is);
+        lives = λ j l. r.lives j (k.lives j l);
+        went = inr (jump, r.lives jump (jump_live m can_fold SameTests shortened law start root lasting x a b jump values r.tree r.change.stands r.change.linked r.begins opened pair well tree), jump_gone m can_fold SameTests shortened law start root lasting x a b jump values r.tree r.change.stands r.change.linked r.begins opened pair well tree);
         change = change_trans m t x (merged x a b jump values) root r.change k.change;
       }
+
+  -- no unreachable block and no block is new
+  pub none_new : (u : Tree) → MergesAmong m blocks t u → (c : ℕ) → IsUnreachable start u c → IsUnreachable start t c
+  none_new u way = (whole u way).cut
+
+  pub no_block_new : (u : Tree) → MergesAmong m blocks t u → (c : ℕ) → IsBlock u c → IsBlock t c
+  no_block_new u way = (whole u way).were
+
+  -- where there was a pair, a branch went
+  pub branch_went : (u : Tree) (s : IRStatus) → MergesAmong m blocks t u × HasNoPairAmong m blocks u × TellsMerged m blocks t u s → LosesOperation s t u
+  branch_went u Unchanged x = tt
+  branch_went u Changed (way, none, tells) = ⊎_elim (λ same. absurd (none tells.0 tells.1 tells.2 tells.3 tells.4 (subst (λ (z : Tree). IsMergeable m z tells.0 tells.1 tells.2 tells.3) (sym same) tells.5))) (λ y. y) (whole u way).went
 
   -- one pair more, in part
   half : (u v : Tree) → MergesAmong m blocks t u → IsHalfMergedAmong m blocks u v → IsHalfMerged start m u v × IsPassChange m t v root × KeepsLinks m u v
@@ -126,6 +146,10 @@ module _ (m : Meaning) (can_fold : Head → Bool) (SameTests : Head → Head →
 pub either_way : {E : Type 0} (m : Meaning) (blocks : List ℕ) (t v : Tree) (r : Result IRStatus E) → IfOk r (λ s. MergesAmong m blocks t v × HasNoPairAmong m blocks v × TellsMerged m blocks t v s) → OnErr r (MergesAmongPartly m blocks t v) → MergesAmongPartly m blocks t v
 either_way m blocks t v (Ok s) x y = inl x.0
 either_way m blocks t v (Err e) x y = y
+
+pub ok_whole : {A E : Type 0} {Q : Type 0} (r : Result A E) (P : A → Type 0) → ((a : A) → P a → Q) → IfOk r P → OnOk r Q
+ok_whole (Ok a) P f x = f a x
+ok_whole (Err e) P f x = tt
 
 pub err_weaker : {A E : Type 0} (r : Result A E) {P Q : Type 0} → (P → Q) → OnErr r P → OnErr r Q
 err_weaker (Ok a) f x = tt

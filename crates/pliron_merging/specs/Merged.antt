@@ -1,8 +1,8 @@
 -- Trees in which blocks were merged.
-use Rattle.std.specs.Prelude.{◌≡◌, ◌⊎◌, ℕ, List, Some, take}
+use Rattle.std.specs.Prelude.{◌≡◌, ◌⊎◌, ℕ, List, Some, None, take}
 use Rattle.pliron_core.specs.declared.attrs.IRStatus.{IRStatus}
 use Rattle.pliron_core.specs.declared.attrs.IRStatus.TheVariants.{Changed, Unchanged}
-use Rattle.pliron_core.specs.Tree.{Tree, arguments_of, block_parent_of}
+use Rattle.pliron_core.specs.Tree.{Tree, IsLive, head_of, arguments_of, block_parent_of}
 use Rattle.pliron_laws.specs.Datum.{Meaning}
 use Rattle.pliron_blocks.specs.Pairs.{IsMergeable, forwarded_uses, merged}
 use Rattle.pliron_visits.specs.Visited.{Start, IsSearched, IsReachedIn}
@@ -28,6 +28,11 @@ HasPair start m t = (a b jump : ℕ) × (values : List ℕ) × IsDue start m t a
 abbrev pub MergesAll : Start → Meaning → (t t' : Tree) → IRStatus → Type 0
 MergesAll start m t t' Changed = HasPair start m t × MergesSome start m t t' × (HasPair start m t' → ⊥)
 MergesAll start m t t' Unchanged = (t' ≡ t) × (HasPair start m t → ⊥)
+
+-- `Changed` says that an operation went
+abbrev pub LosesOperation : IRStatus → (t t' : Tree) → Type 0
+LosesOperation Changed t t' = (k : ℕ) × IsLive t k × (head_of t' k ≡ None)
+LosesOperation Unchanged t t' = Unit {0}
 
 -- the uses of the first n arguments of one pair's second block were replaced
 pub record IsHalfMerged (start : Start) (m : Meaning) (u t' : Tree) : Type 0 where

@@ -5,14 +5,14 @@
 //! operations of the second block become the last of the first one.
 #![tactic(auto)]
 
-ghost use Rattle.std.specs.Prelude.{◌≡◌, ℕ, Some, IfOk, OnErr, IfErr};
+ghost use Rattle.std.specs.Prelude.{◌≡◌, ℕ, Some, IfOk, OnOk, OnErr, IfErr};
 ghost use Rattle.pliron_core.specs.Tree.{IsBlock, IsLive, IsRegion, block_holder_of, region_parent_of};
 ghost use Rattle.pliron_laws.specs.declared.fault.OptError.TheVariants.{Memory};
 ghost use Rattle.pliron_laws.specs.Linked.{IsWellLinked};
 ghost use Rattle.pliron_theory.specs.Change.{IsPassChange};
 ghost use Rattle.pliron_blocks.specs.Links.{KeepsLinks};
-ghost use Rattle.pliron_visits.specs.Visited.{OfBlock, OfOperation, OfRegion};
-ghost use Rattle.pliron_merging.specs.Merged.{MergesAll, MergesPartly};
+ghost use Rattle.pliron_visits.specs.Visited.{IsUnreachable, OfBlock, OfOperation, OfRegion};
+ghost use Rattle.pliron_merging.specs.Merged.{LosesOperation, MergesAll, MergesPartly};
 
 mod joining;
 mod merging;
@@ -33,7 +33,8 @@ use std::alloc::Global;
 /// other predecessor, where the branch forwards a value for each argument of that block, none of them one
 /// of these arguments.
 ///
-/// Asks that the operation stands and is well linked. Answers `Changed` exactly if there was a pair.
+/// Asks that the operation stands and is well linked. Answers `Changed` exactly if there was a pair. No block
+/// is made, and each that is unreachable after was unreachable before.
 ///
 /// Errors: want of memory. Some pairs are merged then, and of one more the uses of some first arguments may
 /// name the values forwarded to them.
@@ -50,6 +51,9 @@ pub fn merge_inside_op<D: Dialect, R: Rewriter + Room>(
     requires live { IsLive ctx.old.tree op }
     requires linked { IsWellLinked D.meaning ctx.old.tree op }
     ensures ok { IfOk result (λ status. MergesAll (OfOperation op) D.meaning ctx.old.tree ctx.new.tree status) }
+    ensures told { IfOk result (λ status. LosesOperation status ctx.old.tree ctx.new.tree) }
+    ensures unreachable { OnOk result ((b : ℕ) → IsUnreachable (OfOperation op) ctx.new.tree b → IsUnreachable (OfOperation op) ctx.old.tree b) }
+    ensures blocks { OnOk result ((b : ℕ) → IsBlock ctx.new.tree b → IsBlock ctx.old.tree b) }
     ensures refused { OnErr result (MergesPartly (OfOperation op) D.meaning ctx.old.tree ctx.new.tree) }
     ensures err { IfErr result (λ e. e ≡ Memory) }
     ensures change { IsPassChange D.meaning ctx.old.tree ctx.new.tree op }

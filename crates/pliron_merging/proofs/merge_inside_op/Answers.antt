@@ -5,7 +5,7 @@ use Rattle.pliron_visits.specs.Visited.{OfOperation}
 use Rattle.pliron_visits.specs.Visits.{AreVisits}
 use Rattle.pliron_theory.proofs.ChangeLemmas.{change_refl}
 use Rattle.std.proofs.lemmas.Result.{IfOk-weaker}
-use Rattle.pliron_merging.proofs.Whole.{own_region, operation_lasts, all_linked, all_merged, partly, partly_change, partly_links, either_way, err_weaker}
+use Rattle.pliron_merging.proofs.Whole.{own_region, operation_lasts, all_linked, all_merged, partly, partly_change, partly_links, either_way, err_weaker, none_new, no_block_new, branch_went, ok_whole}
 use Rattle.pliron_merging.proofs.merge_inside_op.Goals as goal
 
 pub merge_among-requires : goal.merge_among-requires
@@ -53,3 +53,27 @@ returns-in_err-visits-clause-change g c = change_refl g.D.HasMeaning.meaning c.a
 
 pub returns-in_err-visits-clause-refused : goal.returns-in_err-visits-clause-refused
 returns-in_err-visits-clause-refused g c = on_err _ c.from_residual.result (inl Nothing)
+
+pub returns-clause-told : goal.returns-clause-told
+returns-clause-told g c =
+    let t = c.args.ctx.now.tree in
+    let op = c.args.op in
+    let w = c.well_formed-2.ensures.tree in
+    let visits = subst (AreVisits t (OfOperation op t) c.in_ok-visits.visits.regions.items) (sym c.deref.ensures.value) c.in_ok-visits.ensures.visits in
+    IfOk-weaker c.merge_among.result _ _ (λ s x. branch_went _ _ _ _ g.met.D.Dialect.forwards_operands (OfOperation op) op (operation_lasts op) t w c.requires.live c.requires.linked (λ r i. own_region t w op r i) _ _ visits c.merge_among.new.ctx.tree s x) c.merge_among.ensures.ok
+
+pub returns-clause-unreachable : goal.returns-clause-unreachable
+returns-clause-unreachable g c =
+    let t = c.args.ctx.now.tree in
+    let op = c.args.op in
+    let w = c.well_formed-2.ensures.tree in
+    let visits = subst (AreVisits t (OfOperation op t) c.in_ok-visits.visits.regions.items) (sym c.deref.ensures.value) c.in_ok-visits.ensures.visits in
+    ok_whole c.merge_among.result _ (λ s x. none_new _ _ _ _ g.met.D.Dialect.forwards_operands (OfOperation op) op (operation_lasts op) t w c.requires.live c.requires.linked (λ r i. own_region t w op r i) _ _ visits c.merge_among.new.ctx.tree x.0) c.merge_among.ensures.ok
+
+pub returns-clause-blocks : goal.returns-clause-blocks
+returns-clause-blocks g c =
+    let t = c.args.ctx.now.tree in
+    let op = c.args.op in
+    let w = c.well_formed-2.ensures.tree in
+    let visits = subst (AreVisits t (OfOperation op t) c.in_ok-visits.visits.regions.items) (sym c.deref.ensures.value) c.in_ok-visits.ensures.visits in
+    ok_whole c.merge_among.result _ (λ s x. no_block_new _ _ _ _ g.met.D.Dialect.forwards_operands (OfOperation op) op (operation_lasts op) t w c.requires.live c.requires.linked (λ r i. own_region t w op r i) _ _ visits c.merge_among.new.ctx.tree x.0) c.merge_among.ensures.ok
