@@ -1,0 +1,2 @@
+-- What contracts inside the crate cite. No public clause names it.
+pub mod Contents

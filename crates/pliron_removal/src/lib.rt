@@ -1,0 +1,6 @@
+//! Unreachable blocks go: those of a region in one rewrite, nested regions first.
+#![tactic(auto)]
+
+mod contents;
+mod erasing;
+mod uses;
