@@ -7,7 +7,10 @@ use Rattle.std.proofs.lemmas.List.{take_more, take_all}
 use Rattle.std.proofs.lemmas.Option.{slice_get_within}
 use Rattle.indexmap.specs.IndexSet.{insert_key}
 use Rattle.pliron_core.specs.declared.uses.Use.{Use}
-use Rattle.pliron_core.specs.Tree.{Tree, View, In, operands_of, uses_of}
+use Rattle.std.proofs.Common.{zero, suc}
+use Rattle.pliron_visits.proofs.ListLemmas.{item_in}
+use Rattle.pliron_visits.proofs.Growing.{distinct_push}
+use Rattle.pliron_core.specs.Tree.{Tree, View, In, IsDistinct, operands_of, uses_of}
 use Rattle.pliron_core.specs.Joined.{HaveUses}
 use Rattle.pliron_core.proofs.ListLemmas.{In-left, In-right, In-cases}
 use Rattle.pliron_core.proofs.MemberLemmas.{in_slice, in_at}
@@ -52,3 +55,40 @@ inserted ks x k = by (list_any (λ b. nat_eq x b && true) ks) refl
     by : (z : Bool) → list_any (λ b. nat_eq x b && true) ks ≡ z → In k (if z then ks else ks ++ x ∷ []) ↔ (In k ks ⊎ (k ≡ x))
     by true e = (λ i. inl i, λ i. ⊎_elim (λ a. a) (λ s. subst (λ y. In y ks) (sym s) (tested_in ks x e)) i)
     by false e = (λ i. ⊎_elim (λ a. inl a) (λ a. ⊎_elim (λ s. inr s) (λ z. absurd z) a) (In-cases k ks (x ∷ []) i), λ i. ⊎_elim (λ a. In-left k ks (x ∷ []) a) (λ s. In-right k ks (x ∷ []) (inl s)) i)
+
+pub less_or_last : (i j : ℕ) → j < i + 1 → (j < i) ⊎ (j ≡ i)
+less_or_last i j lt = grind arith
+
+-- an item of a list without repeats stands nowhere before itself
+pub fresh_at : (xs : List ℕ) (i x : ℕ) → IsDistinct xs → i < length xs → x ≡ get_or xs i x → In x (take i xs) → ⊥
+fresh_at [] i x d lt e j = absurd (omega arith)
+fresh_at (y ∷ ys) zero x d lt e j = j
+fresh_at (y ∷ ys) (suc i) x d lt e (inl s) = d.0 (subst (λ z. In z ys) s (item_in ys i x (let h : suc i < suc (length ys) = lt in omega (arith, h)) e))
+fresh_at (y ∷ ys) (suc i) x d lt e (inr j) = fresh_at ys i x d.1 (let h : suc i < suc (length ys) = lt in omega (arith, h)) e j
+
+-- the first blocks that are not among the reached ones
+pub record AreLeft (all reached left : List ℕ) : Type 0 where
+  pub members : (b : ℕ) → In b left ↔ (In b all × (In b reached → ⊥))
+  pub distinct : IsDistinct left
+
+pub none_left : (reached : List ℕ) → AreLeft [] reached []
+none_left reached = record { members = λ b. (λ i. absurd i, λ i. absurd i.0); distinct = tt }
+
+module _ (all reached left : List ℕ) (x : ℕ) (fresh : In x all → ⊥) (h : AreLeft all reached left) where
+  last_cases : (b : ℕ) → In b (all ++ x ∷ []) → In b all ⊎ (b ≡ x)
+  last_cases b i = ⊎_elim (λ a. inl a) (λ a. ⊎_elim (λ s. inr s) (λ z. absurd z) a) (In-cases b all (x ∷ []) i)
+
+  pub one_reached : In x reached → AreLeft (all ++ x ∷ []) reached left
+  one_reached r = record {
+    members = λ b. (λ i. let m = (h.members b).0 i in (In-left b all (x ∷ []) m.0, m.1), λ i. ⊎_elim (λ a. (h.members b).1 (a, i.1)) (λ s. absurd (i.1 (subst (λ z. In z reached) (sym s) r))) (last_cases b i.0));
+    distinct = h.distinct;
+  }
+
+  pub one_left : (In x reached → ⊥) → AreLeft (all ++ x ∷ []) reached (left ++ x ∷ [])
+  one_left n = record {
+    members = λ b. (
+      λ i. ⊎_elim (λ a. let m = (h.members b).0 a in (In-left b all (x ∷ []) m.0, m.1)) (λ a. ⊎_elim (λ s. (In-right b all (x ∷ []) (inl s), λ r. n (subst (λ z. In z reached) s r))) (λ z. absurd z) a) (In-cases b left (x ∷ []) i),
+      λ i. ⊎_elim (λ a. In-left b left (x ∷ []) ((h.members b).1 (a, i.1))) (λ s. In-right b left (x ∷ []) (inl s)) (last_cases b i.0),
+    );
+    distinct = distinct_push left x h.distinct (λ i. fresh ((h.members x).0 i).0);
+  }

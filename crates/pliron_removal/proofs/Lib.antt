@@ -1,3 +1,5 @@
 pub mod WalkLemmas
 pub mod CheckLemmas
 pub mod DropSteps
+pub mod EraseSteps
+pub mod ContentsLemmas

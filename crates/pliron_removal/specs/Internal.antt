@@ -1,2 +1,4 @@
 -- What contracts inside the crate cite. No public clause names it.
 pub mod Contents
+pub mod Unnamed
+pub mod OtherUses

@@ -1,7 +1,7 @@
 //! What stands in blocks, at any depth.
 ghost use Rattle.std.specs.Prelude.{◌≡◌, ◌++◌, ◌↔◌, ℕ, IfOk, OnOk, IsOkUnless};
 ghost use Rattle.std.specs.List.{flat_map};
-ghost use Rattle.pliron_core.specs.Tree.{In, IsLive, IsBlock, IsRegion, results_of, layout_of, arguments_of};
+ghost use Rattle.pliron_core.specs.Tree.{In, IsDistinct, IsLive, IsBlock, IsRegion, results_of, layout_of, arguments_of};
 ghost use Rattle.pliron_core.specs.Walks.{preorder};
 ghost use Rattle.pliron_removal.specs.Internal.Contents.{contents_of, contents_in, blocks_below, values_of};
 
@@ -184,4 +184,28 @@ pub(crate) fn set_of(
         set.insert(*op)?;
     }
     Ok(set)
+}
+
+// The blocks of the region that are not among these, each once.
+pub(crate) fn blocks_left(
+    alloc: Global,
+    ctx: &Context,
+    region: Ptr<Region>,
+    reached: &IndexSet<Ptr<BasicBlock>>,
+) -> Result<Vec<Ptr<BasicBlock>>, OptError>
+    requires { IsRegion ctx.now.tree region }
+    ensures members { IfOk result (λ r. (b : ℕ) → In b r.items ↔ (In b (layout_of ctx.now.tree region) × (In b reached.now.keys → ⊥))) }
+    ensures distinct { IfOk result (λ r. IsDistinct r.items) }
+    ensures memory { IsOkUnless result OptError.Memory }
+{
+    ctx.well_formed();
+    let mut all = Vec::new(alloc);
+    push_layout(ctx, region, &mut all)?;
+    let mut left = Vec::new(alloc);
+    for block in &all {
+        if !reached.contains(block) {
+            left.push(*block)?;
+        }
+    }
+    Ok(left)
 }

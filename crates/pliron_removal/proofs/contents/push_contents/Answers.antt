@@ -1,4 +1,5 @@
 use Rattle.std.proofs.Common.{◌≡◌, ◌<◌, ◌++◌, length, Some, inl, inr, refl, sym, subst, ◌∙◌}
+use Rattle.pliron_core.proofs.HoldingLemmas.{some_is}
 use Rattle.pliron_core.specs.Walks.{preorder}
 use Rattle.pliron_core.specs.WalkSteps.{rest_from}
 use Rattle.pliron_core.proofs.WalkStepLemmas.{next_inside}
@@ -8,7 +9,7 @@ use Rattle.pliron_removal.proofs.contents.push_contents.Goals as goal
 
 pub loop-at-init : goal.loop-at-init
 loop-at-init c = record {
-  within = inl refl;
+  within = λ k e. inl (sym (some_is e));
   split = copied_first (preorder c.args.ctx.now.tree c.args.root) c.args.ops.now.items (Some c.args.root) refl;
 }
 
