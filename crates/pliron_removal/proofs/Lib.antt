@@ -3,3 +3,5 @@ pub mod CheckLemmas
 pub mod DropSteps
 pub mod EraseSteps
 pub mod ContentsLemmas
+pub mod DroppedNames
+pub mod CutOffLemmas

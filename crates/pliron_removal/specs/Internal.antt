@@ -2,3 +2,4 @@
 pub mod Contents
 pub mod Unnamed
 pub mod OtherUses
+pub mod Clears

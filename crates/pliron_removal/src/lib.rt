@@ -3,4 +3,5 @@
 
 mod contents;
 mod erasing;
+mod region;
 mod uses;
