@@ -24,8 +24,7 @@ taken_cases xs i x y lt e j n =
 
 pub taken_split : (xs : List ℕ) (i x y : ℕ) → i < length xs → x ≡ get_or xs i x → In y (take (i + 1) xs) ↔ (In y (take i xs) ⊎ (y ≡ x))
 taken_split xs i x y lt e =
-    let more : take (i + 1) xs ≡ take i xs ++ x ∷ [] = take_more xs i x lt ∙ ap (λ z. take i xs ++ z ∷ []) (sym e) in
-    (
+    let more : take (i + 1) xs ≡ take i xs ++ x ∷ [] = take_more xs i x lt ∙ ap (λ z. take i xs ++ z ∷ []) (sym e) in (
       λ j. ⊎_elim (λ a. inl a) (λ a. ⊎_elim (λ s. inr s) (λ z. absurd z) a) (In-cases y (take i xs) (x ∷ []) (subst (In y) more j)),
       λ j. subst (In y) (sym more) (⊎_elim (λ a. In-left y (take i xs) (x ∷ []) a) (λ s. In-right y (take i xs) (x ∷ []) (inl s)) j),
     )
@@ -92,3 +91,11 @@ module _ (all reached left : List ℕ) (x : ℕ) (fresh : In x all → ⊥) (h :
     );
     distinct = distinct_push left x h.distinct (λ i. fresh ((h.members x).0 i).0);
   }
+
+pub empty_list : (xs : List ℕ) → length xs ≡ 0 → xs ≡ []
+empty_list [] e = refl
+empty_list (x ∷ xs) e = absurd (omega (arith, e))
+
+pub some_item : (xs : List ℕ) → (length xs ≡ 0 → ⊥) → (x : ℕ) × In x xs
+some_item [] n = absurd (n refl)
+some_item (x ∷ xs) n = (x, inl refl)

@@ -118,11 +118,7 @@ pub(crate) fn push_inner_blocks(
 }
 
 // Adds the results of the operation.
-fn push_results(
-    ctx: &Context,
-    op: Ptr<Operation>,
-    values: &mut Vec<Value>,
-) -> Result<(), OptError>
+fn push_results(ctx: &Context, op: Ptr<Operation>, values: &mut Vec<Value>) -> Result<(), OptError>
     requires { IsLive ctx.now.tree op }
     ensures items { OnOk result (values.new.items ≡ values.old.items ++ results_of ctx.now.tree op) }
     ensures memory { IsOkUnless result OptError.Memory }

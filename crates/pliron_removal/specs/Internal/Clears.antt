@@ -9,14 +9,14 @@ use Rattle.pliron_blocks.specs.Cutting.{AreCut}
 use Rattle.pliron_visits.specs.Visited.{IsCutOff}
 
 -- exactly the blocks that the entry did not reach are gone, and there were some
-pub record LosesCutOff (t v : Tree) (region : ℕ) : Type 0 where
+pub record LosesCutOff (m : Meaning) (t v : Tree) (region : ℕ) : Type 0 where
   pub blocks : List ℕ
   pub exact : (b : ℕ) → In b blocks ↔ IsCutOff t region b
   pub one : ℕ
   pub listed : In one blocks
   pub cut : AreCut t v region blocks
-  pub runs : (m : Meaning) → KeepsRuns m t v
+  pub runs : KeepsRuns m t v
 
-abbrev pub ClearsRegion : (t v : Tree) → ℕ → IRStatus → Type 0
-ClearsRegion t v region Changed = LosesCutOff t v region
-ClearsRegion t v region Unchanged = ((b : ℕ) → IsCutOff t region b → ⊥) × (v ≡ t)
+abbrev pub ClearsRegion : Meaning → (t v : Tree) → ℕ → IRStatus → Type 0
+ClearsRegion m t v region Changed = LosesCutOff m t v region
+ClearsRegion m t v region Unchanged = ((b : ℕ) → IsCutOff t region b → ⊥) × (v ≡ t)

@@ -43,8 +43,8 @@ returns-clause-ok c =
     let same : c.deref-3.result.now ≡ bs ++ flat_map (λ k. blocks_below t k) (contents_in t bs) = c.deref-3.ensures.value ∙ c.in_ok-push_inner_blocks.ensures.items ∙ ap (λ z. z ++ flat_map (λ k. blocks_below t k) c.deref.result.now) first ∙ ap (λ z. bs ++ flat_map (λ k. blocks_below t k) z) ops in
     let list : c.deref-5.result.now ≡ values_of t (contents_in t bs) (bs ++ flat_map (λ k. blocks_below t k) (contents_in t bs)) = c.deref-5.ensures.value ∙ c.in_ok-values.ensures.items ∙ ap (λ z. values_of t z c.deref-3.result.now) ops2 ∙ ap (λ z. values_of t (contents_in t bs) z) same in
     on_ok_weaker c.check_values.result
-        (λ used. no_other_use t c.well_formed-2.ensures.tree bs c.in_ok-inside.inside.keys (λ k i. subst (In k) ops4 ((c.in_ok-inside.ensures.keys k).0 i)) (λ v i. used v (subst (In v) (sym list) i)))
-        c.check_values.ensures.ok
+    (λ used. no_other_use t c.well_formed-2.ensures.tree bs c.in_ok-inside.inside.keys (λ k i. subst (In k) ops4 ((c.in_ok-inside.ensures.keys k).0 i)) (λ v i. used v (subst (In v) (sym list) i)))
+    c.check_values.ensures.ok
 
 pub returns-clause-err : goal.returns-clause-err
 returns-clause-err c =
@@ -57,4 +57,4 @@ returns-clause-err c =
     let same : c.deref-3.result.now ≡ bs ++ flat_map (λ k. blocks_below t k) (contents_in t bs) = c.deref-3.ensures.value ∙ c.in_ok-push_inner_blocks.ensures.items ∙ ap (λ z. z ++ flat_map (λ k. blocks_below t k) c.deref.result.now) first ∙ ap (λ z. bs ++ flat_map (λ k. blocks_below t k) z) ops in
     let list : c.deref-5.result.now ≡ values_of t (contents_in t bs) (bs ++ flat_map (λ k. blocks_below t k) (contents_in t bs)) = c.deref-5.ensures.value ∙ c.in_ok-values.ensures.items ∙ ap (λ z. values_of t z c.deref-3.result.now) ops2 ∙ ap (λ z. values_of t (contents_in t bs) z) same in
     MatchResult-weaker c.check_values.result c.check_values.ensures.err (λ x p. p)
-        (λ e h. inr (h.0, other_use t c.well_formed-2.ensures.tree bs c.in_ok-inside.inside.keys (λ k i. (c.in_ok-inside.ensures.keys k).1 (subst (In k) (sym ops4) i)) h.1.0 (subst (In h.1.0) list h.1.1) h.1.2))
+    (λ e h. inr (h.0, other_use t c.well_formed-2.ensures.tree bs c.in_ok-inside.inside.keys (λ k i. (c.in_ok-inside.ensures.keys k).1 (subst (In k) (sym ops4) i)) h.1.0 (subst (In h.1.0) list h.1.1) h.1.2))

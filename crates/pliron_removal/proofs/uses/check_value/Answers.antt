@@ -19,9 +19,9 @@ loop-i-preserved c =
     let one : Use = record { user = user; place = c.get_use-user.result.1 } in
     let yes : list_any (λ y. nat_eq user y && true) c.args.inside.now.keys ≡ true = sym c.if-not-contains.ensures in
     λ j u lt e. ⊎_elim (λ l. c.loop-i.invariant j u l e)
-        (λ s. let same : u ≡ one = same_Some u one (sym e ∙ ap (slice_get (uses_of c.args.ctx.now.value_uses c.args.value)) s ∙ c.get_use-user.ensures.listed) in
-            subst (λ z. In z.user c.args.inside.now.keys) (sym same) (tested_in c.args.inside.now.keys user yes))
-        (less_or_last c.loop-i.i j lt)
+    (λ s. let same : u ≡ one = same_Some u one (sym e ∙ ap (slice_get (uses_of c.args.ctx.now.value_uses c.args.value)) s ∙ c.get_use-user.ensures.listed) in
+    subst (λ z. In z.user c.args.inside.now.keys) (sym same) (tested_in c.args.inside.now.keys user yes))
+    (less_or_last c.loop-i.i j lt)
 
 pub returns-clause-ok : goal.returns-clause-ok
 returns-clause-ok c =
