@@ -5,3 +5,6 @@ pub mod EraseSteps
 pub mod ContentsLemmas
 pub mod DroppedNames
 pub mod CutOffLemmas
+pub mod Without
+pub mod Stability
+pub mod ClearedSteps

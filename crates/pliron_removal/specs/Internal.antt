@@ -3,3 +3,4 @@ pub mod Contents
 pub mod Unnamed
 pub mod OtherUses
 pub mod Clears
+pub mod Cleared

@@ -205,3 +205,18 @@ pub(crate) fn blocks_left(
     }
     Ok(left)
 }
+
+// The blocks as a set.
+pub(crate) fn set_of_blocks(
+    alloc: Global,
+    blocks: &[Ptr<BasicBlock>],
+) -> Result<IndexSet<Ptr<BasicBlock>>, OptError>
+    ensures keys { IfOk result (λ s. (b : ℕ) → In b s.keys ↔ In b blocks.now) }
+    ensures memory { IsOkUnless result OptError.Memory }
+{
+    let mut set = IndexSet::new(alloc);
+    for block in blocks {
+        set.insert(*block)?;
+    }
+    Ok(set)
+}

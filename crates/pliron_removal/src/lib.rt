@@ -4,4 +4,7 @@
 mod contents;
 mod erasing;
 mod region;
+mod removal;
 mod uses;
+
+pub use removal::remove_blocks_inside_op;
