@@ -22,7 +22,9 @@ use Rattle.pliron_blocks.specs.Inside.{CutInsideLaw}
 use Rattle.pliron_visits.specs.Visited.{IsVisited, IsVisited.Starts, IsVisited.Nested, OfOperation, IsSearched, IsCutOff, IsUnreachable, IsReachedIn}
 use Rattle.pliron_visits.specs.Visits.{AreVisits}
 use Rattle.pliron_visits.proofs.Lawful.{region_of_op, visited_lawful, entered_in, reached_in}
-use Rattle.pliron_removal.specs.Removed.{RemovesSome, RemovesSome.Nothing, RemovesSome.Then, RemovesAll}
+use Rattle.pliron_removal.specs.Removed.{RemovesSome, RemovesSome.Nothing, RemovesSome.Then, RemovesAll, RemovalFails, HasLiveUse}
+use Rattle.pliron_laws.specs.declared.fault.OptError.{OptError}
+use Rattle.pliron_laws.specs.declared.fault.OptError.TheVariants.{Memory, LiveUse}
 use Rattle.pliron_removal.specs.Internal.Clears.{LosesCutOff, ClearsRegion}
 use Rattle.pliron_removal.specs.Internal.Cleared.{status_after, TellsLoss, AreCleared}
 use Rattle.pliron_removal.proofs.CutOffLemmas.{cut_in}
@@ -54,7 +56,6 @@ module _ (t : Tree) (w : IsTree t) (op : ℕ) (edges : EdgesLast t op) where
       not_itself w.joined.rooted (within_inside inside y.2)
 
 module _ (m : Meaning) (t u v : Tree) (op r : ℕ) (rs ks rest : List ℕ) (laws : PassLaws) (cut_links : CutLinksLaw) (cut_inside : CutInsideLaw) (inside_laws : InsideChangeLaws) (w : IsTree u) (wv : IsTree v) where
-
   left_cases : (q : ℕ) → In q (rest ++ r ∷ []) → In q rest ⊎ (q ≡ r)
   left_cases q i = ⊎_elim (λ a. inl a) (λ a. ⊎_elim (λ s. inr s) (λ z. absurd z) a) (In-cases q rest (r ∷ []) i)
 
@@ -77,6 +78,9 @@ module _ (m : Meaning) (t u v : Tree) (op r : ℕ) (rs ks rest : List ℕ) (laws
 
     pub region_searched : IsSearched (OfOperation op) u r
     region_searched = searched
+
+    pub fails : (e : OptError) → v ≡ u → (e ≡ Memory) ⊎ ((e ≡ LiveUse) × HasLiveUse u r) → RemovalFails (OfOperation op) t v e
+    fails e same x = subst (λ z. RemovalFails (OfOperation op) t z e) (sym same) (h.some, ⊎_elim (λ a. inl a) (λ y. inr (y.0, (r, searched, y.1))) x)
 
     same_next : ((b : ℕ) → IsCutOff u r b → ⊥) → AreCleared m t u op rs ks rest status
     same_next none = record {
@@ -176,3 +180,10 @@ all_cleared m t u op rs ks status h = go status h.tells
     go : (s : IRStatus) → TellsLoss op t u s → RemovesAll (OfOperation op) t u s
     go Changed x = (x, h.some, none)
     go Unchanged e = (subst (λ z. (b : ℕ) → IsUnreachable (OfOperation op) z b → ⊥) e none, e)
+
+-- the reached blocks by another list with the same members
+pub visits_as : (t : Tree) (A : ℕ → Type 0) (rs bs ks : List ℕ) → ((b : ℕ) → In b ks ↔ In b bs) → AreVisits t A rs bs → AreVisits t A rs ks
+visits_as t A rs bs ks same a = record {
+  regions = a.regions;
+  blocks = λ b. (λ i. (a.blocks b).0 ((same b).0 i), λ x. (same b).1 ((a.blocks b).1 x));
+}

@@ -32,12 +32,12 @@ first_same (a ∷ xs) [] x rx ry e sub i = absurd i
 first_same (a ∷ xs) (b ∷ ys) x rx ry e sub i =
     let same : a ≡ x = some_is e in
     ap Some (⊎_elim
-        (λ s. s ∙ same)
-        (λ j. ⊎_elim
-            (λ s. sym s)
-            (λ k. let p : a < b = rx.0 b j in let q : b < x = ry.0 x k in absurd (omega (arith, same)))
-            i)
-        (sub b (inl refl)))
+    (λ s. s ∙ same)
+    (λ j. ⊎_elim
+    (λ s. sym s)
+    (λ k. let p : a < b = rx.0 b j in let q : b < x = ry.0 x k in absurd (omega (arith, same)))
+    i)
+    (sub b (inl refl)))
 
 in_cut_listed : (t : Tree) (bs : List ℕ) (b : ℕ) → In b bs → cut_block t bs b ≡ true
 in_cut_listed t bs b i = ap (λ z. if z then true else is_met_above t (stands_in_one t bs) (block_holder_of t b)) (listed bs b i)
@@ -50,10 +50,9 @@ region_listed t r l =
     subst (λ z. In r (regions_of t z)) same (in_slice (regions_of t s.0.op) s.0.index r s.2)
 
 module _ (t v : Tree) (w : IsTree t) (wv : IsTree v) (r0 : ℕ) (bs : List ℕ) (exact : (b : ℕ) → In b bs ↔ IsCutOff t r0 b) (cut : AreCut t v r0 bs) (ssa : IsTrue (has_ssa t r0))
-  (A B : ℕ → Type 0) (lawful : (r : ℕ) → A r → IsLawfulRegion t r)
-  (apart : (r h b : ℕ) → A r → region_parent_of t r ≡ Some h → In b bs → StandsIn t b h → ⊥)
-  (to : (r : ℕ) → A r → B r) (from : (r : ℕ) → B r → A r) where
-
+    (A B : ℕ → Type 0) (lawful : (r : ℕ) → A r → IsLawfulRegion t r)
+    (apart : (r h b : ℕ) → A r → region_parent_of t r ≡ Some h → In b bs → StandsIn t b h → ⊥)
+    (to : (r : ℕ) → A r → B r) (from : (r : ℕ) → B r → A r) where
   own : (b : ℕ) → In b bs → block_parent_of t b ≡ Some r0
   own b i = ((exact b).0 i).0
 
@@ -79,9 +78,9 @@ module _ (t v : Tree) (w : IsTree t) (wv : IsTree v) (r0 : ℕ) (bs : List ℕ) 
   never r (Nested outer c k x ent p j) h e b i y = ⊎_elim
       (λ s. entered_left outer c (has_ssa t outer) (law outer x) ent (subst (λ z. In z bs) (some_is (sym y.1 ∙ ap (parent_of t) (sym s) ∙ ap (parent_of t) same ∙ p)) i))
       (λ inner.
-          let up = inside_up inner in
-          let above : region_parent_of t outer ≡ Some up.0 = sym (holder_from t k c p ∙ block_holder_from t c outer (entered_in t w outer (law outer x) c ent)) ∙ ap (holder_of t) (sym same) ∙ up.1 in
-          never outer x up.0 above b i (y.0, y.1, up.2))
+      let up = inside_up inner in
+      let above : region_parent_of t outer ≡ Some up.0 = sym (holder_from t k c p ∙ block_holder_from t c outer (entered_in t w outer (law outer x) c ent)) ∙ ap (holder_of t) (sym same) ∙ up.1 in
+      never outer x up.0 above b i (y.0, y.1, up.2))
       y.2
     where
       same : h ≡ k

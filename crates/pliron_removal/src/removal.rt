@@ -14,9 +14,7 @@ use crate::region::clear_region;
 use indexmap::IndexSet;
 use pliron_blocks::inside::removing_changes_inside;
 use pliron_blocks::links::removing_keeps_links;
-use pliron_core::{
-    BasicBlock, Context, IRStatus, Operation, Ptr, Region, Rewriter, change_laws,
-};
+use pliron_core::{BasicBlock, Context, IRStatus, Operation, Ptr, Region, Rewriter, change_laws};
 use pliron_laws::{Dialect, OptError, Room};
 use pliron_theory::theory::passes_compose;
 use pliron_visits::{Visits, visits_inside_op};
