@@ -10,7 +10,7 @@ use Rattle.pliron_core.specs.declared.uses.Use.{Use}
 use Rattle.std.proofs.Common.{zero, suc}
 use Rattle.pliron_visits.proofs.ListLemmas.{item_in}
 use Rattle.pliron_visits.proofs.Growing.{distinct_push}
-use Rattle.pliron_core.specs.Tree.{Tree, View, In, IsDistinct, operands_of, uses_of}
+use Rattle.pliron_core.specs.Tree.{View, In, IsDistinct, operands_of, uses_of}
 use Rattle.pliron_core.specs.Joined.{HaveUses}
 use Rattle.pliron_core.proofs.ListLemmas.{In-left, In-right, In-cases}
 use Rattle.pliron_core.proofs.MemberLemmas.{in_slice, in_at}

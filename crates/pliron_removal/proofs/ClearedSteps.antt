@@ -1,11 +1,10 @@
 -- One region after the other loses its unreachable blocks.
-use Rattle.std.proofs.Common.{◌≡◌, ◌↔◌, ◌⊎◌, inl, inr, ⊎_elim, ℕ, Bool, true, false, true≢false, List, [], ◌∷◌, ◌++◌, Option, Some, None, IsTrue, refl, sym, ap, ◌∙◌, subst, is_some}
+use Rattle.std.proofs.Common.{◌≡◌, ◌↔◌, ◌⊎◌, inl, inr, ⊎_elim, ℕ, true, false, List, [], ◌∷◌, ◌++◌, Some, refl, sym, ap, ◌∙◌, subst, is_some}
 use Rattle.std.proofs.lemmas.Bool.{false_from_ne_true}
 use Rattle.pliron_core.specs.declared.attrs.IRStatus.{IRStatus}
 use Rattle.pliron_core.specs.declared.attrs.IRStatus.TheVariants.{Changed, Unchanged}
-use Rattle.pliron_core.specs.Tree.{Tree, In, IsLive, IsInside, IsWithin, row_of, regions_of, parent_of, block_parent_of, region_parent_of, holder_of, op_of_slot}
+use Rattle.pliron_core.specs.Tree.{Tree, In, IsLive, IsInside, IsWithin, row_of, regions_of, block_parent_of, region_parent_of, holder_of, op_of_slot}
 use Rattle.pliron_core.specs.Joined.{IsTree}
-use Rattle.pliron_core.specs.Reads.{has_ssa}
 use Rattle.pliron_core.specs.Erased.{StandsIn}
 use Rattle.pliron_core.specs.Changes.{IsInsideChange}
 use Rattle.pliron_core.specs.ChangeLaws.{InsideChangeLaws}
@@ -16,13 +15,13 @@ use Rattle.pliron_laws.specs.Datum.{Meaning}
 use Rattle.pliron_laws.specs.Linked.{IsWellLinked, EdgesLast}
 use Rattle.pliron_theory.specs.Change.{IsPassChange, PassLaws}
 use Rattle.pliron_search.specs.Regions.{IsLawfulRegion}
-use Rattle.pliron_blocks.specs.Cutting.{cut_op, AreCut}
+use Rattle.pliron_blocks.specs.Cutting.{cut_op}
 use Rattle.pliron_blocks.specs.Links.{KeepsLinks, CutLinksLaw}
 use Rattle.pliron_blocks.specs.Inside.{CutInsideLaw}
-use Rattle.pliron_visits.specs.Visited.{IsVisited, IsVisited.Starts, IsVisited.Nested, OfOperation, IsSearched, IsCutOff, IsUnreachable, IsReachedIn}
+use Rattle.pliron_visits.specs.Visited.{IsVisited, IsVisited.Starts, IsVisited.Nested, Start, OfOperation, IsSearched, IsCutOff, IsUnreachable, IsReachedIn}
 use Rattle.pliron_visits.specs.Visits.{AreVisits}
 use Rattle.pliron_visits.proofs.Lawful.{region_of_op, visited_lawful, entered_in, reached_in}
-use Rattle.pliron_removal.specs.Removed.{RemovesSome, RemovesSome.Nothing, RemovesSome.Then, RemovesAll, RemovalFails, HasLiveUse}
+use Rattle.pliron_removal.specs.Removed.{RemovesSome.Nothing, RemovesSome.Then, RemovesAll, RemovalFails, HasLiveUse}
 use Rattle.pliron_laws.specs.declared.fault.OptError.{OptError}
 use Rattle.pliron_laws.specs.declared.fault.OptError.TheVariants.{Memory, LiveUse}
 use Rattle.pliron_removal.specs.Internal.Clears.{LosesCutOff, ClearsRegion}
@@ -187,3 +186,8 @@ visits_as t A rs bs ks same a = record {
   regions = a.regions;
   blocks = λ b. (λ i. (a.blocks b).0 ((same b).0 i), λ x. (same b).1 ((a.blocks b).1 x));
 }
+
+-- the answer is honest
+pub honest : (start : Start) (t v : Tree) (status : IRStatus) → RemovesAll start t v status → (status ≡ Unchanged) ↔ (v ≡ t)
+honest start t v Changed x = ((λ e. absurd (cc)), (λ e. absurd (x.2 x.0.0 (subst (λ z. IsUnreachable start z x.0.0) (sym e) x.0.1))))
+honest start t v Unchanged x = ((λ e. x.1), (λ e. refl))

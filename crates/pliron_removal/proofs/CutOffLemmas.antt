@@ -1,15 +1,15 @@
 -- The blocks that the entry of a region does not reach may go.
-use Rattle.std.proofs.Common.{◌≡◌, ◌↔◌, ◌⊎◌, inl, inr, ⊎_elim, ℕ, Bool, true, List, [], ◌∷◌, ◌++◌, Option, Some, None, Contains, refl, sym, ap, ◌∙◌, subst, length}
+use Rattle.std.proofs.Common.{◌≡◌, ◌↔◌, ◌⊎◌, inl, inr, ⊎_elim, ℕ, true, List, [], ◌∷◌, ◌++◌, Option, Some, None, Contains, refl, sym, subst, length}
 use Rattle.pliron_core.specs.declared.context.Def.{Def}
 use Rattle.pliron_core.specs.declared.context.Def.TheVariants.{Result, Argument}
-use Rattle.pliron_core.specs.Tree.{Tree, In, first_of, operands_of, parent_of, block_parent_of, block_holder_of, layout_of, definition_of}
+use Rattle.pliron_core.specs.Tree.{Tree, In, operands_of, block_parent_of, layout_of, definition_of}
 use Rattle.pliron_core.specs.Joined.{IsTree}
 use Rattle.pliron_core.specs.Edges.{succs_of}
 use Rattle.pliron_core.specs.Erased.{StandsIn, IsBlockWithin, IsMadeInBlock}
 use Rattle.pliron_core.proofs.TreeLemmas.{live-within}
 use Rattle.pliron_core.proofs.WithinLemmas.{within_met, met_within}
 use Rattle.pliron_theory.specs.Sweeping.{is_maker_dead}
-use Rattle.pliron_search.specs.Digraph.{IsPath, Reaches, Digraph}
+use Rattle.pliron_search.specs.Digraph.{IsPath, Digraph}
 use Rattle.pliron_search.specs.Regions.{graph_of_region}
 use Rattle.pliron_search.specs.Internal.RegionLawful.{keys_have}
 use Rattle.pliron_blocks.specs.Cutting.{stands_in_one, cut_op, cut_block}

@@ -1,5 +1,5 @@
 -- Uses are dropped block by block.
-use Rattle.std.proofs.Common.{◌≡◌, ℕ, List, [], ◌∷◌, ◌++◌, refl, ap, ◌∙◌}
+use Rattle.std.proofs.Common.{◌≡◌, ℕ, List, [], ◌∷◌, ◌++◌, refl}
 use Rattle.pliron_core.specs.Tree.{Tree}
 use Rattle.pliron_core.specs.Erased.{uses_dropped}
 use Rattle.pliron_blocks.specs.Leaving.{DropsAll, DropsAll.Done, DropsAll.Then}

@@ -1,7 +1,6 @@
 -- After uses are dropped, nothing names what the blocks hold.
-use Rattle.std.proofs.Common.{◌≡◌, ◌⊎◌, inl, inr, ⊎_elim, ℕ, Bool, true, false, true≢false, if◌then◌else◌, List, [], ◌∷◌, length, Option, Some, None, refl, sym, ap, ◌∙◌, subst}
+use Rattle.std.proofs.Common.{◌≡◌, inl, inr, ⊎_elim, ℕ, Bool, true, if◌then◌else◌, List, [], ◌∷◌, length, Option, Some, None, refl, sym, ap, ◌∙◌, subst}
 use Rattle.std.specs.List.{slice_get}
-use Rattle.std.proofs.lemmas.Bool.{false_from_ne_true}
 use Rattle.pliron_core.specs.declared.context.Def.{Def}
 use Rattle.pliron_core.specs.declared.context.Def.TheVariants.{Result, Argument}
 use Rattle.pliron_core.specs.Tree.{Tree, In, IsInside.Directly, IsWithin, HoldsBlock, operands_of, successors_of, parent_of, block_parent_of, block_holder_of, region_parent_of, holder_of, definition_of, up_from}
@@ -10,9 +9,9 @@ use Rattle.pliron_core.specs.Edges.{succs_from}
 use Rattle.pliron_core.specs.Erased.{is_met_above, stands_in, StandsIn, IsBlockWithin, IsMadeInBlock, uses_dropped, names_dropped}
 use Rattle.pliron_core.proofs.TreeLemmas.{live-within}
 use Rattle.pliron_core.proofs.ClearedLemmas.{told}
-use Rattle.pliron_core.proofs.DropLemmas.{IsNamesOnly, IsBare, NamesSame, names_none, names_trans, names_of_dropped, dropped_gone, dropped_kept}
+use Rattle.pliron_core.proofs.DropLemmas.{IsNamesOnly, IsBare, names_none, names_trans, names_of_dropped, dropped_gone, dropped_kept}
 use Rattle.pliron_core.proofs.WithinLemmas.{holder_from, within_met, met_within, met_below, in_block_is, is_in_block}
-use Rattle.pliron_core.proofs.HoldingLemmas.{some_is, within_inside, holder_by}
+use Rattle.pliron_core.proofs.HoldingLemmas.{within_inside, holder_by}
 use Rattle.pliron_laws.specs.Linked.{EdgesLast}
 use Rattle.pliron_theory.specs.Sweeping.{is_maker_dead}
 use Rattle.pliron_blocks.specs.Cutting.{is_listed, stands_in_one, cut_op, cut_block}

@@ -1,19 +1,19 @@
 -- Blocks of one region are erased one after the other, where nothing names what they hold.
-use Rattle.std.proofs.Common.{◌≡◌, ◌≢◌, ◌⊎◌, inl, inr, ⊎_elim, ℕ, Bool, true, false, nat_eq, if◌then◌else◌, List, [], ◌∷◌, ◌++◌, ◌<◌, ◌+◌, Option, Some, None, IsSome, refl, sym, ap, ◌∙◌, subst, get_or, take, drop, length, slice_set, arith}
+use Rattle.std.proofs.Common.{◌≡◌, ◌≢◌, inl, inr, ℕ, Bool, true, false, nat_eq, if◌then◌else◌, List, [], ◌∷◌, ◌++◌, Option, Some, None, IsSome, refl, sym, ap, ◌∙◌, subst, get_or}
 use Rattle.std.specs.List.{slice_get}
 use Rattle.std.proofs.lemmas.Bool.{false_from_ne_true}
 use Rattle.std.proofs.lemmas.List.{get_or-set_other}
 use Rattle.pliron_core.specs.declared.context.Def.{Def}
 use Rattle.pliron_core.specs.declared.context.Def.TheVariants.{Result, Argument}
-use Rattle.pliron_core.specs.Tree.{Tree, In, IsDistinct, IsBlock, IsInside, IsInside.Directly, IsInside.Deeper, IsWithin, operands_of, successors_of, parent_of, block_parent_of, region_parent_of, block_holder_of, holder_of, op_of_slot, definition_of}
+use Rattle.pliron_core.specs.Tree.{Tree, In, IsDistinct, IsBlock, IsInside, IsInside.Directly, IsInside.Deeper, IsWithin, operands_of, successors_of, block_parent_of, region_parent_of, block_holder_of, holder_of, op_of_slot, definition_of}
 use Rattle.pliron_core.specs.Joined.{IsTree}
 use Rattle.pliron_core.specs.Erased.{is_met_above, blanked, stands_in, StandsIn, IsBlockWithin, IsMadeInBlock, IsSelfContainedBlock, block_emptied, block_taken_from, block_erased}
-use Rattle.pliron_core.proofs.BlankLemmas.{blanked_gone, blanked_kept, get_blanked}
+use Rattle.pliron_core.proofs.BlankLemmas.{blanked_kept, get_blanked}
 use Rattle.pliron_core.proofs.ClearingLemmas.{IsClearing, clearing_none}
 use Rattle.pliron_core.proofs.ClearedLemmas.{met_block}
 use Rattle.pliron_core.proofs.WithinLemmas.{block_steps, block_holder_from, holder_steps, holder_from}
-use Rattle.pliron_core.proofs.HoldingLemmas.{some_is, inside_by, not_itself}
-use Rattle.pliron_blocks.specs.Cutting.{is_listed, stands_in_one, cut_op, cut_block, ErasesAll, ErasesAll.Done, ErasesAll.Then}
+use Rattle.pliron_core.proofs.HoldingLemmas.{inside_by, not_itself}
+use Rattle.pliron_blocks.specs.Cutting.{stands_in_one, cut_op, cut_block, ErasesAll, ErasesAll.Done, ErasesAll.Then}
 use Rattle.pliron_blocks.proofs.CutBlocks.{erased_clearing}
 use Rattle.pliron_removal.specs.Internal.Unnamed.{IsUnnamedBlock}
 

@@ -1,9 +1,9 @@
 -- Where the unreachable blocks of one region are gone, other regions are visited as before, and their
 -- entries reach the same blocks.
-use Rattle.std.proofs.Common.{◌≡◌, ◌≢◌, ◌↔◌, ◌⊎◌, ◌<◌, inl, inr, ⊎_elim, ℕ, Bool, true, false, true≢false, List, [], ◌∷◌, Option, Some, None, IsSome, IsTrue, Contains, refl, sym, ap, ◌∙◌, subst, arith, is_some}
+use Rattle.std.proofs.Common.{◌≡◌, ◌↔◌, ◌<◌, inl, ⊎_elim, ℕ, Bool, true, false, true≢false, List, [], ◌∷◌, Option, Some, None, IsTrue, Contains, refl, sym, ap, ◌∙◌, subst, arith, is_some}
 use Rattle.std.specs.List.{slice_get}
 use Rattle.std.proofs.lemmas.Bool.{false_from_ne_true}
-use Rattle.pliron_core.specs.Tree.{Tree, In, IsRising, IsLive, IsInside, IsInside.Directly, IsWithin, first_of, last_of, row_of, head_of, successors_of, regions_of, parent_of, body_of, block_parent_of, layout_of, slot_of, region_parent_of, block_holder_of, holder_of, op_of_slot}
+use Rattle.pliron_core.specs.Tree.{Tree, In, IsRising, IsLive, first_of, last_of, row_of, regions_of, parent_of, body_of, block_parent_of, layout_of, region_parent_of, block_holder_of, holder_of, op_of_slot}
 use Rattle.pliron_core.specs.Joined.{IsTree}
 use Rattle.pliron_core.specs.Reads.{has_ssa, has_ssa_at, ssa_in}
 use Rattle.pliron_core.specs.Edges.{succs_of, succs_from}
@@ -11,11 +11,11 @@ use Rattle.pliron_core.specs.Erased.{StandsIn}
 use Rattle.pliron_core.proofs.ClearedLemmas.{told}
 use Rattle.pliron_core.proofs.ReadLemmas.{In-last}
 use Rattle.pliron_core.proofs.NeighbourLemmas.{first_of-In}
-use Rattle.pliron_core.proofs.WithinLemmas.{block_steps, block_holder_from, holder_steps, holder_from}
+use Rattle.pliron_core.proofs.WithinLemmas.{block_holder_from, holder_from}
 use Rattle.pliron_core.proofs.HoldingLemmas.{some_is, not_none, in_slice, slice_in, slot_is, region_parent_is, inside_up}
-use Rattle.pliron_search.specs.Digraph.{IsPath, Reaches}
+use Rattle.pliron_search.specs.Digraph.{IsPath}
 use Rattle.pliron_search.specs.Regions.{graph_of_region, IsLawfulRegion}
-use Rattle.pliron_search.specs.Internal.RegionLawful.{in_keys, keys_have}
+use Rattle.pliron_search.specs.Internal.RegionLawful.{in_keys}
 use Rattle.std.proofs.Common.{if◌then◌else◌}
 use Rattle.pliron_core.specs.Erased.{is_met_above}
 use Rattle.pliron_blocks.specs.Cutting.{stands_in_one, cut_op, cut_block, AreCut}
@@ -23,7 +23,7 @@ use Rattle.pliron_blocks.proofs.CutBlocks.{block_cases, listed}
 use Rattle.pliron_visits.specs.Visited.{IsVisited, IsVisited.Starts, IsVisited.Nested, IsReachedIn, IsEntered, IsEnteredIf, IsCutOff}
 use Rattle.pliron_visits.specs.Visits.{AreVisits}
 use Rattle.pliron_visits.proofs.Lawful.{reached_in, entered_in, visited_lawful}
-use Rattle.pliron_removal.proofs.CutOffLemmas.{reached_on, cut_in, in_cut}
+use Rattle.pliron_removal.proofs.CutOffLemmas.{reached_on, cut_in}
 
 -- the least member of two rising lists
 pub first_same : (xs ys : List ℕ) (x : ℕ) → IsRising xs → IsRising ys → first_of xs None ≡ Some x → ((y : ℕ) → In y ys → In y xs) → In x ys → first_of ys None ≡ Some x

@@ -1,10 +1,9 @@
 -- A tree without the unreachable blocks of a region, by places at any depth.
-use Rattle.std.proofs.Common.{◌≡◌, ◌↔◌, ◌⊎◌, inl, inr, ⊎_elim, ℕ, Bool, true, false, true≢false, if◌then◌else◌, List, Some, None, refl, sym, ap, ◌∙◌, subst}
+use Rattle.std.proofs.Common.{◌≡◌, ◌↔◌, inl, inr, ℕ, true, false, if◌then◌else◌, List, sym, ap, ◌∙◌, subst}
 use Rattle.std.proofs.lemmas.Bool.{false_from_ne_true}
-use Rattle.pliron_core.specs.Tree.{Tree, In, block_parent_of, block_holder_of, layout_of}
+use Rattle.pliron_core.specs.Tree.{Tree, In, block_holder_of}
 use Rattle.pliron_core.specs.Joined.{IsTree}
-use Rattle.pliron_core.specs.Erased.{is_met_above, StandsIn, IsBlockWithin}
-use Rattle.pliron_core.proofs.ClearedLemmas.{told}
+use Rattle.pliron_core.specs.Erased.{is_met_above, IsBlockWithin}
 use Rattle.pliron_core.proofs.HoldingLemmas.{not_none}
 use Rattle.pliron_blocks.specs.Cutting.{is_listed, stands_in_one, cut_op, cut_block, AreCut}
 use Rattle.pliron_blocks.proofs.CutBlocks.{or_true, listed}

@@ -1,5 +1,6 @@
 //! The public calls.
 ghost use Rattle.std.specs.Prelude.{◌≡◌, ◌↔◌, ◌⊎◌, ℕ, IfOk, IfErr};
+ghost use Rattle.pliron_core.specs.declared.attrs.IRStatus.TheVariants.{Unchanged};
 ghost use Rattle.pliron_core.specs.Tree.{IsLive};
 ghost use Rattle.pliron_laws.specs.Linked.{IsWellLinked};
 ghost use Rattle.pliron_theory.specs.Change.{IsPassChange};
@@ -84,6 +85,7 @@ pub fn remove_blocks_inside_op<D: Dialect, R: Rewriter + Room>(
     requires linked { IsWellLinked D.meaning ctx.old.tree op }
     ensures ok { IfOk result (λ status. RemovesAll (OfOperation op) ctx.old.tree ctx.new.tree status) }
     ensures err { IfErr result (λ e. RemovalFails (OfOperation op) ctx.old.tree ctx.new.tree e) }
+    ensures tells { IfOk result (λ a. (a ≡ Unchanged) ↔ (ctx.new.tree ≡ ctx.old.tree)) }
     ensures change { IsPassChange D.meaning ctx.old.tree ctx.new.tree op }
     ensures links { KeepsLinks D.meaning ctx.old.tree ctx.new.tree }
 {

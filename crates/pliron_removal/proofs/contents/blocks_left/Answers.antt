@@ -1,7 +1,7 @@
-use Rattle.std.proofs.Common.{◌≡◌, ◌≤◌, ◌++◌, ◌+◌, ◌∷◌, ◌&&◌, [], Bool, true, false, nat_eq, length, take, sym, ap, ◌∙◌, subst, arith}
+use Rattle.std.proofs.Common.{◌≡◌, ◌≤◌, ◌++◌, ◌+◌, ◌∷◌, ◌&&◌, [], true, false, nat_eq, length, take, sym, ap, ◌∙◌, subst, arith}
 use Rattle.std.specs.List.{list_any}
 use Rattle.std.proofs.lemmas.List.{take_more, take_all}
-use Rattle.pliron_core.specs.Tree.{In, IsDistinct, layout_of}
+use Rattle.pliron_core.specs.Tree.{IsDistinct, layout_of}
 use Rattle.pliron_visits.proofs.Tested.{tested_in, not_tested}
 use Rattle.pliron_removal.proofs.CheckLemmas.{AreLeft, one_reached, one_left, fresh_at}
 use Rattle.pliron_removal.proofs.contents.blocks_left.Goals as goal

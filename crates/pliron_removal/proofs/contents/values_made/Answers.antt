@@ -1,4 +1,4 @@
-use Rattle.std.proofs.Common.{◌≡◌, ◌≤◌, ◌++◌, [], length, sym, ap, ◌∙◌, arith, append-nil}
+use Rattle.std.proofs.Common.{◌≤◌, [], length, sym, ◌∙◌, arith, append-nil}
 use Rattle.std.specs.List.{flat_map}
 use Rattle.pliron_core.specs.Tree.{results_of, arguments_of}
 use Rattle.pliron_visits.proofs.ListLemmas.{mapped_more, mapped_all, item_in}

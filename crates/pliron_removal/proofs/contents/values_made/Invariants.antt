@@ -1,5 +1,4 @@
 use Rattle.std.proofs.Common.{◌≡◌, ◌++◌, take}
-use Rattle.pliron_removal.specs.Internal.Contents.{values_of}
 use Rattle.std.specs.List.{flat_map}
 use Rattle.pliron_core.specs.Tree.{results_of, arguments_of}
 use Rattle.pliron_removal.proofs.contents.values_made.Given as goal

@@ -1,5 +1,5 @@
-use Rattle.std.proofs.Common.{◌≡◌, ◌++◌, ◌+◌, ◌≤◌, ◌∷◌, [], List, ℕ, take, None, IsSome, length, sym, ap, ◌∙◌, subst, slice_index_or, arith}
-use Rattle.std.proofs.lemmas.List.{take_more, take_all}
+use Rattle.std.proofs.Common.{◌≡◌, ◌++◌, ◌+◌, ◌∷◌, [], take, None, IsSome, sym, ap, ◌∙◌, subst, slice_index_or}
+use Rattle.std.proofs.lemmas.List.{take_more}
 use Rattle.pliron_blocks.specs.Leaving.{DropsAll, DropsAll.Done}
 use Rattle.pliron_core.specs.Erased.{uses_dropped}
 use Rattle.pliron_visits.proofs.ListLemmas.{item_in}

@@ -1,10 +1,8 @@
 use Rattle.std.proofs.Common.{◌≡◌, ◌++◌, ◌+◌, ◌∷◌, [], take, drop, inl, refl, sym, ap, ◌∙◌, subst}
 use Rattle.std.proofs.lemmas.List.{take_more, drop_more}
-use Rattle.pliron_core.specs.Tree.{In}
 use Rattle.pliron_core.specs.Erased.{block_erased}
 use Rattle.pliron_core.specs.Joined.{IsTree}
 use Rattle.pliron_removal.proofs.EraseSteps.{AreErased, none_erased, next_stands, next_contained, one_erased}
-use Rattle.pliron_visits.proofs.ListLemmas.{item_in}
 use Rattle.pliron_removal.proofs.erasing.erase_each.Goals as goal
 
 pub loop-block-init : goal.loop-block-init

@@ -1,8 +1,7 @@
-use Rattle.std.proofs.Common.{◌≡◌, ◌⊎◌, ◌↔◌, [], ◌∷◌, ℕ, List, Some, IsSome, inl, inr, ⊎_elim, refl, sym, ap, ◌∙◌, subst, length, arith, Ok, Err}
+use Rattle.std.proofs.Common.{◌≡◌, [], IsSome, inl, inr, ⊎_elim, refl, sym, subst, length, arith}
 use Rattle.std.proofs.lemmas.Result.{err_from_is_err_and}
-use Rattle.pliron_core.specs.Tree.{In, layout_of, block_parent_of}
+use Rattle.pliron_core.specs.Tree.{In}
 use Rattle.pliron_core.proofs.ListLemmas.{decide_in}
-use Rattle.pliron_visits.specs.Visited.{IsCutOff}
 use Rattle.pliron_removal.specs.Internal.OtherUses.{HaveNoOtherUse, HaveOtherUse}
 use Rattle.pliron_removal.proofs.CheckLemmas.{empty_list, some_item}
 use Rattle.pliron_removal.proofs.CutOffLemmas.{exact, may_go, live_use}

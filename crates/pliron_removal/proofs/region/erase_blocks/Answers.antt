@@ -1,4 +1,3 @@
-use Rattle.pliron_blocks.specs.Leaving.{GoesWell}
 use Rattle.pliron_removal.proofs.DroppedNames.{unnamed, own_after}
 use Rattle.pliron_removal.proofs.region.erase_blocks.Goals as goal
 

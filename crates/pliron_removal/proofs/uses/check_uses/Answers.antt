@@ -1,9 +1,9 @@
-use Rattle.std.proofs.Common.{◌≡◌, ◌++◌, [], ℕ, List, inr, sym, ap, ◌∙◌, subst}
+use Rattle.std.proofs.Common.{◌≡◌, ◌++◌, inr, sym, ap, ◌∙◌, subst}
 use Rattle.std.specs.List.{flat_map}
 use Rattle.std.proofs.lemmas.Result.{MatchResult-weaker, on_ok_weaker}
-use Rattle.pliron_core.specs.Tree.{In, IsLive}
-use Rattle.pliron_removal.specs.Internal.Contents.{contents_in, blocks_below, values_of, HasUseOutside, IsUsedWithin}
-use Rattle.pliron_removal.proofs.ContentsLemmas.{all, values, op_live, block_stands, value_defined, no_other_use, other_use}
+use Rattle.pliron_core.specs.Tree.{In}
+use Rattle.pliron_removal.specs.Internal.Contents.{contents_in, blocks_below, values_of}
+use Rattle.pliron_removal.proofs.ContentsLemmas.{op_live, block_stands, value_defined, no_other_use, other_use}
 use Rattle.pliron_removal.proofs.uses.check_uses.Goals as goal
 
 pub push_inner_blocks-requires : goal.push_inner_blocks-requires

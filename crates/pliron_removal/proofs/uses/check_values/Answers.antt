@@ -1,6 +1,5 @@
-use Rattle.std.proofs.Common.{◌≡◌, ◌≤◌, length, inl, inr, ⊎_elim, sym, subst, arith}
+use Rattle.std.proofs.Common.{◌≤◌, length, ⊎_elim, sym, subst, arith}
 use Rattle.std.proofs.lemmas.Result.{err_from_is_err_and}
-use Rattle.pliron_core.specs.Tree.{In}
 use Rattle.pliron_visits.proofs.ListLemmas.{item_in}
 use Rattle.pliron_removal.specs.Internal.Contents.{IsUsedWithin}
 use Rattle.pliron_removal.proofs.CheckLemmas.{taken_split, taken_whole}
