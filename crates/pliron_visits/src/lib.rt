@@ -6,4 +6,6 @@
 mod last_first;
 pub mod visits;
 
-pub use visits::{Visits, visits_inside_block, visits_inside_op, visits_inside_region};
+pub use visits::{
+    Visits, operations_of, visits_inside_block, visits_inside_op, visits_inside_region,
+};

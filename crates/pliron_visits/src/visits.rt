@@ -22,8 +22,8 @@ pub struct Visits {
     pub blocks: Vec<Ptr<BasicBlock>>,
 }
 
-// The operations of a block, in order.
-fn operations_of(
+/// The operations of a block, in order. Cost: linear. Errors: want of memory.
+pub fn operations_of(
     alloc: Global,
     ctx: &Context,
     block: Ptr<BasicBlock>,
