@@ -90,12 +90,13 @@ module _ (m : Meaning) (can_fold can_fold_branch : Head → Bool) (constants : C
             inside = ⊎_elim (λ same. same_change t u root w.joined wu.joined same) (λ r. rebranched_inside t u root r.0 op r.1 r.2 w wu branch.0 r.3) s;
             runs = folds t u root op known answer w wu longer linked branch.0 branch.1 (length_map (λ v. known_of m can_fold constants t (definition_of t v)) (operands_of t op)) (known_read m can_fold constants t answered w op) is;
           };
+          blocks = ⊎_elim (λ same b. same.block_parents b) (λ r b. r.3.block_parents b) s;
           others = others s;
         }
 
   -- where memory was refused before anything was done
   pub no_step : (t : Tree) (root op : ℕ) → IsTree t → IsWellLinked m t root → IsBranchInside can_fold_branch t root op → IsFoldStep m can_fold_branch t t root op
-  no_step t root op w linked branch = record { tree = w; change = change_refl m t root (inside_live-outer t w root op branch.0) linked; others = λ k ne b. b }
+  no_step t root op w linked branch = record { tree = w; change = change_refl m t root (inside_live-outer t w root op branch.0) linked; blocks = λ b. refl; others = λ k ne b. b }
 
 -- one answer after the other
 module _ (t u v : Tree) (w : IsTree t) (wu : IsTree u) (gone : (k : ℕ) → IsLive t k → head_of u k ≡ None → head_of v k ≡ None) where
@@ -138,6 +139,7 @@ module _ (m : Meaning) (can_fold can_fold_branch : Head → Bool) (constants : C
   folding_start live linked = record {
     tree = w;
     change = change_refl m start root live linked;
+    blocks = λ b. refl;
     waiting = λ k i.
         let found = In-filter (λ z. passes can_fold_branch (head_of start z)) (contents start root) k i in
         (contents-inside start w root k found.0, λ h e. sym (ap (passes can_fold_branch) e) ∙ found.1);
@@ -159,6 +161,7 @@ module _ (m : Meaning) (can_fold can_fold_branch : Head → Bool) (constants : C
       folding_next next one is told step = record {
         tree = step.tree;
         change = change_trans m start now next root on.change step.change;
+        blocks = λ b. step.blocks b ∙ on.blocks b;
         waiting = λ k j. step.others k (λ e. apart.0 (subst (λ z. In z (drop (i + 1) branches)) e j)) (on.waiting k (subst (In k) (sym (drop_at branches i op at)) (inr j)));
         distinct = apart.1;
         all = λ u rest done. subst (FoldsAll m can_fold constants outcome branches start u) (either_again status one rest) (on.all u (changed_by_either one rest) (subst (λ l. FoldsAll m can_fold constants outcome l now u (changed_by_either one rest)) (sym (drop_at branches i op at)) (Next op one is done)));

@@ -1,6 +1,6 @@
 //! Branches are folded by what is known of their operands.
 ghost use Rattle.std.specs.Prelude.{◌≡◌, ◌++◌, ◌⊎◌, ℕ, Some, None, OnOk, OnErr, IfOk, IfErr};
-ghost use Rattle.pliron_core.specs.Tree.{IsLive};
+ghost use Rattle.pliron_core.specs.Tree.{IsLive, block_parent_of};
 ghost use Rattle.pliron_laws.specs.InPlace.{TellsChange};
 ghost use Rattle.pliron_laws.specs.Linked.{IsWellLinked};
 ghost use Rattle.pliron_laws.specs.declared.fault.OptError.TheVariants.{Memory};
@@ -95,7 +95,8 @@ fn fold_one<D: Dialect, R: Rewriter + Room>(
 /// collected in pre-order, then each is folded by the constants that are known of its operands. A constant
 /// is known of a value where what makes the value folds, and answers it with no operand known.
 ///
-/// Asks that the operation stands and is well linked. `Changed` exactly if the tree changed.
+/// Asks that the operation stands and is well linked. `Changed` exactly if the tree changed: a branch went
+/// then. Blocks stay.
 ///
 /// Errors: want of memory, after some of the folds.
 ///
@@ -111,6 +112,8 @@ pub fn fold_branches<D: Dialect, R: Rewriter + Room>(
     requires linked { IsWellLinked D.meaning ctx.old.tree root }
     ensures folds { IfOk result (λ status. FoldsAll D.meaning D.can_fold D.constants D.BranchOpFoldInterface.outcome (branches_of D.can_fold_branch ctx.old.tree root) ctx.old.tree ctx.new.tree status) }
     ensures tells { IfOk result (λ status. TellsChange (Some status) ctx.old.tree ctx.new.tree) }
+    ensures told { IfOk result (λ status. IsTold status ctx.old.tree ctx.new.tree) }
+    ensures blocks { OnOk result ((b : ℕ) → block_parent_of ctx.new.tree b ≡ block_parent_of ctx.old.tree b) }
     ensures refused { OnErr result (FoldsSome D.meaning D.can_fold D.constants D.BranchOpFoldInterface.outcome (branches_of D.can_fold_branch ctx.old.tree root) ctx.old.tree ctx.new.tree) }
     ensures err { IfErr result (λ e. e ≡ Memory) }
     ensures change { IsPassChange D.meaning ctx.old.tree ctx.new.tree root }

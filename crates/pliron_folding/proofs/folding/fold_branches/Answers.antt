@@ -62,3 +62,9 @@ returns-clause-change g c = c.loop-i.invariant.change
 
 pub returns-clause-links : goal.returns-clause-links
 returns-clause-links g c = linked_still _ _ _ c.args.root c.well_formed-2.ensures.tree c.loop-i.invariant.tree c.loop-i.invariant.change
+
+pub returns-clause-told : goal.returns-clause-told
+returns-clause-told g c = c.loop-i.invariant.told
+
+pub returns-clause-blocks : goal.returns-clause-blocks
+returns-clause-blocks g c = c.loop-i.invariant.blocks
