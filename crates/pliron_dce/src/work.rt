@@ -1,4 +1,5 @@
-//! What is still to be looked at.
+//! What is still to be looked at: candidates are taken from the back, and what lost a use goes to the
+//! front, so that it is looked at after those that wait already.
 ghost use Rattle.std.specs.Prelude.{◌≡◌, ◌↔◌, ◌++◌, ◌∷◌, [], IfOk, OnOk, IfErr, IfSome, IfNone, IsTrue};
 ghost use Rattle.pliron_core.specs.Tree.{IsLive, IsDefined};
 ghost use Rattle.pliron_laws.specs.Linked.{IsWellLinked};

@@ -1,0 +1,503 @@
+#!/usr/bin/env python3
+"""Programs of known shapes, to measure optimisations.
+
+  shapes.py SHAPE N bench|llvm      a text of about N operations
+  shapes.py list                    the names of the shapes
+
+One program is built and printed in two notations, so that both optimisers see the same control flow: in
+that of this repository, with the shortest names and no blanks, and in LLVM's, where an argument of a
+block is a phi and a constant stands where it is used, so that there are fewer operations.
+"""
+import random
+import sys
+
+FIRST = "abcdefghijklmnopqrstuvwxyzABCDEFGHIJKLMNOPQRSTUVWXYZ"
+REST = FIRST + "0123456789_"
+KINDS = {"mod", "func", "const", "add", "mul", "div", "read", "print", "pair",
+         "sink", "scope", "box", "br", "cbr", "ret", "fork"}
+
+
+def short_names():
+    """a, b, .., Z, aa, ab, ..: the shortest names of the bench notation."""
+    length = 1
+    while True:
+        idx = [0] * length
+        total = len(FIRST) * len(REST) ** (length - 1)
+        for n in range(total):
+            k, out = n, []
+            for _ in range(length - 1):
+                out.append(REST[k % len(REST)])
+                k //= len(REST)
+            name = FIRST[k] + "".join(out)
+            if name not in KINDS:
+                yield name
+        length += 1
+
+
+class Block:
+    __slots__ = ("id", "args", "ops", "term")
+
+    def __init__(self, id, nargs, fn):
+        self.id = id
+        self.args = [fn.value() for _ in range(nargs)]
+        self.ops = []        # (kind, result | None, operands | number)
+        self.term = None     # ('br', edge) | ('cbr', cond, edge, edge) | ('ret', [values])
+
+
+class Fn:
+    """One function over 64-bit integers; `params` are the entry's arguments."""
+
+    def __init__(self, params=0):
+        self.nvals = 0
+        self.blocks = []
+        self.entry = self.block(params)
+
+    def value(self):
+        self.nvals += 1
+        return self.nvals - 1
+
+    def block(self, nargs=0):
+        b = Block(len(self.blocks), nargs, self)
+        self.blocks.append(b)
+        return b
+
+    def const(self, b, n):
+        r = self.value()
+        b.ops.append(("const", r, n))
+        return r
+
+    def bin(self, b, kind, x, y):
+        r = self.value()
+        b.ops.append((kind, r, (x, y)))
+        return r
+
+    def read(self, b):
+        r = self.value()
+        b.ops.append(("read", r, ()))
+        return r
+
+    def print(self, b, x):
+        b.ops.append(("print", None, (x,)))
+
+    def br(self, b, to, *vals):
+        b.term = ("br", (to, vals))
+
+    def cbr(self, b, c, to1, v1, to2, v2):
+        b.term = ("cbr", c, (to1, tuple(v1)), (to2, tuple(v2)))
+
+    def ret(self, b, *vals):
+        b.term = ("ret", vals)
+
+    def count(self):
+        return sum(len(b.ops) + 1 for b in self.blocks)
+
+
+def chain(n, rng):
+    """straight line, every add folds: x(i+1) = x(i) + 1."""
+    f = Fn()
+    b = f.entry
+    one = f.const(b, 1)
+    x = one
+    for _ in range(max(1, n - 2)):
+        x = f.bin(b, "add", x, one)
+    f.ret(b, x)
+    return [f]
+
+
+def diamonds(n, rng):
+    """diamonds with known conditions; the constant goes through the taken side."""
+    f = Fn()
+    one = f.const(f.entry, 1)
+    two = f.const(f.entry, 2)
+    cur = f.block(1)
+    f.br(f.entry, cur, one)
+    for _ in range(max(1, n // 6)):
+        q = cur.args[0]
+        c = f.bin(cur, "add", q, one)
+        left, right, nxt = f.block(1), f.block(1), f.block(1)
+        f.cbr(cur, c, left, [q], right, [q])
+        f.br(left, nxt, f.bin(left, "add", left.args[0], two))
+        f.br(right, nxt, f.bin(right, "mul", right.args[0], two))
+        cur = nxt
+    f.ret(cur, cur.args[0])
+    return [f]
+
+
+def merges(n, rng):
+    """unknown conditions; both sides forward one equal and one differing constant."""
+    f = Fn()
+    one = f.const(f.entry, 1)
+    two = f.const(f.entry, 2)
+    cur = f.block(2)
+    f.br(f.entry, cur, one, two)
+    for _ in range(max(1, n // 6)):
+        q, w = cur.args
+        r = f.read(cur)
+        left, right, nxt = f.block(0), f.block(0), f.block(2)
+        f.cbr(cur, r, left, [], right, [])
+        f.br(left, nxt, f.bin(left, "mul", q, one), one)
+        f.br(right, nxt, f.bin(right, "mul", q, one), two)
+        cur = nxt
+    f.ret(cur, *cur.args)
+    return [f]
+
+
+def loops(n, rng):
+    """loops one after the other; one carried value stays constant (needs optimism), one varies."""
+    f = Fn()
+    one = f.const(f.entry, 1)
+    zero = f.const(f.entry, 0)
+    cur = f.block(2)
+    f.br(f.entry, cur, zero, one)
+    for _ in range(max(1, n // 4)):
+        i, k = cur.args
+        ni = f.bin(cur, "add", i, one)
+        nk = f.bin(cur, "mul", k, one)
+        r = f.read(cur)
+        nxt = f.block(2)
+        f.cbr(cur, r, cur, [ni, nk], nxt, [zero, nk])
+        cur = nxt
+    f.ret(cur, *cur.args)
+    return [f]
+
+
+def nest(n, rng):
+    """loops nested to depth n/8: header(i, k) of depth d jumps in, latch goes back or out."""
+    f = Fn()
+    one = f.const(f.entry, 1)
+    zero = f.const(f.entry, 0)
+    depth = max(1, n // 7)
+    headers, prev, k = [], f.entry, one
+    for _ in range(depth):
+        h = f.block(2)
+        f.br(prev, h, zero, k)
+        headers.append(h)
+        k = f.bin(h, "mul", h.args[1], one)
+        prev = h
+    latches = [f.block(0) for _ in range(depth)]
+    f.br(prev, latches[-1])
+    out = f.block(0)
+    for d in reversed(range(depth)):
+        la, h = latches[d], headers[d]
+        ni = f.bin(la, "add", h.args[0], one)
+        nk = f.bin(la, "mul", h.args[1], one)
+        r = f.read(la)
+        to = latches[d - 1] if d else out
+        f.cbr(la, r, h, [ni, nk], to, [])
+    f.ret(out, headers[0].args[1])
+    return [f]
+
+
+def brchain(n, rng):
+    """a long chain of blocks that all merge into one, in text order."""
+    f = Fn(1)
+    one = f.const(f.entry, 1)
+    cur, x = f.entry, f.entry.args[0]
+    for _ in range(max(1, n // 2)):
+        nxt = f.block(1)
+        f.br(cur, nxt, x)
+        x = f.bin(nxt, "add", nxt.args[0], one)
+        cur = nxt
+    f.ret(cur, x)
+    return [f]
+
+
+def brchain_rev(n, rng):
+    """the same chain with its blocks written last to first: bad for a merge in text order."""
+    fs = brchain(n, rng)
+    f = fs[0]
+    f.blocks = [f.blocks[0]] + f.blocks[:0:-1]
+    return fs
+
+
+def unreach(n, rng):
+    """half the operations stand in blocks that nothing reaches (a long chain with a ring)."""
+    f = Fn(1)
+    one = f.const(f.entry, 1)
+    half = max(2, n // 4)
+    live, x = f.entry, f.entry.args[0]
+    for _ in range(half):
+        x = f.bin(live, "add", x, one)
+        x = f.bin(live, "mul", x, one)
+    f.ret(live, x)
+    first = cur = f.block(1)
+    for _ in range(half - 1):
+        y = f.bin(cur, "add", cur.args[0], one)
+        nxt = f.block(1)
+        f.br(cur, nxt, y)
+        cur = nxt
+    f.br(cur, first, f.bin(cur, "add", cur.args[0], one))
+    return [f]
+
+
+def dead(n, rng):
+    """a dead value goes through every block's argument; only the last use is missing."""
+    f = Fn(1)
+    one = f.const(f.entry, 1)
+    cur, x = f.entry, f.entry.args[0]
+    for _ in range(max(1, n // 3)):
+        nxt = f.block(1)
+        f.br(cur, nxt, x)
+        x = f.bin(nxt, "add", nxt.args[0], one)
+        x = f.bin(nxt, "mul", x, x)
+        cur = nxt
+    f.ret(cur, f.entry.args[0])
+    return [f]
+
+
+def deadring(n, rng):
+    """loops that carry a value used by nothing else: `adce` takes it, `dce` leaves it."""
+    f = Fn(1)
+    one = f.const(f.entry, 1)
+    cur, x = f.entry, f.entry.args[0]
+    for _ in range(max(1, n // 4)):
+        h, nxt = f.block(1), f.block(0)
+        f.br(cur, h, x)
+        y = f.bin(h, "add", h.args[0], one)
+        r = f.read(h)
+        f.cbr(h, r, h, [y], nxt, [])
+        cur = nxt
+    f.ret(cur, x)
+    return [f]
+
+
+def fan(n, rng):
+    """n/2 blocks branch to one join: many predecessors, one argument, equal constants."""
+    f = Fn()
+    one = f.const(f.entry, 1)
+    two = f.const(f.entry, 2)
+    join = f.block(2)
+    cur = f.entry
+    for _ in range(max(1, n // 3)):
+        r = f.read(cur)
+        side, nxt = f.block(0), f.block(0)
+        f.cbr(cur, r, side, [], nxt, [])
+        f.br(side, join, one, two)
+        cur = nxt
+    f.br(cur, join, one, one)
+    f.ret(join, *join.args)
+    return [f]
+
+
+def manyargs(n, rng):
+    """one edge pair with n/2 operands into a block of n/2 dead arguments."""
+    f = Fn()
+    m = max(1, n // 3)
+    vals = [f.const(f.entry, i % 7) for i in range(m)]
+    r = f.read(f.entry)
+    left, join = f.block(0), f.block(m)
+    f.cbr(f.entry, r, left, [], join, vals)
+    f.br(left, join, *vals)
+    f.ret(join)
+    return [f]
+
+
+def liveargs(n, rng):
+    """as manyargs, but every second argument is returned."""
+    f = Fn()
+    m = max(1, n // 3)
+    vals = [f.const(f.entry, i % 7) for i in range(m)]
+    r = f.read(f.entry)
+    left, join = f.block(0), f.block(m)
+    f.cbr(f.entry, r, left, [], join, vals)
+    f.br(left, join, *vals)
+    f.ret(join, *join.args[::2])
+    return [f]
+
+
+def lateargs(n, rng):
+    """as manyargs, but each argument has one dead use, the last argument first."""
+    f = Fn()
+    m = max(1, n // 3)
+    vals = [f.const(f.entry, i % 7) for i in range(m)]
+    r = f.read(f.entry)
+    left, join = f.block(0), f.block(m)
+    f.cbr(f.entry, r, left, [], join, vals)
+    f.br(left, join, *vals)
+    for x in reversed(join.args):
+        f.bin(join, "add", x, x)
+    f.ret(join)
+    return [f]
+
+
+def shiftargs(n, rng):
+    """a loop whose arguments move on by one place each time; the first is used by nothing."""
+    f = Fn()
+    m = max(2, n // 3)
+    vals = [f.const(f.entry, i % 7) for i in range(m)]
+    loop, end = f.block(m), f.block(0)
+    f.br(f.entry, loop, *vals)
+    r = f.read(loop)
+    f.cbr(loop, r, loop, loop.args[1:] + [vals[0]], end, [])
+    f.ret(end)
+    return [f]
+
+
+def funcs(n, rng):
+    """n/10 small functions in one module, each a known diamond."""
+    out = []
+    for _ in range(max(1, n // 10)):
+        out += diamonds(6, rng)
+    return out
+
+
+def mixed(n, rng):
+    """random reducible program: a sequence of pieces of all of the above, one third dead."""
+    f = Fn(1)
+    one = f.const(f.entry, 1)
+    two = f.const(f.entry, 2)
+    cur, unk, known = f.entry, f.entry.args[0], one
+    while f.count() + 1 < n:
+        k = rng.randrange(6)
+        if k == 0:
+            for _ in range(rng.randrange(1, 8)):
+                known = f.bin(cur, rng.choice(["add", "mul"]), known, rng.choice([one, two]))
+        elif k == 1:
+            for _ in range(rng.randrange(1, 8)):
+                unk = f.bin(cur, rng.choice(["add", "mul"]), unk, rng.choice([known, unk]))
+        elif k == 2:
+            a, b, j = f.block(1), f.block(1), f.block(2)
+            f.cbr(cur, f.bin(cur, "mul", known, two), a, [known], b, [unk])
+            f.br(a, j, a.args[0], unk)
+            f.br(b, j, b.args[0], unk)
+            cur, known, unk = j, j.args[0], j.args[1]
+        elif k == 3:
+            h, o = f.block(2), f.block(0)
+            f.br(cur, h, unk, known)
+            nu = f.bin(h, "add", h.args[0], one)
+            nk = f.bin(h, "mul", h.args[1], one)
+            f.cbr(h, f.read(h), h, [nu, nk], o, [])
+            cur, unk, known = o, h.args[0], h.args[1]
+        elif k == 4:
+            nxt = f.block(1)
+            f.br(cur, nxt, unk)
+            cur, unk = nxt, nxt.args[0]
+        else:
+            d = unk
+            for _ in range(rng.randrange(1, 10)):
+                d = f.bin(cur, "add", d, unk)
+    f.print(cur, known)
+    f.ret(cur, unk)
+    return [f]
+
+
+SHAPES = {"chain": chain, "diamonds": diamonds, "merges": merges, "loops": loops,
+          "nest": nest, "brchain": brchain, "brchain_rev": brchain_rev,
+          "unreach": unreach, "dead": dead, "deadring": deadring, "fan": fan,
+          "manyargs": manyargs, "liveargs": liveargs,
+          "lateargs": lateargs, "shiftargs": shiftargs, "funcs": funcs, "mixed": mixed}
+
+
+def bench(fns, w):
+    if len(fns) > 1:
+        w("mod{z():")
+    for i, f in enumerate(fns):
+        if i:
+            w(";")
+        bench_fn(f, w)
+    if len(fns) > 1:
+        w("}")
+    w("\n")
+
+
+def bench_fn(f, w):
+    # values and blocks have separate name spaces; both get the shortest names
+    gv, gb = short_names(), short_names()
+    v = [next(gv) for _ in range(f.nvals)]
+    bn = {b.id: next(gb) for b in f.blocks}
+
+    def edge(e):
+        return bn[e[0].id] + "(" + ",".join(v[x] for x in e[1]) + ")"
+
+    w("func{")
+    for i, b in enumerate(f.blocks):
+        if i:
+            w(";")
+        w(bn[b.id] + "(" + ",".join(v[x] for x in b.args) + "):")
+        for kind, r, a in b.ops:
+            if kind == "const":
+                w(f"{v[r]}=const {a};")
+            elif r is None:
+                w(kind + " " + " ".join(v[x] for x in a) + ";")
+            else:
+                w(f"{v[r]}={kind}" + "".join(" " + v[x] for x in a) + ";")
+        t = b.term
+        if t[0] == "br":
+            w("br " + edge(t[1]))
+        elif t[0] == "cbr":
+            w(f"cbr {v[t[1]]} {edge(t[2])}{edge(t[3])}")
+        else:
+            w("ret" + "".join(" " + v[x] for x in t[1]))
+    w("}")
+
+
+def llvm(fns, w):
+    w(f"; ops {sum(f.count() for f in fns)} blocks {sum(len(f.blocks) for f in fns)} funcs {len(fns)}\n")
+    w("declare i64 @read()\ndeclare void @print(i64)\n")
+    for n, f in enumerate(fns):
+        llvm_fn(n, f, w)
+
+
+def llvm_fn(n, f, w):
+    consts = {r: a for b in f.blocks for kind, r, a in b.ops if kind == "const"}
+
+    def val(x):
+        return str(consts[x]) if x in consts else f"%v{x}"
+
+    incoming = {b.id: [[] for _ in b.args] for b in f.blocks}
+    for b in f.blocks:
+        for e in b.term[1:] if b.term[0] == "br" else b.term[2:] if b.term[0] == "cbr" else []:
+            for i, x in enumerate(e[1]):
+                incoming[e[0].id][i].append((val(x), b.id))
+    nret = max(len(b.term[1]) for b in f.blocks if b.term[0] == "ret")
+    rt = "void" if nret == 0 else "i64" if nret == 1 else "{" + ", ".join(["i64"] * nret) + "}"
+    w(f"define {rt} @f{n}(" + ", ".join(f"i64 %v{x}" for x in f.entry.args) + ") {\n")
+    for b in f.blocks:
+        w(f"b{b.id}:\n")
+        if b is not f.entry:
+            for i, x in enumerate(b.args):
+                inc = incoming[b.id][i]
+                if inc:
+                    w(f"  %v{x} = phi i64 " + ", ".join(f"[{y}, %b{p}]" for y, p in inc) + "\n")
+                else:                       # unreachable head of a chain without a predecessor
+                    w(f"  %v{x} = add i64 0, 0\n")
+        for kind, r, a in b.ops:
+            if kind == "read":
+                w(f"  %v{r} = call i64 @read()\n")
+            elif kind == "print":
+                w(f"  call void @print(i64 {val(a[0])})\n")
+            elif kind != "const":
+                w(f"  %v{r} = {'sdiv' if kind == 'div' else kind} i64 {val(a[0])}, {val(a[1])}\n")
+        t = b.term
+        if t[0] == "br":
+            w(f"  br label %b{t[1][0].id}\n")
+        elif t[0] == "cbr":
+            w(f"  %c{b.id} = icmp ne i64 {val(t[1])}, 0\n")
+            w(f"  br i1 %c{b.id}, label %b{t[2][0].id}, label %b{t[3][0].id}\n")
+        elif nret == 0:
+            w("  ret void\n")
+        elif nret == 1:
+            w(f"  ret i64 {val(t[1][0])}\n")
+        else:
+            agg = "undef"
+            for i, x in enumerate(t[1]):
+                w(f"  %r{b.id}_{i} = insertvalue {rt} {agg}, i64 {val(x)}, {i}\n")
+                agg = f"%r{b.id}_{i}"
+            w(f"  ret {rt} {agg}\n")
+    w("}\n")
+
+
+PRINT = {"bench": bench, "llvm": llvm}
+
+
+def text_of(shape, n, notation):
+    parts = []
+    PRINT[notation](SHAPES[shape](n, random.Random(1)), parts.append)
+    return "".join(parts)
+
+
+if __name__ == "__main__":
+    if len(sys.argv) == 2 and sys.argv[1] == "list":
+        print(*SHAPES)
+    else:
+        sys.stdout.write(text_of(sys.argv[1], int(sys.argv[2]), sys.argv[3]))
