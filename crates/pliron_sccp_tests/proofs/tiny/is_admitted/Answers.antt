@@ -1,10 +1,11 @@
 use Rattle.std.proofs.Common.{◌≡◌, length, sym, ap, ◌∙◌}
 use Rattle.pliron_core.specs.Tree.{operands_of, results_of, successors_of, regions_of}
 use Rattle.pliron_core.proofs.HoldingLemmas.{some_is}
-use Rattle.pliron_evaluator.specs.Tiny.{admits_of, kind_of}
+use Rattle.pliron_evaluator.specs.Tiny.{tiny, admits_of, kind_of}
 use Rattle.pliron_sccp_tests.proofs.tiny.is_admitted.Goals as goal
 
 pub returns : goal.returns
+unfolding tiny
 returns c = λ yes h e.
     let t = c.args.ctx.now.tree in
     let op = c.args.op in
