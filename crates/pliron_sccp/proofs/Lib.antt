@@ -14,3 +14,12 @@ pub mod Listing
 pub mod ListedFolds
 pub mod ListedArguments
 pub mod FoundChange
+pub mod Going
+pub mod Tracked
+pub mod UserLists
+pub mod InsideLists
+pub mod Stepping
+pub mod Accounting
+pub mod OnTheWay
+pub mod BestLook
+pub mod BestSteps

@@ -11,3 +11,8 @@ pub mod Falling
 pub mod Inside
 pub mod Searched
 pub mod Listed
+pub mod Looking
+pub mod Starting
+pub mod Searching
+pub mod Accounts
+pub mod Best

@@ -54,7 +54,14 @@ fn ask_region(region: Ptr<Region>, ctx: &Context, asked: &mut Vec<Demand>) -> Re
 }
 
 /// The entry of each region is entered.
-fn ask_entries(op: Ptr<Operation>, ctx: &Context, asked: &mut Vec<Demand>) -> Result<(), OptError>
+///
+/// Asks that the operation stands. Errors: want of memory. Cost: one step for each region and for each
+/// argument of an entry.
+pub fn ask_entries(
+    op: Ptr<Operation>,
+    ctx: &Context,
+    asked: &mut Vec<Demand>,
+) -> Result<(), OptError>
     requires { IsLive ctx.now.tree op }
     ensures ok { OnOk result (Adds asked.old.items asked.new.items (λ now. AsksEntries ctx.now.tree op now)) }
     ensures err { IfErr result (λ e. e ≡ Memory) }

@@ -10,9 +10,12 @@ pub mod applying;
 pub mod collecting;
 pub mod demands;
 pub mod found;
+pub mod looking;
 mod propagation;
 pub mod rewriting;
 pub mod searching;
+pub mod starting;
 pub mod tables;
+pub mod users;
 
 pub use propagation::{sccp, sccp_counted};
