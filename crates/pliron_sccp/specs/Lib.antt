@@ -10,7 +10,6 @@ pub mod Demands
 pub mod Falling
 pub mod Inside
 pub mod Looking
-pub mod Searched
 pub mod Starting
 pub mod Searching
 pub mod Accounts

@@ -6,16 +6,16 @@
 //! It stands on the theory of runs and knows nothing of the other optimisations, of passes and of the program.
 #![tactic(auto)]
 
-pub mod applying;
-pub mod collecting;
-pub mod demands;
-pub mod found;
-pub mod looking;
+mod applying;
+mod collecting;
+mod demands;
+mod found;
+mod looking;
 mod propagation;
-pub mod rewriting;
-pub mod searching;
-pub mod starting;
-pub mod tables;
-pub mod users;
+mod rewriting;
+mod searching;
+mod starting;
+mod tables;
+mod users;
 
 pub use propagation::{sccp, sccp_counted};

@@ -51,7 +51,7 @@ pub fn sccp_counted<D: Dialect>(
 /// these facts, and after these a constant is put for each constant argument of such a block. Nothing is
 /// erased, and results and arguments without uses get their constants too.
 ///
-/// Wegman and Zadeck, "Constant propagation with conditional branches", 1991, section 4, over blocks with
+/// Wegman and Zadeck, "Constant propagation with conditional branches", 1991, section 3, over blocks with
 /// arguments; a user is looked at again only where its block was looked at before.
 ///
 /// Asks that the operation stands and is well linked. Answers `Changed` exactly if a constant was put.
