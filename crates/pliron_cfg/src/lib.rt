@@ -1,0 +1,50 @@
+//! Simplifying the control flow of a tree: branches are folded, blocks that nothing leads to are removed,
+//! and blocks that need not be apart are merged.
+//!
+//! It puts the three together, and passes the names of removal and merging on.
+#![tactic(auto)]
+
+ghost use Rattle.std.specs.Prelude.{◌≡◌, ℕ, IfOk, IfErr};
+ghost use Rattle.pliron_core.specs.Tree.{IsLive};
+ghost use Rattle.pliron_laws.specs.Linked.{IsWellLinked};
+ghost use Rattle.pliron_theory.specs.Change.{IsPassChange};
+ghost use Rattle.pliron_cfg.specs.Simplified.{Simplifies, SimplifyFails};
+
+use pliron_core::{Context, IRRewriter, IRStatus, Operation, Ptr};
+use pliron_folding::fold_branches;
+use pliron_laws::{Dialect, OptError};
+pub use pliron_merging::{merge_inside_block, merge_inside_op, merge_inside_region};
+pub use pliron_removal::remove_blocks_inside_op;
+use std::alloc::Global;
+
+/// Simplifies the control flow inside the operation, once: folds the branches inside by what is known of
+/// their operands, as `pliron_folding::fold_branches`, then removes unreachable blocks, as
+/// `remove_blocks_inside_op`, then merges blocks, as `merge_inside_op`.
+///
+/// Asks that the operation stands and is well linked. `Changed` exactly if the tree changed. No unreachable
+/// block and no mergeable pair is left where it looks.
+///
+/// Errors: want of memory; `LiveUse` where a value of an unreachable block is used outside the unreachable
+/// blocks of its region. The tree is then one after some whole rewrites: some folds; all of them, and some
+/// regions without their unreachable blocks; all of both, and some merges.
+///
+/// Cost: that of the three calls, each linear in what it looks at and takes out.
+pub fn simplify_cfg<D: Dialect>(
+    alloc: Global,
+    op: Ptr<Operation>,
+    ctx: &mut Context,
+) -> Result<IRStatus, OptError>
+    requires live { IsLive ctx.old.tree op }
+    requires linked { IsWellLinked D.meaning ctx.old.tree op }
+    ensures ok { IfOk result (λ status. Simplifies D.meaning D.can_fold D.can_fold_branch D.constants D.BranchOpFoldInterface.outcome op ctx.old.tree ctx.new.tree status) }
+    ensures err { IfErr result (λ e. SimplifyFails D.meaning D.can_fold D.can_fold_branch D.constants D.BranchOpFoldInterface.outcome op ctx.old.tree ctx.new.tree e) }
+    ensures change { IsPassChange D.meaning ctx.old.tree ctx.new.tree op }
+{
+    ctx.well_formed();
+    let mut rewriter = IRRewriter::new();
+    let mut status = fold_branches::<D, IRRewriter>(alloc, op, ctx, &mut rewriter)?;
+    ctx.well_formed();
+    status |= remove_blocks_inside_op::<D, IRRewriter>(alloc, op, ctx, &mut rewriter)?;
+    status |= merge_inside_op::<D, IRRewriter>(alloc, op, ctx, &mut rewriter)?;
+    Ok(status)
+}
