@@ -1,2 +1,3 @@
 pub mod ReadConstants
 pub mod ForwardedLemmas
+pub mod WorkedFit

@@ -28,3 +28,5 @@ mod runs;
 mod tiny;
 #[cfg(test)]
 mod trees;
+#[cfg(test)]
+mod worked;
