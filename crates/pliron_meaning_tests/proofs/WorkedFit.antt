@@ -1,5 +1,5 @@
 -- The root of the worked tree is fit to run.
-use Rattle.std.proofs.Common.{◌≡◌, ◌≢◌, ◌⊎◌, ℕ, zero, suc, true, false, List, [], ◌∷◌, ◌++◌, length, Some, None, slice_get, refl, sym, subst, inl, inr, true≢false, IsTrue, arith}
+use Rattle.std.proofs.Common.{◌≡◌, ◌≢◌, ℕ, zero, suc, false, List, [], ◌∷◌, ◌++◌, length, Some, None, slice_get, refl, sym, subst, inl, inr, true≢false, IsTrue, arith}
 use Rattle.pliron_core.specs.declared.attrs.Head.{Head}
 use Rattle.pliron_core.specs.Tree.{In, IsInside, IsInside.Directly, IsWithin, head_of, operands_of, successors_of, results_of, regions_of, parent_of, body_of, arguments_of, block_parent_of, last_of}
 use Rattle.pliron_core.specs.Changes.{IsMadeInside}
@@ -8,7 +8,7 @@ use Rattle.pliron_core.proofs.HoldingLemmas.{some_is, not_none}
 use Rattle.pliron_laws.specs.Answers.{HeadPasses}
 use Rattle.pliron_laws.specs.Tree.{Operation, op_at, shape_of}
 use Rattle.pliron_laws.specs.Root.{IsDominated, WellDefined}
-use Rattle.pliron_laws.specs.Linked.{EndsBlock, EdgesLast, IsAdmitted}
+use Rattle.pliron_laws.specs.Linked.{EdgesLast, IsAdmitted}
 use Rattle.pliron_theory.specs.Keeps.{IsFit}
 use Rattle.pliron_evaluator.specs.Tiny.{tiny, forwarded_along}
 use Rattle.pliron_meaning_tests.specs.Worked.{worked}
@@ -48,7 +48,7 @@ forwards zero i b o w e is s = absurd (not_true (subst (λ z. IsTrue (tiny.is_br
 forwards (suc zero) i b o w e is s = absurd (not_true (subst (λ z. IsTrue (tiny.is_branch z.head)) (sym (some_is e)) is))
 forwards (suc (suc zero)) i b o w e is s =
     subst (λ z. length (tiny.forwarded (shape_of tiny worked z) i) ≡ length (arguments_of worked b)) (some_is e)
-      (along i b (subst (λ z. slice_get z.successors i ≡ Some b) (sym (some_is e)) s))
+    (along i b (subst (λ z. slice_get z.successors i ≡ Some b) (sym (some_is e)) s))
 forwards (suc (suc (suc zero))) i b o w e is s = absurd (not_true (subst (λ z. IsTrue (tiny.is_branch z.head)) (sym (some_is e)) is))
 forwards (suc (suc (suc (suc k)))) i b o w e is s = absurd (not_none e)
 
