@@ -9,6 +9,8 @@ mod deep;
 #[cfg(test)]
 mod edges;
 #[cfg(test)]
+mod names;
+#[cfg(test)]
 mod reads;
 #[cfg(test)]
 mod steps;

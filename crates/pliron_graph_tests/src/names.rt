@@ -123,6 +123,7 @@ fn laws_that_users_may_cite(rt: HostRuntime) {
     laws::walk_from_first_node::<u32>();
     laws::back_edge_on_cycle::<u32>();
     laws::edge_between_components::<u32>();
+    laws::paths_of_regions();
     laws::sentinel_reaches_all::<u32>();
     laws::no_pre_sentinel_is_spare::<u32>();
     laws::equality_of_reverse_nodes::<u32>();

@@ -1,2 +1,4 @@
 pub mod ReadConstants
 pub mod ForwardedLemmas
+pub mod WorkedFit
+pub mod WorkedTree

@@ -2,8 +2,9 @@
 //! folding constants in place leaves: by values worked out by hand.
 use crate::answers::{effects, interfaces, removable};
 use crate::cases::{all_known, check, fields, known, line, number, operation_at, read, sides};
+use crate::listener::Counting;
 use crate::trees::build;
-use pliron_core::{AttrObj, Context, IRRewriter, IRStatus, Operation, Ptr, Rewriter};
+use pliron_core::{AttrObj, Context, IRStatus, Operation, Ptr, Rewriter};
 use pliron_meaning::bench::{Bench, BenchKind};
 use pliron_meaning::{BlockArgRemoval, ConstFoldInterface, Dialect, SideEffects};
 use std::alloc::Global;
@@ -51,29 +52,27 @@ root / 1 => Some(true)
 1 / 0 => Some(true)
 1 / 1 => Some(true)";
 
-fn answers_in(rt: &impl Abort, alloc: Global, ctx: &mut Context) {
+fn effects_in(rt: &impl Abort, alloc: Global, ctx: &mut Context) {
     let root = read(rt, alloc, ctx, KINDS);
     for case in EFFECTS.lines() {
         let (place, want) = sides(rt, case);
         let op = operation_at(rt, ctx, root, place);
-        check(
-            rt,
-            effects::<Bench>(rt, alloc, ctx, op).as_str(),
-            want,
-            case,
-        );
+        let answer = effects::<Bench>(rt, alloc, ctx, op);
+        check(rt, answer.as_str(), want, case);
     }
+}
+
+fn interfaces_in(rt: &impl Abort, alloc: Global, ctx: &mut Context) {
     for case in INTERFACES.lines() {
         let (text, want) = case.split_once(" =>").expect(rt, "a case");
         let root = read(rt, alloc, ctx, text);
         let op = operation_at(rt, ctx, root, "0");
-        check(
-            rt,
-            interfaces::<Bench>(rt, alloc, ctx, op).as_str(),
-            want,
-            case,
-        );
+        let answer = interfaces::<Bench>(rt, alloc, ctx, op);
+        check(rt, answer.as_str(), want, case);
     }
+}
+
+fn removals_in(rt: &impl Abort, alloc: Global, ctx: &mut Context) {
     let root = read(rt, alloc, ctx, HOLDERS);
     for case in REMOVALS.lines() {
         let (asked, want) = sides(rt, case);
@@ -125,6 +124,16 @@ static QUOTIENTS: &str = "7 2 => 3
 0 ? => ?
 ? 1 => ?";
 
+/// The number in the only answer.
+fn only_number(rt: &impl Abort, answers: &[Option<AttrObj>]) -> Option<i128> {
+    assert_eq!(rt; answers.len(), 1);
+    match &answers[0] {
+        Some(AttrObj::Int(number)) => Some(*number),
+        Some(AttrObj::Text(_)) => panic!(rt; "a text"),
+        None => None,
+    }
+}
+
 /// What is known of the operation's only result.
 fn folded(
     rt: &impl Abort,
@@ -143,12 +152,7 @@ fn folded(
         ctx,
         operands.as_slice(),
     ).expect(rt, "memory");
-    assert_eq!(rt; answers.len(), 1);
-    match &answers[0] {
-        Some(AttrObj::Int(number)) => Some(*number),
-        Some(AttrObj::Text(_)) => panic!(rt; "a text"),
-        None => None,
-    }
+    only_number(rt, answers.as_slice())
 }
 
 fn folds_in(rt: &impl Abort, alloc: Global, ctx: &mut Context) {
@@ -184,12 +188,18 @@ fn fold_in_place(
     assert!(rt; Bench::folds(op, ctx));
     assert_eq!(rt; op.num_operand(ctx), operands.len());
     assert!(rt; op.get_parent_block(ctx).is_some());
-    let mut rewriter = IRRewriter::new();
+    let mut rewriter = Counting::new();
     rewriter.set_insertion_point_before_operation(op);
     let operands = operands.as_slice();
-    <Bench as ConstFoldInterface>::fold_in_place(alloc, op, ctx, operands, &mut rewriter).expect(
-        rt, "memory",
-    )
+    let status = <Bench as ConstFoldInterface>::fold_in_place(
+        alloc,
+        op,
+        ctx,
+        operands,
+        &mut rewriter,
+    ).expect(rt, "memory");
+    rewriter.check(rt);
+    status
 }
 
 fn in_place_in(rt: &impl Abort, alloc: Global, ctx: &mut Context) {
@@ -231,13 +241,19 @@ fn made_in(rt: &impl Abort, alloc: Global, ctx: &mut Context) {
     }
 }
 
+fn all_in(rt: &impl Abort, alloc: Global, ctx: &mut Context) {
+    effects_in(rt, alloc, ctx);
+    interfaces_in(rt, alloc, ctx);
+    removals_in(rt, alloc, ctx);
+    check_outside(rt, alloc, ctx);
+    folds_in(rt, alloc, ctx);
+    in_place_in(rt, alloc, ctx);
+    made_in(rt, alloc, ctx);
+}
+
 #[test]
 fn answers_and_folds(rt: HostRuntime) {
     let alloc = rt.alloc();
     let mut ctx = Context::new(alloc);
-    answers_in(&rt, alloc, &mut ctx);
-    check_outside(&rt, alloc, &mut ctx);
-    folds_in(&rt, alloc, &mut ctx);
-    in_place_in(&rt, alloc, &mut ctx);
-    made_in(&rt, alloc, &mut ctx);
+    all_in(&rt, alloc, &mut ctx)
 }

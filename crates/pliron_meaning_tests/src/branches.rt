@@ -1,8 +1,9 @@
 //! The edges of branches of the dialect `Bench`, and branches that fold: on texts of its notation, by
 //! values worked out by hand.
-use crate::cases::{check, fields, known, line, number, operation_at, read, sides};
+use crate::cases::{all_known, check, fields, line, number, operation_at, read, sides};
+use crate::listener::Counting;
 use crate::losses::{lose, lose_along};
-use pliron_core::{Context, IRRewriter, IRStatus, Operation, Ptr, Rewriter};
+use pliron_core::{AttrObj, BasicBlock, Context, IRStatus, Operation, Ptr, Rewriter};
 use pliron_meaning::bench::Bench;
 use pliron_meaning::{BranchOpFoldInterface, Dialect};
 use std::alloc::Global;
@@ -29,71 +30,96 @@ fn verified_in(rt: &impl Abort, alloc: Global, ctx: &mut Context) {
 static BRANCH: &str =
     "func { b0(v0, v1, v2): cbr v0 b1(v1) b2(v2, v1); b1(v3): ret v3; b2(v4, v5): ret v5 }";
 
-/// What is known of the condition, and the successors that the branch may go to.
-static TARGETS: &str = "-1 => 0
-0 => 1
-? => 0 1";
+/// What is known of the operands, and the successors that the branch may go to.
+static TARGETS: &str = "-1 ? ? ? => 0
+0 ? ? ? => 1
+? ? ? ? => 0 1";
 
-/// What is known of the condition, and what folding the branch in place leaves.
-static IN_PLACE: &str = "5 => func { b0(v0, v1, v2): br b1(v1); b1(v3): ret v3; b2(v4, v5): ret v5 }
-0 => func { b0(v0, v1, v2): br b2(v2, v1); b1(v3): ret v3; b2(v4, v5): ret v5 }
-18446744073709551616 => func { b0(v0, v1, v2): br b2(v2, v1); b1(v3): ret v3; b2(v4, v5): ret v5 }
-'7 => func { b0(v0, v1, v2): br b2(v2, v1); b1(v3): ret v3; b2(v4, v5): ret v5 }
-? => func { b0(v0, v1, v2): cbr v0 b1(v1) b2(v2, v1); b1(v3): ret v3; b2(v4, v5): ret v5 }";
+/// What is known of the operands, and what folding the branch in place leaves.
+static IN_PLACE: &str =
+    "5 ? ? ? => func { b0(v0, v1, v2): br b1(v1); b1(v3): ret v3; b2(v4, v5): ret v5 }
+0 ? ? ? => func { b0(v0, v1, v2): br b2(v2, v1); b1(v3): ret v3; b2(v4, v5): ret v5 }
+18446744073709551616 ? ? ? => func { b0(v0, v1, v2): br b2(v2, v1); b1(v3): ret v3; b2(v4, v5): ret v5 }
+'7 ? ? ? => func { b0(v0, v1, v2): br b2(v2, v1); b1(v3): ret v3; b2(v4, v5): ret v5 }
+? ? ? ? => func { b0(v0, v1, v2): cbr v0 b1(v1) b2(v2, v1); b1(v3): ret v3; b2(v4, v5): ret v5 }";
 
-/// The blocks that the branch with four operands may go to are its successors with these indices.
-fn check_targets(rt: &impl Abort, alloc: Global, ctx: &Context, op: Ptr<Operation>, case: &str) {
-    let (word, want) = sides(rt, case);
-    let operands = [known(rt, alloc, word), None, None, None];
+/// The blocks are the successors of the branch with these indices.
+fn check_blocks(
+    rt: &impl Abort,
+    ctx: &Context,
+    op: Ptr<Operation>,
+    blocks: &[Ptr<BasicBlock>],
+    want: &str,
+) {
     assert!(rt; op.is_live(ctx));
-    assert!(rt; Bench::folds_branch(op, ctx));
-    assert_eq!(rt; op.num_operand(ctx), 4);
-    let blocks = <Bench as BranchOpFoldInterface>::check_fold(alloc, op, ctx, &operands).expect(
-        rt, "memory",
-    );
-    assert_eq!(rt; blocks.len(), want.split(' ').count(), "{case}");
+    assert_eq!(rt; blocks.len(), want.split(' ').count());
     for (block, index) in blocks.iter().zip(want.split(' ')) {
         let index = number(rt, index);
         assert!(rt; index < op.num_successor(ctx));
-        assert_eq!(rt; *block, op.get_successor(ctx, index), "{case}");
+        assert_eq!(rt; *block, op.get_successor(ctx, index));
     }
 }
 
-/// Folds the branch with four operands in place.
+/// The blocks that the branch may go to are its successors with these indices.
+fn check_targets(
+    rt: &impl Abort,
+    alloc: Global,
+    ctx: &Context,
+    op: Ptr<Operation>,
+    operands: &[Option<AttrObj>],
+    want: &str,
+) {
+    assert!(rt; op.is_live(ctx));
+    assert!(rt; Bench::folds_branch(op, ctx));
+    assert_eq!(rt; op.num_operand(ctx), operands.len());
+    let blocks = <Bench as BranchOpFoldInterface>::check_fold(alloc, op, ctx, operands).expect(
+        rt, "memory",
+    );
+    check_blocks(rt, ctx, op, &blocks, want);
+}
+
+fn targets_in(rt: &impl Abort, alloc: Global, ctx: &mut Context) {
+    let root = read(rt, alloc, ctx, BRANCH);
+    let op = operation_at(rt, ctx, root, "0");
+    for case in TARGETS.lines() {
+        let (words, want) = sides(rt, case);
+        let operands = all_known(rt, alloc, words);
+        check_targets(rt, alloc, ctx, op, &operands, want);
+    }
+}
+
+/// Folds the branch in place.
 fn fold_in_place(
     rt: &impl Abort,
     alloc: Global,
     ctx: &mut Context,
     op: Ptr<Operation>,
-    word: &str,
+    operands: &[Option<AttrObj>],
 ) -> IRStatus {
-    let operands = [known(rt, alloc, word), None, None, None];
     assert!(rt; op.is_live(ctx));
     assert!(rt; Bench::folds_branch(op, ctx));
-    assert_eq!(rt; op.num_operand(ctx), 4);
+    assert_eq!(rt; op.num_operand(ctx), operands.len());
     assert!(rt; op.get_parent_block(ctx).is_some());
-    let mut rewriter = IRRewriter::new();
+    let mut rewriter = Counting::new();
     rewriter.set_insertion_point_before_operation(op);
-    <Bench as BranchOpFoldInterface>::fold_in_place(
+    let status = <Bench as BranchOpFoldInterface>::fold_in_place(
         alloc,
         op,
         ctx,
-        &operands,
+        operands,
         &mut rewriter,
-    ).expect(rt, "memory")
+    ).expect(rt, "memory");
+    rewriter.check(rt);
+    status
 }
 
 fn folds_in(rt: &impl Abort, alloc: Global, ctx: &mut Context) {
-    let root = read(rt, alloc, ctx, BRANCH);
-    let op = operation_at(rt, ctx, root, "0");
-    for case in TARGETS.lines() {
-        check_targets(rt, alloc, ctx, op, case);
-    }
     for case in IN_PLACE.lines() {
-        let (word, want) = sides(rt, case);
+        let (words, want) = sides(rt, case);
         let root = read(rt, alloc, ctx, BRANCH);
         let op = operation_at(rt, ctx, root, "0");
-        let status = fold_in_place(rt, alloc, ctx, op, word);
+        let operands = all_known(rt, alloc, words);
+        let status = fold_in_place(rt, alloc, ctx, op, &operands);
         assert_eq!(rt; status == IRStatus::Changed, BRANCH != want, "{case}");
         check(rt, line(rt, alloc, ctx, root).as_str(), want, case);
     }
@@ -131,11 +157,16 @@ fn losses_in(rt: &impl Abort, alloc: Global, ctx: &mut Context) {
     }
 }
 
+fn all_in(rt: &impl Abort, alloc: Global, ctx: &mut Context) {
+    verified_in(rt, alloc, ctx);
+    targets_in(rt, alloc, ctx);
+    folds_in(rt, alloc, ctx);
+    losses_in(rt, alloc, ctx);
+}
+
 #[test]
 fn edges_folds_and_losses(rt: HostRuntime) {
     let alloc = rt.alloc();
     let mut ctx = Context::new(alloc);
-    verified_in(&rt, alloc, &mut ctx);
-    folds_in(&rt, alloc, &mut ctx);
-    losses_in(&rt, alloc, &mut ctx);
+    all_in(&rt, alloc, &mut ctx)
 }

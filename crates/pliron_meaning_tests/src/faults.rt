@@ -1,14 +1,21 @@
 //! The texts of the faults, and what becomes want of memory.
-use crate::cases::sides;
+use crate::cases::check;
 use pliron_core::NoMemory;
 use pliron_meaning::OptError;
-use std::alloc::AllocError;
+use std::alloc::{AllocError, Global};
+use std::process::Abort;
 
 static TEXTS: &str = "Memory => want of memory
 LiveUse => a value of an unreachable block is used
 VerifyBefore => verification failed before the pass
 VerifyAfter => verification failed after the pass
 Pass(7) => the pass failed with code 7";
+
+/// The name of the fault, and its text after an arrow, are the case.
+fn check_fault(rt: &impl Abort, alloc: Global, fault: &OptError, case: &str) {
+    let got = format!(in alloc; "{fault:?} => {fault}").expect(rt, "memory");
+    check(rt, got.as_str(), case, case);
+}
 
 #[test]
 fn texts_of_the_five_faults(rt: HostRuntime) {
@@ -20,19 +27,7 @@ fn texts_of_the_five_faults(rt: HostRuntime) {
         OptError::Pass(7),
     ];
     for (fault, case) in faults.iter().zip(TEXTS.lines()) {
-        let (name, want) = sides(&rt, case);
-        assert_eq!(&rt;
-            format!(in rt.alloc(); "{fault:?}")
-                .expect(&rt, "memory")
-                .as_str(),
-            name
-        );
-        assert_eq!(&rt;
-            format!(in rt.alloc(); "{fault}")
-                .expect(&rt, "memory")
-                .as_str(),
-            want
-        );
+        check_fault(&rt, rt.alloc(), fault, case);
     }
 }
 

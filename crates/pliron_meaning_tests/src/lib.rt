@@ -13,6 +13,8 @@ mod cases;
 #[cfg(test)]
 mod faults;
 #[cfg(test)]
+mod listener;
+#[cfg(test)]
 mod losses;
 #[cfg(test)]
 mod names;
@@ -26,3 +28,5 @@ mod runs;
 mod tiny;
 #[cfg(test)]
 mod trees;
+#[cfg(test)]
+mod worked;

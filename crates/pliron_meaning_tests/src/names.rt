@@ -1,9 +1,10 @@
-//! The public names of `pliron_meaning`, at their places. The calls of `rewrites` and `lose_forwarded` are
-//! named so in the tests of rewrites and of losses.
+//! The public names of `pliron_meaning`, at their places. What is missing here is named so where it is
+//! tested: texts in `cases`, runs in `runs`, the calls of `rewrites` in `rewrites`, `lose_forwarded` in `losses`.
+use crate::cases::read;
 use pliron_core::{Context, IRRewriter};
 use pliron_meaning::bench::laws::{folds_are_monotone, folds_have_one_outcome};
-use pliron_meaning::bench::{Bench, BenchKind, print_text, read_text};
-use pliron_meaning::evaluator::{Evaluate, Sight, evaluate};
+use pliron_meaning::bench::{Bench, BenchKind};
+use pliron_meaning::evaluator::{Evaluate, Move};
 use pliron_meaning::theory::{
     arguments_go, blocks_are_joined, branches_are_replaced, constants_are_made, dead_parts_go,
     facts_are_read, findings_hold, folds_keep_links, one_edge_is_taken, operands_are_renamed,
@@ -25,6 +26,8 @@ where
 
 fn has_room<R: Room>() {}
 
+fn is_type<T>() {}
+
 #[test]
 fn laws_of_runs(_rt: HostRuntime) {
     runs_kept();
@@ -45,22 +48,12 @@ fn laws_of_runs(_rt: HostRuntime) {
 }
 
 fn names_in(rt: &impl Abort, alloc: Global, ctx: &mut Context) {
-    let root = read_text(alloc, b"mod { }", ctx)
-        .expect(rt, "memory")
-        .expect(rt, "readable");
+    let root = read(rt, alloc, ctx, "mod { }");
+    assert!(rt; root.is_live(ctx));
     assert!(rt; edges_last(root, ctx));
     assert!(rt; !Bench::implements(root, ctx, Interface::BlockArgRemoval));
-    assert_eq!(rt;
-        print_text(alloc, root, ctx).expect(rt, "memory").as_str(),
-        "mod { }"
-    );
-    let sight = evaluate::<Bench>(alloc, ctx, root, Vec::new(alloc), Vec::new(alloc), 9).expect(
-        rt, "memory",
-    );
-    assert_eq!(rt; sight, Sight::Ended(Vec::new(alloc), Vec::new(alloc)));
-    assert_eq!(rt; BenchKind::Mod.number(), 0);
-    assert_eq!(rt; TinyKind::Const.number(), 0);
     assert!(rt; OptError::Memory != OptError::LiveUse);
+    is_type::<Move>();
     is_dialect::<Bench>();
     is_dialect::<Tiny>();
     has_room::<IRRewriter>();
@@ -71,4 +64,19 @@ fn names_of_users(rt: HostRuntime) {
     let alloc = rt.alloc();
     let mut ctx = Context::new(alloc);
     names_in(&rt, alloc, &mut ctx)
+}
+
+/// What a kind says of its operations.
+#[test]
+fn kinds(rt: HostRuntime) {
+    assert_eq!(rt; TinyKind::Const.number(), 0);
+    assert_eq!(rt; BenchKind::from_word(b"scope"), Some(BenchKind::Scope));
+    assert_eq!(rt; BenchKind::Scope.word(), "scope");
+    assert_eq!(rt; BenchKind::Scope.number(), 10);
+    assert_eq!(rt; BenchKind::from_number(10), Some(BenchKind::Scope));
+    assert!(rt; BenchKind::Scope.is_ssa());
+    assert!(rt; !BenchKind::Scope.is_top());
+    assert_eq!(rt; BenchKind::Scope.result_count(), 0);
+    assert_eq!(rt; BenchKind::Scope.region_count(), 1);
+    assert_eq!(rt; BenchKind::Cbr.successor_count(), 2);
 }

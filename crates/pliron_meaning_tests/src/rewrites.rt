@@ -6,9 +6,10 @@ ghost use Rattle.pliron_evaluator.specs.Tiny.{kind_of, first_attribute};
 ghost use Rattle.pliron_evaluator.specs.declared.tiny.TinyKind.TheVariants.{Const};
 ghost use Rattle.pliron_laws.specs.Datum.{Head};
 
+use crate::listener::Counting;
 use crate::tiny::{number_asked, number_of};
 use crate::trees::{Made, make};
-use pliron_core::{AttrObj, BasicBlock, Context, IRRewriter, IRStatus, Operation, Ptr};
+use pliron_core::{AttrObj, BasicBlock, Context, IRStatus, Operation, Ptr};
 use pliron_meaning::evaluator::{Datum, Sight, evaluate};
 use pliron_meaning::rewrites::{
     erase_unused, replace_argument_by_constant, replace_result_by_constant,
@@ -46,8 +47,10 @@ fn erase<D: Dialect>(
 ) -> IRStatus {
     assert!(rt; op.is_live(ctx));
     assert!(rt; op.is_self_contained(ctx));
-    let mut rewriter = IRRewriter::new();
-    erase_unused::<D, IRRewriter>(alloc, op, ctx, &mut rewriter).expect(rt, "memory")
+    let mut rewriter = Counting::new();
+    let status = erase_unused::<D, Counting>(alloc, op, ctx, &mut rewriter).expect(rt, "memory");
+    rewriter.check(rt);
+    status
 }
 
 /// Replaces the result of a constant of this number by another one of the same number.
@@ -66,10 +69,17 @@ fn replace_result(
     assert_eq!(rt; op.num_region(ctx), 0);
     ctx.well_formed();
     let attr = AttrObj::Int(number);
-    let mut rewriter = IRRewriter::new();
-    replace_result_by_constant::<Tiny, IRRewriter>(alloc, op, 0, &attr, ctx, &mut rewriter).expect(
-        rt, "memory",
-    )
+    let mut rewriter = Counting::new();
+    let status = replace_result_by_constant::<Tiny, Counting>(
+        alloc,
+        op,
+        0,
+        &attr,
+        ctx,
+        &mut rewriter,
+    ).expect(rt, "memory");
+    rewriter.check(rt);
+    status
 }
 
 /// Replaces the argument of the block, which has no uses, by a constant.
@@ -85,10 +95,17 @@ fn replace_argument<D: Dialect>(
     assert_eq!(rt; body.get_argument(ctx, 0).num_use(ctx), 0);
     ctx.well_formed();
     let attr = AttrObj::Int(number);
-    let mut rewriter = IRRewriter::new();
-    replace_argument_by_constant::<D, IRRewriter>(alloc, body, 0, &attr, ctx, &mut rewriter).expect(
-        rt, "memory",
-    )
+    let mut rewriter = Counting::new();
+    let status = replace_argument_by_constant::<D, Counting>(
+        alloc,
+        body,
+        0,
+        &attr,
+        ctx,
+        &mut rewriter,
+    ).expect(rt, "memory");
+    rewriter.check(rt);
+    status
 }
 
 /// A constant without uses goes, and a question stays; the question asks the new constant; and the

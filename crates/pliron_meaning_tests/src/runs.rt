@@ -197,11 +197,15 @@ fn roots_in(rt: &impl Abort, alloc: Global, ctx: &mut Context) {
     assert_eq!(rt; got, Sight::Ended(data(rt, alloc, "ab"), Vec::new(alloc)));
 }
 
+fn all_in(rt: &impl Abort, alloc: Global, ctx: &mut Context) {
+    runs_in(rt, alloc, ctx);
+    trees_in(rt, alloc, ctx);
+    roots_in(rt, alloc, ctx);
+}
+
 #[test]
 fn runs_of_texts_and_trees(rt: HostRuntime) {
     let alloc = rt.alloc();
     let mut ctx = Context::new(alloc);
-    runs_in(&rt, alloc, &mut ctx);
-    trees_in(&rt, alloc, &mut ctx);
-    roots_in(&rt, alloc, &mut ctx);
+    all_in(&rt, alloc, &mut ctx)
 }

@@ -2,6 +2,7 @@
 //! results.
 use crate::answers::{effects, interfaces, removable};
 use crate::cases::{check, number, sides};
+use crate::listener::Counting;
 use crate::losses::lose;
 use crate::trees::{Made, build, make};
 use pliron_core::{AttrObj, Context, IRRewriter, IRStatus, Operation, Ptr, Rewriter, Value};
@@ -110,9 +111,13 @@ fn fold<D: Dialect>(
     assert!(rt; D::folds(op, ctx));
     assert_eq!(rt; op.num_operand(ctx), 0);
     assert!(rt; op.get_parent_block(ctx).is_some());
-    let mut rewriter = IRRewriter::new();
+    let mut rewriter = Counting::new();
     rewriter.set_insertion_point_before_operation(op);
-    D::fold_with_materialization(alloc, op, ctx, &[], &mut rewriter).expect(rt, "memory")
+    let status = D::fold_with_materialization(alloc, op, ctx, &[], &mut rewriter).expect(
+        rt, "memory",
+    );
+    rewriter.check(rt);
+    status
 }
 
 /// The number of the constant that the question asks, which stands just before `op`.
@@ -201,13 +206,17 @@ fn kinds_and_their_numbers(rt: HostRuntime) {
     assert!(rt; TinyKind::of(4).is_none());
 }
 
+fn all_in(rt: &impl Abort, alloc: Global, ctx: &mut Context) {
+    heads_in(rt, alloc, ctx);
+    edges_in(rt, alloc, ctx);
+    constant_in(rt, alloc, ctx);
+    folding_in(rt, alloc, ctx);
+    loss_in(rt, alloc, ctx);
+}
+
 #[test]
 fn answers_folds_and_losses(rt: HostRuntime) {
     let alloc = rt.alloc();
     let mut ctx = Context::new(alloc);
-    heads_in(&rt, alloc, &mut ctx);
-    edges_in(&rt, alloc, &mut ctx);
-    constant_in(&rt, alloc, &mut ctx);
-    folding_in(&rt, alloc, &mut ctx);
-    loss_in(&rt, alloc, &mut ctx);
+    all_in(&rt, alloc, &mut ctx)
 }

@@ -95,10 +95,14 @@ fn order_in(rt: &impl Abort, alloc: Global, ctx: &mut Context) {
     }
 }
 
+fn all_in(rt: &impl Abort, alloc: Global, ctx: &mut Context) {
+    heads_in(rt, alloc, ctx);
+    order_in(rt, alloc, ctx);
+}
+
 #[test]
 fn heads_operands_and_successors(rt: HostRuntime) {
     let alloc = rt.alloc();
     let mut ctx = Context::new(alloc);
-    heads_in(&rt, alloc, &mut ctx);
-    order_in(&rt, alloc, &mut ctx);
+    all_in(&rt, alloc, &mut ctx)
 }

@@ -2,6 +2,8 @@
 //! one that is read. `|` stands for the end of a line.
 use super::printed;
 use crate::cases::sides;
+use std::alloc::Global;
+use std::process::Abort;
 
 /// Blocks and their arguments.
 static BLOCKS: &str = "mod => mod { }
@@ -201,20 +203,23 @@ func { b0(): a = const 1e3 } => func { b0(): a = const 1 }
 func { b0(): a = const } => func { b0(): a = const 0 }
 func { b0(a): b = const a } => func { b0(a): b = const 0 }";
 
+fn check_rule(rt: &impl Abort, alloc: Global, case: &str) {
+    let (broken, kept) = sides(rt, case);
+    assert!(rt;
+        printed(rt, alloc, broken).as_str() == "unreadable",
+        "readable: {broken}"
+    );
+    assert!(rt;
+        printed(rt, alloc, kept).as_str() != "unreadable",
+        "unreadable: {kept}"
+    );
+}
+
 #[test]
 fn rules_broken_and_kept(rt: HostRuntime) {
-    let alloc = rt.alloc();
     for table in [BLOCKS, OPERANDS, EDGES, PLACES, MEANINGS, NAMES, NUMBERS] {
         for case in table.lines() {
-            let (broken, kept) = sides(&rt, case);
-            assert!(&rt;
-                printed(&rt, alloc, broken).as_str() == "unreadable",
-                "readable: {broken}"
-            );
-            assert!(&rt;
-                printed(&rt, alloc, kept).as_str() != "unreadable",
-                "unreadable: {kept}"
-            );
+            check_rule(&rt, rt.alloc(), case);
         }
     }
 }
