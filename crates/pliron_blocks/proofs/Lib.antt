@@ -18,3 +18,4 @@ pub mod ReplacedInside
 pub mod RewriteLinks
 pub mod LostLinks
 pub mod RebranchedLinks
+pub mod RebranchedInside

@@ -1,5 +1,5 @@
 //! Changes that keep to what holds the blocks.
-ghost use Rattle.pliron_blocks.specs.Inside.{CutInsideLaw, JoinedInsideLaw, ReplacedInsideLaw};
+ghost use Rattle.pliron_blocks.specs.Inside.{CutInsideLaw, JoinedInsideLaw, RebranchedInsideLaw, ReplacedInsideLaw};
 
 /// Where blocks of a region went, nothing changed outside the operation that holds the region.
 pub fn removing_changes_inside()
@@ -15,4 +15,10 @@ pub fn joining_changes_inside()
 /// holds the block, but for operands that named the argument.
 pub fn replacing_changes_inside()
     ensures { ReplacedInsideLaw }
+{}
+
+/// Where another branch stands in the place of a branch, nothing changed outside an operation that the
+/// branch is inside.
+pub fn replacing_branches_changes_inside()
+    ensures { RebranchedInsideLaw }
 {}

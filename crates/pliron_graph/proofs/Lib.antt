@@ -14,3 +14,4 @@ pub mod PreSentinelLemmas
 pub mod ReverseLawLemmas
 pub mod AncestorLemmas
 pub mod PrecedesLemmas
+pub mod PathLemmas

@@ -1,9 +1,12 @@
 -- Laws of every list of walks, every search and every list of components, which users rely on.
 use Rattle.std.specs.Prelude.{◌≡◌, ℕ, ◌<◌, ◌≤◌, ◌⊎◌, ◌↔◌, Bool, List, Contains, slice_get, Some, take, reverse}
+use Rattle.pliron_core.specs.Tree.{Tree, layout_of}
+use Rattle.pliron_laws.specs.Paths.{Path}
 use Rattle.pliron_search.specs.Digraph.{Digraph, IsLawful, Reaches, HasCycle}
 use Rattle.pliron_search.specs.Search.{Orders, IsSearch, StandsBefore}
 use Rattle.pliron_search.specs.Walks.{joined, AreWalks}
 use Rattle.pliron_search.specs.EdgeKinds.{HasBackEdge}
+use Rattle.pliron_search.specs.Regions.{graph_of_region, IsLawfulRegion}
 use Rattle.pliron_graph.specs.Components.{AreComponents}
 use Rattle.pliron_graph.specs.declared.components.Scc.{Scc}
 
@@ -50,3 +53,8 @@ module _ {N : Type 0} (eq : N → N → Bool) where
   EdgeBetweenComponents = (g : Digraph N) (components : List (Scc N)) → IsLawful eq g → AreComponents eq g components
       → (i j : ℕ) (c d : Scc N) → slice_get components i ≡ Some c → slice_get components j ≡ Some d
       → (u v : N) → Contains c.nodes.items u → Contains d.nodes.items v → Contains (g.succ u) v → i ≤ j
+
+-- from a block of a region, the paths of the meaning lead where those of the graph lead
+abbrev pub PathsOfRegion : Type 0
+PathsOfRegion = (t : Tree) (region : ℕ) → IsLawfulRegion t region → (a b : ℕ) → Contains (layout_of t region) a
+    → (((before : List ℕ) × Path t a b before) ↔ Reaches (graph_of_region t region) a b)

@@ -1,6 +1,6 @@
 //! What follows from the contracts of the orders, the traversal, the components and the reverse graph. Each function does nothing: its
 //! contract is the law.
-ghost use Rattle.pliron_graph.specs.Laws.{EdgeInPostOrder, EdgeInTopologicalOrder, EdgeBetweenWalks, WalkFromFirstNode, BackEdgeOnCycle, EdgeBetweenComponents};
+ghost use Rattle.pliron_graph.specs.Laws.{EdgeInPostOrder, EdgeInTopologicalOrder, EdgeBetweenWalks, WalkFromFirstNode, BackEdgeOnCycle, EdgeBetweenComponents, PathsOfRegion};
 ghost use Rattle.std.specs.Prelude.{◌≡◌, IsTrue, true, false};
 ghost use Rattle.pliron_graph.specs.ReverseLaws.{SentinelReachesAll, NoPreSentinelIsSpare};
 
@@ -37,6 +37,11 @@ pub fn back_edge_on_cycle<N: Eq>()
 /// An edge between two components goes from the earlier to the later.
 pub fn edge_between_components<N: Eq>()
     ensures { EdgeBetweenComponents N.eq }
+{}
+
+/// In a region that may be read as a graph, the paths of the meaning from a block lead where those of the graph lead.
+pub fn paths_of_regions()
+    ensures { PathsOfRegion }
 {}
 
 /// The sentinel of a [`ReverseGraph`](crate::ReverseGraph) reaches every node.

@@ -10,7 +10,6 @@ use pliron_laws::Interface;
 use pliron_notation::read_text;
 use std::alloc::Global;
 use std::process::Abort;
-use std::test::Fail;
 
 const TEXT: &str = "func { b0(): a = const 2; scope a { b0(p): print p; ret }; ret a }";
 
@@ -185,14 +184,14 @@ fn check_nest(rt: &impl Abort, ctx: &Context, nest: &Nest) {
     check_precedes(rt, ctx, nest.constant, nest.print, false);
 }
 
-fn check_text(rt: &impl Abort, alloc: Global, ctx: &mut Context) -> Result<(), Fail> {
-    let func = read_text(alloc, TEXT.as_bytes(), ctx)?.expect(rt, "a readable text");
+fn check_text(rt: &impl Abort, alloc: Global, ctx: &mut Context) {
+    let read = read_text(alloc, TEXT.as_bytes(), ctx).expect(rt, "memory");
+    let func = read.expect(rt, "a readable text");
     check_nest(rt, ctx, &nest_of(rt, ctx, func));
-    Ok(())
 }
 
 #[test]
-fn searches_in_a_nest(rt: HostRuntime) -> Result<(), Fail> {
+fn searches_in_a_nest(rt: HostRuntime) {
     let alloc = rt.alloc();
     let mut ctx = Context::new(alloc);
     check_text(&rt, alloc, &mut ctx)

@@ -1,10 +1,8 @@
 //! How cases are read. A graph is the successors of its nodes 0, 1, 2, .., each list closed by a semicolon.
-ghost use Rattle.std.specs.Prelude.{IfOk};
 ghost use Rattle.pliron_search.specs.Adjacency.{AreInverse};
 
 use pliron_graph::AdjacencyList;
-use pliron_laws::OptError;
-use std::alloc::{AllocError, Global};
+use std::alloc::Global;
 use std::process::Abort;
 
 /// What is asked, of which graph, and the answer.
@@ -15,31 +13,29 @@ pub fn parts<'t>(rt: &impl Abort, case: &'t str) -> (&'t str, &'t str, &'t str) 
 }
 
 // The numbers of a list.
-fn row_of(rt: &impl Abort, alloc: Global, words: &str) -> Result<Vec<u32>, AllocError> {
+fn row_of(rt: &impl Abort, alloc: Global, words: &str) -> Vec<u32> {
     let mut row = Vec::new(alloc);
     for word in words.split_ascii_whitespace() {
-        row.push(word.parse::<u32>().ok().expect(rt, "a number"))?;
+        let number = word.parse::<u32>().ok().expect(rt, "a number");
+        row.push(number).expect(rt, "memory");
     }
-    Ok(row)
+    row
 }
 
 /// The lists of successors of a graph.
-pub fn rows_of(rt: &impl Abort, alloc: Global, text: &str) -> Result<Vec<Vec<u32>>, AllocError> {
+pub fn rows_of(rt: &impl Abort, alloc: Global, text: &str) -> Vec<Vec<u32>> {
     let mut rows = Vec::new(alloc);
     for words in text.split(';') {
-        rows.push(row_of(rt, alloc, words)?)?;
+        rows.push(row_of(rt, alloc, words)).expect(rt, "memory");
     }
     rows.pop();
-    Ok(rows)
+    rows
 }
 
 /// The graph with these rows of successors.
-pub fn graph_of(
-    rt: &impl Abort,
-    alloc: Global,
-    rows: Vec<Vec<u32>>,
-) -> Result<AdjacencyList, OptError>
-    ensures { IfOk result (λ g. AreInverse g) }
+pub fn graph_of(rt: &impl Abort, alloc: Global, rows: Vec<Vec<u32>>) -> AdjacencyList
+    ensures { AreInverse result }
 {
-    Ok(AdjacencyList::new(alloc, rows)?.expect(rt, "a successor without a row"))
+    let graph = AdjacencyList::new(alloc, rows).expect(rt, "memory");
+    graph.expect(rt, "a row for each successor")
 }

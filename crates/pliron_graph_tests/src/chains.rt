@@ -1,22 +1,20 @@
 //! A chain of 65,536 nodes, each with the next as its successor.
-ghost use Rattle.std.specs.Prelude.{IfOk};
 ghost use Rattle.pliron_search.specs.Adjacency.{AreInverse};
 
 use crate::cases::graph_of;
-use pliron_graph::{AdjacencyList, DFSTraversal, post_order, sccs_in_topological_order};
-use pliron_laws::OptError;
+use pliron_graph::{AdjacencyList, DFSTraversal, Scc, post_order, sccs_in_topological_order};
 use std::alloc::Global;
 use std::process::Abort;
-use std::test::Fail;
 
-fn chain(rt: &impl Abort, alloc: Global) -> Result<AdjacencyList, OptError>
-    ensures { IfOk result (λ g. AreInverse g) }
+fn chain(rt: &impl Abort, alloc: Global) -> AdjacencyList
+    ensures { AreInverse result }
 {
     let mut rows = Vec::new(alloc);
     for next in 1..65_536 {
-        rows.push([next].to_vec(alloc)?)?;
+        let row = [next].to_vec(alloc).expect(rt, "memory");
+        rows.push(row).expect(rt, "memory");
     }
-    rows.push(Vec::new(alloc))?;
+    rows.push(Vec::new(alloc)).expect(rt, "memory");
     graph_of(rt, alloc, rows)
 }
 
@@ -26,32 +24,31 @@ fn check_order(rt: &impl Abort, order: &[u32]) {
     assert_eq!(rt; order.last(), Some(&0));
 }
 
-#[test]
-fn order_of_a_chain(rt: HostRuntime) -> Result<(), Fail> {
-    let graph = chain(&rt, rt.alloc())?;
-    check_order(&rt, &post_order(rt.alloc(), &(), &graph)?);
-    Ok(())
-}
-
 fn check_numbers(rt: &impl Abort, search: &DFSTraversal<u32>) {
     assert!(rt; search.is_reached(&65_535));
     assert_eq!(rt; search.pre_order_number(&65_535), 65_535);
     assert_eq!(rt; search.post_order_number(&65_535), 0);
 }
 
-#[test]
-fn numbers_of_a_chain(rt: HostRuntime) -> Result<(), Fail> {
-    let graph = chain(&rt, rt.alloc())?;
-    check_numbers(&rt, &DFSTraversal::new(rt.alloc(), &(), &graph)?);
-    Ok(())
-}
-
-#[test]
-fn components_of_a_chain(rt: HostRuntime) -> Result<(), Fail> {
-    let graph = chain(&rt, rt.alloc())?;
-    let components = sccs_in_topological_order(rt.alloc(), &(), &graph)?;
+fn check_components(rt: &impl Abort, components: &[Scc<u32>]) {
     assert_eq!(rt; components.len(), 65_536);
     assert_eq!(rt; components[65_535].nodes.first(), Some(&65_535));
     assert!(rt; !components[0].is_cyclic);
-    Ok(())
+}
+
+fn check_chain(rt: &impl Abort, alloc: Global, graph: &AdjacencyList)
+    requires { AreInverse graph.now }
+{
+    let order = post_order(alloc, &(), graph).expect(rt, "memory");
+    check_order(rt, &order);
+    let search = DFSTraversal::new(alloc, &(), graph).expect(rt, "memory");
+    check_numbers(rt, &search);
+    let components = sccs_in_topological_order(alloc, &(), graph).expect(rt, "memory");
+    check_components(rt, &components);
+}
+
+#[test]
+fn a_long_chain(rt: HostRuntime) {
+    let graph = chain(&rt, rt.alloc());
+    check_chain(&rt, rt.alloc(), &graph);
 }

@@ -1,6 +1,7 @@
 //! Components by one search that keeps the lowest number that each node is known to reach, for comparison.
 use pliron_graph::Scc;
-use std::alloc::{AllocError, Global};
+use std::alloc::Global;
+use std::process::Abort;
 
 /// A search that closes a component as it leaves the node of it that it came to first.
 ///
@@ -48,7 +49,7 @@ impl<'r> LowNumberSearch<'r> {
         }
     }
 
-    fn enter(&mut self, node: u32) -> Result<(), AllocError> {
+    fn enter(&mut self, rt: &impl Abort, node: u32) {
         if let Some(entry) = self.seen.get_mut(node as usize) {
             *entry = Some(Seen {
                 number: self.count,
@@ -57,54 +58,53 @@ impl<'r> LowNumberSearch<'r> {
             });
         }
         self.count = self.count.saturating_add(1);
-        self.pending.push(node)?;
-        self.path.push((node, 0))?;
-        Ok(())
+        self.pending.push(node).expect(rt, "memory");
+        self.path.push((node, 0)).expect(rt, "memory");
     }
 
-    fn follow(&mut self, node: u32, next: u32) -> Result<(), AllocError> {
+    fn follow(&mut self, rt: &impl Abort, node: u32, next: u32) {
         let Some(target) = self.seen(next) else {
-            return self.enter(next);
+            return self.enter(rt, next);
         };
         if !target.is_closed {
             self.lower(node, target.number);
         }
-        Ok(())
     }
 
     fn step(
         &mut self,
+        rt: &impl Abort,
         node: u32,
         followed: usize,
         components: &mut Vec<Scc<u32>>,
-    ) -> Result<(), AllocError> {
+    ) {
         let row = row_of(self.rows, node);
         match row.get(followed) {
             Some(next) => {
-                self.path.push((node, followed.saturating_add(1)))?;
-                self.follow(node, *next)
+                let followed = followed.saturating_add(1);
+                self.path.push((node, followed)).expect(rt, "memory");
+                self.follow(rt, node, *next)
             }
-            None => self.leave(node, components),
+            None => self.leave(rt, node, components),
         }
     }
 
-    fn leave(&mut self, node: u32, components: &mut Vec<Scc<u32>>) -> Result<(), AllocError> {
+    fn leave(&mut self, rt: &impl Abort, node: u32, components: &mut Vec<Scc<u32>>) {
         let Some(own) = self.seen(node) else {
-            return Ok(());
+            return;
         };
         if own.low == own.number {
-            let component = self.close(node)?;
-            components.push(component)?;
-            return Ok(());
+            let component = self.close(rt, node);
+            components.push(component).expect(rt, "memory");
+            return;
         }
         let parent = self.path.last().map(|(parent, _)| *parent);
         if let Some(parent) = parent {
             self.lower(parent, own.low);
         }
-        Ok(())
     }
 
-    fn close(&mut self, first: u32) -> Result<Scc<u32>, AllocError> {
+    fn close(&mut self, rt: &impl Abort, first: u32) -> Scc<u32> {
         let mut nodes = Vec::new(self.alloc);
         for _ in 0..self.pending.len() {
             let Some(node) = self.pending.pop() else {
@@ -113,22 +113,23 @@ impl<'r> LowNumberSearch<'r> {
             if let Some(Some(entry)) = self.seen.get_mut(node as usize) {
                 entry.is_closed = true;
             }
-            nodes.push(node)?;
+            nodes.push(node).expect(rt, "memory");
             if node == first {
                 break;
             }
         }
         let row = row_of(self.rows, first);
         let is_cyclic = nodes.len() > 1 || row.contains(&first);
-        Ok(Scc { nodes, is_cyclic })
+        Scc { nodes, is_cyclic }
     }
 }
 
 /// The components of the graph with these rows of successors, in the order of the call that is tested.
 pub fn components_by_low_numbers(
+    rt: &impl Abort,
     alloc: Global,
     rows: &[Vec<u32>],
-) -> Result<Vec<Scc<u32>>, AllocError> {
+) -> Vec<Scc<u32>> {
     let mut components = Vec::new(alloc);
     let mut search = LowNumberSearch {
         alloc,
@@ -138,41 +139,33 @@ pub fn components_by_low_numbers(
         pending: Vec::new(alloc),
         path: Vec::new(alloc),
     };
-    search_all(&mut search, &mut components)?;
+    search_all(rt, &mut search, &mut components);
     components.reverse();
-    Ok(components)
+    components
 }
 
 // Searches from each node that was not seen. The entry is the first node, so the listed order begins with it.
-fn search_all(
-    search: &mut LowNumberSearch<'_>,
-    components: &mut Vec<Scc<u32>>,
-) -> Result<(), AllocError> {
+fn search_all(rt: &impl Abort, search: &mut LowNumberSearch<'_>, components: &mut Vec<Scc<u32>>) {
     for _ in search.rows {
-        search.seen.push(None)?;
+        search.seen.push(None).expect(rt, "memory");
     }
     for place in 0..search.rows.len() {
         let Ok(root) = u32::try_from(place) else {
             break;
         };
         if search.seen(root).is_none() {
-            search.enter(root)?;
-            search_from(search, components)?;
+            search.enter(rt, root);
+            search_from(rt, search, components);
         }
     }
-    Ok(())
 }
 
 // Goes the way to its end.
-fn search_from(
-    search: &mut LowNumberSearch<'_>,
-    components: &mut Vec<Scc<u32>>,
-) -> Result<(), AllocError> {
+fn search_from(rt: &impl Abort, search: &mut LowNumberSearch<'_>, components: &mut Vec<Scc<u32>>) {
     for _ in 0..u64::MAX {
         let Some((node, followed)) = search.path.pop() else {
             break;
         };
-        search.step(node, followed, components)?;
+        search.step(rt, node, followed, components);
     }
-    Ok(())
 }

@@ -7,10 +7,8 @@ use pliron_graph::{
     ReverseNode, ReverseOrderIter, Scc, laws, post_order, post_order_by_component,
     sccs_in_topological_order, topological_order, topological_order_by_component,
 };
-use pliron_laws::OptError;
 use std::alloc::Global;
 use std::process::Abort;
-use std::test::Fail;
 
 fn check_first(rt: &impl Abort, nodes: OrderIter<'_, u32>, want: Option<u32>, count: usize) {
     assert_eq!(rt; nodes.len(), count);
@@ -24,20 +22,17 @@ fn check_last(rt: &impl Abort, nodes: ReverseOrderIter<'_, u32>, want: Option<u3
     assert_eq!(rt; rest.next(), want);
 }
 
-fn check_orders(rt: &impl Abort, alloc: Global, graph: &AdjacencyList) -> Result<(), Fail>
+fn check_orders(rt: &impl Abort, alloc: Global, graph: &AdjacencyList)
     requires { AreInverse graph.now }
 {
-    assert_eq!(rt;
-        post_order(alloc, &(), graph)?.as_slice(),
-        [1, 0].as_slice()
-    );
-    assert_eq!(rt;
-        topological_order(alloc, &(), graph)?.as_slice(),
-        [0, 1].as_slice()
-    );
-    assert_eq!(rt; post_order_by_component(alloc, &(), graph)?.len(), 1);
-    assert_eq!(rt; topological_order_by_component(alloc, &(), graph)?.len(), 1);
-    Ok(())
+    let order = post_order(alloc, &(), graph).expect(rt, "memory");
+    assert_eq!(rt; order.as_slice(), [1, 0].as_slice());
+    let order = topological_order(alloc, &(), graph).expect(rt, "memory");
+    assert_eq!(rt; order.as_slice(), [0, 1].as_slice());
+    let walks = post_order_by_component(alloc, &(), graph).expect(rt, "memory");
+    assert_eq!(rt; walks.len(), 1);
+    let walks = topological_order_by_component(alloc, &(), graph).expect(rt, "memory");
+    assert_eq!(rt; walks.len(), 1);
 }
 
 // The first component.
@@ -64,39 +59,43 @@ fn check_entry<C, G: ControlFlowGraph<C, Node = u32>>(
     assert_eq!(rt; graph.entry_node(ctx), entry);
 }
 
-fn check_reverse(rt: &impl Abort, reverse: &ReverseGraph<'_, AdjacencyList, ()>) -> Result<(), Fail>
+fn check_reverse(rt: &impl Abort, reverse: &ReverseGraph<'_, AdjacencyList, ()>)
     requires { AreInverse reverse.now.original }
 {
-    check_first(rt, reverse.pre_sentinels().clone()?, Some(1), 1);
+    let pre_sentinels = reverse.pre_sentinels().clone().expect(rt, "memory");
+    check_first(rt, pre_sentinels, Some(1), 1);
     check_entry(rt, &(), reverse.original(), Some(0));
-    Ok(())
+}
+
+fn check_answers(rt: &impl Abort, alloc: Global, graph: &AdjacencyList)
+    requires { AreInverse graph.now }
+{
+    let components = sccs_in_topological_order(alloc, &(), graph).expect(rt, "memory");
+    check_component(rt, &components);
+    let search = DFSTraversal::new(alloc, &(), graph).expect(rt, "memory");
+    check_search(rt, &search);
+    let reverse = ReverseGraph::new(alloc, &(), graph).expect(rt, "memory");
+    check_reverse(rt, &reverse);
 }
 
 #[test]
-fn calls_on_a_graph(rt: HostRuntime) -> Result<(), Fail> {
+fn calls_on_a_graph(rt: HostRuntime) {
     let alloc = rt.alloc();
-    let graph = graph_of(&rt, alloc, rows_of(&rt, alloc, "0 1;1;")?)?;
+    let graph = graph_of(&rt, alloc, rows_of(&rt, alloc, "0 1;1;"));
     check_entry(&rt, &(), &graph, Some(0));
-    check_orders(&rt, alloc, &graph)?;
-    check_component(&rt, &sccs_in_topological_order(alloc, &(), &graph)?);
-    check_search(&rt, &DFSTraversal::new(alloc, &(), &graph)?);
-    check_reverse(&rt, &ReverseGraph::new(alloc, &(), &graph)?)
+    check_orders(&rt, alloc, &graph);
+    check_answers(&rt, alloc, &graph);
 }
 
-fn check_label(
-    rt: &impl Abort,
-    alloc: Global,
-    node: ReverseNode<u32>,
-    want: &str,
-) -> Result<(), Fail> {
-    assert_eq!(rt; node.label(alloc, &())?.as_str(), want);
-    Ok(())
+fn check_label(rt: &impl Abort, alloc: Global, node: ReverseNode<u32>, want: &str) {
+    let label = node.label(alloc, &()).expect(rt, "memory");
+    assert_eq!(rt; label.as_str(), want);
 }
 
 #[test]
-fn labels_of_reverse_nodes(rt: HostRuntime) -> Result<(), Fail> {
-    check_label(&rt, rt.alloc(), ReverseNode::Sentinel, "sentinel")?;
-    check_label(&rt, rt.alloc(), ReverseNode::Real(7), "7")
+fn labels_of_reverse_nodes(rt: HostRuntime) {
+    check_label(&rt, rt.alloc(), ReverseNode::Sentinel, "sentinel");
+    check_label(&rt, rt.alloc(), ReverseNode::Real(7), "7");
 }
 
 #[test]

@@ -8,7 +8,6 @@ use pliron_core::{Attrs, BasicBlock, Context, Head, Operation, Ptr, Region};
 use pliron_laws::edges_last;
 use std::alloc::Global;
 use std::process::Abort;
-use std::test::Fail;
 
 static REGIONS: &str =
     "orders: 1 2;3;3;; => [block3 block1 block2 block0] / [block0 block2 block1 block3] / block3 block1 block2 block0 / block0 block2 block1 block3
@@ -31,13 +30,13 @@ reverse components: 1 2;3;4;;2;3; => [sentinel] [block3] [block5] [block1] [bloc
 reverse indices: 1 2;3;4;;2;3; => >sentinel>block4 block3, block1 block2>block0>, block3>block1>block0, block4>block2>block0 block4, sentinel>block3>block1 block5, block2 sentinel>block4>block2, block3>block5>";
 
 // A new operation in no block, with this many regions.
-fn operation(alloc: Global, ctx: &mut Context, regions: usize) -> Result<Ptr<Operation>, Fail> {
+fn operation(rt: &impl Abort, alloc: Global, ctx: &mut Context, regions: usize) -> Ptr<Operation> {
     let head = Head {
         kind: 1,
         ssa: true,
         attrs: Attrs::new(Vec::new(alloc)),
     };
-    Ok(Operation::create(ctx, head, 0, regions)?)
+    Operation::create(ctx, head, 0, regions).expect(rt, "memory")
 }
 
 // The first region of the operation.
@@ -55,14 +54,14 @@ fn appended(
     alloc: Global,
     ctx: &mut Context,
     block: Ptr<BasicBlock>,
-) -> Result<Ptr<Operation>, Fail> {
-    let op = operation(alloc, ctx, 0)?;
+) -> Ptr<Operation> {
+    let op = operation(rt, alloc, ctx, 0);
     assert!(rt; block.is_live(ctx));
     assert!(rt; op.is_live(ctx));
     assert!(rt; op.get_parent_block(ctx).is_none());
     assert!(rt; !op.holds_block(block, ctx));
-    BasicBlock::push_operation(ctx, block, op)?;
-    Ok(op)
+    BasicBlock::push_operation(ctx, block, op).expect(rt, "memory");
+    op
 }
 
 // The operation gets the block with this number as its last successor.
@@ -72,11 +71,11 @@ fn lead(
     op: Ptr<Operation>,
     blocks: &[Ptr<BasicBlock>],
     target: u32,
-) -> Result<(), Fail> {
+) {
     let block = *blocks.get(target as usize).expect(rt, "a block");
     assert!(rt; op.is_live(ctx));
     assert!(rt; block.is_live(ctx));
-    Ok(Operation::push_successor(ctx, op, block)?)
+    Operation::push_successor(ctx, op, block).expect(rt, "memory");
 }
 
 // The block ends with an operation that has these blocks as successors.
@@ -87,35 +86,42 @@ fn branch(
     from: Ptr<BasicBlock>,
     blocks: &[Ptr<BasicBlock>],
     targets: &[u32],
-) -> Result<(), Fail> {
-    let op = appended(rt, alloc, ctx, from)?;
+) {
+    let op = appended(rt, alloc, ctx, from);
     for target in targets {
-        lead(rt, ctx, op, blocks, *target)?;
+        lead(rt, ctx, op, blocks, *target);
     }
-    Ok(())
+}
+
+// A new last block of the region.
+fn block(rt: &impl Abort, ctx: &mut Context, region: Ptr<Region>) -> Ptr<BasicBlock> {
+    assert!(rt; region.is_live(ctx));
+    BasicBlock::create(ctx, region, 0).expect(rt, "memory")
 }
 
 // Gives the region a block for each row, which leads to those of its row. The last block gets its edges first, so
 // that the uses of a block do not stand in the region's order.
-fn fill(
-    rt: &impl Abort,
-    alloc: Global,
-    ctx: &mut Context,
-    region: Ptr<Region>,
-    rows: &[Vec<u32>],
-) -> Result<(), Fail> {
+fn fill(rt: &impl Abort, alloc: Global, ctx: &mut Context, region: Ptr<Region>, rows: &[Vec<u32>]) {
     let mut blocks = Vec::new(alloc);
     for _ in rows {
-        assert!(rt; region.is_live(ctx));
-        blocks.push(BasicBlock::create(ctx, region, 0)?)?;
+        blocks.push(block(rt, ctx, region)).expect(rt, "memory");
     }
     for (from, row) in blocks.iter().zip(rows).rev() {
-        branch(rt, alloc, ctx, *from, &blocks, row)?;
+        branch(rt, alloc, ctx, *from, &blocks, row);
     }
-    Ok(())
 }
 
-// The region may be read as a graph: what a caller looks at for that.
+// A region with these rows, which may be read as a graph: what a caller looks at for that.
+fn region_with(rt: &impl Abort, alloc: Global, ctx: &mut Context, rows: &str) -> Ptr<Region>
+    ensures { IsLawfulRegion ctx.new.tree result }
+{
+    let func = operation(rt, alloc, ctx, 1);
+    let region = region_of(rt, ctx, func);
+    fill(rt, alloc, ctx, region, &rows_of(rt, alloc, rows));
+    check_lawful(rt, ctx, region);
+    region
+}
+
 fn check_lawful(rt: &impl Abort, ctx: &Context, region: Ptr<Region>)
     ensures { IsLawfulRegion ctx.now.tree region }
 {
@@ -124,33 +130,24 @@ fn check_lawful(rt: &impl Abort, ctx: &Context, region: Ptr<Region>)
     assert!(rt; edges_last(region.get_parent_op(ctx), ctx));
 }
 
-fn check_in(rt: &impl Abort, alloc: Global, ctx: &mut Context, case: &str) -> Result<(), Fail> {
+fn check_in(rt: &impl Abort, alloc: Global, ctx: &mut Context, case: &str) {
     let (what, rows, want) = parts(rt, case);
-    let func = operation(alloc, ctx, 1)?;
-    let region = region_of(rt, ctx, func);
-    fill(rt, alloc, ctx, region, &rows_of(rt, alloc, rows)?)?;
-    check_lawful(rt, ctx, region);
-    assert_eq!(rt; answer(alloc, ctx, &region, what)?.trim(), want, "{case}");
-    Ok(())
+    let region = region_with(rt, alloc, ctx, rows);
+    let text = answer(rt, alloc, ctx, &region, what);
+    assert_eq!(rt; text.trim(), want, "{case}");
 }
 
-fn check_case(rt: &impl Abort, alloc: Global, case: &str) -> Result<(), Fail> {
+// Each case has a context of its own, since the labels of blocks are numbers of the context.
+fn check_case(rt: &impl Abort, alloc: Global, case: &str) {
     let mut ctx = Context::new(alloc);
     check_in(rt, alloc, &mut ctx, case)
 }
 
 #[test]
-fn worked_regions(rt: HostRuntime) -> Result<(), Fail> {
-    for case in REGIONS.lines() {
-        check_case(&rt, rt.alloc(), case)?;
+fn worked_regions(rt: HostRuntime) {
+    for table in [REGIONS, REVERSED] {
+        for case in table.lines() {
+            check_case(&rt, rt.alloc(), case);
+        }
     }
-    Ok(())
-}
-
-#[test]
-fn reversed_regions(rt: HostRuntime) -> Result<(), Fail> {
-    for case in REVERSED.lines() {
-        check_case(&rt, rt.alloc(), case)?;
-    }
-    Ok(())
 }

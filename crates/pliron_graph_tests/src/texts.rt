@@ -9,228 +9,261 @@ use pliron_graph::{
     post_order_by_component, sccs_in_topological_order, topological_order,
     topological_order_by_component,
 };
-use pliron_laws::OptError;
 use std::alloc::Global;
 use std::hash::Hash;
+use std::process::Abort;
 
 /// The answer of a graph, or of its reverse.
 pub fn answer<C, G: ControlFlowGraph<C>>(
+    rt: &impl Abort,
     alloc: Global,
     ctx: &C,
     graph: &G,
     what: &str,
-) -> Result<String, OptError>
+) -> String
     requires { G.is_lawful graph.now ctx.now }
 {
     let mut text = String::new(alloc);
-    push_answer(alloc, ctx, graph, what, &mut text)?;
-    Ok(text)
+    push_answer(rt, alloc, ctx, graph, what, &mut text);
+    text
 }
 
 fn push_answer<C, G: ControlFlowGraph<C>>(
+    rt: &impl Abort,
     alloc: Global,
     ctx: &C,
     graph: &G,
     what: &str,
     text: &mut String,
-) -> Result<(), OptError>
+)
     requires { G.is_lawful graph.now ctx.now }
 {
-    let Some(what) = what.strip_prefix("reverse ") else {
-        return push_plain(alloc, ctx, graph, what, text);
-    };
-    let reverse = ReverseGraph::new(alloc, ctx, graph)?;
-    if what == "pre-sentinels" {
-        return push_yielded(alloc, ctx, reverse.pre_sentinels(), text);
+    match what.strip_prefix("reverse ") {
+        Some(what) => push_reversed(rt, alloc, ctx, graph, what, text),
+        None => push_plain(rt, alloc, ctx, graph, what, text),
     }
-    push_plain(alloc, ctx, &reverse, what, text)
+}
+
+fn push_reversed<C, G: ControlFlowGraph<C>>(
+    rt: &impl Abort,
+    alloc: Global,
+    ctx: &C,
+    graph: &G,
+    what: &str,
+    text: &mut String,
+)
+    requires { G.is_lawful graph.now ctx.now }
+{
+    let reverse = ReverseGraph::new(alloc, ctx, graph).expect(rt, "memory");
+    if what == "pre-sentinels" {
+        push_yielded(rt, alloc, ctx, reverse.pre_sentinels(), text);
+    } else {
+        push_plain(rt, alloc, ctx, &reverse, what, text);
+    }
 }
 
 fn push_plain<C, G: ControlFlowGraph<C>>(
+    rt: &impl Abort,
     alloc: Global,
     ctx: &C,
     graph: &G,
     what: &str,
     text: &mut String,
-) -> Result<(), OptError>
+)
     requires { G.is_lawful graph.now ctx.now }
 {
     match what {
-        "orders" => push_orders(alloc, ctx, graph, text),
-        "searches" => push_search(
-            alloc,
-            ctx,
-            graph,
-            &DFSTraversal::new(alloc, ctx, graph)?,
-            text,
-        ),
-        "edges" => push_edges(alloc, ctx, graph, text),
-        "components" => push_components(
-            alloc,
-            ctx,
-            &sccs_in_topological_order(alloc, ctx, graph)?,
-            text,
-        ),
-        "indices" => push_indices(alloc, ctx, graph, text),
-        "entry" => push_entry(alloc, ctx, graph, text),
-        _ => push_neighbours(alloc, ctx, graph, text),
+        "orders" => push_orders(rt, alloc, ctx, graph, text),
+        "searches" => push_searched(rt, alloc, ctx, graph, text),
+        "edges" => push_edges(rt, alloc, ctx, graph, text),
+        "components" => push_components(rt, alloc, ctx, graph, text),
+        "indices" => push_indices(rt, alloc, ctx, graph, text),
+        "entry" => push_entry(rt, alloc, ctx, graph, text),
+        _ => push_neighbours(rt, alloc, ctx, graph, text),
     }
+}
+
+/// Pushes the text.
+pub fn push(rt: &impl Abort, text: &mut String, piece: &str) {
+    text.push_str(piece).expect(rt, "memory");
+}
+
+fn push_label<C, N: HasLabel<C>>(
+    rt: &impl Abort,
+    alloc: Global,
+    ctx: &C,
+    node: &N,
+    text: &mut String,
+) {
+    push(rt, text, &node.label(alloc, ctx).expect(rt, "memory"));
 }
 
 /// The labels of the nodes, with a text between each two.
 pub fn push_labels<C, N: HasLabel<C>>(
+    rt: &impl Abort,
     alloc: Global,
     ctx: &C,
     nodes: &[N],
     between: &str,
     text: &mut String,
-) -> Result<(), OptError> {
+) {
     for (i, node) in nodes.iter().enumerate() {
-        if i > 0 {
-            text.push_str(between)?;
-        }
-        text.push_str(&node.label(alloc, ctx)?)?;
+        push(rt, text, if i > 0 { between } else { "" });
+        push_label(rt, alloc, ctx, node, text);
     }
-    Ok(())
 }
 
 // The labels of what an iterator yields, with a blank between each two.
 fn push_yielded<C, N: HasLabel<C> + Copy, I: Iterator<Item = N> + Drop>(
+    rt: &impl Abort,
     alloc: Global,
     ctx: &C,
     nodes: I,
     text: &mut String,
-) -> Result<(), OptError>
+)
     requires can { I.can_next nodes }
     requires ends { IsFinite (I.remaining nodes) }
 {
     let mut is_first = true;
     for node in nodes {
-        if !is_first {
-            text.push(' ')?;
-        }
-        text.push_str(&node.label(alloc, ctx)?)?;
+        push(rt, text, if is_first { "" } else { " " });
+        push_label(rt, alloc, ctx, &node, text);
         is_first = false;
     }
-    Ok(())
 }
 
 // Each list of labels in brackets.
 fn push_bracketed<C, N: HasLabel<C>>(
+    rt: &impl Abort,
     alloc: Global,
     ctx: &C,
     lists: &[Vec<N>],
     text: &mut String,
-) -> Result<(), OptError> {
+) {
     for list in lists {
-        text.push('[')?;
-        push_labels(alloc, ctx, list, " ", text)?;
-        text.push(']')?;
+        push(rt, text, "[");
+        push_labels(rt, alloc, ctx, list, " ", text);
+        push(rt, text, "]");
     }
-    Ok(())
 }
 
 // The walks in both orders, and the nodes in both orders.
 fn push_orders<C, G: ControlFlowGraph<C>>(
+    rt: &impl Abort,
     alloc: Global,
     ctx: &C,
     graph: &G,
     text: &mut String,
-) -> Result<(), OptError>
+)
     requires { G.is_lawful graph.now ctx.now }
 {
-    push_bracketed(
-        alloc,
-        ctx,
-        &post_order_by_component(alloc, ctx, graph)?,
-        text,
-    )?;
-    text.push_str(" / ")?;
-    push_bracketed(
-        alloc,
-        ctx,
-        &topological_order_by_component(alloc, ctx, graph)?,
-        text,
-    )?;
-    text.push_str(" / ")?;
-    push_labels(alloc, ctx, &post_order(alloc, ctx, graph)?, " ", text)?;
-    text.push_str(" / ")?;
-    push_labels(
-        alloc,
-        ctx,
-        &topological_order(alloc, ctx, graph)?,
-        " ",
-        text,
-    )
+    push_walks(rt, alloc, ctx, graph, text);
+    let nodes = post_order(alloc, ctx, graph).expect(rt, "memory");
+    push(rt, text, " / ");
+    push_labels(rt, alloc, ctx, &nodes, " ", text);
+    let nodes = topological_order(alloc, ctx, graph).expect(rt, "memory");
+    push(rt, text, " / ");
+    push_labels(rt, alloc, ctx, &nodes, " ", text);
+}
+
+fn push_walks<C, G: ControlFlowGraph<C>>(
+    rt: &impl Abort,
+    alloc: Global,
+    ctx: &C,
+    graph: &G,
+    text: &mut String,
+)
+    requires { G.is_lawful graph.now ctx.now }
+{
+    let walks = post_order_by_component(alloc, ctx, graph).expect(rt, "memory");
+    push_bracketed(rt, alloc, ctx, &walks, text);
+    let walks = topological_order_by_component(alloc, ctx, graph).expect(rt, "memory");
+    push(rt, text, " / ");
+    push_bracketed(rt, alloc, ctx, &walks, text);
 }
 
 // The reached nodes in the three orders of the search, and the numbers of each node.
-fn push_search<C, G: ControlFlowGraph<C>>(
+fn push_searched<C, G: ControlFlowGraph<C>>(
+    rt: &impl Abort,
     alloc: Global,
     ctx: &C,
     graph: &G,
-    search: &DFSTraversal<G::Node>,
     text: &mut String,
-) -> Result<(), OptError>
+)
     requires { G.is_lawful graph.now ctx.now }
 {
-    push_yielded(alloc, ctx, search.pre_order(), text)?;
-    text.push_str(" / ")?;
-    push_yielded(alloc, ctx, search.post_order(), text)?;
-    text.push_str(" / ")?;
-    push_yielded(alloc, ctx, search.reverse_post_order(), text)?;
-    text.push_str(" /")?;
-    for node in &graph.nodes(alloc, ctx)? {
-        push_numbers(alloc, ctx, search, node, text)?;
+    let search = DFSTraversal::new(alloc, ctx, graph).expect(rt, "memory");
+    push_search(rt, alloc, ctx, &search, text);
+    let nodes = graph.nodes(alloc, ctx).expect(rt, "memory");
+    for node in &nodes {
+        push_numbers(rt, alloc, ctx, &search, node, text);
     }
-    Ok(())
+}
+
+fn push_search<C, N: HasLabel<C> + Eq + Hash + Copy>(
+    rt: &impl Abort,
+    alloc: Global,
+    ctx: &C,
+    search: &DFSTraversal<N>,
+    text: &mut String,
+) {
+    push_yielded(rt, alloc, ctx, search.pre_order(), text);
+    push(rt, text, " / ");
+    push_yielded(rt, alloc, ctx, search.post_order(), text);
+    push(rt, text, " / ");
+    push_yielded(rt, alloc, ctx, search.reverse_post_order(), text);
+    push(rt, text, " /");
 }
 
 // The three numbers of a reached node.
 fn push_numbers<C, N: HasLabel<C> + Eq + Hash + Copy>(
+    rt: &impl Abort,
     alloc: Global,
     ctx: &C,
     search: &DFSTraversal<N>,
     node: &N,
     text: &mut String,
-) -> Result<(), OptError> {
-    let label = node.label(alloc, ctx)?;
+) {
+    push(rt, text, " ");
+    push_label(rt, alloc, ctx, node, text);
     if !search.is_reached(node) {
-        return Ok(text.push_str(&format!(in alloc; " {label}=-")?)?);
+        return push(rt, text, "=-");
     }
     let pre = search.pre_order_number(node);
     let post = search.post_order_number(node);
     let reverse = search.reverse_post_order_number(node);
-    Ok(text.push_str(&format!(in alloc; " {label}={pre}/{post}/{reverse}")?)?)
+    write!(text, "={pre}/{post}/{reverse}").expect(rt, "memory");
 }
 
 // The edges of reached nodes, nodes in listed order and successors by index, each with its kind.
 fn push_edges<C, G: ControlFlowGraph<C>>(
+    rt: &impl Abort,
     alloc: Global,
     ctx: &C,
     graph: &G,
     text: &mut String,
-) -> Result<(), OptError>
+)
     requires { G.is_lawful graph.now ctx.now }
 {
-    let search = DFSTraversal::new(alloc, ctx, graph)?;
-    for node in &graph.nodes(alloc, ctx)? {
+    let search = DFSTraversal::new(alloc, ctx, graph).expect(rt, "memory");
+    let nodes = graph.nodes(alloc, ctx).expect(rt, "memory");
+    for node in &nodes {
         if search.is_reached(node) {
-            push_edges_of(alloc, ctx, graph, &search, node, text)?;
+            push_edges_of(rt, alloc, ctx, graph, &search, node, text);
         }
     }
-    Ok(())
 }
 
 // The edges of a node that the search from the entry reached.
 fn push_edges_of<C, G: ControlFlowGraph<C>>(
+    rt: &impl Abort,
     alloc: Global,
     ctx: &C,
     graph: &G,
     search: &DFSTraversal<G::Node>,
     node: &G::Node,
     text: &mut String,
-) -> Result<(), OptError>
+)
     requires lawful { G.is_lawful graph.now ctx.now }
     requires member { Contains (G.graph graph.now ctx.now).nodes node.now }
     requires search { IsSearch G.Node.eq (G.graph graph.now ctx.now) (option_to_list (G.graph graph.now ctx.now).entry) search.now }
@@ -239,101 +272,142 @@ fn push_edges_of<C, G: ControlFlowGraph<C>>(
     for i in 0..graph.num_successors(ctx, node) {
         let next = graph.get_successor(ctx, node, i);
         let kind = search.edge_kind(node, &next);
-        push_edge(alloc, ctx, node, &next, kind, text)?;
+        push_edge(rt, alloc, ctx, node, &next, kind, text);
     }
-    Ok(())
 }
 
 fn push_edge<C, N: HasLabel<C>>(
+    rt: &impl Abort,
     alloc: Global,
     ctx: &C,
     from: &N,
     to: &N,
     kind: DFSEdgeKind,
     text: &mut String,
-) -> Result<(), OptError> {
-    let from = from.label(alloc, ctx)?;
-    let to = to.label(alloc, ctx)?;
-    Ok(text.push_str(&format!(in alloc; "{from}>{to}:{kind:?} ")?)?)
+) {
+    push_label(rt, alloc, ctx, from, text);
+    push(rt, text, ">");
+    push_label(rt, alloc, ctx, to, text);
+    write!(text, ":{kind:?} ").expect(rt, "memory");
+}
+
+fn push_components<C, G: ControlFlowGraph<C>>(
+    rt: &impl Abort,
+    alloc: Global,
+    ctx: &C,
+    graph: &G,
+    text: &mut String,
+)
+    requires { G.is_lawful graph.now ctx.now }
+{
+    let components = sccs_in_topological_order(alloc, ctx, graph).expect(rt, "memory");
+    push_each_component(rt, alloc, ctx, &components, text);
 }
 
 // Each component in brackets, with a star where it is cyclic.
-fn push_components<C, N: HasLabel<C>>(
+fn push_each_component<C, N: HasLabel<C>>(
+    rt: &impl Abort,
     alloc: Global,
     ctx: &C,
     components: &[Scc<N>],
     text: &mut String,
-) -> Result<(), OptError> {
+) {
     for component in components {
-        text.push('[')?;
-        push_labels(alloc, ctx, &component.nodes, " ", text)?;
-        text.push_str(if component.is_cyclic { "]* " } else { "] " })?;
+        push(rt, text, "[");
+        push_labels(rt, alloc, ctx, &component.nodes, " ", text);
+        push(rt, text, if component.is_cyclic { "]* " } else { "] " });
     }
-    Ok(())
 }
 
 // The predecessors and the successors of each node around it, by the two lists.
 fn push_neighbours<C, G: ControlFlowGraph<C>>(
+    rt: &impl Abort,
     alloc: Global,
     ctx: &C,
     graph: &G,
     text: &mut String,
-) -> Result<(), OptError>
+)
     requires { G.is_lawful graph.now ctx.now }
 {
-    for node in &graph.nodes(alloc, ctx)? {
-        text.push_str(if text.is_empty() { "" } else { ", " })?;
-        push_labels(
-            alloc,
-            ctx,
-            &graph.predecessors(alloc, ctx, node)?,
-            " ",
-            text,
-        )?;
-        text.push('>')?;
-        text.push_str(&node.label(alloc, ctx)?)?;
-        text.push('>')?;
-        push_labels(alloc, ctx, &graph.successors(alloc, ctx, node)?, " ", text)?;
+    let nodes = graph.nodes(alloc, ctx).expect(rt, "memory");
+    for node in &nodes {
+        push(rt, text, if text.is_empty() { "" } else { ", " });
+        push_lists(rt, alloc, ctx, graph, node, text);
     }
-    Ok(())
+}
+
+fn push_lists<C, G: ControlFlowGraph<C>>(
+    rt: &impl Abort,
+    alloc: Global,
+    ctx: &C,
+    graph: &G,
+    node: &G::Node,
+    text: &mut String,
+)
+    requires lawful { G.is_lawful graph.now ctx.now }
+    requires member { Contains (G.graph graph.now ctx.now).nodes node.now }
+{
+    let before = graph.predecessors(alloc, ctx, node).expect(rt, "memory");
+    push_labels(rt, alloc, ctx, &before, " ", text);
+    push(rt, text, ">");
+    push_label(rt, alloc, ctx, node, text);
+    push(rt, text, ">");
+    let after = graph.successors(alloc, ctx, node).expect(rt, "memory");
+    push_labels(rt, alloc, ctx, &after, " ", text);
 }
 
 // The same by index.
 fn push_indices<C, G: ControlFlowGraph<C>>(
+    rt: &impl Abort,
     alloc: Global,
     ctx: &C,
     graph: &G,
     text: &mut String,
-) -> Result<(), OptError>
+)
     requires { G.is_lawful graph.now ctx.now }
 {
-    for node in &graph.nodes(alloc, ctx)? {
-        text.push_str(if text.is_empty() { "" } else { ", " })?;
-        for i in 0..graph.num_predecessors(ctx, node) {
-            text.push_str(if i > 0 { " " } else { "" })?;
-            text.push_str(&graph.get_predecessor(ctx, node, i).label(alloc, ctx)?)?;
-        }
-        text.push('>')?;
-        text.push_str(&node.label(alloc, ctx)?)?;
-        text.push('>')?;
-        for i in 0..graph.num_successors(ctx, node) {
-            text.push_str(if i > 0 { " " } else { "" })?;
-            text.push_str(&graph.get_successor(ctx, node, i).label(alloc, ctx)?)?;
-        }
+    let nodes = graph.nodes(alloc, ctx).expect(rt, "memory");
+    for node in &nodes {
+        push(rt, text, if text.is_empty() { "" } else { ", " });
+        push_by_index(rt, alloc, ctx, graph, node, text);
     }
-    Ok(())
+}
+
+fn push_by_index<C, G: ControlFlowGraph<C>>(
+    rt: &impl Abort,
+    alloc: Global,
+    ctx: &C,
+    graph: &G,
+    node: &G::Node,
+    text: &mut String,
+)
+    requires lawful { G.is_lawful graph.now ctx.now }
+    requires member { Contains (G.graph graph.now ctx.now).nodes node.now }
+{
+    for i in 0..graph.num_predecessors(ctx, node) {
+        push(rt, text, if i > 0 { " " } else { "" });
+        push_label(rt, alloc, ctx, &graph.get_predecessor(ctx, node, i), text);
+    }
+    push(rt, text, ">");
+    push_label(rt, alloc, ctx, node, text);
+    push(rt, text, ">");
+    for i in 0..graph.num_successors(ctx, node) {
+        push(rt, text, if i > 0 { " " } else { "" });
+        push_label(rt, alloc, ctx, &graph.get_successor(ctx, node, i), text);
+    }
 }
 
 fn push_entry<C, G: ControlFlowGraph<C>>(
+    rt: &impl Abort,
     alloc: Global,
     ctx: &C,
     graph: &G,
     text: &mut String,
-) -> Result<(), OptError>
+)
     requires { G.is_lawful graph.now ctx.now }
 {
     match graph.entry_node(ctx) {
-        Some(entry) => Ok(text.push_str(&entry.label(alloc, ctx)?)?),
-        None => Ok(text.push_str("none")?),
+        Some(entry) => push_label(rt, alloc, ctx, &entry, text),
+        None => push(rt, text, "none"),
     }
 }

@@ -9,5 +9,5 @@ mod numbered_graph;
 mod program;
 
 pub use pliron_laws::OptError;
-pub use pliron_sccp::{is_straight, sccp};
+pub use pliron_sccp::{sccp, sccp_counted};
 pub use program::plir_run;

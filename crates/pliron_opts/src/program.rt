@@ -1,8 +1,8 @@
 //! The program: from arguments and bytes to bytes and a status.
-ghost use Rattle.std.specs.Prelude.{OnOk};
 ghost use Rattle.pliron_core.specs.Tree.{IsLive};
 ghost use Rattle.pliron_laws.specs.Linked.{IsWellLinked};
 ghost use Rattle.pliron_bench.specs.BenchMoves.{bench};
+ghost use Rattle.pliron_theory.specs.Change.{IsPassChange};
 
 use crate::graph_lines::print_graph;
 use crate::numbered_graph::read_graph;
@@ -11,7 +11,7 @@ use pliron_core::{Context, IRStatus, Operation, Ptr};
 use pliron_dce::dce;
 use pliron_laws::OptError;
 use pliron_notation::{print_text, read_text};
-use pliron_sccp::{is_straight, sccp};
+use pliron_sccp::sccp;
 use std::alloc::{AllocError, Global};
 use std::io::{ErrorKind, Read, Write};
 use thiserror::Error;
@@ -91,27 +91,22 @@ impl Optimisation {
         }
     }
 
-    /// Optimises the operation. So far propagation takes one straight block alone, and any other text
-    /// is unreadable for it.
+    /// Optimises what is inside the operation.
+    ///
+    /// Errors: want of memory, after some whole rewrites.
     fn run(
         &self,
         alloc: Global,
         root: Ptr<Operation>,
         ctx: &mut Context,
-    ) -> Result<IRStatus, Failure>
+    ) -> Result<IRStatus, OptError>
         requires live { IsLive ctx.old.tree root }
         requires linked { IsWellLinked bench ctx.old.tree root }
-        ensures stands { OnOk result (IsLive ctx.new.tree root) }
-        ensures links { OnOk result (IsWellLinked bench ctx.new.tree root) }
+        ensures { IsPassChange bench ctx.old.tree ctx.new.tree root }
     {
         match self {
-            Optimisation::Sccp => {
-                if !is_straight(alloc, root, ctx)? {
-                    return Err(Failure::Text);
-                }
-                Ok(sccp(alloc, root, ctx)?)
-            }
-            Optimisation::Dce => Ok(dce::<Bench>(alloc, root, ctx)?),
+            Optimisation::Sccp => sccp::<Bench>(alloc, root, ctx),
+            Optimisation::Dce => dce::<Bench>(alloc, root, ctx),
         }
     }
 }
@@ -125,16 +120,18 @@ enum Command {
     Graph,
 }
 
-/// Optimises the operation by each of the list in turn.
+/// Optimises what is inside the operation by each of the list in turn.
+///
+/// Errors: want of memory, after some whole rewrites.
 fn run_list(
     alloc: Global,
     list: &[Optimisation],
     root: Ptr<Operation>,
     ctx: &mut Context,
-) -> Result<IRStatus, Failure>
+) -> Result<IRStatus, OptError>
     requires live { IsLive ctx.old.tree root }
     requires linked { IsWellLinked bench ctx.old.tree root }
-    ensures { OnOk result (IsLive ctx.new.tree root) }
+    ensures { IsPassChange bench ctx.old.tree ctx.new.tree root }
 {
     let mut status = IRStatus::Unchanged;
     for optimisation in list {

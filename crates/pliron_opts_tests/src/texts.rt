@@ -73,7 +73,14 @@ func { b0(): a = const 9223372036854775807; b = const 1; c = add a b; ret c } =>
 func { b0(): ret } => func { b0(): ret }|unchanged|
 func { b0(): a = const 5; b = add a a; c = add b a; ret c b } => func { b0(): v0 = const 5; v1 = const 10; v2 = add v0 v0; v3 = const 15; v4 = add v1 v0; ret v3 v1 }|changed|
 func{b0():a=const -9223372036854775808;b=add a a;ret} => func { b0(): v0 = const -9223372036854775808; v1 = const 0; v2 = add v0 v0; ret }|changed|
-func { a(): a = const 7; ret a a } => func { b0(): v0 = const 7; ret v0 v0 }|unchanged|";
+func { a(): a = const 7; ret a a } => func { b0(): v0 = const 7; ret v0 v0 }|unchanged|
+mod { } => mod { }|unchanged|
+func { b0(): a = read; ret a } => func { b0(): v0 = read; ret v0 }|unchanged|
+func { b0(): a = add a a; ret a } => func { b0(): v0 = add v0 v0; ret v0 }|unchanged|
+func { b0(): ret; ret } => func { b0(): ret; ret }|unchanged|
+func { b0(): z = const 0; br b1(z); b1(i): r = read; cbr r b1(i) b2(); b2(): ret i } => func { b0(): v0 = const 0; br b1(v0); b1(v1): v2 = const 0; v3 = read; cbr v3 b1(v2) b2(); b2(): ret v2 }|changed|
+func { b0(): a = const 2; scope { b0(): b = add a a; print b; ret }; ret } => func { b0(): v0 = const 2; scope { b0(): v1 = const 4; v2 = add v0 v0; print v1; ret }; ret }|changed|
+mod { b0(): func { b0(): a = const 1; b = add a a; ret b } } => mod { b0(): func { b0(): v0 = const 1; v1 = const 2; v2 = add v0 v0; ret v1 } }|changed|";
 
 #[test]
 fn rows(rt: HostRuntime) {
@@ -94,6 +101,9 @@ fn rows(rt: HostRuntime) {
 static LISTS: &str =
     "sccp,dce :: func { b0(): a = const 1; b = const 2; c = add a b; ret c } => func { b0(): v0 = const 3; ret v0 }|changed|
 sccp,sccp :: func { b0(): a = const 1; b = const 2; c = add a b; ret c } => func { b0(): v0 = const 1; v1 = const 2; v2 = const 3; v3 = const 3; v4 = add v0 v1; ret v2 }|changed|
+sccp,dce :: func { b0(): a = const 1; z = const 0; d = div a z; ret a } => func { b0(): v0 = const 1; v1 = const 0; v2 = div v0 v1; ret v0 }|unchanged|
+sccp,dce :: func { b0(): a = const 7; b = const -2; d = div a b; ret d } => func { b0(): v0 = const 7; v1 = const -2; v2 = const -3; v3 = div v0 v1; ret v2 }|changed|
+sccp,dce :: func { b0(x): z = const 0; m = mul x z; ret m } => func { b0(v0): v1 = const 0; ret v1 }|changed|
 dce,dce :: func { b0(): x = const 1; br b1(x); b1(a): c = const 7; ret c } => func { b0(): br b1(); b1(): v0 = const 7; ret v0 }|changed|
 dce :: func { b0(): a = const 1; z = const 0; d = div a z; ret a } => func { b0(): v0 = const 1; v1 = const 0; v2 = div v0 v1; ret v0 }|unchanged|
 dce :: func { b0(): l, r = pair; sink l l r r; br b1(l, r); b1(a, b): k = const 99; ret k } => func { b0(): br b1(); b1(): v0 = const 99; ret v0 }|changed|
@@ -121,13 +131,6 @@ static UNREADABLE: &str = "
 func
 func { b0(): a = const 1
 func { }
-func { b0(): a = const 1 }
-func { b0(): c = add a a; a = const 1; ret c }
-func { b0(): a = add a a; ret a }
-func { b0(): ret a; a = const 1; ret a }
-func { b0(): ret; ret }
-func { b0(): ret; b1(): ret }
-func { b0(x): ret x }
 func { b0(): ret b0 }
 func { b0(): a = const 1; a = const 2; ret a }
 func { b0(): a = const 9223372036854775808; ret a }
@@ -137,10 +140,8 @@ func { b0(): a = const 01; ret a }
 func { b0(): a = const -; ret a }
 func { b0(): add = const 1; ret add }
 func { b0(): mul = const 1; ret mul }
-func { b0(): a = read; ret a }
 func { b0(): ret; }
 func { b0(): ret } func { b0(): ret }
-mod { }
 func { b0(): ret # }
 func { b0(): \u{e4} = const 1; ret }
 func { b0(): a234567890123456789012345678901234567890123456789012345678901234x = const 1; ret }";

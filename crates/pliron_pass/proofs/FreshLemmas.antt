@@ -1,13 +1,16 @@
 -- Caches that stay fresh.
-use Rattle.std.proofs.Common.{◌≡◌, ◌⊎◌, ℕ, zero, suc, ◌+◌, ◌<◌, ◌≤◌, List, [], ◌∷◌, ◌++◌, length, Bool, true, false, cond, ◌||◌, if◌then◌else◌, Option, Some, None, option_map, slice_get, take, refl, sym, ap, ◌∙◌, subst, arith, inl, inr, add-one}
+use Rattle.std.proofs.Common.{◌≡◌, ◌⊎◌, ℕ, zero, suc, ◌+◌, ◌<◌, ◌≤◌, List, [], ◌∷◌, ◌++◌, length, Bool, true, false, cond, ◌||◌, ◌&&◌, if◌then◌else◌, nat_eq, Option, Some, None, option_map, slice_get, take, refl, sym, ap, ◌∙◌, subst, arith, inl, inr, add-one}
 use Rattle.std.specs.List.{fold, list_any, filter}
+use Rattle.std.specs.Map.{set_value}
 use Rattle.std.proofs.lemmas.Bool.{false≢true}
 use Rattle.std.proofs.lemmas.List.Folds.{list_any-append}
 use Rattle.indexmap.specs.IndexSet.{insert_key}
 use Rattle.pliron_core.specs.Tree.{Tree, IsLive}
 use Rattle.pliron_core.specs.declared.attrs.IRStatus.{IRStatus}
 use Rattle.pliron_core.specs.declared.attrs.IRStatus.TheVariants.{Changed, Unchanged}
-use Rattle.pliron_pass.specs.Cache.{IsFresh, IsFreshEntry, retained}
+use Rattle.pliron_core.proofs.WithinLemmas.{equal_from}
+use Rattle.pliron_pass.specs.Cache.{IsFresh, IsFreshEntry, retained, same_key}
+use Rattle.pliron_pass.specs.Grown.{cached_at}
 use Rattle.pliron_theory.specs.Edges.{edges_inside}
 use Rattle.pliron_core.specs.Joined.{IsTree}
 use Rattle.pliron_core.specs.Changes.{IsSameTree}
@@ -36,6 +39,43 @@ module _ {K E : Type 0} (eq : K → K → Bool) (kind : E → K) (holds : E → 
       go : IsFresh eq kind holds u (filter test ps) → (b : Bool) → test p ≡ b → IsFresh eq kind holds u (cond b (p ∷ filter test ps) (filter test ps))
       go rest true e = ((omega (arith, f.0.0, grows), λ l. let before = fewer p.0.1 f.0.0 l in let h = f.0.1 before in (h.0, on p e h.0 before l h.1)), rest)
       go rest false e = rest
+
+-- what is found in a fresh cache is of its kind, and holds
+module _ {K E : Type 0} (eq : K → K → Bool) (kind : E → K) (holds : E → ℕ → Tree → Type 0) (same : (a b : K) → eq a b ≡ true → a ≡ b) (t : Tree) where
+  pub fresh_at : (es : List ((K × ℕ) × E)) (k : K) (o : ℕ) (e : E) → IsFresh eq kind holds t es → IsLive t o → cached_at eq es k o ≡ Some e → (kind e ≡ k) × holds e o t
+  fresh_at [] k o e f live h = absurd (cc)
+  fresh_at (p ∷ ps) k o e f live h = go (λ g. fresh_at ps k o e f.1 live g) (eq k p.0.0) refl (nat_eq o p.0.1) refl h
+    where
+      here : eq k p.0.0 ≡ true → o ≡ p.0.1 → p.1 ≡ e → (kind e ≡ k) × holds e o t
+      here x s v =
+          let entry = f.0.1 (subst (λ z. IsLive t z) s live) in
+          (ap kind (sym v) ∙ same (kind p.1) p.0.0 entry.0 ∙ sym (same k p.0.0 x), subst (λ z. holds z o t) v (subst (λ z. holds p.1 z t) (sym s) entry.1))
+
+      value : Some p.1 ≡ Some e → p.1 ≡ e
+      value g = cc
+
+      go : (cached_at eq ps k o ≡ Some e → (kind e ≡ k) × holds e o t) → (a : Bool) → eq k p.0.0 ≡ a → (b : Bool) → nat_eq o p.0.1 ≡ b → cond (a && b) (Some p.1) (cached_at eq ps k o) ≡ Some e → (kind e ≡ k) × holds e o t
+      go rest true x true y g = here x (sym (equal_from o p.0.1 y)) (value g)
+      go rest true x false y g = rest g
+      go rest false x b y g = rest g
+
+-- where an analysis is written that is of its kind and holds
+module _ {K E : Type 0} (eq : K → K → Bool) (kind : E → K) (holds : E → ℕ → Tree → Type 0) (t : Tree) (k : K) (o : ℕ) (w : E) (of : kind w ≡ k) (says : IsLive t o → holds w o t) where
+  pub fresh_written : (es : List ((K × ℕ) × E)) → IsFresh eq kind holds t es → IsFresh eq kind holds t (set_value (same_key eq (k, o)) es w)
+  fresh_written [] f = tt
+  fresh_written (p ∷ ps) f = go (fresh_written ps f.1) (eq k p.0.0) refl (nat_eq o p.0.1) refl
+    where
+      go : IsFresh eq kind holds t (set_value (same_key eq (k, o)) ps w) → (a : Bool) → eq k p.0.0 ≡ a → (b : Bool) → nat_eq o p.0.1 ≡ b → IsFresh eq kind holds t (cond (a && b) ((p.0, w) ∷ ps) (p ∷ set_value (same_key eq (k, o)) ps w))
+      go rest true x true y =
+          let s : p.0.1 ≡ o = equal_from o p.0.1 y in
+          ((f.0.0, λ live. (subst (λ z. eq z p.0.0 ≡ true) (sym of) x, subst (λ z. holds w z t) (sym s) (says (subst (λ z. IsLive t z) s live)))), f.1)
+      go rest true x false y = (f.0, rest)
+      go rest false x b y = (f.0, rest)
+
+-- where nothing is kept
+pub fresh_emptied : {K E : Type 0} (eq : K → K → Bool) (kind : E → K) (holds : E → ℕ → Tree → Type 0) (t : Tree) (es : List ((K × ℕ) × E)) → IsFresh eq kind holds t (retained eq Changed [] es)
+fresh_emptied eq kind holds t [] = tt
+fresh_emptied eq kind holds t (p ∷ ps) = fresh_emptied eq kind holds t ps
 
 -- the kinds that were kept read edges alone
 module _ {K : Type 0} (eq : K → K → Bool) (edges : K → Bool) where

@@ -6,3 +6,5 @@ pub mod NestedLemmas
 pub mod PassesLemmas
 pub mod CloseLemmas
 pub mod FreshLemmas
+pub mod WalkedLemmas
+pub mod BenchFactLemmas

@@ -10,3 +10,5 @@ pub mod Outcome
 pub mod Combined
 pub mod Optimising
 pub mod Repeating
+pub mod BenchFacts
+pub mod BenchFactLaws

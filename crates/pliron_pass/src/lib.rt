@@ -5,6 +5,7 @@
 #![tactic(auto)]
 
 mod analyses;
+mod bench_facts;
 mod config;
 mod guard;
 mod kinds;
@@ -18,6 +19,7 @@ mod run;
 mod verify;
 
 pub use analyses::Analyses;
+pub use bench_facts::{BenchFactKind, BenchFacts};
 pub use config::{PMConfig, PMData, PMState};
 pub use guard::{Guard, GuardedPass, OpGuard, OpInterfaceGuard, OpInterfacePass, OpPass};
 pub use kinds::AnalysisKind;

@@ -15,7 +15,6 @@ use pliron_pass::{
 };
 use std::alloc::Global;
 use std::process::Abort;
-use std::test::Fail;
 
 // The branch forwards nothing to a block with an argument, which verifying finds.
 static MISFIT: &str = "func { b0(): c = const 1; d = const 2; cbr c b1() b1(); b1(p): ret p }";
@@ -50,24 +49,32 @@ repeat idle => Unchanged 0 1 2, 1 runs
 repeat touch idle => Changed 0, 6 runs
 repeat touch fail => code 7, 2 runs";
 
+/// The operation of the text.
+pub fn read(rt: &impl Abort, alloc: Global, ctx: &mut Context, text: &str) -> Ptr<Operation>
+    ensures live { IsLive ctx.new.tree result }
+    ensures linked { IsWellLinked bench ctx.new.tree result }
+{
+    let read = read_text(alloc, text.as_bytes(), ctx).expect(rt, "memory");
+    let root = read.expect(rt, "readable");
+    assert!(rt; root.is_live(ctx));
+    root
+}
+
 // Sets what a word says.
-fn set_word(config: &mut PMConfig, alloc: Global, word: &str) -> Result<(), Fail> {
-    match word.split_once("=") {
-        Some(("skip", name)) => {
-            config.skip_passes.insert(name.to_string(alloc)?)?;
-        }
-        Some(("before", name)) => {
-            config.verify_before.insert(name.to_string(alloc)?)?;
-        }
-        Some(("after", name)) => {
-            config.verify_after.insert(name.to_string(alloc)?)?;
-        }
+fn set_word(rt: &impl Abort, alloc: Global, config: &mut PMConfig, word: &str) {
+    let (what, name) = word.split_once("=").unwrap_or((word, ""));
+    let names = match what {
+        "skip" => &mut config.skip_passes,
+        "before" if !name.is_empty() => &mut config.verify_before,
+        "after" if !name.is_empty() => &mut config.verify_after,
         _ => {
-            config.verify_before_all |= word == "before";
-            config.verify_after_all |= word == "after";
+            config.verify_before_all |= what == "before";
+            config.verify_after_all |= what == "after";
+            return;
         }
-    }
-    Ok(())
+    };
+    let name = name.to_string(alloc).expect(rt, "memory");
+    names.insert(name).expect(rt, "memory");
 }
 
 // The pass of this name.
@@ -81,31 +88,28 @@ fn step_of(word: &str) -> Option<Step> {
     }
 }
 
-// The passes and the configuration of these words.
-fn line_of(alloc: Global, words: &str, config: &mut PMConfig) -> Result<Passes<Step>, Fail> {
-    let mut passes = Passes::new(alloc);
-    for word in words.split_ascii_whitespace() {
-        match step_of(word) {
-            Some(step) => {
-                if passes.add_pass(step).is_err() {
-                    return Err(Fail::from("no room for a pass"));
-                }
-            }
-            None => set_word(config, alloc, word)?,
-        }
+// A word that names a pass adds it, and any other one says something for the configuration.
+fn take_word(
+    rt: &impl Abort,
+    alloc: Global,
+    word: &str,
+    config: &mut PMConfig,
+    passes: &mut Passes<Step>,
+) {
+    match step_of(word) {
+        Some(step) => assert!(rt; passes.add_pass(step).is_ok()),
+        None => set_word(rt, alloc, config, word),
     }
-    Ok(passes)
 }
 
-// What comes of a run, where the caller keeps of the cache what the answer preserves.
-fn report(
-    alloc: Global,
-    answer: Result<PassResult<u32>, OptError>,
+// What is said of a run, where the caller keeps of the cache what the answer preserves.
+fn outcome(
+    answer: &Result<PassResult<u32>, OptError>,
     analyses: &mut AnalysisManager<Fact>,
-) -> Result<String, Fail> {
-    let said = match answer {
+) -> &'static str {
+    match answer {
         Ok(result) => {
-            analyses.retain_preserved(&result);
+            analyses.retain_preserved(result);
             match result.ir_changed {
                 IRStatus::Changed => "Changed",
                 IRStatus::Unchanged => "Unchanged",
@@ -115,10 +119,21 @@ fn report(
         Err(OptError::VerifyAfter) => "after",
         Err(OptError::Pass(7)) => "code 7",
         Err(_) => "another fault",
-    };
-    let kept = kinds(alloc, analyses)?;
+    }
+}
+
+// The outcome, the kinds that are cached then, and how many runs are counted.
+fn report(
+    rt: &impl Abort,
+    alloc: Global,
+    answer: &Result<PassResult<u32>, OptError>,
+    analyses: &mut AnalysisManager<Fact>,
+) -> String {
+    let mut text = String::new(alloc);
+    let said = outcome(answer, analyses);
     let runs = analyses.pm_data().state().pass_run_count;
-    Ok(format!(in alloc; "{said}{kept}, {runs} runs")?)
+    write!(text, "{said}{}, {runs} runs", kinds(rt, alloc, analyses)).expect(rt, "memory");
+    text
 }
 
 // Runs the line in the shape that is named.
@@ -157,38 +172,46 @@ fn run_shape(
     }
 }
 
-fn run_in(
+// Runs the passes and says what comes of it.
+fn run_line(
     rt: &impl Abort,
     alloc: Global,
     shape: &str,
-    words: &str,
+    line: Passes<Step>,
     ctx: &mut Context,
-) -> Result<String, Fail> {
+    analyses: &mut AnalysisManager<Fact>,
+) -> String {
     let text = if shape == "misfit" { MISFIT } else { FIT };
-    let Some(root) = read_text(alloc, text.as_bytes(), ctx)? else {
-        return Err(Fail::from("unreadable"));
-    };
-    assert!(rt; root.is_live(ctx));
+    let root = read(rt, alloc, ctx, text);
+    analyses.compute_analysis(2, root, ctx).expect(rt, "memory");
+    let answer = run_shape(alloc, shape, line, root, ctx, analyses);
+    report(rt, alloc, &answer, analyses)
+}
+
+// What comes of these words in this shape.
+fn run_in(rt: &impl Abort, alloc: Global, shape: &str, words: &str, ctx: &mut Context) -> String {
     let mut analyses = AnalysisManager::<Fact>::new(alloc);
-    analyses.compute_analysis(2, root, ctx)?;
     let mut config = PMConfig::new(alloc);
-    let passes = line_of(alloc, words, &mut config)?;
+    let mut passes = Passes::new(alloc);
+    for word in words.split_ascii_whitespace() {
+        take_word(rt, alloc, word, &mut config, &mut passes);
+    }
     analyses.set_config(config);
-    let answer = run_shape(alloc, shape, passes, root, ctx, &mut analyses);
-    report(alloc, answer, &mut analyses)
+    run_line(rt, alloc, shape, passes, ctx, &mut analyses)
+}
+
+fn lines_in(rt: &impl Abort, alloc: Global, ctx: &mut Context) {
+    for case in CASES.lines() {
+        let (line, want) = case.split_once(" => ").expect(rt, "a case");
+        let (shape, words) = line.split_once(" ").unwrap_or((line, ""));
+        let said = run_in(rt, alloc, shape, words, ctx);
+        assert_eq!(rt; said.as_str(), want, "{line}");
+    }
 }
 
 #[test]
-fn lines_of_passes(rt: HostRuntime) -> Result<(), Fail> {
+fn lines_of_passes(rt: HostRuntime) {
     let alloc = rt.alloc();
-    for case in CASES.lines() {
-        let Some((line, after)) = case.split_once(" => ") else {
-            return Err(Fail::from("no arrow"));
-        };
-        let (shape, words) = line.split_once(" ").unwrap_or((line, ""));
-        let mut ctx = Context::new(alloc);
-        let said = run_in(&rt, alloc, shape, words, &mut ctx)?;
-        assert_eq!(rt; said.as_str(), after, "{line}");
-    }
-    Ok(())
+    let mut ctx = Context::new(alloc);
+    lines_in(&rt, alloc, &mut ctx)
 }

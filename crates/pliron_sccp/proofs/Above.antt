@@ -2,13 +2,14 @@
 use Rattle.std.proofs.Common.{◌≡◌, ◌≢◌, inl, inr, ℕ, zero, suc, List, [], ◌∷◌, length, Option, Some, None, slice_get, refl, sym, ap, ◌∙◌, arith, IsTrue}
 use Rattle.pliron_core.specs.declared.attrs.AttrObj.{AttrObj}
 use Rattle.pliron_core.specs.Tree.{Tree, In, arguments_of}
-use Rattle.pliron_core.proofs.HoldingLemmas.{not_none, some_is}
+use Rattle.pliron_core.proofs.HoldingLemmas.{not_none, some_is, in_slice}
 use Rattle.pliron_core.proofs.UsedLemmas.{length_map}
 use Rattle.pliron_laws.specs.Tree.{Operation, op_at, shape_of}
 use Rattle.pliron_laws.specs.Laws.{Admitted}
 use Rattle.pliron_laws.specs.Folding.{KnowsMore, FoldsMonotonely}
 use Rattle.pliron_theory.specs.Facts.{Fact, Undetermined, Constant, NotAConstant, AtMost, known, answered, Facts, Says, handed, answers_of, Stands, MayGo, Forwards, AreClosed}
 use Rattle.pliron_theory.proofs.FactLattice.{at_most_trans}
+use Rattle.pliron_theory.proofs.KnownData.{picked_at}
 
 knows_one : (f g : Fact) (a : Option AttrObj) → known g ≡ a → AtMost g f → f ≢ Undetermined → (ks ms : List (Option AttrObj)) → KnowsMore ks ms → KnowsMore (a ∷ ks) (known f ∷ ms)
 knows_one f g None e below some ks ms k = k
@@ -27,12 +28,12 @@ knows_at (Some c ∷ ks) (m ∷ ms) k zero a e = (Some c, refl, inr (inr (ap ans
 knows_at (None ∷ ks) (m ∷ ms) k (suc i) a e = knows_at ks ms k i a e
 knows_at (Some c ∷ ks) (m ∷ ms) k (suc i) a e = knows_at ks ms k.1 i a e
 
-module _ (x : Says) (mono : FoldsMonotonely x.meaning x.can_fold x.can_fold_branch x.constants x.feasible) (t : Tree) (root : ℕ) (g f : Facts) (closed : AreClosed x t root g) (below : (v : ℕ) → AtMost (g.fact v) (f.fact v)) where
-  knows_more : (vs : List ℕ) → ((v : ℕ) → In v vs → f.fact v ≢ Undetermined) → KnowsMore (handed g vs) (handed f vs)
-  knows_more [] some = tt
-  knows_more (v ∷ vs) some = knows_one (f.fact v) (g.fact v) (known (g.fact v)) refl (below v) (some v (inl refl)) (handed g vs) (handed f vs) (knows_more vs (λ w i. some w (inr i)))
+module _ (x : Says) (mono : FoldsMonotonely x.meaning x.can_fold x.can_fold_branch x.constants x.feasible) (t : Tree) (root : ℕ) (g f : Facts) (closed : AreClosed x t root g) where
+  knows_more : (vs : List ℕ) → ((v : ℕ) → In v vs → AtMost (g.fact v) (f.fact v)) → ((v : ℕ) → In v vs → f.fact v ≢ Undetermined) → KnowsMore (handed g vs) (handed f vs)
+  knows_more [] below some = tt
+  knows_more (v ∷ vs) below some = knows_one (f.fact v) (g.fact v) (known (g.fact v)) refl (below v (inl refl)) (some v (inl refl)) (handed g vs) (handed f vs) (knows_more vs (λ w i. below w (inr i)) (λ w i. some w (inr i)))
 
-  module _ (k : ℕ) (o : Operation) (stands : Stands t g k) (at : op_at t k ≡ Some o) (admitted : Admitted x.meaning (shape_of x.meaning t o)) (some : (v : ℕ) → In v o.operands → f.fact v ≢ Undetermined) where
+  module _ (k : ℕ) (o : Operation) (stands : Stands t g k) (at : op_at t k ≡ Some o) (admitted : Admitted x.meaning (shape_of x.meaning t o)) (below : (v : ℕ) → In v o.operands → AtMost (g.fact v) (f.fact v)) (some : (v : ℕ) → In v o.operands → f.fact v ≢ Undetermined) where
     counted : length (handed g o.operands) ≡ (shape_of x.meaning t o).operands
     unfolding shape_of
     counted = length_map (λ v. known (g.fact v)) o.operands
@@ -41,15 +42,16 @@ module _ (x : Says) (mono : FoldsMonotonely x.meaning x.can_fold x.can_fold_bran
     pub above_result : (i v : ℕ) (a : Option AttrObj) → IsTrue (x.can_fold o.head) → slice_get o.results i ≡ Some v → slice_get (answers_of x t f o) i ≡ Some a → AtMost (g.fact v) (answered a)
     unfolding shape_of
     above_result i v a folds listed said =
-        let p = knows_at (answers_of x t g o) (answers_of x t f o) (mono.answers (shape_of x.meaning t o) admitted folds (handed g o.operands) (handed f o.operands) counted (knows_more o.operands some)) i a said in
+        let p = knows_at (answers_of x t g o) (answers_of x t f o) (mono.answers (shape_of x.meaning t o) admitted folds (handed g o.operands) (handed f o.operands) counted (knows_more o.operands below some)) i a said in
         at_most_trans (g.fact v) (answered p.0) (answered a) (closed.folded k i v p.0 o stands at folds listed p.1) p.2
 
     -- a block that is entered
     pub above_jump : (i b : ℕ) → MayGo x t f o i b → MayGo x t g o i b
     unfolding shape_of
-    above_jump i b go = (go.0, λ folds. mono.jumps (shape_of x.meaning t o) o.successors admitted folds refl (handed g o.operands) (handed f o.operands) counted (knows_more o.operands some) b (go.1 folds))
+    above_jump i b go = (go.0, λ folds. mono.jumps (shape_of x.meaning t o) o.successors admitted folds refl (handed g o.operands) (handed f o.operands) counted (knows_more o.operands below some) b (go.1 folds))
 
     -- an argument that is lowered to what is forwarded to it
     pub above_argument : (i b j v w : ℕ) → IsTrue (x.meaning.is_branch o.head) → MayGo x t f o i b → slice_get (arguments_of t b) j ≡ Some v → Forwards x t o i j w → AtMost (g.fact v) (f.fact w)
     above_argument i b j v w branch go listed forwards =
-        at_most_trans (g.fact v) (g.fact w) (f.fact w) ((closed.branches k i b o stands at branch (above_jump i b go)).1 j v w listed forwards) (below w)
+        let p = picked_at (x.meaning.forwarded (shape_of x.meaning t o) i) o.operands j (Some w) forwards in
+        at_most_trans (g.fact v) (g.fact w) (f.fact w) ((closed.branches k i b o stands at branch (above_jump i b go)).1 j v w listed forwards) (below w (in_slice o.operands p.0 w p.2))

@@ -1,15 +1,15 @@
 -- Facts fall step by step.
-use Rattle.std.proofs.Common.{◌≡◌, ◌≢◌, ◌⊎◌, inl, inr, ⊎_elim, ℕ, Bool, true, false, true≢false, nat_eq, if◌then◌else◌, List, [], ◌∷◌, ◌++◌, append_assoc, refl, sym, ap, ◌∙◌, subst, IsTrue}
+use Rattle.std.proofs.Common.{◌≡◌, ◌≢◌, ◌⊎◌, inl, inr, ⊎_elim, ℕ, Bool, true, false, true≢false, nat_eq, if◌then◌else◌, List, [], ◌∷◌, ◌++◌, append_assoc, refl, sym, ap, ◌∙◌, subst, arith, IsTrue}
 use Rattle.std.proofs.lemmas.List.{append-nil}
 use Rattle.std.proofs.lemmas.Bool.{eqb-true, eq-eqb}
-use Rattle.pliron_theory.specs.Facts.{Fact, AtMost, Facts}
+use Rattle.pliron_theory.specs.Facts.{Fact, Undetermined, NotAConstant, AtMost, Facts}
 use Rattle.pliron_theory.proofs.FactLattice.{at_most_refl, at_most_trans}
 use Rattle.pliron_sccp.specs.declared.tables.Solver.{Solver}
 use Rattle.pliron_sccp.specs.declared.tables.Fact.{Fact as TableFact}
 use Rattle.pliron_sccp.specs.declared.applying.Demand.{Demand}
 use Rattle.pliron_sccp.specs.declared.applying.Demand.TheVariants.{Enter, Lower}
 use Rattle.pliron_sccp.specs.Tables.{meant, fact_in, reaches, waits_block, waits_value, facts_of, Enters, Lowers}
-use Rattle.pliron_sccp.specs.Demands.{Meets, MeetsAll}
+use Rattle.pliron_sccp.specs.Demands.{MeetsAll}
 use Rattle.pliron_sccp.specs.Settling.{AreBelow}
 use Rattle.pliron_sccp.specs.Falling.{Falls, IsApplied}
 
@@ -28,7 +28,20 @@ met_below f g (Enter b ∷ ds) below m = (below.reaches b m.0, met_below f g ds 
 met_below f g (Lower v a ∷ ds) below m = (at_most_trans (g.fact v) (f.fact v) (meant a) (below.fact v) m.0, met_below f g ds below m.1)
 
 pub falls_refl : (s : Solver) → Falls s s
-falls_refl s = record { below = below_refl (facts_of s); told = λ v. inl refl; entered = λ b r. inl r; values = λ v w. w; blocks = λ b w. w }
+falls_refl s = record { below = below_refl (facts_of s); told = λ v. inl refl; entered = λ b r. inl r; values = λ v w. w; blocks = λ b w. w; fell = λ v w. inl w; came = λ b w. inl w }
+
+pub at_most_both : (f g : Fact) → AtMost f g → AtMost g f → f ≡ g
+at_most_both f g (inl u) (inl v) = v ∙ sym u
+at_most_both f g (inl u) (inr (inl n)) = let x : Undetermined ≡ NotAConstant = sym u ∙ n in absurd (grind arith)
+at_most_both f g (inl u) (inr (inr e)) = sym e
+at_most_both f g (inr (inl n)) (inl u) = let x : Undetermined ≡ NotAConstant = sym u ∙ n in absurd (grind arith)
+at_most_both f g (inr (inl n)) (inr (inl m)) = n ∙ sym m
+at_most_both f g (inr (inl n)) (inr (inr e)) = sym e
+at_most_both f g (inr (inr e)) below = e
+
+-- where the last of three facts is the first one, so is the one between
+between : (f g h : Fact) → AtMost g f → AtMost h g → h ≡ f → g ≡ f
+between f g h p q e = at_most_both g f p (subst (λ z. AtMost z g) e q)
 
 pub falls_trans : (s s1 s2 : Solver) → Falls s s1 → Falls s1 s2 → Falls s s2
 falls_trans s s1 s2 p q = record {
@@ -37,7 +50,25 @@ falls_trans s s1 s2 p q = record {
   entered = λ b r. ⊎_elim (λ e. ⊎_elim (λ d. inl d) (λ w. inr (q.blocks b w)) (p.entered b e)) (λ w. inr w) (q.entered b r);
   values = λ v w. q.values v (p.values v w);
   blocks = λ b w. q.blocks b (p.blocks b w);
+  fell = λ v w. ⊎_elim
+      (λ x. ⊎_elim (λ y. inl y) (λ n. inr (λ e. n (mid v e))) (p.fell v x))
+      (λ n. inr (λ e. n (e ∙ sym (mid v e))))
+      (q.fell v w);
+  came = λ b w. ⊎_elim
+      (λ x. ⊎_elim (λ y. inl y) (λ n. inr (n.0, q.below.reaches b n.1)) (p.came b x))
+      (λ n. inr (not_before b n.0, n.1))
+      (q.came b w);
 }
+  where
+    mid : (v : ℕ) → fact_in s2 v ≡ fact_in s v → fact_in s1 v ≡ fact_in s v
+    mid v e = between (fact_in s v) (fact_in s1 v) (fact_in s2 v) (p.below.fact v) (q.below.fact v) e
+
+    not_before : (b : ℕ) → reaches s1 b ≡ false → reaches s b ≡ false
+    not_before b r = by (reaches s b) refl
+      where
+        by : (c : Bool) → reaches s b ≡ c → reaches s b ≡ false
+        by true e = absurd (true≢false (sym (p.below.reaches b e) ∙ r))
+        by false e = e
 
 pub applied_none : (s : Solver) → IsApplied [] s s
 applied_none s = record { falls = falls_refl s; met = tt; least = λ g below m. below }
@@ -81,6 +112,13 @@ module _ (block : ℕ) (s s' : Solver) (e : Enters block s s') where
       equal : (x y : ℕ) → x ≡ y → nat_eq x y ≡ true
       equal x y s = eq-eqb x y s
 
+  came_now : (b : ℕ) → waits_block s' b ≡ true → (waits_block s b ≡ true) ⊎ ((reaches s b ≡ false) × (reaches s' b ≡ true))
+  came_now b w = ⊎_elim (λ p. inl (sym (p.1 b) ∙ w)) (λ p. by (nat_eq block b) refl p.0 (p.1 b)) e.told
+    where
+      by : (c : Bool) → nat_eq block b ≡ c → reaches s block ≡ false → waits_block s' b ≡ (if nat_eq block b then true else waits_block s b) → (waits_block s b ≡ true) ⊎ ((reaches s b ≡ false) × (reaches s' b ≡ true))
+      by true same r is = inr (ap (reaches s) (sym (eqb-true block b same)) ∙ r, e.reached b ∙ ap (λ c. if c then true else reaches s b) same)
+      by false other r is = inl (sym (is ∙ ap (λ c. if c then true else waits_block s b) other) ∙ w)
+
   entered_falls : Falls s s'
   entered_falls = record {
     below = record { reaches = λ b r. reached_then b r; fact = λ v. same_below (fact_in s v) (fact_in s' v) (e.facts v) };
@@ -88,6 +126,8 @@ module _ (block : ℕ) (s s' : Solver) (e : Enters block s s') where
     entered = λ b r. ⊎_elim (λ same. waits_now b same r) (λ old. inl old) (reached_before b r);
     values = λ v w. e.values v ∙ w;
     blocks = waited_then;
+    fell = λ v w. inl (sym (e.values v) ∙ w);
+    came = came_now;
   }
 
   pub enter_applied : IsApplied (Enter block ∷ []) s s'
@@ -128,6 +168,9 @@ module _ (value : ℕ) (to : TableFact) (s s' : Solver) (l : Lowers value (meant
   waits_here : waits_value s value ≡ true → waits_value s' value ≡ true
   waits_here w = ⊎_elim (λ p. p.1 ∙ w) (λ p. p.1) l.told
 
+  fell_here : waits_value s' value ≡ true → (waits_value s value ≡ true) ⊎ (fact_in s' value ≢ fact_in s value)
+  fell_here w = ⊎_elim (λ p. inl (sym p.1 ∙ w)) (λ p. inr p.0) l.told
+
   lowered_falls : Falls s s'
   lowered_falls = record {
     below = record { reaches = λ b r. l.reached b ∙ r; fact = fact_then };
@@ -135,6 +178,11 @@ module _ (value : ℕ) (to : TableFact) (s s' : Solver) (l : Lowers value (meant
     entered = λ b r. inl (sym (l.reached b) ∙ r);
     values = λ v w. ⊎_elim (λ same. subst (λ z. waits_value s z ≡ true → waits_value s' z ≡ true) same waits_here w) (λ other. (l.others v other).1 ∙ w) (here_or v);
     blocks = λ b w. l.blocks b ∙ w;
+    fell = λ v w. ⊎_elim
+        (λ same. subst (λ z. waits_value s' z ≡ true → (waits_value s z ≡ true) ⊎ (fact_in s' z ≢ fact_in s z)) same fell_here w)
+        (λ other. inl (sym (l.others v other).1 ∙ w))
+        (here_or v);
+    came = λ b w. inl (sym (l.blocks b) ∙ w);
   }
 
   pub lower_applied : IsApplied (Lower value to ∷ []) s s'

@@ -83,9 +83,9 @@ sum_most f xs = ap₂ (λ a b. a + 2 * b) (counted_filter (λ v. is_constant (f 
     go (x ∷ xs) = let e = go xs in let s = split_most (f x) in omega (arith, e, s)
 
 -- values of blocks that are not reached weigh nothing
-pub sum_reached : (w : ℕ → ℕ) (reaches : ℕ → Bool) (values : ℕ → List ℕ) (bs : List ℕ) → ((b v : ℕ) → reaches b ≡ false → In v (values b) → w v ≡ 0) → sum_of w (flat_map values (filter reaches bs)) ≡ sum_of w (flat_map values bs)
+pub sum_reached : (w : ℕ → ℕ) (reaches : ℕ → Bool) (values : ℕ → List ℕ) (bs : List ℕ) → ((b v : ℕ) → In b bs → reaches b ≡ false → In v (values b) → w v ≡ 0) → sum_of w (flat_map values (filter reaches bs)) ≡ sum_of w (flat_map values bs)
 sum_reached w reaches values [] none = refl
-sum_reached w reaches values (b ∷ bs) none = by (reaches b) refl (sum_reached w reaches values bs none)
+sum_reached w reaches values (b ∷ bs) none = by (reaches b) refl (sum_reached w reaches values bs (λ c v i. none c v (inr i)))
   where
     zero_sum : (xs : List ℕ) → ((v : ℕ) → In v xs → w v ≡ 0) → sum_of w xs ≡ 0
     zero_sum [] z = refl
@@ -101,7 +101,7 @@ sum_reached w reaches values (b ∷ bs) none = by (reaches b) refl (sum_reached 
     by true e rest =
         ap (λ l. sum_of w (flat_map values l)) (kept e) ∙ sum_append w (values b) (flat_map values (filter reaches bs)) ∙ ap (λ n. sum_of w (values b) + n) rest ∙ sym (sum_append w (values b) (flat_map values bs))
     by false e rest =
-        let empty = zero_sum (values b) (λ v i. none b v e i) in
+        let empty = zero_sum (values b) (λ v i. none b v (inl refl) e i) in
         let whole = sum_append w (values b) (flat_map values bs) in
         let more : sum_of w (flat_map values bs) ≡ sum_of w (flat_map values (b ∷ bs)) = omega (arith, empty, whole) in
         ap (λ l. sum_of w (flat_map values l)) (gone e) ∙ rest ∙ more

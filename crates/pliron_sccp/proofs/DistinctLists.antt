@@ -1,5 +1,6 @@
 -- The blocks inside an operation, and the values that these and the operations inside it list.
-use Rattle.std.proofs.Common.{◌≡◌, ◌⊎◌, ℕ, zero, suc, ◌<◌, List, [], ◌∷◌, ◌++◌, length, Option, Some, None, is_some, refl, sym, ap, ◌∙◌, subst, inl, inr, arith}
+pub use Rattle.pliron_sccp.specs.Inside.{values_of}
+use Rattle.std.proofs.Common.{◌≡◌, ◌⊎◌, ℕ, zero, suc, ◌<◌, List, ◌∷◌, length, Option, Some, None, is_some, refl, sym, ap, ◌∙◌, subst, inl, inr, arith}
 use Rattle.std.specs.List.{flat_map}
 use Rattle.pliron_core.specs.declared.context.Def.TheVariants.{Result, Argument}
 use Rattle.pliron_core.specs.Lists.{In, IsDistinct}
@@ -19,10 +20,6 @@ from_block t n b = b ∷ flat_map (λ k. blocks_below t n k) (body_of t b)
 -- these of each block of a region
 abbrev pub from_region : Tree → ℕ → ℕ → List ℕ
 from_region t n r = flat_map (λ b. from_block t n b) (layout_of t r)
-
--- the values that a block lists: its arguments, and the results of its operations
-abbrev pub values_of : Tree → ℕ → List ℕ
-values_of t b = arguments_of t b ++ flat_map (λ k. results_of t k) (body_of t b)
 
 some_is : {a b : ℕ} → Some a ≡ Some b → a ≡ b
 some_is e = cc

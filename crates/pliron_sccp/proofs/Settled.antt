@@ -12,13 +12,13 @@ use Rattle.pliron_sccp.specs.Settling.{IsMet, AreBelow, AreSettledBut, AreStarte
 use Rattle.pliron_theory.proofs.FactLattice.{at_most_trans}
 
 -- what isn't constant stays so
-varies_still : (f g : Fact) → AtMost g f → f ≡ NotAConstant → g ≡ NotAConstant
+pub varies_still : (f g : Fact) → AtMost g f → f ≡ NotAConstant → g ≡ NotAConstant
 varies_still f g (inl u) e = let x : Undetermined ≡ NotAConstant = sym u ∙ e in absurd (grind arith)
 varies_still f g (inr (inl n)) e = n
 varies_still f g (inr (inr s)) e = s ∙ e
 
 module _ (x : Says) (t : Tree) where
-  entered_still : (f g : Facts) (b : ℕ) → AreBelow g f → IsEntered t f b → IsEntered t g b
+  pub entered_still : (f g : Facts) (b : ℕ) → AreBelow g f → IsEntered t f b → IsEntered t g b
   entered_still f g b below (reached, varies) = (below.reaches b reached, λ v i. varies_still (f.fact v) (g.fact v) (below.fact v) (varies v i))
 
   -- facts that fall go on meeting what was asked

@@ -1,10 +1,3 @@
-pub mod Lines
-pub mod Straight
-pub mod Facts
-pub mod Propagation
-pub mod Collected
-pub mod Visits
-pub mod Checking
 pub mod Precise
 pub mod Chain
 pub mod Propagated
@@ -16,3 +9,9 @@ pub mod Tables
 pub mod Demands
 pub mod Falling
 pub mod Inside
+pub mod Looking
+pub mod Starting
+pub mod Searching
+pub mod Accounts
+pub mod Best
+pub mod Listed

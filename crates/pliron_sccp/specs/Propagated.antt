@@ -1,12 +1,12 @@
 -- What constant propagation leaves, answers and counts.
-use Rattle.std.specs.Prelude.{◌≤◌, ◌+◌, ◌*◌, ℕ, Bool, filter, length}
+use Rattle.std.specs.Prelude.{◌≡◌, ◌⊎◌, ◌≤◌, ◌+◌, ◌*◌, ℕ, Bool, filter, length}
 use Rattle.pliron_core.specs.declared.attrs.AttrObj.{AttrObj}
 use Rattle.pliron_core.specs.Tree.{Tree}
 use Rattle.pliron_laws.specs.Datum.{Head}
 use Rattle.pliron_laws.specs.InPlace.{Outcome}
 use Rattle.pliron_theory.specs.Facts.{Facts, Says, AreClosed, AreHeld}
 use Rattle.pliron_sccp.specs.Precise.{AreMostPrecise, AreOwed}
-use Rattle.pliron_sccp.specs.Chain.{IsRewritten, reached_blocks, values_there, is_constant, varies}
+use Rattle.pliron_sccp.specs.Chain.{IsRewritten, IsPartlyRewritten, reached_blocks, values_there, is_constant, varies}
 
 -- with r blocks that are reached and, made in these, c constants and n values that are not constant, the count
 -- is at least r + c + n and at most r + c + 2 n
@@ -26,3 +26,7 @@ pub record IsPropagated (x : Says) (accepts : AttrObj → Bool) (head : AttrObj 
   pub found : AreFound x t root facts
   pub rewritten : IsRewritten x.can_fold accepts head outcome t root facts t'
   pub count : CountsPops t root facts pops
+
+-- the tree after a refusal: as before, or one after a first part of these rewrites
+abbrev pub IsPartlyPropagated : Says → (AttrObj → Bool) → (AttrObj → Head) → Outcome → (t : Tree) → ℕ → (t' : Tree) → Type 0
+IsPartlyPropagated x accepts head outcome t root t' = (t' ≡ t) ⊎ ((f : Facts) × AreFound x t root f × IsPartlyRewritten x.can_fold accepts head outcome t root f t')

@@ -1,5 +1,5 @@
 -- What the tables of the search for facts say, and what each call does to them.
-use Rattle.std.specs.Prelude.{◌≡◌, ◌≢◌, ◌⊎◌, ℕ, Bool, true, false, nat_eq, if◌then◌else◌, Option, Some, None, IsTrue}
+use Rattle.std.specs.Prelude.{◌≡◌, ◌≢◌, ◌⊎◌, ℕ, Bool, true, false, nat_eq, if◌then◌else◌, Option, Some, None}
 use Rattle.std.specs.HashMap.{get}
 use Rattle.std.specs.HashSet.{contains}
 use Rattle.indexmap.specs.IndexSet.{contains as waits}
@@ -72,14 +72,6 @@ pub record TakesBlock (block : ℕ) (s s' : Solver) : Type 0 where
   pub facts : (v : ℕ) → fact_in s' v ≡ fact_in s v
   pub values : (v : ℕ) → waits_value s' v ≡ waits_value s v
 
--- the value waits no longer
-pub record TakesValue (value : ℕ) (s s' : Solver) : Type 0 where
-  pub waited : waits_value s value ≡ true
-  pub values : (v : ℕ) → waits_value s' v ≡ (if nat_eq value v then false else waits_value s v)
-  pub reached : (b : ℕ) → reaches s' b ≡ reaches s b
-  pub facts : (v : ℕ) → fact_in s' v ≡ fact_in s v
-  pub blocks : (b : ℕ) → waits_block s' b ≡ waits_block s b
-
 -- nothing of what is said changed
 pub record SaysSame (s s' : Solver) : Type 0 where
   pub facts : (v : ℕ) → fact_in s' v ≡ fact_in s v
@@ -89,6 +81,3 @@ pub record SaysSame (s s' : Solver) : Type 0 where
 
 abbrev pub NoBlockWaits : Solver → Solver → Type 0
 NoBlockWaits s s' = SaysSame s s' × ((b : ℕ) → waits_block s b ≡ false)
-
-abbrev pub NoValueWaits : Solver → Solver → Type 0
-NoValueWaits s s' = SaysSame s s' × ((v : ℕ) → waits_value s v ≡ false)

@@ -54,7 +54,14 @@ fn ask_region(region: Ptr<Region>, ctx: &Context, asked: &mut Vec<Demand>) -> Re
 }
 
 /// The entry of each region is entered.
-fn ask_entries(op: Ptr<Operation>, ctx: &Context, asked: &mut Vec<Demand>) -> Result<(), OptError>
+///
+/// Asks that the operation stands. Errors: want of memory. Cost: one step for each region and for each
+/// argument of an entry.
+pub fn ask_entries(
+    op: Ptr<Operation>,
+    ctx: &Context,
+    asked: &mut Vec<Demand>,
+) -> Result<(), OptError>
     requires { IsLive ctx.now.tree op }
     ensures ok { OnOk result (Adds asked.old.items asked.new.items (λ now. AsksEntries ctx.now.tree op now)) }
     ensures err { IfErr result (λ e. e ≡ Memory) }
@@ -78,7 +85,11 @@ fn ask_jumps(op: Ptr<Operation>, ctx: &Context, asked: &mut Vec<Demand>) -> Resu
 }
 
 /// The constant that is known of a value, for a fold.
-fn known(alloc: Global, value: Value, solver: &Solver) -> Result<Option<AttrObj>, OptError>
+pub(crate) fn known(
+    alloc: Global,
+    value: Value,
+    solver: &Solver,
+) -> Result<Option<AttrObj>, OptError>
     ensures ok { IfOk result (λ attr. attr ≡ known_of (fact_in solver.now value)) }
     ensures err { IfErr result (λ e. e ≡ Memory) }
 {
@@ -89,7 +100,7 @@ fn known(alloc: Global, value: Value, solver: &Solver) -> Result<Option<AttrObj>
 }
 
 /// The constants that are known of the operands, for a fold.
-fn known_operands(
+pub(crate) fn known_operands(
     alloc: Global,
     op: Ptr<Operation>,
     ctx: &Context,

@@ -1,16 +1,21 @@
-//! Propagation of constants, for now through one straight block of the dialect `Bench`.
+//! Sparse conditional constant propagation, over blocks, branches and nested regions.
+//!
+//! Facts about what is inside an operation are searched first, on the tree as it stands; then the tree is
+//! rewritten by them: operations that fold are folded in place, and constants are put for constant arguments.
 //!
 //! It stands on the theory of runs and knows nothing of the other optimisations, of passes and of the program.
 #![tactic(auto)]
 
-pub mod applying;
-pub mod collecting;
-pub mod demands;
+mod applying;
+mod collecting;
+mod demands;
+mod found;
+mod looking;
 mod propagation;
-pub mod rewriting;
-mod straight;
-pub mod tables;
-mod walk;
+mod rewriting;
+mod searching;
+mod starting;
+mod tables;
+mod users;
 
-pub use propagation::sccp;
-pub use straight::is_straight;
+pub use propagation::{sccp, sccp_counted};

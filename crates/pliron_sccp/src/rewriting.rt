@@ -7,8 +7,6 @@ ghost use Rattle.pliron_theory.specs.Facts.{Facts, Says};
 ghost use Rattle.pliron_theory.specs.Following.{Follows};
 ghost use Rattle.pliron_sccp.specs.Steps.{IsFoldStep, AreFoldSteps, IsTold, IsArgumentStep, AreArgumentSteps, StandForEach, IsFound};
 ghost use Rattle.pliron_theory.specs.Rewrites.{ReplacesArgument};
-ghost use Rattle.pliron_theory.specs.Keeps.{KeepsRuns};
-ghost use Rattle.pliron_laws.specs.Linked.{IsWellLinked};
 ghost use Rattle.pliron_laws.specs.InPlace.{TellsChange};
 ghost use Rattle.pliron_sccp.specs.Chain.{FoldsInTurn, FoldsPartly, KnownArgument, all_put, IsPartlyPut, IsRewritten, IsPartlyRewritten};
 
@@ -20,8 +18,8 @@ use std::alloc::Global;
 /// An operation that folds, with the constants that are known of its operands.
 #[derive(Drop)]
 pub struct Fold {
-    op: Ptr<Operation>,
-    known: Vec<Option<AttrObj>>,
+    pub(crate) op: Ptr<Operation>,
+    pub(crate) known: Vec<Option<AttrObj>>,
 }
 
 /// Folds one operation in place by facts about the first tree.
@@ -75,9 +73,9 @@ pub fn fold_all<D: Dialect, R: Rewriter + Room>(
 /// An argument of a block that is a constant.
 #[derive(Drop)]
 pub struct ConstantArgument {
-    block: Ptr<BasicBlock>,
-    index: usize,
-    attr: AttrObj,
+    pub(crate) block: Ptr<BasicBlock>,
+    pub(crate) index: usize,
+    pub(crate) attr: AttrObj,
 }
 
 /// Puts a constant first in its block for an argument, by facts about the first tree.
@@ -137,8 +135,8 @@ pub fn put_all<D: Dialect, R: Rewriter + Room>(
 /// come, in pre-order.
 #[derive(Drop)]
 pub struct Found {
-    folds: Vec<Fold>,
-    arguments: Vec<ConstantArgument>,
+    pub(crate) folds: Vec<Fold>,
+    pub(crate) arguments: Vec<ConstantArgument>,
 }
 
 /// Rewrites a tree by what was found of it: first the folds, then the arguments.
@@ -155,8 +153,7 @@ pub fn rewrite<D: Dialect, R: Rewriter + Room>(
     ensures refused { OnErr result ((root : ℕ) (f : Facts) → IsFound (record { meaning = D.meaning; can_fold = D.can_fold; can_fold_branch = D.can_fold_branch; constants = D.constants; feasible = D.feasible }) D.can_fold ctx.old.tree root f found.now → IsPartlyRewritten D.can_fold D.accepts D.constant_head D.ConstFoldInterface.outcome ctx.old.tree root f ctx.new.tree) }
     ensures told { IfOk result (λ status. TellsChange (Some status) ctx.old.tree ctx.new.tree) }
     ensures err { IfErr result (λ e. e ≡ Memory) }
-    ensures linked { (r : ℕ) → IsWellLinked D.meaning ctx.old.tree r → IsWellLinked D.meaning ctx.new.tree r }
-    ensures runs { KeepsRuns D.meaning ctx.old.tree ctx.new.tree }
+    ensures follows { (root : ℕ) (f : Facts) → IsFound (record { meaning = D.meaning; can_fold = D.can_fold; can_fold_branch = D.can_fold_branch; constants = D.constants; feasible = D.feasible }) D.can_fold ctx.old.tree root f found.now → Follows (record { meaning = D.meaning; can_fold = D.can_fold; can_fold_branch = D.can_fold_branch; constants = D.constants; feasible = D.feasible }) ctx.old.tree root f ctx.new.tree }
 {
     ctx.well_formed();
     let mut status = fold_all::<D, R>(alloc, &found.folds, ctx, rewriter)?;

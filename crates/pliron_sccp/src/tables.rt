@@ -3,16 +3,19 @@
 //!
 //! Everything above speaks of the words of `specs/Tables` alone, so that other tables can stand behind
 //! the same contracts.
-ghost use Rattle.std.specs.Prelude.{◌≡◌, ℕ, nat_eq, true, false, if◌then◌else◌, OnOk, IfOk, IfErr, IfSome, IfNone};
+ghost use Rattle.std.specs.Prelude.{◌≡◌, ◌∷◌, [], ℕ, nat_eq, true, false, if◌then◌else◌, OnOk, IfOk, IfErr, IfSome, IfNone};
 ghost use Rattle.pliron_laws.specs.declared.fault.OptError.TheVariants.{Memory};
 ghost use Rattle.pliron_theory.specs.Facts.{AtMost, NotAConstant as Varies};
-ghost use Rattle.pliron_sccp.specs.Tables.{meant, fact_in, reaches, waits_block, waits_value, FallsTo, IsEmptySolver, Lowers, TakesBlock, TakesValue, NoBlockWaits, NoValueWaits};
+ghost use Rattle.pliron_sccp.specs.Looking.{TakesValues};
+ghost use Rattle.pliron_sccp.specs.Starting.{Tracks};
+ghost use Rattle.pliron_sccp.specs.Tables.{meant, fact_in, reaches, waits_block, waits_value, FallsTo, IsEmptySolver, Lowers, TakesBlock, NoBlockWaits};
 
 use indexmap::IndexSet;
 use pliron_core::{AttrObj, BasicBlock, Ptr, Value};
 use pliron_laws::OptError;
 use std::alloc::Global;
 use std::collections::{HashMap, HashSet};
+use std::mem;
 
 /// What is known of a value.
 #[derive(Drop)]
@@ -120,6 +123,17 @@ impl Solver {
         self.blocks.contains(&block)
     }
 
+    /// Nothing is known of the value any more.
+    ///
+    /// Errors: want of memory.
+    pub fn track(&mut self, value: Value) -> Result<(), OptError>
+        ensures tracked { OnOk result (Tracks (value ∷ []) self.old self.new) }
+        ensures err { IfErr result (λ e. e ≡ Memory) }
+    {
+        self.facts.insert(value, Fact::Undetermined)?;
+        Ok(())
+    }
+
     /// The block is reached, and waits if it was not.
     ///
     /// Errors: want of memory.
@@ -164,11 +178,12 @@ impl Solver {
         self.blocks.pop()
     }
 
-    /// One of the values that wait, which waits no longer; `None` where none waits.
-    pub fn next_value(&mut self) -> Option<Value>
-        ensures taken { IfSome result (λ value. TakesValue value self.old self.new) }
-        ensures none { IfNone result (NoValueWaits self.old self.new) }
+    /// All values that wait, which wait no longer. Takes no memory.
+    pub fn take_values(&mut self, alloc: Global) -> IndexSet<Value>
+        ensures { TakesValues result.keys self.old self.new }
     {
-        self.values.pop()
+        let none = IndexSet::new(alloc);
+        let _count = self.values.len();
+        mem::replace(&mut self.values, none)
     }
 }

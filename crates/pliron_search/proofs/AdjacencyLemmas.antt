@@ -1,14 +1,18 @@
 -- The tables of a graph by adjacency lists, as its builder fills them.
-use Rattle.std.proofs.Common.{◌≡◌, ℕ, zero, suc, ◌+◌, ◌^◌, ◌<◌, ◌≤◌, Bool, true, false, ◌&&◌, ◌||◌, List, [], ◌∷◌, ◌++◌, length, set, get_or, replicate, length-set, map, take, drop, append-nil, Contains, nat_eq, refl, sym, ◌∙◌, ap, subst, arith, inl, inr, ◌⊎◌, true≢false, add-one}
+use Rattle.std.proofs.Common.{◌≡◌, ℕ, zero, suc, ◌+◌, ◌-◌, ◌^◌, ◌<◌, ◌≤◌, Bool, true, false, ◌&&◌, ◌||◌, List, [], ◌∷◌, ◌++◌, length, set, get_or, replicate, length-set, length-append, map, take, drop, append-nil, Contains, Some, slice_get, nat_eq, refl, sym, ◌∙◌, ap, subst, arith, inl, inr, ◌⊎◌, true≢false, add-one}
 use Rattle.std.specs.Prelude.{nat_lt}
 use Rattle.std.specs.List.{All, list_any}
 use Rattle.std.proofs.lemmas.List.{get_or-set_same, get_or-set_other, map-set, get_or-map, take_more, take_all, drop_all, length-map}
 use Rattle.std.proofs.lemmas.List.Elements.{All-nil, All-replicate, All-get_or, All-set, All-push, All-map}
+use Rattle.std.proofs.lemmas.Option.{slice_get-get_or}
+use Rattle.std.proofs.Math.ListN.{get_or-append}
+use Rattle.std.proofs.Math.Seq.{get_or-append_seam}
 use Rattle.std.proofs.lemmas.Bool.Decides.{eqb_tells, nat_tests}
 use Rattle.pliron_search.specs.Internal.Membership.{any_append}
 use Rattle.pliron_search.specs.Internal.AdjacencyLawful.{node_below}
-use Rattle.pliron_search.specs.Adjacency.{Adjacency, row, count_from, AreBelow, AreInverse}
-use Rattle.pliron_search.specs.Internal.AddedEdges.{AddsEdges, AddsRows}
+use Rattle.pliron_search.specs.Adjacency.{row, count_from, AreBelow, AreInverse}
+use Rattle.pliron_search.specs.Internal.AddedEdges.{AddsEdges, AddsRows, RiseBelow}
+use Rattle.std.specs.List.Sorted.{IsStrictlyIncreasing}
 
 pub row_of_empty : (n v : ℕ) → row (replicate n []) v ≡ []
 row_of_empty zero v = refl
@@ -25,11 +29,39 @@ adds_no_row succ pred n same size is = record {
     | inl t ↦ absurd (omega (arith, t.1))
     | inr t ↦ rw (is, row_of_empty n v, t.0) refl
   ];
+  rising = subst (RiseBelow 0) (sym is) (All-replicate (λ r. IsStrictlyIncreasing r × All (λ x. x < 0) r) n [] ((λ k l. absurd (omega (arith, l))), All-nil (λ x. x < 0)));
   below = subst (AreBelow (length succ)) (sym is) (All-replicate (λ r. All (λ v. v < length succ) r) n [] (All-nil (λ v. v < length succ)));
 }
 
+-- a list that rises to numbers at most u, and does not end with u, goes on rising with u
+pub rises_with : (xs : List ℕ) (u : ℕ) → IsStrictlyIncreasing xs × All (λ x. x < u + 1) xs → (slice_get xs (length xs - 1) ≡ Some u → ⊥)
+    → IsStrictlyIncreasing (xs ++ u ∷ []) × All (λ x. x < u + 1) (xs ++ u ∷ [])
+rises_with xs u h other = (rises, All-push (λ x. x < u + 1) xs u h.1 (omega arith))
+  where
+    less_or_same : (a : ℕ) → a < u + 1 → (a < u) ⊎ (a ≡ u)
+    less_or_same a l = grind (arith, l)
+
+    last_below : (k : ℕ) → k + 1 ≡ length xs → get_or xs k 0 < u
+    last_below k e = elim (less_or_same (get_or xs k 0) (h.1 k 0 (omega (arith, e)))) [
+      | inl l ↦ l
+      | inr same ↦
+          let last : k ≡ length xs - 1 = omega (arith, e) in
+          absurd (other (subst (λ i. slice_get xs i ≡ Some u) last (slice_get-get_or xs k 0 (omega (arith, e)) ∙ ap Some same)))
+    ]
+
+    inside : (k : ℕ) → k + 1 < length (xs ++ u ∷ []) → (k + 1 < length xs) ⊎ (k + 1 ≡ length xs)
+    inside k l = let size : length (xs ++ u ∷ []) ≡ length xs + 1 = length-append xs (u ∷ []) in grind (arith, l, size)
+
+    rises : IsStrictlyIncreasing (xs ++ u ∷ [])
+    rises k l = elim (inside k l) [
+      | inl n ↦ rw (get_or-append xs (u ∷ []) 0 k (omega (arith, n)), get_or-append xs (u ∷ []) 0 (k + 1) n) (h.0 k n)
+      | inr e ↦
+          let last : get_or (xs ++ u ∷ []) (k + 1) 0 ≡ u = subst (λ i. get_or (xs ++ u ∷ []) i 0 ≡ u) (sym e) (get_or-append_seam xs u [] 0) in
+          rw (get_or-append xs (u ∷ []) 0 k (omega (arith, e)), last) (last_below k e)
+    ]
+
 pub adds_edge : (rows : List (List ℕ)) (u w : ℕ) (r : List ℕ) → w < length rows
-    → (r ≡ row rows w ++ u ∷ []) ⊎ ((r ≡ row rows w) × (list_any (nat_eq u) (row rows w) ≡ true)) → AddsEdges rows (set rows w r) u (w ∷ [])
+    → ((r ≡ row rows w ++ u ∷ []) × (slice_get (row rows w) (length (row rows w) - 1) ≡ Some u → ⊥)) ⊎ ((r ≡ row rows w) × (list_any (nat_eq u) (row rows w) ≡ true)) → AddsEdges rows (set rows w r) u (w ∷ [])
 adds_edge rows u w r l cases = record {
   same_length = length-set rows w r;
   listed = λ x v m. elim (eqb_tells v w) [
@@ -42,6 +74,7 @@ adds_edge rows u w r l cases = record {
         rw (here, t.0) (unchanged (list_any (nat_eq x) (row rows v)) (nat_eq x u))
   ];
   below = λ n m h. All-set (λ z. All (λ y. y < n) z) rows w r (row_below n m h) h;
+  rising = λ h. All-set (λ z. IsStrictlyIncreasing z × All (λ y. y < u + 1) z) rows w r (row_rises h) h;
 }
   where
     unchanged : (a p : Bool) → a ≡ a || (p && (false || false))
@@ -67,21 +100,30 @@ adds_edge rows u w r l cases = record {
 
     at_row : (x : ℕ) → list_any (nat_eq x) r ≡ list_any (nat_eq x) (row rows w) || (nat_eq x u && (true || false))
     at_row x = elim cases [
-      | inl e ↦ rw (e, any_append nat_eq x (row rows w) (u ∷ [])) (pushed (list_any (nat_eq x) (row rows w)) (nat_eq x u))
+      | inl e ↦ rw (e.0, any_append nat_eq x (row rows w) (u ∷ [])) (pushed (list_any (nat_eq x) (row rows w)) (nat_eq x u))
       | inr e ↦ ap (list_any (nat_eq x)) e.0 ∙ kept x (nat_eq x u) refl e.1
     ]
 
     row_below : (n : ℕ) → u < n → AreBelow n rows → All (λ y. y < n) r
     row_below n m h = elim cases [
-      | inl e ↦ subst (All (λ y. y < n)) (sym e) (All-push (λ y. y < n) (row rows w) u (All-get_or (λ z. All (λ y. y < n) z) rows w [] l h) m)
+      | inl e ↦ subst (All (λ y. y < n)) (sym e.0) (All-push (λ y. y < n) (row rows w) u (All-get_or (λ z. All (λ y. y < n) z) rows w [] l h) m)
       | inr e ↦ subst (All (λ y. y < n)) (sym e.0) (All-get_or (λ z. All (λ y. y < n) z) rows w [] l h)
     ]
+
+    row_rises : RiseBelow (u + 1) rows → IsStrictlyIncreasing r × All (λ y. y < u + 1) r
+    row_rises h =
+        let before : IsStrictlyIncreasing (row rows w) × All (λ y. y < u + 1) (row rows w) = All-get_or (λ z. IsStrictlyIncreasing z × All (λ y. y < u + 1) z) rows w [] l h in
+        elim cases [
+          | inl e ↦ subst (λ z. IsStrictlyIncreasing z × All (λ y. y < u + 1) z) (sym e.0) (rises_with (row rows w) u before e.1)
+          | inr e ↦ subst (λ z. IsStrictlyIncreasing z × All (λ y. y < u + 1) z) (sym e.0) before
+        ]
 
 pub adds_no_edge : (rows : List (List ℕ)) (u : ℕ) → AddsEdges rows rows u []
 adds_no_edge rows u = record {
   same_length = refl;
   listed = λ x v l. by (list_any (nat_eq x) (row rows v)) (nat_eq x u);
   below = λ n l h. h;
+  rising = λ h. h;
 }
   where
     by : (a p : Bool) → a ≡ a || (p && false)
@@ -97,6 +139,7 @@ adds_more a b c u w ts first next = record {
       ∙ joined_tests (list_any (nat_eq x) (row a v)) (nat_eq x u) (list_any (nat_eq v) ts) (list_any (nat_eq v) (w ∷ []))
       ∙ ap (λ z. list_any (nat_eq x) (row a v) || (nat_eq x u && z)) (sym (any_append nat_eq v ts (w ∷ [])));
   below = λ n l h. next.below n l (first.below n l h);
+  rising = λ h. next.rising (first.rising h);
 }
   where
     joined_tests : (o p s t : Bool) → (o || (p && s)) || (p && t) ≡ o || (p && (s || t))
@@ -110,6 +153,7 @@ adds_row succ pred pred' i within rows edges = record {
   listed = λ x v l.
       edges.listed x v (omega (arith, l, rows.paired)) ∙ ap (λ z. z || (nat_eq x i && list_any (nat_eq v) (row succ i))) (rows.listed x v l) ∙ taken x v;
   below = edges.below (length succ) within rows.below;
+  rising = edges.rising (λ k d l. ((rows.rising k d l).0, λ j e m. omega (arith, (rows.rising k d l).1 j e m)));
 }
   where
     taken : (x v : ℕ) → (nat_lt x i && list_any (nat_eq v) (row succ x)) || (nat_eq x i && list_any (nat_eq v) (row succ i)) ≡ nat_lt x (i + 1) && list_any (nat_eq v) (row succ x)
@@ -165,7 +209,7 @@ module _ {A : Type 0} (f : A → List ℕ) where
   pred_row succ pred xs v rows member same = omega (arith, node_below (length (map f succ)) v member, rows.paired, length-map pred f, ap length same)
 
   pub adds_at : (first now : List A) (u i : ℕ) (ts : List ℕ) (y d : A) → i < length ts → get_or ts i 0 < length now
-      → (f y ≡ f (get_or now (get_or ts i 0) d) ++ u ∷ []) ⊎ ((f y ≡ f (get_or now (get_or ts i 0) d)) × (list_any (nat_eq u) (f (get_or now (get_or ts i 0) d)) ≡ true))
+      → ((f y ≡ f (get_or now (get_or ts i 0) d) ++ u ∷ []) × (slice_get (f (get_or now (get_or ts i 0) d)) (length (f (get_or now (get_or ts i 0) d)) - 1) ≡ Some u → ⊥)) ⊎ ((f y ≡ f (get_or now (get_or ts i 0) d)) × (list_any (nat_eq u) (f (get_or now (get_or ts i 0) d)) ≡ true))
       → AddsEdges (map f first) (map f now) u (take i ts) → AddsEdges (map f first) (map f (set now (get_or ts i 0) y)) u (take (i + 1) ts)
   adds_at first now u i ts y d l within cases h =
       let old : row (map f now) (get_or ts i 0) ≡ f (get_or now (get_or ts i 0) d) = get_or-map f now (get_or ts i 0) d [] within in
@@ -188,6 +232,10 @@ module _ {A : Type 0} (f : A → List ℕ) where
       rw (drop_all (length new) old (omega (arith, size)), append-nil) (take_all n new (omega (arith, size, count))) in
       let row_is : row (map f succ) i ≡ targets = get_or-map f succ i d [] l ∙ sym is in
       rw whole (adds_row (map f succ) (map f old) (map f new) i (omega (arith, l, length-map succ f)) rows (rw row_is edges))
+
+  -- the rows of all nodes rise
+  pub rows_rise : (succ pred : List A) (i : ℕ) → AddsRows (map f succ) (map f pred) i → All IsStrictlyIncreasing (map f pred)
+  rows_rise succ pred i rows k d l = (rows.rising k d l).0
 
   pub rows_done : (succ pred : List A) (i : ℕ) → length succ ≤ i → length succ < 2 ^ 32 → All (λ r. All (λ v. v < length succ) (f r)) succ → AddsRows (map f succ) (map f pred) i → AreInverse (record { succ = map f succ; pred = map f pred })
   rows_done succ pred i past few below rows =

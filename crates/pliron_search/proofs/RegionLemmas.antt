@@ -1,5 +1,5 @@
 -- Reading the graph of a region off the tree.
-use Rattle.std.proofs.Common.{◌≡◌, ◌↔◌, ◌⊎◌, ℕ, zero, suc, ◌+◌, ◌<◌, ◌≤◌, Bool, true, ◌&&◌, List, [], ◌∷◌, ◌++◌, length, Option, Some, None, refl, sym, ap, ◌∙◌, subst, inl, inr, arith, Contains, nat_eq, append_assoc, append-nil}
+use Rattle.std.proofs.Common.{◌≡◌, ◌⊎◌, ℕ, suc, ◌+◌, ◌<◌, ◌≤◌, Bool, true, ◌&&◌, List, [], ◌∷◌, ◌++◌, length, Option, Some, None, refl, sym, ap, ◌∙◌, subst, inl, inr, arith, Contains, nat_eq, append_assoc}
 use Rattle.std.proofs.Math.Bool.{and-true}
 use Rattle.std.specs.List.{slice_get, dedup, AllPairs}
 use Rattle.std.specs.List.Sorted.{IsPermutation, IsSorted}
@@ -15,7 +15,7 @@ use Rattle.std.proofs.lemmas.List.Sorted.{Contains-permutation, IsPermutation-sy
 use Rattle.std.proofs.lemmas.Option.{none-some, same_Some, slice_get_within}
 use Rattle.pliron_core.specs.declared.uses.Use.{Use}
 use Rattle.pliron_laws.specs.Linked.{EdgesLast}
-use Rattle.pliron_core.specs.Tree.{Tree, View, In, IsDistinct, IsRising, IsBlock, IsRegion, IsWithin, uses_of, up_from, successors_of, parent_of, block_parent_of, layout_of, region_parent_of, first_of, last_of, next_in, body_of, block_holder_of}
+use Rattle.pliron_core.specs.Tree.{Tree, View, In, IsRising, IsBlock, IsRegion, IsWithin, uses_of, up_from, successors_of, parent_of, block_parent_of, layout_of, region_parent_of, first_of, last_of, body_of, block_holder_of}
 use Rattle.pliron_core.specs.Joined.{IsTree, HaveUses}
 use Rattle.pliron_core.specs.Reads.{next_block_of}
 use Rattle.pliron_core.specs.Edges.{preds_of}

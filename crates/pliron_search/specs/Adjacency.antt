@@ -1,5 +1,5 @@
 -- Graphs by adjacency lists: node v has row v of two tables.
-use Rattle.std.specs.Prelude.{◌≡◌, ℕ, zero, suc, ◌+◌, ◌^◌, ◌<◌, ◌&&◌, ◌||◌, List, [], ◌∷◌, Option, Some, None, length, nat_eq, nat_lt}
+use Rattle.std.specs.Prelude.{◌≡◌, ℕ, zero, suc, ◌+◌, ◌^◌, ◌<◌, List, [], ◌∷◌, Option, Some, None, length, nat_eq}
 use Rattle.std.specs.List.{All, list_any, slice_index_or}
 use Rattle.pliron_search.specs.Digraph.{Digraph}
 

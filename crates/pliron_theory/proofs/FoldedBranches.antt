@@ -34,7 +34,8 @@ use Rattle.pliron_laws.proofs.LinkedLemmas.{linked_same}
 use Rattle.pliron_theory.proofs.RebranchedStays.{rebranched_linked}
 use Rattle.pliron_theory.proofs.SweptKeeps.{admitted_shape, same_keeps}
 use Rattle.pliron_theory.specs.Refolded.{AreReadAs, IsRefolded}
-use Rattle.pliron_theory.specs.Folded.{BranchFoldsLaw, BranchLinksLaw}
+use Rattle.pliron_theory.specs.Folded.{BranchFoldsLaw, BranchLinksLaw, BranchOutcomesLaw}
+use Rattle.pliron_core.specs.Changes.{IsSameTree}
 use Rattle.pliron_theory.proofs.Refolded.{refolded, refolded_admitted}
 
 told : (b : Bool) → (b ≡ true → ⊥) → b ≡ false
@@ -264,6 +265,11 @@ linking m t t' op known w w' ends root links live left (Replaced o head operands
     rebranched_linked m t t' ends.block op (length t.operations) ends.front w w' h.placed root links live (λ e. true≢false (sym left ∙ ap (λ z. is_some (head_of t' z)) e ∙ ap is_some h.placed.gone))
     (λ i. refolded_admitted m t t' ends.block op (length t.operations) ends.front known h)
 
+replacing : (m : Meaning) (t u : Tree) (op : ℕ) (known : List (Option AttrObj)) → IsTree t → IsTree u → EndsAlone m t op → FoldsBranch m op known t u → IsSameTree t u ⊎ ((a new : ℕ) × (front : List ℕ) × IsRebranched t u a op new front)
+replacing m t u op known w w' ends (Kept s) = inl s
+replacing m t u op known w w' ends (Replaced o head operands successors places edges stands picked replaces) =
+    inr (ends.block, length t.operations, ends.front, (refolded_as m t ends.block op ends.front known o head operands successors places edges w w' ends.split ends.childless ends.no_results stands picked replaces).placed)
+
 no_items : {A : Type 0} (xs : List A) → length xs ≡ 0 → xs ≡ []
 no_items [] e = refl
 no_items (x ∷ xs) e = grind arith
@@ -305,3 +311,7 @@ module _ (m : Meaning) (can_fold can_fold_branch : Head → Bool) (feasible : Fe
     pub branch_links : BranchLinksLaw m can_fold_branch branch_fold
     branch_links t t' root other op known answer w w' linked inside tests outcome links live left =
         linking m t t' op known w w' (ends_alone t root op w linked inside tests) other links live left (folds.branch t t' op known answer outcome).0
+
+    pub branch_outcomes : BranchOutcomesLaw m can_fold_branch branch_fold
+    branch_outcomes t t' root op known answer w w' linked inside tests outcome =
+        replacing m t t' op known w w' (ends_alone t root op w linked inside tests) (folds.branch t t' op known answer outcome).0

@@ -6,9 +6,10 @@ use Rattle.pliron_core.specs.Lists.{put_before}
 use Rattle.pliron_core.specs.Uses.{replace_target}
 use Rattle.pliron_core.specs.Tree.{Tree, In, IsLive, IsBlock, head_of, results_of, parent_of, body_of, arguments_of}
 use Rattle.pliron_core.specs.Joined.{IsTree}
-use Rattle.pliron_core.specs.Changes.{IsSameTree}
+use Rattle.pliron_core.specs.Changes.{IsSameTree, IsInsideChange}
 use Rattle.pliron_core.specs.Writes.{created, placed, put_next_to, replaced}
-use Rattle.pliron_core.proofs.HoldingLemmas.{some_is, not_none, some_of, in_slice, held_block}
+use Rattle.pliron_core.proofs.HoldingLemmas.{some_is, not_none, some_of, in_slice, slice_in, held_block}
+use Rattle.pliron_core.proofs.InsideLemmas.{inside_refl, inside_trans, same_change}
 use Rattle.pliron_core.proofs.TreeLemmas.{live-within}
 use Rattle.pliron_core.proofs.GrownLemmas.{get_grown}
 use Rattle.std.proofs.lemmas.List.{get_or_past, length-append}
@@ -26,6 +27,10 @@ use Rattle.pliron_laws.proofs.FoldLemmas.{put_row, put_row-new}
 use Rattle.pliron_theory.proofs.FoundRuns.{PassesForwarded}
 use Rattle.pliron_theory.proofs.Keeping.{keeps_refl, keeps_trans}
 use Rattle.pliron_laws.proofs.LinkedLemmas.{tree_created, tree_placed, tree_put, put_is, linked_put, linked_same}
+use Rattle.pliron_theory.specs.Edges.{KeepsEdges}
+use Rattle.pliron_theory.proofs.EdgeLemmas.{edges_same, edges_alike, edges_transitive}
+use Rattle.pliron_theory.proofs.PutEdges.{put_alike, first_alike}
+use Rattle.pliron_theory.proofs.PutInside.{result_inside, argument_inside}
 use Rattle.pliron_theory.proofs.FirstLinks.{linked_first}
 use Rattle.pliron_laws.specs.Linked.{IsWellLinked}
 use Rattle.pliron_theory.proofs.MaterialisedKeeps.{result_keeps}
@@ -54,6 +59,8 @@ module _ (x : Says) (t₀ : Tree) (root : ℕ) (f₀ : Facts) (w₀ : IsTree t�
     tree = w₀;
     runs = keeps_refl x.meaning t₀;
     links = λ r l. l;
+    changed_inside = inside_refl t₀ root;
+    edges = λ op before after. refl;
     facts = f₀;
     read = read_of x t₀ f₀;
     sound = closed_sound x t₀ root f₀ w₀ closed held;
@@ -68,11 +75,13 @@ module _ (x : Says) (t₀ : Tree) (root : ℕ) (f₀ : Facts) (w₀ : IsTree t�
   }
 
   -- one more change that carries the facts over
-  pub carried_on : (t t' : Tree) (g : Follows x t₀ root f₀ t) (f' : Facts) (read' : ℕ → Fact) (rename : ℕ → ℕ) (New : ℕ → Type 0) → IsTree t' → IsCarried x t t' g.facts f' g.read read' rename New → KeepsRuns x.meaning t t' → ((r : ℕ) → IsWellLinked x.meaning t r → IsWellLinked x.meaning t' r) → Follows x t₀ root f₀ t'
-  carried_on t t' g f' read' rename New w' c keeps links = record {
+  pub carried_on : (t t' : Tree) (g : Follows x t₀ root f₀ t) (f' : Facts) (read' : ℕ → Fact) (rename : ℕ → ℕ) (New : ℕ → Type 0) → IsTree t' → IsCarried x t t' g.facts f' g.read read' rename New → KeepsRuns x.meaning t t' → ((r : ℕ) → IsWellLinked x.meaning t r → IsWellLinked x.meaning t' r) → IsInsideChange t t' root → KeepsEdges t t' → Follows x t₀ root f₀ t'
+  carried_on t t' g f' read' rename New w' c keeps links inside edges = record {
     tree = w';
     runs = keeps_trans x.meaning t₀ t t' g.runs keeps;
     links = λ r l. links r (g.links r l);
+    changed_inside = inside_trans t₀ t t' root g.changed_inside inside;
+    edges = edges_transitive t₀ t t' (λ op before after. subst (λ z. IsSome z.head) (sym (g.rows op before)) before) g.edges edges;
     facts = f';
     read = read';
     sound = carried_sound x t t' root g.facts f' g.read read' rename New g.tree w' c g.sound;
@@ -120,7 +129,7 @@ module _ (x : Says) (t₀ : Tree) (root : ℕ) (f₀ : Facts) (w₀ : IsTree t�
           }
 
   pub same_on : (t t' : Tree) → Follows x t₀ root f₀ t → IsTree t' → IsSameTree t t' → length t.operations ≤ length t'.operations → Follows x t₀ root f₀ t'
-  same_on t t' g w' s longer = carried_on t t' g g.facts g.read (λ v. v) (λ k. ⊥) w' (same_carried x t t' g.facts g.read g.sound.finer s) (same_keeps x.meaning t t' g.tree w' s longer) (λ r l. linked_same x.meaning t t' r g.tree w' s l)
+  same_on t t' g w' s longer = carried_on t t' g g.facts g.read (λ v. v) (λ k. ⊥) w' (same_carried x t t' g.facts g.read g.sound.finer s) (same_keeps x.meaning t t' g.tree w' s longer) (λ r l. linked_same x.meaning t t' r g.tree w' s l) (same_change t t' root g.tree.joined w'.joined s) (λ op before after. edges_same t t' op g.tree w' s)
 
   module _ (answers : AnswersTrue x.meaning x.can_fold x.constants) (jumps : AnswersJumps x.meaning x.can_fold_branch x.feasible) (passes : PassesForwarded x.meaning) (accepts : AttrObj → Bool) (head : AttrObj → Head) (makes : MakesConstants x.meaning accepts head) (plain : (attr : AttrObj) → IsTrue (accepts attr) → x.meaning.is_branch (head attr) ≡ false) where
     -- a constant is put before an operation in a block that is reached
@@ -129,6 +138,9 @@ module _ (x : Says) (t₀ : Tree) (root : ℕ) (f₀ : Facts) (w₀ : IsTree t�
       where
         here : parent_of t k ≡ Some b
         here = g.parents k live ∙ p
+
+        live_here : IsLive t k
+        live_here = subst (λ z. IsSome z.head) (sym (g.rows k live)) live
 
         listed_here : slice_get (results_of t k) i ≡ Some v
         listed_here = ap (λ z. slice_get z.results i) (g.rows k live) ∙ listed
@@ -156,6 +168,8 @@ module _ (x : Says) (t₀ : Tree) (root : ℕ) (f₀ : Facts) (w₀ : IsTree t�
             (put_carried x t g.facts g.read g.tree g.sound.finer (head attr) attr (makes attr accepted) (plain attr accepted) v b (put_before k (length t.operations) (body_of t b)) read_here reached_here)
             (result_keeps x.meaning t (head attr) attr g.tree (makes attr accepted) (plain attr accepted) k b v i here (g.tree.joined.results k i v listed_here) constant between (tree_put t k v b (head attr) g.tree here))
             (λ r l. linked_put t k v b (head attr) g.tree here x.meaning attr r (makes attr accepted) l)
+            (result_inside t root b v (head attr) (put_before k (length t.operations) (body_of t b)) g.tree (g.sound.inside b reached_here) k i live_here here listed_here)
+            (subst (KeepsEdges t) (put_is t k v b (head attr) g.tree here) (edges_alike t _ g.tree (subst IsTree (sym (put_is t k v b (head attr) g.tree here)) (tree_put t k v b (head attr) g.tree here)) (put_alike t k v b (head attr) g.tree here)))
 
     some_lives : (k : ℕ) (results : List ℕ) (more : List (Option AttrObj)) (t u : Tree) → MaterialisesSome accepts head k results more t u → (z : ℕ) → IsLive t z → IsLive u z
     some_lives k results more t u (Rest same) z l = subst (λ r. IsSome r.head) (sym (same.operations z)) l
@@ -210,6 +224,8 @@ module _ (x : Says) (t₀ : Tree) (root : ℕ) (f₀ : Facts) (w₀ : IsTree t�
           (put_carried x t g.facts g.read g.tree g.sound.finer (head attr) attr (makes attr accepted) (plain attr accepted) v b (length t.operations ∷ body_of t b) read_here reached_here)
           keeps
           (λ r l. linked_first t v b (head attr) g.tree argument_stands x.meaning attr r (makes attr accepted) l)
+          (let at = slice_in (arguments_of t b) v listed in argument_inside t root b v (head attr) (length t.operations ∷ body_of t b) g.tree (g.sound.inside b reached_here) at.0 at.1)
+          (edges_alike t _ g.tree w' (first_alike t v b (head attr) g.tree argument_stands))
 
 pub following : (x : Says) → AnswersTrue x.meaning x.can_fold x.constants → AnswersJumps x.meaning x.can_fold_branch x.feasible → PassesForwarded x.meaning → (accepts : AttrObj → Bool) (head : AttrObj → Head) → MakesConstants x.meaning accepts head → ((attr : AttrObj) → IsTrue (accepts attr) → x.meaning.is_branch (head attr) ≡ false) → FollowingLaws x accepts head
 following x answers jumps passes accepts head makes plain = record {

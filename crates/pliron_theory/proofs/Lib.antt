@@ -32,6 +32,7 @@ pub mod SplicedStays
 pub mod JumpsNow
 pub mod Refolded
 pub mod FoldedBranches
+pub mod Listing
 pub mod KnownData
 pub mod FoundRuns
 pub mod KnownRuns
@@ -56,4 +57,5 @@ pub mod ClosedRead
 pub mod CarriedFacts
 pub mod PutFacts
 pub mod FirstLinks
+pub mod PutInside
 pub mod FollowedFacts

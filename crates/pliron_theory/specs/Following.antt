@@ -3,12 +3,13 @@ use Rattle.std.specs.Prelude.{◌≡◌, ℕ, Bool, Some, length, ◌≤◌, IsT
 use Rattle.pliron_core.specs.declared.attrs.AttrObj.{AttrObj}
 use Rattle.pliron_core.specs.Tree.{Tree, In, IsLive, row_of, results_of, arguments_of, parent_of, block_parent_of}
 use Rattle.pliron_core.specs.Joined.{IsTree}
-use Rattle.pliron_core.specs.Changes.{IsSameTree}
+use Rattle.pliron_core.specs.Changes.{IsSameTree, IsInsideChange}
 use Rattle.pliron_laws.specs.Datum.{Head}
 use Rattle.pliron_laws.specs.Tree.{Operation, op_at, shape_of}
 use Rattle.pliron_theory.specs.Keeps.{KeepsRuns}
 use Rattle.pliron_laws.specs.Linked.{IsWellLinked}
 use Rattle.pliron_laws.specs.Outcomes.{MaterialisesSome}
+use Rattle.pliron_theory.specs.Edges.{KeepsEdges}
 use Rattle.pliron_theory.specs.Rewrites.{materialised_first}
 use Rattle.pliron_theory.specs.Facts.{Fact, Constant, Facts, Says, handed, answers_of, Stands, AreClosed, AreHeld}
 use Rattle.pliron_theory.specs.Sound.{AreSound, read_of}
@@ -23,12 +24,15 @@ pub record StandsAsBefore (x : Says) (t₀ t : Tree) (f₀ f : Facts) (k : ℕ) 
   pub shape : shape_of x.meaning t operation ≡ shape_of x.meaning t₀ o₀
   pub handed_same : handed f operation.operands ≡ handed f₀ o₀.operands
 
--- the tree t came from t₀ by constants that were put for values, by the facts f₀ on t₀: every run is kept, the facts f
--- on t are sound, and they say of what stood in t₀ what f₀ and `read_of f₀` said
+-- the tree t came from t₀ by constants that were put for values, by the facts f₀ on t₀: every run is kept, only what is
+-- inside the root changed, edges stay, the facts f on t are sound, and they say of what stood in t₀ what f₀ and
+-- `read_of f₀` said
 pub record Follows (x : Says) (t₀ : Tree) (root : ℕ) (f₀ : Facts) (t : Tree) : Type 0 where
   pub tree : IsTree t
   pub runs : KeepsRuns x.meaning t₀ t
   pub links : (r : ℕ) → IsWellLinked x.meaning t₀ r → IsWellLinked x.meaning t r
+  pub changed_inside : IsInsideChange t₀ t root
+  pub edges : KeepsEdges t₀ t
   pub facts : Facts
   pub read : ℕ → Fact
   pub sound : AreSound x t root facts read

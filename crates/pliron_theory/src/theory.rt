@@ -2,7 +2,7 @@
 //! dialect that keeps the laws which it names.
 ghost use Rattle.pliron_theory.specs.Answered.{AnsweredLaw};
 ghost use Rattle.pliron_theory.specs.Refolded.{RefoldingLaw};
-ghost use Rattle.pliron_theory.specs.Folded.{BranchFoldsLaw, BranchLinksLaw, ConstantFoldsLaw};
+ghost use Rattle.pliron_theory.specs.Folded.{BranchFoldsLaw, BranchLinksLaw, BranchOutcomesLaw, ConstantFoldsLaw};
 ghost use Rattle.pliron_theory.specs.ChosenRoots.{ChosenRootsLaw};
 ghost use Rattle.pliron_theory.specs.Change.{PassLaws};
 ghost use Rattle.pliron_theory.specs.Edges.{EdgeLaws};
@@ -111,6 +111,12 @@ pub fn branch_folds_keep_runs<D: Dialect>()
 /// it was, and which still stands.
 pub fn branch_folds_keep_links<D: Dialect>()
     ensures { BranchLinksLaw D.meaning D.can_fold_branch D.BranchOpFoldInterface.outcome }
+{}
+
+/// Each outcome of a dialect's fold of a branch in place is the same tree but for spent keys, or another
+/// branch stands in its place.
+pub fn branch_folds_replace<D: Dialect>()
+    ensures { BranchOutcomesLaw D.meaning D.can_fold_branch D.BranchOpFoldInterface.outcome }
 {}
 
 /// An argument of a block may go with the operands that are forwarded to it, where nothing else uses

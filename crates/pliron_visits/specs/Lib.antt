@@ -1,1 +1,3 @@
 pub mod Visited
+pub mod Visits
+pub mod Internal

@@ -1,6 +1,6 @@
 -- The graph of a region is lawful.
-use Rattle.std.proofs.Common.{◌≡◌, ◌↔◌, ℕ, zero, suc, ◌<◌, Bool, true, false, List, [], ◌∷◌, Option, Some, None, refl, sym, ap, ◌∙◌, subst, inl, inr, arith, Contains, IfSome, length, nat_eq, ◌&&◌}
-use Rattle.std.specs.List.{AllByRecursion, IsDistinct, slice_get, list_any, slice_index_or}
+use Rattle.std.proofs.Common.{◌≡◌, ℕ, zero, suc, Bool, true, false, List, [], ◌∷◌, Option, Some, None, refl, sym, ap, ◌∙◌, subst, inl, inr, arith, Contains, IfSome, nat_eq, ◌&&◌}
+use Rattle.std.specs.List.{AllByRecursion, IsDistinct}
 use Rattle.std.proofs.lemmas.Bool.{eqb-true, and_parts, cases_Bool}
 use Rattle.std.proofs.lemmas.Option.{same_Some}
 use Rattle.pliron_core.specs.Tree.{Tree, In, IsBlock, up_from, parent_of, body_of, block_parent_of, layout_of, first_of, last_of, region_parent_of, block_holder_of, holder_of}

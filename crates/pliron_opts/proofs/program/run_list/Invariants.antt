@@ -1,7 +1,6 @@
-use Rattle.pliron_core.specs.Tree.{IsLive}
-use Rattle.pliron_laws.specs.Linked.{IsWellLinked}
 use Rattle.pliron_bench.specs.BenchMoves.{bench}
+use Rattle.pliron_theory.specs.Change.{IsPassChange}
 use Rattle.pliron_opts.proofs.program.run_list.Given as goal
 
 abbrev pub invariant-loop-optimisation : goal.invariant-loop-optimisation
-invariant-loop-optimisation l = IsLive l.ctx.tree l.fn.root × IsWellLinked bench l.ctx.tree l.fn.root
+invariant-loop-optimisation l = IsPassChange bench l.fn.ctx.tree l.ctx.tree l.fn.root

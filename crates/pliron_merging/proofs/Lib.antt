@@ -1,0 +1,11 @@
+pub mod PairLemmas
+pub mod JoinLemmas
+pub mod Joinable
+pub mod Forwarded
+pub mod MergedTrees
+pub mod ChainLemmas
+pub mod RegionReach
+pub mod VisitsKept
+pub mod Opens
+pub mod Whole
+pub mod BlockStarts

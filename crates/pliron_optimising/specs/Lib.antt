@@ -1,0 +1,4 @@
+pub mod Headline
+pub mod Optimising
+pub mod Constants
+pub mod DeadCode

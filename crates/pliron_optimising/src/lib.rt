@@ -1,0 +1,14 @@
+//! Passes made of optimisations.
+//!
+//! It knows passes, the cache and the calls that optimise, and no dialect and no text.
+#![tactic(auto)]
+
+mod constants;
+mod dead_code;
+mod headline;
+mod optimisation;
+
+pub use constants::{Constants, SCCPPass};
+pub use dead_code::{DCEPass, DeadCode};
+pub use headline::run_pipeline;
+pub use optimisation::{Effect, Optimisation, OptimisingPass};

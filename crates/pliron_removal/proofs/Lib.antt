@@ -1,0 +1,10 @@
+pub mod WalkLemmas
+pub mod CheckLemmas
+pub mod DropSteps
+pub mod EraseSteps
+pub mod ContentsLemmas
+pub mod DroppedNames
+pub mod CutOffLemmas
+pub mod Without
+pub mod Stability
+pub mod ClearedSteps

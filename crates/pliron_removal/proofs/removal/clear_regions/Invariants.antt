@@ -1,0 +1,9 @@
+use Rattle.std.proofs.Common.{vec_len}
+use Rattle.pliron_removal.specs.Internal.Cleared.{AreCleared}
+use Rattle.pliron_removal.proofs.removal.clear_regions.Given as goal
+
+abbrev pub invariant-loop-region : goal.invariant-loop-region
+invariant-loop-region g l = AreCleared g.D.HasMeaning.meaning l.fn.ctx.tree l.ctx.tree l.fn.op l.fn.regions.items l.reached.keys l.regions.items l.status
+
+abbrev pub decreases-loop-region : goal.decreases-loop-region
+decreases-loop-region g l = vec_len l.regions

@@ -1,0 +1,6 @@
+-- What contracts inside the crate cite. No public clause names it.
+pub mod Contents
+pub mod Unnamed
+pub mod OtherUses
+pub mod Clears
+pub mod Cleared

@@ -1,0 +1,10 @@
+//! Unreachable blocks go: those of a region in one rewrite, nested regions first.
+#![tactic(auto)]
+
+mod contents;
+mod erasing;
+mod region;
+mod removal;
+mod uses;
+
+pub use removal::remove_blocks_inside_op;

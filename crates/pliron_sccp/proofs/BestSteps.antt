@@ -1,0 +1,280 @@
+-- The facts go on standing above every closed set of facts while blocks and values are taken.
+use Rattle.std.proofs.Common.{◌≡◌, ◌≢◌, ◌⊎◌, inl, inr, ⊎_elim, ℕ, Bool, true, false, true≢false, nat_eq, if◌then◌else◌, List, [], ◌∷◌, ◌++◌, append_assoc, Some, None, refl, sym, ap, ◌∙◌, subst, arith, IsTrue}
+use Rattle.std.proofs.lemmas.List.{append-nil}
+use Rattle.std.proofs.lemmas.Bool.{eqb-true, eq-eqb}
+use Rattle.pliron_core.specs.declared.attrs.AttrObj.{AttrObj}
+use Rattle.pliron_core.specs.Lists.{In, first_of}
+use Rattle.pliron_core.specs.Tree.{Tree, HoldsBlock, results_of, regions_of, parent_of, body_of, layout_of}
+use Rattle.pliron_core.specs.Joined.{IsTree}
+use Rattle.pliron_core.proofs.ListLemmas.{In-left, In-right, In-cases, split_at}
+use Rattle.pliron_core.proofs.FlatLemmas.{In-flat_map, flat_map-In}
+use Rattle.pliron_core.proofs.NeighbourLemmas.{first_of-In}
+use Rattle.pliron_core.proofs.HoldingLemmas.{some_is}
+use Rattle.pliron_laws.specs.Linked.{IsWellLinked}
+use Rattle.pliron_laws.specs.Folding.{AnswersTrue}
+use Rattle.pliron_laws.proofs.ShapeLemmas.{live_at}
+use Rattle.pliron_theory.specs.Facts.{Fact, Undetermined, Constant, NotAConstant, AtMost, Facts, Says, AreClosed}
+use Rattle.pliron_theory.specs.Sound.{IsMadeThere}
+use Rattle.pliron_sccp.specs.declared.tables.Solver.{Solver}
+use Rattle.pliron_sccp.specs.Tables.{fact_in, reaches, waits_block, facts_of, TakesBlock}
+use Rattle.pliron_sccp.specs.Falling.{Falls}
+use Rattle.pliron_sccp.specs.Inside.{values_inside}
+use Rattle.pliron_sccp.specs.Precise.{AreMostPrecise, AreOwed}
+use Rattle.pliron_sccp.specs.Demands.{AsksEntries}
+use Rattle.pliron_sccp.specs.Visiting.{HasWay, IsGrounded, IsReady}
+use Rattle.pliron_sccp.specs.Looking.{LooksAt, LooksThrough, TakesValues, AreUsersOf}
+use Rattle.pliron_sccp.specs.Looking.LooksThrough.{Nothing, Then}
+use Rattle.pliron_sccp.specs.Starting.{IsStarted}
+use Rattle.pliron_sccp.specs.Searching.{Steps, IsOnTheWay}
+use Rattle.pliron_sccp.specs.Searching.Steps.{Block, Values}
+use Rattle.pliron_sccp.specs.Accounts.{NothingWaits}
+use Rattle.pliron_sccp.specs.Best.{is_visited, IsAbove, IsBest}
+use Rattle.pliron_sccp.proofs.Accounting.{below_undetermined}
+use Rattle.pliron_sccp.proofs.DistinctLists.{held_directly}
+use Rattle.pliron_sccp.proofs.InsideLists.{holds_listed, argument_listed, result_listed}
+use Rattle.pliron_sccp.proofs.Stepping.{first_blocks, entries_of, first_in, in_first, through_falls}
+use Rattle.pliron_sccp.proofs.BestLook.{lists, lists_in, in_lists, varying, only_inside, only_below, only_above, IsOn, ForwardsItsOperands, look_on, look_results}
+
+-- blocks that were looked through
+module _ (s : Solver) (b : ℕ) where
+  make_visited : IsTrue (reaches s b) → waits_block s b ≡ false → IsTrue (is_visited s b)
+  make_visited r rests = ap (λ z. if z then false else reaches s b) rests ∙ r
+
+  visited_rests : IsTrue (is_visited s b) → waits_block s b ≡ false
+  visited_rests y = by (waits_block s b) refl
+    where
+      by : (z : Bool) → waits_block s b ≡ z → waits_block s b ≡ false
+      by true e = absurd (true≢false (sym y ∙ ap (λ z. if z then false else reaches s b) e))
+      by false e = e
+
+  visited_reached : IsTrue (is_visited s b) → IsTrue (reaches s b)
+  visited_reached y = sym (ap (λ z. if z then false else reaches s b) (visited_rests y)) ∙ y
+
+module _ (s u : Solver) (falls : Falls s u) (b : ℕ) where
+  visited_still : IsTrue (is_visited s b) → IsTrue (is_visited u b)
+  visited_still y = make_visited u b (falls.below.reaches b (visited_reached s b y)) (by (waits_block u b) refl)
+    where
+      by : (z : Bool) → waits_block u b ≡ z → waits_block u b ≡ false
+      by true e = ⊎_elim
+          (λ waited. absurd (true≢false (sym waited ∙ visited_rests s b y)))
+          (λ new. absurd (true≢false (sym (visited_reached s b y) ∙ new.0)))
+          (falls.came b e)
+      by false e = e
+
+  visited_before : IsTrue (is_visited u b) → IsTrue (is_visited s b)
+  visited_before y = make_visited s b
+      (⊎_elim (λ r. r) (λ waits. absurd (true≢false (sym waits ∙ visited_rests u b y))) (falls.entered b (visited_reached u b y)))
+      (by (waits_block s b) refl)
+    where
+      by : (z : Bool) → waits_block s b ≡ z → waits_block s b ≡ false
+      by true e = absurd (true≢false (sym (falls.blocks b e) ∙ visited_rests u b y))
+      by false e = e
+
+wider_way : (t : Tree) (seen more : ℕ → Bool) → ((b : ℕ) → IsTrue (seen b) → IsTrue (more b)) → (b : ℕ) → HasWay t seen b → HasWay t more b
+wider_way t seen more wider b way = record {
+  region = way.region;
+  in_region = way.in_region;
+  entry = way.entry;
+  entry_first = way.entry_first;
+  before = way.before;
+  path = way.path;
+  all_visited = λ d i. wider d (way.all_visited d i);
+}
+
+module _ (x : Says) (t : Tree) (root : ℕ) (w : IsTree t) (linked : IsWellLinked x.meaning t root) (answers : AnswersTrue x.meaning x.can_fold x.constants) (places : ForwardsItsOperands x) (owed : AreOwed x t root) where
+  -- f and visited are those from before, and the blocks seen are those that are looked through after
+  module _ (f : Facts) (visited seen : ℕ → Bool) (inside : (b : ℕ) → IsTrue (f.reaches b) → HoldsBlock t root b) (grounded : IsGrounded t root f visited) (ready : IsReady t f visited) (more : (b : ℕ) → IsTrue (visited b) → IsTrue (seen b)) where
+    -- what is said of an operation before it is looked at
+    record IsNext (k c : ℕ) (done rest : List ℕ) (s : Solver) : Type 0 where
+      placed : parent_of t k ≡ Some c
+      reached : IsTrue (f.reaches c)
+      came : IsTrue (seen c)
+      body : body_of t c ≡ done ++ k ∷ rest
+      on : IsOn x t root f seen (facts_of s)
+      front : (q v : ℕ) → In q done → In v (results_of t q) → fact_in s v ≢ Undetermined
+
+    one_on : (k c : ℕ) (done rest : List ℕ) (s u : Solver) → LooksAt x t k s u → IsNext k c done rest s → IsOn x t root f seen (facts_of u)
+    one_on k c done rest s u looks n =
+        let o = live_at t k (w.joined.standing k c n.placed).0 in
+        look_on x t root w linked answers places owed f visited seen inside grounded ready more k c o.0 n.placed o.1 n.reached n.came done rest n.body (facts_of s) n.on n.front s u refl looks
+
+    one_results : (k c : ℕ) (done rest : List ℕ) (s u : Solver) → LooksAt x t k s u → IsNext k c done rest s → (v : ℕ) → In v (results_of t k) → fact_in u v ≢ Undetermined
+    one_results k c done rest s u looks n =
+        let o = live_at t k (w.joined.standing k c n.placed).0 in
+        look_results x t root w linked answers places owed f visited seen inside grounded ready more k c o.0 n.placed o.1 n.reached n.came done rest n.body (facts_of s) n.on n.front s u refl looks
+
+    through_block : (c : ℕ) → IsTrue (f.reaches c) → IsTrue (seen c) → (ks : List ℕ) (s u : Solver) → LooksThrough x t ks s u → (done : List ℕ) → body_of t c ≡ done ++ ks → IsOn x t root f seen (facts_of s) → ((q v : ℕ) → In q done → In v (results_of t q) → fact_in s v ≢ Undetermined) → IsOn x t root f seen (facts_of u) × ((q v : ℕ) → In q (body_of t c) → In v (results_of t q) → fact_in u v ≢ Undetermined)
+    through_block c reached came [] s u Nothing done body on front = (on, λ q v i j. front q v (subst (In q) (body ∙ append-nil done) i) j)
+    through_block c reached came (k ∷ ks) s u (Then _ q a d) done body on front =
+        let n : IsNext k c done ks s = record { placed = w.bodies.owned k c (subst (In k) (sym body) (In-right k done (k ∷ ks) (inl refl))); reached = reached; came = came; body = body; on = on; front = front } in
+        through_block c reached came ks q u d (done ++ k ∷ []) (body ∙ sym (append_assoc done (k ∷ []) ks)) (one_on k c done ks s q a n)
+        (λ y v i j. ⊎_elim
+        (λ old. below_undetermined (fact_in s v) (fact_in q v) (a.applied.falls.below.fact v) (front y v old j))
+        (λ last. ⊎_elim (λ e. one_results k c done ks s q a n v (subst (λ z. In v (results_of t z)) e j)) (λ none. absurd none) last)
+        (In-cases y done (k ∷ []) i))
+
+    through_users : (ks : List ℕ) (s u : Solver) → LooksThrough x t ks s u → ((k : ℕ) → In k ks → (c : ℕ) × (parent_of t k ≡ Some c) × IsTrue (visited c)) → IsOn x t root f seen (facts_of s) → IsOn x t root f seen (facts_of u)
+    through_users [] s u Nothing placed on = on
+    through_users (k ∷ ks) s u (Then _ q a d) placed on =
+        let p = placed k (inl refl) in
+        let split = split_at k (body_of t p.0) (w.bodies.listed k p.0 p.1) in
+        through_users ks q u d (λ j i. placed j (inr i)) (one_on k p.0 split.0 split.1 s q a (record {
+          placed = p.1;
+          reached = grounded.reached p.0 p.2;
+          came = more p.0 p.2;
+          body = split.2;
+          on = on;
+          front = λ y v i j. below_undetermined (f.fact v) (fact_in s v) (on.below.fact v) (ready.results p.0 y v p.2 (w.bodies.owned y p.0 (subst (In y) (sym split.2) (In-left y split.0 (k ∷ split.1) i))) j);
+        }))
+
+    finish : (u : Solver) → IsOn x t root f seen (facts_of u) → ((b : ℕ) → IsTrue (seen b) → IsTrue (is_visited u b)) → ((b : ℕ) → IsTrue (is_visited u b) → IsTrue (seen b)) → ((b k v : ℕ) → IsTrue (seen b) → parent_of t k ≡ Some b → In v (results_of t k) → fact_in u v ≢ Undetermined) → IsBest x t root u
+    finish u on there back results = record {
+      grounded = record {
+        ways = λ b r. wider_way t seen (is_visited u) there b (on.ways b r);
+        held = λ b k r e. ⊎_elim (λ h. inl h) (λ y. inr (y.0, y.1, there y.0 y.2)) (on.held b k r e);
+        reached = λ b y. visited_reached u b y;
+      };
+      ready = record { arguments = on.arguments; results = λ b k v y p i. results b k v (back b y) p i };
+      above = on.above;
+    }
+
+  module _ (s : Solver) (best : IsBest x t root s) (inside : (b : ℕ) → IsTrue (reaches s b) → HoldsBlock t root b) where
+    -- nothing was looked at yet
+    begin : (seen : ℕ → Bool) → ((b : ℕ) → IsTrue (is_visited s b) → IsTrue (seen b)) → (u : Solver) → ((v : ℕ) → fact_in u v ≡ fact_in s v) → ((b : ℕ) → reaches u b ≡ reaches s b) → IsOn x t root (facts_of s) seen (facts_of u)
+    begin seen more u facts reached = record {
+      below = record { reaches = λ b r. reached b ∙ r; fact = λ v. inr (inr (facts v)) };
+      above = λ g closed.
+          let a = best.above g closed in
+          record { blocks = λ b r. a.blocks b (sym (reached b) ∙ r); facts = λ v i. subst (AtMost (g.fact v)) (sym (facts v)) (a.facts v i) };
+      ways = λ b r. wider_way t (is_visited s) seen more b (best.grounded.ways b (sym (reached b) ∙ r));
+      held = λ b k r e. ⊎_elim (λ h. inl h) (λ y. inr (y.0, y.1, more y.0 y.2)) (best.grounded.held b k (sym (reached b) ∙ r) e);
+      arguments = λ b v r i e. best.ready.arguments b v (sym (reached b) ∙ r) i (sym (facts v) ∙ e);
+    }
+
+    -- a block was taken and looked through
+    pub block_best : (c : ℕ) (u s' : Solver) → TakesBlock c s u → IsTrue (reaches s c) → LooksThrough x t (body_of t c) u s' → IsBest x t root s'
+    block_best c u s' k reached d =
+        let r = through_block (facts_of s) (is_visited s) (is_visited u) inside best.grounded best.ready more c reached came (body_of t c) u s' d [] refl (begin (is_visited u) more u k.facts k.reached) (λ q v i. absurd i) in
+        let falls = through_falls x t (body_of t c) u s' d in
+        finish (facts_of s) (is_visited s) (is_visited u) inside best.grounded best.ready more s' r.0 (visited_still u s' falls) (visited_before u s' falls)
+        (λ b q v y p i. ⊎_elim
+        (λ same. r.1 q v (w.bodies.listed q c (p ∙ ap Some (sym same))) i)
+        (λ old. below_undetermined (fact_in s v) (fact_in s' v) (r.0.below.fact v) (best.ready.results b q v old p i))
+        (before b y))
+      where
+        waits_then : (b : ℕ) (z : Bool) → nat_eq c b ≡ z → waits_block u b ≡ (if z then false else waits_block s b)
+        waits_then b z e = k.blocks b ∙ ap (λ z. if z then false else waits_block s b) e
+
+        more : (b : ℕ) → IsTrue (is_visited s b) → IsTrue (is_visited u b)
+        more b y = make_visited u b (k.reached b ∙ visited_reached s b y) (by (nat_eq c b) refl)
+          where
+            by : (z : Bool) → nat_eq c b ≡ z → waits_block u b ≡ false
+            by true e = waits_then b true e
+            by false e = waits_then b false e ∙ visited_rests s b y
+
+        came : IsTrue (is_visited u c)
+        came = make_visited u c (k.reached c ∙ reached) (waits_then c true (eq-eqb c c refl))
+
+        before : (b : ℕ) → IsTrue (is_visited u b) → (c ≡ b) ⊎ IsTrue (is_visited s b)
+        before b y = by (nat_eq c b) refl
+          where
+            by : (z : Bool) → nat_eq c b ≡ z → (c ≡ b) ⊎ IsTrue (is_visited s b)
+            by true e = inl (eqb-true c b e)
+            by false e = inr (make_visited s b (sym (k.reached b) ∙ visited_reached u b y) (sym (waits_then b false e) ∙ visited_rests u b y))
+
+    -- all values that waited were taken, and their users looked at
+    pub values_best : (taken users : List ℕ) (u s' : Solver) → TakesValues taken s u → AreUsersOf t taken users u → LooksThrough x t users u s' → IsBest x t root s'
+    values_best taken users u s' k a d =
+        let r = through_users (facts_of s) (is_visited s) (is_visited s) inside best.grounded best.ready (λ b y. y) users u s' d placed (begin (is_visited s) (λ b y. y) u k.facts k.reached) in
+        let falls = through_falls x t users u s' d in
+        finish (facts_of s) (is_visited s) (is_visited s) inside best.grounded best.ready (λ b y. y) s' r
+        (λ b y. visited_still u s' falls b (make_visited u b (k.reached b ∙ visited_reached s b y) (k.blocks b ∙ visited_rests s b y)))
+        (λ b y. let z = visited_before u s' falls b y in make_visited s b (sym (k.reached b) ∙ visited_reached u b z) (sym (k.blocks b) ∙ visited_rests u b z))
+        (λ b q v y p i. below_undetermined (fact_in s v) (fact_in s' v) (r.below.fact v) (best.ready.results b q v y p i))
+      where
+        placed : (q : ℕ) → In q users → (c : ℕ) × (parent_of t q ≡ Some c) × IsTrue (is_visited s c)
+        placed q i =
+            let y = (a.only q i).0 in
+            (y.block, y.in_block, make_visited s y.block (sym (k.reached y.block) ∙ y.reached) (sym (k.blocks y.block) ∙ y.taken))
+
+  pub step_best : (s s' : Solver) (taken : ℕ) → Steps x t s s' taken → IsOnTheWay x t root s → IsBest x t root s → IsBest x t root s'
+  step_best s s' taken (Block c u k d e) o best = block_best s best o.started.inside c u s' k (o.waits.blocks c k.waited).1 d
+  step_best s s' taken (Values none v) o best = values_best s best o.started.inside v.values v.users v.between s' v.takes v.are_users v.looks
+
+  -- where the entries of the root were entered and nothing was looked at
+  module _ (s : Solver) (start : IsStarted t root s) where
+    entered : AsksEntries t root (facts_of s)
+    entered = (start.asks (facts_of s)).0 start.applied.met
+
+    above_start : (g : Facts) → AreClosed x t root g → IsAbove t root (facts_of s) g
+    above_start g closed =
+        only_above t root g (facts_of s) (start.applied.least (only_inside t root g)
+        (only_below t root g (facts_of start.before) (record { blocks = λ b r. absurd (true≢false (sym r ∙ start.unsearched.reached b)); facts = λ v i. inl (start.unsearched.inside v i) }))
+        ((start.asks (only_inside t root g)).1 (λ r b i e. let y = closed.entries root r b (inl refl) i e in (y.0, λ v j. by v (lists (values_inside t root) v) (y.1 v j)))))
+      where
+        by : (v : ℕ) (z : Bool) → g.fact v ≡ NotAConstant → (if z then g.fact v else NotAConstant) ≡ NotAConstant
+        by v true e = e
+        by v false e = refl
+
+    -- only these entries are reached
+    abbrev trial : Facts
+    trial = record { reaches = λ b. lists (entries_of t root) b; fact = λ v. fact_in s v }
+
+    is_entry : (b : ℕ) → IsTrue (reaches s b) → (r : ℕ) × In r (regions_of t root) × (first_of (layout_of t r) None ≡ Some b)
+    is_entry b y =
+        let least = start.applied.least trial
+        (record { reaches = λ c z. absurd (true≢false (sym z ∙ start.unsearched.reached c)); fact = start.applied.falls.below.fact })
+        ((start.asks trial).1 (λ r c i e. (in_lists (entries_of t root) c (In-flat_map (λ r. first_blocks (layout_of t r)) (regions_of t root) r c i (first_in (layout_of t r) c e)), (entered r c i e).1))) in
+        let r = flat_map-In (λ r. first_blocks (layout_of t r)) (regions_of t root) b (lists_in (entries_of t root) b (least.reaches b y)) in
+        (r.0, r.1, in_first (layout_of t r.0) b r.2)
+
+    unvisited : (b : ℕ) → IsTrue (is_visited s b) → ⊥
+    unvisited b y = ⊎_elim
+        (λ old. true≢false (sym old ∙ start.unsearched.reached b))
+        (λ waits. true≢false (sym waits ∙ visited_rests s b y))
+        (start.applied.falls.entered b (visited_reached s b y))
+
+    pub start_best : IsBest x t root s
+    start_best = record {
+      grounded = record {
+        ways = λ b y.
+            let r = is_entry b y in
+            record {
+              region = r.0;
+              in_region = w.layouts.owned b r.0 (first_of-In b (layout_of t r.0) r.2);
+              entry = b;
+              entry_first = r.2;
+              before = [];
+              path = refl;
+              all_visited = λ d j. absurd j;
+            };
+        held = λ b k y e. let r = is_entry b y in inl (some_is (sym e ∙ held_directly t w root r.0 b r.1 (first_of-In b (layout_of t r.0) r.2)));
+        reached = λ b y. visited_reached s b y;
+      };
+      ready = record {
+        arguments = λ b v y i. let r = is_entry b y in varying (fact_in s v) ((entered r.0 b r.1 r.2).1 v i);
+        results = λ b k v y. absurd (unvisited b y);
+      };
+      above = above_start;
+    }
+
+  -- where nothing waits any more the facts are the most precise ones
+  pub best_precise : (s : Solver) → NothingWaits s → AreClosed x t root (facts_of s) → IsBest x t root s → AreMostPrecise x t root (facts_of s)
+  best_precise s done closed best = record {
+    closed = closed;
+    blocks = λ g other b r. (best.above g other).blocks b r;
+    constants = λ g other v c made e. constant_kept (g.fact v) (fact_in s v) c ((best.above g other).facts v (listed v made)) e (known v made);
+  }
+    where
+      constant_kept : (g f : Fact) (c : AttrObj) → AtMost g f → g ≡ Constant c → f ≢ Undetermined → f ≡ Constant c
+      constant_kept g f c (inl u) e some = absurd (some u)
+      constant_kept g f c (inr (inl n)) e some = let y : Constant c ≡ NotAConstant = sym e ∙ n in absurd (grind arith)
+      constant_kept g f c (inr (inr same)) e some = sym same ∙ e
+
+      listed : (v : ℕ) → IsMadeThere t (facts_of s) v → In v (values_inside t root)
+      listed v (inl (k, (b, p, r), i)) = result_listed t w root b k v (holds_listed t w root b (closed.inside b r)) p i
+      listed v (inr (b, r, i)) = argument_listed t w root b v (holds_listed t w root b (closed.inside b r)) i
+
+      known : (v : ℕ) → IsMadeThere t (facts_of s) v → fact_in s v ≢ Undetermined
+      known v (inl (k, (b, p, r), i)) = best.ready.results b k v (make_visited s b r (done.blocks b)) p i
+      known v (inr (b, r, i)) = best.ready.arguments b v r i

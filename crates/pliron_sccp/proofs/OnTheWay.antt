@@ -1,0 +1,287 @@
+-- What the search for facts knows holds at its start and after each step, and at its end the facts are closed.
+use Rattle.std.proofs.Common.{◌≡◌, inl, inr, ⊎_elim, ℕ, zero, suc, ◌+◌, ◌*◌, ◌-◌, ◌≤◌, ◌<◌, ◌^◌, true, false, true≢false, not, List, [], ◌∷◌, length, Option, Some, None, slice_index_or, refl, sym, ap, ◌∙◌, subst, arith, IsTrue}
+use Rattle.std.specs.List.{flat_map}
+use Rattle.std.proofs.lemmas.Bool.{eq-eqb}
+use Rattle.std.proofs.lemmas.Option.{slice_get_within}
+use Rattle.pliron_core.specs.Lists.{In}
+use Rattle.pliron_core.specs.Tree.{Tree, IsLive, IsBlock, HoldsBlock, results_of, arguments_of, parent_of, body_of, definition_of}
+use Rattle.pliron_core.specs.Joined.{IsTree, HaveFewKeys}
+use Rattle.pliron_core.specs.Changes.{IsMadeInside, IsMakerInside}
+use Rattle.pliron_core.proofs.FlatLemmas.{In-flat_map, flat_map-In, slice_get-In}
+use Rattle.pliron_core.proofs.ListLemmas.{decide_in, In-cases, distinct-length}
+use Rattle.pliron_core.proofs.HoldingLemmas.{some_is, some_of, not_none, inside_block}
+use Rattle.pliron_laws.specs.Linked.{IsWellLinked, EdgesLast}
+use Rattle.pliron_laws.specs.Folding.{AnswersTrue}
+use Rattle.pliron_theory.specs.Facts.{Facts, Says, AreClosed, AreHeld}
+use Rattle.pliron_sccp.specs.declared.tables.Solver.{Solver}
+use Rattle.pliron_sccp.specs.Tables.{fact_in, reaches, waits_block, waits_value, facts_of, TakesBlock}
+use Rattle.pliron_sccp.specs.Chain.{blocks_inside}
+use Rattle.pliron_sccp.specs.Inside.{values_of, values_inside}
+use Rattle.pliron_sccp.specs.Demands.{AsksEntries}
+use Rattle.pliron_sccp.specs.Settling.{AreBelow, AreStarted}
+use Rattle.pliron_sccp.specs.Looking.{LooksThrough, TakesValues, AreUsersOf}
+use Rattle.pliron_sccp.specs.Looking.LooksThrough.{Nothing, Then}
+use Rattle.pliron_sccp.specs.Starting.{IsStarted}
+use Rattle.pliron_sccp.specs.Searched.{IsSearched}
+use Rattle.pliron_sccp.specs.Searching.{Steps, IsOnTheWay, IsSearching}
+use Rattle.pliron_sccp.specs.Searching.Steps.{Block, Values}
+use Rattle.pliron_sccp.specs.Accounts.{IsAccounted, AreKnownThere, NothingWaits}
+use Rattle.pliron_sccp.proofs.DistinctLists.{below_held, distinct-blocks, distinct-values}
+use Rattle.pliron_sccp.proofs.DistinctLists.{inside_block as stands_inside}
+use Rattle.pliron_sccp.proofs.InsideLists.{holds_listed}
+use Rattle.pliron_sccp.proofs.Settled.{entered_still, varies_still, closed_when_settled}
+use Rattle.pliron_sccp.proofs.Stepping.{entries_of, others_reached, entry_apart, entry_held, all_but_one, argument_but, below_but, unknown_but, below_same, through_settles, through_falls, block_settles, values_settle, look_starts, look_holds, look_known}
+use Rattle.pliron_sccp.proofs.BestLook.{ForwardsItsOperands}
+use Rattle.pliron_sccp.proofs.BestSteps.{start_best, step_best, best_precise}
+use Rattle.pliron_sccp.proofs.Accounting.{unsearched_accounted, unsearched_inside, falls_accounted, falls_inside, block_accounted, values_accounted, block_inside, values_kept_inside, accounted_bound, accounted_counts}
+
+-- a value that a block inside the root lists is made inside it
+pub listed_inside : (t : Tree) (w : IsTree t) (root v : ℕ) → In v (values_inside t root) → IsMadeInside t root v
+listed_inside t w root v i =
+    let b = flat_map-In (λ b. values_of t b) (blocks_inside t root) v i in
+    let h : HoldsBlock t root b.0 = below_held t w (length t.operations) root b.0 b.1 in
+    ⊎_elim (λ j. argument b.0 h j) (λ j. result b.0 h j) (In-cases v (arguments_of t b.0) (flat_map (λ k. results_of t k) (body_of t b.0)) b.2)
+  where
+    argument : (b : ℕ) → HoldsBlock t root b → In v (arguments_of t b) → IsMadeInside t root v
+    argument b h j =
+        let s = slice_get-In v (arguments_of t b) j in
+        subst (IsMakerInside t root) (sym (w.joined.arguments b s.0 v s.1)) h
+
+    result : (b : ℕ) → HoldsBlock t root b → In v (flat_map (λ k. results_of t k) (body_of t b)) → IsMadeInside t root v
+    result b h j =
+        let k = flat_map-In (λ k. results_of t k) (body_of t b) v j in
+        let s = slice_get-In v (results_of t k.0) k.2 in
+        subst (IsMakerInside t root) (sym (w.joined.results k.0 s.0 v s.1)) (inside_block b (w.bodies.owned k.0 b k.1) h)
+
+pub fewer : (all pops taken : ℕ) → pops + taken ≤ all → (taken ≡ 0 → ⊥) → all - (pops + taken) < all - pops
+fewer all pops zero l none = absurd (none refl)
+fewer all pops (suc taken) l none = omega (arith, l)
+
+-- what is reached is laid out as closed facts owe
+pub record IsLaidOut (t : Tree) (root : ℕ) (s : Solver) : Type 0 where
+  pub started : AreStarted t root (facts_of s)
+  pub held : AreHeld t root (facts_of s)
+  pub there : AreKnownThere t root s
+
+module _ (x : Says) (t : Tree) (root : ℕ) (w : IsTree t) (live : IsLive t root) where
+  reached_listed : (s : Solver) → AreStarted t root (facts_of s) → (b : ℕ) → IsTrue (reaches s b) → In b (blocks_inside t root)
+  reached_listed s started b r = holds_listed t w root b (started.inside b r)
+
+  -- at the start
+  module _ (s : Solver) (start : IsStarted t root s) where
+    entered : AsksEntries t root (facts_of s)
+    entered = (start.asks (facts_of s)).0 start.applied.met
+
+    came : (b : ℕ) → reaches s b ≡ true → In b (entries_of t root)
+    came b new = ⊎_elim (λ i. i) (λ none. absurd (not_else none)) (decide_in b (entries_of t root))
+      where
+        not_else : (In b (entries_of t root) → ⊥) → ⊥
+        not_else none = true≢false (sym (least.reaches b new) ∙ no_other)
+          where
+            g : Facts
+            g = others_reached b
+
+            no_other : g.reaches b ≡ false
+            no_other = ap not (eq-eqb b b refl)
+
+            below : AreBelow g (facts_of start.before)
+            below = record { reaches = λ z r. absurd (true≢false (sym r ∙ start.unsearched.reached z)); fact = λ v. inr (inl refl) }
+
+            least : AreBelow g (facts_of s)
+            least = start.applied.least g below ((start.asks g).1 (λ r z i e. (entry_apart t root b none r z i e, λ v j. refl)))
+
+    start_laid : IsLaidOut t root s
+    start_laid = record {
+      started = record {
+        inside = λ b r. (root, entry_held t w root b (came b r), inl refl);
+        outside = λ v n. varies_still (fact_in start.before v) (fact_in s v) (start.applied.falls.below.fact v) (start.unsearched.outside v (λ i. n (listed_inside t w root v i)));
+        entries = entered;
+      };
+      held = λ b k r e. inl (some_is (sym e ∙ entry_held t w root b (came b r)));
+      there = known;
+    }
+      where
+        none_before : (z : ℕ) → reaches start.before z ≡ true → reaches s z ≡ true
+        none_before z r = absurd (true≢false (sym r ∙ start.unsearched.reached z))
+
+        known : AreKnownThere t root s
+        known b v inside listed none =
+            let unknown = start.unsearched.inside v (in_values b v inside listed) in
+            let g = all_but_one t w start.before s b v listed none unknown none_before in
+            unknown_but t w start.before s b v listed none unknown none_before
+            (start.applied.least g (below_but t w start.before s b v listed none unknown none_before) ((start.asks g).1 (λ r z i e. let y = entered r z i e in (y.0, λ a j. argument_but t w start.before s b v listed none unknown none_before a z j y.0))))
+          where
+            in_values : (b v : ℕ) → In b (blocks_inside t root) → In v (values_of t b) → In v (values_inside t root)
+            in_values b v i j = In-flat_map (λ b. values_of t b) (blocks_inside t root) b v i j
+
+    pub start_on_way : IsOnTheWay x t root s
+    start_on_way = record {
+      settled = λ k b o p r at. ⊎_elim (λ old. absurd (true≢false (sym old ∙ start.unsearched.reached b))) (λ waits. inl waits) (start.applied.falls.entered b r);
+      started = start_laid.started;
+      held = start_laid.held;
+      there = start_laid.there;
+      waits = falls_inside t root start.before s (unsearched_inside t root start.before start.unsearched) start.applied.falls (reached_listed s start_laid.started);
+    }
+
+    pub start_accounted : IsAccounted t root s 0
+    start_accounted = falls_accounted t root start.before s 0 (unsearched_inside t root start.before start.unsearched) start.applied.falls (unsearched_accounted t root start.before start.unsearched)
+
+  -- where the tables say the same of facts
+  laid_same : (s u : Solver) → ((v : ℕ) → fact_in u v ≡ fact_in s v) → ((b : ℕ) → reaches u b ≡ reaches s b) → IsLaidOut t root s → IsLaidOut t root u
+  laid_same s u facts reached l = record {
+    started = record {
+      inside = λ b r. l.started.inside b (sym (reached b) ∙ r);
+      outside = λ v n. facts v ∙ l.started.outside v n;
+      entries = λ r b i e. entered_still x t (facts_of s) (facts_of u) b (below_same s u facts reached) (l.started.entries r b i e);
+    };
+    held = λ b k r e. ⊎_elim (λ h. inl h) (λ y. inr (y.0, y.1, reached y.0 ∙ y.2)) (l.held b k (sym (reached b) ∙ r) e);
+    there = λ b v i j none. facts v ∙ l.there b v i j (sym (reached b) ∙ none);
+  }
+
+  module _ (edges : EdgesLast t root) where
+    through_laid : (ks : List ℕ) (s u : Solver) → LooksThrough x t ks s u → ((k : ℕ) → In k ks → (c : ℕ) × (parent_of t k ≡ Some c) × (reaches s c ≡ true)) → IsLaidOut t root s → IsLaidOut t root u
+    through_laid [] s u Nothing placed l = l
+    through_laid (k ∷ ks) s u (Then _ q a d) placed l =
+        let p = placed k (inl refl) in
+        through_laid ks q u d
+        (λ j i. let y = placed j (inr i) in (y.0, y.1, a.applied.falls.below.reaches y.0 y.2))
+        (record {
+          started = look_starts x t root w edges k p.0 s q a p.1 p.2 l.started;
+          held = look_holds x t root w edges k p.0 s q a p.1 p.2 l.started l.held;
+          there = look_known x t root w edges k p.0 s q a p.1 p.2 l.started l.there;
+        })
+
+    laid_of : (s : Solver) → IsOnTheWay x t root s → IsLaidOut t root s
+    laid_of s o = record { started = o.started; held = o.held; there = o.there }
+
+    -- a block was taken and looked through
+    pub block_on_way : (c : ℕ) (s u s' : Solver) → TakesBlock c s u → LooksThrough x t (body_of t c) u s' → IsOnTheWay x t root s → IsOnTheWay x t root s'
+    block_on_way c s u s' k d o =
+        let l = through_laid (body_of t c) u s' d (λ j i. (c, w.bodies.owned j c i, k.reached c ∙ (o.waits.blocks c k.waited).1)) (laid_same s u k.facts k.reached (laid_of s o)) in
+        record {
+          settled = through_settles x t (body_of t c) u s' d (block_settles x t w c s u k o.settled);
+          started = l.started;
+          held = l.held;
+          there = l.there;
+          waits = falls_inside t root u s' (block_inside t root c s u o.waits k) (through_falls x t (body_of t c) u s' d) (reached_listed s' l.started);
+        }
+
+    -- all values were taken and their users looked at
+    pub values_on_way : (values users : List ℕ) (s u s' : Solver) → TakesValues values s u → AreUsersOf t values users u → LooksThrough x t users u s' → IsOnTheWay x t root s → IsOnTheWay x t root s'
+    values_on_way values users s u s' k a d o =
+        let l = through_laid users u s' d (λ j i. let y = (a.only j i).0 in (y.block, y.in_block, y.reached)) (laid_same s u k.facts k.reached (laid_of s o)) in
+        record {
+          settled = through_settles x t users u s' d (values_settle x t w values users s u k a o.settled);
+          started = l.started;
+          held = l.held;
+          there = l.there;
+          waits = falls_inside t root u s' (values_kept_inside t root values s u o.waits k) (through_falls x t users u s' d) (reached_listed s' l.started);
+        }
+
+    pub step_on_way : (s s' : Solver) (taken : ℕ) → Steps x t s s' taken → IsOnTheWay x t root s → IsOnTheWay x t root s'
+    step_on_way s s' taken (Block c u k d e) o = block_on_way c s u s' k d o
+    step_on_way s s' taken (Values none v) o = values_on_way v.values v.users s v.between s' v.takes v.are_users v.looks o
+
+    pub step_accounted : (s s' : Solver) (pops taken : ℕ) → Steps x t s s' taken → IsOnTheWay x t root s → IsAccounted t root s pops → IsAccounted t root s' (pops + taken)
+    step_accounted s s' pops taken (Block c u k d e) o a =
+        subst (λ n. IsAccounted t root s' (pops + n)) (sym e)
+        (falls_accounted t root u s' (pops + 1) (block_inside t root c s u o.waits k) (through_falls x t (body_of t c) u s' d) (block_accounted t root w c s u pops o.waits k a))
+    step_accounted s s' pops taken (Values none v) o a =
+        subst (λ n. IsAccounted t root s' (pops + n)) (sym v.counted)
+        (falls_accounted t root v.between s' (pops + length v.values) (values_kept_inside t root v.values s v.between o.waits v.takes) (through_falls x t v.users v.between s' v.looks) (values_accounted t root w v.values s v.between pops o.waits v.takes a))
+
+  -- where nothing was taken nothing waits
+  pub nothing_waits : (s s' : Solver) (taken : ℕ) → taken ≡ 0 → Steps x t s s' taken → NothingWaits s'
+  nothing_waits s s' taken none_taken (Block c u k d e) = absurd (one_is_none (sym e ∙ none_taken))
+    where
+      one_is_none : ◌≡◌ {A = ℕ} 1 0 → ⊥
+      one_is_none e = omega (arith, e)
+  nothing_waits s s' taken none_taken (Values none v) = same (no_users v.users v.are_users (no_values v.values (sym v.counted ∙ none_taken))) v.looks
+    where
+      no_values : (vs : List ℕ) → length vs ≡ 0 → vs ≡ []
+      no_values [] e = refl
+      no_values (y ∷ ys) e = absurd (omega (arith, e))
+
+      no_users : (us : List ℕ) → AreUsersOf t v.values us v.between → v.values ≡ [] → us ≡ []
+      no_users [] a e = refl
+      no_users (k ∷ us) a e = let y = (a.only k (inl refl)).1 in absurd (subst (In y.0) e y.1)
+
+      same_tables : (u : Solver) → LooksThrough x t [] v.between u → u ≡ v.between
+      same_tables u Nothing = refl
+
+      same : v.users ≡ [] → LooksThrough x t v.users v.between s' → NothingWaits s'
+      same e d =
+          let is : s' ≡ v.between = same_tables s' (subst (λ us. LooksThrough x t us v.between s') e d) in
+          record {
+            blocks = λ b. ap (λ z. waits_block z b) is ∙ v.takes.blocks b ∙ none b;
+            values = λ y. ap (λ z. waits_value z y) is ∙ v.takes.values y;
+          }
+
+  pub closed_at_end : (s : Solver) → NothingWaits s → IsOnTheWay x t root s → AreClosed x t root (facts_of s)
+  closed_at_end s done o = closed_when_settled x t root (facts_of s) o.started
+      (λ k b q p r at. ⊎_elim
+      (λ y. absurd (true≢false (sym y ∙ done.blocks b)))
+      (λ y. ⊎_elim (λ m. inr (inl m)) (λ z. ⊎_elim (λ h. absurd (true≢false (sym h.2 ∙ done.values h.0))) (λ n. absurd n) z) y)
+      (o.settled k b q p r at))
+      w
+
+  -- there are few blocks and values
+  pub few_blocks : HaveFewKeys t → length (blocks_inside t root) < 2 ^ 64
+  few_blocks few =
+      let n = distinct-length (length t.bodies) (blocks_inside t root) (distinct-blocks t w root) (λ b i. block_below b (stands_inside t w root b i)) in
+      omega (arith, n, few.blocks)
+    where
+      block_below : (b : ℕ) → IsBlock t b → b < length t.bodies
+      block_below b is =
+          let p = some_of _ is in
+          let l = past t.block_parents b p.0 p.1 in
+          omega (arith, l, w.keys.block_parents)
+        where
+          past : (ps : List (Option ℕ)) (b r : ℕ) → slice_index_or ps b None ≡ Some r → b < length ps
+          past [] b r e = absurd (not_none e)
+          past (p ∷ ps) zero r e = omega arith
+          past (p ∷ ps) (suc b) r e = let l = past ps b r e in omega (arith, l)
+
+  pub few_values : HaveFewKeys t → length (values_inside t root) < 2 ^ 64
+  few_values few =
+      let n = distinct-length (length t.definitions) (values_inside t root) (distinct-values t w root) (λ v i. value_below v (listed_inside t w root v i)) in
+      omega (arith, n, few.values)
+    where
+      value_below : (v : ℕ) → IsMadeInside t root v → v < length t.definitions
+      value_below v m = by (definition_of t v) refl m
+        where
+          by : (o : _) → definition_of t v ≡ o → IsMakerInside t root o → v < length t.definitions
+          by None e z = absurd z
+          by (Some d) e z = slice_get_within t.definitions v d e
+
+  -- between the steps
+  pub few_to_take : HaveFewKeys t → length (blocks_inside t root) + 2 * length (values_inside t root) < 2 ^ 128
+  few_to_take few = let b = few_blocks few in let v = few_values few in omega (arith, b, v)
+
+  module _ (linked : IsWellLinked x.meaning t root) (answers : AnswersTrue x.meaning x.can_fold x.constants) (places : ForwardsItsOperands x) where
+    pub started_search : (s : Solver) → IsStarted t root s → IsSearching x t root s 0
+    started_search s start = record { way = start_on_way s start; accounted = start_accounted s start; best = λ owed. start_best x t root w linked answers places owed s start }
+
+    module _ (s s' : Solver) (pops taken : ℕ) (step : Steps x t s s' taken) (so_far : IsSearching x t root s pops) where
+      pub next_search : IsSearching x t root s' (pops + taken)
+      next_search = record {
+        way = step_on_way linked.edges s s' taken step so_far.way;
+        accounted = step_accounted linked.edges s s' pops taken step so_far.way so_far.accounted;
+        best = λ owed. step_best x t root w linked answers places owed s s' taken step so_far.way (so_far.best owed);
+      }
+
+      pub search_bound : pops + taken ≤ length (blocks_inside t root) + 2 * length (values_inside t root)
+      search_bound = accounted_bound t root s' (pops + taken) next_search.accounted
+
+      pub end_search : taken ≡ 0 → IsSearched x t root s' pops
+      end_search none =
+          let done = nothing_waits s s' taken none step in
+          let same : pops + taken ≡ pops = omega (arith, none) in
+          let last : IsSearching x t root s' pops = subst (IsSearching x t root s') same next_search in
+          let closed = closed_at_end s' done last.way in
+          record {
+            closed = closed;
+            held = last.way.held;
+            precise = λ owed. best_precise x t root w linked answers places owed s' done closed (last.best owed);
+            count = accounted_counts t root s' pops done last.way.there last.accounted;
+          }

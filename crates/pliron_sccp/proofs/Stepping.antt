@@ -1,0 +1,299 @@
+-- What looking at operations does to what is settled and to what is reached.
+use Rattle.std.proofs.Common.{◌≡◌, ◌⊎◌, inl, inr, ⊎_elim, ℕ, Bool, true, false, true≢false, not, nat_eq, if◌then◌else◌, List, [], ◌∷◌, Some, None, slice_get, refl, sym, ap, ◌∙◌, subst, arith}
+use Rattle.std.specs.List.{flat_map}
+use Rattle.std.proofs.lemmas.Bool.{eqb-true, eq-eqb}
+use Rattle.pliron_core.specs.Lists.{In, first_of}
+use Rattle.pliron_core.specs.Tree.{Tree, IsInside, regions_of, results_of, successors_of, arguments_of, parent_of, body_of, layout_of, block_parent_of, block_holder_of, region_parent_of, up_from}
+use Rattle.pliron_core.specs.Joined.{IsTree}
+use Rattle.pliron_core.proofs.FlatLemmas.{In-flat_map, flat_map-In}
+use Rattle.pliron_core.proofs.ListLemmas.{decide_in, In-left, In-right}
+use Rattle.pliron_core.proofs.NeighbourLemmas.{first_of-In}
+use Rattle.pliron_core.proofs.HoldingLemmas.{in_slice, some_is, not_none, inside_block, some_of}
+use Rattle.pliron_laws.specs.Linked.{EdgesLast}
+use Rattle.pliron_laws.specs.Tree.{Operation, op_at}
+use Rattle.pliron_laws.proofs.Records.{make_op, op_shows}
+use Rattle.pliron_theory.specs.Facts.{Fact, Undetermined, NotAConstant, Facts, Says, Stands, AreHeld}
+use Rattle.pliron_sccp.specs.declared.tables.Solver.{Solver}
+use Rattle.pliron_sccp.specs.Tables.{fact_in, reaches, waits_block, waits_value, facts_of, TakesBlock}
+use Rattle.pliron_sccp.specs.Inside.{values_of}
+use Rattle.pliron_sccp.specs.Settling.{IsMet, AreBelow, AreSettledBut, AreStarted}
+use Rattle.pliron_sccp.specs.Falling.{Falls}
+use Rattle.pliron_sccp.specs.Looking.{LooksAt, LooksThrough, TakesValues, AreUsersOf}
+use Rattle.pliron_sccp.specs.Looking.LooksThrough.{Nothing, Then}
+use Rattle.pliron_sccp.specs.Accounts.{AreKnownThere}
+use Rattle.pliron_sccp.proofs.DistinctLists.{held_directly, values_apart}
+use Rattle.pliron_sccp.proofs.Settled.{met_still, met_same, entered_still, varies_still}
+use Rattle.pliron_sccp.proofs.Applied.{falls_refl, falls_trans}
+
+-- two tables say the same of facts
+module _ (s u : Solver) (facts : (v : ℕ) → fact_in u v ≡ fact_in s v) (reached : (b : ℕ) → reaches u b ≡ reaches s b) where
+  pub below_same : AreBelow (facts_of u) (facts_of s)
+  below_same = record { reaches = λ b r. reached b ∙ r; fact = λ v. inr (inr (facts v)) }
+
+  pub met_there : (x : Says) (t : Tree) (k : ℕ) (o : Operation) → IsMet x t (facts_of s) (facts_of s) k o → IsMet x t (facts_of u) (facts_of u) k o
+  met_there x t k o m = met_same x t (facts_of s) (facts_of u) (facts_of u) k o (λ v i. facts v) (met_still x t (facts_of s) (facts_of s) (facts_of u) k o below_same m)
+
+-- facts of these are as before, or one of them waits
+pub same_or_waits : (s u : Solver) → Falls s u → (vs : List ℕ) → ((v : ℕ) → In v vs → fact_in u v ≡ fact_in s v) ⊎ ((v : ℕ) × In v vs × (waits_value u v ≡ true))
+same_or_waits s u f [] = inl (λ v i. absurd i)
+same_or_waits s u f (x ∷ vs) = ⊎_elim
+    (λ e. ⊎_elim
+    (λ same. inl (λ v i. ⊎_elim (λ h. subst (λ z. fact_in u z ≡ fact_in s z) (sym h) e) (λ j. same v j) i))
+    (λ w. inr (w.0, inr w.1, w.2))
+    (same_or_waits s u f vs))
+    (λ w. inr (x, inl refl, w))
+    (f.told x)
+
+-- a region's first block, as a list
+abbrev pub first_blocks : List ℕ → List ℕ
+first_blocks [] = []
+first_blocks (b ∷ bs) = b ∷ []
+
+-- the entries of an operation's regions
+abbrev pub entries_of : Tree → ℕ → List ℕ
+entries_of t k = flat_map (λ r. first_blocks (layout_of t r)) (regions_of t k)
+
+pub first_in : (bs : List ℕ) (b : ℕ) → first_of bs None ≡ Some b → In b (first_blocks bs)
+first_in [] b e = absurd (not_none e)
+first_in (c ∷ bs) b e = inl (sym (some_is e))
+
+pub in_first : (bs : List ℕ) (b : ℕ) → In b (first_blocks bs) → first_of bs None ≡ Some b
+in_first [] b i = absurd i
+in_first (c ∷ bs) b (inl e) = ap (λ z. Some z) (sym e)
+in_first (c ∷ bs) b (inr i) = absurd i
+
+-- facts by which all blocks but one are reached, and nothing is a constant
+abbrev pub others_reached : ℕ → Facts
+others_reached b = record { reaches = λ z. not (nat_eq b z); fact = λ v. NotAConstant }
+
+pub another : (b z : ℕ) → (b ≡ z → ⊥) → not (nat_eq b z) ≡ true
+another b z n = by (nat_eq b z) refl
+  where
+    by : (q : Bool) → nat_eq b z ≡ q → not (nat_eq b z) ≡ true
+    by true e = absurd (n (eqb-true b z e))
+    by false e = ap not e
+
+-- another entry than this block
+pub entry_apart : (t : Tree) (k b : ℕ) → (In b (entries_of t k) → ⊥) → (r z : ℕ) → In r (regions_of t k) → first_of (layout_of t r) None ≡ Some z → not (nat_eq b z) ≡ true
+entry_apart t k b none r z i e = another b z (λ same. none (In-flat_map (λ r. first_blocks (layout_of t r)) (regions_of t k) r b i (first_in (layout_of t r) b (e ∙ ap (λ q. Some q) (sym same)))))
+
+pub entry_held : (t : Tree) (w : IsTree t) (k b : ℕ) → In b (entries_of t k) → block_holder_of t b ≡ Some k
+entry_held t w k b i =
+    let r = flat_map-In (λ r. first_blocks (layout_of t r)) (regions_of t k) b i in
+    held_directly t w k r.0 b r.1 (first_of-In b (layout_of t r.0) (in_first (layout_of t r.0) b r.2))
+
+-- facts by which the same blocks are reached, nothing is known of one value, and all others are not constant: where
+-- that value is listed by a block that is not reached
+module _ (t : Tree) (w : IsTree t) (s u : Solver) (b v : ℕ) (listed : In v (values_of t b)) (none : reaches u b ≡ false) (unknown : fact_in s v ≡ Undetermined) (still : (z : ℕ) → reaches s z ≡ true → reaches u z ≡ true) where
+  abbrev pub all_but_one : Facts
+  all_but_one = record { reaches = λ z. reaches u z; fact = λ z. if nat_eq v z then Undetermined else NotAConstant }
+
+  pub varies_but : (z d : ℕ) → In z (values_of t d) → reaches u d ≡ true → all_but_one.fact z ≡ NotAConstant
+  varies_but z d i r = by (nat_eq v z) refl
+    where
+      by : (q : Bool) → nat_eq v z ≡ q → (if nat_eq v z then Undetermined else NotAConstant) ≡ NotAConstant
+      by true e =
+          let same : b ≡ d = values_apart t w b d v listed (subst (λ y. In y (values_of t d)) (sym (eqb-true v z e)) i) in
+          absurd (true≢false (sym r ∙ ap (reaches u) (sym same) ∙ none))
+      by false e = ap (λ q. if q then Undetermined else NotAConstant) e
+
+  pub argument_but : (z d : ℕ) → In z (arguments_of t d) → reaches u d ≡ true → all_but_one.fact z ≡ NotAConstant
+  argument_but z d i r = varies_but z d (In-left z (arguments_of t d) (flat_map (λ j. results_of t j) (body_of t d)) i) r
+
+  pub below_but : AreBelow all_but_one (facts_of s)
+  below_but = record { reaches = λ z r. still z r; fact = λ z. by z (nat_eq v z) refl }
+    where
+      by : (z : ℕ) (q : Bool) → nat_eq v z ≡ q → (fact_in s z ≡ Undetermined) ⊎ (all_but_one.fact z ≡ NotAConstant) ⊎ (all_but_one.fact z ≡ fact_in s z)
+      by z true e = inl (ap (fact_in s) (sym (eqb-true v z e)) ∙ unknown)
+      by z false e = inr (inl (ap (λ q. if q then Undetermined else NotAConstant) e))
+
+  pub unknown_but : AreBelow all_but_one (facts_of u) → fact_in u v ≡ Undetermined
+  unknown_but below = lowest (fact_in u v) (below.fact v)
+    where
+      own : all_but_one.fact v ≡ Undetermined
+      own = ap (λ q. if q then Undetermined else NotAConstant) (eq-eqb v v refl)
+
+      apart : Undetermined ≡ NotAConstant → ⊥
+      apart e = grind (arith, e)
+
+      lowest : (f : Fact) → (f ≡ Undetermined) ⊎ (all_but_one.fact v ≡ NotAConstant) ⊎ (all_but_one.fact v ≡ f) → f ≡ Undetermined
+      lowest f (inl e) = e
+      lowest f (inr (inl n)) = absurd (apart (sym own ∙ n))
+      lowest f (inr (inr e)) = sym e ∙ own
+
+pub not_yet : (s u : Solver) (b : ℕ) → ((z : ℕ) → reaches s z ≡ true → reaches u z ≡ true) → reaches u b ≡ false → reaches s b ≡ false
+not_yet s u b still none = by (reaches s b) refl
+  where
+    by : (q : Bool) → reaches s b ≡ q → reaches s b ≡ false
+    by true e = absurd (true≢false (sym (still b e) ∙ none))
+    by false e = e
+
+module _ (x : Says) (t : Tree) where
+  abbrev pub IsSettled : Solver → (ℕ → Type 0) → Type 0
+  IsSettled s todo = AreSettledBut x t (facts_of s) (λ b. waits_block s b ≡ true) (λ v. waits_value s v ≡ true) todo
+
+  -- it is met by the facts now, or an operand fell
+  met_or_waits : (s u : Solver) (k : ℕ) (o : Operation) → Falls s u → IsMet x t (facts_of s) (facts_of u) k o → IsMet x t (facts_of u) (facts_of u) k o ⊎ ((v : ℕ) × In v o.operands × (waits_value u v ≡ true))
+  met_or_waits s u k o f m = ⊎_elim (λ same. inl (met_same x t (facts_of s) (facts_of u) (facts_of u) k o same m)) (λ w. inr w) (same_or_waits s u f o.operands)
+
+  look_settles : (k : ℕ) (ks : List ℕ) (s u : Solver) → LooksAt x t k s u → IsSettled s (λ j. In j (k ∷ ks)) → IsSettled u (λ j. In j ks)
+  look_settles k ks s u l settled j b o p r at = ⊎_elim (λ old. before (settled j b o p old at)) (λ new. inl new) (f.entered b r)
+    where
+      f : Falls s u
+      f = l.applied.falls
+
+      after_it : IsMet x t (facts_of s) (facts_of u) j o → (waits_block u b ≡ true) ⊎ IsMet x t (facts_of u) (facts_of u) j o ⊎ ((v : ℕ) × In v o.operands × (waits_value u v ≡ true)) ⊎ In j ks
+      after_it m = ⊎_elim (λ y. inr (inl y)) (λ z. inr (inr (inl z))) (met_or_waits s u j o f m)
+
+      here : j ≡ k → IsMet x t (facts_of s) (facts_of u) j o
+      here e = subst (λ z. IsMet x t (facts_of s) (facts_of u) z o) (sym e) ((l.asks o (subst (λ z. op_at t z ≡ Some o) e at) (facts_of u)).0 l.applied.met)
+
+      before : (waits_block s b ≡ true) ⊎ IsMet x t (facts_of s) (facts_of s) j o ⊎ ((v : ℕ) × In v o.operands × (waits_value s v ≡ true)) ⊎ In j (k ∷ ks) → (waits_block u b ≡ true) ⊎ IsMet x t (facts_of u) (facts_of u) j o ⊎ ((v : ℕ) × In v o.operands × (waits_value u v ≡ true)) ⊎ In j ks
+      before (inl waits) = inl (f.blocks b waits)
+      before (inr (inl m)) = after_it (met_still x t (facts_of s) (facts_of s) (facts_of u) j o f.below m)
+      before (inr (inr (inl w))) = inr (inr (inl (w.0, w.1, f.values w.0 w.2)))
+      before (inr (inr (inr (inl e)))) = after_it (here e)
+      before (inr (inr (inr (inr i)))) = inr (inr (inr i))
+
+  pub through_settles : (ks : List ℕ) (s u : Solver) → LooksThrough x t ks s u → IsSettled s (λ j. In j ks) → IsSettled u (λ j. ⊥)
+  through_settles [] s u Nothing settled = settled
+  through_settles (k ∷ ks) s u (Then _ q l d) settled = through_settles ks q u d (look_settles k ks s q l settled)
+
+  pub through_falls : (ks : List ℕ) (s u : Solver) → LooksThrough x t ks s u → Falls s u
+  through_falls [] s u Nothing = falls_refl s
+  through_falls (k ∷ ks) s u (Then _ q l d) = falls_trans s q u l.applied.falls (through_falls ks q u d)
+
+  module _ (w : IsTree t) where
+    -- a block is taken: its operations are still to be looked at
+    pub block_settles : (c : ℕ) (s u : Solver) → TakesBlock c s u → IsSettled s (λ j. ⊥) → IsSettled u (λ j. In j (body_of t c))
+    block_settles c s u k settled j b o p r at = before (settled j b o p (sym (k.reached b) ∙ r) at)
+      where
+        taken : (q : Bool) → nat_eq c b ≡ q → waits_block s b ≡ true → (waits_block u b ≡ true) ⊎ IsMet x t (facts_of u) (facts_of u) j o ⊎ ((v : ℕ) × In v o.operands × (waits_value u v ≡ true)) ⊎ In j (body_of t c)
+        taken true e waits = inr (inr (inr (subst (λ z. In j (body_of t z)) (sym (eqb-true c b e)) (w.bodies.listed j b p))))
+        taken false e waits = inl (k.blocks b ∙ ap (λ z. if z then false else waits_block s b) e ∙ waits)
+
+        before : (waits_block s b ≡ true) ⊎ IsMet x t (facts_of s) (facts_of s) j o ⊎ ((v : ℕ) × In v o.operands × (waits_value s v ≡ true)) ⊎ ⊥ → (waits_block u b ≡ true) ⊎ IsMet x t (facts_of u) (facts_of u) j o ⊎ ((v : ℕ) × In v o.operands × (waits_value u v ≡ true)) ⊎ In j (body_of t c)
+        before (inl waits) = taken (nat_eq c b) refl waits
+        before (inr (inl m)) = inr (inl (met_there s u k.facts k.reached x t j o m))
+        before (inr (inr (inl y))) = inr (inr (inl (y.0, y.1, k.values y.0 ∙ y.2)))
+        before (inr (inr (inr z))) = absurd z
+
+    -- all values are taken: their users are still to be looked at
+    pub values_settle : (values users : List ℕ) (s u : Solver) → TakesValues values s u → AreUsersOf t values users u → IsSettled s (λ j. ⊥) → IsSettled u (λ j. In j users)
+    values_settle values users s u k a settled j b o p r at = before (settled j b o p (sym (k.reached b) ∙ r) at)
+      where
+        read : (q : Bool) → waits_block u b ≡ q → (v : ℕ) → In v o.operands → waits_value s v ≡ true → (waits_block u b ≡ true) ⊎ IsMet x t (facts_of u) (facts_of u) j o ⊎ ((v : ℕ) × In v o.operands × (waits_value u v ≡ true)) ⊎ In j users
+        read true e v i waits = inl e
+        read false e v i waits = inr (inr (inr (a.all j v (record { block = b; in_block = p; reached = r; taken = e }) ((k.waited v).0 waits) (subst (In v) (sym (op_shows t j o at).operands) i))))
+
+        before : (waits_block s b ≡ true) ⊎ IsMet x t (facts_of s) (facts_of s) j o ⊎ ((v : ℕ) × In v o.operands × (waits_value s v ≡ true)) ⊎ ⊥ → (waits_block u b ≡ true) ⊎ IsMet x t (facts_of u) (facts_of u) j o ⊎ ((v : ℕ) × In v o.operands × (waits_value u v ≡ true)) ⊎ In j users
+        before (inl waits) = inl (k.blocks b ∙ waits)
+        before (inr (inl m)) = inr (inl (met_there s u k.facts k.reached x t j o m))
+        before (inr (inr (inl y))) = read (waits_block u b) refl y.0 y.1 y.2
+        before (inr (inr (inr z))) = absurd z
+
+  -- a block that comes to be reached is an entry of the operation's regions or a successor of it
+  module _ (k : ℕ) (o : Operation) (at : op_at t k ≡ Some o) (s u : Solver) (l : LooksAt x t k s u) where
+    not_else : (b : ℕ) → reaches s b ≡ false → (In b (entries_of t k) → ⊥) → (In b (successors_of t k) → ⊥) → reaches u b ≡ true → ⊥
+    not_else b old no_entry no_successor new = true≢false (sym (least.reaches b new) ∙ ap not (eq-eqb b b refl))
+      where
+        g : Facts
+        g = others_reached b
+
+        below : AreBelow g (facts_of s)
+        below = record { reaches = λ z r. another b z (λ e. true≢false (sym r ∙ ap (reaches s) (sym e) ∙ old)); fact = λ v. inr (inl refl) }
+
+        successor : (i z : ℕ) → slice_get o.successors i ≡ Some z → not (nat_eq b z) ≡ true
+        successor i z e = another b z (λ same. no_successor (subst (λ q. In q (successors_of t k)) (sym same) (subst (In z) (sym (op_shows t k o at).successors) (in_slice o.successors i z e))))
+
+        met : IsMet x t (facts_of s) g k o
+        met = record {
+          entries = λ r z i e. (entry_apart t k b no_entry r z i e, λ v j. refl);
+          branches = λ i z branch go. (successor i z go.0, λ j v y listed forwards. inr (inl refl));
+          jumps = λ i z none e. (successor i z e, λ v j. refl);
+          folded = λ i v a folds listed said. inr (inl refl);
+          others = λ v none i. refl;
+        }
+
+        least : AreBelow g (facts_of u)
+        least = l.applied.least g below ((l.asks o at g).1 met)
+
+    pub came_from : (b : ℕ) → reaches u b ≡ true → (reaches s b ≡ true) ⊎ In b (entries_of t k) ⊎ In b (successors_of t k)
+    came_from b new = by (reaches s b) refl (decide_in b (entries_of t k)) (decide_in b (successors_of t k))
+      where
+        by : (q : Bool) → reaches s b ≡ q → In b (entries_of t k) ⊎ (In b (entries_of t k) → ⊥) → In b (successors_of t k) ⊎ (In b (successors_of t k) → ⊥) → (reaches s b ≡ true) ⊎ In b (entries_of t k) ⊎ In b (successors_of t k)
+        by true e p q = inl e
+        by false e (inl i) q = inr (inl i)
+        by false e (inr n) (inl i) = inr (inr i)
+        by false e (inr n) (inr m) = absurd (not_else b e n m new)
+
+-- an operation in a block that is reached is looked at
+module _ (x : Says) (t : Tree) (root : ℕ) (w : IsTree t) (edges : EdgesLast t root) where
+  module _ (k c : ℕ) (s u : Solver) (l : LooksAt x t k s u) (placed : parent_of t k ≡ Some c) (here : reaches s c ≡ true) (started : AreStarted t root (facts_of s)) where
+    operation : (o : Operation) × (op_at t k ≡ Some o)
+    operation = let h = some_of _ (w.joined.standing k c placed).0 in (_, make_op t k h.0 h.1)
+
+    within : IsInside t root k
+    within = inside_block c placed (started.inside c here)
+
+    -- what holds it is the operation, or what holds the operation's block
+    held_near : (b : ℕ) → reaches u b ≡ true → (reaches s b ≡ true) ⊎ (block_holder_of t b ≡ Some k) ⊎ (block_holder_of t b ≡ block_holder_of t c)
+    held_near b r = ⊎_elim (λ old. inl old) (λ y. ⊎_elim (λ i. inr (inl (entry_held t w k b i))) (λ i. inr (inr (successor i))) y) (came_from x t k operation.0 operation.1 s u l b r)
+      where
+        successor : In b (successors_of t k) → block_holder_of t b ≡ block_holder_of t c
+        successor i =
+            let e = edges k b i (inl within) in
+            ap (λ o. up_from o (λ r. region_parent_of t r)) (e.own_region b i ∙ ap (block_parent_of t) (some_is (sym e.in_block ∙ placed)))
+
+    still : (b : ℕ) → reaches s b ≡ true → reaches u b ≡ true
+    still b r = l.applied.falls.below.reaches b r
+
+    pub look_starts : AreStarted t root (facts_of u)
+    look_starts = record {
+      inside = λ b r. ⊎_elim
+          (λ old. started.inside b old)
+          (λ y. ⊎_elim (λ e. (k, e, inr within)) (λ e. let h = started.inside c here in (h.0, e ∙ h.1, h.2)) y)
+          (held_near b r);
+      outside = λ v n. varies_still (fact_in s v) (fact_in u v) (l.applied.falls.below.fact v) (started.outside v n);
+      entries = λ r b i e. entered_still x t (facts_of s) (facts_of u) b l.applied.falls.below (started.entries r b i e);
+    }
+
+    stands_still : (j : ℕ) → Stands t (facts_of s) j → Stands t (facts_of u) j
+    stands_still j y = (y.0, y.1, still y.0 y.2)
+
+    pub look_holds : AreHeld t root (facts_of s) → AreHeld t root (facts_of u)
+    look_holds held b j r e = ⊎_elim
+        (λ old. ⊎_elim (λ h. inl h) (λ y. inr (stands_still j y)) (held b j old e))
+        (λ y. ⊎_elim
+        (λ h. inr (subst (Stands t (facts_of u)) (some_is (sym h ∙ e)) (c, placed, still c here)))
+        (λ h. ⊎_elim (λ q. inl q) (λ z. inr (stands_still j z)) (held c j here (sym h ∙ e)))
+        y)
+        (held_near b r)
+
+    pub look_known : AreKnownThere t root s → AreKnownThere t root u
+    look_known known b v inside listed none = unknown_but t w s u b v listed none unknown still (l.applied.least g (below_but t w s u b v listed none unknown still) ((l.asks operation.0 operation.1 g).1 met))
+      where
+        unknown : fact_in s v ≡ Undetermined
+        unknown = known b v inside listed (not_yet s u b still none)
+
+        g : Facts
+        g = all_but_one t w s u b v listed none unknown still
+
+        argument : (z d : ℕ) → In z (arguments_of t d) → reaches u d ≡ true → g.fact z ≡ NotAConstant
+        argument z d i r = argument_but t w s u b v listed none unknown still z d i r
+
+        result : (z : ℕ) → In z (results_of t k) → g.fact z ≡ NotAConstant
+        result z i = varies_but t w s u b v listed none unknown still z c (In-right z (arguments_of t c) (flat_map (λ j. results_of t j) (body_of t c)) (In-flat_map (λ j. results_of t j) (body_of t c) k z (w.bodies.listed k c placed) i)) (still c here)
+
+        met : IsMet x t (facts_of s) g k operation.0
+        met =
+            let m = (l.asks operation.0 operation.1 (facts_of u)).0 l.applied.met in
+            let shows = op_shows t k operation.0 operation.1 in
+            let given : (z : ℕ) → In z operation.0.results → g.fact z ≡ NotAConstant = λ z i. result z (subst (In z) (sym shows.results) i) in
+            record {
+              entries = λ r z i e. let y = m.entries r z i e in (y.0, λ a j. argument a z j y.0);
+              branches = λ i z branch go. let y = m.branches i z branch go in (y.0, λ j a q at forwards. inr (inl (argument a z (in_slice (arguments_of t z) j a at) y.0)));
+              jumps = λ i z none e. let y = m.jumps i z none e in (y.0, λ a j. argument a z j y.0);
+              folded = λ i a q folds at said. inr (inl (given a (in_slice operation.0.results i a at)));
+              others = λ a none i. given a i;
+            }

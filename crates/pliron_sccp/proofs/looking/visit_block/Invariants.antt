@@ -1,0 +1,12 @@
+use Rattle.std.proofs.Common.{length}
+use Rattle.pliron_core.specs.Tree.{body_of}
+use Rattle.pliron_core.specs.WalkSteps.{rest_from}
+use Rattle.pliron_sccp.specs.Looking.{LooksThrough}
+use Rattle.pliron_sccp.proofs.Going.{IsWalk}
+use Rattle.pliron_sccp.proofs.looking.visit_block.Given as goal
+
+abbrev pub invariant-loop-at : goal.invariant-loop-at
+invariant-loop-at g l = IsWalk (LooksThrough (record { meaning = g.D.HasMeaning.meaning; can_fold = g.D.ConstFoldInterface.can_fold; can_fold_branch = g.D.BranchOpFoldInterface.can_fold_branch; constants = g.D.ConstFoldInterface.constants; feasible = g.D.BranchOpFoldInterface.feasible }) l.ctx.tree) (body_of l.ctx.tree l.fn.block) l.at l.initial.solver l.solver
+
+abbrev pub decreases-loop-at : goal.decreases-loop-at
+decreases-loop-at g l = length (rest_from l.at (body_of l.ctx.tree l.fn.block))

@@ -1,0 +1,43 @@
+use Rattle.std.proofs.Common.{◌+◌, ◌*◌, length, arith}
+use Rattle.pliron_theory.specs.Facts.{Says}
+use Rattle.pliron_sccp.specs.Chain.{blocks_inside}
+use Rattle.pliron_sccp.specs.Inside.{values_inside}
+use Rattle.pliron_sccp.proofs.DistinctLists.{inside_block}
+use Rattle.pliron_sccp.proofs.OnTheWay.{few_to_take, started_search, next_search, search_bound, end_search, fewer}
+use Rattle.pliron_sccp.proofs.searching.search.Goals as goal
+
+pub loop-solver-init : goal.loop-solver-init
+loop-solver-init g c =
+    let x : Says = record { meaning = g.D.HasMeaning.meaning; can_fold = g.D.ConstFoldInterface.can_fold; can_fold_branch = g.D.BranchOpFoldInterface.can_fold_branch; constants = g.D.ConstFoldInterface.constants; feasible = g.D.BranchOpFoldInterface.feasible } in
+    let d = g.met.D.Dialect in
+    started_search x c.args.ctx.now.tree c.args.root c.well_formed-2.ensures.tree c.requires.live c.requires.linked d.answers_true d.forwards_operands.places c.in_ok-solver.solver c.in_ok-solver.ensures.ok
+
+pub step-requires : goal.step-requires
+step-requires g c = λ b waits. inside_block c.args.ctx.now.tree c.well_formed-2.ensures.tree c.args.root b (c.loop-solver.invariant.way.waits.blocks b waits).0
+
+pub returns-then-taken-eq0-clause-ok : goal.returns-then-taken-eq0-clause-ok
+returns-then-taken-eq0-clause-ok g c =
+    let x : Says = record { meaning = g.D.HasMeaning.meaning; can_fold = g.D.ConstFoldInterface.can_fold; can_fold_branch = g.D.BranchOpFoldInterface.can_fold_branch; constants = g.D.ConstFoldInterface.constants; feasible = g.D.BranchOpFoldInterface.feasible } in
+    let d = g.met.D.Dialect in
+    end_search x c.args.ctx.now.tree c.args.root c.well_formed-2.ensures.tree c.requires.live c.requires.linked d.answers_true d.forwards_operands.places c.loop-solver.solver c.step.new.solver c.loop-solver.pops c.in_ok-taken.taken c.in_ok-taken.ensures.ok c.loop-solver.invariant c.if-taken-eq0.true
+
+pub overflow_add-pops : goal.overflow_add-pops
+overflow_add-pops g c =
+    let x : Says = record { meaning = g.D.HasMeaning.meaning; can_fold = g.D.ConstFoldInterface.can_fold; can_fold_branch = g.D.BranchOpFoldInterface.can_fold_branch; constants = g.D.ConstFoldInterface.constants; feasible = g.D.BranchOpFoldInterface.feasible } in
+    let d = g.met.D.Dialect in
+    let few = few_to_take x c.args.ctx.now.tree c.args.root c.well_formed-2.ensures.tree c.requires.live c.well_formed-2.ensures.keys in
+    let bound = search_bound x c.args.ctx.now.tree c.args.root c.well_formed-2.ensures.tree c.requires.live c.requires.linked d.answers_true d.forwards_operands.places c.loop-solver.solver c.step.new.solver c.loop-solver.pops c.in_ok-taken.taken c.in_ok-taken.ensures.ok c.loop-solver.invariant in
+    omega (arith, few, bound)
+
+pub loop-solver-smaller : goal.loop-solver-smaller
+loop-solver-smaller g c =
+    let x : Says = record { meaning = g.D.HasMeaning.meaning; can_fold = g.D.ConstFoldInterface.can_fold; can_fold_branch = g.D.BranchOpFoldInterface.can_fold_branch; constants = g.D.ConstFoldInterface.constants; feasible = g.D.BranchOpFoldInterface.feasible } in
+    let d = g.met.D.Dialect in
+    let bound = search_bound x c.args.ctx.now.tree c.args.root c.well_formed-2.ensures.tree c.requires.live c.requires.linked d.answers_true d.forwards_operands.places c.loop-solver.solver c.step.new.solver c.loop-solver.pops c.in_ok-taken.taken c.in_ok-taken.ensures.ok c.loop-solver.invariant in
+    fewer (length (blocks_inside c.args.ctx.now.tree c.args.root) + 2 * length (values_inside c.args.ctx.now.tree c.args.root)) c.loop-solver.pops c.in_ok-taken.taken bound c.if-taken-eq0.false
+
+pub loop-solver-preserved : goal.loop-solver-preserved
+loop-solver-preserved g c =
+    let x : Says = record { meaning = g.D.HasMeaning.meaning; can_fold = g.D.ConstFoldInterface.can_fold; can_fold_branch = g.D.BranchOpFoldInterface.can_fold_branch; constants = g.D.ConstFoldInterface.constants; feasible = g.D.BranchOpFoldInterface.feasible } in
+    let d = g.met.D.Dialect in
+    next_search x c.args.ctx.now.tree c.args.root c.well_formed-2.ensures.tree c.requires.live c.requires.linked d.answers_true d.forwards_operands.places c.loop-solver.solver c.step.new.solver c.loop-solver.pops c.in_ok-taken.taken c.in_ok-taken.ensures.ok c.loop-solver.invariant

@@ -1,0 +1,54 @@
+-- What facts say is to be rewritten, as it is listed.
+use Rattle.std.specs.Prelude.{◌≡◌, ℕ, Bool, false, List, [], ◌∷◌, ◌++◌, Option, Some, None, if◌then◌else◌, map, slice_get, IsTrue}
+use Rattle.pliron_core.specs.Tree.{Tree, head_of, parent_of, arguments_of}
+use Rattle.pliron_laws.specs.Datum.{Head}
+use Rattle.pliron_laws.specs.Tree.{Operation, op_at}
+use Rattle.pliron_theory.specs.Facts.{Facts, Says, Stands, handed}
+use Rattle.pliron_sccp.specs.declared.rewriting.ConstantArgument.{ConstantArgument}
+use Rattle.pliron_sccp.specs.declared.rewriting.Fold.{Fold}
+use Rattle.pliron_sccp.specs.Chain.{is_reached, has_head, both, folding, KnownArgument, known_in_block}
+use Rattle.pliron_sccp.specs.Steps.{IsKnown, StandForEach}
+
+-- the operation folds and stands in a block that is reached
+abbrev pub is_folding : (Head → Bool) → Tree → Facts → ℕ → Bool
+is_folding can_fold t f k = both (has_head can_fold (head_of t k)) (is_reached f (parent_of t k))
+
+-- a fold of an operation that stands in a block that is reached, with what is known of its operands
+abbrev pub IsFold : Says → Tree → Facts → Fold → Type 0
+IsFold x t f fold = (o : Operation) × (op_at t fold.op ≡ Some o) × Stands t f fold.op × IsTrue (x.can_fold o.head) × (fold.known.items ≡ handed f o.operands)
+
+-- the fold of this operation, if it folds there
+abbrev pub IsFoldOf : Says → Tree → Facts → ℕ → Option Fold → Type 0
+IsFoldOf x t f k None = is_folding x.can_fold t f k ≡ false
+IsFoldOf x t f k (Some fold) = IsTrue (is_folding x.can_fold t f k) × (fold.op ≡ k) × IsFold x t f fold
+
+-- each item of the list is so
+abbrev pub Each : {A : Type 0} → List A → (A → Type 0) → Type 0
+Each {A} xs P = (i : ℕ) (x : A) → slice_get xs i ≡ Some x → P x
+
+-- the operation stands in the list alone if it folds
+abbrev pub alone_if : Bool → ℕ → List ℕ
+alone_if b k = if b then k ∷ [] else []
+
+-- the fold of the operation is added, if it has one
+pub record AddsFold (x : Says) (t : Tree) (f : Facts) (k : ℕ) (old new : List Fold) : Type 0 where
+  pub operations : map (λ fold. fold.op) new ≡ map (λ fold. fold.op) old ++ alone_if (is_folding x.can_fold t f k) k
+  pub each : Each old (IsFold x t f) → Each new (IsFold x t f)
+
+-- these are the folds of the operations inside the root
+pub record AreFolds (x : Says) (t : Tree) (root : ℕ) (f : Facts) (folds : List Fold) : Type 0 where
+  pub operations : map (λ fold. fold.op) folds ≡ folding x.can_fold t root f
+  pub each : Each folds (IsFold x t f)
+
+-- these arguments stand for those that are known
+pub record AreArguments (t : Tree) (f : Facts) (arguments : List ConstantArgument) (known : List KnownArgument) : Type 0 where
+  pub stand : StandForEach t arguments known
+  pub each : Each arguments (IsKnown t f)
+
+-- the constant arguments of the block, if it is reached
+abbrev pub known_there : Tree → Facts → ℕ → List KnownArgument
+known_there t f block = if f.reaches block then known_in_block f block (arguments_of t block) else []
+
+-- these are added
+abbrev pub AddsKnown : Tree → Facts → ℕ → (old new : List ConstantArgument) → Type 0
+AddsKnown t f block old new = (known : List KnownArgument) → AreArguments t f old known → AreArguments t f new (known ++ known_there t f block)

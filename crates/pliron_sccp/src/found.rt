@@ -1,0 +1,148 @@
+//! What facts say is to be rewritten: the operations that fold and the constant arguments.
+ghost use Rattle.std.specs.Prelude.{◌≡◌, OnOk, IfOk, IfErr};
+ghost use Rattle.pliron_core.specs.Tree.{IsLive, IsBlock};
+ghost use Rattle.pliron_laws.specs.Linked.{IsWellLinked};
+ghost use Rattle.pliron_laws.specs.declared.fault.OptError.TheVariants.{Memory};
+ghost use Rattle.pliron_theory.specs.Facts.{Says};
+ghost use Rattle.pliron_sccp.specs.Tables.{facts_of};
+ghost use Rattle.pliron_sccp.specs.Listed.{IsFoldOf, AddsFold, AreFolds, AddsKnown, AreArguments};
+ghost use Rattle.pliron_sccp.specs.Chain.{known_arguments};
+ghost use Rattle.pliron_sccp.specs.Found.{HasFound};
+
+use crate::collecting::all_blocks;
+use crate::demands::{known, known_operands};
+use crate::rewriting::{ConstantArgument, Fold, Found};
+use crate::searching::search;
+use crate::tables::Solver;
+use pliron_core::{BasicBlock, Context, Operation, Ptr};
+use pliron_laws::{Dialect, OptError};
+use std::alloc::Global;
+
+/// The fold of the operation by what is known of its operands, if it folds and its block is reached.
+fn fold_of<D: Dialect>(
+    alloc: Global,
+    op: Ptr<Operation>,
+    ctx: &Context,
+    solver: &Solver,
+) -> Result<Option<Fold>, OptError>
+    requires { IsLive ctx.now.tree op }
+    ensures ok { IfOk result (λ fold. IsFoldOf (record { meaning = D.meaning; can_fold = D.can_fold; can_fold_branch = D.can_fold_branch; constants = D.constants; feasible = D.feasible }) ctx.now.tree (facts_of solver.now) op fold) }
+    ensures err { IfErr result (λ e. e ≡ Memory) }
+{
+    ctx.well_formed();
+    let Some(block) = op.get_parent_block(ctx) else {
+        return Ok(None);
+    };
+    if !solver.reaches(block) {
+        return Ok(None);
+    }
+    if !D::folds(op, ctx) {
+        return Ok(None);
+    }
+    let known = known_operands(alloc, op, ctx, solver)?;
+    Ok(Some(Fold { op, known }))
+}
+
+/// Adds the fold of the operation, if it has one.
+fn add_fold<D: Dialect>(
+    alloc: Global,
+    op: Ptr<Operation>,
+    ctx: &Context,
+    solver: &Solver,
+    folds: &mut Vec<Fold>,
+) -> Result<(), OptError>
+    requires { IsLive ctx.now.tree op }
+    ensures ok { OnOk result (AddsFold (record { meaning = D.meaning; can_fold = D.can_fold; can_fold_branch = D.can_fold_branch; constants = D.constants; feasible = D.feasible }) ctx.now.tree (facts_of solver.now) op folds.old.items folds.new.items) }
+    ensures err { IfErr result (λ e. e ≡ Memory) }
+{
+    match fold_of::<D>(alloc, op, ctx, solver)? {
+        Some(fold) => folds.push(fold)?,
+        None => {}
+    }
+    Ok(())
+}
+
+/// The folds of the operations inside the root, in pre-order.
+fn all_folds<D: Dialect>(
+    alloc: Global,
+    root: Ptr<Operation>,
+    ctx: &Context,
+    solver: &Solver,
+) -> Result<Vec<Fold>, OptError>
+    requires { IsLive ctx.now.tree root }
+    ensures ok { IfOk result (λ folds. AreFolds (record { meaning = D.meaning; can_fold = D.can_fold; can_fold_branch = D.can_fold_branch; constants = D.constants; feasible = D.feasible }) ctx.now.tree root (facts_of solver.now) folds.items) }
+    ensures err { IfErr result (λ e. e ≡ Memory) }
+{
+    ctx.well_formed();
+    let mut folds = Vec::new(alloc);
+    let mut at = root.next_in_preorder(root, ctx);
+    while let Some(op) = at {
+        add_fold::<D>(alloc, op, ctx, solver, &mut folds)?;
+        at = op.next_in_preorder(root, ctx);
+    }
+    Ok(folds)
+}
+
+/// Adds the constant arguments of a block that is reached, in the order of their indices.
+fn add_arguments(
+    alloc: Global,
+    block: Ptr<BasicBlock>,
+    ctx: &Context,
+    solver: &Solver,
+    arguments: &mut Vec<ConstantArgument>,
+) -> Result<(), OptError>
+    requires { IsBlock ctx.now.tree block }
+    ensures ok { OnOk result (AddsKnown ctx.now.tree (facts_of solver.now) block arguments.old.items arguments.new.items) }
+    ensures err { IfErr result (λ e. e ≡ Memory) }
+{
+    if !solver.reaches(block) {
+        return Ok(());
+    }
+    for index in 0..block.num_argument(ctx) {
+        match known(alloc, block.get_argument(ctx, index), solver)? {
+            Some(attr) => arguments.push(ConstantArgument { block, index, attr })?,
+            None => {}
+        }
+    }
+    Ok(())
+}
+
+/// The constant arguments of the blocks inside the root that are reached, in pre-order.
+fn all_arguments(
+    alloc: Global,
+    root: Ptr<Operation>,
+    ctx: &Context,
+    solver: &Solver,
+) -> Result<Vec<ConstantArgument>, OptError>
+    requires { IsLive ctx.now.tree root }
+    ensures ok { IfOk result (λ arguments. AreArguments ctx.now.tree (facts_of solver.now) arguments.items (known_arguments ctx.now.tree root (facts_of solver.now))) }
+    ensures err { IfErr result (λ e. e ≡ Memory) }
+{
+    ctx.well_formed();
+    let blocks = all_blocks(alloc, root, ctx)?;
+    let mut arguments = Vec::new(alloc);
+    for i in 0..blocks.len() {
+        add_arguments(alloc, blocks[i], ctx, solver, &mut arguments)?;
+    }
+    Ok(arguments)
+}
+
+/// Finds facts about what is inside the root, and what they say is to be rewritten. Answers also how
+/// often the search took something from a worklist.
+///
+/// Errors: want of memory.
+pub(crate) fn find<D: Dialect>(
+    alloc: Global,
+    root: Ptr<Operation>,
+    ctx: &Context,
+) -> Result<(Found, u128), OptError>
+    requires live { IsLive ctx.now.tree root }
+    requires linked { IsWellLinked D.meaning ctx.now.tree root }
+    ensures ok { IfOk result (λ r. HasFound (record { meaning = D.meaning; can_fold = D.can_fold; can_fold_branch = D.can_fold_branch; constants = D.constants; feasible = D.feasible }) D.can_fold ctx.now.tree root r.0 r.1) }
+    ensures err { IfErr result (λ e. e ≡ Memory) }
+{
+    let searched = search::<D>(alloc, root, ctx)?;
+    let folds = all_folds::<D>(alloc, root, ctx, &searched.solver)?;
+    let arguments = all_arguments(alloc, root, ctx, &searched.solver)?;
+    Ok((Found { folds, arguments }, searched.pops))
+}

@@ -1,0 +1,11 @@
+//! Tests of constant propagation on texts. It has no function of its own.
+#![tactic(auto)]
+
+#[cfg(test)]
+mod cases;
+#[cfg(test)]
+mod runs;
+#[cfg(test)]
+mod texts;
+#[cfg(test)]
+mod tiny;

@@ -1,0 +1,248 @@
+//! Texts, what `sccp` makes of them, and what it answers and counts.
+ghost use Rattle.pliron_bench.specs.BenchMoves.{bench};
+ghost use Rattle.pliron_core.specs.Tree.{IsLive};
+ghost use Rattle.pliron_laws.specs.Linked.{IsWellLinked};
+
+use super::cases::{HOSTILE, MADE, ROWS};
+use pliron_bench::Bench;
+use pliron_core::{Context, IRStatus, Operation, Ptr};
+use pliron_notation::{print_text, read_text};
+use pliron_sccp::{sccp, sccp_counted};
+use std::alloc::Global;
+use std::process::Abort;
+use std::test::Fail;
+
+// The word before the first blank, as a number, and what stands behind it.
+fn number_before(text: &str) -> Result<(u128, &str), Fail> {
+    let Some((word, rest)) = text.split_once(" ") else {
+        return Err(Fail::from("no number"));
+    };
+    match word.parse::<u64>() {
+        Ok(number) => Ok((number as u128, rest)),
+        Err(_) => Err(Fail::from("no number")),
+    }
+}
+
+// What the case says of its text.
+#[derive(Drop)]
+struct Case<'a> {
+    status: IRStatus,
+    blocks: u128,
+    constants: u128,
+    others: u128,
+    text: &'a str,
+    after: &'a str,
+}
+
+fn status_of(answer: &str) -> IRStatus {
+    if answer == "C" {
+        IRStatus::Changed
+    } else {
+        IRStatus::Unchanged
+    }
+}
+
+fn read_case(line: &str) -> Result<Case<'_>, Fail> {
+    let Some((before, after)) = line.split_once(" => ") else {
+        return Err(Fail::from("no arrow"));
+    };
+    let Some((answer, rest)) = before.split_once(" ") else {
+        return Err(Fail::from("no answer"));
+    };
+    let status = status_of(answer);
+    let (blocks, rest) = number_before(rest)?;
+    let (constants, rest) = number_before(rest)?;
+    let (others, text) = number_before(rest)?;
+    Ok(Case {
+        status,
+        blocks,
+        constants,
+        others,
+        text,
+        after,
+    })
+}
+
+fn check_in(rt: &impl Abort, alloc: Global, ctx: &mut Context, case: &Case) -> Result<(), Fail> {
+    let text = case.text;
+    let Some(root) = read_text(alloc, text.as_bytes(), ctx)? else {
+        return Err(Fail::from("unreadable"));
+    };
+    let (status, pops) = sccp_counted::<Bench>(alloc, root, ctx)?;
+    let printed = print_text(alloc, root, ctx)?;
+    assert_eq!(rt; printed.as_str(), case.after, "{text}");
+    assert!(rt; status == case.status, "{text}");
+    let least = case
+        .blocks
+        .saturating_add(case.constants)
+        .saturating_add(case.others);
+    assert!(rt; least <= pops, "{text}");
+    assert!(rt; pops <= least.saturating_add(case.others), "{text}");
+    Ok(())
+}
+
+fn check(rt: &impl Abort, alloc: Global, case: &Case) -> Result<(), Fail> {
+    let mut ctx = Context::new(alloc);
+    check_in(rt, alloc, &mut ctx, case)
+}
+
+#[test]
+fn rows(rt: HostRuntime) -> Result<(), Fail> {
+    for line in ROWS.lines() {
+        check(&rt, rt.alloc(), &read_case(line)?)?;
+    }
+    Ok(())
+}
+
+#[test]
+fn made_texts(rt: HostRuntime) -> Result<(), Fail> {
+    for line in MADE.lines() {
+        check(&rt, rt.alloc(), &read_case(line)?)?;
+    }
+    Ok(())
+}
+
+// What is printed of the whole after `sccp` on the root answered this.
+fn left_of(
+    rt: &impl Abort,
+    alloc: Global,
+    ctx: &mut Context,
+    whole: Ptr<Operation>,
+    root: Ptr<Operation>,
+    status: IRStatus,
+) -> Result<String, Fail>
+    requires live { IsLive ctx.old.tree root }
+    requires linked { IsWellLinked bench ctx.old.tree root }
+{
+    let answer = sccp::<Bench>(alloc, root, ctx)?;
+    assert!(rt; answer == status);
+    if !whole.is_live(ctx) {
+        return Err(Fail::from("gone"));
+    }
+    Ok(print_text(alloc, whole, ctx)?)
+}
+
+fn hostile_in(rt: &impl Abort, alloc: Global, ctx: &mut Context, line: &str) -> Result<(), Fail> {
+    let Some((before, after)) = line.split_once(" => ") else {
+        return Err(Fail::from("no arrow"));
+    };
+    let Some((answer, text)) = before.split_once(" ") else {
+        return Err(Fail::from("no answer"));
+    };
+    let Some(root) = read_text(alloc, text.as_bytes(), ctx)? else {
+        return Err(Fail::from("unreadable"));
+    };
+    let printed = left_of(rt, alloc, ctx, root, root, status_of(answer))?;
+    assert_eq!(rt; printed.as_str(), after, "{text}");
+    Ok(())
+}
+
+fn hostile(rt: &impl Abort, alloc: Global, line: &str) -> Result<(), Fail> {
+    let mut ctx = Context::new(alloc);
+    hostile_in(rt, alloc, &mut ctx, line)
+}
+
+// Roots whose runs are not defined.
+#[test]
+fn hostile_texts(rt: HostRuntime) -> Result<(), Fail> {
+    for line in HOSTILE.lines() {
+        hostile(&rt, rt.alloc(), line)?;
+    }
+    Ok(())
+}
+
+fn counted_in(
+    rt: &impl Abort,
+    alloc: Global,
+    ctx: &mut Context,
+    text: &str,
+    status: IRStatus,
+    count: u128,
+) -> Result<(), Fail> {
+    let Some(root) = read_text(alloc, text.as_bytes(), ctx)? else {
+        return Err(Fail::from("unreadable"));
+    };
+    let (answer, pops) = sccp_counted::<Bench>(alloc, root, ctx)?;
+    assert!(rt; answer == status);
+    assert_eq!(rt; pops, count);
+    Ok(())
+}
+
+fn counted(
+    rt: &impl Abort,
+    alloc: Global,
+    text: &str,
+    status: IRStatus,
+    count: u128,
+) -> Result<(), Fail> {
+    let mut ctx = Context::new(alloc);
+    counted_in(rt, alloc, &mut ctx, text, status, count)
+}
+
+// A block alone; a block and three constants; a block and two values that are no constants.
+#[test]
+fn counts(rt: HostRuntime) -> Result<(), Fail> {
+    let alloc = rt.alloc();
+    counted(&rt, alloc, "func { b0(): ret }", IRStatus::Unchanged, 1)?;
+    let sums = "func { b0(): a = const 5; b = add a a; c = add b a; ret c b }";
+    counted(&rt, alloc, sums, IRStatus::Changed, 4)?;
+    let answer = "func { b0(x): r = read; ret r }";
+    counted(&rt, alloc, answer, IRStatus::Unchanged, 3)
+}
+
+// The second operation of the first block of the operation.
+fn second_inside(ctx: &Context, whole: Ptr<Operation>) -> Option<Ptr<Operation>>
+    requires { IsLive ctx.now.tree whole }
+{
+    if whole.num_region(ctx) == 0 {
+        return None;
+    }
+    whole
+        .get_region(ctx, 0)
+        .get_head(ctx)?
+        .get_head(ctx)?
+        .get_next(ctx)
+}
+
+fn left_around(
+    rt: &impl Abort,
+    alloc: Global,
+    ctx: &mut Context,
+    whole: Ptr<Operation>,
+    root: Ptr<Operation>,
+) -> Result<String, Fail>
+    requires { IsWellLinked bench ctx.old.tree whole }
+{
+    if !root.is_live(ctx) {
+        return Err(Fail::from("no operation"));
+    }
+    if !root.is_inside(whole, ctx) {
+        return Err(Fail::from("not inside"));
+    }
+    left_of(rt, alloc, ctx, whole, root, IRStatus::Changed)
+}
+
+// Nothing is known of values from outside the root, and only what is inside it is rewritten.
+fn nested_root(rt: &impl Abort, alloc: Global, ctx: &mut Context) -> Result<(), Fail> {
+    let text =
+        "func { b0(): k = const 4; scope k { b0(x): a = const 1; b = add a a; c = add k b; d = add x b; print b }; e = add k k; ret e }";
+    let Some(whole) = read_text(alloc, text.as_bytes(), ctx)? else {
+        return Err(Fail::from("unreadable"));
+    };
+    let Some(root) = second_inside(ctx, whole) else {
+        return Err(Fail::from("no second operation"));
+    };
+    let printed = left_around(rt, alloc, ctx, whole, root)?;
+    assert_eq!(rt;
+        printed.as_str(),
+        "func { b0(): v0 = const 4; scope v0 { b0(v1): v2 = const 1; v3 = const 2; v4 = add v2 v2; v5 = add v0 v3; v6 = add v1 v3; print v3 }; v7 = add v0 v0; ret v7 }"
+    );
+    Ok(())
+}
+
+#[test]
+fn a_nested_root(rt: HostRuntime) -> Result<(), Fail> {
+    let alloc = rt.alloc();
+    let mut ctx = Context::new(alloc);
+    nested_root(&rt, alloc, &mut ctx)
+}

@@ -1,0 +1,180 @@
+//! The tiny dialect: a constant that a branch forwards to an argument, which a question reads.
+ghost use Rattle.std.specs.Prelude.{◌≡◌, ℕ, IsTrue};
+ghost use Rattle.pliron_core.specs.Tree.{IsLive, IsWithin};
+ghost use Rattle.pliron_evaluator.specs.Tiny.{tiny, admits_of};
+ghost use Rattle.pliron_laws.specs.Linked.{IsAdmitted};
+
+use pliron_core::{
+    AttrObj, Attrs, BasicBlock, Context, Head, IRRewriter, IRStatus, Operation, Ptr, Rewriter,
+};
+use pliron_evaluator::{Tiny, TinyKind};
+use pliron_laws::edges_last;
+use pliron_sccp::sccp_counted;
+use std::alloc::Global;
+use std::process::Abort;
+use std::test::Fail;
+
+// Whether an operation of this kind may have so many operands, results, successors and regions.
+fn admits(
+    kind: Option<TinyKind>,
+    operands: usize,
+    results: usize,
+    successors: usize,
+    regions: usize,
+) -> bool
+    ensures { result ≡ admits_of kind operands results successors regions }
+{
+    match kind {
+        Some(TinyKind::Const) => operands == 0 && results == 1 && successors == 0 && regions == 0,
+        Some(TinyKind::Ask) => operands == 1 && results == 1 && successors == 0 && regions == 0,
+        Some(TinyKind::Scope) => results == 0 && successors == 0 && regions == 1,
+        Some(TinyKind::Br) => results == 0 && successors == 1 && regions == 0,
+        None => false,
+    }
+}
+
+// Whether the dialect admits the operation.
+fn is_admitted(op: Ptr<Operation>, ctx: &Context) -> bool
+    requires { IsLive ctx.now.tree op }
+    ensures { IsTrue result → IsAdmitted tiny ctx.now.tree op }
+{
+    let kind = TinyKind::of(op.head(ctx).kind);
+    let operands = op.num_operand(ctx);
+    let results = op.num_result(ctx);
+    let successors = op.num_successor(ctx);
+    let regions = op.num_region(ctx);
+    admits(kind, operands, results, successors, regions)
+}
+
+// Whether the dialect admits the root and all operations inside it.
+fn are_admitted(root: Ptr<Operation>, ctx: &Context) -> bool
+    requires { IsLive ctx.now.tree root }
+    ensures { IsTrue result → (k : ℕ) → IsWithin ctx.now.tree root k → IsAdmitted tiny ctx.now.tree k }
+{
+    ctx.well_formed();
+    let mut at = Some(root);
+    while let Some(op) = at {
+        if !is_admitted(op, ctx) {
+            return false;
+        }
+        at = op.next_in_preorder(root, ctx);
+    }
+    true
+}
+
+// A new operation of this kind, with the number for its attribute.
+fn made(
+    rt: &impl Abort,
+    alloc: Global,
+    ctx: &mut Context,
+    kind: TinyKind,
+    results: usize,
+    regions: usize,
+) -> Ptr<Operation> {
+    let attrs = Vec::from_array(alloc, [AttrObj::Int(7)]).expect(rt, "memory");
+    let head = Head {
+        kind: kind.number(),
+        ssa: true,
+        attrs: Attrs::new(attrs),
+    };
+    Operation::create(ctx, head, results, regions).expect(rt, "memory")
+}
+
+// A new last block of the operation's region.
+fn block(
+    rt: &impl Abort,
+    ctx: &mut Context,
+    op: Ptr<Operation>,
+    arguments: usize,
+) -> Ptr<BasicBlock> {
+    assert!(rt; op.is_live(ctx));
+    assert_eq!(rt; op.num_region(ctx), 1);
+    BasicBlock::create(ctx, op.get_region(ctx, 0), arguments).expect(rt, "memory")
+}
+
+// The operation becomes the last of the block.
+fn put(rt: &impl Abort, ctx: &mut Context, op: Ptr<Operation>, block: Ptr<BasicBlock>) {
+    assert!(rt; block.is_live(ctx));
+    assert!(rt; op.is_live(ctx));
+    assert!(rt; !op.holds_block(block, ctx));
+    IRRewriter::new().move_operation_to_end(ctx, op, block);
+}
+
+// The operation with one operand, which is the first result of the other or the first argument of the block.
+fn reads_result(rt: &impl Abort, ctx: &mut Context, op: Ptr<Operation>, maker: Ptr<Operation>) {
+    assert!(rt; maker.is_live(ctx));
+    assert_eq!(rt; maker.num_result(ctx), 1);
+    let value = maker.get_result(ctx, 0);
+    assert!(rt; op.is_live(ctx));
+    assert!(rt; value.is_live(ctx));
+    Operation::push_operand(ctx, op, value).expect(rt, "memory");
+}
+
+fn reads_argument(rt: &impl Abort, ctx: &mut Context, op: Ptr<Operation>, block: Ptr<BasicBlock>) {
+    assert!(rt; block.is_live(ctx));
+    assert_eq!(rt; block.num_argument(ctx), 1);
+    let value = block.get_argument(ctx, 0);
+    assert!(rt; op.is_live(ctx));
+    assert!(rt; value.is_live(ctx));
+    Operation::push_operand(ctx, op, value).expect(rt, "memory");
+}
+
+fn leads_to(rt: &impl Abort, ctx: &mut Context, op: Ptr<Operation>, block: Ptr<BasicBlock>) {
+    assert!(rt; op.is_live(ctx));
+    assert!(rt; block.is_live(ctx));
+    Operation::push_successor(ctx, op, block).expect(rt, "memory");
+}
+
+// The root, the second block and the question there.
+fn tree(
+    rt: &impl Abort,
+    alloc: Global,
+    ctx: &mut Context,
+) -> (Ptr<Operation>, Ptr<BasicBlock>, Ptr<Operation>) {
+    let root = made(rt, alloc, ctx, TinyKind::Scope, 0, 1);
+    let first = block(rt, ctx, root, 0);
+    let second = block(rt, ctx, root, 1);
+    let constant = made(rt, alloc, ctx, TinyKind::Const, 1, 0);
+    let branch = made(rt, alloc, ctx, TinyKind::Br, 0, 0);
+    let question = made(rt, alloc, ctx, TinyKind::Ask, 1, 0);
+    put(rt, ctx, constant, first);
+    put(rt, ctx, branch, first);
+    put(rt, ctx, question, second);
+    reads_result(rt, ctx, branch, constant);
+    leads_to(rt, ctx, branch, second);
+    reads_argument(rt, ctx, question, second);
+    (root, second, question)
+}
+
+fn propagates_in(rt: &impl Abort, alloc: Global, ctx: &mut Context) -> Result<(), Fail> {
+    let (root, second, question) = tree(rt, alloc, ctx);
+    if !root.is_live(ctx) {
+        return Err(Fail::from("no root"));
+    }
+    if !edges_last(root, ctx) {
+        return Err(Fail::from("edges stand elsewhere"));
+    }
+    if !are_admitted(root, ctx) {
+        return Err(Fail::from("not admitted"));
+    }
+    let (status, pops) = sccp_counted::<Tiny>(alloc, root, ctx)?;
+    assert_eq!(rt; status, IRStatus::Changed);
+    // two blocks, two constants, an answer
+    assert!(rt; 5 <= pops && pops <= 6);
+    assert!(rt; second.is_live(ctx));
+    assert!(rt; question.is_live(ctx));
+    let Some(constant) = second.get_head(ctx) else {
+        return Err(Fail::from("no operation"));
+    };
+    assert!(rt; constant.head(ctx).kind == TinyKind::Const.number());
+    assert!(rt; constant.num_result(ctx) == 1 && question.num_operand(ctx) == 1);
+    assert!(rt; question.get_operand(ctx, 0) == constant.get_result(ctx, 0));
+    Ok(())
+}
+
+#[test]
+fn the_tiny_dialect(rt: HostRuntime) -> Result<(), Fail> {
+    let alloc = rt.alloc();
+    let mut ctx = Context::new(alloc);
+    propagates_in(&rt, alloc, &mut ctx)
+}
