@@ -9,6 +9,7 @@ pub mod Tables
 pub mod Demands
 pub mod Falling
 pub mod Inside
+pub mod Searched
 pub mod Looking
 pub mod Starting
 pub mod Searching
