@@ -14,6 +14,8 @@ mod facts;
 #[cfg(test)]
 mod faults;
 #[cfg(test)]
+mod guards;
+#[cfg(test)]
 mod lines;
 #[cfg(test)]
 mod passes;
