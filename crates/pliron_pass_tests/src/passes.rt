@@ -10,7 +10,7 @@ use pliron_pass::{AnalysisManager, OptError, Pass, PassResult};
 use std::alloc::Global;
 
 /// Does nothing.
-#[derive(Drop)]
+#[derive(Default, Drop)]
 pub struct Idle;
 
 impl Pass for Idle {
