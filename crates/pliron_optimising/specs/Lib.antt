@@ -1,4 +1,5 @@
 pub mod Headline
 pub mod Optimising
 pub mod Constants
+pub mod ControlFlow
 pub mod DeadCode

@@ -4,11 +4,15 @@
 #![tactic(auto)]
 
 mod constants;
+mod control_flow;
 mod dead_code;
 mod headline;
 mod optimisation;
+mod step;
 
 pub use constants::{Constants, SCCPPass};
+pub use control_flow::{ControlFlow, SimplifyCFGPass};
 pub use dead_code::{DCEPass, DeadCode};
 pub use headline::run_pipeline;
 pub use optimisation::{Effect, Optimisation, OptimisingPass};
+pub use step::{Pipeline, Step};

@@ -1,0 +1,119 @@
+//! One of the passes here, and lists of them.
+ghost use Rattle.std.specs.Prelude.{◌≡◌, ℕ, Bool, true, false};
+ghost use Rattle.pliron_optimising.specs.Constants.{sccp_name};
+ghost use Rattle.pliron_optimising.specs.ControlFlow.{simplify_cfg_name};
+ghost use Rattle.pliron_optimising.specs.DeadCode.{dce_name};
+ghost use Rattle.pliron_pass.specs.Combined.{nested_name, passes_name};
+ghost use Rattle.pliron_optimising.specs.declared.step.Step.TheVariants.{Sccp as ASccp, Dce as ADce, SimplifyCfg as ASimplifyCfg};
+ghost use Rattle.pliron_optimising.specs.declared.step.Pipeline.TheVariants.{Flat as AFlat, Nested as ANested};
+
+use crate::constants::SCCPPass;
+use crate::control_flow::SimplifyCFGPass;
+use crate::dead_code::DCEPass;
+use pliron_core::{Context, Operation, Ptr};
+use pliron_laws::{Dialect, OptError};
+use pliron_pass::{
+    AnalysisKind, AnalysisManager, Analyses, NestedOpsPass, Pass, PassResult, Passes,
+};
+use std::alloc::Global;
+
+/// One of the three passes, for a list of different ones.
+#[derive(Drop)]
+pub enum Step<D: Dialect, E: Analyses + Drop> {
+    Sccp(SCCPPass<D, E>),
+    Dce(DCEPass<D, E>),
+    SimplifyCfg(SimplifyCFGPass<D, E>),
+}
+
+impl<D: Dialect, E: Analyses + Drop> Step<D, E> {
+    /// The pass of this name: `sccp`, `dce` or `simplify-cfg`.
+    pub fn from_name(name: &str) -> Option<Self> {
+        match name {
+            "sccp" => Some(Step::Sccp(SCCPPass::new())),
+            "dce" => Some(Step::Dce(DCEPass::new())),
+            "simplify-cfg" => Some(Step::SimplifyCfg(SimplifyCFGPass::new())),
+            _ => None,
+        }
+    }
+}
+
+impl<D: Dialect, E: Analyses + Drop> Pass for Step<D, E> {
+    type D = D;
+
+    type E = E;
+
+    ghost is_pass_manager = { λ p. false };
+
+    ghost name = { elim [ ASccp p ↦ sccp_name | ADce p ↦ dce_name | ASimplifyCfg p ↦ simplify_cfg_name ] };
+
+    ghost outcome = { elim [ ASccp p ↦ elim [ ASccp q ↦ ⟦<SCCPPass<D, E> as Pass>⟧.outcome p q | ADce q ↦ λ op s s' r. ⊥ | ASimplifyCfg q ↦ λ op s s' r. ⊥ ] | ADce p ↦ elim [ ASccp q ↦ λ op s s' r. ⊥ | ADce q ↦ ⟦<DCEPass<D, E> as Pass>⟧.outcome p q | ASimplifyCfg q ↦ λ op s s' r. ⊥ ] | ASimplifyCfg p ↦ elim [ ASccp q ↦ λ op s s' r. ⊥ | ADce q ↦ λ op s s' r. ⊥ | ASimplifyCfg q ↦ ⟦<SimplifyCFGPass<D, E> as Pass>⟧.outcome p q ] ] };
+
+    fn name(&self) -> &str {
+        match self {
+            Step::Sccp(pass) => pass.name(),
+            Step::Dce(pass) => pass.name(),
+            Step::SimplifyCfg(pass) => pass.name(),
+        }
+    }
+
+    fn run(
+        &mut self,
+        alloc: Global,
+        op: Ptr<Operation>,
+        ctx: &mut Context,
+        analyses: &mut AnalysisManager<E>,
+    ) -> Result<PassResult<<E as AnalysisKind>::Kind>, OptError> {
+        match self {
+            Step::Sccp(pass) => pass.run(alloc, op, ctx, analyses),
+            Step::Dce(pass) => pass.run(alloc, op, ctx, analyses),
+            Step::SimplifyCfg(pass) => pass.run(alloc, op, ctx, analyses),
+        }
+    }
+
+    fn is_pass_manager(&self) -> bool {
+        false
+    }
+}
+
+/// A list of passes that is run on an operation itself, or on each operation directly inside it.
+#[derive(Drop)]
+pub enum Pipeline<D: Dialect, E: Analyses + Drop> {
+    Flat(Passes<Step<D, E>>),
+    Nested(NestedOpsPass<Passes<Step<D, E>>>),
+}
+
+impl<D: Dialect, E: Analyses + Drop> Pass for Pipeline<D, E> {
+    type D = D;
+
+    type E = E;
+
+    ghost is_pass_manager = { λ p. true };
+
+    ghost name = { elim [ AFlat p ↦ passes_name | ANested p ↦ nested_name ] };
+
+    ghost outcome = { elim [ AFlat p ↦ elim [ AFlat q ↦ ⟦<Passes<Step<D, E>> as Pass>⟧.outcome p q | ANested q ↦ λ op s s' r. ⊥ ] | ANested p ↦ elim [ AFlat q ↦ λ op s s' r. ⊥ | ANested q ↦ ⟦<NestedOpsPass<Passes<Step<D, E>>> as Pass>⟧.outcome p q ] ] };
+
+    fn name(&self) -> &str {
+        match self {
+            Pipeline::Flat(passes) => passes.name(),
+            Pipeline::Nested(passes) => passes.name(),
+        }
+    }
+
+    fn run(
+        &mut self,
+        alloc: Global,
+        op: Ptr<Operation>,
+        ctx: &mut Context,
+        analyses: &mut AnalysisManager<E>,
+    ) -> Result<PassResult<<E as AnalysisKind>::Kind>, OptError> {
+        match self {
+            Pipeline::Flat(passes) => passes.run(alloc, op, ctx, analyses),
+            Pipeline::Nested(passes) => passes.run(alloc, op, ctx, analyses),
+        }
+    }
+
+    fn is_pass_manager(&self) -> bool {
+        true
+    }
+}
