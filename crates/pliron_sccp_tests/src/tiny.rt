@@ -1,7 +1,7 @@
 //! The tiny dialect: a constant that a branch forwards to an argument, which a question reads.
-ghost use Rattle.std.specs.Prelude.{ℕ, IsTrue};
+ghost use Rattle.std.specs.Prelude.{◌≡◌, ℕ, IsTrue};
 ghost use Rattle.pliron_core.specs.Tree.{IsLive, IsWithin};
-ghost use Rattle.pliron_evaluator.specs.Tiny.{tiny};
+ghost use Rattle.pliron_evaluator.specs.Tiny.{tiny, admits_of};
 ghost use Rattle.pliron_laws.specs.Linked.{IsAdmitted};
 
 use pliron_core::{
@@ -14,20 +14,36 @@ use std::alloc::Global;
 use std::process::Abort;
 use std::test::Fail;
 
-// Whether the operation has so many operands, results, successors and regions as its kind asks.
-fn is_admitted(op: Ptr<Operation>, ctx: &Context) -> bool
-    requires { IsLive ctx.now.tree op }
-    ensures { IsTrue result → IsAdmitted tiny ctx.now.tree op }
+// Whether an operation of this kind may have so many operands, results, successors and regions.
+fn admits(
+    kind: Option<TinyKind>,
+    operands: usize,
+    results: usize,
+    successors: usize,
+    regions: usize,
+) -> bool
+    ensures { result ≡ admits_of kind operands results successors regions }
 {
-    let (operands, results) = (op.num_operand(ctx), op.num_result(ctx));
-    let (successors, regions) = (op.num_successor(ctx), op.num_region(ctx));
-    match TinyKind::of(op.head(ctx).kind) {
+    match kind {
         Some(TinyKind::Const) => operands == 0 && results == 1 && successors == 0 && regions == 0,
         Some(TinyKind::Ask) => operands == 1 && results == 1 && successors == 0 && regions == 0,
         Some(TinyKind::Scope) => results == 0 && successors == 0 && regions == 1,
         Some(TinyKind::Br) => results == 0 && successors == 1 && regions == 0,
         None => false,
     }
+}
+
+// Whether the dialect admits the operation.
+fn is_admitted(op: Ptr<Operation>, ctx: &Context) -> bool
+    requires { IsLive ctx.now.tree op }
+    ensures { IsTrue result → IsAdmitted tiny ctx.now.tree op }
+{
+    let kind = TinyKind::of(op.head(ctx).kind);
+    let operands = op.num_operand(ctx);
+    let results = op.num_result(ctx);
+    let successors = op.num_successor(ctx);
+    let regions = op.num_region(ctx);
+    admits(kind, operands, results, successors, regions)
 }
 
 // Whether the dialect admits the root and all operations inside it.
@@ -132,9 +148,15 @@ fn tree(
 
 fn propagates_in(rt: &impl Abort, alloc: Global, ctx: &mut Context) -> Result<(), Fail> {
     let (root, second, question) = tree(rt, alloc, ctx);
-    assert!(rt; root.is_live(ctx));
-    assert!(rt; edges_last(root, ctx));
-    assert!(rt; are_admitted(root, ctx));
+    if !root.is_live(ctx) {
+        return Err(Fail::from("no root"));
+    }
+    if !edges_last(root, ctx) {
+        return Err(Fail::from("edges stand elsewhere"));
+    }
+    if !are_admitted(root, ctx) {
+        return Err(Fail::from("not admitted"));
+    }
     let (status, pops) = sccp_counted::<Tiny>(alloc, root, ctx)?;
     assert_eq!(rt; status, IRStatus::Changed);
     // two blocks, two constants, an answer
