@@ -29,7 +29,6 @@ use Rattle.pliron_sccp.specs.Searching.{Steps, IsOnTheWay}
 use Rattle.pliron_sccp.specs.Searching.Steps.{Block, Values}
 use Rattle.pliron_sccp.specs.Accounts.{NothingWaits}
 use Rattle.pliron_sccp.specs.Best.{is_visited, IsAbove, IsBest}
-use Rattle.pliron_sccp.proofs.Applied.{falls_refl, falls_trans}
 use Rattle.pliron_sccp.proofs.Accounting.{below_undetermined}
 use Rattle.pliron_sccp.proofs.DistinctLists.{held_directly}
 use Rattle.pliron_sccp.proofs.InsideLists.{holds_listed, argument_listed, result_listed}
