@@ -1,6 +1,5 @@
 -- One operation is looked at: the facts go on standing above every closed set of facts, and its results are determined.
 use Rattle.std.proofs.Common.{◌≡◌, ◌≢◌, ◌⊎◌, ◌↔◌, inl, inr, ⊎_elim, ℕ, zero, suc, ◌<◌, Bool, true, false, true≢false, nat_eq, if◌then◌else◌, List, [], ◌∷◌, ◌++◌, length, Option, Some, None, slice_get, refl, sym, ap, ◌∙◌, subst, arith, IsTrue}
-use Rattle.std.specs.List.{flat_map}
 use Rattle.std.proofs.lemmas.Bool.{eqb-true, eq-eqb}
 use Rattle.pliron_core.specs.declared.attrs.AttrObj.{AttrObj}
 use Rattle.pliron_core.specs.Lists.{In, first_of, last_of}
@@ -11,7 +10,7 @@ use Rattle.pliron_core.proofs.ListLemmas.{In-left, In-right, In-cases}
 use Rattle.pliron_core.proofs.FlatLemmas.{In-flat_map, flat_map-In}
 use Rattle.pliron_core.proofs.NeighbourLemmas.{first_of-In}
 use Rattle.pliron_core.proofs.UsedLemmas.{length_map}
-use Rattle.pliron_core.proofs.HoldingLemmas.{some_is, not_none, in_slice, slice_in, inside_block}
+use Rattle.pliron_core.proofs.HoldingLemmas.{some_is, in_slice, slice_in, inside_block}
 use Rattle.pliron_laws.specs.Datum.{Shape}
 use Rattle.pliron_laws.specs.Tree.{Operation, op_at, shape_of}
 use Rattle.pliron_laws.specs.Laws.{Admitted}

@@ -1,13 +1,13 @@
 -- What the edges of a branch ask.
-use Rattle.std.proofs.Common.{◌≡◌, ◌↔◌, ℕ, zero, suc, Bool, true, false, true≢false, nat_eq, List, [], ◌∷◌, length, map, Option, Some, None, slice_get, refl, sym, ap, ◌∙◌, subst, IsTrue}
-use Rattle.std.specs.HashSet.{HashSet, contains}
+use Rattle.std.proofs.Common.{◌≡◌, ◌↔◌, ℕ, zero, suc, true, false, true≢false, List, [], ◌∷◌, map, Option, Some, None, slice_get, sym, ap, ◌∙◌, subst, IsTrue}
+use Rattle.std.specs.HashSet.{HashSet}
 use Rattle.pliron_core.specs.declared.attrs.AttrObj.{AttrObj}
 use Rattle.pliron_core.specs.Tree.{Tree, In, successors_of}
 use Rattle.pliron_core.proofs.HoldingLemmas.{some_is, not_none}
 use Rattle.pliron_laws.specs.Acting.{pick}
 use Rattle.pliron_laws.specs.Tree.{Operation, op_at, shape_of}
 use Rattle.pliron_laws.proofs.Records.{ShowsOperation, op_shows}
-use Rattle.pliron_theory.specs.Facts.{Facts, Says, handed, MayGo, Forwards}
+use Rattle.pliron_theory.specs.Facts.{Facts, Says, handed, MayGo}
 use Rattle.pliron_sccp.specs.declared.applying.Demand.{Demand}
 use Rattle.pliron_sccp.specs.Demands.{MeetsAll, Adds, AreFeasible, MayLead, AsksEntries, AsksJumps, AsksForwarded, FollowsEdge, AsksBranches, AsksEdges, AsksResults}
 use Rattle.pliron_sccp.specs.Settling.{IsMet}

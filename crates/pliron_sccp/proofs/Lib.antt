@@ -11,6 +11,9 @@ pub mod Applied
 pub mod EdgesAsked
 pub mod DistinctLists
 pub mod Listing
+pub mod ListedFolds
+pub mod ListedArguments
+pub mod FoundChange
 pub mod Going
 pub mod Tracked
 pub mod UserLists
@@ -20,6 +23,3 @@ pub mod Accounting
 pub mod OnTheWay
 pub mod BestLook
 pub mod BestSteps
-pub mod ListedFolds
-pub mod ListedArguments
-pub mod FoundChange

@@ -1,5 +1,5 @@
 -- The constant arguments inside an operation, listed one after the other.
-use Rattle.std.proofs.Common.{◌≡◌, ℕ, suc, ◌+◌, ◌≤◌, Bool, true, false, cond, List, [], ◌∷◌, ◌++◌, length, take, filter, Option, Some, None, slice_get, refl, sym, ap, ◌∙◌, subst, append_assoc, append-nil, arith, IsTrue}
+use Rattle.std.proofs.Common.{◌≡◌, ℕ, suc, ◌+◌, ◌≤◌, Bool, true, false, cond, List, [], ◌∷◌, ◌++◌, length, take, filter, Some, None, slice_get, refl, sym, ap, ◌∙◌, subst, append_assoc, append-nil, arith, IsTrue}
 use Rattle.std.specs.List.{flat_map}
 use Rattle.std.proofs.lemmas.List.{take_all}
 use Rattle.std.proofs.lemmas.List.Concat.{flat_map-append}
@@ -10,7 +10,7 @@ use Rattle.pliron_core.proofs.HoldingLemmas.{some_is, not_none}
 use Rattle.pliron_theory.specs.Facts.{Fact, Undetermined, Constant, NotAConstant, Facts, known}
 use Rattle.pliron_sccp.specs.declared.rewriting.ConstantArgument.{ConstantArgument}
 use Rattle.pliron_sccp.specs.Chain.{KnownArgument, known_with, known_in_block, known_arguments, blocks_inside}
-use Rattle.pliron_sccp.specs.Listed.{Each, AreArguments, known_there, AddsKnown}
+use Rattle.pliron_sccp.specs.Listed.{AreArguments, known_there, AddsKnown}
 use Rattle.pliron_sccp.specs.Steps.{IsKnown, stands_for, StandForEach}
 use Rattle.pliron_sccp.proofs.ListedFolds.{each_more, each_none}
 

@@ -1,14 +1,14 @@
 -- The folds inside an operation, listed one after the other.
-use Rattle.std.proofs.Common.{◌≡◌, ◌⊎◌, inl, inr, ℕ, zero, suc, ◌<◌, Bool, true, false, cond, List, [], ◌∷◌, ◌++◌, length, map, filter, Option, Some, None, is_some, slice_get, refl, sym, ap, ◌∙◌, subst, IsTrue}
+use Rattle.std.proofs.Common.{◌≡◌, ◌⊎◌, inl, inr, ℕ, zero, suc, ◌<◌, Bool, true, false, cond, List, [], ◌∷◌, ◌++◌, length, map, filter, Option, Some, None, slice_get, refl, sym, ap, ◌∙◌, subst, IsTrue}
 use Rattle.std.specs.List.{flat_map}
 use Rattle.pliron_core.specs.Lists.{next_in}
-use Rattle.pliron_core.specs.Tree.{Tree, IsLive, IsInside, head_of, operands_of, parent_of}
+use Rattle.pliron_core.specs.Tree.{Tree, IsInside, head_of, operands_of, parent_of}
 use Rattle.pliron_core.specs.Joined.{IsTree}
 use Rattle.pliron_core.specs.Walks.{contents, preorder}
 use Rattle.pliron_core.specs.WalkSteps.{rest_from}
 use Rattle.pliron_core.proofs.HoldingLemmas.{some_is, not_none}
 use Rattle.pliron_core.proofs.NeighbourLemmas.{next_in-first, next_in-other}
-use Rattle.pliron_core.proofs.WalkLemmas.{contents-inside, distinct-contents, inside_live, not_inside-itself}
+use Rattle.pliron_core.proofs.WalkLemmas.{contents-inside, distinct-contents, not_inside-itself}
 use Rattle.pliron_laws.specs.Datum.{Head}
 use Rattle.pliron_laws.proofs.Records.{operation_of, make_op}
 use Rattle.pliron_theory.specs.Facts.{Facts, Says, handed}

@@ -10,9 +10,9 @@ pub mod Demands
 pub mod Falling
 pub mod Inside
 pub mod Searched
+pub mod Listed
 pub mod Looking
 pub mod Starting
 pub mod Searching
 pub mod Accounts
 pub mod Best
-pub mod Listed

@@ -1,11 +1,11 @@
 -- Where a constant is put into a block inside an operation, only what is inside the operation changes.
-use Rattle.std.proofs.Common.{◌≡◌, inl, inr, ℕ, List, length, Option, Some, None, IsSome, is_some, slice_get, refl, sym, ap, ◌∙◌, subst, arith}
+use Rattle.std.proofs.Common.{◌≡◌, inl, inr, ℕ, List, length, Some, None, IsSome, is_some, slice_get, refl, sym, ap, ◌∙◌, subst, arith}
 use Rattle.std.proofs.lemmas.List.{get_or_past}
 use Rattle.pliron_core.specs.declared.attrs.Head.{Head}
 use Rattle.pliron_core.specs.declared.context.Def.TheVariants.{Result, Argument}
 use Rattle.pliron_core.specs.Changes.{IsInsideChange, IsMadeInside, IsMakerInside}
 use Rattle.pliron_core.specs.Joined.{IsTree, IsJoined}
-use Rattle.pliron_core.specs.Tree.{Tree, IsLive, IsBlock, IsInside, HoldsBlock, results_of, regions_of, arguments_of, parent_of}
+use Rattle.pliron_core.specs.Tree.{Tree, IsLive, IsBlock, IsInside, HoldsBlock, results_of, arguments_of, parent_of}
 use Rattle.pliron_core.specs.Writes.{created, placed, replaced}
 use Rattle.pliron_core.proofs.BesideLemmas.{IsBeside, created_beside, beside_placed, not_new}
 use Rattle.pliron_core.proofs.GrownLemmas.{get_grown}

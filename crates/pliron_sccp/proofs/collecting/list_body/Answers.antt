@@ -1,4 +1,4 @@
-use Rattle.std.proofs.Common.{◌≡◌, ap, ◌∙◌}
+use Rattle.std.proofs.Common.{ap, ◌∙◌}
 use Rattle.pliron_core.specs.Tree.{body_of, up_from}
 use Rattle.pliron_core.specs.Lists.{next_in}
 use Rattle.pliron_sccp.specs.Inside.{blocks_of}

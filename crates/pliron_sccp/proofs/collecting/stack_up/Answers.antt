@@ -1,4 +1,3 @@
-use Rattle.std.proofs.Common.{◌≡◌}
 use Rattle.pliron_sccp.proofs.Listing.{stacked_next}
 use Rattle.pliron_sccp.proofs.collecting.stack_up.Goals as goal
 

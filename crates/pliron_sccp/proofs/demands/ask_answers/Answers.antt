@@ -1,5 +1,5 @@
-use Rattle.std.proofs.Common.{◌≤◌, ◌<◌, ◌≡◌, Some, length, slice_get, sym, ap, ◌∙◌, subst, refl, arith}
-use Rattle.pliron_core.specs.Tree.{arguments_of, results_of, regions_of, successors_of, operands_of, layout_of, first_of}
+use Rattle.std.proofs.Common.{◌<◌, ◌≡◌, Some, length, slice_get, refl, arith}
+use Rattle.pliron_core.specs.Tree.{results_of}
 use Rattle.std.proofs.lemmas.Option.{slice_get_read}
 use Rattle.pliron_sccp.specs.Demands.{GetsAnswer}
 use Rattle.pliron_sccp.proofs.Demanded.{adds_next, answer_asked, answers_asked}

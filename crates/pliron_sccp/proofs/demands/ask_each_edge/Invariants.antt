@@ -1,7 +1,6 @@
 use Rattle.std.proofs.Common.{◌≡◌, Some}
 use Rattle.pliron_core.specs.Tree.{successors_of}
 use Rattle.pliron_laws.specs.Tree.{Operation, op_at}
-use Rattle.pliron_theory.specs.Facts.{Says}
 use Rattle.pliron_sccp.specs.Tables.{facts_of}
 use Rattle.pliron_sccp.specs.Demands.{Adds, EachBefore, FollowsEdge}
 use Rattle.pliron_sccp.proofs.demands.ask_each_edge.Given as goal

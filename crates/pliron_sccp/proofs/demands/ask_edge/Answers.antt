@@ -1,6 +1,5 @@
-use Rattle.std.proofs.Common.{◌≡◌, ◌∙◌, false, Some, map, slice_get, sym, ap, subst}
+use Rattle.std.proofs.Common.{◌∙◌, false, Some, map, slice_get, sym, ap, subst}
 use Rattle.std.proofs.lemmas.Result.{on_ok_weaker}
-use Rattle.pliron_core.specs.Tree.{operands_of}
 use Rattle.pliron_core.proofs.HoldingLemmas.{some_is}
 use Rattle.pliron_laws.proofs.Records.{op_shows}
 use Rattle.pliron_theory.specs.Facts.{Says, handed}

@@ -1,5 +1,5 @@
-use Rattle.std.proofs.Common.{◌≤◌, ◌<◌, ◌≡◌, Some, length, slice_get, sym, ap, ◌∙◌, subst, refl, arith}
-use Rattle.pliron_core.specs.Tree.{arguments_of, results_of, regions_of, successors_of, operands_of, layout_of, first_of}
+use Rattle.std.proofs.Common.{◌≤◌, length, arith}
+use Rattle.pliron_core.specs.Tree.{regions_of}
 use Rattle.pliron_sccp.specs.Demands.{EntryEntered}
 use Rattle.pliron_sccp.proofs.Demanded.{adds_next, entries_asked}
 use Rattle.pliron_sccp.proofs.demands.ask_entries.Goals as goal

@@ -1,5 +1,5 @@
-use Rattle.std.proofs.Common.{◌≤◌, ◌<◌, ◌≡◌, Some, length, slice_get, sym, ap, ◌∙◌, subst, refl, arith}
-use Rattle.pliron_core.specs.Tree.{arguments_of, results_of, regions_of, successors_of, operands_of, layout_of, first_of}
+use Rattle.std.proofs.Common.{◌≤◌, ◌≡◌, length, arith}
+use Rattle.pliron_core.specs.Tree.{arguments_of}
 use Rattle.pliron_theory.specs.Facts.{NotAConstant}
 use Rattle.pliron_sccp.proofs.Demanded.{adds_next, adds_unknown, entry_asked}
 use Rattle.pliron_sccp.proofs.demands.ask_entry.Goals as goal

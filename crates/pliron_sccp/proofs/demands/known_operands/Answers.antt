@@ -1,5 +1,4 @@
-use Rattle.std.proofs.Common.{◌≤◌, ◌<◌, ◌≡◌, Some, length, slice_get, sym, ap, ◌∙◌, subst, refl, arith}
-use Rattle.pliron_core.specs.Tree.{arguments_of, results_of, regions_of, successors_of, operands_of, layout_of, first_of}
+use Rattle.pliron_core.specs.Tree.{operands_of}
 use Rattle.pliron_sccp.specs.Tables.{facts_of}
 use Rattle.pliron_sccp.proofs.Demanded.{handed_more}
 use Rattle.pliron_sccp.proofs.demands.known_operands.Goals as goal

@@ -1,8 +1,7 @@
-use Rattle.std.proofs.Common.{◌≡◌, ◌≤◌, ◌+◌, ◌∷◌, [], ◌++◌, length, Some, None, sym, ap, ◌∙◌, subst, arith}
+use Rattle.std.proofs.Common.{◌≤◌, ◌+◌, length, sym, ◌∙◌, subst, arith}
 use Rattle.pliron_core.specs.Tree.{arguments_of}
-use Rattle.pliron_theory.specs.Facts.{known}
-use Rattle.pliron_sccp.specs.Tables.{facts_of, fact_in}
-use Rattle.pliron_sccp.proofs.ListedArguments.{AreAdded, added_start, added_known, added_nothing, added_all, added_unreached}
+use Rattle.pliron_sccp.specs.Tables.{facts_of}
+use Rattle.pliron_sccp.proofs.ListedArguments.{AreAdded, added_start, added_known, added_nothing, added_all}
 use Rattle.pliron_sccp.proofs.found.add_arguments.Goals.{in-Some+in_ok-push-in-Some, in-None}
 use Rattle.pliron_sccp.proofs.found.add_arguments.Goals as goal
 

@@ -1,9 +1,8 @@
-use Rattle.std.proofs.Common.{◌≡◌, ◌<◌, ◌≤◌, ◌+◌, length, Some, slice_get, refl, sym, ap, ◌∙◌, subst, arith}
+use Rattle.std.proofs.Common.{◌≡◌, ◌<◌, ◌≤◌, length, Some, slice_get, refl, subst, arith}
 use Rattle.std.proofs.lemmas.Option.{slice_get_read}
 use Rattle.pliron_core.specs.Tree.{In}
 use Rattle.pliron_core.proofs.FlatLemmas.{In-slice_get}
 use Rattle.pliron_sccp.specs.Tables.{facts_of}
-use Rattle.pliron_sccp.specs.Chain.{blocks_inside}
 use Rattle.pliron_sccp.proofs.DistinctLists.{inside_block}
 use Rattle.pliron_sccp.proofs.ListedArguments.{no_arguments, collected_next, collected_all}
 use Rattle.pliron_sccp.proofs.found.all_arguments.Goals as goal

@@ -1,4 +1,4 @@
-use Rattle.std.proofs.Common.{inl, inr, refl, sym, subst}
+use Rattle.std.proofs.Common.{inr}
 use Rattle.pliron_core.proofs.WalkLemmas.{inside_live}
 use Rattle.pliron_theory.specs.Facts.{Says}
 use Rattle.pliron_sccp.specs.Tables.{facts_of}
