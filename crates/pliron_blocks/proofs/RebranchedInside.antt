@@ -83,12 +83,15 @@ module _ (t v : Tree) (a op new : ℕ) (front : List ℕ) (w : IsTree t) (wv : I
         (subst (λ z. IsSome z.head) (h.rows x other old) o.0, λ i. o.1 (inside_stays holder x o.0 old i))
 
     no_block_outside : (b : ℕ) → IsBlockOutside v holder b → IsBlockOutside t holder b
-    no_block_outside b o = (subst IsSome (h.block_parents b) o.0, λ x.
-        let up = block_stays b x.0 o.0 x.1 in
-        let there = block_held v b wv.joined o.0 in
-        let live : IsLive v x.0 = subst (IsLive v) (some_is (sym there.5 ∙ up)) there.6 in
-        let before = block_held t b w.joined (subst IsSome (h.block_parents b) o.0) in
-        o.1 (x.0, up, within_stays holder x.0 live (not_new x.0 (subst (IsLive t) (some_is (sym before.5 ∙ x.1)) before.6)) x.2))
+    no_block_outside b o = (
+      subst IsSome (h.block_parents b) o.0,
+      λ x.
+          let up = block_stays b x.0 o.0 x.1 in
+          let there = block_held v b wv.joined o.0 in
+          let live : IsLive v x.0 = subst (IsLive v) (some_is (sym there.5 ∙ up)) there.6 in
+          let before = block_held t b w.joined (subst IsSome (h.block_parents b) o.0) in
+          o.1 (x.0, up, within_stays holder x.0 live (not_new x.0 (subst (IsLive t) (some_is (sym before.5 ∙ x.1)) before.6)) x.2),
+    )
 
     pub inside_alone : IsInsideChange t v holder
     inside_alone = change_of_kept t v holder w.joined kept none_outside no_block_outside
