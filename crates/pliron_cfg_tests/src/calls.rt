@@ -1,0 +1,94 @@
+//! The calls, by the names that the cases have for them.
+ghost use Rattle.pliron_bench.specs.BenchMoves.{bench};
+ghost use Rattle.pliron_core.specs.Tree.{IsLive};
+ghost use Rattle.pliron_laws.specs.Linked.{IsWellLinked};
+
+use pliron_bench::Bench;
+use pliron_cfg::simplify_cfg;
+use pliron_core::{Context, IRRewriter, IRStatus, Operation, Ptr};
+use pliron_folding::fold_branches;
+use pliron_laws::OptError;
+use pliron_merging::{merge_inside_block, merge_inside_op, merge_inside_region};
+use pliron_removal::remove_blocks_inside_op;
+use std::alloc::Global;
+
+// How an answer is written.
+pub fn letter(answer: Result<IRStatus, OptError>) -> Result<&'static str, OptError> {
+    match answer {
+        Ok(IRStatus::Changed) => Ok("C"),
+        Ok(IRStatus::Unchanged) => Ok("U"),
+        Err(OptError::LiveUse) => Ok("R"),
+        Err(error) => Err(error),
+    }
+}
+
+// The answer for the first region of the root.
+fn merge_first_region(
+    alloc: Global,
+    root: Ptr<Operation>,
+    ctx: &mut Context,
+) -> Result<IRStatus, OptError>
+    requires live { IsLive ctx.old.tree root }
+    requires linked { IsWellLinked bench ctx.old.tree root }
+{
+    ctx.well_formed();
+    if root.num_region(ctx) == 0 {
+        return Ok(IRStatus::Unchanged);
+    }
+    let region = root.get_region(ctx, 0);
+    if region.get_parent_op(ctx) != root {
+        return Ok(IRStatus::Unchanged);
+    }
+    let mut rewriter = IRRewriter::new();
+    merge_inside_region::<Bench, IRRewriter>(alloc, region, ctx, &mut rewriter)
+}
+
+// The answer for the first block of the root.
+fn merge_first_block(
+    alloc: Global,
+    root: Ptr<Operation>,
+    ctx: &mut Context,
+) -> Result<IRStatus, OptError>
+    requires live { IsLive ctx.old.tree root }
+    requires linked { IsWellLinked bench ctx.old.tree root }
+{
+    ctx.well_formed();
+    if root.num_region(ctx) == 0 {
+        return Ok(IRStatus::Unchanged);
+    }
+    let region = root.get_region(ctx, 0);
+    let Some(block) = region.get_head(ctx) else {
+        return Ok(IRStatus::Unchanged);
+    };
+    if block.get_parent_region(ctx) != Some(region) || region.get_parent_op(ctx) != root {
+        return Ok(IRStatus::Unchanged);
+    }
+    let mut rewriter = IRRewriter::new();
+    merge_inside_block::<Bench, IRRewriter>(alloc, block, ctx, &mut rewriter)
+}
+
+// What the call of this name answers for the root.
+pub fn called(
+    alloc: Global,
+    root: Ptr<Operation>,
+    ctx: &mut Context,
+    call: &str,
+) -> Result<IRStatus, OptError>
+    requires live { IsLive ctx.old.tree root }
+    requires linked { IsWellLinked bench ctx.old.tree root }
+{
+    let mut rewriter = IRRewriter::new();
+    if call == "fold" {
+        fold_branches::<Bench, IRRewriter>(alloc, root, ctx, &mut rewriter)
+    } else if call == "remove" {
+        remove_blocks_inside_op::<Bench, IRRewriter>(alloc, root, ctx, &mut rewriter)
+    } else if call == "merge" {
+        merge_inside_op::<Bench, IRRewriter>(alloc, root, ctx, &mut rewriter)
+    } else if call == "merge-region" {
+        merge_first_region(alloc, root, ctx)
+    } else if call == "merge-block" {
+        merge_first_block(alloc, root, ctx)
+    } else {
+        simplify_cfg::<Bench>(alloc, root, ctx)
+    }
+}

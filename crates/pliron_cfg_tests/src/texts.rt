@@ -1,0 +1,155 @@
+//! Texts, what the calls leave of them, and what they answer.
+ghost use Rattle.pliron_bench.specs.BenchMoves.{bench};
+ghost use Rattle.pliron_core.specs.Tree.{IsLive};
+ghost use Rattle.pliron_laws.specs.Linked.{IsWellLinked};
+
+use super::calls::{called, letter};
+use super::cases::{DEFINED, HOSTILE, ORDERS, ROWS};
+use pliron_bench::Bench;
+use pliron_cfg::simplify_cfg;
+use pliron_core::{Context, IRRewriter, IRStatus, Operation, Ptr};
+use pliron_merging::merge_inside_op;
+use pliron_notation::{print_text, read_text};
+use pliron_removal::remove_blocks_inside_op;
+use std::alloc::Global;
+use std::process::Abort;
+use std::test::Fail;
+
+// What is printed of the root after the call, which answered this.
+fn left_of(
+    rt: &impl Abort,
+    alloc: Global,
+    ctx: &mut Context,
+    root: Ptr<Operation>,
+    call: &str,
+    expected: &str,
+) -> Result<String, Fail>
+    requires live { IsLive ctx.old.tree root }
+    requires linked { IsWellLinked bench ctx.old.tree root }
+{
+    let told = letter(called(alloc, root, ctx, call))?;
+    assert_eq!(rt; told, expected);
+    if !root.is_live(ctx) {
+        return Err(Fail::from("gone"));
+    }
+    Ok(print_text(alloc, root, ctx)?)
+}
+
+fn check_in(
+    rt: &impl Abort,
+    alloc: Global,
+    ctx: &mut Context,
+    call: &str,
+    expected: &str,
+    text: &str,
+    after: &str,
+) -> Result<(), Fail> {
+    let Some(root) = read_text(alloc, text.as_bytes(), ctx)? else {
+        return Err(Fail::from("unreadable"));
+    };
+    let printed = left_of(rt, alloc, ctx, root, call, expected)?;
+    assert_eq!(rt; printed.as_str(), after, "{text}");
+    Ok(())
+}
+
+// The case says what the call answers and leaves of the text.
+fn check(rt: &impl Abort, alloc: Global, call: &str, case: &str) -> Result<(), Fail> {
+    let Some((line, after)) = case.split_once(" => ") else {
+        return Err(Fail::from("no arrow"));
+    };
+    let Some((expected, text)) = line.split_once(" ") else {
+        return Err(Fail::from("no answer"));
+    };
+    let mut ctx = Context::new(alloc);
+    check_in(rt, alloc, &mut ctx, call, expected, text, after)
+}
+
+// Each case has the name of its call before it.
+fn check_named(rt: &impl Abort, alloc: Global, cases: &str) -> Result<(), Fail> {
+    for line in cases.lines() {
+        let Some((call, case)) = line.split_once(" ") else {
+            return Err(Fail::from("no call"));
+        };
+        check(rt, alloc, call, case)?;
+    }
+    Ok(())
+}
+
+#[test]
+fn rows(rt: HostRuntime) -> Result<(), Fail> {
+    check_named(&rt, rt.alloc(), ROWS)
+}
+
+#[test]
+fn where_the_order_shows(rt: HostRuntime) -> Result<(), Fail> {
+    check_named(&rt, rt.alloc(), ORDERS)
+}
+
+#[test]
+fn hostile_texts(rt: HostRuntime) -> Result<(), Fail> {
+    for case in HOSTILE.lines() {
+        check(&rt, rt.alloc(), "simplify", case)?;
+    }
+    Ok(())
+}
+
+#[test]
+fn defined_texts(rt: HostRuntime) -> Result<(), Fail> {
+    for case in DEFINED.lines() {
+        check(&rt, rt.alloc(), "simplify", case)?;
+    }
+    Ok(())
+}
+
+// Nothing is left to remove or to merge.
+fn none_left(
+    rt: &impl Abort,
+    alloc: Global,
+    ctx: &mut Context,
+    root: Ptr<Operation>,
+) -> Result<(), Fail>
+    requires live { IsLive ctx.old.tree root }
+    requires linked { IsWellLinked bench ctx.old.tree root }
+{
+    if simplify_cfg::<Bench>(alloc, root, ctx).is_err() {
+        return Ok(());
+    }
+    let mut rewriter = IRRewriter::new();
+    let removal = remove_blocks_inside_op::<Bench, IRRewriter>(alloc, root, ctx, &mut rewriter)?;
+    assert!(rt; removal == IRStatus::Unchanged);
+    let merging = merge_inside_op::<Bench, IRRewriter>(alloc, root, ctx, &mut rewriter)?;
+    assert!(rt; merging == IRStatus::Unchanged);
+    Ok(())
+}
+
+fn check_none_left(
+    rt: &impl Abort,
+    alloc: Global,
+    ctx: &mut Context,
+    text: &str,
+) -> Result<(), Fail> {
+    let Some(root) = read_text(alloc, text.as_bytes(), ctx)? else {
+        return Err(Fail::from("unreadable"));
+    };
+    none_left(rt, alloc, ctx, root)
+}
+
+fn check_all_left(rt: &impl Abort, alloc: Global, cases: &str) -> Result<(), Fail> {
+    for case in cases.lines() {
+        let Some((line, _)) = case.split_once(" => ") else {
+            return Err(Fail::from("no arrow"));
+        };
+        let Some((_, text)) = line.split_once(" ") else {
+            return Err(Fail::from("no answer"));
+        };
+        let mut ctx = Context::new(alloc);
+        check_none_left(rt, alloc, &mut ctx, text)?;
+    }
+    Ok(())
+}
+
+#[test]
+fn none_is_left(rt: HostRuntime) -> Result<(), Fail> {
+    check_all_left(&rt, rt.alloc(), HOSTILE)?;
+    check_all_left(&rt, rt.alloc(), DEFINED)
+}
