@@ -9,7 +9,9 @@ use pliron_core::{Context, IRRewriter, IRStatus, Operation, Ptr};
 use pliron_folding::fold_branches;
 use pliron_laws::OptError;
 use pliron_merging::{merge_inside_block, merge_inside_op, merge_inside_region};
-use pliron_removal::remove_blocks_inside_op;
+use pliron_removal::{
+    remove_blocks_inside_block, remove_blocks_inside_op, remove_blocks_inside_region,
+};
 use std::alloc::Global;
 
 // How an answer is written.
@@ -22,7 +24,52 @@ pub fn letter(answer: Result<IRStatus, OptError>) -> Result<&'static str, OptErr
     }
 }
 
-// The answer for the first region of the root.
+// What removal answers for the first region of the root.
+fn remove_from_first_region(
+    alloc: Global,
+    root: Ptr<Operation>,
+    ctx: &mut Context,
+) -> Result<IRStatus, OptError>
+    requires live { IsLive ctx.old.tree root }
+    requires linked { IsWellLinked bench ctx.old.tree root }
+{
+    ctx.well_formed();
+    if root.num_region(ctx) == 0 {
+        return Ok(IRStatus::Unchanged);
+    }
+    let region = root.get_region(ctx, 0);
+    if region.get_parent_op(ctx) != root {
+        return Ok(IRStatus::Unchanged);
+    }
+    let mut rewriter = IRRewriter::new();
+    remove_blocks_inside_region::<Bench, IRRewriter>(alloc, region, ctx, &mut rewriter)
+}
+
+// What removal answers for the first block of the root.
+fn remove_from_first_block(
+    alloc: Global,
+    root: Ptr<Operation>,
+    ctx: &mut Context,
+) -> Result<IRStatus, OptError>
+    requires live { IsLive ctx.old.tree root }
+    requires linked { IsWellLinked bench ctx.old.tree root }
+{
+    ctx.well_formed();
+    if root.num_region(ctx) == 0 {
+        return Ok(IRStatus::Unchanged);
+    }
+    let region = root.get_region(ctx, 0);
+    let Some(block) = region.get_head(ctx) else {
+        return Ok(IRStatus::Unchanged);
+    };
+    if block.get_parent_region(ctx) != Some(region) || region.get_parent_op(ctx) != root {
+        return Ok(IRStatus::Unchanged);
+    }
+    let mut rewriter = IRRewriter::new();
+    remove_blocks_inside_block::<Bench, IRRewriter>(alloc, block, ctx, &mut rewriter)
+}
+
+// What merging answers for the first region of the root.
 fn merge_first_region(
     alloc: Global,
     root: Ptr<Operation>,
@@ -43,7 +90,7 @@ fn merge_first_region(
     merge_inside_region::<Bench, IRRewriter>(alloc, region, ctx, &mut rewriter)
 }
 
-// The answer for the first block of the root.
+// What merging answers for the first block of the root.
 fn merge_first_block(
     alloc: Global,
     root: Ptr<Operation>,
@@ -84,6 +131,10 @@ pub fn called(
         remove_blocks_inside_op::<Bench, IRRewriter>(alloc, root, ctx, &mut rewriter)
     } else if call == "merge" {
         merge_inside_op::<Bench, IRRewriter>(alloc, root, ctx, &mut rewriter)
+    } else if call == "remove-region" {
+        remove_from_first_region(alloc, root, ctx)
+    } else if call == "remove-block" {
+        remove_from_first_block(alloc, root, ctx)
     } else if call == "merge-region" {
         merge_first_region(alloc, root, ctx)
     } else if call == "merge-block" {
