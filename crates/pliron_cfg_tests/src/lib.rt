@@ -3,3 +3,5 @@
 
 #[cfg(test)]
 mod removal;
+#[cfg(test)]
+mod removal_inside;

@@ -7,4 +7,5 @@ pub mod DroppedNames
 pub mod CutOffLemmas
 pub mod Without
 pub mod Stability
+pub mod ScopeLemmas
 pub mod ClearedSteps

@@ -3,4 +3,5 @@ pub mod Contents
 pub mod Unnamed
 pub mod OtherUses
 pub mod Clears
+pub mod Scopes
 pub mod Cleared

@@ -5,6 +5,9 @@ mod contents;
 mod erasing;
 mod region;
 mod removal;
+mod scope;
 mod uses;
 
-pub use removal::remove_blocks_inside_op;
+pub use removal::{
+    remove_blocks_inside_block, remove_blocks_inside_op, remove_blocks_inside_region,
+};

@@ -1,24 +1,26 @@
 //! The public calls.
-ghost use Rattle.std.specs.Prelude.{◌≡◌, ◌↔◌, ◌⊎◌, ℕ, IfOk, IfErr};
+ghost use Rattle.std.specs.Prelude.{◌≡◌, ◌↔◌, ◌⊎◌, ℕ, Some, IfOk, IfErr};
 ghost use Rattle.pliron_core.specs.declared.attrs.IRStatus.TheVariants.{Unchanged};
-ghost use Rattle.pliron_core.specs.Tree.{IsLive};
+ghost use Rattle.pliron_core.specs.Tree.{IsLive, IsBlock, IsRegion, block_holder_of, region_parent_of};
 ghost use Rattle.pliron_laws.specs.Linked.{IsWellLinked};
 ghost use Rattle.pliron_theory.specs.Change.{IsPassChange};
 ghost use Rattle.pliron_blocks.specs.Links.{KeepsLinks};
-ghost use Rattle.pliron_visits.specs.Visited.{OfOperation};
+ghost use Rattle.pliron_visits.specs.Visited.{OfBlock, OfOperation, OfRegion};
 ghost use Rattle.pliron_visits.specs.Visits.{AreVisits};
 ghost use Rattle.pliron_removal.specs.Removed.{RemovesAll, RemovalFails};
+ghost use Rattle.pliron_removal.specs.Internal.Scopes.{start_of, Stands, IsHolder};
 ghost use Rattle.pliron_removal.specs.Internal.Cleared.{status_after};
 
 use crate::contents::set_of_blocks;
 use crate::region::clear_region;
+use crate::scope::Scope;
 use indexmap::IndexSet;
 use pliron_blocks::inside::removing_changes_inside;
 use pliron_blocks::links::removing_keeps_links;
 use pliron_core::{BasicBlock, Context, IRStatus, Operation, Ptr, Region, Rewriter, change_laws};
 use pliron_laws::{Dialect, OptError, Room};
 use pliron_theory::theory::passes_compose;
-use pliron_visits::{Visits, visits_inside_op};
+use pliron_visits::Visits;
 use std::alloc::Global;
 
 // The status after one more part of the work.
@@ -34,24 +36,25 @@ fn with_more(status: IRStatus, more: IRStatus) -> IRStatus
 // The regions lose their unreachable blocks, the last one first.
 fn clear_regions<D: Dialect, R: Rewriter + Room>(
     alloc: Global,
-    op: Ptr<Operation>,
+    scope: &Scope,
     ctx: &mut Context,
     mut regions: Vec<Ptr<Region>>,
     reached: &IndexSet<Ptr<BasicBlock>>,
     rewriter: &mut R,
 ) -> Result<IRStatus, OptError>
-    requires live { IsLive ctx.old.tree op }
-    requires linked { IsWellLinked D.meaning ctx.old.tree op }
-    requires visits { AreVisits ctx.old.tree (OfOperation op ctx.old.tree) regions.items reached.now.keys }
-    ensures ok { IfOk result (λ status. RemovesAll (OfOperation op) ctx.old.tree ctx.new.tree status) }
-    ensures err { IfErr result (λ e. RemovalFails (OfOperation op) ctx.old.tree ctx.new.tree e) }
-    ensures change { IsPassChange D.meaning ctx.old.tree ctx.new.tree op }
+    requires stands { Stands ctx.old.tree scope.now }
+    requires linked { (holder : ℕ) → IsHolder ctx.old.tree scope.now holder → IsWellLinked D.meaning ctx.old.tree holder }
+    requires visits { AreVisits ctx.old.tree (start_of scope.now ctx.old.tree) regions.items reached.now.keys }
+    ensures ok { IfOk result (λ status. RemovesAll (start_of scope.now) ctx.old.tree ctx.new.tree status) }
+    ensures err { IfErr result (λ e. RemovalFails (start_of scope.now) ctx.old.tree ctx.new.tree e) }
+    ensures change { (holder : ℕ) → IsHolder ctx.old.tree scope.now holder → IsPassChange D.meaning ctx.old.tree ctx.new.tree holder }
     ensures links { KeepsLinks D.meaning ctx.old.tree ctx.new.tree }
 {
     passes_compose();
     removing_keeps_links();
     removing_changes_inside();
     change_laws();
+    ctx.well_formed();
     let mut status = IRStatus::Unchanged;
     while let Some(region) = regions.pop() {
         ctx.well_formed();
@@ -60,6 +63,28 @@ fn clear_regions<D: Dialect, R: Rewriter + Room>(
         status = with_more(status, cleared?);
     }
     Ok(status)
+}
+
+// What is unreachable in the scope goes.
+fn remove_blocks_in<D: Dialect, R: Rewriter + Room>(
+    alloc: Global,
+    scope: &Scope,
+    ctx: &mut Context,
+    rewriter: &mut R,
+) -> Result<IRStatus, OptError>
+    requires stands { Stands ctx.old.tree scope.now }
+    requires linked { (holder : ℕ) → IsHolder ctx.old.tree scope.now holder → IsWellLinked D.meaning ctx.old.tree holder }
+    ensures ok { IfOk result (λ status. RemovesAll (start_of scope.now) ctx.old.tree ctx.new.tree status) }
+    ensures err { IfErr result (λ e. RemovalFails (start_of scope.now) ctx.old.tree ctx.new.tree e) }
+    ensures tells { IfOk result (λ a. (a ≡ Unchanged) ↔ (ctx.new.tree ≡ ctx.old.tree)) }
+    ensures change { (holder : ℕ) → IsHolder ctx.old.tree scope.now holder → IsPassChange D.meaning ctx.old.tree ctx.new.tree holder }
+    ensures links { KeepsLinks D.meaning ctx.old.tree ctx.new.tree }
+{
+    passes_compose();
+    ctx.well_formed();
+    let Visits { regions, blocks } = scope.visits(alloc, ctx)?;
+    let reached = set_of_blocks(alloc, &blocks)?;
+    clear_regions::<D, R>(alloc, scope, ctx, regions, &reached, rewriter)
 }
 
 /// Removes the unreachable blocks of the regions with SSA dominance inside the operation: all of one region
@@ -89,8 +114,45 @@ pub fn remove_blocks_inside_op<D: Dialect, R: Rewriter + Room>(
     ensures change { IsPassChange D.meaning ctx.old.tree ctx.new.tree op }
     ensures links { KeepsLinks D.meaning ctx.old.tree ctx.new.tree }
 {
-    passes_compose();
-    let Visits { regions, blocks } = visits_inside_op(alloc, ctx, op)?;
-    let reached = set_of_blocks(alloc, &blocks)?;
-    clear_regions::<D, R>(alloc, op, ctx, regions, &reached, rewriter)
+    remove_blocks_in::<D, R>(alloc, &Scope::Operation(op), ctx, rewriter)
+}
+
+/// Removes the unreachable blocks of the regions with SSA dominance inside the operations of the block. Asks
+/// that the block stands and that what holds it is well linked; answers, errors and costs as
+/// [`remove_blocks_inside_op`].
+pub fn remove_blocks_inside_block<D: Dialect, R: Rewriter + Room>(
+    alloc: Global,
+    block: Ptr<BasicBlock>,
+    ctx: &mut Context,
+    rewriter: &mut R,
+) -> Result<IRStatus, OptError>
+    requires block { IsBlock ctx.old.tree block }
+    requires linked { (holder : ℕ) → block_holder_of ctx.old.tree block ≡ Some holder → IsWellLinked D.meaning ctx.old.tree holder }
+    ensures ok { IfOk result (λ status. RemovesAll (OfBlock block) ctx.old.tree ctx.new.tree status) }
+    ensures err { IfErr result (λ e. RemovalFails (OfBlock block) ctx.old.tree ctx.new.tree e) }
+    ensures tells { IfOk result (λ a. (a ≡ Unchanged) ↔ (ctx.new.tree ≡ ctx.old.tree)) }
+    ensures change { (holder : ℕ) → block_holder_of ctx.old.tree block ≡ Some holder → IsPassChange D.meaning ctx.old.tree ctx.new.tree holder }
+    ensures links { KeepsLinks D.meaning ctx.old.tree ctx.new.tree }
+{
+    remove_blocks_in::<D, R>(alloc, &Scope::Block(block), ctx, rewriter)
+}
+
+/// Removes the unreachable blocks of the region, where it has SSA dominance, and of the regions with SSA
+/// dominance inside. Asks that the region stands and that what holds it is well linked; answers, errors and
+/// costs as [`remove_blocks_inside_op`].
+pub fn remove_blocks_inside_region<D: Dialect, R: Rewriter + Room>(
+    alloc: Global,
+    region: Ptr<Region>,
+    ctx: &mut Context,
+    rewriter: &mut R,
+) -> Result<IRStatus, OptError>
+    requires region { IsRegion ctx.old.tree region }
+    requires linked { (holder : ℕ) → region_parent_of ctx.old.tree region ≡ Some holder → IsWellLinked D.meaning ctx.old.tree holder }
+    ensures ok { IfOk result (λ status. RemovesAll (OfRegion region) ctx.old.tree ctx.new.tree status) }
+    ensures err { IfErr result (λ e. RemovalFails (OfRegion region) ctx.old.tree ctx.new.tree e) }
+    ensures tells { IfOk result (λ a. (a ≡ Unchanged) ↔ (ctx.new.tree ≡ ctx.old.tree)) }
+    ensures change { (holder : ℕ) → region_parent_of ctx.old.tree region ≡ Some holder → IsPassChange D.meaning ctx.old.tree ctx.new.tree holder }
+    ensures links { KeepsLinks D.meaning ctx.old.tree ctx.new.tree }
+{
+    remove_blocks_in::<D, R>(alloc, &Scope::Region(region), ctx, rewriter)
 }

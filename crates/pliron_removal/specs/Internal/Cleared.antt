@@ -6,25 +6,29 @@ use Rattle.pliron_core.specs.Tree.{Tree, In}
 use Rattle.pliron_laws.specs.Datum.{Meaning}
 use Rattle.pliron_theory.specs.Change.{IsPassChange}
 use Rattle.pliron_blocks.specs.Links.{KeepsLinks}
-use Rattle.pliron_visits.specs.Visited.{OfOperation, IsCutOff, IsUnreachable}
+use Rattle.pliron_visits.specs.Visited.{Start, IsCutOff, IsUnreachable}
 use Rattle.pliron_visits.specs.Visits.{AreVisits}
+use Rattle.pliron_removal.specs.declared.scope.Scope.{Scope}
 use Rattle.pliron_removal.specs.Removed.{RemovesSome}
+use Rattle.pliron_removal.specs.Internal.Scopes.{start_of, Stands, IsHolder}
 
 -- the status after one more part of the work
 abbrev pub status_after : (more status : IRStatus) → IRStatus
 status_after Changed status = Changed
 status_after Unchanged status = status
 
-abbrev pub TellsLoss : ℕ → (t u : Tree) → IRStatus → Type 0
-TellsLoss op t u Changed = (b : ℕ) × IsUnreachable (OfOperation op) t b
-TellsLoss op t u Unchanged = u ≡ t
+abbrev pub TellsLoss : Start → (t u : Tree) → IRStatus → Type 0
+TellsLoss start t u Changed = (b : ℕ) × IsUnreachable start t b
+TellsLoss start t u Unchanged = u ≡ t
 
 -- of the regions rs those in `left` wait, and the others have lost their unreachable blocks
-pub record AreCleared (m : Meaning) (t u : Tree) (op : ℕ) (rs ks left : List ℕ) (status : IRStatus) : Type 0 where
-  pub some : RemovesSome (OfOperation op) t u
-  pub visits : AreVisits u (OfOperation op u) rs ks
-  pub change : IsPassChange m t u op
+pub record AreCleared (m : Meaning) (t u : Tree) (scope : Scope) (root : ℕ) (rs ks left : List ℕ) (status : IRStatus) : Type 0 where
+  pub stands : Stands u scope
+  pub holder : IsHolder u scope root
+  pub some : RemovesSome (start_of scope) t u
+  pub visits : AreVisits u (start_of scope u) rs ks
+  pub change : IsPassChange m t u root
   pub links : KeepsLinks m t u
   pub among : (r : ℕ) → In r left → In r rs
   pub cleared : (r : ℕ) → In r rs → In r left ⊎ ((b : ℕ) → IsCutOff u r b → ⊥)
-  pub tells : TellsLoss op t u status
+  pub tells : TellsLoss (start_of scope) t u status
