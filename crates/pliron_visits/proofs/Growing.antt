@@ -2,7 +2,7 @@
 use Rattle.std.proofs.Common.{inl, inr, ⊎_elim, ℕ, List, [], ◌∷◌, ◌++◌, length-append, refl, sym, subst, arith}
 use Rattle.pliron_core.specs.Lists.{In, IsDistinct}
 use Rattle.pliron_core.proofs.ListLemmas.{In-left, In-right, In-cases}
-use Rattle.pliron_visits.specs.Visits.{Grew}
+use Rattle.pliron_visits.specs.Internal.Seen.{Grew}
 
 pub grew_none : (s w : List ℕ) → Grew [] s w s w
 grew_none s w = record {

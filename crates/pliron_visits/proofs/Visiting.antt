@@ -8,7 +8,8 @@ use Rattle.pliron_core.specs.Reads.{has_ssa}
 use Rattle.pliron_core.proofs.FlatLemmas.{In-flat_map, flat_map-In}
 use Rattle.pliron_core.proofs.ListLemmas.{In-left, In-right, In-cases}
 use Rattle.pliron_visits.specs.Visited.{IsVisited, IsVisited.Starts, IsVisited.Nested, IsEntered, IsReachedIn}
-use Rattle.pliron_visits.specs.Visits.{AreVisits, Grew}
+use Rattle.pliron_visits.specs.Visits.{AreVisits}
+use Rattle.pliron_visits.specs.Internal.Seen.{Grew}
 
 -- a region with what it leads to
 pub record IsDone (t : Tree) (seen rs bs : List ℕ) (r : ℕ) : Type 0 where

@@ -5,7 +5,8 @@ ghost use Rattle.pliron_core.specs.Tree.{In, IsLive, IsBlock, IsRegion, body_of,
 ghost use Rattle.pliron_laws.specs.Linked.{EdgesLast};
 ghost use Rattle.pliron_search.specs.Regions.{IsLawfulRegion};
 ghost use Rattle.pliron_visits.specs.Visited.{IsReachedIn, IsEntered, OfOperation, OfBlock, OfRegion};
-ghost use Rattle.pliron_visits.specs.Visits.{AreVisits, Grew};
+ghost use Rattle.pliron_visits.specs.Visits.{AreVisits};
+ghost use Rattle.pliron_visits.specs.Internal.Seen.{Grew};
 
 use crate::last_first::LastFirst;
 use indexmap::IndexSet;

@@ -1,5 +1,5 @@
 use Rattle.std.proofs.Common.{take}
-use Rattle.pliron_visits.specs.Visits.{Grew}
+use Rattle.pliron_visits.specs.Internal.Seen.{Grew}
 use Rattle.pliron_visits.proofs.visits.push_new.Given as goal
 
 abbrev pub invariant-loop-region : goal.invariant-loop-region

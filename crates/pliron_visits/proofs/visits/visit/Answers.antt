@@ -4,7 +4,7 @@ use Rattle.pliron_core.specs.Reads.{has_ssa}
 use Rattle.pliron_core.proofs.ListLemmas.{In-right}
 use Rattle.pliron_search.specs.Regions.{IsLawfulRegion}
 use Rattle.pliron_visits.specs.Visited.{IsEnteredIf}
-use Rattle.pliron_visits.specs.Visits.{Grew}
+use Rattle.pliron_visits.specs.Internal.Seen.{Grew}
 use Rattle.pliron_visits.proofs.Lawful.{visited_lawful, entered_stands, seen_few, fewer_left}
 use Rattle.pliron_visits.proofs.Visiting.{IsVisiting, nested_in, visiting_starts, visiting_searched, visiting_other, visits_found}
 use Rattle.pliron_visits.proofs.visits.visit.Goals as goal
