@@ -14,7 +14,9 @@ use pliron_core::{Context, IRRewriter, IRStatus, Operation, Ptr};
 use pliron_folding::fold_branches;
 use pliron_laws::{Dialect, OptError};
 pub use pliron_merging::{merge_inside_block, merge_inside_op, merge_inside_region};
-pub use pliron_removal::remove_blocks_inside_op;
+pub use pliron_removal::{
+    remove_blocks_inside_block, remove_blocks_inside_op, remove_blocks_inside_region,
+};
 use std::alloc::Global;
 
 /// Simplifies the control flow inside the operation, once: folds the branches inside by what is known of

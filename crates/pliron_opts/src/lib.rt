@@ -8,6 +8,12 @@ mod graph_lines;
 mod numbered_graph;
 mod program;
 
+pub use pliron_cfg::{
+    merge_inside_block, merge_inside_op, merge_inside_region, remove_blocks_inside_block,
+    remove_blocks_inside_op, remove_blocks_inside_region, simplify_cfg,
+};
+pub use pliron_dce::dce;
 pub use pliron_laws::OptError;
+pub use pliron_optimising::{DCEPass, Pipeline, SCCPPass, SimplifyCFGPass, Step, run_pipeline};
 pub use pliron_sccp::{sccp, sccp_counted};
 pub use program::plir_run;

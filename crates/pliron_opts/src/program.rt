@@ -7,6 +7,7 @@ ghost use Rattle.pliron_theory.specs.Change.{IsPassChange};
 use crate::graph_lines::print_graph;
 use crate::numbered_graph::read_graph;
 use pliron_bench::Bench;
+use pliron_cfg::simplify_cfg;
 use pliron_core::{Context, IRStatus, Operation, Ptr};
 use pliron_dce::dce;
 use pliron_laws::OptError;
@@ -80,6 +81,7 @@ fn read_input<R: Read>(alloc: Global, input: &mut R) -> Result<Vec<u8>, Failure>
 enum Optimisation {
     Sccp,
     Dce,
+    SimplifyCfg,
 }
 
 impl Optimisation {
@@ -87,13 +89,15 @@ impl Optimisation {
         match name {
             "sccp" => Some(Optimisation::Sccp),
             "dce" => Some(Optimisation::Dce),
+            "simplify-cfg" => Some(Optimisation::SimplifyCfg),
             _ => None,
         }
     }
 
     /// Optimises what is inside the operation.
     ///
-    /// Errors: want of memory, after some whole rewrites.
+    /// Errors: want of memory; `LiveUse` of the simplification of control flow; each after some whole
+    /// rewrites.
     fn run(
         &self,
         alloc: Global,
@@ -107,6 +111,7 @@ impl Optimisation {
         match self {
             Optimisation::Sccp => sccp::<Bench>(alloc, root, ctx),
             Optimisation::Dce => dce::<Bench>(alloc, root, ctx),
+            Optimisation::SimplifyCfg => simplify_cfg::<Bench>(alloc, root, ctx),
         }
     }
 }

@@ -108,7 +108,10 @@ dce,dce :: func { b0(): x = const 1; br b1(x); b1(a): c = const 7; ret c } => fu
 dce :: func { b0(): a = const 1; z = const 0; d = div a z; ret a } => func { b0(): v0 = const 1; v1 = const 0; v2 = div v0 v1; ret v0 }|unchanged|
 dce :: func { b0(): l, r = pair; sink l l r r; br b1(l, r); b1(a, b): k = const 99; ret k } => func { b0(): br b1(); b1(): v0 = const 99; ret v0 }|changed|
 dce :: func { b0(): k = const 4; box { b0(): sink k }; ret } => func { b0(): ret }|changed|
-dce :: func { b0(): z = const 0; br b1(z); b1(i): r = read; cbr r b1(i) b2(); b2(): ret } => func { b0(): v0 = const 0; br b1(v0); b1(v1): v2 = read; cbr v2 b1(v1) b2(); b2(): ret }|unchanged|";
+dce :: func { b0(): z = const 0; br b1(z); b1(i): r = read; cbr r b1(i) b2(); b2(): ret } => func { b0(): v0 = const 0; br b1(v0); b1(v1): v2 = read; cbr v2 b1(v1) b2(); b2(): ret }|unchanged|
+simplify-cfg :: func { b0(): a = const 1; br b1(a); b1(p): cbr p b2() b3(); b2(): ret p; b3(): ret } => func { b0(): v0 = const 1; cbr v0 b1() b2(); b1(): ret v0; b2(): ret }|changed|
+sccp,simplify-cfg,dce :: func { b0(): a = const 1; br b1(a); b1(p): cbr p b2() b3(); b2(): ret p; b3(): ret } => func { b0(): v0 = const 1; ret v0 }|changed|
+simplify-cfg :: func { b0(): ret } => func { b0(): ret }|unchanged|";
 
 #[test]
 fn lists(rt: HostRuntime) {
