@@ -13,7 +13,7 @@ use crate::dead_code::DCEPass;
 use pliron_core::{Context, Operation, Ptr};
 use pliron_laws::{Dialect, OptError};
 use pliron_pass::{
-    AnalysisKind, AnalysisManager, Analyses, NestedOpsPass, Pass, PassResult, Passes,
+    Analyses, AnalysisKind, AnalysisManager, NestedOpsPass, Pass, PassResult, Passes,
 };
 use std::alloc::Global;
 
