@@ -106,7 +106,7 @@ fn swept_in(rt: &impl Abort, alloc: Global, text: &str, ctx: &mut Context) -> Re
         IRStatus::Changed => "Changed",
         IRStatus::Unchanged => "Unchanged",
     };
-    let kept = kinds(alloc, &analyses)?;
+    let kept = kinds(rt, alloc, &analyses);
     let runs = analyses.pm_data().state().pass_run_count;
     let left = print_text(alloc, root, ctx)?;
     Ok(format!(in alloc; "{said}{kept}, {runs} runs, {left}")?)
@@ -143,7 +143,7 @@ fn annotated_in(rt: &impl Abort, alloc: Global, ctx: &mut Context) -> Result<(),
     }
     let answer = PassManager::run_pass(&mut passes, alloc, root, ctx, &mut analyses)?;
     assert!(rt; answer.ir_changed == IRStatus::Unchanged);
-    assert_eq!(rt; kinds(alloc, &analyses)?.as_str(), " 0 1");
+    assert_eq!(rt; kinds(rt, alloc, &analyses).as_str(), " 0 1");
     assert_eq!(rt; analyses.get_analysis(1, root, ctx)?.note, 7);
     assert_eq!(rt; analyses.pm_data().state().pass_run_count, usize::MAX);
     Ok(())
