@@ -279,41 +279,34 @@ def fan(n, rng):
     return [f]
 
 
-def manyargs(n, rng):
-    """one edge pair with n/2 operands into a block of n/2 dead arguments."""
+def wide_join(m):
+    """a block with m arguments and no end yet, and an edge pair that forwards m constants to it."""
     f = Fn()
-    m = max(1, n // 3)
     vals = [f.const(f.entry, i % 7) for i in range(m)]
     r = f.read(f.entry)
     left, join = f.block(0), f.block(m)
     f.cbr(f.entry, r, left, [], join, vals)
     f.br(left, join, *vals)
+    return f, join
+
+
+def manyargs(n, rng):
+    """one edge pair with n/3 operands into a block of n/3 dead arguments."""
+    f, join = wide_join(max(1, n // 3))
     f.ret(join)
     return [f]
 
 
 def liveargs(n, rng):
     """as manyargs, but every second argument is returned."""
-    f = Fn()
-    m = max(1, n // 3)
-    vals = [f.const(f.entry, i % 7) for i in range(m)]
-    r = f.read(f.entry)
-    left, join = f.block(0), f.block(m)
-    f.cbr(f.entry, r, left, [], join, vals)
-    f.br(left, join, *vals)
+    f, join = wide_join(max(1, n // 3))
     f.ret(join, *join.args[::2])
     return [f]
 
 
 def lateargs(n, rng):
     """as manyargs, but each argument has one dead use, the last argument first."""
-    f = Fn()
-    m = max(1, n // 3)
-    vals = [f.const(f.entry, i % 7) for i in range(m)]
-    r = f.read(f.entry)
-    left, join = f.block(0), f.block(m)
-    f.cbr(f.entry, r, left, [], join, vals)
-    f.br(left, join, *vals)
+    f, join = wide_join(max(1, n // 3))
     for x in reversed(join.args):
         f.bin(join, "add", x, x)
     f.ret(join)
