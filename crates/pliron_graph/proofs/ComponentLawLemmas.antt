@@ -1,7 +1,7 @@
 -- Laws of the components of a graph.
-use Rattle.std.proofs.Common.{◌≡◌, ℕ, ◌<◌, ◌≤◌, List, [], ◌∷◌, ◌++◌, length, slice_get, Some, refl, arith, inl, inr, ◌⊎◌, Contains, Bool, true}
+use Rattle.std.proofs.Common.{◌≡◌, ℕ, ◌<◌, ◌≤◌, List, [], ◌∷◌, ◌++◌, length, slice_get, Some, refl, arith, inl, inr, ◌⊎◌, Contains, Bool}
 use Rattle.std.specs.Option.{option_to_list}
-use Rattle.pliron_search.specs.Digraph.{Digraph, IsLawful, IsReached}
+use Rattle.pliron_search.specs.Digraph.{Digraph, IsReached}
 use Rattle.pliron_search.specs.Search.{number_in}
 use Rattle.pliron_graph.specs.Components.{AreComponents, entry_then_nodes}
 use Rattle.pliron_graph.specs.declared.components.Scc.{Scc}

@@ -3,9 +3,7 @@ use Rattle.std.proofs.Common.{◌≡◌, ℕ, zero, suc, ◌<◌, ◌≤◌, Lis
 use Rattle.pliron_search.specs.Digraph.{Digraph, IsLawful, IsPath, Reaches, IsReached, HasCycle}
 use Rattle.pliron_search.specs.EdgeKinds.{HasBackEdge}
 use Rattle.pliron_search.specs.Search.{Encloses, IsSearchNumbering, IsSearch, Orders, number_in}
-
-order : (m n : ℕ) → (m < n) ⊎ ((m ≡ n) ⊎ (n < m))
-order m n = grind arith
+use Rattle.pliron_graph.proofs.RankLemmas.{order}
 
 module _ {N : Type 0} (g : Digraph N) where
   pub path_end : (u v w : N) (ws : List N) → IsPath g u ws v → Contains (g.succ v) w → IsPath g u (ws ++ w ∷ []) w

@@ -1,5 +1,8 @@
 pub mod LawLemmas
 pub mod ItemLemmas
+pub mod RankLemmas
+pub mod OneNumberingLemmas
+pub mod OneOrderLemmas
 pub mod WalkLawLemmas
 pub mod CallerLemmas
 pub mod ComponentLemmas

@@ -4,7 +4,7 @@ use Rattle.std.specs.List.{All, list_any, IsDistinct}
 use Rattle.std.proofs.lemmas.List.{take_all, take_more}
 use Rattle.std.proofs.lemmas.List.Elements.{All-more, All-get_or, All-contains, Contains-get_or, Contains-append_left, Contains-push, Contains-push_cases}
 use Rattle.std.proofs.lemmas.Option.{slice_get_within, slice_get-get_or}
-use Rattle.pliron_search.specs.Digraph.{Digraph, Reaches}
+use Rattle.pliron_search.specs.Digraph.{Digraph}
 use Rattle.pliron_search.specs.Search.{number_in}
 use Rattle.pliron_graph.specs.Components.{AreComponents, Falls}
 use Rattle.pliron_graph.specs.declared.components.Scc.{Scc}

@@ -10,9 +10,7 @@ use Rattle.pliron_graph.specs.Laws.{IsFirstOutside, IsWalkFrom}
 use Rattle.pliron_search.specs.Internal.Membership.{In, in_from, contains_from, in_right, in_cases, in_from_any, any_from_in}
 use Rattle.pliron_graph.proofs.ItemLemmas.{in_from_item, item_from_in, item_left, item_right, item_of_reverse, item_in_reverse, split_joined, start_of_later, in_joined, list_of_joined, item_at_place, place_at_most, place_within, in_first_part, place_in_first_part, place_of_item}
 use Rattle.pliron_graph.proofs.LawLemmas.{edge_law, enclosed_reached, reached_next}
-
-order : (m n : ℕ) → (m < n) ⊎ ((m ≡ n) ⊎ (n < m))
-order m n = grind arith
+use Rattle.pliron_graph.proofs.RankLemmas.{order}
 
 module _ {N : Type 0} (eq : N → N → Bool) (reflexive : (x : N) → eq x x ≡ true) (g : Digraph N) (walks : List (List N)) (lawful : IsLawful eq g) (are : AreWalks eq g walks) where
   abbrev pre : N → ℕ

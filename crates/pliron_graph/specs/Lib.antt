@@ -6,6 +6,7 @@ pub use Rattle.pliron_search.specs.Adjacency
 pub use Rattle.pliron_search.specs.Regions
 pub mod Components
 pub mod Laws
+pub mod NumberingLaws
 pub mod Reverse
 pub mod ReverseLaws
 pub mod Ancestors

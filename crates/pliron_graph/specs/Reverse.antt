@@ -1,5 +1,5 @@
 -- The reverse of a graph, with a sentinel in front of its pre-sentinels.
-use Rattle.std.specs.Prelude.{◌≡◌, ℕ, ◌<◌, ◌≤◌, ◌↔◌, slice_get, Bool, List, [], ◌∷◌, ◌++◌, Option, Some, Contains, map, if◌then◌else◌}
+use Rattle.std.specs.Prelude.{◌≡◌, ℕ, ◌<◌, ◌≤◌, ◌↔◌, slice_get, Bool, List, [], ◌∷◌, ◌++◌, Some, Contains, map, if◌then◌else◌}
 use Rattle.std.specs.List.{All, list_any}
 use Rattle.pliron_search.specs.Digraph.{Digraph}
 use Rattle.pliron_search.specs.Search.{number_in}

@@ -1,11 +1,21 @@
 //! What follows from the contracts of the orders, the traversal, the components and the reverse graph. Each function does nothing: its
 //! contract is the law.
 ghost use Rattle.pliron_graph.specs.Laws.{EdgeInPostOrder, EdgeInTopologicalOrder, EdgeBetweenWalks, WalkFromFirstNode, BackEdgeOnCycle, EdgeBetweenComponents, PathsOfRegion};
+ghost use Rattle.pliron_graph.specs.NumberingLaws.{NumberingIsOne, OrdersAreOne, WalksAreOne};
 ghost use Rattle.std.specs.Prelude.{◌≡◌, IsTrue, true, false};
 ghost use Rattle.pliron_graph.specs.ReverseLaws.{SentinelReachesAll, NoPreSentinelIsSpare};
 
 use crate::ReverseNode;
 use std::hash::Hash;
+
+/// The clauses of a depth-first numbering admit one numbering: any two that meet them, from the same roots, give each node that the roots
+/// reach the same two numbers. So a graph has one pair of orders from its entry ([`DFSTraversal`](crate::DFSTraversal)), and one list of
+/// walks ([`post_order_by_component`](crate::post_order_by_component)).
+pub fn numbering_is_one<N: Eq>()
+    ensures numbers { NumberingIsOne N }
+    ensures orders { OrdersAreOne N.eq }
+    ensures walks { WalksAreOne N.eq }
+{}
 
 /// In [`post_order`](crate::post_order) the target of an edge stands before its source, or reaches it.
 pub fn edge_in_post_order<N: Eq>()

@@ -3,7 +3,8 @@
 //! A graph implements [`ControlFlowGraph`]. [`post_order`], [`topological_order`] and their forms by component go through all of its
 //! nodes, a [`DFSTraversal`] through those that the entry reaches. What each answers is fixed by the graph alone, and the contracts say
 //! it without the search: a node encloses another when it has the smaller pre-order number and the greater post-order number, and the
-//! clauses of a search numbering on this relation admit one numbering. The functions of [`laws`] hold what users may conclude from it.
+//! clauses of a search numbering on this relation admit one numbering ([`laws::numbering_is_one`]). The functions of [`laws`] hold what
+//! users may conclude from it.
 //!
 //! [`sccs_in_topological_order`] gives the strongly connected components, by the numbers of the search from the entry and then all nodes.
 //!

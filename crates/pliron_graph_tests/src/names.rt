@@ -117,6 +117,7 @@ fn kinds_of_edges(rt: HostRuntime) {
 
 #[test]
 fn laws_that_users_may_cite(rt: HostRuntime) {
+    laws::numbering_is_one::<u32>();
     laws::edge_in_post_order::<u32>();
     laws::edge_in_topological_order::<u32>();
     laws::edge_between_walks::<u32>();

@@ -6,9 +6,13 @@ use pliron_meaning::bench::laws::{folds_are_monotone, folds_have_one_outcome};
 use pliron_meaning::bench::{Bench, BenchKind};
 use pliron_meaning::evaluator::{Evaluate, Move};
 use pliron_meaning::theory::{
-    arguments_go, blocks_are_joined, branches_are_replaced, constants_are_made, dead_parts_go,
-    facts_are_read, findings_hold, folds_keep_links, one_edge_is_taken, operands_are_renamed,
-    operands_have_data, runs_kept, unused_arguments_go,
+    answers_are_read, arguments_go, blocks_are_joined, branch_folds_keep_links,
+    branch_folds_keep_runs, branch_folds_replace, branches_are_refolded, branches_are_replaced,
+    closed_facts_are_read, constant_folds_keep_runs, constants_are_made,
+    constants_first_keep_links, dead_parts_go, edges_stay, facts_are_followed, facts_are_read,
+    fewer_roots_kept, findings_hold, folds_keep_links, one_edge_is_taken, operands_are_renamed,
+    operands_have_data, passes_compose, roots_may_be_chosen, runs_kept, sound_facts_are_read,
+    unused_arguments_go,
 };
 use pliron_meaning::{
     BlockArgRemoval, BranchOpFoldInterface, ConstFoldInterface, Dialect, HasMeaning, Interface,
@@ -31,17 +35,31 @@ fn is_type<T>() {}
 #[test]
 fn laws_of_runs(_rt: HostRuntime) {
     runs_kept();
+    fewer_roots_kept();
+    roots_may_be_chosen::<Bench>();
     operands_have_data();
     dead_parts_go();
     constants_are_made();
     operands_are_renamed();
     facts_are_read::<Bench>();
     findings_hold::<Tiny>();
+    sound_facts_are_read::<Bench>();
+    closed_facts_are_read::<Tiny>();
+    facts_are_followed::<Bench>();
+    answers_are_read::<Bench>();
     blocks_are_joined();
     one_edge_is_taken::<Bench>();
     branches_are_replaced();
+    branches_are_refolded();
+    constant_folds_keep_runs::<Bench>();
+    branch_folds_keep_runs::<Bench>();
+    branch_folds_keep_links::<Bench>();
+    branch_folds_replace::<Bench>();
     arguments_go();
     unused_arguments_go::<Tiny>();
+    passes_compose();
+    edges_stay();
+    constants_first_keep_links();
     folds_keep_links();
     folds_are_monotone();
     folds_have_one_outcome();

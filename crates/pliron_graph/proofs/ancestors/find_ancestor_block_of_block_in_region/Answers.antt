@@ -1,5 +1,4 @@
-use Rattle.std.proofs.Common.{◌≡◌, Some, sym, ap, ◌∙◌}
-use Rattle.pliron_core.specs.Tree.{block_parent_of}
+use Rattle.std.proofs.Common.{Some, sym, ap, ◌∙◌}
 use Rattle.pliron_core.proofs.EdgeLemmas.{same_key}
 use Rattle.pliron_core.proofs.NextLemmas.{keys_differ}
 use Rattle.pliron_graph.specs.Ancestors.{IsDirectlyIn}

@@ -1,5 +1,5 @@
 use Rattle.pliron_graph.specs.Ancestors.{IsAtOrAbove, IsDirectlyInBlock}
-use Rattle.pliron_graph.proofs.AncestorLemmas.{above_smaller, climb_here, climb_on, climb_found, climb_none, fails}
+use Rattle.pliron_graph.proofs.AncestorLemmas.{above_smaller, climb_on, climb_found, climb_none, fails}
 use Rattle.pliron_graph.proofs.ancestors.find_ancestor_op_of_op_in_block.Goals as goal
 
 pub returns-then-is_directly_in_block-clause-nearest : goal.returns-then-is_directly_in_block-clause-nearest

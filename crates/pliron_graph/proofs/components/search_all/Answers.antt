@@ -1,7 +1,6 @@
-use Rattle.std.proofs.Common.{◌≡◌, ◌<◌, ◌≤◌, [], ◌∷◌, ◌∙◌, sym, subst, length, arith, true, false, ap}
+use Rattle.std.proofs.Common.{◌≡◌, ◌<◌, ◌≤◌, [], ◌∙◌, sym, subst, length, arith, true}
 use Rattle.std.specs.List.{list_any}
 use Rattle.pliron_graph.specs.Components.{entry_then_nodes}
-use Rattle.pliron_search.specs.Internal.Forest.{Grew}
 use Rattle.pliron_graph.proofs.CollectLemmas.{read_item}
 use Rattle.pliron_search.proofs.NumberingLemmas.{search_from_growth}
 use Rattle.pliron_graph.proofs.SearchAllLemmas.{grew_none, grew_over, grew_more, grew_all}

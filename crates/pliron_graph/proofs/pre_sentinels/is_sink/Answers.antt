@@ -1,5 +1,5 @@
-use Rattle.std.proofs.Common.{◌≡◌, ◌<◌, ◌≤◌, true, false, length, get_or, sym, ◌∙◌, ap, refl, subst, arith, Contains, true≢false}
-use Rattle.std.specs.List.{All, list_any}
+use Rattle.std.proofs.Common.{◌≡◌, ◌<◌, length, get_or, sym, ◌∙◌, ap, refl, subst, arith, Contains, true≢false}
+use Rattle.std.specs.List.{All}
 use Rattle.pliron_graph.proofs.PreSentinelLemmas.{all_more, all_at, all_end}
 use Rattle.pliron_graph.proofs.pre_sentinels.is_sink.Goals as goal
 

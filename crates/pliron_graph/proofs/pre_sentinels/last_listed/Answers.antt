@@ -1,5 +1,4 @@
-use Rattle.std.proofs.Common.{◌≡◌, ◌≤◌, sym, arith, Contains}
-use Rattle.std.specs.List.{All}
+use Rattle.std.proofs.Common.{◌≤◌, sym, arith}
 use Rattle.std.proofs.lemmas.List.Elements.{All-weaker}
 use Rattle.std.proofs.Common.{take}
 use Rattle.pliron_search.specs.Search.{number_in}

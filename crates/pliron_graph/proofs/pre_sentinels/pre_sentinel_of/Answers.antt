@@ -1,5 +1,4 @@
-use Rattle.std.proofs.Common.{◌≡◌, ◌≤◌, Some, true, false, get_or, sym, ◌∙◌, ap, subst, Contains, true≢false}
-use Rattle.std.specs.List.{All}
+use Rattle.std.proofs.Common.{◌≡◌, ◌≤◌, Some, get_or, sym, ◌∙◌, ap, subst, true≢false}
 use Rattle.std.proofs.lemmas.List.Elements.{All-contains}
 use Rattle.pliron_search.specs.Search.{IsListed, number_in}
 use Rattle.pliron_graph.specs.Reverse.{IsSink, IsLastListed}

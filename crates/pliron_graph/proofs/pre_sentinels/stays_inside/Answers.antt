@@ -1,5 +1,5 @@
-use Rattle.std.proofs.Common.{◌≡◌, ◌<◌, ◌≤◌, true, false, IsTrue, length, get_or, sym, ◌∙◌, refl, subst, arith, Contains, true≢false}
-use Rattle.std.specs.List.{All, list_any}
+use Rattle.std.proofs.Common.{◌≡◌, true, false, sym, ◌∙◌, refl, arith, Contains, true≢false}
+use Rattle.std.specs.List.{list_any}
 use Rattle.std.proofs.lemmas.Option.{slice_get_within, get_or_from_slice_get}
 use Rattle.pliron_graph.proofs.PreSentinelLemmas.{all_more, all_at, all_end, listed_contains, contains_listed}
 use Rattle.pliron_graph.proofs.pre_sentinels.stays_inside.Goals as goal

@@ -1,7 +1,7 @@
 use Rattle.std.proofs.Common.{◌≡◌, ◌<◌, Some, length, slice_get, ap, arith, refl, subst}
 use Rattle.std.proofs.lemmas.Option.{slice_get_read}
 use Rattle.pliron_graph.specs.Reverse.{reverse_pred}
-use Rattle.pliron_graph.proofs.ReverseLemmas.{kept_node, kept_length, kept_list}
+use Rattle.pliron_graph.proofs.ReverseLemmas.{kept_node, kept_list}
 use Rattle.pliron_graph.proofs.reverse_graph.ReverseGraphControlFlowGraph.get_predecessor.Goals as goal
 
 pub predecessors_of-requires-clause-listed : goal.predecessors_of-requires-clause-listed

@@ -1,5 +1,5 @@
 use Rattle.std.proofs.Common.{length, ap}
-use Rattle.pliron_graph.proofs.ReverseLemmas.{kept_node, kept_length, kept_list}
+use Rattle.pliron_graph.proofs.ReverseLemmas.{kept_node, kept_list}
 use Rattle.pliron_graph.proofs.reverse_graph.ReverseGraphControlFlowGraph.num_predecessors.Goals as goal
 
 pub predecessors_of-requires-clause-listed : goal.predecessors_of-requires-clause-listed
