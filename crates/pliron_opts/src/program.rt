@@ -2,17 +2,17 @@
 ghost use Rattle.pliron_core.specs.Tree.{IsLive};
 ghost use Rattle.pliron_laws.specs.Linked.{IsWellLinked};
 ghost use Rattle.pliron_bench.specs.BenchMoves.{bench};
-ghost use Rattle.pliron_theory.specs.Change.{IsPassChange};
+ghost use Rattle.pliron_optimising.specs.Headline.{DoAsBefore};
 
+use crate::command::{Command, asked};
 use crate::graph_lines::print_graph;
 use crate::numbered_graph::read_graph;
 use pliron_bench::Bench;
-use pliron_cfg::simplify_cfg;
 use pliron_core::{Context, IRStatus, Operation, Ptr};
-use pliron_dce::dce;
 use pliron_laws::OptError;
 use pliron_notation::{print_text, read_text};
-use pliron_sccp::sccp;
+use pliron_optimising::{Schedule, run_pipeline};
+use pliron_pass::{AnalysisManager, BenchFacts};
 use std::alloc::{AllocError, Global};
 use std::io::{ErrorKind, Read, Write};
 use thiserror::Error;
@@ -76,97 +76,48 @@ fn read_input<R: Read>(alloc: Global, input: &mut R) -> Result<Vec<u8>, Failure>
     Err(Failure::Reading)
 }
 
-/// One optimisation of a list.
-#[derive(Clone, Copy, Debug, Drop, PartialEq, Eq)]
-enum Optimisation {
-    Sccp,
-    Dce,
-    SimplifyCfg,
-}
-
-impl Optimisation {
-    fn from_name(name: &str) -> Option<Self> {
-        match name {
-            "sccp" => Some(Optimisation::Sccp),
-            "dce" => Some(Optimisation::Dce),
-            "simplify-cfg" => Some(Optimisation::SimplifyCfg),
-            _ => None,
-        }
-    }
-
-    /// Optimises what is inside the operation.
-    ///
-    /// Errors: want of memory; `LiveUse` of the simplification of control flow; each after some whole
-    /// rewrites.
-    fn run(
-        &self,
-        alloc: Global,
-        root: Ptr<Operation>,
-        ctx: &mut Context,
-    ) -> Result<IRStatus, OptError>
-        requires live { IsLive ctx.old.tree root }
-        requires linked { IsWellLinked bench ctx.old.tree root }
-        ensures { IsPassChange bench ctx.old.tree ctx.new.tree root }
-    {
-        match self {
-            Optimisation::Sccp => sccp::<Bench>(alloc, root, ctx),
-            Optimisation::Dce => dce::<Bench>(alloc, root, ctx),
-            Optimisation::SimplifyCfg => simplify_cfg::<Bench>(alloc, root, ctx),
-        }
-    }
-}
-
-/// What the arguments ask for.
-#[derive(Debug, Drop)]
-enum Command {
-    /// The optimisation of a text, by these calls one after the other.
-    Optimise(Vec<Optimisation>),
-    /// The orders of a graph, its search numbers and the kinds of its edges.
-    Graph,
-}
-
-/// Optimises what is inside the operation by each of the list in turn.
-///
-/// Errors: want of memory, after some whole rewrites.
-fn run_list(
-    alloc: Global,
-    list: &[Optimisation],
-    root: Ptr<Operation>,
-    ctx: &mut Context,
-) -> Result<IRStatus, OptError>
-    requires live { IsLive ctx.old.tree root }
-    requires linked { IsWellLinked bench ctx.old.tree root }
-    ensures { IsPassChange bench ctx.old.tree ctx.new.tree root }
-{
-    let mut status = IRStatus::Unchanged;
-    for optimisation in list {
-        status |= optimisation.run(alloc, root, ctx)?;
-    }
-    Ok(status)
-}
-
 /// What the program writes for a text that is to be optimised.
-fn optimised(alloc: Global, list: &[Optimisation], text: &[u8]) -> Result<String, Failure> {
+fn optimised(
+    alloc: Global,
+    schedule: &mut Schedule<Bench, BenchFacts>,
+    text: &[u8],
+) -> Result<String, Failure> {
     let mut ctx = Context::new(alloc);
-    optimised_in(alloc, list, text, &mut ctx)
+    optimised_in(alloc, schedule, text, &mut ctx)
 }
 
 fn optimised_in(
     alloc: Global,
-    list: &[Optimisation],
+    schedule: &mut Schedule<Bench, BenchFacts>,
     text: &[u8],
     ctx: &mut Context,
 ) -> Result<String, Failure> {
     let Some(root) = read_text(alloc, text, ctx)? else {
         return Err(Failure::Text);
     };
-    let status = run_list(alloc, list, root, ctx)?;
+    let status = run_schedule(alloc, schedule, root, ctx)?;
     let mut printed = print_text(alloc, root, ctx)?;
     printed.push_str(match status {
         IRStatus::Changed => "\nchanged\n",
         IRStatus::Unchanged => "\nunchanged\n",
     })?;
     Ok(printed)
+}
+
+/// Runs the passes on the operation, with nothing configured and nothing cached.
+fn run_schedule(
+    alloc: Global,
+    schedule: &mut Schedule<Bench, BenchFacts>,
+    root: Ptr<Operation>,
+    ctx: &mut Context,
+) -> Result<IRStatus, OptError>
+    requires live { IsLive ctx.old.tree root }
+    requires linked { IsWellLinked bench ctx.old.tree root }
+    ensures same { DoAsBefore bench ctx.old.tree ctx.new.tree }
+    ensures stands { IsLive ctx.new.tree root }
+{
+    let mut analyses = AnalysisManager::new(alloc);
+    run_pipeline(schedule, alloc, root, ctx, &mut analyses)
 }
 
 /// What the program writes for a graph.
@@ -178,37 +129,13 @@ fn described(alloc: Global, text: &[u8]) -> Result<String, Failure> {
 }
 
 /// What the program writes for a text.
-fn answer(alloc: Global, command: &Command, text: &[u8]) -> Result<String, Failure> {
+fn answer(alloc: Global, command: &mut Command, text: &[u8]) -> Result<String, Failure> {
     if text.len() > MAX_TEXT {
         return Err(Failure::Text);
     }
     match command {
-        Command::Optimise(list) => optimised(alloc, list, text),
+        Command::Optimise(schedule) => optimised(alloc, schedule, text),
         Command::Graph => described(alloc, text),
-    }
-}
-
-/// The optimisations that these names ask for, joined by commas, if each is one.
-fn listed(alloc: Global, names: &str) -> Result<Option<Vec<Optimisation>>, AllocError> {
-    let mut list = Vec::new(alloc);
-    for name in names.split(',') {
-        let Some(optimisation) = Optimisation::from_name(name) else {
-            return Ok(None);
-        };
-        list.push(optimisation)?;
-    }
-    Ok(Some(list))
-}
-
-/// What the arguments ask for, if they are understood.
-fn asked(alloc: Global, args: &[String]) -> Result<Option<Command>, AllocError> {
-    match args {
-        [word] if word.as_str() == "graph" => Ok(Some(Command::Graph)),
-        [names] => match listed(alloc, names.as_str())? {
-            Some(list) => Ok(Some(Command::Optimise(list))),
-            None => Ok(None),
-        },
-        _ => Ok(None),
     }
 }
 
@@ -218,11 +145,11 @@ fn run<R: Read, W: Write>(
     input: &mut R,
     output: &mut W,
 ) -> Result<(), Failure> {
-    let Some(command) = asked(alloc, args)? else {
+    let Some(mut command) = asked(alloc, args)? else {
         return Err(Failure::Arguments);
     };
     let text = read_input(alloc, input)?;
-    let answer = answer(alloc, &command, &text)?;
+    let answer = answer(alloc, &mut command, &text)?;
     if output.write_all(answer.as_bytes()).is_err() || output.flush().is_err() {
         return Err(Failure::Writing);
     }
