@@ -177,7 +177,11 @@ fn refused(rt: HostRuntime) {
     for line in REFUSED.lines() {
         let (list, rest) = line.split_once(" :: ").expect(&rt, "a list");
         let (text, reported) = rest.split_once(" => ").expect(&rt, "a case");
-        let status = if reported.starts_with("refused") { 1 } else { 2 };
+        let status = if reported.starts_with("refused") {
+            1
+        } else {
+            2
+        };
         let args = [list];
         let mut case = Case {
             args: &args,

@@ -67,7 +67,11 @@ impl<'t> Plan<'t> {
     {
         let (nested, list) = nested_list(word);
         let names: Vec<&str> = list.split(',').collect(alloc)?;
-        Ok(Plan { runs, nested, names })
+        Ok(Plan {
+            runs,
+            nested,
+            names,
+        })
     }
 
     /// What the word says: names joined by commas, after `nested:` for each operation directly inside, and
