@@ -1,5 +1,5 @@
 //! One of the passes here, and lists of them.
-ghost use Rattle.std.specs.Prelude.{◌≡◌, ℕ, Bool, true, false};
+ghost use Rattle.std.specs.Prelude.{◌≡◌, ℕ, Bool, true, false, IfSome};
 ghost use Rattle.pliron_optimising.specs.Constants.{sccp_name};
 ghost use Rattle.pliron_optimising.specs.ControlFlow.{simplify_cfg_name};
 ghost use Rattle.pliron_optimising.specs.DeadCode.{dce_name};
@@ -29,7 +29,9 @@ pub enum Step<D: Dialect, E: Analyses + Drop> {
 
 impl<D: Dialect, E: Analyses + Drop> Step<D, E> {
     /// The pass of this name: `sccp`, `dce` or `simplify-cfg`.
-    pub fn from_name(name: &str) -> Option<Self> {
+    pub fn from_name(name: &str) -> Option<Self>
+        ensures { IfSome result (λ step. ⟦<Step<D, E> as Pass>⟧.name step ≡ name.now) }
+    {
         match name {
             "sccp" => Some(Step::Sccp(SCCPPass::new())),
             "dce" => Some(Step::Dce(DCEPass::new())),
