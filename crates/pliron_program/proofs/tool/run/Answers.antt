@@ -1,4 +1,4 @@
-use Rattle.std.proofs.Common.{refl, sym, subst, ap, ◌∙◌}
+use Rattle.std.proofs.Common.{refl, subst, ap, ◌∙◌}
 use Rattle.std.specs.Io.KnownBytes.{Appends}
 use Rattle.pliron_program.specs.Ending.{Ends.Whole, Ends.Part, WritesPart, status_of}
 use Rattle.pliron_program.proofs.tool.run.Goals as goal
