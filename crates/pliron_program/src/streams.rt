@@ -1,6 +1,6 @@
 //! Reading all of an input and writing all of an answer.
 ghost use Rattle.std.specs.Prelude.{◌≡◌, ◌≤◌, length, IfOk, OnOk, OnErr, IfErr};
-ghost use Rattle.std.specs.Io.KnownBytes.{Appends};
+ghost use Rattle.std.specs.Io.KnownBytes.{Appends, Consumes};
 ghost use Rattle.pliron_program.specs.Ending.{IsWhole, WritesPart};
 
 use crate::failure::Failure;
@@ -12,7 +12,9 @@ pub const MAX_TEXT: usize = 1_048_576;
 
 /// The input, of which no more is read than one byte past the longest text.
 pub fn read_input<R: Read>(alloc: Global, input: &mut R) -> Result<Vec<u8>, Failure>
-    ensures { IfOk result (λ text. length text.items ≤ 1048576 → IsWhole (R.remaining input.old) text.items) }
+    ensures read { IfOk result (λ text. Consumes (R.remaining input.old) (R.remaining input.new) text.items) }
+    ensures few { IfOk result (λ text. length text.items ≤ 1048577) }
+    ensures whole { IfOk result (λ text. length text.items ≤ 1048576 → IsWhole (R.remaining input.old) text.items) }
 {
     let mut text = Vec::new(alloc);
     let mut buffer = [0u8; 4096];
