@@ -1,10 +1,12 @@
 //! The program `plir_opt`: what its words ask for, and what it answers.
-ghost use Rattle.std.specs.Prelude.{◌≡◌, ℕ, List, Ok, map, IfOk, IfSome, OnOk, string_bytes};
+ghost use Rattle.std.specs.Prelude.{⊤, map, IfOk, string_bytes};
 ghost use Rattle.pliron_core.specs.Tree.{IsLive};
+ghost use Rattle.pliron_core.specs.Changes.{IsInsideChange};
 ghost use Rattle.pliron_laws.specs.Linked.{IsWellLinked};
 ghost use Rattle.pliron_bench.specs.BenchMoves.{bench};
 ghost use Rattle.pliron_optimising.specs.Headline.{DoAsBefore};
 ghost use Rattle.pliron_program.specs.Ending.{IsAnswer, Ends};
+ghost use Rattle.pliron_opts.specs.Ran.{RunsAlone};
 
 use crate::command::{Command, asked};
 use crate::graph_lines::print_graph;
@@ -14,12 +16,14 @@ use pliron_core::{Context, IRStatus, Operation, Ptr};
 use pliron_laws::OptError;
 use pliron_notation::{print_text, read_text};
 use pliron_optimising::{Schedule, run_pipeline};
-use pliron_pass::{AnalysisManager, BenchFacts};
+use pliron_pass::{AnalysisManager, BenchFactKind, BenchFacts, Pass};
 use pliron_program::{Tool, run};
 use std::alloc::Global;
 use std::io::{Read, Write};
 
-/// Runs the passes on the operation, with nothing configured and nothing cached.
+/// Runs the passes once on the operation, with nothing configured and nothing cached.
+///
+/// Errors: those of the passes; want of memory, after some whole rewrites.
 fn run_schedule(
     alloc: Global,
     mut schedule: Schedule<Bench, BenchFacts>,
@@ -30,6 +34,9 @@ fn run_schedule(
     requires linked { IsWellLinked bench ctx.old.tree root }
     ensures same { DoAsBefore bench ctx.old.tree ctx.new.tree }
     ensures stands { IsLive ctx.new.tree root }
+    ensures links { IsWellLinked bench ctx.new.tree root }
+    ensures inside { IsInsideChange ctx.old.tree ctx.new.tree root }
+    ensures ran { IfOk result (λ status. RunsAlone ⟦<BenchFactKind as PartialEq>⟧.eq ⟦<Schedule<Bench, BenchFacts> as Pass>⟧.outcome schedule root ctx.old.tree ctx.new.tree status) }
 {
     let mut analyses = AnalysisManager::new(alloc);
     run_pipeline(&mut schedule, alloc, root, ctx, &mut analyses)
@@ -72,7 +79,7 @@ fn described(alloc: Global, text: &[u8]) -> Result<Option<String>, OptError> {
 }
 
 /// `plir_opt`.
-struct PlirOpt;
+pub struct PlirOpt;
 
 impl Tool for PlirOpt {
     type Command = Command;
@@ -106,7 +113,7 @@ pub fn plir_run<R: Read, W: Write, E: Write>(
     output: &mut W,
     errors: &mut E,
 ) -> u8
-    ensures { Ends (λ answer. ⊤) (W.contents output.old) (W.contents output.new) result }
+    ensures { Ends (IsAnswer ⟦<PlirOpt as Tool>⟧.asks ⟦<PlirOpt as Tool>⟧.answers (map string_bytes args.now) (R.remaining input.old)) (W.contents output.old) (W.contents output.new) result }
 {
     run::<PlirOpt, R, W, E>(alloc, args, input, output, errors)
 }
