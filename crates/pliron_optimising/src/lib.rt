@@ -15,4 +15,4 @@ pub use control_flow::{ControlFlow, SimplifyCFGPass};
 pub use dead_code::{DCEPass, DeadCode};
 pub use headline::run_pipeline;
 pub use optimisation::{Effect, Optimisation, OptimisingPass};
-pub use step::{Pipeline, Step};
+pub use step::{Pipeline, Schedule, Step};

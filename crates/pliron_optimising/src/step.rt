@@ -1,11 +1,13 @@
 //! One of the passes here, and lists of them.
-ghost use Rattle.std.specs.Prelude.{◌≡◌, ℕ, Bool, true, false};
+ghost use Rattle.std.specs.Prelude.{◌≡◌, ℕ, Bool, true, false, IfSome};
 ghost use Rattle.pliron_optimising.specs.Constants.{sccp_name};
 ghost use Rattle.pliron_optimising.specs.ControlFlow.{simplify_cfg_name};
 ghost use Rattle.pliron_optimising.specs.DeadCode.{dce_name};
 ghost use Rattle.pliron_pass.specs.Combined.{nested_name, passes_name};
+ghost use Rattle.pliron_pass.specs.Repeating.{repeat_name};
 ghost use Rattle.pliron_optimising.specs.declared.step.Step.TheVariants.{Sccp as ASccp, Dce as ADce, SimplifyCfg as ASimplifyCfg};
 ghost use Rattle.pliron_optimising.specs.declared.step.Pipeline.TheVariants.{Flat as AFlat, Nested as ANested};
+ghost use Rattle.pliron_optimising.specs.declared.step.Schedule.TheVariants.{Once as AOnce, Repeated as ARepeated};
 
 use crate::constants::SCCPPass;
 use crate::control_flow::SimplifyCFGPass;
@@ -13,7 +15,7 @@ use crate::dead_code::DCEPass;
 use pliron_core::{Context, Operation, Ptr};
 use pliron_laws::{Dialect, OptError};
 use pliron_pass::{
-    Analyses, AnalysisKind, AnalysisManager, NestedOpsPass, Pass, PassResult, Passes,
+    Analyses, AnalysisKind, AnalysisManager, NestedOpsPass, Pass, PassResult, Passes, Repeat,
 };
 use std::alloc::Global;
 
@@ -27,7 +29,9 @@ pub enum Step<D: Dialect, E: Analyses + Drop> {
 
 impl<D: Dialect, E: Analyses + Drop> Step<D, E> {
     /// The pass of this name: `sccp`, `dce` or `simplify-cfg`.
-    pub fn from_name(name: &str) -> Option<Self> {
+    pub fn from_name(name: &str) -> Option<Self>
+        ensures { IfSome result (λ step. ⟦<Step<D, E> as Pass>⟧.name step ≡ name.now) }
+    {
         match name {
             "sccp" => Some(Step::Sccp(SCCPPass::new())),
             "dce" => Some(Step::Dce(DCEPass::new())),
@@ -110,6 +114,49 @@ impl<D: Dialect, E: Analyses + Drop> Pass for Pipeline<D, E> {
         match self {
             Pipeline::Flat(passes) => passes.run(alloc, op, ctx, analyses),
             Pipeline::Nested(passes) => passes.run(alloc, op, ctx, analyses),
+        }
+    }
+
+    fn is_pass_manager(&self) -> bool {
+        true
+    }
+}
+
+/// A pipeline that is run once, or again and again until it changes nothing, at most so many times.
+#[derive(Drop)]
+pub enum Schedule<D: Dialect, E: Analyses + Drop> {
+    Once(Pipeline<D, E>),
+    Repeated(Repeat<Pipeline<D, E>>),
+}
+
+impl<D: Dialect, E: Analyses + Drop> Pass for Schedule<D, E> {
+    type D = D;
+
+    type E = E;
+
+    ghost is_pass_manager = { λ p. true };
+
+    ghost name = { elim [ AOnce p ↦ ⟦<Pipeline<D, E> as Pass>⟧.name p | ARepeated p ↦ repeat_name ] };
+
+    ghost outcome = { elim [ AOnce p ↦ elim [ AOnce q ↦ ⟦<Pipeline<D, E> as Pass>⟧.outcome p q | ARepeated q ↦ λ op s s' r. ⊥ ] | ARepeated p ↦ elim [ AOnce q ↦ λ op s s' r. ⊥ | ARepeated q ↦ ⟦<Repeat<Pipeline<D, E>> as Pass>⟧.outcome p q ] ] };
+
+    fn name(&self) -> &str {
+        match self {
+            Schedule::Once(pipeline) => pipeline.name(),
+            Schedule::Repeated(pipeline) => pipeline.name(),
+        }
+    }
+
+    fn run(
+        &mut self,
+        alloc: Global,
+        op: Ptr<Operation>,
+        ctx: &mut Context,
+        analyses: &mut AnalysisManager<E>,
+    ) -> Result<PassResult<<E as AnalysisKind>::Kind>, OptError> {
+        match self {
+            Schedule::Once(pipeline) => pipeline.run(alloc, op, ctx, analyses),
+            Schedule::Repeated(pipeline) => pipeline.run(alloc, op, ctx, analyses),
         }
     }
 

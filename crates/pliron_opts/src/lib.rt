@@ -4,6 +4,7 @@
 //! texts, arguments and streams.
 #![tactic(auto)]
 
+mod command;
 mod graph_lines;
 mod numbered_graph;
 mod program;
@@ -14,6 +15,8 @@ pub use pliron_cfg::{
 };
 pub use pliron_dce::dce;
 pub use pliron_laws::OptError;
-pub use pliron_optimising::{DCEPass, Pipeline, SCCPPass, SimplifyCFGPass, Step, run_pipeline};
+pub use pliron_optimising::{
+    DCEPass, Pipeline, SCCPPass, Schedule, SimplifyCFGPass, Step, run_pipeline,
+};
 pub use pliron_sccp::{sccp, sccp_counted};
 pub use program::plir_run;

@@ -1,252 +1,119 @@
-//! The program: from arguments and bytes to bytes and a status.
+//! The program `plir_opt`: what its words ask for, and what it answers.
+ghost use Rattle.std.specs.Prelude.{⊤, map, IfOk, string_bytes};
 ghost use Rattle.pliron_core.specs.Tree.{IsLive};
+ghost use Rattle.pliron_core.specs.Changes.{IsInsideChange};
 ghost use Rattle.pliron_laws.specs.Linked.{IsWellLinked};
 ghost use Rattle.pliron_bench.specs.BenchMoves.{bench};
-ghost use Rattle.pliron_theory.specs.Change.{IsPassChange};
+ghost use Rattle.pliron_optimising.specs.Headline.{DoAsBefore};
+ghost use Rattle.pliron_program.specs.Ending.{IsAnswer, Ends};
+ghost use Rattle.pliron_opts.specs.Ran.{RunsAlone};
 
+use crate::command::{Command, asked};
 use crate::graph_lines::print_graph;
 use crate::numbered_graph::read_graph;
 use pliron_bench::Bench;
-use pliron_cfg::simplify_cfg;
 use pliron_core::{Context, IRStatus, Operation, Ptr};
-use pliron_dce::dce;
 use pliron_laws::OptError;
 use pliron_notation::{print_text, read_text};
-use pliron_sccp::sccp;
-use std::alloc::{AllocError, Global};
-use std::io::{ErrorKind, Read, Write};
-use thiserror::Error;
+use pliron_optimising::{Schedule, run_pipeline};
+use pliron_pass::{AnalysisManager, BenchFactKind, BenchFacts, Pass};
+use pliron_program::{Tool, run};
+use std::alloc::Global;
+use std::io::{Read, Write};
 
-/// The most bytes of a text.
-const MAX_TEXT: usize = 1_048_576;
-
-/// Why the program ends without an answer.
-#[derive(Clone, Copy, Debug, Drop, PartialEq, Eq, Error)]
-enum Failure {
-    #[error("usage: plir_opt LIST, or plir_opt graph")]
-    Arguments,
-    #[error("cannot read standard input")]
-    Reading,
-    #[error("unreadable text")]
-    Text,
-    #[error("refused: {0}")]
-    Refused(OptError),
-    #[error("cannot write standard output")]
-    Writing,
-}
-
-impl From<OptError> for Failure {
-    fn from(error: OptError) -> Self {
-        Failure::Refused(error)
-    }
-}
-
-impl From<AllocError> for Failure {
-    fn from(_: AllocError) -> Self {
-        Failure::Refused(OptError::Memory)
-    }
-}
-
-impl Failure {
-    fn status(self) -> u8 {
-        match self {
-            Failure::Refused(_) => 1,
-            _ => 2,
-        }
-    }
-}
-
-/// The input, of which no more is read than one byte past the longest text.
-fn read_input<R: Read>(alloc: Global, input: &mut R) -> Result<Vec<u8>, Failure> {
-    let mut text = Vec::new(alloc);
-    let mut buffer = [0u8; 4096];
-    // Each turn that doesn't end the loop reads a byte at least, or was interrupted.
-    for _ in 0..u64::MAX {
-        let room = (MAX_TEXT + 1).saturating_sub(text.len()).min(buffer.len());
-        match input.read(&mut buffer[..room]) {
-            Ok(0) => return Ok(text),
-            Ok(count) => text.extend_from_slice(&buffer[..count])?,
-            Err(error) => {
-                if error.kind() != ErrorKind::Interrupted {
-                    return Err(Failure::Reading);
-                }
-            }
-        }
-    }
-    Err(Failure::Reading)
-}
-
-/// One optimisation of a list.
-#[derive(Clone, Copy, Debug, Drop, PartialEq, Eq)]
-enum Optimisation {
-    Sccp,
-    Dce,
-    SimplifyCfg,
-}
-
-impl Optimisation {
-    fn from_name(name: &str) -> Option<Self> {
-        match name {
-            "sccp" => Some(Optimisation::Sccp),
-            "dce" => Some(Optimisation::Dce),
-            "simplify-cfg" => Some(Optimisation::SimplifyCfg),
-            _ => None,
-        }
-    }
-
-    /// Optimises what is inside the operation.
-    ///
-    /// Errors: want of memory; `LiveUse` of the simplification of control flow; each after some whole
-    /// rewrites.
-    fn run(
-        &self,
-        alloc: Global,
-        root: Ptr<Operation>,
-        ctx: &mut Context,
-    ) -> Result<IRStatus, OptError>
-        requires live { IsLive ctx.old.tree root }
-        requires linked { IsWellLinked bench ctx.old.tree root }
-        ensures { IsPassChange bench ctx.old.tree ctx.new.tree root }
-    {
-        match self {
-            Optimisation::Sccp => sccp::<Bench>(alloc, root, ctx),
-            Optimisation::Dce => dce::<Bench>(alloc, root, ctx),
-            Optimisation::SimplifyCfg => simplify_cfg::<Bench>(alloc, root, ctx),
-        }
-    }
-}
-
-/// What the arguments ask for.
-#[derive(Debug, Drop)]
-enum Command {
-    /// The optimisation of a text, by these calls one after the other.
-    Optimise(Vec<Optimisation>),
-    /// The orders of a graph, its search numbers and the kinds of its edges.
-    Graph,
-}
-
-/// Optimises what is inside the operation by each of the list in turn.
+/// Runs the passes once on the operation, with nothing configured and nothing cached.
 ///
-/// Errors: want of memory, after some whole rewrites.
-fn run_list(
+/// Errors: those of the passes; want of memory, after some whole rewrites.
+fn run_schedule(
     alloc: Global,
-    list: &[Optimisation],
+    mut schedule: Schedule<Bench, BenchFacts>,
     root: Ptr<Operation>,
     ctx: &mut Context,
 ) -> Result<IRStatus, OptError>
     requires live { IsLive ctx.old.tree root }
     requires linked { IsWellLinked bench ctx.old.tree root }
-    ensures { IsPassChange bench ctx.old.tree ctx.new.tree root }
+    ensures same { DoAsBefore bench ctx.old.tree ctx.new.tree }
+    ensures stands { IsLive ctx.new.tree root }
+    ensures links { IsWellLinked bench ctx.new.tree root }
+    ensures inside { IsInsideChange ctx.old.tree ctx.new.tree root }
+    ensures ran { IfOk result (λ status. RunsAlone ⟦<BenchFactKind as PartialEq>⟧.eq ⟦<Schedule<Bench, BenchFacts> as Pass>⟧.outcome schedule root ctx.old.tree ctx.new.tree status) }
 {
-    let mut status = IRStatus::Unchanged;
-    for optimisation in list {
-        status |= optimisation.run(alloc, root, ctx)?;
-    }
-    Ok(status)
+    let mut analyses = AnalysisManager::new(alloc);
+    run_pipeline(&mut schedule, alloc, root, ctx, &mut analyses)
 }
 
 /// What the program writes for a text that is to be optimised.
-fn optimised(alloc: Global, list: &[Optimisation], text: &[u8]) -> Result<String, Failure> {
+fn optimised(
+    alloc: Global,
+    schedule: Schedule<Bench, BenchFacts>,
+    text: &[u8],
+) -> Result<Option<String>, OptError> {
     let mut ctx = Context::new(alloc);
-    optimised_in(alloc, list, text, &mut ctx)
+    optimised_in(alloc, schedule, text, &mut ctx)
 }
 
 fn optimised_in(
     alloc: Global,
-    list: &[Optimisation],
+    schedule: Schedule<Bench, BenchFacts>,
     text: &[u8],
     ctx: &mut Context,
-) -> Result<String, Failure> {
+) -> Result<Option<String>, OptError> {
     let Some(root) = read_text(alloc, text, ctx)? else {
-        return Err(Failure::Text);
+        return Ok(None);
     };
-    let status = run_list(alloc, list, root, ctx)?;
+    let status = run_schedule(alloc, schedule, root, ctx)?;
     let mut printed = print_text(alloc, root, ctx)?;
     printed.push_str(match status {
         IRStatus::Changed => "\nchanged\n",
         IRStatus::Unchanged => "\nunchanged\n",
     })?;
-    Ok(printed)
+    Ok(Some(printed))
 }
 
 /// What the program writes for a graph.
-fn described(alloc: Global, text: &[u8]) -> Result<String, Failure> {
+fn described(alloc: Global, text: &[u8]) -> Result<Option<String>, OptError> {
     match read_graph(alloc, text)? {
-        Some(graph) => Ok(print_graph(alloc, &graph)?),
-        None => Err(Failure::Text),
+        Some(graph) => Ok(Some(print_graph(alloc, &graph)?)),
+        None => Ok(None),
     }
 }
 
-/// What the program writes for a text.
-fn answer(alloc: Global, command: &Command, text: &[u8]) -> Result<String, Failure> {
-    if text.len() > MAX_TEXT {
-        return Err(Failure::Text);
-    }
-    match command {
-        Command::Optimise(list) => optimised(alloc, list, text),
-        Command::Graph => described(alloc, text),
-    }
-}
+/// `plir_opt`.
+pub struct PlirOpt;
 
-/// The optimisations that these names ask for, joined by commas, if each is one.
-fn listed(alloc: Global, names: &str) -> Result<Option<Vec<Optimisation>>, AllocError> {
-    let mut list = Vec::new(alloc);
-    for name in names.split(',') {
-        let Some(optimisation) = Optimisation::from_name(name) else {
-            return Ok(None);
-        };
-        list.push(optimisation)?;
-    }
-    Ok(Some(list))
-}
+impl Tool for PlirOpt {
+    type Command = Command;
 
-/// What the arguments ask for, if they are understood.
-fn asked(alloc: Global, args: &[String]) -> Result<Option<Command>, AllocError> {
-    match args {
-        [word] if word.as_str() == "graph" => Ok(Some(Command::Graph)),
-        [names] => match listed(alloc, names.as_str())? {
-            Some(list) => Ok(Some(Command::Optimise(list))),
-            None => Ok(None),
-        },
-        _ => Ok(None),
-    }
-}
+    ghost asks = { λ words command. ⊤ };
 
-fn run<R: Read, W: Write>(
-    alloc: Global,
-    args: &[String],
-    input: &mut R,
-    output: &mut W,
-) -> Result<(), Failure> {
-    let Some(command) = asked(alloc, args)? else {
-        return Err(Failure::Arguments);
-    };
-    let text = read_input(alloc, input)?;
-    let answer = answer(alloc, &command, &text)?;
-    if output.write_all(answer.as_bytes()).is_err() || output.flush().is_err() {
-        return Err(Failure::Writing);
+    ghost answers = { λ command text answer. ⊤ };
+
+    fn asked(alloc: Global, words: &[String]) -> Result<Option<Command>, OptError> {
+        Ok(asked(alloc, words)?)
     }
-    Ok(())
+
+    fn answer(alloc: Global, command: Command, text: &[u8]) -> Result<Option<String>, OptError> {
+        match command {
+            Command::Optimise(schedule) => optimised(alloc, schedule, text),
+            Command::Graph => described(alloc, text),
+        }
+    }
 }
 
 /// Runs the program on the words after its name and these streams, and answers its status.
 ///
-/// Faults are found in this order: arguments, reading, text, optimising and printing, writing. Nothing
-/// is written to `output` before the whole answer is known. Statuses: 0; 1 where memory was refused,
-/// with empty output; 2 for the rest, each with a line on `errors`. A failed write to `errors` is
-/// ignored. Cost: linear in the text.
+/// Faults are found in this order: arguments, reading, text, passes and printing, writing. Nothing is
+/// written to `output` before the whole answer is known. Statuses: 0; 1 where memory or the passes were
+/// refused, with empty output; 2 for the rest; each but 0 with a line on `errors`. A failed write to
+/// `errors` is ignored. Cost: reading and printing, linear in the text, and that of the passes.
 pub fn plir_run<R: Read, W: Write, E: Write>(
     alloc: Global,
     args: &[String],
     input: &mut R,
     output: &mut W,
     errors: &mut E,
-) -> u8 {
-    match run(alloc, args, input, output) {
-        Ok(()) => 0,
-        Err(failure) => {
-            let _ = writeln!(errors, "{failure}");
-            failure.status()
-        }
-    }
+) -> u8
+    ensures { Ends (IsAnswer ⟦<PlirOpt as Tool>⟧.asks ⟦<PlirOpt as Tool>⟧.answers (map string_bytes args.now) (R.remaining input.old)) (W.contents output.old) (W.contents output.new) result }
+{
+    run::<PlirOpt, R, W, E>(alloc, args, input, output, errors)
 }

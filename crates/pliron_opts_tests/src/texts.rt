@@ -97,7 +97,7 @@ fn rows(rt: HostRuntime) {
     }
 }
 
-/// Lists of optimisations and texts, and what is written of them.
+/// Lists of passes and texts, and what is written of them.
 static LISTS: &str =
     "sccp,dce :: func { b0(): a = const 1; b = const 2; c = add a b; ret c } => func { b0(): v0 = const 3; ret v0 }|changed|
 sccp,sccp :: func { b0(): a = const 1; b = const 2; c = add a b; ret c } => func { b0(): v0 = const 1; v1 = const 2; v2 = const 3; v3 = const 3; v4 = add v0 v1; ret v2 }|changed|
@@ -109,9 +109,40 @@ dce :: func { b0(): a = const 1; z = const 0; d = div a z; ret a } => func { b0(
 dce :: func { b0(): l, r = pair; sink l l r r; br b1(l, r); b1(a, b): k = const 99; ret k } => func { b0(): br b1(); b1(): v0 = const 99; ret v0 }|changed|
 dce :: func { b0(): k = const 4; box { b0(): sink k }; ret } => func { b0(): ret }|changed|
 dce :: func { b0(): z = const 0; br b1(z); b1(i): r = read; cbr r b1(i) b2(); b2(): ret } => func { b0(): v0 = const 0; br b1(v0); b1(v1): v2 = read; cbr v2 b1(v1) b2(); b2(): ret }|unchanged|
+dce :: func { b0(x): fork x b1 b1; b1(p): ret } => func { b0(v0): fork v0 b1 b1; b1(v1): ret }|unchanged|
+dce :: func { b0(x): cbr x b1(x) b1(x); b1(p): ret } => func { b0(v0): cbr v0 b1() b1(); b1(): ret }|changed|
 simplify-cfg :: func { b0(): a = const 1; br b1(a); b1(p): cbr p b2() b3(); b2(): ret p; b3(): ret } => func { b0(): v0 = const 1; cbr v0 b1() b2(); b1(): ret v0; b2(): ret }|changed|
+simplify-cfg :: func { b0(): br b1(); b1(): br b2(); b2(): br b1() } => func { b0(): br b1(); b1(): br b1() }|changed|
+simplify-cfg :: mod { } => mod { }|unchanged|
+simplify-cfg :: func { b0(): ret } => func { b0(): ret }|unchanged|
+simplify-cfg :: func { b0(): br b0() } => func { b0(): br b0() }|unchanged|
+simplify-cfg :: func { b0(): c = const 0; d = const 2; cbr c b1(c) b1(d); b1(p): ret p } => func { b0(): v0 = const 0; v1 = const 2; ret v1 }|changed|
+simplify-cfg :: func { b0(): br b1(p); b1(p): ret p } => func { b0(): br b1(v0); b1(v0): ret v0 }|unchanged|
+simplify-cfg :: func { b0(): br b1(); b1(p): ret p } => func { b0(): br b1(); b1(v0): ret v0 }|unchanged|
+simplify-cfg :: mod { b0(): func { b0(): br b1(); b1(): ret }; b1(): func { b0(): br b1(); b1(): ret } } => mod { b0(): func { b0(): ret }; b1(): func { b0(): br b1(); b1(): ret } }|changed|
+sccp,simplify-cfg,dce :: func { b0(): c = const 1; x = const 5; cbr c b1(x) b2(); b1(p): br b3(p); b2(): y = const 6; br b3(y); b3(q): ret q } => func { b0(): v0 = const 5; ret v0 }|changed|
 sccp,simplify-cfg,dce :: func { b0(): a = const 1; br b1(a); b1(p): cbr p b2() b3(); b2(): ret p; b3(): ret } => func { b0(): v0 = const 1; ret v0 }|changed|
-simplify-cfg :: func { b0(): ret } => func { b0(): ret }|unchanged|";
+nested:simplify-cfg :: mod { b0(): func { b0(): br b1(); b1(): ret }; b1(): func { b0(): br b1(); b1(): ret } } => mod { b0(): func { b0(): ret }; b1(): func { b0(): ret } }|changed|
+nested:simplify-cfg :: func { b0(): br b1(); b1(): ret } => func { b0(): br b1(); b1(): ret }|unchanged|
+nested:dce :: func { b0(): k = const 4; box { b0(): sink k }; ret } => func { b0(): v0 = const 4; box { b0(): }; ret }|changed|
+nested:sccp,dce :: mod { b0(): func { b0(): a = const 1; b = const 2; c = add a b; ret c }; func { b0(): ret } } => mod { b0(): func { b0(): v0 = const 3; ret v0 }; func { b0(): ret } }|changed|
+nested:dce :: mod { } => mod { }|unchanged|
+repeat:8:simplify-cfg :: func { b0(): a = const 1; br b1(a); b1(p): cbr p b2() b3(); b2(): ret p; b3(): ret } => func { b0(): v0 = const 1; ret v0 }|changed|
+repeat:1:simplify-cfg :: func { b0(): a = const 1; br b1(a); b1(p): cbr p b2() b3(); b2(): ret p; b3(): ret } => func { b0(): v0 = const 1; cbr v0 b1() b2(); b1(): ret v0; b2(): ret }|changed|
+repeat:2:sccp :: func { b0(): a = const 1; b = const 2; c = add a b; ret c } => func { b0(): v0 = const 1; v1 = const 2; v2 = const 3; v3 = const 3; v4 = add v0 v1; ret v2 }|changed|
+repeat:3:sccp :: func { b0(): a = const 1; b = const 2; c = add a b; ret c } => func { b0(): v0 = const 1; v1 = const 2; v2 = const 3; v3 = const 3; v4 = const 3; v5 = add v0 v1; ret v2 }|changed|
+repeat:8:sccp,dce :: func { b0(): a = const 1; b = const 2; c = add a b; ret c } => func { b0(): v0 = const 3; ret v0 }|changed|
+repeat:64:dce :: func { b0(): ret } => func { b0(): ret }|unchanged|
+simplify-cfg :: func { b0(): a = const 1; b = const 2; c = add a b; ret c } => func { b0(): v0 = const 1; v1 = const 2; v2 = add v0 v1; ret v2 }|unchanged|
+sccp :: func { b0(): c = const 1; x = const 5; cbr c b1(x) b2(); b1(p): br b3(p); b2(): y = const 6; br b3(y); b3(q): ret q } => func { b0(): v0 = const 1; v1 = const 5; cbr v0 b1(v1) b2(); b1(v2): v3 = const 5; br b3(v3); b2(): v4 = const 6; br b3(v4); b3(v5): v6 = const 5; ret v6 }|changed|
+dce :: func { b0(): c = const 1; x = const 5; cbr c b1(x) b2(); b1(p): br b3(p); b2(): y = const 6; br b3(y); b3(q): ret q } => func { b0(): v0 = const 1; v1 = const 5; cbr v0 b1(v1) b2(); b1(v2): br b3(v2); b2(): v3 = const 6; br b3(v3); b3(v4): ret v4 }|unchanged|
+simplify-cfg :: func { b0(): c = const 1; x = const 5; cbr c b1(x) b2(); b1(p): br b3(p); b2(): y = const 6; br b3(y); b3(q): ret q } => func { b0(): v0 = const 1; v1 = const 5; ret v1 }|changed|
+sccp :: func { b0(): l, r = pair; sink l l r r; br b1(l, r); b1(a, b): k = const 99; ret k } => func { b0(): v0, v1 = pair; sink v0 v0 v1 v1; br b1(v0, v1); b1(v2, v3): v4 = const 99; ret v4 }|unchanged|
+simplify-cfg :: func { b0(): l, r = pair; sink l l r r; br b1(l, r); b1(a, b): k = const 99; ret k } => func { b0(): v0, v1 = pair; sink v0 v0 v1 v1; v2 = const 99; ret v2 }|changed|
+dce,simplify-cfg :: func { b0(): l, r = pair; sink l l r r; br b1(l, r); b1(a, b): k = const 99; ret k } => func { b0(): v0 = const 99; ret v0 }|changed|
+sccp :: func { b0(): a = const 1; br b1(a); b1(p): cbr p b2() b3(); b2(): ret p; b3(): ret } => func { b0(): v0 = const 1; br b1(v0); b1(v1): v2 = const 1; cbr v2 b2() b3(); b2(): ret v2; b3(): ret }|changed|
+dce :: func { b0(): a = const 1; br b1(a); b1(p): cbr p b2() b3(); b2(): ret p; b3(): ret } => func { b0(): v0 = const 1; br b1(v0); b1(v1): cbr v1 b2() b3(); b2(): ret v1; b3(): ret }|unchanged|
+repeat:10:nested:simplify-cfg :: mod { b0(): func { b0(): br b1(); b1(): ret }; b1(): func { b0(): br b1(); b1(): ret } } => mod { b0(): func { b0(): ret }; b1(): func { b0(): ret } }|changed|";
 
 #[test]
 fn lists(rt: HostRuntime) {
@@ -126,6 +157,41 @@ fn lists(rt: HostRuntime) {
             failing_write: 0,
         };
         expect_run(&rt, rt.alloc(), &case, 0, written, "");
+    }
+}
+
+/// Lists of passes and texts of which each ends with status 1 or 2, and what is reported. Where a text is
+/// refused, writing would fail too; where reading fails, the text would be unreadable too.
+static REFUSED: &str =
+    "simplify-cfg :: func { b0(): ret v; b1(): v = const 1; br b1() } => refused: a value of an unreachable block is used|
+dce,simplify-cfg :: func { b0(): ret v; b1(): v = const 1; br b1() } => refused: a value of an unreachable block is used|
+nested:simplify-cfg :: mod { b0(): func { b0(): ret v; b1(): v = const 1; br b1() } } => refused: a value of an unreachable block is used|
+repeat:3:simplify-cfg :: func { b0(): ret v; b1(): v = const 1; br b1() } => refused: a value of an unreachable block is used|
+simplify-cfg :: func { b0(): br b2(); b1(): v = const 1; br b2(); b2(): scope { b0(): print v; ret }; ret } => refused: a value of an unreachable block is used|
+simplify-cfg :: func { b0(): c = const 0; cbr c b1() b2(); b1(): v = const 1; br b2(); b2(): print v; ret } => refused: a value of an unreachable block is used|
+dce :: func { b0(): a = const 1 => unreadable text|
+repeat:2:nested:dce :: func { b0(): a = const 9223372036854775808; ret a } => unreadable text|";
+
+#[test]
+fn refused(rt: HostRuntime) {
+    for line in REFUSED.lines() {
+        let (list, rest) = line.split_once(" :: ").expect(&rt, "a list");
+        let (text, reported) = rest.split_once(" => ").expect(&rt, "a case");
+        let status = if reported.starts_with("refused") {
+            1
+        } else {
+            2
+        };
+        let args = [list];
+        let mut case = Case {
+            args: &args,
+            text: text.as_bytes(),
+            failing_read: 0,
+            failing_write: 1,
+        };
+        expect_run(&rt, rt.alloc(), &case, status, "", reported);
+        case.failing_read = 1;
+        expect_run(&rt, rt.alloc(), &case, 2, "", "cannot read standard input|");
     }
 }
 
@@ -215,23 +281,54 @@ fn reads_no_more_than_one_byte_past_the_limit(rt: HostRuntime) {
     );
 }
 
+/// Words of which none is a list.
+static BAD_LISTS: &str = "
+dce,,sccp
+dce,
+,dce
+SCCP
+sccp\x20
+passes
+graph,dce
+nested
+nested:
+nested:graph
+nested: dce
+nested:nested:dce
+nested:repeat:2:dce
+repeat:8
+repeat:8:
+repeat::dce
+repeat:0:dce
+repeat:65:dce
+repeat:08:dce
+repeat:+8:dce
+repeat:-1:dce
+repeat: 8:dce
+repeat:184467440737095516168:dce
+repeat:8:graph
+repeat:2:repeat:2:dce
+repeat:8,dce
+Nested:dce";
+
 #[test]
 fn bad_arguments(rt: HostRuntime) {
     let usage = "usage: plir_opt LIST, or plir_opt graph|";
-    let lists: [&[&str]; 8] = [
-        &[],
-        &["graph", "graph"],
-        &["dce,,sccp"],
-        &["dce,"],
-        &["sccp", "sccp"],
-        &["SCCP"],
-        &["sccp "],
-        &[""],
-    ];
+    let lists: [&[&str]; 3] = [&[], &["graph", "graph"], &["sccp", "sccp"]];
     for args in lists {
         // A fault of the arguments is found before the text is read.
         let case = Case {
             args,
+            text: b"#",
+            failing_read: 1,
+            failing_write: 1,
+        };
+        expect_run(&rt, rt.alloc(), &case, 2, "", usage);
+    }
+    for list in BAD_LISTS.lines() {
+        let args = [list];
+        let case = Case {
+            args: &args,
             text: b"#",
             failing_read: 1,
             failing_write: 1,
