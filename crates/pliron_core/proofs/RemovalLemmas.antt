@@ -5,7 +5,7 @@ use Rattle.std.proofs.lemmas.Option.{slice_get-get_or}
 use Rattle.std.proofs.lemmas.List.{length-set, drop_all, append-nil}
 use Rattle.std.proofs.lemmas.List.Edits.{swap_is}
 use Rattle.pliron_core.specs.Lists.{In}
-use Rattle.pliron_core.proofs.MoveLemmas.{set-same}
+use Rattle.pliron_core.proofs.TableLemmas.{set-same}
 
 module _ {A : Type 0} where
   pub slice_get-remove_below : (xs : List A) (i k : ℕ) → k < i → slice_get (remove xs i) k ≡ slice_get xs k
