@@ -238,3 +238,33 @@ module _ (rows : List (List Place)) (gaps : List Gap) (user : ℕ) (all : HaveGa
     placed = λ t k u p e. at-closed u p _ (is.placed t k u p e) (target-real rows lists is t k _ e);
     few = is.few;
   }
+
+-- what stands behind the gap
+pub behind-gap : (rows : List (List Place)) (gaps : List Gap) (user : ℕ) (gap : Gap) → gap ≡ gap_of gaps user → HaveGaps rows gaps → (gap_of gaps user).start < length (held (get_or rows user [])) → (p : Place) × (at rows user (gap.start + gap.len) ≡ Some p) × (p.target ≢ no_target)
+behind-gap rows gaps user gap e all more = rw e (found (all.each user))
+  where
+    found : HasGap (get_or rows user []) (gap_of gaps user) → (p : Place) × (at rows user ((gap_of gaps user).start + (gap_of gaps user).len) ≡ Some p) × (p.target ≢ no_target)
+    found has =
+        let long : length (held (get_or rows user [])) + (gap_of gaps user).len ≡ length (get_or rows user []) = held-length (get_or rows user []) (gap_of gaps user) has in
+        let s = slice-some (get_or rows user []) ((gap_of gaps user).start + (gap_of gaps user).len) (omega (arith, more, long)) in
+        (s.0, s.1, has.behind _ s.0 s.1 (omega arith))
+
+pub behind-real : (rows : List (List Place)) (gaps : List Gap) (user : ℕ) (gap : Gap) (p : Place) → gap ≡ gap_of gaps user → HaveGaps rows gaps → (gap_of gaps user).start < length (held (get_or rows user [])) → at rows user (gap.start + gap.len) ≡ Some p → p.target ≢ no_target
+behind-real rows gaps user gap p e all more here f =
+    let b = behind-gap rows gaps user gap e all more in
+    b.2 (ap (λ z. z.target) (same (sym b.1 ∙ here)) ∙ f)
+
+-- what `widen_gap` writes, by the gap that it read
+pub widened : (rows : List (List Place)) (gaps : List Gap) (lists : List (List Use)) (user : ℕ) (gap : Gap) (target i : ℕ) (moved : Use) → gap ≡ gap_of gaps user → AreLinked rows gaps lists
+    → (gap_of gaps user).start < length (held (get_or rows user []))
+    → at rows user (gap.start + gap.len) ≡ Some (record { target = target; at = i }) → at lists target (length (get_or lists target []) - 1) ≡ Some moved
+    → AreLinked (put (put rows moved.user moved.place (record { target = target; at = i })) user (gap.start + gap.len) free_place) (set gaps user (record { start = gap.start; len = gap.len + 1 })) (cut (put lists target i moved) target)
+    × (slice_get (held (get_or rows user [])) (gap_of gaps user).start ≡ Some target)
+    × (targets_in (put (put rows moved.user moved.place (record { target = target; at = i })) user (gap.start + gap.len) free_place) ≡ set (targets_in rows) user (remove (get_or (targets_in rows) user []) (gap_of gaps user).start))
+widened rows gaps lists user gap target i moved e is more here end =
+    let real : target ≢ no_target = behind-real rows gaps user gap (record { target = target; at = i }) e is.gaps more here in
+    let place_is : gap.start + gap.len ≡ (gap_of gaps user).start + (gap_of gaps user).len = ap (λ z. z.start + z.len) e in
+    let wider : (let z : Gap = record { start = gap.start; len = gap.len + 1 } in z) ≡ record { start = (gap_of gaps user).start; len = (gap_of gaps user).len + 1 } = ap (λ z. let y : Gap = record { start = z.start; len = z.len + 1 } in y) e in
+    (record { linked = linked-left rows lists user (gap.start + gap.len) target i moved is.linked here real end; gaps = rw wider (left-gaps rows lists user (gap.start + gap.len) target i moved is.linked here real end gaps is.gaps place_is) },
+     left-target rows lists user (gap.start + gap.len) target i moved is.linked here real end gaps is.gaps place_is,
+     left-targets rows lists user (gap.start + gap.len) target i moved is.linked here real end gaps is.gaps place_is)

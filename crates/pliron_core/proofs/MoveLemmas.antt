@@ -165,7 +165,7 @@ module _ (rows after : List (List Place)) (lists : List (List Use)) (old new : �
             rw (ap (λ z. z.target) to, ap (λ z. z.at) to) (at-new _ ∙ append-back (get_or lists new []) (get_or lists old []) q.at ∙ l)
         | inr far ↦
             let to = some_is (sym f ∙ ap Some (shifted-no old new _ _ q far)) in
-            rw (ap (λ z. z.target) to, ap (λ z. z.at) to) (kept u p q.target q.at far (listed q u p e (λ n. real (sym (ap (λ z. z.target) to) ∙ n))))
+            rw (ap (λ z. z.target) to, ap (λ z. z.at) to) (kept u p q.target q.at far (listed q u p e (λ n. real (ap (λ z. z.target) to ∙ n))))
       ]
 
   stays : (u p t i : ℕ) → t ≢ old → at lists t i ≡ Some (record { user = u; place = p }) → at after u p ≡ Some (record { target = t; at = i })

@@ -9,7 +9,7 @@ use Rattle.std.proofs.lemmas.Grind.{common_steps}
 use Rattle.std.specs.Option.{option_map}
 use Rattle.pliron_core.specs.declared.uses.Use.{Use}
 use Rattle.pliron_core.specs.declared.uses.Place.{Place}
-use Rattle.pliron_core.specs.Uses.{AreAgreed}
+use Rattle.pliron_core.specs.Uses.{Table, AreAgreed}
 use Rattle.pliron_core.specs.declared.uses.Gap.{Gap}
 use Rattle.pliron_core.specs.Places.{at, held, rank, seen, no_target, no_gap, gap_of, targets_in, uses_in, HasGap, HaveGaps, IsLinked, AreLinked}
 use Rattle.pliron_core.proofs.TableLemmas.{at-same, at-other, at-within}
@@ -150,6 +150,24 @@ linked-target rows lists few is = record {
   placed = λ t i u p e. is.placed t i u p (sym (ap (λ r. slice_get r i) (get_or-pad lists [] t)) ∙ e);
   few = few;
 }
+
+map-same : {A B : Type 0} (f g : A → B) → ((x : A) → f x ≡ g x) → (xs : List A) → map f xs ≡ map g xs
+map-same f g each [] = refl
+map-same f g each (x ∷ xs) = rw (each x, map-same f g each xs) refl
+
+-- one more user, and the tables that contracts see
+pub uses-user : (rows : List (List Place)) (lists : List (List Use)) → uses_in (rows ++ [] ∷ []) lists ≡ uses_in rows lists
+uses-user rows lists = map-same (map (seen (rows ++ [] ∷ []))) (map (seen rows)) (λ l. map-same (seen (rows ++ [] ∷ [])) (seen rows) (λ u. ap (λ r. let w : Use = record { user = u.user; place = rank r u.place } in w) (get_or-pad rows [] u.user)) l) lists
+
+pub same-table : {t t' : List (List ℕ)} {u u' : List (List Use)} {m m' n : ℕ} → t ≡ t' → u ≡ u' → m ≡ m' → (let x : Table = record { targets = t; uses = u; user_room = m; target_room = n } in x) ≡ record { targets = t'; uses = u'; user_room = m'; target_room = n }
+same-table e f g = rw (e, f, g) refl
+
+-- what a list of uses that was read says, and how the use is seen
+pub use-there : (lists : List (List Use)) (target i : ℕ) (read : List Use) (u : Use) → target < length lists → read ≡ get_or lists target read → slice_get read i ≡ Some u → at lists target i ≡ Some u
+use-there lists target i read u h e there = ap (λ l. slice_get l i) (sym (e ∙ get_or_default lists target read [] h)) ∙ there
+
+pub use-seen : (rows : List (List Place)) (lists : List (List Use)) (target i n : ℕ) (u : Use) → at lists target i ≡ Some u → n ≡ rank (get_or rows u.user []) u.place → slice_get (get_or (uses_in rows lists) target []) i ≡ Some (record { user = u.user; place = n })
+use-seen rows lists target i n u e r = at-map (seen rows) lists target i ∙ ap (option_map (seen rows)) e ∙ ap (λ z. Some (let w : Use = record { user = u.user; place = z } in w)) (sym r)
 
 -- a row without places has no gap
 pub gap-none : HasGap [] no_gap

@@ -161,3 +161,67 @@ module _ (rows : List (List Place)) (gaps : List Gap) (lists : List (List Use)) 
 
     pub raised-targets : targets_in (set rows user raise-row) ≡ targets_in rows
     raised-targets = row-kept rows user raise-row (held-lowered row (gap.start + gap.len) gap.start raise-from.0 (omega (arith, some)) raise-from.1 raise-from.2 (λ n q e h k. has.free n q e h k))
+
+-- what `lower_gap` and `raise_gap` write, by the gap that they read
+pub lowered : (rows rows' : List (List Place)) (gaps : List Gap) (lists lists' : List (List Use)) (user : ℕ) (gap : Gap) → gap ≡ gap_of gaps user → AreLinked rows gaps lists → user < length gaps
+    → 0 < (gap_of gaps user).len → 0 < (gap_of gaps user).start
+    → ((p : Place) → at rows user (gap.start - 1) ≡ Some p → rows' ≡ put (put rows user (gap.start + gap.len - 1) p) user (gap.start - 1) free_place) → IsLinked rows' lists'
+    → AreLinked rows' (set gaps user (record { start = gap.start - 1; len = gap.len })) lists' × (targets_in rows' ≡ targets_in rows)
+lowered rows rows' gaps lists lists' user gap e is within some before moved linked =
+    let f = lower-from rows gaps lists user is within some before in
+    let t = lower-to rows gaps lists user is within some before in
+    let write = rw e at moved in
+    let m : rows' ≡ set rows user (lower-row rows gaps lists user is within some before) = write f.0 f.1 ∙ relocated-rows rows lists user _ _ f.0 t.0 is.linked f.1 f.2 t.1 t.2 in
+    (record { linked = linked; gaps = rw (e, m) (lowered-gaps rows gaps lists user is within some before) }, ap targets_in m ∙ lowered-targets rows gaps lists user is within some before)
+
+pub raised : (rows rows' : List (List Place)) (gaps : List Gap) (lists lists' : List (List Use)) (user : ℕ) (gap : Gap) → gap ≡ gap_of gaps user → AreLinked rows gaps lists → user < length gaps
+    → 0 < (gap_of gaps user).len → (gap_of gaps user).start < length (held (get_or rows user []))
+    → ((p : Place) → at rows user (gap.start + gap.len) ≡ Some p → rows' ≡ put (put rows user gap.start p) user (gap.start + gap.len) free_place) → IsLinked rows' lists'
+    → AreLinked rows' (set gaps user (record { start = gap.start + 1; len = gap.len })) lists' × (targets_in rows' ≡ targets_in rows)
+raised rows rows' gaps lists lists' user gap e is within some more moved linked =
+    let f = raise-from rows gaps lists user is within some more in
+    let t = raise-to rows gaps lists user is within some more in
+    let write = rw e at moved in
+    let m : rows' ≡ set rows user (raise-row rows gaps lists user is within some more) = write f.0 f.1 ∙ relocated-rows rows lists user _ _ f.0 t.0 is.linked f.1 f.2 t.1 t.2 in
+    (record { linked = linked; gaps = rw (e, m) (raised-gaps rows gaps lists user is within some more) }, ap targets_in m ∙ raised-targets rows gaps lists user is within some more)
+
+-- an empty gap may stand anywhere
+pub empty-gap : (rows : List (List Place)) (gaps : List Gap) (lists : List (List Use)) (user start : ℕ) → AreLinked rows gaps lists → user < length gaps → (gap_of gaps user).len ≡ 0 → start ≤ length (held (get_or rows user []))
+    → AreLinked rows (set gaps user (record { start = start; len = 0 })) lists
+empty-gap rows gaps lists user start is within none h = record {
+  linked = is.linked;
+  gaps = subst (λ r. HaveGaps r (set gaps user (record { start = start; len = 0 }))) (set-get_or rows user []) (gaps-put rows gaps user (get_or rows user []) _ (omega (arith, within, is.gaps.count)) has' is.gaps);
+}
+  where
+    has : HasGap (get_or rows user []) (gap_of gaps user)
+    has = is.gaps.each user
+
+    long : length (held (get_or rows user [])) + (gap_of gaps user).len ≡ length (get_or rows user [])
+    long = held-length (get_or rows user []) (gap_of gaps user) has
+
+    taken : (n : ℕ) (p : Place) → slice_get (get_or rows user []) n ≡ Some p → p.target ≢ no_target
+    taken n p e = elim (side n) [ inl b ↦ has.before n p e b | inr b ↦ has.behind n p e (omega (arith, b, none)) ]
+      where
+        side : (n : ℕ) → (n < (gap_of gaps user).start) ⊎ ((gap_of gaps user).start ≤ n)
+        side n = grind arith
+
+    has' : HasGap (get_or rows user []) (record { start = start; len = 0 })
+    has' = record {
+      fits = omega (arith, h, long, none);
+      free = λ n p e a b. absurd (omega (arith, a, b));
+      before = λ n p e a. taken n p e;
+      behind = λ n p e a. taken n p e;
+    }
+
+-- the same targets: as many users, and as many targets of each
+pub held-kept : (rows rows' : List (List Place)) (user : ℕ) → targets_in rows' ≡ targets_in rows → held (get_or rows' user []) ≡ held (get_or rows user [])
+held-kept rows rows' user e = sym (row-targets rows' user) ∙ ap (λ z. get_or z user []) e ∙ row-targets rows user
+
+pub users-kept : (rows rows' : List (List Place)) (gaps gaps' : List Gap) (user : ℕ) → HaveGaps rows gaps → HaveGaps rows' gaps' → targets_in rows' ≡ targets_in rows → user < length gaps → user < length gaps'
+users-kept rows rows' gaps gaps' user one two e h = omega (arith, h, one.count, two.count, ap length e, length-map rows held, length-map rows' held)
+
+pub user-within : (rows : List (List Place)) (gaps : List Gap) (user : ℕ) → HaveGaps rows gaps → user < length (targets_in rows) → user < length gaps
+user-within rows gaps user all h = omega (arith, h, all.count, length-map rows held)
+
+pub users-set : (rows rows' : List (List Place)) (gaps gaps' : List Gap) (user : ℕ) (row : List ℕ) → HaveGaps rows gaps → HaveGaps rows' gaps' → targets_in rows' ≡ set (targets_in rows) user row → user < length gaps → user < length gaps'
+users-set rows rows' gaps gaps' user row one two e h = omega (arith, h, one.count, two.count, ap length e, length-set (targets_in rows) user row, length-map rows held, length-map rows' held)

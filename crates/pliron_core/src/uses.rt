@@ -89,7 +89,7 @@ impl Uses {
         requires { user < length self.now.targets }
         ensures { result ≡ length (targets_of self.now user) }
     {
-        self.places[user].len() - self.gaps[user].len
+        count_at(&self.places, &self.gaps, user)
     }
 
     /// The target at a place of a user. Cost: constant.
@@ -98,7 +98,8 @@ impl Uses {
         requires place { place < length (targets_of self.now user) }
         ensures { slice_get (targets_of self.now user) place ≡ Some result }
     {
-        target_at(&self.places[user], self.gaps[user], place)
+        let gap = gap_at(&self.places, &self.gaps, user);
+        target_at(&self.places[user], gap, place)
     }
 
     /// How many uses a target has. Cost: constant.
@@ -116,7 +117,8 @@ impl Uses {
         ensures { slice_get (uses_of self.now target) i ≡ Some result }
     {
         let Use { user, place } = self.uses[target].get(i);
-        let place = rank_at(&self.places[user], self.gaps[user], place);
+        let gap = gap_at(&self.places, &self.gaps, user);
+        let place = rank_at(&self.places[user], gap, place);
         Use { user, place }
     }
 
@@ -221,17 +223,7 @@ impl Uses {
             place,
         );
         let target = widen_gap(&mut self.places, &mut self.gaps, &mut self.uses, user);
-        let count = self.places[user].len() - self.gaps[user].len;
-        if self.gaps[user].start == count || self.gaps[user].len > count {
-            open_gap(
-                &mut self.places,
-                &mut self.gaps,
-                &mut self.uses,
-                user,
-                count,
-            );
-            close_gap(&mut self.places, &mut self.gaps, user);
-        }
+        settle_gap(&mut self.places, &mut self.gaps, &mut self.uses, user);
         target
     }
 
@@ -247,6 +239,27 @@ impl Uses {
             self.remove(user, last);
         }
     }
+}
+
+// The gap of a user.
+fn gap_at(places: &Vec<Row<Place>>, gaps: &Vec<Gap>, user: usize) -> Gap
+    requires gaps { HaveGaps places.now.items gaps.now.items }
+    requires user { user < length gaps.now.items }
+    ensures gap { result ≡ gap_of gaps.now.items user }
+    ensures few { length (slice_index_or places.now.items user []) < 2 ^ 64 }
+{
+    let _ = places[user].len();
+    gaps[user]
+}
+
+// How many targets a user has.
+fn count_at(places: &Vec<Row<Place>>, gaps: &Vec<Gap>, user: usize) -> usize
+    requires gaps { HaveGaps places.now.items gaps.now.items }
+    requires user { user < length gaps.now.items }
+    ensures { result ≡ length (held (slice_index_or places.now.items user [])) }
+{
+    let count = places[user].len();
+    count - gap_at(places, gaps, user).len
 }
 
 // The target at an index among those of a row.
@@ -298,6 +311,7 @@ fn relocate(
     set_entry(places, user, to, Place { target, at });
     set_entry(places, user, from, FREE);
 }
+
 // The gap of the user goes one place down: what stands before it goes behind it.
 fn lower_gap(
     places: &mut Vec<Row<Place>>,
@@ -315,7 +329,7 @@ fn lower_gap(
     ensures count { length uses.new.items ≡ length uses.old.items }
     ensures rooms { KeepRooms places.old places.new gaps.old gaps.new uses.old uses.new }
 {
-    let Gap { start, len } = gaps[user];
+    let Gap { start, len } = gap_at(places, gaps, user);
     relocate(places, uses, user, start - 1, start + len - 1);
     gaps[user] = Gap {
         start: start - 1,
@@ -340,7 +354,7 @@ fn raise_gap(
     ensures count { length uses.new.items ≡ length uses.old.items }
     ensures rooms { KeepRooms places.old places.new gaps.old gaps.new uses.old uses.new }
 {
-    let Gap { start, len } = gaps[user];
+    let Gap { start, len } = gap_at(places, gaps, user);
     relocate(places, uses, user, start + len, start);
     gaps[user] = Gap {
         start: start + 1,
@@ -365,14 +379,14 @@ fn open_gap(
     ensures count { length uses.new.items ≡ length uses.old.items }
     ensures rooms { KeepRooms places.old places.new gaps.old gaps.new uses.old uses.new }
 {
-    if gaps[user].len == 0 {
-        gaps[user].start = i;
+    if gap_at(places, gaps, user).len == 0 {
+        gaps[user] = Gap { start: i, len: 0 };
         return;
     }
-    while gaps[user].start > i {
+    while gap_at(places, gaps, user).start > i {
         lower_gap(places, gaps, uses, user);
     }
-    while gaps[user].start < i {
+    while gap_at(places, gaps, user).start < i {
         raise_gap(places, gaps, uses, user);
     }
 }
@@ -394,7 +408,7 @@ fn widen_gap(
     ensures count { length uses.new.items ≡ length uses.old.items }
     ensures rooms { KeepRooms places.old places.new gaps.old gaps.new uses.old uses.new }
 {
-    let Gap { start, len } = gaps[user];
+    let Gap { start, len } = gap_at(places, gaps, user);
     let place = start + len;
     let Place { target, at } = entry(places, user, place);
     let end = uses[target].len() - 1;
@@ -419,9 +433,32 @@ fn close_gap(places: &mut Vec<Row<Place>>, gaps: &mut Vec<Gap>, user: usize)
     ensures gaps { HaveGaps places.new.items gaps.new.items }
     ensures rooms { (vec_len places.new ≡ vec_len places.old) × (vec_capacity places.new ≡ vec_capacity places.old) × (vec_len gaps.new ≡ vec_len gaps.old) × (vec_capacity gaps.new ≡ vec_capacity gaps.old) }
 {
-    let start = gaps[user].start;
+    let start = gap_at(places, gaps, user).start;
     places[user].truncate(start);
     gaps[user] = Gap { start: 0, len: 0 };
+}
+
+// The gap of the user goes where it stands at the end or is longer than the targets are many.
+fn settle_gap(
+    places: &mut Vec<Row<Place>>,
+    gaps: &mut Vec<Gap>,
+    uses: &mut Vec<Row<Use>>,
+    user: usize,
+)
+    requires linked { AreLinked places.old.items gaps.old.items uses.old.items }
+    requires user { user < length gaps.old.items }
+    ensures linked { AreLinked places.new.items gaps.new.items uses.new.items }
+    ensures targets { targets_in places.new.items ≡ targets_in places.old.items }
+    ensures count { length uses.new.items ≡ length uses.old.items }
+    ensures rooms { KeepRooms places.old places.new gaps.old gaps.new uses.old uses.new }
+{
+    let Gap { start, len } = gap_at(places, gaps, user);
+    let count = count_at(places, gaps, user);
+    if start < count && len <= count {
+        return;
+    }
+    open_gap(places, gaps, uses, user, count);
+    close_gap(places, gaps, user);
 }
 
 // The places of these uses of `old` name `new`, where the uses now stand from `first` on.
