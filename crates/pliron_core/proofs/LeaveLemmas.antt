@@ -1,6 +1,6 @@
 -- Lemmas on a taken place that becomes free: its use goes, and the last use of that target takes the index
 -- of the use that goes.
-use Rattle.std.proofs.Common.{◌≡◌, ◌≢◌, ◌⊎◌, ℕ, ◌+◌, ◌-◌, ◌<◌, ◌≤◌, List, [], length, take, get_or, set, Option, Some, None, refl, sym, ap, ◌∙◌, subst, inl, inr, arith}
+use Rattle.std.proofs.Common.{◌≡◌, ◌≢◌, ◌⊎◌, ℕ, ◌+◌, ◌-◌, ◌<◌, ◌≤◌, List, [], length, take, get_or, set, Some, refl, sym, ap, ◌∙◌, inl, inr, arith}
 use Rattle.std.specs.List.{slice_get, remove}
 use Rattle.std.proofs.lemmas.List.{get_or-set_same, get_or-set_other, map-set, set-get_or, length-set}
 use Rattle.std.proofs.lemmas.Option.{slice_get_within}
@@ -264,7 +264,8 @@ pub widened : (rows : List (List Place)) (gaps : List Gap) (lists : List (List U
 widened rows gaps lists user gap target i moved e is more here end =
     let real : target ≢ no_target = behind-real rows gaps user gap (record { target = target; at = i }) e is.gaps more here in
     let place_is : gap.start + gap.len ≡ (gap_of gaps user).start + (gap_of gaps user).len = ap (λ z. z.start + z.len) e in
-    let wider : (let z : Gap = record { start = gap.start; len = gap.len + 1 } in z) ≡ record { start = (gap_of gaps user).start; len = (gap_of gaps user).len + 1 } = ap (λ z. let y : Gap = record { start = z.start; len = z.len + 1 } in y) e in
-    (record { linked = linked-left rows lists user (gap.start + gap.len) target i moved is.linked here real end; gaps = rw wider (left-gaps rows lists user (gap.start + gap.len) target i moved is.linked here real end gaps is.gaps place_is) },
-     left-target rows lists user (gap.start + gap.len) target i moved is.linked here real end gaps is.gaps place_is,
-     left-targets rows lists user (gap.start + gap.len) target i moved is.linked here real end gaps is.gaps place_is)
+    let wider : (let z : Gap = record { start = gap.start; len = gap.len + 1 } in z) ≡ record { start = (gap_of gaps user).start; len = (gap_of gaps user).len + 1 } = ap (λ z. let y : Gap = record { start = z.start; len = z.len + 1 } in y) e in (
+      record { linked = linked-left rows lists user (gap.start + gap.len) target i moved is.linked here real end; gaps = rw wider (left-gaps rows lists user (gap.start + gap.len) target i moved is.linked here real end gaps is.gaps place_is) },
+      left-target rows lists user (gap.start + gap.len) target i moved is.linked here real end gaps is.gaps place_is,
+      left-targets rows lists user (gap.start + gap.len) target i moved is.linked here real end gaps is.gaps place_is,
+    )

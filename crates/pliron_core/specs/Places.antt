@@ -1,5 +1,5 @@
 -- How places and uses are linked.
-use Rattle.std.specs.Prelude.{zero, suc, ◌≡◌, ◌≢◌, ◌≤◌, ◌<◌, ◌⊎◌, ℕ, ◌+◌, ◌&&◌, nat_eq, nat_lt, if◌then◌else◌, List, [], ◌∷◌, length, Option, Some, slice_index_or, slice_get, slice_set, take, ◌-◌, map, Vec, vec_len, vec_capacity}
+use Rattle.std.specs.Prelude.{zero, suc, ◌≡◌, ◌≢◌, ◌≤◌, ◌<◌, ℕ, ◌+◌, ◌&&◌, nat_eq, nat_lt, if◌then◌else◌, List, [], ◌∷◌, length, Option, Some, slice_index_or, slice_get, slice_set, take, ◌-◌, map, Vec, vec_len, vec_capacity}
 use Rattle.pliron_core.specs.declared.uses.Use.{Use}
 use Rattle.pliron_core.specs.declared.uses.Place.{Place}
 use Rattle.pliron_core.specs.declared.uses.Gap.{Gap}

@@ -1,6 +1,6 @@
 use Rattle.std.proofs.Common.{◌≡◌, ◌≢◌, ◌<◌, ◌+◌, ◌-◌, [], length, get_or, Some, ap, sym, ◌∙◌, rules, arith}
 use Rattle.std.proofs.lemmas.Option.{slice_get_within}
-use Rattle.pliron_core.specs.Places.{at, no_target, held}
+use Rattle.pliron_core.specs.Places.{at, no_target}
 use Rattle.pliron_core.proofs.TableLemmas.{at-within, row-length, at-inside, some-at}
 use Rattle.pliron_core.proofs.GapLemmas.{held-length}
 use Rattle.pliron_core.proofs.LeaveLemmas.{behind-gap, behind-real, stands1, widened}
