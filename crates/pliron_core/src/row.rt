@@ -87,8 +87,8 @@ impl<T> Row<T> {
         self.items.pop();
     }
 
-    /// Only the first `count` items stay. Cost: the number of those that go.
-    pub fn truncate(&mut self, count: usize)
+    // Only the first `count` items stay.
+    pub(crate) fn truncate(&mut self, count: usize)
     where
         T: Drop,
         ensures { self.new ≡ take count self.old }

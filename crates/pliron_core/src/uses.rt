@@ -205,8 +205,8 @@ impl Uses {
 
     /// The target at a place goes, and is the answer. The later ones move down by one place.
     ///
-    /// Takes no memory. Cost: the number of targets between it and the place where one was removed last;
-    /// amortised, at most twice the number of targets after it.
+    /// Takes no memory. Cost: the number of targets between it and the place where one was removed last,
+    /// and constant for the first; amortised, a constant and at most twice the number of targets after it.
     pub fn remove(&mut self, user: usize, place: usize) -> usize
         requires user { user < length self.old.targets }
         requires place { place < length (targets_of self.old user) }
