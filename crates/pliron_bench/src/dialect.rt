@@ -341,8 +341,7 @@ impl Dialect for Bench {
         Ok(operand_among(op, ctx, places, j))
     }
 
-    /// A `cbr` that lost a value of its first edge counts one fewer there. Cost: one step for each later
-    /// operand.
+    /// A `cbr` that lost a value of its first edge counts one fewer there. Cost: that of `remove_operand`.
     fn remove_successor_operand(
         op: Ptr<Operation>,
         ctx: &mut Context,

@@ -6,7 +6,7 @@ use Rattle.pliron_core.specs.declared.uses.Use.{Use}
 use Rattle.pliron_core.specs.Uses.{AreAgreed}
 use Rattle.pliron_core.specs.Lists.{In}
 use Rattle.pliron_core.proofs.MemberLemmas.{in_slice, in_at}
-use Rattle.pliron_core.proofs.MoveLemmas.{at-within}
+use Rattle.pliron_core.proofs.TableLemmas.{at-within}
 
 -- a target without uses is named by no user
 pub unnamed_from-no_uses : (targets : List (List ℕ)) (uses : List (List Use)) (target : ℕ) → AreAgreed targets uses → get_or uses target [] ≡ [] → (user : ℕ) → In target (get_or targets user []) → ⊥

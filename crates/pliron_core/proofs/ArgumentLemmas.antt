@@ -13,7 +13,7 @@ use Rattle.pliron_core.specs.Joined.{HaveSameKeys, IsJoined}
 use Rattle.pliron_core.specs.Writes.{numbered, argument_removed, with_attribute}
 use Rattle.pliron_core.proofs.TreeLemmas.{live-within, live_dead, in_slice, in_at, within-some}
 use Rattle.pliron_core.proofs.CreatedLemmas.{defined_kept}
-use Rattle.pliron_core.proofs.MoveLemmas.{set-same, set-other}
+use Rattle.pliron_core.proofs.TableLemmas.{set-same, set-other}
 
 -- values that are not renumbered keep their definition
 pub numbered_other : (ds : List Def) (b i : ℕ) (vs : List ℕ) (v : ℕ) → (In v vs → ⊥) → slice_get (numbered ds b i vs) v ≡ slice_get ds v

@@ -10,8 +10,9 @@ pub mod OwnLemmas
 pub mod PlaceLemmas
 pub mod MoveLemmas
 pub mod TableLemmas
-pub mod SwapLemmas
-pub mod PopLemmas
+pub mod GapLemmas
+pub mod RelocateLemmas
+pub mod LeaveLemmas
 pub mod MemberLemmas
 pub mod RemovalLemmas
 pub mod CarryLemmas

@@ -1,40 +1,20 @@
 -- Lemmas on uses that move to another target.
-use Rattle.std.proofs.Common.{◌≡◌, ◌≢◌, ◌⊎◌, ℕ, zero, suc, ◌+◌, ◌-◌, ◌<◌, ◌≤◌, nat_lt, List, [], ◌∷◌, ◌++◌, length, map, get_or, set, Option, Some, None, refl, sym, ap, ◌∙◌, inl, inr, arith, zero-add, length-append}
+use Rattle.std.proofs.Common.{◌≡◌, ◌≢◌, ◌⊎◌, ℕ, zero, suc, ◌+◌, ◌-◌, ◌<◌, ◌≤◌, nat_lt, List, [], ◌∷◌, ◌++◌, length, map, get_or, set, Option, Some, None, refl, sym, ap, ◌∙◌, subst, inl, inr, arith, zero-add, length-append}
 use Rattle.std.specs.List.{slice_get}
 use Rattle.std.specs.Option.{option_map}
 use Rattle.std.proofs.lemmas.Bool.{cases_eq, eq-eqb, ne_eqb}
 use Rattle.std.proofs.lemmas.Bool.Decides.{nat_tests}
 use Rattle.std.proofs.lemmas.Option.{slice_get_within, slice_get-map}
-use Rattle.std.proofs.lemmas.List.{get_or-set_same, get_or-set_other, length-set, get_or_past, get_or_default, length-map, set-get_or, set-set}
+use Rattle.std.proofs.lemmas.List.{get_or-set_same, get_or-set_other, length-set, get_or_default, length-map, set-get_or, set-set}
 use Rattle.pliron_core.specs.declared.uses.Use.{Use}
 use Rattle.pliron_core.specs.declared.uses.Place.{Place}
 use Rattle.std.proofs.Math.ListN.{get_or-map}
 use Rattle.pliron_core.specs.Uses.{replace_target}
-use Rattle.pliron_core.specs.Places.{at, shifted, IsLinked, targets_in}
-use Rattle.pliron_core.proofs.PlaceLemmas.{at-same, at-other}
-
-module _ {A : Type 0} where
-  pub set-same : (xs : List A) (j : ℕ) (x y : A) → slice_get xs j ≡ Some y → slice_get (set xs j x) j ≡ Some x
-  set-same [] j x y e = absurd (cc)
-  set-same (z ∷ zs) zero x y e = refl
-  set-same (z ∷ zs) (suc j) x y e = set-same zs j x y e
-
-  pub set-other : (xs : List A) (j p : ℕ) (x : A) → p ≢ j → slice_get (set xs j x) p ≡ slice_get xs p
-  set-other [] j p x ne = refl
-  set-other (z ∷ zs) zero zero x ne = absurd (ne refl)
-  set-other (z ∷ zs) zero (suc p) x ne = refl
-  set-other (z ∷ zs) (suc j) zero x ne = refl
-  set-other (z ∷ zs) (suc j) (suc p) x ne = set-other zs j p x (λ e. ne (ap suc e))
-
-  pub at-within : (rows : List (List A)) (u p : ℕ) (y : A) → at rows u p ≡ Some y → u < length rows
-  at-within rows u p y e =
-      elim (cases_lt u) [
-        | inl h ↦ h
-        | inr h ↦ let none : at rows u p ≡ None = ap (λ r. slice_get r p) (get_or_past rows u [] h) in absurd (cc)
-      ]
-    where
-      cases_lt : (u : ℕ) → (u < length rows) ⊎ (length rows ≤ u)
-      cases_lt u = grind arith
+use Rattle.pliron_core.specs.declared.uses.Gap.{Gap}
+use Rattle.pliron_core.specs.Places.{at, held, no_target, shifted, gap_of, HasGap, HaveGaps, IsLinked, targets_in}
+use Rattle.pliron_core.proofs.PlaceLemmas.{at-map}
+use Rattle.pliron_core.proofs.GapLemmas.{held-free, held-taken}
+use Rattle.pliron_core.proofs.TableLemmas.{set-same, set-other, at-within, at-same, at-other}
 
 shifted-here : (old new first k : ℕ) → shifted old new first (k + 1) (record { target = old; at = k }) ≡ (let p : Place = record { target = new; at = first + k } in p)
 shifted-here old new first k = grind (arith, nat_tests)
@@ -144,9 +124,6 @@ shifted-no old new first n p differs = rw (ne_eqb p.target old differs) refl
 some_is : {X : Type 0} {a b : X} → Some a ≡ Some b → a ≡ b
 some_is e = cc
 
-at-map : {A B : Type 0} (f : A → B) (rows : List (List A)) (u p : ℕ) → at (map (λ r. map f r) rows) u p ≡ option_map f (at rows u p)
-at-map f rows u p = ap (λ r. slice_get r p) (get_or-map (λ r. map f r) rows u []) ∙ slice_get-map f (get_or rows u []) p
-
 module _ (rows after : List (List Place)) (lists : List (List Use)) (old new : ℕ) (is : IsLinked rows lists) (ho : old < length lists) (hn : new < length lists) (differ : old ≢ new)
     (each : (u p : ℕ) → at after u p ≡ option_map (shifted old new (length (get_or lists new [])) (length (get_or lists old []))) (at rows u p)) where
   abbrev lists2 : List (List Use)
@@ -161,8 +138,14 @@ module _ (rows after : List (List Place)) (lists : List (List Use)) (old new : �
   at-rest : (t i : ℕ) → t ≢ old → t ≢ new → at lists2 t i ≡ at lists t i
   at-rest t i far nn = at-other (set lists old []) new t _ i nn ∙ at-other lists old t [] i far
 
-  listed : (q : Place) (u p : ℕ) → at rows u p ≡ Some q → at lists q.target q.at ≡ Some (record { user = u; place = p })
-  listed q u p e = is.used u p q.target q.at e
+  listed : (q : Place) (u p : ℕ) → at rows u p ≡ Some q → q.target ≢ no_target → at lists q.target q.at ≡ Some (record { user = u; place = p })
+  listed q u p e real = is.used u p q.target q.at e real
+
+  old-real : old ≢ no_target
+  old-real f = omega (arith, ho, is.few, f)
+
+  new-real : new ≢ no_target
+  new-real f = omega (arith, hn, is.few, f)
 
   -- a place that does not name `old` keeps its use
   kept : (u p t i : ℕ) → t ≢ old → at lists t i ≡ Some (record { user = u; place = p }) → at lists2 t i ≡ Some (record { user = u; place = p })
@@ -171,18 +154,18 @@ module _ (rows after : List (List Place)) (lists : List (List Use)) (old new : �
     | inr nn ↦ at-rest t i far nn ∙ e
   ]
 
-  used_by : (o : Option Place) (u p t i : ℕ) → at rows u p ≡ o → option_map (shifted old new (length (get_or lists new [])) (length (get_or lists old []))) o ≡ Some (record { target = t; at = i }) → at lists2 t i ≡ Some (record { user = u; place = p })
-  used_by None u p t i e f = absurd (cc)
-  used_by (Some q) u p t i e f =
+  used_by : (o : Option Place) (u p t i : ℕ) → at rows u p ≡ o → option_map (shifted old new (length (get_or lists new [])) (length (get_or lists old []))) o ≡ Some (record { target = t; at = i }) → t ≢ no_target → at lists2 t i ≡ Some (record { user = u; place = p })
+  used_by None u p t i e f real = absurd (cc)
+  used_by (Some q) u p t i e f real =
       elim (cases_eq q.target old) [
         | inl same ↦
-            let l : slice_get (get_or lists old []) q.at ≡ Some (record { user = u; place = p }) = ap (λ z. at lists z q.at) (sym same) ∙ listed q u p e in
+            let l : slice_get (get_or lists old []) q.at ≡ Some (record { user = u; place = p }) = ap (λ z. at lists z q.at) (sym same) ∙ listed q u p e (λ n. old-real (sym same ∙ n)) in
             let lt : q.at < length (get_or lists old []) = slice_get_within _ _ _ l in
             let to = some_is (sym f ∙ ap Some (shifted-yes old new _ _ q same lt)) in
             rw (ap (λ z. z.target) to, ap (λ z. z.at) to) (at-new _ ∙ append-back (get_or lists new []) (get_or lists old []) q.at ∙ l)
         | inr far ↦
             let to = some_is (sym f ∙ ap Some (shifted-no old new _ _ q far)) in
-            rw (ap (λ z. z.target) to, ap (λ z. z.at) to) (kept u p q.target q.at far (listed q u p e))
+            rw (ap (λ z. z.target) to, ap (λ z. z.at) to) (kept u p q.target q.at far (listed q u p e (λ n. real (ap (λ z. z.target) to ∙ n))))
       ]
 
   stays : (u p t i : ℕ) → t ≢ old → at lists t i ≡ Some (record { user = u; place = p }) → at after u p ≡ Some (record { target = t; at = i })
@@ -203,23 +186,76 @@ module _ (rows after : List (List Place)) (lists : List (List Use)) (old new : �
         ]
       ]
 
-  pub linked-moved : IsLinked after lists2
-  linked-moved = record { used = λ u p t i e. used_by (at rows u p) u p t i refl (sym (each u p) ∙ e); placed = placed_by }
+  few : length lists2 ≤ no_target
+  few = omega (arith, length-set (set lists old []) new (get_or lists new [] ++ get_or lists old []), length-set lists old [], is.few)
 
-  repl-shifted : (o : Option Place) (u p : ℕ) → at rows u p ≡ o → option_map (λ z. z.target) (option_map (shifted old new (length (get_or lists new [])) (length (get_or lists old []))) o) ≡ option_map (replace_target old new) (option_map (λ z. z.target) o)
-  repl-shifted None u p e = refl
-  repl-shifted (Some q) u p e =
+  pub linked-moved : IsLinked after lists2
+  linked-moved = record { used = λ u p t i e. used_by (at rows u p) u p t i refl (sym (each u p) ∙ e); placed = placed_by; few = few }
+
+  abbrev move : Place → Place
+  move q = shifted old new (length (get_or lists new [])) (length (get_or lists old [])) q
+
+  -- what a place names after the move
+  moved-target : (u p : ℕ) (q : Place) → at rows u p ≡ Some q → (move q).target ≡ replace_target old new q.target
+  moved-target u p q e =
       elim (cases_eq q.target old) [
         | inl same ↦
-            let l : slice_get (get_or lists old []) q.at ≡ Some (record { user = u; place = p }) = ap (λ z. at lists z q.at) (sym same) ∙ listed q u p e in
-            ap Some (ap (λ z. z.target) (shifted-yes old new _ _ q same (slice_get_within _ _ _ l)) ∙ sym (rw (eq-eqb q.target old same) refl))
-        | inr far ↦ ap Some (ap (λ z. z.target) (shifted-no old new _ _ q far) ∙ sym (rw (ne_eqb q.target old far) refl))
+            let l : slice_get (get_or lists old []) q.at ≡ Some (record { user = u; place = p }) = ap (λ z. at lists z q.at) (sym same) ∙ listed q u p e (λ n. old-real (sym same ∙ n)) in
+            ap (λ z. z.target) (shifted-yes old new _ _ q same (slice_get_within _ _ _ l)) ∙ sym (rw (eq-eqb q.target old same) refl)
+        | inr far ↦ ap (λ z. z.target) (shifted-no old new _ _ q far) ∙ sym (rw (ne_eqb q.target old far) refl)
       ]
 
+  -- it is taken as before
+  move-free : (q : Place) → q.target ≡ no_target → (move q).target ≡ no_target
+  move-free q free = ap (λ z. z.target) (shifted-no old new _ _ q (λ s. old-real (sym s ∙ free))) ∙ free
+
+  move-taken : (u p : ℕ) (q : Place) → at rows u p ≡ Some q → q.target ≢ no_target → (move q).target ≢ no_target
+  move-taken u p q e real f =
+      elim (cases_eq q.target old) [
+        | inl same ↦ new-real (sym (moved-target u p q e ∙ rw (eq-eqb q.target old same) refl) ∙ f)
+        | inr far ↦ real (sym (ap (λ z. z.target) (shifted-no old new _ _ q far)) ∙ f)
+      ]
+
+  held-moved : (row : List Place) → ((p : ℕ) (q : Place) → slice_get row p ≡ Some q → (q.target ≢ no_target → (move q).target ≢ no_target) × ((move q).target ≡ replace_target old new q.target)) → held (map move row) ≡ map (replace_target old new) (held row)
+  held-moved [] each = refl
+  held-moved (q ∷ qs) each = elim (cases_eq q.target no_target) [
+    | inl h ↦ held-free (move q) (map move qs) (move-free q h) ∙ held-moved qs (λ p x e. each (suc p) x e) ∙ ap (map (replace_target old new)) (sym (held-free q qs h))
+    | inr h ↦
+        let first = each 0 q refl in
+        held-taken (move q) (map move qs) (first.0 h) ∙ ap (λ l. (move q).target ∷ l) (held-moved qs (λ p x e. each (suc p) x e)) ∙ ap (λ z. z ∷ map (replace_target old new) (held qs)) first.1 ∙ ap (map (replace_target old new)) (sym (held-taken q qs h))
+  ]
+
+  moved-rows : length after ≡ length rows → after ≡ map (λ r. map move r) rows
+  moved-rows long = same-rows after (map (λ r. map move r) rows) (long ∙ sym (length-map rows _)) (λ u p. each u p ∙ sym (at-map move rows u p))
+
+  all-held : (some : List (List Place)) → ((u : ℕ) → (p : ℕ) (q : Place) → at some u p ≡ Some q → (q.target ≢ no_target → (move q).target ≢ no_target) × ((move q).target ≡ replace_target old new q.target)) → targets_in (map (λ r. map move r) some) ≡ map (map (replace_target old new)) (targets_in some)
+  all-held [] each = refl
+  all-held (r ∷ rs) each = let one = held-moved r (each 0) in let rest = all-held rs (λ u. each (suc u)) in rw (one, rest) refl
+
   pub targets-moved : length after ≡ length rows → targets_in after ≡ map (map (replace_target old new)) (targets_in rows)
-  targets-moved long =
-      same-rows (targets_in after) (map (map (replace_target old new)) (targets_in rows)) (length-map after _ ∙ long ∙ sym (length-map rows _) ∙ sym (length-map (targets_in rows) _)) (λ u p.
-      at-map (λ z. z.target) after u p ∙ ap (option_map (λ z. z.target)) (each u p) ∙ repl-shifted (at rows u p) u p refl ∙ ap (option_map (replace_target old new)) (sym (at-map (λ z. z.target) rows u p)) ∙ sym (at-map (replace_target old new) (targets_in rows) u p))
+  targets-moved long = ap targets_in (moved-rows long) ∙ all-held rows (λ u p q e. (move-taken u p q e, moved-target u p q e))
+
+  -- gaps stay
+  gap-moved : (row : List Place) (gap : Gap) → ((p : ℕ) (q : Place) → slice_get row p ≡ Some q → q.target ≢ no_target → (move q).target ≢ no_target) → HasGap row gap → HasGap (map move row) gap
+  gap-moved row gap taken has = record {
+    fits = omega (arith, has.fits, length-map row move);
+    free = λ n q e a b. let w = was n q e in ap (λ z. z.target) w.2 ∙ move-free w.0 (has.free n w.0 w.1 a b);
+    before = λ n q e a. let w = was n q e in λ f. taken n w.0 w.1 (has.before n w.0 w.1 a) (sym (ap (λ z. z.target) w.2) ∙ f);
+    behind = λ n q e a. let w = was n q e in λ f. taken n w.0 w.1 (has.behind n w.0 w.1 a) (sym (ap (λ z. z.target) w.2) ∙ f);
+  }
+    where
+      was : (n : ℕ) (q : Place) → slice_get (map move row) n ≡ Some q → (x : Place) × (slice_get row n ≡ Some x) × (q ≡ move x)
+      was n q e = found (slice_get row n) refl
+        where
+          found : (o : Option Place) → slice_get row n ≡ o → (x : Place) × (slice_get row n ≡ Some x) × (q ≡ move x)
+          found None f = let none : slice_get (map move row) n ≡ None = slice_get-map move row n ∙ ap (option_map move) f in absurd (cc)
+          found (Some x) f = let there : slice_get (map move row) n ≡ Some (move x) = slice_get-map move row n ∙ ap (option_map move) f in (x, f, some_is (sym e ∙ there))
+
+  pub gaps-moved : (gaps : List Gap) → length after ≡ length rows → HaveGaps rows gaps → HaveGaps after gaps
+  gaps-moved gaps long has = record {
+    count = has.count ∙ sym long;
+    each = λ u. subst (λ r. HasGap r (gap_of gaps u)) (sym (ap (λ z. get_or z u []) (moved-rows long) ∙ get_or-map (λ r. map move r) rows u [])) (gap-moved (get_or rows u []) (gap_of gaps u) (move-taken u) (has.each u));
+  }
 
 -- what `replace` read and wrote in the lists of uses
 pub record Reads (lists : List (List Use)) (old new : ℕ) (moved dest row index : List Use) : Type 0 where

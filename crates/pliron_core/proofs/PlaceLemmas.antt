@@ -1,16 +1,19 @@
 -- Lemmas on linked places and uses.
-use Rattle.std.proofs.Common.{◌≡◌, ◌≢◌, ◌⊎◌, ℕ, zero, suc, ◌-◌, ◌<◌, List, [], ◌∷◌, ◌++◌, length, map, take, get_or, set, Option, Some, None, refl, sym, ap, ◌∙◌, inl, inr, arith}
+use Rattle.std.proofs.Common.{◌≡◌, ◌≢◌, ◌⊎◌, ℕ, zero, suc, ◌-◌, ◌<◌, ◌≤◌, List, [], ◌∷◌, ◌++◌, length, map, take, get_or, set, Option, Some, None, refl, sym, ap, ◌∙◌, subst, inl, inr, arith, length-append}
 use Rattle.std.specs.List.{slice_get}
 use Rattle.std.proofs.lemmas.Bool.{cases_eq}
 use Rattle.std.proofs.lemmas.Option.{slice_get-map}
-use Rattle.std.proofs.lemmas.List.{get_or-set_same, get_or-set_other, map-set, map-append, set-get_or, set-set, length-map, get_or_default}
+use Rattle.std.proofs.lemmas.List.{get_or-set_same, get_or-set_other, map-set, set-get_or, set-set, length-map, length-set, get_or_default}
 use Rattle.std.proofs.Math.ListN.{get_or-map}
 use Rattle.std.proofs.lemmas.Grind.{common_steps}
 use Rattle.std.specs.Option.{option_map}
 use Rattle.pliron_core.specs.declared.uses.Use.{Use}
 use Rattle.pliron_core.specs.declared.uses.Place.{Place}
-use Rattle.pliron_core.specs.Uses.{AreAgreed}
-use Rattle.pliron_core.specs.Places.{at, targets_in, IsLinked}
+use Rattle.pliron_core.specs.Uses.{Table, AreAgreed}
+use Rattle.pliron_core.specs.declared.uses.Gap.{Gap}
+use Rattle.pliron_core.specs.Places.{at, held, rank, seen, no_target, no_gap, gap_of, targets_in, uses_in, HasGap, HaveGaps, IsLinked, AreLinked}
+use Rattle.pliron_core.proofs.TableLemmas.{at-same, at-other, at-within}
+use Rattle.pliron_core.proofs.GapLemmas.{same, held-at, held-from, held-push, rank-once}
 
 module _ {A : Type 0} where
   pub get_or-pad : (xs : List A) (d : A) (y : ℕ) → get_or (xs ++ d ∷ []) y d ≡ get_or xs y d
@@ -37,12 +40,6 @@ module _ {A : Type 0} where
   pub take-push : (xs : List A) (x : A) → take (length (xs ++ x ∷ []) - 1) (xs ++ x ∷ []) ≡ xs
   take-push xs x = grind (arith, common_steps)
 
-  pub at-same : (rows : List (List A)) (i : ℕ) (new : List A) (p : ℕ) → i < length rows → at (set rows i new) i p ≡ slice_get new p
-  at-same rows i new p h = ap (λ r. slice_get r p) (get_or-set_same rows i new [] h)
-
-  pub at-other : (rows : List (List A)) (i u : ℕ) (new : List A) (p : ℕ) → u ≢ i → at (set rows i new) u p ≡ at rows u p
-  at-other rows i u new p ne = ap (λ r. slice_get r p) (get_or-set_other rows i u new [] ne)
-
   pub at-push_cases : (rows : List (List A)) (i : ℕ) (x y : A) (u p : ℕ) → i < length rows → at (set rows i (get_or rows i [] ++ x ∷ [])) u p ≡ Some y → ((u ≡ i) × (p ≡ length (get_or rows i [])) × (x ≡ y)) ⊎ (at rows u p ≡ Some y)
   at-push_cases rows i x y u p h e =
       elim (cases_eq u i) [
@@ -62,43 +59,72 @@ module _ {A : Type 0} where
         | inr ne ↦ at-other rows i u _ p ne ∙ e
       ]
 
-pub row-targets : (rows : List (List Place)) (user : ℕ) → get_or (targets_in rows) user [] ≡ map (λ p. p.target) (get_or rows user [])
-row-targets rows user = get_or-map (λ row. map (λ p. p.target) row) rows user []
+pub at-map : {A B : Type 0} (f : A → B) (rows : List (List A)) (u p : ℕ) → at (map (λ r. map f r) rows) u p ≡ option_map f (at rows u p)
+at-map f rows u p = ap (λ r. slice_get r p) (get_or-map (λ r. map f r) rows u []) ∙ slice_get-map f (get_or rows u []) p
 
-pub at-targets : (rows : List (List Place)) (user place : ℕ) (p : Place) → at rows user place ≡ Some p → slice_get (get_or (targets_in rows) user []) place ≡ Some p.target
-at-targets rows user place p e = ap (λ r. slice_get r place) (row-targets rows user) ∙ slice_get-map (λ p. p.target) (get_or rows user []) place ∙ ap (option_map (λ p. p.target)) e
+pub row-targets : (rows : List (List Place)) (user : ℕ) → get_or (targets_in rows) user [] ≡ held (get_or rows user [])
+row-targets rows user = get_or-map held rows user []
 
-pub targets-at : (rows : List (List Place)) (user place target : ℕ) → slice_get (get_or (targets_in rows) user []) place ≡ Some target → (i : ℕ) × (at rows user place ≡ Some (record { target = target; at = i }))
-targets-at rows user place target e = found (at rows user place) refl
+-- what a list of uses names is a target
+pub target-real : (rows : List (List Place)) (lists : List (List Use)) → IsLinked rows lists → (target i : ℕ) (u : Use) → at lists target i ≡ Some u → target ≢ no_target
+target-real rows lists is target i u e f =
+    let h : target < length lists = at-within lists target i u e in
+    omega (arith, h, is.few, f)
+
+-- a use as it is seen, and as it is
+pub record IsSeen (rows : List (List Place)) (lists : List (List Use)) (target i : ℕ) (u : Use) : Type 0 where
+  pub one : Use
+  pub there : at lists target i ≡ Some one
+  pub is : u ≡ seen rows one
+
+pub seen-from : (rows : List (List Place)) (lists : List (List Use)) (target i : ℕ) (u : Use) → at (uses_in rows lists) target i ≡ Some u → IsSeen rows lists target i u
+seen-from rows lists target i u e = found (at lists target i) refl
   where
-    found : (o : Option Place) → at rows user place ≡ o → (i : ℕ) × (at rows user place ≡ Some (record { target = target; at = i }))
-    found None is =
-        let none : slice_get (get_or (targets_in rows) user []) place ≡ None = ap (λ r. slice_get r place) (row-targets rows user) ∙ slice_get-map (λ p. p.target) (get_or rows user []) place ∙ ap (option_map (λ p. p.target)) is in
-        absurd (cc)
-    found (Some p) is =
-        let there : slice_get (get_or (targets_in rows) user []) place ≡ Some p.target = at-targets rows user place p is in
-        let same : p.target ≡ target = cc in
-        (p.at, is ∙ ap (λ t. Some (let q : Place = record { target = t; at = p.at } in q)) same)
+    found : (o : Option Use) → at lists target i ≡ o → IsSeen rows lists target i u
+    found None f = let n : at (uses_in rows lists) target i ≡ None = at-map (seen rows) lists target i ∙ ap (option_map (seen rows)) f in absurd (cc)
+    found (Some w) f =
+        let n : at (uses_in rows lists) target i ≡ Some (seen rows w) = at-map (seen rows) lists target i ∙ ap (option_map (seen rows)) f in
+        record { one = w; there = f; is = same (sym e ∙ n) }
 
-same_index : {a b : Place} → Some a ≡ Some b → a.at ≡ b.at
-same_index {a} {b} e = let same : a ≡ b = cc in ap (λ z. z.at) same
+module _ (rows : List (List Place)) (lists : List (List Use)) (is : IsLinked rows lists) where
+  seen-listed : (target i : ℕ) (u : Use) → at (uses_in rows lists) target i ≡ Some u → slice_get (get_or (targets_in rows) u.user []) u.place ≡ Some target
+  seen-listed target i u e =
+      let w = seen-from rows lists target i u e in
+      let there = is.placed target i w.one.user w.one.place w.there in
+      rw w.is (ap (λ r. slice_get r (seen rows w.one).place) (row-targets rows w.one.user) ∙ held-at (get_or rows w.one.user []) w.one.place _ there (target-real rows lists is target i w.one w.there))
 
-pub agree-linked : (rows : List (List Place)) (lists : List (List Use)) → IsLinked rows lists → AreAgreed (targets_in rows) lists
-agree-linked rows lists is = record {
-  listed = λ target i u e. at-targets rows u.user u.place _ (is.placed target i u.user u.place e);
-  once = λ target i j u a b. let p = is.placed target i u.user u.place a in let q = is.placed target j u.user u.place b in same_index (sym p ∙ q);
-  complete = λ user place target e. let p = targets-at rows user place target e in (p.0, is.used user place target p.0 p.1);
-}
+  seen-once : (target i j : ℕ) (u : Use) → at (uses_in rows lists) target i ≡ Some u → at (uses_in rows lists) target j ≡ Some u → i ≡ j
+  seen-once target i j u e f =
+      let a = seen-from rows lists target i u e in
+      let b = seen-from rows lists target j u f in
+      let one = is.placed target i a.one.user a.one.place a.there in
+      let two = is.placed target j b.one.user b.one.place b.there in
+      let both : seen rows a.one ≡ seen rows b.one = sym a.is ∙ b.is in
+      let users : a.one.user ≡ b.one.user = ap (λ z. z.user) both in
+      let ranks : rank (get_or rows a.one.user []) a.one.place ≡ rank (get_or rows b.one.user []) b.one.place = ap (λ z. z.place) both in
+      let moved : at rows a.one.user b.one.place ≡ Some (record { target = target; at = j }) = ap (λ z. at rows z b.one.place) users ∙ two in
+      let real = target-real rows lists is target i a.one a.there in
+      let places : a.one.place ≡ b.one.place = rank-once (get_or rows a.one.user []) a.one.place b.one.place _ _ one moved real real (ranks ∙ ap (λ z. rank (get_or rows z []) b.one.place) (sym users)) in
+      ap (λ z. z.at) (same (sym one ∙ ap (at rows a.one.user) places ∙ moved))
+
+  seen-complete : (user place target : ℕ) → slice_get (get_or (targets_in rows) user []) place ≡ Some target → (i : ℕ) × (at (uses_in rows lists) target i ≡ Some (record { user = user; place = place }))
+  seen-complete user place target e =
+      let h = held-from (get_or rows user []) place target (ap (λ r. slice_get r place) (sym (row-targets rows user)) ∙ e) in
+      let there = is.used user h.n h.p.target h.p.at h.is h.taken in
+      (h.p.at, ap (λ z. at (uses_in rows lists) z h.p.at) (sym h.names) ∙ at-map (seen rows) lists h.p.target h.p.at ∙ ap (option_map (seen rows)) there ∙ ap (λ z. Some (let u : Use = record { user = user; place = z } in u)) h.ranked)
+
+  pub agree-linked : AreAgreed (targets_in rows) (uses_in rows lists)
+  agree-linked = record { listed = seen-listed; once = seen-once; complete = seen-complete }
 
 pub linked-push : (rows : List (List Place)) (lists : List (List Use)) (user target : ℕ) → user < length rows → target < length lists → IsLinked rows lists → IsLinked (set rows user (get_or rows user [] ++ record { target = target; at = length (get_or lists target []) } ∷ [])) (set lists target (get_or lists target [] ++ record { user = user; place = length (get_or rows user []) } ∷ []))
 linked-push rows lists user target hu ht is = record {
-  used = λ u p t i e.
+  used = λ u p t i e real.
       elim (at-push_cases rows user _ _ u p hu e) [
         | inl k ↦
             let tt' : target ≡ t = ap (λ z. z.target) k.2 in
             let ii : length (get_or lists target []) ≡ i = ap (λ z. z.at) k.2 in
             rw (k.0, k.1, ← tt', ← ii) (at-pushed lists target _ ht)
-        | inr k ↦ at-kept lists target _ _ t i ht (is.used u p t i k)
+        | inr k ↦ at-kept lists target _ _ t i ht (is.used u p t i k real)
       ];
   placed = λ t i u p e.
       elim (at-push_cases lists target _ _ t i ht e) [
@@ -108,31 +134,89 @@ linked-push rows lists user target hu ht is = record {
             rw (k.0, k.1, ← uu, ← pp) (at-pushed rows user _ hu)
         | inr k ↦ at-kept rows user _ _ u p hu (is.placed t i u p k)
       ];
+  few = omega (arith, length-set lists target (get_or lists target [] ++ record { user = user; place = length (get_or rows user []) } ∷ []), is.few);
 }
 
 pub linked-user : (rows : List (List Place)) (lists : List (List Use)) → IsLinked rows lists → IsLinked (rows ++ [] ∷ []) lists
 linked-user rows lists is = record {
   used = λ u p t i e. is.used u p t i (sym (ap (λ r. slice_get r p) (get_or-pad rows [] u)) ∙ e);
   placed = λ t i u p e. ap (λ r. slice_get r p) (get_or-pad rows [] u) ∙ is.placed t i u p e;
+  few = is.few;
 }
 
-pub linked-target : (rows : List (List Place)) (lists : List (List Use)) → IsLinked rows lists → IsLinked rows (lists ++ [] ∷ [])
-linked-target rows lists is = record {
-  used = λ u p t i e. ap (λ r. slice_get r i) (get_or-pad lists [] t) ∙ is.used u p t i e;
+pub linked-target : (rows : List (List Place)) (lists : List (List Use)) → length (lists ++ [] ∷ []) ≤ no_target → IsLinked rows lists → IsLinked rows (lists ++ [] ∷ [])
+linked-target rows lists few is = record {
+  used = λ u p t i e real. ap (λ r. slice_get r i) (get_or-pad lists [] t) ∙ is.used u p t i e real;
   placed = λ t i u p e. is.placed t i u p (sym (ap (λ r. slice_get r i) (get_or-pad lists [] t)) ∙ e);
+  few = few;
 }
 
-pub targets-push : (rows : List (List Place)) (user : ℕ) (p : Place) → targets_in (set rows user (get_or rows user [] ++ p ∷ [])) ≡ set (targets_in rows) user (get_or (targets_in rows) user [] ++ p.target ∷ [])
-targets-push rows user p = map-set _ rows user _ ∙ ap (set (targets_in rows) user) (map-append (λ q. q.target) (get_or rows user []) (p ∷ []) ∙ ap (λ r. r ++ p.target ∷ []) (sym (row-targets rows user)))
+map-same : {A B : Type 0} (f g : A → B) → ((x : A) → f x ≡ g x) → (xs : List A) → map f xs ≡ map g xs
+map-same f g each [] = refl
+map-same f g each (x ∷ xs) = rw (each x, map-same f g each xs) refl
+
+-- one more user, and the tables that contracts see
+pub uses-user : (rows : List (List Place)) (lists : List (List Use)) → uses_in (rows ++ [] ∷ []) lists ≡ uses_in rows lists
+uses-user rows lists = map-same (map (seen (rows ++ [] ∷ []))) (map (seen rows)) (λ l. map-same (seen (rows ++ [] ∷ [])) (seen rows) (λ u. ap (λ r. let w : Use = record { user = u.user; place = rank r u.place } in w) (get_or-pad rows [] u.user)) l) lists
+
+pub same-table : {t t' : List (List ℕ)} {u u' : List (List Use)} {m m' n : ℕ} → t ≡ t' → u ≡ u' → m ≡ m' → (let x : Table = record { targets = t; uses = u; user_room = m; target_room = n } in x) ≡ record { targets = t'; uses = u'; user_room = m'; target_room = n }
+same-table e f g = rw (e, f, g) refl
+
+-- what a list of uses that was read says, and how the use is seen
+pub use-there : (lists : List (List Use)) (target i : ℕ) (read : List Use) (u : Use) → target < length lists → read ≡ get_or lists target read → slice_get read i ≡ Some u → at lists target i ≡ Some u
+use-there lists target i read u h e there = ap (λ l. slice_get l i) (sym (e ∙ get_or_default lists target read [] h)) ∙ there
+
+pub use-seen : (rows : List (List Place)) (lists : List (List Use)) (target i n : ℕ) (u : Use) → at lists target i ≡ Some u → n ≡ rank (get_or rows u.user []) u.place → slice_get (get_or (uses_in rows lists) target []) i ≡ Some (record { user = u.user; place = n })
+use-seen rows lists target i n u e r = at-map (seen rows) lists target i ∙ ap (option_map (seen rows)) e ∙ ap (λ z. Some (let w : Use = record { user = u.user; place = z } in w)) (sym r)
+
+-- a row without places has no gap
+pub gap-none : HasGap [] no_gap
+gap-none = record {
+  fits = omega arith;
+  free = λ n p e. absurd (cc);
+  before = λ n p e. absurd (cc);
+  behind = λ n p e. absurd (cc);
+}
+
+pub gaps-user : (rows : List (List Place)) (gaps : List Gap) → HaveGaps rows gaps → HaveGaps (rows ++ [] ∷ []) (gaps ++ no_gap ∷ [])
+gaps-user rows gaps is = record {
+  count = omega (arith, length-append rows ([] ∷ []), length-append gaps (no_gap ∷ []), is.count);
+  each = λ u. rw (get_or-pad rows [] u, get_or-pad gaps no_gap u) (is.each u);
+}
+
+-- one more place, which is taken
+pub gap-push : (row : List Place) (gap : Gap) (p : Place) → p.target ≢ no_target → HasGap row gap → HasGap (row ++ p ∷ []) gap
+gap-push row gap p real is = record {
+  fits = omega (arith, length-append row (p ∷ []), is.fits);
+  free = λ n q e a b. elim (push-cases row p q n e) [ inl k ↦ absurd (omega (arith, k.0, b, is.fits)) | inr k ↦ is.free n q k a b ];
+  before = λ n q e a. elim (push-cases row p q n e) [ inl k ↦ subst (λ z. z.target ≢ no_target) k.1 real | inr k ↦ is.before n q k a ];
+  behind = λ n q e a. elim (push-cases row p q n e) [ inl k ↦ subst (λ z. z.target ≢ no_target) k.1 real | inr k ↦ is.behind n q k a ];
+}
+
+-- another row for the same gap, another gap for the same row, or both
+pub gaps-put : (rows : List (List Place)) (gaps : List Gap) (user : ℕ) (row : List Place) (gap : Gap) → user < length rows → HasGap row gap → HaveGaps rows gaps → HaveGaps (set rows user row) (set gaps user gap)
+gaps-put rows gaps user row gap within one is = record {
+  count = length-set gaps user gap ∙ is.count ∙ sym (length-set rows user row);
+  each = λ u. elim (cases_eq u user) [
+    | inl e ↦ rw (e, get_or-set_same rows user row [] within, get_or-set_same gaps user gap no_gap (omega (arith, within, is.count))) one
+    | inr ne ↦ rw (get_or-set_other rows user u row [] ne, get_or-set_other gaps user u gap no_gap ne) (is.each u)
+  ];
+}
+
+pub gaps-row : (rows : List (List Place)) (gaps : List Gap) (user : ℕ) (row : List Place) → user < length rows → HasGap row (gap_of gaps user) → HaveGaps rows gaps → HaveGaps (set rows user row) gaps
+gaps-row rows gaps user row within one is = subst (HaveGaps (set rows user row)) (set-get_or gaps user no_gap) (gaps-put rows gaps user row (gap_of gaps user) within one is)
+
+pub targets-push : (rows : List (List Place)) (user : ℕ) (p : Place) → p.target ≢ no_target → targets_in (set rows user (get_or rows user [] ++ p ∷ [])) ≡ set (targets_in rows) user (get_or (targets_in rows) user [] ++ p.target ∷ [])
+targets-push rows user p real = map-set _ rows user _ ∙ ap (set (targets_in rows) user) (held-push (get_or rows user []) p real ∙ ap (λ r. r ++ p.target ∷ []) (sym (row-targets rows user)))
 
 -- what `push` writes, by the values that it read
-module _ (rows : List (List Place)) (lists : List (List Use)) (user target at' place : ℕ) (is : IsLinked rows lists) where
+module _ (rows : List (List Place)) (gaps : List Gap) (lists : List (List Use)) (user target at' place : ℕ) (is : AreLinked rows gaps lists) where
   module _ (hu : user < length (targets_in rows)) (ht : target < length lists) (list0 list1 list2 : List Use) (row0 row1 row2 : List Place)
       (l0 : list0 ≡ get_or lists target list0) (l1 : list1 ≡ get_or lists target list1) (r0 : row0 ≡ get_or rows user row0) (r1 : row1 ≡ get_or rows user row1)
       (at_is : at' ≡ length list0) (place_is : place ≡ length row0)
       (l2 : list2 ≡ list1 ++ record { user = user; place = place } ∷ []) where
     within : user < length rows
-    within = omega (arith, hu, length-map rows (λ row. map (λ p. p.target) row))
+    within = omega (arith, hu, length-map rows held)
 
     list_is : list2 ≡ get_or lists target [] ++ record { user = user; place = length (get_or rows user []) } ∷ []
     list_is =
@@ -140,16 +224,22 @@ module _ (rows : List (List Place)) (lists : List (List Use)) (user target at' p
         let b : row0 ≡ get_or rows user [] = r0 ∙ get_or_default rows user row0 [] within in
         rw (l2, place_is, b, a) refl
 
-    pub pushed-linked : row2 ≡ row1 ++ record { target = target; at = at' } ∷ [] → IsLinked (set rows user row2) (set lists target list2)
+    real : target ≢ no_target
+    real f = omega (arith, ht, is.linked.few, f)
+
+    pub pushed-linked : row2 ≡ row1 ++ record { target = target; at = at' } ∷ [] → AreLinked (set rows user row2) gaps (set lists target list2)
     pushed-linked r2 =
         let a : row1 ≡ get_or rows user [] = r1 ∙ get_or_default rows user row1 [] within in
         let b : list0 ≡ get_or lists target [] = l0 ∙ get_or_default lists target list0 [] ht in
-        rw (list_is, r2, at_is, b, a) (linked-push rows lists user target within ht is)
+        rw (list_is, r2, at_is, b, a) (record {
+          linked = linked-push rows lists user target within ht is.linked;
+          gaps = gaps-row rows gaps user _ within (gap-push (get_or rows user []) (gap_of gaps user) _ real (is.gaps.each user)) is.gaps;
+        })
 
     pub pushed-targets : row2 ≡ row1 ++ record { target = target; at = at' } ∷ [] → targets_in (set rows user row2) ≡ set (targets_in rows) user (get_or (targets_in rows) user [] ++ target ∷ [])
     pushed-targets r2 =
         let a : row1 ≡ get_or rows user [] = r1 ∙ get_or_default rows user row1 [] within in
-        rw (r2, a) (targets-push rows user (record { target = target; at = at' }))
+        rw (r2, a) (targets-push rows user (record { target = target; at = at' }) real)
 
     pub undone : (list3 list4 : List Use) → list3 ≡ get_or (set lists target list2) target list3 → list4 ≡ take (length list3 - 1) list3 → row2 ≡ row1 → (set rows user row2 ≡ rows) × (set (set lists target list2) target list4 ≡ lists)
     undone list3 list4 l3 l4 r2 =

@@ -1,13 +1,40 @@
 -- Lemmas on tables of rows: one entry written, and the last entry of a row taken off.
-use Rattle.std.proofs.Common.{◌≡◌, ◌≢◌, ◌⊎◌, ℕ, zero, suc, ◌-◌, ◌<◌, List, [], ◌∷◌, length, take, get_or, Option, Some, None, refl, sym, ap, ◌∙◌, inl, inr, arith}
+use Rattle.std.proofs.Common.{◌≡◌, ◌≢◌, ◌⊎◌, ℕ, zero, suc, ◌-◌, ◌<◌, ◌≤◌, List, [], ◌∷◌, length, take, get_or, set, Option, Some, None, refl, sym, ap, ◌∙◌, inl, inr, arith}
 use Rattle.std.specs.List.{slice_get}
 use Rattle.std.specs.Option.{IsSome}
 use Rattle.std.proofs.lemmas.Bool.{cases_eq, false≢true}
 use Rattle.std.proofs.lemmas.Option.{slice_get_within}
-use Rattle.std.proofs.lemmas.List.{get_or-set_same, get_or-set_other, length-set, get_or_default}
+use Rattle.std.proofs.lemmas.List.{get_or-set_same, get_or-set_other, length-set, get_or_past, get_or_default}
 use Rattle.pliron_core.specs.Places.{at, put, cut}
-use Rattle.pliron_core.proofs.PlaceLemmas.{at-same, at-other}
-use Rattle.pliron_core.proofs.MoveLemmas.{set-same, set-other, at-within}
+
+module _ {A : Type 0} where
+  pub set-same : (xs : List A) (j : ℕ) (x y : A) → slice_get xs j ≡ Some y → slice_get (set xs j x) j ≡ Some x
+  set-same [] j x y e = absurd (cc)
+  set-same (z ∷ zs) zero x y e = refl
+  set-same (z ∷ zs) (suc j) x y e = set-same zs j x y e
+
+  pub set-other : (xs : List A) (j p : ℕ) (x : A) → p ≢ j → slice_get (set xs j x) p ≡ slice_get xs p
+  set-other [] j p x ne = refl
+  set-other (z ∷ zs) zero zero x ne = absurd (ne refl)
+  set-other (z ∷ zs) zero (suc p) x ne = refl
+  set-other (z ∷ zs) (suc j) zero x ne = refl
+  set-other (z ∷ zs) (suc j) (suc p) x ne = set-other zs j p x (λ e. ne (ap suc e))
+
+  pub at-within : (rows : List (List A)) (u p : ℕ) (y : A) → at rows u p ≡ Some y → u < length rows
+  at-within rows u p y e =
+      elim (cases_lt u) [
+        | inl h ↦ h
+        | inr h ↦ let none : at rows u p ≡ None = ap (λ r. slice_get r p) (get_or_past rows u [] h) in absurd (cc)
+      ]
+    where
+      cases_lt : (u : ℕ) → (u < length rows) ⊎ (length rows ≤ u)
+      cases_lt u = grind arith
+
+  pub at-same : (rows : List (List A)) (i : ℕ) (new : List A) (p : ℕ) → i < length rows → at (set rows i new) i p ≡ slice_get new p
+  at-same rows i new p h = ap (λ r. slice_get r p) (get_or-set_same rows i new [] h)
+
+  pub at-other : (rows : List (List A)) (i u : ℕ) (new : List A) (p : ℕ) → u ≢ i → at (set rows i new) u p ≡ at rows u p
+  at-other rows i u new p ne = ap (λ r. slice_get r p) (get_or-set_other rows i u new [] ne)
 
 pub same_cell : (u i p j : ℕ) → ((u ≡ i) × (p ≡ j)) ⊎ ((u ≡ i) → (p ≡ j) → ⊥)
 same_cell u i p j =
@@ -65,13 +92,13 @@ module _ {A : Type 0} where
         | inr ne ↦ ap length (get_or-set_other rows i u _ [] ne)
       ]
 
-  take-below : (xs : List A) (n k : ℕ) → k < n → slice_get (take n xs) k ≡ slice_get xs k
+  pub take-below : (xs : List A) (n k : ℕ) → k < n → slice_get (take n xs) k ≡ slice_get xs k
   take-below xs zero k h = absurd (omega arith)
   take-below [] (suc n) k h = refl
   take-below (x ∷ xs) (suc n) zero h = refl
   take-below (x ∷ xs) (suc n) (suc k) h = take-below xs n k (omega arith)
 
-  take-within : (xs : List A) (n k : ℕ) (w : A) → slice_get (take n xs) k ≡ Some w → (k < n) × (slice_get xs k ≡ Some w)
+  pub take-within : (xs : List A) (n k : ℕ) (w : A) → slice_get (take n xs) k ≡ Some w → (k < n) × (slice_get xs k ≡ Some w)
   take-within xs zero k w e = absurd (cc)
   take-within [] (suc n) k w e = absurd (cc)
   take-within (x ∷ xs) (suc n) zero w e = (omega arith, e)

@@ -15,7 +15,7 @@ use Rattle.pliron_core.specs.Tree.{Tree, no_entry, up_from, row_of, head_of, ope
 use Rattle.pliron_core.specs.Joined.{IsJoined, IsTree}
 use Rattle.pliron_core.specs.Writes.{argument_definitions, operand_pushed, successor_pushed, operand_removed, with_attribute, attribute_set, numbered, argument_removed, replaced, block_created}
 use Rattle.pliron_core.specs.Changes.{HoldsRegion, IsMakerInside, IsMadeInside, IsOutside, IsBlockOutside, IsValueOutside, IsKeptOperation, IsKeptBlock, IsInsideChange}
-use Rattle.pliron_core.proofs.MoveLemmas.{set-other}
+use Rattle.pliron_core.proofs.TableLemmas.{set-other}
 use Rattle.pliron_core.proofs.PlaceLemmas.{get_or-pad}
 use Rattle.pliron_core.proofs.HoldingLemmas.{not_none, slice_in, maker_is, holder_is, holder_by, held_block, inside_alike, within_alike, inside_more, within_more}
 use Rattle.pliron_core.proofs.InsideLemmas.{AreKeptOutside, change_of_kept}

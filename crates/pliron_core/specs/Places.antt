@@ -1,10 +1,54 @@
 -- How places and uses are linked.
-use Rattle.std.specs.Prelude.{◌≡◌, ℕ, ◌+◌, ◌&&◌, nat_eq, nat_lt, if◌then◌else◌, List, [], length, Option, Some, slice_index_or, slice_get, slice_set, take, ◌-◌, map}
+use Rattle.std.specs.Prelude.{zero, suc, ◌≡◌, ◌≢◌, ◌≤◌, ◌<◌, ℕ, ◌+◌, ◌&&◌, nat_eq, nat_lt, if◌then◌else◌, List, [], ◌∷◌, length, Option, Some, slice_index_or, slice_get, slice_set, take, ◌-◌, map, Vec, vec_len, vec_capacity}
 use Rattle.pliron_core.specs.declared.uses.Use.{Use}
 use Rattle.pliron_core.specs.declared.uses.Place.{Place}
+use Rattle.pliron_core.specs.declared.uses.Gap.{Gap}
+
+-- no target has this key: a place that names it is free
+abbrev pub no_target : ℕ
+no_target = 18446744073709551615
+
+-- the targets of a row of places, in order: what its free places name is none
+abbrev pub held : List Place → List ℕ
+held [] = []
+held (p ∷ ps) = if nat_eq p.target no_target then held ps else p.target ∷ held ps
 
 abbrev pub targets_in : List (List Place) → List (List ℕ)
-targets_in rows = map (λ row. map (λ p. p.target) row) rows
+targets_in rows = map held rows
+
+-- how many of the first n places are taken
+abbrev pub rank : List Place → ℕ → ℕ
+rank [] n = 0
+rank (p ∷ ps) zero = 0
+rank (p ∷ ps) (suc n) = if nat_eq p.target no_target then rank ps n else suc (rank ps n)
+
+-- a use, by its place among those that are taken
+abbrev pub seen : List (List Place) → Use → Use
+seen rows u = record { user = u.user; place = rank (slice_index_or rows u.user []) u.place }
+
+abbrev pub uses_in : List (List Place) → List (List Use) → List (List Use)
+uses_in rows lists = map (map (seen rows)) lists
+
+-- the free places of the row are those in the gap
+pub record HasGap (row : List Place) (gap : Gap) : Type 0 where
+  pub fits : gap.start + gap.len ≤ length row
+  pub free : (n : ℕ) (p : Place) → slice_get row n ≡ Some p → gap.start ≤ n → n < gap.start + gap.len → p.target ≡ no_target
+  pub before : (n : ℕ) (p : Place) → slice_get row n ≡ Some p → n < gap.start → p.target ≢ no_target
+  pub behind : (n : ℕ) (p : Place) → slice_get row n ≡ Some p → gap.start + gap.len ≤ n → p.target ≢ no_target
+
+abbrev pub no_gap : Gap
+no_gap = record { start = 0; len = 0 }
+
+abbrev pub gap_of : List Gap → ℕ → Gap
+gap_of gaps user = slice_index_or gaps user no_gap
+
+abbrev pub free_place : Place
+free_place = record { target = no_target; at = 0 }
+
+-- each row has one gap
+pub record HaveGaps (rows : List (List Place)) (gaps : List Gap) : Type 0 where
+  pub count : length gaps ≡ length rows
+  pub each : (user : ℕ) → HasGap (slice_index_or rows user []) (gap_of gaps user)
 
 -- the entry at two indices
 abbrev pub at : {X : Type 0} → List (List X) → ℕ → ℕ → Option X
@@ -18,10 +62,19 @@ put rows i j x = slice_set rows i (slice_set (slice_index_or rows i []) j x)
 abbrev pub cut : {X : Type 0} → List (List X) → ℕ → List (List X)
 cut rows i = slice_set rows i (take (length (slice_index_or rows i []) - 1) (slice_index_or rows i []))
 
--- a place and its use name each other
+-- a place that is taken and its use name each other
 pub record IsLinked (rows : List (List Place)) (lists : List (List Use)) : Type 0 where
-  pub used : (user place target i : ℕ) → at rows user place ≡ Some (record { target = target; at = i }) → at lists target i ≡ Some (record { user = user; place = place })
+  pub used : (user place target i : ℕ) → at rows user place ≡ Some (record { target = target; at = i }) → target ≢ no_target → at lists target i ≡ Some (record { user = user; place = place })
   pub placed : (target i user place : ℕ) → at lists target i ≡ Some (record { user = user; place = place }) → at rows user place ≡ Some (record { target = target; at = i })
+  pub few : length lists ≤ no_target
+
+pub record AreLinked (rows : List (List Place)) (spans : List Gap) (lists : List (List Use)) : Type 0 where
+  pub linked : IsLinked rows lists
+  pub gaps : HaveGaps rows spans
+
+-- the tables are as long as before, with as much room
+abbrev pub KeepRooms : {X Y W Z : Type 0} → (places places' : Vec X Z) → (gaps gaps' : Vec Y Z) → (uses uses' : Vec W Z) → Type 0
+KeepRooms places places' gaps gaps' uses uses' = (vec_len places' ≡ vec_len places) × (vec_capacity places' ≡ vec_capacity places) × (vec_len gaps' ≡ vec_len gaps) × (vec_capacity gaps' ≡ vec_capacity gaps) × (vec_len uses' ≡ vec_len uses) × (vec_capacity uses' ≡ vec_capacity uses)
 
 -- a place of `old` that was reached names `new`
 abbrev pub shifted : ℕ → ℕ → ℕ → ℕ → Place → Place

@@ -87,6 +87,15 @@ impl<T> Row<T> {
         self.items.pop();
     }
 
+    // Only the first `count` items stay.
+    pub(crate) fn truncate(&mut self, count: usize)
+    where
+        T: Drop,
+        ensures { self.new ≡ take count self.old }
+    {
+        self.items.truncate(count);
+    }
+
     /// The item at an index. Cost: constant.
     pub fn get(&self, i: usize) -> T
     where

@@ -1,10 +1,11 @@
 //! Which targets each user names, in order, and where each target is used.
 
-ghost use Rattle.std.specs.Prelude.{◌≡◌, ◌≢◌, ℕ, ◌+◌, ◌-◌, ◌^◌, ◌<◌, ◌≤◌, [], ◌∷◌, ◌++◌, length, map, slice_set, vec_capacity, slice_get, Some, OnOk, OnErr, take, remove, swap};
+ghost use Rattle.std.specs.Prelude.{◌≡◌, ◌≢◌, ℕ, ◌+◌, ◌-◌, ◌^◌, ◌<◌, ◌≤◌, [], ◌∷◌, ◌++◌, length, map, slice_set, vec_capacity, vec_len, slice_get, slice_index_or, Some, take, OnOk, OnErr, remove};
 ghost use Rattle.pliron_core.specs.Uses.{Table, targets_of, uses_of, AreAgreed, replace_target};
 ghost use Rattle.pliron_core.specs.declared.uses.Use.{Use};
 ghost use Rattle.std.specs.Option.{option_map};
-ghost use Rattle.pliron_core.specs.Places.{at, shifted};
+ghost use Rattle.pliron_core.specs.declared.uses.Place.{Place as PlaceOf};
+ghost use Rattle.pliron_core.specs.Places.{at, put, held, rank, shifted, targets_in, no_target, free_place, gap_of, HasGap, HaveGaps, IsLinked, AreLinked, KeepRooms};
 
 use crate::row::{Row, entry, pop_entry, set_entry};
 use std::alloc::{AllocError, Global};
@@ -15,6 +16,7 @@ use std::mem;
 #[derive(Drop)]
 pub struct Uses {
     places: Vec<Row<Place>>,
+    gaps: Vec<Gap>,
     uses: Vec<Row<Use>>,
 }
 
@@ -24,6 +26,22 @@ struct Place {
     target: usize,
     at: usize,
 }
+
+// The places of a user that are free: the first one, and how many there are.
+//
+// What is removed leaves a free place, and the gap moves to where a target is removed; so removals one
+// beside the other move no places, whichever way they go.
+#[derive(Clone, Copy)]
+struct Gap {
+    start: usize,
+    len: usize,
+}
+
+// What a free place has.
+const FREE: Place = Place {
+    target: usize::MAX,
+    at: 0,
+};
 
 /// A use: the user, and the index among its targets.
 #[derive(Clone, Copy, PartialEq, Eq)]
@@ -37,12 +55,12 @@ impl Model for Uses {
 
     ghost Value = { Table };
 
-    ghost use Rattle.std.specs.Prelude.{◌-◌, vec_capacity, vec_len};
-    ghost use Rattle.pliron_core.specs.Places.{IsLinked, targets_in};
+    ghost use Rattle.std.specs.Prelude.{◌-◌, min, vec_capacity, vec_len};
+    ghost use Rattle.pliron_core.specs.Places.{AreLinked, targets_in, uses_in};
 
-    ghost view = { λ c. record { targets = targets_in c.places.items; uses = c.uses.items; user_room = vec_capacity c.places - vec_len c.places; target_room = vec_capacity c.uses - vec_len c.uses } };
+    ghost view = { λ c. record { targets = targets_in c.places.items; uses = uses_in c.places.items c.uses.items; user_room = min (vec_capacity c.places - vec_len c.places) (vec_capacity c.gaps - vec_len c.gaps); target_room = vec_capacity c.uses - vec_len c.uses } };
 
-    ghost invariant = { λ c. IsLinked c.places.items c.uses.items };
+    ghost invariant = { λ c. AreLinked c.places.items c.gaps.items c.uses.items };
 }
 
 impl Uses {
@@ -52,6 +70,7 @@ impl Uses {
     {
         Uses {
             places: Vec::new(alloc),
+            gaps: Vec::new(alloc),
             uses: Vec::new(alloc),
         }
     }
@@ -70,7 +89,7 @@ impl Uses {
         requires { user < length self.now.targets }
         ensures { result ≡ length (targets_of self.now user) }
     {
-        self.places[user].len()
+        count_at(&self.places, &self.gaps, user)
     }
 
     /// The target at a place of a user. Cost: constant.
@@ -79,7 +98,8 @@ impl Uses {
         requires place { place < length (targets_of self.now user) }
         ensures { slice_get (targets_of self.now user) place ≡ Some result }
     {
-        self.places[user].get(place).target
+        let gap = gap_at(&self.places, &self.gaps, user);
+        target_at(&self.places[user], gap, place)
     }
 
     /// How many uses a target has. Cost: constant.
@@ -96,7 +116,10 @@ impl Uses {
         requires place { i < length (uses_of self.now target) }
         ensures { slice_get (uses_of self.now target) i ≡ Some result }
     {
-        self.uses[target].get(i)
+        let Use { user, place } = self.uses[target].get(i);
+        let gap = gap_at(&self.places, &self.gaps, user);
+        let place = rank_at(&self.places[user], gap, place);
+        Use { user, place }
     }
 
     /// Makes room for so many more users and so many more targets.
@@ -108,6 +131,7 @@ impl Uses {
         ensures room { OnOk result ((users ≤ self.new.user_room) × (targets ≤ self.new.target_room)) }
     {
         self.places.reserve(users)?;
+        self.gaps.reserve(users)?;
         self.uses.reserve(targets)
     }
 
@@ -119,6 +143,7 @@ impl Uses {
     {
         let key = self.places.len();
         self.places.push_reserved(Row::new(alloc));
+        self.gaps.push_reserved(Gap { start: 0, len: 0 });
         key
     }
 
@@ -180,7 +205,8 @@ impl Uses {
 
     /// The target at a place goes, and is the answer. The later ones move down by one place.
     ///
-    /// Takes no memory. Cost: the number of targets after it.
+    /// Takes no memory. Cost: the number of targets between it and the place where one was removed last,
+    /// and constant for the first; amortised, a constant and at most twice the number of targets after it.
     pub fn remove(&mut self, user: usize, place: usize) -> usize
         requires user { user < length self.old.targets }
         requires place { place < length (targets_of self.old user) }
@@ -189,11 +215,16 @@ impl Uses {
         ensures count { length self.new.uses ≡ length self.old.uses }
         ensures rooms { (self.new.user_room ≡ self.old.user_room) × (self.new.target_room ≡ self.old.target_room) }
     {
-        let last = self.num_targets(user) - 1;
-        for j in place..last {
-            self.swap(user, j, j + 1);
-        }
-        self.pop(user)
+        open_gap(
+            &mut self.places,
+            &mut self.gaps,
+            &mut self.uses,
+            user,
+            place,
+        );
+        let target = widen_gap(&mut self.places, &mut self.gaps, &mut self.uses, user);
+        settle_gap(&mut self.places, &mut self.gaps, &mut self.uses, user);
+        target
     }
 
     /// All targets of a user go. Takes no memory. Cost: the number of its targets.
@@ -204,63 +235,230 @@ impl Uses {
         ensures rooms { (self.new.user_room ≡ self.old.user_room) × (self.new.target_room ≡ self.old.target_room) }
     {
         while self.num_targets(user) > 0 {
-            self.pop(user);
+            let last = self.num_targets(user) - 1;
+            self.remove(user, last);
         }
     }
+}
 
-    // The targets at two places change places.
-    fn swap(&mut self, user: usize, i: usize, j: usize)
-        requires user { user < length self.old.targets }
-        requires i { i < length (targets_of self.old user) }
-        requires j { j < length (targets_of self.old user) }
-        requires differ { i ≢ j }
-        ensures targets { self.new.targets ≡ slice_set self.old.targets user (swap (targets_of self.old user) i j) }
-        ensures count { length self.new.uses ≡ length self.old.uses }
-        ensures rooms { (self.new.user_room ≡ self.old.user_room) × (self.new.target_room ≡ self.old.target_room) }
-    {
-        let first = entry(&self.places, user, i);
-        let second = entry(&self.places, user, j);
-        set_entry(
-            &mut self.uses,
-            first.target,
-            first.at,
-            Use { user, place: j },
-        );
-        set_entry(
-            &mut self.uses,
-            second.target,
-            second.at,
-            Use { user, place: i },
-        );
-        set_entry(&mut self.places, user, i, second);
-        set_entry(&mut self.places, user, j, first);
-    }
+// The gap of a user.
+fn gap_at(places: &Vec<Row<Place>>, gaps: &Vec<Gap>, user: usize) -> Gap
+    requires gaps { HaveGaps places.now.items gaps.now.items }
+    requires user { user < length gaps.now.items }
+    ensures gap { result ≡ gap_of gaps.now.items user }
+    ensures few { length (slice_index_or places.now.items user []) < 2 ^ 64 }
+{
+    let _ = places[user].len();
+    gaps[user]
+}
 
-    // The last target of a user goes, and is the answer. The last use of that target takes the
-    // index of the use that goes.
-    fn pop(&mut self, user: usize) -> usize
-        requires user { user < length self.old.targets }
-        requires some { 0 < length (targets_of self.old user) }
-        ensures target { slice_get (targets_of self.old user) (length (targets_of self.old user) - 1) ≡ Some result }
-        ensures targets { self.new.targets ≡ slice_set self.old.targets user (take (length (targets_of self.old user) - 1) (targets_of self.old user)) }
-        ensures count { length self.new.uses ≡ length self.old.uses }
-        ensures rooms { (self.new.user_room ≡ self.old.user_room) × (self.new.target_room ≡ self.old.target_room) }
-    {
-        let last = self.places[user].len() - 1;
-        let Place { target, at } = entry(&self.places, user, last);
-        let end = self.uses[target].len() - 1;
-        let moved = entry(&self.uses, target, end);
-        set_entry(
-            &mut self.places,
-            moved.user,
-            moved.place,
-            Place { target, at },
-        );
-        set_entry(&mut self.uses, target, at, moved);
-        pop_entry(&mut self.places, user);
-        pop_entry(&mut self.uses, target);
-        target
+// How many targets a user has.
+fn count_at(places: &Vec<Row<Place>>, gaps: &Vec<Gap>, user: usize) -> usize
+    requires gaps { HaveGaps places.now.items gaps.now.items }
+    requires user { user < length gaps.now.items }
+    ensures { result ≡ length (held (slice_index_or places.now.items user [])) }
+{
+    let count = places[user].len();
+    count - gap_at(places, gaps, user).len
+}
+
+// The target at an index among those of a row.
+fn target_at(row: &Row<Place>, gap: Gap, i: usize) -> usize
+    requires gap { HasGap row.now gap }
+    requires index { i < length (held row.now) }
+    ensures { slice_get (held row.now) i ≡ Some result }
+{
+    let _ = row.len();
+    if i < gap.start {
+        row.get(i).target
+    } else {
+        row.get(i + gap.len).target
     }
+}
+
+// The index that a taken place has among those that are taken.
+fn rank_at(row: &Row<Place>, gap: Gap, place: usize) -> usize
+    requires gap { HasGap row.now gap }
+    requires taken { (p : PlaceOf) × (slice_get row.now place ≡ Some p) × (p.target ≢ no_target) }
+    ensures { result ≡ rank row.now place }
+{
+    let _ = row.len();
+    if place < gap.start {
+        place
+    } else {
+        place - gap.len
+    }
+}
+
+// What stands at a taken place of the user moves to a free one.
+fn relocate(
+    places: &mut Vec<Row<Place>>,
+    uses: &mut Vec<Row<Use>>,
+    user: usize,
+    from: usize,
+    to: usize,
+)
+    requires linked { IsLinked places.old.items uses.old.items }
+    requires from { (p : PlaceOf) × (at places.old.items user from ≡ Some p) × (p.target ≢ no_target) }
+    requires to { (p : PlaceOf) × (at places.old.items user to ≡ Some p) × (p.target ≡ no_target) }
+    ensures linked { IsLinked places.new.items uses.new.items }
+    ensures moved { (p : PlaceOf) → at places.old.items user from ≡ Some p → places.new.items ≡ put (put places.old.items user to p) user from free_place }
+    ensures count { length uses.new.items ≡ length uses.old.items }
+    ensures rooms { (vec_len places.new ≡ vec_len places.old) × (vec_capacity places.new ≡ vec_capacity places.old) × (vec_len uses.new ≡ vec_len uses.old) × (vec_capacity uses.new ≡ vec_capacity uses.old) }
+{
+    let Place { target, at } = entry(places, user, from);
+    set_entry(uses, target, at, Use { user, place: to });
+    set_entry(places, user, to, Place { target, at });
+    set_entry(places, user, from, FREE);
+}
+
+// The gap of the user goes one place down: what stands before it goes behind it.
+fn lower_gap(
+    places: &mut Vec<Row<Place>>,
+    gaps: &mut Vec<Gap>,
+    uses: &mut Vec<Row<Use>>,
+    user: usize,
+)
+    requires linked { AreLinked places.old.items gaps.old.items uses.old.items }
+    requires user { user < length gaps.old.items }
+    requires len { 0 < (gap_of gaps.old.items user).len }
+    requires start { 0 < (gap_of gaps.old.items user).start }
+    ensures linked { AreLinked places.new.items gaps.new.items uses.new.items }
+    ensures targets { targets_in places.new.items ≡ targets_in places.old.items }
+    ensures gap { gap_of gaps.new.items user ≡ record { start = (gap_of gaps.old.items user).start - 1; len = (gap_of gaps.old.items user).len } }
+    ensures count { length uses.new.items ≡ length uses.old.items }
+    ensures rooms { KeepRooms places.old places.new gaps.old gaps.new uses.old uses.new }
+{
+    let Gap { start, len } = gap_at(places, gaps, user);
+    relocate(places, uses, user, start - 1, start + len - 1);
+    gaps[user] = Gap {
+        start: start - 1,
+        len,
+    };
+}
+
+// The gap of the user goes one place up: what stands behind it goes before it.
+fn raise_gap(
+    places: &mut Vec<Row<Place>>,
+    gaps: &mut Vec<Gap>,
+    uses: &mut Vec<Row<Use>>,
+    user: usize,
+)
+    requires linked { AreLinked places.old.items gaps.old.items uses.old.items }
+    requires user { user < length gaps.old.items }
+    requires len { 0 < (gap_of gaps.old.items user).len }
+    requires start { (gap_of gaps.old.items user).start < length (held (slice_index_or places.old.items user [])) }
+    ensures linked { AreLinked places.new.items gaps.new.items uses.new.items }
+    ensures targets { targets_in places.new.items ≡ targets_in places.old.items }
+    ensures gap { gap_of gaps.new.items user ≡ record { start = (gap_of gaps.old.items user).start + 1; len = (gap_of gaps.old.items user).len } }
+    ensures count { length uses.new.items ≡ length uses.old.items }
+    ensures rooms { KeepRooms places.old places.new gaps.old gaps.new uses.old uses.new }
+{
+    let Gap { start, len } = gap_at(places, gaps, user);
+    relocate(places, uses, user, start + len, start);
+    gaps[user] = Gap {
+        start: start + 1,
+        len,
+    };
+}
+
+// The gap of the user goes to where its target `i` stands, or, where it has as many, to the end.
+fn open_gap(
+    places: &mut Vec<Row<Place>>,
+    gaps: &mut Vec<Gap>,
+    uses: &mut Vec<Row<Use>>,
+    user: usize,
+    i: usize,
+)
+    requires linked { AreLinked places.old.items gaps.old.items uses.old.items }
+    requires user { user < length gaps.old.items }
+    requires index { i ≤ length (held (slice_index_or places.old.items user [])) }
+    ensures linked { AreLinked places.new.items gaps.new.items uses.new.items }
+    ensures targets { targets_in places.new.items ≡ targets_in places.old.items }
+    ensures start { (gap_of gaps.new.items user).start ≡ i }
+    ensures count { length uses.new.items ≡ length uses.old.items }
+    ensures rooms { KeepRooms places.old places.new gaps.old gaps.new uses.old uses.new }
+{
+    if gap_at(places, gaps, user).len == 0 {
+        gaps[user] = Gap { start: i, len: 0 };
+        return;
+    }
+    while gap_at(places, gaps, user).start > i {
+        lower_gap(places, gaps, uses, user);
+    }
+    while gap_at(places, gaps, user).start < i {
+        raise_gap(places, gaps, uses, user);
+    }
+}
+
+// The target behind the gap of the user goes, and is the answer. The last use of that target takes the
+// index of the use that goes.
+fn widen_gap(
+    places: &mut Vec<Row<Place>>,
+    gaps: &mut Vec<Gap>,
+    uses: &mut Vec<Row<Use>>,
+    user: usize,
+) -> usize
+    requires linked { AreLinked places.old.items gaps.old.items uses.old.items }
+    requires user { user < length gaps.old.items }
+    requires start { (gap_of gaps.old.items user).start < length (held (slice_index_or places.old.items user [])) }
+    ensures linked { AreLinked places.new.items gaps.new.items uses.new.items }
+    ensures target { slice_get (held (slice_index_or places.old.items user [])) (gap_of gaps.old.items user).start ≡ Some result }
+    ensures targets { targets_in places.new.items ≡ slice_set (targets_in places.old.items) user (remove (slice_index_or (targets_in places.old.items) user []) (gap_of gaps.old.items user).start) }
+    ensures count { length uses.new.items ≡ length uses.old.items }
+    ensures rooms { KeepRooms places.old places.new gaps.old gaps.new uses.old uses.new }
+{
+    let Gap { start, len } = gap_at(places, gaps, user);
+    let place = start + len;
+    let Place { target, at } = entry(places, user, place);
+    let end = uses[target].len() - 1;
+    let moved = entry(uses, target, end);
+    set_entry(places, moved.user, moved.place, Place { target, at });
+    set_entry(uses, target, at, moved);
+    pop_entry(uses, target);
+    set_entry(places, user, place, FREE);
+    gaps[user] = Gap {
+        start,
+        len: len + 1,
+    };
+    target
+}
+
+// The gap of the user, which stands at the end, goes.
+fn close_gap(places: &mut Vec<Row<Place>>, gaps: &mut Vec<Gap>, user: usize)
+    requires gaps { HaveGaps places.old.items gaps.old.items }
+    requires user { user < length gaps.old.items }
+    requires end { (gap_of gaps.old.items user).start ≡ length (held (slice_index_or places.old.items user [])) }
+    ensures places { places.new.items ≡ slice_set places.old.items user (take (gap_of gaps.old.items user).start (slice_index_or places.old.items user [])) }
+    ensures gaps { HaveGaps places.new.items gaps.new.items }
+    ensures rooms { (vec_len places.new ≡ vec_len places.old) × (vec_capacity places.new ≡ vec_capacity places.old) × (vec_len gaps.new ≡ vec_len gaps.old) × (vec_capacity gaps.new ≡ vec_capacity gaps.old) }
+{
+    let start = gap_at(places, gaps, user).start;
+    places[user].truncate(start);
+    gaps[user] = Gap { start: 0, len: 0 };
+}
+
+// The gap of the user goes where it stands at the end or is longer than the targets are many.
+fn settle_gap(
+    places: &mut Vec<Row<Place>>,
+    gaps: &mut Vec<Gap>,
+    uses: &mut Vec<Row<Use>>,
+    user: usize,
+)
+    requires linked { AreLinked places.old.items gaps.old.items uses.old.items }
+    requires user { user < length gaps.old.items }
+    ensures linked { AreLinked places.new.items gaps.new.items uses.new.items }
+    ensures targets { targets_in places.new.items ≡ targets_in places.old.items }
+    ensures count { length uses.new.items ≡ length uses.old.items }
+    ensures rooms { KeepRooms places.old places.new gaps.old gaps.new uses.old uses.new }
+{
+    let Gap { start, len } = gap_at(places, gaps, user);
+    let count = count_at(places, gaps, user);
+    if start < count && len <= count {
+        return;
+    }
+    open_gap(places, gaps, uses, user, count);
+    close_gap(places, gaps, user);
 }
 
 // The places of these uses of `old` name `new`, where the uses now stand from `first` on.

@@ -13,6 +13,8 @@ mod names;
 #[cfg(test)]
 mod reads;
 #[cfg(test)]
+mod removals;
+#[cfg(test)]
 mod steps;
 #[cfg(test)]
 mod straight;

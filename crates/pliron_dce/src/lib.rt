@@ -57,8 +57,8 @@ pub fn ready_things_are_seen<D: Dialect>()
 ///
 /// Cost: one look at each operation and argument inside, and one more for each use that it loses. An
 /// argument that goes asks each edge to its block for the one operand that it forwards there
-/// (`successor_operand`); the arguments after it that stay, or go later, move up by one place, and so do
-/// the operands after that one.
+/// (`successor_operand`) and takes that one out; the arguments after it that stay, or go later, move up by
+/// one place.
 pub fn dce<D: Dialect>(
     alloc: Global,
     op: Ptr<Operation>,

@@ -46,7 +46,8 @@ impl Operation {
     /// The operand at this index goes, and is the answer. The later ones move down by one place.
     ///
     /// Asks that the operation stands and has such an operand. Takes no memory.
-    /// Cost: the number of operands after it.
+    /// Cost: the number of operands between it and the place where the operation lost one last, and
+    /// constant for the first; amortised, a constant and at most twice the number of operands after it.
     pub fn remove_operand(ctx: &mut Context, op: Ptr<Operation>, i: usize) -> Value
         requires live { IsLive ctx.old.tree op }
         requires index { i < length (operands_of ctx.old.tree op) }

@@ -1,7 +1,7 @@
 use Rattle.std.proofs.Common.{◌≡◌, [], length, get_or, ap, ◌∙◌, arith}
 use Rattle.std.proofs.lemmas.List.{get_or_default}
 use Rattle.std.proofs.lemmas.Option.{slice_get_within}
-use Rattle.pliron_core.proofs.MoveLemmas.{at-within}
+use Rattle.pliron_core.proofs.TableLemmas.{at-within}
 use Rattle.pliron_core.proofs.TableLemmas.{at-some}
 use Rattle.pliron_core.proofs.row.set_entry.Goals as goal
 

@@ -1,5 +1,11 @@
+use Rattle.std.proofs.Common.{◌≡◌, ◌≤◌, ◌++◌, ◌∷◌, [], length, ap, ◌∙◌, arith}
+use Rattle.pliron_core.specs.Places.{no_target}
 use Rattle.pliron_core.proofs.PlaceLemmas.{linked-target}
 use Rattle.pliron_core.proofs.uses.Uses.add_target.Goals as goal
 
 pub invariant_of-self : goal.invariant_of-self
-invariant_of-self c = rw (c.push_reserved.ensures.items, c.new.ensures) (linked-target _ _ c.self.invariant)
+invariant_of-self c =
+    let v = c.push_reserved.new.self in
+    let items : v.items ≡ c.self.inside.uses.items ++ [] ∷ [] = c.push_reserved.ensures.items ∙ ap (λ r. c.self.inside.uses.items ++ r ∷ []) c.new.ensures in
+    let few : length (c.self.inside.uses.items ++ [] ∷ []) ≤ no_target = omega (arith, v.ok.0, v.ok.1, v.small, ap length items) in
+    rw items (record { linked = linked-target _ _ few c.self.invariant.linked; gaps = c.self.invariant.gaps })

@@ -6,8 +6,8 @@ pub loop-self-preserved : goal.loop-self-preserved
 loop-self-preserved c =
     let i = c.loop-self.invariant in
     record {
-      targets = written_again _ _ _ _ _ c.requires i.targets c.pop.ensures.targets;
-      count = c.pop.ensures.count ∙ i.count;
-      user_room = c.pop.ensures.rooms.0 ∙ i.user_room;
-      target_room = c.pop.ensures.rooms.1 ∙ i.target_room;
+      targets = written_again _ _ _ _ _ c.requires i.targets c.remove.ensures.targets;
+      count = c.remove.ensures.count ∙ i.count;
+      user_room = c.remove.ensures.rooms.0 ∙ i.user_room;
+      target_room = c.remove.ensures.rooms.1 ∙ i.target_room;
     }

@@ -1,22 +1,69 @@
-use Rattle.std.proofs.Common.{◌≡◌, ◌<◌, ◌+◌, length, get_or, [], ◌∙◌, arith}
-use Rattle.pliron_core.proofs.CarryLemmas.{carried-within, carried-more, carried-gone}
+use Rattle.std.proofs.Common.{◌≡◌, ◌<◌, [], length, get_or, set, map, ap, sym, ◌∙◌, arith}
+use Rattle.std.specs.List.{slice_get, remove}
+use Rattle.std.proofs.lemmas.List.{length-map}
+use Rattle.pliron_core.specs.Places.{held, gap_of, seen, targets_in}
+use Rattle.pliron_core.proofs.PlaceLemmas.{row-targets}
+use Rattle.pliron_core.proofs.RelocateLemmas.{held-kept, users-kept, users-set, user-within}
 use Rattle.pliron_core.proofs.uses.Uses.remove.Goals as goal
 
-pub loop-j-preserved : goal.loop-j-preserved
-loop-j-preserved c =
-    let i = c.loop-j.invariant in
-    let next : c.loop-j.j + 1 < length (get_or c.loop-j.self.targets c.args.user []) = omega (arith, c.loop-j-test.true, c.num_targets-last.ensures, i.carried.long) in
-    let more = carried-more c.args.self.now.targets c.loop-j.self.targets c.swap.new.self.targets c.args.user c.args.place c.loop-j.j c.requires.user next i.carried c.swap.ensures.targets in
-    record {
-      carried = more;
-      within = carried-within c.args.self.now.targets c.swap.new.self.targets c.args.user c.args.place (c.loop-j.j + 1) c.requires.user more;
-      count = c.swap.ensures.count ∙ i.count;
-      user_room = c.swap.ensures.rooms.0 ∙ i.user_room;
-      target_room = c.swap.ensures.rooms.1 ∙ i.target_room;
-    }
+pub open_gap-requires-clause-user : goal.open_gap-requires-clause-user
+open_gap-requires-clause-user c =
+    let r = rw (← c.self.view_is) at c.requires in
+    user-within c.self.inside.places.items c.self.inside.gaps.items c.args.user c.self.invariant.gaps r.user
+
+pub open_gap-requires-clause-index : goal.open_gap-requires-clause-index
+open_gap-requires-clause-index c =
+    let r = rw (← c.self.view_is) at c.requires in
+    let row : length (get_or (targets_in c.self.inside.places.items) c.args.user []) ≡ length (held (get_or c.self.inside.places.items c.args.user [])) = ap length (row-targets c.self.inside.places.items c.args.user) in
+    omega (arith, r.place, row)
+
+pub widen_gap-target-requires-clause-user : goal.widen_gap-target-requires-clause-user
+widen_gap-target-requires-clause-user c =
+    let r = rw (← c.self.view_is) at c.requires in
+    let rows = c.self.inside.places.items in
+    let o = c.open_gap.ensures in
+    let u : c.args.user < length c.self.inside.gaps.items = user-within c.self.inside.places.items c.self.inside.gaps.items c.args.user c.self.invariant.gaps r.user in
+    let u1 : c.args.user < length c.open_gap.new.gaps.items = users-kept c.self.inside.places.items c.open_gap.new.places.items c.self.inside.gaps.items c.open_gap.new.gaps.items c.args.user c.self.invariant.gaps o.linked.gaps o.targets u in
+    u1
+
+pub widen_gap-target-requires-clause-start : goal.widen_gap-target-requires-clause-start
+widen_gap-target-requires-clause-start c =
+    let r = rw (← c.self.view_is) at c.requires in
+    let rows = c.self.inside.places.items in
+    let o = c.open_gap.ensures in
+    let row : length (get_or (targets_in c.self.inside.places.items) c.args.user []) ≡ length (held (get_or c.self.inside.places.items c.args.user [])) = ap length (row-targets c.self.inside.places.items c.args.user) in
+    let h : length (held (get_or c.open_gap.new.places.items c.args.user [])) ≡ length (held (get_or c.self.inside.places.items c.args.user [])) = ap length (held-kept c.self.inside.places.items c.open_gap.new.places.items c.args.user o.targets) in
+    omega (arith, r.place, row, h, o.start)
+
+pub settle_gap-requires-clause-user : goal.settle_gap-requires-clause-user
+settle_gap-requires-clause-user c =
+    let r = rw (← c.self.view_is) at c.requires in
+    let rows = c.self.inside.places.items in
+    let o = c.open_gap.ensures in
+    let u : c.args.user < length c.self.inside.gaps.items = user-within c.self.inside.places.items c.self.inside.gaps.items c.args.user c.self.invariant.gaps r.user in
+    let u1 : c.args.user < length c.open_gap.new.gaps.items = users-kept c.self.inside.places.items c.open_gap.new.places.items c.self.inside.gaps.items c.open_gap.new.gaps.items c.args.user c.self.invariant.gaps o.linked.gaps o.targets u in
+    let w = c.widen_gap-target.ensures in
+    users-set c.open_gap.new.places.items c.widen_gap-target.new.places.items c.open_gap.new.gaps.items c.widen_gap-target.new.gaps.items c.args.user _ o.linked.gaps w.linked.gaps w.targets u1
+
+pub returns-clause-target : goal.returns-clause-target
+returns-clause-target c =
+    let o = c.open_gap.ensures in
+    rw (← c.self.view_is) (ap (λ l. slice_get l c.args.place) (row-targets c.self.inside.places.items c.args.user ∙ sym (held-kept c.self.inside.places.items c.open_gap.new.places.items c.args.user o.targets)) ∙ ap (slice_get (held (get_or c.open_gap.new.places.items c.args.user []))) (sym o.start) ∙ c.widen_gap-target.ensures.target)
 
 pub returns-clause-targets : goal.returns-clause-targets
 returns-clause-targets c =
-    let is = c.loop-j.invariant.carried in
-    let long : length (get_or c.loop-j.self.targets c.args.user []) ≡ c.loop-j.j + 1 = omega (arith, c.loop-j-test.false, c.loop-j.auto.j-end, c.num_targets-last.ensures, is.long, c.requires.place) in
-    carried-gone c.args.self.now.targets c.loop-j.self.targets c.pop.new.self.targets c.args.user c.args.place c.loop-j.j long is c.pop.ensures.targets
+    let o = c.open_gap.ensures in
+    rw (← c.self.view_is) (c.settle_gap.ensures.targets ∙ c.widen_gap-target.ensures.targets ∙ ap (λ t. set t c.args.user (remove (get_or t c.args.user []) (gap_of c.open_gap.new.gaps.items c.args.user).start)) o.targets ∙ ap (λ n. set (targets_in c.self.inside.places.items) c.args.user (remove (get_or (targets_in c.self.inside.places.items) c.args.user []) n)) o.start)
+
+pub returns-clause-count : goal.returns-clause-count
+returns-clause-count c =
+    let before = length-map c.self.inside.uses.items (map (seen c.self.inside.places.items)) in
+    let after = length-map c.settle_gap.new.uses.items (map (seen c.settle_gap.new.places.items)) in
+    rw (← c.self.view_is) (after ∙ c.settle_gap.ensures.count ∙ c.widen_gap-target.ensures.count ∙ c.open_gap.ensures.count ∙ sym before)
+
+pub returns-clause-rooms : goal.returns-clause-rooms
+returns-clause-rooms c =
+    let o = c.open_gap.ensures.rooms in
+    let w = c.widen_gap-target.ensures.rooms in
+    let s = c.settle_gap.ensures.rooms in
+    rw (← c.self.view_is) (omega (arith, s.0 ∙ w.0 ∙ o.0, s.1 ∙ w.1 ∙ o.1, s.2 ∙ w.2 ∙ o.2, s.3 ∙ w.3 ∙ o.3), omega (arith, s.4 ∙ w.4 ∙ o.4, s.5 ∙ w.5 ∙ o.5))
