@@ -1,9 +1,10 @@
 #!/usr/bin/env python3
 """Times of `plir_opt` beside LLVM's `opt` on the programs of shapes.py, and tables of them.
 
-  times.py PLIR_OPT LIST OPT_PASSES..   milliseconds of the whole process
-  times.py PLIR_OPT LIST count          counted instructions (needs valgrind)
-  times.py table TIMES COUNTS           both as a table of Markdown
+  times.py PLIR_OPT LIST OPT_PASSES..         milliseconds of the whole process
+  times.py PLIR_OPT LIST count OPT_PASSES..   counted instructions (needs valgrind)
+  times.py table TIMES COUNTS                 both as a table of Markdown
+  times.py growth COUNTS..                    the counts of several lists as one table of Markdown
 
 LIST is what `plir_opt` is given, as `sccp,dce,simplify-cfg`, and each of OPT_PASSES what `opt -passes=`
 is. The first two write one line for each shape, which `table` reads from files:
@@ -12,9 +13,9 @@ is. The first two write one line for each shape, which `table` reads from files:
   times.py ../../crates/plir_opt/out/plir_opt dce count > dce.counts
   times.py table dce.times dce.counts
 
-Times are user and system time, the least of several runs (RUNS), with the output to /dev/null, at 1,000,
-10,000 and 50,000 operations, and of `opt` at 50,000. Instructions are those of the whole process at the
-three sizes, and those of reading the text. SHAPES names the shapes, if not all of them.
+Times are user and system time, the least of several runs (RUNS), with the output to /dev/null, at each of
+the numbers of operations in SIZES, and of `opt` at the last. Instructions are those of the whole process
+at the first and the last, and growth is the exponent between the two. SHAPES names the shapes, if not all.
 """
 import math
 import os
@@ -25,7 +26,7 @@ import tempfile
 
 import shapes
 
-SIZES = (1000, 10000, 50000)
+SIZES = tuple(map(int, os.environ.get("SIZES", "1000 10000 50000").split()))
 RUNS = int(os.environ.get("RUNS", "5"))
 
 
@@ -43,14 +44,15 @@ def least(command, path):
 
 
 def counted(program, path):
-    """Instructions of the whole process, and those of reading."""
-    with open(path, "rb") as text, tempfile.NamedTemporaryFile() as out:
-        command = ["valgrind", "--tool=callgrind", f"--callgrind-out-file={out.name}", *program]
-        subprocess.run(command, stdin=text, capture_output=True, check=True)
-        command = ["callgrind_annotate", "--inclusive=yes", "--threshold=100", out.name]
-        lines = subprocess.run(command, capture_output=True, text=True).stdout
-    counts = [re.search(rf"([\d,]+) .*{what}", lines)[1] for what in ("PROGRAM TOTALS", "reader::read_text")]
-    return [int(count.replace(",", "")) for count in counts]
+    """The instructions of the whole process."""
+    command = ["valgrind", "--tool=callgrind", "--callgrind-out-file=/dev/null", *program]
+    with open(path, "rb") as text:
+        said = subprocess.run(command, stdin=text, capture_output=True, check=True).stderr
+    return int(re.search(rb"Collected : (\d+)", said)[1])
+
+
+def opt(passes):
+    return ["opt", f"-passes={passes}", "-S", "-o", "/dev/null"]
 
 
 def write(shape, n, notation, folder):
@@ -64,17 +66,19 @@ def timed(shape, program, passes, folder):
     """The cells `NAME=MILLISECONDS`, ours by the number of operations and LLVM's by its passes."""
     ours = [(n, least(program, write(shape, n, "bench", folder))) for n in SIZES]
     path = write(shape, SIZES[-1], "llvm", folder)
-    theirs = [(p, least(["opt", f"-passes={p}", "-S", "-o", "/dev/null"], path)) for p in passes]
+    theirs = [(p, least(opt(p), path)) for p in passes]
     return [f"{name}={time:.1f}" for name, time in ours + theirs]
 
 
 def counts(shape, program, folder):
-    """The cells `NUMBER OF OPERATIONS=WHOLE/READING`, in instructions."""
-    cells = []
-    for n in SIZES:
-        whole, reading = counted(program, write(shape, n, "bench", folder))
-        cells.append(f"{n}={whole}/{reading}")
-    return cells
+    """The cells `NUMBER OF OPERATIONS=INSTRUCTIONS`."""
+    return [f"{n}={counted(program, write(shape, n, 'bench', folder))}" for n in (SIZES[0], SIZES[-1])]
+
+
+def counts_of_opt(shape, passes, folder):
+    """The cells `PASSES=INSTRUCTIONS` of LLVM's `opt` at the most operations."""
+    path = write(shape, SIZES[-1], "llvm", folder)
+    return [f"{p}={counted(opt(p), path)}" for p in passes]
 
 
 def rows_of(path):
@@ -82,13 +86,34 @@ def rows_of(path):
         return {words[0]: dict(cell.split("=") for cell in words[1:]) for words in map(str.split, lines)}
 
 
-def exponent(small, large):
-    return math.log(large / small) / math.log(SIZES[-1] / SIZES[0])
+def grown(cells):
+    """Instructions at the most operations, and the exponent by which they grow."""
+    sizes = sorted(int(n) for n in cells if n.isdigit())
+    small, large = (int(cells[str(n)]) for n in (sizes[0], sizes[-1]))
+    return large, math.log(large / small) / math.log(sizes[-1] / sizes[0])
+
+
+def shares_of(cells, ours):
+    """Ours as a share of what each of LLVM's passes takes."""
+    return [ours / float(cell) for name, cell in cells.items() if not name.isdigit()]
+
+
+def growth(paths):
+    tables = {os.path.basename(path).removesuffix(".counts"): rows_of(path) for path in paths}
+    head = ["Shape", *(title for name in tables for title in (f"`{name}`", "of `opt`", "Growth"))]
+    print("| " + " | ".join(head) + " |\n" + "|---" * len(head) + "|")
+    for shape in shapes.SHAPES:
+        row = [shape]
+        for cells in (rows.get(shape, {}) for rows in tables.values()):
+            large, exponent = grown(cells) if cells else (0, 0)
+            shares = ", ".join(f"{share:.2f}" for share in shares_of(cells, large))
+            row += [f"{large / 1e6:,.0f}", shares, f"{exponent:.2f}"] if cells else [""] * 3
+        print("| " + " | ".join(row) + " |")
 
 
 def goals(growth, shares):
     """What is met: growth of at most 1.1, and half the time of each of LLVM's passes."""
-    said = ["met" if growth < 1.105 else "missed"]
+    said = ["met" if growth <= 1.1 else "missed"]
     return ", ".join(said + ["met" if share <= 0.5 else "missed" for share in shares])
 
 
@@ -97,28 +122,25 @@ def table(times, counts):
     sizes = [str(n) for n in SIZES]
     passes = [name for name in next(iter(times.values())) if name not in sizes]
     head = ["Shape", *(f"{n:,}" for n in SIZES), *(f"`opt` `{p}`" for p in passes), "Shares",
-            "Instructions", "of reading", "Growth", "without reading", "Goals"]
+            "Growth", "Goals"]
     print("| " + " | ".join(head) + " |\n" + "|---" * len(head) + "|")
     for shape, cells in times.items():
         ours = float(cells[sizes[-1]])
-        shares = [ours / float(cells[p]) for p in passes]
-        small, large = ([int(x) for x in counts[shape][n].split("/")] for n in (sizes[0], sizes[-1]))
-        growth = exponent(small[0], large[0])
+        shares = shares_of(cells, ours)
+        _, growth = grown(counts[shape])
         row = [shape, *(cells[n] for n in sizes), *(f"{float(cells[p]):.0f}" for p in passes),
-               ", ".join(f"{share:.2f}" for share in shares), f"{large[0] / 1e6:.0f} M",
-               f"{large[1] / large[0]:.0%}", f"{growth:.2f}",
-               f"{exponent(small[0] - small[1], large[0] - large[1]):.2f}", goals(growth, shares)]
+               ", ".join(f"{share:.2f}" for share in shares), f"{growth:.2f}", goals(growth, shares)]
         print("| " + " | ".join(row) + " |")
 
 
 def main():
-    if sys.argv[1] == "table":
-        return table(*sys.argv[2:])
+    if sys.argv[1] in ("table", "growth"):
+        return table(*sys.argv[2:]) if sys.argv[1] == "table" else growth(sys.argv[2:])
     program, passes = [os.path.abspath(sys.argv[1]), sys.argv[2]], sys.argv[3:]
     with tempfile.TemporaryDirectory() as folder:
         for shape in os.environ.get("SHAPES", "").split() or shapes.SHAPES:
-            if passes == ["count"]:
-                cells = counts(shape, program, folder)
+            if passes[:1] == ["count"]:
+                cells = counts(shape, program, folder) + counts_of_opt(shape, passes[1:], folder)
             else:
                 cells = timed(shape, program, passes, folder)
             print(shape, *cells, flush=True)

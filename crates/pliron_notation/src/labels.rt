@@ -2,48 +2,90 @@
 use crate::stop::Stop;
 use crate::tokens::Name;
 use std::alloc::{AllocError, Global};
-use std::collections::BTreeMap;
 
 /// A name in the `func` or the region of this number.
-#[derive(Clone, Copy, Debug, PartialEq, Eq, PartialOrd, Ord)]
+#[derive(Clone, Copy, Debug, PartialEq, Eq)]
 pub struct Label {
     pub scope: usize,
     pub name: Name,
 }
 
+/// What is known of a label.
+#[derive(Clone, Copy, Drop)]
+struct Entry {
+    scope: usize,
+    /// The place of the name's label in a scope that opened before this one, if there is one.
+    earlier: Option<usize>,
+    /// Its number once it is defined.
+    number: Option<usize>,
+}
+
 /// The labels of a text. Each has a place, by the order of their first mention, and a number once it
 /// is defined.
+///
+/// Scopes are numbered as they open, and a label is asked for only while all scopes that opened after
+/// its own are closed.
 #[derive(Drop)]
 pub struct Labels {
-    places: BTreeMap<Label, usize>,
-    numbers: Vec<Option<usize>>,
+    /// For each name the place of its label in the scope that opened last, from which `earlier` leads
+    /// on to its labels in scopes that opened before.
+    latest: Vec<Option<usize>>,
+    entries: Vec<Entry>,
 }
 
 impl Labels {
-    pub fn new(alloc: Global) -> Self {
-        Labels {
-            places: BTreeMap::new(alloc),
-            numbers: Vec::new(alloc),
-        }
+    /// No labels, for a text of so many names.
+    pub fn new(alloc: Global, names: usize) -> Result<Self, AllocError> {
+        Ok(Labels {
+            latest: vec![in alloc; None; names]?,
+            entries: Vec::new(alloc),
+        })
     }
 
-    /// The place of a label.
+    /// The place of a label. Cost: constant, amortised.
     pub fn place(&mut self, label: Label) -> Result<usize, AllocError> {
-        if let Some(place) = self.places.get(&label) {
-            return Ok(*place);
+        let place = match self.last_up_to(label) {
+            Some((place, scope)) if scope == label.scope => place,
+            earlier => self.add(label.scope, earlier.map(|(place, _)| place))?,
+        };
+        if let Some(latest) = self.latest.get_mut(label.name.number) {
+            *latest = Some(place);
         }
-        let place = self.numbers.len();
-        self.numbers.push(None)?;
-        self.places.insert(label, place)?;
+        Ok(place)
+    }
+
+    /// The name's label in the scope or, if it has none there, in the last that opened before: its place
+    /// and its scope.
+    fn last_up_to(&self, label: Label) -> Option<(usize, usize)> {
+        let mut place = *self.latest.get(label.name.number)?;
+        // Each turn goes to a scope that opened before.
+        for _ in 0..self.entries.len() {
+            let entry = self.entries.get(place?)?;
+            if entry.scope <= label.scope {
+                return Some((place?, entry.scope));
+            }
+            place = entry.earlier;
+        }
+        None
+    }
+
+    /// Adds a label, and answers its place.
+    fn add(&mut self, scope: usize, earlier: Option<usize>) -> Result<usize, AllocError> {
+        let place = self.entries.len();
+        self.entries.push(Entry {
+            scope,
+            earlier,
+            number: None,
+        })?;
         Ok(place)
     }
 
     /// Gives the label its number. A label that has one makes the text unreadable.
     pub fn define(&mut self, label: Label, number: usize) -> Result<(), Stop> {
         let place = self.place(label)?;
-        match self.numbers.get_mut(place) {
-            Some(entry) if entry.is_none() => {
-                *entry = Some(number);
+        match self.entries.get_mut(place) {
+            Some(entry) if entry.number.is_none() => {
+                entry.number = Some(number);
                 Ok(())
             }
             _ => Err(Stop::Unreadable),
@@ -53,8 +95,13 @@ impl Labels {
     /// Writes the label's number for each place. A label without one makes the text unreadable.
     pub fn resolve(&self, places: &mut Vec<usize>) -> Result<(), Stop> {
         for place in places.iter_mut() {
-            match self.numbers.get(*place) {
-                Some(Some(number)) => *place = *number,
+            match self.entries.get(*place) {
+                Some(
+                    Entry {
+                        number: Some(number),
+                        ..
+                    },
+                ) => *place = *number,
                 _ => return Err(Stop::Unreadable),
             }
         }

@@ -13,6 +13,7 @@ mod steps;
 mod stop;
 mod syntax;
 mod tokens;
+mod words;
 
 pub use printer::print_text;
 pub use reader::read_text;

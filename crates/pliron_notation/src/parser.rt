@@ -3,7 +3,7 @@ use crate::cursor::Cursor;
 use crate::labels::{Label, Labels};
 use crate::stop::Stop;
 use crate::syntax::{BlockText, OperationText, Step, Syntax};
-use crate::tokens::{Name, Token};
+use crate::tokens::{Name, Token, Tokens};
 use pliron_bench::BenchKind;
 use std::alloc::Global;
 
@@ -47,9 +47,9 @@ struct Parser<'t> {
     regions: usize,
 }
 
-/// The syntax of a text, by its tokens. Cost: linear in the tokens, but for look-ups of names.
-pub fn parse(alloc: Global, tokens: &[Token]) -> Result<Syntax, Stop> {
-    let mut cursor = Cursor::new(tokens);
+/// The syntax of a text, by its tokens. Cost: linear in the tokens.
+pub fn parse(alloc: Global, text: &Tokens) -> Result<Syntax, Stop> {
+    let mut cursor = Cursor::new(&text.tokens);
     let root = cursor.kind()?;
     if !root.is_top() {
         return Err(Stop::Unreadable);
@@ -58,13 +58,13 @@ pub fn parse(alloc: Global, tokens: &[Token]) -> Result<Syntax, Stop> {
         alloc,
         cursor,
         syntax: Syntax::new(alloc, root),
-        values: Labels::new(alloc),
-        blocks: Labels::new(alloc),
+        values: Labels::new(alloc, text.names)?,
+        blocks: Labels::new(alloc, text.names)?,
         open: Vec::new(alloc),
         regions: 0,
     };
     parser.open_region(root, 0)?;
-    parser.contents(tokens.len())?;
+    parser.contents(text.tokens.len())?;
     parser.resolve()?;
     Ok(parser.syntax)
 }

@@ -11,7 +11,7 @@ use crate::build::build;
 use crate::parser::parse;
 use crate::stop::Stop;
 use crate::syntax::Syntax;
-use crate::tokens::tokens;
+use crate::tokens::tokenise;
 use pliron_core::{Context, Operation, Ptr};
 use pliron_laws::OptError;
 use std::alloc::Global;
@@ -43,7 +43,7 @@ pub fn read_text(
 fn read_syntax(alloc: Global, text: &[u8]) -> Result<Syntax, Stop>
     ensures { IfOk result (λ syntax. IsSound syntax) }
 {
-    let tokens = tokens(alloc, text)?;
+    let tokens = tokenise(alloc, text)?;
     let syntax = parse(alloc, &tokens)?;
     if syntax.is_sound() {
         Ok(syntax)

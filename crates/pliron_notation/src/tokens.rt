@@ -2,15 +2,12 @@
 ghost use Rattle.std.specs.Prelude.{◌≡◌, ◌+◌, ◌<◌, ◌≤◌, length};
 
 use crate::stop::Stop;
+use crate::words::Words;
 use pliron_bench::BenchKind;
-use std::alloc::{AllocError, Global};
-use std::collections::BTreeMap;
-
-/// The most bytes of a name.
-const MAX_NAME: usize = 64;
+use std::alloc::Global;
 
 /// A name, by its number among the names of the text.
-#[derive(Clone, Copy, Debug, PartialEq, Eq, PartialOrd, Ord)]
+#[derive(Clone, Copy, Debug, PartialEq, Eq)]
 pub struct Name {
     pub number: usize,
 }
@@ -66,32 +63,8 @@ fn number_of(lexeme: &[u8]) -> Option<i64> {
     }
 }
 
-/// The names of a text with their numbers.
-type Names<'t> = BTreeMap<&'t [u8], usize>;
-
-/// The name that a word is. A word that is met for the first time gets the next number.
-fn name_of<'t>(word: &'t [u8], names: &mut Names<'t>) -> Result<Name, AllocError> {
-    if let Some(number) = names.get(word) {
-        return Ok(Name { number: *number });
-    }
-    let number = names.len();
-    names.insert(word, number)?;
-    Ok(Name { number })
-}
-
-/// The token of a word: a kind or a name.
-fn word_token<'t>(word: &'t [u8], names: &mut Names<'t>) -> Result<Token, Stop> {
-    if let Some(kind) = BenchKind::from_word(word) {
-        return Ok(Token::Kind(kind));
-    }
-    if word.len() > MAX_NAME {
-        return Err(Stop::Unreadable);
-    }
-    Ok(Token::Name(name_of(word, names)?))
-}
-
 /// The token of a lexeme, or `None` for a blank.
-fn token_of<'t>(lexeme: &'t [u8], names: &mut Names<'t>) -> Result<Option<Token>, Stop> {
+fn token_of<'t>(lexeme: &'t [u8], words: &mut Words<'t>) -> Result<Option<Token>, Stop> {
     match lexeme {
         [b' ' | b'\t' | b'\r' | b'\n'] => Ok(None),
         [b'{'] => Ok(Some(Token::OpenBrace)),
@@ -106,22 +79,32 @@ fn token_of<'t>(lexeme: &'t [u8], names: &mut Names<'t>) -> Result<Option<Token>
             Some(number) => Ok(Some(Token::Number(number))),
             None => Err(Stop::Unreadable),
         },
-        [b'a'..=b'z' | b'A'..=b'Z', ..] => Ok(Some(word_token(lexeme, names)?)),
+        [b'a'..=b'z' | b'A'..=b'Z', ..] => Ok(Some(words.token(lexeme)?)),
         _ => Err(Stop::Unreadable),
     }
 }
 
-/// The tokens of a text. Cost: linear in the text, but for look-ups of names.
-pub fn tokens(alloc: Global, text: &[u8]) -> Result<Vec<Token>, Stop> {
-    let mut names = BTreeMap::new(alloc);
+/// The tokens of a text, and how many names it has.
+#[derive(Drop)]
+pub struct Tokens {
+    pub tokens: Vec<Token>,
+    pub names: usize,
+}
+
+/// The tokens of a text. Cost: linear in the text, but for look-ups of words.
+pub fn tokenise(alloc: Global, text: &[u8]) -> Result<Tokens, Stop> {
+    let mut words = Words::new(alloc, text.len())?;
     let mut tokens = Vec::new(alloc);
     let mut rest = text;
     while !rest.is_empty() {
         let (lexeme, after) = rest.split_at(lexeme_len(rest));
-        if let Some(token) = token_of(lexeme, &mut names)? {
+        if let Some(token) = token_of(lexeme, &mut words)? {
             tokens.push(token)?;
         }
         rest = after;
     }
-    Ok(tokens)
+    Ok(Tokens {
+        tokens,
+        names: words.names(),
+    })
 }

@@ -73,7 +73,15 @@ func { b0(): z = const 0; c = add z z; box { }; cbr c b1() b2(); b1(): ret; b2()
 func { b0(): z = const 0; br b1(z); b1(i): scope i { b0(p): print p; ret }; o = const 1; n = add i o; r = read; cbr r b1(n) b2(); b2(): ret } => func { b0(): v0 = const 0; br b1(v0); b1(v1): scope v1 { b0(v2): print v2; ret }; v3 = const 1; v4 = add v1 v3; v5 = read; cbr v5 b1(v4) b2(); b2(): ret }
 func { b0(): a = const 2; scope a { b0(p): r = read; k = const 3; cbr r b0(k) b1(); b1(): ret }; ret } => func { b0(): v0 = const 2; scope v0 { b0(v1): v2 = read; v3 = const 3; cbr v2 b0(v3) b1(); b1(): ret }; ret }
 mod { b0(): func { b0(): a = const 1; b = add a a; ret b } } => mod { b0(): func { b0(): v0 = const 1; v1 = add v0 v0; ret v1 } }
-mod { b0(): func { b0(): br b1(); b1(): ret }; b1(): func { b0(): br b1(); b1(): ret } } => mod { b0(): func { b0(): br b1(); b1(): ret }; b1(): func { b0(): br b1(); b1(): ret } }";
+mod { b0(): func { b0(): br b1(); b1(): ret }; b1(): func { b0(): br b1(); b1(): ret } } => mod { b0(): func { b0(): br b1(); b1(): ret }; b1(): func { b0(): br b1(); b1(): ret } }
+func { a(): br c(); c(): scope { a(): br c(); c(): ret }; br a() } => func { b0(): br b1(); b1(): scope { b0(): br b1(); b1(): ret }; br b0() }
+func { a(): box { a(): br c(); c(): box { c(): br c() }; br a() }; br c(); c(): ret } => func { b0(): box { b0(): br b1(); b1(): box { b0(): br b0() }; br b0() }; br b1(); b1(): ret }
+func { a(): box { c(): box { a(): br a() }; fork x a c; a(x): br c() }; box { a(): br a() }; br c(); c(): br a() } => func { b0(): box { b0(): box { b0(): br b0() }; fork v0 b1 b0; b1(v0): br b0() }; box { b0(): br b0() }; br b1(); b1(): br b0() }
+mod { b0(): func { b0(): y = add x x; x = read; box { b0(): x0 = add x y }; print x0 }; func { b0(y): x = read; print x; print y } } => mod { b0(): func { b0(): v0 = add v1 v1; v1 = read; box { b0(): v2 = add v1 v0 }; print v2 }; func { b0(v0): v1 = read; print v1; print v0 } }";
+
+/// Names with one hash in the reader's table of words, more than it has slots for.
+static CROWDED: &str =
+    "func { b0(): ast = read; cjf = read; crr = read; fgi = read; fhx = read; gam = read; gjt = read; khk = read; ler = read; mmf = read; mwd = read; ncr = read; nwh = read; oce = read; pfv = read; pow = read; swt = read; vtk = read; xcw = read; xwu = read; sink xwu xcw vtk swt pow pfv oce nwh ncr mwd mmf ler khk gjt gam fhx fgi crr cjf ast; sink ast cjf crr fgi fhx gam gjt khk ler mmf mwd ncr nwh oce pfv pow swt vtk xcw xwu } => func { b0(): v0 = read; v1 = read; v2 = read; v3 = read; v4 = read; v5 = read; v6 = read; v7 = read; v8 = read; v9 = read; v10 = read; v11 = read; v12 = read; v13 = read; v14 = read; v15 = read; v16 = read; v17 = read; v18 = read; v19 = read; sink v19 v18 v17 v16 v15 v14 v13 v12 v11 v10 v9 v8 v7 v6 v5 v4 v3 v2 v1 v0; sink v0 v1 v2 v3 v4 v5 v6 v7 v8 v9 v10 v11 v12 v13 v14 v15 v16 v17 v18 v19 }";
 
 /// Lines that are printed as they stand.
 static PRINTED: &str = "func { b0(): ret }
@@ -108,7 +116,7 @@ mod { b0(): func { b0(): ret }; b1(): func { b0(): ret } }";
 #[test]
 fn texts_and_their_lines(rt: HostRuntime) {
     let alloc = rt.alloc();
-    for table in [LAYOUTS, KINDS, JUMPS, BRANCHES, REGIONS] {
+    for table in [LAYOUTS, KINDS, JUMPS, BRANCHES, REGIONS, CROWDED] {
         for case in table.lines() {
             let (text, want) = sides(&rt, case);
             check(&rt, printed(&rt, alloc, text).as_str(), want, case);
