@@ -22,7 +22,6 @@ pub use Rattle.pliron_theory.specs.Keeps
 pub use Rattle.pliron_theory.specs.Sweeping
 pub use Rattle.pliron_theory.specs.Renaming
 pub use Rattle.pliron_theory.specs.Knowing
-pub use Rattle.pliron_theory.specs.Finding
 pub use Rattle.pliron_theory.specs.RunLaws
 pub use Rattle.pliron_bench.specs.BenchNumbers
 pub use Rattle.pliron_bench.specs.Bench

@@ -10,7 +10,7 @@ use pliron_meaning::theory::{
     branch_folds_keep_runs, branch_folds_replace, branches_are_refolded, branches_are_replaced,
     closed_facts_are_read, constant_folds_keep_runs, constants_are_made,
     constants_first_keep_links, dead_parts_go, edges_stay, facts_are_followed, facts_are_read,
-    fewer_roots_kept, findings_hold, folds_keep_links, one_edge_is_taken, operands_are_renamed,
+    fewer_roots_kept, folds_keep_links, one_edge_is_taken, operands_are_renamed,
     operands_have_data, passes_compose, roots_may_be_chosen, runs_kept, sound_facts_are_read,
     unused_arguments_go,
 };
@@ -42,7 +42,6 @@ fn laws_of_runs(_rt: HostRuntime) {
     constants_are_made();
     operands_are_renamed();
     facts_are_read::<Bench>();
-    findings_hold::<Tiny>();
     sound_facts_are_read::<Bench>();
     closed_facts_are_read::<Tiny>();
     facts_are_followed::<Bench>();

@@ -14,12 +14,10 @@ use Rattle.pliron_pass.specs.Grown.{cached_at}
 use Rattle.pliron_theory.specs.Edges.{edges_inside}
 use Rattle.pliron_core.specs.Joined.{IsTree}
 use Rattle.pliron_core.specs.Changes.{IsSameTree}
-use Rattle.std.proofs.Common.{Result, Ok, Err, IfOk, IfErr}
+use Rattle.std.proofs.Common.{Result, Ok, Err, IfOk}
 use Rattle.pliron_laws.specs.declared.fault.OptError.{OptError}
-use Rattle.pliron_laws.specs.declared.fault.OptError.TheVariants.{Memory}
 use Rattle.pliron_pass.specs.Answer.{FreshAfter, has_changed, kept_kinds}
-use Rattle.pliron_pass.specs.Stage.{Stage}
-use Rattle.pliron_pass.specs.Optimising.{with_kind_if, with_edge_kind, edge_kinds, Tells, OptimisesAs, OptimisesAs.Optimised, OptimisesAs.Short}
+use Rattle.pliron_pass.specs.Optimising.{with_kind_if, with_edge_kind, edge_kinds, Tells}
 use Rattle.pliron_pass.specs.declared.result.PassResult.{PassResult}
 
 module _ {K E : Type 0} (eq : K → K → Bool) (kind : E → K) (holds : E → ℕ → Tree → Type 0) (t u : Tree) (grows : length t.operations ≤ length u.operations) (fewer : (o : ℕ) → o < length t.operations → IsLive u o → IsLive t o) where
@@ -133,8 +131,3 @@ module _ {K E : Type 0} (eq : K → K → Bool) (kind : E → K) (holds : E → 
   fresh_result status h es (Err e) c k = k
   fresh_result status h es (Ok a) c k =
       λ f. subst (λ z. IsFresh eq kind holds u (retained eq z (kept_kinds a) es)) (sym c) (subst (λ z. IsFresh eq kind holds u (retained eq status z es)) (sym k) (fresh_answer status h es (edge_kinds eq edges es) (all_edges eq edges es) f))
-
-module _ {K E : Type 0} (eq : K → K → Bool) (edges : K → Bool) (outcome : Tree → Tree → ℕ → Result IRStatus OptError → Type 0) (op : ℕ) (s s' : Stage K E) (cache : s'.cache ≡ s.cache) (common : s'.common ≡ s.common) where
-  pub optimised : (status : IRStatus) (r : Result (PassResult K) OptError) → outcome s.tree s'.tree op (Ok status) → IfOk r (λ a. has_changed a ≡ status) → IfOk r (λ a. kept_kinds a ≡ edge_kinds eq edges s.cache) → IfErr r (λ e. e ≡ Memory) → OptimisesAs eq edges outcome op s s' r
-  optimised status (Ok a) o c k m = Optimised a refl (subst (λ z. outcome s.tree s'.tree op (Ok z)) (sym c) o) k cache common
-  optimised status (Err e) o c k m = Short status (ap (λ z. Err z) m) o cache common

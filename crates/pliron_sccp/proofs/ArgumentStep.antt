@@ -16,7 +16,7 @@ use Rattle.pliron_laws.specs.Folding.{AnswersTrue, AnswersJumps, MakesConstants}
 use Rattle.pliron_theory.specs.Keeps.{KeepsRuns}
 use Rattle.pliron_theory.specs.Rewrites.{materialised_first, BecomesIfAccepted, ReplacesArgument, IsConstant}
 use Rattle.pliron_laws.proofs.ConstantLemmas.{new_row}
-use Rattle.pliron_theory.proofs.FoundRuns.{PassesForwarded}
+use Rattle.pliron_theory.proofs.SoundRuns.{PassesForwarded}
 use Rattle.pliron_sccp.specs.declared.rewriting.ConstantArgument.{ConstantArgument}
 use Rattle.pliron_theory.specs.Facts.{Facts, Says}
 use Rattle.pliron_theory.specs.Following.{Follows}

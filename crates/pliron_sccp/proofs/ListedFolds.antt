@@ -15,7 +15,7 @@ use Rattle.pliron_theory.specs.Facts.{Facts, Says, handed}
 use Rattle.pliron_sccp.specs.declared.rewriting.Fold.{Fold}
 use Rattle.pliron_sccp.specs.Chain.{is_reached, has_head, both}
 use Rattle.pliron_sccp.specs.Listed.{is_folding, IsFold, IsFoldOf, Each, alone_if, AddsFold, AreFolds}
-use Rattle.pliron_sccp.proofs.Listing.{IsListing, listing_start, listing_step, listing_smaller, listing_end}
+use Rattle.pliron_theory.proofs.Listing.{IsListing, listing_start, listing_step, listing_smaller, listing_end}
 
 -- one more at the end
 at_end : {A : Type 0} (xs : List A) (x : A) (i : ℕ) (y : A) → slice_get (xs ++ x ∷ []) i ≡ Some y → (slice_get xs i ≡ Some y) ⊎ (y ≡ x)

@@ -1,55 +1,17 @@
--- What is listed by going through a list from its first item on.
-use Rattle.std.proofs.Common.{◌≡◌, ℕ, suc, ◌+◌, ◌-◌, ◌<◌, List, [], ◌∷◌, ◌++◌, length, take, reverse, slice_get, Option, Some, None, refl, sym, ap, ◌∙◌, subst, inl, arith, append_assoc, append-nil, length-append}
+-- Lists of blocks that are found by a stack, or region by region.
+use Rattle.std.proofs.Common.{◌≡◌, ℕ, suc, ◌+◌, ◌-◌, ◌<◌, List, [], ◌∷◌, ◌++◌, length, take, reverse, slice_get, Some, refl, sym, ap, ◌∙◌, subst, inl, arith, append_assoc, append-nil, length-append}
 use Rattle.std.proofs.lemmas.List.{reverse-append, reverse-reverse}
 use Rattle.std.specs.List.{flat_map}
 use Rattle.std.proofs.lemmas.List.Concat.{flat_map-append}
-use Rattle.pliron_core.specs.Lists.{In, IsDistinct, first_of, next_in}
+use Rattle.pliron_core.specs.Lists.{In}
 use Rattle.pliron_core.specs.Tree.{Tree, IsLive, IsBlock, body_of, layout_of, regions_of}
 use Rattle.pliron_core.specs.Joined.{IsTree}
-use Rattle.pliron_core.specs.WalkSteps.{rest_from}
 use Rattle.pliron_core.proofs.FlatLemmas.{flat_map-same}
-use Rattle.pliron_core.proofs.NeighbourLemmas.{next_in-In, first_of-In}
-use Rattle.pliron_core.proofs.NextLemmas.{rest_from-step, rest_from-first}
 use Rattle.pliron_core.proofs.ListLemmas.{In-right}
 use Rattle.pliron_core.proofs.ArgumentLemmas.{take_more}
 use Rattle.pliron_sccp.specs.Chain.{blocks_inside}
 use Rattle.pliron_sccp.specs.Inside.{blocks_of}
 use Rattle.pliron_sccp.proofs.DistinctLists.{inside_nested, inside_block}
-
--- what each item of `whole` lists was added to `before`, but for the items from `at` on
-pub record IsListing (f : ℕ → List ℕ) (whole before now : List ℕ) (at : Option ℕ) : Type 0 where
-  pub items : now ++ flat_map f (rest_from at whole) ≡ before ++ flat_map f whole
-  pub within : (x : ℕ) → at ≡ Some x → In x whole
-
-module _ (f : ℕ → List ℕ) (whole before : List ℕ) where
-  pub listing_start : (at : Option ℕ) → at ≡ first_of whole None → IsListing f whole before before at
-  listing_start at e = record {
-    items = ap (λ xs. before ++ flat_map f xs) (ap (λ o. rest_from o whole) e ∙ all whole);
-    within = λ x g. first_of-In x whole (sym e ∙ g);
-  }
-    where
-      all : (xs : List ℕ) → rest_from (first_of xs None) xs ≡ xs
-      all [] = refl
-      all (x ∷ xs) = rest_from-first x xs
-
-  pub listing_step : (now more : List ℕ) (at o : Option ℕ) (x : ℕ) → IsDistinct whole → IsListing f whole before now at → at ≡ Some x → o ≡ next_in x whole → more ≡ now ++ f x → IsListing f whole before more o
-  listing_step now more at o x d l e g m = record {
-    items =
-        ap (λ xs. xs ++ flat_map f (rest_from o whole)) m
-        ∙ append_assoc now (f x) (flat_map f (rest_from o whole))
-        ∙ ap (λ xs. now ++ flat_map f xs) (sym (rest_from-step whole x o d (l.within x e) g))
-        ∙ ap (λ q. now ++ flat_map f (rest_from q whole)) (sym e)
-        ∙ l.items;
-    within = λ y h. next_in-In y x whole (sym g ∙ h);
-  }
-
-  pub listing_end : (now : List ℕ) (at : Option ℕ) → IsListing f whole before now at → at ≡ None → now ≡ before ++ flat_map f whole
-  listing_end now at l e = sym (append-nil now) ∙ ap (λ o. now ++ flat_map f (rest_from o whole)) (sym e) ∙ l.items
-
-  pub listing_smaller : (now : List ℕ) (at o : Option ℕ) (x : ℕ) → IsDistinct whole → IsListing f whole before now at → at ≡ Some x → o ≡ next_in x whole → length (rest_from o whole) < length (rest_from at whole)
-  listing_smaller now at o x d l e g =
-      let here : rest_from at whole ≡ x ∷ rest_from o whole = ap (λ q. rest_from q whole) e ∙ rest_from-step whole x o d (l.within x e) g in
-      omega (arith, ap length here)
 
 pub flat_alone : (xs : List ℕ) → flat_map (λ x. x ∷ []) xs ≡ xs
 flat_alone [] = refl

@@ -21,7 +21,7 @@ use Rattle.pliron_core.specs.Changes.{IsSameTree}
 use Rattle.pliron_core.specs.Status.{changed_by_either}
 use Rattle.pliron_core.specs.declared.attrs.IRStatus.TheVariants.{Changed, Unchanged}
 use Rattle.std.proofs.lemmas.List.{get_or_past}
-use Rattle.pliron_theory.proofs.FoundRuns.{PassesForwarded}
+use Rattle.pliron_theory.proofs.SoundRuns.{PassesForwarded}
 use Rattle.pliron_laws.proofs.Records.{ShowsOperation, op_shows}
 use Rattle.pliron_theory.specs.Facts.{Facts, Says, known, handed, answers_of}
 use Rattle.pliron_theory.specs.Following.{StandsAsBefore, Follows}

@@ -6,6 +6,7 @@ use Rattle.pliron_core.proofs.HoldingLemmas.{some_is, not_none}
 use Rattle.pliron_laws.specs.Datum.{Datum, datum_of}
 use Rattle.pliron_laws.specs.States.{Environment, bound, bind, put_first, data_of}
 use Rattle.pliron_laws.specs.Acting.{Known, pick}
+use Rattle.pliron_theory.proofs.KnownData.{put_both}
 use Rattle.pliron_theory.specs.Facts.{Fact, Undetermined, Constant, NotAConstant, AtMost, known, answered}
 
 pub at_most_refl : (f : Fact) → AtMost f f
@@ -40,11 +41,6 @@ known_fits NotAConstant g d (Some c) m x e ks ds k = absurd (not_none e)
 pub fits_answered : (a : Option AttrObj) (d : Datum) → ((c : AttrObj) → a ≡ Some c → datum_of c ≡ d) → Fits (answered a) d
 fits_answered None d f = tt
 fits_answered (Some c) d f = f c refl
-
-put_both : (o : Option Datum) (p : Option (List Datum)) (ds : List Datum) → put_first o p ≡ Some ds → (d : Datum) × (others : List Datum) × (o ≡ Some d) × (p ≡ Some others) × (d ∷ others ≡ ds)
-put_both None p ds e = grind arith
-put_both (Some d) None ds e = grind arith
-put_both (Some d) (Some others) ds e = (d, others, refl, refl, some_is e)
 
 module _ (read : ℕ → Fact) where
   -- each value that has a datum confirms what is read

@@ -24,7 +24,7 @@ use Rattle.pliron_theory.specs.Rewrites.{materialised_first, IsConstant}
 use Rattle.pliron_laws.proofs.Records.{operation_of, op_shows, make_op}
 use Rattle.pliron_laws.proofs.ConstantLemmas.{made_row}
 use Rattle.pliron_laws.proofs.FoldLemmas.{put_row, put_row-new}
-use Rattle.pliron_theory.proofs.FoundRuns.{PassesForwarded}
+use Rattle.pliron_theory.proofs.SoundRuns.{PassesForwarded}
 use Rattle.pliron_theory.proofs.Keeping.{keeps_refl, keeps_trans}
 use Rattle.pliron_laws.proofs.LinkedLemmas.{tree_created, tree_placed, tree_put, put_is, linked_put, linked_same}
 use Rattle.pliron_theory.specs.Edges.{KeepsEdges}

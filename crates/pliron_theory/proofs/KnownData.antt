@@ -49,14 +49,3 @@ module _ (facts : ℕ → Option AttrObj) where
   bind_confirms [] (d ∷ ds) env env1 h e so = grind arith
   bind_confirms (x ∷ vs) [] env env1 h e so = grind arith
   bind_confirms (x ∷ vs) (y ∷ ds) env env1 h e so = bind_confirms vs ds (bound env x y) env1 (λ i v c d a b k. h (suc i) v c d a b k) e (bound_confirms env x y (λ c f. h zero x c y refl f refl) so)
-
-  data_known : (env : Environment) → Confirms env → (v : ℕ) (d : Datum) (a : Option AttrObj) → facts v ≡ a → env v ≡ Some d → (known : List (Option AttrObj)) (ds : List Datum) → Known known ds → Known (a ∷ known) (d ∷ ds)
-  data_known env so v d None f e known ds k = k
-  data_known env so v d (Some c) f e known ds k = (so v c d f e, k)
-
-  -- what is known of the operands are the data that are read
-  pub read_known : (env : Environment) → Confirms env → (vs : List ℕ) (ds : List Datum) → data_of env vs ≡ Some ds → Known (map facts vs) ds
-  read_known env so [] ds e = let f : [] ≡ ds = some_is e in subst (Known []) f tt
-  read_known env so (v ∷ vs) ds e =
-      let p = put_both (env v) (data_of env vs) ds e in
-      subst (Known (facts v ∷ map facts vs)) p.4 (data_known env so v p.0 (facts v) refl p.2 (map facts vs) p.1 (read_known env so vs p.1 p.3))

@@ -34,7 +34,6 @@ pub mod Refolded
 pub mod FoldedBranches
 pub mod Listing
 pub mod KnownData
-pub mod FoundRuns
 pub mod KnownRuns
 pub mod Answered
 pub mod AnsweredReads

@@ -14,10 +14,9 @@ use Rattle.pliron_theory.specs.Keeps.{IsFit}
 use Rattle.pliron_theory.specs.Renaming.{IsReadAs}
 use Rattle.pliron_laws.proofs.Records.{op_shows}
 use Rattle.pliron_theory.proofs.Reading.{ready_when_reached}
-use Rattle.pliron_theory.proofs.FoundRuns.{PassesForwarded}
 use Rattle.pliron_theory.specs.Facts.{Fact, NotAConstant, AtMost, Facts, Says, Stands, MayGo, Forwards}
 use Rattle.pliron_theory.specs.Sound.{AreSound, IsMadeThere, IsRightResult, SoundFactsLaw}
-use Rattle.pliron_theory.proofs.SoundRuns.{MayMove, AreKept, constants_read}
+use Rattle.pliron_theory.proofs.SoundRuns.{PassesForwarded, MayMove, AreKept, constants_read}
 
 module _ (t : Tree) (w : IsTree t) where
   first_in : (xs : List ℕ) (a : ℕ) → first_of xs None ≡ Some a → In a xs

@@ -1,5 +1,5 @@
 -- Facts that every run of one root confirms.
-use Rattle.std.proofs.Common.{◌≡◌, ◌⊎◌, inl, inr, ℕ, zero, suc, Bool, false, true, List, [], ◌∷◌, length, Option, Some, None, slice_get, refl, sym, ap, ap₂, ◌∙◌, subst, IsTrue}
+use Rattle.std.proofs.Common.{◌≡◌, ◌⊎◌, inl, inr, ℕ, zero, suc, Bool, false, true, List, [], ◌∷◌, length, map, Option, Some, None, slice_get, refl, sym, ap, ap₂, ◌∙◌, subst, IsTrue}
 use Rattle.pliron_core.specs.declared.attrs.AttrObj.{AttrObj}
 use Rattle.pliron_core.specs.Tree.{Tree, In, IsInside, IsWithin, arguments_of, regions_of, layout_of, first_of, parent_of}
 use Rattle.pliron_core.specs.Joined.{IsTree}
@@ -8,7 +8,7 @@ use Rattle.pliron_laws.specs.Datum.{Datum, Empty, datum_of, Shape, Meaning, Move
 use Rattle.pliron_laws.specs.Tree.{Operation, Block, op_at, block_at, shape_of}
 use Rattle.pliron_laws.specs.States.{Environment, State, bind}
 use Rattle.pliron_laws.specs.Machine.{start}
-use Rattle.pliron_laws.specs.Acting.{Comes, Begins, Answered, Told, Known}
+use Rattle.pliron_laws.specs.Acting.{Comes, Begins, Answered, Told, Known, pick}
 use Rattle.pliron_laws.specs.Laws.{Admitted}
 use Rattle.pliron_laws.specs.Folding.{AnswersTrue, AnswersJumps}
 use Rattle.pliron_theory.specs.Keeps.{IsFit}
@@ -20,12 +20,15 @@ use Rattle.pliron_theory.proofs.Bound.{IsAt, HasAnswer, has_some, places, place_
 use Rattle.pliron_theory.proofs.Reached.{reached_holds}
 use Rattle.pliron_theory.proofs.Reading.{read_data}
 use Rattle.pliron_theory.proofs.SweptKeeps.{admitted_shape}
-use Rattle.pliron_theory.proofs.FoundRuns.{PassesForwarded}
 use Rattle.pliron_theory.proofs.KnownData.{known_at, picked_at, some_at}
 use Rattle.pliron_theory.specs.Facts.{Fact, Constant, NotAConstant, AtMost, answered, Facts, Says, handed, answers_of, MayGo, Forwards}
 use Rattle.pliron_theory.proofs.ConstantKeeps.{no_data}
 use Rattle.pliron_theory.specs.Sound.{IsRightResult}
 use Rattle.pliron_theory.proofs.FactLattice.{Fits, fits_lower, fits_answered, Agrees, bind_agrees, FitEach, read_fits, read_known, same_index, picked_in}
+
+-- branches pass what they forward
+abbrev pub PassesForwarded : Meaning → Type 0
+PassesForwarded m = (s : Shape) → Admitted m s → IsTrue (m.is_branch s.head) → (first : List Datum) → length first ≡ s.operands → (later : Bool) (memo : Datum) (input : List Datum) (i : ℕ) (ds : List Datum) → Comes m.act s first later memo input → m.act s memo input ≡ Goto i ds → map Some ds ≡ pick (m.forwarded s i) first
 
 -- a run of the root may come to this operation
 abbrev pub MayMove : Tree → ℕ → (ℕ → Type 0) → ℕ → Type 0

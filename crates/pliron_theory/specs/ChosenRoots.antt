@@ -5,7 +5,7 @@ use Rattle.pliron_laws.specs.Folding.{Constants, Feasible}
 use Rattle.pliron_laws.specs.InPlace.{Outcome}
 use Rattle.pliron_theory.specs.Keeps.{with_roots}
 use Rattle.pliron_theory.specs.Knowing.{FactsLaw}
-use Rattle.pliron_theory.specs.Finding.{FindingsLaw}
+use Rattle.pliron_theory.specs.Sound.{SoundFactsLaw}
 use Rattle.pliron_theory.specs.Answered.{AnsweredLaw}
 use Rattle.pliron_theory.specs.RunLaws.{OneEdgeLaw, RemovingLaw}
 use Rattle.pliron_theory.specs.Folded.{BranchFoldsLaw, ConstantFoldsLaw}
@@ -13,7 +13,7 @@ use Rattle.pliron_theory.specs.Folded.{BranchFoldsLaw, ConstantFoldsLaw}
 -- what the laws of a dialect with this meaning and these tables give about runs
 pub record LawsOnRuns (m : Meaning) (can_fold can_fold_branch : Head → Bool) (constants : Constants) (feasible : Feasible) (shortened : Shape → ℕ → ℕ → Head) (removable : Head → ℕ → Bool → Option Bool) (fold branch_fold : Outcome) : Type 0 where
   pub facts : FactsLaw m can_fold constants
-  pub findings : FindingsLaw m can_fold can_fold_branch constants feasible
+  pub sound : SoundFactsLaw (record { meaning = m; can_fold = can_fold; can_fold_branch = can_fold_branch; constants = constants; feasible = feasible })
   pub answered : AnsweredLaw m can_fold constants
   pub one_edge : OneEdgeLaw m
   pub removing : RemovingLaw m shortened removable

@@ -2,7 +2,6 @@ pub mod Keeps
 pub mod Sweeping
 pub mod Renaming
 pub mod Knowing
-pub mod Finding
 pub mod RunLaws
 pub mod Rebranching
 pub mod Answered

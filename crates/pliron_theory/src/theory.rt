@@ -6,7 +6,6 @@ ghost use Rattle.pliron_theory.specs.Folded.{BranchFoldsLaw, BranchLinksLaw, Bra
 ghost use Rattle.pliron_theory.specs.ChosenRoots.{ChosenRootsLaw};
 ghost use Rattle.pliron_theory.specs.Change.{PassLaws};
 ghost use Rattle.pliron_theory.specs.Edges.{EdgeLaws};
-ghost use Rattle.pliron_theory.specs.Finding.{FindingsLaw};
 ghost use Rattle.pliron_theory.specs.Knowing.{FactsLaw};
 ghost use Rattle.pliron_theory.specs.Facts.{Says};
 ghost use Rattle.pliron_theory.specs.Sound.{SoundFactsLaw, ClosedFactsLaw};
@@ -62,12 +61,6 @@ pub fn operands_are_renamed()
 /// nothing is known of the arguments of blocks.
 pub fn facts_are_read<D: Dialect>()
     ensures { FactsLaw D.meaning D.can_fold D.constants }
-{}
-
-/// What is found of blocks and values by closed findings holds in every run: it comes only to blocks
-/// that it may come to, and reads each value as the constant that the value is known to be.
-pub fn findings_hold<D: Dialect>()
-    ensures { FindingsLaw D.meaning D.can_fold D.can_fold_branch D.constants D.feasible }
 {}
 
 /// A block may join the end of its only predecessor, whose last operation goes there at once.

@@ -2,7 +2,7 @@ use Rattle.std.proofs.Common.{ap, ◌∙◌}
 use Rattle.pliron_core.specs.Tree.{body_of, up_from}
 use Rattle.pliron_core.specs.Lists.{next_in}
 use Rattle.pliron_sccp.specs.Inside.{blocks_of}
-use Rattle.pliron_sccp.proofs.Listing.{listing_start, listing_step, listing_smaller, listing_end}
+use Rattle.pliron_theory.proofs.Listing.{listing_start, listing_step, listing_smaller, listing_end}
 use Rattle.pliron_sccp.proofs.collecting.list_body.Goals as goal
 
 pub loop-at-init : goal.loop-at-init

@@ -1,7 +1,8 @@
 use Rattle.std.proofs.Common.{◌∷◌, [], ◌++◌, ap, ◌∙◌, is_some}
 use Rattle.pliron_core.specs.Tree.{layout_of, up_from}
 use Rattle.pliron_core.specs.Lists.{next_in}
-use Rattle.pliron_sccp.proofs.Listing.{listing_start, listing_step, listing_smaller, listing_end, flat_alone}
+use Rattle.pliron_theory.proofs.Listing.{listing_start, listing_step, listing_smaller, listing_end}
+use Rattle.pliron_sccp.proofs.Listing.{flat_alone}
 use Rattle.pliron_sccp.proofs.collecting.list_region.Goals as goal
 
 pub loop-at-init : goal.loop-at-init

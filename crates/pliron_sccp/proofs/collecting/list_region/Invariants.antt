@@ -1,7 +1,7 @@
 use Rattle.std.proofs.Common.{◌∷◌, [], length}
 use Rattle.pliron_core.specs.Tree.{layout_of}
 use Rattle.pliron_core.specs.WalkSteps.{rest_from}
-use Rattle.pliron_sccp.proofs.Listing.{IsListing}
+use Rattle.pliron_theory.proofs.Listing.{IsListing}
 use Rattle.pliron_sccp.proofs.collecting.list_region.Given as goal
 
 abbrev pub invariant-loop-at : goal.invariant-loop-at
