@@ -59,7 +59,7 @@ block_tells t u b is none same = let y = some_of (block_parent_of t b) is in not
 
 module _ (m : Meaning) (op : ℕ) (t u v w : Tree) (first : IsPassChange m t u op) (second : IsPassChange m u v op) (third : IsPassChange m v w op) (blocks : (b : ℕ) → block_parent_of u b ≡ block_parent_of t b) (no_block : (b : ℕ) → IsBlock w b → IsBlock v b) (unreachable : (b : ℕ) → IsUnreachable (OfOperation op) w b → IsUnreachable (OfOperation op) v b) where
   none_there : (s : IRStatus) → RemovesAll (OfOperation op) u v s → (b : ℕ) → IsUnreachable (OfOperation op) v b → ⊥
-  none_there Changed removes b i = removes.2 b i
+  none_there Changed removes b i = removes.3 b i
   none_there Unchanged (none, same) b i = none b (subst (λ (z : Tree). IsUnreachable (OfOperation op) z b) same i)
 
   pub none_left : (s : IRStatus) → RemovesAll (OfOperation op) u v s → (b : ℕ) → IsUnreachable (OfOperation op) w b → ⊥
@@ -81,7 +81,7 @@ module _ (m : Meaning) (op : ℕ) (t u v w : Tree) (first : IsPassChange m t u o
   honest Unchanged Changed c same removes merges told = ⊎_elim
       (λ e. absurd (none_there Changed removes removes.0.0 (subst (λ (z : Tree). IsUnreachable (OfOperation op) z removes.0.0) (sym e) removes.0.1)))
       (λ x. block_tells t w x.0 (subst (λ z. is_some z ≡ true) (blocks x.0) x.1) (gone_block x.0 x.2))
-      (block_went (OfOperation op) u v removes.1)
+      (block_went (OfOperation op) u v removes.2)
   honest Unchanged Unchanged Changed same (none, stays) merges (k, live, gone) = operation_tells t w k (subst (λ z. is_some z.head ≡ true) (same.operations k) (subst (λ (z : Tree). IsLive z k) stays live)) gone
   honest Unchanged Unchanged Unchanged same (none, stays) (still, pairs) told = subst (λ (z : Tree). IsSameTree t z) (sym (still ∙ stays)) same
 

@@ -7,8 +7,8 @@ use Rattle.pliron_core.specs.Joined.{IsTree}
 use Rattle.pliron_core.specs.Erased.{StandsIn}
 use Rattle.pliron_core.specs.Changes.{IsInsideChange}
 use Rattle.pliron_core.specs.ChangeLaws.{InsideChangeLaws}
-use Rattle.pliron_core.proofs.ListLemmas.{In-cases, In-left, In-right}
-use Rattle.pliron_core.proofs.HoldingLemmas.{some_is}
+use Rattle.pliron_core.proofs.ListLemmas.{In-cases, In-left, In-right, decide_in}
+use Rattle.pliron_core.proofs.HoldingLemmas.{some_is, not_none}
 use Rattle.pliron_laws.specs.Datum.{Meaning}
 use Rattle.pliron_laws.specs.Linked.{IsWellLinked}
 use Rattle.pliron_theory.specs.Change.{IsPassChange, PassLaws}
@@ -18,16 +18,17 @@ use Rattle.pliron_blocks.specs.Inside.{CutInsideLaw}
 use Rattle.pliron_visits.specs.Visited.{Start, IsSearched, IsCutOff, IsUnreachable, IsReachedIn}
 use Rattle.pliron_visits.specs.Visits.{AreVisits}
 use Rattle.pliron_visits.proofs.Lawful.{visited_lawful, reached_in}
-use Rattle.pliron_removal.specs.Removed.{RemovesSome.Nothing, RemovesSome.Then, RemovesAll, RemovalFails, HasLiveUse}
+use Rattle.pliron_removal.specs.Removed.{IsWithout, RemovesSome.Nothing, RemovesSome.Then, RemovesAll, RemovalFails, HasLiveUse}
 use Rattle.pliron_laws.specs.declared.fault.OptError.{OptError}
 use Rattle.pliron_laws.specs.declared.fault.OptError.TheVariants.{Memory, LiveUse}
 use Rattle.pliron_removal.specs.declared.scope.Scope.{Scope}
 use Rattle.pliron_removal.specs.Internal.Scopes.{start_of, Stands, IsHolder}
 use Rattle.pliron_removal.proofs.ScopeLemmas.{start_lawful, top_held, top_apart, within_root, root_row, start_to, start_from, stands_still, holder_still}
 use Rattle.pliron_removal.specs.Internal.Clears.{LosesCutOff, ClearsRegion}
-use Rattle.pliron_removal.specs.Internal.Cleared.{status_after, TellsLoss, AreCleared}
+use Rattle.pliron_removal.specs.Internal.Cleared.{status_after, TellsLoss, AreCleared, Went}
 use Rattle.pliron_removal.proofs.Without.{is_without}
-use Rattle.pliron_removal.proofs.Stability.{visits_still, cut_off_was, none_left}
+use Rattle.pliron_removal.proofs.Composed.{none_go, gone_alike, gone_in_turn}
+use Rattle.pliron_removal.proofs.Stability.{visits_still, cut_off_was, cut_off_still, none_left}
 
 module _ (m : Meaning) (t u v : Tree) (scope : Scope) (root r : ℕ) (rs ks rest : List ℕ) (laws : PassLaws) (cut_links : CutLinksLaw) (cut_inside : CutInsideLaw) (inside_laws : InsideChangeLaws) (w : IsTree u) (wv : IsTree v) where
   left_cases : (q : ℕ) → In q (rest ++ r ∷ []) → In q rest ⊎ (q ≡ r)
@@ -63,7 +64,10 @@ module _ (m : Meaning) (t u v : Tree) (scope : Scope) (root r : ℕ) (rs ks rest
     same_next none = record {
       stands = h.stands;
       holder = h.holder;
+      first = h.first;
       some = h.some;
+      without = h.without;
+      were = h.were;
       visits = h.visits;
       change = h.change;
       links = h.links;
@@ -107,6 +111,38 @@ module _ (m : Meaning) (t u v : Tree) (scope : Scope) (root r : ℕ) (rs ks rest
         runs = l.runs;
       }
 
+      -- a region is searched after if it was before
+      unreachable_was : (b : ℕ) → IsUnreachable (start_of scope) v b → IsUnreachable (start_of scope) u b
+      unreachable_was b x =
+          let s = (h.visits.regions x.0).0 ((visits_next.regions x.0).1 x.1) in
+          (x.0, s, cut_off_was u v w wv r l.blocks l.exact l.cut searched.1 (start_of scope u) (start_of scope v) start_held start_apart to from x.0 s.0 b x.2)
+
+      unreachable_still : (b : ℕ) → (In b l.blocks → ⊥) → IsUnreachable (start_of scope) u b → IsUnreachable (start_of scope) v b
+      unreachable_still b n x = (
+        x.0,
+        (visits_next.regions x.0).0 ((h.visits.regions x.0).1 x.1),
+        cut_off_still u v w wv r l.blocks l.exact l.cut searched.1 (start_of scope u) (start_of scope v) start_held start_apart to from x.0 x.1.0 b n x.2,
+      )
+
+      without_region : IsWithout u v (IsCutOff u r)
+      without_region = is_without u v w wv r l.blocks l.exact l.cut
+
+      -- what went before and what goes now is what went after
+      went_now : (b : ℕ) → IsCutOff u r b → Went (start_of scope) t v b
+      went_now b y = (h.were b (r, searched, y), λ x. not_none (sym (without_region.gone_blocks b (b, y, inl refl)) ∙ x.2.0))
+
+      went_either : (b : ℕ) → Went (start_of scope) t v b → Went (start_of scope) t u b ⊎ IsCutOff u r b
+      went_either b y = ⊎_elim
+          (λ i. inr ((l.exact b).0 i))
+          (λ n. inl (y.0, λ x. y.1 (unreachable_still b n x)))
+          (decide_in b l.blocks)
+
+      without_next : IsWithout t v (Went (start_of scope) t v)
+      without_next = gone_in_turn t u h.first w (Went (start_of scope) t u) h.without v (IsCutOff u r) (Went (start_of scope) t v) without_region
+          (λ b y. (y.0, λ x. y.1 (unreachable_was b x)))
+          went_now
+          went_either
+
       tells_next : (s : IRStatus) → TellsLoss (start_of scope) t u s → TellsLoss (start_of scope) t v Changed
       tells_next Changed x = x
       tells_next Unchanged x = subst (λ z. (b : ℕ) × IsUnreachable (start_of scope) z b) x (l.one, (r, searched, (l.exact l.one).0 l.listed))
@@ -115,7 +151,10 @@ module _ (m : Meaning) (t u v : Tree) (scope : Scope) (root r : ℕ) (rs ks rest
       less_next = record {
         stands = stands_still u v w wv root r l.blocks own l.cut scope h.stands h.holder h.change.linked.edges searched.0;
         holder = holder_still u v w wv root r l.blocks own l.cut scope h.stands h.holder h.change.linked.edges searched.0;
-        some = Then r l.one h.some searched ((l.exact l.one).0 l.listed) (is_without u v w wv r l.blocks l.exact l.cut);
+        first = h.first;
+        some = Then r l.one h.some searched ((l.exact l.one).0 l.listed) without_region;
+        without = without_next;
+        were = λ b x. h.were b (unreachable_was b x);
         visits = visits_next;
         change = laws.transitive m t u v root h.change change_next;
         links = λ k x. links_next k (h.links k x);
@@ -134,11 +173,14 @@ module _ (m : Meaning) (t u v : Tree) (scope : Scope) (root r : ℕ) (rs ks rest
     next Changed l = less_next l
     next Unchanged e = subst (λ z. AreCleared m t z scope root rs ks rest status) (sym e.1) (same_next e.0)
 
-pub none_cleared : (m : Meaning) (t : Tree) (scope : Scope) (root : ℕ) (rs ks : List ℕ) → PassLaws → Stands t scope → IsHolder t scope root → IsLive t root → IsWellLinked m t root → AreVisits t (start_of scope t) rs ks → AreCleared m t t scope root rs ks rs Unchanged
-none_cleared m t scope root rs ks laws stands holder live linked visits = record {
+pub none_cleared : (m : Meaning) (t : Tree) (scope : Scope) (root : ℕ) (rs ks : List ℕ) → PassLaws → IsTree t → Stands t scope → IsHolder t scope root → IsLive t root → IsWellLinked m t root → AreVisits t (start_of scope t) rs ks → AreCleared m t t scope root rs ks rs Unchanged
+none_cleared m t scope root rs ks laws w stands holder live linked visits = record {
   stands = stands;
   holder = holder;
+  first = w;
   some = Nothing;
+  without = none_go t (Went (start_of scope) t t) (λ b y. y.1 y.0);
+  were = λ b x. x;
   visits = visits;
   change = laws.reflexive m t root live linked;
   links = λ k x. x;
@@ -154,7 +196,7 @@ all_cleared m t u scope root rs ks status h = go status h.tells
     none b x = ⊎_elim (λ i. i) (λ n. n b x.2) (h.cleared x.0 ((h.visits.regions x.0).1 x.1))
 
     go : (s : IRStatus) → TellsLoss (start_of scope) t u s → RemovesAll (start_of scope) t u s
-    go Changed x = (x, h.some, none)
+    go Changed x = (x, gone_alike t u (Went (start_of scope) t u) (IsUnreachable (start_of scope) t) (λ b y. y.0) (λ b y. (y, none b)) h.without, h.some, none)
     go Unchanged e = (subst (λ z. (b : ℕ) → IsUnreachable (start_of scope) z b → ⊥) e none, e)
 
 -- the reached blocks by another list with the same members
@@ -166,5 +208,5 @@ visits_as t A rs bs ks same a = record {
 
 -- the answer is honest
 pub honest : (start : Start) (t v : Tree) (status : IRStatus) → RemovesAll start t v status → (status ≡ Unchanged) ↔ (v ≡ t)
-honest start t v Changed x = ((λ e. absurd (cc)), (λ e. absurd (x.2 x.0.0 (subst (λ z. IsUnreachable start z x.0.0) (sym e) x.0.1))))
+honest start t v Changed x = ((λ e. absurd (cc)), (λ e. absurd (x.3 x.0.0 (subst (λ z. IsUnreachable start z x.0.0) (sym e) x.0.1))))
 honest start t v Unchanged x = ((λ e. x.1), (λ e. refl))

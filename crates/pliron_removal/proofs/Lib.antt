@@ -8,4 +8,5 @@ pub mod CutOffLemmas
 pub mod Without
 pub mod Stability
 pub mod ScopeLemmas
+pub mod Composed
 pub mod ClearedSteps

@@ -185,6 +185,9 @@ module _ (t v : Tree) (w : IsTree t) (wv : IsTree v) (r0 : ℕ) (bs : List ℕ) 
     pub cut_off_was : (b : ℕ) → IsCutOff v r b → IsCutOff t r b
     cut_off_was b y = (placed_was b y.0, λ z. y.1 (reached_still b z))
 
+    pub cut_off_still : (b : ℕ) → (In b bs → ⊥) → IsCutOff t r b → IsCutOff v r b
+    cut_off_still b n y = (cut.block_parents b (block_left b y.0 n) ∙ y.0, λ z. y.1 (reached_was b z))
+
   pub visited_still : (r : ℕ) → IsVisited t A r → IsVisited v B r
   visited_still r (Starts s) = Starts (to r s)
   visited_still r (Nested outer c k x ent p j) =

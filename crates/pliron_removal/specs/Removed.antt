@@ -44,10 +44,10 @@ pub data RemovesSome (start : Start) (t : Tree) : Tree → Type 0 where
   Nothing : RemovesSome start t t
   Then : {u t' : Tree} (r b : ℕ) → RemovesSome start t u → IsSearched start u r → IsCutOff u r b → IsWithout u t' (IsCutOff u r) → RemovesSome start t t'
 
--- all unreachable blocks of the searched regions are gone, region by region, and none is left; the answer says
--- whether there were any
+-- exactly the unreachable blocks of the searched regions are gone, with what stands in them, and nothing else
+-- changed; they went region by region, and none is left; the answer says whether there were any
 abbrev pub RemovesAll : Start → (t t' : Tree) → IRStatus → Type 0
-RemovesAll start t t' Changed = ((b : ℕ) × IsUnreachable start t b) × RemovesSome start t t' × ((b : ℕ) → IsUnreachable start t' b → ⊥)
+RemovesAll start t t' Changed = ((b : ℕ) × IsUnreachable start t b) × IsWithout t t' (IsUnreachable start t) × RemovesSome start t t' × ((b : ℕ) → IsUnreachable start t' b → ⊥)
 RemovesAll start t t' Unchanged = ((b : ℕ) → IsUnreachable start t b → ⊥) × (t' ≡ t)
 
 -- why a removal gave up, and what stands then: a first part is done, and where values are in use that is so in

@@ -4,6 +4,8 @@
 #[cfg(test)]
 mod cases;
 #[cfg(test)]
+mod marked;
+#[cfg(test)]
 mod runs;
 #[cfg(test)]
 mod texts;

@@ -47,7 +47,7 @@ fn is_admitted(op: Ptr<Operation>, ctx: &Context) -> bool
 }
 
 // Whether the dialect admits the root and all operations inside it.
-fn are_admitted(root: Ptr<Operation>, ctx: &Context) -> bool
+pub(crate) fn are_admitted(root: Ptr<Operation>, ctx: &Context) -> bool
     requires { IsLive ctx.now.tree root }
     ensures { IsTrue result → (k : ℕ) → IsWithin ctx.now.tree root k → IsAdmitted tiny ctx.now.tree k }
 {
@@ -62,8 +62,8 @@ fn are_admitted(root: Ptr<Operation>, ctx: &Context) -> bool
     true
 }
 
-// A new operation of this kind, with the number for its attribute.
-fn made(
+// A new operation of this kind, with a number for its attribute.
+pub(crate) fn made(
     rt: &impl Abort,
     alloc: Global,
     ctx: &mut Context,
@@ -72,6 +72,18 @@ fn made(
     regions: usize,
 ) -> Ptr<Operation> {
     let attrs = Vec::from_array(alloc, [AttrObj::Int(7)]).expect(rt, "memory");
+    made_with(rt, ctx, kind, attrs, results, regions)
+}
+
+// A new operation of this kind, with these attributes.
+pub(crate) fn made_with(
+    rt: &impl Abort,
+    ctx: &mut Context,
+    kind: TinyKind,
+    attrs: Vec<AttrObj>,
+    results: usize,
+    regions: usize,
+) -> Ptr<Operation> {
     let head = Head {
         kind: kind.number(),
         ssa: true,
@@ -81,7 +93,7 @@ fn made(
 }
 
 // A new last block of the operation's region.
-fn block(
+pub(crate) fn block(
     rt: &impl Abort,
     ctx: &mut Context,
     op: Ptr<Operation>,
@@ -93,7 +105,7 @@ fn block(
 }
 
 // The operation becomes the last of the block.
-fn put(rt: &impl Abort, ctx: &mut Context, op: Ptr<Operation>, block: Ptr<BasicBlock>) {
+pub(crate) fn put(rt: &impl Abort, ctx: &mut Context, op: Ptr<Operation>, block: Ptr<BasicBlock>) {
     assert!(rt; block.is_live(ctx));
     assert!(rt; op.is_live(ctx));
     assert!(rt; !op.holds_block(block, ctx));
@@ -101,7 +113,12 @@ fn put(rt: &impl Abort, ctx: &mut Context, op: Ptr<Operation>, block: Ptr<BasicB
 }
 
 // The operation with one operand, which is the first result of the other or the first argument of the block.
-fn reads_result(rt: &impl Abort, ctx: &mut Context, op: Ptr<Operation>, maker: Ptr<Operation>) {
+pub(crate) fn reads_result(
+    rt: &impl Abort,
+    ctx: &mut Context,
+    op: Ptr<Operation>,
+    maker: Ptr<Operation>,
+) {
     assert!(rt; maker.is_live(ctx));
     assert_eq!(rt; maker.num_result(ctx), 1);
     let value = maker.get_result(ctx, 0);
@@ -110,7 +127,12 @@ fn reads_result(rt: &impl Abort, ctx: &mut Context, op: Ptr<Operation>, maker: P
     Operation::push_operand(ctx, op, value).expect(rt, "memory");
 }
 
-fn reads_argument(rt: &impl Abort, ctx: &mut Context, op: Ptr<Operation>, block: Ptr<BasicBlock>) {
+pub(crate) fn reads_argument(
+    rt: &impl Abort,
+    ctx: &mut Context,
+    op: Ptr<Operation>,
+    block: Ptr<BasicBlock>,
+) {
     assert!(rt; block.is_live(ctx));
     assert_eq!(rt; block.num_argument(ctx), 1);
     let value = block.get_argument(ctx, 0);
@@ -119,7 +141,12 @@ fn reads_argument(rt: &impl Abort, ctx: &mut Context, op: Ptr<Operation>, block:
     Operation::push_operand(ctx, op, value).expect(rt, "memory");
 }
 
-fn leads_to(rt: &impl Abort, ctx: &mut Context, op: Ptr<Operation>, block: Ptr<BasicBlock>) {
+pub(crate) fn leads_to(
+    rt: &impl Abort,
+    ctx: &mut Context,
+    op: Ptr<Operation>,
+    block: Ptr<BasicBlock>,
+) {
     assert!(rt; op.is_live(ctx));
     assert!(rt; block.is_live(ctx));
     Operation::push_successor(ctx, op, block).expect(rt, "memory");
