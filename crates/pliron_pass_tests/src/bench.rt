@@ -1,10 +1,11 @@
 //! The ready-made analyses, on worked texts.
+ghost use Rattle.pliron_core.specs.Tree.{IsLive};
+
+use super::lines::read;
 use pliron_core::{Context, IRStatus, Operation, Ptr};
-use pliron_notation::read_text;
 use pliron_pass::{AnalysisManager, BenchFactKind, BenchFacts, PassResult};
 use std::alloc::Global;
 use std::process::Abort;
-use std::test::Fail;
 
 static LOOP: &str =
     "func { b0(): z = const 0; br b1(z); b1(i): r = read; cbr r b1(i) b2(); b2(): ret i }";
@@ -20,96 +21,146 @@ func { b0(): k = const 4; box { b0(): sink k }; ret } => edges, size 4, total 4
 func { b0(): box { b0(): }; br b1(); b1(): ret } => edges 0-2, size 3, total 4
 mod { b0(): func { b0(): br b1(); b1(): ret }; func { b0(): ret; b1(): br b0() } } => edges 1-2 4-3, size 6, total 8";
 
-// What the fact says.
-fn told(alloc: Global, fact: &BenchFacts) -> Result<String, Fail> {
+// Writes what the fact says.
+fn write_fact(rt: &impl Abort, text: &mut String, fact: &BenchFacts) {
     match fact {
         BenchFacts::Edges(pairs) => {
-            let mut text = "edges".to_string(alloc)?;
+            text.push_str("edges").expect(rt, "memory");
             for (from, to) in pairs {
-                let pair = format!(in alloc; " {}-{}", from.key(), to.key())?;
-                text.push_str(pair.as_str())?;
+                write!(text, " {}-{}", from.key(), to.key()).expect(rt, "memory");
             }
-            Ok(text)
         }
-        BenchFacts::Size(count) => Ok(format!(in alloc; "size {count}")?),
-        BenchFacts::Total(count) => Ok(format!(in alloc; "total {count}")?),
+        BenchFacts::Size(count) => write!(text, "size {count}").expect(rt, "memory"),
+        BenchFacts::Total(count) => write!(text, "total {count}").expect(rt, "memory"),
     }
 }
 
-// The cached facts of the operation, in their order.
-fn cached(
-    alloc: Global,
+// Writes the cached facts of the operation, in their order.
+fn write_cached(
+    rt: &impl Abort,
+    text: &mut String,
     analyses: &AnalysisManager<BenchFacts>,
     op: Ptr<Operation>,
-) -> Result<String, Fail> {
-    let mut text = String::new(alloc);
+) {
     for i in 0..4 {
         let Some(kind) = analyses.cached_kind(i) else {
-            return Ok(text);
+            return;
         };
         if let Some(fact) = analyses.try_get_analysis(kind, op) {
             if i != 0 {
-                text.push_str(", ")?;
+                text.push_str(", ").expect(rt, "memory");
             }
-            text.push_str(told(alloc, fact)?.as_str())?;
+            write_fact(rt, text, fact);
         }
     }
-    Ok(text)
 }
 
-fn facts_in(rt: &impl Abort, alloc: Global, text: &str, ctx: &mut Context) -> Result<String, Fail> {
-    let Some(root) = read_text(alloc, text.as_bytes(), ctx)? else {
-        return Err(Fail::from("unreadable"));
-    };
-    assert!(rt; root.is_live(ctx));
+fn check_fact(rt: &impl Abort, alloc: Global, fact: &BenchFacts, want: &str) {
+    let mut text = String::new(alloc);
+    write_fact(rt, &mut text, fact);
+    assert_eq!(rt; text.as_str(), want);
+}
+
+fn check_cached(
+    rt: &impl Abort,
+    alloc: Global,
+    analyses: &AnalysisManager<BenchFacts>,
+    op: Ptr<Operation>,
+    want: &str,
+) {
+    let mut text = String::new(alloc);
+    write_cached(rt, &mut text, analyses, op);
+    assert_eq!(rt; text.as_str(), want);
+}
+
+fn facts_in(
+    rt: &impl Abort,
+    alloc: Global,
+    case: &str,
+    ctx: &mut Context,
+    analyses: &mut AnalysisManager<BenchFacts>,
+) {
+    let (text, want) = case.split_once(" => ").expect(rt, "an arrow");
+    let root = read(rt, alloc, ctx, text);
+    analyses
+        .compute_analysis(BenchFactKind::Total, root, ctx)
+        .expect(rt, "memory");
+    check_cached(rt, alloc, analyses, root, want);
+}
+
+fn check(rt: &impl Abort, alloc: Global, case: &str) {
+    let mut ctx = Context::new(alloc);
     let mut analyses = AnalysisManager::<BenchFacts>::new(alloc);
-    analyses.compute_analysis(BenchFactKind::Total, root, ctx)?;
-    cached(alloc, &analyses, root)
+    facts_in(rt, alloc, case, &mut ctx, &mut analyses);
 }
 
 #[test]
-fn edges_sizes_and_totals(rt: HostRuntime) -> Result<(), Fail> {
-    let alloc = rt.alloc();
+fn edges_sizes_and_totals(rt: HostRuntime) {
     for case in CASES.lines() {
-        let Some((text, after)) = case.split_once(" => ") else {
-            return Err(Fail::from("no arrow"));
-        };
-        let mut ctx = Context::new(alloc);
-        let said = facts_in(&rt, alloc, text, &mut ctx)?;
-        assert_eq!(rt; said.as_str(), after, "{text}");
+        check(&rt, rt.alloc(), case);
     }
-    Ok(())
+}
+
+// What the caller writes over the total is what stands.
+fn write_total(
+    rt: &impl Abort,
+    alloc: Global,
+    ctx: &Context,
+    op: Ptr<Operation>,
+    analyses: &mut AnalysisManager<BenchFacts>,
+)
+    requires { IsLive ctx.now.tree op }
+{
+    let total = analyses
+        .get_analysis_mut(BenchFactKind::Total, op, ctx)
+        .expect(rt, "memory");
+    check_fact(rt, alloc, total, "total 8");
+    *total = BenchFacts::Total(9);
 }
 
 // After a change that keeps edges a total is computed anew from them.
-fn kept_in(rt: &impl Abort, alloc: Global, ctx: &mut Context) -> Result<(), Fail> {
-    let Some(root) = read_text(alloc, LOOP.as_bytes(), ctx)? else {
-        return Err(Fail::from("unreadable"));
-    };
-    assert!(rt; root.is_live(ctx));
-    let mut analyses = AnalysisManager::<BenchFacts>::new(alloc);
-    let total = analyses.get_analysis(BenchFactKind::Total, root, ctx)?;
-    assert_eq!(rt; told(alloc, total)?.as_str(), "total 8");
-    let answer = analyses.keep_edge_kinds(IRStatus::Changed)?;
+fn keep(
+    rt: &impl Abort,
+    alloc: Global,
+    ctx: &Context,
+    op: Ptr<Operation>,
+    analyses: &mut AnalysisManager<BenchFacts>,
+)
+    requires { IsLive ctx.now.tree op }
+{
+    let total = analyses
+        .get_analysis(BenchFactKind::Total, op, ctx)
+        .expect(rt, "memory");
+    check_fact(rt, alloc, total, "total 8");
+    let answer = analyses
+        .keep_edge_kinds(IRStatus::Changed)
+        .expect(rt, "memory");
     analyses.retain_preserved(&answer);
-    assert_eq!(rt;
-        cached(alloc, &analyses, root)?.as_str(),
-        "edges 0-1 1-1 1-2"
-    );
-    analyses.compute_analysis(BenchFactKind::Total, root, ctx)?;
-    let total = analyses.get_analysis_mut(BenchFactKind::Total, root, ctx)?;
-    assert_eq!(rt; told(alloc, total)?.as_str(), "total 8");
-    *total = BenchFacts::Total(9);
-    let after = "edges 0-1 1-1 1-2, size 5, total 9";
-    assert_eq!(rt; cached(alloc, &analyses, root)?.as_str(), after);
+    check_cached(rt, alloc, analyses, op, "edges 0-1 1-1 1-2");
+    analyses
+        .compute_analysis(BenchFactKind::Total, op, ctx)
+        .expect(rt, "memory");
+}
+
+fn kept_in(
+    rt: &impl Abort,
+    alloc: Global,
+    ctx: &mut Context,
+    analyses: &mut AnalysisManager<BenchFacts>,
+) {
+    let root = read(rt, alloc, ctx, LOOP);
+    keep(rt, alloc, ctx, root, analyses);
+    write_total(rt, alloc, ctx, root, analyses);
+    let want = "edges 0-1 1-1 1-2, size 5, total 9";
+    check_cached(rt, alloc, analyses, root, want);
     analyses.retain_preserved(&PassResult::new(alloc));
-    assert_eq!(rt; cached(alloc, &analyses, root)?.as_str(), after);
-    Ok(())
+    check_cached(rt, alloc, analyses, root, want);
 }
 
 #[test]
-fn edges_are_kept(rt: HostRuntime) -> Result<(), Fail> {
+fn edges_are_kept(rt: HostRuntime) {
     let alloc = rt.alloc();
     let mut ctx = Context::new(alloc);
-    kept_in(&rt, alloc, &mut ctx)
+    let mut analyses = AnalysisManager::<BenchFacts>::new(alloc);
+    kept_in(&rt, alloc, &mut ctx, &mut analyses);
 }

@@ -3,14 +3,14 @@ ghost use Rattle.std.specs.Prelude.{◌≡◌, false, [], ◌∷◌};
 
 use super::cache::kinds;
 use super::facts::Fact;
+use super::lines::{outcome, read};
 use pliron_bench::Bench;
-use pliron_core::{Context, IRStatus, Operation, Ptr};
+use pliron_core::{Context, Operation, Ptr};
 use pliron_dce::dce;
-use pliron_notation::{print_text, read_text};
+use pliron_notation::print_text;
 use pliron_pass::{AnalysisManager, OptError, Pass, PassManager, PassResult, Passes};
 use std::alloc::Global;
 use std::process::Abort;
-use std::test::Fail;
 
 /// Takes out what is dead, and preserves nothing where something was.
 #[derive(Drop)]
@@ -93,65 +93,71 @@ static CASES: &str =
     "func { b0(): x = const 1; br b1(x); b1(a): c = const 7; ret c } => Changed, 1 runs, func { b0(): br b1(); b1(): v0 = const 7; ret v0 }
 func { b0(): x = const 1; br b1(x); b1(a): ret a } => Unchanged 0 1 2, 1 runs, func { b0(): v0 = const 1; br b1(v0); b1(v1): ret v1 }";
 
-fn swept_in(rt: &impl Abort, alloc: Global, text: &str, ctx: &mut Context) -> Result<String, Fail> {
-    let Some(root) = read_text(alloc, text.as_bytes(), ctx)? else {
-        return Err(Fail::from("unreadable"));
-    };
-    assert!(rt; root.is_live(ctx));
-    let mut analyses = AnalysisManager::<Fact>::new(alloc);
-    analyses.compute_analysis(2, root, ctx)?;
-    let answer = PassManager::run_pass(&mut Sweep, alloc, root, ctx, &mut analyses)?;
-    analyses.retain_preserved(&answer);
-    let said = match answer.ir_changed {
-        IRStatus::Changed => "Changed",
-        IRStatus::Unchanged => "Unchanged",
-    };
-    let kept = kinds(rt, alloc, &analyses);
+// What comes of a sweep over the text.
+fn swept_in(
+    rt: &impl Abort,
+    alloc: Global,
+    text: &str,
+    ctx: &mut Context,
+    analyses: &mut AnalysisManager<Fact>,
+) -> String {
+    let root = read(rt, alloc, ctx, text);
+    analyses.compute_analysis(2, root, ctx).expect(rt, "memory");
+    let answer = PassManager::run_pass(&mut Sweep, alloc, root, ctx, analyses);
+    let said = outcome(&answer, analyses);
+    let kept = kinds(rt, alloc, analyses);
     let runs = analyses.pm_data().state().pass_run_count;
-    let left = print_text(alloc, root, ctx)?;
-    Ok(format!(in alloc; "{said}{kept}, {runs} runs, {left}")?)
+    let left = print_text(alloc, root, ctx).expect(rt, "memory");
+    format!(in alloc; "{said}{kept}, {runs} runs, {left}").expect(rt, "memory")
+}
+
+fn check(rt: &impl Abort, alloc: Global, case: &str) {
+    let (text, want) = case.split_once(" => ").expect(rt, "an arrow");
+    let mut ctx = Context::new(alloc);
+    let mut analyses = AnalysisManager::<Fact>::new(alloc);
+    let said = swept_in(rt, alloc, text, &mut ctx, &mut analyses);
+    assert_eq!(rt; said.as_str(), want, "{text}");
 }
 
 #[test]
-fn sweeps(rt: HostRuntime) -> Result<(), Fail> {
-    let alloc = rt.alloc();
+fn sweeps(rt: HostRuntime) {
     for case in CASES.lines() {
-        let Some((text, after)) = case.split_once(" => ") else {
-            return Err(Fail::from("no arrow"));
-        };
-        let mut ctx = Context::new(alloc);
-        let said = swept_in(&rt, alloc, text, &mut ctx)?;
-        assert_eq!(rt; said.as_str(), after, "{text}");
+        check(&rt, rt.alloc(), case);
     }
-    Ok(())
 }
 
-// A line of writers: the last note stands, the cache is kept, and the run that is past the greatest
-// count is not counted.
-fn annotated_in(rt: &impl Abort, alloc: Global, ctx: &mut Context) -> Result<(), Fail> {
-    let Some(root) = read_text(alloc, b"mod {}", ctx)? else {
-        return Err(Fail::from("unreadable"));
-    };
-    assert!(rt; root.is_live(ctx));
-    let mut analyses = AnalysisManager::<Fact>::new(alloc);
-    analyses.pm_data_mut().state_mut().pass_run_count = usize::MAX - 1;
+// A line of writers.
+fn writers(rt: &impl Abort, alloc: Global) -> Passes<Annotate> {
     let mut passes = Passes::new(alloc);
     for note in [5, 7] {
-        if passes.add_pass(Annotate { note }).is_err() {
-            return Err(Fail::from("no room for a pass"));
-        }
+        assert!(rt; passes.add_pass(Annotate { note }).is_ok());
     }
-    let answer = PassManager::run_pass(&mut passes, alloc, root, ctx, &mut analyses)?;
-    assert!(rt; answer.ir_changed == IRStatus::Unchanged);
-    assert_eq!(rt; kinds(rt, alloc, &analyses).as_str(), " 0 1");
-    assert_eq!(rt; analyses.get_analysis(1, root, ctx)?.note, 7);
+    passes
+}
+
+// The last note stands, the cache is kept, and the run that is past the greatest count is not counted.
+fn annotated_in(
+    rt: &impl Abort,
+    alloc: Global,
+    passes: &mut Passes<Annotate>,
+    ctx: &mut Context,
+    analyses: &mut AnalysisManager<Fact>,
+) {
+    let root = read(rt, alloc, ctx, "mod {}");
+    analyses.pm_data_mut().state_mut().pass_run_count = usize::MAX - 1;
+    let answer = PassManager::run_pass(passes, alloc, root, ctx, analyses);
+    assert_eq!(rt; outcome(&answer, analyses), "Unchanged");
+    assert_eq!(rt; kinds(rt, alloc, analyses).as_str(), " 0 1");
+    let fact = analyses.get_analysis(1, root, ctx).expect(rt, "memory");
+    assert_eq!(rt; fact.note, 7);
     assert_eq!(rt; analyses.pm_data().state().pass_run_count, usize::MAX);
-    Ok(())
 }
 
 #[test]
-fn annotates(rt: HostRuntime) -> Result<(), Fail> {
+fn annotates(rt: HostRuntime) {
     let alloc = rt.alloc();
     let mut ctx = Context::new(alloc);
-    annotated_in(&rt, alloc, &mut ctx)
+    let mut analyses = AnalysisManager::<Fact>::new(alloc);
+    let mut passes = writers(&rt, alloc);
+    annotated_in(&rt, alloc, &mut passes, &mut ctx, &mut analyses);
 }

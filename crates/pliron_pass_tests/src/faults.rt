@@ -1,11 +1,10 @@
 //! The first fault of a walk, by a dialect that finds faults of three interfaces.
+use super::lines::read;
 use super::strict::Strict;
 use pliron_core::Context;
-use pliron_notation::read_text;
 use pliron_pass::{OptError, verify_operation};
 use std::alloc::Global;
 use std::process::Abort;
-use std::test::Fail;
 
 // A text, and the code of its first fault.
 static CASES: &str = "func { b0(): a = const 1; ret a } => fit
@@ -18,33 +17,27 @@ func { b0(): a = const 1; scope { b0(): b = const 2; m = mul b b; ret }; ret a }
 func { b0(): a = const 1; cbr a b1() b1(); b1(p): m = mul p p; print m; ret m } => code 1
 mod { b0(): func { b0(): a = const 1; ret a }; func { b0(): m = mul c c; c = const 1; print c; ret m } } => code 3";
 
-fn verified_in(
-    rt: &impl Abort,
-    alloc: Global,
-    text: &str,
-    ctx: &mut Context,
-) -> Result<String, Fail> {
-    let Some(root) = read_text(alloc, text.as_bytes(), ctx)? else {
-        return Err(Fail::from("unreadable"));
+fn check_in(rt: &impl Abort, alloc: Global, case: &str, ctx: &mut Context) {
+    let (text, want) = case.split_once(" => ").expect(rt, "an arrow");
+    let root = read(rt, alloc, ctx, text);
+    let said = match verify_operation::<Strict>(alloc, root, ctx) {
+        Ok(()) => "fit",
+        Err(OptError::Pass(1)) => "code 1",
+        Err(OptError::Pass(2)) => "code 2",
+        Err(OptError::Pass(3)) => "code 3",
+        Err(_) => "another fault",
     };
-    assert!(rt; root.is_live(ctx));
-    match verify_operation::<Strict>(alloc, root, ctx) {
-        Ok(()) => Ok("fit".to_string(alloc)?),
-        Err(OptError::Pass(code)) => Ok(format!(in alloc; "code {code}")?),
-        Err(_) => Ok("another fault".to_string(alloc)?),
-    }
+    assert_eq!(rt; said, want, "{text}");
+}
+
+fn check(rt: &impl Abort, alloc: Global, case: &str) {
+    let mut ctx = Context::new(alloc);
+    check_in(rt, alloc, case, &mut ctx);
 }
 
 #[test]
-fn first_faults(rt: HostRuntime) -> Result<(), Fail> {
-    let alloc = rt.alloc();
+fn first_faults(rt: HostRuntime) {
     for case in CASES.lines() {
-        let Some((text, after)) = case.split_once(" => ") else {
-            return Err(Fail::from("no arrow"));
-        };
-        let mut ctx = Context::new(alloc);
-        let said = verified_in(&rt, alloc, text, &mut ctx)?;
-        assert_eq!(rt; said.as_str(), after, "{text}");
+        check(&rt, rt.alloc(), case);
     }
-    Ok(())
 }

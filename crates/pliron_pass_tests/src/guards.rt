@@ -2,20 +2,19 @@
 ghost use Rattle.std.specs.Prelude.{true};
 
 use super::facts::Fact;
+use super::lines::read;
 use super::passes::{FailAlways, Idle, Tally, Touch};
 use pliron_bench::Bench;
 use pliron_core::{Context, IRStatus, Operation, Ptr};
 use pliron_laws::Interface;
-use pliron_notation::read_text;
 use pliron_pass::{
     AnalysisManager, Guard, GuardedPass, OpInterfaceGuard, OpInterfacePass, OptError, PMConfig,
     PMData, PMState, PassManager, Repeat,
 };
 use std::alloc::Global;
 use std::process::Abort;
-use std::test::Fail;
 
-static TEXT: &[u8] = b"func { b0(): c = const 1; ret c }";
+static TEXT: &str = "func { b0(): c = const 1; ret c }";
 
 /// Allows every operation.
 #[derive(Default, Drop)]
@@ -29,105 +28,120 @@ impl Guard for Everywhere {
     }
 }
 
-// How often the counting pass ran under a guard that asks for this interface, where it had run once.
+// Runs the counting pass, which had run once, under the guard. It has run this often then.
 fn guarded_in(
     rt: &impl Abort,
     alloc: Global,
-    interface: Interface,
+    pass: &mut OpInterfacePass<Bench, Tally>,
     ctx: &mut Context,
-) -> Result<usize, Fail> {
-    let Some(root) = read_text(alloc, TEXT, ctx)? else {
-        return Err(Fail::from("unreadable"));
-    };
-    assert!(rt; root.is_live(ctx));
+    analyses: &mut AnalysisManager<Fact>,
+    want: usize,
+) {
+    let root = read(rt, alloc, ctx, TEXT);
+    pass.runs = 1;
+    let answer = PassManager::run_pass(pass, alloc, root, ctx, analyses).expect(rt, "memory");
+    assert!(rt; answer.ir_changed == IRStatus::Unchanged);
+    assert_eq!(rt; pass.runs, want);
+}
+
+fn check_guard(rt: &impl Abort, alloc: Global, interface: Interface, want: usize) {
+    let mut ctx = Context::new(alloc);
     let mut analyses = AnalysisManager::<Fact>::new(alloc);
     let guard = OpInterfaceGuard::new(interface);
     let mut pass: OpInterfacePass<Bench, Tally> = GuardedPass::new(guard, Tally { runs: 0 });
-    pass.runs = 1;
-    let answer = PassManager::run_pass(&mut pass, alloc, root, ctx, &mut analyses)?;
-    assert!(rt; answer.ir_changed == IRStatus::Unchanged);
-    Ok(pass.runs)
+    guarded_in(rt, alloc, &mut pass, &mut ctx, &mut analyses, want);
 }
 
 #[test]
-fn guards_of_interfaces(rt: HostRuntime) -> Result<(), Fail> {
-    let alloc = rt.alloc();
-    let mut ctx = Context::new(alloc);
-    assert_eq!(rt;
-        guarded_in(&rt, alloc, Interface::BlockArgRemoval, &mut ctx)?,
-        2
-    );
-    assert_eq!(rt; guarded_in(&rt, alloc, Interface::Terminator, &mut ctx)?, 1);
-    Ok(())
+fn guards_of_interfaces(rt: HostRuntime) {
+    check_guard(&rt, rt.alloc(), Interface::BlockArgRemoval, 2);
+    check_guard(&rt, rt.alloc(), Interface::Terminator, 1);
 }
 
-fn default_in(rt: &impl Abort, alloc: Global, ctx: &mut Context) -> Result<(), Fail> {
-    let Some(root) = read_text(alloc, TEXT, ctx)? else {
-        return Err(Fail::from("unreadable"));
-    };
-    assert!(rt; root.is_live(ctx));
-    let mut analyses = AnalysisManager::<Fact>::new(alloc);
+fn default_in(
+    rt: &impl Abort,
+    alloc: Global,
+    ctx: &mut Context,
+    analyses: &mut AnalysisManager<Fact>,
+) {
+    let root = read(rt, alloc, ctx, TEXT);
     let mut pass = GuardedPass::<Everywhere, Idle>::default();
-    PassManager::run_pass(&mut pass, alloc, root, ctx, &mut analyses)?;
+    let answer = PassManager::run_pass(&mut pass, alloc, root, ctx, analyses);
+    assert!(rt; answer.is_ok());
     assert_eq!(rt; analyses.pm_data().state().pass_run_count, 1);
-    Ok(())
 }
 
 #[test]
-fn default_guard(rt: HostRuntime) -> Result<(), Fail> {
+fn default_guard(rt: HostRuntime) {
     let alloc = rt.alloc();
     let mut ctx = Context::new(alloc);
-    default_in(&rt, alloc, &mut ctx)
+    let mut analyses = AnalysisManager::<Fact>::new(alloc);
+    default_in(&rt, alloc, &mut ctx, &mut analyses);
 }
 
-// A pass that changes something each time runs as often as it may; one that fails runs once, is counted
-// once, and leaves an empty cache.
-fn repeated_in(rt: &impl Abort, alloc: Global, max: usize, ctx: &mut Context) -> Result<(), Fail> {
-    let Some(root) = read_text(alloc, TEXT, ctx)? else {
-        return Err(Fail::from("unreadable"));
-    };
-    assert!(rt; root.is_live(ctx));
-    let mut analyses = AnalysisManager::<Fact>::new(alloc);
+// A pass that changes something each time runs as often as it may.
+fn repeated_in(
+    rt: &impl Abort,
+    alloc: Global,
+    max: usize,
+    ctx: &mut Context,
+    analyses: &mut AnalysisManager<Fact>,
+) {
+    let root = read(rt, alloc, ctx, TEXT);
     let mut pass = Repeat::new(max, Touch);
     assert_eq!(rt; pass.runs(), 0);
-    PassManager::run_pass(&mut pass, alloc, root, ctx, &mut analyses)?;
+    let answer = PassManager::run_pass(&mut pass, alloc, root, ctx, analyses);
+    assert!(rt; answer.is_ok());
     assert_eq!(rt; pass.runs(), max);
-    Ok(())
 }
 
-fn failing_in(rt: &impl Abort, alloc: Global, ctx: &mut Context) -> Result<(), Fail> {
-    let Some(root) = read_text(alloc, TEXT, ctx)? else {
-        return Err(Fail::from("unreadable"));
-    };
-    assert!(rt; root.is_live(ctx));
-    let mut analyses = AnalysisManager::<Fact>::new(alloc);
-    analyses.compute_analysis(1, root, ctx)?;
+// One that fails runs once, is counted once, and leaves an empty cache.
+fn failing_in(
+    rt: &impl Abort,
+    alloc: Global,
+    ctx: &mut Context,
+    analyses: &mut AnalysisManager<Fact>,
+) {
+    let root = read(rt, alloc, ctx, TEXT);
+    analyses.compute_analysis(1, root, ctx).expect(rt, "memory");
     let mut pass = Repeat::new(5, FailAlways { code: 9 });
-    match PassManager::run_pass(&mut pass, alloc, root, ctx, &mut analyses) {
-        Err(OptError::Pass(9)) => {}
-        _ => return Err(Fail::from("another answer")),
-    }
+    let answer = PassManager::run_pass(&mut pass, alloc, root, ctx, analyses);
+    assert!(rt; answer.err() == Some(OptError::Pass(9)));
     assert_eq!(rt; pass.runs(), 1);
     assert_eq!(rt; analyses.cached_kind(0), None);
     assert_eq!(rt; analyses.pm_data().state().pass_run_count, 1);
-    Ok(())
+}
+
+fn check_repeated(rt: &impl Abort, alloc: Global, max: usize) {
+    let mut ctx = Context::new(alloc);
+    let mut analyses = AnalysisManager::<Fact>::new(alloc);
+    repeated_in(rt, alloc, max, &mut ctx, &mut analyses);
 }
 
 #[test]
-fn repeated(rt: HostRuntime) -> Result<(), Fail> {
+fn repeated(rt: HostRuntime) {
+    check_repeated(&rt, rt.alloc(), 0);
+    check_repeated(&rt, rt.alloc(), 4);
+}
+
+#[test]
+fn repeated_failing(rt: HostRuntime) {
     let alloc = rt.alloc();
     let mut ctx = Context::new(alloc);
-    repeated_in(&rt, alloc, 0, &mut ctx)?;
-    repeated_in(&rt, alloc, 4, &mut ctx)?;
-    failing_in(&rt, alloc, &mut ctx)
+    let mut analyses = AnalysisManager::<Fact>::new(alloc);
+    failing_in(&rt, alloc, &mut ctx, &mut analyses);
 }
 
 #[test]
-fn what_managers_share(rt: HostRuntime) -> Result<(), Fail> {
-    let alloc = rt.alloc();
-    let state = PMState::new(alloc);
+fn new_state(rt: HostRuntime) {
+    let state = PMState::new(rt.alloc());
     assert_eq!(rt; state.pass_run_count, 0);
     assert!(rt; state.stats.is_empty());
+}
+
+#[test]
+fn what_managers_share(rt: HostRuntime) {
+    let alloc = rt.alloc();
     let mut data = PMData::new(alloc);
     assert!(rt; !data.config().verify_after_all);
     let mut config = PMConfig::new(alloc);
@@ -136,5 +150,4 @@ fn what_managers_share(rt: HostRuntime) -> Result<(), Fail> {
     data.set_config(config);
     assert!(rt; data.config().verify_after_all);
     assert_eq!(rt; data.state().pass_run_count, 3);
-    Ok(())
 }

@@ -102,8 +102,8 @@ fn take_word(
     }
 }
 
-// What is said of a run, where the caller keeps of the cache what the answer preserves.
-fn outcome(
+/// What is said of a run, where the caller keeps of the cache what the answer preserves.
+pub fn outcome(
     answer: &Result<PassResult<u32>, OptError>,
     analyses: &mut AnalysisManager<Fact>,
 ) -> &'static str {

@@ -1,26 +1,24 @@
 //! What a refusal of memory leaves. With ample memory nothing is refused here; `rt try --test` with
 //! `--fail-alloc N` refuses the Nth request.
+use super::cache::kinds;
 use super::facts::Fact;
+use super::lines::read;
 use super::passes::Tally;
-use pliron_core::{Context, IRStatus, Operation, Ptr};
-use pliron_notation::read_text;
+use pliron_core::{Context, IRStatus};
 use pliron_pass::{AnalysisManager, BenchFactKind, BenchFacts, PassResult, Passes};
 use std::alloc::Global;
 use std::process::Abort;
-use std::test::Fail;
 
-fn read(alloc: Global, ctx: &mut Context) -> Result<Ptr<Operation>, Fail> {
-    match read_text(alloc, b"func { b0(): br b1(); b1(): ret }", ctx)? {
-        Some(root) => Ok(root),
-        None => Err(Fail::from("unreadable")),
-    }
-}
+static TEXT: &str = "func { b0(): br b1(); b1(): ret }";
 
 // The edges, the size and the total are cached in this order, as far as they came.
-fn computed_in(rt: &impl Abort, alloc: Global, ctx: &mut Context) -> Result<(), Fail> {
-    let root = read(alloc, ctx)?;
-    assert!(rt; root.is_live(ctx));
-    let mut analyses = AnalysisManager::<BenchFacts>::new(alloc);
+fn computed_in(
+    rt: &impl Abort,
+    alloc: Global,
+    ctx: &mut Context,
+    analyses: &mut AnalysisManager<BenchFacts>,
+) {
+    let root = read(rt, alloc, ctx, TEXT);
     let went_well = analyses
         .compute_analysis(BenchFactKind::Total, root, ctx)
         .is_ok();
@@ -38,45 +36,46 @@ fn computed_in(rt: &impl Abort, alloc: Global, ctx: &mut Context) -> Result<(), 
         }
     }
     assert_eq!(rt; count == 3, went_well);
-    Ok(())
 }
 
 #[test]
-fn computing(rt: HostRuntime) -> Result<(), Fail> {
+fn computing(rt: HostRuntime) {
     let alloc = rt.alloc();
     let mut ctx = Context::new(alloc);
-    computed_in(&rt, alloc, &mut ctx)
+    let mut analyses = AnalysisManager::<BenchFacts>::new(alloc);
+    computed_in(&rt, alloc, &mut ctx, &mut analyses);
 }
 
 // A kind is preserved, or the answer is as before.
-fn preserved_in(rt: &impl Abort, alloc: Global, ctx: &mut Context) -> Result<(), Fail> {
-    let root = read(alloc, ctx)?;
-    assert!(rt; root.is_live(ctx));
-    let mut analyses = AnalysisManager::<Fact>::new(alloc);
-    analyses.compute_analysis(1, root, ctx)?;
-    let mut answer = PassResult::<u32>::new(alloc);
+fn preserved_in(
+    rt: &impl Abort,
+    alloc: Global,
+    ctx: &mut Context,
+    analyses: &mut AnalysisManager<Fact>,
+    answer: &mut PassResult<u32>,
+) {
+    let root = read(rt, alloc, ctx, TEXT);
+    analyses.compute_analysis(1, root, ctx).expect(rt, "memory");
     answer.ir_changed = IRStatus::Changed;
     let went_well = answer.set_preserved(1).is_ok();
     assert!(rt; answer.ir_changed == IRStatus::Changed);
-    analyses.retain_preserved(&answer);
-    assert_eq!(rt;
-        analyses.cached_kind(0),
-        if went_well { Some(1) } else { None }
-    );
-    assert_eq!(rt; analyses.cached_kind(1), None);
-    Ok(())
+    analyses.retain_preserved(answer);
+    let want = if went_well { " 1" } else { "" };
+    assert_eq!(rt; kinds(rt, alloc, analyses).as_str(), want);
 }
 
 #[test]
-fn preserving(rt: HostRuntime) -> Result<(), Fail> {
+fn preserving(rt: HostRuntime) {
     let alloc = rt.alloc();
     let mut ctx = Context::new(alloc);
-    preserved_in(&rt, alloc, &mut ctx)
+    let mut analyses = AnalysisManager::<Fact>::new(alloc);
+    let mut answer = PassResult::<u32>::new(alloc);
+    preserved_in(&rt, alloc, &mut ctx, &mut analyses, &mut answer);
 }
 
 // A pass that there is no room for comes back as it was.
 #[test]
-fn adding(rt: HostRuntime) -> Result<(), Fail> {
+fn adding(rt: HostRuntime) {
     let alloc = rt.alloc();
     let mut passes = Passes::new(alloc);
     for runs in 0..9 {
@@ -84,5 +83,4 @@ fn adding(rt: HostRuntime) -> Result<(), Fail> {
             assert_eq!(rt; back.runs, runs);
         }
     }
-    Ok(())
 }
