@@ -8,7 +8,7 @@ use Rattle.pliron_core.specs.Tree.{Tree, IsLive, IsBlock, IsRegion, IsDefined, n
 use Rattle.pliron_core.specs.Joined.{HaveSameKeys}
 use Rattle.pliron_core.specs.Writes.{created, block_created, operand_pushed, successor_pushed}
 use Rattle.pliron_core.proofs.GrownLemmas.{slice_get_kept}
-use Rattle.pliron_core.proofs.MoveLemmas.{set-other}
+use Rattle.pliron_core.proofs.TableLemmas.{set-other}
 use Rattle.pliron_core.proofs.HoldingLemmas.{not_none, slot_is, region_by, holder_is, holder_by}
 use Rattle.pliron_core.proofs.CreatedLemmas.{defined_kept}
 use Rattle.pliron_notation.specs.Building.{Keeps, IsMore, IsKept, appended}
