@@ -1,12 +1,13 @@
 #!/usr/bin/env python3
 """Programs of known shapes, to measure optimisations.
 
-  shapes.py SHAPE N bench|llvm      a text of about N operations
-  shapes.py list                    the names of the shapes
+  shapes.py SHAPE N bench|llvm|mlir  a text of about N operations
+  shapes.py list                     the names of the shapes
 
-One program is built and printed in two notations, so that both optimisers see the same control flow: in
-that of this repository, with the shortest names and no blanks, and in LLVM's, where an argument of a
-block is a phi and a constant stands where it is used, so that there are fewer operations.
+One program is built and printed in three notations, so that all optimisers see the same control flow: in
+that of this repository, with the shortest names and no blanks; in LLVM's, where an argument of a block is
+a phi and a constant stands where it is used, so that there are fewer operations; and in that of MLIR 14
+(dialects `builtin`, `std` and `arith`), which compares a condition with zero before it branches.
 """
 import random
 import sys
@@ -480,7 +481,54 @@ def llvm_fn(n, f, w):
     w("}\n")
 
 
-PRINT = {"bench": bench, "llvm": llvm}
+def mlir(fns, w):
+    w("module {\nfunc private @read() -> i64\nfunc private @print(i64)\n")
+    for n, f in enumerate(fns):
+        mlir_fn(n, f, w)
+    w("}\n")
+
+
+def mlir_fn(n, f, w):
+    def values(xs):
+        return ", ".join(f"%v{x}" for x in xs)
+
+    def typed(xs):
+        return f"({values(xs)} : {types(len(xs))})" if xs else ""
+
+    def types(count):
+        return ", ".join(["i64"] * count)
+
+    def edge(e):
+        return f"^b{e[0].id}" + typed(list(e[1]))
+
+    nret = max(len(b.term[1]) for b in f.blocks if b.term[0] == "ret")
+    w(f"func @f{n}(" + ", ".join(f"%v{x}: i64" for x in f.entry.args) + f") -> ({types(nret)}) {{\n")
+    w("  %zero = arith.constant 0 : i64\n")
+    for b in f.blocks:
+        if b is not f.entry:
+            w(f"^b{b.id}" + (f"({', '.join(f'%v{x}: i64' for x in b.args)})" if b.args else "") + ":\n")
+        for kind, r, a in b.ops:
+            if kind == "const":
+                w(f"  %v{r} = arith.constant {a} : i64\n")
+            elif kind == "read":
+                w(f"  %v{r} = call @read() : () -> i64\n")
+            elif kind == "print":
+                w(f"  call @print(%v{a[0]}) : (i64) -> ()\n")
+            else:
+                name = {"add": "addi", "mul": "muli", "div": "divsi"}[kind]
+                w(f"  %v{r} = arith.{name} {values(a)} : i64\n")
+        t = b.term
+        if t[0] == "br":
+            w(f"  br {edge(t[1])}\n")
+        elif t[0] == "cbr":
+            w(f"  %c{b.id} = arith.cmpi ne, %v{t[1]}, %zero : i64\n")
+            w(f"  cond_br %c{b.id}, {edge(t[2])}, {edge(t[3])}\n")
+        else:
+            w("  return" + (f" {values(t[1])} : {types(len(t[1]))}" if t[1] else "") + "\n")
+    w("}\n")
+
+
+PRINT = {"bench": bench, "llvm": llvm, "mlir": mlir}
 
 
 def text_of(shape, n, notation):

@@ -1,5 +1,5 @@
 #!/usr/bin/env python3
-"""Times of `plir_opt` beside LLVM's `opt` on the programs of shapes.py, and tables of them.
+"""Times of `plir_opt` beside LLVM's `opt` and `mlir-opt` on the programs of shapes.py, and tables of them.
 
   times.py PLIR_OPT LIST OPT_PASSES..         milliseconds of the whole process
   times.py PLIR_OPT LIST count OPT_PASSES..   counted instructions (needs valgrind)
@@ -7,7 +7,7 @@
   times.py growth COUNTS..                    the counts of several lists as one table of Markdown
 
 LIST is what `plir_opt` is given, as `sccp,dce,simplify-cfg`, and each of OPT_PASSES what `opt -passes=`
-is. The first two write one line for each shape, which `table` reads from files:
+is, or behind `mlir:` what `mlir-opt` is, as `mlir:sccp,canonicalize`. The first two write one line for each shape, which `table` reads from files:
 
   times.py ../../crates/plir_opt/out/plir_opt dce dce adce > dce.times
   times.py ../../crates/plir_opt/out/plir_opt dce count > dce.counts
@@ -51,8 +51,12 @@ def counted(program, path):
     return int(re.search(rb"Collected : (\d+)", said)[1])
 
 
-def opt(passes):
-    return ["opt", f"-passes={passes}", "-S", "-o", "/dev/null"]
+def theirs(passes):
+    """The command and its notation."""
+    if passes.startswith("mlir:"):
+        words = [f"--{name}" for name in passes[len("mlir:"):].split(",")]
+        return [os.environ.get("MLIR_OPT", "mlir-opt"), "--mlir-disable-threading", *words, "-o", "/dev/null"], "mlir"
+    return ["opt", f"-passes={passes}", "-S", "-o", "/dev/null"], "llvm"
 
 
 def write(shape, n, notation, folder):
@@ -65,9 +69,11 @@ def write(shape, n, notation, folder):
 def timed(shape, program, passes, folder):
     """The cells `NAME=MILLISECONDS`, ours by the number of operations and LLVM's by its passes."""
     ours = [(n, least(program, write(shape, n, "bench", folder))) for n in SIZES]
-    path = write(shape, SIZES[-1], "llvm", folder)
-    theirs = [(p, least(opt(p), path)) for p in passes]
-    return [f"{name}={time:.1f}" for name, time in ours + theirs]
+    others = []
+    for name in passes:
+        command, notation = theirs(name)
+        others.append((name, least(command, write(shape, SIZES[-1], notation, folder))))
+    return [f"{name}={time:.1f}" for name, time in ours + others]
 
 
 def counts(shape, program, folder):
@@ -76,9 +82,12 @@ def counts(shape, program, folder):
 
 
 def counts_of_opt(shape, passes, folder):
-    """The cells `PASSES=INSTRUCTIONS` of LLVM's `opt` at the most operations."""
-    path = write(shape, SIZES[-1], "llvm", folder)
-    return [f"{p}={counted(opt(p), path)}" for p in passes]
+    """The cells `PASSES=INSTRUCTIONS` of `opt` or `mlir-opt` at the most operations."""
+    cells = []
+    for name in passes:
+        command, notation = theirs(name)
+        cells.append(f"{name}={counted(command, write(shape, SIZES[-1], notation, folder))}")
+    return cells
 
 
 def rows_of(path):

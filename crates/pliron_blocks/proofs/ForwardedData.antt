@@ -26,7 +26,7 @@ use Rattle.pliron_theory.proofs.Reached.{reached_holds}
 use Rattle.pliron_theory.proofs.Reading.{ready_when_reached}
 use Rattle.pliron_blocks.specs.Forwarding.{LeadsAlone}
 use Rattle.pliron_blocks.proofs.Ways.{Misses, misses}
-use Rattle.pliron_blocks.proofs.Bindings.{bind_other, bind_at, bind_has_datum}
+use Rattle.pliron_laws.proofs.BindingLemmas.{bind_other, bind_at, bind_has_datum}
 use Rattle.pliron_blocks.proofs.ForwardedUses.{jump_in, region, outer, jump_holder, held, b_region, leads_only, home_held}
 
 -- the jump hands the value on as argument i

@@ -18,7 +18,7 @@ use Rattle.pliron_theory.proofs.JumpsNow.{jumps_now}
 use Rattle.pliron_theory.proofs.Reading.{ready_when_reached}
 use Rattle.pliron_theory.proofs.ReplacedKeeps.{replaced_keeps}
 use Rattle.pliron_blocks.specs.Forwarding.{LeadsAlone, ForwardingLaw}
-use Rattle.pliron_blocks.proofs.Bindings.{data_at}
+use Rattle.pliron_laws.proofs.BindingLemmas.{data_at}
 use Rattle.pliron_blocks.proofs.ForwardedUses.{region, held, jump_in, jump_of_b, b_of_p, may_use}
 use Rattle.pliron_blocks.proofs.ForwardedData.{HandsOn, same_datum}
 

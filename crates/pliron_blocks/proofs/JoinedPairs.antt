@@ -30,7 +30,8 @@ use Rattle.pliron_blocks.specs.Pairs.{IsMergeable, all_moved_last, joined}
 use Rattle.pliron_blocks.proofs.PairEdges.{leads_alone}
 use Rattle.pliron_blocks.specs.Cutting.{is_listed, stands_in_one, cut_op, cut_block, ErasesAll.Done, ErasesAll.Then, AreCut}
 use Rattle.pliron_blocks.proofs.CutBlocks.{nothing_met, listed, is_listed_in, one_stands, cut_all}
-use Rattle.pliron_blocks.proofs.ListLemmas.{rising_same, swept_end}
+use Rattle.pliron_laws.proofs.RisingLemmas.{rising_same}
+use Rattle.pliron_blocks.proofs.ListLemmas.{swept_end}
 use Rattle.pliron_blocks.specs.Joining.{JoinsWell, JoiningLaw}
 use Rattle.pliron_blocks.proofs.MovedBodies.{IsMoving, all_moved}
 

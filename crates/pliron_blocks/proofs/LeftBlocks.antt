@@ -17,7 +17,8 @@ use Rattle.pliron_theory.proofs.SweptLists.{swept_all, in_swept, from_swept}
 use Rattle.pliron_theory.proofs.SweptKeeps.{swept_keeps}
 use Rattle.pliron_blocks.specs.Cutting.{is_listed, stands_in_one, cut_op, cut_block, ErasesAll, AreCut}
 use Rattle.pliron_blocks.specs.Leaving.{DropsAll, DropsAll.Done, DropsAll.Then, MayGo, GoesWell, LeavingLaw}
-use Rattle.pliron_blocks.proofs.ListLemmas.{rising_same, rising_swept}
+use Rattle.pliron_laws.proofs.RisingLemmas.{rising_same}
+use Rattle.pliron_blocks.proofs.ListLemmas.{rising_swept}
 use Rattle.pliron_blocks.proofs.CutBlocks.{or_true, block_cases, listed, stands_one, one_stands, cut_all}
 
 -- dropping changes names alone, and none of what is left

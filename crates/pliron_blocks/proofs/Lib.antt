@@ -1,5 +1,4 @@
 pub mod ListLemmas
-pub mod Bindings
 pub mod Ways
 pub mod ForwardedUses
 pub mod ForwardedData

@@ -10,6 +10,8 @@ pub mod ComponentLawLemmas
 pub mod CollectLemmas
 pub mod SearchAllLemmas
 pub mod OrderLemmas
+pub mod ByNumberLemmas
+pub mod NamedLemmas
 pub mod TakingLemmas
 pub mod PartLemmas
 pub mod ReverseLemmas

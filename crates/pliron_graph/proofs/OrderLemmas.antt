@@ -17,7 +17,7 @@ use Rattle.pliron_graph.proofs.CollectLemmas.{apart_from}
 
 module _ {N : Type 0} (eq : N → N → Bool) (laws : IsEquivalence eq) (same : (x y : N) → eq x y ≡ true → x ≡ y) where
   -- an item of a list without repeats stands once
-  stands_once : (xs : List N) (i j : ℕ) (v : N) → IsDistinct eq xs → i < j → slice_get xs i ≡ Some v → slice_get xs j ≡ Some v → ⊥
+  pub stands_once : (xs : List N) (i j : ℕ) (v : N) → IsDistinct eq xs → i < j → slice_get xs i ≡ Some v → slice_get xs j ≡ Some v → ⊥
   unfolding IsDistinct
   stands_once [] i j v h l a b = absurd (cc a)
   stands_once (x ∷ xs) i zero v h l a b = absurd (omega (arith, l))

@@ -6,10 +6,11 @@ use Rattle.std.specs.List.{list_any, All}
 use Rattle.std.proofs.lemmas.List.Elements.{Contains-get_or}
 use Rattle.pliron_search.specs.Digraph.{Digraph, IsLawful, IsPath, IsReached}
 use Rattle.pliron_search.specs.Search.{IsSearch, IsListed, number_in}
-use Rattle.pliron_graph.specs.Components.{AreComponents, entry_then_nodes}
+use Rattle.pliron_graph.specs.Components.{entry_then_nodes}
 use Rattle.pliron_graph.specs.declared.components.Scc.{Scc}
 use Rattle.pliron_search.specs.Internal.Membership.{In, in_from, contains_from, in_cases, any_from_in, not_in_from_any, in_from_any}
-use Rattle.pliron_graph.specs.Internal.Collecting.{IsTaken, LeadsOutside}
+use Rattle.pliron_search.specs.Internal.Forest.{Grew}
+use Rattle.pliron_graph.specs.Internal.Collecting.{IsTaken, LeadsOutside, AreFound}
 use Rattle.pliron_graph.proofs.ItemLemmas.{in_from_item, item_left, item_right, place_of_item}
 use Rattle.pliron_graph.proofs.ComponentLemmas.{AreTaken, none_taken, passed, one_more}
 use Rattle.pliron_graph.proofs.ComponentLawLemmas.{node_reached}
@@ -82,22 +83,25 @@ module _ {N : Type 0} (eq : N → N → Bool) (g : Digraph N) (lawful : IsLawful
           (subst (AreTaken g (entry_then_nodes g) (number_in eq pre) (number_in eq post) (held ++ added) (cs ++ c ∷ [])) root_number
           (one_more g (entry_then_nodes g) (number_in eq pre) (number_in eq post) (length pre) search.numbering held added cs c root root_reached (not_in_from_any eq lawful.same laws.refl held root unheld) (before held cs t) collected complete taken.same taken.falls taken.cyclic))
 
-    pub finish : (held : List N) (cs : List (Scc N)) → AreTaken g (entry_then_nodes g) (number_in eq pre) (number_in eq post) held cs 0 → AreComponents eq g cs
-    finish held cs t = record {
-      orders = record { pre = pre; post = post };
-      search = search;
-      not_empty = λ c h. let k = t.leads c (in_from cs c h) in filled c.nodes.items k.0 k.1;
-      covers = λ v. (
-        λ h. elim (t.late v (node_reached g v (in_from g.nodes v h))) [
-          | inl k ↦ let c = t.covers v k in (c.0, contains_from cs c.0 c.1, contains_from c.0.nodes.items v c.2)
-          | inr l ↦ absurd (omega (arith, l))
-        ],
-        λ h. reached_inside v (t.reached v (t.inside h.0 v (in_from cs h.0 h.1) (in_from h.0.nodes.items v h.2))),
-      );
-      shares = λ c u v h hu. let k = t.shares c u v (in_from cs c h) (in_from c.nodes.items u hu) in (λ hv. k.0 (in_from c.nodes.items v hv), λ m. contains_from c.nodes.items v (k.1 m));
-      ordered = t.ordered;
-      members = λ c h. t.members c (in_from cs c h);
-      cyclic = λ c h. t.cyclic c (in_from cs c h);
+    pub finish : Grew eq g (entry_then_nodes g) [] [] pre post → (held : List N) (cs : List (Scc N)) → AreTaken g (entry_then_nodes g) (number_in eq pre) (number_in eq post) held cs 0 → AreFound eq g cs
+    finish grew held cs t = record {
+      are = record {
+        orders = record { pre = pre; post = post };
+        search = search;
+        not_empty = λ c h. let k = t.leads c (in_from cs c h) in filled c.nodes.items k.0 k.1;
+        covers = λ v. (
+          λ h. elim (t.late v (node_reached g v (in_from g.nodes v h))) [
+            | inl k ↦ let c = t.covers v k in (c.0, contains_from cs c.0 c.1, contains_from c.0.nodes.items v c.2)
+            | inr l ↦ absurd (omega (arith, l))
+          ],
+          λ h. reached_inside v (t.reached v (t.inside h.0 v (in_from cs h.0 h.1) (in_from h.0.nodes.items v h.2))),
+        );
+        shares = λ c u v h hu. let k = t.shares c u v (in_from cs c h) (in_from c.nodes.items u hu) in (λ hv. k.0 (in_from c.nodes.items v hv), λ m. contains_from c.nodes.items v (k.1 m));
+        ordered = t.ordered;
+        members = λ c h. t.members c (in_from cs c h);
+        cyclic = λ c h. t.cyclic c (in_from cs c h);
+      };
+      grew = grew;
     }
       where
         filled : (xs : List N) (v : N) → In xs v → 0 < length xs

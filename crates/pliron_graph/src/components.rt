@@ -1,17 +1,17 @@
 //! Strongly connected components.
-ghost use Rattle.std.specs.Prelude.{◌≡◌, ◌↔◌, ◌++◌, false, Contains, IsTrue, IfOk, OnOk, IsOkUnless, length, reverse, map};
-ghost use Rattle.std.specs.List.{All, IsDistinct};
-ghost use Rattle.indexmap.specs.IndexSet.{contains};
+ghost use Rattle.std.specs.Prelude.{◌≡◌, ◌↔◌, ◌++◌, ◌<◌, [], false, Contains, IsTrue, IfOk, OnOk, IsOkUnless, Some, length, reverse, map, slice_get};
+ghost use Rattle.std.specs.List.{All, IsDistinct, list_any};
 ghost use Rattle.pliron_graph.specs.Components.{AreComponents, IsCyclic, Falls, entry_then_nodes};
-ghost use Rattle.pliron_search.specs.Search.{IsSearch, IsListed, number_in};
-ghost use Rattle.pliron_graph.specs.Internal.Collecting.{TakesIn, Collects, IsTaken};
+ghost use Rattle.pliron_search.specs.Search.{IsListed, number_in};
+ghost use Rattle.pliron_search.specs.Internal.Forest.{Grew};
+ghost use Rattle.pliron_graph.specs.Internal.Collecting.{TakesIn, Collects, IsTaken, AreFound};
+ghost use Rattle.pliron_graph.specs.Internal.Named.{AreNamed};
 
 use indexmap::IndexSet;
 use pliron_laws::OptError;
-use pliron_search::ControlFlowGraph;
 use pliron_search::search::walk;
+use pliron_search::{AdjacencyList, ControlFlowGraph, ListedSet, NumberSet};
 use std::alloc::Global;
-use std::hash::Hash;
 
 /// A strongly connected component.
 #[derive(Debug, Drop)]
@@ -29,7 +29,8 @@ pub struct Scc<N> {
 /// stand by falling pre-order number. Its only error is want of memory.
 ///
 /// Two passes: a search gives the orders; then the nodes are taken by falling post-order number, and the nodes that lead to one over
-/// nodes without a component are its component. Cost: a few table look-ups for each node and each edge, and a sort of each component.
+/// nodes without a component are its component. Cost: a few reads for each node and each edge of a graph that has numbers, and as many
+/// look-ups in a hashed table of any other; and a sort of each component.
 /// Source: M. Sharir, A strong-connectivity algorithm and its applications in data flow analysis, 1981.
 pub fn sccs_in_topological_order<C, G: ControlFlowGraph<C>>(
     alloc: Global,
@@ -40,8 +41,60 @@ pub fn sccs_in_topological_order<C, G: ControlFlowGraph<C>>(
     ensures components { IfOk result (λ r. AreComponents G.Node.eq (G.graph graph.now ctx.now) r.items) }
     ensures memory { IsOkUnless result OptError.Memory }
 {
-    let (pre, post) = search_all(alloc, ctx, graph)?;
+    let Some(lists) = graph.by_number(ctx) else {
+        return find_components::<C, G, IndexSet<G::Node>>(alloc, ctx, graph);
+    };
+    let nodes = graph.nodes(alloc, ctx)?;
+    let found = find_components::<(), AdjacencyList, NumberSet>(alloc, &(), lists)?;
+    named(alloc, &nodes, &found)
+}
+
+// The components, by sets of this kind.
+fn find_components<C, G: ControlFlowGraph<C>, S: ListedSet<G::Node>>(
+    alloc: Global,
+    ctx: &C,
+    graph: &G,
+) -> Result<Vec<Scc<G::Node>>, OptError>
+    requires { G.is_lawful graph.now ctx.now }
+    ensures found { IfOk result (λ r. AreFound G.Node.eq (G.graph graph.now ctx.now) r.items) }
+    ensures memory { IsOkUnless result OptError.Memory }
+{
+    let (pre, post) = search_all::<C, G, S>(alloc, ctx, graph)?;
     take_components(alloc, ctx, graph, &pre, post)
+}
+
+// The components of nodes, by those of their numbers.
+fn named<N: Copy>(
+    alloc: Global,
+    nodes: &[N],
+    components: &[Scc<u32>],
+) -> Result<Vec<Scc<N>>, OptError>
+    requires { All (λ c. All (λ k. k < length nodes.now) c.nodes.items) components.now }
+    ensures named { IfOk result (λ r. AreNamed nodes.now components.now r.items) }
+    ensures memory { IsOkUnless result OptError.Memory }
+{
+    let mut all = Vec::with_capacity(alloc, components.len())?;
+    for component in components {
+        let members = named_nodes(alloc, nodes, &component.nodes)?;
+        all.push(Scc {
+            nodes: members,
+            is_cyclic: component.is_cyclic,
+        })?;
+    }
+    Ok(all)
+}
+
+// The nodes with these numbers.
+fn named_nodes<N: Copy>(alloc: Global, nodes: &[N], numbers: &[u32]) -> Result<Vec<N>, OptError>
+    requires { All (λ k. k < length nodes.now) numbers.now }
+    ensures named { IfOk result (λ r. map Some r.items ≡ map (λ k. slice_get nodes.now k) numbers.now) }
+    ensures memory { IsOkUnless result OptError.Memory }
+{
+    let mut named = Vec::with_capacity(alloc, numbers.len())?;
+    for number in numbers {
+        named.push(nodes[*number as usize])?;
+    }
+    Ok(named)
 }
 
 // The entry, if there is one, and then all nodes.
@@ -63,17 +116,17 @@ fn roots<C, G: ControlFlowGraph<C>>(
 }
 
 // The nodes in the order in which a search from the entry and then all nodes comes to them, and in the order in which it leaves them.
-fn search_all<C, G: ControlFlowGraph<C>>(
+fn search_all<C, G: ControlFlowGraph<C>, S: ListedSet<G::Node>>(
     alloc: Global,
     ctx: &C,
     graph: &G,
-) -> Result<(IndexSet<G::Node>, Vec<G::Node>), OptError>
+) -> Result<(S, Vec<G::Node>), OptError>
     requires { G.is_lawful graph.now ctx.now }
-    ensures search { IfOk result (λ r. IsSearch G.Node.eq (G.graph graph.now ctx.now) (entry_then_nodes (G.graph graph.now ctx.now)) (record { pre = r.0.keys; post = r.1.items })) }
+    ensures grew { IfOk result (λ r. Grew G.Node.eq (G.graph graph.now ctx.now) (entry_then_nodes (G.graph graph.now ctx.now)) [] [] (S.listed r.0) r.1.items) }
     ensures memory { IsOkUnless result OptError.Memory }
 {
     let roots = roots(alloc, ctx, graph)?;
-    let mut pre = IndexSet::new(alloc);
+    let mut pre = S::empty(alloc);
     let mut post = Vec::new(alloc);
     for root in &roots {
         if pre.contains(root) {
@@ -85,19 +138,19 @@ fn search_all<C, G: ControlFlowGraph<C>>(
 }
 
 // The components, by the orders of the search.
-fn take_components<C, G: ControlFlowGraph<C>>(
+fn take_components<C, G: ControlFlowGraph<C>, S: ListedSet<G::Node>>(
     alloc: Global,
     ctx: &C,
     graph: &G,
-    pre: &IndexSet<G::Node>,
+    pre: &S,
     mut post: Vec<G::Node>,
 ) -> Result<Vec<Scc<G::Node>>, OptError>
     requires lawful { G.is_lawful graph.now ctx.now }
-    requires search { IsSearch G.Node.eq (G.graph graph.now ctx.now) (entry_then_nodes (G.graph graph.now ctx.now)) (record { pre = pre.now.keys; post = post.items }) }
-    ensures components { IfOk result (λ r. AreComponents G.Node.eq (G.graph graph.now ctx.now) r.items) }
+    requires grew { Grew G.Node.eq (G.graph graph.now ctx.now) (entry_then_nodes (G.graph graph.now ctx.now)) [] [] (S.listed pre.now) post.items }
+    ensures found { IfOk result (λ r. AreFound G.Node.eq (G.graph graph.now ctx.now) r.items) }
     ensures memory { IsOkUnless result OptError.Memory }
 {
-    let mut held = IndexSet::new(alloc);
+    let mut held = S::empty(alloc);
     let mut components = Vec::new(alloc);
     while let Some(root) = post.pop() {
         if held.contains(&root) {
@@ -109,19 +162,19 @@ fn take_components<C, G: ControlFlowGraph<C>>(
 }
 
 // The nodes that lead to `root` over nodes that are not held, as a component. They are held then.
-fn take_component<C, G: ControlFlowGraph<C>>(
+fn take_component<C, G: ControlFlowGraph<C>, S: ListedSet<G::Node>>(
     alloc: Global,
     ctx: &C,
     graph: &G,
     root: G::Node,
-    pre: &IndexSet<G::Node>,
-    held: &mut IndexSet<G::Node>,
+    pre: &S,
+    held: &mut S,
 ) -> Result<Scc<G::Node>, OptError>
     requires lawful { G.is_lawful graph.now ctx.now }
     requires member { Contains (G.graph graph.now ctx.now).nodes root }
-    requires unheld { contains G.Node.eq held.old root ≡ false }
-    requires listed { All (IsListed G.Node.eq pre.now.keys) (G.graph graph.now ctx.now).nodes }
-    ensures taken { IfOk result (λ c. IsTaken (G.graph graph.now ctx.now) G.Node.eq pre.now.keys root held.old.keys held.new.keys c) }
+    requires unheld { list_any (G.Node.eq root) (S.listed held.old) ≡ false }
+    requires listed { All (IsListed G.Node.eq (S.listed pre.now)) (G.graph graph.now ctx.now).nodes }
+    ensures taken { IfOk result (λ c. IsTaken (G.graph graph.now ctx.now) G.Node.eq (S.listed pre.now) root (S.listed held.old) (S.listed held.new) c) }
     ensures memory { IsOkUnless result OptError.Memory }
 {
     let first = held.len();
@@ -132,16 +185,16 @@ fn take_component<C, G: ControlFlowGraph<C>>(
 }
 
 // Holds the nodes that lead to `root` over nodes that are not held. The set is its own queue.
-fn collect<C, G: ControlFlowGraph<C>>(
+fn collect<C, G: ControlFlowGraph<C>, S: ListedSet<G::Node>>(
     ctx: &C,
     graph: &G,
     root: G::Node,
-    held: &mut IndexSet<G::Node>,
+    held: &mut S,
 ) -> Result<(), OptError>
     requires lawful { G.is_lawful graph.now ctx.now }
     requires member { Contains (G.graph graph.now ctx.now).nodes root }
-    requires unheld { contains G.Node.eq held.old root ≡ false }
-    ensures collected { OnOk result (Collects (G.graph graph.now ctx.now) G.Node.eq root held.old.keys held.new.keys) }
+    requires unheld { list_any (G.Node.eq root) (S.listed held.old) ≡ false }
+    ensures collected { OnOk result (Collects (G.graph graph.now ctx.now) G.Node.eq root (S.listed held.old) (S.listed held.new)) }
     ensures memory { IsOkUnless result OptError.Memory }
 {
     let mut next = held.len();
@@ -155,15 +208,15 @@ fn collect<C, G: ControlFlowGraph<C>>(
 }
 
 // Holds the predecessors of a node.
-fn hold_predecessors<C, G: ControlFlowGraph<C>>(
+fn hold_predecessors<C, G: ControlFlowGraph<C>, S: ListedSet<G::Node>>(
     ctx: &C,
     graph: &G,
     node: &G::Node,
-    held: &mut IndexSet<G::Node>,
+    held: &mut S,
 ) -> Result<(), OptError>
     requires lawful { G.is_lawful graph.now ctx.now }
     requires member { Contains (G.graph graph.now ctx.now).nodes node.now }
-    ensures holds { OnOk result (TakesIn G.Node.eq ((G.graph graph.now ctx.now).pred node.now) held.old.keys held.new.keys) }
+    ensures holds { OnOk result (TakesIn G.Node.eq ((G.graph graph.now ctx.now).pred node.now) (S.listed held.old) (S.listed held.new)) }
     ensures memory { IsOkUnless result OptError.Memory }
 {
     for i in 0..graph.num_predecessors(ctx, node) {
@@ -173,30 +226,23 @@ fn hold_predecessors<C, G: ControlFlowGraph<C>>(
 }
 
 // The nodes by falling place in `order`.
-fn by_falling_number<N: Eq + Hash + Copy>(
+fn by_falling_number<N: Eq + Copy, S: ListedSet<N>>(
     alloc: Global,
-    order: &IndexSet<N>,
+    order: &S,
     nodes: &[N],
 ) -> Result<Vec<N>, OptError>
     requires same { (x y : N) → IsTrue (N.eq x y) → x ≡ y }
     requires distinct { IsDistinct N.eq nodes.now }
-    requires listed { All (IsListed N.eq order.now.keys) nodes.now }
+    requires listed { All (IsListed N.eq (S.listed order.now)) nodes.now }
     ensures same_nodes { IfOk result (λ r. (v : N) → (Contains r.items v ↔ Contains nodes.now v)) }
-    ensures falls { IfOk result (λ r. Falls (number_in N.eq order.now.keys) r.items) }
+    ensures falls { IfOk result (λ r. Falls (number_in N.eq (S.listed order.now)) r.items) }
     ensures memory { IsOkUnless result OptError.Memory }
 {
     let mut sorted = Vec::with_capacity(alloc, nodes.len())?;
     sorted.extend_from_slice(nodes)?;
-    sorted.sort_by_cached_key(|node| place_in(order, node))?;
+    sorted.sort_unstable_by_key(|node| order.place_of(node));
     sorted.reverse();
     Ok(sorted)
-}
-
-// The place of a node in `order`, or past its end.
-fn place_in<N: Eq + Hash>(order: &IndexSet<N>, node: &N) -> usize
-    ensures { result ≡ number_in N.eq order.now.keys node.now }
-{
-    order.get_index_of(node).unwrap_or(order.len())
 }
 
 // Whether these nodes of a component lie on a cycle.

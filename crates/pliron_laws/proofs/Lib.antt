@@ -5,5 +5,8 @@ pub mod EdgeLastLemmas
 pub mod ConstantLemmas
 pub mod FoldLemmas
 pub mod Records
+pub mod PutLinks
 pub mod LinkedLemmas
 pub mod BodyLemmas
+pub mod RisingLemmas
+pub mod BindingLemmas

@@ -28,6 +28,7 @@ use Rattle.pliron_laws.specs.Outcomes.{materialised, MaterialisesSome}
 use Rattle.pliron_laws.specs.Outcomes.MaterialisesSome.{Rest, Then}
 use Rattle.pliron_laws.proofs.ConstantLemmas.{new_row, made_row, blockless}
 use Rattle.pliron_laws.proofs.FoldLemmas.{put_row, put_parent}
+use Rattle.pliron_laws.proofs.PutLinks.{linked_in}
 
 -- a new operation with one result
 module _ (t : Tree) (head : Head) (w : IsTree t) where
@@ -192,15 +193,6 @@ module _ (t : Tree) (op v b : ℕ) (head : Head) (w : IsTree t) (at : parent_of 
   pub put_is : materialised t op v head ≡ u
   put_is = ap (λ o. replaced (put_next_to made₁ c op o) v (length t.definitions)) at
 
-  successors₁ : (k : ℕ) → successors_of u k ≡ successors_of t k
-  successors₁ k = get_grown t.successors [] k
-
-  user_old : (k s : ℕ) → In s (successors_of t k) → k ≢ c
-  user_old k s i e = subst (In s) (ap (successors_of t) e ∙ get_or_past t.successors c [] (omega (arith, w.keys.successors))) i
-
-  parent_old : (k : ℕ) → k ≢ c → parent_of u k ≡ parent_of t k
-  parent_old k ne = get_or-set_other made₁.parents c k (Some b) None ne ∙ parent₁ k
-
   last_put : (before : Option ℕ) (ys : List ℕ) → last_of before (put_before op c ys) ≡ last_of before ys
   last_put before [] = refl
   last_put before (y ∷ ys) = elim (cases_eq op y) [
@@ -208,102 +200,14 @@ module _ (t : Tree) (op v b : ℕ) (head : Head) (w : IsTree t) (at : parent_of 
     | inr ne ↦ ap (last_of before) (put_before-other op c y ys ne) ∙ last_put (Some y) ys
   ]
 
-  last₁ : (l : ℕ) → last_of None (body_of u l) ≡ last_of None (body_of t l)
-  last₁ l =
-      elim (cases_eq l b) [
-        | inl e ↦ ap (λ z. last_of None (body_of u z)) e ∙ ap (last_of None) (get_or-set_same t.bodies b (put_before op c (body_of t b)) [] (within_bodies)) ∙ last_put None (body_of t b) ∙ ap (λ z. last_of None (body_of t z)) (sym e)
-        | inr ne ↦ ap (last_of None) (get_or-set_other t.bodies b l (put_before op c (body_of t b)) [] ne)
-      ]
-    where
-      cases : (x n : ℕ) → (x < n) ⊎ (n ≤ x)
-      cases x n = grind arith
+  cases : (x n : ℕ) → (x < n) ⊎ (n ≤ x)
+  cases x n = grind arith
 
-      within_bodies : b < length t.bodies
-      within_bodies = elim (cases b (length t.bodies)) [ inl lt ↦ lt | inr le ↦ absurd (subst (In op) (get_or_past t.bodies b [] le) (w.bodies.listed op b at)) ]
-
-  region₁ : (r : ℕ) → region_parent_of u r ≡ region_parent_of t r
-  region₁ r = ap (λ s. op_of_slot (slice_get s r)) (append-nil t.slots)
-
-  block_holder₁ : (x : ℕ) → block_holder_of u x ≡ block_holder_of t x
-  block_holder₁ x = go (block_parent_of t x)
-    where
-      go : (o : Option ℕ) → up_from o (λ r. region_parent_of u r) ≡ up_from o (λ r. region_parent_of t r)
-      go None = refl
-      go (Some r) = region₁ r
-
-  holder₁ : (k : ℕ) → k ≢ c → holder_of u k ≡ holder_of t k
-  holder₁ k ne = ap (λ o. up_from o (λ x. block_holder_of u x)) (parent_old k ne) ∙ go (parent_of t k)
-    where
-      go : (o : Option ℕ) → up_from o (λ x. block_holder_of u x) ≡ up_from o (λ x. block_holder_of t x)
-      go None = refl
-      go (Some x) = block_holder₁ x
-
-  live_old : (k : ℕ) → IsLive t k → k ≢ c
-  live_old k live e = let lt = live-within t k live in omega (arith, lt, e)
-
-  inside_old : (root k : ℕ) → k ≢ c → IsInside u root k → IsInside t root k
-  inside_old root k ne (Directly e) = Directly (sym (holder₁ k ne) ∙ e)
-  inside_old root k ne (Deeper p e i) =
-      let f = sym (holder₁ k ne) ∙ e in Deeper p f (inside_old root p (live_old p (holder_live t w k p f)) i)
-
-  within_old : (root k : ℕ) → k ≢ c → IsWithin u root k → IsWithin t root k
-  within_old root k ne (inl e) = inl e
-  within_old root k ne (inr i) = inr (inside_old root k ne i)
-
-  holds_old : (root x : ℕ) → HoldsBlock u root x → HoldsBlock t root x
-  holds_old root x h =
-      let f = sym (block_holder₁ x) ∙ h.1 in
-      (h.0, f, within_old root h.0 (live_old h.0 (holding x h.0 f)) h.2)
-    where
-      some_is : (o : Option ℕ) (k : ℕ) → up_from o (λ r. region_parent_of t r) ≡ Some k → IsSome o
-      some_is None k e = absurd (grind arith)
-      some_is (Some r) k e = refl
-
-      holding : (x k : ℕ) → block_holder_of t x ≡ Some k → IsLive t k
-      holding x k e =
-          let p = block_held t x w.joined (some_is (block_parent_of t x) k e) in
-          subst (IsLive t) (same_Some p.1 k (sym p.5 ∙ e)) p.6
-
-  pub edges_put : (root : ℕ) → EdgesLast t root → EdgesLast u root
-  edges_put root edges = λ k s i place.
-      let j = subst (In s) (successors₁ k) i in
-      let ne = user_old k s j in
-      let e = edges k s j (elim place [ inl x ↦ inl (inside_old root k ne x) | inr h ↦ inr (holds_old root s h) ]) in
-      record { block = e.block; in_block = parent_old k ne ∙ e.in_block; last = last₁ e.block ∙ e.last; own_region = λ x y. e.own_region x (subst (In x) (successors₁ k) y) }
-
-  row_old : (k : ℕ) → k ≢ c → row_of u k ≡ row_of t k
-  row_old k ne = elim (get_last t.operations (new_row t head) no_entry k) [ inl e ↦ e | inr e ↦ absurd (ne e.2) ]
-
-  operand_count : (k : ℕ) → length (operands_of u k) ≡ length (operands_of t k)
-  operand_count k =
-      ap length (get_map (map (replace_target v (length t.definitions))) refl made₁.operands k) ∙ length_map (replace_target v (length t.definitions)) (operands_of made₁ k) ∙ ap length (get_grown t.operands [] k)
-
-  admitted_as : (m : Meaning) (k : ℕ) → row_of u k ≡ row_of t k → IsAdmitted m t k → IsAdmitted m u k
-  admitted_as m k row is = λ h e.
-      let a = is h (sym (ap (λ z. z.head) row) ∙ e) in
-      subst (λ n. IsTrue (m.admits h (length (operands_of u k)) (length (results_of u k)) n (length (regions_of u k)))) (sym (ap length (successors₁ k)))
-      (subst (λ z. IsTrue (m.admits h (length (operands_of u k)) (length z.results) (length (successors_of t k)) (length z.regions))) (sym row)
-      (subst (λ n. IsTrue (m.admits h n (length (results_of t k)) (length (successors_of t k)) (length (regions_of t k)))) (sym (operand_count k)) a))
-
-  admitted_new : (m : Meaning) (attr : AttrObj) → MakesConstant m attr head → IsAdmitted m u c
-  admitted_new m attr is = λ h e.
-      let row : row_of u c ≡ new_row t head = row₁ in
-      let same : head ≡ h = same_Some head h (sym (ap (λ z. z.head) row) ∙ e) in
-      let n : length (operands_of u c) ≡ 0 = operand_count c ∙ ap length (get_or_past t.operands c [] (omega (arith, w.keys.operands))) in
-      let s : length (successors_of u c) ≡ 0 = ap length (successors₁ c ∙ get_or_past t.successors c [] (omega (arith, w.keys.successors))) in
-      subst (λ x. IsTrue (m.admits h (length (operands_of u c)) (length (results_of u c)) x (length (regions_of u c)))) (sym s)
-      (subst (λ z. IsTrue (m.admits h (length (operands_of u c)) (length z.results) 0 (length z.regions))) (sym row)
-      (subst (λ x. IsTrue (m.admits h x 1 0 0)) (sym n)
-      (subst (λ x. IsTrue (m.admits x 0 1 0 0)) same is.admitted)))
+  within_bodies : b < length t.bodies
+  within_bodies = elim (cases b (length t.bodies)) [ inl lt ↦ lt | inr le ↦ absurd (subst (In op) (get_or_past t.bodies b [] le) (w.bodies.listed op b at)) ]
 
   pub linked_put : (m : Meaning) (attr : AttrObj) (root : ℕ) → MakesConstant m attr head → IsWellLinked m t root → IsWellLinked m u root
-  linked_put m attr root makes is = record {
-    edges = edges_put root is.edges;
-    admitted = λ k within. elim (cases_eq k c) [
-      | inl e ↦ subst (IsAdmitted m u) (sym e) (admitted_new m attr makes)
-      | inr ne ↦ admitted_as m k (row_old k ne) (is.admitted k (within_old root k ne within))
-    ];
-  }
+  linked_put = linked_in t v b (put_before op c (body_of t b)) head w within_bodies (λ k e. last_put None (body_of t b) ∙ e)
 
 -- the same tree but for spent keys
 pub linked_same : (m : Meaning) (t u : Tree) (root : ℕ) → IsTree t → IsTree u → IsSameTree t u → IsWellLinked m t root → IsWellLinked m u root

@@ -1,4 +1,3 @@
 pub mod ReadConstants
-pub mod ForwardedLemmas
 pub mod WorkedFit
 pub mod WorkedTree

@@ -1,9 +1,11 @@
 //! What the dialect `Bench` answers, on texts of its notation and asked through the traits, and what
 //! folding constants in place leaves: by values worked out by hand.
-use crate::answers::{effects, interfaces, removable};
-use crate::cases::{all_known, check, fields, known, line, number, operation_at, read, sides};
-use crate::listener::Counting;
-use crate::trees::build;
+use pliron_cases::answers::{effects, interfaces, removable};
+use pliron_cases::cases::{
+    all_known, check, fields, known, line, number, operation_at, read, sides,
+};
+use pliron_cases::listener::Counting;
+use pliron_cases::trees::build;
 use pliron_core::{AttrObj, Context, IRStatus, Operation, Ptr, Rewriter};
 use pliron_meaning::bench::{Bench, BenchKind};
 use pliron_meaning::{BlockArgRemoval, ConstFoldInterface, Dialect, SideEffects};

@@ -1,5 +1,5 @@
 //! The texts of the faults, and what becomes want of memory.
-use crate::cases::check;
+use pliron_cases::cases::check;
 use pliron_core::NoMemory;
 use pliron_meaning::OptError;
 use std::alloc::{AllocError, Global};

@@ -1,6 +1,7 @@
 //! The public names of `pliron_meaning`, at their places. What is missing here is named so where it is
-//! tested: texts in `cases`, runs in `runs`, the calls of `rewrites` in `rewrites`, `lose_forwarded` in `losses`.
-use crate::cases::read;
+//! used: texts in `pliron_cases::cases`, `lose_forwarded` in `pliron_cases::losses`, runs in the tests of the
+//! evaluator, the calls of `rewrites` in `rewrites`.
+use pliron_cases::cases::read;
 use pliron_core::{Context, IRRewriter};
 use pliron_meaning::bench::laws::{folds_are_monotone, folds_have_one_outcome};
 use pliron_meaning::bench::{Bench, BenchKind};

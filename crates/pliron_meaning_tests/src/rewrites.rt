@@ -6,9 +6,9 @@ ghost use Rattle.pliron_evaluator.specs.Tiny.{kind_of, first_attribute};
 ghost use Rattle.pliron_evaluator.specs.declared.tiny.TinyKind.TheVariants.{Const};
 ghost use Rattle.pliron_laws.specs.Datum.{Head};
 
-use crate::listener::Counting;
 use crate::tiny::{number_asked, number_of};
-use crate::trees::{Made, make};
+use pliron_cases::listener::Counting;
+use pliron_cases::trees::{Made, make};
 use pliron_core::{AttrObj, BasicBlock, Context, IRStatus, Operation, Ptr};
 use pliron_meaning::evaluator::{Datum, Sight, evaluate};
 use pliron_meaning::rewrites::{

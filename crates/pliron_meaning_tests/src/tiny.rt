@@ -1,10 +1,10 @@
 //! What the tiny dialect answers, asked through the traits, and folding by constants that are put for
 //! results.
-use crate::answers::{effects, interfaces, removable};
-use crate::cases::{check, number, sides};
-use crate::listener::Counting;
-use crate::losses::lose;
-use crate::trees::{Made, build, make};
+use pliron_cases::answers::{effects, interfaces, removable};
+use pliron_cases::cases::{check, number, sides};
+use pliron_cases::listener::Counting;
+use pliron_cases::losses::lose;
+use pliron_cases::trees::{Made, build, make};
 use pliron_core::{AttrObj, Context, IRRewriter, IRStatus, Operation, Ptr, Rewriter, Value};
 use pliron_meaning::{
     BranchOpFoldInterface, ConstFoldInterface, Dialect, Room, Tiny, TinyKind, edges_last,

@@ -1,5 +1,5 @@
 -- What the pass of the simplification of control flow tells is so.
-use Rattle.std.proofs.Common.{◌≡◌, ℕ, Bool, false, Some, subst}
+use Rattle.std.proofs.Common.{ℕ, Bool, false, Some, subst}
 use Rattle.std.proofs.lemmas.Bool.{false≢true}
 use Rattle.pliron_core.specs.Tree.{Tree}
 use Rattle.pliron_core.specs.declared.attrs.IRStatus.{IRStatus}

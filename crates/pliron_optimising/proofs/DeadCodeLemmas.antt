@@ -1,5 +1,5 @@
 -- What the pass of dead code elimination does, from what the call does.
-use Rattle.std.proofs.Common.{◌≡◌, ◌↔◌, ℕ, List, Bool, true, false, Option, Result, Ok, Err, not, IsTrue, refl, sym}
+use Rattle.std.proofs.Common.{◌≡◌, ◌↔◌, ℕ, List, Bool, true, false, Option, Ok, not, IsTrue, refl}
 use Rattle.std.proofs.lemmas.Bool.{false≢true}
 use Rattle.pliron_core.specs.Tree.{Tree}
 use Rattle.pliron_core.specs.declared.attrs.IRStatus.{IRStatus}

@@ -1,5 +1,5 @@
 -- What the pass of an optimisation owes, from what the optimisation tells.
-use Rattle.std.proofs.Common.{◌≡◌, ℕ, ◌≤◌, ◌<◌, List, [], ◌∷◌, length, Bool, true, false, Result, Ok, Err, IfOk, IfErr, refl, sym, ap, ◌∙◌, subst}
+use Rattle.std.proofs.Common.{◌≡◌, ℕ, ◌≤◌, ◌<◌, List, [], length, Bool, true, false, Result, Ok, Err, IfOk, IfErr, refl, sym, ap, subst}
 use Rattle.std.proofs.lemmas.Bool.{false≢true}
 use Rattle.pliron_core.specs.Tree.{Tree, IsLive}
 use Rattle.pliron_core.specs.Joined.{IsTree}
@@ -8,7 +8,7 @@ use Rattle.pliron_core.specs.declared.attrs.IRStatus.{IRStatus}
 use Rattle.pliron_core.specs.declared.attrs.IRStatus.TheVariants.{Changed, Unchanged}
 use Rattle.pliron_laws.specs.declared.fault.OptError.{OptError}
 use Rattle.pliron_laws.specs.declared.fault.OptError.TheVariants.{Memory}
-use Rattle.pliron_theory.specs.Edges.{edges_inside, KeepsEdges}
+use Rattle.pliron_theory.specs.Edges.{edges_inside}
 use Rattle.pliron_pass.specs.Cache.{IsFresh, retained}
 use Rattle.pliron_pass.specs.Answer.{FreshAfter, has_changed, kept_kinds}
 use Rattle.pliron_pass.specs.Stage.{Stage}
@@ -38,10 +38,10 @@ module _ {K E : Type 0} (eq : K → K → Bool) (kind : E → K) (holds : E → 
       go Unchanged s = fresh_all eq kind holds t u grows fewer es (λ e o lt lu. stays e o t u wt wu (truly.same s) lu) f
       go Changed s = fresh_some eq kind holds t u grows fewer (λ p. false) es (λ p e k lt lu h. absurd (false≢true e)) f
 
-module _ {K E : Type 0} (eq : K → K → Bool) (edges : K → Bool) (outcome : Tree → Tree → ℕ → Result Effect OptError → Type 0) (op : ℕ) (s s' : Stage K E) (cache : s'.cache ≡ s.cache) (common : s'.common ≡ s.common) (effect : Effect) where
+module _ {K E : Type 0} (eq : K → K → Bool) (edges : K → Bool) (outcome : Tree → Tree → ℕ → Result Effect OptError → Type 0) (op : ℕ) (s s' : Stage K E) (cache : s'.cache ≡ s.cache) (common : s'.common ≡ s.common) (effect : Effect) (truly : IsTruly s.tree s'.tree effect) where
   pub ran_keeping : effect.keeps_edges ≡ true → (r : Result (PassResult K) OptError) → outcome s.tree s'.tree op (Ok effect) → IfOk r (λ a. has_changed a ≡ effect.status) → IfOk r (λ a. kept_kinds a ≡ edge_kinds eq edges s.cache) → IfErr r (λ e. e ≡ Memory) → RunsOptimisation eq edges outcome op s s' r
-  ran_keeping h (Ok a) o c k m = Optimised effect a refl o c (subst (λ b. kept_kinds a ≡ preserved eq edges b s.cache) (sym h) k) cache common
+  ran_keeping h (Ok a) o c k m = Optimised effect a refl o truly c (subst (λ b. kept_kinds a ≡ preserved eq edges b s.cache) (sym h) k) cache common
   ran_keeping h (Err e) o c k m = Short effect (ap (λ z. Err z) m) o cache common
 
   pub ran_losing : effect.keeps_edges ≡ false → (a : PassResult K) → outcome s.tree s'.tree op (Ok effect) → has_changed a ≡ effect.status → kept_kinds a ≡ [] → RunsOptimisation eq edges outcome op s s' (Ok a)
-  ran_losing h a o c k = Optimised effect a refl o c (subst (λ b. kept_kinds a ≡ preserved eq edges b s.cache) (sym h) k) cache common
+  ran_losing h a o c k = Optimised effect a refl o truly c (subst (λ b. kept_kinds a ≡ preserved eq edges b s.cache) (sym h) k) cache common

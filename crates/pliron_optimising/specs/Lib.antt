@@ -1,5 +1,7 @@
 pub mod Headline
+pub mod Honest
 pub mod Optimising
 pub mod Constants
 pub mod ControlFlow
 pub mod DeadCode
+pub mod Steps

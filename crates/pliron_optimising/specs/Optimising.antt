@@ -2,7 +2,6 @@
 use Rattle.std.specs.Prelude.{◌≡◌, ℕ, Bool, true, List, [], if◌then◌else◌, Result, Ok, Err}
 use Rattle.pliron_core.specs.Tree.{Tree}
 use Rattle.pliron_core.specs.Changes.{IsSameTree}
-use Rattle.pliron_core.specs.declared.attrs.IRStatus.{IRStatus}
 use Rattle.pliron_core.specs.declared.attrs.IRStatus.TheVariants.{Unchanged}
 use Rattle.pliron_laws.specs.declared.fault.OptError.{OptError}
 use Rattle.pliron_laws.specs.declared.fault.OptError.TheVariants.{Memory}
@@ -23,9 +22,9 @@ abbrev pub preserved : {K E : Type 0} → (K → K → Bool) → (K → Bool) �
 preserved eq edges keeps es = if keeps then edge_kinds eq edges es else []
 
 module _ {K E : Type 0} (eq : K → K → Bool) (edges : K → Bool) (outcome : Tree → Tree → ℕ → Result Effect OptError → Type 0) where
-  -- the optimisation ran, and cache, configuration and state are as before
+  -- the optimisation ran and told truly what it did, and cache, configuration and state are as before
   pub data RunsOptimisation (op : ℕ) (s s' : Stage K E) (r : Result (PassResult K) OptError) : Type 0 where
-    Optimised : (effect : Effect) (a : PassResult K) → r ≡ Ok a → outcome s.tree s'.tree op (Ok effect) → has_changed a ≡ effect.status → kept_kinds a ≡ preserved eq edges effect.keeps_edges s.cache → s'.cache ≡ s.cache → s'.common ≡ s.common → RunsOptimisation op s s' r
+    Optimised : (effect : Effect) (a : PassResult K) → r ≡ Ok a → outcome s.tree s'.tree op (Ok effect) → IsTruly s.tree s'.tree effect → has_changed a ≡ effect.status → kept_kinds a ≡ preserved eq edges effect.keeps_edges s.cache → s'.cache ≡ s.cache → s'.common ≡ s.common → RunsOptimisation op s s' r
     Refused : (e : OptError) → r ≡ Err e → outcome s.tree s'.tree op (Err e) → s'.cache ≡ s.cache → s'.common ≡ s.common → RunsOptimisation op s s' r
     -- the optimisation went well, and there was no room for the answer
     Short : (effect : Effect) → r ≡ Err Memory → outcome s.tree s'.tree op (Ok effect) → s'.cache ≡ s.cache → s'.common ≡ s.common → RunsOptimisation op s s' r

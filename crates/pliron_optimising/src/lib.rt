@@ -7,6 +7,7 @@ mod constants;
 mod control_flow;
 mod dead_code;
 mod headline;
+mod honest;
 mod optimisation;
 mod step;
 
@@ -14,5 +15,6 @@ pub use constants::{Constants, SCCPPass};
 pub use control_flow::{ControlFlow, SimplifyCFGPass};
 pub use dead_code::{DCEPass, DeadCode};
 pub use headline::run_pipeline;
+pub use honest::schedules_are_honest;
 pub use optimisation::{Effect, Optimisation, OptimisingPass};
 pub use step::{Pipeline, Schedule, Step};

@@ -1,5 +1,5 @@
 //! What a pass asks of an optimisation, and the pass.
-ghost use Rattle.std.specs.Prelude.{◌≡◌, ℕ, Bool, false, [], List, IfOk, Result};
+ghost use Rattle.std.specs.Prelude.{◌≡◌, ℕ, false, [], List, IfOk, Result};
 ghost use Rattle.pliron_core.specs.Tree.{Tree, IsLive};
 ghost use Rattle.pliron_laws.specs.Linked.{IsWellLinked};
 ghost use Rattle.pliron_laws.specs.declared.fault.OptError.{OptError as FaultName};

@@ -1,8 +1,6 @@
 //! One of the passes here, and lists of them.
-ghost use Rattle.std.specs.Prelude.{◌≡◌, ℕ, Bool, true, false, IfSome};
-ghost use Rattle.pliron_optimising.specs.Constants.{sccp_name};
-ghost use Rattle.pliron_optimising.specs.ControlFlow.{simplify_cfg_name};
-ghost use Rattle.pliron_optimising.specs.DeadCode.{dce_name};
+ghost use Rattle.std.specs.Prelude.{◌≡◌, true, false, IfSome};
+ghost use Rattle.pliron_optimising.specs.Steps.{step_name};
 ghost use Rattle.pliron_pass.specs.Combined.{nested_name, passes_name};
 ghost use Rattle.pliron_pass.specs.Repeating.{repeat_name};
 ghost use Rattle.pliron_optimising.specs.declared.step.Step.TheVariants.{Sccp as ASccp, Dce as ADce, SimplifyCfg as ASimplifyCfg};
@@ -30,7 +28,7 @@ pub enum Step<D: Dialect, E: Analyses + Drop> {
 impl<D: Dialect, E: Analyses + Drop> Step<D, E> {
     /// The pass of this name: `sccp`, `dce` or `simplify-cfg`.
     pub fn from_name(name: &str) -> Option<Self>
-        ensures { IfSome result (λ step. ⟦<Step<D, E> as Pass>⟧.name step ≡ name.now) }
+        ensures { IfSome result (λ step. step_name step ≡ name.now) }
     {
         match name {
             "sccp" => Some(Step::Sccp(SCCPPass::new())),
@@ -48,7 +46,7 @@ impl<D: Dialect, E: Analyses + Drop> Pass for Step<D, E> {
 
     ghost is_pass_manager = { λ p. false };
 
-    ghost name = { elim [ ASccp p ↦ sccp_name | ADce p ↦ dce_name | ASimplifyCfg p ↦ simplify_cfg_name ] };
+    ghost name = { step_name };
 
     ghost outcome = { elim [ ASccp p ↦ elim [ ASccp q ↦ ⟦<SCCPPass<D, E> as Pass>⟧.outcome p q | ADce q ↦ λ op s s' r. ⊥ | ASimplifyCfg q ↦ λ op s s' r. ⊥ ] | ADce p ↦ elim [ ASccp q ↦ λ op s s' r. ⊥ | ADce q ↦ ⟦<DCEPass<D, E> as Pass>⟧.outcome p q | ASimplifyCfg q ↦ λ op s s' r. ⊥ ] | ASimplifyCfg p ↦ elim [ ASccp q ↦ λ op s s' r. ⊥ | ADce q ↦ λ op s s' r. ⊥ | ASimplifyCfg q ↦ ⟦<SimplifyCFGPass<D, E> as Pass>⟧.outcome p q ] ] };
 

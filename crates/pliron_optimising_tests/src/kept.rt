@@ -6,10 +6,12 @@ ghost use Rattle.pliron_laws.specs.Linked.{IsWellLinked};
 ghost use Rattle.pliron_bench.specs.BenchMoves.{bench};
 
 use super::nest::{Deep, deep};
-use super::texts::{KINDS, read, write_fact};
+use super::texts::{KINDS, write_fact};
 use pliron_bench::{Bench, BenchKind};
+use pliron_cases::cases::read;
+use pliron_cases::runs::seen;
 use pliron_core::{Context, Operation, Ptr};
-use pliron_evaluator::evaluator::{Datum, Sight, evaluate};
+use pliron_evaluator::evaluator::Sight;
 use pliron_laws::Dialect;
 use pliron_optimising::run_pipeline;
 use pliron_pass::{
@@ -89,28 +91,13 @@ fn compute_all(
     }
 }
 
-// Data that are these numbers.
-fn data(rt: &impl Abort, alloc: Global, numbers: &[i128]) -> Vec<Datum> {
-    let mut data = Vec::new(alloc);
-    for number in numbers {
-        data.push(Datum::Number(*number)).expect(rt, "memory");
-    }
-    data
-}
-
-// What is seen of the run of the operation on some inputs, in a world with some answers.
-fn seen(rt: &impl Abort, alloc: Global, op: Ptr<Operation>, ctx: &Context) -> Sight {
-    let inputs = data(rt, alloc, &[2, 0]);
-    let world = data(rt, alloc, &[1, 0, 3, 0, 0, 5]);
-    evaluate::<Bench>(alloc, ctx, op, inputs, world, ENOUGH).expect(rt, "memory")
-}
-
 // What is seen of the functions among these.
 fn sights(rt: &impl Abort, alloc: Global, ops: &[Ptr<Operation>], ctx: &Context) -> Vec<Sight> {
     let mut sights = Vec::new(alloc);
     for op in ops {
         if op.is_live(ctx) && Bench::is_kind(*op, ctx, BenchKind::Func) {
-            let sight = seen(rt, alloc, *op, ctx);
+            let sight = seen(alloc, ctx, *op, &[2, 0], &[1, 0, 3, 0, 0, 5], ENOUGH);
+            let sight = sight.expect(rt, "memory");
             sights.push(sight).expect(rt, "memory");
         }
     }

@@ -5,7 +5,8 @@ ghost use Rattle.pliron_laws.specs.Linked.{IsWellLinked};
 ghost use Rattle.pliron_bench.specs.BenchMoves.{bench};
 
 use super::nest::{Deep, deep};
-use super::texts::{read, write_facts};
+use super::texts::write_facts;
+use pliron_cases::cases::read;
 use pliron_core::{Context, IRStatus, Operation, Ptr};
 use pliron_notation::print_text;
 use pliron_optimising::run_pipeline;

@@ -1,10 +1,5 @@
-//! Operations of texts, and what the ready-made analyses say in words.
-ghost use Rattle.pliron_core.specs.Tree.{IsLive};
-ghost use Rattle.pliron_laws.specs.Linked.{IsWellLinked};
-ghost use Rattle.pliron_bench.specs.BenchMoves.{bench};
-
+//! What the ready-made analyses say in words.
 use pliron_core::{Context, Operation, Ptr};
-use pliron_notation::read_text;
 use pliron_pass::{AnalysisManager, BenchFactKind, BenchFacts};
 use std::alloc::Global;
 use std::process::Abort;
@@ -14,17 +9,6 @@ pub static KINDS: [BenchFactKind; 3] = [
     BenchFactKind::Size,
     BenchFactKind::Total,
 ];
-
-/// The operation of the text.
-pub fn read(rt: &impl Abort, alloc: Global, ctx: &mut Context, text: &str) -> Ptr<Operation>
-    ensures live { IsLive ctx.new.tree result }
-    ensures linked { IsWellLinked bench ctx.new.tree result }
-{
-    let read = read_text(alloc, text.as_bytes(), ctx).expect(rt, "memory");
-    let root = read.expect(rt, "readable");
-    assert!(rt; root.is_live(ctx));
-    root
-}
 
 /// Writes what the fact says.
 pub fn write_fact(rt: &impl Abort, text: &mut String, fact: &BenchFacts) {

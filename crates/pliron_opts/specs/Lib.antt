@@ -1,1 +1,4 @@
 pub mod Ran
+pub mod Asked
+pub mod Answered
+pub mod Read

@@ -4,11 +4,14 @@
 //! texts, arguments and streams.
 #![tactic(auto)]
 
+mod answer;
 mod command;
 mod graph_lines;
+mod notation;
 mod numbered_graph;
 mod program;
 
+pub use notation::{BenchNotation, Notation};
 pub use pliron_cfg::{
     merge_inside_block, merge_inside_op, merge_inside_region, remove_blocks_inside_block,
     remove_blocks_inside_op, remove_blocks_inside_region, simplify_cfg,
@@ -19,4 +22,4 @@ pub use pliron_optimising::{
     DCEPass, Pipeline, SCCPPass, Schedule, SimplifyCFGPass, Step, run_pipeline,
 };
 pub use pliron_sccp::{sccp, sccp_counted};
-pub use program::plir_run;
+pub use program::{plir_run, run_optimiser};

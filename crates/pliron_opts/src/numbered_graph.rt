@@ -1,5 +1,5 @@
 //! Graphs as texts: what `plir_opt graph` reads.
-ghost use Rattle.std.specs.Prelude.{◌<◌, ◌≤◌, ◌≡◌, IfOk, IfSome, length};
+ghost use Rattle.std.specs.Prelude.{◌<◌, ◌≤◌, IfOk, IfSome, length};
 ghost use Rattle.pliron_search.specs.Adjacency.{AreInverse};
 
 use pliron_graph::AdjacencyList;

@@ -1,8 +1,7 @@
 //! Lists of passes as words.
-ghost use Rattle.std.specs.Prelude.{◌≡◌, ◌≤◌, ◌++◌, ◌==◌, ℕ, Some, None, map, codes, false, IfOk, IfSome};
+ghost use Rattle.std.specs.Prelude.{◌≡◌, ◌≤◌, ◌++◌, ◌↔◌, map, codes, IsTrue, IfOk, IfSome};
 ghost use Rattle.std.specs.Fmt.{decimal};
-ghost use Rattle.std.specs.List.{slice_split};
-ghost use Rattle.pliron_program.specs.Plans.{IsPlan, nested_prefix};
+ghost use Rattle.pliron_program.specs.Plans.{BeginsWith, IsList, IsPlan, nested_prefix};
 
 use std::alloc::{AllocError, Global};
 
@@ -39,7 +38,8 @@ fn count(alloc: Global, digits: &str) -> Result<Option<usize>, AllocError>
 
 /// The list of names, after `nested:` where it is for each operation directly inside.
 fn nested_list(word: &str) -> (bool, &str)
-    ensures { word.now ≡ nested_prefix result.0 ++ result.1.now }
+    ensures whole { word.now ≡ nested_prefix result.0 ++ result.1.now }
+    ensures exact { IsTrue result.0 ↔ BeginsWith word.now (codes "nested:") }
 {
     match word.strip_prefix("nested:") {
         Some(list) => (true, list),
@@ -61,9 +61,10 @@ fn repeated(alloc: Global, word: &str) -> Result<Option<(usize, &str)>, AllocErr
 }
 
 impl<'t> Plan<'t> {
+    /// The plan of this list and so many runs.
     fn of(alloc: Global, runs: Option<usize>, word: &'t str) -> Result<Self, AllocError>
         ensures runs { IfOk result (λ plan. plan.runs ≡ runs) }
-        ensures text { IfOk result (λ plan. (list : _) × (word.now ≡ nested_prefix plan.nested ++ list) × (map (λ name. name.now) plan.names.items ≡ slice_split (λ b. b == 44) list)) }
+        ensures list { IfOk result (λ plan. IsList word.now plan.nested (map (λ name. name.now) plan.names.items)) }
     {
         let (nested, list) = nested_list(word);
         let names: Vec<&str> = list.split(',').collect(alloc)?;
@@ -83,10 +84,14 @@ impl<'t> Plan<'t> {
         ensures { IfOk result (λ found. IfSome found (λ plan. IsPlan word.now plan.runs plan.nested (map (λ name. name.now) plan.names.items))) }
     {
         let Some(rest) = word.strip_prefix("repeat:") else {
-            return Ok(Some(Plan::of(alloc, None, word)?));
+            let once = Plan::of(alloc, None, word)?;
+            return Ok(Some(once));
         };
         match repeated(alloc, rest)? {
-            Some((runs, list)) => Ok(Some(Plan::of(alloc, Some(runs), list)?)),
+            Some((runs, list)) => {
+                let often = Plan::of(alloc, Some(runs), list)?;
+                Ok(Some(often))
+            }
             None => Ok(None),
         }
     }

@@ -1,5 +1,5 @@
 //! Programs from words and bytes to bytes and a status.
-ghost use Rattle.std.specs.Prelude.{◌≡◌, ◌≢◌, ℕ, List, map, IfOk, IfSome, string_bytes};
+ghost use Rattle.std.specs.Prelude.{ℕ, List, map, IfOk, IfSome, string_bytes};
 ghost use Rattle.pliron_program.specs.Ending.{IsAnswer, Ends};
 
 use crate::failure::Failure;

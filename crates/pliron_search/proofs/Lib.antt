@@ -6,6 +6,7 @@ pub mod GrowthLemmas
 pub mod NumberingLemmas
 pub mod WalkLemmas
 pub mod PlaceLemmas
+pub mod MarkLemmas
 pub mod EdgeKindLemmas
 pub mod AdjacencyLemmas
 pub mod RegionLemmas

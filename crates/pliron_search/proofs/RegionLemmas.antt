@@ -15,6 +15,7 @@ use Rattle.std.proofs.lemmas.List.Sorted.{Contains-permutation, IsPermutation-sy
 use Rattle.std.proofs.lemmas.Option.{none-some, same_Some, slice_get_within}
 use Rattle.pliron_core.specs.declared.uses.Use.{Use}
 use Rattle.pliron_laws.specs.Linked.{EdgesLast}
+use Rattle.pliron_laws.proofs.RisingLemmas.{rising_same}
 use Rattle.pliron_core.specs.Tree.{Tree, View, In, IsRising, IsBlock, IsRegion, IsWithin, uses_of, up_from, successors_of, parent_of, block_parent_of, layout_of, region_parent_of, first_of, last_of, body_of, block_holder_of}
 use Rattle.pliron_core.specs.Joined.{IsTree, HaveUses}
 use Rattle.pliron_core.specs.Reads.{next_block_of}
@@ -115,27 +116,6 @@ module _ (t : Tree) (r : ℕ) (h : IsLawfulRegion t r) (b : ℕ) (node : Contain
         last = subst (λ z. last_of None (body_of t z) ≡ Some l.0) here ends.last;
         beside = subst (λ z. block_parent_of t z ≡ block_parent_of t b) here (sym (ends.own_region b l.2));
       }) at.1
-
--- two rising lists with the same members are one
-rising_same : (xs ys : List ℕ) → IsRising xs → IsRising ys → ((z : ℕ) → In z xs → In z ys) → ((z : ℕ) → In z ys → In z xs) → xs ≡ ys
-rising_same [] [] r q to from = refl
-rising_same [] (y ∷ ys) r q to from = absurd (from y (inl refl))
-rising_same (x ∷ xs) [] r q to from = absurd (to x (inl refl))
-rising_same (x ∷ xs) (y ∷ ys) r q to from =
-    ap (λ z. z ∷ xs) least ∙ ap (λ zs. y ∷ zs) (rising_same xs ys r.1 q.1 later earlier)
-  where
-    least : x ≡ y
-    least =
-        elim (to x (inl refl)) [
-          | inl e ↦ e
-          | inr i ↦ elim (from y (inl refl)) [ inl e ↦ sym e | inr j ↦ let a : y < x = q.0 x i in let b : x < y = r.0 y j in absurd (omega arith) ]
-        ]
-
-    later : (z : ℕ) → In z xs → In z ys
-    later z i = elim (to z (inr i)) [ inl e ↦ let a : x < z = r.0 z i in absurd (omega (arith, least)) | inr j ↦ j ]
-
-    earlier : (z : ℕ) → In z ys → In z xs
-    earlier z i = elim (from z (inr i)) [ inl e ↦ let a : y < z = q.0 z i in absurd (omega (arith, least)) | inr j ↦ j ]
 
 -- keys that are sorted, each once
 abbrev pub key_eq : ℕ → ℕ → Bool

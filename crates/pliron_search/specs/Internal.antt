@@ -6,3 +6,4 @@ pub mod AddedEdges
 pub mod AdjacencyLawful
 pub mod RegionLawful
 pub mod Sources
+pub mod Marks

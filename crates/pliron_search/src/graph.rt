@@ -1,7 +1,9 @@
 //! The trait of graphs.
-ghost use Rattle.std.specs.Prelude.{◌≡◌, ◌<◌, Some, Contains, IfOk, IsOkUnless, length, slice_get};
+ghost use Rattle.std.specs.Prelude.{◌≡◌, ◌<◌, Some, Contains, IfOk, IfSome, IsOkUnless, length, slice_get};
+ghost use Rattle.pliron_search.specs.ByNumber.{IsByNumber};
 ghost use Rattle.pliron_search.specs.Digraph.{Digraph, IsLawful};
 
+use crate::AdjacencyList;
 use pliron_laws::OptError;
 use std::alloc::Global;
 use std::hash::Hash;
@@ -104,6 +106,15 @@ pub trait ControlFlowGraph<C> {
         requires { is_lawful self.now ctx.now }
         ensures list { IfOk result (λ r. r.items ≡ (graph self.now ctx.now).nodes) }
         ensures memory { IsOkUnless result OptError.Memory };
+
+    /// The same graph by adjacency lists, if it has them: node k of the lists is the k-th of all nodes, and the entry is the first. A
+    /// search then looks up no node. `None` where it does not say. Takes no memory.
+    fn by_number(&self, _ctx: &C) -> Option<&AdjacencyList>
+        requires { is_lawful self.now _ctx.now }
+        ensures { IfSome result (λ lists. IsByNumber (graph self.now _ctx.now) lists.now) }
+    {
+        None
+    }
 
     // A graph that may be read is lawful.
     ghost laws: { (g : Self) (c : C) → is_lawful g c → IsLawful Self.Node.eq (graph g c) };

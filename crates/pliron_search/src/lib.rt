@@ -8,6 +8,7 @@ mod adjacency;
 mod edge_kind;
 mod graph;
 mod iterators;
+mod listed_set;
 mod orders;
 mod region;
 pub mod search;
@@ -17,6 +18,7 @@ pub use adjacency::AdjacencyList;
 pub use edge_kind::DFSEdgeKind;
 pub use graph::{ControlFlowGraph, HasLabel};
 pub use iterators::{OrderIter, ReverseOrderIter};
+pub use listed_set::{ListedSet, NumberSet};
 pub use orders::{
     post_order, post_order_by_component, topological_order, topological_order_by_component,
 };

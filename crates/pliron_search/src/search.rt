@@ -1,27 +1,26 @@
 //! Depth-first search from one root, with a stack.
 ghost use Rattle.std.specs.Prelude.{◌≡◌, ◌∷◌, ◌++◌, [], false, Contains, OnOk, IsOkUnless};
-ghost use Rattle.indexmap.specs.IndexSet.{contains};
+ghost use Rattle.std.specs.List.{list_any};
 ghost use Rattle.pliron_search.specs.Internal.Forest.{Grew};
 ghost use Rattle.pliron_search.specs.Internal.Steps.{IsStep};
 
-use crate::ControlFlowGraph;
-use indexmap::IndexSet;
+use crate::{ControlFlowGraph, ListedSet};
 use pliron_laws::OptError;
 use std::alloc::Global;
 
 // Takes the successor at `i` of a node that was taken from the stack, or leaves the node where all its successors are done.
-fn step<C, G: ControlFlowGraph<C>>(
+fn step<C, G: ControlFlowGraph<C>, S: ListedSet<G::Node>>(
     ctx: &C,
     graph: &G,
     node: G::Node,
     i: usize,
-    seen: &mut IndexSet<G::Node>,
+    seen: &mut S,
     post: &mut Vec<G::Node>,
     stack: &mut Vec<(G::Node, usize)>,
 ) -> Result<(), OptError>
     requires lawful { G.is_lawful graph.now ctx.now }
     requires member { Contains (G.graph graph.now ctx.now).nodes node }
-    ensures step { OnOk result (IsStep G.Node.eq (G.graph graph.now ctx.now) (stack.old.items ++ (node, i) ∷ []) seen.old.keys post.old.items stack.new.items seen.new.keys post.new.items) }
+    ensures step { OnOk result (IsStep G.Node.eq (G.graph graph.now ctx.now) (stack.old.items ++ (node, i) ∷ []) (S.listed seen.old) post.old.items stack.new.items (S.listed seen.new) post.new.items) }
     ensures memory { IsOkUnless result OptError.Memory }
 {
     if i < graph.num_successors(ctx, &node) {
@@ -41,18 +40,18 @@ fn step<C, G: ControlFlowGraph<C>>(
 /// The nodes that it passes by are those of `seen`. The stack has each node on the way from the root with the index of its next
 /// successor. Cost: a look-up in `seen` for each edge from a node that is found. Source: R. Tarjan, Depth-first search and linear graph
 /// algorithms, 1972.
-pub fn walk<C, G: ControlFlowGraph<C>>(
+pub fn walk<C, G: ControlFlowGraph<C>, S: ListedSet<G::Node>>(
     alloc: Global,
     ctx: &C,
     graph: &G,
     root: G::Node,
-    seen: &mut IndexSet<G::Node>,
+    seen: &mut S,
     post: &mut Vec<G::Node>,
 ) -> Result<(), OptError>
     requires lawful { G.is_lawful graph.now ctx.now }
     requires member { Contains (G.graph graph.now ctx.now).nodes root }
-    requires unseen { contains G.Node.eq seen.old root ≡ false }
-    ensures grew { OnOk result (Grew G.Node.eq (G.graph graph.now ctx.now) (root ∷ []) seen.old.keys post.old.items seen.new.keys post.new.items) }
+    requires unseen { list_any (G.Node.eq root) (S.listed seen.old) ≡ false }
+    ensures grew { OnOk result (Grew G.Node.eq (G.graph graph.now ctx.now) (root ∷ []) (S.listed seen.old) post.old.items (S.listed seen.new) post.new.items) }
     ensures memory { IsOkUnless result OptError.Memory }
 {
     let mut stack: Vec<(G::Node, usize)> = Vec::new(alloc);

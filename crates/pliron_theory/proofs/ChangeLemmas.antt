@@ -129,22 +129,3 @@ change_widen m t u op b wt wu up linked c = record {
   inside = widen t u op b wt.joined (Directly up) c.inside;
   runs = c.runs;
 }
-
--- what an operation holds stays where it is, when only the inside of one of them changes
-pub held_still : (t u : Tree) (op b : ℕ) → IsTree t → holder_of t b ≡ Some op → IsInsideChange t u b → holder_of u b ≡ Some op
-held_still t u op b wt up h = (sibling t u op b wt.joined up h b up).1
-
--- and so do the lists of what it holds
-pub children_kept : (t u : Tree) (op b : ℕ) → IsTree t → holder_of t b ≡ Some op → IsInsideChange t u b → children u op ≡ children t op
-children_kept t u op b w up h =
-    ap (λ rs. flat_map (λ r. children_of_region u r) rs) rows ∙ flat_map-same (λ r. children_of_region u r) (λ r. children_of_region t r) (regions_of t op) (λ r i. region r (slice_get-In r (regions_of t op) i))
-  where
-    rows : regions_of u op ≡ regions_of t op
-    rows = ap (λ z. z.regions) (holder_row t u op b w.joined up h)
-
-    region : (r : ℕ) → (i : ℕ) × (slice_get (regions_of t op) i ≡ Some r) → children_of_region u r ≡ children_of_region t r
-    region r at =
-        let slot = w.joined.regions op at.0 r at.1 in
-        let of_op : region_parent_of t r ≡ Some op = ap op_of_slot slot in
-        let kept = sibling_region t u op b w.joined up h r (region_by t r (record { op = op; index = at.0 }) slot at.1) of_op in
-        ap (λ bs. flat_map (λ c. body_of u c) bs) kept.2 ∙ flat_map-same (λ c. body_of u c) (λ c. body_of t c) (layout_of t r) (λ c j. (sibling_block t u op b w.joined up h c (ap (λ o. up_from o (λ r. region_parent_of t r)) (w.layouts.owned c r j) ∙ of_op)).2)

@@ -18,6 +18,7 @@ use Rattle.pliron_theory.specs.Renaming.{MayUse, IsReached, HasSameDatum, GivesC
 use Rattle.pliron_theory.proofs.Simulation.{agree_trans}
 use Rattle.pliron_theory.proofs.Frames.{Facts, Makes, Rules, Holding, holding_kept}
 use Rattle.pliron_laws.proofs.Records.{op_shows, block_shows, entry_shows}
+use Rattle.pliron_laws.proofs.BindingLemmas.{bind_other, bound_it}
 use Rattle.pliron_theory.proofs.Reached.{reached_holds}
 use Rattle.pliron_theory.proofs.Reading.{read_data, ready_when_reached}
 use Rattle.pliron_theory.proofs.ReplacedKeeps.{replaced_reads, replaced_renamed, replaced_fit, replaced_agree, replaced_keeps}
@@ -26,25 +27,12 @@ use Rattle.pliron_theory.proofs.ReplacedKeeps.{replaced_reads, replaced_renamed,
 abbrev pub IsOnly : ℕ → Datum → Environment → Type 0
 IsOnly v c env = (d : Datum) → env v ≡ Some d → d ≡ c
 
-bound_other : (env : Environment) (x : ℕ) (y : Datum) (v : ℕ) (c : Datum) → v ≢ x → IsOnly v c env → IsOnly v c (bound env x y)
-unfolding bound
-bound_other env x y v c ne only d e = ⊎_elim
-    (λ s. absurd (ne s.1))
-    (λ n. only d (ap (λ b. if b then Some y else env v) (sym n.0) ∙ e))
-    (eqb_tells v x)
+-- what has the datum already, and what is bound to it
+only_still : (env env1 : Environment) (v : ℕ) (c : Datum) → env1 v ≡ env v → IsOnly v c env → IsOnly v c env1
+only_still env env1 v c same only d e = only d (sym same ∙ e)
 
-bound_it : (env : Environment) (v : ℕ) (c : Datum) → IsOnly v c (bound env v c)
-unfolding bound
-bound_it env v c d e = ⊎_elim
-    (λ s. sym (some_is (ap (λ b. if b then Some c else env v) (sym s.0) ∙ e)))
-    (λ n. absurd (n.1 refl))
-    (eqb_tells v v)
-
-bind_other : (vs : List ℕ) (ds : List Datum) (env env1 : Environment) (v : ℕ) (c : Datum) → (In v vs → ⊥) → bind env vs ds ≡ Some env1 → IsOnly v c env → IsOnly v c env1
-bind_other [] [] env env1 v c f e only = let g : env ≡ env1 = cc in subst (IsOnly v c) g only
-bind_other [] (d ∷ ds) env env1 v c f e only = grind arith
-bind_other (x ∷ vs) [] env env1 v c f e only = grind arith
-bind_other (x ∷ vs) (d ∷ ds) env env1 v c f e only = bind_other vs ds (bound env x d) env1 v c (λ i. f (inr i)) e (bound_other env x d v c (λ s. f (inl s)) only)
+only_bound : (env : Environment) (v : ℕ) (c : Datum) → IsOnly v c (bound env v c)
+only_bound env v c d e = sym (some_is (sym (bound_it env v c v refl) ∙ e))
 
 module _ (m : Meaning) (t : Tree) (w : IsTree t) (root n v : ℕ) (c : Datum) (g : GivesConstant m t n v c) (apart : root ≢ n) where
   abbrev pub facts : Facts
@@ -76,12 +64,12 @@ module _ (m : Meaning) (t : Tree) (w : IsTree t) (root n v : ℕ) (c : Datum) (g
     | inl s ↦
         let h : bind env (v ∷ []) (c ∷ []) ≡ Some env1 = ap₂ (λ p q. bind env p q) (sym (ap (results_of t) s ∙ g.results)) (sym (f s)) ∙ e in
         let same : bound env v c ≡ env1 = some_is h in
-        subst (IsOnly v c) same (bound_it env v c)
-    | inr ne ↦ bind_other (results_of t k) ds env env1 v c (λ i. ne (only_result k i)) e only
+        subst (IsOnly v c) same (only_bound env v c)
+    | inr ne ↦ only_still env env1 v c (bind_other (results_of t k) ds env env1 e v (λ i. ne (only_result k i))) only
   ]
 
   entered_only : (env env1 : Environment) (b : ℕ) (ds : List Datum) → bind env (arguments_of t b) ds ≡ Some env1 → IsOnly v c env → IsOnly v c env1
-  entered_only env env1 b ds e only = bind_other (arguments_of t b) ds env env1 v c (not_argument b) e only
+  entered_only env env1 b ds e only = only_still env env1 v c (bind_other (arguments_of t b) ds env env1 e v (not_argument b)) only
 
   not_visit : (i : ℕ) (ds : List Datum) (next : Datum) → Visit i ds next ≡ Give (c ∷ []) → ⊥
   not_visit i ds next e = cc

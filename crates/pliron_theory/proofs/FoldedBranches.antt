@@ -31,6 +31,7 @@ use Rattle.pliron_laws.specs.Laws.{ForwardsOperands}
 use Rattle.pliron_laws.specs.InPlace.{Outcome, FoldsInPlace}
 use Rattle.pliron_laws.proofs.Records.{operation_of, op_shows, make_op}
 use Rattle.pliron_laws.proofs.LinkedLemmas.{linked_same}
+use Rattle.pliron_laws.proofs.RisingLemmas.{rising_same}
 use Rattle.pliron_theory.proofs.RebranchedStays.{rebranched_linked}
 use Rattle.pliron_theory.proofs.SweptKeeps.{admitted_shape, same_keeps}
 use Rattle.pliron_theory.specs.Refolded.{AreReadAs, IsRefolded}
@@ -51,25 +52,6 @@ app_other (y ∷ xs) x d (suc k) ne = app_other xs x d k (λ e. ne (ap suc e))
 app_same : {A : Type 0} (xs : List A) (x d : A) (n : ℕ) → n ≡ length xs → get_or (xs ++ x ∷ []) n d ≡ x
 app_same [] x d n e = ap (λ z. get_or (x ∷ []) z d) e
 app_same (y ∷ xs) x d n e = ap (λ z. get_or (y ∷ (xs ++ x ∷ [])) z d) e ∙ app_same xs x d (length xs) refl
-
--- rising lists with the same members are one
-head_same : (x y : ℕ) (xs ys : List ℕ) → IsRising (x ∷ xs) → IsRising (y ∷ ys) → In x (y ∷ ys) → In y (x ∷ xs) → x ≡ y
-head_same x y xs ys r s (inl e) q = e
-head_same x y xs ys r s (inr i) (inl e) = sym e
-head_same x y xs ys r s (inr i) (inr j) = let a = s.0 x i in let b = r.0 y j in absurd (omega (arith, a, b))
-
-tail_in : (x y z : ℕ) (ys : List ℕ) → x ≡ y → x < z → In z (y ∷ ys) → In z ys
-tail_in x y z ys e lt (inl s) = absurd (omega (arith, e, lt, s))
-tail_in x y z ys e lt (inr i) = i
-
-rising_same : (xs ys : List ℕ) → IsRising xs → IsRising ys → ((x : ℕ) → In x xs → In x ys) → ((x : ℕ) → In x ys → In x xs) → xs ≡ ys
-rising_same [] [] r s f g = refl
-rising_same [] (y ∷ ys) r s f g = absurd (g y (inl refl))
-rising_same (x ∷ xs) [] r s f g = absurd (f x (inl refl))
-rising_same (x ∷ xs) (y ∷ ys) r s f g =
-    let e = head_same x y xs ys r s (f x (inl refl)) (g y (inl refl)) in
-    let h = rising_same xs ys r.1 s.1 (λ z i. tail_in x y z ys e (r.0 z i) (f z (inr i))) (λ z i. tail_in y x z xs (sym e) (s.0 z i) (g z (inr i))) in
-    cc
 
 module _ (t : Tree) (a op : ℕ) (head : Head) (operands successors : List ℕ) (front : List ℕ) (w : IsTree t) (w' : IsTree (branch_replaced t op head operands successors)) (split : body_of t a ≡ front ++ op ∷ []) (childless : regions_of t op ≡ []) where
   abbrev n : ℕ

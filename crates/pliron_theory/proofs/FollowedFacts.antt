@@ -31,7 +31,7 @@ use Rattle.pliron_theory.specs.Edges.{KeepsEdges}
 use Rattle.pliron_theory.proofs.EdgeLemmas.{edges_same, edges_alike, edges_transitive}
 use Rattle.pliron_theory.proofs.PutEdges.{put_alike, first_alike}
 use Rattle.pliron_theory.proofs.PutInside.{result_inside, argument_inside}
-use Rattle.pliron_theory.proofs.FirstLinks.{linked_first}
+use Rattle.pliron_laws.proofs.PutLinks.{linked_first}
 use Rattle.pliron_laws.specs.Linked.{IsWellLinked}
 use Rattle.pliron_theory.proofs.MaterialisedKeeps.{result_keeps}
 use Rattle.pliron_theory.proofs.SweptKeeps.{same_keeps}

@@ -55,6 +55,5 @@ pub mod ClosedSound
 pub mod ClosedRead
 pub mod CarriedFacts
 pub mod PutFacts
-pub mod FirstLinks
 pub mod PutInside
 pub mod FollowedFacts

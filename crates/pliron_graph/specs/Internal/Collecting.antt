@@ -3,8 +3,9 @@ use Rattle.std.specs.Prelude.{◌≡◌, Bool, IsTrue, List, [], ◌∷◌, ◌+
 use Rattle.std.specs.List.{IsDistinct}
 use Rattle.pliron_search.specs.Digraph.{Digraph}
 use Rattle.pliron_search.specs.Search.{number_in}
-use Rattle.pliron_graph.specs.Components.{Falls, IsCyclic}
+use Rattle.pliron_graph.specs.Components.{Falls, IsCyclic, AreComponents, entry_then_nodes}
 use Rattle.pliron_graph.specs.declared.components.Scc.{Scc}
+use Rattle.pliron_search.specs.Internal.Forest.{Grew}
 use Rattle.pliron_search.specs.Internal.Membership.{In}
 
 -- new is old with those of xs that it lacked
@@ -39,3 +40,8 @@ module _ {N : Type 0} (g : Digraph N) where
     pub same : (x : N) → (Contains c.nodes.items x ↔ In collects.added x)
     pub falls : Falls (number_in eq pre) c.nodes.items
     pub cyclic : IsTrue c.is_cyclic ↔ IsCyclic g c.nodes.items
+
+-- components, with the search whose numbers they have
+pub record AreFound {N : Type 0} (eq : N → N → Bool) (g : Digraph N) (components : List (Scc N)) : Type 0 where
+  pub are : AreComponents eq g components
+  pub grew : Grew eq g (entry_then_nodes g) [] [] are.orders.pre are.orders.post

@@ -1,11 +1,13 @@
 -- A graph by adjacency lists is lawful.
-use Rattle.std.proofs.Common.{◌≡◌, ℕ, zero, suc, ◌+◌, ◌<◌, ◌≤◌, Bool, true, false, List, [], length, sym, ◌∙◌, arith, inl, inr, ◌⊎◌, Contains, true≢false, IfSome, nat_eq, refl}
+use Rattle.std.proofs.Common.{◌≡◌, ℕ, zero, suc, ◌+◌, ◌<◌, ◌≤◌, Bool, true, false, List, [], ◌∷◌, Some, slice_get, map, ap, length, sym, ◌∙◌, arith, inl, inr, ◌⊎◌, Contains, true≢false, IfSome, nat_eq, refl, subst}
 use Rattle.std.specs.List.{All, slice_index_or, IsDistinct, AllByRecursion}
 use Rattle.std.proofs.lemmas.List.Elements.{All-get_or, All-contains}
 use Rattle.std.proofs.lemmas.Bool.{eqb-true, eq-eqb}
 use Rattle.std.proofs.lemmas.Bool.Decides.{eqb_tells}
+use Rattle.std.proofs.lemmas.Option.{slice_get_within, same_Some}
 use Rattle.pliron_search.specs.Digraph.{IsLawful}
 use Rattle.pliron_search.specs.Adjacency.{Adjacency, graph_of, count_from, first_of, row, AreInverse}
+use Rattle.pliron_search.specs.ByNumber.{IsByNumber}
 use Rattle.pliron_search.specs.Internal.Membership.{In, in_from, contains_from, in_from_any, any_from_in}
 
 pub same : (x y : ℕ) → nat_eq x y ≡ true → x ≡ y
@@ -43,7 +45,7 @@ entry (suc n) = contains_from (count_from 0 (suc n)) 0 (inl refl)
 pub node_below : (n v : ℕ) → Contains (count_from 0 n) v → v < n
 node_below n v h = let r = counted 0 n v (in_from (count_from 0 n) v h) in omega (arith, r.1)
 
-below_node : (n v : ℕ) → v < n → Contains (count_from 0 n) v
+pub below_node : (n v : ℕ) → v < n → Contains (count_from 0 n) v
 below_node n v l = contains_from (count_from 0 n) v (count_has 0 n v (omega arith) (omega arith))
 
 in_row : (n : ℕ) (rows : List (List ℕ)) (u v : ℕ) → u < length rows → All (λ r. All (λ x. x < n) r) rows → Contains (row rows u) v → v < n
@@ -61,4 +63,37 @@ adjacency_lawful g h = record {
         λ c. contains_from (row g.succ u) v (in_from_any nat_eq same reflexive (row g.succ u) v (sym both ∙ any_from_in nat_eq same reflexive (row g.pred v) u (in_from (row g.pred v) u c))),
         λ c. contains_from (row g.pred v) u (in_from_any nat_eq same reflexive (row g.pred v) u (both ∙ any_from_in nat_eq same reflexive (row g.succ u) v (in_from (row g.succ u) v c))),
       );
+}
+
+-- the nodes stand in the order of their numbers
+pub count_length : (i n : ℕ) → length (count_from i n) ≡ n
+count_length i zero = refl
+count_length i (suc n) = omega (arith, count_length (i + 1) n)
+
+pub count_at : (i n k : ℕ) → k < n → slice_get (count_from i n) k ≡ Some (i + k)
+count_at i zero k l = absurd (omega (arith, l))
+count_at i (suc n) zero l = ap Some (omega arith)
+count_at i (suc n) (suc k) l = count_at (i + 1) n k (omega (arith, l)) ∙ ap Some (omega arith)
+
+named_row : (n : ℕ) (xs : List ℕ) → ((v : ℕ) → In xs v → v < n) → map Some xs ≡ map (λ j. slice_get (count_from 0 n) j) xs
+named_row n [] h = refl
+named_row n (x ∷ xs) h =
+    let here : Some x ≡ slice_get (count_from 0 n) x = sym (count_at 0 n x (h x (inl refl)) ∙ ap Some (omega arith)) in
+    ap (λ o. o ∷ map Some xs) here ∙ ap (λ zs. slice_get (count_from 0 n) x ∷ zs) (named_row n xs (λ v i. h v (inr i)))
+
+first_counted : (n : ℕ) → first_of (count_from 0 n) ≡ slice_get (count_from 0 n) 0
+first_counted zero = refl
+first_counted (suc n) = refl
+
+pub by_own_number : (g : Adjacency) → AreInverse g → IsByNumber (graph_of g) g
+by_own_number g h = record {
+  inverse = h;
+  same_count = sym (count_length 0 (length g.succ));
+  entry = first_counted (length g.succ);
+  edges = λ k v at.
+      let within : k < length g.succ = omega (arith, slice_get_within (count_from 0 (length g.succ)) k v at, count_length 0 (length g.succ)) in
+      let plain : k ≡ 0 + k = omega arith in
+      let here : k ≡ v = same_Some k v (ap Some plain ∙ sym (count_at 0 (length g.succ) k within) ∙ at) in
+      subst (λ z. map Some (row g.succ z) ≡ map (λ j. slice_get (count_from 0 (length g.succ)) j) (row g.succ k)) here
+      (named_row (length g.succ) (row g.succ k) (λ x i. in_row (length g.succ) g.succ k x within h.succ_below (contains_from (row g.succ k) x i)));
 }

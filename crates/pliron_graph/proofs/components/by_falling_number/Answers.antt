@@ -8,16 +8,16 @@ use Rattle.pliron_graph.proofs.components.by_falling_number.Goals as goal
 pub returns-clause-same_nodes : goal.returns-clause-same_nodes
 returns-clause-same_nodes g c =
     let eq = g.N.PartialEq.eq in
-    let order = c.args.order.now.keys in
+    let order = g.S.ListedSet.listed c.args.order.now in
     let items : c.extend_from_slice.new.self.items ≡ c.args.nodes.now = search rules in
-    let perm : IsPermutation c.args.nodes.now c.sort_by_cached_key.new.self.items = subst (λ xs. IsPermutation xs c.sort_by_cached_key.new.self.items) items c.in_ok-sort_by_cached_key.ensures.permutation in
-    rw c.reverse.ensures.items (reversed_same eq g.met.N.Eq.laws c.requires.same order c.args.nodes.now c.sort_by_cached_key.new.self.items perm)
+    let perm : IsPermutation c.args.nodes.now c.sort_unstable_by_key.new.self.items = subst (λ xs. IsPermutation xs c.sort_unstable_by_key.new.self.items) items c.sort_unstable_by_key.ensures.permutation in
+    rw c.reverse.ensures.items (reversed_same eq g.met.N.Eq.laws c.requires.same order c.args.nodes.now c.sort_unstable_by_key.new.self.items perm)
 
 pub returns-clause-falls : goal.returns-clause-falls
 returns-clause-falls g c =
     let eq = g.N.PartialEq.eq in
-    let order = c.args.order.now.keys in
+    let order = g.S.ListedSet.listed c.args.order.now in
     let items : c.extend_from_slice.new.self.items ≡ c.args.nodes.now = search rules in
-    let perm : IsPermutation c.args.nodes.now c.sort_by_cached_key.new.self.items = subst (λ xs. IsPermutation xs c.sort_by_cached_key.new.self.items) items c.in_ok-sort_by_cached_key.ensures.permutation in
-    let rises = IsNonDecreasingBy-from_sort_by_key (number_in g.N.PartialEq.eq c.args.order.now.keys) _ c.in_ok-sort_by_cached_key.ensures.sorted (λ a r q k. search rules) in
-    rw c.reverse.ensures.items (reversed_falls eq g.met.N.Eq.laws c.requires.same order c.args.nodes.now c.sort_by_cached_key.new.self.items perm c.requires.distinct c.requires.listed rises)
+    let perm : IsPermutation c.args.nodes.now c.sort_unstable_by_key.new.self.items = subst (λ xs. IsPermutation xs c.sort_unstable_by_key.new.self.items) items c.sort_unstable_by_key.ensures.permutation in
+    let rises = IsNonDecreasingBy-from_sort_by_key (number_in g.N.PartialEq.eq (g.S.ListedSet.listed c.args.order.now)) _ c.sort_unstable_by_key.ensures.sorted (λ a r q k. search rules) in
+    rw c.reverse.ensures.items (reversed_falls eq g.met.N.Eq.laws c.requires.same order c.args.nodes.now c.sort_unstable_by_key.new.self.items perm c.requires.distinct c.requires.listed rises)

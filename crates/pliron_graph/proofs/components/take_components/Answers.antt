@@ -2,6 +2,7 @@ use Rattle.std.proofs.Common.{rules, ◌≡◌, [], ◌∷◌, ◌++◌, sym, �
 use Rattle.std.specs.List.{list_any}
 use Rattle.pliron_graph.specs.Components.{entry_then_nodes}
 use Rattle.pliron_search.specs.Search.{number_in}
+use Rattle.pliron_search.proofs.NumberingLemmas.{search_from_growth}
 use Rattle.pliron_graph.proofs.ComponentLemmas.{AreTaken}
 use Rattle.pliron_graph.proofs.TakingLemmas.{all_listed, start, root_member, over, more, finish}
 use Rattle.pliron_graph.proofs.components.take_components.Goals as goal
@@ -14,7 +15,7 @@ loop-root-init g c =
     record {
       gone = [];
       left = sym (append-nil c.args.post.items);
-      taken = rw (c.new-held.ensures.empty, c.new-components.ensures.items) (start eq graph lawful g.met.G.Node.Eq.laws c.args.pre.now.keys c.args.post.items c.requires.search);
+      taken = rw (c.empty-held.ensures.empty, c.new-components.ensures.items) (start eq graph lawful g.met.G.Node.Eq.laws (g.S.ListedSet.listed c.args.pre.now) c.args.post.items (search_from_growth g.G.Node.PartialEq.eq lawful.same g.met.G.Node.Eq.laws.refl graph (entry_then_nodes graph) (g.S.ListedSet.listed c.args.pre.now) c.args.post.items c.requires.grew));
     }
 
 pub loop-root-preserved-then-contains : goal.loop-root-preserved-then-contains
@@ -22,11 +23,11 @@ loop-root-preserved-then-contains g c =
     let eq = g.G.Node.PartialEq.eq in
     let graph = g.G.ControlFlowGraph.graph c.args.graph.now c.args.ctx.now in
     let lawful = g.met.G.ControlFlowGraph.laws c.args.graph.now c.args.ctx.now c.requires.lawful in
-    let there : list_any (eq c.in-Some.root) c.loop-root.held.keys ≡ true = sym c.contains.ensures ∙ c.if-contains.true in
+    let there : list_any (eq c.in-Some.root) (g.S.ListedSet.listed c.loop-root.held) ≡ true = sym c.contains.ensures ∙ c.if-contains.true in
     record {
       gone = c.in-Some.root ∷ c.loop-root.invariant.gone;
       left = c.loop-root.invariant.left ∙ ap (λ xs. xs ++ c.loop-root.invariant.gone) c.in-Some.ensures.items ∙ append_assoc c.pop.new.self.items (c.in-Some.root ∷ []) c.loop-root.invariant.gone;
-      taken = over eq graph lawful g.met.G.Node.Eq.laws c.args.pre.now.keys c.args.post.items c.requires.search c.pop.new.self.items c.loop-root.invariant.gone c.loop-root.post.items c.in-Some.root c.in-Some.ensures.items c.loop-root.invariant.left c.loop-root.held.keys c.loop-root.components.items there c.loop-root.invariant.taken;
+      taken = over eq graph lawful g.met.G.Node.Eq.laws (g.S.ListedSet.listed c.args.pre.now) c.args.post.items (search_from_growth g.G.Node.PartialEq.eq lawful.same g.met.G.Node.Eq.laws.refl graph (entry_then_nodes graph) (g.S.ListedSet.listed c.args.pre.now) c.args.post.items c.requires.grew) c.pop.new.self.items c.loop-root.invariant.gone c.loop-root.post.items c.in-Some.root c.in-Some.ensures.items c.loop-root.invariant.left (g.S.ListedSet.listed c.loop-root.held) c.loop-root.components.items there c.loop-root.invariant.taken;
     }
 
 pub take_component-requires-clause-member : goal.take_component-requires-clause-member
@@ -34,31 +35,31 @@ take_component-requires-clause-member g c =
     let eq = g.G.Node.PartialEq.eq in
     let graph = g.G.ControlFlowGraph.graph c.args.graph.now c.args.ctx.now in
     let lawful = g.met.G.ControlFlowGraph.laws c.args.graph.now c.args.ctx.now c.requires.lawful in
-    root_member eq graph lawful g.met.G.Node.Eq.laws c.args.pre.now.keys c.args.post.items c.requires.search c.pop.new.self.items c.loop-root.invariant.gone c.loop-root.post.items c.in-Some.root c.in-Some.ensures.items c.loop-root.invariant.left
+    root_member eq graph lawful g.met.G.Node.Eq.laws (g.S.ListedSet.listed c.args.pre.now) c.args.post.items (search_from_growth g.G.Node.PartialEq.eq lawful.same g.met.G.Node.Eq.laws.refl graph (entry_then_nodes graph) (g.S.ListedSet.listed c.args.pre.now) c.args.post.items c.requires.grew) c.pop.new.self.items c.loop-root.invariant.gone c.loop-root.post.items c.in-Some.root c.in-Some.ensures.items c.loop-root.invariant.left
 
 pub take_component-requires-clause-listed : goal.take_component-requires-clause-listed
 take_component-requires-clause-listed g c =
     let graph = g.G.ControlFlowGraph.graph c.args.graph.now c.args.ctx.now in
     let lawful = g.met.G.ControlFlowGraph.laws c.args.graph.now c.args.ctx.now c.requires.lawful in
-    all_listed g.G.Node.PartialEq.eq graph lawful g.met.G.Node.Eq.laws c.args.pre.now.keys c.args.post.items c.requires.search
+    all_listed g.G.Node.PartialEq.eq graph lawful g.met.G.Node.Eq.laws (g.S.ListedSet.listed c.args.pre.now) c.args.post.items (search_from_growth g.G.Node.PartialEq.eq lawful.same g.met.G.Node.Eq.laws.refl graph (entry_then_nodes graph) (g.S.ListedSet.listed c.args.pre.now) c.args.post.items c.requires.grew)
 
 pub loop-root-preserved : goal.loop-root-preserved
 loop-root-preserved g c =
     let eq = g.G.Node.PartialEq.eq in
     let graph = g.G.ControlFlowGraph.graph c.args.graph.now c.args.ctx.now in
     let lawful = g.met.G.ControlFlowGraph.laws c.args.graph.now c.args.ctx.now c.requires.lawful in
-    let unheld : list_any (eq c.in-Some.root) c.loop-root.held.keys ≡ false = sym c.contains.ensures ∙ c.if-contains.false in
+    let unheld : list_any (eq c.in-Some.root) (g.S.ListedSet.listed c.loop-root.held) ≡ false = sym c.contains.ensures ∙ c.if-contains.false in
     record {
       gone = c.in-Some.root ∷ c.loop-root.invariant.gone;
       left = c.loop-root.invariant.left ∙ ap (λ xs. xs ++ c.loop-root.invariant.gone) c.in-Some.ensures.items ∙ append_assoc c.pop.new.self.items (c.in-Some.root ∷ []) c.loop-root.invariant.gone;
-      taken = rw c.in_ok-push.ensures.items (more eq graph lawful g.met.G.Node.Eq.laws c.args.pre.now.keys c.args.post.items c.requires.search c.pop.new.self.items c.loop-root.invariant.gone c.loop-root.post.items c.in-Some.root c.in-Some.ensures.items c.loop-root.invariant.left c.loop-root.held.keys c.take_component.new.held.keys c.loop-root.components.items _ unheld c.in_ok-take_component.ensures.taken c.loop-root.invariant.taken);
+      taken = rw c.in_ok-push.ensures.items (more eq graph lawful g.met.G.Node.Eq.laws (g.S.ListedSet.listed c.args.pre.now) c.args.post.items (search_from_growth g.G.Node.PartialEq.eq lawful.same g.met.G.Node.Eq.laws.refl graph (entry_then_nodes graph) (g.S.ListedSet.listed c.args.pre.now) c.args.post.items c.requires.grew) c.pop.new.self.items c.loop-root.invariant.gone c.loop-root.post.items c.in-Some.root c.in-Some.ensures.items c.loop-root.invariant.left (g.S.ListedSet.listed c.loop-root.held) (g.S.ListedSet.listed c.take_component.new.held) c.loop-root.components.items _ unheld c.in_ok-take_component.ensures.taken c.loop-root.invariant.taken);
     }
 
-pub returns-clause-components : goal.returns-clause-components
-returns-clause-components g c =
+pub returns-clause-found : goal.returns-clause-found
+returns-clause-found g c =
     let eq = g.G.Node.PartialEq.eq in
     let graph = g.G.ControlFlowGraph.graph c.args.graph.now c.args.ctx.now in
     let lawful = g.met.G.ControlFlowGraph.laws c.args.graph.now c.args.ctx.now c.requires.lawful in
     let empty : length c.loop-root.post.items ≡ 0 = search rules in
-    finish eq graph lawful g.met.G.Node.Eq.laws c.args.pre.now.keys c.args.post.items c.requires.search c.loop-root.held.keys c.loop-root.components.items
-    (subst (AreTaken graph (entry_then_nodes graph) (number_in eq c.args.pre.now.keys) (number_in eq c.args.post.items) c.loop-root.held.keys c.loop-root.components.items) empty c.loop-root.invariant.taken)
+    finish eq graph lawful g.met.G.Node.Eq.laws (g.S.ListedSet.listed c.args.pre.now) c.args.post.items (search_from_growth g.G.Node.PartialEq.eq lawful.same g.met.G.Node.Eq.laws.refl graph (entry_then_nodes graph) (g.S.ListedSet.listed c.args.pre.now) c.args.post.items c.requires.grew) c.requires.grew (g.S.ListedSet.listed c.loop-root.held) c.loop-root.components.items
+    (subst (AreTaken graph (entry_then_nodes graph) (number_in eq (g.S.ListedSet.listed c.args.pre.now)) (number_in eq c.args.post.items) (g.S.ListedSet.listed c.loop-root.held) c.loop-root.components.items) empty c.loop-root.invariant.taken)

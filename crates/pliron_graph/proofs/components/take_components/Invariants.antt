@@ -11,7 +11,7 @@ invariant-loop-root g l =
     record {
       gone : List g.row.G-Node.Denot;
       left : l.initial.post.items ≡ l.post.items ++ gone;
-      taken : AreTaken graph (entry_then_nodes graph) (number_in eq l.pre.keys) (number_in eq l.initial.post.items) l.held.keys l.components.items (length l.post.items);
+      taken : AreTaken graph (entry_then_nodes graph) (number_in eq (g.S.ListedSet.listed l.pre)) (number_in eq l.initial.post.items) (g.S.ListedSet.listed l.held) l.components.items (length l.post.items);
     }
 
 abbrev pub decreases-loop-root : goal.decreases-loop-root

@@ -1,6 +1,7 @@
 use Rattle.pliron_core.specs.Tree.IsInside.{Directly}
 use Rattle.pliron_core.proofs.HoldingLemmas.{holder_live}
-use Rattle.pliron_theory.proofs.ChangeLemmas.{linked_inside, change_widen, held_still, children_kept}
+use Rattle.pliron_core.proofs.AroundLemmas.{held_still, children_kept}
+use Rattle.pliron_theory.proofs.ChangeLemmas.{linked_inside, change_widen}
 use Rattle.pliron_pass.proofs.nested.run_held.Goals as goal
 
 pub run_inner-ran-requires-clause-live : goal.run_inner-ran-requires-clause-live

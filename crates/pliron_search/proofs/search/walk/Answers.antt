@@ -7,10 +7,10 @@ use Rattle.pliron_search.proofs.search.walk.Goals as goal
 pub loop-node-init : goal.loop-node-init
 loop-node-init g c =
     let graph = g.G.ControlFlowGraph.graph c.args.graph.now c.args.ctx.now in
-    let keys = goes_last g.G.Node.PartialEq.eq c.args.seen.now.keys c.insert.new.self.keys c.args.root c.requires.unseen c.in_ok-insert.ensures.keys in
+    let keys = goes_last g.G.Node.PartialEq.eq (g.S.ListedSet.listed c.args.seen.now) (g.S.ListedSet.listed c.insert.new.self) c.args.root c.requires.unseen c.in_ok-insert.ensures.keys in
     let all = All-push (λ (x : g.row.G-Node.Denot × ℕ). Contains graph.nodes x.0) [] (c.args.root, 0) (All-nil (λ (x : g.row.G-Node.Denot × ℕ). Contains graph.nodes x.0)) c.requires.member in
     rw (c.in_ok-push.ensures.items, c.new-stack.ensures.items, keys) (record {
-      rest = λ p q u. started g.G.Node.PartialEq.eq graph c.args.root c.args.seen.now.keys c.args.post.now.items p q c.requires.unseen u;
+      rest = λ p q u. started g.G.Node.PartialEq.eq graph c.args.root (g.S.ListedSet.listed c.args.seen.now) c.args.post.now.items p q c.requires.unseen u;
       nodes = all;
     })
 

@@ -1,4 +1,4 @@
-use Rattle.pliron_theory.proofs.FirstLinks.{linked_first}
+use Rattle.pliron_laws.proofs.PutLinks.{linked_first}
 use Rattle.pliron_theory.proofs.theory.constants_first_keep_links.Goals as goal
 
 pub returns : goal.returns

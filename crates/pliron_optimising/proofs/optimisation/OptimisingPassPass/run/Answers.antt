@@ -1,6 +1,6 @@
 use Rattle.std.proofs.Common.{rules, ◌≡◌, refl, Err}
 use Rattle.pliron_pass.specs.Stage.{stage}
-use Rattle.pliron_optimising.specs.Optimising.{RunsOptimisation, RunsOptimisation.Refused}
+use Rattle.pliron_optimising.specs.Optimising.{RunsOptimisation.Refused}
 use Rattle.pliron_optimising.proofs.EffectLemmas.{fresh_kept, fresh_none, ran_keeping, ran_losing}
 use Rattle.pliron_optimising.proofs.optimisation.OptimisingPassPass.run.Goals as goal
 
@@ -16,7 +16,7 @@ returns-then-effect-clause-fresh g c =
 
 pub returns-then-effect-clause-outcome : goal.returns-then-effect-clause-outcome
 returns-then-effect-clause-outcome g c =
-    ran_keeping g.E.Kind.PartialEq.eq g.E.Analyses.reads_edges_alone g.O.Optimisation.outcome c.args.op (stage c.args.ctx.now c.args.analyses.now) (stage c.optimise.new.ctx c.args.analyses.now) refl refl c.in_ok-effect.effect c.if-effect.true c.keep_edge_kinds.result c.in_ok-effect.ensures.outcome c.keep_edge_kinds.ensures.changed c.keep_edge_kinds.ensures.kept c.keep_edge_kinds.ensures.memory
+    ran_keeping g.E.Kind.PartialEq.eq g.E.Analyses.reads_edges_alone g.O.Optimisation.outcome c.args.op (stage c.args.ctx.now c.args.analyses.now) (stage c.optimise.new.ctx c.args.analyses.now) refl refl c.in_ok-effect.effect c.in_ok-effect.ensures.tells c.if-effect.true c.keep_edge_kinds.result c.in_ok-effect.ensures.outcome c.keep_edge_kinds.ensures.changed c.keep_edge_kinds.ensures.kept c.keep_edge_kinds.ensures.memory
 
 pub returns-else-effect-clause-fresh : goal.returns-else-effect-clause-fresh
 returns-else-effect-clause-fresh g c =
@@ -25,4 +25,4 @@ returns-else-effect-clause-fresh g c =
 
 pub returns-else-effect-clause-outcome : goal.returns-else-effect-clause-outcome
 returns-else-effect-clause-outcome g c =
-    ran_losing g.E.Kind.PartialEq.eq g.E.Analyses.reads_edges_alone g.O.Optimisation.outcome c.args.op (stage c.args.ctx.now c.args.analyses.now) (stage c.optimise.new.ctx c.args.analyses.now) refl refl c.in_ok-effect.effect c.if-effect.false c.preserving_none.result c.in_ok-effect.ensures.outcome c.preserving_none.ensures.changed c.preserving_none.ensures.kept
+    ran_losing g.E.Kind.PartialEq.eq g.E.Analyses.reads_edges_alone g.O.Optimisation.outcome c.args.op (stage c.args.ctx.now c.args.analyses.now) (stage c.optimise.new.ctx c.args.analyses.now) refl refl c.in_ok-effect.effect c.in_ok-effect.ensures.tells c.if-effect.false c.preserving_none.result c.in_ok-effect.ensures.outcome c.preserving_none.ensures.changed c.preserving_none.ensures.kept

@@ -3,8 +3,13 @@ use Rattle.std.proofs.lemmas.Iterator.Consumers.{map_from_collect}
 use Rattle.std.proofs.lemmas.Iterator.Splits.{YieldsList-from_str_split}
 use Rattle.pliron_program.proofs.plan.Plan.of.Goals as goal
 
-pub returns-clause-text : goal.returns-clause-text
-returns-clause-text c =
+pub returns-clause-list : goal.returns-clause-list
+returns-clause-list c =
     let list = c.nested_list-nested.result.1.now in
     let pieces = YieldsList-from_str_split 44 list (lit< tt) c.split.ensures.text c.split.ensures.has_more c.split.ensures.pattern in
-    (list, c.nested_list-nested.ensures, map_from_collect {E = ℕ} (Ok c.in_ok-names.names) c.in_ok-names.ensures.ran pieces)
+    record {
+      list = list;
+      whole = c.nested_list-nested.ensures.whole;
+      exact = c.nested_list-nested.ensures.exact;
+      pieces = map_from_collect {E = ℕ} (Ok c.in_ok-names.names) c.in_ok-names.ensures.ran pieces;
+    }

@@ -1,8 +1,0 @@
-use Rattle.pliron_pass.specs.Stage.{stage}
-use Rattle.pliron_opts.proofs.RunLemmas.{runs_alone}
-use Rattle.pliron_opts.proofs.program.run_schedule.Goals as goal
-
-pub returns-clause-ran : goal.returns-clause-ran
-returns-clause-ran c =
-    let made = c.new-analyses.ensures in
-    runs_alone _ _ c.args.schedule c.run_pipeline.new.pass c.args.root (stage c.args.ctx.now c.new-analyses.result) (stage c.run_pipeline.new.ctx c.run_pipeline.new.analyses) c.run_pipeline.result made.cache record { count = made.count; skips_none = made.skips; before_none = made.before; after_none = made.after } c.run_pipeline.ensures.outcome

@@ -1,0 +1,15 @@
+-- What the bench notation reads.
+use Rattle.std.specs.Prelude.{ℕ, List, ⊤}
+use Rattle.pliron_core.specs.Tree.{Tree}
+use Rattle.pliron_core.specs.Writes.{no_tree}
+use Rattle.pliron_laws.specs.Linked.{IsWellLinked}
+use Rattle.pliron_bench.specs.BenchMoves.{bench}
+use Rattle.pliron_notation.specs.Building.{IsGrown}
+
+-- the tree is one new operation with what stands inside it, and it is well linked; which one the text says is open
+abbrev pub ReadsBench : List ℕ → Tree → ℕ → Type 0
+ReadsBench text tree root = IsGrown no_tree tree root × IsWellLinked bench tree root
+
+-- how it is printed is open
+abbrev pub PrintsBench : Tree → ℕ → List ℕ → Type 0
+PrintsBench tree root text = ⊤
