@@ -3,27 +3,17 @@ use crate::cases::block_of;
 use pliron_core::{Context, Operation, Ptr};
 use pliron_meaning::{Dialect, Interface};
 use std::alloc::Global;
-use std::process::Abort;
 
-/// The answer on side effects.
-pub fn effects<D: Dialect>(
-    rt: &impl Abort,
-    alloc: Global,
-    ctx: &Context,
-    op: Ptr<Operation>,
-) -> String {
-    assert!(rt; op.is_live(ctx));
-    assert!(rt; D::admits(op, ctx));
-    format!(in alloc; "{:?}", D::has_side_effects(op, ctx)).expect(rt, "memory")
+/// The answer on side effects; none where the dialect doesn't admit the operation.
+pub fn effects<D: Dialect>(alloc: Global, ctx: &Context, op: Ptr<Operation>) -> Option<String> {
+    if !op.is_live(ctx) || !D::admits(op, ctx) {
+        return None;
+    }
+    format!(in alloc; "{:?}", D::has_side_effects(op, ctx)).ok()
 }
 
 /// The interfaces that the operation implements, a blank before each.
-pub fn interfaces<D: Dialect>(
-    rt: &impl Abort,
-    alloc: Global,
-    ctx: &Context,
-    op: Ptr<Operation>,
-) -> String {
+pub fn interfaces<D: Dialect>(alloc: Global, ctx: &Context, op: Ptr<Operation>) -> Option<String> {
     let all = [
         Interface::SideEffects,
         Interface::BlockArgRemoval,
@@ -32,28 +22,32 @@ pub fn interfaces<D: Dialect>(
         Interface::Branch,
         Interface::Terminator,
     ];
-    assert!(rt; op.is_live(ctx));
+    if !op.is_live(ctx) {
+        return None;
+    }
     let mut names = String::new(alloc);
     for interface in &all {
         if D::implements(op, ctx, *interface) {
-            write!(names, " {interface:?}").expect(rt, "memory");
+            write!(names, " {interface:?}").ok()?;
         }
     }
-    names
+    Some(names)
 }
 
 /// Whether arguments of the block with this index in the operation may be removed.
 pub fn removable<D: Dialect>(
-    rt: &impl Abort,
     alloc: Global,
     ctx: &Context,
     op: Ptr<Operation>,
     index: usize,
-) -> String {
-    let block = block_of(rt, ctx, op, index);
-    assert!(rt; op.is_live(ctx));
-    assert!(rt; block.is_live(ctx));
-    let region = block.get_parent_region(ctx).expect(rt, "a region");
-    assert_eq!(rt; region.get_parent_op(ctx), op);
-    format!(in alloc; "{:?}", D::can_remove_block_args(op, ctx, block)).expect(rt, "memory")
+) -> Option<String> {
+    let block = block_of(ctx, op, index)?;
+    if !op.is_live(ctx) || !block.is_live(ctx) {
+        return None;
+    }
+    let region = block.get_parent_region(ctx)?;
+    if region.get_parent_op(ctx) != op {
+        return None;
+    }
+    format!(in alloc; "{:?}", D::can_remove_block_args(op, ctx, block)).ok()
 }

@@ -2,7 +2,8 @@
 //! what a dialect answers as texts, what is seen of runs, branches that lose a value, and a rewriter that
 //! counts.
 //!
-//! It knows the names that users of the meaning take, and holds no test.
+//! It knows the names that users of the meaning take, and holds no test. A call answers nothing where its
+//! case can't be read or done, or memory is refused.
 #![tactic(auto)]
 
 pub mod answers;

@@ -14,7 +14,6 @@ use pliron_core::{
 };
 use pliron_meaning::TinyKind;
 use std::alloc::Global;
-use std::process::Abort;
 
 /// What was made.
 #[derive(Drop)]
@@ -34,31 +33,27 @@ impl Made {
         }
     }
 
-    pub fn operation(&self, rt: &impl Abort, word: &str) -> Ptr<Operation> {
-        *self
-            .operations
-            .get(number(rt, word))
-            .expect(rt, "an operation")
+    pub fn operation(&self, word: &str) -> Option<Ptr<Operation>> {
+        self.operations.get(number(word)?).copied()
     }
 
-    pub fn block(&self, rt: &impl Abort, word: &str) -> Ptr<BasicBlock> {
-        *self.blocks.get(number(rt, word)).expect(rt, "a block")
+    pub fn block(&self, word: &str) -> Option<Ptr<BasicBlock>> {
+        self.blocks.get(number(word)?).copied()
     }
 
-    pub fn value(&self, rt: &impl Abort, word: &str) -> Value {
-        *self.values.get(number(rt, word)).expect(rt, "a value")
+    pub fn value(&self, word: &str) -> Option<Value> {
+        self.values.get(number(word)?).copied()
     }
 }
 
 /// A new operation of this kind, with the number for its attribute.
 fn operation(
-    rt: &impl Abort,
     alloc: Global,
     ctx: &mut Context,
     made: &mut Made,
     name: &str,
     number: i128,
-) -> Ptr<Operation> {
+) -> Option<Ptr<Operation>> {
     let (kind, results, regions) = match name {
         "const" => (TinyKind::Const.number(), 1, 0),
         "ask" => (TinyKind::Ask.number(), 1, 0),
@@ -67,104 +62,105 @@ fn operation(
         _ => (u32::try_from(number).unwrap_or(u32::MAX), 1, 0),
     };
     let mut attrs = Vec::new(alloc);
-    attrs.push(AttrObj::Int(number)).expect(rt, "memory");
+    attrs.push(AttrObj::Int(number)).ok()?;
     let head = Head {
         kind,
         ssa: true,
         attrs: Attrs::new(attrs),
     };
-    let op = Operation::create(ctx, head, results, regions).expect(rt, "memory");
-    made.operations.push(op).expect(rt, "memory");
+    let op = Operation::create(ctx, head, results, regions).ok()?;
+    made.operations.push(op).ok()?;
     if results == 1 {
-        made.values.push(op.get_result(ctx, 0)).expect(rt, "memory");
+        made.values.push(op.get_result(ctx, 0)).ok()?;
     }
-    op
+    Some(op)
 }
 
 /// A new last block of the operation's region.
 fn block(
-    rt: &impl Abort,
     ctx: &mut Context,
     made: &mut Made,
     op: Ptr<Operation>,
     arguments: usize,
-) {
-    assert!(rt; op.is_live(ctx));
-    assert_eq!(rt; op.num_region(ctx), 1);
-    let block = BasicBlock::create(ctx, op.get_region(ctx, 0), arguments).expect(rt, "memory");
-    made.blocks.push(block).expect(rt, "memory");
-    assert!(rt; block.is_live(ctx));
-    for i in 0..block.num_argument(ctx) {
-        made.values
-            .push(block.get_argument(ctx, i))
-            .expect(rt, "memory");
+) -> Option<Ptr<BasicBlock>> {
+    if !op.is_live(ctx) || op.num_region(ctx) != 1 {
+        return None;
     }
+    let block = BasicBlock::create(ctx, op.get_region(ctx, 0), arguments).ok()?;
+    made.blocks.push(block).ok()?;
+    if !block.is_live(ctx) {
+        return None;
+    }
+    for i in 0..block.num_argument(ctx) {
+        made.values.push(block.get_argument(ctx, i)).ok()?;
+    }
+    Some(block)
 }
 
 /// The operation becomes the last of the block.
-fn put(rt: &impl Abort, ctx: &mut Context, op: Ptr<Operation>, block: Ptr<BasicBlock>) {
-    assert!(rt; block.is_live(ctx));
-    assert!(rt; op.is_live(ctx));
-    assert!(rt; !op.holds_block(block, ctx));
+fn put(ctx: &mut Context, op: Ptr<Operation>, block: Ptr<BasicBlock>) -> Option<()> {
+    if !block.is_live(ctx) || !op.is_live(ctx) || op.holds_block(block, ctx) {
+        return None;
+    }
     IRRewriter::new().move_operation_to_end(ctx, op, block);
+    Some(())
 }
 
 /// The operation gets its place, an operand or a successor.
-fn give(rt: &impl Abort, ctx: &mut Context, made: &Made, op: Ptr<Operation>, word: &str) {
+fn give(ctx: &mut Context, made: &Made, op: Ptr<Operation>, word: &str) -> Option<()> {
     if let Some(index) = word.strip_prefix('@') {
-        put(rt, ctx, op, made.block(rt, index));
+        return put(ctx, op, made.block(index)?);
     }
     if let Some(index) = word.strip_prefix('v') {
-        let value = made.value(rt, index);
-        assert!(rt; op.is_live(ctx));
-        assert!(rt; value.is_live(ctx));
-        Operation::push_operand(ctx, op, value).expect(rt, "memory");
+        let value = made.value(index)?;
+        if !op.is_live(ctx) || !value.is_live(ctx) {
+            return None;
+        }
+        return Operation::push_operand(ctx, op, value).ok();
     }
     if let Some(index) = word.strip_prefix('b') {
-        let block = made.block(rt, index);
-        assert!(rt; op.is_live(ctx));
-        assert!(rt; block.is_live(ctx));
-        Operation::push_successor(ctx, op, block).expect(rt, "memory");
+        let block = made.block(index)?;
+        if !op.is_live(ctx) || !block.is_live(ctx) {
+            return None;
+        }
+        return Operation::push_successor(ctx, op, block).ok();
     }
+    Some(())
 }
 
 /// Does a step.
-fn step(rt: &impl Abort, alloc: Global, ctx: &mut Context, made: &mut Made, text: &str) {
+fn step(alloc: Global, ctx: &mut Context, made: &mut Made, text: &str) -> Option<()> {
     let (name, rest) = text.split_once(' ').unwrap_or((text, ""));
     if name == "block" {
         let (op, arguments) = rest.split_once(' ').unwrap_or((rest, "0"));
-        let op = made.operation(rt, op);
-        return block(rt, ctx, made, op, number(rt, arguments));
+        let op = made.operation(op)?;
+        block(ctx, made, op, number(arguments)?)?;
+        return Some(());
     }
     let (first, _) = rest.split_once(' ').unwrap_or((rest, ""));
     let op = if name == "on" {
-        made.operation(rt, first)
+        made.operation(first)?
     } else {
-        operation(
-            rt,
-            alloc,
-            ctx,
-            made,
-            name,
-            first.parse::<i128>().unwrap_or(0),
-        )
+        operation(alloc, ctx, made, name, first.parse::<i128>().unwrap_or(0))?
     };
     for word in rest.split_ascii_whitespace() {
-        give(rt, ctx, made, op, word);
+        give(ctx, made, op, word)?;
     }
+    Some(())
 }
 
 /// Does the steps, which `; ` sets apart.
-pub fn make(rt: &impl Abort, alloc: Global, ctx: &mut Context, made: &mut Made, steps: &str) {
+pub fn make(alloc: Global, ctx: &mut Context, made: &mut Made, steps: &str) -> Option<()> {
     for text in steps.split(';') {
-        step(rt, alloc, ctx, made, text.trim());
+        step(alloc, ctx, made, text.trim())?;
     }
+    Some(())
 }
 
 /// Does the steps behind a number, and answers the operation with this number.
-pub fn build(rt: &impl Abort, alloc: Global, ctx: &mut Context, case: &str) -> Ptr<Operation> {
-    let (index, steps) = fields(rt, case);
+pub fn build(alloc: Global, ctx: &mut Context, case: &str) -> Option<Ptr<Operation>> {
+    let (index, steps) = fields(case)?;
     let mut made = Made::new(alloc);
-    make(rt, alloc, ctx, &mut made, steps);
-    made.operation(rt, index)
+    make(alloc, ctx, &mut made, steps)?;
+    made.operation(index)
 }

@@ -124,9 +124,9 @@ fn sight(rt: &impl Abort, alloc: Global, side: &str) -> Sight {
 
 fn runs_in(rt: &impl Abort, alloc: Global, ctx: &mut Context) {
     for case in RUNS.lines() {
-        let (asked, want) = sides(rt, case);
+        let (asked, want) = sides(case).expect(rt, "a case");
         let (text, inputs, world) = last_fields(rt, asked);
-        let root = read(rt, alloc, ctx, text);
+        let root = read(alloc, ctx, text).expect(rt, "a text");
         let inputs = data(rt, alloc, inputs);
         let got = evaluate::<Bench>(
             alloc,
@@ -139,7 +139,7 @@ fn runs_in(rt: &impl Abort, alloc: Global, ctx: &mut Context) {
         assert_eq!(rt; got, sight(rt, alloc, want), "{case}");
     }
     // An operation of no kind traps.
-    let root = build(rt, alloc, ctx, "0 / kind 16");
+    let root = build(alloc, ctx, "0 / kind 16").expect(rt, "a tree");
     let got = evaluate::<Bench>(alloc, ctx, root, Vec::new(alloc), Vec::new(alloc), ENOUGH).expect(
         rt, "memory",
     );
@@ -161,23 +161,30 @@ fn seen(
 
 fn trees_in(rt: &impl Abort, alloc: Global, ctx: &mut Context) {
     for case in TREES.lines() {
-        let (asked, want) = sides(rt, case);
+        let (asked, want) = sides(case).expect(rt, "a case");
         let (steps, inputs, world) = last_fields(rt, asked);
-        let root = build(rt, alloc, ctx, steps);
+        let root = build(alloc, ctx, steps).expect(rt, "a tree");
         let got = seen(rt, alloc, ctx, root, (inputs, world), ENOUGH);
         assert_eq!(rt; got, sight(rt, alloc, want), "{case}");
     }
-    let root = build(rt, alloc, ctx, LOOP);
+    let root = build(alloc, ctx, LOOP).expect(rt, "a tree");
     for case in BOUNDS.lines() {
         let (fuel, effects) = case.split_once(" =>").expect(rt, "a case");
-        let got = seen(rt, alloc, ctx, root, ("", "8 8 8"), number(rt, fuel));
+        let got = seen(
+            rt,
+            alloc,
+            ctx,
+            root,
+            ("", "8 8 8"),
+            number(fuel).expect(rt, "a number"),
+        );
         assert_eq!(rt; got, Sight::Reached(data(rt, alloc, effects)), "{case}");
     }
 }
 
 /// A root that was erased traps, and a constant's text is given as it is.
 fn roots_in(rt: &impl Abort, alloc: Global, ctx: &mut Context) {
-    let root = build(rt, alloc, ctx, "0 / ask");
+    let root = build(alloc, ctx, "0 / ask").expect(rt, "a tree");
     assert!(rt; root.is_live(ctx));
     assert!(rt; root.is_self_contained(ctx));
     IRRewriter::new().erase_operation(ctx, root);

@@ -1,9 +1,7 @@
 //! What the dialect `Bench` answers, on texts of its notation and asked through the traits, and what
 //! folding constants in place leaves: by values worked out by hand.
 use pliron_cases::answers::{effects, interfaces, removable};
-use pliron_cases::cases::{
-    all_known, check, fields, known, line, number, operation_at, read, sides,
-};
+use pliron_cases::cases::{all_known, fields, known, line, number, operation_at, read, sides};
 use pliron_cases::listener::Counting;
 use pliron_cases::trees::build;
 use pliron_core::{AttrObj, Context, IRStatus, Operation, Ptr, Rewriter};
@@ -55,39 +53,44 @@ root / 1 => Some(true)
 1 / 1 => Some(true)";
 
 fn effects_in(rt: &impl Abort, alloc: Global, ctx: &mut Context) {
-    let root = read(rt, alloc, ctx, KINDS);
+    let root = read(alloc, ctx, KINDS).expect(rt, "a text");
     for case in EFFECTS.lines() {
-        let (place, want) = sides(rt, case);
-        let op = operation_at(rt, ctx, root, place);
-        let answer = effects::<Bench>(rt, alloc, ctx, op);
-        check(rt, answer.as_str(), want, case);
+        let (place, want) = sides(case).expect(rt, "a case");
+        let op = operation_at(ctx, root, place).expect(rt, "an operation");
+        let answer = effects::<Bench>(alloc, ctx, op).expect(rt, "an answer");
+        assert_eq!(rt; answer.as_str(), want, "{case}");
     }
 }
 
 fn interfaces_in(rt: &impl Abort, alloc: Global, ctx: &mut Context) {
     for case in INTERFACES.lines() {
         let (text, want) = case.split_once(" =>").expect(rt, "a case");
-        let root = read(rt, alloc, ctx, text);
-        let op = operation_at(rt, ctx, root, "0");
-        let answer = interfaces::<Bench>(rt, alloc, ctx, op);
-        check(rt, answer.as_str(), want, case);
+        let root = read(alloc, ctx, text).expect(rt, "a text");
+        let op = operation_at(ctx, root, "0").expect(rt, "an operation");
+        let answer = interfaces::<Bench>(alloc, ctx, op).expect(rt, "an answer");
+        assert_eq!(rt; answer.as_str(), want, "{case}");
     }
 }
 
 fn removals_in(rt: &impl Abort, alloc: Global, ctx: &mut Context) {
-    let root = read(rt, alloc, ctx, HOLDERS);
+    let root = read(alloc, ctx, HOLDERS).expect(rt, "a text");
     for case in REMOVALS.lines() {
-        let (asked, want) = sides(rt, case);
-        let (place, index) = fields(rt, asked);
-        let op = operation_at(rt, ctx, root, place);
-        let answer = removable::<Bench>(rt, alloc, ctx, op, number(rt, index));
-        check(rt, answer.as_str(), want, case);
+        let (asked, want) = sides(case).expect(rt, "a case");
+        let (place, index) = fields(asked).expect(rt, "two fields");
+        let op = operation_at(ctx, root, place).expect(rt, "an operation");
+        let answer = removable::<Bench>(
+            alloc,
+            ctx,
+            op,
+            number(index).expect(rt, "a number"),
+        ).expect(rt, "an answer");
+        assert_eq!(rt; answer.as_str(), want, "{case}");
     }
 }
 
 /// An operation of another dialect: this one has no answer on it.
 fn check_outside(rt: &impl Abort, alloc: Global, ctx: &mut Context) {
-    let op = build(rt, alloc, ctx, "0 / kind 16");
+    let op = build(alloc, ctx, "0 / kind 16").expect(rt, "a tree");
     assert!(rt; op.is_live(ctx));
     assert!(rt; !Bench::admits(op, ctx));
     assert_eq!(rt; Bench::has_side_effects(op, ctx), None);
@@ -144,7 +147,7 @@ fn folded(
     op: Ptr<Operation>,
     words: &str,
 ) -> Option<i128> {
-    let operands = all_known(rt, alloc, words);
+    let operands = all_known(alloc, words).expect(rt, "memory");
     assert!(rt; op.is_live(ctx));
     assert!(rt; Bench::folds(op, ctx));
     assert_eq!(rt; op.num_operand(ctx), operands.len());
@@ -159,11 +162,11 @@ fn folded(
 
 fn folds_in(rt: &impl Abort, alloc: Global, ctx: &mut Context) {
     let text = "func { b0(x, y): a = add x y; b = mul x y; c = div x y }";
-    let root = read(rt, alloc, ctx, text);
+    let root = read(alloc, ctx, text).expect(rt, "a text");
     for (place, table) in [("0", SUMS), ("1", PRODUCTS), ("2", QUOTIENTS)] {
-        let op = operation_at(rt, ctx, root, place);
+        let op = operation_at(ctx, root, place).expect(rt, "an operation");
         for case in table.lines() {
-            let (words, want) = sides(rt, case);
+            let (words, want) = sides(case).expect(rt, "a case");
             let got = folded(rt, alloc, ctx, op, words);
             assert_eq!(rt; got, want.parse::<i128>().ok(), "{case}");
         }
@@ -185,7 +188,7 @@ fn fold_in_place(
     op: Ptr<Operation>,
     words: &str,
 ) -> IRStatus {
-    let operands = all_known(rt, alloc, words);
+    let operands = all_known(alloc, words).expect(rt, "memory");
     assert!(rt; op.is_live(ctx));
     assert!(rt; Bench::folds(op, ctx));
     assert_eq!(rt; op.num_operand(ctx), operands.len());
@@ -200,19 +203,23 @@ fn fold_in_place(
         operands,
         &mut rewriter,
     ).expect(rt, "memory");
-    rewriter.check(rt);
+    assert!(rt; rewriter.had_room());
     status
 }
 
 fn in_place_in(rt: &impl Abort, alloc: Global, ctx: &mut Context) {
     for case in IN_PLACE.lines() {
-        let (asked, want) = sides(rt, case);
-        let (words, text) = fields(rt, asked);
-        let root = read(rt, alloc, ctx, text);
-        let op = operation_at(rt, ctx, root, "0");
+        let (asked, want) = sides(case).expect(rt, "a case");
+        let (words, text) = fields(asked).expect(rt, "two fields");
+        let root = read(alloc, ctx, text).expect(rt, "a text");
+        let op = operation_at(ctx, root, "0").expect(rt, "an operation");
         let status = fold_in_place(rt, alloc, ctx, op, words);
         assert_eq!(rt; status == IRStatus::Changed, text != want, "{case}");
-        check(rt, line(rt, alloc, ctx, root).as_str(), want, case);
+        assert_eq!(rt;
+            line(alloc, ctx, root).expect(rt, "a line").as_str(),
+            want,
+            "{case}"
+        );
     }
 }
 
@@ -225,7 +232,9 @@ static MADE: &str = "'7 => ?
 
 /// The number of the constant that is made of the datum.
 fn made(rt: &impl Abort, alloc: Global, ctx: &mut Context, word: &str) -> Option<i128> {
-    let attr = known(rt, alloc, word).expect(rt, "a datum");
+    let attr = known(alloc, word)
+        .expect(rt, "memory")
+        .expect(rt, "a datum");
     match Bench::materialize(alloc, &attr, ctx).expect(rt, "memory") {
         Some(op) => folded(rt, alloc, ctx, op, ""),
         None => None,
@@ -234,7 +243,7 @@ fn made(rt: &impl Abort, alloc: Global, ctx: &mut Context, word: &str) -> Option
 
 fn made_in(rt: &impl Abort, alloc: Global, ctx: &mut Context) {
     for case in MADE.lines() {
-        let (word, want) = sides(rt, case);
+        let (word, want) = sides(case).expect(rt, "a case");
         assert_eq!(rt;
             made(rt, alloc, ctx, word),
             want.parse::<i128>().ok(),

@@ -1,6 +1,6 @@
 //! The edges of branches of the dialect `Bench`, and branches that fold: on texts of its notation, by
 //! values worked out by hand.
-use pliron_cases::cases::{all_known, check, fields, line, number, operation_at, read, sides};
+use pliron_cases::cases::{all_known, fields, line, number, operation_at, read, sides};
 use pliron_cases::listener::Counting;
 use pliron_cases::losses::{lose, lose_along};
 use pliron_core::{AttrObj, BasicBlock, Context, IRStatus, Operation, Ptr, Rewriter};
@@ -17,13 +17,13 @@ func { b0(x): br b1(x); b1(): ret } => None";
 
 fn verified_in(rt: &impl Abort, alloc: Global, ctx: &mut Context) {
     for case in VERIFIED.lines() {
-        let (text, want) = sides(rt, case);
-        let root = read(rt, alloc, ctx, text);
-        let op = operation_at(rt, ctx, root, "0");
+        let (text, want) = sides(case).expect(rt, "a case");
+        let root = read(alloc, ctx, text).expect(rt, "a text");
+        let op = operation_at(ctx, root, "0").expect(rt, "an operation");
         assert!(rt; op.is_live(ctx));
         let fault = <Bench as BranchOpFoldInterface>::verify(alloc, op, ctx).err();
         let fault = format!(in alloc; "{fault:?}").expect(rt, "memory");
-        check(rt, fault.as_str(), want, case);
+        assert_eq!(rt; fault.as_str(), want, "{case}");
     }
 }
 
@@ -54,7 +54,7 @@ fn check_blocks(
     assert!(rt; op.is_live(ctx));
     assert_eq!(rt; blocks.len(), want.split(' ').count());
     for (block, index) in blocks.iter().zip(want.split(' ')) {
-        let index = number(rt, index);
+        let index = number(index).expect(rt, "a number");
         assert!(rt; index < op.num_successor(ctx));
         assert_eq!(rt; *block, op.get_successor(ctx, index));
     }
@@ -79,11 +79,11 @@ fn check_targets(
 }
 
 fn targets_in(rt: &impl Abort, alloc: Global, ctx: &mut Context) {
-    let root = read(rt, alloc, ctx, BRANCH);
-    let op = operation_at(rt, ctx, root, "0");
+    let root = read(alloc, ctx, BRANCH).expect(rt, "a text");
+    let op = operation_at(ctx, root, "0").expect(rt, "an operation");
     for case in TARGETS.lines() {
-        let (words, want) = sides(rt, case);
-        let operands = all_known(rt, alloc, words);
+        let (words, want) = sides(case).expect(rt, "a case");
+        let operands = all_known(alloc, words).expect(rt, "memory");
         check_targets(rt, alloc, ctx, op, &operands, want);
     }
 }
@@ -109,19 +109,23 @@ fn fold_in_place(
         operands,
         &mut rewriter,
     ).expect(rt, "memory");
-    rewriter.check(rt);
+    assert!(rt; rewriter.had_room());
     status
 }
 
 fn folds_in(rt: &impl Abort, alloc: Global, ctx: &mut Context) {
     for case in IN_PLACE.lines() {
-        let (words, want) = sides(rt, case);
-        let root = read(rt, alloc, ctx, BRANCH);
-        let op = operation_at(rt, ctx, root, "0");
-        let operands = all_known(rt, alloc, words);
+        let (words, want) = sides(case).expect(rt, "a case");
+        let root = read(alloc, ctx, BRANCH).expect(rt, "a text");
+        let op = operation_at(ctx, root, "0").expect(rt, "an operation");
+        let operands = all_known(alloc, words).expect(rt, "memory");
         let status = fold_in_place(rt, alloc, ctx, op, &operands);
         assert_eq!(rt; status == IRStatus::Changed, BRANCH != want, "{case}");
-        check(rt, line(rt, alloc, ctx, root).as_str(), want, case);
+        assert_eq!(rt;
+            line(alloc, ctx, root).expect(rt, "a line").as_str(),
+            want,
+            "{case}"
+        );
     }
 }
 
@@ -141,19 +145,34 @@ static FORWARDED: &str = "0 => func { b0(v0, v1): br b1(v1); b1(v2, v3): ret v3 
 
 fn losses_in(rt: &impl Abort, alloc: Global, ctx: &mut Context) {
     for case in LOST.lines() {
-        let (asked, want) = sides(rt, case);
-        let (edge, place) = fields(rt, asked);
-        let root = read(rt, alloc, ctx, BRANCH);
-        let op = operation_at(rt, ctx, root, "0");
-        lose::<Bench>(rt, alloc, ctx, op, number(rt, edge), number(rt, place)).expect(rt, "memory");
-        check(rt, line(rt, alloc, ctx, root).as_str(), want, case);
+        let (asked, want) = sides(case).expect(rt, "a case");
+        let (edge, place) = fields(asked).expect(rt, "two fields");
+        let root = read(alloc, ctx, BRANCH).expect(rt, "a text");
+        let op = operation_at(ctx, root, "0").expect(rt, "an operation");
+        let edge = number(edge).expect(rt, "a number");
+        let place = number(place).expect(rt, "a number");
+        lose::<Bench>(alloc, ctx, op, edge, place)
+            .expect(rt, "memory")
+            .expect(rt, "a value");
+        assert_eq!(rt;
+            line(alloc, ctx, root).expect(rt, "a line").as_str(),
+            want,
+            "{case}"
+        );
     }
     for case in FORWARDED.lines() {
-        let (place, want) = sides(rt, case);
-        let root = read(rt, alloc, ctx, JUMP);
-        let op = operation_at(rt, ctx, root, "0");
-        lose_along::<Bench>(rt, alloc, ctx, op, number(rt, place)).expect(rt, "memory");
-        check(rt, line(rt, alloc, ctx, root).as_str(), want, case);
+        let (place, want) = sides(case).expect(rt, "a case");
+        let root = read(alloc, ctx, JUMP).expect(rt, "a text");
+        let op = operation_at(ctx, root, "0").expect(rt, "an operation");
+        let place = number(place).expect(rt, "a number");
+        lose_along::<Bench>(alloc, ctx, op, place)
+            .expect(rt, "memory")
+            .expect(rt, "an edge");
+        assert_eq!(rt;
+            line(alloc, ctx, root).expect(rt, "a line").as_str(),
+            want,
+            "{case}"
+        );
     }
 }
 

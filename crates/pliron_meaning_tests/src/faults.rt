@@ -1,5 +1,4 @@
 //! The texts of the faults, and what becomes want of memory.
-use pliron_cases::cases::check;
 use pliron_core::NoMemory;
 use pliron_meaning::OptError;
 use std::alloc::{AllocError, Global};
@@ -14,7 +13,7 @@ Pass(7) => the pass failed with code 7";
 /// The name of the fault, and its text after an arrow, are the case.
 fn check_fault(rt: &impl Abort, alloc: Global, fault: &OptError, case: &str) {
     let got = format!(in alloc; "{fault:?} => {fault}").expect(rt, "memory");
-    check(rt, got.as_str(), case, case);
+    assert_eq!(rt; got.as_str(), case, "{case}");
 }
 
 #[test]

@@ -1,5 +1,5 @@
-//! Tests of `pliron_meaning` under the names that users take: what the dialects answer of small trees, and
-//! what whole rewrites leave. It has no function of its own.
+//! Tests of `pliron_meaning` under the names that users take: what the bench dialect answers of small trees,
+//! and which faults it finds. It has no function of its own.
 #![tactic(auto)]
 
 #[cfg(test)]
@@ -10,9 +10,3 @@ mod branches;
 mod faults;
 #[cfg(test)]
 mod names;
-#[cfg(test)]
-mod rewrites;
-#[cfg(test)]
-mod tiny;
-#[cfg(test)]
-mod worked;

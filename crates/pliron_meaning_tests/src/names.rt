@@ -1,6 +1,6 @@
 //! The public names of `pliron_meaning`, at their places. What is missing here is named so where it is
-//! used: texts in `pliron_cases::cases`, `lose_forwarded` in `pliron_cases::losses`, runs in the tests of the
-//! evaluator, the calls of `rewrites` in `rewrites`.
+//! used: texts in `pliron_cases::cases`, `lose_forwarded` in `pliron_cases::losses`, runs, the tiny dialect's
+//! answers and the calls of `rewrites` in the tests of the evaluator.
 use pliron_cases::cases::read;
 use pliron_core::{Context, IRRewriter};
 use pliron_meaning::bench::laws::{folds_are_monotone, folds_have_one_outcome};
@@ -66,7 +66,7 @@ fn laws_of_runs(_rt: HostRuntime) {
 }
 
 fn names_in(rt: &impl Abort, alloc: Global, ctx: &mut Context) {
-    let root = read(rt, alloc, ctx, "mod { }");
+    let root = read(alloc, ctx, "mod { }").expect(rt, "a text");
     assert!(rt; root.is_live(ctx));
     assert!(rt; edges_last(root, ctx));
     assert!(rt; !Bench::implements(root, ctx, Interface::BlockArgRemoval));

@@ -208,7 +208,7 @@ fn kept_in(
     ctx: &mut Context,
     analyses: &mut AnalysisManager<BenchFacts>,
 ) -> usize {
-    let root = read(rt, alloc, ctx, text);
+    let root = read(alloc, ctx, text).expect(rt, "a text");
     let ops = operations(rt, alloc, root, ctx);
     compute_all(rt, &ops, analyses, ctx);
     let before = sights(rt, alloc, &ops, ctx);

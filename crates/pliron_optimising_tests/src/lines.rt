@@ -180,7 +180,7 @@ fn run_case(
 ) -> String {
     let (words, rest) = case.split_once(" | ").expect(rt, "a pass");
     let (settings, text) = rest.split_once(" | ").expect(rt, "settings");
-    let root = read(rt, alloc, ctx, text);
+    let root = read(alloc, ctx, text).expect(rt, "a text");
     set_words(rt, alloc, settings, analyses, root, ctx);
     let mut pass = deep(rt, alloc, words);
     run_on(rt, alloc, &mut pass, root, ctx, analyses)

@@ -1,5 +1,5 @@
 //! The operations that a text makes: by their heads, and by how much they have of what.
-use pliron_cases::cases::{check, fields, operation_at, read, sides};
+use pliron_cases::cases::{fields, operation_at, read, sides};
 use pliron_core::{AttrObj, Context, Operation, Ptr};
 use std::alloc::Global;
 use std::process::Abort;
@@ -43,9 +43,9 @@ fn number_of(rt: &impl Abort, ctx: &Context, op: Ptr<Operation>) -> Option<i128>
 }
 
 fn head(rt: &impl Abort, alloc: Global, ctx: &mut Context, case: &str) -> String {
-    let (place, text) = fields(rt, case);
-    let root = read(rt, alloc, ctx, text);
-    let op = operation_at(rt, ctx, root, place);
+    let (place, text) = fields(case).expect(rt, "two fields");
+    let root = read(alloc, ctx, text).expect(rt, "a text");
+    let op = operation_at(ctx, root, place).expect(rt, "an operation");
     assert!(rt; op.is_live(ctx));
     let counts = [
         op.num_operand(ctx),
@@ -83,15 +83,19 @@ func { b0(c): fork c b1 b2; b1():; b2(): }";
 
 fn heads_in(rt: &impl Abort, alloc: Global, ctx: &mut Context) {
     for case in HEADS.lines() {
-        let (asked, want) = sides(rt, case);
-        check(rt, head(rt, alloc, ctx, asked).as_str(), want, case);
+        let (asked, want) = sides(case).expect(rt, "a case");
+        assert_eq!(rt; head(rt, alloc, ctx, asked).as_str(), want, "{case}");
     }
 }
 
 fn order_in(rt: &impl Abort, alloc: Global, ctx: &mut Context) {
     for text in BRANCHES.lines() {
-        let root = read(rt, alloc, ctx, text);
-        check_branch(rt, ctx, operation_at(rt, ctx, root, "0"));
+        let root = read(alloc, ctx, text).expect(rt, "a text");
+        check_branch(
+            rt,
+            ctx,
+            operation_at(ctx, root, "0").expect(rt, "an operation"),
+        );
     }
 }
 

@@ -1,6 +1,6 @@
 //! Texts and the lines that they are printed as.
 use super::printed;
-use pliron_cases::cases::{check, sides};
+use pliron_cases::cases::sides;
 
 /// Blanks, ends of lines as `|`, and names.
 static LAYOUTS: &str =
@@ -118,9 +118,9 @@ fn texts_and_their_lines(rt: HostRuntime) {
     let alloc = rt.alloc();
     for table in [LAYOUTS, KINDS, JUMPS, BRANCHES, REGIONS, CROWDED] {
         for case in table.lines() {
-            let (text, want) = sides(&rt, case);
-            check(&rt, printed(&rt, alloc, text).as_str(), want, case);
-            check(&rt, printed(&rt, alloc, want).as_str(), want, case);
+            let (text, want) = sides(case).expect(&rt, "a case");
+            assert_eq!(&rt; printed(&rt, alloc, text).as_str(), want, "{case}");
+            assert_eq!(&rt; printed(&rt, alloc, want).as_str(), want, "{case}");
         }
     }
 }
@@ -128,6 +128,6 @@ fn texts_and_their_lines(rt: HostRuntime) {
 #[test]
 fn printed_lines(rt: HostRuntime) {
     for line in PRINTED.lines() {
-        check(&rt, printed(&rt, rt.alloc(), line).as_str(), line, line);
+        assert_eq!(&rt; printed(&rt, rt.alloc(), line).as_str(), line, "{line}");
     }
 }

@@ -8,8 +8,8 @@ use std::process::Abort;
 
 /// The text of so many operations in one another, at least two: of the first, the last and all between.
 fn nested(rt: &impl Abort, alloc: Global, case: &str, depth: usize) -> String {
-    let (first, rest) = fields(rt, case);
-    let (between, last) = fields(rt, rest);
+    let (first, rest) = fields(case).expect(rt, "two fields");
+    let (between, last) = fields(rest).expect(rt, "two fields");
     let mut text = String::from_str(alloc, first).expect(rt, "memory");
     for _ in 2..depth {
         text.push_str(" ").expect(rt, "memory");
@@ -78,7 +78,7 @@ fn deep_in(rt: &impl Abort, alloc: Global, ctx: &mut Context) -> String {
         root = around(rt, alloc, ctx, BenchKind::Box, root);
     }
     let root = around(rt, alloc, ctx, BenchKind::Func, root);
-    line(rt, alloc, ctx, root)
+    line(alloc, ctx, root).expect(rt, "a line")
 }
 
 fn deep(rt: &impl Abort, alloc: Global) -> String {

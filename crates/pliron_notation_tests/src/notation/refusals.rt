@@ -1,6 +1,5 @@
 //! Reading and printing where memory is refused. Run it by hand with each request for memory refused in
 //! turn: `rt try --test --fail-alloc N`.
-use pliron_cases::cases::check;
 use pliron_core::{Context, Operation, Ptr};
 use pliron_meaning::OptError;
 use pliron_meaning::bench::{print_text, read_text};
@@ -24,7 +23,7 @@ fn check_line(rt: &impl Abort, alloc: Global, ctx: &Context, root: Ptr<Operation
             print_text(alloc, root, ctx).expect(rt, "memory")
         }
     };
-    check(rt, line.as_str(), want, want);
+    assert_eq!(rt; line.as_str(), want, "{want}");
 }
 
 /// Reads a text beside an operation that stands, if one does. Where memory is refused that one stays as

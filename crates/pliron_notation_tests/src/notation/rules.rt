@@ -204,7 +204,7 @@ func { b0(): a = const } => func { b0(): a = const 0 }
 func { b0(a): b = const a } => func { b0(a): b = const 0 }";
 
 fn check_rule(rt: &impl Abort, alloc: Global, case: &str) {
-    let (broken, kept) = sides(rt, case);
+    let (broken, kept) = sides(case).expect(rt, "a case");
     assert!(rt;
         printed(rt, alloc, broken).as_str() == "unreadable",
         "readable: {broken}"

@@ -11,7 +11,7 @@ use Rattle.pliron_laws.specs.Root.{IsDominated, WellDefined}
 use Rattle.pliron_laws.specs.Linked.{EdgesLast, IsAdmitted}
 use Rattle.pliron_theory.specs.Keeps.{IsFit}
 use Rattle.pliron_evaluator.specs.Tiny.{tiny, forwarded_along}
-use Rattle.pliron_meaning_tests.specs.Worked.{worked}
+use Rattle.pliron_evaluator_tests.specs.Worked.{worked}
 
 not_true : IsTrue false → ⊥
 not_true e = true≢false (sym e)

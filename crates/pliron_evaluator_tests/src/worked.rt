@@ -2,7 +2,7 @@
 ghost use Rattle.pliron_core.specs.Joined.{IsTree};
 ghost use Rattle.pliron_evaluator.specs.Tiny.{tiny};
 ghost use Rattle.pliron_theory.specs.Keeps.{IsFit};
-ghost use Rattle.pliron_meaning_tests.specs.Worked.{worked};
+ghost use Rattle.pliron_evaluator_tests.specs.Worked.{worked};
 
 /// The worked tree is well formed, and its root is fit to run. Does nothing when it runs.
 fn worked_root_is_fit()

@@ -1,7 +1,7 @@
 //! What the tiny dialect answers, asked through the traits, and folding by constants that are put for
 //! results.
 use pliron_cases::answers::{effects, interfaces, removable};
-use pliron_cases::cases::{check, number, sides};
+use pliron_cases::cases::{number, sides};
 use pliron_cases::listener::Counting;
 use pliron_cases::losses::lose;
 use pliron_cases::trees::{Made, build, make};
@@ -23,9 +23,9 @@ static REMOVALS: &str = "0 => Some(false)
 1 => Some(true)";
 
 fn head(rt: &impl Abort, alloc: Global, ctx: &mut Context, case: &str) -> String {
-    let op = build(rt, alloc, ctx, case);
-    let effects = effects::<Tiny>(rt, alloc, ctx, op);
-    let interfaces = interfaces::<Tiny>(rt, alloc, ctx, op);
+    let op = build(alloc, ctx, case).expect(rt, "a tree");
+    let effects = effects::<Tiny>(alloc, ctx, op).expect(rt, "an answer");
+    let interfaces = interfaces::<Tiny>(alloc, ctx, op).expect(rt, "an answer");
     assert!(rt; op.is_live(ctx));
     assert_eq!(rt; Tiny::is_branch(op, ctx), Tiny::is_terminator(op, ctx));
     assert_eq!(rt; Tiny::is_branch(op, ctx), effects.as_str() == "None");
@@ -36,14 +36,17 @@ fn head(rt: &impl Abort, alloc: Global, ctx: &mut Context, case: &str) -> String
 
 fn heads_in(rt: &impl Abort, alloc: Global, ctx: &mut Context) {
     for case in HEADS.lines() {
-        let (asked, want) = sides(rt, case);
-        check(rt, head(rt, alloc, ctx, asked).as_str(), want, case);
+        let (asked, want) = sides(case).expect(rt, "a case");
+        assert_eq!(rt; head(rt, alloc, ctx, asked).as_str(), want, "{case}");
     }
-    let scope = build(rt, alloc, ctx, "0 / scope; block 0; block 0 1");
+    let scope = build(alloc, ctx, "0 / scope; block 0; block 0 1").expect(rt, "a tree");
     for case in REMOVALS.lines() {
-        let (index, want) = sides(rt, case);
-        let got = removable::<Tiny>(rt, alloc, ctx, scope, number(rt, index));
-        check(rt, got.as_str(), want, case);
+        let (index, want) = sides(case).expect(rt, "a case");
+        let got = removable::<Tiny>(alloc, ctx, scope, number(index).expect(rt, "a number")).expect(
+            rt,
+            "an answer",
+        );
+        assert_eq!(rt; got.as_str(), want, "{case}");
     }
 }
 
@@ -57,22 +60,22 @@ scope; block 0; block 0; scope @0; block 1; br @0 b1; on 1 b1 => false true";
 
 fn edges_in(rt: &impl Abort, alloc: Global, ctx: &mut Context) {
     for case in EDGES.lines() {
-        let (steps, want) = sides(rt, case);
+        let (steps, want) = sides(case).expect(rt, "a case");
         let mut made = Made::new(alloc);
-        make(rt, alloc, ctx, &mut made, steps);
-        let outer = made.operation(rt, "0");
-        let inner = made.operation(rt, "1");
+        make(alloc, ctx, &mut made, steps).expect(rt, "a tree");
+        let outer = made.operation("0").expect(rt, "an operation");
+        let inner = made.operation("1").expect(rt, "an operation");
         assert!(rt; outer.is_live(ctx));
         assert!(rt; inner.is_live(ctx));
         let (outer, inner) = (edges_last(outer, ctx), edges_last(inner, ctx));
         let answer = format!(in alloc; "{outer} {inner}").expect(rt, "memory");
-        check(rt, answer.as_str(), want, case);
+        assert_eq!(rt; answer.as_str(), want, "{case}");
     }
 }
 
 /// The operation in a block is a constant of this number and folds to it. Folding in place leaves it.
 fn constant_in(rt: &impl Abort, alloc: Global, ctx: &mut Context) {
-    let op = build(rt, alloc, ctx, "1 / scope; block 0; const 0 @0");
+    let op = build(alloc, ctx, "1 / scope; block 0; const 0 @0").expect(rt, "a tree");
     assert!(rt; op.is_live(ctx));
     assert!(rt; Tiny::folds(op, ctx));
     assert_eq!(rt; op.num_operand(ctx), 0);
@@ -116,7 +119,7 @@ fn fold<D: Dialect>(
     let status = D::fold_with_materialization(alloc, op, ctx, &[], &mut rewriter).expect(
         rt, "memory",
     );
-    rewriter.check(rt);
+    assert!(rt; rewriter.had_room());
     status
 }
 
@@ -151,15 +154,18 @@ pub(crate) fn number_of(rt: &impl Abort, ctx: &Context, op: Ptr<Operation>) -> O
 fn folding_in(rt: &impl Abort, alloc: Global, ctx: &mut Context) {
     let mut made = Made::new(alloc);
     make(
-        rt,
         alloc,
         ctx,
         &mut made,
         "scope; block 0; const 0 @0; ask @0 v0",
-    );
-    let op = made.operation(rt, "1");
+    )
+    .expect(rt, "a tree");
+    let op = made.operation("1").expect(rt, "an operation");
     assert_eq!(rt; fold::<Tiny>(rt, alloc, ctx, op), IRStatus::Changed);
-    assert_eq!(rt; number_asked(rt, ctx, op, made.operation(rt, "2")), Some(0));
+    assert_eq!(rt;
+        number_asked(rt, ctx, op, made.operation("2").expect(rt, "an operation")),
+        Some(0)
+    );
 }
 
 /// The values that the branch forwards along its edge.
@@ -180,16 +186,18 @@ fn check_forwarded(
 fn loss_in(rt: &impl Abort, alloc: Global, ctx: &mut Context) {
     let mut made = Made::new(alloc);
     make(
-        rt,
         alloc,
         ctx,
         &mut made,
         "scope; block 0; block 0 1; const 1 @0; br @0 b1 v1 v1",
-    );
-    let op = made.operation(rt, "2");
-    let value = made.value(rt, "1");
+    )
+    .expect(rt, "a tree");
+    let op = made.operation("2").expect(rt, "an operation");
+    let value = made.value("1").expect(rt, "a value");
     check_forwarded(rt, alloc, ctx, op, &[value, value]);
-    lose::<Tiny>(rt, alloc, ctx, op, 0, 0).expect(rt, "memory");
+    lose::<Tiny>(alloc, ctx, op, 0, 0)
+        .expect(rt, "memory")
+        .expect(rt, "a value");
     check_forwarded(rt, alloc, ctx, op, &[value])
 }
 

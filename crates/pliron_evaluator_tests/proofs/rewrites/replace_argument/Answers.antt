@@ -1,8 +1,8 @@
 use Rattle.std.proofs.Common.{◌≡◌, sym, ◌∙◌, subst, arith, length}
 use Rattle.std.proofs.lemmas.Option.{same_Some}
 use Rattle.pliron_core.specs.Tree.{uses_of}
-use Rattle.pliron_meaning_tests.proofs.ReadConstants.{unused_read}
-use Rattle.pliron_meaning_tests.proofs.rewrites.replace_argument.Goals as goal
+use Rattle.pliron_evaluator_tests.proofs.ReadConstants.{unused_read}
+use Rattle.pliron_evaluator_tests.proofs.rewrites.replace_argument.Goals as goal
 
 pub replace_argument_by_constant-requires-clause-constant : goal.replace_argument_by_constant-requires-clause-constant
 replace_argument_by_constant-requires-clause-constant g c = λ v e.

@@ -2,8 +2,8 @@ use Rattle.std.proofs.Common.{rules, IsTrue, ◌≡◌, ap, arith, length}
 use Rattle.pliron_core.specs.Tree.{IsLive, head_of, results_of, operands_of, regions_of}
 use Rattle.pliron_core.proofs.HoldingLemmas.{some_of}
 use Rattle.pliron_laws.specs.Datum.{datum_of}
-use Rattle.pliron_meaning_tests.proofs.ReadConstants.{tiny_read}
-use Rattle.pliron_meaning_tests.proofs.rewrites.replace_result.Goals as goal
+use Rattle.pliron_evaluator_tests.proofs.ReadConstants.{tiny_read}
+use Rattle.pliron_evaluator_tests.proofs.rewrites.replace_result.Goals as goal
 
 pub replace_result_by_constant-requires-clause-constant : goal.replace_result_by_constant-requires-clause-constant
 replace_result_by_constant-requires-clause-constant g c = λ v e.

@@ -6,7 +6,7 @@ use Rattle.pliron_core.specs.Rising.{IsRising}
 use Rattle.pliron_core.specs.Tree.{In, IsLive, IsBlock, IsRegion, IsDefined, IsRooted, no_entry, row_of, head_of, operands_of, successors_of, results_of, regions_of, parent_of, body_of, arguments_of, block_parent_of, layout_of, slot_of, definition_of, holder_of}
 use Rattle.pliron_core.specs.Joined.{HaveSameKeys, IsJoined, IsTree}
 use Rattle.pliron_core.proofs.HoldingLemmas.{some_is, not_none}
-use Rattle.pliron_meaning_tests.specs.Worked.{worked}
+use Rattle.pliron_evaluator_tests.specs.Worked.{worked}
 
 only : {x y : ℕ} → In x (y ∷ []) → x ≡ y
 only (inl e) = e
