@@ -1,5 +1,5 @@
 -- A result that folding answers with no operand known is read as that constant.
-use Rattle.std.proofs.Common.{◌≡◌, inl, inr, ⊎_elim, ℕ, Bool, List, [], ◌∷◌, length, Option, Some, None, slice_get, refl, sym, ap, ◌∙◌, subst, arith, IsTrue, if◌then◌else◌, nat_eq}
+use Rattle.std.proofs.Common.{◌≡◌, inl, inr, ⊎_elim, ℕ, Bool, List, [], ◌∷◌, length, Option, Some, None, slice_get, refl, sym, ap, ◌∙◌, subst, IsTrue, if◌then◌else◌, nat_eq}
 use Rattle.std.specs.Prelude.{replicate}
 use Rattle.std.proofs.lemmas.Bool.Decides.{eqb_tells}
 use Rattle.pliron_core.specs.declared.attrs.AttrObj.{AttrObj}
@@ -13,7 +13,7 @@ use Rattle.pliron_laws.specs.Folding.{Constants, Feasible, AnswersTrue, AnswersJ
 use Rattle.pliron_laws.proofs.Records.{op_shows}
 use Rattle.pliron_theory.specs.Facts.{Fact, answered as fact_of, Facts, Says, handed, answers_of}
 use Rattle.pliron_theory.specs.Sound.{IsRightResult}
-use Rattle.pliron_theory.proofs.SoundRuns.{PassesForwarded, MayMove, AreKept, constants_read}
+use Rattle.pliron_theory.proofs.SoundRuns.{PassesForwarded, AreKept, constants_read}
 use Rattle.pliron_theory.proofs.KnownRuns.{Anywhere, everywhere}
 use Rattle.pliron_theory.specs.Answered.{IsAnswered, AnsweredLaw}
 

@@ -1,14 +1,11 @@
 -- What passes may do to a tree, one after the other and on an operation inside another.
 use Rattle.std.proofs.Common.{◌≡◌, ◌⊎◌, inl, inr, ℕ, ◌≤◌, [], length, Option, Some, None, IsSome, IsTrue, refl, sym, ap, ◌∙◌, subst}
-use Rattle.pliron_core.specs.Tree.{Tree, In, IsLive, IsInside, IsInside.Directly, IsInside.Deeper, IsWithin, HoldsBlock, head_of, successors_of, regions_of, body_of, block_parent_of, last_of, region_parent_of, layout_of, holder_of, up_from, op_of_slot}
+use Rattle.pliron_core.specs.Tree.{Tree, In, IsLive, IsInside, IsInside.Directly, IsInside.Deeper, IsWithin, HoldsBlock, head_of, successors_of, block_parent_of, last_of, region_parent_of, holder_of, up_from}
 use Rattle.pliron_core.specs.Joined.{IsTree}
-use Rattle.pliron_core.specs.Walks.{children, children_of_region}
 use Rattle.pliron_core.specs.Changes.{IsSameTree, IsInsideChange, IsOutside, IsBlockOutside}
 use Rattle.pliron_core.proofs.SameTreeLemmas.{same_live}
-use Rattle.pliron_core.proofs.HoldingLemmas.{deeper, holds_deeper, inside_or, holds_or, region_by}
-use Rattle.pliron_core.proofs.InsideLemmas.{same_change, inside_refl, inside_trans, widen, holder_is_outside, holder_stands, holder_row, sibling, sibling_region, sibling_block, parent_outside, holder_outside, block_holder_outside, holder_kept, block_holder_kept, kept_of}
-use Rattle.pliron_core.proofs.FlatLemmas.{flat_map-same, slice_get-In}
-use Rattle.std.specs.List.{flat_map, slice_get}
+use Rattle.pliron_core.proofs.HoldingLemmas.{deeper, holds_deeper, inside_or, holds_or}
+use Rattle.pliron_core.proofs.InsideLemmas.{same_change, inside_refl, inside_trans, widen, holder_is_outside, holder_stands, parent_outside, holder_outside, block_holder_outside, holder_kept, block_holder_kept, kept_of}
 use Rattle.pliron_core.proofs.WalkLemmas.{within_live}
 use Rattle.pliron_laws.specs.Datum.{Head, Meaning}
 use Rattle.pliron_laws.specs.Linked.{EndsBlock, IsAdmitted, IsWellLinked}

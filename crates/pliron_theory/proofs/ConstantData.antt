@@ -1,10 +1,9 @@
 -- The result of an operation that gives a constant has that datum in every run.
-use Rattle.std.proofs.Common.{◌≡◌, ◌≢◌, ◌⊎◌, inl, inr, ⊎_elim, ℕ, List, [], ◌∷◌, map, Option, Some, None, slice_get, refl, sym, ap, ap₂, ◌∙◌, subst, arith, if◌then◌else◌}
+use Rattle.std.proofs.Common.{◌≡◌, ◌≢◌, ◌⊎◌, inl, inr, ℕ, List, [], ◌∷◌, map, Option, Some, None, slice_get, refl, sym, ap, ap₂, ◌∙◌, subst, arith, if◌then◌else◌}
 use Rattle.std.proofs.lemmas.Bool.{cases_eq, eq-eqb}
 use Rattle.pliron_core.specs.Uses.{replace_target}
 use Rattle.pliron_core.specs.Writes.{replaced}
 use Rattle.pliron_core.proofs.WalkLemmas.{inside_first, place_of, place_listed}
-use Rattle.std.proofs.lemmas.Bool.Decides.{eqb_tells}
 use Rattle.pliron_core.specs.declared.context.Def.TheVariants.{Result, Argument}
 use Rattle.pliron_core.specs.Tree.{Tree, In, IsLive, operands_of, results_of, regions_of, arguments_of, definition_of}
 use Rattle.pliron_core.specs.Joined.{IsTree}

@@ -4,7 +4,7 @@ use Rattle.std.proofs.lemmas.Bool.Decides.{eqb_tells}
 use Rattle.pliron_core.specs.declared.attrs.AttrObj.{AttrObj}
 use Rattle.pliron_core.proofs.HoldingLemmas.{some_is, not_none}
 use Rattle.pliron_laws.specs.Datum.{Datum, datum_of}
-use Rattle.pliron_laws.specs.States.{Environment, bound, bind, put_first, data_of}
+use Rattle.pliron_laws.specs.States.{Environment, bound, bind, put_first}
 use Rattle.pliron_laws.specs.Acting.{Known, pick}
 
 -- a constant that is known is the datum at its place

@@ -11,7 +11,7 @@ use Rattle.pliron_laws.specs.Folding.{Constants, Feasible, AnswersTrue, AnswersJ
 use Rattle.pliron_laws.specs.Linked.{EndsBlock}
 use Rattle.pliron_theory.specs.Keeps.{IsFit}
 use Rattle.pliron_theory.specs.Knowing.{AreClosed, FactsLaw}
-use Rattle.pliron_theory.specs.Facts.{Fact, AtMost, known, answered, Facts, Says, handed, answers_of}
+use Rattle.pliron_theory.specs.Facts.{Fact, known, answered, Facts, Says, handed, answers_of}
 use Rattle.pliron_theory.specs.Sound.{IsRightResult}
 use Rattle.pliron_laws.proofs.Records.{op_shows}
 use Rattle.pliron_theory.proofs.FactLattice.{at_most_refl}

@@ -2,13 +2,13 @@
 use Rattle.std.proofs.Common.{◌≡◌, ℕ, ◌<◌, Bool, true, false, cond, List, [], ◌∷◌, ◌++◌, length, filter, Option, Some, None, refl, sym, ap, ◌∙◌, subst, arith, append_assoc, append-nil}
 use Rattle.std.specs.List.{flat_map}
 use Rattle.pliron_core.specs.Lists.{In, IsDistinct, first_of, next_in}
-use Rattle.pliron_core.specs.Tree.{Tree, IsLive, IsInside}
+use Rattle.pliron_core.specs.Tree.{Tree, IsInside}
 use Rattle.pliron_core.specs.Joined.{IsTree}
 use Rattle.pliron_core.specs.Walks.{contents, preorder}
 use Rattle.pliron_core.specs.WalkSteps.{rest_from}
 use Rattle.pliron_core.proofs.NeighbourLemmas.{next_in-In, first_of-In, next_in-first, next_in-other}
 use Rattle.pliron_core.proofs.NextLemmas.{rest_from-step, rest_from-first}
-use Rattle.pliron_core.proofs.WalkLemmas.{contents-inside, distinct-contents, inside_live, not_inside-itself}
+use Rattle.pliron_core.proofs.WalkLemmas.{contents-inside, distinct-contents, not_inside-itself}
 
 -- what each item of `whole` lists was added to `before`, but for the items from `at` on
 pub record IsListing (f : ℕ → List ℕ) (whole before now : List ℕ) (at : Option ℕ) : Type 0 where

@@ -1,8 +1,8 @@
 -- Folding a branch by constants that are read keeps what roots do.
-use Rattle.std.proofs.Common.{◌≡◌, ℕ, zero, suc, true, List, [], ◌∷◌, length, map, Option, Some, None, IsTrue, slice_get, refl, sym, ap, ap₂, ◌∙◌, subst, arith}
+use Rattle.std.proofs.Common.{◌≡◌, ℕ, zero, suc, true, List, [], ◌∷◌, length, map, Option, Some, None, slice_get, refl, sym, ap, ap₂, ◌∙◌, subst, arith}
 use Rattle.std.proofs.lemmas.List.{length-map}
 use Rattle.pliron_core.specs.declared.attrs.AttrObj.{AttrObj}
-use Rattle.pliron_core.specs.Tree.{Tree, In, IsInside, head_of, operands_of, successors_of, results_of, regions_of, arguments_of}
+use Rattle.pliron_core.specs.Tree.{Tree, In, IsInside, operands_of, successors_of, arguments_of}
 use Rattle.pliron_core.proofs.HoldingLemmas.{some_is, not_none, in_slice}
 use Rattle.pliron_laws.specs.Datum.{Datum, datum_of, Head, Shape, Meaning}
 use Rattle.pliron_laws.specs.Tree.{Operation, op_at, block_at, entry_block, count_arguments, shape_of, unless}
