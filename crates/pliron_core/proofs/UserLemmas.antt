@@ -1,7 +1,7 @@
 -- Lemmas on a new user with new targets.
-use Rattle.std.proofs.Common.{◌≡◌, ◌≢◌, ◌⊎◌, ℕ, zero, suc, ◌+◌, ◌^◌, ◌<◌, ◌≤◌, List, [], ◌∷◌, ◌++◌, length, map, get_or, Some, refl, sym, ap, ◌∙◌, inl, inr, arith, length-append}
+use Rattle.std.proofs.Common.{◌≡◌, ◌≢◌, ◌⊎◌, ℕ, zero, suc, ◌+◌, ◌^◌, ◌<◌, ◌≤◌, List, [], ◌∷◌, ◌++◌, length, map, get_or, Some, refl, sym, ap, ◌∙◌, inl, inr, arith, length-append, replicate}
 use Rattle.std.specs.List.{slice_get, range_with_len}
-use Rattle.std.proofs.lemmas.List.{map-append, get_or_past}
+use Rattle.std.proofs.lemmas.List.{map-append, get_or_past, length-replicate}
 use Rattle.std.proofs.lemmas.List.FromFn.{get_or-map-range_with_len, length-map-range_with_len, map-range_with_len_more}
 use Rattle.std.proofs.lemmas.Option.{slice_get-get_or}
 use Rattle.pliron_core.specs.declared.uses.Use.{Use}
@@ -140,3 +140,7 @@ user-linked rows gaps lists count few is =
       linked = linked-with rows lists count (omega (arith, n, few)) is.linked;
       gaps = gaps-with rows gaps _ (gap-with (length lists) count (omega (arith, few))) is.gaps;
     }
+
+-- as many more targets without uses
+pub length-unused : (lists : List (List Use)) (count : ℕ) → length (lists ++ replicate count []) ≡ length lists + count
+length-unused lists count = length-append lists (replicate count []) ∙ ap (λ n. length lists + n) (length-replicate {A = List Use} count [])
