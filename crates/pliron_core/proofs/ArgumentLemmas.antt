@@ -86,11 +86,6 @@ number_next ds b j row v e =
     let k : suc j ≡ j + 1 = omega arith in
     ap (λ q. slice_set (numbered ds b 0 (take j row)) v (Argument b q)) (sym n) ∙ sym (numbered_more ds b 0 (take j row) v) ∙ ap (numbered ds b 0) (sym (take_more row j v e)) ∙ ap (λ q. numbered ds b 0 (take q row)) k
 
-pub drop_removed : {A : Type 0} (xs : List A) (i : ℕ) → i < length xs → drop i (remove xs i) ≡ drop (i + 1) xs
-drop_removed [] i lt = absurd (omega arith)
-drop_removed (x ∷ xs) zero lt = refl
-drop_removed (x ∷ xs) (suc i) lt = let z : suc (i + 1) ≡ suc i + 1 = omega arith in drop_removed xs i (omega (arith, lt)) ∙ ap (λ k. drop k (x ∷ xs)) z
-
 module _ (t : Tree) (block i : ℕ) (keys : HaveSameKeys t) (w : IsJoined t) (is : IsBlock t block) (unused : (k v : ℕ) → slice_get (arguments_of t block) i ≡ Some v → In v (operands_of t k) → ⊥) where
   abbrev pub u : Tree
   u = argument_removed t block i

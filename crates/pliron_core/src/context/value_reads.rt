@@ -23,12 +23,12 @@ impl Value {
     pub fn is_live(self, ctx: &Context) -> bool
         ensures { IsTrue result ↔ IsDefined ctx.now.tree self }
     {
-        match ctx.arguments.definition(self) {
+        match &ctx.arguments.definition(self) {
             Some(Def::Result(op, i)) => match ctx.operations.get(op.index()) {
-                Some(entry) => is_value_at(&entry.results, i, self),
+                Some(entry) => is_value_at(&entry.results, *i, self),
                 None => false,
             },
-            Some(Def::Argument(block, i)) => ctx.arguments.is_at(block, i, self),
+            Some(Def::Argument(block, i)) => ctx.arguments.is_at(*block, *i, self),
             None => false,
         }
     }
