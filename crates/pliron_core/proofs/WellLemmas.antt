@@ -1,20 +1,17 @@
 -- A context's invariant after each change of its tables.
-use Rattle.std.proofs.Common.{◌≡◌, ℕ, zero, suc, ◌+◌, ◌<◌, List, [], ◌∷◌, ◌++◌, length, map, get_or, Option, Some, None, IsSome, refl, sym, ap, ◌∙◌, subst, arith, slice_get, slice_set, replicate, length-append, drop, remove}
-use Rattle.std.proofs.lemmas.List.{length-set, get_or_default}
-use Rattle.std.proofs.lemmas.Option.{slice_get_within}
+use Rattle.std.proofs.Common.{◌≡◌, ℕ, zero, suc, ◌+◌, List, [], ◌∷◌, ◌++◌, length, map, Option, Some, None, IsSome, refl, sym, ap, ◌∙◌, subst, arith, slice_get, slice_set, replicate, length-append, drop, remove}
+use Rattle.std.proofs.lemmas.List.{length-set}
 use Rattle.std.specs.List.{range_with_len}
 use Rattle.pliron_core.specs.Uses.{replace_target}
 use Rattle.pliron_core.specs.declared.uses.Use.{Use}
 use Rattle.pliron_core.specs.declared.attrs.Head.{Head}
 use Rattle.pliron_core.specs.declared.context.Def.{Def}
-use Rattle.pliron_core.specs.declared.context.Def.TheVariants.{Argument}
 use Rattle.pliron_core.specs.declared.context.OperationEntry.{OperationEntry}
 use Rattle.pliron_core.specs.Tree.{Tree, View, In, IsLive, IsBlock, IsDefined, IsRegion, HoldsBlock, parent_of, operands_of, successors_of, arguments_of, results_of, regions_of, layout_of}
 use Rattle.pliron_core.specs.Joined.{HaveSameKeys, IsJoined, IsWellFormed}
 use Rattle.pliron_core.specs.Lists.{AreOwned}
-use Rattle.pliron_core.specs.Writes.{taken_from, created, block_created, argument_removed, numbered, region_slots, result_definitions, argument_definitions}
+use Rattle.pliron_core.specs.Writes.{taken_from, created, block_created, argument_removed, region_slots, result_definitions, argument_definitions}
 use Rattle.pliron_core.proofs.GrownLemmas.{set_last}
-use Rattle.pliron_core.proofs.TreeLemmas.{block-within}
 use Rattle.pliron_core.proofs.UsedLemmas.{kept_push, kept_push_successor, kept_remove, kept_replace, length_map}
 use Rattle.pliron_core.proofs.PlacedLemmas.{kept_put, kept_taken}
 use Rattle.pliron_core.proofs.CreatedLemmas.{kept_created, kept_block_created}
