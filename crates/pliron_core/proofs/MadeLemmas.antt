@@ -7,12 +7,12 @@ use Rattle.std.proofs.lemmas.List.FromFn.{length-map-range_with_len}
 use Rattle.std.proofs.lemmas.Option.{slice_get-get_or}
 use Rattle.pliron_core.specs.declared.uses.Use.{Use}
 use Rattle.pliron_core.specs.declared.context.Def.{Def}
-use Rattle.pliron_core.specs.declared.context.Def.TheVariants.{Argument}
+use Rattle.pliron_core.specs.declared.context.Def.TheVariants.{Result, Argument}
 use Rattle.pliron_core.specs.Places.{at}
 use Rattle.pliron_core.specs.Uses.{AreAgreed}
 use Rattle.pliron_core.specs.Lists.{In}
 use Rattle.pliron_core.specs.Writes.{numbered, argument_definitions}
-use Rattle.pliron_core.specs.Arguments.{Makers, made, defined, AreNumbered, AreMade}
+use Rattle.pliron_core.specs.Arguments.{Makers, made, defined, IsFree, AreNumbered, AreApart, AreMade}
 use Rattle.pliron_core.proofs.GapLemmas.{same}
 use Rattle.pliron_core.proofs.TableLemmas.{at-within, at-same, at-other, set-other}
 use Rattle.pliron_core.proofs.MemberLemmas.{in_at}
@@ -32,10 +32,6 @@ defined-at [] uses v d n e = absurd (cc)
 defined-at (x ∷ ds) [] v d n e = absurd (omega (arith, n))
 defined-at (x ∷ ds) (us ∷ uses) zero d n e = ap (λ z. Some (made z us)) (same e)
 defined-at (x ∷ ds) (us ∷ uses) (suc v) d n e = defined-at ds uses v d (omega (arith, n)) e
-
--- the value is an argument of no block
-abbrev pub IsFree : List (List ℕ) → ℕ → Type 0
-IsFree rows v = (block i : ℕ) → at rows block i ≡ Some v → ⊥
 
 -- a value stands at some place, or is an argument of no block
 pub stands-or_free : (rows : List (List ℕ)) (uses : List (List Use)) → AreAgreed rows uses → (v : ℕ) → ((block : ℕ) × (i : ℕ) × (at rows block i ≡ Some v)) ⊎ IsFree rows v
@@ -100,8 +96,8 @@ module _ (rows : List (List ℕ)) (written : List Def) (uses : List (List Use)) 
       ]
 
   -- and then it is what makes each value by these tables
-  pub made-is : (all : List Def) → length all ≡ length written → AreNumbered rows all → ((v : ℕ) → IsFree rows v → slice_get all v ≡ slice_get written v) → AreMade rows written uses
-  made-is all n numbered free = record { count = count; numbered = subst (AreNumbered rows) (sym (defined-is all n numbered free)) numbered }
+  pub made-is : (all : List Def) → length all ≡ length written → AreNumbered rows all → ((v : ℕ) → IsFree rows v → slice_get all v ≡ slice_get written v) → AreApart rows written → AreMade rows written uses
+  made-is all n numbered free apart = record { apart = apart; count = count; numbered = subst (AreNumbered rows) (sym (defined-is all n numbered free)) numbered }
 
 -- an argument stands at one place
 pub stands-once : (rows : List (List ℕ)) (all : List Def) → AreNumbered rows all → (b b' i i' v : ℕ) → at rows b i ≡ Some v → at rows b' i' ≡ Some v → (b ≡ b') × (i ≡ i')
@@ -135,11 +131,17 @@ module _ (rows : List (List ℕ)) (written : List Def) (uses : List (List Use)) 
     still-free : (v : ℕ) → IsFree rows v → slice_get (before ++ more) v ≡ slice_get (written ++ more) v
     still-free v free = same-more before written more v long (defined-free rows written uses agreed is.count v free)
 
+    -- what was an argument is written as before
+    apart-more : AreApart rows (written ++ more)
+    apart-more v op i e b k f =
+        let d = slice_get-get_or written v (Argument 0 0) (argument-within b k v f) in
+        is.apart v op i (d ∙ sym (slice_get_kept written more v _ d) ∙ e) b k f
+
     -- more values that are no arguments
     pub made-more : AreAgreed rows uses' → (defined (written ++ more) uses' ≡ before ++ more) × AreMade rows (written ++ more) uses'
     made-more agreed' =
         let numbered : AreNumbered rows (before ++ more) = λ b i v e. slice_get_kept before more v _ (is.numbered b i v e) in
-        (defined-is rows (written ++ more) uses' agreed' counted (before ++ more) grown numbered still-free, made-is rows (written ++ more) uses' agreed' counted (before ++ more) grown numbered still-free)
+        (defined-is rows (written ++ more) uses' agreed' counted (before ++ more) grown numbered still-free, made-is rows (written ++ more) uses' agreed' counted (before ++ more) grown numbered still-free apart-more)
 
   -- a new block, and its arguments
   module _ (n : ℕ) (uses' : List (List Use)) where
@@ -158,6 +160,21 @@ module _ (rows : List (List ℕ)) (written : List Def) (uses : List (List Use)) 
           ap (slice_get (before ++ made-here)) r.0 ∙ slice_get_added before made-here i ∙ mapped_range_get (λ k. Argument (length rows) k) 0 n i r.1 ∙ ap (λ k. Some (Argument (length rows) k)) z ∙ ap (λ k. Some (Argument k i)) (sym new.2)
     ]
 
+    block-apart : AreApart grown-rows (written ++ made-here)
+    block-apart v op j e b i f = elim (get_last rows (range_with_len (length before) n) [] b) [
+      | inl same_row ↦ apart-more-at v op j e b i (ap (λ r. slice_get r i) (sym same_row) ∙ f)
+      | inr new ↦
+          let r = range_at (length before) n i v (ap (λ r. slice_get r i) (sym new.0) ∙ f) in
+          let z : v ≡ length written + i = omega (arith, r.0, long) in
+          let g : Some (Result op j) ≡ Some (Argument (length rows) (0 + i)) = sym e ∙ ap (slice_get (written ++ made-here)) z ∙ slice_get_added written made-here i ∙ mapped_range_get (λ k. Argument (length rows) k) 0 n i r.1 in
+          absurd (cc)
+    ]
+      where
+        apart-more-at : (v op j : ℕ) → slice_get (written ++ made-here) v ≡ Some (Result op j) → (b i : ℕ) → at rows b i ≡ Some v → ⊥
+        apart-more-at v op j e b i f =
+            let d = slice_get-get_or written v (Argument 0 0) (argument-within b i v f) in
+            is.apart v op j (d ∙ sym (slice_get_kept written made-here v _ d) ∙ e) b i f
+
     pub made-block : length uses' ≡ length uses + n → AreAgreed grown-rows uses' → (defined (written ++ made-here) uses' ≡ before ++ made-here) × AreMade grown-rows (written ++ made-here) uses'
     made-block count agreed' =
         let m : length made-here ≡ n = length-map-range_with_len (λ k. Argument (length rows) k) 0 n in
@@ -165,7 +182,7 @@ module _ (rows : List (List ℕ)) (written : List Def) (uses : List (List Use)) 
         let free : (v : ℕ) → IsFree grown-rows v → slice_get (before ++ made-here) v ≡ slice_get (written ++ made-here) v = λ v f. still-free made-here uses' count' v (λ b i e. f b i (at-more rows (range_with_len (length before) n ∷ []) b i v e)) in
         let c = counted made-here uses' count' in
         let g = grown made-here uses' count' in
-        (defined-is grown-rows (written ++ made-here) uses' agreed' c (before ++ made-here) g block-numbered free, made-is grown-rows (written ++ made-here) uses' agreed' c (before ++ made-here) g block-numbered free)
+        (defined-is grown-rows (written ++ made-here) uses' agreed' c (before ++ made-here) g block-numbered free, made-is grown-rows (written ++ made-here) uses' agreed' c (before ++ made-here) g block-numbered free block-apart)
 
   -- an argument goes
   module _ (block i value : ℕ) (there : at rows block i ≡ Some value) where
@@ -253,11 +270,30 @@ module _ (rows : List (List ℕ)) (written : List Def) (uses : List (List Use)) 
         stood b j e (inr ne) = absurd (free b j (at-other rows block b (remove row i) j ne ∙ e))
         stood b j e (inl s) = at_block j (ap (λ z. at rows z j) (sym s) ∙ e) (order j)
 
+    left-apart : AreApart rows-left written-left
+    left-apart v op j e b k f = elim (cases_eq v value) [
+      | inl s ↦
+          let g : Some (Result op j) ≡ Some (Argument block i) = sym e ∙ ap (slice_get written-left) s ∙ set-there written value (Argument block i) (argument-within block i value there) in
+          absurd (cc)
+      | inr ne ↦ stood (is.apart v op j (sym (set-other written value v (Argument block i) ne) ∙ e)) (cases_eq b block)
+    ]
+      where
+        order : (k : ℕ) → (k < i) ⊎ (i ≤ k)
+        order k = grind arith
+
+        at_block : IsFree rows v → slice_get (remove row i) k ≡ Some v → (k < i) ⊎ (i ≤ k) → ⊥
+        at_block free g (inl lt) = free block k (sym (removed_below row i k lt) ∙ g)
+        at_block free g (inr le) = free block (suc k) (sym (removed_above row i k le) ∙ g)
+
+        stood : IsFree rows v → (b ≡ block) ⊎ (b ≢ block) → ⊥
+        stood free (inr ne) = free b k (sym (at-other rows block b (remove row i) k ne) ∙ f)
+        stood free (inl s) = at_block free (sym (left k) ∙ ap (λ z. at rows-left z k) (sym s) ∙ f) (order k)
+
     pub made-removed : (uses' : List (List Use)) → length uses' ≡ length uses → AreAgreed rows-left uses' → (defined written-left uses' ≡ after) × AreMade rows-left written-left uses'
     made-removed uses' n agreed' =
         let c : length written-left ≡ length uses' = length-set written value (Argument block i) ∙ is.count ∙ sym n in
         let g : length after ≡ length written-left = length_numbered before block i later ∙ long ∙ sym (length-set written value (Argument block i)) in
-        (defined-is rows-left written-left uses' agreed' c after g left-numbered left-free, made-is rows-left written-left uses' agreed' c after g left-numbered left-free)
+        (defined-is rows-left written-left uses' agreed' c after g left-numbered left-free, made-is rows-left written-left uses' agreed' c after g left-numbered left-free left-apart)
 
   -- all arguments of a block go
   module _ (block : ℕ) (within : block < length rows) where
@@ -290,16 +326,31 @@ module _ (rows : List (List ℕ)) (written : List Def) (uses : List (List Use)) 
             let z : 0 + j ≡ j = omega arith in
             is.numbered block j v e' ∙ sym (numbered_at written block 0 (get_or rows block []) j v _ once-row e' d ∙ ap (λ n. Some (Argument block n)) z)
 
+    cleared-apart : AreApart cleared written-cleared
+    cleared-apart v op j e b k f = elim (cases_eq b block) [
+      | inl s ↦ let g : slice_get [] k ≡ Some v = sym (at-same rows block [] k within) ∙ ap (λ z. at cleared z k) (sym s) ∙ f in absurd (cc)
+      | inr ne ↦ stood ne (sym (at-other rows block b [] k ne) ∙ f)
+    ]
+      where
+        stood : b ≢ block → at rows b k ≡ Some v → ⊥
+        stood ne g =
+            let out : In v (get_or rows block []) → ⊥ = λ l. let p = in_at (get_or rows block []) v l in ne (stands-once rows before is.numbered b block k p.0 v g p.1).0 in
+            is.apart v op j (sym (numbered_other written block 0 (get_or rows block []) v out) ∙ e) b k g
+
     pub made-cleared : (uses' : List (List Use)) → length uses' ≡ length uses → AreAgreed cleared uses' → (defined written-cleared uses' ≡ before) × AreMade cleared written-cleared uses'
     made-cleared uses' n agreed' =
         let k = length_numbered written block 0 (get_or rows block []) in
         let c : length written-cleared ≡ length uses' = k ∙ is.count ∙ sym n in
         let g : length before ≡ length written-cleared = long ∙ sym k in
-        (defined-is cleared written-cleared uses' agreed' c before g cleared-numbered cleared-free, made-is cleared written-cleared uses' agreed' c before g cleared-numbered cleared-free)
+        (defined-is cleared written-cleared uses' agreed' c before g cleared-numbered cleared-free, made-is cleared written-cleared uses' agreed' c before g cleared-numbered cleared-free cleared-apart)
 
 -- as many values as are written
 pub length-uses-defined : (rows : List (List ℕ)) (written : List Def) (uses : List (List Use)) → AreMade rows written uses → length uses ≡ length (defined written uses)
 length-uses-defined rows written uses is = sym is.count ∙ sym (length-defined written uses is.count)
+
+-- what makes a value that is written as a result
+pub result-made : (rows : List (List ℕ)) (written : List Def) (uses : List (List Use)) (v : ℕ) (d : Def) (op i : ℕ) → AreAgreed rows uses → AreMade rows written uses → slice_get written v ≡ Some d → d ≡ Result op i → Some d ≡ slice_get (defined written uses) v
+result-made rows written uses v d op i agreed is e f = sym (defined-free rows written uses agreed is.count v (is.apart v op i (e ∙ ap Some f)) ∙ e)
 
 -- what makes a value without uses, and one with a use
 pub unused-made : (written : List Def) (uses : List (List Use)) (v : ℕ) (d : Def) → length written ≡ length uses → slice_get written v ≡ Some d → length (get_or uses v []) ≡ 0 → Some d ≡ slice_get (defined written uses) v

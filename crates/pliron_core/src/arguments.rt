@@ -96,8 +96,13 @@ impl Arguments {
         if value.index() >= self.written.len() {
             return None;
         }
+        let written = self.written[value.index()];
+        if let Def::Result(_, _) = written {
+            self.lists.agree();
+            return Some(written);
+        }
         if self.lists.num_uses(value.index()) == 0 {
-            return Some(self.written[value.index()]);
+            return Some(written);
         }
         let Use { user, place } = self.lists.get_use(value.index(), 0);
         Some(Def::Argument(Ptr::new(user), place))
