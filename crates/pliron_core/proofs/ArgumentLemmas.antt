@@ -79,20 +79,12 @@ length_taken [] m x e = absurd (grind arith)
 length_taken (y ∷ ys) zero x e = refl
 length_taken (y ∷ ys) (suc m) x e = ap suc (length_taken ys m x e)
 
--- one more value of a row is renumbered
-pub number_step : (ds : List Def) (b i j : ℕ) (row : List ℕ) (v : ℕ) → i ≤ j → slice_get row j ≡ Some v → slice_set (numbered ds b i (take (j - i) (drop i row))) v (Argument b j) ≡ numbered ds b i (take (j + 1 - i) (drop i row))
-number_step ds b i j row v le e =
-    let m : ℕ = j - i in
-    let z : i + (j - i) ≡ j = omega (arith, le) in
-    let f : slice_get (drop i row) (j - i) ≡ Some v = slice_get_drop row i (j - i) ∙ ap (slice_get row) z ∙ e in
-    let n : i + length (take (j - i) (drop i row)) ≡ j = ap (λ k. i + k) (length_taken (drop i row) (j - i) v f) ∙ z in
-    let k : suc (j - i) ≡ j + 1 - i = omega (arith, le) in
-    ap (λ q. slice_set (numbered ds b i (take (j - i) (drop i row))) v (Argument b q)) (sym n) ∙ sym (numbered_more ds b i (take (j - i) (drop i row)) v) ∙ ap (numbered ds b i) (sym (take_more (drop i row) (j - i) v f)) ∙ ap (λ q. numbered ds b i (take q (drop i row))) k
-
-pub drop_removed : {A : Type 0} (xs : List A) (i : ℕ) → i < length xs → drop i (remove xs i) ≡ drop (i + 1) xs
-drop_removed [] i lt = absurd (omega arith)
-drop_removed (x ∷ xs) zero lt = refl
-drop_removed (x ∷ xs) (suc i) lt = let z : suc (i + 1) ≡ suc i + 1 = omega arith in drop_removed xs i (omega (arith, lt)) ∙ ap (λ k. drop k (x ∷ xs)) z
+-- one more value of a row is numbered
+pub number_next : (ds : List Def) (b j : ℕ) (row : List ℕ) (v : ℕ) → slice_get row j ≡ Some v → slice_set (numbered ds b 0 (take j row)) v (Argument b j) ≡ numbered ds b 0 (take (j + 1) row)
+number_next ds b j row v e =
+    let n : 0 + length (take j row) ≡ j = omega (arith, length_taken row j v e) in
+    let k : suc j ≡ j + 1 = omega arith in
+    ap (λ q. slice_set (numbered ds b 0 (take j row)) v (Argument b q)) (sym n) ∙ sym (numbered_more ds b 0 (take j row) v) ∙ ap (numbered ds b 0) (sym (take_more row j v e)) ∙ ap (λ q. numbered ds b 0 (take q row)) k
 
 module _ (t : Tree) (block i : ℕ) (keys : HaveSameKeys t) (w : IsJoined t) (is : IsBlock t block) (unused : (k v : ℕ) → slice_get (arguments_of t block) i ≡ Some v → In v (operands_of t k) → ⊥) where
   abbrev pub u : Tree

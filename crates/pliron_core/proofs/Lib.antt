@@ -8,6 +8,7 @@ pub mod RemoveLemmas
 pub mod OpLemmas
 pub mod OwnLemmas
 pub mod PlaceLemmas
+mod UserLemmas
 pub mod MoveLemmas
 pub mod TableLemmas
 pub mod GapLemmas
@@ -24,6 +25,7 @@ pub mod PlacedLemmas
 pub mod GrownLemmas
 pub mod CreatedLemmas
 pub mod ArgumentLemmas
+mod MadeLemmas
 pub mod WellLemmas
 pub mod ReadLemmas
 pub mod FilterLemmas

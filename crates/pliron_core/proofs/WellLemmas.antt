@@ -1,24 +1,21 @@
 -- A context's invariant after each change of its tables.
-use Rattle.std.proofs.Common.{◌≡◌, ℕ, zero, suc, ◌+◌, ◌<◌, List, [], ◌∷◌, ◌++◌, length, map, get_or, Option, Some, None, IsSome, refl, sym, ap, ◌∙◌, subst, arith, slice_get, slice_set, replicate, length-append, drop, remove}
-use Rattle.std.proofs.lemmas.List.{length-set, get_or_default}
-use Rattle.std.proofs.lemmas.Option.{slice_get_within}
+use Rattle.std.proofs.Common.{◌≡◌, ℕ, zero, suc, ◌+◌, List, [], ◌∷◌, ◌++◌, length, map, Option, Some, None, IsSome, refl, sym, ap, ◌∙◌, subst, arith, slice_get, slice_set, replicate, length-append, drop, remove}
+use Rattle.std.proofs.lemmas.List.{length-set}
 use Rattle.std.specs.List.{range_with_len}
 use Rattle.pliron_core.specs.Uses.{replace_target}
 use Rattle.pliron_core.specs.declared.uses.Use.{Use}
 use Rattle.pliron_core.specs.declared.attrs.Head.{Head}
 use Rattle.pliron_core.specs.declared.context.Def.{Def}
-use Rattle.pliron_core.specs.declared.context.Def.TheVariants.{Argument}
 use Rattle.pliron_core.specs.declared.context.OperationEntry.{OperationEntry}
 use Rattle.pliron_core.specs.Tree.{Tree, View, In, IsLive, IsBlock, IsDefined, IsRegion, HoldsBlock, parent_of, operands_of, successors_of, arguments_of, results_of, regions_of, layout_of}
 use Rattle.pliron_core.specs.Joined.{HaveSameKeys, IsJoined, IsWellFormed}
 use Rattle.pliron_core.specs.Lists.{AreOwned}
-use Rattle.pliron_core.specs.Writes.{taken_from, created, block_created, argument_removed, numbered, region_slots, result_definitions, argument_definitions}
+use Rattle.pliron_core.specs.Writes.{taken_from, created, block_created, argument_removed, region_slots, result_definitions, argument_definitions}
 use Rattle.pliron_core.proofs.GrownLemmas.{set_last}
-use Rattle.pliron_core.proofs.TreeLemmas.{block-within}
 use Rattle.pliron_core.proofs.UsedLemmas.{kept_push, kept_push_successor, kept_remove, kept_replace, length_map}
 use Rattle.pliron_core.proofs.PlacedLemmas.{kept_put, kept_taken}
 use Rattle.pliron_core.proofs.CreatedLemmas.{kept_created, kept_block_created}
-use Rattle.pliron_core.proofs.ArgumentLemmas.{kept_argument_removed, kept_entry, length_numbered, drop_removed}
+use Rattle.pliron_core.proofs.ArgumentLemmas.{kept_argument_removed, kept_entry, length_numbered}
 
 length_last : {A : Type 0} (xs : List A) (x : A) → length (xs ++ x ∷ []) ≡ suc (length xs)
 length_last [] x = refl
@@ -131,17 +128,3 @@ block_made t region count key operands successors bodies arguments layouts paren
     let i : block_parents ≡ t.block_parents ++ Some region ∷ [] = f ∙ ap (λ n. slice_set (t.block_parents ++ None ∷ []) n (Some region)) k ∙ set_last t.block_parents None (Some region) in
     let j : layouts ≡ slice_set t.layouts region (layout_of t region ++ length t.bodies ∷ []) = g ∙ ap (λ n. slice_set t.layouts region (layout_of t region ++ n ∷ [])) (k ∙ keys.block_parents) in
     rw (a, b, c, d, e, i, j, h) refl
-
--- the tables after an argument went
-pub argument_gone : (t : Tree) (block i : ℕ) (row : List ℕ) (definitions : List Def) → i < length (arguments_of t block) → row ≡ remove (arguments_of t block) i → definitions ≡ numbered t.definitions block i (drop i row) → record t { arguments = slice_set t.arguments block row; definitions = definitions } ≡ argument_removed t block i
-argument_gone t block i row definitions lt e f = rw (f, e, drop_removed (arguments_of t block) i lt) refl
-
--- the arguments of a block are values
-pub argument_within : (v : View) (block k x : ℕ) → IsWellFormed v → slice_get (arguments_of v.tree block) k ≡ Some x → x < length v.tree.definitions
-argument_within v block k x w e = slice_get_within v.tree.definitions x (Argument block k) (w.joined.arguments block k x e)
-
--- the arguments of a block after one went
-pub argument_row : (v : View) (block i : ℕ) (read row : List ℕ) → IsWellFormed v → IsBlock v.tree block → read ≡ get_or v.tree.arguments block read → row ≡ remove read i → row ≡ remove (arguments_of v.tree block) i
-argument_row v block i read row w is e f =
-    let lt : block < length v.tree.arguments = let h = block-within v.tree block w.keys is in omega (arith, h, w.keys.arguments) in
-    f ∙ ap (λ l. remove l i) (e ∙ get_or_default v.tree.arguments block read [] lt)

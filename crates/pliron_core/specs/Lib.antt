@@ -13,6 +13,7 @@ pub mod EdgeUses
 pub mod Walks
 pub mod WalkSteps
 pub mod Making
+pub mod Arguments
 pub mod Insertion
 pub mod Erased
 pub mod Dismantling

@@ -3,8 +3,8 @@ use Rattle.std.specs.Prelude.{ℕ, List, map}
 use Rattle.std.specs.List.{range_with_len}
 use Rattle.pliron_core.specs.declared.context.Def.{Def}
 use Rattle.pliron_core.specs.declared.context.Def.TheVariants.{Result, Argument}
-use Rattle.pliron_core.specs.declared.context.create.Maker.{Maker}
-use Rattle.pliron_core.specs.declared.context.create.Maker.TheVariants.{Operation, Block}
+use Rattle.pliron_core.specs.declared.arguments.Maker.{Maker}
+use Rattle.pliron_core.specs.declared.arguments.Maker.TheVariants.{Operation, Block}
 
 abbrev pub made_by : Maker → ℕ → Def
 made_by (Operation op) i = Result op i

@@ -1,5 +1,6 @@
 -- How places and uses are linked.
 use Rattle.std.specs.Prelude.{zero, suc, ◌≡◌, ◌≢◌, ◌≤◌, ◌<◌, ℕ, ◌+◌, ◌&&◌, nat_eq, nat_lt, if◌then◌else◌, List, [], ◌∷◌, length, Option, Some, slice_index_or, slice_get, slice_set, take, ◌-◌, map, Vec, vec_len, vec_capacity}
+use Rattle.std.specs.List.{range_with_len}
 use Rattle.pliron_core.specs.declared.uses.Use.{Use}
 use Rattle.pliron_core.specs.declared.uses.Place.{Place}
 use Rattle.pliron_core.specs.declared.uses.Gap.{Gap}
@@ -44,6 +45,14 @@ gap_of gaps user = slice_index_or gaps user no_gap
 
 abbrev pub free_place : Place
 free_place = record { target = no_target; at = 0 }
+
+-- the places of so many targets by rising key, and the uses of so many targets by the user's places,
+-- where each target has one use
+abbrev pub places_from : ℕ → ℕ → List Place
+places_from first count = map (λ target. record { target = target; at = 0 }) (range_with_len first count)
+
+abbrev pub uses_by : ℕ → ℕ → List (List Use)
+uses_by user count = map (λ place. record { user = user; place = place } ∷ []) (range_with_len 0 count)
 
 -- each row has one gap
 pub record HaveGaps (rows : List (List Place)) (gaps : List Gap) : Type 0 where

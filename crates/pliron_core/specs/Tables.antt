@@ -11,11 +11,11 @@ view_of c = record {
     successors = c.successors.targets;
     parents = c.order.owners;
     bodies = c.order.lists;
-    arguments = c.arguments.items;
+    arguments = c.arguments.rows;
     block_parents = c.layout.owners;
     layouts = c.layout.lists;
     slots = c.slots.items;
-    definitions = c.values.items;
+    definitions = c.arguments.definitions;
   };
   value_uses = c.operands.uses;
   block_uses = c.successors.uses;

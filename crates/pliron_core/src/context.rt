@@ -15,6 +15,7 @@ mod region_reads;
 mod value_reads;
 mod walk;
 
+use crate::arguments::Arguments;
 use crate::attrs::Head;
 use crate::keys::{BasicBlock, Operation, Ptr, Region, Value};
 use crate::links::Links;
@@ -63,10 +64,9 @@ pub struct Context {
     operands: Uses,
     successors: Uses,
     order: Links,
-    arguments: Vec<Row<Value>>,
+    arguments: Arguments,
     layout: Links,
     slots: Vec<RegionSlot>,
-    values: Vec<Def>,
 }
 
 impl Model for Context {
@@ -92,10 +92,9 @@ impl Context {
             operands: Uses::new(alloc),
             successors: Uses::new(alloc),
             order: Links::new(alloc),
-            arguments: Vec::new(alloc),
+            arguments: Arguments::new(alloc),
             layout: Links::new(alloc),
             slots: Vec::new(alloc),
-            values: Vec::new(alloc),
         }
     }
 
@@ -107,9 +106,9 @@ impl Context {
         ensures keys { HaveFewKeys self.now.tree }
     {
         let _ = self.operations.len();
-        let _ = self.arguments.len();
+        let _ = self.arguments.num_blocks();
         let _ = self.slots.len();
-        let _ = self.values.len();
+        let _ = self.arguments.num_values();
         self.order.agree();
         self.layout.agree();
         self.operands.agree();

@@ -1,6 +1,7 @@
 //! A tree of operations, regions and blocks, named by keys, with the uses of each value and block.
 #![tactic(auto)]
 
+mod arguments;
 mod attrs;
 mod context;
 mod keys;

@@ -1,11 +1,12 @@
 //! Which targets each user names, in order, and where each target is used.
 
-ghost use Rattle.std.specs.Prelude.{◌≡◌, ◌≢◌, ℕ, ◌+◌, ◌-◌, ◌^◌, ◌<◌, ◌≤◌, [], ◌∷◌, ◌++◌, length, map, slice_set, vec_capacity, vec_len, slice_get, slice_index_or, Some, take, OnOk, OnErr, remove};
+ghost use Rattle.std.specs.Prelude.{◌≡◌, ◌≢◌, ℕ, ◌+◌, ◌-◌, ◌^◌, ◌<◌, ◌≤◌, [], ◌∷◌, ◌++◌, length, map, slice_set, vec_capacity, vec_len, slice_get, slice_index_or, Some, take, IfOk, OnOk, OnErr, remove, replicate};
+ghost use Rattle.std.specs.List.{range_with_len};
 ghost use Rattle.pliron_core.specs.Uses.{Table, targets_of, uses_of, AreAgreed, replace_target};
 ghost use Rattle.pliron_core.specs.declared.uses.Use.{Use};
 ghost use Rattle.std.specs.Option.{option_map};
 ghost use Rattle.pliron_core.specs.declared.uses.Place.{Place as PlaceOf};
-ghost use Rattle.pliron_core.specs.Places.{at, put, held, rank, shifted, targets_in, no_target, free_place, gap_of, HasGap, HaveGaps, IsLinked, AreLinked, KeepRooms};
+ghost use Rattle.pliron_core.specs.Places.{at, put, held, rank, shifted, targets_in, no_target, free_place, gap_of, HasGap, HaveGaps, IsLinked, AreLinked, KeepRooms, places_from, uses_by};
 
 use crate::row::{Row, entry, pop_entry, set_entry};
 use std::alloc::{AllocError, Global};
@@ -84,6 +85,13 @@ impl Uses {
         let _ = &self.uses;
     }
 
+    /// How many users there are. Cost: constant.
+    pub fn num_users(&self) -> usize
+        ensures { result ≡ length self.now.targets }
+    {
+        self.places.len()
+    }
+
     /// How many targets a user has. Cost: constant.
     pub fn num_targets(&self, user: usize) -> usize
         requires { user < length self.now.targets }
@@ -156,6 +164,36 @@ impl Uses {
         let key = self.uses.len();
         self.uses.push_reserved(Row::new(alloc));
         key
+    }
+
+    /// So many new targets, without uses. Asks for reserved room. Cost: one step for each.
+    pub fn add_targets(&mut self, alloc: Global, count: usize)
+        requires { count ≤ self.old.target_room }
+        ensures { self.new ≡ record self.old { uses = self.old.uses ++ replicate count []; target_room = self.old.target_room - count } }
+    {
+        for _ in 0..count {
+            self.add_target(alloc);
+        }
+    }
+
+    /// A new user, with so many new targets, which no other user has.
+    ///
+    /// Errors: want of memory, which leaves users, targets and uses as they were. Cost: one step for
+    /// each target, amortised.
+    pub fn add_user_with(&mut self, alloc: Global, count: usize) -> Result<(), AllocError>
+        ensures targets { OnOk result (self.new.targets ≡ self.old.targets ++ range_with_len (length self.old.uses) count ∷ []) }
+        ensures count { OnOk result (length self.new.uses ≡ length self.old.uses + count) }
+        ensures err { OnErr result ((self.new.targets ≡ self.old.targets) × (self.new.uses ≡ self.old.uses)) }
+    {
+        self.places.reserve(1)?;
+        self.gaps.reserve(1)?;
+        self.uses.reserve(count)?;
+        let row = new_places(alloc, self.uses.len(), count)?;
+        let user = self.places.len();
+        add_used(&mut self.uses, alloc, user, count)?;
+        self.places.push_reserved(row);
+        self.gaps.push_reserved(Gap { start: 0, len: 0 });
+        Ok(())
     }
 
     /// The user gets one more target, at the end.
@@ -239,6 +277,44 @@ impl Uses {
             self.remove(user, last);
         }
     }
+}
+
+// The places of so many targets, by rising key, each with one use.
+fn new_places(alloc: Global, first: usize, count: usize) -> Result<Row<Place>, AllocError>
+    requires { first + count < 2 ^ 64 }
+    ensures { IfOk result (λ row. row ≡ places_from first count) }
+{
+    let mut row = Row::new(alloc);
+    for i in 0..count {
+        row.push(Place {
+            target: first + i,
+            at: 0,
+        })?;
+    }
+    Ok(row)
+}
+
+// So many new targets, each with one use: the user names them in order.
+fn add_used(
+    uses: &mut Vec<Row<Use>>,
+    alloc: Global,
+    user: usize,
+    count: usize,
+) -> Result<(), AllocError>
+    requires { vec_len uses.old + count ≤ vec_capacity uses.old }
+    ensures ok { OnOk result (uses.new.items ≡ uses.old.items ++ uses_by user count) }
+    ensures err { OnErr result (uses.new.items ≡ uses.old.items) }
+{
+    let first = uses.len();
+    for place in 0..count {
+        let mut row = Row::new(alloc);
+        if let Err(error) = row.push(Use { user, place }) {
+            uses.truncate(first);
+            return Err(error);
+        }
+        uses.push_reserved(row);
+    }
+    Ok(())
 }
 
 // The gap of a user.

@@ -1,11 +1,11 @@
 //! The straight block is rewritten: inserted into, moved, replaced and erased in.
 
 use crate::steps::{
-    CONST, add_operand, block, check_links, count_uses, erase, head, in_new_context, move_to_end,
+    CONST, add_operand, check_links, count_uses, erase, head, in_new_context, move_to_end,
     operand_of, operation, result_of,
 };
 use crate::straight::{Sum, build_sum};
-use pliron_core::{BasicBlock, Context, Def, IRRewriter, Operation, Ptr, Rewriter, Value};
+use pliron_core::{BasicBlock, Context, IRRewriter, Operation, Ptr, Rewriter, Value};
 use std::alloc::Global;
 use std::process::Abort;
 use std::test::Fail;
@@ -121,45 +121,6 @@ fn remove_first_operand(rt: &impl Abort, alloc: Global, ctx: &mut Context) -> Re
 #[test]
 fn removes_operands(rt: HostRuntime) -> Result<(), Fail> {
     in_new_context(&rt, rt.alloc(), remove_first_operand)
-}
-
-fn argument_of(rt: &impl Abort, ctx: &Context, block: Ptr<BasicBlock>, i: usize) -> Value {
-    assert!(rt; block.is_live(ctx));
-    assert!(rt; i < block.num_argument(ctx));
-    block.get_argument(ctx, i)
-}
-
-fn remove_argument(rt: &impl Abort, ctx: &mut Context, block: Ptr<BasicBlock>, i: usize) {
-    assert!(rt; block.is_live(ctx));
-    assert!(rt; i < block.num_argument(ctx));
-    let gone = block.get_argument(ctx, i);
-    assert!(rt; gone.is_live(ctx));
-    assert!(rt; gone.num_use(ctx) == 0);
-    BasicBlock::remove_argument(ctx, block, i);
-}
-
-fn check_argument(rt: &impl Abort, ctx: &Context, block: Ptr<BasicBlock>, i: usize, want: Value) {
-    assert!(rt; argument_of(rt, ctx, block, i) == want);
-    assert!(rt; want.is_live(ctx));
-    assert!(rt; want.def(ctx) == Def::Argument(block, i));
-}
-
-fn remove_middle_argument(rt: &impl Abort, alloc: Global, ctx: &mut Context) -> Result<(), Fail> {
-    let sum = build_sum(rt, alloc, ctx)?;
-    let block = block(rt, ctx, sum.func, 0, 3)?;
-    let first = argument_of(rt, ctx, block, 0);
-    let middle = argument_of(rt, ctx, block, 1);
-    let last = argument_of(rt, ctx, block, 2);
-    remove_argument(rt, ctx, block, 1);
-    check_argument(rt, ctx, block, 0, first);
-    check_argument(rt, ctx, block, 1, last);
-    assert!(rt; !middle.is_live(ctx));
-    Ok(())
-}
-
-#[test]
-fn removes_arguments(rt: HostRuntime) -> Result<(), Fail> {
-    in_new_context(&rt, rt.alloc(), remove_middle_argument)
 }
 
 // A sum that nothing uses any more goes, and with it its uses of the constants.

@@ -11,7 +11,7 @@ impl Ptr<BasicBlock> {
     pub fn is_live(self, ctx: &Context) -> bool
         ensures { IsTrue result ↔ IsBlock ctx.now.tree self }
     {
-        if self.index() < ctx.arguments.len() {
+        if self.index() < ctx.arguments.num_blocks() {
             ctx.layout.owner(self.index()).is_some()
         } else {
             false
@@ -23,7 +23,7 @@ impl Ptr<BasicBlock> {
         requires { IsBlock ctx.now.tree self }
         ensures { result ≡ length (arguments_of ctx.now.tree self) }
     {
-        ctx.arguments[self.index()].len()
+        ctx.arguments.len(self)
     }
 
     /// The argument at this index. The block stands, and has as many. Constant cost.
@@ -34,7 +34,7 @@ impl Ptr<BasicBlock> {
         ensures stands { IsDefined ctx.now.tree result }
     {
         ctx.well_formed();
-        ctx.arguments[self.index()].get(i)
+        ctx.arguments.get(self, i)
     }
 
     /// The region that has the block, which is one. The block stands. Constant cost.

@@ -3,33 +3,13 @@ ghost use Rattle.std.specs.Prelude.{◌≡◌, ◌+◌, ◌<◌, ◌≤◌, ◌^
 ghost use Rattle.std.specs.List.{range_with_len};
 ghost use Rattle.pliron_core.specs.Tree.{IsRegion};
 ghost use Rattle.pliron_core.specs.Writes.{created, block_created, region_slots};
-ghost use Rattle.pliron_core.specs.Making.{made_by, definitions_of};
 
-use super::{Context, Def, NoMemory, OperationEntry, RegionSlot};
+use super::{Context, NoMemory, OperationEntry, RegionSlot};
 use crate::attrs::Head;
-use crate::keys::{BasicBlock, Operation, Ptr, Region, Value};
+use crate::keys::{BasicBlock, Operation, Ptr, Region};
 use crate::links::Links;
 use crate::row::Row;
-use crate::uses::Uses;
 use std::alloc::Global;
-
-// What makes new values.
-#[derive(Clone, Copy)]
-enum Maker {
-    Operation(Ptr<Operation>),
-    Block(Ptr<BasicBlock>),
-}
-
-impl Maker {
-    fn definition(&self, i: usize) -> Def
-        ensures { result ≡ made_by self.now i }
-    {
-        match self {
-            Maker::Operation(op) => Def::Result(*op, i),
-            Maker::Block(block) => Def::Argument(*block, i),
-        }
-    }
-}
 
 impl Operation {
     /// A new operation in no block, with so many new results and so many new, empty regions, and
@@ -55,20 +35,14 @@ impl Operation {
         ctx.order.reserve(1, 0)?;
         ctx.layout.reserve(0, regions)?;
         ctx.slots.reserve(regions)?;
-        ctx.values.reserve(results)?;
-        let result_keys = value_keys(alloc, ctx.values.len(), results)?;
         let region_keys = region_keys(alloc, ctx.slots.len(), regions)?;
-        let op = Ptr::new(ctx.order.add_node());
+        let op = Ptr::new(ctx.operations.len());
+        let result_keys = ctx.arguments.add_results(alloc, op, results)?;
+        ctx.order.add_node();
         ctx.successors.add_user(alloc);
         ctx.operands.add_user(alloc);
         add_regions(&mut ctx.slots, &mut ctx.layout, op, regions);
-        add_values(
-            &mut ctx.values,
-            &mut ctx.operands,
-            alloc,
-            Maker::Operation(op),
-            results,
-        );
+        ctx.operands.add_targets(alloc, results);
         ctx.operations.push_reserved(OperationEntry {
             head: Some(head),
             results: result_keys,
@@ -95,40 +69,18 @@ impl BasicBlock {
     {
         let alloc = ctx.alloc;
         ctx.layout.agree();
-        ctx.arguments.reserve(1)?;
         ctx.operands.reserve(0, arguments)?;
         ctx.successors.reserve(0, 1)?;
         ctx.order.reserve(0, 1)?;
         ctx.layout.reserve(1, 0)?;
-        ctx.values.reserve(arguments)?;
-        let argument_keys = value_keys(alloc, ctx.values.len(), arguments)?;
+        ctx.arguments.add_block(alloc, arguments)?;
         let block = Ptr::new(ctx.order.add_list());
         ctx.successors.add_target(alloc);
         let key = ctx.layout.add_node();
         ctx.layout.push_back(region.index(), key);
-        add_values(
-            &mut ctx.values,
-            &mut ctx.operands,
-            alloc,
-            Maker::Block(block),
-            arguments,
-        );
-        ctx.arguments.push_reserved(argument_keys);
+        ctx.operands.add_targets(alloc, arguments);
         Ok(block)
     }
-}
-
-// So many values, by rising key.
-#[tactic(auto, using(crate::proofs::GrownLemmas::range_more))]
-fn value_keys(alloc: Global, first: usize, count: usize) -> Result<Row<Value>, NoMemory>
-    requires { first + count < 2 ^ 64 }
-    ensures { IfOk result (λ row. row ≡ range_with_len first count) }
-{
-    let mut row = Row::new(alloc);
-    for i in 0..count {
-        row.push(Value::new(first + i))?;
-    }
-    Ok(row)
 }
 
 // So many regions, by rising key.
@@ -155,19 +107,5 @@ fn add_regions(slots: &mut Vec<RegionSlot>, layout: &mut Links, op: Ptr<Operatio
     for index in 0..count {
         slots.push_reserved(RegionSlot { op, index });
         layout.add_list();
-    }
-}
-
-// So many new values, without uses.
-fn add_values(values: &mut Vec<Def>, operands: &mut Uses, alloc: Global, maker: Maker, count: usize)
-    requires values { vec_len values.old + count ≤ vec_capacity values.old }
-    requires targets { count ≤ operands.old.target_room }
-    ensures values { values.new.items ≡ values.old.items ++ definitions_of maker count }
-    ensures targets { operands.new.targets ≡ operands.old.targets }
-    ensures uses { length operands.new.uses ≡ length operands.old.uses + count }
-{
-    for i in 0..count {
-        values.push_reserved(maker.definition(i));
-        operands.add_target(alloc);
     }
 }

@@ -87,7 +87,7 @@ impl Ptr<BasicBlock> {
         ensures { result ≡ length (preds_of ctx.now.tree self) }
     {
         ctx.well_formed();
-        count_below(ctx, self, ctx.arguments.len())
+        count_below(ctx, self, ctx.arguments.num_blocks())
     }
 
     /// The predecessor at this index, in the region's order. The block stands, and has as many. As
@@ -101,7 +101,7 @@ impl Ptr<BasicBlock> {
     {
         ctx.well_formed();
         let mut low = 0;
-        let mut high = ctx.arguments.len();
+        let mut high = ctx.arguments.num_blocks();
         while high - low > 1 {
             let middle = low + (high - low) / 2;
             if count_below(ctx, self, middle) <= i {

@@ -1,12 +1,11 @@
 //! Operands, successors, attributes and arguments.
-ghost use Rattle.std.specs.Prelude.{◌≡◌, ◌+◌, ◌<◌, ◌≤◌, [], length, drop, slice_get, OnOk, OnErr, IfSome, Some, ℕ};
+ghost use Rattle.std.specs.Prelude.{◌≡◌, ◌+◌, ◌<◌, ◌≤◌, [], length, slice_get, OnOk, OnErr, IfSome};
 ghost use Rattle.pliron_core.specs.Tree.{IsLive, IsBlock, IsDefined, In, operands_of, head_of, arguments_of, uses_of};
-ghost use Rattle.pliron_core.specs.Writes.{operand_pushed, successor_pushed, operand_removed, attribute_set, with_attribute, argument_removed, replaced, numbered};
+ghost use Rattle.pliron_core.specs.Writes.{operand_pushed, successor_pushed, operand_removed, attribute_set, with_attribute, argument_removed, replaced};
 
-use super::{Context, Def, NoMemory};
+use super::{Context, NoMemory};
 use crate::attrs::{AttrObj, Head};
 use crate::keys::{BasicBlock, Operation, Ptr, Value};
-use crate::row::Row;
 
 impl Operation {
     /// One more operand, at the end.
@@ -100,7 +99,8 @@ impl BasicBlock {
     /// before.
     ///
     /// Asks that the block stands and has such an argument, and that no operation uses it. Takes no
-    /// memory. Cost: the number of arguments after it.
+    /// memory. Cost: the number of arguments between it and the place where the block lost one last, and
+    /// constant for the first; amortised, a constant and at most twice the number of arguments after it.
     pub fn remove_argument(ctx: &mut Context, block: Ptr<BasicBlock>, i: usize)
         requires block { IsBlock ctx.old.tree block }
         requires index { i < length (arguments_of ctx.old.tree block) }
@@ -108,19 +108,6 @@ impl BasicBlock {
         ensures { ctx.new ≡ record ctx.old { tree = argument_removed ctx.old.tree block i } }
     {
         ctx.operands.agree();
-        let row = &mut ctx.arguments[block.index()];
-        row.remove(i);
-        number_arguments(&mut ctx.values, row, block, i);
-    }
-}
-
-// The values from index `i` on are the block's arguments at these indices.
-fn number_arguments(values: &mut Vec<Def>, row: &Row<Value>, block: Ptr<BasicBlock>, i: usize)
-    requires { (k v : ℕ) → slice_get row.now k ≡ Some v → v < length values.old.items }
-    ensures { values.new.items ≡ numbered values.old.items block i (drop i row.now) }
-{
-    for j in i..row.len() {
-        let value = row.get(j);
-        values[value.index()] = Def::Argument(block, j);
+        ctx.arguments.remove(block, i);
     }
 }

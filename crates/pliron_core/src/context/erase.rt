@@ -63,9 +63,8 @@ fn remove_block(ctx: &mut Context, block: Ptr<BasicBlock>)
 {
     ctx.layout.agree();
     ctx.order.agree();
-    let alloc = ctx.alloc;
     if let Some(region) = ctx.layout.owner(block.index()) {
-        ctx.arguments[block.index()] = Row::new(alloc);
+        ctx.arguments.clear(block);
         ctx.layout.remove(region, block.index());
     }
 }

@@ -23,15 +23,12 @@ impl Value {
     pub fn is_live(self, ctx: &Context) -> bool
         ensures { IsTrue result ↔ IsDefined ctx.now.tree self }
     {
-        match ctx.values.get(self.index()) {
+        match &ctx.arguments.definition(self) {
             Some(Def::Result(op, i)) => match ctx.operations.get(op.index()) {
                 Some(entry) => is_value_at(&entry.results, *i, self),
                 None => false,
             },
-            Some(Def::Argument(block, i)) => match ctx.arguments.get(block.index()) {
-                Some(arguments) => is_value_at(arguments, *i, self),
-                None => false,
-            },
+            Some(Def::Argument(block, i)) => ctx.arguments.is_at(*block, *i, self),
             None => false,
         }
     }
@@ -43,6 +40,9 @@ impl Value {
         ensures stands { IsMakerStanding ctx.now.tree result }
     {
         ctx.well_formed();
-        ctx.values[self.index()]
+        match ctx.arguments.definition(self) {
+            Some(definition) => definition,
+            None => unreachable!(),
+        }
     }
 }

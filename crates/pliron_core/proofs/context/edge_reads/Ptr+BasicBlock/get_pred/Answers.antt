@@ -8,10 +8,10 @@ use Rattle.pliron_core.proofs.context.edge_reads.Ptr+BasicBlock.get_pred.Goals a
 
 pub loop-high-init : goal.loop-high-init
 loop-high-init c =
-    let count : c.len-high.result ≡ length c.args.ctx.now.tree.arguments = search rules in
+    let count : c.num_blocks-high.result ≡ length c.args.ctx.now.tree.arguments = search rules in
     let here : c.args.self < length c.args.ctx.now.tree.arguments = block-within c.args.ctx.now.tree c.well_formed-2.ensures.tree c.args.self c.requires.live in
     let below : length (filter (λ a. nat_lt a 0) (preds_of c.args.ctx.now.tree c.args.self)) ≤ c.args.i = omega (arith, below_zero (preds_of c.args.ctx.now.tree c.args.self)) in
-    let above : c.args.i < length (filter (λ a. nat_lt a c.len-high.result) (preds_of c.args.ctx.now.tree c.args.self)) = omega (arith, preds-below c.args.ctx.now.tree c.well_formed-2.ensures.tree c.args.self c.len-high.result count) in
+    let above : c.args.i < length (filter (λ a. nat_lt a c.num_blocks-high.result) (preds_of c.args.ctx.now.tree c.args.self)) = omega (arith, preds-below c.args.ctx.now.tree c.well_formed-2.ensures.tree c.args.self c.num_blocks-high.result count) in
     record { order = omega arith; below = below; above = above }
 
 pub returns-clause-predecessor : goal.returns-clause-predecessor

@@ -4,5 +4,5 @@ use Rattle.pliron_core.proofs.context.edge_reads.Ptr+BasicBlock.num_pred.Goals a
 
 pub returns : goal.returns
 returns c =
-    let count : c.len.result ≡ length c.args.ctx.now.tree.arguments = search rules in
-    c.count_below.ensures ∙ preds-below c.args.ctx.now.tree c.well_formed-2.ensures.tree c.args.self c.len.result count
+    let count : c.num_blocks.result ≡ length c.args.ctx.now.tree.arguments = search rules in
+    c.count_below.ensures ∙ preds-below c.args.ctx.now.tree c.well_formed-2.ensures.tree c.args.self c.num_blocks.result count

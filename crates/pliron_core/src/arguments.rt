@@ -1,0 +1,231 @@
+//! The arguments of each block in order, and what makes each value.
+ghost use Rattle.std.specs.Prelude.{◌≡◌, ℕ, ◌+◌, ◌<◌, ◌≤◌, ◌^◌, ◌++◌, ◌∷◌, [], length, drop, remove, slice_get, slice_set, Some, IsTrue, ◌↔◌, IfOk, OnOk, OnErr, vec_len, vec_capacity};
+ghost use Rattle.std.specs.List.{range_with_len};
+ghost use Rattle.pliron_core.specs.Uses.{targets_of};
+ghost use Rattle.pliron_core.specs.Arguments.{Makers, row_of};
+ghost use Rattle.pliron_core.specs.Making.{made_by, definitions_of};
+ghost use Rattle.pliron_core.specs.Writes.{numbered, result_definitions, argument_definitions};
+
+use crate::context::Def;
+use crate::keys::{BasicBlock, Operation, Ptr, Value};
+use crate::row::Row;
+use crate::uses::{Use, Uses};
+use std::alloc::{AllocError, Global};
+use std::marker::Model;
+
+/// The arguments of each block in order, and what makes each value.
+///
+/// A block is a user, and its arguments are its targets: where a value stands is read from its use.
+/// What is written of a value says what makes it where it is a result, and what made it where it is
+/// an argument that went.
+#[derive(Drop)]
+pub struct Arguments {
+    lists: Uses,
+    written: Vec<Def>,
+}
+
+impl Model for Arguments {
+    ghost use Rattle.pliron_core.specs.Arguments.{Makers};
+
+    ghost Value = { Makers };
+
+    ghost use Rattle.pliron_core.specs.Arguments.{AreMade, defined};
+
+    ghost view = { λ a. record { rows = a.lists.targets; definitions = defined a.written.items a.lists.uses } };
+
+    ghost invariant = { λ a. AreMade a.lists.targets a.written.items a.lists.uses };
+}
+
+impl Arguments {
+    /// No blocks and no values. Takes no memory.
+    pub fn new(alloc: Global) -> Self
+        ensures { result ≡ record { rows = []; definitions = [] } }
+    {
+        Arguments {
+            lists: Uses::new(alloc),
+            written: Vec::new(alloc),
+        }
+    }
+
+    /// How many blocks there are. Cost: constant.
+    pub fn num_blocks(&self) -> usize
+        ensures { result ≡ length self.now.rows }
+    {
+        self.lists.num_users()
+    }
+
+    /// How many values there are. Cost: constant.
+    pub fn num_values(&self) -> usize
+        ensures { result ≡ length self.now.definitions }
+    {
+        self.written.len()
+    }
+
+    /// How many arguments a block has. Cost: constant.
+    pub fn len(&self, block: Ptr<BasicBlock>) -> usize
+        requires { block < length self.now.rows }
+        ensures { result ≡ length (row_of self.now block) }
+    {
+        self.lists.num_targets(block.index())
+    }
+
+    /// The argument of a block at an index. Cost: constant.
+    pub fn get(&self, block: Ptr<BasicBlock>, i: usize) -> Value
+        requires block { block < length self.now.rows }
+        requires index { i < length (row_of self.now block) }
+        ensures { slice_get (row_of self.now block) i ≡ Some result }
+    {
+        Value::new(self.lists.target(block.index(), i))
+    }
+
+    /// Whether the value is the argument of the block at this index. Cost: constant.
+    pub fn is_at(&self, block: Ptr<BasicBlock>, i: usize, value: Value) -> bool
+        ensures { IsTrue result ↔ (slice_get (row_of self.now block) i ≡ Some value) }
+    {
+        if block.index() < self.num_blocks() && i < self.len(block) {
+            self.get(block, i) == value
+        } else {
+            false
+        }
+    }
+
+    /// What makes a value, or made it, where it is an argument that went. Cost: constant.
+    pub fn definition(&self, value: Value) -> Option<Def>
+        ensures { result ≡ slice_get self.now.definitions value }
+    {
+        if value.index() >= self.written.len() {
+            return None;
+        }
+        let written = self.written[value.index()];
+        if let Def::Result(_, _) = written {
+            self.lists.agree();
+            return Some(written);
+        }
+        if self.lists.num_uses(value.index()) == 0 {
+            return Some(written);
+        }
+        let Use { user, place } = self.lists.get_use(value.index(), 0);
+        Some(Def::Argument(Ptr::new(user), place))
+    }
+
+    /// So many new values, results of the operation, by rising key.
+    ///
+    /// Errors: want of memory, which changes nothing. Cost: one step for each, amortised.
+    pub fn add_results(
+        &mut self,
+        alloc: Global,
+        op: Ptr<Operation>,
+        count: usize,
+    ) -> Result<Row<Value>, AllocError>
+        ensures keys { IfOk result (λ row. row ≡ range_with_len (length self.old.definitions) count) }
+        ensures ok { OnOk result (self.new ≡ record self.old { definitions = self.old.definitions ++ result_definitions op count }) }
+        ensures err { OnErr result (self.new ≡ self.old) }
+    {
+        self.written.reserve(count)?;
+        self.lists.reserve(0, count)?;
+        let keys = value_keys(alloc, self.written.len(), count)?;
+        self.lists.agree();
+        self.lists.add_targets(alloc, count);
+        self.lists.agree();
+        write_definitions(&mut self.written, Maker::Operation(op), count);
+        Ok(keys)
+    }
+
+    /// A new block, with so many new values as its arguments, by rising key.
+    ///
+    /// Errors: want of memory, which changes nothing. Cost: one step for each, amortised.
+    pub fn add_block(&mut self, alloc: Global, count: usize) -> Result<(), AllocError>
+        ensures rows { OnOk result (self.new.rows ≡ self.old.rows ++ range_with_len (length self.old.definitions) count ∷ []) }
+        ensures definitions { OnOk result (self.new.definitions ≡ self.old.definitions ++ argument_definitions (length self.old.rows) count) }
+        ensures err { OnErr result (self.new ≡ self.old) }
+    {
+        self.written.reserve(count)?;
+        let block = Ptr::new(self.lists.num_users());
+        self.lists.agree();
+        self.lists.add_user_with(alloc, count)?;
+        self.lists.agree();
+        write_definitions(&mut self.written, Maker::Block(block), count);
+        Ok(())
+    }
+
+    /// The argument of a block at an index goes. Each later one has the index before.
+    ///
+    /// Takes no memory. Cost: the number of arguments between it and the place where the block lost one
+    /// last, and constant for the first; amortised, a constant and at most twice the number of arguments
+    /// after it.
+    pub fn remove(&mut self, block: Ptr<BasicBlock>, i: usize)
+        requires block { block < length self.old.rows }
+        requires index { i < length (row_of self.old block) }
+        ensures rows { self.new.rows ≡ slice_set self.old.rows block (remove (row_of self.old block) i) }
+        ensures definitions { self.new.definitions ≡ numbered self.old.definitions block i (drop (i + 1) (row_of self.old block)) }
+    {
+        self.lists.agree();
+        let value = self.lists.remove(block.index(), i);
+        self.written[value] = Def::Argument(block, i);
+        self.lists.agree();
+    }
+
+    /// All arguments of a block go. Takes no memory. Cost: the number of its arguments.
+    pub fn clear(&mut self, block: Ptr<BasicBlock>)
+        requires { block < length self.old.rows }
+        ensures { self.new ≡ record self.old { rows = slice_set self.old.rows block [] } }
+    {
+        self.lists.agree();
+        write_arguments(&mut self.written, &self.lists, block);
+        self.lists.clear(block.index());
+        self.lists.agree();
+    }
+}
+
+// What makes new values.
+#[derive(Clone, Copy)]
+enum Maker {
+    Operation(Ptr<Operation>),
+    Block(Ptr<BasicBlock>),
+}
+
+impl Maker {
+    fn definition(&self, i: usize) -> Def
+        ensures { result ≡ made_by self.now i }
+    {
+        match self {
+            Maker::Operation(op) => Def::Result(*op, i),
+            Maker::Block(block) => Def::Argument(*block, i),
+        }
+    }
+}
+
+// So many values, by rising key.
+#[tactic(auto, using(crate::proofs::GrownLemmas::range_more))]
+fn value_keys(alloc: Global, first: usize, count: usize) -> Result<Row<Value>, AllocError>
+    requires { first + count < 2 ^ 64 }
+    ensures { IfOk result (λ row. row ≡ range_with_len first count) }
+{
+    let mut row = Row::new(alloc);
+    for i in 0..count {
+        row.push(Value::new(first + i))?;
+    }
+    Ok(row)
+}
+
+// The definitions of so many new values.
+fn write_definitions(written: &mut Vec<Def>, maker: Maker, count: usize)
+    requires { vec_len written.old + count ≤ vec_capacity written.old }
+    ensures { written.new.items ≡ written.old.items ++ definitions_of maker count }
+{
+    for i in 0..count {
+        written.push_reserved(maker.definition(i));
+    }
+}
+
+// The definitions of the block's arguments.
+fn write_arguments(written: &mut Vec<Def>, lists: &Uses, block: Ptr<BasicBlock>)
+    requires block { block < length lists.now.targets }
+    requires values { (k v : ℕ) → slice_get (targets_of lists.now block) k ≡ Some v → v < length written.old.items }
+    ensures { written.new.items ≡ numbered written.old.items block 0 (targets_of lists.now block) }
+{
+    for i in 0..lists.num_targets(block.index()) {
+        let value = lists.target(block.index(), i);
+        written[value] = Def::Argument(block, i);
+    }
+}
