@@ -3,7 +3,7 @@ ghost use Rattle.std.specs.Prelude.{◌≡◌, IfOk, IsOkUnless, map, reverse};
 ghost use Rattle.pliron_search.specs.Walks.{joined, AreWalks, AreReversedWalks, IsPostOrder, IsTopologicalOrder};
 
 use crate::ControlFlowGraph;
-use crate::search::walk;
+use crate::search::walk_over;
 use indexmap::IndexSet;
 use pliron_laws::OptError;
 use std::alloc::Global;
@@ -25,13 +25,14 @@ pub fn post_order_by_component<C, G: ControlFlowGraph<C>>(
 {
     let mut seen = IndexSet::new(alloc);
     let mut walks = Vec::new(alloc);
+    let mut stack = Vec::new(alloc);
     let nodes = graph.nodes(alloc, ctx)?;
     for node in &nodes {
         if seen.contains(node) {
             continue;
         }
         let mut post = Vec::new(alloc);
-        walk(alloc, ctx, graph, *node, &mut seen, &mut post)?;
+        walk_over(ctx, graph, *node, &mut seen, &mut post, &mut stack)?;
         walks.push(post)?;
     }
     Ok(walks)
