@@ -9,7 +9,7 @@ ghost use Rattle.pliron_graph.specs.Internal.Named.{AreNamed};
 
 use indexmap::IndexSet;
 use pliron_laws::OptError;
-use pliron_search::search::walk;
+use pliron_search::search::walk_over;
 use pliron_search::{AdjacencyList, ControlFlowGraph, ListedSet, NumberSet};
 use std::alloc::Global;
 
@@ -128,11 +128,12 @@ fn search_all<C, G: ControlFlowGraph<C>, S: ListedSet<G::Node>>(
     let roots = roots(alloc, ctx, graph)?;
     let mut pre = S::empty(alloc);
     let mut post = Vec::new(alloc);
+    let mut stack = Vec::new(alloc);
     for root in &roots {
         if pre.contains(root) {
             continue;
         }
-        walk(alloc, ctx, graph, *root, &mut pre, &mut post)?;
+        walk_over(ctx, graph, *root, &mut pre, &mut post, &mut stack)?;
     }
     Ok((pre, post))
 }
