@@ -55,4 +55,4 @@ module _ {N : Type 0} (eq : N → N → Bool) (laws : IsEquivalence eq) (same : 
         by m n p q (inr (inr k)) = absurd (omega (arith, k, p, q, at_most))
         by m n p q (inr (inl k)) =
             let one : v ≡ u = same v u (equal_at_place eq laws order v u within (p ∙ k ∙ sym q)) in
-            absurd (stands_once sorted (length sorted - 1 - j) (length sorted - 1 - i) v sorted_distinct low there (subst (λ z. slice_get sorted (length sorted - 1 - i) ≡ Some z) (sym one) here))
+            absurd (stands_once eq laws same sorted (length sorted - 1 - j) (length sorted - 1 - i) v sorted_distinct low there (subst (λ z. slice_get sorted (length sorted - 1 - i) ≡ Some z) (sym one) here))
