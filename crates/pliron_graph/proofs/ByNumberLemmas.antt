@@ -17,17 +17,13 @@ use Rattle.pliron_search.specs.Internal.Membership.{In, in_from, contains_from, 
 use Rattle.pliron_search.proofs.TreeLemmas.{InF, pre_in, post_in}
 use Rattle.pliron_search.proofs.NumberingLemmas.{search_from_growth}
 use Rattle.pliron_graph.specs.Components.{entry_then_nodes}
-use Rattle.pliron_search.proofs.NumberedLemmas.{in_map, of_map, one_number, row_below, succ_named, grew_named, pre_low, post_low}
+use Rattle.pliron_search.proofs.NumberedLemmas.{in_map, of_map, nodes_from, one_number, row_below, succ_named, grew_named, pre_low, post_low}
 
 module _ {N : Type 0} (eq : N → N → Bool) (laws : IsEquivalence eq) (g : Digraph N) (lists : Adjacency) (lawful : IsLawful eq g) (by : IsByNumber g lists) (d : N) where
   abbrev node : ℕ → N
   node k = get_or g.nodes k d
 
   -- the roots of the two searches
-  nodes_from : (i m : ℕ) → i + m ≡ length g.nodes → map node (count_from i m) ≡ drop i g.nodes
-  nodes_from i zero e = sym (drop_all i g.nodes (omega (arith, e)))
-  nodes_from i (suc m) e = ap (λ z. node i ∷ z) (nodes_from (i + 1) m (omega (arith, e))) ∙ sym (drop_more g.nodes i d (omega (arith, e)))
-
   entry_from : (m : ℕ) → m ≡ length g.nodes → map node (option_to_list (first_of (count_from 0 m))) ≡ option_to_list (slice_get g.nodes 0)
   entry_from zero e = let none = slice_get_past g.nodes 0 (omega (arith, e)) in ap option_to_list (sym none)
   entry_from (suc m) e = ap option_to_list (sym (slice_get-get_or g.nodes 0 d (omega (arith, e))))
@@ -35,7 +31,7 @@ module _ {N : Type 0} (eq : N → N → Bool) (laws : IsEquivalence eq) (g : Dig
   roots_named : map node (entry_then_nodes (graph_of lists)) ≡ entry_then_nodes g
   roots_named =
       let entries : map node (option_to_list (first_of (count_from 0 (length lists.succ)))) ≡ option_to_list g.entry = entry_from (length lists.succ) by.same_count ∙ ap option_to_list (sym by.entry) in
-      let all : map node (count_from 0 (length lists.succ)) ≡ g.nodes = nodes_from 0 (length lists.succ) (omega (arith, by.same_count)) in
+      let all : map node (count_from 0 (length lists.succ)) ≡ g.nodes = nodes_from eq laws g lists lawful by d 0 (length lists.succ) (omega (arith, by.same_count)) in
       map-append node (option_to_list (first_of (count_from 0 (length lists.succ)))) (count_from 0 (length lists.succ))
       ∙ ap (λ z. z ++ map node (count_from 0 (length lists.succ))) entries ∙ ap (λ z. option_to_list g.entry ++ z) all
 

@@ -1,11 +1,11 @@
 -- A graph and the same graph by numbers: the second's search is that of the first.
 use Rattle.std.proofs.Common.{◌≡◌, ℕ, zero, suc, ◌+◌, ◌<◌, Bool, true, false, true≢false, ◌||◌, Option, None, is_some, List, [], ◌∷◌, ◌++◌, length, drop, map, get_or, slice_get, Some, refl, sym, ◌∙◌, ap, subst, arith, inl, inr, ◌⊎◌, Contains, nat_eq}
 use Rattle.std.specs.Cmp.{IsEquivalence}
-use Rattle.std.specs.List.{All, list_any}
+use Rattle.std.specs.List.{All, AllByRecursion, list_any}
 use Rattle.std.specs.Option.{option_to_list}
 use Rattle.std.proofs.lemmas.Bool.Decides.{eqb_tells}
-use Rattle.std.proofs.lemmas.List.{drop_more, drop_all, map-append}
-use Rattle.std.proofs.lemmas.List.Elements.{All-contains, All-get_or, Contains-get_or}
+use Rattle.std.proofs.lemmas.List.{drop_more, drop_all, map-append, map_push}
+use Rattle.std.proofs.lemmas.List.Elements.{All-contains, All-get_or, All-from_recursion, Contains-get_or}
 use Rattle.std.proofs.lemmas.Option.{same_Some, slice_get-get_or, slice_get_within, slice_get_past, get_or_from_slice_get}
 use Rattle.pliron_search.specs.Digraph.{Digraph, IsLawful, IsPath, Reaches}
 use Rattle.pliron_search.specs.Adjacency.{Adjacency, graph_of, count_from, first_of, row}
@@ -13,6 +13,7 @@ use Rattle.pliron_search.specs.ByNumber.{IsByNumber}
 use Rattle.pliron_search.specs.Search.{number_in}
 use Rattle.pliron_search.specs.Internal.AdjacencyLawful.{counted}
 use Rattle.pliron_search.specs.Internal.Forest.{Forest, leaf, grow, preorder, postorder, Grows, done, skip, visit, Grew}
+use Rattle.pliron_search.specs.Internal.Walked.{trees, AreFoundWalks, AreNamedLists}
 use Rattle.pliron_search.specs.Internal.Membership.{In, in_from, contains_from, in_cases}
 use Rattle.pliron_search.proofs.TreeLemmas.{InF, pre_in, post_in}
 use Rattle.pliron_search.proofs.ItemLemmas.{in_from_item, item_from_in, stands_once}
@@ -49,6 +50,40 @@ named_items nodes d (v ∷ vs) (k ∷ ks) e low =
     let tail : map Some vs ≡ map (λ j. slice_get nodes j) ks = later_part (Some v) (slice_get nodes k) (map Some vs) (map (λ j. slice_get nodes j) ks) e in
     let here : v ≡ get_or nodes k d = same_Some v (get_or nodes k d) (head ∙ slice_get-get_or nodes k d (low k (inl refl))) in
     ap (λ z. z ∷ vs) here ∙ ap (λ zs. get_or nodes k d ∷ zs) (named_items nodes d vs ks tail (λ j i. low j (inr i)))
+
+-- each number of the list is below n
+abbrev pub AreLow : ℕ → List ℕ → Type 0
+AreLow n w = (k : ℕ) → In w k → k < n
+
+trees_low : (n : ℕ) (f : Forest ℕ) → ((v : ℕ) → InF f v → v < n) → AllByRecursion (AreLow n) (trees f)
+trees_low n leaf h = tt
+trees_low n (grow v c s) h = (
+  λ k i. elim (in_cases (postorder c) (v ∷ []) k i) [
+    | inl a ↦ h k (inr (inl (post_in c k a)))
+    | inr b ↦ elim b [ inl e ↦ h k (inl e) | inr z ↦ absurd z ]
+  ],
+  trees_low n s (λ x i. h x (inr (inr i))),
+)
+
+no_trees : (g : Digraph ℕ) {seen todo : List ℕ} {f : Forest ℕ} → Grows nat_eq g seen todo f → todo ≡ [] → trees f ≡ []
+no_trees g done e = refl
+no_trees g (skip {v = v} {vs = vs} k gr) e = absurd (not_empty v vs e)
+no_trees g (visit {v = v} {vs = vs} n gc gs) e = absurd (not_empty v vs e)
+
+pub all_low : {A : Type 0} (f : A → List ℕ) (xs : List A) (n m : ℕ) → m ≡ n → AllByRecursion (AreLow m) (map f xs) → All (λ x. All (λ k. k < n) (f x)) xs
+all_low {A = A} f xs n m is h = All-from_recursion (λ x. All (λ k. k < n) (f x)) xs (each xs h)
+  where
+    each : (ys : List A) → AllByRecursion (AreLow m) (map f ys) → AllByRecursion (λ x. All (λ k. k < n) (f x)) ys
+    each [] l = tt
+    each (y ∷ ys) l = ((λ i d w. omega (arith, is, l.0 (get_or (f y) i d) (in_from (f y) (get_or (f y) i d) (Contains-get_or (f y) i d w)))), each ys l.1)
+
+-- one more list has its nodes
+pub lists_named_more : {A B N : Type 0} (fa : A → List N) (fb : B → List ℕ) (nodes : List N) (all : List A) (before : List B) (a : A) (b : B) → AreNamedLists nodes (map fb before) (map fa all)
+    → map Some (fa a) ≡ map (λ k. slice_get nodes k) (fb b) → AreNamedLists nodes (map fb (before ++ b ∷ [])) (map fa (all ++ a ∷ []))
+lists_named_more fa fb nodes all before a b old new =
+    ap (map (map Some)) (map_push fa all a) ∙ map_push (map Some) (map fa all) (fa a) ∙ ap (λ z. z ++ map Some (fa a) ∷ []) old
+    ∙ ap (λ z. map (map (λ k. slice_get nodes k)) (map fb before) ++ z ∷ []) new
+    ∙ sym (ap (map (map (λ k. slice_get nodes k))) (map_push fb before b) ∙ map_push (map (λ k. slice_get nodes k)) (map fb before) (fb b))
 
 module _ {N : Type 0} (eq : N → N → Bool) (laws : IsEquivalence eq) (g : Digraph N) (lists : Adjacency) (lawful : IsLawful eq g) (by : IsByNumber g lists) (d : N) where
   -- the node with this number
@@ -136,6 +171,11 @@ module _ {N : Type 0} (eq : N → N → Bool) (laws : IsEquivalence eq) (g : Dig
       (subst (λ z. Grows eq g z (g.succ (node r)) (mapped c)) seen_is (subst (λ z. Grows eq g (map node (p ++ r ∷ [])) z (mapped c)) (sym (succ_named r here)) (grows_named gc new (λ x j. row_below r x here j))))
       (subst (λ z. Grows eq g z (map node vs) (mapped s)) all_is (grows_named gs more (λ x j. low x (inr j))))
 
+  -- all nodes, from the i-th on
+  pub nodes_from : (i m : ℕ) → i + m ≡ length g.nodes → map node (count_from i m) ≡ drop i g.nodes
+  nodes_from i zero e = sym (drop_all i g.nodes (omega (arith, e)))
+  nodes_from i (suc m) e = ap (λ z. node i ∷ z) (nodes_from (i + 1) m (omega (arith, e))) ∙ sym (drop_more g.nodes i d (omega (arith, e)))
+
   -- the search by numbers is that of the nodes
   pub grew_named : (roots p q : List ℕ) → ((v : ℕ) → In roots v → v < length lists.succ) → Grew nat_eq (graph_of lists) roots [] [] p q → Grew eq g (map node roots) [] [] (map node p) (map node q)
   grew_named roots p q low grew = record {
@@ -150,6 +190,42 @@ module _ {N : Type 0} (eq : N → N → Bool) (laws : IsEquivalence eq) (g : Dig
 
   pub post_low : (roots p q : List ℕ) → ((v : ℕ) → In roots v → v < length lists.succ) → Grew nat_eq (graph_of lists) roots [] [] p q → (v : ℕ) → In q v → v < length lists.succ
   post_low roots p q low grew v i = found_below grew.grows low v (post_in grew.forest v (subst (λ z. In z v) grew.post_is i))
+
+  trees_mapped : (f : Forest ℕ) → trees (mapped f) ≡ map (map node) (trees f)
+  trees_mapped leaf = refl
+  trees_mapped (grow v c s) =
+      let head : postorder (mapped c) ++ node v ∷ [] ≡ map node (postorder c ++ v ∷ []) = ap (λ z. z ++ node v ∷ []) (post_mapped c) ∙ sym (map-append node (postorder c) (v ∷ [])) in
+      ap (λ z. z ∷ trees (mapped s)) head ∙ ap (λ z. map node (postorder c ++ v ∷ []) ∷ z) (trees_mapped s)
+
+  lists_named : (vs : List (List N)) (ws : List (List ℕ)) → AreNamedLists g.nodes ws vs → AllByRecursion (AreLow (length lists.succ)) ws → vs ≡ map (map node) ws
+  lists_named [] [] e low = refl
+  lists_named [] (w ∷ ws) e low = absurd (not_empty (map (λ j. slice_get g.nodes j) w) (map (map (λ j. slice_get g.nodes j)) ws) (sym e))
+  lists_named (v ∷ vs) [] e low = absurd (not_empty (map Some v) (map (map Some) vs) e)
+  lists_named (v ∷ vs) (w ∷ ws) e low =
+      let head : map Some v ≡ map (λ j. slice_get g.nodes j) w = first_part (map Some v) (map (λ j. slice_get g.nodes j) w) (map (map Some) vs) (map (map (λ j. slice_get g.nodes j)) ws) e in
+      let tail : map (map Some) vs ≡ map (map (λ j. slice_get g.nodes j)) ws = later_part (map Some v) (map (λ j. slice_get g.nodes j) w) (map (map Some) vs) (map (map (λ j. slice_get g.nodes j)) ws) e in
+      let here : v ≡ map node w = named_items g.nodes d v w head (λ k i. omega (arith, low.0 k i, by.same_count)) in
+      ap (λ z. z ∷ vs) here ∙ ap (λ zs. map node w ∷ zs) (lists_named vs ws tail low.1)
+
+  nodes_below : (v : ℕ) → In (count_from 0 (length lists.succ)) v → v < length lists.succ
+  nodes_below v i = let r = counted 0 (length lists.succ) v i in omega (arith, r.1)
+
+  pub walks_low : (ws : List (List ℕ)) → AreFoundWalks nat_eq (graph_of lists) ws → AllByRecursion (AreLow (length lists.succ)) ws
+  walks_low ws found = subst (AllByRecursion (AreLow (length lists.succ))) (sym found.1.walks_are) (trees_low (length lists.succ) found.1.forest (found_below found.1.grows nodes_below))
+
+  -- the walks by numbers are those of the nodes
+  found_named : (ws : List (List ℕ)) (vs : List (List N)) → AreFoundWalks nat_eq (graph_of lists) ws → AreNamedLists g.nodes ws vs → AreFoundWalks eq g vs
+  found_named ws vs found named =
+      let f = found.1.forest in
+      let all : map node (count_from 0 (length lists.succ)) ≡ g.nodes = nodes_from 0 (length lists.succ) (omega (arith, by.same_count)) in (
+        preorder (mapped found.1.forest),
+        record {
+          forest = mapped f;
+          grows = subst (λ z. Grows eq g [] z (mapped f)) all (grows_named found.1.grows (λ v i. absurd i) nodes_below);
+          seen_is = refl;
+          walks_are = lists_named vs ws named (walks_low ws found) ∙ ap (map (map node)) found.1.walks_are ∙ sym (trees_mapped f);
+        },
+      )
 
   -- a node has the place of its number
   pub place_named : (xs : List ℕ) (v : ℕ) → v < length lists.succ → ((x : ℕ) → In xs x → x < length lists.succ) → number_in eq (map node xs) (node v) ≡ number_in nat_eq xs v
@@ -194,6 +270,42 @@ module _ {N : Type 0} (eq : N → N → Bool) (laws : IsEquivalence eq) (g : Dig
 
     pub all_post_low : (n : ℕ) → n ≡ length g.nodes → All (λ k. k < n) q
     all_post_low n is i d l = omega (arith, q_low (get_or q i d) (in_from q (get_or q i d) (Contains-get_or q i d l)), is, by.same_count)
+
+module _ {N : Type 0} (eq : N → N → Bool) (laws : IsEquivalence eq) (g : Digraph N) (lists : Adjacency) (lawful : IsLawful eq g) (by : IsByNumber g lists) where
+  walks_none : g.nodes ≡ [] → (ws : List (List ℕ)) → AreFoundWalks nat_eq (graph_of lists) ws → ws ≡ []
+  walks_none none ws found =
+      let count : length lists.succ ≡ 0 = by.same_count ∙ ap length none in
+      found.1.walks_are ∙ no_trees (graph_of lists) found.1.grows (ap (count_from 0) count)
+
+  empty : (xs : List (List N)) → map (map Some) xs ≡ [] → xs ≡ []
+  empty [] e = refl
+  empty (x ∷ xs) e = absurd (not_empty (map Some x) (map (map Some) xs) e)
+
+  no_walks : g.nodes ≡ [] → (ws : List (List ℕ)) (vs : List (List N)) → AreFoundWalks nat_eq (graph_of lists) ws → AreNamedLists g.nodes ws vs → AreFoundWalks eq g vs
+  no_walks none ws vs found named = (
+    [],
+    record {
+      forest = leaf;
+      grows = subst (λ z. Grows eq g [] z leaf) (sym none) done;
+      seen_is = refl;
+      walks_are = empty vs (named ∙ ap (map (map (λ k. slice_get g.nodes k))) (walks_none none ws found));
+    },
+  )
+
+  -- the numbers in the walks are below the number of nodes
+  pub low_walks : (ws : List (List ℕ)) → AreFoundWalks nat_eq (graph_of lists) ws → AllByRecursion (AreLow (length lists.succ)) ws
+  low_walks ws found = cases g.nodes refl
+    where
+      cases : (xs : List N) → g.nodes ≡ xs → AllByRecursion (AreLow (length lists.succ)) ws
+      cases [] e = subst (AllByRecursion (AreLow (length lists.succ))) (sym (walks_none e ws found)) tt
+      cases (x ∷ xs) e = walks_low eq laws g lists lawful by x ws found
+
+  pub walks_named : (ws : List (List ℕ)) (vs : List (List N)) → AreFoundWalks nat_eq (graph_of lists) ws → AreNamedLists g.nodes ws vs → AreFoundWalks eq g vs
+  walks_named ws vs found named = cases g.nodes refl
+    where
+      cases : (xs : List N) → g.nodes ≡ xs → AreFoundWalks eq g vs
+      cases [] e = no_walks e ws vs found named
+      cases (x ∷ xs) e = found_named eq laws g lists lawful by x ws vs found named
 
 -- what is there is something
 pub some_is : {N : Type 0} (o : Option N) → is_some o ≡ true → (x : N) × (o ≡ Some x)

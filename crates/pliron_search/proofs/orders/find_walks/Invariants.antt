@@ -1,6 +1,6 @@
 use Rattle.std.proofs.Common.{◌≡◌, [], take, map}
-use Rattle.pliron_search.proofs.WalkLemmas.{Walked}
-use Rattle.pliron_search.proofs.orders.post_order_by_component.Given as goal
+use Rattle.pliron_search.specs.Internal.Walked.{Walked}
+use Rattle.pliron_search.proofs.orders.find_walks.Given as goal
 
 abbrev pub invariant-loop-node : goal.invariant-loop-node
 invariant-loop-node g l =
@@ -8,5 +8,5 @@ invariant-loop-node g l =
     record {
       nodes : l.node-items ≡ graph.nodes;
       empty : l.stack.items ≡ [];
-      walked : Walked g.G.Node.PartialEq.eq graph (take l.node-index graph.nodes) l.seen.keys (map (λ w. w.items) l.walks.items);
+      walked : Walked g.G.Node.PartialEq.eq graph (take l.node-index graph.nodes) (g.S.ListedSet.listed l.seen) (map (λ w. w.items) l.walks.items);
     }
