@@ -1,14 +1,13 @@
 -- A graph and the same graph by numbers: the second's search is that of the first.
-use Rattle.std.proofs.Common.{◌≡◌, ℕ, zero, suc, ◌+◌, ◌<◌, Bool, true, false, true≢false, ◌||◌, Option, None, is_some, List, [], ◌∷◌, ◌++◌, length, drop, map, get_or, slice_get, Some, refl, sym, ◌∙◌, ap, subst, arith, inl, inr, ◌⊎◌, Contains, nat_eq}
+use Rattle.std.proofs.Common.{◌≡◌, ℕ, zero, suc, ◌+◌, ◌<◌, Bool, true, false, true≢false, ◌||◌, Option, None, is_some, List, [], ◌∷◌, ◌++◌, length, drop, map, get_or, slice_get, Some, refl, sym, ◌∙◌, ap, subst, arith, inl, inr, ◌⊎◌, nat_eq}
 use Rattle.std.specs.Cmp.{IsEquivalence}
 use Rattle.std.specs.List.{All, AllByRecursion, list_any}
-use Rattle.std.specs.Option.{option_to_list}
 use Rattle.std.proofs.lemmas.Bool.Decides.{eqb_tells}
 use Rattle.std.proofs.lemmas.List.{drop_more, drop_all, map-append, map_push}
 use Rattle.std.proofs.lemmas.List.Elements.{All-contains, All-get_or, All-from_recursion, Contains-get_or}
-use Rattle.std.proofs.lemmas.Option.{same_Some, slice_get-get_or, slice_get_within, slice_get_past, get_or_from_slice_get}
-use Rattle.pliron_search.specs.Digraph.{Digraph, IsLawful, IsPath, Reaches}
-use Rattle.pliron_search.specs.Adjacency.{Adjacency, graph_of, count_from, first_of, row}
+use Rattle.std.proofs.lemmas.Option.{same_Some, slice_get-get_or, slice_get_within, get_or_from_slice_get}
+use Rattle.pliron_search.specs.Digraph.{Digraph, IsLawful}
+use Rattle.pliron_search.specs.Adjacency.{Adjacency, graph_of, count_from, row}
 use Rattle.pliron_search.specs.ByNumber.{IsByNumber}
 use Rattle.pliron_search.specs.Search.{number_in}
 use Rattle.pliron_search.specs.Internal.AdjacencyLawful.{counted}
