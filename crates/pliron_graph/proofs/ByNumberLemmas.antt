@@ -1,20 +1,16 @@
 -- A graph and the same graph by numbers: what a search of the second says of the first.
-use Rattle.std.proofs.Common.{◌≡◌, ℕ, zero, suc, ◌+◌, ◌<◌, Bool, true, false, ◌||◌, List, [], ◌∷◌, ◌++◌, length, drop, map, get_or, slice_get, Some, refl, sym, ◌∙◌, ap, subst, arith, inl, inr, ◌⊎◌, Contains, nat_eq}
+use Rattle.std.proofs.Common.{◌≡◌, ℕ, zero, suc, ◌<◌, Bool, List, [], ◌∷◌, ◌++◌, length, map, get_or, slice_get, refl, sym, ◌∙◌, ap, subst, arith, inl, inr, Contains, nat_eq}
 use Rattle.std.specs.Cmp.{IsEquivalence}
-use Rattle.std.specs.List.{All, list_any}
 use Rattle.std.specs.Option.{option_to_list}
-use Rattle.std.proofs.lemmas.Bool.Decides.{eqb_tells}
-use Rattle.std.proofs.lemmas.List.{drop_more, drop_all, map-append}
-use Rattle.std.proofs.lemmas.List.Elements.{All-contains, All-get_or}
-use Rattle.std.proofs.lemmas.Option.{same_Some, slice_get-get_or, slice_get_within, slice_get_past, get_or_from_slice_get}
+use Rattle.std.proofs.lemmas.List.{map-append}
+use Rattle.std.proofs.lemmas.Option.{slice_get-get_or, slice_get_past}
 use Rattle.pliron_search.specs.Digraph.{Digraph, IsLawful, IsPath, Reaches}
 use Rattle.pliron_search.specs.Adjacency.{Adjacency, graph_of, count_from, first_of, row}
 use Rattle.pliron_search.specs.ByNumber.{IsByNumber}
-use Rattle.pliron_search.specs.Search.{IsSearch, number_in}
+use Rattle.pliron_search.specs.Search.{IsSearch}
 use Rattle.pliron_search.specs.Internal.AdjacencyLawful.{counted}
-use Rattle.pliron_search.specs.Internal.Forest.{Forest, leaf, grow, preorder, postorder, Grows, done, skip, visit, Grew}
+use Rattle.pliron_search.specs.Internal.Forest.{Grew}
 use Rattle.pliron_search.specs.Internal.Membership.{In, in_from, contains_from, in_cases}
-use Rattle.pliron_search.proofs.TreeLemmas.{InF, pre_in, post_in}
 use Rattle.pliron_search.proofs.NumberingLemmas.{search_from_growth}
 use Rattle.pliron_graph.specs.Components.{entry_then_nodes}
 use Rattle.pliron_search.proofs.NumberedLemmas.{in_map, of_map, nodes_from, one_number, row_below, succ_named, grew_named, pre_low, post_low}

@@ -1,5 +1,5 @@
 -- Nodes sorted by falling number.
-use Rattle.std.proofs.Common.{◌≡◌, ℕ, zero, suc, ◌-◌, ◌<◌, ◌≤◌, Bool, true, List, [], ◌∷◌, length, reverse, slice_get, Some, refl, sym, ◌∙◌, ap, subst, arith, inl, inr, ◌⊎◌, Contains, ◌↔◌}
+use Rattle.std.proofs.Common.{◌≡◌, ℕ, ◌-◌, ◌<◌, ◌≤◌, Bool, true, List, length, reverse, slice_get, Some, refl, sym, ◌∙◌, ap, subst, arith, inl, inr, ◌⊎◌, Contains, ◌↔◌}
 use Rattle.std.specs.Cmp.{IsEquivalence}
 use Rattle.std.specs.List.{IsDistinct, All}
 use Rattle.std.specs.List.Sorted.{IsPermutation, IsNonDecreasingBy}

@@ -10,8 +10,7 @@ ghost use Rattle.pliron_graph.specs.Internal.Named.{AreNamed};
 use indexmap::IndexSet;
 use pliron_laws::OptError;
 use pliron_search::search::walk_over;
-use pliron_search::traversal;
-use pliron_search::{AdjacencyList, ControlFlowGraph, ListedSet, NumberSet};
+use pliron_search::{AdjacencyList, ControlFlowGraph, ListedSet, NumberSet, traversal};
 use std::alloc::Global;
 
 /// A strongly connected component.
