@@ -4,7 +4,7 @@ use Rattle.pliron_search.specs.Digraph.{Digraph}
 use Rattle.pliron_search.specs.Search.{Orders, IsSearch, IsListed, number_in}
 use Rattle.pliron_search.specs.EdgeKinds.{IsLater}
 use Rattle.pliron_search.specs.Internal.Membership.{contains_from}
-use Rattle.pliron_graph.proofs.ItemLemmas.{in_from_item}
+use Rattle.pliron_search.proofs.ItemLemmas.{in_from_item}
 use Rattle.pliron_graph.proofs.LawLemmas.{reached_next}
 
 -- an item is one of the list

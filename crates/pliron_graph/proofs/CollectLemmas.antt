@@ -1,5 +1,5 @@
 -- The collection of a component over predecessors.
-use Rattle.std.proofs.Common.{◌≡◌, ℕ, ◌+◌, ◌-◌, ◌<◌, ◌≤◌, Bool, true, false, true≢false, List, [], ◌∷◌, ◌++◌, length, take, get_or, slice_get, Some, refl, sym, ◌∙◌, ap, subst, arith, inl, inr, ◌⊎◌, Contains, length-append, append_assoc, append-nil, ◌↔◌, if◌then◌else◌}
+use Rattle.std.proofs.Common.{◌≡◌, ℕ, ◌+◌, ◌-◌, ◌<◌, ◌≤◌, Bool, true, false, List, [], ◌∷◌, ◌++◌, length, take, get_or, slice_get, Some, refl, sym, ◌∙◌, ap, subst, arith, inl, inr, ◌⊎◌, Contains, length-append, append_assoc, append-nil, ◌↔◌, if◌then◌else◌}
 use Rattle.std.specs.Cmp.{IsEquivalence}
 use Rattle.std.specs.List.{IsDistinct, AllByRecursion, list_any}
 use Rattle.indexmap.specs.IndexSet.{insert_key}
@@ -9,7 +9,8 @@ use Rattle.pliron_search.specs.Digraph.{Digraph, IsLawful}
 use Rattle.pliron_graph.specs.Components.{IsCyclic}
 use Rattle.pliron_search.specs.Internal.Membership.{In, in_from, contains_from, in_left, in_right, in_cases, in_from_any, any_from_in, not_in_from_any}
 use Rattle.pliron_graph.specs.Internal.Collecting.{TakesIn, IsPathOutside, LeadsOutside, Collects}
-use Rattle.pliron_graph.proofs.ItemLemmas.{in_from_item, item_from_in, item_left, item_right}
+use Rattle.pliron_search.proofs.ItemLemmas.{in_from_item, item_from_in, apart_from}
+use Rattle.pliron_graph.proofs.ItemLemmas.{item_left, item_right}
 use Rattle.pliron_search.proofs.UnwindingLemmas.{take_next}
 
 -- what was read by index stands there
@@ -48,11 +49,6 @@ module _ {N : Type 0} (eq : N → N → Bool) (g : Digraph N) (root : N) where
     pub closed : (k : ℕ) (y x : N) → length old ≤ k → k < next → slice_get now k ≡ Some y → In (g.pred y) x → In now x
 
 module _ {N : Type 0} (eq : N → N → Bool) (laws : IsEquivalence eq) (same : (x y : N) → eq x y ≡ true → x ≡ y) where
-  pub apart_from : (x : N) (ys : List N) (v : N) → AllByRecursion (λ y. eq x y ≡ false) ys → In ys v → x ≡ v → ⊥
-  apart_from x [] v h i e = i
-  apart_from x (y ∷ ys) v h (inl s) e = true≢false (sym (laws.refl x) ∙ ap (eq x) (e ∙ sym s) ∙ h.0)
-  apart_from x (y ∷ ys) v h (inr i) e = apart_from x ys v h.1 i e
-
   all_left : (P : N → Type 0) (xs ys : List N) → AllByRecursion P (xs ++ ys) → AllByRecursion P xs
   all_left P [] ys h = tt
   all_left P (x ∷ xs) ys h = (h.0, all_left P xs ys h.1)
@@ -61,7 +57,7 @@ module _ {N : Type 0} (eq : N → N → Bool) (laws : IsEquivalence eq) (same : 
   pub parts_apart : (xs ys : List N) (v : N) → IsDistinct eq (xs ++ ys) → In xs v → In ys v → ⊥
   unfolding IsDistinct
   parts_apart [] ys v h i j = i
-  parts_apart (x ∷ xs) ys v h (inl e) j = apart_from x (xs ++ ys) v h.0 (in_right xs ys v j) e
+  parts_apart (x ∷ xs) ys v h (inl e) j = apart_from eq laws same x (xs ++ ys) v h.0 (in_right xs ys v j) e
   parts_apart (x ∷ xs) ys v h (inr i) j = parts_apart xs ys v h.1 i j
 
   pub right_distinct : (xs ys : List N) → IsDistinct eq (xs ++ ys) → IsDistinct eq ys

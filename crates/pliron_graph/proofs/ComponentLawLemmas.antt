@@ -6,7 +6,7 @@ use Rattle.pliron_search.specs.Search.{number_in}
 use Rattle.pliron_graph.specs.Components.{AreComponents, entry_then_nodes}
 use Rattle.pliron_graph.specs.declared.components.Scc.{Scc}
 use Rattle.pliron_search.specs.Internal.Membership.{In, in_from, contains_from, in_right}
-use Rattle.pliron_graph.proofs.ItemLemmas.{in_from_item}
+use Rattle.pliron_search.proofs.ItemLemmas.{in_from_item}
 use Rattle.pliron_graph.proofs.LawLemmas.{reaches_join}
 use Rattle.pliron_graph.proofs.ComponentLemmas.{latest_in_component}
 

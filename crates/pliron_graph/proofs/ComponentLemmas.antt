@@ -7,7 +7,8 @@ use Rattle.pliron_graph.specs.Components.{ReachEachOther, IsCyclic, Falls, HasGr
 use Rattle.pliron_graph.specs.declared.components.Scc.{Scc}
 use Rattle.pliron_search.specs.Internal.Membership.{In, in_from, contains_from, in_left, in_right, in_cases}
 use Rattle.pliron_graph.specs.Internal.Collecting.{IsPathOutside, LeadsOutside}
-use Rattle.pliron_graph.proofs.ItemLemmas.{in_from_item, item_left, item_right}
+use Rattle.pliron_search.proofs.ItemLemmas.{in_from_item}
+use Rattle.pliron_graph.proofs.ItemLemmas.{item_left, item_right}
 use Rattle.pliron_graph.proofs.LawLemmas.{reaches_join, reached_next, enclosed_reached}
 
 order : (m n : ℕ) → (m < n) ⊎ ((m ≡ n) ⊎ (n < m))

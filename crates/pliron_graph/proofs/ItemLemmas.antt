@@ -4,19 +4,10 @@ use Rattle.std.proofs.lemmas.List.{get_or-reverse, length-reverse}
 use Rattle.std.proofs.lemmas.Option.{slice_get_within, slice_get-get_or, get_or_from_slice_get}
 use Rattle.pliron_search.specs.Search.{number_in}
 use Rattle.pliron_search.specs.Walks.{joined}
+use Rattle.pliron_search.proofs.ItemLemmas.{in_from_item, item_from_in}
 use Rattle.pliron_search.specs.Internal.Membership.{In, in_left, in_right, in_cases}
 
 module _ {X : Type 0} where
-  pub in_from_item : (xs : List X) (k : ℕ) (v : X) → slice_get xs k ≡ Some v → In xs v
-  in_from_item [] k v e = absurd (cc e)
-  in_from_item (x ∷ xs) zero v e = let here : x ≡ v = cc in inl here
-  in_from_item (x ∷ xs) (suc k) v e = inr (in_from_item xs k v e)
-
-  pub item_from_in : (xs : List X) (v : X) → In xs v → (k : ℕ) × (slice_get xs k ≡ Some v)
-  item_from_in [] v h = absurd h
-  item_from_in (x ∷ xs) v (inl e) = (0, ap Some e)
-  item_from_in (x ∷ xs) v (inr h) = let r = item_from_in xs v h in (suc r.0, r.1)
-
   pub item_left : (xs ys : List X) (k : ℕ) → k < length xs → slice_get (xs ++ ys) k ≡ slice_get xs k
   item_left [] ys k l = absurd (omega (arith, l))
   item_left (x ∷ xs) ys zero l = refl

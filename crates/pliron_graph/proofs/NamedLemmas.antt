@@ -19,7 +19,8 @@ use Rattle.pliron_graph.specs.declared.components.Scc.{Scc}
 use Rattle.pliron_graph.specs.Internal.Collecting.{AreFound}
 use Rattle.pliron_graph.specs.Internal.Named.{IsNamed, AreNamed}
 use Rattle.pliron_graph.proofs.PreSentinelLemmas.{contains_item, item_contained, item_of_push}
-use Rattle.pliron_graph.proofs.ByNumberLemmas.{in_map, of_map, named_items, number_of, node_in, search_named, pre_below, post_below, place_named, reaches_named, path_numbered, reaches_numbered, loop_named, loop_numbered}
+use Rattle.pliron_search.proofs.NumberedLemmas.{in_map, of_map, named_items, number_of, node_in, place_named}
+use Rattle.pliron_graph.proofs.ByNumberLemmas.{search_named, pre_below, post_below, reaches_named, path_numbered, reaches_numbered, loop_named, loop_numbered}
 
 item_within : {X : Type 0} (xs : List X) (i : ℕ) → i < length xs → (x : X) × (slice_get xs i ≡ Some x)
 item_within [] i l = absurd (omega (arith, l))

@@ -5,7 +5,8 @@ use Rattle.pliron_search.specs.Digraph.{Digraph, IsLawful, IsReached}
 use Rattle.pliron_search.specs.Search.{Numbers, IsTop, Orders, IsSearch, number_in}
 use Rattle.pliron_search.specs.Walks.{joined, IsWalk, AreWalks}
 use Rattle.pliron_search.specs.Internal.Membership.{In, contains_from, in_right, any_from_in}
-use Rattle.pliron_graph.proofs.ItemLemmas.{item_from_in, in_joined}
+use Rattle.pliron_search.proofs.ItemLemmas.{item_from_in}
+use Rattle.pliron_graph.proofs.ItemLemmas.{in_joined}
 use Rattle.pliron_graph.proofs.RankLemmas.{same_by_places}
 use Rattle.pliron_graph.proofs.OneNumberingLemmas.{same_pre, same_post, same_count}
 

@@ -1,5 +1,5 @@
 -- Nodes sorted by falling number.
-use Rattle.std.proofs.Common.{◌≡◌, ℕ, zero, suc, ◌-◌, ◌<◌, ◌≤◌, Bool, true, List, [], ◌∷◌, length, reverse, slice_get, Some, refl, sym, ◌∙◌, ap, subst, arith, inl, inr, ◌⊎◌, Contains, ◌↔◌}
+use Rattle.std.proofs.Common.{◌≡◌, ℕ, ◌-◌, ◌<◌, ◌≤◌, Bool, true, List, length, reverse, slice_get, Some, refl, sym, ◌∙◌, ap, subst, arith, inl, inr, ◌⊎◌, Contains, ◌↔◌}
 use Rattle.std.specs.Cmp.{IsEquivalence}
 use Rattle.std.specs.List.{IsDistinct, All}
 use Rattle.std.specs.List.Sorted.{IsPermutation, IsNonDecreasingBy}
@@ -11,19 +11,11 @@ use Rattle.std.proofs.lemmas.Option.{slice_get_within, get_or_from_slice_get}
 use Rattle.pliron_search.specs.Search.{IsListed, number_in}
 use Rattle.pliron_graph.specs.Components.{Falls}
 use Rattle.pliron_search.specs.Internal.Membership.{contains_from, in_from_any}
-use Rattle.pliron_graph.proofs.ItemLemmas.{in_from_item, item_of_reverse, place_within}
+use Rattle.pliron_search.proofs.ItemLemmas.{in_from_item, stands_once}
+use Rattle.pliron_graph.proofs.ItemLemmas.{item_of_reverse, place_within}
 use Rattle.pliron_search.proofs.PlaceLemmas.{equal_at_place}
-use Rattle.pliron_graph.proofs.CollectLemmas.{apart_from}
 
 module _ {N : Type 0} (eq : N → N → Bool) (laws : IsEquivalence eq) (same : (x y : N) → eq x y ≡ true → x ≡ y) where
-  -- an item of a list without repeats stands once
-  pub stands_once : (xs : List N) (i j : ℕ) (v : N) → IsDistinct eq xs → i < j → slice_get xs i ≡ Some v → slice_get xs j ≡ Some v → ⊥
-  unfolding IsDistinct
-  stands_once [] i j v h l a b = absurd (cc a)
-  stands_once (x ∷ xs) i zero v h l a b = absurd (omega (arith, l))
-  stands_once (x ∷ xs) zero (suc j) v h l a b = let here : x ≡ v = cc in apart_from eq laws same x xs v h.0 (in_from_item xs j v b) here
-  stands_once (x ∷ xs) (suc i) (suc j) v h l a b = stands_once xs i j v h.1 (omega (arith, l)) a b
-
   module _ (order nodes sorted : List N) (perm : IsPermutation nodes sorted) where
     pub reversed_same : (v : N) → (Contains (reverse sorted) v ↔ Contains nodes v)
     reversed_same v =
@@ -63,4 +55,4 @@ module _ {N : Type 0} (eq : N → N → Bool) (laws : IsEquivalence eq) (same : 
         by m n p q (inr (inr k)) = absurd (omega (arith, k, p, q, at_most))
         by m n p q (inr (inl k)) =
             let one : v ≡ u = same v u (equal_at_place eq laws order v u within (p ∙ k ∙ sym q)) in
-            absurd (stands_once sorted (length sorted - 1 - j) (length sorted - 1 - i) v sorted_distinct low there (subst (λ z. slice_get sorted (length sorted - 1 - i) ≡ Some z) (sym one) here))
+            absurd (stands_once eq laws same sorted (length sorted - 1 - j) (length sorted - 1 - i) v sorted_distinct low there (subst (λ z. slice_get sorted (length sorted - 1 - i) ≡ Some z) (sym one) here))

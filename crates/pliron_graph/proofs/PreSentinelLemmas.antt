@@ -12,7 +12,8 @@ use Rattle.pliron_graph.specs.Reverse.{IsSink, IsLastListed, IsInEarlier, AreLas
 use Rattle.pliron_search.specs.Internal.Membership.{In, contains_from, in_from, in_from_any, any_from_in}
 use Rattle.pliron_search.proofs.GrowthLemmas.{Distinct}
 use Rattle.pliron_search.proofs.PlaceLemmas.{is_distinct}
-use Rattle.pliron_graph.proofs.ItemLemmas.{in_from_item, item_from_in, item_left, item_right, item_at_place, place_within}
+use Rattle.pliron_search.proofs.ItemLemmas.{in_from_item, item_from_in}
+use Rattle.pliron_graph.proofs.ItemLemmas.{item_left, item_right, item_at_place, place_within}
 
 pub below_or_not : (m n : ℕ) → (m < n) ⊎ (n ≤ m)
 below_or_not m n = grind arith

@@ -13,7 +13,8 @@ use Rattle.pliron_graph.specs.declared.reverse_node.ReverseNode.TheVariants.{Sen
 use Rattle.pliron_search.specs.Internal.Membership.{In, in_from, contains_from, in_left, in_right, in_cases, in_from_any, any_from_in}
 use Rattle.pliron_graph.specs.Internal.ReverseLawful.{in_map}
 use Rattle.pliron_graph.proofs.LawLemmas.{reaches_step, reaches_join}
-use Rattle.pliron_graph.proofs.ItemLemmas.{item_from_in, item_left, item_right}
+use Rattle.pliron_search.proofs.ItemLemmas.{item_from_in}
+use Rattle.pliron_graph.proofs.ItemLemmas.{item_left, item_right}
 use Rattle.pliron_graph.proofs.PreSentinelLemmas.{contains_item, item_contained, below_or_not, components_apart, component_inside, last_once}
 use Rattle.pliron_graph.proofs.ComponentLawLemmas.{between_components}
 

@@ -11,7 +11,8 @@ use Rattle.pliron_graph.specs.declared.components.Scc.{Scc}
 use Rattle.pliron_search.specs.Internal.Membership.{In, in_from, contains_from, in_cases, any_from_in, not_in_from_any, in_from_any}
 use Rattle.pliron_search.specs.Internal.Forest.{Grew}
 use Rattle.pliron_graph.specs.Internal.Collecting.{IsTaken, LeadsOutside, AreFound}
-use Rattle.pliron_graph.proofs.ItemLemmas.{in_from_item, item_left, item_right, place_of_item}
+use Rattle.pliron_search.proofs.ItemLemmas.{in_from_item}
+use Rattle.pliron_graph.proofs.ItemLemmas.{item_left, item_right, place_of_item}
 use Rattle.pliron_graph.proofs.ComponentLemmas.{AreTaken, none_taken, passed, one_more}
 use Rattle.pliron_graph.proofs.ComponentLawLemmas.{node_reached}
 

@@ -8,7 +8,8 @@ use Rattle.pliron_search.specs.Search.{Encloses, IsSearchNumbering, StandsBefore
 use Rattle.pliron_search.specs.Walks.{joined, IsWalk, AreWalks}
 use Rattle.pliron_graph.specs.Laws.{IsFirstOutside, IsWalkFrom}
 use Rattle.pliron_search.specs.Internal.Membership.{In, in_from, contains_from, in_right, in_cases, in_from_any, any_from_in}
-use Rattle.pliron_graph.proofs.ItemLemmas.{in_from_item, item_from_in, item_left, item_right, item_of_reverse, item_in_reverse, split_joined, start_of_later, in_joined, list_of_joined, item_at_place, place_at_most, place_within, in_first_part, place_in_first_part, place_of_item}
+use Rattle.pliron_search.proofs.ItemLemmas.{in_from_item, item_from_in}
+use Rattle.pliron_graph.proofs.ItemLemmas.{item_left, item_right, item_of_reverse, item_in_reverse, split_joined, start_of_later, in_joined, list_of_joined, item_at_place, place_at_most, place_within, in_first_part, place_in_first_part, place_of_item}
 use Rattle.pliron_graph.proofs.LawLemmas.{edge_law, enclosed_reached, reached_next}
 use Rattle.pliron_graph.proofs.RankLemmas.{order}
 

@@ -9,8 +9,8 @@ ghost use Rattle.pliron_graph.specs.Internal.Named.{AreNamed};
 
 use indexmap::IndexSet;
 use pliron_laws::OptError;
-use pliron_search::search::walk;
-use pliron_search::{AdjacencyList, ControlFlowGraph, ListedSet, NumberSet};
+use pliron_search::search::walk_over;
+use pliron_search::{AdjacencyList, ControlFlowGraph, ListedSet, NumberSet, traversal};
 use std::alloc::Global;
 
 /// A strongly connected component.
@@ -75,26 +75,13 @@ fn named<N: Copy>(
 {
     let mut all = Vec::with_capacity(alloc, components.len())?;
     for component in components {
-        let members = named_nodes(alloc, nodes, &component.nodes)?;
+        let members = traversal::named(alloc, nodes, &component.nodes)?;
         all.push(Scc {
             nodes: members,
             is_cyclic: component.is_cyclic,
         })?;
     }
     Ok(all)
-}
-
-// The nodes with these numbers.
-fn named_nodes<N: Copy>(alloc: Global, nodes: &[N], numbers: &[u32]) -> Result<Vec<N>, OptError>
-    requires { All (λ k. k < length nodes.now) numbers.now }
-    ensures named { IfOk result (λ r. map Some r.items ≡ map (λ k. slice_get nodes.now k) numbers.now) }
-    ensures memory { IsOkUnless result OptError.Memory }
-{
-    let mut named = Vec::with_capacity(alloc, numbers.len())?;
-    for number in numbers {
-        named.push(nodes[*number as usize])?;
-    }
-    Ok(named)
 }
 
 // The entry, if there is one, and then all nodes.
@@ -128,11 +115,12 @@ fn search_all<C, G: ControlFlowGraph<C>, S: ListedSet<G::Node>>(
     let roots = roots(alloc, ctx, graph)?;
     let mut pre = S::empty(alloc);
     let mut post = Vec::new(alloc);
+    let mut stack = Vec::new(alloc);
     for root in &roots {
         if pre.contains(root) {
             continue;
         }
-        walk(alloc, ctx, graph, *root, &mut pre, &mut post)?;
+        walk_over(ctx, graph, *root, &mut pre, &mut post, &mut stack)?;
     }
     Ok((pre, post))
 }

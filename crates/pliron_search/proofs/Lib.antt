@@ -6,6 +6,8 @@ pub mod GrowthLemmas
 pub mod NumberingLemmas
 pub mod WalkLemmas
 pub mod PlaceLemmas
+pub mod ItemLemmas
+pub mod NumberedLemmas
 pub mod MarkLemmas
 pub mod EdgeKindLemmas
 pub mod AdjacencyLemmas

@@ -138,3 +138,6 @@ module _ {N : Type 0} (eq : N → N → Bool) (same : (x y : N) → eq x y ≡ t
   -- and it left each node once
   pub left_once : (g : Digraph N) (roots pre_list post_list : List N) → Grew eq g roots [] [] pre_list post_list → IsDistinct eq post_list
   left_once g roots p q grew = subst (IsDistinct eq) (sym grew.post_is) (is_distinct eq same (postorder grew.forest) (post_distinct eq g same reflexive grew.grows))
+
+  pub found_once : (g : Digraph N) (roots pre_list post_list : List N) → Grew eq g roots [] [] pre_list post_list → IsDistinct eq pre_list
+  found_once g roots p q grew = subst (IsDistinct eq) (sym grew.pre_is) (is_distinct eq same (preorder grew.forest) (pre_distinct eq g same reflexive grew.grows))

@@ -7,6 +7,7 @@ use Rattle.pliron_search.specs.Digraph.{Digraph}
 use Rattle.pliron_search.specs.Internal.Forest.{Forest, leaf, grow, preorder, postorder, Grows, done, skip, visit, Grew}
 use Rattle.pliron_search.specs.Search.{number_in}
 use Rattle.pliron_search.specs.Walks.{joined, IsWalk, AreWalks}
+use Rattle.pliron_search.specs.Internal.Walked.{trees, Walked}
 use Rattle.pliron_search.specs.Internal.Membership.{in_from, contains_from}
 use Rattle.pliron_search.proofs.TreeLemmas.{size, InF, Above, Top, Placed, top_in, lower_in, upper_in, post_in, in_post, apart, root_apart_below, root_apart_later, top_free}
 use Rattle.pliron_search.proofs.NumberingLemmas as numbering
@@ -36,10 +37,6 @@ pub reversed_more : {A N : Type 0} (f : A → List N) (first now : List A) (i : 
 reversed_more f first now i w d l same is h = rw add-one (reversed_next f first now i w d l same is h)
 
 module _ {N : Type 0} where
-  abbrev pub trees : Forest N → List (List N)
-  trees leaf = []
-  trees (grow r c s) = (postorder c ++ r ∷ []) ∷ trees s
-
   abbrev pub plus : Forest N → Forest N → Forest N
   plus leaf h = h
   plus (grow r c s) h = grow r c (plus s h)
@@ -92,17 +89,10 @@ module _ {N : Type 0} (eq : N → N → Bool) (g : Digraph N) where
   single (skip e gr) unseen = absurd (true≢false (sym e ∙ unseen))
   single (visit n gc done) unseen = refl
 
-  -- the search from xs came to the seen nodes in order, and gave the walks
-  pub record Walked (xs seen : List N) (walks : List (List N)) : Type 0 where
-    pub forest : Forest N
-    pub grows : Grows eq g [] xs forest
-    pub seen_is : seen ≡ preorder forest
-    pub walks_are : walks ≡ trees forest
-
-  pub walked_none : Walked [] [] []
+  pub walked_none : Walked eq g [] [] []
   walked_none = record { forest = leaf; grows = done; seen_is = refl; walks_are = refl }
 
-  pub walked_past : (xs seen : List N) (walks : List (List N)) (v : N) → list_any (eq v) seen ≡ true → Walked xs seen walks → Walked (xs ++ v ∷ []) seen walks
+  pub walked_past : (xs seen : List N) (walks : List (List N)) (v : N) → list_any (eq v) seen ≡ true → Walked eq g xs seen walks → Walked eq g (xs ++ v ∷ []) seen walks
   walked_past xs seen walks v there w = record {
     forest = plus w.forest leaf;
     grows = grows_plus w.grows (skip (subst (λ x. list_any (eq v) x ≡ true) w.seen_is there) done);
@@ -110,8 +100,8 @@ module _ {N : Type 0} (eq : N → N → Bool) (g : Digraph N) where
     walks_are = w.walks_are ∙ sym (trees_plus w.forest leaf ∙ append-nil (trees w.forest));
   }
 
-  pub walked_more : (xs seen seen' post : List N) (walks : List (List N)) (v : N) → list_any (eq v) seen ≡ false → Grew eq g (v ∷ []) seen [] seen' post → Walked xs seen walks
-      → Walked (xs ++ v ∷ []) seen' (walks ++ post ∷ [])
+  pub walked_more : (xs seen seen' post : List N) (walks : List (List N)) (v : N) → list_any (eq v) seen ≡ false → Grew eq g (v ∷ []) seen [] seen' post → Walked eq g xs seen walks
+      → Walked eq g (xs ++ v ∷ []) seen' (walks ++ post ∷ [])
   walked_more xs seen seen' post walks v unseen new w = record {
     forest = plus w.forest new.forest;
     grows = grows_plus w.grows (subst (λ x. Grows eq g x (v ∷ []) new.forest) w.seen_is new.grows);
@@ -145,7 +135,7 @@ module _ {N : Type 0} (eq : N → N → Bool) (g : Digraph N) where
           all_trees xs f gr s (λ t d h. within t d (inr h)),
         )
 
-    pub are_walks : (seen : List N) (walks : List (List N)) → Walked g.nodes seen walks → AreWalks eq g walks
+    pub are_walks : (seen : List N) (walks : List (List N)) → Walked eq g g.nodes seen walks → AreWalks eq g walks
     are_walks seen walks w = subst (AreWalks eq g) (sym w.walks_are) (record {
       pre = preorder w.forest;
       search = search_from_growth eq same reflexive g g.nodes (preorder w.forest) (joined (trees w.forest)) (record { forest = w.forest; grows = w.grows; pre_is = refl; post_is = joined_trees w.forest });

@@ -7,3 +7,4 @@ pub mod AdjacencyLawful
 pub mod RegionLawful
 pub mod Sources
 pub mod Marks
+pub mod Walked

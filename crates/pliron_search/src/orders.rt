@@ -1,9 +1,12 @@
 //! Orders of all nodes of a graph.
-ghost use Rattle.std.specs.Prelude.{◌≡◌, IfOk, IsOkUnless, map, reverse};
+ghost use Rattle.std.specs.Prelude.{◌≡◌, ◌<◌, IfOk, IsOkUnless, length, map, reverse};
+ghost use Rattle.std.specs.List.{All};
+ghost use Rattle.pliron_search.specs.Internal.Walked.{AreFoundWalks, AreNamedLists};
 ghost use Rattle.pliron_search.specs.Walks.{joined, AreWalks, AreReversedWalks, IsPostOrder, IsTopologicalOrder};
 
-use crate::ControlFlowGraph;
-use crate::search::walk;
+use crate::search::walk_over;
+use crate::traversal::named;
+use crate::{AdjacencyList, ControlFlowGraph, ListedSet, NumberSet};
 use indexmap::IndexSet;
 use pliron_laws::OptError;
 use std::alloc::Global;
@@ -13,7 +16,7 @@ use std::alloc::Global;
 /// A walk starts from the first listed node that no earlier walk holds, takes successors by index, and lists a node when all its
 /// successors are done. So a walk ends with the node that it started from. Its only error is want of memory.
 ///
-/// Cost: a table look-up for each node and each edge.
+/// Cost: a few reads for each node and each edge of a graph that has numbers, and as many look-ups in a hashed table of any other.
 pub fn post_order_by_component<C, G: ControlFlowGraph<C>>(
     alloc: Global,
     ctx: &C,
@@ -23,18 +26,54 @@ pub fn post_order_by_component<C, G: ControlFlowGraph<C>>(
     ensures walks { IfOk result (λ r. AreWalks G.Node.eq (G.graph graph.now ctx.now) (map (λ w. w.items) r.items)) }
     ensures memory { IsOkUnless result OptError.Memory }
 {
-    let mut seen = IndexSet::new(alloc);
+    let Some(lists) = graph.by_number(ctx) else {
+        return find_walks::<C, G, IndexSet<G::Node>>(alloc, ctx, graph);
+    };
+    let nodes = graph.nodes(alloc, ctx)?;
+    let found = find_walks::<(), AdjacencyList, NumberSet>(alloc, &(), lists)?;
+    named_walks(alloc, &nodes, &found)
+}
+
+// The walks, by sets of this kind.
+fn find_walks<C, G: ControlFlowGraph<C>, S: ListedSet<G::Node>>(
+    alloc: Global,
+    ctx: &C,
+    graph: &G,
+) -> Result<Vec<Vec<G::Node>>, OptError>
+    requires { G.is_lawful graph.now ctx.now }
+    ensures found { IfOk result (λ r. AreFoundWalks G.Node.eq (G.graph graph.now ctx.now) (map (λ w. w.items) r.items)) }
+    ensures memory { IsOkUnless result OptError.Memory }
+{
+    let mut seen = S::empty(alloc);
     let mut walks = Vec::new(alloc);
+    let mut stack = Vec::new(alloc);
     let nodes = graph.nodes(alloc, ctx)?;
     for node in &nodes {
         if seen.contains(node) {
             continue;
         }
         let mut post = Vec::new(alloc);
-        walk(alloc, ctx, graph, *node, &mut seen, &mut post)?;
+        walk_over(ctx, graph, *node, &mut seen, &mut post, &mut stack)?;
         walks.push(post)?;
     }
     Ok(walks)
+}
+
+// The walks of nodes, by those of their numbers.
+fn named_walks<N: Copy>(
+    alloc: Global,
+    nodes: &[N],
+    walks: &[Vec<u32>],
+) -> Result<Vec<Vec<N>>, OptError>
+    requires { All (λ w. All (λ k. k < length nodes.now) w.items) walks.now }
+    ensures named { IfOk result (λ r. AreNamedLists nodes.now (map (λ w. w.items) walks.now) (map (λ w. w.items) r.items)) }
+    ensures memory { IsOkUnless result OptError.Memory }
+{
+    let mut all = Vec::with_capacity(alloc, walks.len())?;
+    for walk in walks {
+        all.push(named(alloc, nodes, walk)?)?;
+    }
+    Ok(all)
 }
 
 /// The walks of [`post_order_by_component`], in the same order, each reversed.

@@ -37,9 +37,8 @@ fn step<C, G: ControlFlowGraph<C>, S: ListedSet<G::Node>>(
 
 /// Searches from `root`, which was not seen: adds what it finds to `seen` as it comes to it, and to `post` as it leaves it.
 ///
-/// The nodes that it passes by are those of `seen`. The stack has each node on the way from the root with the index of its next
-/// successor. Cost: a look-up in `seen` for each edge from a node that is found. Source: R. Tarjan, Depth-first search and linear graph
-/// algorithms, 1972.
+/// The nodes that it passes by are those of `seen`. Cost: a look-up in `seen` for each edge from a node that is found. Source: R. Tarjan,
+/// Depth-first search and linear graph algorithms, 1972.
 pub fn walk<C, G: ControlFlowGraph<C>, S: ListedSet<G::Node>>(
     alloc: Global,
     ctx: &C,
@@ -54,11 +53,33 @@ pub fn walk<C, G: ControlFlowGraph<C>, S: ListedSet<G::Node>>(
     ensures grew { OnOk result (Grew G.Node.eq (G.graph graph.now ctx.now) (root ∷ []) (S.listed seen.old) post.old.items (S.listed seen.new) post.new.items) }
     ensures memory { IsOkUnless result OptError.Memory }
 {
-    let mut stack: Vec<(G::Node, usize)> = Vec::new(alloc);
+    let mut stack = Vec::new(alloc);
+    walk_over(ctx, graph, root, seen, post, &mut stack)
+}
+
+/// The same as [`walk`], by a stack that the caller keeps from one walk to the next. It is empty before and after.
+///
+/// The stack has each node on the way from the root with the index of its next successor.
+pub fn walk_over<C, G: ControlFlowGraph<C>, S: ListedSet<G::Node>>(
+    ctx: &C,
+    graph: &G,
+    root: G::Node,
+    seen: &mut S,
+    post: &mut Vec<G::Node>,
+    stack: &mut Vec<(G::Node, usize)>,
+) -> Result<(), OptError>
+    requires lawful { G.is_lawful graph.now ctx.now }
+    requires member { Contains (G.graph graph.now ctx.now).nodes root }
+    requires unseen { list_any (G.Node.eq root) (S.listed seen.old) ≡ false }
+    requires empty { stack.old.items ≡ [] }
+    ensures grew { OnOk result (Grew G.Node.eq (G.graph graph.now ctx.now) (root ∷ []) (S.listed seen.old) post.old.items (S.listed seen.new) post.new.items) }
+    ensures empty { OnOk result (stack.new.items ≡ []) }
+    ensures memory { IsOkUnless result OptError.Memory }
+{
     seen.insert(root)?;
     stack.push((root, 0))?;
     while let Some((node, i)) = stack.pop() {
-        step(ctx, graph, node, i, seen, post, &mut stack)?;
+        step(ctx, graph, node, i, seen, post, stack)?;
     }
     Ok(())
 }

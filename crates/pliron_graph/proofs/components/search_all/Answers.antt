@@ -10,6 +10,7 @@ loop-root-init g c =
     let graph = g.G.ControlFlowGraph.graph c.args.graph.now c.args.ctx.now in
     record {
       roots = c.deref-root-items.ensures.value ∙ c.in_ok-roots.ensures.list;
+      empty = c.new-stack.ensures.items;
       grew = rw (c.empty-pre.ensures.empty, c.new-post.ensures.items) (grew_none g.G.Node.PartialEq.eq graph [] []);
     }
 
@@ -23,6 +24,7 @@ loop-root-preserved-then-contains g c =
     let at = read_item (entry_then_nodes graph) c.deref-root-items.result.now c.loop-root.root-index c.root-item.result roots (subst (λ xs. c.loop-root.root-index < length xs) roots within) c.root-item.is in
     record {
       roots = roots;
+      empty = c.loop-root.invariant.empty;
       grew = grew_over eq graph (entry_then_nodes graph) c.loop-root.root-index c.root-item.result at (g.S.ListedSet.listed c.loop-root.pre) c.loop-root.post.items there c.loop-root.invariant.grew;
     }
 
@@ -35,7 +37,8 @@ loop-root-preserved g c =
     let at = read_item (entry_then_nodes graph) c.deref-root-items.result.now c.loop-root.root-index c.root-item.result roots (subst (λ xs. c.loop-root.root-index < length xs) roots within) c.root-item.is in
     record {
       roots = roots;
-      grew = grew_more eq graph (entry_then_nodes graph) c.loop-root.root-index c.root-item.result at (g.S.ListedSet.listed c.loop-root.pre) c.loop-root.post.items (g.S.ListedSet.listed c.walk.new.seen) c.walk.new.post.items c.in_ok-walk.ensures.grew c.loop-root.invariant.grew;
+      empty = c.in_ok-walk_over.ensures.empty;
+      grew = grew_more eq graph (entry_then_nodes graph) c.loop-root.root-index c.root-item.result at (g.S.ListedSet.listed c.loop-root.pre) c.loop-root.post.items (g.S.ListedSet.listed c.walk_over.new.seen) c.walk_over.new.post.items c.in_ok-walk_over.ensures.grew c.loop-root.invariant.grew;
     }
 
 pub returns-clause-grew : goal.returns-clause-grew

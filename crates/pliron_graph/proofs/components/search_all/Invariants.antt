@@ -8,5 +8,6 @@ invariant-loop-root g l =
     let graph = g.G.ControlFlowGraph.graph l.graph l.ctx in
     record {
       roots : l.root-items ≡ entry_then_nodes graph;
+      empty : l.stack.items ≡ [];
       grew : Grew g.G.Node.PartialEq.eq graph (take l.root-index (entry_then_nodes graph)) [] [] (g.S.ListedSet.listed l.pre) l.post.items;
     }

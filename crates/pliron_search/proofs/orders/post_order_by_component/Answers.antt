@@ -1,52 +1,38 @@
-use Rattle.std.proofs.Common.{◌≡◌, ◌<◌, ◌≤◌, [], ◌∷◌, ◌∙◌, sym, subst, map, take, length, arith, true, false}
-use Rattle.std.proofs.lemmas.List.{map_push}
-use Rattle.std.specs.List.{list_any}
-use Rattle.pliron_search.specs.Internal.Forest.{Grew}
-use Rattle.pliron_search.proofs.WalkLemmas.{walked_none, walked_past, walked_more, walked_all, are_walks, next_take}
+use Rattle.std.proofs.Common.{◌≡◌, length, map, ap, subst, sym, ◌∙◌}
+use Rattle.std.proofs.lemmas.Result.{IfOk-weaker}
+use Rattle.pliron_search.specs.Internal.Walked.{AreFoundWalks, AreNamedLists}
+use Rattle.pliron_search.specs.Walks.{AreWalks}
+use Rattle.pliron_search.proofs.NumberedLemmas.{all_low, low_walks, walks_named}
+use Rattle.pliron_search.proofs.WalkLemmas.{are_walks}
 use Rattle.pliron_search.proofs.orders.post_order_by_component.Goals as goal
 
-pub loop-node-init : goal.loop-node-init
-loop-node-init g c =
-    let graph = g.G.ControlFlowGraph.graph c.args.graph.now c.args.ctx.now in
-    record {
-      nodes = c.deref-node-items.ensures.value ∙ c.in_ok-nodes.ensures.list;
-      walked = rw (c.new-seen.ensures.empty, c.new-walks.ensures.items) (walked_none g.G.Node.PartialEq.eq graph);
-    }
-
-pub loop-node-preserved-then-contains : goal.loop-node-preserved-then-contains
-loop-node-preserved-then-contains g c =
-    let graph = g.G.ControlFlowGraph.graph c.args.graph.now c.args.ctx.now in
+pub returns-in_default-clause-walks : goal.returns-in_default-clause-walks
+returns-in_default-clause-walks g c =
     let eq = g.G.Node.PartialEq.eq in
-    let items : c.deref-node-items.result.now ≡ graph.nodes = c.loop-node.invariant.nodes in
-    let within : c.loop-node.node-index < length c.deref-node-items.result.now = omega arith in
-    let there : list_any (eq c.node-item.result) c.loop-node.seen.keys ≡ true = sym c.contains.ensures ∙ c.if-contains.true in
-    record {
-      nodes = items;
-      walked = rw (next_take c.deref-node-items.result.now graph.nodes c.loop-node.node-index c.node-item.result items within c.node-item.is)
-          (walked_past eq graph (take c.loop-node.node-index graph.nodes) c.loop-node.seen.keys (map (λ w. w.items) c.loop-node.walks.items) c.node-item.result there c.loop-node.invariant.walked);
-    }
-
-pub loop-node-preserved : goal.loop-node-preserved
-loop-node-preserved g c =
     let graph = g.G.ControlFlowGraph.graph c.args.graph.now c.args.ctx.now in
+    let lawful = g.met.G.ControlFlowGraph.laws c.args.graph.now c.args.ctx.now c.requires in
+    IfOk-weaker c.find_walks.result (λ r. AreFoundWalks eq graph (map (λ w. w.items) r.items)) (λ r. AreWalks eq graph (map (λ w. w.items) r.items))
+    (λ r h. are_walks eq graph lawful.same g.met.G.Node.Eq.laws.refl h.0 (map (λ w. w.items) r.items) h.1) c.find_walks.ensures.found
+
+pub named_walks-requires : goal.named_walks-requires
+named_walks-requires g c =
     let eq = g.G.Node.PartialEq.eq in
-    let items : c.deref-node-items.result.now ≡ graph.nodes = c.loop-node.invariant.nodes in
-    let within : c.loop-node.node-index < length c.deref-node-items.result.now = omega arith in
-    let unseen : list_any (eq c.node-item.result) c.loop-node.seen.keys ≡ false = sym c.contains.ensures ∙ c.if-contains.false in
-    let grew : Grew eq graph (c.node-item.result ∷ []) c.loop-node.seen.keys [] c.walk.new.seen.keys c.walk.new.post.items =
-    subst (λ x. Grew eq graph (c.node-item.result ∷ []) c.loop-node.seen.keys x c.walk.new.seen.keys c.walk.new.post.items) c.new-post.ensures.items c.in_ok-walk.ensures.grew in
-    record {
-      nodes = items;
-      walked = rw (next_take c.deref-node-items.result.now graph.nodes c.loop-node.node-index c.node-item.result items within c.node-item.is, c.in_ok-push.ensures.items, map_push)
-          (walked_more eq graph (take c.loop-node.node-index graph.nodes) c.loop-node.seen.keys c.walk.new.seen.keys c.walk.new.post.items (map (λ w. w.items) c.loop-node.walks.items) c.node-item.result unseen grew c.loop-node.invariant.walked);
-    }
+    let graph = g.G.ControlFlowGraph.graph c.args.graph.now c.args.ctx.now in
+    let lawful = g.met.G.ControlFlowGraph.laws c.args.graph.now c.args.ctx.now c.requires in
+    let lists = c.in-Some.lists.now in
+    let count : length c.in-Some.lists.now.succ ≡ length c.deref.result.now = c.in-Some.ensures.same_count ∙ sym (ap length (c.deref.ensures.value ∙ c.in_ok-nodes.ensures.list)) in
+    rw c.deref-2.ensures.value (all_low (λ w. w.items) c.in_ok-found.found.items (length c.deref.result.now) (length c.in-Some.lists.now.succ) count
+    (low_walks eq g.met.G.Node.Eq.laws graph lists lawful c.in-Some.ensures (map (λ w. w.items) c.in_ok-found.found.items) c.in_ok-found.ensures.found))
 
 pub returns-clause-walks : goal.returns-clause-walks
 returns-clause-walks g c =
-    let graph = g.G.ControlFlowGraph.graph c.args.graph.now c.args.ctx.now in
     let eq = g.G.Node.PartialEq.eq in
+    let graph = g.G.ControlFlowGraph.graph c.args.graph.now c.args.ctx.now in
     let lawful = g.met.G.ControlFlowGraph.laws c.args.graph.now c.args.ctx.now c.requires in
-    let items : c.deref-node-items.result.now ≡ graph.nodes = c.loop-node.invariant.nodes in
-    let past : length c.deref-node-items.result.now ≤ c.loop-node.node-index = omega arith in
-    are_walks eq graph lawful.same g.met.G.Node.Eq.laws.refl c.loop-node.seen.keys (map (λ w. w.items) c.loop-node.walks.items)
-    (walked_all eq graph c.deref-node-items.result.now c.loop-node.seen.keys (map (λ w. w.items) c.loop-node.walks.items) c.loop-node.node-index items past c.loop-node.invariant.walked)
+    let nodes : c.deref.result.now ≡ graph.nodes = c.deref.ensures.value ∙ c.in_ok-nodes.ensures.list in
+    IfOk-weaker c.named_walks.result (λ r. AreNamedLists c.deref.result.now (map (λ w. w.items) c.deref-2.result.now) (map (λ w. w.items) r.items)) (λ r. AreWalks eq graph (map (λ w. w.items) r.items))
+    (λ r h.
+    let named = subst (λ ns. AreNamedLists ns (map (λ w. w.items) c.in_ok-found.found.items) (map (λ w. w.items) r.items)) nodes (subst (λ ws. AreNamedLists c.deref.result.now (map (λ w. w.items) ws) (map (λ w. w.items) r.items)) c.deref-2.ensures.value h) in
+    let found = walks_named eq g.met.G.Node.Eq.laws graph c.in-Some.lists.now lawful c.in-Some.ensures (map (λ w. w.items) c.in_ok-found.found.items) (map (λ w. w.items) r.items) c.in_ok-found.ensures.found named in
+    are_walks eq graph lawful.same g.met.G.Node.Eq.laws.refl found.0 (map (λ w. w.items) r.items) found.1)
+    c.named_walks.ensures.named

@@ -1,7 +1,7 @@
 use Rattle.std.proofs.Common.{◌≡◌, ◌<◌, ◌∷◌, ◌++◌, [], Some, length, map, get_or, slice_get, take, ◌∙◌, ap, sym, refl, arith}
 use Rattle.std.proofs.lemmas.List.{map_push, take_more}
 use Rattle.std.proofs.lemmas.Option.{slice_get_read}
-use Rattle.pliron_graph.proofs.components.named_nodes.Goals as goal
+use Rattle.pliron_search.proofs.traversal.named.Goals as goal
 
 pub loop-number-preserved : goal.loop-number-preserved
 loop-number-preserved g c =

@@ -2,7 +2,7 @@ use Rattle.std.proofs.Common.{[], ◌∷◌, Contains}
 use Rattle.std.specs.List.{All}
 use Rattle.pliron_search.specs.Internal.Forest.{Grew}
 use Rattle.pliron_search.specs.Internal.Steps.{Unwinds, work}
-use Rattle.pliron_search.proofs.search.walk.Given as goal
+use Rattle.pliron_search.proofs.search.walk_over.Given as goal
 
 abbrev pub invariant-loop-node : goal.invariant-loop-node
 invariant-loop-node g l =

@@ -2,14 +2,14 @@ use Rattle.std.proofs.Common.{[], Contains, ℕ}
 use Rattle.std.proofs.lemmas.List.Elements.{All-nil, All-push}
 use Rattle.pliron_search.proofs.UnwindingLemmas.{started, last_in, before_step}
 use Rattle.pliron_search.proofs.InsertLemmas.{goes_last}
-use Rattle.pliron_search.proofs.search.walk.Goals as goal
+use Rattle.pliron_search.proofs.search.walk_over.Goals as goal
 
 pub loop-node-init : goal.loop-node-init
 loop-node-init g c =
     let graph = g.G.ControlFlowGraph.graph c.args.graph.now c.args.ctx.now in
     let keys = goes_last g.G.Node.PartialEq.eq (g.S.ListedSet.listed c.args.seen.now) (g.S.ListedSet.listed c.insert.new.self) c.args.root c.requires.unseen c.in_ok-insert.ensures.keys in
     let all = All-push (λ (x : g.row.G-Node.Denot × ℕ). Contains graph.nodes x.0) [] (c.args.root, 0) (All-nil (λ (x : g.row.G-Node.Denot × ℕ). Contains graph.nodes x.0)) c.requires.member in
-    rw (c.in_ok-push.ensures.items, c.new-stack.ensures.items, keys) (record {
+    rw (c.in_ok-push.ensures.items, c.requires.empty, keys) (record {
       rest = λ p q u. started g.G.Node.PartialEq.eq graph c.args.root (g.S.ListedSet.listed c.args.seen.now) c.args.post.now.items p q c.requires.unseen u;
       nodes = all;
     })
