@@ -1,4 +1,6 @@
 //! `plir_opt`: optimises a text on standard input.
+//!
+//! It knows arguments, streams and an exit status. What the program does stands in `pliron_opts`.
 #![tactic(auto)]
 
 use pliron_opts::{OptError, plir_run};

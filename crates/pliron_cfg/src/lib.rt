@@ -2,6 +2,9 @@
 //! and blocks that need not be apart are merged.
 //!
 //! It puts the three together, and passes the names of removal and merging on.
+//!
+//! It knows the three and what runs read of constants. Of the other optimisations, of passes and of the
+//! program it knows nothing.
 #![tactic(auto)]
 
 ghost use Rattle.std.specs.Prelude.{◌≡◌, ℕ, IfOk, IfErr};

@@ -1,4 +1,7 @@
 //! A tree of operations, regions and blocks, named by keys, with the uses of each value and block.
+//!
+//! It knows keys, attributes, heads and a rewriter that tells what it does. Of what an operation means, of
+//! dialects and of optimisations it knows nothing.
 #![tactic(auto)]
 
 mod arguments;

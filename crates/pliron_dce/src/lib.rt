@@ -2,6 +2,9 @@
 //!
 //! Dead operations and dead arguments go one after the other, each as one whole rewrite, in an order in
 //! which nothing uses what goes.
+//!
+//! It stands on the theory of runs and the laws of dialects. Of the other optimisations, of graphs, of passes
+//! and of the program it knows nothing.
 #![tactic(auto)]
 
 ghost use Rattle.std.specs.Prelude.{◌≡◌, ◌↔◌, ℕ, List, IfOk, IfErr, OnErr, IsTrue};

@@ -14,6 +14,9 @@
 //! from an operation or a block of the tree.
 //!
 //! No call goes deeper with the graph: each search has a stack of its own.
+//!
+//! It knows graphs, and the regions of a tree as such. Of rewrites, of runs and of optimisations it knows
+//! nothing.
 #![tactic(auto)]
 
 mod ancestors;

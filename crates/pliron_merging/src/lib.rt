@@ -3,6 +3,9 @@
 //! Where a branch leads to one block alone, and nothing else leads there, the two blocks become one: the
 //! values that the branch forwards stand for the arguments of the second block, the branch goes, and the
 //! operations of the second block become the last of the first one.
+//!
+//! It knows the regions that are looked at, and the rewrites of blocks. Of branches that fold, of blocks that
+//! nothing leads to, of passes and of any dialect it knows nothing.
 #![tactic(auto)]
 
 ghost use Rattle.std.specs.Prelude.{◌≡◌, ℕ, Some, IfOk, OnOk, OnErr, IfErr};
