@@ -28,7 +28,7 @@ use Rattle.pliron_theory.specs.Change.{IsPassChange}
 use Rattle.pliron_theory.specs.Folded.{BranchFoldsLaw, BranchLinksLaw, BranchOutcomesLaw}
 use Rattle.pliron_theory.specs.Rebranching.{IsRebranched}
 use Rattle.pliron_theory.proofs.ChangeLemmas.{change_refl, change_trans, links_stay}
-use Rattle.pliron_blocks.proofs.RebranchedInside.{rebranched_inside, inside_stays}
+use Rattle.pliron_block_laws.proofs.RebranchedInside.{rebranched_inside, inside_stays}
 use Rattle.pliron_folding.specs.Folded.{passes, branches_of, known_of, known_operands, FoldsAll, FoldsAll.NoMore, FoldsAll.Next, FoldsSome, FoldsSome.Stopped, FoldsSome.Broken, FoldsSome.After}
 use Rattle.pliron_folding.specs.Steps.{IsTold, IsBranchInside, IsFoldStep, IsFoldingOn}
 use Rattle.pliron_folding.proofs.KnownLemmas.{known_read}

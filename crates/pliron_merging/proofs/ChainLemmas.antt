@@ -13,9 +13,9 @@ use Rattle.pliron_laws.specs.Laws.{ForwardsOperands}
 use Rattle.pliron_laws.specs.Linked.{IsWellLinked}
 use Rattle.pliron_theory.specs.Keeps.{KeepsRuns}
 use Rattle.pliron_theory.proofs.Keeping.{keeps_refl, keeps_trans}
-use Rattle.pliron_blocks.specs.Links.{KeepsLinks}
-use Rattle.pliron_blocks.specs.Joining.{JoinsWell}
-use Rattle.pliron_blocks.specs.Pairs.{IsMergeable, forwarded_uses, merged}
+use Rattle.pliron_block_laws.specs.Links.{KeepsLinks}
+use Rattle.pliron_block_laws.specs.Joining.{JoinsWell}
+use Rattle.pliron_block_laws.specs.Pairs.{IsMergeable, forwarded_uses, merged}
 use Rattle.pliron_merging.specs.Chains.{MergesAmong, MergesAmong.Nothing, MergesAmong.Then, HasNoPairAmong, TellsMerged, MergesAmongPartly}
 use Rattle.pliron_merging.proofs.PairLemmas.{second_beside, way_jump, way_of_pair}
 use Rattle.pliron_merging.proofs.MergedTrees.{IsMerge, merges, first_held}

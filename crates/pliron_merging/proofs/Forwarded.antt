@@ -13,12 +13,12 @@ use Rattle.pliron_laws.specs.Laws.{ForwardsOperands}
 use Rattle.pliron_laws.specs.Linked.{IsWellLinked}
 use Rattle.pliron_theory.specs.Keeps.{KeepsRuns}
 use Rattle.pliron_theory.proofs.Keeping.{keeps_refl, keeps_trans}
-use Rattle.pliron_blocks.specs.Links.{KeepsLinks}
-use Rattle.pliron_blocks.specs.Pairs.{IsMergeable, forwarded_uses}
-use Rattle.pliron_blocks.proofs.PairEdges.{beside, replacing}
-use Rattle.pliron_blocks.proofs.RewriteLinks.{replaced_links}
-use Rattle.pliron_blocks.proofs.ReplacedInside.{replaced_argument}
-use Rattle.pliron_blocks.proofs.NoNewPairs.{no_new_by_uses}
+use Rattle.pliron_block_laws.specs.Links.{KeepsLinks}
+use Rattle.pliron_block_laws.specs.Pairs.{IsMergeable, forwarded_uses}
+use Rattle.pliron_block_laws.proofs.PairEdges.{beside, replacing}
+use Rattle.pliron_block_laws.proofs.RewriteLinks.{replaced_links}
+use Rattle.pliron_block_laws.proofs.ReplacedInside.{replaced_argument}
+use Rattle.pliron_block_laws.proofs.NoNewPairs.{no_new_by_uses}
 use Rattle.pliron_merging.proofs.PairLemmas.{values_defined, way_of_pair}
 use Rattle.pliron_merging.proofs.JoinLemmas.{get_take, length_take}
 

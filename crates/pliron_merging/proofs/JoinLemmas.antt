@@ -17,9 +17,9 @@ use Rattle.pliron_core.proofs.WithinLemmas.{not_own_holder}
 use Rattle.pliron_core.proofs.HoldingLemmas.{some_is, not_none, holder_by, inside_by, not_itself, block_held}
 use Rattle.pliron_laws.specs.Datum.{Meaning}
 use Rattle.pliron_laws.specs.Linked.{IsWellLinked}
-use Rattle.pliron_blocks.specs.Pairs.{IsMergeable, forwarded_uses}
-use Rattle.pliron_blocks.proofs.PairEdges.{leads_alone}
-use Rattle.pliron_blocks.proofs.MovedBodies.{moved_on}
+use Rattle.pliron_block_laws.specs.Pairs.{IsMergeable, forwarded_uses}
+use Rattle.pliron_block_laws.proofs.PairEdges.{leads_alone}
+use Rattle.pliron_block_laws.proofs.MovedBodies.{moved_on}
 
 -- a block has fewer operations than there are keys
 pub body_fits : (t : Tree) → IsTree t → (block : ℕ) → length (body_of t block) ≤ length t.operations

@@ -24,12 +24,12 @@ use Rattle.pliron_theory.specs.Sweeping.{IsSwept}
 use Rattle.pliron_theory.proofs.SweptLists.{swept_all}
 use Rattle.pliron_theory.proofs.ErasedKeeps.{op_erased, block_erased_with, erased_swept, erased_gone}
 use Rattle.pliron_theory.proofs.SweptKeeps.{admitted_shape}
-use Rattle.pliron_blocks.specs.Forwarding.{LeadsAlone}
-use Rattle.pliron_blocks.specs.Joining.{JoinsWell}
-use Rattle.pliron_blocks.specs.Pairs.{all_moved_last, joined}
-use Rattle.pliron_blocks.proofs.PairEdges.{leads_alone}
-use Rattle.pliron_blocks.proofs.JoinedPairs.{joining}
-use Rattle.pliron_blocks.proofs.MovedBodies.{IsMoving, all_moved}
+use Rattle.pliron_block_laws.specs.Forwarding.{LeadsAlone}
+use Rattle.pliron_block_laws.specs.Joining.{JoinsWell}
+use Rattle.pliron_block_laws.specs.Pairs.{all_moved_last, joined}
+use Rattle.pliron_block_laws.proofs.PairEdges.{leads_alone}
+use Rattle.pliron_block_laws.proofs.JoinedPairs.{joining}
+use Rattle.pliron_block_laws.proofs.MovedBodies.{IsMoving, all_moved}
 use Rattle.pliron_merging.specs.Steps.{IsReadyToJoin}
 
 no_items : (xs : List ℕ) → length xs ≡ 0 → xs ≡ []

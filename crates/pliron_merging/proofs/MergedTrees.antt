@@ -12,12 +12,12 @@ use Rattle.pliron_laws.specs.Laws.{ForwardsOperands}
 use Rattle.pliron_laws.specs.Linked.{IsWellLinked}
 use Rattle.pliron_theory.specs.Keeps.{KeepsRuns}
 use Rattle.pliron_theory.proofs.Keeping.{keeps_trans}
-use Rattle.pliron_blocks.specs.Links.{KeepsLinks}
-use Rattle.pliron_blocks.specs.Joining.{JoinsWell}
-use Rattle.pliron_blocks.specs.Pairs.{IsMergeable, forwarded_uses, merged}
-use Rattle.pliron_blocks.proofs.StandingLemmas.{block_was}
-use Rattle.pliron_blocks.proofs.NoNewPairs.{no_new_pair}
-use Rattle.pliron_blocks.proofs.JoinedLinks.{joined_links, joined_inside}
+use Rattle.pliron_block_laws.specs.Links.{KeepsLinks}
+use Rattle.pliron_block_laws.specs.Joining.{JoinsWell}
+use Rattle.pliron_block_laws.specs.Pairs.{IsMergeable, forwarded_uses, merged}
+use Rattle.pliron_block_laws.proofs.StandingLemmas.{block_was}
+use Rattle.pliron_block_laws.proofs.NoNewPairs.{no_new_pair}
+use Rattle.pliron_block_laws.proofs.JoinedLinks.{joined_links, joined_inside}
 use Rattle.pliron_merging.specs.Steps.{IsReadyToJoin}
 use Rattle.pliron_merging.proofs.Forwarded.{IsForwarded, forwarded_all}
 use Rattle.pliron_merging.proofs.JoinLemmas.{forwarded_arguments, forwarded_shape}

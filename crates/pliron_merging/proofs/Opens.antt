@@ -14,9 +14,9 @@ use Rattle.pliron_theory.specs.Change.{IsPassChange}
 use Rattle.pliron_theory.specs.Splicing.{IsSpliced}
 use Rattle.pliron_theory.proofs.ChangeLemmas.{linked_inside}
 use Rattle.pliron_visits.specs.Visited.{Start, IsReachedIn, IsVisited, IsSearched, IsUnreachable}
-use Rattle.pliron_blocks.specs.Joining.{JoinsWell}
-use Rattle.pliron_blocks.specs.Pairs.{IsMergeable, forwarded_uses, merged}
-use Rattle.pliron_blocks.proofs.JoinedLinks.{joined_inside}
+use Rattle.pliron_block_laws.specs.Joining.{JoinsWell}
+use Rattle.pliron_block_laws.specs.Pairs.{IsMergeable, forwarded_uses, merged}
+use Rattle.pliron_block_laws.proofs.JoinedLinks.{joined_inside}
 use Rattle.pliron_merging.specs.Merged.{IsDue}
 use Rattle.pliron_merging.proofs.Forwarded.{IsForwarded, forwarded_all}
 use Rattle.pliron_merging.proofs.JoinLemmas.{forwarded_shape}

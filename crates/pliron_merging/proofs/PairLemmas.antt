@@ -20,8 +20,8 @@ use Rattle.pliron_laws.specs.Acting.{pick}
 use Rattle.pliron_laws.specs.Answers.{AreForwarded}
 use Rattle.pliron_laws.specs.Linked.{EdgesLast, EndsBlock}
 use Rattle.pliron_laws.proofs.Records.{operation_of, make_op}
-use Rattle.pliron_blocks.proofs.ListLemmas.{in_one}
-use Rattle.pliron_blocks.specs.Pairs.{IsMergeable}
+use Rattle.pliron_block_laws.proofs.ListLemmas.{in_one}
+use Rattle.pliron_block_laws.specs.Pairs.{IsMergeable}
 use Rattle.pliron_merging.specs.Steps.{IsOnlyWay}
 
 -- a block with none before it is the first of its region, and the other way round

@@ -14,7 +14,7 @@ use Rattle.pliron_search.specs.Digraph.{Reaches, IsPath}
 use Rattle.pliron_search.specs.Regions.{graph_of_region}
 use Rattle.pliron_search.specs.Internal.RegionLawful.{in_keys, keys_have}
 use Rattle.pliron_visits.specs.Visited.{IsReachedIn, IsEnteredIf, IsEntered, IsVisited, IsVisited.Starts, IsVisited.Nested}
-use Rattle.pliron_blocks.specs.Reaching.{LeadsTo}
+use Rattle.pliron_block_laws.specs.Reaching.{LeadsTo}
 
 -- the region stands, and what holds it is the root or inside it
 pub record IsHeld (t : Tree) (root r : ℕ) : Type 0 where

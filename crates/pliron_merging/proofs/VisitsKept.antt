@@ -15,8 +15,8 @@ use Rattle.pliron_laws.specs.Linked.{EdgesLast}
 use Rattle.pliron_laws.specs.Paths.{Path}
 use Rattle.pliron_theory.specs.Splicing.{IsSpliced}
 use Rattle.pliron_visits.specs.Visited.{IsReachedIn, IsEnteredIf, IsEntered, IsVisited, IsVisited.Starts, IsVisited.Nested}
-use Rattle.pliron_blocks.specs.Reaching.{LeadsTo, LeadsAlike}
-use Rattle.pliron_blocks.proofs.JoinedReach.{reaching}
+use Rattle.pliron_block_laws.specs.Reaching.{LeadsTo, LeadsAlike}
+use Rattle.pliron_block_laws.proofs.JoinedReach.{reaching}
 use Rattle.pliron_merging.proofs.RegionReach.{IsHeld, reaches_leads, reached_in, entry_in, visited_held, reaches_more, leads_reaches, within_still}
 
 -- operands are nothing to visits

@@ -15,8 +15,8 @@ use Rattle.pliron_theory.specs.Change.{IsPassChange}
 use Rattle.pliron_theory.proofs.ChangeLemmas.{linked_inside, change_trans, change_refl}
 use Rattle.pliron_visits.specs.Visited.{Start, OfOperation, OfRegion, IsVisited, IsUnreachable}
 use Rattle.pliron_visits.specs.Visits.{AreVisits}
-use Rattle.pliron_blocks.specs.Links.{KeepsLinks}
-use Rattle.pliron_blocks.specs.Pairs.{IsMergeable, forwarded_uses, merged}
+use Rattle.pliron_block_laws.specs.Links.{KeepsLinks}
+use Rattle.pliron_block_laws.specs.Pairs.{IsMergeable, forwarded_uses, merged}
 use Rattle.pliron_merging.specs.Merged.{MergesSome, MergesSome.Nothing as NoneMerged, MergesSome.Then as OneMerged, MergesAll, MergesPartly, IsHalfMerged, LosesOperation}
 use Rattle.pliron_merging.specs.Chains.{MergesAmong, MergesAmong.Nothing, MergesAmong.Then, HasNoPairAmong, TellsMerged, IsHalfMergedAmong, MergesAmongPartly}
 use Rattle.pliron_merging.proofs.Forwarded.{forwarded_first}

@@ -5,8 +5,8 @@ use Rattle.pliron_core.specs.declared.attrs.IRStatus.TheVariants.{Changed, Uncha
 use Rattle.pliron_core.specs.Tree.{Tree, In, arguments_of}
 use Rattle.pliron_core.specs.Joined.{IsTree}
 use Rattle.pliron_laws.specs.Datum.{Meaning}
-use Rattle.pliron_blocks.specs.Joining.{JoinsWell}
-use Rattle.pliron_blocks.specs.Pairs.{IsMergeable, forwarded_uses, merged}
+use Rattle.pliron_block_laws.specs.Joining.{JoinsWell}
+use Rattle.pliron_block_laws.specs.Pairs.{IsMergeable, forwarded_uses, merged}
 
 -- mergeable pairs whose first blocks are among these were merged; each tree on the way is one
 pub data MergesAmong (m : Meaning) (blocks : List ℕ) (t : Tree) : Tree → Type 0 where

@@ -4,7 +4,7 @@ use Rattle.pliron_core.specs.declared.attrs.IRStatus.{IRStatus}
 use Rattle.pliron_core.specs.declared.attrs.IRStatus.TheVariants.{Changed, Unchanged}
 use Rattle.pliron_core.specs.Tree.{Tree, IsLive, head_of, arguments_of, block_parent_of}
 use Rattle.pliron_laws.specs.Datum.{Meaning}
-use Rattle.pliron_blocks.specs.Pairs.{IsMergeable, forwarded_uses, merged}
+use Rattle.pliron_block_laws.specs.Pairs.{IsMergeable, forwarded_uses, merged}
 use Rattle.pliron_visits.specs.Visited.{Start, IsSearched, IsReachedIn}
 
 -- a mergeable pair of a searched region, whose first block the region's entry reaches

@@ -5,7 +5,7 @@ use Rattle.pliron_core.specs.Edges.{succs_of, preds_of}
 use Rattle.pliron_laws.specs.Datum.{Meaning}
 use Rattle.pliron_laws.specs.Answers.{HeadPasses}
 use Rattle.pliron_laws.specs.Linked.{IsWellLinked}
-use Rattle.pliron_blocks.specs.Pairs.{IsMergeable}
+use Rattle.pliron_block_laws.specs.Pairs.{IsMergeable}
 
 -- the branch `jump` ends a and leads to b alone, which is neither a nor an entry and has no other predecessor
 pub record IsOnlyWay (m : Meaning) (t : Tree) (a b jump : ℕ) : Type 0 where

@@ -3,8 +3,8 @@ ghost use Rattle.std.specs.Prelude.{◌≡◌, ℕ, Some, OnOk, OnErr, IfErr, le
 ghost use Rattle.pliron_core.specs.Tree.{IsBlock, arguments_of, block_holder_of, block_parent_of, body_of};
 ghost use Rattle.pliron_laws.specs.declared.fault.OptError.TheVariants.{Memory};
 ghost use Rattle.pliron_laws.specs.Linked.{IsWellLinked};
-ghost use Rattle.pliron_blocks.specs.Pairs.{IsMergeable, all_moved_last, forwarded_uses, joined, merged};
-ghost use Rattle.pliron_blocks.specs.Joining.{JoinsWell};
+ghost use Rattle.pliron_block_laws.specs.Pairs.{IsMergeable, all_moved_last, forwarded_uses, joined, merged};
+ghost use Rattle.pliron_block_laws.specs.Joining.{JoinsWell};
 ghost use Rattle.pliron_merging.specs.Steps.{IsReadyToJoin};
 
 use crate::pairs::Pair;

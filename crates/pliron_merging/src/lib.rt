@@ -13,7 +13,7 @@ ghost use Rattle.pliron_core.specs.Tree.{IsBlock, IsLive, IsRegion, block_holder
 ghost use Rattle.pliron_laws.specs.declared.fault.OptError.TheVariants.{Memory};
 ghost use Rattle.pliron_laws.specs.Linked.{IsWellLinked};
 ghost use Rattle.pliron_theory.specs.Change.{IsPassChange};
-ghost use Rattle.pliron_blocks.specs.Links.{KeepsLinks};
+ghost use Rattle.pliron_block_laws.specs.Links.{KeepsLinks};
 ghost use Rattle.pliron_visits.specs.Visited.{IsUnreachable, OfBlock, OfOperation, OfRegion};
 ghost use Rattle.pliron_merging.specs.Merged.{LosesOperation, MergesAll, MergesPartly};
 

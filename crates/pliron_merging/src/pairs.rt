@@ -4,7 +4,7 @@ ghost use Rattle.pliron_core.specs.Tree.{In, IsBlock, IsDefined, IsLive, argumen
 ghost use Rattle.pliron_core.specs.Edges.{preds_of};
 ghost use Rattle.pliron_laws.specs.declared.fault.OptError.TheVariants.{Memory};
 ghost use Rattle.pliron_laws.specs.Linked.{EdgesLast};
-ghost use Rattle.pliron_blocks.specs.Pairs.{IsMergeable};
+ghost use Rattle.pliron_block_laws.specs.Pairs.{IsMergeable};
 ghost use Rattle.pliron_merging.specs.Steps.{IsOnlyWay, AllDefined};
 
 use pliron_core::{BasicBlock, Context, Def, Operation, Ptr, Value};

@@ -7,8 +7,8 @@ use Rattle.pliron_laws.specs.declared.fault.OptError.{OptError}
 use Rattle.pliron_pass.specs.Combined.{Steps}
 use Rattle.pliron_pass.specs.Outcome.{OutcomeOf}
 use Rattle.pliron_pass.specs.Stage.{Stage}
-use Rattle.pliron_optimising.specs.Honest.{IsHonest}
-use Rattle.pliron_optimising.proofs.HonestLemmas.{step_same}
+use Rattle.pliron_pipeline.specs.Honest.{IsHonest}
+use Rattle.pliron_pipeline.proofs.HonestLemmas.{step_same}
 use Rattle.pliron_opts.specs.Ran.{IsPlain, RunsAlone}
 
 pub runs_alone : {K E P : Type 0} (eq : K → K → Bool) (outcome : OutcomeOf P K E) (p later : P) (root : ℕ) (first last : Stage K E) (r : Result IRStatus OptError) → first.cache ≡ [] → IsPlain first.common → Steps eq outcome p later root first last r → IfOk r (λ status. RunsAlone eq outcome p root first.tree last.tree status)

@@ -1,10 +1,10 @@
 -- What words ask the program for.
 use Rattle.std.specs.Prelude.{◌≡◌, ℕ, Bool, true, false, List, [], ◌∷◌, Option, map, codes}
 use Rattle.pliron_program.specs.Plans.{IsPlan}
-use Rattle.pliron_optimising.specs.Steps.{step_name}
-use Rattle.pliron_optimising.specs.declared.step.Pipeline.{Pipeline}
-use Rattle.pliron_optimising.specs.declared.step.Pipeline.TheVariants.{Flat, Nested}
-use Rattle.pliron_optimising.specs.declared.step.Schedule.{Schedule}
+use Rattle.pliron_pipeline.specs.Steps.{step_name}
+use Rattle.pliron_pipeline.specs.declared.step.Pipeline.{Pipeline}
+use Rattle.pliron_pipeline.specs.declared.step.Pipeline.TheVariants.{Flat, Nested}
+use Rattle.pliron_pipeline.specs.declared.step.Schedule.{Schedule}
 use Rattle.pliron_opts.specs.Ran.{IsScheduled}
 use Rattle.pliron_opts.specs.declared.command.Command.{Command}
 use Rattle.pliron_opts.specs.declared.command.Command.TheVariants.{Optimise, Graph}

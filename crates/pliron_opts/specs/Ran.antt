@@ -7,9 +7,9 @@ use Rattle.pliron_pass.specs.Config.{skips, verifies_before, verifies_after}
 use Rattle.pliron_pass.specs.Outcome.{OutcomeOf}
 use Rattle.pliron_pass.specs.Stage.{Stage}
 use Rattle.pliron_pass.specs.declared.config.PMData.{PMData}
-use Rattle.pliron_optimising.specs.declared.step.Pipeline.{Pipeline}
-use Rattle.pliron_optimising.specs.declared.step.Schedule.{Schedule}
-use Rattle.pliron_optimising.specs.declared.step.Schedule.TheVariants.{Once, Repeated}
+use Rattle.pliron_pipeline.specs.declared.step.Pipeline.{Pipeline}
+use Rattle.pliron_pipeline.specs.declared.step.Schedule.{Schedule}
+use Rattle.pliron_pipeline.specs.declared.step.Schedule.TheVariants.{Once, Repeated}
 
 -- the pipeline once, or at most so many times where a number is given
 abbrev pub IsScheduled : {D E B K : Type 0} → Option ℕ → Pipeline D E B K → Schedule D E B K → Type 0

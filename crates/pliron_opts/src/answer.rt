@@ -5,15 +5,15 @@ ghost use Rattle.pliron_core.specs.Changes.{IsInsideChange, IsSameTree};
 ghost use Rattle.pliron_core.specs.Writes.{no_tree};
 ghost use Rattle.pliron_core.specs.declared.attrs.IRStatus.TheVariants.{Unchanged};
 ghost use Rattle.pliron_laws.specs.Linked.{IsWellLinked};
-ghost use Rattle.pliron_optimising.specs.Headline.{DoAsBefore};
+ghost use Rattle.pliron_pipeline.specs.Headline.{DoAsBefore};
 ghost use Rattle.pliron_opts.specs.Answered.{IsOptimised, status_line};
 ghost use Rattle.pliron_opts.specs.Ran.{RunsAlone};
 
 use crate::notation::Notation;
 use pliron_core::{Context, IRStatus, Operation, Ptr};
 use pliron_laws::{Dialect, OptError};
-use pliron_optimising::{Schedule, run_pipeline, schedules_are_honest};
 use pliron_pass::{AnalysisManager, BenchFactKind, BenchFacts, Pass};
+use pliron_pipeline::{Schedule, run_pipeline, schedules_are_honest};
 use std::alloc::{AllocError, Global};
 
 /// Runs the passes once on the operation, with nothing configured and nothing cached.

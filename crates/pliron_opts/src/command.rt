@@ -1,12 +1,12 @@
 //! What the arguments of the program ask for.
 ghost use Rattle.std.specs.Prelude.{◌≡◌, map, IfOk, IfSome, string_bytes};
-ghost use Rattle.pliron_optimising.specs.Steps.{step_name};
+ghost use Rattle.pliron_pipeline.specs.Steps.{step_name};
 ghost use Rattle.pliron_opts.specs.Asked.{AskFor, IsPlanned, is_nested, names_of};
 ghost use Rattle.pliron_opts.specs.Ran.{IsScheduled};
 
 use pliron_laws::Dialect;
-use pliron_optimising::{Pipeline, Schedule, Step};
 use pliron_pass::{BenchFacts, NestedOpsPass, Passes, Repeat};
+use pliron_pipeline::{Pipeline, Schedule, Step};
 use pliron_program::Plan;
 use std::alloc::{AllocError, Global};
 

@@ -18,7 +18,7 @@ pub use pliron_cfg::{
 };
 pub use pliron_dce::dce;
 pub use pliron_laws::OptError;
-pub use pliron_optimising::{
+pub use pliron_pipeline::{
     DCEPass, Pipeline, SCCPPass, Schedule, SimplifyCFGPass, Step, run_pipeline,
 };
 pub use pliron_sccp::{sccp, sccp_counted};

@@ -13,8 +13,8 @@ use Rattle.pliron_laws.specs.Datum.{Meaning}
 use Rattle.pliron_laws.specs.Linked.{IsWellLinked}
 use Rattle.pliron_theory.specs.Change.{IsPassChange, PassLaws}
 use Rattle.pliron_search.specs.Regions.{IsLawfulRegion}
-use Rattle.pliron_blocks.specs.Links.{KeepsLinks, CutLinksLaw}
-use Rattle.pliron_blocks.specs.Inside.{CutInsideLaw}
+use Rattle.pliron_block_laws.specs.Links.{KeepsLinks, CutLinksLaw}
+use Rattle.pliron_block_laws.specs.Inside.{CutInsideLaw}
 use Rattle.pliron_visits.specs.Visited.{Start, IsSearched, IsCutOff, IsUnreachable, IsReachedIn}
 use Rattle.pliron_visits.specs.Visits.{AreVisits}
 use Rattle.pliron_visits.proofs.Lawful.{visited_lawful, reached_in}

@@ -12,9 +12,9 @@ use Rattle.pliron_theory.specs.Sweeping.{is_maker_dead}
 use Rattle.pliron_search.specs.Digraph.{IsPath, Digraph}
 use Rattle.pliron_search.specs.Regions.{graph_of_region}
 use Rattle.pliron_search.specs.Internal.RegionLawful.{keys_have}
-use Rattle.pliron_blocks.specs.Cutting.{stands_in_one, cut_op, cut_block}
-use Rattle.pliron_blocks.specs.Leaving.{MayGo}
-use Rattle.pliron_blocks.proofs.CutBlocks.{block_cases, stands_one, one_stands}
+use Rattle.pliron_block_laws.specs.Cutting.{stands_in_one, cut_op, cut_block}
+use Rattle.pliron_block_laws.specs.Leaving.{MayGo}
+use Rattle.pliron_block_laws.proofs.CutBlocks.{block_cases, stands_one, one_stands}
 use Rattle.pliron_visits.specs.Visited.{IsReachedIn, IsCutOff}
 use Rattle.pliron_removal.specs.Removed.{HasLiveUse}
 use Rattle.pliron_removal.specs.Internal.OtherUses.{HaveNoOtherUse, HaveOtherUse}

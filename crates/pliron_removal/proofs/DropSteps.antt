@@ -2,7 +2,7 @@
 use Rattle.std.proofs.Common.{◌≡◌, ℕ, List, [], ◌∷◌, ◌++◌, refl}
 use Rattle.pliron_core.specs.Tree.{Tree}
 use Rattle.pliron_core.specs.Erased.{uses_dropped}
-use Rattle.pliron_blocks.specs.Leaving.{DropsAll, DropsAll.Done, DropsAll.Then}
+use Rattle.pliron_block_laws.specs.Leaving.{DropsAll, DropsAll.Done, DropsAll.Then}
 
 pub drops_more : (bs : List ℕ) (t u : Tree) (b : ℕ) → DropsAll bs t u → DropsAll (bs ++ b ∷ []) t (uses_dropped u b)
 drops_more [] t u b Done = Then b [] Done

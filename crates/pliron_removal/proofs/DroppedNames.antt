@@ -14,9 +14,9 @@ use Rattle.pliron_core.proofs.WithinLemmas.{holder_from, within_met, met_within,
 use Rattle.pliron_core.proofs.HoldingLemmas.{within_inside, holder_by}
 use Rattle.pliron_laws.specs.Linked.{EdgesLast}
 use Rattle.pliron_theory.specs.Sweeping.{is_maker_dead}
-use Rattle.pliron_blocks.specs.Cutting.{is_listed, stands_in_one, cut_op, cut_block}
-use Rattle.pliron_blocks.specs.Leaving.{DropsAll, DropsAll.Done, DropsAll.Then, MayGo}
-use Rattle.pliron_blocks.proofs.CutBlocks.{or_true, block_cases, listed, stands_one, one_stands}
+use Rattle.pliron_block_laws.specs.Cutting.{is_listed, stands_in_one, cut_op, cut_block}
+use Rattle.pliron_block_laws.specs.Leaving.{DropsAll, DropsAll.Done, DropsAll.Then, MayGo}
+use Rattle.pliron_block_laws.proofs.CutBlocks.{or_true, block_cases, listed, stands_one, one_stands}
 use Rattle.pliron_removal.specs.Internal.Unnamed.{IsUnnamedBlock}
 
 pub drops_names : (rest : List ℕ) (t u : Tree) → DropsAll rest t u → IsNamesOnly t u

@@ -13,8 +13,8 @@ use Rattle.pliron_core.proofs.ClearingLemmas.{IsClearing, clearing_none}
 use Rattle.pliron_core.proofs.ClearedLemmas.{met_block}
 use Rattle.pliron_core.proofs.WithinLemmas.{block_steps, block_holder_from, holder_steps, holder_from}
 use Rattle.pliron_core.proofs.HoldingLemmas.{inside_by, not_itself}
-use Rattle.pliron_blocks.specs.Cutting.{stands_in_one, cut_op, cut_block, ErasesAll, ErasesAll.Done, ErasesAll.Then}
-use Rattle.pliron_blocks.proofs.CutBlocks.{erased_clearing}
+use Rattle.pliron_block_laws.specs.Cutting.{stands_in_one, cut_op, cut_block, ErasesAll, ErasesAll.Done, ErasesAll.Then}
+use Rattle.pliron_block_laws.proofs.CutBlocks.{erased_clearing}
 use Rattle.pliron_removal.specs.Internal.Unnamed.{IsUnnamedBlock}
 
 pub erases_more : (bs : List ℕ) (t u : Tree) (b : ℕ) → ErasesAll bs t u → IsBlock u b → IsTree (block_erased u b) → ErasesAll (bs ++ b ∷ []) t (block_erased u b)

@@ -9,8 +9,8 @@ use Rattle.pliron_core.proofs.WithinLemmas.{block_holder_from, block_steps, hold
 use Rattle.pliron_core.proofs.HoldingLemmas.{some_is, block_held, in_slice, slice_in, slot_is, region_by, region_parent_is, holder_by, inside_by, inside_up, not_itself, within_inside}
 use Rattle.pliron_laws.specs.Linked.{EdgesLast}
 use Rattle.pliron_search.specs.Regions.{IsLawfulRegion}
-use Rattle.pliron_blocks.specs.Cutting.{cut_op, cut_block, AreCut}
-use Rattle.pliron_blocks.proofs.CutBlocks.{block_cases}
+use Rattle.pliron_block_laws.specs.Cutting.{cut_op, cut_block, AreCut}
+use Rattle.pliron_block_laws.proofs.CutBlocks.{block_cases}
 use Rattle.pliron_visits.specs.Visited.{IsVisited, IsVisited.Starts, IsVisited.Nested}
 use Rattle.pliron_visits.proofs.Lawful.{edges_held, visited_lawful, entered_in}
 use Rattle.pliron_removal.specs.declared.scope.Scope.{Scope}

@@ -18,8 +18,8 @@ use Rattle.pliron_search.specs.Regions.{graph_of_region, IsLawfulRegion}
 use Rattle.pliron_search.specs.Internal.RegionLawful.{in_keys}
 use Rattle.std.proofs.Common.{if◌then◌else◌}
 use Rattle.pliron_core.specs.Erased.{is_met_above}
-use Rattle.pliron_blocks.specs.Cutting.{stands_in_one, cut_op, cut_block, AreCut}
-use Rattle.pliron_blocks.proofs.CutBlocks.{block_cases, listed}
+use Rattle.pliron_block_laws.specs.Cutting.{stands_in_one, cut_op, cut_block, AreCut}
+use Rattle.pliron_block_laws.proofs.CutBlocks.{block_cases, listed}
 use Rattle.pliron_visits.specs.Visited.{IsVisited, IsVisited.Starts, IsVisited.Nested, IsReachedIn, IsEntered, IsEnteredIf, IsCutOff}
 use Rattle.pliron_visits.specs.Visits.{AreVisits}
 use Rattle.pliron_visits.proofs.Lawful.{reached_in, entered_in, visited_lawful}

@@ -5,8 +5,8 @@ use Rattle.pliron_core.specs.Tree.{Tree, In, block_holder_of}
 use Rattle.pliron_core.specs.Joined.{IsTree}
 use Rattle.pliron_core.specs.Erased.{is_met_above, IsBlockWithin}
 use Rattle.pliron_core.proofs.HoldingLemmas.{not_none}
-use Rattle.pliron_blocks.specs.Cutting.{is_listed, stands_in_one, cut_op, cut_block, AreCut}
-use Rattle.pliron_blocks.proofs.CutBlocks.{or_true, listed}
+use Rattle.pliron_block_laws.specs.Cutting.{is_listed, stands_in_one, cut_op, cut_block, AreCut}
+use Rattle.pliron_block_laws.proofs.CutBlocks.{or_true, listed}
 use Rattle.pliron_visits.specs.Visited.{IsCutOff}
 use Rattle.pliron_removal.specs.Removed.{IsWithout, GoesWith, BlockGoesWith}
 use Rattle.pliron_removal.proofs.CutOffLemmas.{cut_in, in_cut, block_in}

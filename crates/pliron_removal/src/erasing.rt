@@ -1,8 +1,8 @@
 //! Blocks go, whatever they use of one another.
 ghost use Rattle.std.specs.Prelude.{◌≡◌, ℕ, Some};
 ghost use Rattle.pliron_core.specs.Tree.{In, IsBlock, IsDistinct, block_parent_of};
-ghost use Rattle.pliron_blocks.specs.Cutting.{ErasesAll};
-ghost use Rattle.pliron_blocks.specs.Leaving.{DropsAll};
+ghost use Rattle.pliron_block_laws.specs.Cutting.{ErasesAll};
+ghost use Rattle.pliron_block_laws.specs.Leaving.{DropsAll};
 ghost use Rattle.pliron_removal.specs.Internal.Unnamed.{IsUnnamedBlock};
 
 use pliron_core::{BasicBlock, Context, Ptr, Region, Rewriter};

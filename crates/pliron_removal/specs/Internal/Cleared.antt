@@ -6,7 +6,7 @@ use Rattle.pliron_core.specs.Tree.{Tree, In}
 use Rattle.pliron_core.specs.Joined.{IsTree}
 use Rattle.pliron_laws.specs.Datum.{Meaning}
 use Rattle.pliron_theory.specs.Change.{IsPassChange}
-use Rattle.pliron_blocks.specs.Links.{KeepsLinks}
+use Rattle.pliron_block_laws.specs.Links.{KeepsLinks}
 use Rattle.pliron_visits.specs.Visited.{Start, IsCutOff, IsUnreachable}
 use Rattle.pliron_visits.specs.Visits.{AreVisits}
 use Rattle.pliron_removal.specs.declared.scope.Scope.{Scope}

@@ -5,7 +5,7 @@ use Rattle.pliron_core.specs.declared.attrs.IRStatus.TheVariants.{Changed, Uncha
 use Rattle.pliron_core.specs.Tree.{Tree, In}
 use Rattle.pliron_laws.specs.Datum.{Meaning}
 use Rattle.pliron_theory.specs.Keeps.{KeepsRuns}
-use Rattle.pliron_blocks.specs.Cutting.{AreCut}
+use Rattle.pliron_block_laws.specs.Cutting.{AreCut}
 use Rattle.pliron_visits.specs.Visited.{IsCutOff}
 
 -- exactly the blocks that the entry did not reach are gone, and there were some

@@ -3,7 +3,7 @@ use Rattle.std.proofs.lemmas.Option.{slice_get-get_or}
 use Rattle.pliron_core.specs.Tree.{Tree, arguments_of, IsDefined}
 use Rattle.pliron_core.specs.Writes.{replaced}
 use Rattle.pliron_core.proofs.HoldingLemmas.{in_slice}
-use Rattle.pliron_blocks.specs.Pairs.{forwarded_uses}
+use Rattle.pliron_block_laws.specs.Pairs.{forwarded_uses}
 use Rattle.pliron_merging.proofs.PairLemmas.{values_defined, way_of_pair}
 use Rattle.pliron_merging.proofs.JoinLemmas.{forwarded_arguments, forwarded_blocks, forwarded_defined, forwarded_more, second_is}
 use Rattle.pliron_merging.proofs.joining.forward_uses.Goals as goal

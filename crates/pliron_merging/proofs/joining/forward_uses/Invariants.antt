@@ -1,6 +1,6 @@
 use Rattle.std.proofs.Common.{◌≡◌, take}
 use Rattle.pliron_core.specs.Tree.{arguments_of}
-use Rattle.pliron_blocks.specs.Pairs.{forwarded_uses}
+use Rattle.pliron_block_laws.specs.Pairs.{forwarded_uses}
 use Rattle.pliron_merging.proofs.joining.forward_uses.Given as goal
 
 abbrev pub invariant-loop-i : goal.invariant-loop-i

@@ -2,7 +2,7 @@ use Rattle.std.proofs.Common.{◌≡◌, sym, subst, ap, ◌∙◌}
 use Rattle.pliron_core.specs.Tree.{Tree, IsBlock, block_parent_of}
 use Rattle.pliron_core.specs.Joined.{IsTree}
 use Rattle.pliron_core.specs.Erased.{block_erased, IsSelfContainedBlock}
-use Rattle.pliron_blocks.specs.Pairs.{joined}
+use Rattle.pliron_block_laws.specs.Pairs.{joined}
 use Rattle.pliron_merging.proofs.Joinable.{contained, first_stands, still_beside, moves_from, second_left, contained_block, joins}
 use Rattle.pliron_merging.proofs.joining.join.Goals as goal
 

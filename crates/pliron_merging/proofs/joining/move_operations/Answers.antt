@@ -1,6 +1,6 @@
 use Rattle.std.proofs.Common.{◌≡◌, ◌∷◌, ℕ, List, sym, subst, ap, ◌∙◌, inl, refl, IsSome}
 use Rattle.pliron_core.specs.Tree.{Tree, In, body_of, IsBlock, block_parent_of}
-use Rattle.pliron_blocks.specs.Pairs.{all_moved_last}
+use Rattle.pliron_block_laws.specs.Pairs.{all_moved_last}
 use Rattle.pliron_merging.proofs.JoinLemmas.{head_rest, no_head, moves_on, holds_none_beside, IsMovedOn, one_less}
 use Rattle.pliron_core.specs.Writes.{moved_last}
 use Rattle.pliron_merging.proofs.joining.move_operations.Given.{Over}

@@ -1,6 +1,6 @@
 use Rattle.std.proofs.Common.{◌≡◌, length}
 use Rattle.pliron_core.specs.Tree.{IsBlock, block_parent_of, body_of}
-use Rattle.pliron_blocks.specs.Pairs.{all_moved_last}
+use Rattle.pliron_block_laws.specs.Pairs.{all_moved_last}
 use Rattle.pliron_merging.proofs.joining.move_operations.Given as goal
 
 abbrev pub invariant-loop-op : goal.invariant-loop-op

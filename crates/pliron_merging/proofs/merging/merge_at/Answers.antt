@@ -1,5 +1,5 @@
 use Rattle.std.proofs.Common.{◌≡◌, ℕ, List, subst, refl, MatchOption}
-use Rattle.pliron_blocks.specs.Pairs.{IsMergeable}
+use Rattle.pliron_block_laws.specs.Pairs.{IsMergeable}
 use Rattle.pliron_merging.specs.declared.pairs.Pair.{Pair}
 use Rattle.pliron_merging.specs.Chains.{MergesAmong.Nothing}
 use Rattle.pliron_merging.proofs.ChainLemmas.{step_at, linked_one}

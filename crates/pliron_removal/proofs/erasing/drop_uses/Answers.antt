@@ -1,6 +1,6 @@
 use Rattle.std.proofs.Common.{◌≡◌, ◌++◌, ◌+◌, ◌∷◌, [], take, None, IsSome, sym, ap, ◌∙◌, subst, slice_index_or}
 use Rattle.std.proofs.lemmas.List.{take_more}
-use Rattle.pliron_blocks.specs.Leaving.{DropsAll, DropsAll.Done}
+use Rattle.pliron_block_laws.specs.Leaving.{DropsAll, DropsAll.Done}
 use Rattle.pliron_core.specs.Erased.{uses_dropped}
 use Rattle.pliron_visits.proofs.ListLemmas.{item_in}
 use Rattle.pliron_removal.proofs.DropSteps.{drops_more, drops_blocks}

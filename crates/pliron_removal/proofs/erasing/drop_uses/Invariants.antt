@@ -1,5 +1,5 @@
 use Rattle.std.proofs.Common.{take}
-use Rattle.pliron_blocks.specs.Leaving.{DropsAll}
+use Rattle.pliron_block_laws.specs.Leaving.{DropsAll}
 use Rattle.pliron_removal.proofs.erasing.drop_uses.Given as goal
 
 abbrev pub invariant-loop-block : goal.invariant-loop-block

@@ -1,0 +1,16 @@
+//! Two blocks that become one.
+ghost use Rattle.pliron_block_laws.specs.Joining.{JoiningLaw};
+ghost use Rattle.pliron_block_laws.specs.Reaching.{ReachingLaw};
+
+use pliron_laws::Dialect;
+
+/// Erasing the jump of a mergeable pair, moving the second block's operations to the end of the first
+/// one, and erasing the second block keeps runs, where the second block's arguments have no uses.
+pub fn pairs_are_joined<D: Dialect>()
+    ensures { JoiningLaw D.meaning }
+{}
+
+/// Joining two blocks keeps which blocks lead to which, but for the one that goes.
+pub fn reach_is_kept()
+    ensures { ReachingLaw }
+{}

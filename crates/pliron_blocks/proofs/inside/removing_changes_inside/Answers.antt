@@ -1,5 +1,0 @@
-use Rattle.pliron_blocks.proofs.CutLinks.{cut_inside}
-use Rattle.pliron_blocks.proofs.inside.removing_changes_inside.Goals as goal
-
-pub returns : goal.returns
-returns c = cut_inside

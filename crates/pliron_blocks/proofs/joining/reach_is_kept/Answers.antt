@@ -1,5 +1,0 @@
-use Rattle.pliron_blocks.proofs.JoinedReach.{reaching}
-use Rattle.pliron_blocks.proofs.joining.reach_is_kept.Goals as goal
-
-pub returns : goal.returns
-returns c = reaching

@@ -1,5 +1,0 @@
-use Rattle.pliron_blocks.proofs.LeftBlocks.{leaving}
-use Rattle.pliron_blocks.proofs.removal.blocks_go.Goals as goal
-
-pub returns : goal.returns
-returns c = leaving

@@ -1,0 +1,18 @@
+//! Tests of `pliron_pipeline`: the three passes and a failing one of a caller under each combinator, in a
+//! caller's enum that nests them several levels deep, by the call that promises what every nesting keeps;
+//! what is cached, counted and answered then; runs and facts before and after; and a driver. It has no
+//! function of its own.
+#![tactic(auto)]
+
+#[cfg(test)]
+mod driver;
+#[cfg(test)]
+mod failing;
+#[cfg(test)]
+mod kept;
+#[cfg(test)]
+mod lines;
+#[cfg(test)]
+mod nest;
+#[cfg(test)]
+mod texts;
