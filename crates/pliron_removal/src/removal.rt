@@ -117,9 +117,10 @@ pub fn remove_blocks_inside_op<D: Dialect, R: Rewriter + Room>(
     remove_blocks_in::<D, R>(alloc, &Scope::Operation(op), ctx, rewriter)
 }
 
-/// Removes the unreachable blocks of the regions with SSA dominance inside the operations of the block. Asks
-/// that the block stands and that what holds it is well linked; answers, errors and costs as
-/// [`remove_blocks_inside_op`].
+/// Removes the unreachable blocks of the regions with SSA dominance inside the operations of the block.
+///
+/// Asks that the block stands and that what holds it is well linked; answers as [`remove_blocks_inside_op`].
+/// Errors: as [`remove_blocks_inside_op`]. Cost: as [`remove_blocks_inside_op`].
 pub fn remove_blocks_inside_block<D: Dialect, R: Rewriter + Room>(
     alloc: Global,
     block: Ptr<BasicBlock>,
@@ -138,8 +139,10 @@ pub fn remove_blocks_inside_block<D: Dialect, R: Rewriter + Room>(
 }
 
 /// Removes the unreachable blocks of the region, where it has SSA dominance, and of the regions with SSA
-/// dominance inside. Asks that the region stands and that what holds it is well linked; answers, errors and
-/// costs as [`remove_blocks_inside_op`].
+/// dominance inside.
+///
+/// Asks that the region stands and that what holds it is well linked; answers as [`remove_blocks_inside_op`].
+/// Errors: as [`remove_blocks_inside_op`]. Cost: as [`remove_blocks_inside_op`].
 pub fn remove_blocks_inside_region<D: Dialect, R: Rewriter + Room>(
     alloc: Global,
     region: Ptr<Region>,
