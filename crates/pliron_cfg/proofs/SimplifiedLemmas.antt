@@ -12,11 +12,11 @@ use Rattle.pliron_laws.specs.Folding.{Constants}
 use Rattle.pliron_laws.specs.InPlace.{Outcome, TellsChange}
 use Rattle.pliron_theory.specs.Change.{IsPassChange}
 use Rattle.pliron_theory.proofs.ChangeLemmas.{change_trans}
-use Rattle.pliron_visits.specs.Visited.{Start, OfOperation, IsUnreachable, IsCutOff}
-use Rattle.pliron_folding.specs.Folded.{branches_of, FoldsAll}
-use Rattle.pliron_folding.specs.Steps.{IsTold}
-use Rattle.pliron_removal.specs.Removed.{IsWithout, BlockGoesWith, RemovesSome, RemovesSome.Nothing, RemovesSome.Then, RemovesAll}
-use Rattle.pliron_merging.specs.Merged.{MergesAll, LosesOperation, HasPair}
+use Rattle.pliron_cfg.specs.Visited.{Start, OfOperation, IsUnreachable, IsCutOff}
+use Rattle.pliron_cfg.specs.Folded.{branches_of, FoldsAll}
+use Rattle.pliron_cfg.specs.FoldSteps.{IsTold}
+use Rattle.pliron_cfg.specs.Removed.{IsWithout, BlockGoesWith, RemovesSome, RemovesSome.Nothing, RemovesSome.Then, RemovesAll}
+use Rattle.pliron_cfg.specs.Merged.{MergesAll, LosesOperation, HasPair}
 use Rattle.pliron_cfg.specs.Simplified.{Simplifies}
 
 -- blocks that stand without some of them stood before

@@ -8,10 +8,10 @@ use Rattle.pliron_laws.specs.declared.fault.OptError.TheVariants.{Memory}
 use Rattle.pliron_laws.specs.Datum.{Head, Meaning}
 use Rattle.pliron_laws.specs.Folding.{Constants}
 use Rattle.pliron_laws.specs.InPlace.{Outcome, TellsChange}
-use Rattle.pliron_visits.specs.Visited.{OfOperation, IsUnreachable}
-use Rattle.pliron_folding.specs.Folded.{branches_of, FoldsAll, FoldsSome}
-use Rattle.pliron_removal.specs.Removed.{RemovesAll, RemovalFails}
-use Rattle.pliron_merging.specs.Merged.{HasPair, MergesAll, MergesPartly}
+use Rattle.pliron_cfg.specs.Visited.{OfOperation, IsUnreachable}
+use Rattle.pliron_cfg.specs.Folded.{branches_of, FoldsAll, FoldsSome}
+use Rattle.pliron_cfg.specs.Removed.{RemovesAll, RemovalFails}
+use Rattle.pliron_cfg.specs.Merged.{HasPair, MergesAll, MergesPartly}
 
 -- the branches were folded, then the unreachable blocks went, then blocks were merged; the answer says whether the
 -- tree changed, and no unreachable block and no mergeable pair is left

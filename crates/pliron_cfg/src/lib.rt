@@ -1,10 +1,11 @@
 //! Simplifying the control flow of a tree: branches are folded, blocks that nothing leads to are removed,
 //! and blocks that need not be apart are merged.
 //!
-//! It puts the three together, and passes the names of removal and merging on.
+//! `folding`, `removal` and `merging` are one each, and know nothing of one another; `visits` says which
+//! regions and blocks removal and merging look at. The crate puts the three together.
 //!
-//! It knows the three and what runs read of constants. Of the other optimisations, of passes and of the
-//! program it knows nothing.
+//! It knows regions as graphs, the rewrites of blocks and what runs read of constants. Of the other
+//! optimisations, of passes, of any dialect and of the program it knows nothing.
 #![tactic(auto)]
 
 ghost use Rattle.std.specs.Prelude.{◌≡◌, ℕ, IfOk, IfErr};
@@ -13,18 +14,23 @@ ghost use Rattle.pliron_laws.specs.Linked.{IsWellLinked};
 ghost use Rattle.pliron_theory.specs.Change.{IsPassChange};
 ghost use Rattle.pliron_cfg.specs.Simplified.{Simplifies, SimplifyFails};
 
+mod folding;
+mod merging;
+mod removal;
+pub mod visits;
+
+pub use folding::fold_branches;
+pub use merging::{merge_inside_block, merge_inside_op, merge_inside_region};
 use pliron_core::{Context, IRRewriter, IRStatus, Operation, Ptr};
-use pliron_folding::fold_branches;
 use pliron_laws::{Dialect, OptError};
-pub use pliron_merging::{merge_inside_block, merge_inside_op, merge_inside_region};
-pub use pliron_removal::{
+pub use removal::{
     remove_blocks_inside_block, remove_blocks_inside_op, remove_blocks_inside_region,
 };
 use std::alloc::Global;
 
 /// Simplifies the control flow inside the operation, once: folds the branches inside by what is known of
-/// their operands, as `pliron_folding::fold_branches`, then removes unreachable blocks, as
-/// `remove_blocks_inside_op`, then merges blocks, as `merge_inside_op`.
+/// their operands, as [`fold_branches`], then removes unreachable blocks, as
+/// [`remove_blocks_inside_op`], then merges blocks, as [`merge_inside_op`].
 ///
 /// Asks that the operation stands and is well linked. `Changed` exactly if the tree changed. No unreachable
 /// block and no mergeable pair is left where it looks.

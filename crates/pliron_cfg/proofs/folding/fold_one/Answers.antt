@@ -1,0 +1,9 @@
+use Rattle.pliron_core.proofs.WalkLemmas.{inside_live}
+use Rattle.pliron_cfg.proofs.FoldLemmas.{no_step}
+use Rattle.pliron_cfg.proofs.folding.fold_one.Goals as goal
+
+pub known_operands-requires : goal.known_operands-requires
+known_operands-requires g c = inside_live c.args.ctx.now.tree c.well_formed-2.ensures.tree c.requires.branch.0 c.args.op c.requires.branch.2.0
+
+pub returns-in_err-known-clause-step : goal.returns-in_err-known-clause-step
+returns-in_err-known-clause-step g c = λ root linked branch. no_step g.D.HasMeaning.meaning g.D.ConstFoldInterface.can_fold g.D.BranchOpFoldInterface.can_fold_branch g.D.ConstFoldInterface.constants g.D.BranchOpFoldInterface.outcome c.args.ctx.now.tree root c.args.op c.well_formed-2.ensures.tree linked branch

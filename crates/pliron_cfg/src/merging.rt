@@ -1,0 +1,162 @@
+//! Blocks that need not be apart are joined.
+//!
+//! Where a branch leads to one block alone, and nothing else leads there, the two blocks become one: the
+//! values that the branch forwards stand for the arguments of the second block, the branch goes, and the
+//! operations of the second block become the last of the first one.
+//!
+//! It knows the regions that are looked at, and the rewrites of blocks. Of branches that fold, of blocks that
+//! nothing leads to, of passes and of any dialect it knows nothing.
+ghost use Rattle.std.specs.Prelude.{◌≡◌, ◌∷◌, [], ℕ, Some, IfOk, OnOk, OnErr, IfErr};
+ghost use Rattle.pliron_core.specs.Tree.{In, IsBlock, IsLive, IsRegion, IsWithin, block_holder_of, region_parent_of};
+ghost use Rattle.pliron_laws.specs.declared.fault.OptError.TheVariants.{Memory};
+ghost use Rattle.pliron_laws.specs.Linked.{IsWellLinked};
+ghost use Rattle.pliron_theory.specs.Change.{IsPassChange};
+ghost use Rattle.pliron_block_laws.specs.Links.{KeepsLinks};
+ghost use Rattle.pliron_cfg.specs.Visited.{IsUnreachable, OfBlock, OfOperation, OfRegion};
+ghost use Rattle.pliron_cfg.specs.Merged.{LosesOperation, MergesAll, MergesPartly};
+ghost use Rattle.pliron_cfg.specs.Internal.Chains.{MergesAmong, MergesAmongPartly, HasNoPairAmong, TellsMerged};
+
+mod joining;
+mod pairs;
+
+use crate::merging::joining::merge_pair;
+use crate::merging::pairs::find_pair;
+use crate::visits::{visits_inside_block, visits_inside_op, visits_inside_region};
+use pliron_core::{BasicBlock, Context, IRStatus, Operation, Ptr, Region, Rewriter};
+use pliron_laws::{Dialect, OptError, Room};
+use std::alloc::Global;
+
+// Merges pairs whose first block this is, until there is none.
+fn merge_at<D: Dialect, R: Rewriter + Room>(
+    alloc: Global,
+    first: Ptr<BasicBlock>,
+    ctx: &mut Context,
+    rewriter: &mut R,
+) -> Result<IRStatus, OptError>
+    requires block { IsBlock ctx.old.tree first }
+    requires linked { (holder : ℕ) → block_holder_of ctx.old.tree first ≡ Some holder → IsWellLinked D.meaning ctx.old.tree holder }
+    ensures ok { IfOk result (λ status. MergesAmong D.meaning (first ∷ []) ctx.old.tree ctx.new.tree × HasNoPairAmong D.meaning (first ∷ []) ctx.new.tree × TellsMerged D.meaning (first ∷ []) ctx.old.tree ctx.new.tree status) }
+    ensures refused { OnErr result (MergesAmongPartly D.meaning (first ∷ []) ctx.old.tree ctx.new.tree) }
+    ensures err { IfErr result (λ e. e ≡ Memory) }
+{
+    ctx.well_formed();
+    let mut status = IRStatus::Unchanged;
+    while let Some(pair) = find_pair::<D>(alloc, first, ctx)? {
+        let merged = merge_pair::<D, R>(alloc, ctx, &pair, rewriter);
+        ctx.well_formed();
+        merged?;
+        status = IRStatus::Changed;
+    }
+    Ok(status)
+}
+
+// Merges pairs whose first block is one of these, until there is none.
+fn merge_among<D: Dialect, R: Rewriter + Room>(
+    alloc: Global,
+    blocks: &[Ptr<BasicBlock>],
+    ctx: &mut Context,
+    rewriter: &mut R,
+) -> Result<IRStatus, OptError>
+    requires linked { (c holder : ℕ) → In c blocks.now → block_holder_of ctx.old.tree c ≡ Some holder → IsWellLinked D.meaning ctx.old.tree holder }
+    ensures ok { IfOk result (λ status. MergesAmong D.meaning blocks.now ctx.old.tree ctx.new.tree × HasNoPairAmong D.meaning blocks.now ctx.new.tree × TellsMerged D.meaning blocks.now ctx.old.tree ctx.new.tree status) }
+    ensures refused { OnErr result (MergesAmongPartly D.meaning blocks.now ctx.old.tree ctx.new.tree) }
+    ensures err { IfErr result (λ e. e ≡ Memory) }
+{
+    ctx.well_formed();
+    let mut status = IRStatus::Unchanged;
+    for block in blocks {
+        ctx.well_formed();
+        if block.is_live(ctx) {
+            let merged = merge_at::<D, R>(alloc, *block, ctx, rewriter)?;
+            status |= merged;
+        }
+    }
+    Ok(status)
+}
+
+/// Merges pairs of blocks in the regions with SSA dominance that it looks at inside the operation, until
+/// none is left whose first block the entry of its region reaches. It looks at the regions of the
+/// operation, and at those of each operation in a block that the entry reaches, or in the first block where
+/// a region has no SSA dominance.
+///
+/// A pair is a block that ends with a branch to one other block alone, which is not the entry and has no
+/// other predecessor, where the branch forwards a value for each argument of that block, none of them one
+/// of these arguments.
+///
+/// Asks that the operation stands and is well linked. Answers `Changed` exactly if there was a pair. No block
+/// is made, and each that is unreachable after was unreachable before.
+///
+/// Errors: want of memory. Some pairs are merged then, and of one more the uses of some first arguments may
+/// name the values forwarded to them.
+///
+/// Cost: that of the search for what it looks at, one look at the end of each block that is reached, one
+/// step for each operation that moves and for each use of an argument that goes. An operation moves once at
+/// most, since a block comes behind its only predecessor in the search.
+pub fn merge_inside_op<D: Dialect, R: Rewriter + Room>(
+    alloc: Global,
+    op: Ptr<Operation>,
+    ctx: &mut Context,
+    rewriter: &mut R,
+) -> Result<IRStatus, OptError>
+    requires live { IsLive ctx.old.tree op }
+    requires linked { IsWellLinked D.meaning ctx.old.tree op }
+    ensures ok { IfOk result (λ status. MergesAll (OfOperation op) D.meaning ctx.old.tree ctx.new.tree status) }
+    ensures told { IfOk result (λ status. LosesOperation status ctx.old.tree ctx.new.tree) }
+    ensures unreachable { OnOk result ((b : ℕ) → IsUnreachable (OfOperation op) ctx.new.tree b → IsUnreachable (OfOperation op) ctx.old.tree b) }
+    ensures blocks { OnOk result ((b : ℕ) → IsBlock ctx.new.tree b → IsBlock ctx.old.tree b) }
+    ensures refused { OnErr result (MergesPartly (OfOperation op) D.meaning ctx.old.tree ctx.new.tree) }
+    ensures err { IfErr result (λ e. e ≡ Memory) }
+    ensures change { IsPassChange D.meaning ctx.old.tree ctx.new.tree op }
+    ensures links { KeepsLinks D.meaning ctx.old.tree ctx.new.tree }
+{
+    ctx.well_formed();
+    let visits = visits_inside_op(alloc, ctx, op)?;
+    merge_among::<D, R>(alloc, &visits.blocks, ctx, rewriter)
+}
+
+/// Merges pairs of blocks in the regions that it looks at inside the operations of the block.
+///
+/// Asks that the block stands and that what holds it is well linked; answers as [`merge_inside_op`]. Errors:
+/// as [`merge_inside_op`]. Cost: as [`merge_inside_op`].
+pub fn merge_inside_block<D: Dialect, R: Rewriter + Room>(
+    alloc: Global,
+    block: Ptr<BasicBlock>,
+    ctx: &mut Context,
+    rewriter: &mut R,
+) -> Result<IRStatus, OptError>
+    requires block { IsBlock ctx.old.tree block }
+    requires linked { (holder : ℕ) → block_holder_of ctx.old.tree block ≡ Some holder → IsWellLinked D.meaning ctx.old.tree holder }
+    ensures ok { IfOk result (λ status. MergesAll (OfBlock block) D.meaning ctx.old.tree ctx.new.tree status) }
+    ensures refused { OnErr result (MergesPartly (OfBlock block) D.meaning ctx.old.tree ctx.new.tree) }
+    ensures err { IfErr result (λ e. e ≡ Memory) }
+    ensures change { (holder : ℕ) → block_holder_of ctx.old.tree block ≡ Some holder → IsPassChange D.meaning ctx.old.tree ctx.new.tree holder }
+    ensures links { KeepsLinks D.meaning ctx.old.tree ctx.new.tree }
+{
+    ctx.well_formed();
+    let visits = visits_inside_block(alloc, ctx, block)?;
+    merge_among::<D, R>(alloc, &visits.blocks, ctx, rewriter)
+}
+
+/// Merges pairs of blocks in the region, where it has SSA dominance, and in the regions that it looks at
+/// inside.
+///
+/// Asks that the region stands and that what holds it is well linked; answers as [`merge_inside_op`]. Errors:
+/// as [`merge_inside_op`]. Cost: as [`merge_inside_op`].
+pub fn merge_inside_region<D: Dialect, R: Rewriter + Room>(
+    alloc: Global,
+    region: Ptr<Region>,
+    ctx: &mut Context,
+    rewriter: &mut R,
+) -> Result<IRStatus, OptError>
+    requires region { IsRegion ctx.old.tree region }
+    requires linked { (holder : ℕ) → region_parent_of ctx.old.tree region ≡ Some holder → IsWellLinked D.meaning ctx.old.tree holder }
+    ensures ok { IfOk result (λ status. MergesAll (OfRegion region) D.meaning ctx.old.tree ctx.new.tree status) }
+    ensures refused { OnErr result (MergesPartly (OfRegion region) D.meaning ctx.old.tree ctx.new.tree) }
+    ensures err { IfErr result (λ e. e ≡ Memory) }
+    ensures change { (holder : ℕ) → region_parent_of ctx.old.tree region ≡ Some holder → IsPassChange D.meaning ctx.old.tree ctx.new.tree holder }
+    ensures links { KeepsLinks D.meaning ctx.old.tree ctx.new.tree }
+{
+    ctx.well_formed();
+    let visits = visits_inside_region(alloc, ctx, region)?;
+    merge_among::<D, R>(alloc, &visits.blocks, ctx, rewriter)
+}

@@ -1,0 +1,34 @@
+//! What a call looks into.
+ghost use Rattle.std.specs.Prelude.{ℕ, IfOk, IsOkUnless};
+ghost use Rattle.pliron_laws.specs.Linked.{EdgesLast};
+ghost use Rattle.pliron_cfg.specs.Visits.{AreVisits};
+ghost use Rattle.pliron_cfg.specs.Internal.Scopes.{start_of, Stands, IsHolder};
+
+use pliron_core::{BasicBlock, Context, Operation, Ptr, Region};
+use pliron_laws::OptError;
+use crate::visits::{Visits, visits_inside_block, visits_inside_op, visits_inside_region};
+use std::alloc::Global;
+
+// The regions of an operation, those of the operations of a block, or one region.
+#[derive(Clone, Copy)]
+pub(crate) enum Scope {
+    Operation(Ptr<Operation>),
+    Block(Ptr<BasicBlock>),
+    Region(Ptr<Region>),
+}
+
+impl Scope {
+    // What a call looks at there.
+    pub(crate) fn visits(&self, alloc: Global, ctx: &Context) -> Result<Visits, OptError>
+        requires stands { Stands ctx.now.tree self.now }
+        requires edges { (holder : ℕ) → IsHolder ctx.now.tree self.now holder → EdgesLast ctx.now.tree holder }
+        ensures visits { IfOk result (λ v. AreVisits ctx.now.tree (start_of self.now ctx.now.tree) v.regions.items v.blocks.items) }
+        ensures memory { IsOkUnless result OptError.Memory }
+    {
+        match *self {
+            Scope::Operation(op) => visits_inside_op(alloc, ctx, op),
+            Scope::Block(block) => visits_inside_block(alloc, ctx, block),
+            Scope::Region(region) => visits_inside_region(alloc, ctx, region),
+        }
+    }
+}

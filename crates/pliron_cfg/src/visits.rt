@@ -1,0 +1,248 @@
+//! Which regions and blocks the simplification of control flow looks at.
+//!
+//! It knows regions as graphs, and nothing of rewrites or dialects.
+ghost use Rattle.std.specs.Prelude.{Some, ◌≡◌, ◌↔◌, ◌++◌, ℕ, IfOk, OnOk, IsOkUnless};
+ghost use Rattle.std.specs.List.{flat_map};
+ghost use Rattle.pliron_core.specs.Tree.{In, IsLive, IsBlock, IsRegion, body_of, regions_of, block_holder_of, region_parent_of};
+ghost use Rattle.pliron_laws.specs.Linked.{EdgesLast};
+ghost use Rattle.pliron_search.specs.Regions.{IsLawfulRegion};
+ghost use Rattle.pliron_cfg.specs.Visited.{IsReachedIn, IsEntered, OfOperation, OfBlock, OfRegion};
+ghost use Rattle.pliron_cfg.specs.Visits.{AreVisits};
+ghost use Rattle.pliron_cfg.specs.Internal.Seen.{Grew};
+
+mod last_first;
+
+use crate::visits::last_first::LastFirst;
+use indexmap::IndexSet;
+use pliron_core::{BasicBlock, Context, Operation, Ptr, Region};
+use pliron_laws::OptError;
+use pliron_search::DFSTraversal;
+use std::alloc::{AllocError, Global};
+
+/// What a call looks at: the visited regions with SSA dominance, each before those that are nested in it,
+/// and the blocks that their entries reach.
+#[derive(Drop)]
+pub struct Visits {
+    pub regions: Vec<Ptr<Region>>,
+    pub blocks: Vec<Ptr<BasicBlock>>,
+}
+
+/// The operations of a block, in order. Asks that the block stands (`is_live` tests it). Errors: want of
+/// memory. Cost: linear in them.
+pub fn operations_of(
+    alloc: Global,
+    ctx: &Context,
+    block: Ptr<BasicBlock>,
+) -> Result<Vec<Ptr<Operation>>, OptError>
+    requires { IsBlock ctx.now.tree block }
+    ensures items { IfOk result (λ ops. ops.items ≡ body_of ctx.now.tree block) }
+    ensures memory { IsOkUnless result OptError.Memory }
+{
+    ctx.well_formed();
+    let mut ops = Vec::new(alloc);
+    let mut at = block.get_head(ctx);
+    while let Some(op) = at {
+        ops.push(op)?;
+        at = op.get_next(ctx);
+    }
+    Ok(ops)
+}
+
+// Adds the regions of the operation.
+fn push_regions(
+    ctx: &Context,
+    op: Ptr<Operation>,
+    regions: &mut Vec<Ptr<Region>>,
+) -> Result<(), OptError>
+    requires { IsLive ctx.now.tree op }
+    ensures items { OnOk result (regions.new.items ≡ regions.old.items ++ regions_of ctx.now.tree op) }
+    ensures memory { IsOkUnless result OptError.Memory }
+{
+    for i in 0..op.num_region(ctx) {
+        regions.push(op.get_region(ctx, i))?;
+    }
+    Ok(())
+}
+
+// Adds the regions of the operations of the block.
+fn push_nested(
+    alloc: Global,
+    ctx: &Context,
+    block: Ptr<BasicBlock>,
+    regions: &mut Vec<Ptr<Region>>,
+) -> Result<(), OptError>
+    requires { IsBlock ctx.now.tree block }
+    ensures items { OnOk result (regions.new.items ≡ regions.old.items ++ flat_map (λ k. regions_of ctx.now.tree k) (body_of ctx.now.tree block)) }
+    ensures memory { IsOkUnless result OptError.Memory }
+{
+    ctx.well_formed();
+    let ops = operations_of(alloc, ctx, block)?;
+    for op in &ops {
+        push_regions(ctx, *op, regions)?;
+    }
+    Ok(())
+}
+
+// The regions of the operations of the blocks.
+fn nested_regions(
+    alloc: Global,
+    ctx: &Context,
+    blocks: &[Ptr<BasicBlock>],
+) -> Result<Vec<Ptr<Region>>, OptError>
+    requires { (b : ℕ) → In b blocks.now → IsBlock ctx.now.tree b }
+    ensures items { IfOk result (λ r. r.items ≡ flat_map (λ b. flat_map (λ k. regions_of ctx.now.tree k) (body_of ctx.now.tree b)) blocks.now) }
+    ensures memory { IsOkUnless result OptError.Memory }
+{
+    let mut regions = Vec::new(alloc);
+    for block in blocks {
+        push_nested(alloc, ctx, *block, &mut regions)?;
+    }
+    Ok(regions)
+}
+
+// The nodes in the order in which the search came to them.
+fn in_visiting_order(
+    alloc: Global,
+    search: &DFSTraversal<Ptr<BasicBlock>>,
+) -> Result<Vec<Ptr<BasicBlock>>, AllocError>
+    ensures { IfOk result (λ r. r.items ≡ search.now.pre) }
+{
+    search.pre_order().collect(alloc)
+}
+
+// The blocks that the entry of the region reaches.
+fn reached_blocks(
+    alloc: Global,
+    ctx: &Context,
+    region: Ptr<Region>,
+) -> Result<Vec<Ptr<BasicBlock>>, OptError>
+    requires lawful { IsLawfulRegion ctx.now.tree region }
+    ensures reached { IfOk result (λ r. (b : ℕ) → In b r.items ↔ IsReachedIn ctx.now.tree region b) }
+    ensures memory { IsOkUnless result OptError.Memory }
+{
+    let graph = LastFirst { region };
+    let search = DFSTraversal::new(alloc, ctx, &graph)?;
+    Ok(in_visiting_order(alloc, &search)?)
+}
+
+// The blocks that are looked into where the region is visited.
+fn entered_blocks(
+    alloc: Global,
+    ctx: &Context,
+    region: Ptr<Region>,
+) -> Result<Vec<Ptr<BasicBlock>>, OptError>
+    requires lawful { IsLawfulRegion ctx.now.tree region }
+    ensures entered { IfOk result (λ r. (b : ℕ) → In b r.items ↔ IsEntered ctx.now.tree region b) }
+    ensures memory { IsOkUnless result OptError.Memory }
+{
+    if region.has_ssa_dominance(ctx) {
+        return reached_blocks(alloc, ctx, region);
+    }
+    let mut blocks = Vec::new(alloc);
+    if let Some(head) = region.get_head(ctx) {
+        blocks.push(head)?;
+    }
+    Ok(blocks)
+}
+
+// The regions that were not seen are seen, and wait.
+fn push_new(
+    regions: &[Ptr<Region>],
+    seen: &mut IndexSet<Ptr<Region>>,
+    waiting: &mut Vec<Ptr<Region>>,
+) -> Result<(), OptError>
+    ensures grew { OnOk result (Grew regions.now seen.old.keys waiting.old.items seen.new.keys waiting.new.items) }
+    ensures memory { IsOkUnless result OptError.Memory }
+{
+    for region in regions {
+        if seen.insert(*region)? {
+            waiting.push(*region)?;
+        }
+    }
+    Ok(())
+}
+
+// Visits the regions, and so on down.
+fn visit(alloc: Global, ctx: &Context, starts: &[Ptr<Region>]) -> Result<Visits, OptError>
+    requires lawful { (r : ℕ) → In r starts.now → IsLawfulRegion ctx.now.tree r }
+    ensures visits { IfOk result (λ v. AreVisits ctx.now.tree (λ r. In r starts.now) v.regions.items v.blocks.items) }
+    ensures memory { IsOkUnless result OptError.Memory }
+{
+    ctx.well_formed();
+    let mut regions = Vec::new(alloc);
+    let mut blocks = Vec::new(alloc);
+    let mut seen = IndexSet::new(alloc);
+    let mut waiting = Vec::new(alloc);
+    push_new(starts, &mut seen, &mut waiting)?;
+    while let Some(region) = waiting.pop() {
+        let entered = entered_blocks(alloc, ctx, region)?;
+        let nested = nested_regions(alloc, ctx, &entered)?;
+        push_new(&nested, &mut seen, &mut waiting)?;
+        if region.has_ssa_dominance(ctx) {
+            regions.push(region)?;
+            blocks.extend_from_slice(&entered)?;
+        }
+    }
+    Ok(Visits { regions, blocks })
+}
+
+/// What a call on the operation looks at.
+///
+/// Asks that the operation stands and that edges stand last in it. Errors: want of memory. Cost: linear in
+/// the blocks, edges and operations that it looks at, with one table look-up for each edge and each visited
+/// region.
+pub fn visits_inside_op(
+    alloc: Global,
+    ctx: &Context,
+    op: Ptr<Operation>,
+) -> Result<Visits, OptError>
+    requires live { IsLive ctx.now.tree op }
+    requires edges { EdgesLast ctx.now.tree op }
+    ensures visits { IfOk result (λ v. AreVisits ctx.now.tree (OfOperation op ctx.now.tree) v.regions.items v.blocks.items) }
+    ensures memory { IsOkUnless result OptError.Memory }
+{
+    ctx.well_formed();
+    let mut starts = Vec::new(alloc);
+    push_regions(ctx, op, &mut starts)?;
+    visit(alloc, ctx, &starts)
+}
+
+/// What a call on the block looks at: the regions of its operations, and so on down.
+///
+/// Asks that the block stands and that edges stand last in what holds it. Errors: as [`visits_inside_op`].
+/// Cost: as [`visits_inside_op`].
+pub fn visits_inside_block(
+    alloc: Global,
+    ctx: &Context,
+    block: Ptr<BasicBlock>,
+) -> Result<Visits, OptError>
+    requires block { IsBlock ctx.now.tree block }
+    requires edges { (holder : ℕ) → block_holder_of ctx.now.tree block ≡ Some holder → EdgesLast ctx.now.tree holder }
+    ensures visits { IfOk result (λ v. AreVisits ctx.now.tree (OfBlock block ctx.now.tree) v.regions.items v.blocks.items) }
+    ensures memory { IsOkUnless result OptError.Memory }
+{
+    ctx.well_formed();
+    let mut starts = Vec::new(alloc);
+    push_nested(alloc, ctx, block, &mut starts)?;
+    visit(alloc, ctx, &starts)
+}
+
+/// What a call on the region looks at: the region itself, and so on down.
+///
+/// Asks that the region stands and that edges stand last in what holds it. Errors: as [`visits_inside_op`].
+/// Cost: as [`visits_inside_op`].
+pub fn visits_inside_region(
+    alloc: Global,
+    ctx: &Context,
+    region: Ptr<Region>,
+) -> Result<Visits, OptError>
+    requires region { IsRegion ctx.now.tree region }
+    requires edges { (holder : ℕ) → region_parent_of ctx.now.tree region ≡ Some holder → EdgesLast ctx.now.tree holder }
+    ensures visits { IfOk result (λ v. AreVisits ctx.now.tree (OfRegion region ctx.now.tree) v.regions.items v.blocks.items) }
+    ensures memory { IsOkUnless result OptError.Memory }
+{
+    ctx.well_formed();
+    let mut starts = Vec::new(alloc);
+    starts.push(region)?;
+    visit(alloc, ctx, &starts)
+}

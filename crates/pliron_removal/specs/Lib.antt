@@ -1,2 +1,0 @@
-pub mod Removed
-pub mod Internal

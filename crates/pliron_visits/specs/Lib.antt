@@ -1,3 +1,0 @@
-pub mod Visited
-pub mod Visits
-pub mod Internal
