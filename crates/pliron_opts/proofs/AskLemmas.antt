@@ -1,6 +1,6 @@
 -- What words ask for.
 use Rattle.std.proofs.Common.{◌≡◌, ℕ, Bool, List, [], ◌∷◌, Option, length, get_or, sym, ap, subst, arith}
-use Rattle.pliron_program.specs.Plans.{IsPlan}
+use Rattle.pliron_opts.specs.Plans.{IsPlan}
 use Rattle.pliron_pipeline.specs.declared.step.Pipeline.{Pipeline}
 use Rattle.pliron_pipeline.specs.declared.step.Schedule.{Schedule}
 use Rattle.pliron_opts.specs.Asked.{IsPlanned, is_nested, names_of}

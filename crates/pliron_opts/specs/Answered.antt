@@ -10,8 +10,8 @@ use Rattle.pliron_pass.specs.declared.bench_facts.BenchFactKind.{BenchFactKind}
 use Rattle.pliron_pass.specs.declared.bench_facts.BenchFacts.{BenchFacts}
 use Rattle.pliron_pipeline.specs.Headline.{DoAsBefore}
 use Rattle.pliron_pipeline.specs.declared.step.Schedule.{Schedule}
-use Rattle.pliron_opts.specs.declared.command.Command.{Command}
-use Rattle.pliron_opts.specs.declared.command.Command.TheVariants.{Optimise, Graph}
+use Rattle.pliron_opts.specs.declared.optimise.command.Command.{Command}
+use Rattle.pliron_opts.specs.declared.optimise.command.Command.TheVariants.{Optimise, Graph}
 
 -- what a notation reads of a text: a tree and its operation; and what it prints of an operation
 abbrev pub Reads : Type 1

@@ -1,13 +1,13 @@
 -- What words ask the program for.
 use Rattle.std.specs.Prelude.{◌≡◌, ℕ, Bool, true, false, List, [], ◌∷◌, Option, map, codes}
-use Rattle.pliron_program.specs.Plans.{IsPlan}
+use Rattle.pliron_opts.specs.Plans.{IsPlan}
 use Rattle.pliron_pipeline.specs.Steps.{step_name}
 use Rattle.pliron_pipeline.specs.declared.step.Pipeline.{Pipeline}
 use Rattle.pliron_pipeline.specs.declared.step.Pipeline.TheVariants.{Flat, Nested}
 use Rattle.pliron_pipeline.specs.declared.step.Schedule.{Schedule}
 use Rattle.pliron_opts.specs.Ran.{IsScheduled}
-use Rattle.pliron_opts.specs.declared.command.Command.{Command}
-use Rattle.pliron_opts.specs.declared.command.Command.TheVariants.{Optimise, Graph}
+use Rattle.pliron_opts.specs.declared.optimise.command.Command.{Command}
+use Rattle.pliron_opts.specs.declared.optimise.command.Command.TheVariants.{Optimise, Graph}
 
 -- whether it is run on each operation directly inside
 abbrev pub is_nested : {D E B K : Type 0} → Pipeline D E B K → Bool

@@ -1,3 +1,5 @@
+pub mod Ending
+pub mod Plans
 pub mod Ran
 pub mod Asked
 pub mod Answered

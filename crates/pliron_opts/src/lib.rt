@@ -4,22 +4,114 @@
 //! texts, arguments and streams.
 #![tactic(auto)]
 
-mod answer;
-mod command;
-mod graph_lines;
-mod notation;
-mod numbered_graph;
+ghost use Rattle.std.specs.Prelude.{map, IfOk, IfSome, string_bytes};
+ghost use Rattle.pliron_bench.specs.BenchMoves.{bench};
+ghost use Rattle.pliron_opts.specs.Answered.{Answers};
+ghost use Rattle.pliron_opts.specs.Asked.{AskFor};
+ghost use Rattle.pliron_opts.specs.Ending.{IsAnswer, Ends};
+ghost use Rattle.pliron_opts.specs.Ran.{RunsAlone};
+ghost use Rattle.pliron_opts.specs.Read.{ReadsBench, PrintsBench};
+
+mod graph;
+mod optimise;
 mod program;
 
-pub use notation::{BenchNotation, Notation};
+use graph::described;
+pub use optimise::{BenchNotation, Notation};
+use optimise::{Command, asked, optimised};
+use pliron_bench::Bench;
 pub use pliron_cfg::{
     merge_inside_block, merge_inside_op, merge_inside_region, remove_blocks_inside_block,
     remove_blocks_inside_op, remove_blocks_inside_region, simplify_cfg,
 };
 pub use pliron_dce::dce;
 pub use pliron_laws::OptError;
+use pliron_pass::{BenchFactKind, BenchFacts, Pass};
 pub use pliron_pipeline::{
     DCEPass, Pipeline, SCCPPass, Schedule, SimplifyCFGPass, Step, run_pipeline,
 };
 pub use pliron_sccp::{sccp, sccp_counted};
-pub use program::{plir_run, run_optimiser};
+use program::{Failure, MAX_TEXT, read_input, write_answer};
+use std::alloc::Global;
+use std::io::{Read, Write};
+
+/// What the command answers to the input, if that is readable.
+fn answer<N: Notation>(
+    alloc: Global,
+    command: Command<N::D>,
+    text: &[u8],
+) -> Result<Option<String>, OptError>
+    ensures { IfOk result (λ found. IfSome found (λ answer. Answers N.reads N.prints N.D.meaning (RunsAlone ⟦<BenchFactKind as PartialEq>⟧.eq ⟦<Schedule<N::D, BenchFacts> as Pass>⟧.outcome) command text.now (string_bytes answer))) }
+{
+    match command {
+        Command::Optimise(schedule) => optimised::<N>(alloc, schedule, text),
+        Command::Graph => described(alloc, text),
+    }
+}
+
+/// What is to be written for the words and the input.
+fn answered<N: Notation, R: Read>(
+    alloc: Global,
+    words: &[String],
+    input: &mut R,
+) -> Result<String, Failure>
+    ensures { IfOk result (λ answer. IsAnswer AskFor (Answers N.reads N.prints N.D.meaning (RunsAlone ⟦<BenchFactKind as PartialEq>⟧.eq ⟦<Schedule<N::D, BenchFacts> as Pass>⟧.outcome)) (map string_bytes words.now) (R.remaining input.old) (string_bytes answer)) }
+{
+    let Some(command) = asked(alloc, words)? else {
+        return Err(Failure::Arguments);
+    };
+    let text = read_input(alloc, input)?;
+    if text.len() > MAX_TEXT {
+        return Err(Failure::Text);
+    }
+    match answer::<N>(alloc, command, &text)? {
+        Some(answer) => Ok(answer),
+        None => Err(Failure::Text),
+    }
+}
+
+/// Runs the program over the texts of a notation, on the words after its name and these streams, and
+/// answers its status.
+///
+/// For every dialect that keeps its laws and every notation of it: an answer to a schedule of passes is a
+/// tree printed, and a line that says truly whether it changed. The tree is what these passes, run once as
+/// a whole, made of one that was read from the whole input, and every operation that was fit to run and
+/// still stands does as before.
+///
+/// Faults are found in this order: arguments, reading, text, passes and printing, writing. Nothing is
+/// written to `output` before the whole answer is known. Statuses: 0; 1 where memory or the passes were
+/// refused, with empty output; 2 for the rest; each but 0 with a line on `errors`. A failed write to
+/// `errors` is ignored. Cost: reading and printing, and that of the passes.
+pub fn run_optimiser<N: Notation, R: Read, W: Write, E: Write>(
+    alloc: Global,
+    args: &[String],
+    input: &mut R,
+    output: &mut W,
+    errors: &mut E,
+) -> u8
+    ensures { Ends (IsAnswer AskFor (Answers N.reads N.prints N.D.meaning (RunsAlone ⟦<BenchFactKind as PartialEq>⟧.eq ⟦<Schedule<N::D, BenchFacts> as Pass>⟧.outcome)) (map string_bytes args.now) (R.remaining input.old)) (W.contents output.old) (W.contents output.new) result }
+{
+    match answered::<N, R>(alloc, args, input) {
+        Ok(answer) => match write_answer(answer.as_bytes(), output) {
+            Ok(()) => 0,
+            Err(failure) => failure.report(errors),
+        },
+        Err(failure) => failure.report(errors),
+    }
+}
+
+/// Runs the program `plir_opt` on the words after its name and these streams, and answers its status: that
+/// of `run_optimiser` over the notation of the dialect `Bench`.
+///
+/// Cost: reading and printing, linear in the text, and that of the passes.
+pub fn plir_run<R: Read, W: Write, E: Write>(
+    alloc: Global,
+    args: &[String],
+    input: &mut R,
+    output: &mut W,
+    errors: &mut E,
+) -> u8
+    ensures { Ends (IsAnswer AskFor (Answers ReadsBench PrintsBench bench (RunsAlone ⟦<BenchFactKind as PartialEq>⟧.eq ⟦<Schedule<Bench, BenchFacts> as Pass>⟧.outcome)) (map string_bytes args.now) (R.remaining input.old)) (W.contents output.old) (W.contents output.new) result }
+{
+    run_optimiser::<BenchNotation, R, W, E>(alloc, args, input, output, errors)
+}

@@ -1,0 +1,8 @@
+//! The optimisation of a text: what the words ask for, how texts are read and printed, and what is answered.
+mod answer;
+mod command;
+mod notation;
+
+pub use answer::optimised;
+pub use command::{Command, asked};
+pub use notation::{BenchNotation, Notation};

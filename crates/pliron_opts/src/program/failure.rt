@@ -1,0 +1,49 @@
+//! Why a program ends without an answer.
+ghost use Rattle.std.specs.Prelude.{◌≡◌};
+ghost use Rattle.pliron_opts.specs.Ending.{status_of};
+
+use pliron_laws::OptError;
+use std::alloc::AllocError;
+use std::io::Write;
+use thiserror::Error;
+
+/// Why the program ends without an answer.
+#[derive(Clone, Copy, Debug, Drop, PartialEq, Eq, Error)]
+pub enum Failure {
+    #[error("usage: plir_opt LIST, or plir_opt graph")]
+    Arguments,
+    #[error("cannot read standard input")]
+    Reading,
+    #[error("unreadable text")]
+    Text,
+    #[error("refused: {0}")]
+    Refused(OptError),
+    #[error("cannot write standard output")]
+    Writing,
+}
+
+impl From<OptError> for Failure {
+    fn from(error: OptError) -> Self {
+        Failure::Refused(error)
+    }
+}
+
+impl From<AllocError> for Failure {
+    fn from(_: AllocError) -> Self {
+        Failure::Refused(OptError::Memory)
+    }
+}
+
+impl Failure {
+    /// Writes a line that says why, and answers the status. A failed write is ignored. Cost: writing the
+    /// line.
+    pub fn report<E: Write>(self, errors: &mut E) -> u8
+        ensures { result ≡ status_of self }
+    {
+        let _ = writeln!(errors, "{self}");
+        match self {
+            Failure::Refused(_) => 1,
+            _ => 2,
+        }
+    }
+}
