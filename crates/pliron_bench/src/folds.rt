@@ -32,7 +32,8 @@ fn constant(number: Option<i64>) -> Option<AttrObj>
     }
 }
 
-// The constant of the result of an operation that folds, where it is known.
+/// The constant of the result of an operation that folds, where it is known. Errors: want of memory. Cost:
+/// constant, but for the copy of a `const`'s attribute.
 pub fn answer_of(
     alloc: Global,
     kind: BenchKind,
@@ -59,7 +60,7 @@ pub fn answer_of(
     }
 }
 
-// The answer for an operation with one result.
+/// The answer for an operation with one result. Errors: want of memory. Cost: constant.
 pub fn one_answer(
     alloc: Global,
     answer: Option<AttrObj>,
@@ -71,7 +72,7 @@ pub fn one_answer(
     Ok(answers)
 }
 
-// Whether the operation is a `const`.
+/// Whether the operation is a `const`. Asks that the operation stands (`is_live` tests it). Cost: constant.
 pub fn makes_constant(op: Ptr<Operation>, ctx: &Context) -> bool
     requires { IsLive ctx.now.tree op }
     ensures { ReadsHead (λ h. is_constant (kind_of h.kind)) ctx.now.tree op result }

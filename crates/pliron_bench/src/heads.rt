@@ -6,7 +6,7 @@ use crate::kind::BenchKind;
 use pliron_core::{AttrObj, Attrs, Head};
 use std::alloc::{AllocFailed, Global};
 
-/// The head of an operation without attributes. Takes no memory.
+/// The head of an operation without attributes. Takes no memory. Cost: constant.
 pub fn plain_head(alloc: Global, kind: BenchKind) -> Head
     ensures { result ≡ head_without kind }
 {
@@ -17,7 +17,7 @@ pub fn plain_head(alloc: Global, kind: BenchKind) -> Head
     }
 }
 
-/// The head of an operation with one attribute. Errors: want of memory.
+/// The head of an operation with one attribute. Errors: want of memory. Cost: constant.
 pub fn attribute_head(
     alloc: Global,
     kind: BenchKind,

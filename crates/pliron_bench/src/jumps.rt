@@ -18,14 +18,14 @@ use crate::tables::kind_at;
 use pliron_core::{AttrObj, Attrs, BasicBlock, Context, Operation, Ptr, Value};
 use std::alloc::{AllocFailed, Global};
 
-// Places in a row: the first one, and how many there are.
+/// Places in a row: the first one, and how many there are.
 #[derive(Clone, Copy)]
 pub struct Places {
     pub first: usize,
     pub count: usize,
 }
 
-// How many operands the first edge of a `cbr` forwards, at most so many.
+/// How many operands the first edge of a `cbr` forwards, at most so many. Cost: constant.
 pub fn first_edge_count(attrs: &Attrs, most: usize) -> usize
     ensures { result ≡ min (first_count_of attrs.now) most }
 {
@@ -77,7 +77,8 @@ fn places_in_kind(kind: BenchKind, attrs: &Attrs, operands: usize, i: usize) -> 
     }
 }
 
-// The places of the operands that an edge forwards.
+/// The places of the operands that an edge forwards. Asks that the operation stands (`is_live` tests it).
+/// Cost: constant.
 pub fn places_at(op: Ptr<Operation>, ctx: &Context, i: usize) -> Places
     requires { IsLive ctx.now.tree op }
     ensures places { ReadsHead (λ h. by_kind no_places_in places_in (kind_of h.kind) h.attrs (length (operands_of ctx.now.tree op)) i) ctx.now.tree op (range_with_len result.first result.count) }
@@ -90,7 +91,8 @@ pub fn places_at(op: Ptr<Operation>, ctx: &Context, i: usize) -> Places
     }
 }
 
-// The operands at these places.
+/// The operands at these places. Asks that the operation stands and has operands at them, and that the place
+/// after the last is a `usize`. Errors: want of memory. Cost: the number of places.
 pub fn operands_at(
     alloc: Global,
     op: Ptr<Operation>,
@@ -109,7 +111,8 @@ pub fn operands_at(
     Ok(values)
 }
 
-// The operand at place `j` of these, if there are so many.
+/// The operand at place `j` of these, if there are so many. Asks that the operation stands and has operands
+/// at them, and that the place after the last is a `usize`. Cost: constant.
 pub fn operand_among(op: Ptr<Operation>, ctx: &Context, places: Places, j: usize) -> Option<Value>
     requires live { IsLive ctx.now.tree op }
     requires within { (k : ℕ) → k < places.count → places.first + k < length (operands_of ctx.now.tree op) }
@@ -123,7 +126,8 @@ pub fn operand_among(op: Ptr<Operation>, ctx: &Context, places: Places, j: usize
     }
 }
 
-// The successors, in order.
+/// The successors, in order. Asks that the operation stands (`is_live` tests it). Errors: want of memory.
+/// Cost: the number of successors.
 pub fn all_successors(
     alloc: Global,
     op: Ptr<Operation>,
@@ -139,7 +143,8 @@ pub fn all_successors(
     Ok(blocks)
 }
 
-// The successor at this index alone, if there is one.
+/// The successor at this index alone, if there is one. Asks that the operation stands (`is_live` tests it).
+/// Errors: want of memory. Cost: constant.
 pub fn only_successor(
     alloc: Global,
     op: Ptr<Operation>,
@@ -172,7 +177,8 @@ fn one_fewer(attr: &AttrObj) -> AttrObj
     }
 }
 
-// A `cbr` counts one operand fewer, if this is its first edge; another operation stays as it is.
+/// A `cbr` counts one operand fewer, if this is its first edge; another operation stays as it is. Asks that
+/// the operation stands (`is_live` tests it). Cost: constant.
 pub fn shorten(op: Ptr<Operation>, ctx: &mut Context, i: usize)
     requires { IsLive ctx.old.tree op }
     ensures head { (h : HeadOf) → head_of ctx.old.tree op ≡ Some h → ctx.new.tree ≡ with_head ctx.old.tree op (by_kind as_it_is shortened_of (kind_of h.kind) h i) }

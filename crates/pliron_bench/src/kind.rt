@@ -24,7 +24,7 @@ pub enum BenchKind {
 }
 
 impl BenchKind {
-    /// The kind that a word names.
+    /// The kind that a word names. Cost: constant.
     pub fn from_word(word: &[u8]) -> Option<BenchKind> {
         match word {
             b"mod" => Some(BenchKind::Mod),
@@ -47,7 +47,7 @@ impl BenchKind {
         }
     }
 
-    /// The word that names the kind.
+    /// The word that names the kind. Cost: constant.
     pub fn word(self) -> &'static str {
         match self {
             BenchKind::Mod => "mod",
@@ -69,7 +69,7 @@ impl BenchKind {
         }
     }
 
-    /// The number of the kind in a head.
+    /// The number of the kind in a head. Cost: constant.
     pub fn number(self) -> u32
         ensures { result ≡ number_of self }
     {
@@ -93,7 +93,7 @@ impl BenchKind {
         }
     }
 
-    /// The kind that a head's number names, if it is one.
+    /// The kind that a head's number names, if it is one. Cost: constant.
     #[tactic(auto, unfolding(crate::specs::Bench::kind_of))]
     pub fn from_number(number: u32) -> Option<BenchKind>
         ensures { result ≡ kind_of number }
@@ -121,7 +121,7 @@ impl BenchKind {
         }
     }
 
-    /// Whether definitions dominate uses in the regions of an operation of the kind.
+    /// Whether definitions dominate uses in the regions of an operation of the kind. Cost: constant.
     pub fn is_ssa(self) -> bool
         ensures { result ≡ is_ssa self }
     {
@@ -131,7 +131,7 @@ impl BenchKind {
         }
     }
 
-    /// How many results an operation of the kind has.
+    /// How many results an operation of the kind has. Cost: constant.
     pub fn result_count(self) -> usize
         ensures { result ≡ result_count self }
     {
@@ -143,7 +143,7 @@ impl BenchKind {
         }
     }
 
-    /// How many regions an operation of the kind has.
+    /// How many regions an operation of the kind has. Cost: constant.
     pub fn region_count(self) -> usize
         ensures { result ≡ region_count self }
     {
@@ -153,7 +153,7 @@ impl BenchKind {
         }
     }
 
-    /// How many successors an operation of the kind has.
+    /// How many successors an operation of the kind has. Cost: constant.
     pub fn successor_count(self) -> usize
         ensures { result ≡ successor_count self }
     {
@@ -164,7 +164,7 @@ impl BenchKind {
         }
     }
 
-    /// Whether operations of the kind stand in a `mod` or alone.
+    /// Whether operations of the kind stand in a `mod` or alone. Cost: constant.
     pub fn is_top(self) -> bool
         ensures { IsTrue result → IsTop self }
     {

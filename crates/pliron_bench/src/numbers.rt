@@ -8,7 +8,7 @@ ghost use Rattle.pliron_bench.specs.BenchMoves.{edge_of as edge_in};
 
 use pliron_core::AttrObj;
 
-// What is left of the number in 64 signed bits.
+/// What is left of the number in 64 signed bits. Cost: constant.
 pub fn wrapped(number: i128) -> i64
     ensures { result ≡ int_wrap w64 number }
 {
@@ -33,7 +33,7 @@ fn as_number(attr: &AttrObj) -> i64
     }
 }
 
-// Whether the attribute is a number within 64 signed bits.
+/// Whether the attribute is a number within 64 signed bits. Cost: constant.
 pub fn is_number(attr: &AttrObj) -> bool
     ensures { result ≡ is_number_within attr.now }
 {
@@ -43,7 +43,7 @@ pub fn is_number(attr: &AttrObj) -> bool
     }
 }
 
-// The number that is known of the operand at this index.
+/// The number that is known of the operand at this index. Cost: constant.
 pub fn known_number(operand_attrs: &[Option<AttrObj>], i: usize) -> Option<i64>
     ensures { result ≡ known_at operand_attrs.now i }
 {
@@ -56,7 +56,7 @@ pub fn known_number(operand_attrs: &[Option<AttrObj>], i: usize) -> Option<i64>
     }
 }
 
-// The sum, where both are known.
+/// The sum, where both are known. Cost: constant.
 pub fn known_sum(a: Option<i64>, b: Option<i64>) -> Option<i64>
     ensures { result ≡ sum_known a b }
 {
@@ -66,14 +66,14 @@ pub fn known_sum(a: Option<i64>, b: Option<i64>) -> Option<i64>
     }
 }
 
-// The wrapped sum.
+/// The wrapped sum. Cost: constant.
 pub fn sum(a: i64, b: i64) -> i64
     ensures { result ≡ sum_of a b }
 {
     a.wrapping_add(b)
 }
 
-// The product, where both are known or one of them is known to be 0.
+/// The product, where both are known or one of them is known to be 0. Cost: constant.
 pub fn known_product(a: Option<i64>, b: Option<i64>) -> Option<i64>
     ensures { result ≡ product_known a b }
 {
@@ -85,7 +85,7 @@ pub fn known_product(a: Option<i64>, b: Option<i64>) -> Option<i64>
     }
 }
 
-// The wrapped product.
+/// The wrapped product. Cost: constant.
 pub fn product(a: i64, b: i64) -> i64
     ensures { result ≡ product_of a b }
 {
@@ -99,7 +99,7 @@ fn zero_only(number: i64) -> Option<i64>
     if number == 0 { Some(0) } else { None }
 }
 
-// The quotient cut toward zero, where both are known and the division doesn't trap.
+/// The quotient cut toward zero, where both are known and the division doesn't trap. Cost: constant.
 pub fn known_quotient(a: Option<i64>, b: Option<i64>) -> Option<i64>
     ensures { result ≡ quotient_known a b }
 {
@@ -109,21 +109,21 @@ pub fn known_quotient(a: Option<i64>, b: Option<i64>) -> Option<i64>
     }
 }
 
-// The quotient cut toward zero, unless b is 0 or the quotient doesn't fit.
+/// The quotient cut toward zero, unless b is 0 or the quotient doesn't fit. Cost: constant.
 pub fn quotient(a: i64, b: i64) -> Option<i64>
     ensures { result ≡ quotient_in a b }
 {
     a.checked_div(b)
 }
 
-// The edge that a `cbr` with this condition takes.
+/// The edge that a `cbr` with this condition takes. Cost: constant.
 pub fn edge_of(condition: i64) -> usize
     ensures { result ≡ edge_in condition }
 {
     if condition == 0 { 1 } else { 0 }
 }
 
-// How many operands the attribute counts, at most so many.
+/// How many operands the attribute counts, at most so many. Cost: constant.
 pub fn count_up_to(attr: &AttrObj, most: usize) -> usize
     ensures { result ≡ min (count_of attr.now) most }
 {

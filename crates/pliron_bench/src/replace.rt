@@ -65,8 +65,12 @@ fn put_jump<R: Rewriter>(
     Ok(())
 }
 
-// A `br` to the target of this edge, with the values that the edge forwards, comes in the place of the
-// operation: wholly or not at all.
+/// A `br` to the target of this edge, with the values that the edge forwards, comes in the place of the
+/// operation: wholly or not at all.
+///
+/// Asks that the operation stands in a block, has such an edge, and has no results and no regions, and that
+/// the rewriter inserts before it. Errors: want of memory, which leaves the tree as it was but for spent
+/// keys. Cost: linear in the operation's operands and successors, and what the rewriter's listener costs.
 pub fn jump_in_place<R: Rewriter + Room>(
     alloc: Global,
     op: Ptr<Operation>,

@@ -11,7 +11,8 @@ use crate::numbers::is_number;
 use pliron_core::{AttrObj, Attrs, BasicBlock, Context, Head, Operation, Ptr};
 use pliron_laws::Interface;
 
-// The kind of the operation, if it is one of this dialect.
+/// The kind of the operation, if it is one of this dialect. Asks that the operation stands (`is_live` tests
+/// it). Cost: constant.
 pub fn kind_at(op: Ptr<Operation>, ctx: &Context) -> Option<BenchKind>
     requires { IsLive ctx.now.tree op }
     ensures { ReadsHead (λ h. kind_of h.kind) ctx.now.tree op result }

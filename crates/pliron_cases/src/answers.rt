@@ -4,7 +4,8 @@ use pliron_core::{Context, Operation, Ptr};
 use pliron_meaning::{Dialect, Interface};
 use std::alloc::Global;
 
-/// The answer on side effects; none where the dialect doesn't admit the operation.
+/// The answer on side effects; none where the dialect doesn't admit the operation. Cost: constant, and the
+/// dialect's answer.
 pub fn effects<D: Dialect>(alloc: Global, ctx: &Context, op: Ptr<Operation>) -> Option<String> {
     if !op.is_live(ctx) || !D::admits(op, ctx) {
         return None;
@@ -12,7 +13,8 @@ pub fn effects<D: Dialect>(alloc: Global, ctx: &Context, op: Ptr<Operation>) -> 
     format!(in alloc; "{:?}", D::has_side_effects(op, ctx)).ok()
 }
 
-/// The interfaces that the operation implements, a blank before each.
+/// The interfaces that the operation implements, a blank before each. Cost: one answer of the dialect for
+/// each interface.
 pub fn interfaces<D: Dialect>(alloc: Global, ctx: &Context, op: Ptr<Operation>) -> Option<String> {
     let all = [
         Interface::SideEffects,
@@ -34,7 +36,8 @@ pub fn interfaces<D: Dialect>(alloc: Global, ctx: &Context, op: Ptr<Operation>) 
     Some(names)
 }
 
-/// Whether arguments of the block with this index in the operation may be removed.
+/// Whether arguments of the block with this index in the operation may be removed. Cost: the index, and the
+/// dialect's answer.
 pub fn removable<D: Dialect>(
     alloc: Global,
     ctx: &Context,

@@ -9,22 +9,23 @@ use pliron_core::{AttrObj, BasicBlock, Context, Operation, Ptr, Text};
 use pliron_meaning::bench::{print_text, read_text};
 use std::alloc::{AllocError, Global};
 
-/// Both sides of a case.
+/// Both sides of a case. Cost: linear in the line.
 pub fn sides<'t>(line: &'t str) -> Option<(&'t str, &'t str)> {
     line.split_once(" => ")
 }
 
-/// The first two fields.
+/// The first two fields. Cost: linear in the case.
 pub fn fields<'t>(case: &'t str) -> Option<(&'t str, &'t str)> {
     case.split_once(" / ")
 }
 
-/// A number for a place or a count.
+/// A number for a place or a count. Cost: linear in the word.
 pub fn number(word: &str) -> Option<usize> {
     word.parse::<usize>().ok()
 }
 
-/// What is known of an operand: a number, a text behind an apostrophe, or nothing behind `?`.
+/// What is known of an operand: a number, a text behind an apostrophe, or nothing behind `?`. Errors: want of
+/// memory. Cost: linear in the word.
 pub fn known(alloc: Global, word: &str) -> Result<Option<AttrObj>, AllocError> {
     match word.strip_prefix('\'') {
         Some(text) => {
@@ -38,7 +39,7 @@ pub fn known(alloc: Global, word: &str) -> Result<Option<AttrObj>, AllocError> {
     }
 }
 
-/// What is known of several operands.
+/// What is known of several operands. Errors: want of memory. Cost: linear in the words.
 pub fn all_known(alloc: Global, words: &str) -> Result<Vec<Option<AttrObj>>, AllocError> {
     let mut all = Vec::new(alloc);
     for word in words.split_ascii_whitespace() {
@@ -47,7 +48,8 @@ pub fn all_known(alloc: Global, words: &str) -> Result<Vec<Option<AttrObj>>, All
     Ok(all)
 }
 
-/// The operation of the text, in no block; none where the text is unreadable or memory is refused.
+/// The operation of the text, in no block; none where the text is unreadable or memory is refused. Cost:
+/// linear in the text.
 pub fn read(alloc: Global, ctx: &mut Context, text: &str) -> Option<Ptr<Operation>>
     ensures live { IfSome result (λ root. IsLive ctx.new.tree root) }
     ensures linked { IfSome result (λ root. IsWellLinked bench ctx.new.tree root) }
@@ -55,7 +57,7 @@ pub fn read(alloc: Global, ctx: &mut Context, text: &str) -> Option<Ptr<Operatio
     read_text(alloc, text.as_bytes(), ctx).ok()?
 }
 
-/// The line of the operation, which stands.
+/// The line of the operation; none where it doesn't stand or memory is refused. Cost: linear in the line.
 pub fn line(alloc: Global, ctx: &Context, root: Ptr<Operation>) -> Option<String> {
     if !root.is_live(ctx) {
         return None;
@@ -63,7 +65,7 @@ pub fn line(alloc: Global, ctx: &Context, root: Ptr<Operation>) -> Option<String
     print_text(alloc, root, ctx).ok()
 }
 
-/// The block with this index in the only region of the operation.
+/// The block with this index in the only region of the operation. Cost: the index.
 pub fn block_of(ctx: &Context, op: Ptr<Operation>, index: usize) -> Option<Ptr<BasicBlock>> {
     if !op.is_live(ctx) || op.num_region(ctx) != 1 {
         return None;
@@ -78,7 +80,7 @@ pub fn block_of(ctx: &Context, op: Ptr<Operation>, index: usize) -> Option<Ptr<B
     Some(block)
 }
 
-/// The operation with this index in the first block, or the root itself at the place `root`.
+/// The operation with this index in the first block, or the root itself at the place `root`. Cost: the index.
 pub fn operation_at(ctx: &Context, root: Ptr<Operation>, place: &str) -> Option<Ptr<Operation>> {
     if place == "root" {
         return Some(root);

@@ -17,7 +17,7 @@ pub struct Counting {
 }
 
 impl Counting {
-    /// There is no room yet, and no insertion point.
+    /// There is no room yet, and no insertion point. Cost: constant.
     pub fn new() -> Self {
         Counting {
             rewriter: IRRewriter::new(),
@@ -26,7 +26,7 @@ impl Counting {
         }
     }
 
-    /// There was room for each change that came.
+    /// There was room for each change that came. Cost: constant.
     pub fn had_room(&self) -> bool {
         self.missing == 0
     }

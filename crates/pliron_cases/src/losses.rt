@@ -4,7 +4,8 @@ use pliron_meaning::{Dialect, OptError, lose_forwarded};
 use std::alloc::Global;
 
 /// Takes out the value at place j that the branch forwards along edge i, and answers it; none where it
-/// forwards no such value. Errors: want of memory, which changes nothing.
+/// forwards no such value. Errors: want of memory, which changes nothing. Cost: linear in the values that the
+/// branch forwards, and the dialect's removal.
 pub fn lose<D: Dialect>(
     alloc: Global,
     ctx: &mut Context,
@@ -23,9 +24,9 @@ pub fn lose<D: Dialect>(
     Ok(Some(value))
 }
 
-/// The only edge to the operation's first successor, which is the answer, loses the operand that it
-/// forwards at place j, if it has one; none where there is no such edge. Errors: want of memory, which
-/// changes nothing.
+/// The only edge to the operation's first successor, which is the answer, loses the operand that it forwards
+/// at place j, if it has one; none where there is no such edge. Errors: want of memory, which changes
+/// nothing. Cost: linear in the values that the edge forwards, and the dialect's removal.
 pub fn lose_along<D: Dialect>(
     alloc: Global,
     ctx: &mut Context,

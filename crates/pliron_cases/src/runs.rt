@@ -14,7 +14,7 @@ fn data(alloc: Global, numbers: &[i128]) -> Result<Vec<Datum>, AllocError> {
 }
 
 /// What is seen of the run of the operation on these inputs, in the world with these answers, up to so many
-/// moves.
+/// moves. Errors: want of memory. Cost: that of `evaluate`, and linear in inputs and answers.
 pub fn seen(
     alloc: Global,
     ctx: &Context,

@@ -24,7 +24,7 @@ pub struct Made {
 }
 
 impl Made {
-    /// Nothing yet.
+    /// Nothing yet. Cost: constant.
     pub fn new(alloc: Global) -> Self {
         Made {
             operations: Vec::new(alloc),
@@ -33,14 +33,17 @@ impl Made {
         }
     }
 
+    /// The operation with the number that the word has, if one was made. Cost: linear in the word.
     pub fn operation(&self, word: &str) -> Option<Ptr<Operation>> {
         self.operations.get(number(word)?).copied()
     }
 
+    /// The block with the number that the word has, if one was made. Cost: linear in the word.
     pub fn block(&self, word: &str) -> Option<Ptr<BasicBlock>> {
         self.blocks.get(number(word)?).copied()
     }
 
+    /// The value with the number that the word has, if one was made. Cost: linear in the word.
     pub fn value(&self, word: &str) -> Option<Value> {
         self.values.get(number(word)?).copied()
     }
@@ -149,7 +152,8 @@ fn step(alloc: Global, ctx: &mut Context, made: &mut Made, text: &str) -> Option
     Some(())
 }
 
-/// Does the steps, which `; ` sets apart.
+/// Does the steps, which `; ` sets apart; none where one can't be read or done. Cost: linear in the text, and
+/// what the steps do.
 pub fn make(alloc: Global, ctx: &mut Context, made: &mut Made, steps: &str) -> Option<()> {
     for text in steps.split(';') {
         step(alloc, ctx, made, text.trim())?;
@@ -157,7 +161,8 @@ pub fn make(alloc: Global, ctx: &mut Context, made: &mut Made, steps: &str) -> O
     Some(())
 }
 
-/// Does the steps behind a number, and answers the operation with this number.
+/// Does the steps behind a number, and answers the operation with this number. Cost: linear in the text, and
+/// what the steps do.
 pub fn build(alloc: Global, ctx: &mut Context, case: &str) -> Option<Ptr<Operation>> {
     let (index, steps) = fields(case)?;
     let mut made = Made::new(alloc);

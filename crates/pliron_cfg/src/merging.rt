@@ -114,8 +114,10 @@ pub fn merge_inside_op<D: Dialect, R: Rewriter + Room>(
     merge_among::<D, R>(alloc, &visits.blocks, ctx, rewriter)
 }
 
-/// Merges pairs of blocks in the regions that it looks at inside the operations of the block. Asks that the
-/// block stands and that what holds it is well linked; answers, errors and costs as [`merge_inside_op`].
+/// Merges pairs of blocks in the regions that it looks at inside the operations of the block.
+///
+/// Asks that the block stands and that what holds it is well linked; answers as [`merge_inside_op`]. Errors:
+/// as [`merge_inside_op`]. Cost: as [`merge_inside_op`].
 pub fn merge_inside_block<D: Dialect, R: Rewriter + Room>(
     alloc: Global,
     block: Ptr<BasicBlock>,
@@ -136,8 +138,10 @@ pub fn merge_inside_block<D: Dialect, R: Rewriter + Room>(
 }
 
 /// Merges pairs of blocks in the region, where it has SSA dominance, and in the regions that it looks at
-/// inside. Asks that the region stands and that what holds it is well linked; answers, errors and costs as
-/// [`merge_inside_op`].
+/// inside.
+///
+/// Asks that the region stands and that what holds it is well linked; answers as [`merge_inside_op`]. Errors:
+/// as [`merge_inside_op`]. Cost: as [`merge_inside_op`].
 pub fn merge_inside_region<D: Dialect, R: Rewriter + Room>(
     alloc: Global,
     region: Ptr<Region>,

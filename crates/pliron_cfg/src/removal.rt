@@ -23,13 +23,13 @@ mod uses;
 use crate::removal::contents::set_of_blocks;
 use crate::removal::region::clear_region;
 use crate::removal::scope::Scope;
+use crate::visits::Visits;
 use indexmap::IndexSet;
 use pliron_block_laws::inside::removing_changes_inside;
 use pliron_block_laws::links::removing_keeps_links;
 use pliron_core::{BasicBlock, Context, IRStatus, Operation, Ptr, Region, Rewriter, change_laws};
 use pliron_laws::{Dialect, OptError, Room};
 use pliron_theory::theory::passes_compose;
-use crate::visits::Visits;
 use std::alloc::Global;
 
 // The status after one more part of the work.
@@ -126,9 +126,10 @@ pub fn remove_blocks_inside_op<D: Dialect, R: Rewriter + Room>(
     remove_blocks_in::<D, R>(alloc, &Scope::Operation(op), ctx, rewriter)
 }
 
-/// Removes the unreachable blocks of the regions with SSA dominance inside the operations of the block. Asks
-/// that the block stands and that what holds it is well linked; answers, errors and costs as
-/// [`remove_blocks_inside_op`].
+/// Removes the unreachable blocks of the regions with SSA dominance inside the operations of the block.
+///
+/// Asks that the block stands and that what holds it is well linked; answers as [`remove_blocks_inside_op`].
+/// Errors: as [`remove_blocks_inside_op`]. Cost: as [`remove_blocks_inside_op`].
 pub fn remove_blocks_inside_block<D: Dialect, R: Rewriter + Room>(
     alloc: Global,
     block: Ptr<BasicBlock>,
@@ -147,8 +148,10 @@ pub fn remove_blocks_inside_block<D: Dialect, R: Rewriter + Room>(
 }
 
 /// Removes the unreachable blocks of the region, where it has SSA dominance, and of the regions with SSA
-/// dominance inside. Asks that the region stands and that what holds it is well linked; answers, errors and
-/// costs as [`remove_blocks_inside_op`].
+/// dominance inside.
+///
+/// Asks that the region stands and that what holds it is well linked; answers as [`remove_blocks_inside_op`].
+/// Errors: as [`remove_blocks_inside_op`]. Cost: as [`remove_blocks_inside_op`].
 pub fn remove_blocks_inside_region<D: Dialect, R: Rewriter + Room>(
     alloc: Global,
     region: Ptr<Region>,

@@ -27,7 +27,8 @@ pub struct Visits {
     pub blocks: Vec<Ptr<BasicBlock>>,
 }
 
-/// The operations of a block, in order. Cost: linear. Errors: want of memory.
+/// The operations of a block, in order. Asks that the block stands (`is_live` tests it). Errors: want of
+/// memory. Cost: linear in them.
 pub fn operations_of(
     alloc: Global,
     ctx: &Context,
@@ -208,8 +209,8 @@ pub fn visits_inside_op(
 
 /// What a call on the block looks at: the regions of its operations, and so on down.
 ///
-/// Asks that the block stands and that edges stand last in what holds it. Errors and cost are those of
-/// [`visits_inside_op`].
+/// Asks that the block stands and that edges stand last in what holds it. Errors: as [`visits_inside_op`].
+/// Cost: as [`visits_inside_op`].
 pub fn visits_inside_block(
     alloc: Global,
     ctx: &Context,
@@ -228,8 +229,8 @@ pub fn visits_inside_block(
 
 /// What a call on the region looks at: the region itself, and so on down.
 ///
-/// Asks that the region stands and that edges stand last in what holds it. Errors and cost are those of
-/// [`visits_inside_op`].
+/// Asks that the region stands and that edges stand last in what holds it. Errors: as [`visits_inside_op`].
+/// Cost: as [`visits_inside_op`].
 pub fn visits_inside_region(
     alloc: Global,
     ctx: &Context,

@@ -17,7 +17,14 @@ use std::marker::Model;
 ///
 /// A block is a user, and its arguments are its targets: where a value stands is read from its use.
 /// What is written of a value says what makes it where it is a result, and what made it where it is
-/// an argument that went.
+/// an argument that went. Here block 0 has the values 1 and 3, value 0 is a result, and value 2 went:
+///
+/// ```text
+/// lists      block 0 -> 1, 3     value 1: used by block 0 at 0     value 3: used by block 0 at 1
+///                                value 0: no use                   value 2: no use
+/// written[0] = result, which holds      written[2] = argument 1 of block 0, as it was when it went
+/// written[1], written[3] = no results; where these stand is read from their uses
+/// ```
 #[derive(Drop)]
 pub struct Arguments {
     lists: Uses,
@@ -37,7 +44,7 @@ impl Model for Arguments {
 }
 
 impl Arguments {
-    /// No blocks and no values. Takes no memory.
+    /// No blocks and no values. Takes no memory. Cost: constant.
     pub fn new(alloc: Global) -> Self
         ensures { result ≡ record { rows = []; definitions = [] } }
     {
@@ -61,7 +68,7 @@ impl Arguments {
         self.written.len()
     }
 
-    /// How many arguments a block has. Cost: constant.
+    /// How many arguments a block has. Asks that there is such a block. Cost: constant.
     pub fn len(&self, block: Ptr<BasicBlock>) -> usize
         requires { block < length self.now.rows }
         ensures { result ≡ length (row_of self.now block) }
@@ -69,7 +76,8 @@ impl Arguments {
         self.lists.num_targets(block.index())
     }
 
-    /// The argument of a block at an index. Cost: constant.
+    /// The argument of a block at an index. Asks that there are such a block and such an argument. Cost:
+    /// constant.
     pub fn get(&self, block: Ptr<BasicBlock>, i: usize) -> Value
         requires block { block < length self.now.rows }
         requires index { i < length (row_of self.now block) }
@@ -150,9 +158,9 @@ impl Arguments {
 
     /// The argument of a block at an index goes. Each later one has the index before.
     ///
-    /// Takes no memory. Cost: the number of arguments between it and the place where the block lost one
-    /// last, and constant for the first; amortised, a constant and at most twice the number of arguments
-    /// after it.
+    /// Asks that there are such a block and such an argument. Takes no memory. Cost: the number of arguments
+    /// between it and the place where the block lost one last, and constant for the first; amortised, a
+    /// constant and at most twice the number of arguments after it.
     pub fn remove(&mut self, block: Ptr<BasicBlock>, i: usize)
         requires block { block < length self.old.rows }
         requires index { i < length (row_of self.old block) }
@@ -165,7 +173,8 @@ impl Arguments {
         self.lists.agree();
     }
 
-    /// All arguments of a block go. Takes no memory. Cost: the number of its arguments.
+    /// All arguments of a block go. Asks that there is such a block. Takes no memory. Cost: the number of its
+    /// arguments.
     pub fn clear(&mut self, block: Ptr<BasicBlock>)
         requires { block < length self.old.rows }
         ensures { self.new ≡ record self.old { rows = slice_set self.old.rows block [] } }

@@ -21,12 +21,14 @@ impl Model for Text {
 }
 
 impl Text {
+    /// The string as a text. Takes no memory. Cost: constant.
     pub fn new(text: String) -> Self
         ensures { result ≡ string_bytes text }
     {
         Text { text }
     }
 
+    /// The text as a string. Cost: constant.
     pub fn as_str(&self) -> &str
         ensures { result.now ≡ self.now }
     {
@@ -100,28 +102,28 @@ impl Model for Attrs {
 }
 
 impl Attrs {
-    /// These attributes. Takes no memory.
+    /// These attributes. Takes no memory. Cost: constant.
     pub fn new(attrs: Vec<AttrObj>) -> Self
         ensures { result ≡ attrs.items }
     {
         Attrs { attrs }
     }
 
-    /// How many there are.
+    /// How many there are. Cost: constant.
     pub fn len(&self) -> usize
         ensures { result ≡ length self.now }
     {
         self.attrs.len()
     }
 
-    /// Whether there is none.
+    /// Whether there is none. Cost: constant.
     pub fn is_empty(&self) -> bool
         ensures { IsTrue result ↔ (self.now ≡ []) }
     {
         self.attrs.is_empty()
     }
 
-    /// The attribute at this index.
+    /// The attribute at this index. Asks that there is one (`len` tests it). Cost: constant.
     pub fn get(&self, i: usize) -> &AttrObj
         requires { i < length self.now }
         ensures { slice_get self.now i ≡ Some result.now }
@@ -129,7 +131,8 @@ impl Attrs {
         &self.attrs[i]
     }
 
-    /// Replaces the attribute at this index. Takes no memory.
+    /// Replaces the attribute at this index. Asks that there is one (`len` tests it). Takes no memory. Cost:
+    /// constant.
     pub fn set(&mut self, i: usize, attr: AttrObj)
         requires { i < length self.old }
         ensures { self.new ≡ slice_set self.old i attr }
@@ -137,7 +140,7 @@ impl Attrs {
         self.attrs[i] = attr;
     }
 
-    /// The attributes as a `Vec`. Takes no memory.
+    /// The attributes as a `Vec`. Takes no memory. Cost: constant.
     pub fn into_vec(self) -> Vec<AttrObj>
         ensures { result.items ≡ self }
     {

@@ -57,6 +57,16 @@ pub struct OperationEntry {
 }
 
 /// Operations, blocks, regions and values, each named by its key.
+///
+/// A key is a row in each table that speaks of its kind, and keys are never given twice:
+///
+/// ```text
+/// operation o   operations[o] = head, results, regions      operands:   o -> values, and back
+///               order: the list (a block) that has o        successors: o -> blocks, and back
+/// block b       arguments: b -> values, and back            layout: the list (a region) that has b
+/// region r      slots[r] = its operation, its index there   layout: list r, its blocks
+/// value v       arguments: what makes v                     operands: the uses of v
+/// ```
 #[derive(Drop)]
 pub struct Context {
     alloc: Global,
@@ -82,7 +92,7 @@ impl Model for Context {
 }
 
 impl Context {
-    /// An empty context, which keeps the allocator for its growths. Takes no memory.
+    /// An empty context, which keeps the allocator for its growths. Takes no memory. Cost: constant.
     pub fn new(alloc: Global) -> Self
         ensures { result ≡ record { tree = no_tree; value_uses = []; block_uses = [] } }
     {
@@ -98,8 +108,8 @@ impl Context {
         }
     }
 
-    /// The law of every context: its tables are those of a tree, its lists of uses have each use
-    /// once, and there are fewer than 2^64 keys of each kind. Does nothing when it runs.
+    /// The law of every context: its tables are those of a tree, its lists of uses have each use once, and
+    /// there are fewer than 2^64 keys of each kind. It changes nothing. Cost: constant.
     pub fn well_formed(&self)
         ensures tree { IsTree self.now.tree }
         ensures uses { HaveUses self.now }

@@ -50,7 +50,7 @@ impl<T> Ptr<T> {
         self.key
     }
 
-    /// The number of this key.
+    /// The number of this key. Cost: constant.
     pub fn key(self) -> u64
         ensures { result ≡ self }
     {
@@ -88,7 +88,7 @@ impl Value {
         self.key
     }
 
-    /// The number of this key.
+    /// The number of this key. Cost: constant.
     pub fn key(self) -> u64
         ensures { result ≡ self }
     {

@@ -9,7 +9,14 @@ use std::alloc::{AllocError, Global};
 use std::marker::Model;
 
 /// Nodes, each in one list at most, and the lists. The links run in both directions, and each list
-/// knows its first and its last node.
+/// knows its first and its last node. Here list 0 has the nodes 2 and 0, and no list has node 1:
+///
+/// ```text
+/// ends[0]    head 2, tail 0
+/// nodes[2]   owner 0, no prev, next 0
+/// nodes[0]   owner 0, prev 2, no next
+/// nodes[1]   no owner, no prev, no next
+/// ```
 #[derive(Drop)]
 pub struct Links {
     nodes: Vec<Node>,
@@ -82,7 +89,7 @@ fn link_prev(nodes: &mut Vec<Node>, ends: &mut Ends, after: Option<usize>, prev:
 }
 
 impl Links {
-    /// No nodes and no lists, and room for none. Takes no memory, in O(1).
+    /// No nodes and no lists, and room for none. Takes no memory. Cost: constant.
     pub fn new(alloc: Global) -> Self
         ensures { result ≡ record { lists = []; owners = []; node_room = 0; list_room = 0 } }
     {
@@ -92,15 +99,15 @@ impl Links {
         }
     }
 
-    /// A law: what a list has is owned by it, and nothing else is, and no node stands twice. Does
-    /// nothing when it runs, in O(1).
+    /// A law: what a list has is owned by it, and nothing else is, and no node stands twice. It does
+    /// nothing.
     pub fn agree(&self)
         ensures { AreOwned self.now.owners self.now.lists }
     {
         let _ = &self.nodes;
     }
 
-    /// The list that has the node, if one does. The node must be one that was added. O(1).
+    /// The list that has the node, if one does. Asks that the node is one that was added. Cost: constant.
     pub fn owner(&self, node: usize) -> Option<usize>
         requires { node < length self.now.owners }
         ensures owner { result ≡ owner_of self.now node }
@@ -109,10 +116,11 @@ impl Links {
         self.nodes[node].owner
     }
 
-    /// Makes room for so many more nodes and so many more lists, which then take no memory. It is
-    /// refused only where memory is out, and then only the room may have grown. O(1) where there is
-    /// room already, and otherwise linear in the tables' length, which grow so that room asked for
-    /// one by one is O(1) each, amortised.
+    /// Makes room for so many more nodes and so many more lists, which then take no memory.
+    ///
+    /// Errors: want of memory, where only the room may have grown. Cost: constant where there is room
+    /// already, and otherwise linear in the tables' length, which grow so that room asked for one by one is
+    /// constant each, amortised.
     pub fn reserve(&mut self, nodes: usize, lists: usize) -> Result<(), AllocError>
         ensures kept { self.new ≡ record self.old {
           node_room = self.new.node_room;
@@ -130,7 +138,7 @@ impl Links {
         self.ends.reserve(lists)
     }
 
-    /// A new node, in no list. There must be room for it. The keys count up from 0. O(1).
+    /// A new node, in no list. The keys count up from 0. Asks that there is room for it. Cost: constant.
     pub fn add_node(&mut self) -> usize
         requires { 0 < self.old.node_room }
         ensures key { result ≡ length self.old.owners }
@@ -148,7 +156,7 @@ impl Links {
         key
     }
 
-    /// A new list, without nodes. There must be room for it. The keys count up from 0. O(1).
+    /// A new list, without nodes. The keys count up from 0. Asks that there is room for it. Cost: constant.
     pub fn add_list(&mut self) -> usize
         requires { 0 < self.old.list_room }
         ensures key { result ≡ length self.old.lists }
@@ -165,7 +173,8 @@ impl Links {
         key
     }
 
-    /// The node goes to the front of the list. No list may have it yet. O(1).
+    /// The node goes to the front of the list. Asks that both were added and that no list has the node. Cost:
+    /// constant.
     pub fn push_front(&mut self, list: usize, node: usize)
         requires list { list < length self.old.lists }
         requires node { node < length self.old.owners }
@@ -187,7 +196,8 @@ impl Links {
         self.ends[list] = ends;
     }
 
-    /// The node goes to the end of the list. No list may have it yet. O(1).
+    /// The node goes to the end of the list. Asks that both were added and that no list has the node. Cost:
+    /// constant.
     pub fn push_back(&mut self, list: usize, node: usize)
         requires list { list < length self.old.lists }
         requires node { node < length self.old.owners }
@@ -209,7 +219,8 @@ impl Links {
         self.ends[list] = ends;
     }
 
-    /// The node goes directly before the node `at` of this list. No list may have it yet. O(1).
+    /// The node goes directly before the node `at` of this list. Asks that the list has `at`, and that the
+    /// node was added and no list has it. Cost: constant.
     pub fn insert_before(&mut self, list: usize, at: usize, node: usize)
         requires held { owner_of self.old at ≡ Some list }
         requires node { node < length self.old.owners }
@@ -231,7 +242,8 @@ impl Links {
         self.ends[list] = ends;
     }
 
-    /// Takes the node out of the list that has it; the others keep their order. O(1).
+    /// Takes the node out of the list that has it; the others keep their order. Asks that this list has it.
+    /// Cost: constant.
     pub fn remove(&mut self, list: usize, node: usize)
         requires held { owner_of self.old node ≡ Some list }
         ensures { self.new ≡ record self.old {
@@ -251,8 +263,8 @@ impl Links {
         };
     }
 
-    /// The node directly after this one in the list that has it: none at the list's end, nor for a
-    /// node in no list. The node must be one that was added. O(1).
+    /// The node directly after this one in the list that has it: none at the list's end, nor for a node in no
+    /// list. Asks that the node is one that was added. Cost: constant.
     pub fn next(&self, node: usize) -> Option<usize>
         requires { node < length self.now.owners }
         ensures next { result ≡ next_of self.now node }
@@ -265,8 +277,8 @@ impl Links {
         }
     }
 
-    /// The node directly before this one in the list that has it: none at the list's front, nor for
-    /// a node in no list. The node must be one that was added. O(1).
+    /// The node directly before this one in the list that has it: none at the list's front, nor for a node in
+    /// no list. Asks that the node is one that was added. Cost: constant.
     pub fn prev(&self, node: usize) -> Option<usize>
         requires { node < length self.now.owners }
         ensures prev { result ≡ prev_of self.now node }
@@ -279,7 +291,8 @@ impl Links {
         }
     }
 
-    /// The first node of the list; none if the list is empty. O(1).
+    /// The first node of the list; none if the list is empty. Asks that the list is one that was added. Cost:
+    /// constant.
     pub fn head(&self, list: usize) -> Option<usize>
         requires { list < length self.now.lists }
         ensures first { result ≡ first_of (list_of self.now list) None }
@@ -288,7 +301,8 @@ impl Links {
         self.ends[list].head
     }
 
-    /// The last node of the list; none if the list is empty. O(1).
+    /// The last node of the list; none if the list is empty. Asks that the list is one that was added. Cost:
+    /// constant.
     pub fn tail(&self, list: usize) -> Option<usize>
         requires { list < length self.now.lists }
         ensures last { result ≡ last_of None (list_of self.now list) }

@@ -44,7 +44,7 @@ pub trait Rewriter {
     ///
     /// Asks that the operation stands, in no block; that a point is set, and that what it names stands
     /// and isn't the operation or inside it; a named operation stands in a block.
-    /// Errors: want of memory, which changes nothing. Constant cost.
+    /// Errors: want of memory, which changes nothing. Cost: constant.
     fn insert_operation(&mut self, ctx: &mut Context, op: Ptr<Operation>) -> Result<(), NoMemory>
         requires live { IsLive ctx.old.tree op }
         requires free { parent_of ctx.old.tree op ≡ None }
@@ -73,7 +73,7 @@ pub trait Rewriter {
     /// The operation leaves the block that has it, if one does, and becomes the last of this one.
     ///
     /// Asks that both stand, and that the operation doesn't hold the block. Takes no memory.
-    /// Constant cost.
+    /// Cost: constant.
     fn move_operation_to_end(
         &mut self,
         ctx: &mut Context,
@@ -114,7 +114,7 @@ pub struct IRRewriter {
 }
 
 impl IRRewriter {
-    /// A rewriter whose insertion point isn't set yet.
+    /// A rewriter whose insertion point isn't set yet. Cost: constant.
     pub fn new() -> Self
         ensures { point_of result ≡ OpInsertionPoint.Unset }
     {

@@ -23,7 +23,7 @@ impl<T> Model for Row<T> {
 }
 
 impl<T> Row<T> {
-    /// No items. Takes no memory.
+    /// No items. Takes no memory. Cost: constant.
     pub fn new(alloc: Global) -> Self
         ensures { result ≡ [] }
     {
@@ -96,7 +96,7 @@ impl<T> Row<T> {
         self.items.truncate(count);
     }
 
-    /// The item at an index. Cost: constant.
+    /// The item at an index. Asks that there is one. Cost: constant.
     pub fn get(&self, i: usize) -> T
     where
         T: Copy,
@@ -106,8 +106,8 @@ impl<T> Row<T> {
         self.items[i]
     }
 
-    /// The item at an index goes. The later ones move down by one place. Cost: the number of items
-    /// after it.
+    /// The item at an index goes. The later ones move down by one place. Asks that there is one. Cost: the
+    /// number of items after it.
     pub fn remove(&mut self, i: usize)
     where
         T: Drop,
@@ -117,7 +117,7 @@ impl<T> Row<T> {
         self.items.remove(i);
     }
 
-    /// Writes the item at an index. Cost: constant.
+    /// Writes the item at an index. Asks that there is one. Cost: constant.
     pub fn set(&mut self, i: usize, item: T)
     where
         T: Copy + Drop,

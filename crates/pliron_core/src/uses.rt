@@ -14,6 +14,15 @@ use std::marker::Model;
 use std::mem;
 
 /// The targets of each user and the uses of each target, all named by keys that count up.
+///
+/// Each place knows where its use stands, and each use its place, so either is found from the other in one
+/// step. Here user 0 names the targets 5, 7 and 5, after it lost a target that stood second:
+///
+/// ```text
+/// places[0]   0: 5 at 0   1: free   2: 7 at 0   3: 5 at 1     gaps[0] = start 1, len 1
+/// uses[5]     0: user 0, place 0    1: user 0, place 3        place 3 is index 2: behind the gap, 3 - 1
+/// uses[7]     0: user 0, place 2
+/// ```
 #[derive(Drop)]
 pub struct Uses {
     places: Vec<Row<Place>>,
@@ -65,7 +74,7 @@ impl Model for Uses {
 }
 
 impl Uses {
-    /// No users and no targets. Takes no memory.
+    /// No users and no targets. Takes no memory. Cost: constant.
     pub fn new(alloc: Global) -> Self
         ensures { result ≡ record { targets = []; uses = []; user_room = 0; target_room = 0 } }
     {
@@ -92,7 +101,7 @@ impl Uses {
         self.places.len()
     }
 
-    /// How many targets a user has. Cost: constant.
+    /// How many targets a user has. Asks that there is such a user. Cost: constant.
     pub fn num_targets(&self, user: usize) -> usize
         requires { user < length self.now.targets }
         ensures { result ≡ length (targets_of self.now user) }
@@ -100,7 +109,8 @@ impl Uses {
         count_at(&self.places, &self.gaps, user)
     }
 
-    /// The target at a place of a user. Cost: constant.
+    /// The target at a place of a user. Asks that there are such a user and such a place (`num_targets` tests
+    /// it). Cost: constant.
     pub fn target(&self, user: usize, place: usize) -> usize
         requires user { user < length self.now.targets }
         requires place { place < length (targets_of self.now user) }
@@ -110,7 +120,7 @@ impl Uses {
         target_at(&self.places[user], gap, place)
     }
 
-    /// How many uses a target has. Cost: constant.
+    /// How many uses a target has. Asks that there is such a target. Cost: constant.
     pub fn num_uses(&self, target: usize) -> usize
         requires { target < length self.now.uses }
         ensures { result ≡ length (uses_of self.now target) }
@@ -118,7 +128,8 @@ impl Uses {
         self.uses[target].len()
     }
 
-    /// The use of a target at an index below `num_uses`, in no given order. Cost: constant.
+    /// The use of a target at an index, in no given order. Asks that there is such a target, and that the
+    /// index is below `num_uses`. Cost: constant.
     pub fn get_use(&self, target: usize, i: usize) -> Use
         requires target { target < length self.now.uses }
         requires place { i < length (uses_of self.now target) }
@@ -143,7 +154,7 @@ impl Uses {
         self.uses.reserve(targets)
     }
 
-    /// A new user, without targets. Asks for reserved room. Cost: constant.
+    /// A new user, without targets. Asks that room for it is reserved. Cost: constant.
     pub fn add_user(&mut self, alloc: Global) -> usize
         requires { 0 < self.old.user_room }
         ensures key { result ≡ length self.old.targets }
@@ -155,7 +166,7 @@ impl Uses {
         key
     }
 
-    /// A new target, without uses. Asks for reserved room. Cost: constant.
+    /// A new target, without uses. Asks that room for it is reserved. Cost: constant.
     pub fn add_target(&mut self, alloc: Global) -> usize
         requires { 0 < self.old.target_room }
         ensures key { result ≡ length self.old.uses }
@@ -166,7 +177,7 @@ impl Uses {
         key
     }
 
-    /// So many new targets, without uses. Asks for reserved room. Cost: one step for each.
+    /// So many new targets, without uses. Asks that room for them is reserved. Cost: one step for each.
     pub fn add_targets(&mut self, alloc: Global, count: usize)
         requires { count ≤ self.old.target_room }
         ensures { self.new ≡ record self.old { uses = self.old.uses ++ replicate count []; target_room = self.old.target_room - count } }
@@ -198,7 +209,8 @@ impl Uses {
 
     /// The user gets one more target, at the end.
     ///
-    /// Errors: want of memory, which leaves all as it was. Cost: constant, amortised.
+    /// Asks that there are such a user and such a target. Errors: want of memory, which leaves all as it was.
+    /// Cost: constant, amortised.
     pub fn push(&mut self, user: usize, target: usize) -> Result<(), AllocError>
         requires user { user < length self.old.targets }
         requires target { target < length self.old.uses }
@@ -219,8 +231,8 @@ impl Uses {
 
     /// Every use of `old` becomes one of `new`.
     ///
-    /// Errors: want of memory, which leaves all as it was. Cost: the number of uses of `old`,
-    /// amortised.
+    /// Asks that there are both targets and that they are two. Errors: want of memory, which leaves all as it
+    /// was. Cost: the number of uses of `old`, amortised.
     pub fn replace(&mut self, alloc: Global, old: usize, new: usize) -> Result<(), AllocError>
         requires old { old < length self.old.uses }
         requires new { new < length self.old.uses }
@@ -243,8 +255,9 @@ impl Uses {
 
     /// The target at a place goes, and is the answer. The later ones move down by one place.
     ///
-    /// Takes no memory. Cost: the number of targets between it and the place where one was removed last,
-    /// and constant for the first; amortised, a constant and at most twice the number of targets after it.
+    /// Asks that there are such a user and such a place. Takes no memory. Cost: the number of targets between
+    /// it and the place where one was removed last, and constant for the first; amortised, a constant and at
+    /// most twice the number of targets after it.
     pub fn remove(&mut self, user: usize, place: usize) -> usize
         requires user { user < length self.old.targets }
         requires place { place < length (targets_of self.old user) }
@@ -265,7 +278,8 @@ impl Uses {
         target
     }
 
-    /// All targets of a user go. Takes no memory. Cost: the number of its targets.
+    /// All targets of a user go. Asks that there is such a user. Takes no memory. Cost: the number of its
+    /// targets.
     pub fn clear(&mut self, user: usize)
         requires { user < length self.old.targets }
         ensures targets { self.new.targets ≡ slice_set self.old.targets user [] }

@@ -81,8 +81,10 @@ pub fn dce<D: Dialect>(
     Ok(status)
 }
 
-/// As `dce`; answers too whether an operation with regions went. Where none did, the blocks and edges
-/// inside each operation that stands are as before.
+/// As `dce`; answers too whether an operation with regions went. Where none did, the blocks and edges inside
+/// each operation that stands are as before.
+///
+/// Asks that the operation stands and is well linked. Errors: as `dce`. Cost: as `dce`.
 #[doc(hidden)]
 pub fn dce_with_regions<D: Dialect>(
     alloc: Global,

@@ -34,7 +34,7 @@ pub enum TinyKind {
 }
 
 impl TinyKind {
-    /// The number that stands for the kind in a head.
+    /// The number that stands for the kind in a head. Cost: constant.
     pub fn number(self) -> u32
         ensures { result ≡ number_of self }
     {
@@ -46,7 +46,7 @@ impl TinyKind {
         }
     }
 
-    /// The kind with this number, if there is one.
+    /// The kind with this number, if there is one. Cost: constant.
     pub fn of(number: u32) -> Option<TinyKind>
         ensures { result ≡ kind_of number }
     {

@@ -24,13 +24,16 @@ pub struct Scc<N> {
 
 /// The strongly connected components: two nodes share one exactly if each reaches the other.
 ///
-/// The numbers that follow are those of a depth-first search from the entry and then from each node in listed order. The components
-/// stand by falling greatest post-order number, so an edge between two of them goes from the earlier to the later. The nodes of each
-/// stand by falling pre-order number. Its only error is want of memory.
+/// The numbers that follow are those of a depth-first search from the entry and then from each node in listed
+/// order. The components stand by falling greatest post-order number, so an edge between two of them goes
+/// from the earlier to the later. The nodes of each stand by falling pre-order number.
 ///
-/// Two passes: a search gives the orders; then the nodes are taken by falling post-order number, and the nodes that lead to one over
-/// nodes without a component are its component. Cost: a few reads for each node and each edge of a graph that has numbers, and as many
-/// look-ups in a hashed table of any other; and a sort of each component.
+/// Two passes: a search gives the orders; then the nodes are taken by falling post-order number, and the
+/// nodes that lead to one over nodes without a component are its component.
+///
+/// Asks that the graph may be read in the context. Errors: want of memory. Cost: a few reads for each node
+/// and each edge of a graph that has numbers, and as many look-ups in a hashed table of any other; and a sort
+/// of each component.
 /// Source: M. Sharir, A strong-connectivity algorithm and its applications in data flow analysis, 1981.
 pub fn sccs_in_topological_order<C, G: ControlFlowGraph<C>>(
     alloc: Global,

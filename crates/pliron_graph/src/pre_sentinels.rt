@@ -14,7 +14,7 @@ use std::hash::Hash;
 
 /// The last listed node of each component without an edge to another one, in the order of the components.
 ///
-/// Its only error is want of memory. Cost: that of the components, and some table look-ups for each node and each edge.
+/// Errors: want of memory. Cost: that of the components, and some table look-ups for each node and each edge.
 pub(crate) fn find_pre_sentinels<C, G: ControlFlowGraph<C>>(
     alloc: Global,
     ctx: &C,

@@ -36,9 +36,10 @@ impl<'a, G: ControlFlowGraph<C>, C> Model for ReverseGraph<'a, G, C> {
 }
 
 impl<'a, G: ControlFlowGraph<C>, C> ReverseGraph<'a, G, C> {
-    /// The reverse of the graph. It may be read in the context.
+    /// The reverse of the graph.
     ///
-    /// Its only error is want of memory. Cost: that of the components, and some table look-ups for each node and each edge.
+    /// Asks that the graph may be read in the context. Errors: want of memory. Cost: that of the components,
+    /// and some table look-ups for each node and each edge.
     pub fn new(alloc: Global, ctx: &C, graph: &'a G) -> Result<Self, OptError>
         requires { G.is_lawful graph.now ctx.now }
         ensures lawful { IfOk result (λ r. ⟦<ReverseGraph<'a, G, C> as ControlFlowGraph<C>>⟧.is_lawful r ctx.now) }
@@ -58,14 +59,14 @@ impl<'a, G: ControlFlowGraph<C>, C> ReverseGraph<'a, G, C> {
         })
     }
 
-    /// The graph that this is the reverse of. Takes no memory.
+    /// The graph that this is the reverse of. Takes no memory. Cost: constant.
     pub fn original(&self) -> &'a G
         ensures { result.now ≡ self.now.original }
     {
         self.original
     }
 
-    /// The pre-sentinels, in the order of their components. Takes no memory.
+    /// The pre-sentinels, in the order of their components. Takes no memory. Cost: constant.
     pub fn pre_sentinels(&self) -> OrderIter<'_, G::Node>
         ensures { result ≡ self.now.pre_sentinels }
     {

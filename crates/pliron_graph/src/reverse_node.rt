@@ -16,14 +16,14 @@ pub enum ReverseNode<N> {
 }
 
 impl<N> ReverseNode<N> {
-    /// Whether this is the sentinel. Takes no memory.
+    /// Whether this is the sentinel. Takes no memory. Cost: constant.
     pub fn is_sentinel(&self) -> bool
         ensures { IsTrue result ↔ (self.now ≡ ReverseNode.Sentinel) }
     {
         matches!(self, ReverseNode::Sentinel)
     }
 
-    /// The node of the original graph, or `None` for the sentinel. Takes no memory.
+    /// The node of the original graph, or `None` for the sentinel. Takes no memory. Cost: constant.
     pub fn as_real(&self) -> Option<&N>
         ensures { (node : N) → ((option_copied result ≡ Some node) ↔ (self.now ≡ ReverseNode.Real node)) }
     {
@@ -33,7 +33,7 @@ impl<N> ReverseNode<N> {
         }
     }
 
-    /// The node of the original graph, or `None` for the sentinel. Takes no memory.
+    /// The node of the original graph, or `None` for the sentinel. Takes no memory. Cost: constant.
     pub fn into_real(self) -> Option<N>
         ensures { (node : N) → ((result ≡ Some node) ↔ (self ≡ ReverseNode.Real node)) }
     {

@@ -22,12 +22,21 @@ indices: 1 1;1;1 1; => >block0>block1 block1, block0 block1 block2>block1>block1
 entry: 1 1;1;1 1; => block0
 entry:  => none";
 
-static REVERSED: &str = "reverse pre-sentinels: 1 2;3;4;;2;3; => block4 block3
-reverse neighbours: 1 2;3;4;;2;3; => >sentinel>block4 block3, block1 block2>block0>, block3>block1>block0, block4>block2>block0 block4, sentinel>block3>block1 block5, block2 sentinel>block4>block2, block3>block5>
-reverse searches: 1 2;3;4;;2;3; => sentinel block4 block2 block0 block3 block1 block5 / block0 block2 block4 block1 block5 block3 sentinel / sentinel block3 block5 block1 block4 block2 block0 / sentinel=0/6/0 block0=3/0/6 block1=5/3/3 block2=2/1/5 block3=4/5/1 block4=1/2/4 block5=6/4/2
-reverse orders: 1 2;3;4;;2;3; => [block0 block2 block4 block1 block5 block3 sentinel] / [sentinel block3 block5 block1 block4 block2 block0] / block0 block2 block4 block1 block5 block3 sentinel / sentinel block3 block5 block1 block4 block2 block0
+static REVERSED: &str = "\
+reverse pre-sentinels: 1 2;3;4;;2;3; => block4 block3
+reverse neighbours: 1 2;3;4;;2;3; \
+    => >sentinel>block4 block3, block1 block2>block0>, block3>block1>block0, block4>block2>block0 block4, sentinel>block3>block1 block5, block2 \
+        sentinel>block4>block2, block3>block5>
+reverse searches: 1 2;3;4;;2;3; \
+    => sentinel block4 block2 block0 block3 block1 block5 / block0 block2 block4 block1 block5 block3 sentinel / sentinel block3 block5 block1 block4 block2 \
+        block0 / sentinel=0/6/0 block0=3/0/6 block1=5/3/3 block2=2/1/5 block3=4/5/1 block4=1/2/4 block5=6/4/2
+reverse orders: 1 2;3;4;;2;3; \
+    => [block0 block2 block4 block1 block5 block3 sentinel] / [sentinel block3 block5 block1 block4 block2 block0] / block0 block2 block4 block1 block5 \
+        block3 sentinel / sentinel block3 block5 block1 block4 block2 block0
 reverse components: 1 2;3;4;;2;3; => [sentinel] [block3] [block5] [block1] [block2 block4]* [block0]
-reverse indices: 1 2;3;4;;2;3; => >sentinel>block4 block3, block1 block2>block0>, block3>block1>block0, block4>block2>block0 block4, sentinel>block3>block1 block5, block2 sentinel>block4>block2, block3>block5>";
+reverse indices: 1 2;3;4;;2;3; \
+    => >sentinel>block4 block3, block1 block2>block0>, block3>block1>block0, block4>block2>block0 block4, sentinel>block3>block1 block5, block2 \
+        sentinel>block4>block2, block3>block5>";
 
 // A new operation in no block, with this many regions.
 fn operation(rt: &impl Abort, alloc: Global, ctx: &mut Context, regions: usize) -> Ptr<Operation> {

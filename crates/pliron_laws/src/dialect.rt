@@ -56,7 +56,8 @@ pub trait SideEffects {
     // the answer for a head
     ghost side_effects: { Head → Option Bool };
 
-    /// Whether the operation has side effects; `None` where it doesn't say. Reads the head alone.
+    /// Whether the operation has side effects; `None` where it doesn't say. Reads the head alone. Asks that
+    /// the operation stands (`is_live` tests it).
     fn has_side_effects(op: Ptr<Operation>, ctx: &Context) -> Option<bool>
         requires { IsLive ctx.now.tree op }
         ensures { ReadsHead side_effects ctx.now.tree op result };
@@ -64,7 +65,8 @@ pub trait SideEffects {
     // what the check may answer for an operation
     ghost verdict: { Tree → ℕ → ResultOf (Unit {0}) FaultName → Type 0 };
 
-    /// The first fault that the dialect finds in the operation.
+    /// Looks for a fault in the operation. Asks that the operation stands (`is_live` tests it). Errors: the
+    /// first fault that the dialect finds, or want of memory.
     fn verify(alloc: Global, op: Ptr<Operation>, ctx: &Context) -> Result<(), OptError>
         requires { IsLive ctx.now.tree op }
         ensures { verdict ctx.now.tree op result };
@@ -75,9 +77,10 @@ pub trait BlockArgRemoval {
     // the answer for a head, the index of a region and whether the block is its entry
     ghost removable: { Head → ℕ → Bool → Option Bool };
 
-    /// Whether arguments of the block, which is directly in a region of `op`, may be removed; `None`
-    /// where the operation doesn't say. Reads the head, the index of the region, and whether the block
-    /// is its entry.
+    /// Whether arguments of the block may be removed; `None` where the operation doesn't say. Reads the head,
+    /// the index of the region, and whether the block is its entry.
+    ///
+    /// Asks that the operation stands and that the block is directly in one of its regions.
     fn can_remove_block_args(
         op: Ptr<Operation>,
         ctx: &Context,
@@ -90,7 +93,8 @@ pub trait BlockArgRemoval {
     // what the check may answer for an operation
     ghost verdict: { Tree → ℕ → ResultOf (Unit {0}) FaultName → Type 0 };
 
-    /// The first fault that the dialect finds in the operation.
+    /// Looks for a fault in the operation. Asks that the operation stands (`is_live` tests it). Errors: the
+    /// first fault that the dialect finds, or want of memory.
     fn verify(alloc: Global, op: Ptr<Operation>, ctx: &Context) -> Result<(), OptError>
         requires { IsLive ctx.now.tree op }
         ensures { verdict ctx.now.tree op result };
@@ -112,7 +116,8 @@ pub trait ConstFoldInterface: HasMeaning {
     // what folding in place comes to
     ghost outcome: { Outcome };
 
-    /// Whether the operation folds. Reads the head alone.
+    /// Whether the operation folds. Reads the head alone. Asks that the operation stands (`is_live` tests
+    /// it).
     fn folds(op: Ptr<Operation>, ctx: &Context) -> bool
         requires { IsLive ctx.now.tree op }
         ensures { ReadsHead can_fold ctx.now.tree op result };
@@ -216,7 +221,8 @@ pub trait ConstFoldInterface: HasMeaning {
     // what the check may answer for an operation
     ghost verdict: { Tree → ℕ → ResultOf (Unit {0}) FaultName → Type 0 };
 
-    /// The first fault that the dialect finds in the operation.
+    /// Looks for a fault in the operation. Asks that the operation stands (`is_live` tests it). Errors: the
+    /// first fault that the dialect finds, or want of memory.
     fn verify(alloc: Global, op: Ptr<Operation>, ctx: &Context) -> Result<(), OptError>
         requires { IsLive ctx.now.tree op }
         ensures { verdict ctx.now.tree op result };
@@ -233,7 +239,8 @@ pub trait BranchOpFoldInterface: HasMeaning {
     // what folding in place comes to
     ghost outcome: { Outcome };
 
-    /// Whether the operation folds as a branch. Reads the head alone.
+    /// Whether the operation folds as a branch. Reads the head alone. Asks that the operation stands
+    /// (`is_live` tests it).
     fn folds_branch(op: Ptr<Operation>, ctx: &Context) -> bool
         requires { IsLive ctx.now.tree op }
         ensures { ReadsHead can_fold_branch ctx.now.tree op result };
@@ -278,7 +285,8 @@ pub trait BranchOpFoldInterface: HasMeaning {
     // what the check may answer for an operation
     ghost verdict: { Tree → ℕ → ResultOf (Unit {0}) FaultName → Type 0 };
 
-    /// The first fault that the dialect finds in the operation.
+    /// Looks for a fault in the operation. Asks that the operation stands (`is_live` tests it). Errors: the
+    /// first fault that the dialect finds, or want of memory.
     fn verify(alloc: Global, op: Ptr<Operation>, ctx: &Context) -> Result<(), OptError>
         requires { IsLive ctx.now.tree op }
         ensures { verdict ctx.now.tree op result };
@@ -297,32 +305,37 @@ pub trait Dialect: SideEffects + BlockArgRemoval + ConstFoldInterface + BranchOp
     // the head of a branch that lost the operand at this place of this edge
     ghost shortened: { Shape → ℕ → ℕ → Head };
 
-    /// Whether the operation is of this kind. Reads the head alone.
+    /// Whether the operation is of this kind. Reads the head alone. Asks that the operation stands (`is_live`
+    /// tests it).
     fn is_kind(op: Ptr<Operation>, ctx: &Context, kind: Self::Kind) -> bool
         requires { IsLive ctx.now.tree op }
         ensures { ReadsHead (λ h. is_of_kind h kind) ctx.now.tree op result };
 
-    /// Whether the operation implements the interface. Reads the head alone.
+    /// Whether the operation implements the interface. Reads the head alone. Asks that the operation stands
+    /// (`is_live` tests it).
     fn implements(op: Ptr<Operation>, ctx: &Context, interface: Interface) -> bool
         requires { IsLive ctx.now.tree op }
         ensures { ReadsHead (λ h. has_interface h interface) ctx.now.tree op result };
 
-    /// Whether the dialect has operations with this head and these counts.
+    /// Whether the dialect has operations with this head and these counts. Asks that the operation stands
+    /// (`is_live` tests it).
     fn admits(op: Ptr<Operation>, ctx: &Context) -> bool
         requires { IsLive ctx.now.tree op }
         ensures { ReadsCounts Self.meaning.admits ctx.now.tree op result };
 
-    /// Whether the operation ends a block. Reads the head alone.
+    /// Whether the operation ends a block. Reads the head alone. Asks that the operation stands (`is_live`
+    /// tests it).
     fn is_terminator(op: Ptr<Operation>, ctx: &Context) -> bool
         requires { IsLive ctx.now.tree op }
         ensures { ReadsHead Self.meaning.is_terminator ctx.now.tree op result };
 
-    /// Whether the operation is a branch. Reads the head alone.
+    /// Whether the operation is a branch. Reads the head alone. Asks that the operation stands (`is_live`
+    /// tests it).
     fn is_branch(op: Ptr<Operation>, ctx: &Context) -> bool
         requires { IsLive ctx.now.tree op }
         ensures { ReadsHead Self.meaning.is_branch ctx.now.tree op result };
 
-    /// The operands that the branch forwards along its edge `i`. Asks for a branch with such an edge.
+    /// The operands that the branch forwards along its edge `i`. Asks that it is a branch with such an edge.
     ///
     /// Errors: want of memory.
     fn successor_operands(
@@ -338,7 +351,7 @@ pub trait Dialect: SideEffects + BlockArgRemoval + ConstFoldInterface + BranchOp
         ensures err { IfErr result (λ e. e ≡ Memory) };
 
     /// The operand that the branch forwards at place `j` of its edge `i`; `None` where the edge has no
-    /// such place. Asks for a branch with such an edge.
+    /// such place. Asks that it is a branch with such an edge.
     ///
     /// Errors: want of memory. Cost: that of `successor_operands`, which this body asks; a dialect that
     /// can tell in one step writes its own.
@@ -360,7 +373,7 @@ pub trait Dialect: SideEffects + BlockArgRemoval + ConstFoldInterface + BranchOp
     }
 
     /// Takes out the operand that the branch forwards at place `j` of its edge `i`, and answers it.
-    /// Asks for a branch with such an edge and place. Takes no memory.
+    /// Asks that it is a branch with such an edge and place. Takes no memory.
     fn remove_successor_operand(op: Ptr<Operation>, ctx: &mut Context, i: usize, j: usize) -> Value
         requires live { IsLive ctx.old.tree op }
         requires branch { HeadPasses Self.meaning.is_branch ctx.old.tree op }

@@ -34,8 +34,11 @@ fn insert_for<R: Rewriter>(
     rewriter.replace_value_uses_with(ctx, old, new)
 }
 
-/// The new operation goes where the rewriter inserts, and its result gets the uses of the value. Where
-/// memory is refused it is erased again, so that the value is rewritten wholly or not at all.
+/// The new operation goes where the rewriter inserts, and its result gets the uses of the value.
+///
+/// Asks that the operation was just made, in no block, with one result, and that the rewriter may insert it.
+/// Errors: want of memory, after which the operation is erased again, so that the value is rewritten wholly
+/// or not at all. Cost: the number of uses of the value, amortised, and what the rewriter's listener costs.
 pub fn put_constant<R: Rewriter>(
     ctx: &mut Context,
     constant: Ptr<Operation>,

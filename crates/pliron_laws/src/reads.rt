@@ -5,7 +5,8 @@ ghost use Rattle.pliron_core.specs.Tree.{IsLive, IsBlock, operands_of, results_o
 use pliron_core::{BasicBlock, Context, Operation, Ptr, Value};
 use std::alloc::{AllocError, Global};
 
-/// The operands of the operation, in order.
+/// The operands of the operation, in order. Asks that the operation stands (`is_live` tests it). Errors: want
+/// of memory. Cost: linear in them.
 pub fn all_operands(
     alloc: Global,
     op: Ptr<Operation>,
@@ -21,7 +22,8 @@ pub fn all_operands(
     Ok(values)
 }
 
-/// The results of the operation, in order.
+/// The results of the operation, in order. Asks that the operation stands (`is_live` tests it). Errors: want
+/// of memory. Cost: linear in them.
 pub fn all_results(
     alloc: Global,
     op: Ptr<Operation>,
@@ -37,7 +39,8 @@ pub fn all_results(
     Ok(values)
 }
 
-/// The arguments of the block, in order.
+/// The arguments of the block, in order. Asks that the block stands (`is_live` tests it). Errors: want of
+/// memory. Cost: linear in them.
 pub fn all_arguments(
     alloc: Global,
     block: Ptr<BasicBlock>,
@@ -53,7 +56,8 @@ pub fn all_arguments(
     Ok(values)
 }
 
-/// The operations of the block, in order.
+/// The operations of the block, in order. Asks that the block stands (`is_live` tests it). Errors: want of
+/// memory. Cost: linear in them.
 pub fn all_operations(
     alloc: Global,
     block: Ptr<BasicBlock>,

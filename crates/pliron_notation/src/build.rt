@@ -50,7 +50,8 @@ fn head_of(alloc: Global, text: &OperationText) -> Result<Head, AllocError>
 
 /// Builds the operation of a text, in no block and well linked.
 ///
-/// Errors: want of memory, after which nothing of the text stands. Cost: linear in the text.
+/// Asks that the syntax is sound, as `parse` makes it. Errors: want of memory, after which nothing of the
+/// text stands. Cost: linear in the text.
 pub fn build(alloc: Global, syntax: &Syntax, ctx: &mut Context) -> Result<Ptr<Operation>, NoMemory>
     requires { IsSound syntax.now }
     ensures built { IfOk result (λ root. IsGrown ctx.old.tree ctx.new.tree root) }

@@ -10,16 +10,17 @@ pub struct Cursor<'t> {
 }
 
 impl<'t> Cursor<'t> {
+    /// All these tokens are left. Cost: constant.
     pub fn new(tokens: &'t [Token]) -> Self {
         Cursor { rest: tokens }
     }
 
-    /// How many tokens are left.
+    /// How many tokens are left. Cost: constant.
     pub fn len(&self) -> usize {
         self.rest.len()
     }
 
-    /// Takes the next token.
+    /// Takes the next token. Errors: `Unreadable` where none is left. Cost: constant.
     pub fn next(&mut self) -> Result<Token, Stop> {
         match self.rest.split_first() {
             Some((token, rest)) => {
@@ -30,7 +31,7 @@ impl<'t> Cursor<'t> {
         }
     }
 
-    /// Takes the next token if it is the given one.
+    /// Takes the next token if it is the given one. Cost: constant.
     pub fn accept(&mut self, token: Token) -> bool {
         match self.rest.split_first() {
             Some((first, rest)) if *first == token => {
@@ -41,7 +42,7 @@ impl<'t> Cursor<'t> {
         }
     }
 
-    /// Takes the given token.
+    /// Takes the given token. Errors: `Unreadable` where another one or none is left. Cost: constant.
     pub fn expect(&mut self, token: Token) -> Result<(), Stop> {
         if self.next()? == token {
             Ok(())
@@ -50,7 +51,7 @@ impl<'t> Cursor<'t> {
         }
     }
 
-    /// Takes a name.
+    /// Takes a name. Errors: `Unreadable` where none comes next. Cost: constant.
     pub fn name(&mut self) -> Result<Name, Stop> {
         match self.next()? {
             Token::Name(name) => Ok(name),
@@ -58,7 +59,7 @@ impl<'t> Cursor<'t> {
         }
     }
 
-    /// Takes a number.
+    /// Takes a number. Errors: `Unreadable` where none comes next. Cost: constant.
     pub fn number(&mut self) -> Result<i64, Stop> {
         match self.next()? {
             Token::Number(number) => Ok(number),
@@ -66,7 +67,7 @@ impl<'t> Cursor<'t> {
         }
     }
 
-    /// Takes a kind.
+    /// Takes a kind. Errors: `Unreadable` where none comes next. Cost: constant.
     pub fn kind(&mut self) -> Result<BenchKind, Stop> {
         match self.next()? {
             Token::Kind(kind) => Ok(kind),
@@ -74,7 +75,7 @@ impl<'t> Cursor<'t> {
         }
     }
 
-    /// Takes the next token if it is a name.
+    /// Takes the next token if it is a name. Cost: constant.
     pub fn accept_name(&mut self) -> Option<Name> {
         match self.rest.split_first() {
             Some((Token::Name(name), rest)) => {
@@ -86,7 +87,7 @@ impl<'t> Cursor<'t> {
         }
     }
 
-    /// Whether a block comes next: a name and an opening bracket.
+    /// Whether a block comes next: a name and an opening bracket. Cost: constant.
     pub fn at_block(&self) -> bool {
         match self.rest {
             [Token::Name(_), Token::OpenRound, ..] => true,

@@ -34,7 +34,7 @@ pub struct Labels {
 }
 
 impl Labels {
-    /// No labels, for a text of so many names.
+    /// No labels, for a text of so many names. Errors: want of memory. Cost: the number of names.
     pub fn new(alloc: Global, names: usize) -> Result<Self, AllocError> {
         Ok(Labels {
             latest: vec![in alloc; None; names]?,
@@ -42,7 +42,7 @@ impl Labels {
         })
     }
 
-    /// The place of a label. Cost: constant, amortised.
+    /// The place of a label. Errors: want of memory. Cost: constant, amortised.
     pub fn place(&mut self, label: Label) -> Result<usize, AllocError> {
         let place = match self.last_up_to(label) {
             Some((place, scope)) if scope == label.scope => place,
@@ -80,7 +80,8 @@ impl Labels {
         Ok(place)
     }
 
-    /// Gives the label its number. A label that has one makes the text unreadable.
+    /// Gives the label its number. Errors: `Unreadable` where the label has one; want of memory. Cost:
+    /// constant, amortised.
     pub fn define(&mut self, label: Label, number: usize) -> Result<(), Stop> {
         let place = self.place(label)?;
         match self.entries.get_mut(place) {
@@ -92,7 +93,8 @@ impl Labels {
         }
     }
 
-    /// Writes the label's number for each place. A label without one makes the text unreadable.
+    /// Writes the label's number for each place. Errors: `Unreadable` where a label has none. Cost: the
+    /// number of places.
     pub fn resolve(&self, places: &mut Vec<usize>) -> Result<(), Stop> {
         for place in places.iter_mut() {
             match self.entries.get(*place) {

@@ -47,7 +47,8 @@ struct Parser<'t> {
     regions: usize,
 }
 
-/// The syntax of a text, by its tokens. Cost: linear in the tokens.
+/// The syntax of a text, by its tokens. Errors: `Unreadable` where the text is outside the notation; want of
+/// memory. Cost: linear in the tokens.
 pub fn parse(alloc: Global, text: &Tokens) -> Result<Syntax, Stop> {
     let mut cursor = Cursor::new(&text.tokens);
     let root = cursor.kind()?;

@@ -19,8 +19,8 @@ pub enum Step {
 
 /// All that stands in an operation, from the operation on.
 ///
-/// Errors: want of memory. Cost: one step for each operation, block and region, where no operation has
-/// more than one region.
+/// Asks that the operation stands (`is_live` tests it). Errors: want of memory. Cost: one step for each
+/// operation, block and region, where no operation has more than one region.
 pub fn steps_of(alloc: Global, root: Ptr<Operation>, ctx: &Context) -> Result<Vec<Step>, AllocError>
     requires { IsLive ctx.now.tree root }
     ensures { IfOk result (λ steps. AllStand ctx.now.tree steps.items) }

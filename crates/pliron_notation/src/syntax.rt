@@ -49,6 +49,7 @@ pub struct Syntax {
 }
 
 impl Syntax {
+    /// The syntax of a root of this kind, without steps. Cost: constant.
     pub fn new(alloc: Global, root: BenchKind) -> Self {
         Syntax {
             root,

@@ -91,7 +91,8 @@ pub struct Tokens {
     pub names: usize,
 }
 
-/// The tokens of a text. Cost: linear in the text, but for look-ups of words.
+/// The tokens of a text. Errors: `Unreadable` where something in it is no token; want of memory. Cost: linear
+/// in the text, but for look-ups of words.
 pub fn tokenise(alloc: Global, text: &[u8]) -> Result<Tokens, Stop> {
     let mut words = Words::new(alloc, text.len())?;
     let mut tokens = Vec::new(alloc);

@@ -53,7 +53,8 @@ fn hash_of(word: &[u8]) -> usize {
 }
 
 impl<'t> Words<'t> {
-    /// No words, with room for those of a text of so many bytes.
+    /// No words, with room for those of a text of so many bytes. Errors: want of memory. Cost: the number of
+    /// bytes.
     pub fn new(alloc: Global, bytes: usize) -> Result<Self, AllocError> {
         let mask = usize::MAX.wrapping_shr((bytes / 8 + 1).leading_zeros());
         Ok(Words {
@@ -64,12 +65,14 @@ impl<'t> Words<'t> {
         })
     }
 
-    /// How many names were met.
+    /// How many names were met. Cost: constant.
     pub fn names(&self) -> usize {
         self.names
     }
 
-    /// The token of a word. A word that is too long for a name makes the text unreadable.
+    /// The token of a word. Errors: `Unreadable` where the word is too long for a name; want of memory. Cost:
+    /// a few comparisons with words, and a look-up in a tree where these find neither the word nor a free
+    /// slot.
     pub fn token(&mut self, word: &'t [u8]) -> Result<Token, Stop> {
         match self.place(word) {
             Place::Met(token) => Ok(token),

@@ -51,6 +51,7 @@ fn with_status(mut text: String, status: IRStatus) -> Result<String, AllocError>
 }
 
 /// What the program writes for a text that is to be optimised; `None` for a text outside the notation.
+/// Errors: those of the passes and of the notation. Cost: reading, the passes and printing.
 pub fn optimised<N: Notation>(
     alloc: Global,
     schedule: Schedule<N::D, BenchFacts>,

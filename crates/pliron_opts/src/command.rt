@@ -89,7 +89,7 @@ fn planned<D: Dialect>(
 
 /// What the words after the program's name ask for, if they are understood: `graph`, or a list of passes.
 ///
-/// Errors: want of memory.
+/// Errors: want of memory. Cost: linear in the words.
 pub fn asked<D: Dialect>(alloc: Global, words: &[String]) -> Result<Option<Command<D>>, AllocError>
     ensures { IfOk result (λ found. IfSome found (λ command. AskFor (map string_bytes words.now) command)) }
 {

@@ -145,7 +145,8 @@ fn push_pre_sentinels(
 /// What the program prints of a graph, with the numbers of its nodes: its orders, its search numbers, the
 /// kinds of its edges, its components and the pre-sentinels of its reverse, a line each.
 ///
-/// Errors: want of memory. Cost: linear in the nodes and edges, but for sorting each component.
+/// Asks that each node is among the predecessors of exactly its successors. Errors: want of memory. Cost:
+/// linear in the nodes and edges, but for sorting each component.
 pub fn print_graph(alloc: Global, graph: &NumberedGraph) -> Result<String, OptError>
     requires { AreInverse graph.now.edges }
 {

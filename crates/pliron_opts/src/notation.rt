@@ -22,8 +22,8 @@ pub trait Notation {
     // the operation in the tree is printed so
     ghost prints: { Prints };
 
-    /// Reads a text into an empty context. Its operation stands and is well linked. `None` is a text
-    /// outside the notation.
+    /// Reads a text. Its operation stands and is well linked. `None` is a text outside the notation. Asks
+    /// that the context is empty. Errors: want of memory.
     fn read(
         alloc: Global,
         text: &[u8],
@@ -34,7 +34,7 @@ pub trait Notation {
         ensures linked { IfOk result (λ found. IfSome found (λ root. IsWellLinked Self.D.meaning ctx.new.tree root)) }
         ensures text { IfOk result (λ found. IfSome found (λ root. reads text.now ctx.new.tree root)) };
 
-    /// Prints the operation, which stands.
+    /// Prints the operation. Asks that the operation stands (`is_live` tests it). Errors: want of memory.
     fn print(alloc: Global, root: Ptr<Operation>, ctx: &Context) -> Result<String, OptError>
         requires { IsLive ctx.now.tree root }
         ensures { IfOk result (λ printed. prints ctx.now.tree root (string_bytes printed)) };

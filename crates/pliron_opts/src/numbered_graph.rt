@@ -17,7 +17,7 @@ pub struct NumberedGraph {
 }
 
 impl NumberedGraph {
-    /// The number of a node.
+    /// The number of a node. Cost: constant.
     pub fn number(&self, node: u32) -> u32 {
         self.numbers.get(node as usize).copied().unwrap_or(node)
     }

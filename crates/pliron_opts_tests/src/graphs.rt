@@ -24,13 +24,22 @@ fn expect_graph(
 }
 
 /// Graphs, and what is written of them.
-static GRAPHS: &str =
-    "0: 1 5|1: 2 4|2: 3 6|3: 4 2|4: 5 1|5:|6: 3| => post-order: [5 4 3 6 2 1 0]|topological: [0 1 2 6 3 4 5]|numbers: 0=0/6 1=1/5 2=2/4 3=3/2 4=4/1 5=5/0 6=6/3|edges: 0>1:Forward 0>5:Forward 1>2:Forward 1>4:Forward 2>3:Forward 2>6:Forward 3>4:Forward 3>2:Back 4>5:Forward 4>1:Back 6>3:Cross|components: [0] [6 4 3 2 1]* [5]|pre-sentinels: 5|
-0: 1 2|1: 3|2: 4|3:|4: 2|5: 3 => post-order: [3 1 4 2 0] [5]|topological: [0 2 4 1 3] [5]|numbers: 0=0/4 1=1/1 3=2/0 2=3/3 4=4/2|edges: 0>1:Forward 0>2:Forward 1>3:Forward 2>4:Forward 4>2:Back|components: [5] [0] [4 2]* [1] [3]|pre-sentinels: 4 3|
+static GRAPHS: &str = "\
+0: 1 5|1: 2 4|2: 3 6|3: 4 2|4: 5 1|5:|6: 3| \
+    => post-order: [5 4 3 6 2 1 0]|topological: [0 1 2 6 3 4 5]|numbers: 0=0/6 1=1/5 2=2/4 3=3/2 4=4/1 5=5/0 6=6/3|\
+        edges: 0>1:Forward 0>5:Forward 1>2:Forward 1>4:Forward 2>3:Forward 2>6:Forward 3>4:Forward 3>2:Back 4>5:Forward 4>1:Back 6>3:Cross|\
+        components: [0] [6 4 3 2 1]* [5]|pre-sentinels: 5|
+0: 1 2|1: 3|2: 4|3:|4: 2|5: 3 \
+    => post-order: [3 1 4 2 0] [5]|topological: [0 2 4 1 3] [5]|numbers: 0=0/4 1=1/1 3=2/0 2=3/3 4=4/2|\
+        edges: 0>1:Forward 0>2:Forward 1>3:Forward 2>4:Forward 4>2:Back|components: [5] [0] [4 2]* [1] [3]|pre-sentinels: 4 3|
 0:|1: 0| => post-order: [0] [1]|topological: [0] [1]|numbers: 0=0/0|edges:|components: [1] [0]|pre-sentinels: 0|
  => post-order:|topological:|numbers:|edges:|components:|pre-sentinels:|
-7: 4294967295 7 4294967295|4294967295: 7| => post-order: [4294967295 7]|topological: [7 4294967295]|numbers: 7=0/1 4294967295=1/0|edges: 7>4294967295:Forward 7>7:Back 7>4294967295:Forward 4294967295>7:Back|components: [4294967295 7]*|pre-sentinels: 4294967295|
-0: 2|1: 0 3|2: 0 4|3: 1|4:| => post-order: [4 2 0] [3 1]|topological: [0 2 4] [1 3]|numbers: 0=0/2 2=1/1 4=2/0|edges: 0>2:Forward 2>0:Back 2>4:Forward|components: [3 1]* [2 0]* [4]|pre-sentinels: 4|";
+7: 4294967295 7 4294967295|4294967295: 7| \
+    => post-order: [4294967295 7]|topological: [7 4294967295]|numbers: 7=0/1 4294967295=1/0|\
+        edges: 7>4294967295:Forward 7>7:Back 7>4294967295:Forward 4294967295>7:Back|components: [4294967295 7]*|pre-sentinels: 4294967295|
+0: 2|1: 0 3|2: 0 4|3: 1|4:| \
+    => post-order: [4 2 0] [3 1]|topological: [0 2 4] [1 3]|numbers: 0=0/2 2=1/1 4=2/0|edges: 0>2:Forward 2>0:Back 2>4:Forward|components: [3 1]* [2 0]* [4]|\
+        pre-sentinels: 4|";
 
 #[test]
 fn worked_graphs(rt: HostRuntime) {

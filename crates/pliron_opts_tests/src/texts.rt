@@ -67,19 +67,23 @@ fn propagation(text: &[u8]) -> Case<'_> {
 }
 
 /// Texts, and what is written of them, with ends of lines as `|`.
-static ROWS: &str =
-    "func { b0(): a = const 1; b = const 2; c = add a b; ret c } => func { b0(): v0 = const 1; v1 = const 2; v2 = const 3; v3 = add v0 v1; ret v2 }|changed|
-func { b0(): a = const 9223372036854775807; b = const 1; c = add a b; ret c } => func { b0(): v0 = const 9223372036854775807; v1 = const 1; v2 = const -9223372036854775808; v3 = add v0 v1; ret v2 }|changed|
+static ROWS: &str = "\
+func { b0(): a = const 1; b = const 2; c = add a b; ret c } => func { b0(): v0 = const 1; v1 = const 2; v2 = const 3; v3 = add v0 v1; ret v2 }|changed|
+func { b0(): a = const 9223372036854775807; b = const 1; c = add a b; ret c } \
+    => func { b0(): v0 = const 9223372036854775807; v1 = const 1; v2 = const -9223372036854775808; v3 = add v0 v1; ret v2 }|changed|
 func { b0(): ret } => func { b0(): ret }|unchanged|
-func { b0(): a = const 5; b = add a a; c = add b a; ret c b } => func { b0(): v0 = const 5; v1 = const 10; v2 = add v0 v0; v3 = const 15; v4 = add v1 v0; ret v3 v1 }|changed|
+func { b0(): a = const 5; b = add a a; c = add b a; ret c b } \
+    => func { b0(): v0 = const 5; v1 = const 10; v2 = add v0 v0; v3 = const 15; v4 = add v1 v0; ret v3 v1 }|changed|
 func{b0():a=const -9223372036854775808;b=add a a;ret} => func { b0(): v0 = const -9223372036854775808; v1 = const 0; v2 = add v0 v0; ret }|changed|
 func { a(): a = const 7; ret a a } => func { b0(): v0 = const 7; ret v0 v0 }|unchanged|
 mod { } => mod { }|unchanged|
 func { b0(): a = read; ret a } => func { b0(): v0 = read; ret v0 }|unchanged|
 func { b0(): a = add a a; ret a } => func { b0(): v0 = add v0 v0; ret v0 }|unchanged|
 func { b0(): ret; ret } => func { b0(): ret; ret }|unchanged|
-func { b0(): z = const 0; br b1(z); b1(i): r = read; cbr r b1(i) b2(); b2(): ret i } => func { b0(): v0 = const 0; br b1(v0); b1(v1): v2 = const 0; v3 = read; cbr v3 b1(v2) b2(); b2(): ret v2 }|changed|
-func { b0(): a = const 2; scope { b0(): b = add a a; print b; ret }; ret } => func { b0(): v0 = const 2; scope { b0(): v1 = const 4; v2 = add v0 v0; print v1; ret }; ret }|changed|
+func { b0(): z = const 0; br b1(z); b1(i): r = read; cbr r b1(i) b2(); b2(): ret i } \
+    => func { b0(): v0 = const 0; br b1(v0); b1(v1): v2 = const 0; v3 = read; cbr v3 b1(v2) b2(); b2(): ret v2 }|changed|
+func { b0(): a = const 2; scope { b0(): b = add a a; print b; ret }; ret } \
+    => func { b0(): v0 = const 2; scope { b0(): v1 = const 4; v2 = add v0 v0; print v1; ret }; ret }|changed|
 mod { b0(): func { b0(): a = const 1; b = add a a; ret b } } => mod { b0(): func { b0(): v0 = const 1; v1 = const 2; v2 = add v0 v0; ret v1 } }|changed|";
 
 #[test]
@@ -98,20 +102,24 @@ fn rows(rt: HostRuntime) {
 }
 
 /// Lists of passes and texts, and what is written of them.
-static LISTS: &str =
-    "sccp,dce :: func { b0(): a = const 1; b = const 2; c = add a b; ret c } => func { b0(): v0 = const 3; ret v0 }|changed|
-sccp,sccp :: func { b0(): a = const 1; b = const 2; c = add a b; ret c } => func { b0(): v0 = const 1; v1 = const 2; v2 = const 3; v3 = const 3; v4 = add v0 v1; ret v2 }|changed|
+static LISTS: &str = "\
+sccp,dce :: func { b0(): a = const 1; b = const 2; c = add a b; ret c } => func { b0(): v0 = const 3; ret v0 }|changed|
+sccp,sccp :: func { b0(): a = const 1; b = const 2; c = add a b; ret c } \
+    => func { b0(): v0 = const 1; v1 = const 2; v2 = const 3; v3 = const 3; v4 = add v0 v1; ret v2 }|changed|
 sccp,dce :: func { b0(): a = const 1; z = const 0; d = div a z; ret a } => func { b0(): v0 = const 1; v1 = const 0; v2 = div v0 v1; ret v0 }|unchanged|
-sccp,dce :: func { b0(): a = const 7; b = const -2; d = div a b; ret d } => func { b0(): v0 = const 7; v1 = const -2; v2 = const -3; v3 = div v0 v1; ret v2 }|changed|
+sccp,dce :: func { b0(): a = const 7; b = const -2; d = div a b; ret d } \
+    => func { b0(): v0 = const 7; v1 = const -2; v2 = const -3; v3 = div v0 v1; ret v2 }|changed|
 sccp,dce :: func { b0(x): z = const 0; m = mul x z; ret m } => func { b0(v0): v1 = const 0; ret v1 }|changed|
 dce,dce :: func { b0(): x = const 1; br b1(x); b1(a): c = const 7; ret c } => func { b0(): br b1(); b1(): v0 = const 7; ret v0 }|changed|
 dce :: func { b0(): a = const 1; z = const 0; d = div a z; ret a } => func { b0(): v0 = const 1; v1 = const 0; v2 = div v0 v1; ret v0 }|unchanged|
 dce :: func { b0(): l, r = pair; sink l l r r; br b1(l, r); b1(a, b): k = const 99; ret k } => func { b0(): br b1(); b1(): v0 = const 99; ret v0 }|changed|
 dce :: func { b0(): k = const 4; box { b0(): sink k }; ret } => func { b0(): ret }|changed|
-dce :: func { b0(): z = const 0; br b1(z); b1(i): r = read; cbr r b1(i) b2(); b2(): ret } => func { b0(): v0 = const 0; br b1(v0); b1(v1): v2 = read; cbr v2 b1(v1) b2(); b2(): ret }|unchanged|
+dce :: func { b0(): z = const 0; br b1(z); b1(i): r = read; cbr r b1(i) b2(); b2(): ret } \
+    => func { b0(): v0 = const 0; br b1(v0); b1(v1): v2 = read; cbr v2 b1(v1) b2(); b2(): ret }|unchanged|
 dce :: func { b0(x): fork x b1 b1; b1(p): ret } => func { b0(v0): fork v0 b1 b1; b1(v1): ret }|unchanged|
 dce :: func { b0(x): cbr x b1(x) b1(x); b1(p): ret } => func { b0(v0): cbr v0 b1() b1(); b1(): ret }|changed|
-simplify-cfg :: func { b0(): a = const 1; br b1(a); b1(p): cbr p b2() b3(); b2(): ret p; b3(): ret } => func { b0(): v0 = const 1; cbr v0 b1() b2(); b1(): ret v0; b2(): ret }|changed|
+simplify-cfg :: func { b0(): a = const 1; br b1(a); b1(p): cbr p b2() b3(); b2(): ret p; b3(): ret } \
+    => func { b0(): v0 = const 1; cbr v0 b1() b2(); b1(): ret v0; b2(): ret }|changed|
 simplify-cfg :: func { b0(): br b1(); b1(): br b2(); b2(): br b1() } => func { b0(): br b1(); b1(): br b1() }|changed|
 simplify-cfg :: mod { } => mod { }|unchanged|
 simplify-cfg :: func { b0(): ret } => func { b0(): ret }|unchanged|
@@ -119,30 +127,46 @@ simplify-cfg :: func { b0(): br b0() } => func { b0(): br b0() }|unchanged|
 simplify-cfg :: func { b0(): c = const 0; d = const 2; cbr c b1(c) b1(d); b1(p): ret p } => func { b0(): v0 = const 0; v1 = const 2; ret v1 }|changed|
 simplify-cfg :: func { b0(): br b1(p); b1(p): ret p } => func { b0(): br b1(v0); b1(v0): ret v0 }|unchanged|
 simplify-cfg :: func { b0(): br b1(); b1(p): ret p } => func { b0(): br b1(); b1(v0): ret v0 }|unchanged|
-simplify-cfg :: mod { b0(): func { b0(): br b1(); b1(): ret }; b1(): func { b0(): br b1(); b1(): ret } } => mod { b0(): func { b0(): ret }; b1(): func { b0(): br b1(); b1(): ret } }|changed|
-sccp,simplify-cfg,dce :: func { b0(): c = const 1; x = const 5; cbr c b1(x) b2(); b1(p): br b3(p); b2(): y = const 6; br b3(y); b3(q): ret q } => func { b0(): v0 = const 5; ret v0 }|changed|
+simplify-cfg :: mod { b0(): func { b0(): br b1(); b1(): ret }; b1(): func { b0(): br b1(); b1(): ret } } \
+    => mod { b0(): func { b0(): ret }; b1(): func { b0(): br b1(); b1(): ret } }|changed|
+sccp,simplify-cfg,dce :: func { b0(): c = const 1; x = const 5; cbr c b1(x) b2(); b1(p): br b3(p); b2(): y = const 6; br b3(y); b3(q): ret q } \
+    => func { b0(): v0 = const 5; ret v0 }|changed|
 sccp,simplify-cfg,dce :: func { b0(): a = const 1; br b1(a); b1(p): cbr p b2() b3(); b2(): ret p; b3(): ret } => func { b0(): v0 = const 1; ret v0 }|changed|
-nested:simplify-cfg :: mod { b0(): func { b0(): br b1(); b1(): ret }; b1(): func { b0(): br b1(); b1(): ret } } => mod { b0(): func { b0(): ret }; b1(): func { b0(): ret } }|changed|
+nested:simplify-cfg :: mod { b0(): func { b0(): br b1(); b1(): ret }; b1(): func { b0(): br b1(); b1(): ret } } \
+    => mod { b0(): func { b0(): ret }; b1(): func { b0(): ret } }|changed|
 nested:simplify-cfg :: func { b0(): br b1(); b1(): ret } => func { b0(): br b1(); b1(): ret }|unchanged|
 nested:dce :: func { b0(): k = const 4; box { b0(): sink k }; ret } => func { b0(): v0 = const 4; box { b0(): }; ret }|changed|
-nested:sccp,dce :: mod { b0(): func { b0(): a = const 1; b = const 2; c = add a b; ret c }; func { b0(): ret } } => mod { b0(): func { b0(): v0 = const 3; ret v0 }; func { b0(): ret } }|changed|
+nested:sccp,dce :: mod { b0(): func { b0(): a = const 1; b = const 2; c = add a b; ret c }; func { b0(): ret } } \
+    => mod { b0(): func { b0(): v0 = const 3; ret v0 }; func { b0(): ret } }|changed|
 nested:dce :: mod { } => mod { }|unchanged|
 repeat:8:simplify-cfg :: func { b0(): a = const 1; br b1(a); b1(p): cbr p b2() b3(); b2(): ret p; b3(): ret } => func { b0(): v0 = const 1; ret v0 }|changed|
-repeat:1:simplify-cfg :: func { b0(): a = const 1; br b1(a); b1(p): cbr p b2() b3(); b2(): ret p; b3(): ret } => func { b0(): v0 = const 1; cbr v0 b1() b2(); b1(): ret v0; b2(): ret }|changed|
-repeat:2:sccp :: func { b0(): a = const 1; b = const 2; c = add a b; ret c } => func { b0(): v0 = const 1; v1 = const 2; v2 = const 3; v3 = const 3; v4 = add v0 v1; ret v2 }|changed|
-repeat:3:sccp :: func { b0(): a = const 1; b = const 2; c = add a b; ret c } => func { b0(): v0 = const 1; v1 = const 2; v2 = const 3; v3 = const 3; v4 = const 3; v5 = add v0 v1; ret v2 }|changed|
+repeat:1:simplify-cfg :: func { b0(): a = const 1; br b1(a); b1(p): cbr p b2() b3(); b2(): ret p; b3(): ret } \
+    => func { b0(): v0 = const 1; cbr v0 b1() b2(); b1(): ret v0; b2(): ret }|changed|
+repeat:2:sccp :: func { b0(): a = const 1; b = const 2; c = add a b; ret c } \
+    => func { b0(): v0 = const 1; v1 = const 2; v2 = const 3; v3 = const 3; v4 = add v0 v1; ret v2 }|changed|
+repeat:3:sccp :: func { b0(): a = const 1; b = const 2; c = add a b; ret c } \
+    => func { b0(): v0 = const 1; v1 = const 2; v2 = const 3; v3 = const 3; v4 = const 3; v5 = add v0 v1; ret v2 }|changed|
 repeat:8:sccp,dce :: func { b0(): a = const 1; b = const 2; c = add a b; ret c } => func { b0(): v0 = const 3; ret v0 }|changed|
 repeat:64:dce :: func { b0(): ret } => func { b0(): ret }|unchanged|
 simplify-cfg :: func { b0(): a = const 1; b = const 2; c = add a b; ret c } => func { b0(): v0 = const 1; v1 = const 2; v2 = add v0 v1; ret v2 }|unchanged|
-sccp :: func { b0(): c = const 1; x = const 5; cbr c b1(x) b2(); b1(p): br b3(p); b2(): y = const 6; br b3(y); b3(q): ret q } => func { b0(): v0 = const 1; v1 = const 5; cbr v0 b1(v1) b2(); b1(v2): v3 = const 5; br b3(v3); b2(): v4 = const 6; br b3(v4); b3(v5): v6 = const 5; ret v6 }|changed|
-dce :: func { b0(): c = const 1; x = const 5; cbr c b1(x) b2(); b1(p): br b3(p); b2(): y = const 6; br b3(y); b3(q): ret q } => func { b0(): v0 = const 1; v1 = const 5; cbr v0 b1(v1) b2(); b1(v2): br b3(v2); b2(): v3 = const 6; br b3(v3); b3(v4): ret v4 }|unchanged|
-simplify-cfg :: func { b0(): c = const 1; x = const 5; cbr c b1(x) b2(); b1(p): br b3(p); b2(): y = const 6; br b3(y); b3(q): ret q } => func { b0(): v0 = const 1; v1 = const 5; ret v1 }|changed|
-sccp :: func { b0(): l, r = pair; sink l l r r; br b1(l, r); b1(a, b): k = const 99; ret k } => func { b0(): v0, v1 = pair; sink v0 v0 v1 v1; br b1(v0, v1); b1(v2, v3): v4 = const 99; ret v4 }|unchanged|
-simplify-cfg :: func { b0(): l, r = pair; sink l l r r; br b1(l, r); b1(a, b): k = const 99; ret k } => func { b0(): v0, v1 = pair; sink v0 v0 v1 v1; v2 = const 99; ret v2 }|changed|
+sccp :: func { b0(): c = const 1; x = const 5; cbr c b1(x) b2(); b1(p): br b3(p); b2(): y = const 6; br b3(y); b3(q): ret q } \
+    => func { b0(): v0 = const 1; v1 = const 5; cbr v0 b1(v1) b2(); b1(v2): v3 = const 5; br b3(v3); b2(): v4 = const 6; br b3(v4); \
+        b3(v5): v6 = const 5; ret v6 }|changed|
+dce :: func { b0(): c = const 1; x = const 5; cbr c b1(x) b2(); b1(p): br b3(p); b2(): y = const 6; br b3(y); b3(q): ret q } \
+    => func { b0(): v0 = const 1; v1 = const 5; cbr v0 b1(v1) b2(); b1(v2): br b3(v2); b2(): v3 = const 6; br b3(v3); b3(v4): ret v4 }|unchanged|
+simplify-cfg :: func { b0(): c = const 1; x = const 5; cbr c b1(x) b2(); b1(p): br b3(p); b2(): y = const 6; br b3(y); b3(q): ret q } \
+    => func { b0(): v0 = const 1; v1 = const 5; ret v1 }|changed|
+sccp :: func { b0(): l, r = pair; sink l l r r; br b1(l, r); b1(a, b): k = const 99; ret k } \
+    => func { b0(): v0, v1 = pair; sink v0 v0 v1 v1; br b1(v0, v1); b1(v2, v3): v4 = const 99; ret v4 }|unchanged|
+simplify-cfg :: func { b0(): l, r = pair; sink l l r r; br b1(l, r); b1(a, b): k = const 99; ret k } \
+    => func { b0(): v0, v1 = pair; sink v0 v0 v1 v1; v2 = const 99; ret v2 }|changed|
 dce,simplify-cfg :: func { b0(): l, r = pair; sink l l r r; br b1(l, r); b1(a, b): k = const 99; ret k } => func { b0(): v0 = const 99; ret v0 }|changed|
-sccp :: func { b0(): a = const 1; br b1(a); b1(p): cbr p b2() b3(); b2(): ret p; b3(): ret } => func { b0(): v0 = const 1; br b1(v0); b1(v1): v2 = const 1; cbr v2 b2() b3(); b2(): ret v2; b3(): ret }|changed|
-dce :: func { b0(): a = const 1; br b1(a); b1(p): cbr p b2() b3(); b2(): ret p; b3(): ret } => func { b0(): v0 = const 1; br b1(v0); b1(v1): cbr v1 b2() b3(); b2(): ret v1; b3(): ret }|unchanged|
-repeat:10:nested:simplify-cfg :: mod { b0(): func { b0(): br b1(); b1(): ret }; b1(): func { b0(): br b1(); b1(): ret } } => mod { b0(): func { b0(): ret }; b1(): func { b0(): ret } }|changed|";
+sccp :: func { b0(): a = const 1; br b1(a); b1(p): cbr p b2() b3(); b2(): ret p; b3(): ret } \
+    => func { b0(): v0 = const 1; br b1(v0); b1(v1): v2 = const 1; cbr v2 b2() b3(); b2(): ret v2; b3(): ret }|changed|
+dce :: func { b0(): a = const 1; br b1(a); b1(p): cbr p b2() b3(); b2(): ret p; b3(): ret } \
+    => func { b0(): v0 = const 1; br b1(v0); b1(v1): cbr v1 b2() b3(); b2(): ret v1; b3(): ret }|unchanged|
+repeat:10:nested:simplify-cfg :: mod { b0(): func { b0(): br b1(); b1(): ret }; b1(): func { b0(): br b1(); b1(): ret } } \
+    => mod { b0(): func { b0(): ret }; b1(): func { b0(): ret } }|changed|";
 
 #[test]
 fn lists(rt: HostRuntime) {

@@ -49,12 +49,13 @@ pub trait Analyses: AnalysisKind {
     fn needs(kind: Self::Kind) -> usize
         ensures { result ≡ needs kind };
 
-    /// The ith of them.
+    /// The ith of them. Asks that there are so many (`needs` tests it).
     fn need(kind: Self::Kind, i: usize) -> Self::Kind
         requires { i < needs kind }
         ensures { result ≡ need kind i };
 
-    /// Computes an analysis from its needs, which are cached.
+    /// Computes an analysis from its needs. Asks that the operation stands and that the needs are cached.
+    /// Errors: those of the analysis.
     fn compute(
         alloc: Global,
         kind: Self::Kind,
@@ -81,8 +82,11 @@ pub trait Analyses: AnalysisKind {
 }
 
 impl<E: Analyses + Drop> AnalysisManager<E> {
-    /// Computes an analysis and its needs, in order, where they are not cached, and puts it last. An
-    /// error leaves only entries of lower ranks added.
+    /// Computes an analysis and its needs, in order, where they are not cached, and puts it last.
+    ///
+    /// Asks that the operation stands (`is_live` tests it). Errors: want of memory, and those of the
+    /// analyses, which leave only entries of lower ranks added. Cost: a look-up for each need, and computing
+    /// what is not cached.
     pub fn compute_analysis(
         &mut self,
         kind: E::Kind,
@@ -129,7 +133,7 @@ impl<E: Analyses + Drop> AnalysisManager<E> {
 
     /// An answer that preserves the cached kinds that read edges alone.
     ///
-    /// Errors: want of memory.
+    /// Errors: want of memory. Cost: the number of entries in the cache.
     pub fn keep_edge_kinds(&self, changed: IRStatus) -> Result<PassResult<E::Kind>, OptError>
         ensures changed { IfOk result (λ r. has_changed r ≡ changed) }
         ensures kept { IfOk result (λ r. kept_kinds r ≡ edge_kinds E.Kind.eq E.reads_edges_alone self.now.cache.entries) }
@@ -143,7 +147,7 @@ impl<E: Analyses + Drop> AnalysisManager<E> {
         Ok(result)
     }
 
-    /// The entry, which can be written, where one is cached.
+    /// The entry, which can be written, where one is cached. Cost: one look-up.
     pub fn try_get_analysis_mut(&mut self, kind: E::Kind, op: Ptr<Operation>) -> Option<&mut E>
         ensures* writes_back { sem 𝓛 (LendsEntry E.row E.Kind.row E.Kind.Eq.own E.Kind.PartialEq E.Kind.Hash.own self.entry kind op result) }
         ensures value { option_copied_mut result ≡ cached_at E.Kind.eq self.old.cache.entries kind op }
@@ -152,6 +156,9 @@ impl<E: Analyses + Drop> AnalysisManager<E> {
     }
 
     /// The entry, which can be written, computed where it is not cached.
+    ///
+    /// Asks that the operation stands (`is_live` tests it). Errors: as `compute_analysis`. Cost: as
+    /// `compute_analysis`.
     pub fn get_analysis_mut(
         &mut self,
         kind: E::Kind,
@@ -169,6 +176,9 @@ impl<E: Analyses + Drop> AnalysisManager<E> {
     }
 
     /// The entry, computed where it is not cached.
+    ///
+    /// Asks that the operation stands (`is_live` tests it). Errors: as `compute_analysis`. Cost: as
+    /// `compute_analysis`.
     pub fn get_analysis(
         &mut self,
         kind: E::Kind,

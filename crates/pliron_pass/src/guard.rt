@@ -20,7 +20,7 @@ use std::ops::{Deref, DerefMut};
 pub trait Guard {
     ghost allows: { Self → ℕ → Tree → Bool };
 
-    /// Whether a pass may run on the operation, which stands.
+    /// Whether a pass may run on the operation. Asks that the operation stands (`is_live` tests it).
     fn is_allowed(&self, op: Ptr<Operation>, ctx: &Context) -> bool
         requires { IsLive ctx.now.tree op }
         ensures { result ≡ allows self.now op ctx.now.tree };
@@ -34,7 +34,7 @@ pub struct GuardedPass<G: Guard, P: Pass> {
 }
 
 impl<G: Guard, P: Pass> GuardedPass<G, P> {
-    /// The pass under the guard.
+    /// The pass under the guard. Cost: constant.
     pub fn new(guard: G, pass: P) -> Self
         ensures guard { result.guard ≡ guard }
         ensures pass { result.pass ≡ pass }
@@ -79,7 +79,7 @@ pub struct OpGuard<D: Dialect> {
 }
 
 impl<D: Dialect> OpGuard<D> {
-    /// Allows operations of this kind.
+    /// Allows operations of this kind. Cost: constant.
     pub fn new(kind: D::Kind) -> Self
         ensures { result.kind ≡ kind }
     {
@@ -103,7 +103,7 @@ pub struct OpInterfaceGuard<D: Dialect> {
 }
 
 impl<D: Dialect> OpInterfaceGuard<D> {
-    /// Allows operations that implement this interface.
+    /// Allows operations that implement this interface. Cost: constant.
     pub fn new(interface: Interface) -> Self
         ensures { result.interface ≡ interface }
     {

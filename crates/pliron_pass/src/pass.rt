@@ -34,8 +34,9 @@ pub trait Pass {
     fn name(&self) -> &str
         ensures { result.now ≡ name self.now };
 
-    /// Runs the pass on the operation, which stands and is well linked. The cache is to keep what the
-    /// answer preserves.
+    /// Runs the pass on the operation. The cache is to keep what the answer preserves.
+    ///
+    /// Asks that the operation stands and is well linked. Errors: those of the pass.
     fn run(
         &mut self,
         alloc: Global,

@@ -25,7 +25,7 @@ pub struct Passes<P: Pass> {
 }
 
 impl<P: Pass> Passes<P> {
-    /// No passes.
+    /// No passes. Cost: constant.
     pub fn new(alloc: Global) -> Self
         ensures { result.passes.items ≡ [] }
     {
@@ -34,7 +34,8 @@ impl<P: Pass> Passes<P> {
         }
     }
 
-    /// Adds a pass at the end. After want of memory the pass comes back, and the list is as it was.
+    /// Adds a pass at the end. Errors: want of memory, where the pass comes back, and the list is as it was.
+    /// Cost: constant, amortised.
     pub fn add_pass(&mut self, pass: P) -> Result<(), P>
         ensures added { OnOk result (self.new.passes.items ≡ self.old.passes.items ++ pass ∷ []) }
         ensures refused { OnErr result (self.new.passes.items ≡ self.old.passes.items) }

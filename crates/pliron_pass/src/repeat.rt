@@ -28,7 +28,7 @@ pub struct Repeat<P: Pass> {
 }
 
 impl<P: Pass> Repeat<P> {
-    /// The pass at most `max` times.
+    /// The pass at most `max` times. Cost: constant.
     pub fn new(max: usize, pass: P) -> Self
         ensures max { result.max ≡ max }
         ensures runs { result.runs ≡ 0 }
@@ -37,7 +37,7 @@ impl<P: Pass> Repeat<P> {
         Repeat { max, runs: 0, pass }
     }
 
-    /// How many inner runs the latest run began; 0 before any.
+    /// How many inner runs the latest run began; 0 before any. Cost: constant.
     pub fn runs(&self) -> usize
         ensures { result ≡ self.now.runs }
     {

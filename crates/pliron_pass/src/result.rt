@@ -18,7 +18,7 @@ pub struct PassResult<K: Eq + Hash> {
 }
 
 impl<K: Copy + Eq + Hash> PassResult<K> {
-    /// Unchanged, and nothing is preserved.
+    /// Unchanged, and nothing is preserved. Cost: constant.
     pub fn new(alloc: Global) -> Self
         ensures { IsNewAnswer result }
     {
@@ -30,7 +30,7 @@ impl<K: Copy + Eq + Hash> PassResult<K> {
 
     /// Names a kind as preserved.
     ///
-    /// Errors: want of memory, with nothing changed.
+    /// Errors: want of memory, which changes nothing. Cost: one look-up, amortised.
     pub fn set_preserved(&mut self, kind: K) -> Result<(), OptError>
         ensures kept { kept_kinds self.new ≡ (if is_ok result then insert_key K.eq (kept_kinds self.old) kind else kept_kinds self.old) }
         ensures changed { has_changed self.new ≡ has_changed self.old }

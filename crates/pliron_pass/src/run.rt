@@ -70,10 +70,13 @@ fn run_plain<P: Pass>(
 pub struct PassManager;
 
 impl PassManager {
-    /// Runs a pass. A pass manager is run as it is. Any other one is skipped where the configuration
-    /// names it; else the operation is verified before and after where the configuration says so, also
-    /// where the run failed, and the run is counted. A fault of verifying but want of memory is answered
-    /// as `VerifyBefore`, with nothing run, or as `VerifyAfter`, with nothing counted.
+    /// Runs a pass. A pass manager is run as it is. Any other one is skipped where the configuration names
+    /// it; else the operation is verified before and after where the configuration says so, also where the
+    /// run failed, and the run is counted.
+    ///
+    /// Asks that the operation stands and is well linked. Errors: those of the pass; a fault of verifying but
+    /// want of memory as `VerifyBefore`, with nothing run, or as `VerifyAfter`, with nothing counted. Cost:
+    /// that of the pass, one of `verify_operation` for each time that it verifies, and a few look-ups.
     pub fn run_pass<P: Pass>(
         pass: &mut P,
         alloc: Global,
@@ -95,7 +98,10 @@ impl PassManager {
     }
 }
 
-// Runs a pass, and keeps of the cache what it preserves.
+/// Runs a pass, and keeps of the cache what it preserves.
+///
+/// Asks that the operation stands and is well linked. Errors: as `run_pass`. Cost: as `run_pass`, and after
+/// `Changed` a look-up for each entry of the cache.
 pub fn run_inner<P: Pass>(
     pass: &mut P,
     alloc: Global,
@@ -114,8 +120,10 @@ pub fn run_inner<P: Pass>(
     Ok(result.ir_changed)
 }
 
-// Ends what ran inner passes: the answer preserves all that is cached, and after an error the cache is
-// empty.
+/// Ends what ran inner passes: the answer preserves all that is cached, and after an error the cache is
+/// empty.
+///
+/// Errors: the error that it is given, or want of memory. Cost: the number of entries in the cache.
 pub fn close<E: AnalysisKind + Drop>(
     ran: Result<IRStatus, OptError>,
     analyses: &mut AnalysisManager<E>,

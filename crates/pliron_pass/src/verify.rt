@@ -59,9 +59,12 @@ fn verify_each<D: Dialect>(alloc: Global, op: Ptr<Operation>, ctx: &Context) -> 
     verify_one::<D>(Interface::BranchFold, alloc, op, ctx)
 }
 
-/// The first error of the checks of `op` and then of each operation inside it, in pre-order; of each
-/// one those of the interfaces that it implements are called, side effects first, then removal of block
-/// arguments, folding by constants and folding of branches. Only reads.
+/// Checks `op` and then each operation inside it, in pre-order; of each one those of the interfaces that it
+/// implements are called, side effects first, then removal of block arguments, folding by constants and
+/// folding of branches. Only reads.
+///
+/// Asks that the operation stands (`is_live` tests it). Errors: the first fault that a check finds, or want
+/// of memory. Cost: one step for each operation, block and region, and what the checks cost.
 pub fn verify_operation<D: Dialect>(
     alloc: Global,
     op: Ptr<Operation>,

@@ -24,7 +24,8 @@ fn pipelines_are_honest<D: Dialect, E: Analyses + Drop>()
     lists_are_honest::<D, E>();
 }
 
-/// Each schedule is honest: where it answers `Unchanged`, the tree is the same but for spent keys.
+/// Each schedule is honest: where it answers `Unchanged`, the tree is the same but for spent keys. A law: it
+/// does nothing. Cost: constant.
 pub fn schedules_are_honest<D: Dialect, E: Analyses + Drop>()
     ensures { IsHonest ⟦<Schedule<D, E> as Pass>⟧.outcome }
 {

@@ -37,7 +37,8 @@ pub trait Optimisation {
     fn name() -> &'static str
         ensures { result.now ≡ name };
 
-    /// Optimises the operation, which stands and is well linked, and tells what changed.
+    /// Optimises the operation, and tells what changed. Asks that it stands and is well linked. Errors: those
+    /// of the optimisation.
     fn optimise(alloc: Global, op: Ptr<Operation>, ctx: &mut Context) -> Result<Effect, OptError>
         requires live { IsLive ctx.old.tree op }
         requires linked { IsWellLinked Self.D.meaning ctx.old.tree op }
@@ -55,7 +56,7 @@ pub struct OptimisingPass<O: Optimisation, E: Analyses + Drop> {
 }
 
 impl<O: Optimisation, E: Analyses + Drop> OptimisingPass<O, E> {
-    /// The pass, which has no state.
+    /// The pass, which has no state. Cost: constant.
     pub fn new() -> Self {
         OptimisingPass {
             of: PhantomData,

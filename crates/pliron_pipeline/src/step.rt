@@ -26,7 +26,7 @@ pub enum Step<D: Dialect, E: Analyses + Drop> {
 }
 
 impl<D: Dialect, E: Analyses + Drop> Step<D, E> {
-    /// The pass of this name: `sccp`, `dce` or `simplify-cfg`.
+    /// The pass of this name: `sccp`, `dce` or `simplify-cfg`. Cost: constant.
     pub fn from_name(name: &str) -> Option<Self>
         ensures { IfSome result (λ step. step_name step ≡ name.now) }
     {

@@ -35,7 +35,8 @@ impl From<AllocError> for Failure {
 }
 
 impl Failure {
-    /// Writes a line that says why, and answers the status. A failed write is ignored.
+    /// Writes a line that says why, and answers the status. A failed write is ignored. Cost: writing the
+    /// line.
     pub fn report<E: Write>(self, errors: &mut E) -> u8
         ensures { result ≡ status_of self }
     {

@@ -10,7 +10,8 @@ use std::io::{ErrorKind, Read, Write};
 /// The most bytes of a text.
 pub const MAX_TEXT: usize = 1_048_576;
 
-/// The input, of which no more is read than one byte past the longest text.
+/// The input, of which no more is read than one byte past the longest text. Errors: a read that fails, or
+/// want of memory. Cost: linear in the input, up to the longest text.
 pub fn read_input<R: Read>(alloc: Global, input: &mut R) -> Result<Vec<u8>, Failure>
     ensures read { IfOk result (λ text. Consumes (R.remaining input.old) (R.remaining input.new) text.items) }
     ensures few { IfOk result (λ text. length text.items ≤ 1048577) }
@@ -34,7 +35,8 @@ pub fn read_input<R: Read>(alloc: Global, input: &mut R) -> Result<Vec<u8>, Fail
     Err(Failure::Reading)
 }
 
-/// Writes the answer. After an error a first part of it is written.
+/// Writes the answer. Errors: a write that fails, after a first part of the answer. Cost: linear in the
+/// answer.
 pub fn write_answer<W: Write>(answer: &[u8], output: &mut W) -> Result<(), Failure>
     ensures whole { OnOk result (Appends (W.contents output.old) (W.contents output.new) answer.now) }
     ensures part { OnErr result (WritesPart (W.contents output.old) (W.contents output.new) answer.now) }

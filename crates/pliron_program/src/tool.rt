@@ -18,11 +18,12 @@ pub trait Tool {
     // what the command answers to an input
     ghost answers: { Self.Command → List ℕ → List ℕ → Type 0 };
 
-    /// What the words ask for, if they are understood.
+    /// What the words ask for, if they are understood. Errors: want of memory, or what the tool refuses.
     fn asked(alloc: Global, words: &[String]) -> Result<Option<Self::Command>, OptError>
         ensures { IfOk result (λ found. IfSome found (λ command. asks (map string_bytes words.now) command)) };
 
-    /// What the command answers to the input, if that is readable.
+    /// What the command answers to the input, if that is readable. Errors: want of memory, or what the tool
+    /// refuses.
     fn answer(
         alloc: Global,
         command: Self::Command,
@@ -54,9 +55,11 @@ fn answered<T: Tool, R: Read>(
 
 /// Runs the program on the words after its name and these streams, and answers its status.
 ///
-/// Faults are found in this order: words, reading, text, what the answer wants, writing. Nothing is
-/// written to `output` before the whole answer is known. Statuses: 0; 1 where the answer or memory was
-/// refused; 2 for the rest, each with a line on `errors`. A failed write to `errors` is ignored.
+/// Faults are found in this order: words, reading, text, what the answer wants, writing. Nothing is written
+/// to `output` before the whole answer is known. Statuses: 0; 1 where the answer or memory was refused; 2 for
+/// the rest, each with a line on `errors`. A failed write to `errors` is ignored.
+///
+/// Cost: reading and writing, and what the tool's answer costs.
 pub fn run<T: Tool, R: Read, W: Write, E: Write>(
     alloc: Global,
     words: &[String],

@@ -356,11 +356,12 @@ fn ask_edges<D: Dialect>(
     }
 }
 
-/// What the operation asks of the facts: the entries of its regions are entered, blocks that it may go
-/// to are reached with what is forwarded to them, and its results are at or below what it answers.
+/// What the operation demands of the facts: the entries of its regions are entered, blocks that it may go to
+/// are reached with what is forwarded to them, and its results are at or below what it answers. Reads the
+/// facts and changes nothing.
 ///
-/// Reads the facts and changes nothing. Errors: want of memory. Cost: one step for each operand,
-/// result, region, successor and argument of these, and what the dialect's answers cost.
+/// Asks that the operation stands (`is_live` tests it). Errors: want of memory. Cost: one step for each
+/// operand, result, region, successor and argument of these, and what the dialect's answers cost.
 pub fn demands<D: Dialect>(
     alloc: Global,
     op: Ptr<Operation>,

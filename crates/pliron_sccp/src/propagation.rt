@@ -19,7 +19,7 @@ use std::alloc::Global;
 /// something from a worklist: with r blocks that are reached and, made in these, c constants and n values
 /// that are not constant, at least r + c + n and at most r + c + 2 n times.
 ///
-/// Asks, errors and cost: those of `sccp`.
+/// Asks that the operation stands and is well linked. Errors: as `sccp`. Cost: as `sccp`.
 pub fn sccp_counted<D: Dialect>(
     alloc: Global,
     op: Ptr<Operation>,

@@ -24,7 +24,9 @@ pub struct Fold {
 
 /// Folds one operation in place by facts about the first tree.
 ///
-/// Errors: want of memory, after which the tree is one that the facts still follow.
+/// Asks that the tree came from the first one by such steps, so that the facts still hold of the operation.
+/// Errors: want of memory, after which the tree is one that the facts still follow. Cost: that of the
+/// dialect's `fold_in_place`.
 pub fn fold_one<D: Dialect, R: Rewriter + Room>(
     alloc: Global,
     fold: &Fold,
@@ -48,7 +50,8 @@ pub fn fold_one<D: Dialect, R: Rewriter + Room>(
 
 /// Folds these operations in place, one after the other.
 ///
-/// Errors: want of memory, after some of the folds.
+/// Asks that the tree came from the first one by such steps, so that the facts still hold of the operations.
+/// Errors: want of memory, after some of the folds. Cost: that of the dialect's `fold_in_place` for each.
 pub fn fold_all<D: Dialect, R: Rewriter + Room>(
     alloc: Global,
     folds: &[Fold],
@@ -80,7 +83,9 @@ pub struct ConstantArgument {
 
 /// Puts a constant first in its block for an argument, by facts about the first tree.
 ///
-/// Errors: want of memory, which leaves the tree as it was but for spent keys.
+/// Asks that the tree came from the first one by such steps, so that the facts still hold of the argument.
+/// Errors: want of memory, which leaves the tree as it was but for spent keys. Cost: that of
+/// `replace_argument_by_constant`.
 pub fn put_argument<D: Dialect, R: Rewriter + Room>(
     alloc: Global,
     argument: &ConstantArgument,
@@ -109,7 +114,8 @@ pub fn put_argument<D: Dialect, R: Rewriter + Room>(
 
 /// Puts constants for these arguments, one after the other.
 ///
-/// Errors: want of memory, after some of them.
+/// Asks that the tree came from the first one by such steps, so that the facts still hold of the arguments.
+/// Errors: want of memory, after some of them. Cost: that of `replace_argument_by_constant` for each.
 pub fn put_all<D: Dialect, R: Rewriter + Room>(
     alloc: Global,
     arguments: &[ConstantArgument],
@@ -141,7 +147,8 @@ pub struct Found {
 
 /// Rewrites a tree by what was found of it: first the folds, then the arguments.
 ///
-/// Errors: want of memory, after some whole rewrites.
+/// Asks that what was found is of this tree. Errors: want of memory, after some whole rewrites. Cost: that of
+/// `fold_in_place` for each fold, and of `replace_argument_by_constant` for each argument.
 pub fn rewrite<D: Dialect, R: Rewriter + Room>(
     alloc: Global,
     found: &Found,

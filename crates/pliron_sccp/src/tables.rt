@@ -67,6 +67,13 @@ impl Fact {
 }
 
 /// The facts that were found so far, and what waits. A value that was never entered is not a constant.
+///
+/// ```text
+/// facts     value -> Undetermined | Constant | NotAConstant     a fact falls, from left to right
+/// reached   blocks that a run may come to                       a block joins, and never leaves
+/// blocks    those reached that were not looked through yet      taken one at a time, the last one first
+/// values    those whose facts fell since they were taken        taken all at once, when no block waits
+/// ```
 #[derive(Drop)]
 pub struct Solver {
     facts: HashMap<Value, Fact>,
@@ -76,7 +83,7 @@ pub struct Solver {
 }
 
 impl Solver {
-    /// No block is reached, no value is a constant, and nothing waits. Takes no memory.
+    /// No block is reached, no value is a constant, and nothing waits. Takes no memory. Cost: constant.
     pub fn new(alloc: Global) -> Self
         ensures { IsEmptySolver result }
     {
@@ -88,7 +95,7 @@ impl Solver {
         }
     }
 
-    /// The fact of the value; `None` where it was never entered, and is not a constant.
+    /// The fact of the value; `None` where it was never entered, and is not a constant. Cost: one look-up.
     pub fn fact(&self, value: Value) -> Option<&Fact>
         ensures entered { IfSome result (λ fact. meant fact.now ≡ fact_in self.now value) }
         ensures never { IfNone result (fact_in self.now value ≡ Varies) }
@@ -109,14 +116,14 @@ impl Solver {
         }
     }
 
-    /// Whether the block is reached.
+    /// Whether the block is reached. Cost: one look-up.
     pub fn reaches(&self, block: Ptr<BasicBlock>) -> bool
         ensures { result ≡ reaches self.now block }
     {
         self.reached.contains(&block)
     }
 
-    /// Whether the block waits.
+    /// Whether the block waits. Cost: one look-up.
     pub fn waits(&self, block: Ptr<BasicBlock>) -> bool
         ensures { result ≡ waits_block self.now block }
     {
@@ -125,7 +132,7 @@ impl Solver {
 
     /// Nothing is known of the value any more.
     ///
-    /// Errors: want of memory.
+    /// Errors: want of memory. Cost: one look-up, amortised.
     pub fn track(&mut self, value: Value) -> Result<(), OptError>
         ensures tracked { OnOk result (Tracks (value ∷ []) self.old self.new) }
         ensures err { IfErr result (λ e. e ≡ Memory) }
@@ -136,7 +143,7 @@ impl Solver {
 
     /// The block is reached, and waits if it was not.
     ///
-    /// Errors: want of memory.
+    /// Errors: want of memory. Cost: two look-ups, amortised.
     pub fn enter(&mut self, block: Ptr<BasicBlock>) -> Result<(), OptError>
         ensures reached { OnOk result ((b : ℕ) → reaches self.new b ≡ (if nat_eq block b then true else reaches self.old b)) }
         ensures again { OnOk result (reaches self.old block ≡ true → (b : ℕ) → waits_block self.new b ≡ waits_block self.old b) }
@@ -151,10 +158,10 @@ impl Solver {
         Ok(())
     }
 
-    /// The fact of the value falls to the greatest one below it and this one, and the value waits if
-    /// that is another one than before.
+    /// The fact of the value falls to the greatest one below it and this one, and the value waits if that is
+    /// another one than before.
     ///
-    /// Errors: want of memory.
+    /// Errors: want of memory. Cost: three look-ups, amortised, and comparing two attributes.
     pub fn lower(&mut self, value: Value, to: Fact) -> Result<(), OptError>
         ensures lowered { OnOk result (Lowers value (meant to) self.old self.new) }
         ensures err { IfErr result (λ e. e ≡ Memory) }
@@ -170,7 +177,7 @@ impl Solver {
         Ok(())
     }
 
-    /// One of the blocks that wait, which waits no longer; `None` where none waits.
+    /// One of the blocks that wait, which waits no longer; `None` where none waits. Cost: one look-up.
     pub fn next_block(&mut self) -> Option<Ptr<BasicBlock>>
         ensures taken { IfSome result (λ block. TakesBlock block self.old self.new) }
         ensures none { IfNone result (NoBlockWaits self.old self.new) }
@@ -178,7 +185,7 @@ impl Solver {
         self.blocks.pop()
     }
 
-    /// All values that wait, which wait no longer. Takes no memory.
+    /// All values that wait, which wait no longer. Takes no memory. Cost: constant.
     pub fn take_values(&mut self, alloc: Global) -> IndexSet<Value>
         ensures { TakesValues result.keys self.old self.new }
     {

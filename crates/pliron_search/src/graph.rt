@@ -10,7 +10,7 @@ use std::hash::Hash;
 
 /// A node that has a text to be shown by.
 pub trait HasLabel<C> {
-    /// The text that shows the node. Its only error is want of memory.
+    /// The text that shows the node. Errors: want of memory.
     fn label(&self, alloc: Global, ctx: &C) -> Result<String, OptError>
         ensures memory { IsOkUnless result OptError.Memory };
 }
@@ -30,20 +30,23 @@ pub trait ControlFlowGraph<C> {
     // It may be read in the context.
     ghost is_lawful: { Self → C → Type 0 };
 
-    /// How many successors `node` has. Takes no memory.
+    /// How many successors `node` has. Asks that the graph may be read in the context and has the node. Takes
+    /// no memory.
     fn num_successors(&self, ctx: &C, node: &Self::Node) -> usize
         requires lawful { is_lawful self.now ctx.now }
         requires member { Contains (graph self.now ctx.now).nodes node.now }
         ensures { result ≡ length ((graph self.now ctx.now).succ node.now) };
 
-    /// The successor of `node` at index `i`, which has to be in range. Takes no memory.
+    /// The successor of `node` at index `i`. Asks that the graph may be read in the context, has the node,
+    /// and has so many successors of it (`num_successors` tests it). Takes no memory.
     fn get_successor(&self, ctx: &C, node: &Self::Node, i: usize) -> Self::Node
         requires lawful { is_lawful self.now ctx.now }
         requires member { Contains (graph self.now ctx.now).nodes node.now }
         requires in_range { i < length ((graph self.now ctx.now).succ node.now) }
         ensures { slice_get ((graph self.now ctx.now).succ node.now) i ≡ Some result };
 
-    /// The successors of `node`, by index. Its only error is want of memory.
+    /// The successors of `node`, by index. Asks that the graph may be read in the context and has the node.
+    /// Errors: want of memory. Cost: a read for each successor.
     fn successors(
         &self,
         alloc: Global,
@@ -63,20 +66,23 @@ pub trait ControlFlowGraph<C> {
         Ok(all)
     }
 
-    /// How many predecessors `node` has. Takes no memory.
+    /// How many predecessors `node` has. Asks that the graph may be read in the context and has the node.
+    /// Takes no memory.
     fn num_predecessors(&self, ctx: &C, node: &Self::Node) -> usize
         requires lawful { is_lawful self.now ctx.now }
         requires member { Contains (graph self.now ctx.now).nodes node.now }
         ensures { result ≡ length ((graph self.now ctx.now).pred node.now) };
 
-    /// The predecessor of `node` at index `i`, which has to be in range. Takes no memory.
+    /// The predecessor of `node` at index `i`. Asks that the graph may be read in the context, has the node,
+    /// and has so many predecessors of it (`num_predecessors` tests it). Takes no memory.
     fn get_predecessor(&self, ctx: &C, node: &Self::Node, i: usize) -> Self::Node
         requires lawful { is_lawful self.now ctx.now }
         requires member { Contains (graph self.now ctx.now).nodes node.now }
         requires in_range { i < length ((graph self.now ctx.now).pred node.now) }
         ensures { slice_get ((graph self.now ctx.now).pred node.now) i ≡ Some result };
 
-    /// The predecessors of `node`, by index. Its only error is want of memory.
+    /// The predecessors of `node`, by index. Asks that the graph may be read in the context and has the node.
+    /// Errors: want of memory. Cost: a read for each predecessor.
     fn predecessors(
         &self,
         alloc: Global,
@@ -96,19 +102,22 @@ pub trait ControlFlowGraph<C> {
         Ok(all)
     }
 
-    /// The node that a traversal starts from, if there is one. Takes no memory.
+    /// The node that a traversal starts from, if there is one. Asks that the graph may be read in the
+    /// context. Takes no memory.
     fn entry_node(&self, ctx: &C) -> Option<Self::Node>
         requires { is_lawful self.now ctx.now }
         ensures { result ≡ (graph self.now ctx.now).entry };
 
-    /// All nodes, in the order in which walks start from them. Its only error is want of memory.
+    /// All nodes, in the order in which walks start from them. Asks that the graph may be read in the
+    /// context. Errors: want of memory.
     fn nodes(&self, alloc: Global, ctx: &C) -> Result<Vec<Self::Node>, OptError>
         requires { is_lawful self.now ctx.now }
         ensures list { IfOk result (λ r. r.items ≡ (graph self.now ctx.now).nodes) }
         ensures memory { IsOkUnless result OptError.Memory };
 
-    /// The same graph by adjacency lists, if it has them: node k of the lists is the k-th of all nodes, and the entry is the first. A
-    /// search then looks up no node. `None` where it does not say. Takes no memory.
+    /// The same graph by adjacency lists, if it has them: node k of the lists is the k-th of all nodes, and
+    /// the entry is the first. A search then looks up no node. `None` where it does not say. Asks that the
+    /// graph may be read in the context. Takes no memory. Cost: constant.
     fn by_number(&self, _ctx: &C) -> Option<&AdjacencyList>
         requires { is_lawful self.now _ctx.now }
         ensures { IfSome result (λ lists. IsByNumber (graph self.now _ctx.now) lists.now) }

@@ -20,6 +20,7 @@ impl<'a, N> Model for OrderIter<'a, N> {
 }
 
 impl<'a, N> OrderIter<'a, N> {
+    /// All these nodes are left, from the first on. Cost: constant.
     pub fn new(order: &'a [N]) -> Self
         ensures { result ≡ order.now }
     {
@@ -80,6 +81,7 @@ impl<'a, N> Model for ReverseOrderIter<'a, N> {
 }
 
 impl<'a, N> ReverseOrderIter<'a, N> {
+    /// All these nodes are left, from the last on. Cost: constant.
     pub fn new(order: &'a [N]) -> Self
         ensures { result ≡ reverse order.now }
     {

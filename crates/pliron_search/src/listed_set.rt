@@ -20,7 +20,7 @@ pub trait ListedSet<N: Eq>: Drop {
     fn empty(alloc: Global) -> Self
         ensures empty { listed result ≡ [] };
 
-    /// Inserts a member last, unless it is one already. Answers whether it was none. Its only error is want of memory.
+    /// Inserts a member last, unless it is one already. Answers whether it was none. Errors: want of memory.
     fn insert(&mut self, member: N) -> Result<bool, OptError>
         ensures added { IfOk result (λ r. r ≡ not (list_any (N.eq member) (listed self.old))) }
         ensures keys { OnOk result (listed self.new ≡ insert_key N.eq (listed self.old) member) }

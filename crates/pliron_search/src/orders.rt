@@ -13,10 +13,11 @@ use std::alloc::Global;
 
 /// The walks of a depth-first search that starts from each node in listed order.
 ///
-/// A walk starts from the first listed node that no earlier walk holds, takes successors by index, and lists a node when all its
-/// successors are done. So a walk ends with the node that it started from. Its only error is want of memory.
+/// A walk starts from the first listed node that no earlier walk holds, takes successors by index, and lists
+/// a node when all its successors are done. So a walk ends with the node that it started from.
 ///
-/// Cost: a few reads for each node and each edge of a graph that has numbers, and as many look-ups in a hashed table of any other.
+/// Asks that the graph may be read in the context. Errors: want of memory. Cost: a few reads for each node
+/// and each edge of a graph that has numbers, and as many look-ups in a hashed table of any other.
 pub fn post_order_by_component<C, G: ControlFlowGraph<C>>(
     alloc: Global,
     ctx: &C,
@@ -78,8 +79,11 @@ fn named_walks<N: Copy>(
 
 /// The walks of [`post_order_by_component`], in the same order, each reversed.
 ///
-/// So a walk begins with the node that it started from, and an edge between two walks goes from the later to the earlier. Its only error
-/// is want of memory. Cost: as for [`post_order_by_component`].
+/// So a walk begins with the node that it started from, and an edge between two walks goes from the later to
+/// the earlier.
+///
+/// Asks that the graph may be read in the context. Errors: want of memory. Cost: as
+/// [`post_order_by_component`].
 pub fn topological_order_by_component<C, G: ControlFlowGraph<C>>(
     alloc: Global,
     ctx: &C,
@@ -96,7 +100,8 @@ pub fn topological_order_by_component<C, G: ControlFlowGraph<C>>(
 
 /// The walks of [`post_order_by_component`], one after the other.
 ///
-/// Its only error is want of memory. Cost: as for [`post_order_by_component`].
+/// Asks that the graph may be read in the context. Errors: want of memory. Cost: as
+/// [`post_order_by_component`].
 pub fn post_order<C, G: ControlFlowGraph<C>>(
     alloc: Global,
     ctx: &C,
@@ -112,7 +117,8 @@ pub fn post_order<C, G: ControlFlowGraph<C>>(
 
 /// The walks of [`topological_order_by_component`], one after the other.
 ///
-/// Its only error is want of memory. Cost: as for [`post_order_by_component`].
+/// Asks that the graph may be read in the context. Errors: want of memory. Cost: as
+/// [`post_order_by_component`].
 pub fn topological_order<C, G: ControlFlowGraph<C>>(
     alloc: Global,
     ctx: &C,

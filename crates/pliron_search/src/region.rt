@@ -52,17 +52,17 @@ impl ControlFlowGraph<Context> for Ptr<Region> {
 
     ghost laws = { λ region c h. region_lawful c.tree region h _ (λ x y e. same_key x y e) };
 
-    /// How many successors the block has. Constant cost.
+    /// How many successors the block has. Cost: constant.
     fn num_successors(&self, ctx: &Context, node: &Ptr<BasicBlock>) -> usize {
         node.num_succ(ctx)
     }
 
-    /// The successor of the block at this index. Constant cost.
+    /// The successor of the block at this index. Cost: constant.
     fn get_successor(&self, ctx: &Context, node: &Ptr<BasicBlock>, i: usize) -> Ptr<BasicBlock> {
         node.get_succ(ctx, i)
     }
 
-    /// How many predecessors the block has. The cost of `num_pred` of the block.
+    /// How many predecessors the block has. Cost: that of `num_pred` of the block.
     fn num_predecessors(&self, ctx: &Context, node: &Ptr<BasicBlock>) -> usize {
         node.num_pred(ctx)
     }
@@ -73,9 +73,9 @@ impl ControlFlowGraph<Context> for Ptr<Region> {
     }
 
     /// The predecessors of the block, by index. They are read off the uses of the block and sorted by
-    /// key, which is the region's order. Cost: n log n for n uses.
+    /// key, which is the region's order.
     ///
-    /// Errors: want of memory.
+    /// Errors: want of memory. Cost: n log n for n uses.
     fn predecessors(
         &self,
         alloc: Global,
@@ -88,14 +88,14 @@ impl ControlFlowGraph<Context> for Ptr<Region> {
         Ok(sources)
     }
 
-    /// The first block of the region, if it has one. Constant cost.
+    /// The first block of the region, if it has one. Cost: constant.
     fn entry_node(&self, ctx: &Context) -> Option<Ptr<BasicBlock>> {
         self.get_head(ctx)
     }
 
-    /// The blocks of the region in order. Cost: linear.
+    /// The blocks of the region in order.
     ///
-    /// Errors: want of memory.
+    /// Errors: want of memory. Cost: linear.
     fn nodes(&self, alloc: Global, ctx: &Context) -> Result<Vec<Ptr<BasicBlock>>, OptError> {
         ctx.well_formed();
         let mut blocks = Vec::new(alloc);

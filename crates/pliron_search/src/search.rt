@@ -35,10 +35,12 @@ fn step<C, G: ControlFlowGraph<C>, S: ListedSet<G::Node>>(
     Ok(())
 }
 
-/// Searches from `root`, which was not seen: adds what it finds to `seen` as it comes to it, and to `post` as it leaves it.
+/// Searches from `root`: adds what it finds to `seen` as it comes to it, and to `post` as it leaves it. The
+/// nodes that it passes by are those of `seen`.
 ///
-/// The nodes that it passes by are those of `seen`. Cost: a look-up in `seen` for each edge from a node that is found. Source: R. Tarjan,
-/// Depth-first search and linear graph algorithms, 1972.
+/// Asks that the graph may be read in the context and has the root, which was not seen. Errors: want of
+/// memory. Cost: a look-up in `seen` for each edge from a node that is found. Source: R. Tarjan, Depth-first
+/// search and linear graph algorithms, 1972.
 pub fn walk<C, G: ControlFlowGraph<C>, S: ListedSet<G::Node>>(
     alloc: Global,
     ctx: &C,
@@ -57,9 +59,10 @@ pub fn walk<C, G: ControlFlowGraph<C>, S: ListedSet<G::Node>>(
     walk_over(ctx, graph, root, seen, post, &mut stack)
 }
 
-/// The same as [`walk`], by a stack that the caller keeps from one walk to the next. It is empty before and after.
-///
+/// The same as [`walk`], by a stack that the caller keeps from one walk to the next, and that is empty after.
 /// The stack has each node on the way from the root with the index of its next successor.
+///
+/// Asks what [`walk`] asks, and that the stack is empty. Errors: as [`walk`]. Cost: as [`walk`].
 pub fn walk_over<C, G: ControlFlowGraph<C>, S: ListedSet<G::Node>>(
     ctx: &C,
     graph: &G,

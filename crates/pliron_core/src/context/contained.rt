@@ -176,8 +176,8 @@ impl Scope {
 }
 
 impl Ptr<Operation> {
-    /// Whether the operation holds the block, at any depth. Both stand. The cost is the depth of the
-    /// block.
+    /// Whether the operation holds the block, at any depth. Asks that both stand (`is_live` tests it). Cost:
+    /// the depth of the block.
     pub fn holds_block(self, block: Ptr<BasicBlock>, ctx: &Context) -> bool
         requires live { IsLive ctx.now.tree self }
         requires block { IsBlock ctx.now.tree block }
@@ -186,10 +186,11 @@ impl Ptr<Operation> {
         is_within(ctx, self, block_holder(ctx, block))
     }
 
-    /// Whether no value that is made by this operation or inside it, and no block in it, is used
-    /// outside it. The operation stands. One walk over the operation and its contents: a step for
-    /// each operation, region, block and value there, and for each use of such a block or value as
-    /// many steps as the operation that uses it is deep. It stops at the first use outside.
+    /// Whether no value that is made by this operation or inside it, and no block in it, is used outside it.
+    ///
+    /// Asks that the operation stands (`is_live` tests it). Cost: one walk over the operation and its
+    /// contents, which stops at the first use outside: a step for each operation, region, block and value
+    /// there, and for each use of such a block or value as many steps as the operation that uses it is deep.
     pub fn is_self_contained(self, ctx: &Context) -> bool
         requires { IsLive ctx.now.tree self }
         ensures { IsTrue result ↔ IsSelfContained ctx.now.tree self }
@@ -200,10 +201,11 @@ impl Ptr<Operation> {
 }
 
 impl Ptr<BasicBlock> {
-    /// Whether the block, its arguments, and the values and blocks inside it are used nowhere outside
-    /// it. The block stands. One walk over the block and its contents: a step for each operation,
-    /// region, block and value there, and for each use of such a block or value as many steps as the
-    /// operation that uses it is deep. It stops at the first use outside.
+    /// Whether the block, its arguments, and the values and blocks inside it are used nowhere outside it.
+    ///
+    /// Asks that the block stands (`is_live` tests it). Cost: one walk over the block and its contents, which
+    /// stops at the first use outside: a step for each operation, region, block and value there, and for each
+    /// use of such a block or value as many steps as the operation that uses it is deep.
     pub fn is_self_contained(self, ctx: &Context) -> bool
         requires { IsBlock ctx.now.tree self }
         ensures { IsTrue result ↔ IsSelfContainedBlock ctx.now.tree self }

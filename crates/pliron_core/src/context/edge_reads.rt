@@ -9,7 +9,7 @@ use crate::keys::{BasicBlock, Operation, Ptr, Value};
 use crate::uses::Use;
 
 impl Value {
-    /// How many uses the value has. The value stands. Constant cost.
+    /// How many uses the value has. Asks that the value stands (`is_live` tests it). Cost: constant.
     pub fn num_use(self, ctx: &Context) -> usize
         requires { IsDefined ctx.now.tree self }
         ensures { result ≡ length (uses_of ctx.now.value_uses self) }
@@ -17,8 +17,8 @@ impl Value {
         ctx.operands.num_uses(self.index())
     }
 
-    /// The use at this index: an operation, and the index among its operands. The order of uses is
-    /// open. The value stands, and has as many. Constant cost.
+    /// The use at this index: an operation, and the index among its operands. The order of uses is open. Asks
+    /// that the value stands and has as many (`is_live` and `num_use` test it). Cost: constant.
     pub fn get_use(self, ctx: &Context, i: usize) -> (Ptr<Operation>, usize)
         requires live { IsDefined ctx.now.tree self }
         requires index { i < length (uses_of ctx.now.value_uses self) }
@@ -32,7 +32,7 @@ impl Value {
 }
 
 impl Ptr<BasicBlock> {
-    /// How many uses the block has. The block stands. Constant cost.
+    /// How many uses the block has. Asks that the block stands (`is_live` tests it). Cost: constant.
     pub fn num_use(self, ctx: &Context) -> usize
         requires { IsBlock ctx.now.tree self }
         ensures { result ≡ length (uses_of ctx.now.block_uses self) }
@@ -40,8 +40,8 @@ impl Ptr<BasicBlock> {
         ctx.successors.num_uses(self.index())
     }
 
-    /// The use at this index: an operation, and the index among its successors. The order of uses
-    /// is open. The block stands, and has as many. Constant cost.
+    /// The use at this index: an operation, and the index among its successors. The order of uses is open.
+    /// Asks that the block stands and has as many (`is_live` and `num_use` test it). Cost: constant.
     pub fn get_use(self, ctx: &Context, i: usize) -> (Ptr<Operation>, usize)
         requires live { IsBlock ctx.now.tree self }
         requires index { i < length (uses_of ctx.now.block_uses self) }
@@ -53,8 +53,8 @@ impl Ptr<BasicBlock> {
         (Ptr::new(user), place)
     }
 
-    /// How many successors the block has: those of its last operation. The block stands. Constant
-    /// cost.
+    /// How many successors the block has: those of its last operation. Asks that the block stands (`is_live`
+    /// tests it). Cost: constant.
     pub fn num_succ(self, ctx: &Context) -> usize
         requires { IsBlock ctx.now.tree self }
         ensures { result ≡ length (succs_of ctx.now.tree self) }
@@ -65,7 +65,8 @@ impl Ptr<BasicBlock> {
         }
     }
 
-    /// The successor at this index. The block stands, and has as many. Constant cost.
+    /// The successor at this index. Asks that the block stands and has as many (`is_live` and `num_succ` test
+    /// it). Cost: constant.
     pub fn get_succ(self, ctx: &Context, i: usize) -> Ptr<BasicBlock>
         requires live { IsBlock ctx.now.tree self }
         requires index { i < length (succs_of ctx.now.tree self) }
@@ -78,10 +79,12 @@ impl Ptr<BasicBlock> {
         }
     }
 
-    /// How many predecessors the block has: blocks of its region whose last operation has it as a
-    /// successor, each once. The block stands. One pass over the block's uses, where each use looks
-    /// back to the place before it of the same operation that names this block, and no further
-    /// than the block has uses.
+    /// How many predecessors the block has: blocks of its region whose last operation has it as a successor,
+    /// each once.
+    ///
+    /// Asks that the block stands (`is_live` tests it). Cost: one pass over the block's uses, where each use
+    /// looks back to the place before it of the same operation that names this block, and no further than the
+    /// block has uses.
     pub fn num_pred(self, ctx: &Context) -> usize
         requires { IsBlock ctx.now.tree self }
         ensures { result ≡ length (preds_of ctx.now.tree self) }
@@ -90,9 +93,11 @@ impl Ptr<BasicBlock> {
         count_below(ctx, self, ctx.arguments.num_blocks())
     }
 
-    /// The predecessor at this index, in the region's order. The block stands, and has as many. As
-    /// the blocks of a region stand in the order of their keys, this is a bisection on the key: at
-    /// most 64 times the cost of `num_pred`.
+    /// The predecessor at this index, in the region's order.
+    ///
+    /// Asks that the block stands and has as many (`is_live` and `num_pred` test it). Cost: as the blocks of
+    /// a region stand in the order of their keys, this is a bisection on the key, at most 64 times the cost
+    /// of `num_pred`.
     pub fn get_pred(self, ctx: &Context, i: usize) -> Ptr<BasicBlock>
         requires live { IsBlock ctx.now.tree self }
         requires index { i < length (preds_of ctx.now.tree self) }
@@ -113,8 +118,8 @@ impl Ptr<BasicBlock> {
         Ptr::new(low)
     }
 
-    /// Whether the block has exactly one predecessor. The block stands. One pass over the block's
-    /// uses, which stops at the second predecessor.
+    /// Whether the block has exactly one predecessor. Asks that the block stands (`is_live` tests it). Cost:
+    /// one pass over the block's uses, which stops at the second predecessor.
     pub fn has_single_predecessor(self, ctx: &Context) -> bool
         requires { IsBlock ctx.now.tree self }
         ensures { IsTrue result ↔ (length (preds_of ctx.now.tree self) ≡ 1) }

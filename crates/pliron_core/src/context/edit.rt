@@ -59,7 +59,7 @@ impl Operation {
 
     /// The attribute at this index is replaced.
     ///
-    /// Asks that the operation stands and has such an attribute. Takes no memory. Constant cost.
+    /// Asks that the operation stands and has such an attribute. Takes no memory. Cost: constant.
     pub fn set_attribute(ctx: &mut Context, op: Ptr<Operation>, i: usize, attr: AttrObj)
         requires live { IsLive ctx.old.tree op }
         requires index { IfSome (head_of ctx.old.tree op) (λ head. i < length head.attrs) }

@@ -156,8 +156,10 @@ fn drop_names_within(ctx: &mut Context, root: Ptr<Operation>)
 }
 
 impl BasicBlock {
-    /// All operations in the block, at any depth, lose their operands and successors. Linear in the
-    /// operations, blocks and regions in it and in what they lose. Takes no memory.
+    /// All operations in the block, at any depth, lose their operands and successors.
+    ///
+    /// Asks that the block stands (`is_live` tests it). Takes no memory. Cost: linear in the operations,
+    /// blocks and regions in it and in what they lose.
     pub fn drop_all_uses(ctx: &mut Context, block: Ptr<BasicBlock>)
         requires { IsBlock ctx.old.tree block }
         ensures { ctx.new.tree ≡ uses_dropped ctx.old.tree block }

@@ -8,8 +8,7 @@ use crate::attrs::Head;
 use crate::keys::{BasicBlock, Operation, Ptr, Region, Value};
 
 impl Ptr<Operation> {
-    /// Whether the operation stands: it was made in this context and not erased since. Constant
-    /// cost.
+    /// Whether the operation stands: it was made in this context and not erased since. Cost: constant.
     pub fn is_live(self, ctx: &Context) -> bool
         ensures { IsTrue result ↔ IsLive ctx.now.tree self }
     {
@@ -19,7 +18,7 @@ impl Ptr<Operation> {
         }
     }
 
-    /// The operation's head. The operation stands. Constant cost.
+    /// The operation's head. Asks that the operation stands (`is_live` tests it). Cost: constant.
     pub fn head(self, ctx: &Context) -> &Head
         requires { IsLive ctx.now.tree self }
         ensures { head_of ctx.now.tree self ≡ Some result.now }
@@ -30,7 +29,8 @@ impl Ptr<Operation> {
         }
     }
 
-    /// How many operands the operation has. The operation stands. Constant cost.
+    /// How many operands the operation has. Asks that the operation stands (`is_live` tests it). Cost:
+    /// constant.
     pub fn num_operand(self, ctx: &Context) -> usize
         requires { IsLive ctx.now.tree self }
         ensures { result ≡ length (operands_of ctx.now.tree self) }
@@ -38,7 +38,8 @@ impl Ptr<Operation> {
         ctx.operands.num_targets(self.index())
     }
 
-    /// The operand at this index. The operation stands, and has as many. Constant cost.
+    /// The operand at this index. Asks that the operation stands and has as many (`is_live` and `num_operand`
+    /// test it). Cost: constant.
     pub fn get_operand(self, ctx: &Context, i: usize) -> Value
         requires live { IsLive ctx.now.tree self }
         requires index { i < length (operands_of ctx.now.tree self) }
@@ -49,7 +50,8 @@ impl Ptr<Operation> {
         Value::new(ctx.operands.target(self.index(), i))
     }
 
-    /// How many results the operation has. The operation stands. Constant cost.
+    /// How many results the operation has. Asks that the operation stands (`is_live` tests it). Cost:
+    /// constant.
     pub fn num_result(self, ctx: &Context) -> usize
         requires { IsLive ctx.now.tree self }
         ensures { result ≡ length (results_of ctx.now.tree self) }
@@ -57,7 +59,8 @@ impl Ptr<Operation> {
         ctx.operations[self.index()].results.len()
     }
 
-    /// The result at this index. The operation stands, and has as many. Constant cost.
+    /// The result at this index. Asks that the operation stands and has as many (`is_live` and `num_result`
+    /// test it). Cost: constant.
     pub fn get_result(self, ctx: &Context, i: usize) -> Value
         requires live { IsLive ctx.now.tree self }
         requires index { i < length (results_of ctx.now.tree self) }
@@ -68,7 +71,8 @@ impl Ptr<Operation> {
         ctx.operations[self.index()].results.get(i)
     }
 
-    /// How many successors the operation has. The operation stands. Constant cost.
+    /// How many successors the operation has. Asks that the operation stands (`is_live` tests it). Cost:
+    /// constant.
     pub fn num_successor(self, ctx: &Context) -> usize
         requires { IsLive ctx.now.tree self }
         ensures { result ≡ length (successors_of ctx.now.tree self) }
@@ -76,7 +80,8 @@ impl Ptr<Operation> {
         ctx.successors.num_targets(self.index())
     }
 
-    /// The successor at this index. The operation stands, and has as many. Constant cost.
+    /// The successor at this index. Asks that the operation stands and has as many (`is_live` and
+    /// `num_successor` test it). Cost: constant.
     pub fn get_successor(self, ctx: &Context, i: usize) -> Ptr<BasicBlock>
         requires live { IsLive ctx.now.tree self }
         requires index { i < length (successors_of ctx.now.tree self) }
@@ -87,7 +92,8 @@ impl Ptr<Operation> {
         Ptr::new(ctx.successors.target(self.index(), i))
     }
 
-    /// How many regions the operation has. The operation stands. Constant cost.
+    /// How many regions the operation has. Asks that the operation stands (`is_live` tests it). Cost:
+    /// constant.
     pub fn num_region(self, ctx: &Context) -> usize
         requires { IsLive ctx.now.tree self }
         ensures { result ≡ length (regions_of ctx.now.tree self) }
@@ -95,7 +101,8 @@ impl Ptr<Operation> {
         ctx.operations[self.index()].regions.len()
     }
 
-    /// The region at this index. The operation stands, and has as many. Constant cost.
+    /// The region at this index. Asks that the operation stands and has as many (`is_live` and `num_region`
+    /// test it). Cost: constant.
     pub fn get_region(self, ctx: &Context, i: usize) -> Ptr<Region>
         requires live { IsLive ctx.now.tree self }
         requires index { i < length (regions_of ctx.now.tree self) }
@@ -106,7 +113,8 @@ impl Ptr<Operation> {
         ctx.operations[self.index()].regions.get(i)
     }
 
-    /// The block that has the operation, if one does. The operation stands. Constant cost.
+    /// The block that has the operation, if one does. Asks that the operation stands (`is_live` tests it).
+    /// Cost: constant.
     pub fn get_parent_block(self, ctx: &Context) -> Option<Ptr<BasicBlock>>
         requires { IsLive ctx.now.tree self }
         ensures block { result ≡ parent_of ctx.now.tree self }
@@ -116,8 +124,8 @@ impl Ptr<Operation> {
         ctx.order.owner(self.index()).map(|key| Ptr::new(key))
     }
 
-    /// The operation directly before this one in its block, if there is one. The operation stands.
-    /// Constant cost.
+    /// The operation directly before this one in its block, if there is one. Asks that the operation stands
+    /// (`is_live` tests it). Cost: constant.
     pub fn get_prev(self, ctx: &Context) -> Option<Ptr<Operation>>
         requires { IsLive ctx.now.tree self }
         ensures prev { result ≡ prev_of ctx.now.tree self }
@@ -127,8 +135,8 @@ impl Ptr<Operation> {
         ctx.order.prev(self.index()).map(|key| Ptr::new(key))
     }
 
-    /// The operation directly after this one in its block, if there is one. The operation stands.
-    /// Constant cost.
+    /// The operation directly after this one in its block, if there is one. Asks that the operation stands
+    /// (`is_live` tests it). Cost: constant.
     pub fn get_next(self, ctx: &Context) -> Option<Ptr<Operation>>
         requires { IsLive ctx.now.tree self }
         ensures next { result ≡ next_of ctx.now.tree self }

@@ -10,8 +10,9 @@ use crate::keys::{BasicBlock, Operation, Ptr};
 impl BasicBlock {
     /// The operation becomes the last of the block.
     ///
-    /// Asks that both stand, that the operation stands in no block, and that it doesn't hold the
-    /// block. Errors: want of memory, which changes nothing. Constant cost.
+    /// Asks that both stand, that the operation stands in no block, and that it doesn't hold the block
+    /// (`is_live`, `get_parent_block` and `holds_block` test it). Errors: want of memory, which changes
+    /// nothing. Cost: constant.
     pub fn push_operation(
         ctx: &mut Context,
         block: Ptr<BasicBlock>,

@@ -19,7 +19,7 @@ fn is_region_at(regions: &Row<Ptr<Region>>, i: usize, region: Ptr<Region>) -> bo
 }
 
 impl Ptr<Region> {
-    /// Whether the region stands: it was made in this context and not erased since. Constant cost.
+    /// Whether the region stands: it was made in this context and not erased since. Cost: constant.
     pub fn is_live(self, ctx: &Context) -> bool
         ensures { IsTrue result ↔ IsRegion ctx.now.tree self }
     {
@@ -32,7 +32,7 @@ impl Ptr<Region> {
         }
     }
 
-    /// The operation of the region. The region stands. Constant cost.
+    /// The operation of the region. Asks that the region stands (`is_live` tests it). Cost: constant.
     pub fn get_parent_op(self, ctx: &Context) -> Ptr<Operation>
         requires { IsRegion ctx.now.tree self }
         ensures parent { region_parent_of ctx.now.tree self ≡ Some result }
@@ -42,7 +42,8 @@ impl Ptr<Region> {
         ctx.slots[self.index()].op
     }
 
-    /// The region's first block, if it has one. The region stands. Constant cost.
+    /// The region's first block, if it has one. Asks that the region stands (`is_live` tests it). Cost:
+    /// constant.
     pub fn get_head(self, ctx: &Context) -> Option<Ptr<BasicBlock>>
         requires { IsRegion ctx.now.tree self }
         ensures first { result ≡ first_of (layout_of ctx.now.tree self) None }
@@ -52,7 +53,8 @@ impl Ptr<Region> {
         ctx.layout.head(self.index()).map(|key| Ptr::new(key))
     }
 
-    /// The region's last block, if it has one. The region stands. Constant cost.
+    /// The region's last block, if it has one. Asks that the region stands (`is_live` tests it). Cost:
+    /// constant.
     pub fn get_tail(self, ctx: &Context) -> Option<Ptr<BasicBlock>>
         requires { IsRegion ctx.now.tree self }
         ensures last { result ≡ last_of None (layout_of ctx.now.tree self) }
@@ -62,8 +64,8 @@ impl Ptr<Region> {
         ctx.layout.tail(self.index()).map(|key| Ptr::new(key))
     }
 
-    /// Whether definitions dominate uses in the region, by the head of its operation. The region
-    /// stands. Constant cost.
+    /// Whether definitions dominate uses in the region, by the head of its operation. Asks that the region
+    /// stands (`is_live` tests it). Cost: constant.
     pub fn has_ssa_dominance(self, ctx: &Context) -> bool
         requires { IsRegion ctx.now.tree self }
         ensures { result ≡ has_ssa ctx.now.tree self }

@@ -19,7 +19,7 @@ fn is_value_at(values: &Row<Value>, i: usize, value: Value) -> bool
 }
 
 impl Value {
-    /// Whether the value stands: what made it in this context still lists it. Constant cost.
+    /// Whether the value stands: what made it in this context still lists it. Cost: constant.
     pub fn is_live(self, ctx: &Context) -> bool
         ensures { IsTrue result ↔ IsDefined ctx.now.tree self }
     {
@@ -33,7 +33,7 @@ impl Value {
         }
     }
 
-    /// What makes the value. The value stands. Constant cost.
+    /// What makes the value. Asks that the value stands (`is_live` tests it). Cost: constant.
     pub fn def(self, ctx: &Context) -> Def
         requires { IsDefined ctx.now.tree self }
         ensures definition { definition_of ctx.now.tree self ≡ Some result }

@@ -10,8 +10,8 @@ use super::{Context, RegionSlot};
 use crate::keys::{Operation, Ptr};
 
 impl Context {
-    /// The law of walks: the contents of an operation are exactly the operations inside it, at any
-    /// depth, each once and before its own contents. Does nothing when it runs.
+    /// The law of walks: the contents of an operation are exactly the operations inside it, at any depth,
+    /// each once and before its own contents. It changes nothing. Cost: constant.
     pub fn contents_agree(&self)
         ensures { (op : ℕ) → HasExactContents self.now.tree op }
     {
@@ -90,7 +90,8 @@ impl Context {
 }
 
 impl Ptr<Operation> {
-    /// The operation that this one stands directly inside, if it stands in a block. Constant cost.
+    /// The operation that this one stands directly inside, if it stands in a block. Asks that the operation
+    /// stands (`is_live` tests it). Cost: constant.
     pub fn get_parent_op(self, ctx: &Context) -> Option<Ptr<Operation>>
         requires { IsLive ctx.now.tree self }
         ensures holder { result ≡ holder_of ctx.now.tree self }
@@ -102,8 +103,8 @@ impl Ptr<Operation> {
         Some(ctx.slots[region].op)
     }
 
-    /// Whether this operation stands inside `op`, at any depth; an operation is not inside itself.
-    /// The cost is the depth of this one.
+    /// Whether this operation stands inside `op`, at any depth; an operation is not inside itself. Asks that
+    /// this one stands (`is_live` tests it). Cost: the depth of this one.
     pub fn is_inside(self, op: Ptr<Operation>, ctx: &Context) -> bool
         requires { IsLive ctx.now.tree self }
         ensures { IsTrue result ↔ IsInside ctx.now.tree op self }
@@ -119,8 +120,9 @@ impl Ptr<Operation> {
         false
     }
 
-    /// The first operation directly inside this one, in the order of its regions, their blocks and
-    /// their bodies. The operation stands. Cost: one step for each empty region and block before it.
+    /// The first operation directly inside this one, in the order of its regions, their blocks and their
+    /// bodies. Asks that the operation stands (`is_live` tests it). Cost: one step for each empty region and
+    /// block before it.
     pub fn first_inside(self, ctx: &Context) -> Option<Ptr<Operation>>
         requires { IsLive ctx.now.tree self }
         ensures { result ≡ first_of (children ctx.now.tree self) None }
@@ -129,8 +131,8 @@ impl Ptr<Operation> {
             .map(|key| Ptr::new(key))
     }
 
-    /// The operation after this one among those directly inside the operation that holds both. The
-    /// operation stands. Cost: one step for each empty region and block between them.
+    /// The operation after this one among those directly inside the operation that holds both. Asks that the
+    /// operation stands (`is_live` tests it). Cost: one step for each empty region and block between them.
     pub fn next_beside(self, ctx: &Context) -> Option<Ptr<Operation>>
         requires { IsLive ctx.now.tree self }
         ensures { ForSome (holder_of ctx.now.tree self) (λ holder.
@@ -159,11 +161,13 @@ impl Ptr<Operation> {
         None
     }
 
-    /// The operation after this one on the walk over `root` and its contents in pre-order, where an
-    /// operation comes before its contents, and these come before its next sibling. This one is
-    /// `root` or stands inside it. A call goes by links, down to the first child or up to the first
-    /// holder with a later one, so that the whole walk, from `root` until `None`, costs one step for
-    /// each operation, block and region within `root`.
+    /// The operation after this one on the walk over `root` and its contents in pre-order, where an operation
+    /// comes before its contents, and these come before its next sibling.
+    ///
+    /// Asks that `root` stands, and that this one is `root` or stands inside it (`is_live` and `is_inside`
+    /// test it). Cost: a call goes by links, down to the first child or up to the first holder with a later
+    /// one, so that the whole walk, from `root` until `None`, costs one step for each operation, block and
+    /// region within `root`.
     pub fn next_in_preorder(self, root: Ptr<Operation>, ctx: &Context) -> Option<Ptr<Operation>>
         requires live { IsLive ctx.now.tree root }
         requires within { IsWithin ctx.now.tree root self }

@@ -97,9 +97,9 @@ pub enum Sight {
 
 /// A dialect whose operations can be run.
 pub trait Evaluate: HasMeaning {
-    /// The move that the operation makes with this memo on this input. The operation stands.
+    /// The move that the operation makes with this memo on this input.
     ///
-    /// Errors: want of memory.
+    /// Asks that the operation stands (`is_live` tests it). Errors: want of memory.
     fn next_move(
         alloc: Global,
         ctx: &Context,
