@@ -23,13 +23,13 @@ mod uses;
 use crate::removal::contents::set_of_blocks;
 use crate::removal::region::clear_region;
 use crate::removal::scope::Scope;
+use crate::visits::Visits;
 use indexmap::IndexSet;
 use pliron_block_laws::inside::removing_changes_inside;
 use pliron_block_laws::links::removing_keeps_links;
 use pliron_core::{BasicBlock, Context, IRStatus, Operation, Ptr, Region, Rewriter, change_laws};
 use pliron_laws::{Dialect, OptError, Room};
 use pliron_theory::theory::passes_compose;
-use crate::visits::Visits;
 use std::alloc::Global;
 
 // The status after one more part of the work.

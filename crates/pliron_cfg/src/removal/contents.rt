@@ -5,10 +5,10 @@ ghost use Rattle.pliron_core.specs.Tree.{In, IsDistinct, IsLive, IsBlock, IsRegi
 ghost use Rattle.pliron_core.specs.Walks.{preorder};
 ghost use Rattle.pliron_cfg.specs.Internal.Contents.{contents_of, contents_in, blocks_below, values_of};
 
+use crate::visits::operations_of;
 use indexmap::IndexSet;
 use pliron_core::{BasicBlock, Context, Operation, Ptr, Region, Value};
 use pliron_laws::OptError;
-use crate::visits::operations_of;
 use std::alloc::Global;
 
 // Adds the operation and its contents.

@@ -4,9 +4,9 @@ ghost use Rattle.pliron_laws.specs.Linked.{EdgesLast};
 ghost use Rattle.pliron_cfg.specs.Visits.{AreVisits};
 ghost use Rattle.pliron_cfg.specs.Internal.Scopes.{start_of, Stands, IsHolder};
 
+use crate::visits::{Visits, visits_inside_block, visits_inside_op, visits_inside_region};
 use pliron_core::{BasicBlock, Context, Operation, Ptr, Region};
 use pliron_laws::OptError;
-use crate::visits::{Visits, visits_inside_block, visits_inside_op, visits_inside_region};
 use std::alloc::Global;
 
 // The regions of an operation, those of the operations of a block, or one region.
