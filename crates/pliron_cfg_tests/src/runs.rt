@@ -1,88 +1,32 @@
 //! Runs of texts before and after `simplify_cfg`, compared by the evaluator.
 use super::cases::DEFINED;
 use pliron_bench::Bench;
+use pliron_cases::cases::read;
+use pliron_cases::runs::{are_kept, sights, text_behind};
 use pliron_cfg::simplify_cfg;
-use pliron_core::{Context, Operation, Ptr};
-use pliron_evaluator::evaluator::{Datum, Sight, evaluate};
-use pliron_notation::read_text;
-use std::alloc::{AllocError, Global};
+use pliron_core::Context;
+use std::alloc::Global;
 use std::process::Abort;
-use std::test::Fail;
 
 const ENOUGH: usize = 60;
 
-fn data(alloc: Global, numbers: &[i128]) -> Result<Vec<Datum>, AllocError> {
-    let mut data = Vec::new(alloc);
-    for number in numbers {
-        data.push(Datum::Number(*number))?;
-    }
-    Ok(data)
+fn compare_in(rt: &impl Abort, alloc: Global, ctx: &mut Context, text: &str) {
+    let root = read(alloc, ctx, text).expect(rt, "a text");
+    let before = sights(alloc, ctx, root, ENOUGH).expect(rt, "memory");
+    assert!(rt; simplify_cfg::<Bench>(alloc, root, ctx).is_ok(), "{text}");
+    let after = sights(alloc, ctx, root, ENOUGH).expect(rt, "memory");
+    assert!(rt; are_kept(&before, &after), "{text}");
 }
 
-// What is seen of the run on these inputs, in the world with these answers.
-fn seen(
-    alloc: Global,
-    ctx: &Context,
-    root: Ptr<Operation>,
-    inputs: &[i128],
-    world: &[i128],
-) -> Result<Sight, AllocError> {
-    let inputs = data(alloc, inputs)?;
-    let answers = data(alloc, world)?;
-    evaluate::<Bench>(alloc, ctx, root, inputs, answers, ENOUGH)
-}
-
-fn compare(
-    rt: &impl Abort,
-    alloc: Global,
-    ctx: &mut Context,
-    text: &str,
-    inputs: &[i128],
-    world: &[i128],
-) -> Result<(), Fail> {
-    let Some(root) = read_text(alloc, text.as_bytes(), ctx)? else {
-        return Err(Fail::from("unreadable"));
-    };
-    let before = seen(alloc, ctx, root, inputs, world)?;
-    simplify_cfg::<Bench>(alloc, root, ctx)?;
-    let after = seen(alloc, ctx, root, inputs, world)?;
-    // a run that was cut short may come further once it has fewer branches to take
-    if let Sight::Reached(_) = &before {
-        return Ok(());
-    }
-    assert!(rt; before == after, "{text}");
-    Ok(())
-}
-
-fn compare_text(
-    rt: &impl Abort,
-    alloc: Global,
-    text: &str,
-    inputs: &[i128],
-    world: &[i128],
-) -> Result<(), Fail> {
+fn compare(rt: &impl Abort, alloc: Global, text: &str) {
     let mut ctx = Context::new(alloc);
-    compare(rt, alloc, &mut ctx, text, inputs, world)
-}
-
-// The text of a line, after the answer and before the arrow.
-fn text_of(line: &str) -> Result<&str, Fail> {
-    let Some((before, _)) = line.split_once(" => ") else {
-        return Err(Fail::from("no arrow"));
-    };
-    match before.split_once(" ") {
-        Some((_, text)) => Ok(text),
-        None => Err(Fail::from("no answer")),
-    }
+    compare_in(rt, alloc, &mut ctx, text)
 }
 
 #[test]
-fn runs_are_kept(rt: HostRuntime) -> Result<(), Fail> {
-    for line in DEFINED.lines() {
-        let text = text_of(line)?;
-        compare_text(&rt, rt.alloc(), text, &[2, 0], &[1, 0, 3, 0, 0, 5])?;
-        compare_text(&rt, rt.alloc(), text, &[0, -1], &[0, 0, 2, 1])?;
-        compare_text(&rt, rt.alloc(), text, &[1], &[7, 1, 1, 0, 0, 0, 4])?;
+fn runs_are_kept(rt: HostRuntime) {
+    for case in DEFINED.lines() {
+        let text = text_behind(case, 1).expect(&rt, "a case");
+        compare(&rt, rt.alloc(), text);
     }
-    Ok(())
 }

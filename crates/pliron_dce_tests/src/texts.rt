@@ -5,6 +5,7 @@ ghost use Rattle.pliron_laws.specs.Linked.{IsWellLinked};
 
 use super::cases::{DEFINED, HOSTILE, ROWS};
 use pliron_bench::Bench;
+use pliron_cases::cases::operation_at;
 use pliron_core::{Context, IRStatus, Operation, Ptr};
 use pliron_dce::dce;
 use pliron_notation::{print_text, read_text};
@@ -94,20 +95,6 @@ fn defined_texts(rt: HostRuntime) -> Result<(), Fail> {
     check_all(&rt, rt.alloc(), DEFINED)
 }
 
-// The second operation of the first block of the operation.
-fn second_inside(ctx: &Context, whole: Ptr<Operation>) -> Option<Ptr<Operation>>
-    requires { IsLive ctx.now.tree whole }
-{
-    if whole.num_region(ctx) == 0 {
-        return None;
-    }
-    whole
-        .get_region(ctx, 0)
-        .get_head(ctx)?
-        .get_head(ctx)?
-        .get_next(ctx)
-}
-
 // What is left of the whole where the root stands inside it.
 fn left_around(
     rt: &impl Abort,
@@ -133,7 +120,7 @@ fn nested_root(rt: &impl Abort, alloc: Global, ctx: &mut Context) -> Result<(), 
     let Some(whole) = read_text(alloc, text.as_bytes(), ctx)? else {
         return Err(Fail::from("unreadable"));
     };
-    let Some(root) = second_inside(ctx, whole) else {
+    let Some(root) = operation_at(ctx, whole, "1") else {
         return Err(Fail::from("no second operation"));
     };
     let printed = left_around(rt, alloc, ctx, whole, root)?;

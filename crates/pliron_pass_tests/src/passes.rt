@@ -171,9 +171,19 @@ impl Pass for Step {
 
     ghost is_pass_manager = { λ p. false };
 
-    ghost name = { elim [ AIdle p ↦ 0x69 ∷ 0x64 ∷ 0x6c ∷ 0x65 ∷ [] | ATouch p ↦ 0x74 ∷ 0x6f ∷ 0x75 ∷ 0x63 ∷ 0x68 ∷ [] | AFail p ↦ 0x66 ∷ 0x61 ∷ 0x69 ∷ 0x6c ∷ [] | ATally p ↦ 0x74 ∷ 0x61 ∷ 0x6c ∷ 0x6c ∷ 0x79 ∷ [] ] };
+    ghost name = { elim [
+      | AIdle p ↦ 0x69 ∷ 0x64 ∷ 0x6c ∷ 0x65 ∷ []
+      | ATouch p ↦ 0x74 ∷ 0x6f ∷ 0x75 ∷ 0x63 ∷ 0x68 ∷ []
+      | AFail p ↦ 0x66 ∷ 0x61 ∷ 0x69 ∷ 0x6c ∷ []
+      | ATally p ↦ 0x74 ∷ 0x61 ∷ 0x6c ∷ 0x6c ∷ 0x79 ∷ []
+    ] };
 
-    ghost outcome = { elim [ AIdle p ↦ elim [ AIdle q ↦ ⟦<Idle as Pass>⟧.outcome p q | ATouch q ↦ λ op s s' r. ⊥ | AFail q ↦ λ op s s' r. ⊥ | ATally q ↦ λ op s s' r. ⊥ ] | ATouch p ↦ elim [ AIdle q ↦ λ op s s' r. ⊥ | ATouch q ↦ ⟦<Touch as Pass>⟧.outcome p q | AFail q ↦ λ op s s' r. ⊥ | ATally q ↦ λ op s s' r. ⊥ ] | AFail p ↦ elim [ AIdle q ↦ λ op s s' r. ⊥ | ATouch q ↦ λ op s s' r. ⊥ | AFail q ↦ ⟦<FailAlways as Pass>⟧.outcome p q | ATally q ↦ λ op s s' r. ⊥ ] | ATally p ↦ elim [ AIdle q ↦ λ op s s' r. ⊥ | ATouch q ↦ λ op s s' r. ⊥ | AFail q ↦ λ op s s' r. ⊥ | ATally q ↦ ⟦<Tally as Pass>⟧.outcome p q ] ] };
+    ghost outcome = { elim [
+      | AIdle p ↦ elim [ AIdle q ↦ ⟦<Idle as Pass>⟧.outcome p q | ATouch q ↦ λ op s s' r. ⊥ | AFail q ↦ λ op s s' r. ⊥ | ATally q ↦ λ op s s' r. ⊥ ]
+      | ATouch p ↦ elim [ AIdle q ↦ λ op s s' r. ⊥ | ATouch q ↦ ⟦<Touch as Pass>⟧.outcome p q | AFail q ↦ λ op s s' r. ⊥ | ATally q ↦ λ op s s' r. ⊥ ]
+      | AFail p ↦ elim [ AIdle q ↦ λ op s s' r. ⊥ | ATouch q ↦ λ op s s' r. ⊥ | AFail q ↦ ⟦<FailAlways as Pass>⟧.outcome p q | ATally q ↦ λ op s s' r. ⊥ ]
+      | ATally p ↦ elim [ AIdle q ↦ λ op s s' r. ⊥ | ATouch q ↦ λ op s s' r. ⊥ | AFail q ↦ λ op s s' r. ⊥ | ATally q ↦ ⟦<Tally as Pass>⟧.outcome p q ]
+    ] };
 
     fn name(&self) -> &str {
         match self {

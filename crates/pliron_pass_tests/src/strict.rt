@@ -2,7 +2,8 @@
 ghost use Rattle.std.specs.Prelude.{◌≡◌, MatchResult, ⊤};
 ghost use Rattle.pliron_laws.specs.declared.fault.OptError.TheVariants.{Pass as Code};
 ghost use Rattle.pliron_bench.specs.BenchMoves.{bench, bench_shortened};
-ghost use Rattle.pliron_bench.specs.BenchAnswers.{bench_side_effects, bench_removable, bench_folds, bench_constants, bench_accepts, bench_constant_head, bench_folds_branch, bench_feasible, is_of_bench_kind, has_bench_interface};
+ghost use Rattle.pliron_bench.specs.BenchAnswers.{bench_side_effects, bench_removable, bench_folds, bench_constants, bench_accepts};
+ghost use Rattle.pliron_bench.specs.BenchAnswers.{bench_constant_head, bench_folds_branch, bench_feasible, is_of_bench_kind, has_bench_interface};
 ghost use Rattle.pliron_bench.specs.BenchOutcomes.{bench_outcome, bench_branch_outcome};
 ghost use Rattle.pliron_bench.specs.BenchLaws.{bench_counts, bench_effects, bench_arguments, bench_makes};
 ghost use Rattle.pliron_bench.specs.BenchFolds.{bench_answers, bench_jumps};
