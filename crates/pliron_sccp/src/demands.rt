@@ -5,7 +5,7 @@ ghost use Rattle.pliron_core.specs.Tree.{IsLive, IsBlock, IsRegion, In, operands
 ghost use Rattle.pliron_laws.specs.Tree.{Operation as OperationOf, op_at, shape_of};
 ghost use Rattle.pliron_laws.specs.Answers.{HeadPasses};
 ghost use Rattle.pliron_laws.specs.declared.fault.OptError.TheVariants.{Memory};
-ghost use Rattle.pliron_theory.specs.Facts.{Says, answered, handed, IsEntered, known as known_of, NotAConstant as Varies};
+ghost use Rattle.pliron_theory.specs.Facts.{answered, handed, IsEntered, known as known_of, NotAConstant as Varies};
 ghost use Rattle.pliron_sccp.specs.Tables.{facts_of, fact_in, meant};
 ghost use Rattle.pliron_sccp.specs.Demands.{Adds, Asks, AsksEntries, AsksEdges, AsksJumps, AsksAnswers, AsksResults, AsksForwarded, AsksBranches, FollowsEdge, AreFeasible, MayLead, EntryEntered};
 
@@ -13,6 +13,7 @@ use crate::applying::Demand;
 use crate::tables::{Fact, Solver};
 use pliron_core::{AttrObj, BasicBlock, Context, Operation, Ptr, Region, Value};
 use pliron_laws::{BranchOpFoldInterface, ConstFoldInterface, Dialect, OptError};
+use pliron_theory::HasFolding;
 use std::alloc::Global;
 use std::collections::HashSet;
 
@@ -229,7 +230,7 @@ fn ask_edge<D: Dialect>(
     requires edge { i < length (successors_of ctx.now.tree op) }
     requires known { known.now ≡ handed (facts_of solver.now) (operands_of ctx.now.tree op) }
     requires feasible { AreFeasible D.meaning D.can_fold_branch D.feasible ctx.now.tree op known.now feasible.now }
-    ensures ok { OnOk result ((o : OperationOf) → op_at ctx.now.tree op ≡ Some o → (b : ℕ) → slice_get (successors_of ctx.now.tree op) i ≡ Some b → Adds asked.old.items asked.new.items (λ now. FollowsEdge (record { meaning = D.meaning; can_fold = D.can_fold; can_fold_branch = D.can_fold_branch; constants = D.constants; feasible = D.feasible }) ctx.now.tree (facts_of solver.now) o now i b)) }
+    ensures ok { OnOk result ((o : OperationOf) → op_at ctx.now.tree op ≡ Some o → (b : ℕ) → slice_get (successors_of ctx.now.tree op) i ≡ Some b → Adds asked.old.items asked.new.items (λ now. FollowsEdge ⟦<D as HasFolding>⟧.folding ctx.now.tree (facts_of solver.now) o now i b)) }
     ensures err { IfErr result (λ e. e ≡ Memory) }
 {
     let block = op.get_successor(ctx, i);
@@ -255,7 +256,7 @@ fn ask_each_edge<D: Dialect>(
     requires branch { HeadPasses D.meaning.is_branch ctx.now.tree op }
     requires known { known.now ≡ handed (facts_of solver.now) (operands_of ctx.now.tree op) }
     requires feasible { AreFeasible D.meaning D.can_fold_branch D.feasible ctx.now.tree op known.now feasible.now }
-    ensures ok { OnOk result ((o : OperationOf) → op_at ctx.now.tree op ≡ Some o → Adds asked.old.items asked.new.items (λ now. AsksBranches (record { meaning = D.meaning; can_fold = D.can_fold; can_fold_branch = D.can_fold_branch; constants = D.constants; feasible = D.feasible }) ctx.now.tree (facts_of solver.now) o now)) }
+    ensures ok { OnOk result ((o : OperationOf) → op_at ctx.now.tree op ≡ Some o → Adds asked.old.items asked.new.items (λ now. AsksBranches ⟦<D as HasFolding>⟧.folding ctx.now.tree (facts_of solver.now) o now)) }
     ensures err { IfErr result (λ e. e ≡ Memory) }
 {
     for i in 0..op.num_successor(ctx) {
@@ -276,7 +277,7 @@ fn ask_branches<D: Dialect>(
     requires live { IsLive ctx.now.tree op }
     requires branch { HeadPasses D.meaning.is_branch ctx.now.tree op }
     requires known { known.now ≡ handed (facts_of solver.now) (operands_of ctx.now.tree op) }
-    ensures ok { OnOk result ((o : OperationOf) → op_at ctx.now.tree op ≡ Some o → Adds asked.old.items asked.new.items (λ now. AsksBranches (record { meaning = D.meaning; can_fold = D.can_fold; can_fold_branch = D.can_fold_branch; constants = D.constants; feasible = D.feasible }) ctx.now.tree (facts_of solver.now) o now)) }
+    ensures ok { OnOk result ((o : OperationOf) → op_at ctx.now.tree op ≡ Some o → Adds asked.old.items asked.new.items (λ now. AsksBranches ⟦<D as HasFolding>⟧.folding ctx.now.tree (facts_of solver.now) o now)) }
     ensures err { IfErr result (λ e. e ≡ Memory) }
 {
     let feasible = feasible_blocks::<D>(alloc, op, ctx, known)?;
@@ -346,7 +347,7 @@ fn ask_edges<D: Dialect>(
 ) -> Result<(), OptError>
     requires live { IsLive ctx.now.tree op }
     requires known { known.now ≡ handed (facts_of solver.now) (operands_of ctx.now.tree op) }
-    ensures ok { OnOk result ((o : OperationOf) → op_at ctx.now.tree op ≡ Some o → Adds asked.old.items asked.new.items (λ now. AsksEdges (record { meaning = D.meaning; can_fold = D.can_fold; can_fold_branch = D.can_fold_branch; constants = D.constants; feasible = D.feasible }) ctx.now.tree (facts_of solver.now) op o now)) }
+    ensures ok { OnOk result ((o : OperationOf) → op_at ctx.now.tree op ≡ Some o → Adds asked.old.items asked.new.items (λ now. AsksEdges ⟦<D as HasFolding>⟧.folding ctx.now.tree (facts_of solver.now) op o now)) }
     ensures err { IfErr result (λ e. e ≡ Memory) }
 {
     if D::is_branch(op, ctx) {
@@ -369,7 +370,7 @@ pub fn demands<D: Dialect>(
     solver: &Solver,
 ) -> Result<Vec<Demand>, OptError>
     requires { IsLive ctx.now.tree op }
-    ensures ok { IfOk result (λ asked. Asks (record { meaning = D.meaning; can_fold = D.can_fold; can_fold_branch = D.can_fold_branch; constants = D.constants; feasible = D.feasible }) ctx.now.tree (facts_of solver.now) op asked.items) }
+    ensures ok { IfOk result (λ asked. Asks ⟦<D as HasFolding>⟧.folding ctx.now.tree (facts_of solver.now) op asked.items) }
     ensures err { IfErr result (λ e. e ≡ Memory) }
 {
     let known = known_operands(alloc, op, ctx, solver)?;

@@ -3,7 +3,6 @@ ghost use Rattle.std.specs.Prelude.{◌≡◌, OnOk, IfOk, IfErr};
 ghost use Rattle.pliron_core.specs.Tree.{IsLive, IsBlock};
 ghost use Rattle.pliron_laws.specs.Linked.{IsWellLinked};
 ghost use Rattle.pliron_laws.specs.declared.fault.OptError.TheVariants.{Memory};
-ghost use Rattle.pliron_theory.specs.Facts.{Says};
 ghost use Rattle.pliron_sccp.specs.Tables.{facts_of};
 ghost use Rattle.pliron_sccp.specs.Listed.{IsFoldOf, AddsFold, AreFolds, AddsKnown, AreArguments};
 ghost use Rattle.pliron_sccp.specs.Chain.{known_arguments};
@@ -16,6 +15,7 @@ use crate::searching::search;
 use crate::tables::Solver;
 use pliron_core::{BasicBlock, Context, Operation, Ptr};
 use pliron_laws::{Dialect, OptError};
+use pliron_theory::HasFolding;
 use std::alloc::Global;
 
 /// The fold of the operation by what is known of its operands, if it folds and its block is reached.
@@ -26,7 +26,7 @@ fn fold_of<D: Dialect>(
     solver: &Solver,
 ) -> Result<Option<Fold>, OptError>
     requires { IsLive ctx.now.tree op }
-    ensures ok { IfOk result (λ fold. IsFoldOf (record { meaning = D.meaning; can_fold = D.can_fold; can_fold_branch = D.can_fold_branch; constants = D.constants; feasible = D.feasible }) ctx.now.tree (facts_of solver.now) op fold) }
+    ensures ok { IfOk result (λ fold. IsFoldOf ⟦<D as HasFolding>⟧.folding ctx.now.tree (facts_of solver.now) op fold) }
     ensures err { IfErr result (λ e. e ≡ Memory) }
 {
     ctx.well_formed();
@@ -52,7 +52,7 @@ fn add_fold<D: Dialect>(
     folds: &mut Vec<Fold>,
 ) -> Result<(), OptError>
     requires { IsLive ctx.now.tree op }
-    ensures ok { OnOk result (AddsFold (record { meaning = D.meaning; can_fold = D.can_fold; can_fold_branch = D.can_fold_branch; constants = D.constants; feasible = D.feasible }) ctx.now.tree (facts_of solver.now) op folds.old.items folds.new.items) }
+    ensures ok { OnOk result (AddsFold ⟦<D as HasFolding>⟧.folding ctx.now.tree (facts_of solver.now) op folds.old.items folds.new.items) }
     ensures err { IfErr result (λ e. e ≡ Memory) }
 {
     match fold_of::<D>(alloc, op, ctx, solver)? {
@@ -70,7 +70,7 @@ fn all_folds<D: Dialect>(
     solver: &Solver,
 ) -> Result<Vec<Fold>, OptError>
     requires { IsLive ctx.now.tree root }
-    ensures ok { IfOk result (λ folds. AreFolds (record { meaning = D.meaning; can_fold = D.can_fold; can_fold_branch = D.can_fold_branch; constants = D.constants; feasible = D.feasible }) ctx.now.tree root (facts_of solver.now) folds.items) }
+    ensures ok { IfOk result (λ folds. AreFolds ⟦<D as HasFolding>⟧.folding ctx.now.tree root (facts_of solver.now) folds.items) }
     ensures err { IfErr result (λ e. e ≡ Memory) }
 {
     ctx.well_formed();
@@ -138,7 +138,7 @@ pub(crate) fn find<D: Dialect>(
 ) -> Result<(Found, u128), OptError>
     requires live { IsLive ctx.now.tree root }
     requires linked { IsWellLinked D.meaning ctx.now.tree root }
-    ensures ok { IfOk result (λ r. HasFound (record { meaning = D.meaning; can_fold = D.can_fold; can_fold_branch = D.can_fold_branch; constants = D.constants; feasible = D.feasible }) D.can_fold ctx.now.tree root r.0 r.1) }
+    ensures ok { IfOk result (λ r. HasFound ⟦<D as HasFolding>⟧.folding D.can_fold ctx.now.tree root r.0 r.1) }
     ensures err { IfErr result (λ e. e ≡ Memory) }
 {
     let searched = search::<D>(alloc, root, ctx)?;

@@ -2,7 +2,6 @@
 ghost use Rattle.std.specs.Prelude.{◌≡◌, ℕ, OnOk, IfErr};
 ghost use Rattle.pliron_core.specs.Tree.{IsLive, IsBlock, In, body_of};
 ghost use Rattle.pliron_laws.specs.declared.fault.OptError.TheVariants.{Memory};
-ghost use Rattle.pliron_theory.specs.Facts.{Says};
 ghost use Rattle.pliron_sccp.specs.Looking.{LooksAt, LooksThrough};
 
 use crate::applying::meet_all;
@@ -10,6 +9,7 @@ use crate::demands::demands;
 use crate::tables::Solver;
 use pliron_core::{BasicBlock, Context, Operation, Ptr};
 use pliron_laws::{Dialect, OptError};
+use pliron_theory::HasFolding;
 use std::alloc::Global;
 
 /// Meets what the operation asks of the facts so far, and does nothing else.
@@ -22,7 +22,7 @@ pub fn look_at<D: Dialect>(
     solver: &mut Solver,
 ) -> Result<(), OptError>
     requires { IsLive ctx.now.tree op }
-    ensures ok { OnOk result (LooksAt (record { meaning = D.meaning; can_fold = D.can_fold; can_fold_branch = D.can_fold_branch; constants = D.constants; feasible = D.feasible }) ctx.now.tree op solver.old solver.new) }
+    ensures ok { OnOk result (LooksAt ⟦<D as HasFolding>⟧.folding ctx.now.tree op solver.old solver.new) }
     ensures err { IfErr result (λ e. e ≡ Memory) }
 {
     let asked = demands::<D>(alloc, op, ctx, solver)?;
@@ -39,7 +39,7 @@ pub fn look_through<D: Dialect>(
     solver: &mut Solver,
 ) -> Result<(), OptError>
     requires { (k : ℕ) → In k ops.now → IsLive ctx.now.tree k }
-    ensures ok { OnOk result (LooksThrough (record { meaning = D.meaning; can_fold = D.can_fold; can_fold_branch = D.can_fold_branch; constants = D.constants; feasible = D.feasible }) ctx.now.tree ops.now solver.old solver.new) }
+    ensures ok { OnOk result (LooksThrough ⟦<D as HasFolding>⟧.folding ctx.now.tree ops.now solver.old solver.new) }
     ensures err { IfErr result (λ e. e ≡ Memory) }
 {
     for i in 0..ops.len() {
@@ -58,7 +58,7 @@ pub fn visit_block<D: Dialect>(
     solver: &mut Solver,
 ) -> Result<(), OptError>
     requires { IsBlock ctx.now.tree block }
-    ensures ok { OnOk result (LooksThrough (record { meaning = D.meaning; can_fold = D.can_fold; can_fold_branch = D.can_fold_branch; constants = D.constants; feasible = D.feasible }) ctx.now.tree (body_of ctx.now.tree block) solver.old solver.new) }
+    ensures ok { OnOk result (LooksThrough ⟦<D as HasFolding>⟧.folding ctx.now.tree (body_of ctx.now.tree block) solver.old solver.new) }
     ensures err { IfErr result (λ e. e ≡ Memory) }
 {
     ctx.well_formed();

@@ -6,13 +6,13 @@ ghost use Rattle.pliron_laws.specs.InPlace.{TellsChange};
 ghost use Rattle.pliron_laws.specs.Linked.{IsWellLinked};
 ghost use Rattle.pliron_theory.specs.Change.{IsPassChange};
 ghost use Rattle.pliron_theory.specs.Edges.{KeepsEdges};
-ghost use Rattle.pliron_theory.specs.Facts.{Says};
 ghost use Rattle.pliron_sccp.specs.Propagated.{IsPropagated, IsPartlyPropagated};
 
 use crate::found::find;
 use crate::rewriting::rewrite;
 use pliron_core::{Context, IRRewriter, IRStatus, Operation, Ptr};
 use pliron_laws::{Dialect, OptError};
+use pliron_theory::HasFolding;
 use std::alloc::Global;
 
 /// Propagates constants inside the operation, as `sccp` does, and answers too how often its search took
@@ -27,8 +27,8 @@ pub fn sccp_counted<D: Dialect>(
 ) -> Result<(IRStatus, u128), OptError>
     requires live { IsLive ctx.old.tree op }
     requires linked { IsWellLinked D.meaning ctx.old.tree op }
-    ensures propagated { IfOk result (λ a. IsPropagated (record { meaning = D.meaning; can_fold = D.can_fold; can_fold_branch = D.can_fold_branch; constants = D.constants; feasible = D.feasible }) D.accepts D.constant_head D.ConstFoldInterface.outcome ctx.old.tree op ctx.new.tree a.1) }
-    ensures partly { OnErr result (IsPartlyPropagated (record { meaning = D.meaning; can_fold = D.can_fold; can_fold_branch = D.can_fold_branch; constants = D.constants; feasible = D.feasible }) D.accepts D.constant_head D.ConstFoldInterface.outcome ctx.old.tree op ctx.new.tree) }
+    ensures propagated { IfOk result (λ a. IsPropagated ⟦<D as HasFolding>⟧.folding D.accepts D.constant_head D.ConstFoldInterface.outcome ctx.old.tree op ctx.new.tree a.1) }
+    ensures partly { OnErr result (IsPartlyPropagated ⟦<D as HasFolding>⟧.folding D.accepts D.constant_head D.ConstFoldInterface.outcome ctx.old.tree op ctx.new.tree) }
     ensures change { IsPassChange D.meaning ctx.old.tree ctx.new.tree op }
     ensures tells { IfOk result (λ a. TellsChange (Some a.0) ctx.old.tree ctx.new.tree) }
     ensures edges { KeepsEdges ctx.old.tree ctx.new.tree }
@@ -67,8 +67,8 @@ pub fn sccp<D: Dialect>(
 ) -> Result<IRStatus, OptError>
     requires live { IsLive ctx.old.tree op }
     requires linked { IsWellLinked D.meaning ctx.old.tree op }
-    ensures propagated { OnOk result ((pops : ℕ) × IsPropagated (record { meaning = D.meaning; can_fold = D.can_fold; can_fold_branch = D.can_fold_branch; constants = D.constants; feasible = D.feasible }) D.accepts D.constant_head D.ConstFoldInterface.outcome ctx.old.tree op ctx.new.tree pops) }
-    ensures partly { OnErr result (IsPartlyPropagated (record { meaning = D.meaning; can_fold = D.can_fold; can_fold_branch = D.can_fold_branch; constants = D.constants; feasible = D.feasible }) D.accepts D.constant_head D.ConstFoldInterface.outcome ctx.old.tree op ctx.new.tree) }
+    ensures propagated { OnOk result ((pops : ℕ) × IsPropagated ⟦<D as HasFolding>⟧.folding D.accepts D.constant_head D.ConstFoldInterface.outcome ctx.old.tree op ctx.new.tree pops) }
+    ensures partly { OnErr result (IsPartlyPropagated ⟦<D as HasFolding>⟧.folding D.accepts D.constant_head D.ConstFoldInterface.outcome ctx.old.tree op ctx.new.tree) }
     ensures change { IsPassChange D.meaning ctx.old.tree ctx.new.tree op }
     ensures tells { IfOk result (λ a. TellsChange (Some a) ctx.old.tree ctx.new.tree) }
     ensures edges { KeepsEdges ctx.old.tree ctx.new.tree }

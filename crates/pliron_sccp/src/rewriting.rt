@@ -3,7 +3,7 @@ ghost use Rattle.std.specs.Prelude.{◌≡◌, ◌≤◌, ◌<◌, ℕ, List, So
 ghost use Rattle.pliron_core.specs.Tree.{Tree, IsLive};
 ghost use Rattle.pliron_core.specs.Changes.{IsSameTree};
 ghost use Rattle.pliron_laws.specs.declared.fault.OptError.TheVariants.{Memory};
-ghost use Rattle.pliron_theory.specs.Facts.{Facts, Says};
+ghost use Rattle.pliron_theory.specs.Facts.{Facts};
 ghost use Rattle.pliron_theory.specs.Following.{Follows};
 ghost use Rattle.pliron_sccp.specs.Steps.{IsFoldStep, AreFoldSteps, IsTold, IsArgumentStep, AreArgumentSteps, StandForEach, IsFound};
 ghost use Rattle.pliron_theory.specs.Rewrites.{ReplacesArgument};
@@ -12,6 +12,7 @@ ghost use Rattle.pliron_sccp.specs.Chain.{FoldsInTurn, FoldsPartly, KnownArgumen
 
 use pliron_core::{AttrObj, BasicBlock, Context, IRStatus, Operation, Ptr, Rewriter};
 use pliron_laws::{ConstFoldInterface, Dialect, OptError, Room};
+use pliron_theory::HasFolding;
 use pliron_theory::rewrites::replace_argument_by_constant;
 use std::alloc::Global;
 
@@ -33,13 +34,13 @@ pub fn fold_one<D: Dialect, R: Rewriter + Room>(
     ctx: &mut Context,
     rewriter: &mut R,
 ) -> Result<IRStatus, OptError>
-    requires step { (t₀ : Tree) × (root : ℕ) × (f₀ : Facts) × IsFoldStep (record { meaning = D.meaning; can_fold = D.can_fold; can_fold_branch = D.can_fold_branch; constants = D.constants; feasible = D.feasible }) t₀ root f₀ ctx.old.tree fold.now.op fold.now.known.items }
+    requires step { (t₀ : Tree) × (root : ℕ) × (f₀ : Facts) × IsFoldStep ⟦<D as HasFolding>⟧.folding t₀ root f₀ ctx.old.tree fold.now.op fold.now.known.items }
     ensures ok { IfOk result (λ status. D.ConstFoldInterface.outcome ctx.old.tree ctx.new.tree fold.now.op fold.now.known.items (Some status)) }
     ensures refused { OnErr result (D.ConstFoldInterface.outcome ctx.old.tree ctx.new.tree fold.now.op fold.now.known.items None) }
     ensures told { IfOk result (λ status. IsTold status ctx.old.tree ctx.new.tree) }
     ensures stays { (k : ℕ) → IsLive ctx.old.tree k → IsLive ctx.new.tree k }
     ensures err { IfErr result (λ e. e ≡ Memory) }
-    ensures follows { (t₀ : Tree) (root : ℕ) (f₀ : Facts) → IsFoldStep (record { meaning = D.meaning; can_fold = D.can_fold; can_fold_branch = D.can_fold_branch; constants = D.constants; feasible = D.feasible }) t₀ root f₀ ctx.old.tree fold.now.op fold.now.known.items → Follows (record { meaning = D.meaning; can_fold = D.can_fold; can_fold_branch = D.can_fold_branch; constants = D.constants; feasible = D.feasible }) t₀ root f₀ ctx.new.tree }
+    ensures follows { (t₀ : Tree) (root : ℕ) (f₀ : Facts) → IsFoldStep ⟦<D as HasFolding>⟧.folding t₀ root f₀ ctx.old.tree fold.now.op fold.now.known.items → Follows ⟦<D as HasFolding>⟧.folding t₀ root f₀ ctx.new.tree }
 {
     ctx.well_formed();
     rewriter.set_insertion_point_before_operation(fold.op);
@@ -58,13 +59,13 @@ pub fn fold_all<D: Dialect, R: Rewriter + Room>(
     ctx: &mut Context,
     rewriter: &mut R,
 ) -> Result<IRStatus, OptError>
-    requires steps { (t₀ : Tree) × (root : ℕ) × (f₀ : Facts) × AreFoldSteps (record { meaning = D.meaning; can_fold = D.can_fold; can_fold_branch = D.can_fold_branch; constants = D.constants; feasible = D.feasible }) t₀ root f₀ ctx.old.tree folds.now }
-    ensures folded { OnOk result ((t₀ : Tree) (root : ℕ) (f₀ : Facts) → AreFoldSteps (record { meaning = D.meaning; can_fold = D.can_fold; can_fold_branch = D.can_fold_branch; constants = D.constants; feasible = D.feasible }) t₀ root f₀ ctx.old.tree folds.now → FoldsInTurn D.ConstFoldInterface.outcome t₀ f₀ (map (λ fold. fold.op) folds.now) ctx.old.tree ctx.new.tree) }
-    ensures refused { OnErr result ((t₀ : Tree) (root : ℕ) (f₀ : Facts) → AreFoldSteps (record { meaning = D.meaning; can_fold = D.can_fold; can_fold_branch = D.can_fold_branch; constants = D.constants; feasible = D.feasible }) t₀ root f₀ ctx.old.tree folds.now → FoldsPartly D.ConstFoldInterface.outcome t₀ f₀ (map (λ fold. fold.op) folds.now) ctx.old.tree ctx.new.tree) }
+    requires steps { (t₀ : Tree) × (root : ℕ) × (f₀ : Facts) × AreFoldSteps ⟦<D as HasFolding>⟧.folding t₀ root f₀ ctx.old.tree folds.now }
+    ensures folded { OnOk result ((t₀ : Tree) (root : ℕ) (f₀ : Facts) → AreFoldSteps ⟦<D as HasFolding>⟧.folding t₀ root f₀ ctx.old.tree folds.now → FoldsInTurn D.ConstFoldInterface.outcome t₀ f₀ (map (λ fold. fold.op) folds.now) ctx.old.tree ctx.new.tree) }
+    ensures refused { OnErr result ((t₀ : Tree) (root : ℕ) (f₀ : Facts) → AreFoldSteps ⟦<D as HasFolding>⟧.folding t₀ root f₀ ctx.old.tree folds.now → FoldsPartly D.ConstFoldInterface.outcome t₀ f₀ (map (λ fold. fold.op) folds.now) ctx.old.tree ctx.new.tree) }
     ensures told { IfOk result (λ status. IsTold status ctx.old.tree ctx.new.tree) }
     ensures stays { (k : ℕ) → IsLive ctx.old.tree k → IsLive ctx.new.tree k }
     ensures err { IfErr result (λ e. e ≡ Memory) }
-    ensures follows { (t₀ : Tree) (root : ℕ) (f₀ : Facts) → AreFoldSteps (record { meaning = D.meaning; can_fold = D.can_fold; can_fold_branch = D.can_fold_branch; constants = D.constants; feasible = D.feasible }) t₀ root f₀ ctx.old.tree folds.now → Follows (record { meaning = D.meaning; can_fold = D.can_fold; can_fold_branch = D.can_fold_branch; constants = D.constants; feasible = D.feasible }) t₀ root f₀ ctx.new.tree }
+    ensures follows { (t₀ : Tree) (root : ℕ) (f₀ : Facts) → AreFoldSteps ⟦<D as HasFolding>⟧.folding t₀ root f₀ ctx.old.tree folds.now → Follows ⟦<D as HasFolding>⟧.folding t₀ root f₀ ctx.new.tree }
 {
     let mut status = IRStatus::Unchanged;
     for i in 0..folds.len() {
@@ -92,13 +93,13 @@ pub fn put_argument<D: Dialect, R: Rewriter + Room>(
     ctx: &mut Context,
     rewriter: &mut R,
 ) -> Result<IRStatus, OptError>
-    requires step { (t₀ : Tree) × (root : ℕ) × (f₀ : Facts) × IsArgumentStep (record { meaning = D.meaning; can_fold = D.can_fold; can_fold_branch = D.can_fold_branch; constants = D.constants; feasible = D.feasible }) t₀ root f₀ ctx.old.tree argument.now }
+    requires step { (t₀ : Tree) × (root : ℕ) × (f₀ : Facts) × IsArgumentStep ⟦<D as HasFolding>⟧.folding t₀ root f₀ ctx.old.tree argument.now }
     ensures ok { IfOk result (λ status. ReplacesArgument D.accepts D.constant_head argument.now.attr argument.now.block argument.now.index ctx.old.tree ctx.new.tree status) }
     ensures refused { OnErr result (IsSameTree ctx.old.tree ctx.new.tree) }
     ensures told { IfOk result (λ status. IsTold status ctx.old.tree ctx.new.tree) }
     ensures stays { (k : ℕ) → IsLive ctx.old.tree k → IsLive ctx.new.tree k }
     ensures err { IfErr result (λ e. e ≡ Memory) }
-    ensures follows { (t₀ : Tree) (root : ℕ) (f₀ : Facts) → IsArgumentStep (record { meaning = D.meaning; can_fold = D.can_fold; can_fold_branch = D.can_fold_branch; constants = D.constants; feasible = D.feasible }) t₀ root f₀ ctx.old.tree argument.now → Follows (record { meaning = D.meaning; can_fold = D.can_fold; can_fold_branch = D.can_fold_branch; constants = D.constants; feasible = D.feasible }) t₀ root f₀ ctx.new.tree }
+    ensures follows { (t₀ : Tree) (root : ℕ) (f₀ : Facts) → IsArgumentStep ⟦<D as HasFolding>⟧.folding t₀ root f₀ ctx.old.tree argument.now → Follows ⟦<D as HasFolding>⟧.folding t₀ root f₀ ctx.new.tree }
 {
     let done = replace_argument_by_constant::<D, R>(
         alloc,
@@ -122,13 +123,13 @@ pub fn put_all<D: Dialect, R: Rewriter + Room>(
     ctx: &mut Context,
     rewriter: &mut R,
 ) -> Result<IRStatus, OptError>
-    requires steps { (t₀ : Tree) × (root : ℕ) × (f₀ : Facts) × AreArgumentSteps (record { meaning = D.meaning; can_fold = D.can_fold; can_fold_branch = D.can_fold_branch; constants = D.constants; feasible = D.feasible }) t₀ root f₀ ctx.old.tree arguments.now }
-    ensures puts { OnOk result ((t₀ : Tree) (root : ℕ) (f₀ : Facts) → AreArgumentSteps (record { meaning = D.meaning; can_fold = D.can_fold; can_fold_branch = D.can_fold_branch; constants = D.constants; feasible = D.feasible }) t₀ root f₀ ctx.old.tree arguments.now → (known : List KnownArgument) → StandForEach t₀ arguments.now known → ctx.new.tree ≡ all_put D.accepts D.constant_head known ctx.old.tree) }
-    ensures refused { OnErr result ((t₀ : Tree) (root : ℕ) (f₀ : Facts) → AreArgumentSteps (record { meaning = D.meaning; can_fold = D.can_fold; can_fold_branch = D.can_fold_branch; constants = D.constants; feasible = D.feasible }) t₀ root f₀ ctx.old.tree arguments.now → (known : List KnownArgument) → StandForEach t₀ arguments.now known → IsPartlyPut D.accepts D.constant_head known ctx.old.tree ctx.new.tree) }
+    requires steps { (t₀ : Tree) × (root : ℕ) × (f₀ : Facts) × AreArgumentSteps ⟦<D as HasFolding>⟧.folding t₀ root f₀ ctx.old.tree arguments.now }
+    ensures puts { OnOk result ((t₀ : Tree) (root : ℕ) (f₀ : Facts) → AreArgumentSteps ⟦<D as HasFolding>⟧.folding t₀ root f₀ ctx.old.tree arguments.now → (known : List KnownArgument) → StandForEach t₀ arguments.now known → ctx.new.tree ≡ all_put D.accepts D.constant_head known ctx.old.tree) }
+    ensures refused { OnErr result ((t₀ : Tree) (root : ℕ) (f₀ : Facts) → AreArgumentSteps ⟦<D as HasFolding>⟧.folding t₀ root f₀ ctx.old.tree arguments.now → (known : List KnownArgument) → StandForEach t₀ arguments.now known → IsPartlyPut D.accepts D.constant_head known ctx.old.tree ctx.new.tree) }
     ensures told { IfOk result (λ status. IsTold status ctx.old.tree ctx.new.tree) }
     ensures stays { (k : ℕ) → IsLive ctx.old.tree k → IsLive ctx.new.tree k }
     ensures err { IfErr result (λ e. e ≡ Memory) }
-    ensures follows { (t₀ : Tree) (root : ℕ) (f₀ : Facts) → AreArgumentSteps (record { meaning = D.meaning; can_fold = D.can_fold; can_fold_branch = D.can_fold_branch; constants = D.constants; feasible = D.feasible }) t₀ root f₀ ctx.old.tree arguments.now → Follows (record { meaning = D.meaning; can_fold = D.can_fold; can_fold_branch = D.can_fold_branch; constants = D.constants; feasible = D.feasible }) t₀ root f₀ ctx.new.tree }
+    ensures follows { (t₀ : Tree) (root : ℕ) (f₀ : Facts) → AreArgumentSteps ⟦<D as HasFolding>⟧.folding t₀ root f₀ ctx.old.tree arguments.now → Follows ⟦<D as HasFolding>⟧.folding t₀ root f₀ ctx.new.tree }
 {
     let mut status = IRStatus::Unchanged;
     for i in 0..arguments.len() {
@@ -155,12 +156,12 @@ pub fn rewrite<D: Dialect, R: Rewriter + Room>(
     ctx: &mut Context,
     rewriter: &mut R,
 ) -> Result<IRStatus, OptError>
-    requires found { (root : ℕ) × (f : Facts) × IsFound (record { meaning = D.meaning; can_fold = D.can_fold; can_fold_branch = D.can_fold_branch; constants = D.constants; feasible = D.feasible }) D.can_fold ctx.old.tree root f found.now }
-    ensures rewritten { OnOk result ((root : ℕ) (f : Facts) → IsFound (record { meaning = D.meaning; can_fold = D.can_fold; can_fold_branch = D.can_fold_branch; constants = D.constants; feasible = D.feasible }) D.can_fold ctx.old.tree root f found.now → IsRewritten D.can_fold D.accepts D.constant_head D.ConstFoldInterface.outcome ctx.old.tree root f ctx.new.tree) }
-    ensures refused { OnErr result ((root : ℕ) (f : Facts) → IsFound (record { meaning = D.meaning; can_fold = D.can_fold; can_fold_branch = D.can_fold_branch; constants = D.constants; feasible = D.feasible }) D.can_fold ctx.old.tree root f found.now → IsPartlyRewritten D.can_fold D.accepts D.constant_head D.ConstFoldInterface.outcome ctx.old.tree root f ctx.new.tree) }
+    requires found { (root : ℕ) × (f : Facts) × IsFound ⟦<D as HasFolding>⟧.folding D.can_fold ctx.old.tree root f found.now }
+    ensures rewritten { OnOk result ((root : ℕ) (f : Facts) → IsFound ⟦<D as HasFolding>⟧.folding D.can_fold ctx.old.tree root f found.now → IsRewritten D.can_fold D.accepts D.constant_head D.ConstFoldInterface.outcome ctx.old.tree root f ctx.new.tree) }
+    ensures refused { OnErr result ((root : ℕ) (f : Facts) → IsFound ⟦<D as HasFolding>⟧.folding D.can_fold ctx.old.tree root f found.now → IsPartlyRewritten D.can_fold D.accepts D.constant_head D.ConstFoldInterface.outcome ctx.old.tree root f ctx.new.tree) }
     ensures told { IfOk result (λ status. TellsChange (Some status) ctx.old.tree ctx.new.tree) }
     ensures err { IfErr result (λ e. e ≡ Memory) }
-    ensures follows { (root : ℕ) (f : Facts) → IsFound (record { meaning = D.meaning; can_fold = D.can_fold; can_fold_branch = D.can_fold_branch; constants = D.constants; feasible = D.feasible }) D.can_fold ctx.old.tree root f found.now → Follows (record { meaning = D.meaning; can_fold = D.can_fold; can_fold_branch = D.can_fold_branch; constants = D.constants; feasible = D.feasible }) ctx.old.tree root f ctx.new.tree }
+    ensures follows { (root : ℕ) (f : Facts) → IsFound ⟦<D as HasFolding>⟧.folding D.can_fold ctx.old.tree root f found.now → Follows ⟦<D as HasFolding>⟧.folding ctx.old.tree root f ctx.new.tree }
 {
     ctx.well_formed();
     let mut status = fold_all::<D, R>(alloc, &found.folds, ctx, rewriter)?;

@@ -13,7 +13,6 @@ ghost use Rattle.std.specs.Prelude.{◌≡◌, ℕ, true, IfOk, IfErr};
 ghost use Rattle.pliron_core.specs.Tree.{IsLive, IsBlock};
 ghost use Rattle.pliron_laws.specs.declared.fault.OptError.TheVariants.{Memory};
 ghost use Rattle.pliron_laws.specs.Linked.{IsWellLinked};
-ghost use Rattle.pliron_theory.specs.Facts.{Says};
 ghost use Rattle.pliron_sccp.specs.Tables.{waits_block};
 ghost use Rattle.pliron_sccp.specs.Searching.{VisitsValues, Steps};
 ghost use Rattle.pliron_sccp.specs.Searched.{IsSearched};
@@ -24,6 +23,7 @@ use crate::tables::Solver;
 use crate::users::users_of;
 use pliron_core::{Context, Operation, Ptr};
 use pliron_laws::{Dialect, OptError};
+use pliron_theory::HasFolding;
 use std::alloc::Global;
 
 /// Takes all values that wait, and looks at their users; how many values these were.
@@ -32,7 +32,7 @@ fn visit_values<D: Dialect>(
     ctx: &Context,
     solver: &mut Solver,
 ) -> Result<usize, OptError>
-    ensures ok { IfOk result (λ taken. VisitsValues (record { meaning = D.meaning; can_fold = D.can_fold; can_fold_branch = D.can_fold_branch; constants = D.constants; feasible = D.feasible }) ctx.now.tree solver.old solver.new taken) }
+    ensures ok { IfOk result (λ taken. VisitsValues ⟦<D as HasFolding>⟧.folding ctx.now.tree solver.old solver.new taken) }
     ensures err { IfErr result (λ e. e ≡ Memory) }
 {
     ctx.well_formed();
@@ -46,7 +46,7 @@ fn visit_values<D: Dialect>(
 /// users; how many were taken, none where nothing waited.
 fn step<D: Dialect>(alloc: Global, ctx: &Context, solver: &mut Solver) -> Result<usize, OptError>
     requires { (b : ℕ) → waits_block solver.old b ≡ true → IsBlock ctx.now.tree b }
-    ensures ok { IfOk result (λ taken. Steps (record { meaning = D.meaning; can_fold = D.can_fold; can_fold_branch = D.can_fold_branch; constants = D.constants; feasible = D.feasible }) ctx.now.tree solver.old solver.new taken) }
+    ensures ok { IfOk result (λ taken. Steps ⟦<D as HasFolding>⟧.folding ctx.now.tree solver.old solver.new taken) }
     ensures err { IfErr result (λ e. e ≡ Memory) }
 {
     match solver.next_block() {
@@ -78,7 +78,7 @@ pub fn search<D: Dialect>(
 ) -> Result<Searched, OptError>
     requires live { IsLive ctx.now.tree root }
     requires linked { IsWellLinked D.meaning ctx.now.tree root }
-    ensures ok { IfOk result (λ r. IsSearched (record { meaning = D.meaning; can_fold = D.can_fold; can_fold_branch = D.can_fold_branch; constants = D.constants; feasible = D.feasible }) ctx.now.tree root r.solver r.pops) }
+    ensures ok { IfOk result (λ r. IsSearched ⟦<D as HasFolding>⟧.folding ctx.now.tree root r.solver r.pops) }
     ensures err { IfErr result (λ e. e ≡ Memory) }
 {
     ctx.well_formed();

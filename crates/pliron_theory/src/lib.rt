@@ -5,7 +5,9 @@
 #![tactic(auto)]
 
 mod arguments;
+mod folding;
 pub mod rewrites;
 pub mod theory;
 
 pub use arguments::lose_forwarded;
+pub use folding::HasFolding;

@@ -7,13 +7,13 @@ ghost use Rattle.pliron_theory.specs.ChosenRoots.{ChosenRootsLaw};
 ghost use Rattle.pliron_theory.specs.Change.{PassLaws};
 ghost use Rattle.pliron_theory.specs.Edges.{EdgeLaws};
 ghost use Rattle.pliron_theory.specs.Knowing.{FactsLaw};
-ghost use Rattle.pliron_theory.specs.Facts.{Says};
 ghost use Rattle.pliron_theory.specs.Sound.{SoundFactsLaw, ClosedFactsLaw};
 ghost use Rattle.pliron_theory.specs.Following.{FollowingLaws};
 ghost use Rattle.pliron_theory.specs.Rewrites.{FirstKeepsLinks};
 ghost use Rattle.pliron_laws.specs.LinkLaws.{FoldsKeepLinks};
 ghost use Rattle.pliron_theory.specs.RunLaws.{KeepingLaws, FewerRootsLaw, OperandsHaveData, SweepingLaws, MakingLaws, RenamingLaws, SplicingLaw, OneEdgeLaw, RebranchingLaw, DroppingLaw, RemovingLaw};
 
+use crate::folding::HasFolding;
 use pliron_laws::Dialect;
 
 /// "Runs are kept" is reflexive and transitive, and spent keys are nothing to it.
@@ -150,17 +150,17 @@ pub fn constants_first_keep_links()
 /// What sound facts inside an operation say of values that are made in blocks that are reached, every
 /// run of every root that is fit to run reads.
 pub fn sound_facts_are_read<D: Dialect>()
-    ensures { SoundFactsLaw (record { meaning = D.meaning; can_fold = D.can_fold; can_fold_branch = D.can_fold_branch; constants = D.constants; feasible = D.feasible }) }
+    ensures { SoundFactsLaw ⟦<D as HasFolding>⟧.folding }
 {}
 
 /// What closed facts inside an operation say of values that are made in blocks that are reached, and
 /// what folding answers there by them, every run of every root that is fit to run reads.
 pub fn closed_facts_are_read<D: Dialect>()
-    ensures { ClosedFactsLaw (record { meaning = D.meaning; can_fold = D.can_fold; can_fold_branch = D.can_fold_branch; constants = D.constants; feasible = D.feasible }) }
+    ensures { ClosedFactsLaw ⟦<D as HasFolding>⟧.folding }
 {}
 
 /// Facts that are closed on a tree go on holding while constants are put by them: what was known of
 /// the first tree may be handed to each later fold.
 pub fn facts_are_followed<D: Dialect>()
-    ensures { FollowingLaws (record { meaning = D.meaning; can_fold = D.can_fold; can_fold_branch = D.can_fold_branch; constants = D.constants; feasible = D.feasible }) D.accepts D.constant_head }
+    ensures { FollowingLaws ⟦<D as HasFolding>⟧.folding D.accepts D.constant_head }
 {}

@@ -1,0 +1,14 @@
+//! What a dialect says of folding, under one name.
+ghost use Rattle.pliron_theory.specs.Facts.{Says};
+
+use pliron_laws::Dialect;
+
+/// What facts read of a dialect: its meaning, which heads fold by constants and as branches, and what
+/// folding these answers. Each dialect has it; contracts alone speak of it.
+pub trait HasFolding {
+    ghost folding: { Says };
+}
+
+impl<D: Dialect> HasFolding for D {
+    ghost folding = { record { meaning = D.meaning; can_fold = D.can_fold; can_fold_branch = D.can_fold_branch; constants = D.constants; feasible = D.feasible } };
+}
