@@ -81,7 +81,8 @@ fn places_in_kind(kind: BenchKind, attrs: &Attrs, operands: usize, i: usize) -> 
 /// Cost: constant.
 pub fn places_at(op: Ptr<Operation>, ctx: &Context, i: usize) -> Places
     requires { IsLive ctx.now.tree op }
-    ensures places { ReadsHead (λ h. by_kind no_places_in places_in (kind_of h.kind) h.attrs (length (operands_of ctx.now.tree op)) i) ctx.now.tree op (range_with_len result.first result.count) }
+    ensures places { ReadsHead (λ h. by_kind no_places_in places_in (kind_of h.kind) h.attrs (length
+        (operands_of ctx.now.tree op)) i) ctx.now.tree op (range_with_len result.first result.count) }
     ensures within { (j : ℕ) → j < result.count → result.first + j < length (operands_of ctx.now.tree op) }
     ensures fits { result.first + result.count ≤ 18446744073709551615 }
 {
@@ -181,7 +182,8 @@ fn one_fewer(attr: &AttrObj) -> AttrObj
 /// the operation stands (`is_live` tests it). Cost: constant.
 pub fn shorten(op: Ptr<Operation>, ctx: &mut Context, i: usize)
     requires { IsLive ctx.old.tree op }
-    ensures head { (h : HeadOf) → head_of ctx.old.tree op ≡ Some h → ctx.new.tree ≡ with_head ctx.old.tree op (by_kind as_it_is shortened_of (kind_of h.kind) h i) }
+    ensures head { (h : HeadOf) → head_of ctx.old.tree op ≡ Some h → ctx.new.tree ≡
+        with_head ctx.old.tree op (by_kind as_it_is shortened_of (kind_of h.kind) h i) }
     ensures block_uses { ctx.new.block_uses ≡ ctx.old.block_uses }
 {
     if i > 0 {

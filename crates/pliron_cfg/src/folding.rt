@@ -64,11 +64,14 @@ fn fold_known<D: Dialect, R: Rewriter + Room>(
 ) -> Result<IRStatus, OptError>
     requires known { known.now ≡ constants_of D.meaning D.can_fold D.constants ctx.old.tree op }
     requires branch { (root : ℕ) × IsWellLinked D.meaning ctx.old.tree root × IsBranchInside D.can_fold_branch ctx.old.tree root op }
-    ensures ok { IfOk result (λ status. D.BranchOpFoldInterface.outcome ctx.old.tree ctx.new.tree op (constants_of D.meaning D.can_fold D.constants ctx.old.tree op) (Some status)) }
-    ensures refused { OnErr result (D.BranchOpFoldInterface.outcome ctx.old.tree ctx.new.tree op (constants_of D.meaning D.can_fold D.constants ctx.old.tree op) None) }
+    ensures ok { IfOk result (λ status. D.BranchOpFoldInterface.outcome ctx.old.tree ctx.new.tree op
+        (constants_of D.meaning D.can_fold D.constants ctx.old.tree op) (Some status)) }
+    ensures refused { OnErr result (D.BranchOpFoldInterface.outcome ctx.old.tree ctx.new.tree op
+        (constants_of D.meaning D.can_fold D.constants ctx.old.tree op) None) }
     ensures err { IfErr result (λ e. e ≡ Memory) }
     ensures told { IfOk result (λ status. IsTold status ctx.old.tree ctx.new.tree) }
-    ensures step { (root : ℕ) → IsWellLinked D.meaning ctx.old.tree root → IsBranchInside D.can_fold_branch ctx.old.tree root op → IsFoldStep D.meaning D.can_fold_branch ctx.old.tree ctx.new.tree root op }
+    ensures step { (root : ℕ) → IsWellLinked D.meaning ctx.old.tree root → IsBranchInside D.can_fold_branch ctx.old.tree root op →
+        IsFoldStep D.meaning D.can_fold_branch ctx.old.tree ctx.new.tree root op }
 {
     ctx.well_formed();
     rewriter.set_insertion_point_before_operation(op);
@@ -85,11 +88,14 @@ fn fold_one<D: Dialect, R: Rewriter + Room>(
     rewriter: &mut R,
 ) -> Result<IRStatus, OptError>
     requires branch { (root : ℕ) × IsWellLinked D.meaning ctx.old.tree root × IsBranchInside D.can_fold_branch ctx.old.tree root op }
-    ensures ok { IfOk result (λ status. D.BranchOpFoldInterface.outcome ctx.old.tree ctx.new.tree op (constants_of D.meaning D.can_fold D.constants ctx.old.tree op) (Some status)) }
-    ensures refused { OnErr result ((ctx.new.tree ≡ ctx.old.tree) ⊎ D.BranchOpFoldInterface.outcome ctx.old.tree ctx.new.tree op (constants_of D.meaning D.can_fold D.constants ctx.old.tree op) None) }
+    ensures ok { IfOk result (λ status. D.BranchOpFoldInterface.outcome ctx.old.tree ctx.new.tree op
+        (constants_of D.meaning D.can_fold D.constants ctx.old.tree op) (Some status)) }
+    ensures refused { OnErr result ((ctx.new.tree ≡ ctx.old.tree) ⊎ D.BranchOpFoldInterface.outcome ctx.old.tree ctx.new.tree op
+        (constants_of D.meaning D.can_fold D.constants ctx.old.tree op) None) }
     ensures err { IfErr result (λ e. e ≡ Memory) }
     ensures told { IfOk result (λ status. IsTold status ctx.old.tree ctx.new.tree) }
-    ensures step { (root : ℕ) → IsWellLinked D.meaning ctx.old.tree root → IsBranchInside D.can_fold_branch ctx.old.tree root op → IsFoldStep D.meaning D.can_fold_branch ctx.old.tree ctx.new.tree root op }
+    ensures step { (root : ℕ) → IsWellLinked D.meaning ctx.old.tree root → IsBranchInside D.can_fold_branch ctx.old.tree root op →
+        IsFoldStep D.meaning D.can_fold_branch ctx.old.tree ctx.new.tree root op }
 {
     ctx.well_formed();
     let known = known_operands::<D>(alloc, op, ctx)?;
@@ -115,11 +121,13 @@ pub fn fold_branches<D: Dialect, R: Rewriter + Room>(
 ) -> Result<IRStatus, OptError>
     requires live { IsLive ctx.old.tree root }
     requires linked { IsWellLinked D.meaning ctx.old.tree root }
-    ensures folds { IfOk result (λ status. FoldsAll D.meaning D.can_fold D.constants D.BranchOpFoldInterface.outcome (branches_of D.can_fold_branch ctx.old.tree root) ctx.old.tree ctx.new.tree status) }
+    ensures folds { IfOk result (λ status. FoldsAll D.meaning D.can_fold D.constants D.BranchOpFoldInterface.outcome
+        (branches_of D.can_fold_branch ctx.old.tree root) ctx.old.tree ctx.new.tree status) }
     ensures tells { IfOk result (λ status. TellsChange (Some status) ctx.old.tree ctx.new.tree) }
     ensures told { IfOk result (λ status. IsTold status ctx.old.tree ctx.new.tree) }
     ensures blocks { OnOk result ((b : ℕ) → block_parent_of ctx.new.tree b ≡ block_parent_of ctx.old.tree b) }
-    ensures refused { OnErr result (FoldsSome D.meaning D.can_fold D.constants D.BranchOpFoldInterface.outcome (branches_of D.can_fold_branch ctx.old.tree root) ctx.old.tree ctx.new.tree) }
+    ensures refused { OnErr result (FoldsSome D.meaning D.can_fold D.constants D.BranchOpFoldInterface.outcome
+        (branches_of D.can_fold_branch ctx.old.tree root) ctx.old.tree ctx.new.tree) }
     ensures err { IfErr result (λ e. e ≡ Memory) }
     ensures change { IsPassChange D.meaning ctx.old.tree ctx.new.tree root }
     ensures links { (r : ℕ) → IsLive ctx.old.tree r → IsWellLinked D.meaning ctx.old.tree r → IsLive ctx.new.tree r → IsWellLinked D.meaning ctx.new.tree r }

@@ -35,7 +35,8 @@ fn merge_at<D: Dialect, R: Rewriter + Room>(
 ) -> Result<IRStatus, OptError>
     requires block { IsBlock ctx.old.tree first }
     requires linked { (holder : ℕ) → block_holder_of ctx.old.tree first ≡ Some holder → IsWellLinked D.meaning ctx.old.tree holder }
-    ensures ok { IfOk result (λ status. MergesAmong D.meaning (first ∷ []) ctx.old.tree ctx.new.tree × HasNoPairAmong D.meaning (first ∷ []) ctx.new.tree × TellsMerged D.meaning (first ∷ []) ctx.old.tree ctx.new.tree status) }
+    ensures ok { IfOk result (λ status. MergesAmong D.meaning (first ∷ []) ctx.old.tree ctx.new.tree ×
+        HasNoPairAmong D.meaning (first ∷ []) ctx.new.tree × TellsMerged D.meaning (first ∷ []) ctx.old.tree ctx.new.tree status) }
     ensures refused { OnErr result (MergesAmongPartly D.meaning (first ∷ []) ctx.old.tree ctx.new.tree) }
     ensures err { IfErr result (λ e. e ≡ Memory) }
 {
@@ -58,7 +59,8 @@ fn merge_among<D: Dialect, R: Rewriter + Room>(
     rewriter: &mut R,
 ) -> Result<IRStatus, OptError>
     requires linked { (c holder : ℕ) → In c blocks.now → block_holder_of ctx.old.tree c ≡ Some holder → IsWellLinked D.meaning ctx.old.tree holder }
-    ensures ok { IfOk result (λ status. MergesAmong D.meaning blocks.now ctx.old.tree ctx.new.tree × HasNoPairAmong D.meaning blocks.now ctx.new.tree × TellsMerged D.meaning blocks.now ctx.old.tree ctx.new.tree status) }
+    ensures ok { IfOk result (λ status. MergesAmong D.meaning blocks.now ctx.old.tree ctx.new.tree ×
+        HasNoPairAmong D.meaning blocks.now ctx.new.tree × TellsMerged D.meaning blocks.now ctx.old.tree ctx.new.tree status) }
     ensures refused { OnErr result (MergesAmongPartly D.meaning blocks.now ctx.old.tree ctx.new.tree) }
     ensures err { IfErr result (λ e. e ≡ Memory) }
 {

@@ -68,7 +68,12 @@ impl Model for Uses {
     ghost use Rattle.std.specs.Prelude.{◌-◌, min, vec_capacity, vec_len};
     ghost use Rattle.pliron_core.specs.Places.{AreLinked, targets_in, uses_in};
 
-    ghost view = { λ c. record { targets = targets_in c.places.items; uses = uses_in c.places.items c.uses.items; user_room = min (vec_capacity c.places - vec_len c.places) (vec_capacity c.gaps - vec_len c.gaps); target_room = vec_capacity c.uses - vec_len c.uses } };
+    ghost view = { λ c. record {
+      targets = targets_in c.places.items;
+      uses = uses_in c.places.items c.uses.items;
+      user_room = min (vec_capacity c.places - vec_len c.places) (vec_capacity c.gaps - vec_len c.gaps);
+      target_room = vec_capacity c.uses - vec_len c.uses;
+    } };
 
     ghost invariant = { λ c. AreLinked c.places.items c.gaps.items c.uses.items };
 }
@@ -394,7 +399,8 @@ fn relocate(
     ensures linked { IsLinked places.new.items uses.new.items }
     ensures moved { (p : PlaceOf) → at places.old.items user from ≡ Some p → places.new.items ≡ put (put places.old.items user to p) user from free_place }
     ensures count { length uses.new.items ≡ length uses.old.items }
-    ensures rooms { (vec_len places.new ≡ vec_len places.old) × (vec_capacity places.new ≡ vec_capacity places.old) × (vec_len uses.new ≡ vec_len uses.old) × (vec_capacity uses.new ≡ vec_capacity uses.old) }
+    ensures rooms { (vec_len places.new ≡ vec_len places.old) × (vec_capacity places.new ≡ vec_capacity places.old) × (vec_len uses.new ≡
+        vec_len uses.old) × (vec_capacity uses.new ≡ vec_capacity uses.old) }
 {
     let Place { target, at } = entry(places, user, from);
     set_entry(uses, target, at, Use { user, place: to });
@@ -494,7 +500,8 @@ fn widen_gap(
     requires start { (gap_of gaps.old.items user).start < length (held (slice_index_or places.old.items user [])) }
     ensures linked { AreLinked places.new.items gaps.new.items uses.new.items }
     ensures target { slice_get (held (slice_index_or places.old.items user [])) (gap_of gaps.old.items user).start ≡ Some result }
-    ensures targets { targets_in places.new.items ≡ slice_set (targets_in places.old.items) user (remove (slice_index_or (targets_in places.old.items) user []) (gap_of gaps.old.items user).start) }
+    ensures targets { targets_in places.new.items ≡ slice_set (targets_in places.old.items) user (remove (slice_index_or
+        (targets_in places.old.items) user []) (gap_of gaps.old.items user).start) }
     ensures count { length uses.new.items ≡ length uses.old.items }
     ensures rooms { KeepRooms places.old places.new gaps.old gaps.new uses.old uses.new }
 {
@@ -521,7 +528,8 @@ fn close_gap(places: &mut Vec<Row<Place>>, gaps: &mut Vec<Gap>, user: usize)
     requires end { (gap_of gaps.old.items user).start ≡ length (held (slice_index_or places.old.items user [])) }
     ensures places { places.new.items ≡ slice_set places.old.items user (take (gap_of gaps.old.items user).start (slice_index_or places.old.items user [])) }
     ensures gaps { HaveGaps places.new.items gaps.new.items }
-    ensures rooms { (vec_len places.new ≡ vec_len places.old) × (vec_capacity places.new ≡ vec_capacity places.old) × (vec_len gaps.new ≡ vec_len gaps.old) × (vec_capacity gaps.new ≡ vec_capacity gaps.old) }
+    ensures rooms { (vec_len places.new ≡ vec_len places.old) × (vec_capacity places.new ≡ vec_capacity places.old) × (vec_len gaps.new ≡
+        vec_len gaps.old) × (vec_capacity gaps.new ≡ vec_capacity gaps.old) }
 {
     let start = gap_at(places, gaps, user).start;
     places[user].truncate(start);
@@ -554,7 +562,8 @@ fn settle_gap(
 // The places of these uses of `old` name `new`, where the uses now stand from `first` on.
 fn retarget(places: &mut Vec<Row<Place>>, moved: &Row<Use>, old: usize, new: usize, first: usize)
     requires listed { (k : ℕ) (u : Use) → slice_get moved.now k ≡ Some u → at places.old.items u.user u.place ≡ Some (record { target = old; at = k }) }
-    requires placed { (k user place : ℕ) → at places.old.items user place ≡ Some (record { target = old; at = k }) → slice_get moved.now k ≡ Some (record { user = user; place = place }) }
+    requires placed { (k user place : ℕ) → at places.old.items user place ≡ Some (record { target = old; at = k }) → slice_get moved.now k ≡
+        Some (record { user = user; place = place }) }
     requires fits { first + length moved.now < 2 ^ 64 }
     ensures each { (user place : ℕ) → at places.new.items user place ≡ option_map (shifted old new first (length moved.now)) (at places.old.items user place) }
     ensures len { length places.new.items ≡ length places.old.items }

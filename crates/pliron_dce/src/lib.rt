@@ -70,7 +70,8 @@ pub fn dce<D: Dialect>(
     requires live { IsLive ctx.old.tree op }
     requires linked { IsWellLinked D.meaning ctx.old.tree op }
     ensures change { IsPassChange D.meaning ctx.old.tree ctx.new.tree op }
-    ensures gone { (gone : List Item) × GoInTurn D.meaning D.shortened gone ctx.old.tree ctx.new.tree × AreDeadThings D.meaning D.side_effects D.removable ctx.old.tree op gone }
+    ensures gone { (gone : List Item) × GoInTurn D.meaning D.shortened gone ctx.old.tree ctx.new.tree ×
+        AreDeadThings D.meaning D.side_effects D.removable ctx.old.tree op gone }
     ensures none { IfOk result (λ a. LeavesNoDead D.meaning D.side_effects D.removable ctx.old.tree ctx.new.tree op) }
     ensures status { IfOk result (λ a. TellsDead D.meaning D.side_effects D.removable ctx.old.tree op a) }
     ensures tells { IfOk result (λ a. (a ≡ Unchanged) ↔ (ctx.new.tree ≡ ctx.old.tree)) }
@@ -94,7 +95,8 @@ pub fn dce_with_regions<D: Dialect>(
     requires live { IsLive ctx.old.tree op }
     requires linked { IsWellLinked D.meaning ctx.old.tree op }
     ensures change { IsPassChange D.meaning ctx.old.tree ctx.new.tree op }
-    ensures gone { (gone : List Item) × GoInTurn D.meaning D.shortened gone ctx.old.tree ctx.new.tree × AreDeadThings D.meaning D.side_effects D.removable ctx.old.tree op gone × IfOk result (λ a. IsTrue a.1 ↔ SomeHasRegions ctx.old.tree gone) }
+    ensures gone { (gone : List Item) × GoInTurn D.meaning D.shortened gone ctx.old.tree ctx.new.tree ×
+        AreDeadThings D.meaning D.side_effects D.removable ctx.old.tree op gone × IfOk result (λ a. IsTrue a.1 ↔ SomeHasRegions ctx.old.tree gone) }
     ensures none { IfOk result (λ a. LeavesNoDead D.meaning D.side_effects D.removable ctx.old.tree ctx.new.tree op) }
     ensures status { IfOk result (λ a. TellsDead D.meaning D.side_effects D.removable ctx.old.tree op a.0) }
     ensures tells { IfOk result (λ a. (a.0 ≡ Unchanged) ↔ (ctx.new.tree ≡ ctx.old.tree)) }

@@ -84,7 +84,9 @@ pub(crate) fn sweep<D: Dialect>(
     requires live { IsLive ctx.old.tree root }
     requires linked { IsWellLinked D.meaning ctx.old.tree root }
     requires all { HasReady D.meaning D.side_effects D.removable ctx.old.tree root candidates.items }
-    ensures gone { (gone : List Item) × IsOnTheWay D.meaning D.shortened D.side_effects D.removable ctx.old.tree ctx.new.tree root gone × IfOk result (λ a. LeavesNoDead D.meaning D.side_effects D.removable ctx.old.tree ctx.new.tree root × TellsGone gone a.0 × (IsTrue a.1 ↔ SomeHasRegions ctx.old.tree gone)) }
+    ensures gone { (gone : List Item) × IsOnTheWay D.meaning D.shortened D.side_effects D.removable ctx.old.tree ctx.new.tree root gone ×
+        IfOk result (λ a. LeavesNoDead D.meaning D.side_effects D.removable ctx.old.tree ctx.new.tree root × TellsGone gone a.0 × (IsTrue a.1 ↔
+        SomeHasRegions ctx.old.tree gone)) }
     ensures edges { IfOk result (λ a. (IsTrue a.1 → ⊥) → KeepsEdges ctx.old.tree ctx.new.tree) }
     ensures err { IfErr result (λ e. e ≡ Memory) }
 {

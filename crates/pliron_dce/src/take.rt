@@ -80,7 +80,8 @@ pub(crate) fn take_argument<D: Dialect>(
     requires ready { (v : ℕ) → slice_get (arguments_of ctx.old.tree block) index ≡ Some v → IsReadyArgument D.meaning D.removable ctx.old.tree root v }
     requires block { IsBlock ctx.old.tree block }
     requires index { index < length (arguments_of ctx.old.tree block) }
-    ensures gone { IfOk result (λ used. (v : ℕ) → slice_get (arguments_of ctx.old.tree block) index ≡ Some v → Removes D.meaning D.shortened ctx.old.tree ctx.new.tree v) }
+    ensures gone { IfOk result (λ used. (v : ℕ) → slice_get (arguments_of ctx.old.tree block) index ≡ Some v →
+        Removes D.meaning D.shortened ctx.old.tree ctx.new.tree v) }
     ensures noted { IfOk result (λ used. (site : ℕ) → block_holder_of ctx.old.tree block ≡ Some site → AreNoted ctx.old.tree ctx.new.tree site used.items) }
     ensures refused { OnErr result (ctx.new ≡ ctx.old) }
     ensures err { IfErr result (λ e. e ≡ Memory) }

@@ -69,10 +69,12 @@ pub fn no_pre_sentinel_is_spare<N: Eq>()
 pub fn equality_of_reverse_nodes<N: Eq>()
     ensures real { (x y : N) → ⟦<ReverseNode<N> as PartialEq>⟧.eq (ReverseNode.Real x) (ReverseNode.Real y) ≡ N.eq x y }
     ensures sentinel { ⟦<ReverseNode<N> as PartialEq>⟧.eq ReverseNode.Sentinel ReverseNode.Sentinel ≡ true }
-    ensures apart { (x : N) → (⟦<ReverseNode<N> as PartialEq>⟧.eq ReverseNode.Sentinel (ReverseNode.Real x) ≡ false) × (⟦<ReverseNode<N> as PartialEq>⟧.eq (ReverseNode.Real x) ReverseNode.Sentinel ≡ false) }
+    ensures apart { (x : N) → (⟦<ReverseNode<N> as PartialEq>⟧.eq ReverseNode.Sentinel (ReverseNode.Real x) ≡ false) ×
+        (⟦<ReverseNode<N> as PartialEq>⟧.eq (ReverseNode.Real x) ReverseNode.Sentinel ≡ false) }
 {}
 
 /// Equal nodes of a [`ReverseGraph`](crate::ReverseGraph) write the same to a hasher.
 pub fn hashing_of_reverse_nodes<N: Eq + Hash>()
-    ensures { (x y : ReverseNode N) → IsTrue (⟦<ReverseNode<N> as PartialEq>⟧.eq x y) → ⟦<ReverseNode<N> as Hash>⟧.hash_input x ≡ ⟦<ReverseNode<N> as Hash>⟧.hash_input y }
+    ensures { (x y : ReverseNode N) → IsTrue (⟦<ReverseNode<N> as PartialEq>⟧.eq x y) → ⟦<ReverseNode<N> as Hash>⟧.hash_input x ≡
+        ⟦<ReverseNode<N> as Hash>⟧.hash_input y }
 {}

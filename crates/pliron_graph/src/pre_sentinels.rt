@@ -50,7 +50,8 @@ fn pre_sentinel_of<C, G: ControlFlowGraph<C>>(
     requires not_empty { 0 < length component.now }
     requires distinct { IsDistinct G.Node.eq component.now }
     requires nodes { All (λ v. Contains (G.graph graph.now ctx.now).nodes v) component.now }
-    ensures last { IfOk result (λ r. (v : G.Node) → ((r ≡ Some v) ↔ (IsSink (G.graph graph.now ctx.now) component.now × IsLastListed G.Node.eq (G.graph graph.now ctx.now) component.now v))) }
+    ensures last { IfOk result (λ r. (v : G.Node) → ((r ≡ Some v) ↔ (IsSink (G.graph graph.now ctx.now) component.now ×
+        IsLastListed G.Node.eq (G.graph graph.now ctx.now) component.now v))) }
     ensures memory { IsOkUnless result OptError.Memory }
 {
     let members = numbered(alloc, component)?;

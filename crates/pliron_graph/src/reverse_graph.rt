@@ -32,7 +32,12 @@ pub struct ReverseGraph<'a, G: ControlFlowGraph<C>, C> {
 impl<'a, G: ControlFlowGraph<C>, C> Model for ReverseGraph<'a, G, C> {
     ghost Value = { Reversed G G.Node };
 
-    ghost view = { λ r. record { original = r.original.now; pre_sentinels = r.pre_sentinels.keys; nodes = r.nodes.keys; predecessors = map (λ list. list.items) r.predecessors.items } };
+    ghost view = { λ r. record {
+      original = r.original.now;
+      pre_sentinels = r.pre_sentinels.keys;
+      nodes = r.nodes.keys;
+      predecessors = map (λ list. list.items) r.predecessors.items;
+    } };
 }
 
 impl<'a, G: ControlFlowGraph<C>, C> ReverseGraph<'a, G, C> {
@@ -91,7 +96,8 @@ impl<'a, G: ControlFlowGraph<C>, C> ControlFlowGraph<C> for ReverseGraph<'a, G, 
 
     ghost is_lawful = { λ r c. G.is_lawful r.original c × Fits G.Node.eq (G.graph r.original c) r };
 
-    ghost laws = { λ r c h. reverse_lawful G.Node.eq _ (λ x y. refl) (λ y. refl) (λ x. refl) G.Node.Eq.laws.refl (G.graph r.original c) r.pre_sentinels (G.laws r.original c h.0) h.1.starts_in };
+    ghost laws = { λ r c h. reverse_lawful G.Node.eq _ (λ x y. refl) (λ y. refl) (λ x. refl) G.Node.Eq.laws.refl
+        (G.graph r.original c) r.pre_sentinels (G.laws r.original c h.0) h.1.starts_in };
 
     fn num_successors(&self, ctx: &C, node: &Self::Node) -> usize {
         match node {
@@ -145,7 +151,8 @@ fn predecessor_lists<C, G: ControlFlowGraph<C>>(
 ) -> Result<Vec<Vec<ReverseNode<G::Node>>>, OptError>
     requires lawful { G.is_lawful graph.now ctx.now }
     requires listed { nodes.now ≡ (G.graph graph.now ctx.now).nodes }
-    ensures lists { IfOk result (λ r. map (λ list. list.items) r.items ≡ map (λ v. reverse_pred G.Node.eq (G.graph graph.now ctx.now) pre_sentinels.now.keys (ReverseNode.Real v)) nodes.now) }
+    ensures lists { IfOk result (λ r. map (λ list. list.items) r.items ≡
+        map (λ v. reverse_pred G.Node.eq (G.graph graph.now ctx.now) pre_sentinels.now.keys (ReverseNode.Real v)) nodes.now) }
     ensures memory { IsOkUnless result OptError.Memory }
 {
     let mut lists = Vec::with_capacity(alloc, nodes.len())?;

@@ -179,7 +179,8 @@ pub trait ConstFoldInterface: HasMeaning {
         requires folds { HeadPasses can_fold ctx.old.tree op }
         requires entries { length operand_attrs.now ≡ length (operands_of ctx.old.tree op) }
         requires point { R.point rewriter.old ≡ BeforeOperation op }
-        ensures ok { IfOk result (λ status. materialising Self.meaning constants accepts constant_head ctx.old.tree ctx.new.tree op operand_attrs.now (Some status)) }
+        ensures ok { IfOk result (λ status. materialising Self.meaning constants accepts constant_head ctx.old.tree ctx.new.tree op operand_attrs.now
+            (Some status)) }
         ensures refused { OnErr result (materialising Self.meaning constants accepts constant_head ctx.old.tree ctx.new.tree op operand_attrs.now Option.None) }
         ensures err { IfErr result (λ e. e ≡ Memory) }
         ensures longer { length ctx.old.tree.operations ≤ length ctx.new.tree.operations }
@@ -389,7 +390,8 @@ pub trait Dialect: SideEffects + BlockArgRemoval + ConstFoldInterface + BranchOp
     ghost gives_at_once: { GivesAtOnce Self.meaning Self.side_effects };
 
     // A branch passes along each edge the operands that it forwards there, and can lose each of them.
-    ghost forwards_operands: { ForwardsOperands Self.meaning Self.can_fold (PassSameTests Self.meaning Self.can_fold Self.can_fold_branch is_of_kind has_interface) shortened };
+    ghost forwards_operands: { ForwardsOperands Self.meaning Self.can_fold
+        (PassSameTests Self.meaning Self.can_fold Self.can_fold_branch is_of_kind has_interface) shortened };
 
     // Where an argument of an entry block may be removed, visits lose a value and nothing else changes.
     ghost acts_without_argument: { ActsWithoutArgument Self.meaning Self.removable };
@@ -401,7 +403,8 @@ pub trait Dialect: SideEffects + BlockArgRemoval + ConstFoldInterface + BranchOp
     ghost answers_jumps: { AnswersJumps Self.meaning Self.can_fold_branch Self.feasible };
 
     // Folding in place puts constants for results, or another branch in the place of one, or nothing.
-    ghost folds_in_place: { FoldsInPlace Self.meaning Self.constants Self.accepts Self.constant_head Self.ConstFoldInterface.outcome Self.BranchOpFoldInterface.outcome };
+    ghost folds_in_place: { FoldsInPlace Self.meaning Self.constants Self.accepts Self.constant_head Self.ConstFoldInterface.outcome
+        Self.BranchOpFoldInterface.outcome };
 
     // What is made for an attribute is a constant that gives its datum.
     ghost makes_constants: { MakesConstants Self.meaning Self.accepts Self.constant_head };

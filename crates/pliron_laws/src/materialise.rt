@@ -23,7 +23,8 @@ fn insert_for<R: Rewriter>(
     requires point { IsPointFor ctx.old.tree (R.point rewriter.old) constant }
     requires result { 0 < length (results_of ctx.old.tree constant) }
     requires old { IsDefined ctx.old.tree old }
-    ensures ok { OnOk result ((new : ℕ) × (slice_get (results_of ctx.old.tree constant) 0 ≡ Some new) × (ctx.new.tree ≡ replaced (inserted ctx.old.tree (R.point rewriter.old) constant) old new)) }
+    ensures ok { OnOk result ((new : ℕ) × (slice_get (results_of ctx.old.tree constant) 0 ≡ Some new) × (ctx.new.tree ≡
+        replaced (inserted ctx.old.tree (R.point rewriter.old) constant) old new)) }
     ensures tree { OnOk result (IsTree (inserted ctx.old.tree (R.point rewriter.old) constant)) }
     ensures err { OnErr result ((ctx.new.tree ≡ ctx.old.tree) ⊎ (ctx.new.tree ≡ inserted ctx.old.tree (R.point rewriter.old) constant)) }
     ensures point { R.point rewriter.new ≡ R.point rewriter.old }
@@ -47,7 +48,8 @@ pub fn put_constant<R: Rewriter>(
 ) -> Result<(), NoMemory>
     requires fresh { (t : Tree) × (head : Head) × IsFresh t ctx.old.tree constant old head }
     requires point { IsPointFor ctx.old.tree (R.point rewriter.old) constant }
-    ensures ok { OnOk result ((t : Tree) (head : Head) → IsFresh t ctx.old.tree constant old head → ctx.new.tree ≡ materialised_at t (R.point rewriter.old) old head) }
+    ensures ok { OnOk result ((t : Tree) (head : Head) → IsFresh t ctx.old.tree constant old head → ctx.new.tree ≡
+        materialised_at t (R.point rewriter.old) old head) }
     ensures tree { OnOk result (IsTree (inserted ctx.old.tree (R.point rewriter.old) constant)) }
     ensures err { OnErr result ((t : Tree) (head : Head) → IsFresh t ctx.old.tree constant old head → IsSameTree t ctx.new.tree) }
     ensures longer { length ctx.old.tree.operations ≤ length ctx.new.tree.operations }

@@ -84,7 +84,8 @@ fn fill(
     requires live { IsLive ctx.old.tree root }
     requires region { length (regions_of ctx.old.tree root) ≡ 1 }
     ensures grown { (t : Tree) (head : TreeHead) → IsTree t → root ≡ length t.operations → ctx.old.tree ≡ created t head 0 1 → IsGrown t ctx.new.tree root }
-    ensures laid { OnOk result ((t : Tree) → IsTree t → root ≡ length t.operations → ctx.old.tree ≡ created t (head_without syntax.now.root) 0 1 → IsAllLaid syntax.now t ctx.new.tree root) }
+    ensures laid { OnOk result ((t : Tree) → IsTree t → root ≡ length t.operations → ctx.old.tree ≡ created t (head_without syntax.now.root) 0 1 →
+        IsAllLaid syntax.now t ctx.new.tree root) }
 {
     ctx.well_formed();
     let mut built = Built {
@@ -292,7 +293,8 @@ fn connect(
     requires standing { AreStanding ctx.old.tree built.now }
     ensures goes_on { GoesOn ctx.old.tree built.now ctx.new.tree built.now }
     ensures standing { AreStanding ctx.new.tree built.now }
-    ensures wired { OnOk result ((s : Syntax) → slice_get s.operations.items number ≡ Some text.now → Wires s number (number + 1) ctx.old.tree ctx.new.tree built.now) }
+    ensures wired { OnOk result ((s : Syntax) → slice_get s.operations.items number ≡ Some text.now →
+        Wires s number (number + 1) ctx.old.tree ctx.new.tree built.now) }
 {
     let op = built.operations[number];
     add_operands(ctx, built, op, &text.operands)?;

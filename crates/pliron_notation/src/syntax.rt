@@ -138,7 +138,8 @@ impl OperationText {
 
     /// Whether an operation with this head may have so many operands.
     fn is_count_right(&self) -> bool
-        ensures { IsTrue result → IsTrue (takes_attributes self.now.kind (head_with self.now.kind self.now.number (pos self.now.first_edge)).attrs (length self.now.operands.items) && takes_operands self.now.kind (length self.now.operands.items)) }
+        ensures { IsTrue result → IsTrue (takes_attributes self.now.kind (head_with self.now.kind self.now.number (pos self.now.first_edge)).attrs
+            (length self.now.operands.items) && takes_operands self.now.kind (length self.now.operands.items)) }
     {
         // The contract needs that a constant has 64 bits.
         let _number = self.number;
@@ -220,7 +221,12 @@ impl Made {
 
     /// Counts so many more regions and values, and answers whether they can be counted.
     fn add(&mut self, regions: usize, values: usize) -> bool
-        ensures { IsTrue result → self.new ≡ record { operations = self.old.operations; blocks = self.old.blocks; regions = self.old.regions + regions; values = self.old.values + values } }
+        ensures { IsTrue result → self.new ≡ record {
+          operations = self.old.operations;
+          blocks = self.old.blocks;
+          regions = self.old.regions + regions;
+          values = self.old.values + values;
+        } }
     {
         match (
             self.regions.checked_add(regions),

@@ -41,7 +41,8 @@ fn answer<N: Notation>(
     command: Command<N::D>,
     text: &[u8],
 ) -> Result<Option<String>, OptError>
-    ensures { IfOk result (λ found. IfSome found (λ answer. Answers N.reads N.prints N.D.meaning (RunsAlone ⟦<BenchFactKind as PartialEq>⟧.eq ⟦<Schedule<N::D, BenchFacts> as Pass>⟧.outcome) command text.now (string_bytes answer))) }
+    ensures { IfOk result (λ found. IfSome found (λ answer. Answers N.reads N.prints N.D.meaning
+        (RunsAlone ⟦<BenchFactKind as PartialEq>⟧.eq ⟦<Schedule<N::D, BenchFacts> as Pass>⟧.outcome) command text.now (string_bytes answer))) }
 {
     match command {
         Command::Optimise(schedule) => optimised::<N>(alloc, schedule, text),
@@ -55,7 +56,9 @@ fn answered<N: Notation, R: Read>(
     words: &[String],
     input: &mut R,
 ) -> Result<String, Failure>
-    ensures { IfOk result (λ answer. IsAnswer AskFor (Answers N.reads N.prints N.D.meaning (RunsAlone ⟦<BenchFactKind as PartialEq>⟧.eq ⟦<Schedule<N::D, BenchFacts> as Pass>⟧.outcome)) (map string_bytes words.now) (R.remaining input.old) (string_bytes answer)) }
+    ensures { IfOk result (λ answer. IsAnswer AskFor (Answers N.reads N.prints N.D.meaning
+        (RunsAlone ⟦<BenchFactKind as PartialEq>⟧.eq ⟦<Schedule<N::D, BenchFacts> as Pass>⟧.outcome)) (map string_bytes words.now)
+        (R.remaining input.old) (string_bytes answer)) }
 {
     let Some(command) = asked(alloc, words)? else {
         return Err(Failure::Arguments);
@@ -89,7 +92,9 @@ pub fn run_optimiser<N: Notation, R: Read, W: Write, E: Write>(
     output: &mut W,
     errors: &mut E,
 ) -> u8
-    ensures { Ends (IsAnswer AskFor (Answers N.reads N.prints N.D.meaning (RunsAlone ⟦<BenchFactKind as PartialEq>⟧.eq ⟦<Schedule<N::D, BenchFacts> as Pass>⟧.outcome)) (map string_bytes args.now) (R.remaining input.old)) (W.contents output.old) (W.contents output.new) result }
+    ensures { Ends (IsAnswer AskFor (Answers N.reads N.prints N.D.meaning
+        (RunsAlone ⟦<BenchFactKind as PartialEq>⟧.eq ⟦<Schedule<N::D, BenchFacts> as Pass>⟧.outcome)) (map string_bytes args.now)
+        (R.remaining input.old)) (W.contents output.old) (W.contents output.new) result }
 {
     match answered::<N, R>(alloc, args, input) {
         Ok(answer) => match write_answer(answer.as_bytes(), output) {
@@ -111,7 +116,9 @@ pub fn plir_run<R: Read, W: Write, E: Write>(
     output: &mut W,
     errors: &mut E,
 ) -> u8
-    ensures { Ends (IsAnswer AskFor (Answers ReadsBench PrintsBench bench (RunsAlone ⟦<BenchFactKind as PartialEq>⟧.eq ⟦<Schedule<Bench, BenchFacts> as Pass>⟧.outcome)) (map string_bytes args.now) (R.remaining input.old)) (W.contents output.old) (W.contents output.new) result }
+    ensures { Ends (IsAnswer AskFor (Answers ReadsBench PrintsBench bench
+        (RunsAlone ⟦<BenchFactKind as PartialEq>⟧.eq ⟦<Schedule<Bench, BenchFacts> as Pass>⟧.outcome)) (map string_bytes args.now)
+        (R.remaining input.old)) (W.contents output.old) (W.contents output.new) result }
 {
     run_optimiser::<BenchNotation, R, W, E>(alloc, args, input, output, errors)
 }

@@ -35,9 +35,25 @@ impl<P: Pass> Pass for Nest<P> {
 
     type E = P::E;
 
-    ghost is_pass_manager = { elim [ AOne p ↦ P.is_pass_manager p | ALine p ↦ true | AInside p ↦ true | AFunc p ↦ true | ARemoving p ↦ true | AAgain p ↦ true | AFailing p ↦ false ] };
+    ghost is_pass_manager = { elim [
+      | AOne p ↦ P.is_pass_manager p
+      | ALine p ↦ true
+      | AInside p ↦ true
+      | AFunc p ↦ true
+      | ARemoving p ↦ true
+      | AAgain p ↦ true
+      | AFailing p ↦ false
+    ] };
 
-    ghost name = { elim [ AOne p ↦ P.name p | ALine p ↦ passes_name | AInside p ↦ nested_name | AFunc p ↦ guarded_name | ARemoving p ↦ guarded_name | AAgain p ↦ repeat_name | AFailing p ↦ 0x66 ∷ 0x61 ∷ 0x69 ∷ 0x6c ∷ 0x5f ∷ 0x61 ∷ 0x66 ∷ 0x74 ∷ 0x65 ∷ 0x72 ∷ [] ] };
+    ghost name = { elim [
+      | AOne p ↦ P.name p
+      | ALine p ↦ passes_name
+      | AInside p ↦ nested_name
+      | AFunc p ↦ guarded_name
+      | ARemoving p ↦ guarded_name
+      | AAgain p ↦ repeat_name
+      | AFailing p ↦ 0x66 ∷ 0x61 ∷ 0x69 ∷ 0x6c ∷ 0x5f ∷ 0x61 ∷ 0x66 ∷ 0x74 ∷ 0x65 ∷ 0x72 ∷ []
+    ] };
 
     ghost outcome = { λ p p' op s s' r. ⊤ };
 

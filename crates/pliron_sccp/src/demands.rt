@@ -173,7 +173,8 @@ fn branch_blocks<D: Dialect>(
     requires live { IsLive ctx.now.tree op }
     requires folds { HeadPasses D.can_fold_branch ctx.now.tree op }
     requires entries { length known.now ≡ length (operands_of ctx.now.tree op) }
-    ensures ok { IfOk result (λ blocks. (o : OperationOf) → op_at ctx.now.tree op ≡ Some o → (b : ℕ) → IsTrue (contains nat_eq blocks b) ↔ In b (D.feasible (shape_of D.meaning ctx.now.tree o) o.successors known.now)) }
+    ensures ok { IfOk result (λ blocks. (o : OperationOf) → op_at ctx.now.tree op ≡ Some o → (b : ℕ) → IsTrue (contains nat_eq blocks b) ↔
+        In b (D.feasible (shape_of D.meaning ctx.now.tree o) o.successors known.now)) }
     ensures err { IfErr result (λ e. e ≡ Memory) }
 {
     let targets = <D as BranchOpFoldInterface>::check_fold(alloc, op, ctx, known)?;
@@ -230,7 +231,8 @@ fn ask_edge<D: Dialect>(
     requires edge { i < length (successors_of ctx.now.tree op) }
     requires known { known.now ≡ handed (facts_of solver.now) (operands_of ctx.now.tree op) }
     requires feasible { AreFeasible D.meaning D.can_fold_branch D.feasible ctx.now.tree op known.now feasible.now }
-    ensures ok { OnOk result ((o : OperationOf) → op_at ctx.now.tree op ≡ Some o → (b : ℕ) → slice_get (successors_of ctx.now.tree op) i ≡ Some b → Adds asked.old.items asked.new.items (λ now. FollowsEdge ⟦<D as HasFolding>⟧.folding ctx.now.tree (facts_of solver.now) o now i b)) }
+    ensures ok { OnOk result ((o : OperationOf) → op_at ctx.now.tree op ≡ Some o → (b : ℕ) → slice_get (successors_of ctx.now.tree op) i ≡ Some b →
+        Adds asked.old.items asked.new.items (λ now. FollowsEdge ⟦<D as HasFolding>⟧.folding ctx.now.tree (facts_of solver.now) o now i b)) }
     ensures err { IfErr result (λ e. e ≡ Memory) }
 {
     let block = op.get_successor(ctx, i);
@@ -256,7 +258,8 @@ fn ask_each_edge<D: Dialect>(
     requires branch { HeadPasses D.meaning.is_branch ctx.now.tree op }
     requires known { known.now ≡ handed (facts_of solver.now) (operands_of ctx.now.tree op) }
     requires feasible { AreFeasible D.meaning D.can_fold_branch D.feasible ctx.now.tree op known.now feasible.now }
-    ensures ok { OnOk result ((o : OperationOf) → op_at ctx.now.tree op ≡ Some o → Adds asked.old.items asked.new.items (λ now. AsksBranches ⟦<D as HasFolding>⟧.folding ctx.now.tree (facts_of solver.now) o now)) }
+    ensures ok { OnOk result ((o : OperationOf) → op_at ctx.now.tree op ≡ Some o →
+        Adds asked.old.items asked.new.items (λ now. AsksBranches ⟦<D as HasFolding>⟧.folding ctx.now.tree (facts_of solver.now) o now)) }
     ensures err { IfErr result (λ e. e ≡ Memory) }
 {
     for i in 0..op.num_successor(ctx) {
@@ -277,7 +280,8 @@ fn ask_branches<D: Dialect>(
     requires live { IsLive ctx.now.tree op }
     requires branch { HeadPasses D.meaning.is_branch ctx.now.tree op }
     requires known { known.now ≡ handed (facts_of solver.now) (operands_of ctx.now.tree op) }
-    ensures ok { OnOk result ((o : OperationOf) → op_at ctx.now.tree op ≡ Some o → Adds asked.old.items asked.new.items (λ now. AsksBranches ⟦<D as HasFolding>⟧.folding ctx.now.tree (facts_of solver.now) o now)) }
+    ensures ok { OnOk result ((o : OperationOf) → op_at ctx.now.tree op ≡ Some o →
+        Adds asked.old.items asked.new.items (λ now. AsksBranches ⟦<D as HasFolding>⟧.folding ctx.now.tree (facts_of solver.now) o now)) }
     ensures err { IfErr result (λ e. e ≡ Memory) }
 {
     let feasible = feasible_blocks::<D>(alloc, op, ctx, known)?;
@@ -314,7 +318,8 @@ fn ask_results<D: Dialect>(
 ) -> Result<(), OptError>
     requires live { IsLive ctx.now.tree op }
     requires entries { length known.now ≡ length (operands_of ctx.now.tree op) }
-    ensures ok { OnOk result ((o : OperationOf) → op_at ctx.now.tree op ≡ Some o → Adds asked.old.items asked.new.items (λ now. AsksResults D.can_fold (D.constants (shape_of D.meaning ctx.now.tree o) known.now) o now)) }
+    ensures ok { OnOk result ((o : OperationOf) → op_at ctx.now.tree op ≡ Some o →
+        Adds asked.old.items asked.new.items (λ now. AsksResults D.can_fold (D.constants (shape_of D.meaning ctx.now.tree o) known.now) o now)) }
     ensures err { IfErr result (λ e. e ≡ Memory) }
 {
     if D::folds(op, ctx) {
@@ -347,7 +352,8 @@ fn ask_edges<D: Dialect>(
 ) -> Result<(), OptError>
     requires live { IsLive ctx.now.tree op }
     requires known { known.now ≡ handed (facts_of solver.now) (operands_of ctx.now.tree op) }
-    ensures ok { OnOk result ((o : OperationOf) → op_at ctx.now.tree op ≡ Some o → Adds asked.old.items asked.new.items (λ now. AsksEdges ⟦<D as HasFolding>⟧.folding ctx.now.tree (facts_of solver.now) op o now)) }
+    ensures ok { OnOk result ((o : OperationOf) → op_at ctx.now.tree op ≡ Some o →
+        Adds asked.old.items asked.new.items (λ now. AsksEdges ⟦<D as HasFolding>⟧.folding ctx.now.tree (facts_of solver.now) op o now)) }
     ensures err { IfErr result (λ e. e ≡ Memory) }
 {
     if D::is_branch(op, ctx) {

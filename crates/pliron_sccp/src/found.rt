@@ -115,7 +115,8 @@ fn all_arguments(
     solver: &Solver,
 ) -> Result<Vec<ConstantArgument>, OptError>
     requires { IsLive ctx.now.tree root }
-    ensures ok { IfOk result (λ arguments. AreArguments ctx.now.tree (facts_of solver.now) arguments.items (known_arguments ctx.now.tree root (facts_of solver.now))) }
+    ensures ok { IfOk result (λ arguments. AreArguments ctx.now.tree (facts_of solver.now) arguments.items (known_arguments ctx.now.tree root
+        (facts_of solver.now))) }
     ensures err { IfErr result (λ e. e ≡ Memory) }
 {
     ctx.well_formed();

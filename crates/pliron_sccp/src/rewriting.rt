@@ -40,7 +40,8 @@ pub fn fold_one<D: Dialect, R: Rewriter + Room>(
     ensures told { IfOk result (λ status. IsTold status ctx.old.tree ctx.new.tree) }
     ensures stays { (k : ℕ) → IsLive ctx.old.tree k → IsLive ctx.new.tree k }
     ensures err { IfErr result (λ e. e ≡ Memory) }
-    ensures follows { (t₀ : Tree) (root : ℕ) (f₀ : Facts) → IsFoldStep ⟦<D as HasFolding>⟧.folding t₀ root f₀ ctx.old.tree fold.now.op fold.now.known.items → Follows ⟦<D as HasFolding>⟧.folding t₀ root f₀ ctx.new.tree }
+    ensures follows { (t₀ : Tree) (root : ℕ) (f₀ : Facts) → IsFoldStep ⟦<D as HasFolding>⟧.folding t₀ root f₀ ctx.old.tree fold.now.op
+        fold.now.known.items → Follows ⟦<D as HasFolding>⟧.folding t₀ root f₀ ctx.new.tree }
 {
     ctx.well_formed();
     rewriter.set_insertion_point_before_operation(fold.op);
@@ -60,12 +61,15 @@ pub fn fold_all<D: Dialect, R: Rewriter + Room>(
     rewriter: &mut R,
 ) -> Result<IRStatus, OptError>
     requires steps { (t₀ : Tree) × (root : ℕ) × (f₀ : Facts) × AreFoldSteps ⟦<D as HasFolding>⟧.folding t₀ root f₀ ctx.old.tree folds.now }
-    ensures folded { OnOk result ((t₀ : Tree) (root : ℕ) (f₀ : Facts) → AreFoldSteps ⟦<D as HasFolding>⟧.folding t₀ root f₀ ctx.old.tree folds.now → FoldsInTurn D.ConstFoldInterface.outcome t₀ f₀ (map (λ fold. fold.op) folds.now) ctx.old.tree ctx.new.tree) }
-    ensures refused { OnErr result ((t₀ : Tree) (root : ℕ) (f₀ : Facts) → AreFoldSteps ⟦<D as HasFolding>⟧.folding t₀ root f₀ ctx.old.tree folds.now → FoldsPartly D.ConstFoldInterface.outcome t₀ f₀ (map (λ fold. fold.op) folds.now) ctx.old.tree ctx.new.tree) }
+    ensures folded { OnOk result ((t₀ : Tree) (root : ℕ) (f₀ : Facts) → AreFoldSteps ⟦<D as HasFolding>⟧.folding t₀ root f₀ ctx.old.tree folds.now →
+        FoldsInTurn D.ConstFoldInterface.outcome t₀ f₀ (map (λ fold. fold.op) folds.now) ctx.old.tree ctx.new.tree) }
+    ensures refused { OnErr result ((t₀ : Tree) (root : ℕ) (f₀ : Facts) → AreFoldSteps ⟦<D as HasFolding>⟧.folding t₀ root f₀ ctx.old.tree folds.now →
+        FoldsPartly D.ConstFoldInterface.outcome t₀ f₀ (map (λ fold. fold.op) folds.now) ctx.old.tree ctx.new.tree) }
     ensures told { IfOk result (λ status. IsTold status ctx.old.tree ctx.new.tree) }
     ensures stays { (k : ℕ) → IsLive ctx.old.tree k → IsLive ctx.new.tree k }
     ensures err { IfErr result (λ e. e ≡ Memory) }
-    ensures follows { (t₀ : Tree) (root : ℕ) (f₀ : Facts) → AreFoldSteps ⟦<D as HasFolding>⟧.folding t₀ root f₀ ctx.old.tree folds.now → Follows ⟦<D as HasFolding>⟧.folding t₀ root f₀ ctx.new.tree }
+    ensures follows { (t₀ : Tree) (root : ℕ) (f₀ : Facts) → AreFoldSteps ⟦<D as HasFolding>⟧.folding t₀ root f₀ ctx.old.tree folds.now →
+        Follows ⟦<D as HasFolding>⟧.folding t₀ root f₀ ctx.new.tree }
 {
     let mut status = IRStatus::Unchanged;
     for i in 0..folds.len() {
@@ -94,12 +98,14 @@ pub fn put_argument<D: Dialect, R: Rewriter + Room>(
     rewriter: &mut R,
 ) -> Result<IRStatus, OptError>
     requires step { (t₀ : Tree) × (root : ℕ) × (f₀ : Facts) × IsArgumentStep ⟦<D as HasFolding>⟧.folding t₀ root f₀ ctx.old.tree argument.now }
-    ensures ok { IfOk result (λ status. ReplacesArgument D.accepts D.constant_head argument.now.attr argument.now.block argument.now.index ctx.old.tree ctx.new.tree status) }
+    ensures ok { IfOk result (λ status. ReplacesArgument D.accepts D.constant_head argument.now.attr argument.now.block argument.now.index
+        ctx.old.tree ctx.new.tree status) }
     ensures refused { OnErr result (IsSameTree ctx.old.tree ctx.new.tree) }
     ensures told { IfOk result (λ status. IsTold status ctx.old.tree ctx.new.tree) }
     ensures stays { (k : ℕ) → IsLive ctx.old.tree k → IsLive ctx.new.tree k }
     ensures err { IfErr result (λ e. e ≡ Memory) }
-    ensures follows { (t₀ : Tree) (root : ℕ) (f₀ : Facts) → IsArgumentStep ⟦<D as HasFolding>⟧.folding t₀ root f₀ ctx.old.tree argument.now → Follows ⟦<D as HasFolding>⟧.folding t₀ root f₀ ctx.new.tree }
+    ensures follows { (t₀ : Tree) (root : ℕ) (f₀ : Facts) → IsArgumentStep ⟦<D as HasFolding>⟧.folding t₀ root f₀ ctx.old.tree argument.now →
+        Follows ⟦<D as HasFolding>⟧.folding t₀ root f₀ ctx.new.tree }
 {
     let done = replace_argument_by_constant::<D, R>(
         alloc,
@@ -124,12 +130,17 @@ pub fn put_all<D: Dialect, R: Rewriter + Room>(
     rewriter: &mut R,
 ) -> Result<IRStatus, OptError>
     requires steps { (t₀ : Tree) × (root : ℕ) × (f₀ : Facts) × AreArgumentSteps ⟦<D as HasFolding>⟧.folding t₀ root f₀ ctx.old.tree arguments.now }
-    ensures puts { OnOk result ((t₀ : Tree) (root : ℕ) (f₀ : Facts) → AreArgumentSteps ⟦<D as HasFolding>⟧.folding t₀ root f₀ ctx.old.tree arguments.now → (known : List KnownArgument) → StandForEach t₀ arguments.now known → ctx.new.tree ≡ all_put D.accepts D.constant_head known ctx.old.tree) }
-    ensures refused { OnErr result ((t₀ : Tree) (root : ℕ) (f₀ : Facts) → AreArgumentSteps ⟦<D as HasFolding>⟧.folding t₀ root f₀ ctx.old.tree arguments.now → (known : List KnownArgument) → StandForEach t₀ arguments.now known → IsPartlyPut D.accepts D.constant_head known ctx.old.tree ctx.new.tree) }
+    ensures puts { OnOk result ((t₀ : Tree) (root : ℕ) (f₀ : Facts) → AreArgumentSteps ⟦<D as HasFolding>⟧.folding t₀ root f₀ ctx.old.tree
+        arguments.now → (known : List KnownArgument) → StandForEach t₀ arguments.now known → ctx.new.tree ≡
+        all_put D.accepts D.constant_head known ctx.old.tree) }
+    ensures refused { OnErr result ((t₀ : Tree) (root : ℕ) (f₀ : Facts) →
+        AreArgumentSteps ⟦<D as HasFolding>⟧.folding t₀ root f₀ ctx.old.tree arguments.now → (known : List KnownArgument) →
+        StandForEach t₀ arguments.now known → IsPartlyPut D.accepts D.constant_head known ctx.old.tree ctx.new.tree) }
     ensures told { IfOk result (λ status. IsTold status ctx.old.tree ctx.new.tree) }
     ensures stays { (k : ℕ) → IsLive ctx.old.tree k → IsLive ctx.new.tree k }
     ensures err { IfErr result (λ e. e ≡ Memory) }
-    ensures follows { (t₀ : Tree) (root : ℕ) (f₀ : Facts) → AreArgumentSteps ⟦<D as HasFolding>⟧.folding t₀ root f₀ ctx.old.tree arguments.now → Follows ⟦<D as HasFolding>⟧.folding t₀ root f₀ ctx.new.tree }
+    ensures follows { (t₀ : Tree) (root : ℕ) (f₀ : Facts) → AreArgumentSteps ⟦<D as HasFolding>⟧.folding t₀ root f₀ ctx.old.tree arguments.now →
+        Follows ⟦<D as HasFolding>⟧.folding t₀ root f₀ ctx.new.tree }
 {
     let mut status = IRStatus::Unchanged;
     for i in 0..arguments.len() {
@@ -157,11 +168,14 @@ pub fn rewrite<D: Dialect, R: Rewriter + Room>(
     rewriter: &mut R,
 ) -> Result<IRStatus, OptError>
     requires found { (root : ℕ) × (f : Facts) × IsFound ⟦<D as HasFolding>⟧.folding D.can_fold ctx.old.tree root f found.now }
-    ensures rewritten { OnOk result ((root : ℕ) (f : Facts) → IsFound ⟦<D as HasFolding>⟧.folding D.can_fold ctx.old.tree root f found.now → IsRewritten D.can_fold D.accepts D.constant_head D.ConstFoldInterface.outcome ctx.old.tree root f ctx.new.tree) }
-    ensures refused { OnErr result ((root : ℕ) (f : Facts) → IsFound ⟦<D as HasFolding>⟧.folding D.can_fold ctx.old.tree root f found.now → IsPartlyRewritten D.can_fold D.accepts D.constant_head D.ConstFoldInterface.outcome ctx.old.tree root f ctx.new.tree) }
+    ensures rewritten { OnOk result ((root : ℕ) (f : Facts) → IsFound ⟦<D as HasFolding>⟧.folding D.can_fold ctx.old.tree root f found.now →
+        IsRewritten D.can_fold D.accepts D.constant_head D.ConstFoldInterface.outcome ctx.old.tree root f ctx.new.tree) }
+    ensures refused { OnErr result ((root : ℕ) (f : Facts) → IsFound ⟦<D as HasFolding>⟧.folding D.can_fold ctx.old.tree root f found.now →
+        IsPartlyRewritten D.can_fold D.accepts D.constant_head D.ConstFoldInterface.outcome ctx.old.tree root f ctx.new.tree) }
     ensures told { IfOk result (λ status. TellsChange (Some status) ctx.old.tree ctx.new.tree) }
     ensures err { IfErr result (λ e. e ≡ Memory) }
-    ensures follows { (root : ℕ) (f : Facts) → IsFound ⟦<D as HasFolding>⟧.folding D.can_fold ctx.old.tree root f found.now → Follows ⟦<D as HasFolding>⟧.folding ctx.old.tree root f ctx.new.tree }
+    ensures follows { (root : ℕ) (f : Facts) → IsFound ⟦<D as HasFolding>⟧.folding D.can_fold ctx.old.tree root f found.now →
+        Follows ⟦<D as HasFolding>⟧.folding ctx.old.tree root f ctx.new.tree }
 {
     ctx.well_formed();
     let mut status = fold_all::<D, R>(alloc, &found.folds, ctx, rewriter)?;

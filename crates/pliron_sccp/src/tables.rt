@@ -147,7 +147,8 @@ impl Solver {
     pub fn enter(&mut self, block: Ptr<BasicBlock>) -> Result<(), OptError>
         ensures reached { OnOk result ((b : ℕ) → reaches self.new b ≡ (if nat_eq block b then true else reaches self.old b)) }
         ensures again { OnOk result (reaches self.old block ≡ true → (b : ℕ) → waits_block self.new b ≡ waits_block self.old b) }
-        ensures first { OnOk result (reaches self.old block ≡ false → (b : ℕ) → waits_block self.new b ≡ (if nat_eq block b then true else waits_block self.old b)) }
+        ensures first { OnOk result (reaches self.old block ≡ false → (b : ℕ) → waits_block self.new b ≡
+            (if nat_eq block b then true else waits_block self.old b)) }
         ensures facts { (v : ℕ) → fact_in self.new v ≡ fact_in self.old v }
         ensures values { (v : ℕ) → waits_value self.new v ≡ waits_value self.old v }
         ensures err { IfErr result (λ e. e ≡ Memory) }

@@ -20,7 +20,8 @@ fn step<C, G: ControlFlowGraph<C>, S: ListedSet<G::Node>>(
 ) -> Result<(), OptError>
     requires lawful { G.is_lawful graph.now ctx.now }
     requires member { Contains (G.graph graph.now ctx.now).nodes node }
-    ensures step { OnOk result (IsStep G.Node.eq (G.graph graph.now ctx.now) (stack.old.items ++ (node, i) ∷ []) (S.listed seen.old) post.old.items stack.new.items (S.listed seen.new) post.new.items) }
+    ensures step { OnOk result (IsStep G.Node.eq (G.graph graph.now ctx.now) (stack.old.items ++ (node, i) ∷ [])
+        (S.listed seen.old) post.old.items stack.new.items (S.listed seen.new) post.new.items) }
     ensures memory { IsOkUnless result OptError.Memory }
 {
     if i < graph.num_successors(ctx, &node) {

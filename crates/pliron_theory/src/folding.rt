@@ -10,5 +10,11 @@ pub trait HasFolding {
 }
 
 impl<D: Dialect> HasFolding for D {
-    ghost folding = { record { meaning = D.meaning; can_fold = D.can_fold; can_fold_branch = D.can_fold_branch; constants = D.constants; feasible = D.feasible } };
+    ghost folding = { record {
+      meaning = D.meaning;
+      can_fold = D.can_fold;
+      can_fold_branch = D.can_fold_branch;
+      constants = D.constants;
+      feasible = D.feasible;
+    } };
 }

@@ -119,7 +119,8 @@ fn replace_by_constant<D: Dialect, R: Rewriter + Room>(
     requires old { IsDefined ctx.old.tree old }
     requires point { IsPoint ctx.old.tree (R.point rewriter.old) }
     requires keeps { IsTrue (D.accepts attr.now) → PutKeepsRuns D.meaning ctx.old.tree (R.point rewriter.old) old (D.constant_head attr.now) }
-    ensures ok { IfOk result (λ status. BecomesIfAccepted D.accepts attr.now (materialised_at ctx.old.tree (R.point rewriter.old) old (D.constant_head attr.now)) ctx.old.tree ctx.new.tree status) }
+    ensures ok { IfOk result (λ status. BecomesIfAccepted D.accepts attr.now (materialised_at ctx.old.tree (R.point rewriter.old) old
+        (D.constant_head attr.now)) ctx.old.tree ctx.new.tree status) }
     ensures refused { OnErr result (IsSameTree ctx.old.tree ctx.new.tree) }
     ensures err { IfErr result (λ e. e ≡ Memory) }
     ensures runs { KeepsRuns D.meaning ctx.old.tree ctx.new.tree }

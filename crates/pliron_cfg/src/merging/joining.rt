@@ -37,7 +37,8 @@ fn forward_uses<D: Dialect, R: Rewriter + Room>(
 ) -> Result<(), OptError>
     requires pair { IsMergeable D.meaning ctx.old.tree pair.now.first pair.now.second pair.now.jump pair.now.values.items }
     ensures ok { OnOk result (ctx.new.tree ≡ forwarded_uses ctx.old.tree (arguments_of ctx.old.tree pair.now.second) pair.now.values.items) }
-    ensures refused { OnErr result ((n : ℕ) × (ctx.new.tree ≡ forwarded_uses ctx.old.tree (take n (arguments_of ctx.old.tree pair.now.second)) pair.now.values.items)) }
+    ensures refused { OnErr result ((n : ℕ) × (ctx.new.tree ≡ forwarded_uses ctx.old.tree (take n
+        (arguments_of ctx.old.tree pair.now.second)) pair.now.values.items)) }
     ensures err { IfErr result (λ e. e ≡ Memory) }
 {
     ctx.well_formed();
@@ -101,8 +102,10 @@ pub(crate) fn merge_pair<D: Dialect, R: Rewriter + Room>(
     requires pair { IsMergeable D.meaning ctx.old.tree pair.now.first pair.now.second pair.now.jump pair.now.values.items }
     requires linked { (holder : ℕ) → block_holder_of ctx.old.tree pair.now.first ≡ Some holder → IsWellLinked D.meaning ctx.old.tree holder }
     ensures ok { OnOk result (ctx.new.tree ≡ merged ctx.old.tree pair.now.first pair.now.second pair.now.jump pair.now.values.items) }
-    ensures well { OnOk result (JoinsWell D.meaning (forwarded_uses ctx.old.tree (arguments_of ctx.old.tree pair.now.second) pair.now.values.items) pair.now.first pair.now.second pair.now.jump) }
-    ensures refused { OnErr result ((n : ℕ) × (ctx.new.tree ≡ forwarded_uses ctx.old.tree (take n (arguments_of ctx.old.tree pair.now.second)) pair.now.values.items)) }
+    ensures well { OnOk result (JoinsWell D.meaning (forwarded_uses ctx.old.tree
+        (arguments_of ctx.old.tree pair.now.second) pair.now.values.items) pair.now.first pair.now.second pair.now.jump) }
+    ensures refused { OnErr result ((n : ℕ) × (ctx.new.tree ≡ forwarded_uses ctx.old.tree (take n
+        (arguments_of ctx.old.tree pair.now.second)) pair.now.values.items)) }
     ensures err { IfErr result (λ e. e ≡ Memory) }
 {
     ctx.well_formed();

@@ -53,7 +53,8 @@ fn has_no_other_way(block: Ptr<BasicBlock>, jump: Ptr<Operation>, ctx: &Context)
 fn only_way<D: Dialect>(first: Ptr<BasicBlock>, ctx: &Context) -> Option<Way>
     requires block { IsBlock ctx.now.tree first }
     requires edges { (holder : ℕ) → block_holder_of ctx.now.tree first ≡ Some holder → EdgesLast ctx.now.tree holder }
-    ensures { MatchOption result ((b jump : ℕ) → IsOnlyWay D.meaning ctx.now.tree first b jump → ⊥) (λ way. IsOnlyWay D.meaning ctx.now.tree first way.second way.jump) }
+    ensures { MatchOption result ((b jump : ℕ) → IsOnlyWay D.meaning ctx.now.tree first b jump →
+        ⊥) (λ way. IsOnlyWay D.meaning ctx.now.tree first way.second way.jump) }
 {
     ctx.well_formed();
     let Some(jump) = first.get_tail(ctx) else {
@@ -93,7 +94,8 @@ pub(crate) fn find_pair<D: Dialect>(
 ) -> Result<Option<Pair>, OptError>
     requires block { IsBlock ctx.now.tree first }
     requires edges { (holder : ℕ) → block_holder_of ctx.now.tree first ≡ Some holder → EdgesLast ctx.now.tree holder }
-    ensures ok { IfOk result (λ found. MatchOption found ((b jump : ℕ) (values : List ℕ) → IsMergeable D.meaning ctx.now.tree first b jump values → ⊥) (λ pair. IsMergeable D.meaning ctx.now.tree first pair.second pair.jump pair.values.items × (pair.first ≡ first))) }
+    ensures ok { IfOk result (λ found. MatchOption found ((b jump : ℕ) (values : List ℕ) → IsMergeable D.meaning ctx.now.tree first b jump values →
+        ⊥) (λ pair. IsMergeable D.meaning ctx.now.tree first pair.second pair.jump pair.values.items × (pair.first ≡ first))) }
     ensures err { IfErr result (λ e. e ≡ Memory) }
 {
     ctx.well_formed();

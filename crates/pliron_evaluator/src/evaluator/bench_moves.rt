@@ -101,7 +101,8 @@ fn visit(alloc: Global, count: usize, input: &[Datum]) -> Result<Move, AllocErro
 }
 
 fn func_move(alloc: Global, memo: &Datum, count: usize, input: &[Datum]) -> Result<Move, AllocError>
-    ensures { IfOk result (λ next. move_of next ≡ once (datum_of memo.now) (Visit 0 (fitted count (map datum_of input.now)) done) (Leave (map datum_of input.now))) }
+    ensures { IfOk result (λ next. move_of next ≡ once (datum_of memo.now) (Visit 0 (fitted count (map datum_of input.now)) done) (Leave
+        (map datum_of input.now))) }
 {
     match memo {
         Datum::Empty => visit(alloc, count, input),
@@ -168,7 +169,8 @@ fn add_move(alloc: Global, input: &[Datum]) -> Result<Move, AllocError>
 }
 
 fn mul_move(alloc: Global, input: &[Datum]) -> Result<Move, AllocError>
-    ensures { IfOk result (λ next. move_of next ≡ Give (NumberOf (product_of (number_at (map datum_of input.now) 0) (number_at (map datum_of input.now) 1)) ∷ [])) }
+    ensures { IfOk result (λ next. move_of next ≡ Give (NumberOf (product_of (number_at (map datum_of input.now) 0) (number_at
+        (map datum_of input.now) 1)) ∷ [])) }
 {
     let number = product(number_at(input, 0), number_at(input, 1));
     Ok(Move::Give(one_number(alloc, number)?))
@@ -211,7 +213,8 @@ fn values_along<'a>(attrs: &Attrs, edge: usize, values: &'a [Datum]) -> &'a [Dat
 }
 
 fn cbr_move(alloc: Global, attrs: &Attrs, input: &[Datum]) -> Result<Move, AllocError>
-    ensures { IfOk result (λ next. move_of next ≡ Goto (edge_in (number_at (map datum_of input.now) 0)) (edge_values (first_count_of attrs.now) (edge_in (number_at (map datum_of input.now) 0)) (drop 1 (map datum_of input.now)))) }
+    ensures { IfOk result (λ next. move_of next ≡ Goto (edge_in (number_at (map datum_of input.now) 0)) (edge_values (first_count_of attrs.now)
+        (edge_in (number_at (map datum_of input.now) 0)) (drop 1 (map datum_of input.now)))) }
 {
     let edge = edge_of(number_at(input, 0));
     let values = values_along(attrs, edge, behind_first(input));
@@ -225,7 +228,9 @@ fn fork_move(
     input: &[Datum],
 ) -> Result<Move, AllocError>
     requires { IsLive ctx.now.tree op }
-    ensures { IfOk result (λ next. move_of next ≡ Goto (edge_in (number_at (map datum_of input.now) 0)) (replicate (slice_index_or (map (λ b. count_arguments (block_at ctx.now.tree b)) (successors_of ctx.now.tree op)) (edge_in (number_at (map datum_of input.now) 0)) 0) (datum_at (map datum_of input.now) 0))) }
+    ensures { IfOk result (λ next. move_of next ≡ Goto (edge_in (number_at (map datum_of input.now) 0)) (replicate (slice_index_or (map
+        (λ b. count_arguments (block_at ctx.now.tree b)) (successors_of ctx.now.tree op)) (edge_in (number_at (map datum_of input.now) 0)) 0)
+        (datum_at (map datum_of input.now) 0))) }
 {
     let edge = edge_of(number_at(input, 0));
     let count = num_target_argument(ctx, op, edge);
@@ -244,7 +249,8 @@ fn act(
 ) -> Result<Move, AllocError>
     requires live { IsLive ctx.now.tree op }
     requires kind { ReadsHead (λ h. kind_of h.kind) ctx.now.tree op (Some kind) }
-    ensures { IfOk result (λ next. (o : OperationRecord) → op_at ctx.now.tree op ≡ Some o → move_of next ≡ act_of kind (shape_of bench ctx.now.tree o) (datum_of memo.now) (map datum_of input.now)) }
+    ensures { IfOk result (λ next. (o : OperationRecord) → op_at ctx.now.tree op ≡ Some o → move_of next ≡
+        act_of kind (shape_of bench ctx.now.tree o) (datum_of memo.now) (map datum_of input.now)) }
 {
     match kind {
         BenchKind::Mod => Ok(Move::Give(Vec::new(alloc))),

@@ -34,7 +34,8 @@ pub(super) fn bind(
     values: &[Value],
     content: &[Datum],
 ) -> Result<bool, AllocError>
-    ensures { IfOk result (λ fits. bind (environment_of environment.old.items) values.now (map datum_of content.now) ≡ (if fits then Some (environment_of environment.new.items) else None)) }
+    ensures { IfOk result (λ fits. bind (environment_of environment.old.items) values.now (map datum_of content.now) ≡
+        (if fits then Some (environment_of environment.new.items) else None)) }
 {
     if values.len() != content.len() {
         return Ok(false);

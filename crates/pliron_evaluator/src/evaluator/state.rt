@@ -82,7 +82,8 @@ fn give(
 ) -> Result<Next, AllocError>
     requires live { IsLive ctx.now.tree op }
     requires first { slice_get state.rest.items 0 ≡ Some op }
-    ensures { IfOk result (λ next. next_of next ≡ given (state_of state) (drop 1 state.rest.items) (map waiting_of state.waiting.items) (map datum_of values.items) (bind (environment_of state.environment.items) (results_of ctx.now.tree op) (map datum_of values.items))) }
+    ensures { IfOk result (λ next. next_of next ≡ given (state_of state) (drop 1 state.rest.items) (map waiting_of state.waiting.items)
+        (map datum_of values.items) (bind (environment_of state.environment.items) (results_of ctx.now.tree op) (map datum_of values.items))) }
 {
     let results = all_results(alloc, op, ctx)?;
     if !bind(
@@ -109,7 +110,8 @@ fn enter(
     values: Vec<Datum>,
 ) -> Result<Next, AllocError>
     requires { ForSome block (λ b. IsBlock ctx.now.tree b) }
-    ensures { IfOk result (λ next. next_of next ≡ enter (state_of state) (and_block ctx.now.tree block) (map datum_of values.items) (map waiting_of state.waiting.items)) }
+    ensures { IfOk result (λ next. next_of next ≡ enter (state_of state) (and_block ctx.now.tree block) (map datum_of values.items)
+        (map waiting_of state.waiting.items)) }
 {
     let Some(block) = block else {
         return Ok(trap(state));
@@ -164,7 +166,8 @@ fn visit(
     memo: Datum,
 ) -> Result<Next, AllocError>
     requires { IsLive ctx.now.tree op }
-    ensures { IfOk result (λ next. next_of next ≡ enter (state_of state) (entry_in ctx.now.tree (slice_get (regions_of ctx.now.tree op) i)) (map datum_of values.items) (record { rest = state.rest.items; memo = datum_of memo } ∷ map waiting_of state.waiting.items)) }
+    ensures { IfOk result (λ next. next_of next ≡ enter (state_of state) (entry_in ctx.now.tree (slice_get (regions_of ctx.now.tree op) i))
+        (map datum_of values.items) (record { rest = state.rest.items; memo = datum_of memo } ∷ map waiting_of state.waiting.items)) }
 {
     let rest = mem::replace(&mut state.rest, Vec::new(alloc));
     put_first(&mut state.waiting, Waiting { rest, memo })?;
@@ -181,7 +184,8 @@ fn go_to(
     values: Vec<Datum>,
 ) -> Result<Next, AllocError>
     requires { IsLive ctx.now.tree op }
-    ensures { IfOk result (λ next. next_of next ≡ go_to ctx.now.tree (state_of state) (slice_get (successors_of ctx.now.tree op) i) (map datum_of values.items) (map waiting_of state.waiting.items)) }
+    ensures { IfOk result (λ next. next_of next ≡ go_to ctx.now.tree (state_of state) (slice_get (successors_of ctx.now.tree op) i)
+        (map datum_of values.items) (map waiting_of state.waiting.items)) }
 {
     if state.waiting.is_empty() {
         return Ok(trap(state));
@@ -217,7 +221,8 @@ fn perform(
 ) -> Result<Next, AllocError>
     requires live { IsLive ctx.now.tree op }
     requires first { slice_get state.rest.items 0 ≡ Some op }
-    ensures { IfOk result (λ after. (o : OperationRecord) → op_at ctx.now.tree op ≡ Some o → next_of after ≡ perform ctx.now.tree (state_of state) o op (drop 1 state.rest.items) (move_of next)) }
+    ensures { IfOk result (λ after. (o : OperationRecord) → op_at ctx.now.tree op ≡ Some o → next_of after ≡
+        perform ctx.now.tree (state_of state) o op (drop 1 state.rest.items) (move_of next)) }
 {
     match next {
         Move::Give(values) => give(alloc, ctx, state, op, values),
@@ -237,7 +242,8 @@ fn input_of(
     op: Ptr<Operation>,
 ) -> Result<Option<Vec<Datum>>, AllocError>
     requires { IsLive ctx.now.tree op }
-    ensures { IfOk result (λ input. answer_of input ≡ input_of (environment_of state.now.environment.items) (operands_of ctx.now.tree op) (answer_of state.now.answer)) }
+    ensures { IfOk result (λ input. answer_of input ≡ input_of (environment_of state.now.environment.items) (operands_of ctx.now.tree op)
+        (answer_of state.now.answer)) }
 {
     match &state.answer {
         Some(answer) => Ok(Some(all_copies(alloc, answer.as_slice())?)),

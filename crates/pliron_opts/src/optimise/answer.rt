@@ -31,7 +31,8 @@ fn run_schedule<D: Dialect>(
     ensures stands { IsLive ctx.new.tree root }
     ensures links { IsWellLinked D.meaning ctx.new.tree root }
     ensures inside { IsInsideChange ctx.old.tree ctx.new.tree root }
-    ensures ran { IfOk result (λ status. RunsAlone ⟦<BenchFactKind as PartialEq>⟧.eq ⟦<Schedule<D, BenchFacts> as Pass>⟧.outcome schedule root ctx.old.tree ctx.new.tree status) }
+    ensures ran { IfOk result (λ status. RunsAlone ⟦<BenchFactKind as PartialEq>⟧.eq ⟦<Schedule<D, BenchFacts> as Pass>⟧.outcome schedule root
+        ctx.old.tree ctx.new.tree status) }
     ensures truly { IfOk result (λ status. status ≡ Unchanged → IsSameTree ctx.old.tree ctx.new.tree) }
 {
     schedules_are_honest::<D, BenchFacts>();
@@ -57,7 +58,8 @@ pub fn optimised<N: Notation>(
     schedule: Schedule<N::D, BenchFacts>,
     text: &[u8],
 ) -> Result<Option<String>, OptError>
-    ensures { IfOk result (λ found. IfSome found (λ answer. IsOptimised N.reads N.prints N.D.meaning (RunsAlone ⟦<BenchFactKind as PartialEq>⟧.eq ⟦<Schedule<N::D, BenchFacts> as Pass>⟧.outcome schedule) text.now (string_bytes answer))) }
+    ensures { IfOk result (λ found. IfSome found (λ answer. IsOptimised N.reads N.prints N.D.meaning
+        (RunsAlone ⟦<BenchFactKind as PartialEq>⟧.eq ⟦<Schedule<N::D, BenchFacts> as Pass>⟧.outcome schedule) text.now (string_bytes answer))) }
 {
     let mut ctx = Context::new(alloc);
     optimised_in::<N>(alloc, schedule, text, &mut ctx)
@@ -71,7 +73,8 @@ fn optimised_in<N: Notation>(
     ctx: &mut Context,
 ) -> Result<Option<String>, OptError>
     requires { ctx.old.tree ≡ no_tree }
-    ensures { IfOk result (λ found. IfSome found (λ answer. IsOptimised N.reads N.prints N.D.meaning (RunsAlone ⟦<BenchFactKind as PartialEq>⟧.eq ⟦<Schedule<N::D, BenchFacts> as Pass>⟧.outcome schedule) text.now (string_bytes answer))) }
+    ensures { IfOk result (λ found. IfSome found (λ answer. IsOptimised N.reads N.prints N.D.meaning
+        (RunsAlone ⟦<BenchFactKind as PartialEq>⟧.eq ⟦<Schedule<N::D, BenchFacts> as Pass>⟧.outcome schedule) text.now (string_bytes answer))) }
 {
     let Some(root) = N::read(alloc, text, ctx)? else {
         return Ok(None);
