@@ -29,7 +29,8 @@ pub fn seen(
     evaluate::<Bench>(alloc, ctx, root, inputs, answers, most)
 }
 
-/// What is seen of three runs of the operation, up to so many moves each.
+/// What is seen of three runs of the operation, up to so many moves each. Errors: want of memory. Cost: that
+/// of three runs by `seen`.
 pub fn sights(
     alloc: Global,
     ctx: &Context,
@@ -43,7 +44,7 @@ pub fn sights(
 }
 
 /// Whether the same is seen of each run before and after. One that was cut short before may come further
-/// once it has fewer moves to make, so nothing is asked of it.
+/// once it has fewer moves to make, so nothing is asked of it. Cost: linear in what is seen.
 pub fn are_kept(before: &[Sight], after: &[Sight]) -> bool {
     if before.len() != after.len() {
         return false;
@@ -61,7 +62,7 @@ pub fn are_kept(before: &[Sight], after: &[Sight]) -> bool {
     true
 }
 
-/// The text of a case, which stands behind so many words and before the arrow.
+/// The text of a case, which stands behind so many words and before the arrow. Cost: linear in the case.
 pub fn text_behind<'t>(case: &'t str, words: usize) -> Option<&'t str> {
     let (mut text, _) = sides(case)?;
     for _ in 0..words {
