@@ -137,9 +137,7 @@ impl<G: Guard, P: Pass> Pass for GuardedPass<G, P> {
 
     ghost name = { λ p. guarded_name };
 
-    ghost outcome = { λ p p' op s s' r. Guards G.allows (RunsPass P.name P.outcome (IsFirstFault P.D.has_interface
-        (verdict_by P.D.SideEffects.verdict P.D.BlockArgRemoval.verdict P.D.ConstFoldInterface.verdict P.D.BranchOpFoldInterface.verdict))
-        P.is_pass_manager) p.guard p'.guard p.pass p'.pass op s s' r };
+    ghost outcome = { λ p p' op s s' r. Guards G.allows (RunsPass P.name P.outcome (IsFirstFault P.D.has_interface (verdict_by P.D.SideEffects.verdict P.D.BlockArgRemoval.verdict P.D.ConstFoldInterface.verdict P.D.BranchOpFoldInterface.verdict)) P.is_pass_manager) p.guard p'.guard p.pass p'.pass op s s' r };
 
     fn name(&self) -> &str {
         "guarded_pass"

@@ -29,8 +29,7 @@ fn verify_if<D: Dialect>(
     ctx: &Context,
 ) -> Result<(), OptError>
     requires { IsLive ctx.now.tree op }
-    ensures { IsVerified (IsFirstFault D.has_interface (verdict_by D.SideEffects.verdict D.BlockArgRemoval.verdict D.ConstFoldInterface.verdict
-        D.BranchOpFoldInterface.verdict)) fault wanted ctx.now.tree op result }
+    ensures { IsVerified (IsFirstFault D.has_interface (verdict_by D.SideEffects.verdict D.BlockArgRemoval.verdict D.ConstFoldInterface.verdict D.BranchOpFoldInterface.verdict)) fault wanted ctx.now.tree op result }
 {
     if !wanted {
         return Ok(());
@@ -53,11 +52,8 @@ fn run_plain<P: Pass>(
     requires live { IsLive ctx.old.tree op }
     requires linked { IsWellLinked P.D.meaning ctx.old.tree op }
     ensures change { IsPassChange P.D.meaning ctx.old.tree ctx.new.tree op }
-    ensures fresh { IfOk result (λ a. FreshAfter P.E.Kind.eq P.E.kind P.E.holds ctx.old.tree analyses.old.cache.entries ctx.new.tree
-        analyses.new.cache.entries a) }
-    ensures outcome { RunsPlain P.name P.outcome (IsFirstFault P.D.has_interface
-        (verdict_by P.D.SideEffects.verdict P.D.BlockArgRemoval.verdict P.D.ConstFoldInterface.verdict P.D.BranchOpFoldInterface.verdict)) pass.old
-        pass.new op (stage ctx.old analyses.old) (stage ctx.new analyses.new) result }
+    ensures fresh { IfOk result (λ a. FreshAfter P.E.Kind.eq P.E.kind P.E.holds ctx.old.tree analyses.old.cache.entries ctx.new.tree analyses.new.cache.entries a) }
+    ensures outcome { RunsPlain P.name P.outcome (IsFirstFault P.D.has_interface (verdict_by P.D.SideEffects.verdict P.D.BlockArgRemoval.verdict P.D.ConstFoldInterface.verdict P.D.BranchOpFoldInterface.verdict)) pass.old pass.new op (stage ctx.old analyses.old) (stage ctx.new analyses.new) result }
 {
     let plan = analyses.pm_data.plan(pass.name());
     if plan.skips {
@@ -91,11 +87,8 @@ impl PassManager {
         requires live { IsLive ctx.old.tree op }
         requires linked { IsWellLinked P.D.meaning ctx.old.tree op }
         ensures change { IsPassChange P.D.meaning ctx.old.tree ctx.new.tree op }
-        ensures fresh { IfOk result (λ a. FreshAfter P.E.Kind.eq P.E.kind P.E.holds ctx.old.tree analyses.old.cache.entries ctx.new.tree
-            analyses.new.cache.entries a) }
-        ensures outcome { RunsPass P.name P.outcome (IsFirstFault P.D.has_interface
-            (verdict_by P.D.SideEffects.verdict P.D.BlockArgRemoval.verdict P.D.ConstFoldInterface.verdict P.D.BranchOpFoldInterface.verdict))
-            P.is_pass_manager pass.old pass.new op (stage ctx.old analyses.old) (stage ctx.new analyses.new) result }
+        ensures fresh { IfOk result (λ a. FreshAfter P.E.Kind.eq P.E.kind P.E.holds ctx.old.tree analyses.old.cache.entries ctx.new.tree analyses.new.cache.entries a) }
+        ensures outcome { RunsPass P.name P.outcome (IsFirstFault P.D.has_interface (verdict_by P.D.SideEffects.verdict P.D.BlockArgRemoval.verdict P.D.ConstFoldInterface.verdict P.D.BranchOpFoldInterface.verdict)) P.is_pass_manager pass.old pass.new op (stage ctx.old analyses.old) (stage ctx.new analyses.new) result }
     {
         if pass.is_pass_manager() {
             pass.run(alloc, op, ctx, analyses)
@@ -119,11 +112,8 @@ pub fn run_inner<P: Pass>(
     requires live { IsLive ctx.old.tree op }
     requires linked { IsWellLinked P.D.meaning ctx.old.tree op }
     ensures change { IsPassChange P.D.meaning ctx.old.tree ctx.new.tree op }
-    ensures fresh { OnOk result (IsFresh P.E.Kind.eq P.E.kind P.E.holds ctx.old.tree analyses.old.cache.entries →
-        IsFresh P.E.Kind.eq P.E.kind P.E.holds ctx.new.tree analyses.new.cache.entries) }
-    ensures outcome { Steps P.E.Kind.eq (RunsPass P.name P.outcome (IsFirstFault P.D.has_interface
-        (verdict_by P.D.SideEffects.verdict P.D.BlockArgRemoval.verdict P.D.ConstFoldInterface.verdict P.D.BranchOpFoldInterface.verdict))
-        P.is_pass_manager) pass.old pass.new op (stage ctx.old analyses.old) (stage ctx.new analyses.new) result }
+    ensures fresh { OnOk result (IsFresh P.E.Kind.eq P.E.kind P.E.holds ctx.old.tree analyses.old.cache.entries → IsFresh P.E.Kind.eq P.E.kind P.E.holds ctx.new.tree analyses.new.cache.entries) }
+    ensures outcome { Steps P.E.Kind.eq (RunsPass P.name P.outcome (IsFirstFault P.D.has_interface (verdict_by P.D.SideEffects.verdict P.D.BlockArgRemoval.verdict P.D.ConstFoldInterface.verdict P.D.BranchOpFoldInterface.verdict)) P.is_pass_manager) pass.old pass.new op (stage ctx.old analyses.old) (stage ctx.new analyses.new) result }
 {
     let result = PassManager::run_pass(pass, alloc, op, ctx, analyses)?;
     analyses.retain_preserved(&result);

@@ -18,8 +18,7 @@ fn check<D: Dialect>(
     ctx: &Context,
 ) -> Result<(), OptError>
     requires { IsLive ctx.now.tree op }
-    ensures { (verdict_by D.SideEffects.verdict D.BlockArgRemoval.verdict D.ConstFoldInterface.verdict D.BranchOpFoldInterface.verdict) interface
-        ctx.now.tree op result }
+    ensures { (verdict_by D.SideEffects.verdict D.BlockArgRemoval.verdict D.ConstFoldInterface.verdict D.BranchOpFoldInterface.verdict) interface ctx.now.tree op result }
 {
     match interface {
         Interface::SideEffects => <D as SideEffects>::verify(alloc, op, ctx),
@@ -38,10 +37,8 @@ fn verify_one<D: Dialect>(
     ctx: &Context,
 ) -> Result<(), OptError>
     requires { IsLive ctx.now.tree op }
-    ensures ok { OnOk result (PassesOne D.has_interface (verdict_by D.SideEffects.verdict D.BlockArgRemoval.verdict D.ConstFoldInterface.verdict
-        D.BranchOpFoldInterface.verdict) ctx.now.tree op interface) }
-    ensures err { IfErr result (λ e. FailsOne D.has_interface (verdict_by D.SideEffects.verdict D.BlockArgRemoval.verdict D.ConstFoldInterface.verdict
-        D.BranchOpFoldInterface.verdict) ctx.now.tree op interface e) }
+    ensures ok { OnOk result (PassesOne D.has_interface (verdict_by D.SideEffects.verdict D.BlockArgRemoval.verdict D.ConstFoldInterface.verdict D.BranchOpFoldInterface.verdict) ctx.now.tree op interface) }
+    ensures err { IfErr result (λ e. FailsOne D.has_interface (verdict_by D.SideEffects.verdict D.BlockArgRemoval.verdict D.ConstFoldInterface.verdict D.BranchOpFoldInterface.verdict) ctx.now.tree op interface e) }
 {
     if D::implements(op, ctx, interface) {
         check::<D>(interface, alloc, op, ctx)
@@ -53,10 +50,8 @@ fn verify_one<D: Dialect>(
 // The checks of an operation.
 fn verify_each<D: Dialect>(alloc: Global, op: Ptr<Operation>, ctx: &Context) -> Result<(), OptError>
     requires { IsLive ctx.now.tree op }
-    ensures ok { OnOk result (Passes D.has_interface (verdict_by D.SideEffects.verdict D.BlockArgRemoval.verdict D.ConstFoldInterface.verdict
-        D.BranchOpFoldInterface.verdict) ctx.now.tree op) }
-    ensures err { IfErr result (λ e. Fails D.has_interface (verdict_by D.SideEffects.verdict D.BlockArgRemoval.verdict D.ConstFoldInterface.verdict
-        D.BranchOpFoldInterface.verdict) ctx.now.tree op e) }
+    ensures ok { OnOk result (Passes D.has_interface (verdict_by D.SideEffects.verdict D.BlockArgRemoval.verdict D.ConstFoldInterface.verdict D.BranchOpFoldInterface.verdict) ctx.now.tree op) }
+    ensures err { IfErr result (λ e. Fails D.has_interface (verdict_by D.SideEffects.verdict D.BlockArgRemoval.verdict D.ConstFoldInterface.verdict D.BranchOpFoldInterface.verdict) ctx.now.tree op e) }
 {
     verify_one::<D>(Interface::SideEffects, alloc, op, ctx)?;
     verify_one::<D>(Interface::BlockArgRemoval, alloc, op, ctx)?;
@@ -76,8 +71,7 @@ pub fn verify_operation<D: Dialect>(
     ctx: &Context,
 ) -> Result<(), OptError>
     requires { IsLive ctx.now.tree op }
-    ensures { IsFirstFault D.has_interface (verdict_by D.SideEffects.verdict D.BlockArgRemoval.verdict D.ConstFoldInterface.verdict
-        D.BranchOpFoldInterface.verdict) ctx.now.tree op result }
+    ensures { IsFirstFault D.has_interface (verdict_by D.SideEffects.verdict D.BlockArgRemoval.verdict D.ConstFoldInterface.verdict D.BranchOpFoldInterface.verdict) ctx.now.tree op result }
 {
     ctx.well_formed();
     let mut at = Some(op);

@@ -19,13 +19,7 @@ impl<D: Dialect> Optimisation for Constants<D> {
 
     ghost name = { sccp_name };
 
-    ghost outcome = { λ t t' op r. PropagatesConstants (record {
-      meaning = D.meaning;
-      can_fold = D.can_fold;
-      can_fold_branch = D.can_fold_branch;
-      constants = D.constants;
-      feasible = D.feasible;
-    }) D.accepts D.constant_head D.ConstFoldInterface.outcome t t' op r };
+    ghost outcome = { λ t t' op r. PropagatesConstants (record { meaning = D.meaning; can_fold = D.can_fold; can_fold_branch = D.can_fold_branch; constants = D.constants; feasible = D.feasible }) D.accepts D.constant_head D.ConstFoldInterface.outcome t t' op r };
 
     fn name() -> &'static str {
         "sccp"
