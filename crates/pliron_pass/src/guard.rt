@@ -2,14 +2,12 @@
 ghost use Rattle.std.specs.Prelude.{◌≡◌, ℕ, Bool, true};
 ghost use Rattle.pliron_core.specs.Tree.{Tree, IsLive, head_of};
 ghost use Rattle.pliron_pass.specs.Combined.{Guards, guarded_name, head_passes};
-ghost use Rattle.pliron_pass.specs.Outcome.{RunsPass};
-ghost use Rattle.pliron_pass.specs.Verifying.{IsFirstFault, verdict_by};
 
 use crate::kinds::AnalysisKind;
 use crate::manager::AnalysisManager;
 use crate::pass::Pass;
 use crate::result::PassResult;
-use crate::run::PassManager;
+use crate::run::{Managed, PassManager};
 use pliron_core::{Context, Operation, Ptr};
 use pliron_laws::{Dialect, Interface, OptError};
 use std::alloc::Global;
@@ -137,7 +135,7 @@ impl<G: Guard, P: Pass> Pass for GuardedPass<G, P> {
 
     ghost name = { λ p. guarded_name };
 
-    ghost outcome = { λ p p' op s s' r. Guards G.allows (RunsPass P.name P.outcome (IsFirstFault P.D.has_interface (verdict_by P.D.SideEffects.verdict P.D.BlockArgRemoval.verdict P.D.ConstFoldInterface.verdict P.D.BranchOpFoldInterface.verdict)) P.is_pass_manager) p.guard p'.guard p.pass p'.pass op s s' r };
+    ghost outcome = { λ p p' op s s' r. Guards G.allows ⟦<P as Managed>⟧.runs p.guard p'.guard p.pass p'.pass op s s' r };
 
     fn name(&self) -> &str {
         "guarded_pass"

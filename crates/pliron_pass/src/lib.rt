@@ -30,5 +30,5 @@ pub use passes::Passes;
 pub use pliron_laws::OptError;
 pub use repeat::Repeat;
 pub use result::PassResult;
-pub use run::PassManager;
-pub use verify::verify_operation;
+pub use run::{Managed, PassManager};
+pub use verify::{Verified, verify_operation};

@@ -5,14 +5,12 @@ ghost use Rattle.pliron_core.specs.Changes.{IsInsideChange};
 ghost use Rattle.pliron_laws.specs.Linked.{IsWellLinked};
 ghost use Rattle.pliron_pass.specs.Cache.{IsFresh};
 ghost use Rattle.pliron_pass.specs.Combined.{Steps};
-ghost use Rattle.pliron_pass.specs.Outcome.{RunsPass};
 ghost use Rattle.pliron_pass.specs.Stage.{stage};
-ghost use Rattle.pliron_pass.specs.Verifying.{IsFirstFault, verdict_by};
 ghost use Rattle.pliron_pipeline.specs.Headline.{DoAsBefore};
 
 use pliron_core::{Context, IRStatus, Operation, Ptr};
 use pliron_laws::OptError;
-use pliron_pass::{AnalysisManager, Pass, PassManager};
+use pliron_pass::{AnalysisManager, Managed, Pass, PassManager};
 use std::alloc::Global;
 
 /// Runs a pass on the operation, whatever passes are nested in it, and keeps of the cache what it
@@ -40,7 +38,7 @@ pub fn run_pipeline<P: Pass>(
     ensures links { IsWellLinked P.D.meaning ctx.new.tree op }
     ensures inside { IsInsideChange ctx.old.tree ctx.new.tree op }
     ensures fresh { OnOk result (IsFresh P.E.Kind.eq P.E.kind P.E.holds ctx.old.tree analyses.old.cache.entries → IsFresh P.E.Kind.eq P.E.kind P.E.holds ctx.new.tree analyses.new.cache.entries) }
-    ensures outcome { Steps P.E.Kind.eq (RunsPass P.name P.outcome (IsFirstFault P.D.has_interface (verdict_by P.D.SideEffects.verdict P.D.BlockArgRemoval.verdict P.D.ConstFoldInterface.verdict P.D.BranchOpFoldInterface.verdict)) P.is_pass_manager) pass.old pass.new op (stage ctx.old analyses.old) (stage ctx.new analyses.new) result }
+    ensures outcome { Steps P.E.Kind.eq ⟦<P as Managed>⟧.runs pass.old pass.new op (stage ctx.old analyses.old) (stage ctx.new analyses.new) result }
 {
     let answer = PassManager::run_pass(pass, alloc, op, ctx, analyses)?;
     analyses.retain_preserved(&answer);
