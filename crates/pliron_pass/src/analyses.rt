@@ -75,7 +75,8 @@ pub trait Analyses: AnalysisKind {
     ghost stays: { (e : Self) (o : ℕ) (t u : Tree) → IsTree t → IsTree u → IsSameTree t u → IsLive u o → holds e o t → holds e o u };
 
     // What reads edges alone goes on holding while the blocks and edges inside the operation stay.
-    ghost keeps: { (e : Self) (o : ℕ) (t u : Tree) → IsTree t → IsTree u → reads_edges_alone (Self.kind e) ≡ true → IsLive t o → IsLive u o → edges_inside u o ≡ edges_inside t o → holds e o t → holds e o u };
+    ghost keeps: { (e : Self) (o : ℕ) (t u : Tree) → IsTree t → IsTree u → reads_edges_alone (Self.kind e) ≡ true → IsLive t o → IsLive u o →
+        edges_inside u o ≡ edges_inside t o → holds e o t → holds e o u };
 
     // Each need has a lower rank.
     ghost lower: { (k : Self.Kind) (i : ℕ) → i < needs k → rank (need k i) < rank k };
@@ -95,7 +96,8 @@ impl<E: Analyses + Drop> AnalysisManager<E> {
     ) -> Result<(), OptError>
         requires { IsLive ctx.now.tree op }
         ensures cached { OnOk result (IsSome (cached_at E.Kind.eq self.new.cache.entries kind op)) }
-        ensures fresh { IsFresh E.Kind.eq E.kind E.holds ctx.now.tree self.old.cache.entries → IsFresh E.Kind.eq E.kind E.holds ctx.now.tree self.new.cache.entries }
+        ensures fresh { IsFresh E.Kind.eq E.kind E.holds ctx.now.tree self.old.cache.entries →
+            IsFresh E.Kind.eq E.kind E.holds ctx.now.tree self.new.cache.entries }
         ensures found { IsSome (cached_at E.Kind.eq self.old.cache.entries kind op) → IsOk result }
         ensures computed { OnOk result (Computes E.Kind.eq E.needs E.need op kind self.old.cache.entries self.new.cache.entries) }
         ensures grows { Grows E.rank op (E.rank kind + 1) self.old.cache.entries self.new.cache.entries }
@@ -115,7 +117,8 @@ impl<E: Analyses + Drop> AnalysisManager<E> {
 
     // Names the ith kind as preserved, if it reads edges alone.
     fn keep_edge_kind(&self, i: usize, answer: &mut PassResult<E::Kind>) -> Result<(), OptError>
-        ensures kept { OnOk result (kept_kinds answer.new ≡ with_edge_kind E.Kind.eq E.reads_edges_alone (kept_kinds answer.old) (option_map (λ p. p.0.0) (slice_get self.now.cache.entries i))) }
+        ensures kept { OnOk result (kept_kinds answer.new ≡ with_edge_kind E.Kind.eq E.reads_edges_alone (kept_kinds answer.old) (option_map
+            (λ p. p.0.0) (slice_get self.now.cache.entries i))) }
         ensures changed { has_changed answer.new ≡ has_changed answer.old }
         ensures memory { IfErr result (λ e. e ≡ Memory) }
     {
@@ -166,7 +169,10 @@ impl<E: Analyses + Drop> AnalysisManager<E> {
         ctx: &Context,
     ) -> Result<&mut E, OptError>
         requires { IsLive ctx.now.tree op }
-        ensures* writes_back { sem 𝓛 (LendsComputed E.row E.Kind.row E.Kind.Eq.own E.Kind.PartialEq E.Kind.Hash.own self.entry (λ es es'. IsFresh E.Kind.eq E.kind E.holds ctx.now.tree es → IsFresh E.Kind.eq E.kind E.holds ctx.now.tree es') (λ es es'. Computes E.Kind.eq E.needs E.need op kind es es') (λ es es'. Grows E.rank op (E.rank kind) es es') kind op result) }
+        ensures* writes_back { sem 𝓛 (LendsComputed E.row E.Kind.row E.Kind.Eq.own E.Kind.PartialEq E.Kind.Hash.own self.entry
+            (λ es es'. IsFresh E.Kind.eq E.kind E.holds ctx.now.tree es →
+            IsFresh E.Kind.eq E.kind E.holds ctx.now.tree es') (λ es es'. Computes E.Kind.eq E.needs E.need op kind es es')
+            (λ es es'. Grows E.rank op (E.rank kind) es es') kind op result) }
     {
         self.compute_analysis(kind, op, ctx)?;
         match self.cache.get_mut(&(kind, op)) {
@@ -186,7 +192,10 @@ impl<E: Analyses + Drop> AnalysisManager<E> {
         ctx: &Context,
     ) -> Result<&E, OptError>
         requires { IsLive ctx.now.tree op }
-        ensures* ends { sem 𝓛 (EndsComputed E.row E.Kind.row E.Kind.Eq.own E.Kind.PartialEq E.Kind.Hash.own self.entry (λ es es'. IsFresh E.Kind.eq E.kind E.holds ctx.now.tree es → IsFresh E.Kind.eq E.kind E.holds ctx.now.tree es') (λ es es'. Computes E.Kind.eq E.needs E.need op kind es es') (λ es es'. Grows E.rank op (E.rank kind) es es') kind op result) }
+        ensures* ends { sem 𝓛 (EndsComputed E.row E.Kind.row E.Kind.Eq.own E.Kind.PartialEq E.Kind.Hash.own self.entry
+            (λ es es'. IsFresh E.Kind.eq E.kind E.holds ctx.now.tree es →
+            IsFresh E.Kind.eq E.kind E.holds ctx.now.tree es') (λ es es'. Computes E.Kind.eq E.needs E.need op kind es es')
+            (λ es es'. Grows E.rank op (E.rank kind) es es') kind op result) }
     {
         self.compute_analysis(kind, op, ctx)?;
         match self.cache.get(&(kind, op)) {

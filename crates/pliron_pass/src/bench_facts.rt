@@ -203,7 +203,8 @@ impl Analyses for BenchFacts {
         requires live { IsLive ctx.now.tree op }
         requires needs { HasNeeds ⟦<BenchFactKind as PartialEq>⟧.eq fact_needs fact_need kind op manager.now.cache.entries }
         ensures kind { IfOk result (λ e. ⟦<BenchFactKind as PartialEq>⟧.eq (fact_kind e) kind ≡ true) }
-        ensures holds { IfOk result (λ e. IsFresh ⟦<BenchFactKind as PartialEq>⟧.eq fact_kind HoldsFact ctx.now.tree manager.now.cache.entries → HoldsFact e op ctx.now.tree) }
+        ensures holds { IfOk result (λ e. IsFresh ⟦<BenchFactKind as PartialEq>⟧.eq fact_kind HoldsFact ctx.now.tree manager.now.cache.entries →
+            HoldsFact e op ctx.now.tree) }
         ensures memory { IsOkUnless result OptError.Memory }
     {
         match kind {

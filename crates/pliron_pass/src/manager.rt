@@ -115,7 +115,8 @@ impl<E: AnalysisKind> AnalysisManager<E> {
     }
 
     fn keep_one(&self, i: usize, answer: &mut PassResult<E::Kind>) -> Result<(), OptError>
-        ensures kept { OnOk result (kept_kinds answer.new ≡ with_kind E.Kind.eq (kept_kinds answer.old) (option_map (λ p. p.0.0) (slice_get self.now.cache.entries i))) }
+        ensures kept { OnOk result (kept_kinds answer.new ≡ with_kind E.Kind.eq (kept_kinds answer.old) (option_map (λ p. p.0.0)
+            (slice_get self.now.cache.entries i))) }
         ensures changed { has_changed answer.new ≡ has_changed answer.old }
         ensures memory { IfErr result (λ e. e ≡ Memory) }
     {

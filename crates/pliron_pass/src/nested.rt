@@ -47,7 +47,8 @@ fn run_held<P: Pass>(
     ensures change { IsPassChange P.D.meaning ctx.old.tree ctx.new.tree holder }
     ensures held { holder_of ctx.new.tree op ≡ Some holder }
     ensures children { children ctx.new.tree holder ≡ children ctx.old.tree holder }
-    ensures fresh { OnOk result (IsFresh P.E.Kind.eq P.E.kind P.E.holds ctx.old.tree analyses.old.cache.entries → IsFresh P.E.Kind.eq P.E.kind P.E.holds ctx.new.tree analyses.new.cache.entries) }
+    ensures fresh { OnOk result (IsFresh P.E.Kind.eq P.E.kind P.E.holds ctx.old.tree analyses.old.cache.entries →
+        IsFresh P.E.Kind.eq P.E.kind P.E.holds ctx.new.tree analyses.new.cache.entries) }
     ensures outcome { Steps P.E.Kind.eq ⟦<P as Managed>⟧.runs pass.old pass.new op (stage ctx.old analyses.old) (stage ctx.new analyses.new) result }
 {
     ctx.well_formed();
@@ -67,8 +68,10 @@ fn run_nested<P: Pass>(
     requires live { IsLive ctx.old.tree op }
     requires linked { IsWellLinked P.D.meaning ctx.old.tree op }
     ensures change { IsPassChange P.D.meaning ctx.old.tree ctx.new.tree op }
-    ensures fresh { OnOk result (IsFresh P.E.Kind.eq P.E.kind P.E.holds ctx.old.tree analyses.old.cache.entries → IsFresh P.E.Kind.eq P.E.kind P.E.holds ctx.new.tree analyses.new.cache.entries) }
-    ensures outcome { RunsOverAll P.E.Kind.eq ⟦<P as Managed>⟧.runs (children ctx.old.tree op) pass.old pass.new (stage ctx.old analyses.old) (stage ctx.new analyses.new) result }
+    ensures fresh { OnOk result (IsFresh P.E.Kind.eq P.E.kind P.E.holds ctx.old.tree analyses.old.cache.entries →
+        IsFresh P.E.Kind.eq P.E.kind P.E.holds ctx.new.tree analyses.new.cache.entries) }
+    ensures outcome { RunsOverAll P.E.Kind.eq ⟦<P as Managed>⟧.runs (children ctx.old.tree op) pass.old pass.new (stage ctx.old analyses.old)
+        (stage ctx.new analyses.new) result }
 {
     ctx.well_formed();
     let mut changed = IRStatus::Unchanged;
@@ -90,7 +93,8 @@ impl<P: Pass> Pass for NestedOpsPass<P> {
 
     ghost name = { λ p. nested_name };
 
-    ghost outcome = { λ p p' op s s' r. Closes P.E.Kind.eq (λ u ran. RunsOverAll P.E.Kind.eq ⟦<P as Managed>⟧.runs (children s.tree op) p.pass p'.pass s u ran) s' r };
+    ghost outcome = { λ p p' op s s' r. Closes P.E.Kind.eq (λ u ran. RunsOverAll P.E.Kind.eq ⟦<P as Managed>⟧.runs
+        (children s.tree op) p.pass p'.pass s u ran) s' r };
 
     fn name(&self) -> &str {
         "nested_ops_pass"

@@ -47,7 +47,8 @@ pub trait Pass {
         requires live { IsLive ctx.old.tree op }
         requires linked { IsWellLinked Self.D.meaning ctx.old.tree op }
         ensures change { IsPassChange Self.D.meaning ctx.old.tree ctx.new.tree op }
-        ensures fresh { IfOk result (λ a. FreshAfter Self.E.Kind.eq Self.E.kind Self.E.holds ctx.old.tree analyses.old.cache.entries ctx.new.tree analyses.new.cache.entries a) }
+        ensures fresh { IfOk result (λ a. FreshAfter Self.E.Kind.eq Self.E.kind Self.E.holds ctx.old.tree analyses.old.cache.entries ctx.new.tree
+            analyses.new.cache.entries a) }
         ensures outcome { outcome self.old self.new op (stage ctx.old analyses.old) (stage ctx.new analyses.new) result };
 
     /// Whether it runs other passes, by `PassManager::run_pass`.

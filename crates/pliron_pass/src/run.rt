@@ -51,8 +51,10 @@ fn run_plain<P: Pass>(
     requires live { IsLive ctx.old.tree op }
     requires linked { IsWellLinked P.D.meaning ctx.old.tree op }
     ensures change { IsPassChange P.D.meaning ctx.old.tree ctx.new.tree op }
-    ensures fresh { IfOk result (λ a. FreshAfter P.E.Kind.eq P.E.kind P.E.holds ctx.old.tree analyses.old.cache.entries ctx.new.tree analyses.new.cache.entries a) }
-    ensures outcome { RunsPlain P.name P.outcome ⟦<P::D as Verified>⟧.verifies pass.old pass.new op (stage ctx.old analyses.old) (stage ctx.new analyses.new) result }
+    ensures fresh { IfOk result (λ a. FreshAfter P.E.Kind.eq P.E.kind P.E.holds ctx.old.tree analyses.old.cache.entries ctx.new.tree
+        analyses.new.cache.entries a) }
+    ensures outcome { RunsPlain P.name P.outcome ⟦<P::D as Verified>⟧.verifies pass.old pass.new op (stage ctx.old analyses.old)
+        (stage ctx.new analyses.new) result }
 {
     let plan = analyses.pm_data.plan(pass.name());
     if plan.skips {
@@ -96,7 +98,8 @@ impl PassManager {
         requires live { IsLive ctx.old.tree op }
         requires linked { IsWellLinked P.D.meaning ctx.old.tree op }
         ensures change { IsPassChange P.D.meaning ctx.old.tree ctx.new.tree op }
-        ensures fresh { IfOk result (λ a. FreshAfter P.E.Kind.eq P.E.kind P.E.holds ctx.old.tree analyses.old.cache.entries ctx.new.tree analyses.new.cache.entries a) }
+        ensures fresh { IfOk result (λ a. FreshAfter P.E.Kind.eq P.E.kind P.E.holds ctx.old.tree analyses.old.cache.entries ctx.new.tree
+            analyses.new.cache.entries a) }
         ensures outcome { ⟦<P as Managed>⟧.runs pass.old pass.new op (stage ctx.old analyses.old) (stage ctx.new analyses.new) result }
     {
         if pass.is_pass_manager() {
@@ -121,7 +124,8 @@ pub fn run_inner<P: Pass>(
     requires live { IsLive ctx.old.tree op }
     requires linked { IsWellLinked P.D.meaning ctx.old.tree op }
     ensures change { IsPassChange P.D.meaning ctx.old.tree ctx.new.tree op }
-    ensures fresh { OnOk result (IsFresh P.E.Kind.eq P.E.kind P.E.holds ctx.old.tree analyses.old.cache.entries → IsFresh P.E.Kind.eq P.E.kind P.E.holds ctx.new.tree analyses.new.cache.entries) }
+    ensures fresh { OnOk result (IsFresh P.E.Kind.eq P.E.kind P.E.holds ctx.old.tree analyses.old.cache.entries →
+        IsFresh P.E.Kind.eq P.E.kind P.E.holds ctx.new.tree analyses.new.cache.entries) }
     ensures outcome { Steps P.E.Kind.eq ⟦<P as Managed>⟧.runs pass.old pass.new op (stage ctx.old analyses.old) (stage ctx.new analyses.new) result }
 {
     let result = PassManager::run_pass(pass, alloc, op, ctx, analyses)?;

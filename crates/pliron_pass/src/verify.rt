@@ -23,7 +23,8 @@ pub trait Verified {
 impl<D: Dialect> Verified for D {
     ghost verdict = { verdict_by D.SideEffects.verdict D.BlockArgRemoval.verdict D.ConstFoldInterface.verdict D.BranchOpFoldInterface.verdict };
 
-    ghost verifies = { IsFirstFault D.has_interface (verdict_by D.SideEffects.verdict D.BlockArgRemoval.verdict D.ConstFoldInterface.verdict D.BranchOpFoldInterface.verdict) };
+    ghost verifies = { IsFirstFault D.has_interface (verdict_by D.SideEffects.verdict D.BlockArgRemoval.verdict D.ConstFoldInterface.verdict
+        D.BranchOpFoldInterface.verdict) };
 }
 
 // The check of an interface. The last two have none.

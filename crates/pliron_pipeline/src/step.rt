@@ -48,7 +48,23 @@ impl<D: Dialect, E: Analyses + Drop> Pass for Step<D, E> {
 
     ghost name = { step_name };
 
-    ghost outcome = { elim [ ASccp p ↦ elim [ ASccp q ↦ ⟦<SCCPPass<D, E> as Pass>⟧.outcome p q | ADce q ↦ λ op s s' r. ⊥ | ASimplifyCfg q ↦ λ op s s' r. ⊥ ] | ADce p ↦ elim [ ASccp q ↦ λ op s s' r. ⊥ | ADce q ↦ ⟦<DCEPass<D, E> as Pass>⟧.outcome p q | ASimplifyCfg q ↦ λ op s s' r. ⊥ ] | ASimplifyCfg p ↦ elim [ ASccp q ↦ λ op s s' r. ⊥ | ADce q ↦ λ op s s' r. ⊥ | ASimplifyCfg q ↦ ⟦<SimplifyCFGPass<D, E> as Pass>⟧.outcome p q ] ] };
+    ghost outcome = { elim [
+      | ASccp p ↦ elim [
+        | ASccp q ↦ ⟦<SCCPPass<D, E> as Pass>⟧.outcome p q
+        | ADce q ↦ λ op s s' r. ⊥
+        | ASimplifyCfg q ↦ λ op s s' r. ⊥
+      ]
+      | ADce p ↦ elim [
+        | ASccp q ↦ λ op s s' r. ⊥
+        | ADce q ↦ ⟦<DCEPass<D, E> as Pass>⟧.outcome p q
+        | ASimplifyCfg q ↦ λ op s s' r. ⊥
+      ]
+      | ASimplifyCfg p ↦ elim [
+        | ASccp q ↦ λ op s s' r. ⊥
+        | ADce q ↦ λ op s s' r. ⊥
+        | ASimplifyCfg q ↦ ⟦<SimplifyCFGPass<D, E> as Pass>⟧.outcome p q
+      ]
+    ] };
 
     fn name(&self) -> &str {
         match self {
@@ -93,7 +109,11 @@ impl<D: Dialect, E: Analyses + Drop> Pass for Pipeline<D, E> {
 
     ghost name = { elim [ AFlat p ↦ passes_name | ANested p ↦ nested_name ] };
 
-    ghost outcome = { elim [ AFlat p ↦ elim [ AFlat q ↦ ⟦<Passes<Step<D, E>> as Pass>⟧.outcome p q | ANested q ↦ λ op s s' r. ⊥ ] | ANested p ↦ elim [ AFlat q ↦ λ op s s' r. ⊥ | ANested q ↦ ⟦<NestedOpsPass<Passes<Step<D, E>>> as Pass>⟧.outcome p q ] ] };
+    ghost outcome = { elim [
+      | AFlat p ↦ elim [ AFlat q ↦ ⟦<Passes<Step<D, E>> as Pass>⟧.outcome p q | ANested q ↦ λ op s s' r. ⊥ ]
+      | ANested p ↦ elim
+          [ AFlat q ↦ λ op s s' r. ⊥ | ANested q ↦ ⟦<NestedOpsPass<Passes<Step<D, E>>> as Pass>⟧.outcome p q ]
+    ] };
 
     fn name(&self) -> &str {
         match self {
@@ -136,7 +156,11 @@ impl<D: Dialect, E: Analyses + Drop> Pass for Schedule<D, E> {
 
     ghost name = { elim [ AOnce p ↦ ⟦<Pipeline<D, E> as Pass>⟧.name p | ARepeated p ↦ repeat_name ] };
 
-    ghost outcome = { elim [ AOnce p ↦ elim [ AOnce q ↦ ⟦<Pipeline<D, E> as Pass>⟧.outcome p q | ARepeated q ↦ λ op s s' r. ⊥ ] | ARepeated p ↦ elim [ AOnce q ↦ λ op s s' r. ⊥ | ARepeated q ↦ ⟦<Repeat<Pipeline<D, E>> as Pass>⟧.outcome p q ] ] };
+    ghost outcome = { elim [
+      | AOnce p ↦ elim [ AOnce q ↦ ⟦<Pipeline<D, E> as Pass>⟧.outcome p q | ARepeated q ↦ λ op s s' r. ⊥ ]
+      | ARepeated p ↦ elim
+          [ AOnce q ↦ λ op s s' r. ⊥ | ARepeated q ↦ ⟦<Repeat<Pipeline<D, E>> as Pass>⟧.outcome p q ]
+    ] };
 
     fn name(&self) -> &str {
         match self {
