@@ -1,7 +1,7 @@
 //! Passes under a guard.
 ghost use Rattle.std.specs.Prelude.{◌≡◌, ℕ, Bool, true};
 ghost use Rattle.pliron_core.specs.Tree.{Tree, IsLive, head_of};
-ghost use Rattle.pliron_pass.specs.Combined.{Guards, guarded_name, head_passes};
+ghost use Rattle.pliron_pass.specs.Combined.{Guards, guarded_name, has_passing_head};
 
 use crate::kinds::AnalysisKind;
 use crate::manager::AnalysisManager;
@@ -86,7 +86,7 @@ impl<D: Dialect> OpGuard<D> {
 }
 
 impl<D: Dialect> Guard for OpGuard<D> {
-    ghost allows = { λ g op t. head_passes (λ h. D.is_of_kind h g.kind) (head_of t op) };
+    ghost allows = { λ g op t. has_passing_head (λ h. D.is_of_kind h g.kind) (head_of t op) };
 
     fn is_allowed(&self, op: Ptr<Operation>, ctx: &Context) -> bool {
         D::is_kind(op, ctx, self.kind)
@@ -113,7 +113,7 @@ impl<D: Dialect> OpInterfaceGuard<D> {
 }
 
 impl<D: Dialect> Guard for OpInterfaceGuard<D> {
-    ghost allows = { λ g op t. head_passes (λ h. D.has_interface h g.interface) (head_of t op) };
+    ghost allows = { λ g op t. has_passing_head (λ h. D.has_interface h g.interface) (head_of t op) };
 
     fn is_allowed(&self, op: Ptr<Operation>, ctx: &Context) -> bool {
         D::implements(op, ctx, self.interface)
