@@ -8,11 +8,12 @@ ghost use Rattle.pliron_theory.specs.Change.{IsPassChange};
 ghost use Rattle.pliron_pass.specs.Combined.{Closes, Steps, RunsOverAll, nested_name};
 ghost use Rattle.pliron_pass.specs.Stage.{stage};
 
+use crate::headline::run_pipeline;
 use crate::kinds::AnalysisKind;
 use crate::manager::AnalysisManager;
 use crate::pass::Pass;
 use crate::result::PassResult;
-use crate::run::{Managed, close, run_inner};
+use crate::run::{Managed, close};
 use pliron_core::{Context, IRStatus, Operation, Ptr};
 use pliron_laws::OptError;
 use std::alloc::Global;
@@ -52,7 +53,7 @@ fn run_held<P: Pass>(
     ensures outcome { Steps P.E.Kind.eq ⟦<P as Managed>⟧.runs pass.old pass.new op (stage ctx.old analyses.old) (stage ctx.new analyses.new) result }
 {
     ctx.well_formed();
-    let ran = run_inner(pass, alloc, op, ctx, analyses);
+    let ran = run_pipeline(pass, alloc, op, ctx, analyses);
     ctx.well_formed();
     ran
 }

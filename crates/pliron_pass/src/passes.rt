@@ -7,11 +7,12 @@ ghost use Rattle.pliron_theory.specs.Change.{IsPassChange};
 ghost use Rattle.pliron_pass.specs.Combined.{Closes, RunsEachOf, passes_name};
 ghost use Rattle.pliron_pass.specs.Stage.{stage};
 
+use crate::headline::run_pipeline;
 use crate::kinds::AnalysisKind;
 use crate::manager::AnalysisManager;
 use crate::pass::Pass;
 use crate::result::PassResult;
-use crate::run::{Managed, close, run_inner};
+use crate::run::{Managed, close};
 use pliron_core::{Context, IRStatus, Operation, Ptr};
 use pliron_laws::OptError;
 use std::alloc::Global;
@@ -64,7 +65,7 @@ fn run_all<P: Pass>(
 {
     let mut changed = IRStatus::Unchanged;
     for i in 0..passes.len() {
-        changed |= run_inner(&mut passes[i], alloc, op, ctx, analyses)?;
+        changed |= run_pipeline(&mut passes[i], alloc, op, ctx, analyses)?;
     }
     Ok(changed)
 }

@@ -8,11 +8,12 @@ ghost use Rattle.pliron_pass.specs.Combined.{Closes};
 ghost use Rattle.pliron_pass.specs.Repeating.{RepeatsTo, repeat_name};
 ghost use Rattle.pliron_pass.specs.Stage.{stage};
 
+use crate::headline::run_pipeline;
 use crate::kinds::AnalysisKind;
 use crate::manager::AnalysisManager;
 use crate::pass::Pass;
 use crate::result::PassResult;
-use crate::run::{Managed, close, run_inner};
+use crate::run::{Managed, close};
 use pliron_core::{Context, IRStatus, Operation, Ptr};
 use pliron_laws::OptError;
 use std::alloc::Global;
@@ -66,7 +67,7 @@ fn run_repeated<P: Pass>(
     *runs = 0;
     while *runs < max {
         *runs += 1;
-        match run_inner(pass, alloc, op, ctx, analyses)? {
+        match run_pipeline(pass, alloc, op, ctx, analyses)? {
             IRStatus::Unchanged => return Ok(changed),
             IRStatus::Changed => changed = IRStatus::Changed,
         }

@@ -4,9 +4,9 @@ ghost use Rattle.pliron_core.specs.Tree.{Tree, IsLive};
 ghost use Rattle.pliron_laws.specs.Linked.{IsWellLinked};
 ghost use Rattle.pliron_laws.specs.declared.fault.OptError.TheVariants.{Memory};
 ghost use Rattle.pliron_pass.specs.Answer.{FreshAfter, has_changed, kept_kinds};
-ghost use Rattle.pliron_pass.specs.Cache.{IsFresh, retained, cached_kinds};
+ghost use Rattle.pliron_pass.specs.Cache.{retained, cached_kinds};
 ghost use Rattle.pliron_theory.specs.Change.{IsPassChange};
-ghost use Rattle.pliron_pass.specs.Combined.{Steps, IsClosed};
+ghost use Rattle.pliron_pass.specs.Combined.{IsClosed};
 ghost use Rattle.pliron_pass.specs.Outcome.{IsVerified, OutcomeOf, RunsPass, RunsPlain};
 ghost use Rattle.pliron_pass.specs.Stage.{stage};
 
@@ -108,29 +108,6 @@ impl PassManager {
             run_plain(pass, alloc, op, ctx, analyses)
         }
     }
-}
-
-/// Runs a pass, and keeps of the cache what it preserves.
-///
-/// Asks that the operation stands and is well linked. Errors: as `run_pass`. Cost: as `run_pass`, and after
-/// `Changed` a look-up for each entry of the cache.
-pub fn run_inner<P: Pass>(
-    pass: &mut P,
-    alloc: Global,
-    op: Ptr<Operation>,
-    ctx: &mut Context,
-    analyses: &mut AnalysisManager<P::E>,
-) -> Result<IRStatus, OptError>
-    requires live { IsLive ctx.old.tree op }
-    requires linked { IsWellLinked P.D.meaning ctx.old.tree op }
-    ensures change { IsPassChange P.D.meaning ctx.old.tree ctx.new.tree op }
-    ensures fresh { OnOk result (IsFresh P.E.Kind.eq P.E.kind P.E.holds ctx.old.tree analyses.old.cache.entries →
-        IsFresh P.E.Kind.eq P.E.kind P.E.holds ctx.new.tree analyses.new.cache.entries) }
-    ensures outcome { Steps P.E.Kind.eq ⟦<P as Managed>⟧.runs pass.old pass.new op (stage ctx.old analyses.old) (stage ctx.new analyses.new) result }
-{
-    let result = PassManager::run_pass(pass, alloc, op, ctx, analyses)?;
-    analyses.retain_preserved(&result);
-    Ok(result.ir_changed)
 }
 
 /// Ends what ran inner passes: the answer preserves all that is cached, and after an error the cache is
