@@ -20,7 +20,7 @@ use Rattle.pliron_laws.specs.Answers.{AreForwarded, IsForwardedAt, ReadsHead, Re
 use Rattle.pliron_bench.specs.Bench.{by_kind, kind_of}
 use Rattle.pliron_bench.specs.BenchNumbers.{known_at}
 use Rattle.pliron_bench.specs.BenchMoves.{bench, places_in, no_places_in, places_of, no_places}
-use Rattle.pliron_bench.specs.BenchAnswers.{bench_folds, bench_constants, bench_accepts, bench_constant_head, is_constant, bench_folds_branch, bench_feasible, folds_of, folds_branch_of, answer_of, constants_of, no_constants, feasible_of, no_jump, taken}
+use Rattle.pliron_bench.specs.BenchAnswers.{bench_folds, bench_constants, bench_accepts, bench_constant_head, is_const_kind, bench_folds_branch, bench_feasible, folds_of, folds_branch_of, answer_of, constants_of, no_constants, feasible_of, no_jump, taken}
 use Rattle.pliron_laws.proofs.ShapeLemmas.{head_at, operands_at}
 
 same_head : (t : Tree) (op : ℕ) (h : Head) (o : Operation) → head_of t op ≡ Some h → op_at t op ≡ Some o → h ≡ o.head
@@ -104,22 +104,22 @@ more_picked xs items items' first j v e f g =
 
 -- ---- folding in place
 
-kind_stays : (k : Option BenchKind) (t : Tree) (op : ℕ) (known : List (Option AttrObj)) → is_constant k ≡ true → fold_of k t t op known (Some Unchanged)
+kind_stays : (k : Option BenchKind) (t : Tree) (op : ℕ) (known : List (Option AttrObj)) → is_const_kind k ≡ true → fold_of k t t op known (Some Unchanged)
 kind_stays (Some Const) t op known e = (refl, refl)
 kind_stays _ t op known e = grind arith
 
-kind_folds : (k : Option BenchKind) (t u : Tree) (op : ℕ) (known : List (Option AttrObj)) (answer : Option IRStatus) → is_constant k ≡ false → materialising bench bench_constants bench_accepts bench_constant_head t u op known answer → fold_of k t u op known answer
+kind_folds : (k : Option BenchKind) (t u : Tree) (op : ℕ) (known : List (Option AttrObj)) (answer : Option IRStatus) → is_const_kind k ≡ false → materialising bench bench_constants bench_accepts bench_constant_head t u op known answer → fold_of k t u op known answer
 kind_folds (Some Const) t u op known answer e m = grind arith
 kind_folds _ t u op known answer e m = m
 
-head_kind : (t : Tree) (op : ℕ) (b : Bool) (o : Option Head) → IsSome o → head_of t op ≡ o → ReadsHead (λ h. is_constant (kind_of h.kind)) t op b → b ≡ is_constant (kind_in (head_of t op))
+head_kind : (t : Tree) (op : ℕ) (b : Bool) (o : Option Head) → IsSome o → head_of t op ≡ o → ReadsHead (λ h. is_const_kind (kind_of h.kind)) t op b → b ≡ is_const_kind (kind_in (head_of t op))
 head_kind t op b None s e r = grind arith
-head_kind t op b (Some h) s e r = r h e ∙ ap (λ o. is_constant (kind_in o)) (sym e)
+head_kind t op b (Some h) s e r = r h e ∙ ap (λ o. is_const_kind (kind_in o)) (sym e)
 
-pub constant_stays : (t : Tree) (op : ℕ) (known : List (Option AttrObj)) (b : Bool) → IsLive t op → ReadsHead (λ h. is_constant (kind_of h.kind)) t op b → b ≡ true → bench_outcome t t op known (Some Unchanged)
+pub constant_stays : (t : Tree) (op : ℕ) (known : List (Option AttrObj)) (b : Bool) → IsLive t op → ReadsHead (λ h. is_const_kind (kind_of h.kind)) t op b → b ≡ true → bench_outcome t t op known (Some Unchanged)
 unfolding bench_outcome
 constant_stays t op known b live r e = kind_stays (kind_in (head_of t op)) t op known (sym (head_kind t op b (head_of t op) live refl r) ∙ e)
 
-pub others_fold : (t u : Tree) (op : ℕ) (known : List (Option AttrObj)) (b : Bool) (answer : Option IRStatus) → IsLive t op → ReadsHead (λ h. is_constant (kind_of h.kind)) t op b → b ≡ false → materialising bench bench_constants bench_accepts bench_constant_head t u op known answer → bench_outcome t u op known answer
+pub others_fold : (t u : Tree) (op : ℕ) (known : List (Option AttrObj)) (b : Bool) (answer : Option IRStatus) → IsLive t op → ReadsHead (λ h. is_const_kind (kind_of h.kind)) t op b → b ≡ false → materialising bench bench_constants bench_accepts bench_constant_head t u op known answer → bench_outcome t u op known answer
 unfolding bench_outcome
 others_fold t u op known b answer live r e m = kind_folds (kind_in (head_of t op)) t u op known answer (sym (head_kind t op b (head_of t op) live refl r) ∙ e) m

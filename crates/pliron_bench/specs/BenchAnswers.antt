@@ -42,9 +42,9 @@ unfoldable pub bench_removable : Head → ℕ → Bool → Option Bool
 bench_removable h i entry = by_kind no_removal removable_of (kind_of h.kind) entry
 
 -- whether it is a `const`
-abbrev pub is_constant : Option BenchKind → Bool
-is_constant (Some Const) = true
-is_constant _ = false
+abbrev pub is_const_kind : Option BenchKind → Bool
+is_const_kind (Some Const) = true
+is_const_kind _ = false
 
 -- what folds as a constant
 abbrev pub folds_of : BenchKind → Bool

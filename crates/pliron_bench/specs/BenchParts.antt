@@ -9,9 +9,9 @@ use Rattle.pliron_laws.specs.Acting.{Act, Comes}
 use Rattle.pliron_laws.specs.Acting.Comes.{Begins, Answered, Told}
 use Rattle.pliron_bench.specs.Bench.{by_kind, result_count, successor_count, region_count, takes_operands, takes_attributes, has_count, is_ssa, same_bool, takes, first_edge_count}
 
-pub both : (x y : Bool) → IsTrue (x && y) → IsTrue x × IsTrue y
-both true y h = (refl, h)
-both false y h = grind arith
+pub both_parts : (x y : Bool) → IsTrue (x && y) → IsTrue x × IsTrue y
+both_parts true y h = (refl, h)
+both_parts false y h = grind arith
 
 pub same : (a b : ℕ) → IsTrue (nat_eq a b) → a ≡ b
 same a b h = search (rules, arith)
@@ -27,11 +27,11 @@ pub record IsTaken (k : BenchKind) (h : Head) (a b c d : ℕ) : Type 0 where
 
 pub taken : (k : BenchKind) (h : Head) (a b c d : ℕ) → IsTrue (takes h a b c d k) → IsTaken k h a b c d
 taken k h a b c d t =
-    let p = both (same_bool h.ssa (is_ssa k) && takes_attributes k h.attrs a && takes_operands k a && nat_eq b (result_count k) && nat_eq c (successor_count k)) (nat_eq d (region_count k)) t in
-    let q = both (same_bool h.ssa (is_ssa k) && takes_attributes k h.attrs a && takes_operands k a && nat_eq b (result_count k)) (nat_eq c (successor_count k)) p.0 in
-    let r = both (same_bool h.ssa (is_ssa k) && takes_attributes k h.attrs a && takes_operands k a) (nat_eq b (result_count k)) q.0 in
-    let u = both (same_bool h.ssa (is_ssa k) && takes_attributes k h.attrs a) (takes_operands k a) r.0 in
-    let v = both (same_bool h.ssa (is_ssa k)) (takes_attributes k h.attrs a) u.0 in
+    let p = both_parts (same_bool h.ssa (is_ssa k) && takes_attributes k h.attrs a && takes_operands k a && nat_eq b (result_count k) && nat_eq c (successor_count k)) (nat_eq d (region_count k)) t in
+    let q = both_parts (same_bool h.ssa (is_ssa k) && takes_attributes k h.attrs a && takes_operands k a && nat_eq b (result_count k)) (nat_eq c (successor_count k)) p.0 in
+    let r = both_parts (same_bool h.ssa (is_ssa k) && takes_attributes k h.attrs a && takes_operands k a) (nat_eq b (result_count k)) q.0 in
+    let u = both_parts (same_bool h.ssa (is_ssa k) && takes_attributes k h.attrs a) (takes_operands k a) r.0 in
+    let v = both_parts (same_bool h.ssa (is_ssa k)) (takes_attributes k h.attrs a) u.0 in
     record { dominance = v.0; attributes = v.1; operands = u.1; results = same b (result_count k) r.1; successors = same c (successor_count k) q.1; regions = same d (region_count k) p.1 }
 
 -- the shape of an operation of the kind

@@ -3,7 +3,7 @@ ghost use Rattle.std.specs.Prelude.{◌≡◌, ◌∷◌, [], IfOk};
 ghost use Rattle.pliron_core.specs.Tree.{IsLive};
 ghost use Rattle.pliron_laws.specs.Answers.{ReadsHead};
 ghost use Rattle.pliron_bench.specs.Bench.{first_attribute as first_of, kind_of};
-ghost use Rattle.pliron_bench.specs.BenchAnswers.{as_constant, answer_of as answer_in, is_constant};
+ghost use Rattle.pliron_bench.specs.BenchAnswers.{as_constant, answer_of as answer_in, is_const_kind};
 
 use crate::kind::BenchKind;
 use crate::numbers::{known_number, known_product, known_quotient, known_sum};
@@ -75,7 +75,7 @@ pub fn one_answer(
 /// Whether the operation is a `const`. Asks that the operation stands (`is_live` tests it). Cost: constant.
 pub fn makes_constant(op: Ptr<Operation>, ctx: &Context) -> bool
     requires { IsLive ctx.now.tree op }
-    ensures { ReadsHead (λ h. is_constant (kind_of h.kind)) ctx.now.tree op result }
+    ensures { ReadsHead (λ h. is_const_kind (kind_of h.kind)) ctx.now.tree op result }
 {
     matches!(kind_at(op, ctx), Some(BenchKind::Const))
 }

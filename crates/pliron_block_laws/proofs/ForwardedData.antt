@@ -16,7 +16,7 @@ use Rattle.pliron_laws.specs.Paths.{Path, Leads}
 use Rattle.pliron_laws.specs.Root.{defining_block, HasPassed, IsDominated}
 use Rattle.pliron_laws.specs.Linked.{EndsBlock}
 use Rattle.pliron_theory.specs.Keeps.{IsFit}
-use Rattle.pliron_theory.specs.Renaming.{IsReached}
+use Rattle.pliron_theory.specs.Renaming.{RunReaches}
 use Rattle.pliron_theory.specs.Splicing.{JumpsNow}
 use Rattle.pliron_theory.proofs.Frames.{Facts, Makes, Rules, Below, Holding, holding_kept}
 use Rattle.pliron_laws.proofs.Records.{op_shows, block_shows, entry_shows, ShowsEntry}
@@ -380,7 +380,7 @@ module _ (m : Meaning) (t : Tree) (w : IsTree t) (a b jump : ℕ) (front : List 
   begins : (inputs world : List Datum) → Holding m t facts rules root (start root inputs world)
   begins inputs world = record { holder = None; always = tt; place = (refl, has_some None inputs, tt, λ others e. absurd (not_itself w.joined.rooted (subst (IsInside t root) (sym (head_is root jump [] others e)) inside))); below = tt }
 
-  holds : (s : State) → IsReached m t root s → Holding m t facts rules root s
+  holds : (s : State) → RunReaches m t root s → Holding m t facts rules root s
   holds s r = reached_holds m t root (Holding m t facts rules root) (holding_kept m t facts rules root) begins s r
 
   -- an operation around the one that moves heads a place of the stack, or the root is within it
@@ -394,7 +394,7 @@ module _ (m : Meaning) (t : Tree) (w : IsTree t) (a b jump : ℕ) (front : List 
       find env g around (subst (IsWithin t around) s u.2) below.0 below.1 ws (subst (IsAt t root env below.1) below.2 below.3.0) (subst (OfPlace env below.1) below.2 below.3.1) below.4
 
   -- wherever an operation reads the argument, the value has the same datum
-  pub same_datum : (s : State) → IsReached m t root s → (k : ℕ) (rest : List ℕ) → s.rest ≡ k ∷ rest → s.answer ≡ None → In p (operands_of t k) → s.environment p ≡ s.environment v
+  pub same_datum : (s : State) → RunReaches m t root s → (k : ℕ) (rest : List ℕ) → s.rest ≡ k ∷ rest → s.answer ≡ None → In p (operands_of t k) → s.environment p ≡ s.environment v
   same_datum s r k rest e none uses = ⊎_elim
       (λ y. found y.0 y.1 y.2 y.3)
       (λ y. absurd (not_root y))

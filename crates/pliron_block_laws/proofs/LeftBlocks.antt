@@ -16,7 +16,7 @@ use Rattle.pliron_theory.specs.Sweeping.{swept, IsSwept}
 use Rattle.pliron_theory.proofs.SweptLists.{swept_all, in_swept, from_swept}
 use Rattle.pliron_theory.proofs.SweptKeeps.{swept_keeps}
 use Rattle.pliron_block_laws.specs.Cutting.{is_listed, stands_in_one, cut_op, cut_block, ErasesAll, AreCut}
-use Rattle.pliron_block_laws.specs.Leaving.{DropsAll, DropsAll.Done, DropsAll.Then, MayGo, GoesWell, LeavingLaw}
+use Rattle.pliron_block_laws.specs.Leaving.{DropsAll, DropsAll.Done, DropsAll.Then, BlocksMayGo, GoesWell, LeavingLaw}
 use Rattle.pliron_laws.proofs.RisingLemmas.{rising_same}
 use Rattle.pliron_block_laws.proofs.ListLemmas.{rising_swept}
 use Rattle.pliron_block_laws.proofs.CutBlocks.{or_true, block_cases, listed, stands_one, one_stands, cut_all}
@@ -33,7 +33,7 @@ drops_kept t k (b ∷ rest) z u n (Then _ _ more) f =
     let next = drops_kept t k rest (uses_dropped z b) u (names_trans t z (uses_dropped z b) n (names_of_dropped z (stands_in z b))) more (λ c i. f c (inr i)) in
     (next.0 ∙ here.0, next.1 ∙ here.1)
 
-module _ (m : Meaning) (t u v : Tree) (holder region : ℕ) (bs : List ℕ) (w : IsTree t) (wu : IsTree u) (wv : IsTree v) (edges : EdgesLast t holder) (held : region_parent_of t region ≡ Some holder) (may : MayGo t region bs) (drops : DropsAll bs t u) (erases : ErasesAll bs u v) where
+module _ (m : Meaning) (t u v : Tree) (holder region : ℕ) (bs : List ℕ) (w : IsTree t) (wu : IsTree u) (wv : IsTree v) (edges : EdgesLast t holder) (held : region_parent_of t region ≡ Some holder) (may : BlocksMayGo t region bs) (drops : DropsAll bs t u) (erases : ErasesAll bs u v) where
   abbrev dead : ℕ → Bool
   dead k = cut_op t bs k
 

@@ -17,7 +17,7 @@ pub data DropsAll : List ℕ → Tree → Tree → Type 0 where
 
 -- the blocks stand in the region, and are not its entry; no block of the region that is left leads to one of them,
 -- and no operation that is left uses what is made in them
-pub record MayGo (t : Tree) (region : ℕ) (bs : List ℕ) : Type 0 where
+pub record BlocksMayGo (t : Tree) (region : ℕ) (bs : List ℕ) : Type 0 where
   pub own : (b : ℕ) → In b bs → block_parent_of t b ≡ Some region
   pub no_entry : (b : ℕ) → first_of (layout_of t region) None ≡ Some b → In b bs → ⊥
   pub closed : (c d : ℕ) → block_parent_of t c ≡ Some region → (In c bs → ⊥) → In d (succs_of t c) → In d bs → ⊥
@@ -29,4 +29,4 @@ pub record GoesWell (m : Meaning) (t v : Tree) (region : ℕ) (bs : List ℕ) : 
   pub runs : KeepsRuns m t v
 
 abbrev pub LeavingLaw : Type 0
-LeavingLaw = (m : Meaning) (t u v : Tree) (holder region : ℕ) (bs : List ℕ) → IsTree t → IsTree u → IsTree v → EdgesLast t holder → region_parent_of t region ≡ Some holder → MayGo t region bs → DropsAll bs t u → ErasesAll bs u v → GoesWell m t v region bs
+LeavingLaw = (m : Meaning) (t u v : Tree) (holder region : ℕ) (bs : List ℕ) → IsTree t → IsTree u → IsTree v → EdgesLast t holder → region_parent_of t region ≡ Some holder → BlocksMayGo t region bs → DropsAll bs t u → ErasesAll bs u v → GoesWell m t v region bs

@@ -15,14 +15,14 @@ use Rattle.pliron_theory.specs.Change.{IsPassChange, PassLaws}
 use Rattle.pliron_search.specs.Regions.{IsLawfulRegion}
 use Rattle.pliron_block_laws.specs.Links.{KeepsLinks, CutLinksLaw}
 use Rattle.pliron_block_laws.specs.Inside.{CutInsideLaw}
-use Rattle.pliron_cfg.specs.Visited.{Start, IsSearched, IsCutOff, IsUnreachable, IsReachedIn}
+use Rattle.pliron_cfg.specs.Visited.{Start, IsVisitedSsaRegion, IsCutOff, IsUnreachable, IsReachedIn}
 use Rattle.pliron_cfg.specs.Visits.{AreVisits}
 use Rattle.pliron_cfg.proofs.Lawful.{visited_lawful, reached_in}
 use Rattle.pliron_cfg.specs.Removed.{IsWithout, RemovesSome.Nothing, RemovesSome.Then, RemovesAll, RemovalFails, HasLiveUse}
 use Rattle.pliron_laws.specs.declared.fault.OptError.{OptError}
 use Rattle.pliron_laws.specs.declared.fault.OptError.TheVariants.{Memory, LiveUse}
 use Rattle.pliron_cfg.specs.declared.removal.scope.Scope.{Scope}
-use Rattle.pliron_cfg.specs.Internal.Scopes.{start_of, Stands, IsHolder}
+use Rattle.pliron_cfg.specs.Internal.Scopes.{start_of, ScopeStands, IsHolder}
 use Rattle.pliron_cfg.proofs.ScopeLemmas.{start_lawful, top_held, top_apart, within_root, root_row, start_to, start_from, stands_still, holder_still}
 use Rattle.pliron_cfg.specs.Internal.Clears.{LosesCutOff, ClearsRegion}
 use Rattle.pliron_cfg.specs.Internal.Cleared.{status_after, TellsLoss, AreCleared, Went}
@@ -38,7 +38,7 @@ module _ (m : Meaning) (t u v : Tree) (scope : Scope) (root r : ℕ) (rs ks rest
     start_held : (q : ℕ) → start_of scope u q → IsLawfulRegion u q
     start_held = start_lawful u w scope root h.stands h.holder h.change.linked.edges
 
-    searched : IsSearched (start_of scope) u r
+    searched : IsVisitedSsaRegion (start_of scope) u r
     searched = (h.visits.regions r).0 (h.among r (In-right r rest (r ∷ []) (inl refl)))
 
     pub region_lawful : IsLawfulRegion u r
@@ -54,7 +54,7 @@ module _ (m : Meaning) (t u v : Tree) (scope : Scope) (root r : ℕ) (rs ks rest
       λ y. (h.visits.blocks b).1 (r, searched.0, searched.1, y),
     )
 
-    pub region_searched : IsSearched (start_of scope) u r
+    pub region_searched : IsVisitedSsaRegion (start_of scope) u r
     region_searched = searched
 
     pub fails : (e : OptError) → v ≡ u → (e ≡ Memory) ⊎ ((e ≡ LiveUse) × HasLiveUse u r) → RemovalFails (start_of scope) t v e
@@ -173,7 +173,7 @@ module _ (m : Meaning) (t u v : Tree) (scope : Scope) (root r : ℕ) (rs ks rest
     next Changed l = less_next l
     next Unchanged e = subst (λ z. AreCleared m t z scope root rs ks rest status) (sym e.1) (same_next e.0)
 
-pub none_cleared : (m : Meaning) (t : Tree) (scope : Scope) (root : ℕ) (rs ks : List ℕ) → PassLaws → IsTree t → Stands t scope → IsHolder t scope root → IsLive t root → IsWellLinked m t root → AreVisits t (start_of scope t) rs ks → AreCleared m t t scope root rs ks rs Unchanged
+pub none_cleared : (m : Meaning) (t : Tree) (scope : Scope) (root : ℕ) (rs ks : List ℕ) → PassLaws → IsTree t → ScopeStands t scope → IsHolder t scope root → IsLive t root → IsWellLinked m t root → AreVisits t (start_of scope t) rs ks → AreCleared m t t scope root rs ks rs Unchanged
 none_cleared m t scope root rs ks laws w stands holder live linked visits = record {
   stands = stands;
   holder = holder;

@@ -12,7 +12,7 @@ use Rattle.pliron_core.proofs.ListLemmas.{In-left, In-right, In-cases}
 use Rattle.pliron_core.proofs.WalkLemmas.{In-preorder, within_live}
 use Rattle.pliron_core.proofs.WithinLemmas.{block_steps, block_holder_from}
 use Rattle.pliron_core.proofs.HoldingLemmas.{some_is, in_slice, slice_in, slot_is, region_parent_is, maker_is}
-use Rattle.pliron_cfg.specs.Internal.Contents.{contents_of, contents_in, blocks_below, values_of, IsUsedWithin, HasUseOutside}
+use Rattle.pliron_cfg.specs.Internal.Contents.{contents_of, contents_in, blocks_directly_in, values_made_by, IsUsedWithin, HasUseOutside}
 use Rattle.pliron_cfg.specs.Internal.OtherUses.{HaveNoOtherUse, HaveOtherUse}
 
 module _ (t : Tree) (w : IsTree t) (bs : List ℕ) where
@@ -20,7 +20,7 @@ module _ (t : Tree) (w : IsTree t) (bs : List ℕ) where
   ops = contents_in t bs
 
   abbrev pub all : List ℕ
-  all = bs ++ flat_map (λ k. blocks_below t k) ops
+  all = bs ++ flat_map (λ k. blocks_directly_in t k) ops
 
   pub op_stands : (k : ℕ) → In k ops → (b : ℕ) × In b bs × StandsIn t b k
   op_stands k i =
@@ -42,13 +42,13 @@ module _ (t : Tree) (w : IsTree t) (bs : List ℕ) where
   held_by k r i = let x = slice_in (regions_of t k) r i in ap op_of_slot (w.joined.regions k x.0 r x.1)
 
   -- a block directly in an operation
-  below_held : (k c : ℕ) → In c (blocks_below t k) → (block_holder_of t c ≡ Some k) × IsBlock t c
+  below_held : (k c : ℕ) → In c (blocks_directly_in t k) → (block_holder_of t c ≡ Some k) × IsBlock t c
   below_held k c i =
       let r = flat_map-In (λ r. layout_of t r) (regions_of t k) c i in
       let p = w.layouts.owned c r.0 r.2 in
       (block_holder_from t c r.0 p ∙ held_by k r.0 r.1, subst IsSome (sym p) refl)
 
-  held_below : (k c : ℕ) → block_holder_of t c ≡ Some k → In c (blocks_below t k)
+  held_below : (k c : ℕ) → block_holder_of t c ≡ Some k → In c (blocks_directly_in t k)
   held_below k c e =
       let s = block_steps t c k e in
       let slot = slot_is t s.0 (w.joined.placed c s.0 s.1) in
@@ -58,15 +58,15 @@ module _ (t : Tree) (w : IsTree t) (bs : List ℕ) where
   pub block_within : (c : ℕ) → In c all → (b : ℕ) × In b bs × IsBlockWithin t b c
   block_within c i = ⊎_elim
       (λ j. (c, j, inl refl))
-      (λ j. let k = flat_map-In (λ k. blocks_below t k) ops c j in let b = op_stands k.0 k.1 in (b.0, b.1, inr (k.0, (below_held k.0 c k.2).0, b.2)))
-      (In-cases c bs (flat_map (λ k. blocks_below t k) ops) i)
+      (λ j. let k = flat_map-In (λ k. blocks_directly_in t k) ops c j in let b = op_stands k.0 k.1 in (b.0, b.1, inr (k.0, (below_held k.0 c k.2).0, b.2)))
+      (In-cases c bs (flat_map (λ k. blocks_directly_in t k) ops) i)
 
   pub within_block : (c b : ℕ) → In b bs → IsBlockWithin t b c → In c all
-  within_block c b i (inl e) = In-left c bs (flat_map (λ k. blocks_below t k) ops) (subst (λ z. In z bs) (sym e) i)
-  within_block c b i (inr y) = In-right c bs (flat_map (λ k. blocks_below t k) ops) (In-flat_map (λ k. blocks_below t k) ops y.0 c (stands_op y.0 b i y.2) (held_below y.0 c y.1))
+  within_block c b i (inl e) = In-left c bs (flat_map (λ k. blocks_directly_in t k) ops) (subst (λ z. In z bs) (sym e) i)
+  within_block c b i (inr y) = In-right c bs (flat_map (λ k. blocks_directly_in t k) ops) (In-flat_map (λ k. blocks_directly_in t k) ops y.0 c (stands_op y.0 b i y.2) (held_below y.0 c y.1))
 
   pub block_stands : ((b : ℕ) → In b bs → IsBlock t b) → (c : ℕ) → In c all → IsBlock t c
-  block_stands stand c i = ⊎_elim (λ j. stand c j) (λ j. let k = flat_map-In (λ k. blocks_below t k) ops c j in (below_held k.0 c k.2).1) (In-cases c bs (flat_map (λ k. blocks_below t k) ops) i)
+  block_stands stand c i = ⊎_elim (λ j. stand c j) (λ j. let k = flat_map-In (λ k. blocks_directly_in t k) ops c j in (below_held k.0 c k.2).1) (In-cases c bs (flat_map (λ k. blocks_directly_in t k) ops) i)
 
   result_made : (k v : ℕ) → In v (results_of t k) → (i : ℕ) × (definition_of t v ≡ Some (Result k i)) × (slice_get (results_of t k) i ≡ Some v)
   result_made k v j = let x = slice_in (results_of t k) v j in (x.0, w.joined.results k x.0 v x.1, x.1)
@@ -75,7 +75,7 @@ module _ (t : Tree) (w : IsTree t) (bs : List ℕ) where
   argument_made c v j = let x = slice_in (arguments_of t c) v j in (x.0, w.joined.arguments c x.0 v x.1, x.1)
 
   abbrev pub values : List ℕ
-  values = values_of t ops all
+  values = values_made_by t ops all
 
   pub value_made : (v : ℕ) → In v values → (b : ℕ) × In b bs × IsMadeInBlock t b (definition_of t v)
   value_made v i = ⊎_elim

@@ -13,7 +13,7 @@ use Rattle.pliron_search.specs.Digraph.{IsPath, Digraph}
 use Rattle.pliron_search.specs.Regions.{graph_of_region}
 use Rattle.pliron_search.specs.Internal.RegionLawful.{keys_have}
 use Rattle.pliron_block_laws.specs.Cutting.{stands_in_one, cut_op, cut_block}
-use Rattle.pliron_block_laws.specs.Leaving.{MayGo}
+use Rattle.pliron_block_laws.specs.Leaving.{BlocksMayGo}
 use Rattle.pliron_block_laws.proofs.CutBlocks.{block_cases, stands_one, one_stands}
 use Rattle.pliron_cfg.specs.Visited.{IsReachedIn, IsCutOff}
 use Rattle.pliron_cfg.specs.Removed.{HasLiveUse}
@@ -54,7 +54,7 @@ module _ (t : Tree) (w : IsTree t) (r : ℕ) (bs keys : List ℕ) (left : (b : �
     λ c. (left b).1 (w.layouts.listed b r c.0, λ k. c.1 ((reached b c.0).0 k)),
   )
 
-  pub may_go : HaveNoOtherUse t bs → MayGo t r bs
+  pub may_go : HaveNoOtherUse t bs → BlocksMayGo t r bs
   may_go none = record {
     own = λ b i. ((exact b).0 i).0;
     no_entry = λ b e i. ((exact b).0 i).1 (b, e, ([], refl));

@@ -15,7 +15,7 @@ use Rattle.pliron_core.proofs.HoldingLemmas.{within_inside, holder_by}
 use Rattle.pliron_laws.specs.Linked.{EdgesLast}
 use Rattle.pliron_theory.specs.Sweeping.{is_maker_dead}
 use Rattle.pliron_block_laws.specs.Cutting.{is_listed, stands_in_one, cut_op, cut_block}
-use Rattle.pliron_block_laws.specs.Leaving.{DropsAll, DropsAll.Done, DropsAll.Then, MayGo}
+use Rattle.pliron_block_laws.specs.Leaving.{DropsAll, DropsAll.Done, DropsAll.Then, BlocksMayGo}
 use Rattle.pliron_block_laws.proofs.CutBlocks.{or_true, block_cases, listed, stands_one, one_stands}
 use Rattle.pliron_cfg.specs.Internal.Unnamed.{IsUnnamedBlock}
 
@@ -48,7 +48,7 @@ bare_by t k c (b ∷ rest) z u n (Then _ _ more) (inl s) e =
 bare_by t k c (b ∷ rest) z u n (Then _ _ more) (inr i) e =
     bare_by t k c rest (uses_dropped z b) u (names_trans t z (uses_dropped z b) n (names_of_dropped z (stands_in z b))) more i e
 
-module _ (t u : Tree) (holder region : ℕ) (bs : List ℕ) (w : IsTree t) (wu : IsTree u) (edges : EdgesLast t holder) (held : region_parent_of t region ≡ Some holder) (may : MayGo t region bs) (drops : DropsAll bs t u) where
+module _ (t u : Tree) (holder region : ℕ) (bs : List ℕ) (w : IsTree t) (wu : IsTree u) (edges : EdgesLast t holder) (held : region_parent_of t region ≡ Some holder) (may : BlocksMayGo t region bs) (drops : DropsAll bs t u) where
   names : IsNamesOnly t u
   names = drops_names bs t u drops
 

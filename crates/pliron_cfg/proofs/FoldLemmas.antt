@@ -29,8 +29,8 @@ use Rattle.pliron_theory.specs.Folded.{BranchFoldsLaw, BranchLinksLaw, BranchOut
 use Rattle.pliron_theory.specs.Rebranching.{IsRebranched}
 use Rattle.pliron_theory.proofs.ChangeLemmas.{change_refl, change_trans, links_stay}
 use Rattle.pliron_block_laws.proofs.RebranchedInside.{rebranched_inside, inside_stays}
-use Rattle.pliron_cfg.specs.Folded.{passes, branches_of, known_of, known_operands, FoldsAll, FoldsAll.NoMore, FoldsAll.Next, FoldsSome, FoldsSome.Stopped, FoldsSome.Broken, FoldsSome.After}
-use Rattle.pliron_cfg.specs.FoldSteps.{IsTold, IsBranchInside, IsFoldStep, IsFoldingOn}
+use Rattle.pliron_cfg.specs.Folded.{has_passing_head, branches_of, known_of, known_operands, FoldsAll, FoldsAll.NoMore, FoldsAll.Next, FoldsSome, FoldsSome.Stopped, FoldsSome.Broken, FoldsSome.After}
+use Rattle.pliron_cfg.specs.FoldSteps.{TellsErased, IsBranchInside, IsBranchFoldStep, IsFoldingBranches}
 use Rattle.pliron_cfg.proofs.KnownLemmas.{known_read}
 
 -- what is inside something stands in a block
@@ -73,12 +73,12 @@ module _ (m : Meaning) (can_fold can_fold_branch : Head → Bool) (constants : C
     root_stands : Shape → IsLive u root
     root_stands s = stands s root (λ e. not_inside-itself t w root (subst (IsInside t root) (sym e) branch.0)) root_live
 
-    pub told : Shape → (status : IRStatus) → TellsChange (Some status) t u → IsTold status t u
+    pub told : Shape → (status : IRStatus) → TellsChange (Some status) t u → TellsErased status t u
     told s Unchanged is = is
     told (inl s) Changed is = absurd (is s)
     told (inr (a, new, front, h)) Changed is = (op, inside_live t w root op branch.0, h.gone)
 
-    pub step : BranchFoldsLaw m can_fold_branch outcome → BranchLinksLaw m can_fold_branch outcome → BranchOutcomesLaw m can_fold_branch outcome → AnsweredLaw m can_fold constants → length t.operations ≤ length u.operations → (answer : Option IRStatus) → outcome t u op (known_operands m can_fold constants t op) answer → IsFoldStep m can_fold_branch t u root op
+    pub step : BranchFoldsLaw m can_fold_branch outcome → BranchLinksLaw m can_fold_branch outcome → BranchOutcomesLaw m can_fold_branch outcome → AnsweredLaw m can_fold constants → length t.operations ≤ length u.operations → (answer : Option IRStatus) → outcome t u op (known_operands m can_fold constants t op) answer → IsBranchFoldStep m can_fold_branch t u root op
     step folds links outcomes answered longer answer is =
         let known = known_operands m can_fold constants t op in
         let s = outcomes t u root op known answer w wu linked branch.0 branch.1 is in
@@ -95,12 +95,12 @@ module _ (m : Meaning) (can_fold can_fold_branch : Head → Bool) (constants : C
         }
 
   -- where memory was refused before anything was done
-  pub no_step : (t : Tree) (root op : ℕ) → IsTree t → IsWellLinked m t root → IsBranchInside can_fold_branch t root op → IsFoldStep m can_fold_branch t t root op
+  pub no_step : (t : Tree) (root op : ℕ) → IsTree t → IsWellLinked m t root → IsBranchInside can_fold_branch t root op → IsBranchFoldStep m can_fold_branch t t root op
   no_step t root op w linked branch = record { tree = w; change = change_refl m t root (inside_live-outer t w root op branch.0) linked; blocks = λ b. refl; others = λ k ne b. b }
 
 -- one answer after the other
 module _ (t u v : Tree) (w : IsTree t) (wu : IsTree u) (gone : (k : ℕ) → IsLive t k → head_of u k ≡ None → head_of v k ≡ None) where
-  pub told_then : (a b : IRStatus) → IsTold a t u → IsTold b u v → IsTold (changed_by_either a b) t v
+  pub told_then : (a b : IRStatus) → TellsErased a t u → TellsErased b u v → TellsErased (changed_by_either a b) t v
   told_then Unchanged Unchanged p q = same_trans t u v p q
   told_then Unchanged Changed p (k, live, none) = (k, (same_live t u w.joined wu.joined p k).1 live, none)
   told_then Changed Unchanged (k, live, none) q = (k, live, gone k live none)
@@ -133,7 +133,7 @@ drop_at (y ∷ ys) (suc i) x e =
 
 module _ (m : Meaning) (can_fold can_fold_branch : Head → Bool) (constants : Constants) (outcome : Outcome) (root : ℕ) (start : Tree) (w : IsTree start) where
   abbrev IsOn : List ℕ → ℕ → IRStatus → Tree → Type 0
-  IsOn branches i status now = IsFoldingOn m can_fold can_fold_branch constants outcome root start branches i status now
+  IsOn branches i status now = IsFoldingBranches m can_fold can_fold_branch constants outcome root start branches i status now
 
   pub folding_start : IsLive start root → IsWellLinked m start root → IsOn (branches_of can_fold_branch start root) 0 Unchanged start
   folding_start live linked = record {
@@ -141,9 +141,9 @@ module _ (m : Meaning) (can_fold can_fold_branch : Head → Bool) (constants : C
     change = change_refl m start root live linked;
     blocks = λ b. refl;
     waiting = λ k i.
-        let found = In-filter (λ z. passes can_fold_branch (head_of start z)) (contents start root) k i in
-        (contents-inside start w root k found.0, λ h e. sym (ap (passes can_fold_branch) e) ∙ found.1);
-    distinct = distinct-filter (λ z. passes can_fold_branch (head_of start z)) (contents start root) (distinct-contents start w root);
+        let found = In-filter (λ z. has_passing_head can_fold_branch (head_of start z)) (contents start root) k i in
+        (contents-inside start w root k found.0, λ h e. sym (ap (has_passing_head can_fold_branch) e) ∙ found.1);
+    distinct = distinct-filter (λ z. has_passing_head can_fold_branch (head_of start z)) (contents start root) (distinct-contents start w root);
     all = λ u rest done. done;
     some = λ u done. done;
     told = same_refl start;
@@ -157,7 +157,7 @@ module _ (m : Meaning) (can_fold can_fold_branch : Head → Bool) (constants : C
       apart : IsDistinct (op ∷ drop (i + 1) branches)
       apart = subst IsDistinct (drop_at branches i op at) on.distinct
 
-      pub folding_next : (next : Tree) (one : IRStatus) → outcome now next op (known_operands m can_fold constants now op) (Some one) → IsTold one now next → IsFoldStep m can_fold_branch now next root op → IsOn branches (i + 1) (changed_by_either status one) next
+      pub folding_next : (next : Tree) (one : IRStatus) → outcome now next op (known_operands m can_fold constants now op) (Some one) → TellsErased one now next → IsBranchFoldStep m can_fold_branch now next root op → IsOn branches (i + 1) (changed_by_either status one) next
       folding_next next one is told step = record {
         tree = step.tree;
         change = change_trans m start now next root on.change step.change;
@@ -173,14 +173,14 @@ module _ (m : Meaning) (can_fold can_fold_branch : Head → Bool) (constants : C
       folding_broken next (inl e) = on.some next (subst (λ z. FoldsSome m can_fold constants outcome (drop i branches) now z) (sym e) Stopped)
       folding_broken next (inr is) = on.some next (subst (λ l. FoldsSome m can_fold constants outcome l now next) (sym (drop_at branches i op at)) (Broken op is))
 
-      pub folding_change : (next : Tree) → IsFoldStep m can_fold_branch now next root op → IsPassChange m start next root
+      pub folding_change : (next : Tree) → IsBranchFoldStep m can_fold_branch now next root op → IsPassChange m start next root
       folding_change next step = change_trans m start now next root on.change step.change
 
     pub folding_end : drop i branches ≡ [] → FoldsAll m can_fold constants outcome branches start now status
     folding_end none = subst (FoldsAll m can_fold constants outcome branches start now) (either_unchanged status) (on.all now Unchanged (subst (λ l. FoldsAll m can_fold constants outcome l now now Unchanged) (sym none) NoMore))
 
 -- the answer is honest
-pub told_honestly : (t u : Tree) (status : IRStatus) → IsTold status t u → TellsChange (Some status) t u
+pub told_honestly : (t u : Tree) (status : IRStatus) → TellsErased status t u → TellsChange (Some status) t u
 told_honestly t u Unchanged told = told
 told_honestly t u Changed (k, live, none) = λ same. let y = some_of (head_of t k) live in not_none (sym none ∙ ap (λ z. z.head) (same.operations k) ∙ y.1)
 

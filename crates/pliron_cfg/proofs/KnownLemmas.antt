@@ -15,7 +15,7 @@ use Rattle.pliron_laws.specs.Answers.{ReadsShape}
 use Rattle.pliron_laws.proofs.Records.{operation_of, make_op, op_shows}
 use Rattle.pliron_theory.specs.Answered.{IsAnswered, AnsweredLaw}
 use Rattle.pliron_theory.specs.Refolded.{AreReadAs}
-use Rattle.pliron_cfg.specs.Folded.{passes, one_answer, answered_for, answered_if, known_of, known_operands}
+use Rattle.pliron_cfg.specs.Folded.{has_passing_head, one_answer, answered_for, answered_if, known_of, known_operands}
 
 -- one more of what a function makes of a list
 map_last : {A : Type 0} (f : ℕ → A) (xs : List ℕ) (x : ℕ) → map f (xs ++ x ∷ []) ≡ map f xs ++ f x ∷ []
@@ -57,7 +57,7 @@ module _ (m : Meaning) (can_fold : Head → Bool) (constants : Constants) (t : T
             answers = one_is _ c (ap (λ z. answered_for m constants t z i) (sym oe) ∙ said);
           }
 
-      by_head : (k i : ℕ) → slice_get (results_of t k) i ≡ Some v → (o : Option Head) → head_of t k ≡ o → answered_if (passes can_fold o) m constants t (op_at t k) i ≡ Some c → IsAnswered m can_fold constants t v c
+      by_head : (k i : ℕ) → slice_get (results_of t k) i ≡ Some v → (o : Option Head) → head_of t k ≡ o → answered_if (has_passing_head can_fold o) m constants t (op_at t k) i ≡ Some c → IsAnswered m can_fold constants t v c
       by_head k i made None at said = absurd (not_none said)
       by_head k i made (Some h) at said = by_test k i h at made (can_fold h) refl said
 
@@ -73,10 +73,10 @@ module _ (m : Meaning) (can_fold : Head → Bool) (constants : Constants) (t : T
       law t root v c w fit (known_answered v c (w.joined.operands op v (in_slice (operands_of t op) j v listed)) here)
 
   pub passed : (k : ℕ) (h : Head) → head_of t k ≡ Some h → IsTrue (can_fold h) → (i : ℕ) → known_of m can_fold constants t (Some (Result k i)) ≡ answered_for m constants t (op_at t k) i
-  passed k h at folds i = ap (λ z. answered_if (passes can_fold z) m constants t (op_at t k) i) at ∙ ap (λ b. answered_if b m constants t (op_at t k) i) folds
+  passed k h at folds i = ap (λ z. answered_if (has_passing_head can_fold z) m constants t (op_at t k) i) at ∙ ap (λ b. answered_if b m constants t (op_at t k) i) folds
 
   pub not_passed : (k : ℕ) (h : Head) → head_of t k ≡ Some h → can_fold h ≡ false → (i : ℕ) → known_of m can_fold constants t (Some (Result k i)) ≡ None
-  not_passed k h at folds i = ap (λ z. answered_if (passes can_fold z) m constants t (op_at t k) i) at ∙ ap (λ b. answered_if b m constants t (op_at t k) i) folds
+  not_passed k h at folds i = ap (λ z. answered_if (has_passing_head can_fold z) m constants t (op_at t k) i) at ∙ ap (λ b. answered_if b m constants t (op_at t k) i) folds
 
 -- what the dialect answers for a result where no operand is known
 module _ (m : Meaning) (constants : Constants) (t : Tree) (op i : ℕ) (answers known : List (Option AttrObj)) (live : IsLive t op) (none : known ≡ replicate (length (operands_of t op)) None) (reads : ReadsShape m (λ s. constants s known) t op answers) where

@@ -15,7 +15,7 @@ use Rattle.pliron_laws.specs.Linked.{EdgesLast}
 use Rattle.pliron_search.specs.Digraph.{IsPath}
 use Rattle.pliron_search.specs.Regions.{graph_of_region, IsLawfulRegion}
 use Rattle.pliron_search.specs.Internal.RegionLawful.{in_keys, keys_have, region_lawful, same_key}
-use Rattle.pliron_cfg.specs.Visited.{IsVisited, IsVisited.Starts, IsVisited.Nested, IsEntered, IsEnteredIf, IsReachedIn}
+use Rattle.pliron_cfg.specs.Visited.{IsVisited, IsVisited.Starts, IsVisited.Nested, IsLookedInto, IsLookedIntoIf, IsReachedIn}
 
 module _ (t : Tree) (w : IsTree t) (r : ℕ) (l : IsLawfulRegion t r) where
   path_stays : (u : ℕ) (ws : List ℕ) (v : ℕ) → Contains (layout_of t r) u → IsPath (graph_of_region t r) u ws v → Contains (layout_of t r) v
@@ -25,14 +25,14 @@ module _ (t : Tree) (w : IsTree t) (r : ℕ) (l : IsLawfulRegion t r) where
   pub reached_in : (b : ℕ) → IsReachedIn t r b → block_parent_of t b ≡ Some r
   reached_in b x = w.layouts.owned b r (in_keys (layout_of t r) b (path_stays x.0 x.2.0 b (keys_have (layout_of t r) x.0 (first_of-In x.0 (layout_of t r) x.1)) x.2.1))
 
-  entered_if : (ssa : Bool) (b : ℕ) → IsEnteredIf ssa t r b → block_parent_of t b ≡ Some r
+  entered_if : (ssa : Bool) (b : ℕ) → IsLookedIntoIf ssa t r b → block_parent_of t b ≡ Some r
   entered_if true b x = reached_in b x
   entered_if false b x = w.layouts.owned b r (first_of-In b (layout_of t r) x)
 
-  pub entered_in : (b : ℕ) → IsEntered t r b → block_parent_of t b ≡ Some r
+  pub entered_in : (b : ℕ) → IsLookedInto t r b → block_parent_of t b ≡ Some r
   entered_in b x = entered_if (has_ssa t r) b x
 
-  pub entered_stands : (b : ℕ) → IsEntered t r b → IsBlock t b
+  pub entered_stands : (b : ℕ) → IsLookedInto t r b → IsBlock t b
   entered_stands b x = subst IsSome (sym (entered_in b x)) refl
 
 -- edges stand last in what is held

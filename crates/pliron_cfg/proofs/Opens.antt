@@ -13,7 +13,7 @@ use Rattle.pliron_laws.specs.Linked.{EdgesLast, IsWellLinked}
 use Rattle.pliron_theory.specs.Change.{IsPassChange}
 use Rattle.pliron_theory.specs.Splicing.{IsSpliced}
 use Rattle.pliron_theory.proofs.ChangeLemmas.{linked_inside}
-use Rattle.pliron_cfg.specs.Visited.{Start, IsReachedIn, IsVisited, IsSearched, IsUnreachable}
+use Rattle.pliron_cfg.specs.Visited.{Start, IsReachedIn, IsVisited, IsVisitedSsaRegion, IsUnreachable}
 use Rattle.pliron_block_laws.specs.Joining.{JoinsWell}
 use Rattle.pliron_block_laws.specs.Pairs.{IsMergeable, forwarded_uses, merged}
 use Rattle.pliron_block_laws.proofs.JoinedLinks.{joined_inside}
@@ -27,7 +27,7 @@ use Rattle.pliron_cfg.proofs.VisitsKept.{visited_same, visited_forth, visited_ba
 -- a block that the entry of a searched region reaches
 pub record IsOpen (start : Start) (t : Tree) (c : ℕ) : Type 0 where
   pub region : ℕ
-  pub searched : IsSearched start t region
+  pub searched : IsVisitedSsaRegion start t region
   pub in_region : block_parent_of t c ≡ Some region
   pub reached : IsReachedIn t region c
 

@@ -13,7 +13,7 @@ use Rattle.pliron_laws.specs.Paths.{Path, Leads}
 use Rattle.pliron_search.specs.Digraph.{Reaches, IsPath}
 use Rattle.pliron_search.specs.Regions.{graph_of_region}
 use Rattle.pliron_search.specs.Internal.RegionLawful.{in_keys, keys_have}
-use Rattle.pliron_cfg.specs.Visited.{IsReachedIn, IsEnteredIf, IsEntered, IsVisited, IsVisited.Starts, IsVisited.Nested}
+use Rattle.pliron_cfg.specs.Visited.{IsReachedIn, IsLookedIntoIf, IsLookedInto, IsVisited, IsVisited.Starts, IsVisited.Nested}
 use Rattle.pliron_block_laws.specs.Reaching.{LeadsTo}
 
 -- the region stands, and what holds it is the root or inside it
@@ -59,10 +59,10 @@ module _ (t : Tree) (w : IsTree t) (root : ℕ) (edges : EdgesLast t root) where
   pub reached_in : (r b : ℕ) → IsHeld t root r → IsReachedIn t r b → block_parent_of t b ≡ Some r
   reached_in r b h x = path_in r h x.0 b x.2.0 (entry_in r x.0 x.1) x.2.1
 
-  pub entered_in : (r b : ℕ) → IsHeld t root r → IsEntered t r b → block_parent_of t b ≡ Some r
+  pub entered_in : (r b : ℕ) → IsHeld t root r → IsLookedInto t r b → block_parent_of t b ≡ Some r
   entered_in r b h e = go (has_ssa t r) e
     where
-      go : (z : Bool) → IsEnteredIf z t r b → block_parent_of t b ≡ Some r
+      go : (z : Bool) → IsLookedIntoIf z t r b → block_parent_of t b ≡ Some r
       go true x = reached_in r b h x
       go false x = entry_in r b x
 

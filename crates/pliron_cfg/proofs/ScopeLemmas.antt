@@ -15,7 +15,7 @@ use Rattle.pliron_cfg.specs.Visited.{IsVisited, IsVisited.Starts, IsVisited.Nest
 use Rattle.pliron_cfg.proofs.Lawful.{edges_held, visited_lawful, entered_in}
 use Rattle.pliron_cfg.specs.declared.removal.scope.Scope.{Scope}
 use Rattle.pliron_cfg.specs.declared.removal.scope.Scope.TheVariants.{Operation, Block, Region}
-use Rattle.pliron_cfg.specs.Internal.Scopes.{start_of, Stands, IsHolder}
+use Rattle.pliron_cfg.specs.Internal.Scopes.{start_of, ScopeStands, IsHolder}
 use Rattle.pliron_cfg.proofs.CutOffLemmas.{cut_in}
 
 -- the regions of an operation are those that it holds
@@ -42,7 +42,7 @@ top_within t (Operation op) root top h x = inl (x ∙ h)
 top_within t (Block block) root top h x = inr (Directly (holder_by t top block root x h))
 top_within t (Region region) root top h x = inl (some_is (sym x ∙ h))
 
-pub top_held : (t : Tree) → IsTree t → (s : Scope) (r : ℕ) → Stands t s → start_of s t r → (h : ℕ) × IsTop t s h × (region_parent_of t r ≡ Some h) × IsRegion t r
+pub top_held : (t : Tree) → IsTree t → (s : Scope) (r : ℕ) → ScopeStands t s → start_of s t r → (h : ℕ) × IsTop t s h × (region_parent_of t r ≡ Some h) × IsRegion t r
 top_held t w (Operation op) r is i = (op, refl, held_by t w op r i, stands_by t w op r i)
 top_held t w (Block block) r is (k, at, i) = (k, at, held_by t w k r i, stands_by t w k r i)
 top_held t w (Region region) r is e = let h = region_has t region is in (h.0, h.1, ap (region_parent_of t) e ∙ h.1, subst (IsRegion t) (sym e) is)
@@ -57,7 +57,7 @@ tops_apart t w (Block block) root a b h x y i =
     not_itself {t = t} w.joined.rooted (within_inside inside (subst (IsWithin t b) same up.2))
 tops_apart t w (Region region) root a b h x y i = not_itself {t = t} w.joined.rooted (subst (λ z. IsInside t z a) (some_is (sym y ∙ x)) i)
 
-module _ (t : Tree) (w : IsTree t) (s : Scope) (root : ℕ) (stands : Stands t s) (holder : IsHolder t s root) (edges : EdgesLast t root) where
+module _ (t : Tree) (w : IsTree t) (s : Scope) (root : ℕ) (stands : ScopeStands t s) (holder : IsHolder t s root) (edges : EdgesLast t root) where
   pub start_lawful : (r : ℕ) → start_of s t r → IsLawfulRegion t r
   start_lawful r x =
       let top = top_held t w s r stands x in
@@ -104,7 +104,7 @@ module _ (t : Tree) (w : IsTree t) (s : Scope) (root : ℕ) (stands : Stands t s
       tops_apart t w s root k z.0 holder x z.1 (in_block r b k v p y l z.0 z.2)
 
 -- the block itself is none of a visited region
-block_apart : (t : Tree) (w : IsTree t) (block root : ℕ) (stands : Stands t (Block block)) (holder : IsHolder t (Block block) root) → EdgesLast t root → (r : ℕ) → IsVisited t (start_of (Block block) t) r → block_parent_of t block ≡ Some r → ⊥
+block_apart : (t : Tree) (w : IsTree t) (block root : ℕ) (stands : ScopeStands t (Block block)) (holder : IsHolder t (Block block) root) → EdgesLast t root → (r : ℕ) → IsVisited t (start_of (Block block) t) r → block_parent_of t block ≡ Some r → ⊥
 block_apart t w block root stands holder edges r v p =
     let held : region_parent_of t r ≡ Some root = sym (block_holder_from t block r p) ∙ holder in
     let x = below t w (Block block) root stands holder edges r v root held in
@@ -118,7 +118,7 @@ module _ (t v : Tree) (w : IsTree t) (wv : IsTree v) (root r : ℕ) (bs : List �
   stood : (k : ℕ) → IsLive v k → cut_op t bs k ≡ false
   stood k live = false_from_ne_true _ (λ e. true≢false (sym live ∙ ap is_some (cut.gone k e)))
 
-  module _ (s : Scope) (stands : Stands t s) (holder : IsHolder t s root) (edges : EdgesLast t root) (visited : IsVisited t (start_of s t) r) where
+  module _ (s : Scope) (stands : ScopeStands t s) (holder : IsHolder t s root) (edges : EdgesLast t root) (visited : IsVisited t (start_of s t) r) where
     pub root_left : cut_op t bs root ≡ false
     root_left = left_of root (λ b i y. root_apart t w s root stands holder edges r b visited (own b i) y)
 
@@ -132,32 +132,32 @@ module _ (t v : Tree) (w : IsTree t) (wv : IsTree v) (root r : ℕ) (bs : List �
     listed_still : (q : ℕ) → IsRegion t q → region_parent_of t q ≡ Some root → In q (regions_of v root)
     listed_still q is e = subst (λ z. In q z.regions) (sym row) (listed_by t w root q is e)
 
-  block_left : (block : ℕ) (stands : Stands t (Block block)) (holder : IsHolder t (Block block) root) → EdgesLast t root → IsVisited t (start_of (Block block) t) r → cut_block t bs block ≡ false
+  block_left : (block : ℕ) (stands : ScopeStands t (Block block)) (holder : IsHolder t (Block block) root) → EdgesLast t root → IsVisited t (start_of (Block block) t) r → cut_block t bs block ≡ false
   block_left block stands holder edges visited = false_from_ne_true _ (λ e. ⊎_elim
       (λ i. block_apart t w block root stands holder edges r visited (own block i))
       (λ q. true≢false (sym q.2 ∙ ap (cut_op t bs) (some_is (sym q.1 ∙ holder)) ∙ root_left (Block block) stands holder edges visited))
       (block_cases t bs block e))
 
-  pub start_to : (s : Scope) (stands : Stands t s) (holder : IsHolder t s root) → EdgesLast t root → IsVisited t (start_of s t) r → (q : ℕ) → start_of s t q → start_of s v q
+  pub start_to : (s : Scope) (stands : ScopeStands t s) (holder : IsHolder t s root) → EdgesLast t root → IsVisited t (start_of s t) r → (q : ℕ) → start_of s t q → start_of s v q
   start_to (Operation op) stands holder edges visited q i = subst (λ z. In q z.regions) (sym (cut.rows op (top_left (Operation op) stands holder edges visited op refl))) i
   start_to (Block block) stands holder edges visited q (k, at, i) =
       let left = top_left (Block block) stands holder edges visited k at in
       (k, cut.parents k left ∙ at, subst (λ z. In q z.regions) (sym (cut.rows k left)) i)
   start_to (Region region) stands holder edges visited q e = e
 
-  pub start_from : (s : Scope) (stands : Stands t s) (holder : IsHolder t s root) → EdgesLast t root → IsVisited t (start_of s t) r → (q : ℕ) → start_of s v q → start_of s t q
+  pub start_from : (s : Scope) (stands : ScopeStands t s) (holder : IsHolder t s root) → EdgesLast t root → IsVisited t (start_of s t) r → (q : ℕ) → start_of s v q → start_of s t q
   start_from (Operation op) stands holder edges visited q i = subst (λ z. In q z.regions) (cut.rows op (top_left (Operation op) stands holder edges visited op refl)) i
   start_from (Block block) stands holder edges visited q (k, at, i) =
       let left = stood k (wv.joined.standing k block at).0 in
       (k, sym (cut.parents k left) ∙ at, subst (λ z. In q z.regions) (cut.rows k left) i)
   start_from (Region region) stands holder edges visited q e = e
 
-  pub stands_still : (s : Scope) (stands : Stands t s) (holder : IsHolder t s root) → EdgesLast t root → IsVisited t (start_of s t) r → Stands v s
+  pub stands_still : (s : Scope) (stands : ScopeStands t s) (holder : IsHolder t s root) → EdgesLast t root → IsVisited t (start_of s t) r → ScopeStands v s
   stands_still (Operation op) stands holder edges visited = subst (λ z. is_some z.head ≡ true) (sym (cut.rows op (top_left (Operation op) stands holder edges visited op refl))) stands
   stands_still (Block block) stands holder edges visited = subst IsSome (sym (cut.block_parents block (block_left block stands holder edges visited))) stands
   stands_still (Region region) stands holder edges visited = stands_by v wv root region (listed_still (root_row (Region region) stands holder edges visited) region stands holder)
 
-  pub holder_still : (s : Scope) (stands : Stands t s) (holder : IsHolder t s root) → EdgesLast t root → IsVisited t (start_of s t) r → IsHolder v s root
+  pub holder_still : (s : Scope) (stands : ScopeStands t s) (holder : IsHolder t s root) → EdgesLast t root → IsVisited t (start_of s t) r → IsHolder v s root
   holder_still (Operation op) stands holder edges visited = holder
   holder_still (Block block) stands holder edges visited =
       let x = block_steps t block root holder in
@@ -171,7 +171,7 @@ one_holder t (Operation op) a b x y = sym x ∙ y
 one_holder t (Block block) a b x y = some_is (sym x ∙ y)
 one_holder t (Region region) a b x y = some_is (sym x ∙ y)
 
-pub holder_is : (t : Tree) → IsTree t → (s : Scope) → Stands t s → (root : ℕ) × IsHolder t s root × IsLive t root
+pub holder_is : (t : Tree) → IsTree t → (s : Scope) → ScopeStands t s → (root : ℕ) × IsHolder t s root × IsLive t root
 holder_is t w (Operation op) is = (op, refl, is)
 holder_is t w (Block block) is = let x = block_held t block w.joined is in (x.1, x.5, x.6)
 holder_is t w (Region region) is = let x = region_has t region is in (x.0, x.1, region_parent_live t region x.0 w.joined is x.1)

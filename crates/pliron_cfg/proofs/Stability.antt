@@ -20,7 +20,7 @@ use Rattle.std.proofs.Common.{if◌then◌else◌}
 use Rattle.pliron_core.specs.Erased.{is_met_above}
 use Rattle.pliron_block_laws.specs.Cutting.{stands_in_one, cut_op, cut_block, AreCut}
 use Rattle.pliron_block_laws.proofs.CutBlocks.{block_cases, listed}
-use Rattle.pliron_cfg.specs.Visited.{IsVisited, IsVisited.Starts, IsVisited.Nested, IsReachedIn, IsEntered, IsEnteredIf, IsCutOff}
+use Rattle.pliron_cfg.specs.Visited.{IsVisited, IsVisited.Starts, IsVisited.Nested, IsReachedIn, IsLookedInto, IsLookedIntoIf, IsCutOff}
 use Rattle.pliron_cfg.specs.Visits.{AreVisits}
 use Rattle.pliron_cfg.proofs.Lawful.{reached_in, entered_in, visited_lawful}
 use Rattle.pliron_cfg.proofs.CutOffLemmas.{reached_on, cut_in}
@@ -68,7 +68,7 @@ module _ (t v : Tree) (w : IsTree t) (wv : IsTree v) (r0 : ℕ) (bs : List ℕ) 
       let same : r ≡ r0 = some_is (sym (reached_in t w r l b x) ∙ own b i) in
       ((exact b).0 i).1 (subst (λ z. IsReachedIn t z b) same x)
 
-  entered_left : (r b : ℕ) (z : Bool) → IsLawfulRegion t r → IsEnteredIf z t r b → In b bs → ⊥
+  entered_left : (r b : ℕ) (z : Bool) → IsLawfulRegion t r → IsLookedIntoIf z t r b → In b bs → ⊥
   entered_left r b true l x i = reached_left r b l x i
   entered_left r b false l x i = reached_left r b l (b, x, ([], refl)) i
 
@@ -167,19 +167,19 @@ module _ (t v : Tree) (w : IsTree t) (wv : IsTree v) (r0 : ℕ) (bs : List ℕ) 
     pub reached_was : (c : ℕ) → IsReachedIn v r c → IsReachedIn t r c
     reached_was c y = let f = first_was y.0 y.1 in (y.0, f, (y.2.0, back y.2.0 y.0 c (y.0, f, ([], refl)) y.2.1))
 
-    entered_still_if : (z : Bool) (c : ℕ) → IsEnteredIf z t r c → IsEnteredIf z v r c
+    entered_still_if : (z : Bool) (c : ℕ) → IsLookedIntoIf z t r c → IsLookedIntoIf z v r c
     entered_still_if true c y = reached_still c y
     entered_still_if false c y = first_kept c y
 
-    entered_was_if : (z : Bool) (c : ℕ) → IsEnteredIf z v r c → IsEnteredIf z t r c
+    entered_was_if : (z : Bool) (c : ℕ) → IsLookedIntoIf z v r c → IsLookedIntoIf z t r c
     entered_was_if true c y = reached_was c y
     entered_was_if false c y = first_was c y
 
-    entered_still : (c : ℕ) → IsEntered t r c → IsEntered v r c
-    entered_still c y = subst (λ z. IsEnteredIf z v r c) (sym ssa_same) (entered_still_if (has_ssa t r) c y)
+    entered_still : (c : ℕ) → IsLookedInto t r c → IsLookedInto v r c
+    entered_still c y = subst (λ z. IsLookedIntoIf z v r c) (sym ssa_same) (entered_still_if (has_ssa t r) c y)
 
-    entered_was : (c : ℕ) → IsEntered v r c → IsEntered t r c
-    entered_was c y = entered_was_if (has_ssa t r) c (subst (λ z. IsEnteredIf z v r c) ssa_same y)
+    entered_was : (c : ℕ) → IsLookedInto v r c → IsLookedInto t r c
+    entered_was c y = entered_was_if (has_ssa t r) c (subst (λ z. IsLookedIntoIf z v r c) ssa_same y)
 
     -- a block of the region is cut off after exactly if it was and is not among them
     pub cut_off_was : (b : ℕ) → IsCutOff v r b → IsCutOff t r b

@@ -14,13 +14,13 @@ use Rattle.pliron_core.proofs.HoldingLemmas.{some_is, not_none, slot_is, region_
 use Rattle.pliron_laws.specs.Linked.{EdgesLast}
 use Rattle.pliron_laws.specs.Paths.{Path}
 use Rattle.pliron_theory.specs.Splicing.{IsSpliced}
-use Rattle.pliron_cfg.specs.Visited.{IsReachedIn, IsEnteredIf, IsEntered, IsVisited, IsVisited.Starts, IsVisited.Nested}
+use Rattle.pliron_cfg.specs.Visited.{IsReachedIn, IsLookedIntoIf, IsLookedInto, IsVisited, IsVisited.Starts, IsVisited.Nested}
 use Rattle.pliron_block_laws.specs.Reaching.{LeadsTo, LeadsAlike}
 use Rattle.pliron_block_laws.proofs.JoinedReach.{reaching}
 use Rattle.pliron_cfg.proofs.RegionReach.{IsHeld, reaches_leads, reached_in, entry_in, visited_held, reaches_more, leads_reaches, within_still}
 
 -- operands are nothing to visits
-entered_same : (t : Tree) (operands : List (List ℕ)) (z : Bool) (r b : ℕ) → IsEnteredIf z t r b → IsEnteredIf z (record t { operands = operands }) r b
+entered_same : (t : Tree) (operands : List (List ℕ)) (z : Bool) (r b : ℕ) → IsLookedIntoIf z t r b → IsLookedIntoIf z (record t { operands = operands }) r b
 entered_same t operands true r b x = x
 entered_same t operands false r b x = x
 
@@ -122,17 +122,17 @@ module _ (u v : Tree) (w : IsTree u) (wv : IsTree v) (root holder a b jump : ℕ
       go [] e = absurd (s.no_entry r (x.1 ∙ ap Some e))
       go (c ∷ ps) p = (ps, subst (λ z. Path u x.0 z ps) (to_b c p.0.successor) p.1)
 
-  entered_forth : (r c : ℕ) → IsHeld u root r → c ≢ b → IsEntered u r c → IsEntered v r c
-  entered_forth r c h ne e = subst (λ z. IsEnteredIf z v r c) (sym (ssa_same r h)) (go (has_ssa u r) e)
+  entered_forth : (r c : ℕ) → IsHeld u root r → c ≢ b → IsLookedInto u r c → IsLookedInto v r c
+  entered_forth r c h ne e = subst (λ z. IsLookedIntoIf z v r c) (sym (ssa_same r h)) (go (has_ssa u r) e)
     where
-      go : (z : Bool) → IsEnteredIf z u r c → IsEnteredIf z v r c
+      go : (z : Bool) → IsLookedIntoIf z u r c → IsLookedIntoIf z v r c
       go true x = reached_forth r c h ne x
       go false x = first_kept r ∙ x
 
-  entered_first : (r : ℕ) → IsHeld u root r → IsEntered u r b → IsEntered v r a
-  entered_first r h e = subst (λ z. IsEnteredIf z v r a) (sym (ssa_same r h)) (go (has_ssa u r) e)
+  entered_first : (r : ℕ) → IsHeld u root r → IsLookedInto u r b → IsLookedInto v r a
+  entered_first r h e = subst (λ z. IsLookedIntoIf z v r a) (sym (ssa_same r h)) (go (has_ssa u r) e)
     where
-      go : (z : Bool) → IsEnteredIf z u r b → IsEnteredIf z v r a
+      go : (z : Bool) → IsLookedIntoIf z u r b → IsLookedIntoIf z v r a
       go true x = reached_forth r a h s.apart (reached_before r h x)
       go false x = absurd (s.no_entry r x)
 
@@ -144,23 +144,23 @@ module _ (u v : Tree) (w : IsTree u) (wv : IsTree v) (root holder a b jump : ℕ
       let rest = visited_forth S R starts more outer x in
       let i' = subst (In r) (sym (regions_same k)) i in
       ⊎_elim
-      (λ f. Nested outer a k rest (entered_first outer h (subst (IsEntered u outer) f e)) (s.moved k (at ∙ ap Some f)) i')
+      (λ f. Nested outer a k rest (entered_first outer h (subst (IsLookedInto u outer) f e)) (s.moved k (at ∙ ap Some f)) i')
       (λ nb. Nested outer c k rest (entered_forth outer c h nb e) (s.parents k ne (λ q. nb (some_is (sym at ∙ q))) ∙ at) i')
       (cases_eq c b)
 
-  entered_back : (r c : ℕ) → IsHeld u root r → IsEntered v r c → IsEntered u r c
-  entered_back r c h e = go (has_ssa u r) (subst (λ z. IsEnteredIf z v r c) (ssa_same r h) e)
+  entered_back : (r c : ℕ) → IsHeld u root r → IsLookedInto v r c → IsLookedInto u r c
+  entered_back r c h e = go (has_ssa u r) (subst (λ z. IsLookedIntoIf z v r c) (ssa_same r h) e)
     where
-      go : (z : Bool) → IsEnteredIf z v r c → IsEnteredIf z u r c
+      go : (z : Bool) → IsLookedIntoIf z v r c → IsLookedIntoIf z u r c
       go true x = reached_back r c h x
       go false x = sym (first_kept r) ∙ x
 
   -- where the first block's region has SSA dominance
   module _ (region : ℕ) (in_region : block_parent_of u a ≡ Some region) (ssa : has_ssa u region ≡ true) where
-    entered_second : (r : ℕ) → IsHeld u root r → IsEntered v r a → IsEntered u r b
+    entered_second : (r : ℕ) → IsHeld u root r → IsLookedInto v r a → IsLookedInto u r b
     entered_second r h e = go (has_ssa u r) refl (entered_back r a h e)
       where
-        go : (z : Bool) → has_ssa u r ≡ z → IsEnteredIf z u r a → IsEnteredIf z u r b
+        go : (z : Bool) → has_ssa u r ≡ z → IsLookedIntoIf z u r a → IsLookedIntoIf z u r b
         go true q x = (x.0, x.1, reaches_more u r x.0 a b x.2 a_to_b)
         go false q x = absurd (false≢true (sym q ∙ ap (has_ssa u) (some_is (sym (entry_in u w root edges r a x) ∙ in_region)) ∙ ssa))
 
@@ -176,7 +176,7 @@ module _ (u v : Tree) (w : IsTree u) (wv : IsTree v) (root holder a b jump : ℕ
         go : IsVisited u S outer → IsHeld u root outer → In r (regions_of u k) → k ≢ jump → (o : Option ℕ) → parent_of u k ≡ o → IsVisited u S r
         go rest h i' ne None f = absurd (not_none (sym (s.parents k ne (λ q. not_none (sym f ∙ q)) ∙ f) ∙ at))
         go rest h i' ne (Some d) f = ⊎_elim
-            (λ z. Nested outer b k rest (entered_second outer h (subst (IsEntered v outer) (some_is (sym at ∙ s.moved k (f ∙ ap Some z))) e)) (f ∙ ap Some z) i')
+            (λ z. Nested outer b k rest (entered_second outer h (subst (IsLookedInto v outer) (some_is (sym at ∙ s.moved k (f ∙ ap Some z))) e)) (f ∙ ap Some z) i')
             (λ nb.
             let same : d ≡ c = some_is (sym (s.parents k ne (λ q. nb (some_is (sym f ∙ q))) ∙ f) ∙ at) in
             Nested outer c k rest (entered_back outer c h e) (f ∙ ap Some same) i')

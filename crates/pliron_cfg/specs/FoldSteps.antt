@@ -15,23 +15,23 @@ use Rattle.pliron_theory.specs.Change.{IsPassChange}
 use Rattle.pliron_cfg.specs.Folded.{FoldsAll, FoldsSome}
 
 -- `Unchanged` says that the tree is the same but for spent keys, `Changed` that an operation went
-abbrev pub IsTold : IRStatus → Tree → Tree → Type 0
-IsTold Unchanged t u = IsSameTree t u
-IsTold Changed t u = (k : ℕ) × IsLive t k × (head_of u k ≡ None)
+abbrev pub TellsErased : IRStatus → Tree → Tree → Type 0
+TellsErased Unchanged t u = IsSameTree t u
+TellsErased Changed t u = (k : ℕ) × IsLive t k × (head_of u k ≡ None)
 
 -- the operation is inside the root and folds as a branch
 abbrev pub IsBranchInside : (Head → Bool) → Tree → (root k : ℕ) → Type 0
 IsBranchInside can_fold_branch t root k = IsInside t root k × HeadPasses can_fold_branch t k
 
 -- what one fold, or a part of it, does: a pass would do no more, blocks stay, and other branches that fold
-pub record IsFoldStep (m : Meaning) (can_fold_branch : Head → Bool) (t u : Tree) (root op : ℕ) : Type 0 where
+pub record IsBranchFoldStep (m : Meaning) (can_fold_branch : Head → Bool) (t u : Tree) (root op : ℕ) : Type 0 where
   pub tree : IsTree u
   pub change : IsPassChange m t u root
   pub blocks : (b : ℕ) → block_parent_of u b ≡ block_parent_of t b
   pub others : (k : ℕ) → k ≢ op → IsBranchInside can_fold_branch t root k → IsBranchInside can_fold_branch u root k
 
 -- the branches before index i are folded, and the others still stand: what folds these from here folds all from the start
-pub record IsFoldingOn (m : Meaning) (can_fold can_fold_branch : Head → Bool) (constants : Constants) (outcome : Outcome) (root : ℕ) (start : Tree) (branches : List ℕ) (i : ℕ) (status : IRStatus) (now : Tree) : Type 0 where
+pub record IsFoldingBranches (m : Meaning) (can_fold can_fold_branch : Head → Bool) (constants : Constants) (outcome : Outcome) (root : ℕ) (start : Tree) (branches : List ℕ) (i : ℕ) (status : IRStatus) (now : Tree) : Type 0 where
   pub tree : IsTree now
   pub change : IsPassChange m start now root
   pub blocks : (b : ℕ) → block_parent_of now b ≡ block_parent_of start b
@@ -39,4 +39,4 @@ pub record IsFoldingOn (m : Meaning) (can_fold can_fold_branch : Head → Bool) 
   pub distinct : IsDistinct (drop i branches)
   pub all : (u : Tree) (rest : IRStatus) → FoldsAll m can_fold constants outcome (drop i branches) now u rest → FoldsAll m can_fold constants outcome branches start u (changed_by_either status rest)
   pub some : (u : Tree) → FoldsSome m can_fold constants outcome (drop i branches) now u → FoldsSome m can_fold constants outcome branches start u
-  pub told : IsTold status start now
+  pub told : TellsErased status start now

@@ -1,4 +1,5 @@
 -- Trees in which branches were folded.
+pub use Rattle.pliron_laws.specs.Answers.{has_passing_head}
 use Rattle.std.specs.Prelude.{ℕ, Bool, true, false, List, [], ◌∷◌, Option, Some, None, filter, map, replicate, slice_get, length}
 use Rattle.pliron_core.specs.declared.attrs.AttrObj.{AttrObj}
 use Rattle.pliron_core.specs.declared.attrs.IRStatus.{IRStatus}
@@ -13,18 +14,13 @@ use Rattle.pliron_laws.specs.Tree.{Operation, op_at, shape_of}
 use Rattle.pliron_laws.specs.Folding.{Constants}
 use Rattle.pliron_laws.specs.InPlace.{Outcome}
 
--- the head, where there is one, passes the test
-abbrev pub passes : (Head → Bool) → Option Head → Bool
-passes test None = false
-passes test (Some h) = test h
-
 -- the operations inside the root that fold as branches, in pre-order
 abbrev pub branches_of : (Head → Bool) → Tree → ℕ → List ℕ
-branches_of can_fold_branch t root = filter (λ k. passes can_fold_branch (head_of t k)) (contents t root)
+branches_of can_fold_branch t root = filter (λ k. has_passing_head can_fold_branch (head_of t k)) (contents t root)
 
 -- the operation alone, where it folds as a branch
 abbrev pub branch_at : (Head → Bool) → Tree → ℕ → List ℕ
-branch_at can_fold_branch t op = filter (λ k. passes can_fold_branch (head_of t k)) (op ∷ [])
+branch_at can_fold_branch t op = filter (λ k. has_passing_head can_fold_branch (head_of t k)) (op ∷ [])
 
 -- what is answered for one result, where there is an answer for it
 abbrev pub one_answer : Option (Option AttrObj) → Option AttrObj
@@ -44,7 +40,7 @@ answered_if true m constants t o i = answered_for m constants t o i
 abbrev pub known_of : Meaning → (Head → Bool) → Constants → Tree → Option Def → Option AttrObj
 known_of m can_fold constants t None = None
 known_of m can_fold constants t (Some (Argument block i)) = None
-known_of m can_fold constants t (Some (Result k i)) = answered_if (passes can_fold (head_of t k)) m constants t (op_at t k) i
+known_of m can_fold constants t (Some (Result k i)) = answered_if (has_passing_head can_fold (head_of t k)) m constants t (op_at t k) i
 
 -- the constants that are known of an operation's operands
 abbrev pub known_operands : Meaning → (Head → Bool) → Constants → Tree → ℕ → List (Option AttrObj)

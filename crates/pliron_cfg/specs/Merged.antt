@@ -5,12 +5,12 @@ use Rattle.pliron_core.specs.declared.attrs.IRStatus.TheVariants.{Changed, Uncha
 use Rattle.pliron_core.specs.Tree.{Tree, IsLive, head_of, arguments_of, block_parent_of}
 use Rattle.pliron_laws.specs.Datum.{Meaning}
 use Rattle.pliron_block_laws.specs.Pairs.{IsMergeable, forwarded_uses, merged}
-use Rattle.pliron_cfg.specs.Visited.{Start, IsSearched, IsReachedIn}
+use Rattle.pliron_cfg.specs.Visited.{Start, IsVisitedSsaRegion, IsReachedIn}
 
 -- a mergeable pair of a searched region, whose first block the region's entry reaches
 pub record IsDue (start : Start) (m : Meaning) (t : Tree) (a b jump : ℕ) (values : List ℕ) : Type 0 where
   pub region : ℕ
-  pub searched : IsSearched start t region
+  pub searched : IsVisitedSsaRegion start t region
   pub in_region : block_parent_of t a ≡ Some region
   pub reached : IsReachedIn t region a
   pub pair : IsMergeable m t a b jump values

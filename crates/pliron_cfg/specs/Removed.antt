@@ -6,7 +6,7 @@ use Rattle.pliron_laws.specs.declared.fault.OptError.{OptError}
 use Rattle.pliron_laws.specs.declared.fault.OptError.TheVariants.{Memory, LiveUse}
 use Rattle.pliron_core.specs.Tree.{Tree, In, row_of, head_of, operands_of, successors_of, parent_of, body_of, arguments_of, block_parent_of, layout_of, definition_of}
 use Rattle.pliron_core.specs.Erased.{StandsIn, IsBlockWithin, IsMadeInBlock}
-use Rattle.pliron_cfg.specs.Visited.{Start, IsSearched, IsCutOff, IsUnreachable}
+use Rattle.pliron_cfg.specs.Visited.{Start, IsVisitedSsaRegion, IsCutOff, IsUnreachable}
 
 -- the operation, the block goes with one of these blocks
 abbrev pub GoesWith : Tree → (ℕ → Type 0) → ℕ → Type 0
@@ -42,7 +42,7 @@ pub record HasLiveUse (t : Tree) (r : ℕ) : Type 0 where
 -- all unreachable blocks of some searched regions are gone, region by region
 pub data RemovesSome (start : Start) (t : Tree) : Tree → Type 0 where
   Nothing : RemovesSome start t t
-  Then : {u t' : Tree} (r b : ℕ) → RemovesSome start t u → IsSearched start u r → IsCutOff u r b → IsWithout u t' (IsCutOff u r) → RemovesSome start t t'
+  Then : {u t' : Tree} (r b : ℕ) → RemovesSome start t u → IsVisitedSsaRegion start u r → IsCutOff u r b → IsWithout u t' (IsCutOff u r) → RemovesSome start t t'
 
 -- exactly the unreachable blocks of the searched regions are gone, with what stands in them, and nothing else
 -- changed; they went region by region, and none is left; the answer says whether there were any
@@ -53,4 +53,4 @@ RemovesAll start t t' Unchanged = ((b : ℕ) → IsUnreachable start t b → ⊥
 -- why a removal gave up, and what stands then: a first part is done, and where values are in use that is so in
 -- a region that was due
 abbrev pub RemovalFails : Start → (t t' : Tree) → OptError → Type 0
-RemovalFails start t t' e = RemovesSome start t t' × ((e ≡ Memory) ⊎ ((e ≡ LiveUse) × ((r : ℕ) × IsSearched start t' r × HasLiveUse t' r)))
+RemovalFails start t t' e = RemovesSome start t t' × ((e ≡ Memory) ⊎ ((e ≡ LiveUse) × ((r : ℕ) × IsVisitedSsaRegion start t' r × HasLiveUse t' r)))

@@ -9,19 +9,19 @@ use Rattle.pliron_search.specs.Regions.{graph_of_region}
 abbrev pub IsReachedIn : Tree → (r b : ℕ) → Type 0
 IsReachedIn t r b = (entry : ℕ) × (first_of (layout_of t r) None ≡ Some entry) × Reaches (graph_of_region t r) entry b
 
-abbrev pub IsEnteredIf : Bool → Tree → (r b : ℕ) → Type 0
-IsEnteredIf true t r b = IsReachedIn t r b
-IsEnteredIf false t r b = first_of (layout_of t r) None ≡ Some b
+abbrev pub IsLookedIntoIf : Bool → Tree → (r b : ℕ) → Type 0
+IsLookedIntoIf true t r b = IsReachedIn t r b
+IsLookedIntoIf false t r b = first_of (layout_of t r) None ≡ Some b
 
 -- what looks at the region looks into the operations of this block: of each that the entry reaches, or
 -- of the head alone where the region has no SSA dominance
-abbrev pub IsEntered : Tree → (r b : ℕ) → Type 0
-IsEntered t r b = IsEnteredIf (has_ssa t r) t r b
+abbrev pub IsLookedInto : Tree → (r b : ℕ) → Type 0
+IsLookedInto t r b = IsLookedIntoIf (has_ssa t r) t r b
 
 -- the regions that a call looks at, from those on where it starts
 pub data IsVisited (t : Tree) (Start : ℕ → Type 0) : ℕ → Type 0 where
   Starts : {r : ℕ} → Start r → IsVisited t Start r
-  Nested : {r : ℕ} (outer b k : ℕ) → IsVisited t Start outer → IsEntered t outer b → parent_of t k ≡ Some b → In r (regions_of t k) → IsVisited t Start r
+  Nested : {r : ℕ} (outer b k : ℕ) → IsVisited t Start outer → IsLookedInto t outer b → parent_of t k ≡ Some b → In r (regions_of t k) → IsVisited t Start r
 
 -- where a call on an operation starts, one on a block, one on a region
 abbrev pub OfOperation : ℕ → Tree → ℕ → Type 0
@@ -38,8 +38,8 @@ abbrev pub Start : Type 1
 Start = Tree → ℕ → Type 0
 
 -- a visited region with SSA dominance
-abbrev pub IsSearched : Start → Tree → ℕ → Type 0
-IsSearched start t r = IsVisited t (start t) r × IsTrue (has_ssa t r)
+abbrev pub IsVisitedSsaRegion : Start → Tree → ℕ → Type 0
+IsVisitedSsaRegion start t r = IsVisited t (start t) r × IsTrue (has_ssa t r)
 
 -- a block of the region that its entry does not reach
 abbrev pub IsCutOff : Tree → (r b : ℕ) → Type 0
@@ -47,4 +47,4 @@ IsCutOff t r b = (block_parent_of t b ≡ Some r) × (IsReachedIn t r b → ⊥)
 
 -- an unreachable block of some region that the call searches
 abbrev pub IsUnreachable : Start → Tree → ℕ → Type 0
-IsUnreachable start t b = (r : ℕ) × IsSearched start t r × IsCutOff t r b
+IsUnreachable start t b = (r : ℕ) × IsVisitedSsaRegion start t r × IsCutOff t r b

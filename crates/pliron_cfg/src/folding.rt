@@ -9,7 +9,7 @@ ghost use Rattle.pliron_laws.specs.Linked.{IsWellLinked};
 ghost use Rattle.pliron_laws.specs.declared.fault.OptError.TheVariants.{Memory};
 ghost use Rattle.pliron_theory.specs.Change.{IsPassChange};
 ghost use Rattle.pliron_cfg.specs.Folded.{branch_at, branches_of, known_operands as constants_of, FoldsAll, FoldsSome};
-ghost use Rattle.pliron_cfg.specs.FoldSteps.{IsBranchInside, IsFoldStep, IsTold};
+ghost use Rattle.pliron_cfg.specs.FoldSteps.{IsBranchInside, IsBranchFoldStep, TellsErased};
 
 mod known;
 
@@ -69,9 +69,9 @@ fn fold_known<D: Dialect, R: Rewriter + Room>(
     ensures refused { OnErr result (D.BranchOpFoldInterface.outcome ctx.old.tree ctx.new.tree op
         (constants_of D.meaning D.can_fold D.constants ctx.old.tree op) None) }
     ensures err { IfErr result (λ e. e ≡ Memory) }
-    ensures told { IfOk result (λ status. IsTold status ctx.old.tree ctx.new.tree) }
+    ensures told { IfOk result (λ status. TellsErased status ctx.old.tree ctx.new.tree) }
     ensures step { (root : ℕ) → IsWellLinked D.meaning ctx.old.tree root → IsBranchInside D.can_fold_branch ctx.old.tree root op →
-        IsFoldStep D.meaning D.can_fold_branch ctx.old.tree ctx.new.tree root op }
+        IsBranchFoldStep D.meaning D.can_fold_branch ctx.old.tree ctx.new.tree root op }
 {
     ctx.well_formed();
     rewriter.set_insertion_point_before_operation(op);
@@ -93,9 +93,9 @@ fn fold_one<D: Dialect, R: Rewriter + Room>(
     ensures refused { OnErr result ((ctx.new.tree ≡ ctx.old.tree) ⊎ D.BranchOpFoldInterface.outcome ctx.old.tree ctx.new.tree op
         (constants_of D.meaning D.can_fold D.constants ctx.old.tree op) None) }
     ensures err { IfErr result (λ e. e ≡ Memory) }
-    ensures told { IfOk result (λ status. IsTold status ctx.old.tree ctx.new.tree) }
+    ensures told { IfOk result (λ status. TellsErased status ctx.old.tree ctx.new.tree) }
     ensures step { (root : ℕ) → IsWellLinked D.meaning ctx.old.tree root → IsBranchInside D.can_fold_branch ctx.old.tree root op →
-        IsFoldStep D.meaning D.can_fold_branch ctx.old.tree ctx.new.tree root op }
+        IsBranchFoldStep D.meaning D.can_fold_branch ctx.old.tree ctx.new.tree root op }
 {
     ctx.well_formed();
     let known = known_operands::<D>(alloc, op, ctx)?;
@@ -124,7 +124,7 @@ pub fn fold_branches<D: Dialect, R: Rewriter + Room>(
     ensures folds { IfOk result (λ status. FoldsAll D.meaning D.can_fold D.constants D.BranchOpFoldInterface.outcome
         (branches_of D.can_fold_branch ctx.old.tree root) ctx.old.tree ctx.new.tree status) }
     ensures tells { IfOk result (λ status. TellsChange (Some status) ctx.old.tree ctx.new.tree) }
-    ensures told { IfOk result (λ status. IsTold status ctx.old.tree ctx.new.tree) }
+    ensures told { IfOk result (λ status. TellsErased status ctx.old.tree ctx.new.tree) }
     ensures blocks { OnOk result ((b : ℕ) → block_parent_of ctx.new.tree b ≡ block_parent_of ctx.old.tree b) }
     ensures refused { OnErr result (FoldsSome D.meaning D.can_fold D.constants D.BranchOpFoldInterface.outcome
         (branches_of D.can_fold_branch ctx.old.tree root) ctx.old.tree ctx.new.tree) }

@@ -129,6 +129,9 @@ pub fn merge_inside_block<D: Dialect, R: Rewriter + Room>(
     requires block { IsBlock ctx.old.tree block }
     requires linked { (holder : ℕ) → block_holder_of ctx.old.tree block ≡ Some holder → IsWellLinked D.meaning ctx.old.tree holder }
     ensures ok { IfOk result (λ status. MergesAll (OfBlock block) D.meaning ctx.old.tree ctx.new.tree status) }
+    ensures told { IfOk result (λ status. LosesOperation status ctx.old.tree ctx.new.tree) }
+    ensures unreachable { OnOk result ((b : ℕ) → IsUnreachable (OfBlock block) ctx.new.tree b → IsUnreachable (OfBlock block) ctx.old.tree b) }
+    ensures blocks { OnOk result ((b : ℕ) → IsBlock ctx.new.tree b → IsBlock ctx.old.tree b) }
     ensures refused { OnErr result (MergesPartly (OfBlock block) D.meaning ctx.old.tree ctx.new.tree) }
     ensures err { IfErr result (λ e. e ≡ Memory) }
     ensures change { (holder : ℕ) → block_holder_of ctx.old.tree block ≡ Some holder → IsPassChange D.meaning ctx.old.tree ctx.new.tree holder }
@@ -153,6 +156,9 @@ pub fn merge_inside_region<D: Dialect, R: Rewriter + Room>(
     requires region { IsRegion ctx.old.tree region }
     requires linked { (holder : ℕ) → region_parent_of ctx.old.tree region ≡ Some holder → IsWellLinked D.meaning ctx.old.tree holder }
     ensures ok { IfOk result (λ status. MergesAll (OfRegion region) D.meaning ctx.old.tree ctx.new.tree status) }
+    ensures told { IfOk result (λ status. LosesOperation status ctx.old.tree ctx.new.tree) }
+    ensures unreachable { OnOk result ((b : ℕ) → IsUnreachable (OfRegion region) ctx.new.tree b → IsUnreachable (OfRegion region) ctx.old.tree b) }
+    ensures blocks { OnOk result ((b : ℕ) → IsBlock ctx.new.tree b → IsBlock ctx.old.tree b) }
     ensures refused { OnErr result (MergesPartly (OfRegion region) D.meaning ctx.old.tree ctx.new.tree) }
     ensures err { IfErr result (λ e. e ≡ Memory) }
     ensures change { (holder : ℕ) → region_parent_of ctx.old.tree region ≡ Some holder → IsPassChange D.meaning ctx.old.tree ctx.new.tree holder }

@@ -11,7 +11,7 @@ ghost use Rattle.pliron_block_laws.specs.Links.{KeepsLinks};
 ghost use Rattle.pliron_cfg.specs.Visited.{OfBlock, OfOperation, OfRegion};
 ghost use Rattle.pliron_cfg.specs.Visits.{AreVisits};
 ghost use Rattle.pliron_cfg.specs.Removed.{RemovesAll, RemovalFails};
-ghost use Rattle.pliron_cfg.specs.Internal.Scopes.{start_of, Stands, IsHolder};
+ghost use Rattle.pliron_cfg.specs.Internal.Scopes.{start_of, ScopeStands, IsHolder};
 ghost use Rattle.pliron_cfg.specs.Internal.Cleared.{status_after};
 
 mod contents;
@@ -51,7 +51,7 @@ fn clear_regions<D: Dialect, R: Rewriter + Room>(
     reached: &IndexSet<Ptr<BasicBlock>>,
     rewriter: &mut R,
 ) -> Result<IRStatus, OptError>
-    requires stands { Stands ctx.old.tree scope.now }
+    requires stands { ScopeStands ctx.old.tree scope.now }
     requires linked { (holder : ℕ) → IsHolder ctx.old.tree scope.now holder → IsWellLinked D.meaning ctx.old.tree holder }
     requires visits { AreVisits ctx.old.tree (start_of scope.now ctx.old.tree) regions.items reached.now.keys }
     ensures ok { IfOk result (λ status. RemovesAll (start_of scope.now) ctx.old.tree ctx.new.tree status) }
@@ -81,7 +81,7 @@ fn remove_blocks_in<D: Dialect, R: Rewriter + Room>(
     ctx: &mut Context,
     rewriter: &mut R,
 ) -> Result<IRStatus, OptError>
-    requires stands { Stands ctx.old.tree scope.now }
+    requires stands { ScopeStands ctx.old.tree scope.now }
     requires linked { (holder : ℕ) → IsHolder ctx.old.tree scope.now holder → IsWellLinked D.meaning ctx.old.tree holder }
     ensures ok { IfOk result (λ status. RemovesAll (start_of scope.now) ctx.old.tree ctx.new.tree status) }
     ensures err { IfErr result (λ e. RemovalFails (start_of scope.now) ctx.old.tree ctx.new.tree e) }

@@ -11,7 +11,7 @@ use Rattle.pliron_core.specs.Rising.{IsRising}
 use Rattle.pliron_core.specs.Tree.{Tree, View, IsLive, IsBlock, head_of, operands_of, successors_of, parent_of, body_of, block_parent_of, uses_of}
 use Rattle.pliron_core.specs.Joined.{IsJoined, IsTree, HaveUses}
 use Rattle.pliron_core.specs.Edges.{succs_from, leads_to, blocks_in, preds_of}
-use Rattle.pliron_core.specs.EdgeUses.{IsSource, IsFirst, IsEdge, IsFirstEdge}
+use Rattle.pliron_core.specs.EdgeUses.{IsSource, IsFirstPlace, IsEdge, IsFirstEdge}
 use Rattle.pliron_core.proofs.ReadLemmas.{In-last, In-block}
 use Rattle.pliron_core.proofs.FilterLemmas.{In-filter, In-filtered, distinct-filter, rising-filter, same_members, one_none, one_all, one_two, below_all, any_at, at_any, first_at}
 
@@ -114,7 +114,7 @@ edge-one v block i a b e f =
     same_Some a b (sym e.source.parent ∙ ap (λ z. parent_of v.tree z.user) same ∙ f.source.parent)
 
 -- a block has one first edge
-first-place : (v : View) → HaveUses v → (block i j : ℕ) (x y : Use) → slice_get (uses_of v.block_uses block) i ≡ Some x → slice_get (uses_of v.block_uses block) j ≡ Some y → x.user ≡ y.user → IsFirst v.tree block x.user x.place → IsFirst v.tree block y.user y.place → x.place ≡ y.place
+first-place : (v : View) → HaveUses v → (block i j : ℕ) (x y : Use) → slice_get (uses_of v.block_uses block) i ≡ Some x → slice_get (uses_of v.block_uses block) j ≡ Some y → x.user ≡ y.user → IsFirstPlace v.tree block x.user x.place → IsFirstPlace v.tree block y.user y.place → x.place ≡ y.place
 first-place v u block i j x y ex ey same fx fy =
     elim (cases_order x.place y.place) [
       | inl e ↦ e
@@ -148,7 +148,7 @@ pub first-whole : (v : View) → HaveUses v → (block user place k : ℕ)
     → ((p : ℕ) → place ≤ p + k → p < place → slice_get (successors_of v.tree user) p ≢ Some block)
     → ((j : ℕ) (one : Use) → j < k → slice_get (uses_of v.block_uses block) j ≡ Some one → one.user ≡ user → one.place < place → ⊥)
     → (place ≤ k) ⊎ (length (uses_of v.block_uses block) ≤ k)
-    → IsFirst v.tree block user place
+    → IsFirstPlace v.tree block user place
 first-whole v u block user place k back forth (inl le) p lt e = back p (omega arith) lt e
 first-whole v u block user place k back forth (inr le) p lt e =
     let x = u.block_uses.complete user p block e in

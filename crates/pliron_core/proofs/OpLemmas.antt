@@ -4,8 +4,8 @@ use Rattle.std.specs.Prelude.{IfSome}
 use Rattle.std.proofs.lemmas.List.{append-nil, get_or_default, length-map, get_or_past, map-append}
 use Rattle.pliron_core.specs.declared.links.Node.{Node}
 use Rattle.pliron_core.specs.declared.links.Ends.{Ends}
-use Rattle.pliron_core.specs.Lists.{Lists, first_of, last_of, without, put_before, next_in, next_of, prev_in, prev_of}
-use Rattle.pliron_core.specs.Nodes.{no_node, no_ends, node_at, ends_at, with_next, with_prev, with_head, with_tail, In, IsDistinct, IsRow, IsList, IsSound, owners_of, lists_of, InRange}
+use Rattle.pliron_core.specs.Lists.{Lists, first_of, last_of, without, put_before, next_in, next_in_lists, prev_in, prev_in_lists}
+use Rattle.pliron_core.specs.Nodes.{no_node, no_ends, node_at, ends_at, with_next, with_prev, with_first, with_tail, In, IsDistinct, IsRow, IsList, AreSoundLists, owners_of, lists_of, InRange}
 use Rattle.pliron_core.proofs.ListLemmas.{split_at, without-split, put_before-split, next_in-split, prev_in-split, distinct-apart}
 use Rattle.pliron_core.proofs.NeighbourLemmas.{first_of-In, last_of-In, next_in-In, prev_in-In}
 use Rattle.pliron_core.proofs.RowLemmas.{In-final, final, last_of-final, within-row, row-front, row-back}
@@ -16,11 +16,11 @@ use Rattle.pliron_core.proofs.RemoveLemmas as taken
 
 -- the tables stand for these lists and owners
 pub record StandsFor (nodes : List Node) (ends : List Ends) (lists : List (List ℕ)) (owners : List (Option ℕ)) : Type 0 where
-  pub sound : IsSound nodes ends (lists_of nodes ends)
+  pub sound : AreSoundLists nodes ends (lists_of nodes ends)
   pub lists_is : lists_of nodes ends ≡ lists
   pub owners_is : owners_of nodes ≡ owners
 
-stands : (nodes : List Node) (ends : List Ends) (lists : List (List ℕ)) (owners : List (Option ℕ)) → IsSound nodes ends lists → owners_of nodes ≡ owners → StandsFor nodes ends lists owners
+stands : (nodes : List Node) (ends : List Ends) (lists : List (List ℕ)) (owners : List (Option ℕ)) → AreSoundLists nodes ends lists → owners_of nodes ≡ owners → StandsFor nodes ends lists owners
 stands nodes ends lists owners is own =
     record { sound = IsSound-view nodes ends lists is; lists_is = sym (lists-sound nodes ends lists is); owners_is = own }
 
@@ -40,7 +40,7 @@ pub InRange-longer : (nodes new : List Node) (p : Option ℕ) → length nodes �
 InRange-longer nodes new None e r = tt
 InRange-longer nodes new (Some x) e r = omega (arith, r)
 
-module _ (nodes : List Node) (ends : List Ends) (is : IsSound nodes ends (lists_of nodes ends)) where
+module _ (nodes : List Node) (ends : List Ends) (is : AreSoundLists nodes ends (lists_of nodes ends)) where
   listed_within : (l : ℕ) → l < length (lists_of nodes ends) → l < length ends
   listed_within l h = omega (arith, h, is.count)
 
@@ -60,7 +60,7 @@ module _ (nodes : List Node) (ends : List Ends) (is : IsSound nodes ends (lists_
   -- the tables after a node went to the end
   pub pushed : (l x : ℕ) (e e2 e3 : Ends) (n2 n3 : List Node) → l < length (lists_of nodes ends) → x < length (owners_of nodes) → get_or (owners_of nodes) x None ≡ None → e ≡ get_or ends l e
       → n2 ≡ with_next (set nodes x (record { owner = Some l; prev = e.tail; next = None })) e.tail (Some x) → n3 ≡ n2
-      → e2 ≡ with_head e e.tail (Some x) → e3 ≡ with_tail e2 None (Some x)
+      → e2 ≡ with_first e e.tail (Some x) → e3 ≡ with_tail e2 None (Some x)
       → StandsFor n3 (set ends l e3) (set (lists_of nodes ends) l (get_or (lists_of nodes ends) l [] ++ x ∷ [])) (set (owners_of nodes) x (Some l))
   pushed l x e e2 e3 n2 n3 listed known free read linked same headed ended =
       let within : l < length ends = listed_within l listed in
@@ -72,13 +72,13 @@ module _ (nodes : List Node) (ends : List Ends) (is : IsSound nodes ends (lists_
       let owned = step.owners3 nodes ends (lists_of nodes ends) l x front [] is within inside unowned here in
       let tail : e.tail ≡ last_of None front = ap (λ z. z.tail) (ends_read l e within read) ∙ (is.each l within).tail in
       let n_is : n3 ≡ step.nodes3 nodes ends (lists_of nodes ends) l x front [] = same ∙ linked ∙ ap (λ t. with_next (set nodes x (record { owner = Some l; prev = t; next = None })) t (Some x)) tail in
-      let e_is : e3 ≡ step.ends3 nodes ends (lists_of nodes ends) l x front [] = ended ∙ ap (λ z. with_tail z None (Some x)) headed ∙ ap (λ t. with_tail (with_head e t (Some x)) None (Some x)) tail ∙ ap (λ z. with_tail (with_head z (last_of None front) (Some x)) None (Some x)) (ends_read l e within read) in
+      let e_is : e3 ≡ step.ends3 nodes ends (lists_of nodes ends) l x front [] = ended ∙ ap (λ z. with_tail z None (Some x)) headed ∙ ap (λ t. with_tail (with_first e t (Some x)) None (Some x)) tail ∙ ap (λ z. with_tail (with_first z (last_of None front) (Some x)) None (Some x)) (ends_read l e within read) in
       rw (n_is, e_is) (stands _ _ _ _ sound owned)
 
   -- the tables after a node went to the front
   pub pushed_front : (l x : ℕ) (e e2 e3 : Ends) (n2 n3 : List Node) → l < length (lists_of nodes ends) → x < length (owners_of nodes) → get_or (owners_of nodes) x None ≡ None → e ≡ get_or ends l e
       → n2 ≡ set nodes x (record { owner = Some l; prev = None; next = e.head }) → n3 ≡ with_prev n2 e.head (Some x)
-      → e2 ≡ with_head e None (Some x) → e3 ≡ with_tail e2 e.head (Some x)
+      → e2 ≡ with_first e None (Some x) → e3 ≡ with_tail e2 e.head (Some x)
       → StandsFor n3 (set ends l e3) (set (lists_of nodes ends) l (x ∷ get_or (lists_of nodes ends) l [])) (set (owners_of nodes) x (Some l))
   pushed_front l x e e2 e3 n2 n3 listed known free read linked behind headed ended =
       let within : l < length ends = listed_within l listed in
@@ -89,7 +89,7 @@ module _ (nodes : List Node) (ends : List Ends) (is : IsSound nodes ends (lists_
       let owned = step.owners3 nodes ends (lists_of nodes ends) l x [] back is within inside unowned refl in
       let head : e.head ≡ first_of back None = ap (λ z. z.head) (ends_read l e within read) ∙ (is.each l within).head in
       let n_is : n3 ≡ step.nodes3 nodes ends (lists_of nodes ends) l x [] back = behind ∙ ap (λ ns. with_prev ns e.head (Some x)) linked ∙ ap (λ t. with_prev (set nodes x (record { owner = Some l; prev = None; next = t })) t (Some x)) head in
-      let e_is : e3 ≡ step.ends3 nodes ends (lists_of nodes ends) l x [] back = ended ∙ ap (λ z. with_tail z e.head (Some x)) headed ∙ ap (λ t. with_tail (with_head e None (Some x)) t (Some x)) head ∙ ap (λ z. with_tail (with_head z None (Some x)) (first_of back None) (Some x)) (ends_read l e within read) in
+      let e_is : e3 ≡ step.ends3 nodes ends (lists_of nodes ends) l x [] back = ended ∙ ap (λ z. with_tail z e.head (Some x)) headed ∙ ap (λ t. with_tail (with_first e None (Some x)) t (Some x)) head ∙ ap (λ z. with_tail (with_first z None (Some x)) (first_of back None) (Some x)) (ends_read l e within read) in
       rw (n_is, e_is) (stands _ _ _ _ sound owned)
 
   -- where the node at hand stands
@@ -108,7 +108,7 @@ module _ (nodes : List Node) (ends : List Ends) (is : IsSound nodes ends (lists_
 
   -- the tables after a node was taken out
   pub removed : (l x : ℕ) (n : Node) (e e1 e2 : Ends) (n1 n2 : List Node) → get_or (owners_of nodes) x None ≡ Some l → n ≡ get_or nodes x n → e ≡ get_or ends l e
-      → n1 ≡ with_next nodes n.prev n.next → e1 ≡ with_head e n.prev n.next
+      → n1 ≡ with_next nodes n.prev n.next → e1 ≡ with_first e n.prev n.next
       → n2 ≡ with_prev n1 n.next n.prev → e2 ≡ with_tail e1 n.next n.prev
       → StandsFor (set n2 x no_node) (set ends l e2) (set (lists_of nodes ends) l (without x (get_or (lists_of nodes ends) l []))) (set (owners_of nodes) x None)
   removed l x n e e1 e2 n1 n2 own nread read nodes_next head_next nodes_prev tail_prev =
@@ -128,7 +128,7 @@ module _ (nodes : List Node) (ends : List Ends) (is : IsSound nodes ends (lists_
   -- the tables after a node went before another
   pub inserted : (l at x : ℕ) (n : Node) (e e2 e3 : Ends) (n2 n3 : List Node) → get_or (owners_of nodes) at None ≡ Some l → x < length (owners_of nodes) → get_or (owners_of nodes) x None ≡ None → n ≡ get_or nodes at n → e ≡ get_or ends l e
       → n2 ≡ with_next (set nodes x (record { owner = Some l; prev = n.prev; next = Some at })) n.prev (Some x) → n3 ≡ with_prev n2 (Some at) (Some x)
-      → e2 ≡ with_head e n.prev (Some x) → e3 ≡ e2
+      → e2 ≡ with_first e n.prev (Some x) → e3 ≡ e2
       → StandsFor n3 (set ends l e3) (set (lists_of nodes ends) l (put_before at x (get_or (lists_of nodes ends) l []))) (set (owners_of nodes) x (Some l))
   inserted l at x n e e2 e3 n2 n3 own known free nread read linked behind headed ended =
       let h = held at l own in
@@ -175,7 +175,7 @@ get_or-pad (x ∷ xs) d zero = refl
 get_or-pad (x ∷ xs) d (suc y) = get_or-pad xs d y
 
 -- the tables after a node was added
-pub node_added : (nodes : List Node) (ends : List Ends) → IsSound nodes ends (lists_of nodes ends) → StandsFor (nodes ++ no_node ∷ []) ends (lists_of nodes ends) (owners_of nodes ++ None ∷ [])
+pub node_added : (nodes : List Node) (ends : List Ends) → AreSoundLists nodes ends (lists_of nodes ends) → StandsFor (nodes ++ no_node ∷ []) ends (lists_of nodes ends) (owners_of nodes ++ None ∷ [])
 node_added nodes ends is =
     stands _ _ _ _ (record {
       count = is.count;
@@ -184,7 +184,7 @@ node_added nodes ends is =
     }) (map-append (λ n. n.owner) nodes (no_node ∷ []))
 
 -- the tables after a list was added
-pub list_added : (nodes : List Node) (ends : List Ends) → IsSound nodes ends (lists_of nodes ends) → StandsFor nodes (ends ++ no_ends ∷ []) (lists_of nodes ends ++ [] ∷ []) (owners_of nodes)
+pub list_added : (nodes : List Node) (ends : List Ends) → AreSoundLists nodes ends (lists_of nodes ends) → StandsFor nodes (ends ++ no_ends ∷ []) (lists_of nodes ends ++ [] ∷ []) (owners_of nodes)
 list_added nodes ends is =
     let longer : length (ends ++ no_ends ∷ []) ≡ length ends + 1 = omega (arith, length-append ends (no_ends ∷ [])) in
     stands _ _ _ _ (record {
@@ -208,18 +208,18 @@ IfSome-each None P each = tt
 IfSome-each (Some x) P each = each x refl
 
 -- the stored neighbours are those that a contract sees
-pub next_of-is : (nodes : List Node) (ends : List Ends) (is : IsSound nodes ends (lists_of nodes ends)) (x l : ℕ) (n : Node) (m r : ℕ) → x < length (owners_of nodes) → n ≡ get_or nodes x n → n.owner ≡ Some l → n.next ≡ next_of (record { lists = lists_of nodes ends; owners = owners_of nodes; node_room = m; list_room = r }) x
+pub next_of-is : (nodes : List Node) (ends : List Ends) (is : AreSoundLists nodes ends (lists_of nodes ends)) (x l : ℕ) (n : Node) (m r : ℕ) → x < length (owners_of nodes) → n ≡ get_or nodes x n → n.owner ≡ Some l → n.next ≡ next_in_lists (record { lists = lists_of nodes ends; owners = owners_of nodes; node_room = m; list_room = r }) x
 next_of-is nodes ends is x l n m r known read own =
     let owned = owner_read nodes x l n known read own in
     rw owned (next_is nodes ends is l x n owned read)
 
-pub prev_of-is : (nodes : List Node) (ends : List Ends) (is : IsSound nodes ends (lists_of nodes ends)) (x l : ℕ) (n : Node) (m r : ℕ) → x < length (owners_of nodes) → n ≡ get_or nodes x n → n.owner ≡ Some l → n.prev ≡ prev_of (record { lists = lists_of nodes ends; owners = owners_of nodes; node_room = m; list_room = r }) x
+pub prev_of-is : (nodes : List Node) (ends : List Ends) (is : AreSoundLists nodes ends (lists_of nodes ends)) (x l : ℕ) (n : Node) (m r : ℕ) → x < length (owners_of nodes) → n ≡ get_or nodes x n → n.owner ≡ Some l → n.prev ≡ prev_in_lists (record { lists = lists_of nodes ends; owners = owners_of nodes; node_room = m; list_room = r }) x
 prev_of-is nodes ends is x l n m r known read own =
     let owned = owner_read nodes x l n known read own in
     rw owned (prev_is nodes ends is l x n owned read)
 
 -- a list that has a node is there
-pub owner_within : (nodes : List Node) (ends : List Ends) (is : IsSound nodes ends (lists_of nodes ends)) (x : ℕ) (n : Node) → x < length (owners_of nodes) → n ≡ get_or nodes x n → IfSome n.owner (λ l. l < length (lists_of nodes ends))
+pub owner_within : (nodes : List Node) (ends : List Ends) (is : AreSoundLists nodes ends (lists_of nodes ends)) (x : ℕ) (n : Node) → x < length (owners_of nodes) → n ≡ get_or nodes x n → IfSome n.owner (λ l. l < length (lists_of nodes ends))
 owner_within nodes ends is x n known read =
     let inside : x < length nodes = omega (arith, known, length-map nodes (λ n. n.owner)) in
     IfSome-each n.owner (λ l. l < length (lists_of nodes ends)) (λ l own.
@@ -228,26 +228,26 @@ owner_within nodes ends is x n known read =
     omega (arith, is.count, within))
 
 -- the nodes at both ends of a list are owned by it
-pub first_owned : (nodes : List Node) (ends : List Ends) (is : IsSound nodes ends (lists_of nodes ends)) (l : ℕ) (e : Ends) → l < length (lists_of nodes ends) → e ≡ get_or ends l e → IfSome e.head (λ x. get_or (owners_of nodes) x None ≡ Some l)
+pub first_owned : (nodes : List Node) (ends : List Ends) (is : AreSoundLists nodes ends (lists_of nodes ends)) (l : ℕ) (e : Ends) → l < length (lists_of nodes ends) → e ≡ get_or ends l e → IfSome e.head (λ x. get_or (owners_of nodes) x None ≡ Some l)
 first_owned nodes ends is l e listed read =
     let within : l < length ends = omega (arith, listed, is.count) in
     let e_is : e.head ≡ first_of (get_or (lists_of nodes ends) l []) None = ap (λ z. z.head) (ends_read nodes ends is l e within read) ∙ (is.each l within).head in
     IfSome-each e.head (λ x. get_or (owners_of nodes) x None ≡ Some l) (λ x some. (owned-sound nodes ends is).owned x l (first_of-In x _ (sym e_is ∙ some)))
 
-pub last_owned : (nodes : List Node) (ends : List Ends) (is : IsSound nodes ends (lists_of nodes ends)) (l : ℕ) (e : Ends) → l < length (lists_of nodes ends) → e ≡ get_or ends l e → IfSome e.tail (λ x. get_or (owners_of nodes) x None ≡ Some l)
+pub last_owned : (nodes : List Node) (ends : List Ends) (is : AreSoundLists nodes ends (lists_of nodes ends)) (l : ℕ) (e : Ends) → l < length (lists_of nodes ends) → e ≡ get_or ends l e → IfSome e.tail (λ x. get_or (owners_of nodes) x None ≡ Some l)
 last_owned nodes ends is l e listed read =
     let within : l < length ends = omega (arith, listed, is.count) in
     let e_is : e.tail ≡ last_of None (get_or (lists_of nodes ends) l []) = ap (λ z. z.tail) (ends_read nodes ends is l e within read) ∙ (is.each l within).tail in
     IfSome-each e.tail (λ x. get_or (owners_of nodes) x None ≡ Some l) (λ x some. (owned-sound nodes ends is).owned x l (last_of-In x _ (sym e_is ∙ some)))
 
 -- the neighbours of a node are owned by the list that has it
-pub next_owned : (nodes : List Node) (ends : List Ends) (is : IsSound nodes ends (lists_of nodes ends)) (x l : ℕ) (n : Node) → x < length (owners_of nodes) → n ≡ get_or nodes x n → n.owner ≡ Some l → IfSome n.next (λ y. get_or (owners_of nodes) y None ≡ get_or (owners_of nodes) x None)
+pub next_owned : (nodes : List Node) (ends : List Ends) (is : AreSoundLists nodes ends (lists_of nodes ends)) (x l : ℕ) (n : Node) → x < length (owners_of nodes) → n ≡ get_or nodes x n → n.owner ≡ Some l → IfSome n.next (λ y. get_or (owners_of nodes) y None ≡ get_or (owners_of nodes) x None)
 next_owned nodes ends is x l n known read own =
     let here = owner_read nodes x l n known read own in
     IfSome-each n.next (λ y. get_or (owners_of nodes) y None ≡ get_or (owners_of nodes) x None) (λ y some.
     (owned-sound nodes ends is).owned y l (next_in-In y x _ (sym (next_is nodes ends is l x n here read) ∙ some)) ∙ sym here)
 
-pub prev_owned : (nodes : List Node) (ends : List Ends) (is : IsSound nodes ends (lists_of nodes ends)) (x l : ℕ) (n : Node) → x < length (owners_of nodes) → n ≡ get_or nodes x n → n.owner ≡ Some l → IfSome n.prev (λ y. get_or (owners_of nodes) y None ≡ get_or (owners_of nodes) x None)
+pub prev_owned : (nodes : List Node) (ends : List Ends) (is : AreSoundLists nodes ends (lists_of nodes ends)) (x l : ℕ) (n : Node) → x < length (owners_of nodes) → n ≡ get_or nodes x n → n.owner ≡ Some l → IfSome n.prev (λ y. get_or (owners_of nodes) y None ≡ get_or (owners_of nodes) x None)
 prev_owned nodes ends is x l n known read own =
     let here = owner_read nodes x l n known read own in
     IfSome-each n.prev (λ y. get_or (owners_of nodes) y None ≡ get_or (owners_of nodes) x None) (λ y some.

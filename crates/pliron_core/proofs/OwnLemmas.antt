@@ -4,14 +4,14 @@ use Rattle.std.proofs.lemmas.List.{get_or_past}
 use Rattle.pliron_core.specs.declared.links.Node.{Node}
 use Rattle.pliron_core.specs.declared.links.Ends.{Ends}
 use Rattle.pliron_core.specs.Lists.{AreOwned}
-use Rattle.pliron_core.specs.Nodes.{In, IsDistinct, IsSound, node_at, lists_of, owners_of}
+use Rattle.pliron_core.specs.Nodes.{In, IsDistinct, AreSoundLists, node_at, lists_of, owners_of}
 use Rattle.pliron_core.proofs.RowLemmas.{owner-row}
 use Rattle.pliron_core.proofs.SoundLemmas.{owners-at}
 
 cases_lt : (l n : ℕ) → (l < n) ⊎ (n ≤ l)
 cases_lt l n = grind arith
 
-pub owned-sound : (nodes : List Node) (ends : List Ends) → IsSound nodes ends (lists_of nodes ends) → AreOwned (owners_of nodes) (lists_of nodes ends)
+pub owned-sound : (nodes : List Node) (ends : List Ends) → AreSoundLists nodes ends (lists_of nodes ends) → AreOwned (owners_of nodes) (lists_of nodes ends)
 owned-sound nodes ends s = record {
   listed = λ x l e. (s.owned x l (sym (owners-at nodes x) ∙ e)).1;
   owned = λ x l i. owners-at nodes x ∙ owner x l i (cases_lt l (length ends));

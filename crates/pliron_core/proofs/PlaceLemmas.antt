@@ -11,7 +11,7 @@ use Rattle.pliron_core.specs.declared.uses.Use.{Use}
 use Rattle.pliron_core.specs.declared.uses.Place.{Place}
 use Rattle.pliron_core.specs.Uses.{Table, AreAgreed}
 use Rattle.pliron_core.specs.declared.uses.Gap.{Gap}
-use Rattle.pliron_core.specs.Places.{at, held, rank, seen, no_target, no_gap, gap_of, targets_in, uses_in, HasGap, HaveGaps, IsLinked, AreLinked}
+use Rattle.pliron_core.specs.Places.{at, held, rank, ranked_use, no_target, no_gap, gap_of, targets_in, uses_in, HasGap, HaveGaps, IsLinked, AreLinked}
 use Rattle.pliron_core.proofs.TableLemmas.{at-same, at-other, at-within}
 use Rattle.pliron_core.proofs.GapLemmas.{same, held-at, held-from, held-push, rank-once}
 
@@ -75,15 +75,15 @@ target-real rows lists is target i u e f =
 pub record IsSeen (rows : List (List Place)) (lists : List (List Use)) (target i : ℕ) (u : Use) : Type 0 where
   pub one : Use
   pub there : at lists target i ≡ Some one
-  pub is : u ≡ seen rows one
+  pub is : u ≡ ranked_use rows one
 
 pub seen-from : (rows : List (List Place)) (lists : List (List Use)) (target i : ℕ) (u : Use) → at (uses_in rows lists) target i ≡ Some u → IsSeen rows lists target i u
 seen-from rows lists target i u e = found (at lists target i) refl
   where
     found : (o : Option Use) → at lists target i ≡ o → IsSeen rows lists target i u
-    found None f = let n : at (uses_in rows lists) target i ≡ None = at-map (seen rows) lists target i ∙ ap (option_map (seen rows)) f in absurd (cc)
+    found None f = let n : at (uses_in rows lists) target i ≡ None = at-map (ranked_use rows) lists target i ∙ ap (option_map (ranked_use rows)) f in absurd (cc)
     found (Some w) f =
-        let n : at (uses_in rows lists) target i ≡ Some (seen rows w) = at-map (seen rows) lists target i ∙ ap (option_map (seen rows)) f in
+        let n : at (uses_in rows lists) target i ≡ Some (ranked_use rows w) = at-map (ranked_use rows) lists target i ∙ ap (option_map (ranked_use rows)) f in
         record { one = w; there = f; is = same (sym e ∙ n) }
 
 module _ (rows : List (List Place)) (lists : List (List Use)) (is : IsLinked rows lists) where
@@ -91,7 +91,7 @@ module _ (rows : List (List Place)) (lists : List (List Use)) (is : IsLinked row
   seen-listed target i u e =
       let w = seen-from rows lists target i u e in
       let there = is.placed target i w.one.user w.one.place w.there in
-      rw w.is (ap (λ r. slice_get r (seen rows w.one).place) (row-targets rows w.one.user) ∙ held-at (get_or rows w.one.user []) w.one.place _ there (target-real rows lists is target i w.one w.there))
+      rw w.is (ap (λ r. slice_get r (ranked_use rows w.one).place) (row-targets rows w.one.user) ∙ held-at (get_or rows w.one.user []) w.one.place _ there (target-real rows lists is target i w.one w.there))
 
   seen-once : (target i j : ℕ) (u : Use) → at (uses_in rows lists) target i ≡ Some u → at (uses_in rows lists) target j ≡ Some u → i ≡ j
   seen-once target i j u e f =
@@ -99,7 +99,7 @@ module _ (rows : List (List Place)) (lists : List (List Use)) (is : IsLinked row
       let b = seen-from rows lists target j u f in
       let one = is.placed target i a.one.user a.one.place a.there in
       let two = is.placed target j b.one.user b.one.place b.there in
-      let both : seen rows a.one ≡ seen rows b.one = sym a.is ∙ b.is in
+      let both : ranked_use rows a.one ≡ ranked_use rows b.one = sym a.is ∙ b.is in
       let users : a.one.user ≡ b.one.user = ap (λ z. z.user) both in
       let ranks : rank (get_or rows a.one.user []) a.one.place ≡ rank (get_or rows b.one.user []) b.one.place = ap (λ z. z.place) both in
       let moved : at rows a.one.user b.one.place ≡ Some (record { target = target; at = j }) = ap (λ z. at rows z b.one.place) users ∙ two in
@@ -111,7 +111,7 @@ module _ (rows : List (List Place)) (lists : List (List Use)) (is : IsLinked row
   seen-complete user place target e =
       let h = held-from (get_or rows user []) place target (ap (λ r. slice_get r place) (sym (row-targets rows user)) ∙ e) in
       let there = is.used user h.n h.p.target h.p.at h.is h.taken in
-      (h.p.at, ap (λ z. at (uses_in rows lists) z h.p.at) (sym h.names) ∙ at-map (seen rows) lists h.p.target h.p.at ∙ ap (option_map (seen rows)) there ∙ ap (λ z. Some (let u : Use = record { user = user; place = z } in u)) h.ranked)
+      (h.p.at, ap (λ z. at (uses_in rows lists) z h.p.at) (sym h.names) ∙ at-map (ranked_use rows) lists h.p.target h.p.at ∙ ap (option_map (ranked_use rows)) there ∙ ap (λ z. Some (let u : Use = record { user = user; place = z } in u)) h.ranked)
 
   pub agree-linked : AreAgreed (targets_in rows) (uses_in rows lists)
   agree-linked = record { listed = seen-listed; once = seen-once; complete = seen-complete }
@@ -157,7 +157,7 @@ map-same f g each (x ∷ xs) = rw (each x, map-same f g each xs) refl
 
 -- one more user, and the tables that contracts see
 pub uses-user : (rows : List (List Place)) (lists : List (List Use)) → uses_in (rows ++ [] ∷ []) lists ≡ uses_in rows lists
-uses-user rows lists = map-same (map (seen (rows ++ [] ∷ []))) (map (seen rows)) (λ l. map-same (seen (rows ++ [] ∷ [])) (seen rows) (λ u. ap (λ r. let w : Use = record { user = u.user; place = rank r u.place } in w) (get_or-pad rows [] u.user)) l) lists
+uses-user rows lists = map-same (map (ranked_use (rows ++ [] ∷ []))) (map (ranked_use rows)) (λ l. map-same (ranked_use (rows ++ [] ∷ [])) (ranked_use rows) (λ u. ap (λ r. let w : Use = record { user = u.user; place = rank r u.place } in w) (get_or-pad rows [] u.user)) l) lists
 
 pub same-table : {t t' : List (List ℕ)} {u u' : List (List Use)} {m m' n : ℕ} → t ≡ t' → u ≡ u' → m ≡ m' → (let x : Table = record { targets = t; uses = u; user_room = m; target_room = n } in x) ≡ record { targets = t'; uses = u'; user_room = m'; target_room = n }
 same-table e f g = rw (e, f, g) refl
@@ -167,7 +167,7 @@ pub use-there : (lists : List (List Use)) (target i : ℕ) (read : List Use) (u 
 use-there lists target i read u h e there = ap (λ l. slice_get l i) (sym (e ∙ get_or_default lists target read [] h)) ∙ there
 
 pub use-seen : (rows : List (List Place)) (lists : List (List Use)) (target i n : ℕ) (u : Use) → at lists target i ≡ Some u → n ≡ rank (get_or rows u.user []) u.place → slice_get (get_or (uses_in rows lists) target []) i ≡ Some (record { user = u.user; place = n })
-use-seen rows lists target i n u e r = at-map (seen rows) lists target i ∙ ap (option_map (seen rows)) e ∙ ap (λ z. Some (let w : Use = record { user = u.user; place = z } in w)) (sym r)
+use-seen rows lists target i n u e r = at-map (ranked_use rows) lists target i ∙ ap (option_map (ranked_use rows)) e ∙ ap (λ z. Some (let w : Use = record { user = u.user; place = z } in w)) (sym r)
 
 -- a row without places has no gap
 pub gap-none : HasGap [] no_gap

@@ -5,7 +5,7 @@ use Rattle.std.proofs.lemmas.List.{get_or-set_same, get_or-set_other, length-set
 use Rattle.pliron_core.specs.declared.links.Node.{Node}
 use Rattle.pliron_core.specs.declared.links.Ends.{Ends}
 use Rattle.pliron_core.specs.Lists.{first_of, last_of}
-use Rattle.pliron_core.specs.Nodes.{no_node, no_ends, node_at, ends_at, with_next, with_prev, with_head, with_tail, In, IsDistinct, IsRow, IsList, IsSound, owners_of}
+use Rattle.pliron_core.specs.Nodes.{no_node, no_ends, node_at, ends_at, with_next, with_prev, with_first, with_tail, In, IsDistinct, IsRow, IsList, AreSoundLists, owners_of}
 use Rattle.pliron_core.proofs.ListLemmas.{AreApart, In-left, In-right, In-cases, distinct-front, distinct-back, distinct-apart, distinct-join}
 use Rattle.pliron_core.proofs.RowLemmas.{relink, row-front, row-back, row-append, row-frame, owner-row}
 use Rattle.pliron_core.proofs.SoundLemmas.{owners-at, owners-with_next, owners-with_prev, row-same}
@@ -19,9 +19,9 @@ module _ (nodes : List Node) (ends : List Ends) (lists : List (List ℕ)) (l x :
   nodes2 = set nodes1 x no_node
 
   abbrev pub ends2 : Ends
-  ends2 = with_tail (with_head (ends_at ends l) (last_of None front) (first_of back None)) (first_of back None) (last_of None front)
+  ends2 = with_tail (with_first (ends_at ends l) (last_of None front) (first_of back None)) (first_of back None) (last_of None front)
 
-  module _ (is : IsSound nodes ends lists) (within : l < length ends) (here : get_or lists l [] ≡ front ++ x ∷ back) where
+  module _ (is : AreSoundLists nodes ends lists) (within : l < length ends) (here : get_or lists l [] ≡ front ++ x ∷ back) where
     old : IsList nodes l (ends_at ends l) (front ++ x ∷ back)
     old = subst (IsList nodes l (ends_at ends l)) here (is.each l within)
 
@@ -99,7 +99,7 @@ module _ (nodes : List Node) (ends : List Ends) (lists : List (List ℕ)) (l x :
         ]
 
     -- the node that stood between `front` and `back` is out of the list
-    pub IsSound-remove : IsSound nodes2 (set ends l ends2) (set lists l (front ++ back))
+    pub IsSound-remove : AreSoundLists nodes2 (set ends l ends2) (set lists l (front ++ back))
     IsSound-remove =
         record {
           count = length-set ends l _ ∙ is.count ∙ sym (length-set lists l _);

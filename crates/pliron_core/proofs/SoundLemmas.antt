@@ -3,7 +3,7 @@ use Rattle.std.proofs.Common.{◌≡◌, ◌⊎◌, ℕ, ◌<◌, ◌≤◌, Lis
 use Rattle.std.proofs.lemmas.List.{same_lists, get_or-map, length-map, get_or_default, get_or_past, map-set, set-get_or}
 use Rattle.pliron_core.specs.declared.links.Node.{Node}
 use Rattle.pliron_core.specs.declared.links.Ends.{Ends}
-use Rattle.pliron_core.specs.Nodes.{no_node, no_ends, node_at, walk, with_next, with_prev, In, IsRow, IsList, IsSound, lists_of, owners_of}
+use Rattle.pliron_core.specs.Nodes.{no_node, no_ends, node_at, walk, with_next, with_prev, In, IsRow, IsList, AreSoundLists, lists_of, owners_of}
 use Rattle.pliron_core.proofs.ListLemmas.{distinct-length}
 use Rattle.pliron_core.proofs.RowLemmas.{walk-row, within-row}
 
@@ -12,14 +12,14 @@ walk-list nodes l e xs is =
     ap (walk nodes (length nodes)) is.head ∙ walk-row nodes l None xs (length nodes) (distinct-length (length nodes) xs is.distinct (λ x i. within-row nodes l None xs None x is.row i)) is.row
 
 -- the links determine the lists
-pub lists-sound : (nodes : List Node) (ends : List Ends) (lists : List (List ℕ)) → IsSound nodes ends lists → lists ≡ lists_of nodes ends
+pub lists-sound : (nodes : List Node) (ends : List Ends) (lists : List (List ℕ)) → AreSoundLists nodes ends lists → lists ≡ lists_of nodes ends
 lists-sound nodes ends lists is =
     same_lists lists (lists_of nodes ends) (sym is.count ∙ sym (length-map ends _)) (λ k d h.
     let within : k < length ends = omega (arith, is.count) in
     get_or_default lists k d [] h ∙ sym (walk-list nodes k _ _ (is.each k within)) ∙ sym (get_or-map (λ e. walk nodes (length nodes) e.head) ends k no_ends d within))
 
-pub IsSound-view : (nodes : List Node) (ends : List Ends) (lists : List (List ℕ)) → IsSound nodes ends lists → IsSound nodes ends (lists_of nodes ends)
-IsSound-view nodes ends lists is = subst (IsSound nodes ends) (lists-sound nodes ends lists is) is
+pub IsSound-view : (nodes : List Node) (ends : List Ends) (lists : List (List ℕ)) → AreSoundLists nodes ends lists → AreSoundLists nodes ends (lists_of nodes ends)
+IsSound-view nodes ends lists is = subst (AreSoundLists nodes ends) (lists-sound nodes ends lists is) is
 
 pub owners-at : (nodes : List Node) (x : ℕ) → get_or (owners_of nodes) x None ≡ (node_at nodes x).owner
 owners-at nodes x =

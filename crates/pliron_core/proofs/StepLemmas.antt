@@ -5,7 +5,7 @@ use Rattle.std.proofs.lemmas.List.{get_or-set_same, get_or-set_other, length-set
 use Rattle.pliron_core.specs.declared.links.Node.{Node}
 use Rattle.pliron_core.specs.declared.links.Ends.{Ends}
 use Rattle.pliron_core.specs.Lists.{first_of, last_of}
-use Rattle.pliron_core.specs.Nodes.{no_node, no_ends, node_at, ends_at, with_next, with_prev, with_head, with_tail, In, IsRow, IsList, IsSound, owners_of}
+use Rattle.pliron_core.specs.Nodes.{no_node, no_ends, node_at, ends_at, with_next, with_prev, with_first, with_tail, In, IsRow, IsList, AreSoundLists, owners_of}
 use Rattle.pliron_core.proofs.ListLemmas.{AreApart, In-left, In-right, In-cases, distinct-front, distinct-back, distinct-apart, distinct-join}
 use Rattle.pliron_core.proofs.RowLemmas.{final, In-final, last_of-final, relink, row-front, row-back, row-append, row-frame, owner-row, last_of-append}
 use Rattle.pliron_core.proofs.SoundLemmas.{owners-at, owners-with_next, owners-with_prev, row-same}
@@ -33,10 +33,10 @@ length-with_prev nodes None v = refl
 length-with_prev nodes (Some x) v = length-set nodes x _
 
 -- the head and the tail after a change between `front` and `back`
-pub head-linked : (front middle back : List ℕ) (e : Ends) (v : Option ℕ) → v ≡ first_of (middle ++ back) None → ((y : ℕ) (ys : List ℕ) → front ≡ y ∷ ys → e.head ≡ Some y) → (with_head e (last_of None front) v).head ≡ first_of (front ++ middle ++ back) None
+pub head-linked : (front middle back : List ℕ) (e : Ends) (v : Option ℕ) → v ≡ first_of (middle ++ back) None → ((y : ℕ) (ys : List ℕ) → front ≡ y ∷ ys → e.head ≡ Some y) → (with_first e (last_of None front) v).head ≡ first_of (front ++ middle ++ back) None
 head-linked [] middle back e v is here = is
 head-linked (y ∷ ys) middle back e v is here =
-    subst (λ p. (with_head e p v).head ≡ Some y) (sym (last_of-final None y ys)) (here y ys refl)
+    subst (λ p. (with_first e p v).head ≡ Some y) (sym (last_of-final None y ys)) (here y ys refl)
 
 pub tail-linked : (rest back : List ℕ) (e : Ends) (v : Option ℕ) → v ≡ last_of None rest → (e.tail ≡ last_of None back ⊎ back ≡ []) → (with_tail e (first_of back None) v).tail ≡ last_of None (rest ++ back)
 tail-linked rest [] e v is here = is ∙ sym (last_of-append None rest [])
@@ -47,7 +47,7 @@ tail-linked rest (b ∷ bs) e v is here =
     ]
 
 -- each end is written alone
-pub tail-keeps : (e : Ends) (p v : Option ℕ) → (with_head e p v).tail ≡ e.tail
+pub tail-keeps : (e : Ends) (p v : Option ℕ) → (with_first e p v).tail ≡ e.tail
 tail-keeps e None v = refl
 tail-keeps e (Some x) v = refl
 
@@ -71,9 +71,9 @@ module _ (nodes : List Node) (ends : List Ends) (lists : List (List ℕ)) (l x :
   nodes3 = with_prev (with_next nodes1 (last_of None front) (Some x)) (first_of back None) (Some x)
 
   abbrev pub ends3 : Ends
-  ends3 = with_tail (with_head (ends_at ends l) (last_of None front) (Some x)) (first_of back None) (Some x)
+  ends3 = with_tail (with_first (ends_at ends l) (last_of None front) (Some x)) (first_of back None) (Some x)
 
-  module _ (is : IsSound nodes ends lists) (within : l < length ends) (inside : x < length nodes) (free : (node_at nodes x).owner ≡ None) (here : get_or lists l [] ≡ front ++ back) where
+  module _ (is : AreSoundLists nodes ends lists) (within : l < length ends) (inside : x < length nodes) (free : (node_at nodes x).owner ≡ None) (here : get_or lists l [] ≡ front ++ back) where
     old : IsList nodes l (ends_at ends l) (front ++ back)
     old = subst (IsList nodes l (ends_at ends l)) here (is.each l within)
 
@@ -141,7 +141,7 @@ module _ (nodes : List Node) (ends : List Ends) (lists : List (List ℕ)) (l x :
         ]
 
     -- a node that no list has goes between `front` and `back`
-    pub IsSound-insert : IsSound nodes3 (set ends l ends3) (set lists l (front ++ x ∷ back))
+    pub IsSound-insert : AreSoundLists nodes3 (set ends l ends3) (set lists l (front ++ x ∷ back))
     IsSound-insert =
         record {
           count = length-set ends l _ ∙ is.count ∙ sym (length-set lists l _);

@@ -7,12 +7,12 @@ use Rattle.std.proofs.lemmas.List.Concat.{flat_map-append}
 use Rattle.std.proofs.lemmas.Option.{slice_get_within, slice_get_read}
 use Rattle.pliron_core.specs.declared.context.RegionSlot.{RegionSlot}
 use Rattle.pliron_core.specs.declared.context.OperationEntry.{OperationEntry}
-use Rattle.pliron_core.specs.Lists.{In, IsDistinct, Lists, first_of, next_in, next_of, next_in_owner}
+use Rattle.pliron_core.specs.Lists.{In, IsDistinct, Lists, first_of, next_in, next_in_lists, next_in_owner}
 use Rattle.pliron_core.specs.Tree.{Tree, IsLive, IsBlock, IsRegion, IsListedBy, IsInside, IsWithin, no_entry, row_of, regions_of, parent_of, body_of, layout_of, block_parent_of, slot_of, holder_of}
 use Rattle.pliron_core.specs.Tree.IsInside.{Directly, Deeper}
 use Rattle.pliron_core.specs.Joined.{IsTree}
 use Rattle.pliron_core.specs.Walks.{children_of_region, children, contents, preorder}
-use Rattle.pliron_core.specs.WalkSteps.{rest_after, rest_from, blocks_in, blocks_from, first_in_blocks, first_in_regions, GoesOn}
+use Rattle.pliron_core.specs.WalkSteps.{rest_after, rest_from, blocks_in, blocks_from, first_in_blocks, first_in_regions, IsFollowedBy}
 use Rattle.pliron_core.proofs.ListLemmas.{distinct-apart, split_at, next_in-split}
 use Rattle.pliron_core.proofs.FlatLemmas.{flat_map-drop, first_of-pieces}
 use Rattle.pliron_core.proofs.ForestLemmas as forest
@@ -109,21 +109,21 @@ module _ (t : Tree) (w : IsTree t) where
 
   -- the next block, by the links of the blocks
   module _ (s : Lists) (lists : s.lists ≡ t.layouts) (owners : s.owners ≡ t.block_parents) where
-    next_is : (b r : ℕ) → block_parent_of t b ≡ Some r → next_of s b ≡ next_in b (layout_of t r)
+    next_is : (b r : ℕ) → block_parent_of t b ≡ Some r → next_in_lists s b ≡ next_in b (layout_of t r)
     next_is b r e =
         ap (λ o. next_in_owner s o b) (ap (λ z. get_or z b None) owners ∙ e) ∙ ap (λ z. next_in b (get_or z r [])) lists
 
-    pub next_block : (b c : ℕ) → next_of s b ≡ Some c → IsBlock t c
+    pub next_block : (b c : ℕ) → next_in_lists s b ≡ Some c → IsBlock t c
     next_block b c e = go (block_parent_of t b) refl
       where
         go : (o : Option ℕ) → block_parent_of t b ≡ o → IsBlock t c
-        go None f = let none : next_of s b ≡ None = ap (λ o. next_in_owner s o b) (ap (λ z. get_or z b None) owners ∙ f) in absurd (cc)
+        go None f = let none : next_in_lists s b ≡ None = ap (λ o. next_in_owner s o b) (ap (λ z. get_or z b None) owners ∙ f) in absurd (cc)
         go (Some r) f = some_block t c r (w.layouts.owned c r (member_of_next b c (layout_of t r) (sym (next_is b r f) ∙ e)))
 
-    pub blocks_next : (b : ℕ) → IsBlock t b → blocks_from t (Some b) ≡ b ∷ blocks_from t (next_of s b)
+    pub blocks_next : (b : ℕ) → IsBlock t b → blocks_from t (Some b) ≡ b ∷ blocks_from t (next_in_lists s b)
     blocks_next b is = go (block_parent_of t b) refl
       where
-        go : (o : Option ℕ) → block_parent_of t b ≡ o → blocks_from t (Some b) ≡ b ∷ blocks_from t (next_of s b)
+        go : (o : Option ℕ) → block_parent_of t b ≡ o → blocks_from t (Some b) ≡ b ∷ blocks_from t (next_in_lists s b)
         go None f = let none : is_some (block_parent_of t b) ≡ false = ap is_some f in absurd (cc)
         go (Some r) f =
             ap (λ o. b ∷ rest_after b (blocks_in t o)) f ∙ ap (λ zs. b ∷ zs) (sym (ap (blocks_from t) (next_is b r f) ∙ blocks_from-next b r f))
@@ -148,7 +148,7 @@ module _ (t : Tree) (w : IsTree t) where
   first_child op = ap (λ zs. first_of zs None) (contents-children t w op) ∙ first_of-pieces (λ c. contents t c) (children t op) None
 
   -- what follows an operation and its contents is its next sibling, or what follows its holder
-  pub goes_up : (root x k : ℕ) (o : Option ℕ) → holder_of t x ≡ Some k → GoesOn (preorder t root) (preorder t k) o → GoesOn (preorder t root) (preorder t x) (or_next (next_in x (children t k)) o)
+  pub goes_up : (root x k : ℕ) (o : Option ℕ) → holder_of t x ≡ Some k → IsFollowedBy (preorder t root) (preorder t k) o → IsFollowedBy (preorder t root) (preorder t x) (or_next (next_in x (children t k)) o)
   goes_up root x k o e g =
       let s = split_at x (children t k) (holder-children t w x k e) in
       let pieces = λ (xs : List ℕ). flat_map (λ c. preorder t c) xs in
@@ -160,16 +160,16 @@ module _ (t : Tree) (w : IsTree t) where
         first_of-or_append (pieces s.1) g.1 ∙ ap (λ z. or_next z (first_of g.1 None)) (first_of-pieces (λ c. contents t c) s.1 None ∙ sym next) ∙ ap (or_next (next_in x (children t k))) g.3,
       )
 
-  pub goes_on-root : (root : ℕ) → GoesOn (preorder t root) (preorder t root) None
+  pub goes_on-root : (root : ℕ) → IsFollowedBy (preorder t root) (preorder t root) None
   goes_on-root root = ([], [], sym (append-nil (preorder t root)), refl)
 
-  pub goes_on : (root x : ℕ) → IsWithin t root x → (o : Option ℕ) × GoesOn (preorder t root) (preorder t x) o
-  goes_on root x (inl e) = (None, subst (λ z. GoesOn (preorder t root) (preorder t z) None) (sym e) (goes_on-root root))
+  pub goes_on : (root x : ℕ) → IsWithin t root x → (o : Option ℕ) × IsFollowedBy (preorder t root) (preorder t x) o
+  goes_on root x (inl e) = (None, subst (λ z. IsFollowedBy (preorder t root) (preorder t z) None) (sym e) (goes_on-root root))
   goes_on root x (inr (Directly e)) = (or_next (next_in x (children t root)) None, goes_up root x root None e (goes_on-root root))
   goes_on root x (inr (Deeper p e u)) = let r = goes_on root p (inr u) in (or_next (next_in x (children t p)) r.0, goes_up root x p r.0 e r.1)
 
   -- the next of the walk, when that is found
-  pub next_walked : (root x : ℕ) (o : Option ℕ) → GoesOn (preorder t root) (preorder t x) o → next_in x (preorder t root) ≡ or_next (first_of (children t x) None) o
+  pub next_walked : (root x : ℕ) (o : Option ℕ) → IsFollowedBy (preorder t root) (preorder t x) o → next_in x (preorder t root) ≡ or_next (first_of (children t x) None) o
   next_walked root x o g =
       let whole : preorder t root ≡ g.0 ++ x ∷ (contents t x ++ g.1) = g.2 in
       ap (next_in x) whole ∙ next_in-split x g.0 (contents t x ++ g.1) (λ i. distinct-apart g.0 (x ∷ (contents t x ++ g.1)) (subst IsDistinct whole (distinct-preorder t w root)) x i (inl refl)) ∙ first_of-or_append (contents t x) g.1 ∙ ap (λ z. or_next z (first_of g.1 None)) (first_child x) ∙ ap (or_next (first_of (children t x) None)) g.3
@@ -183,7 +183,7 @@ module _ (t : Tree) (w : IsTree t) where
   row_read k e live read = read ∙ get_or_default t.operations k e no_entry (live_within t w k live)
 
   -- an empty block is passed
-  pub passed : (s : Lists) → s.lists ≡ t.layouts → s.owners ≡ t.block_parents → (b : ℕ) (next : Option ℕ) → IsBlock t b → is_some (first_of (body_of t b) None) ≡ false → next ≡ next_of s b → IsPassed t b next
+  pub passed : (s : Lists) → s.lists ≡ t.layouts → s.owners ≡ t.block_parents → (b : ℕ) (next : Option ℕ) → IsBlock t b → is_some (first_of (body_of t b) None) ≡ false → next ≡ next_in_lists s b → IsPassed t b next
   passed s lists owners b next is none e =
       let from : blocks_from t (Some b) ≡ b ∷ blocks_from t next = blocks_next s lists owners b is ∙ ap (λ o. b ∷ blocks_from t o) (sym e) in
       record {
@@ -194,7 +194,7 @@ module _ (t : Tree) (w : IsTree t) where
 
   pub block_found : (s : Lists) → s.lists ≡ t.layouts → s.owners ≡ t.block_parents → (b : ℕ) → IsBlock t b → is_some (first_of (body_of t b) None) ≡ true → first_in_blocks t (Some b) ≡ first_of (body_of t b) None
   block_found s lists owners b is some =
-      ap (λ zs. first_of (flat_map (λ b. body_of t b) zs) None) (blocks_next s lists owners b is) ∙ first_of-or_append (body_of t b) (flat_map (λ b. body_of t b) (blocks_from t (next_of s b))) ∙ or_next-some (first_of (body_of t b) None) _ some
+      ap (λ zs. first_of (flat_map (λ b. body_of t b) zs) None) (blocks_next s lists owners b is) ∙ first_of-or_append (body_of t b) (flat_map (λ b. body_of t b) (blocks_from t (next_in_lists s b))) ∙ or_next-some (first_of (body_of t b) None) _ some
 
   -- the operations of a region, from its first block on
   pub first_in_region : (r : ℕ) (o first : Option ℕ) → o ≡ first_of (layout_of t r) None → first ≡ first_in_blocks t o → first ≡ first_of (children_of_region t r) None
@@ -216,7 +216,7 @@ module _ (t : Tree) (w : IsTree t) where
       let a = contents-shorter t w k p (sym e) in let b = length-contents t w p in omega (arith, a, b)
 
   -- the next sibling, by where it is found
-  pub next_in_body : (s : Lists) → s.lists ≡ t.bodies → s.owners ≡ t.parents → (x b : ℕ) → parent_of t x ≡ Some b → next_of s x ≡ next_in x (body_of t b)
+  pub next_in_body : (s : Lists) → s.lists ≡ t.bodies → s.owners ≡ t.parents → (x b : ℕ) → parent_of t x ≡ Some b → next_in_lists s x ≡ next_in x (body_of t b)
   next_in_body s lists owners x b e =
       ap (λ o. next_in_owner s o x) (ap (λ z. get_or z x None) owners ∙ e) ∙ ap (λ z. next_in x (get_or z b [])) lists
 
@@ -233,19 +233,19 @@ module _ (t : Tree) (w : IsTree t) where
       sym (next_child x k p ∙ or_passed n _ _ e none ∙ or_passed m _ _ f none2 ∙ sym (g ∙ ap (λ i. first_in_regions t k i) one))
 
   -- the first of the blocks after this one
-  pub first_after_block : (s : Lists) → s.lists ≡ t.layouts → s.owners ≡ t.block_parents → (b r : ℕ) (o m : Option ℕ) → block_parent_of t b ≡ Some r → o ≡ next_of s b → m ≡ first_in_blocks t o → m ≡ first_of (flat_map (λ b. body_of t b) (rest_after b (layout_of t r))) None
+  pub first_after_block : (s : Lists) → s.lists ≡ t.layouts → s.owners ≡ t.block_parents → (b r : ℕ) (o m : Option ℕ) → block_parent_of t b ≡ Some r → o ≡ next_in_lists s b → m ≡ first_in_blocks t o → m ≡ first_of (flat_map (λ b. body_of t b) (rest_after b (layout_of t r))) None
   first_after_block s lists owners b r o m f e g =
       g ∙ ap (λ z. first_in_blocks t z) (e ∙ next_is s lists owners b r f) ∙ ap (λ zs. first_of (flat_map (λ b. body_of t b) zs) None) (blocks_from-next b r f)
 
   -- what follows, found beside or further up
-  pub found_beside : (root x k : ℕ) (n : Option ℕ) → holder_of t x ≡ Some k → IsWithin t root k → n ≡ next_in x (children t k) → is_some n ≡ true → GoesOn (preorder t root) (preorder t x) n
+  pub found_beside : (root x k : ℕ) (n : Option ℕ) → holder_of t x ≡ Some k → IsWithin t root k → n ≡ next_in x (children t k) → is_some n ≡ true → IsFollowedBy (preorder t root) (preorder t x) n
   found_beside root x k n e u f some =
       let g = goes_on root k u in
-      subst (GoesOn (preorder t root) (preorder t x)) (or_found n _ g.0 f some) (goes_up root x k g.0 e g.1)
+      subst (IsFollowedBy (preorder t root) (preorder t x)) (or_found n _ g.0 f some) (goes_up root x k g.0 e g.1)
 
-  pub found_above : (root x k : ℕ) (n : Option ℕ) → holder_of t x ≡ Some k → n ≡ next_in x (children t k) → is_some n ≡ false → (o : Option ℕ) → GoesOn (preorder t root) (preorder t k) o → GoesOn (preorder t root) (preorder t x) o
+  pub found_above : (root x k : ℕ) (n : Option ℕ) → holder_of t x ≡ Some k → n ≡ next_in x (children t k) → is_some n ≡ false → (o : Option ℕ) → IsFollowedBy (preorder t root) (preorder t k) o → IsFollowedBy (preorder t root) (preorder t x) o
   found_above root x k n e f none o g =
-      subst (GoesOn (preorder t root) (preorder t x)) (or_passed n _ o f none) (goes_up root x k o e g)
+      subst (IsFollowedBy (preorder t root) (preorder t x)) (or_passed n _ o f none) (goes_up root x k o e g)
 
   -- the same of the next, if there is one
   pub next_inside-if : (root x : ℕ) (o : Option ℕ) → o ≡ next_in x (preorder t root) → IfSome o (λ z. IsInside t root z)

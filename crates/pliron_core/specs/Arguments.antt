@@ -9,8 +9,8 @@ pub record Makers : Type 0 where
   pub rows : List (List ℕ)
   pub definitions : List Def
 
-abbrev pub row_of : Makers → ℕ → List ℕ
-row_of s block = slice_index_or s.rows block []
+abbrev pub argument_row_of : Makers → ℕ → List ℕ
+argument_row_of s block = slice_index_or s.rows block []
 
 -- what makes a value: the place where it stands as an argument, or what is written of it
 abbrev pub made : Def → List Use → Def

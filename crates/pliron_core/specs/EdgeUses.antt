@@ -11,8 +11,8 @@ pub record IsSource (t : Tree) (block user a : ℕ) : Type 0 where
   pub beside : block_parent_of t a ≡ block_parent_of t block
 
 -- no place of the user before this one names the block
-abbrev pub IsFirst : Tree → ℕ → ℕ → ℕ → Type 0
-IsFirst t block user place = (p : ℕ) → p < place → slice_get (successors_of t user) p ≢ Some block
+abbrev pub IsFirstPlace : Tree → ℕ → ℕ → ℕ → Type 0
+IsFirstPlace t block user place = (p : ℕ) → p < place → slice_get (successors_of t user) p ≢ Some block
 
 -- the i-th use of the block is an edge from `a`
 pub record IsEdge (v : View) (block i a : ℕ) : Type 0 where
@@ -25,4 +25,4 @@ pub record IsFirstEdge (v : View) (block i a : ℕ) : Type 0 where
   pub one : Use
   pub listed : slice_get (uses_of v.block_uses block) i ≡ Some one
   pub source : IsSource v.tree block one.user a
-  pub first : IsFirst v.tree block one.user one.place
+  pub first : IsFirstPlace v.tree block one.user one.place

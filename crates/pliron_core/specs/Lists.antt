@@ -53,8 +53,8 @@ next_in_owner s None x = None
 next_in_owner s (Some l) x = next_in x (list_of s l)
 
 -- the node directly after this one in the list that has it
-abbrev pub next_of : Lists → ℕ → Option ℕ
-next_of s x = next_in_owner s (owner_of s x) x
+abbrev pub next_in_lists : Lists → ℕ → Option ℕ
+next_in_lists s x = next_in_owner s (owner_of s x) x
 
 -- the node directly before this one in its owner's list
 abbrev pub prev_in_owner : Lists → Option ℕ → ℕ → Option ℕ
@@ -62,8 +62,8 @@ prev_in_owner s None x = None
 prev_in_owner s (Some l) x = prev_in None x (list_of s l)
 
 -- the node directly before this one in the list that has it
-abbrev pub prev_of : Lists → ℕ → Option ℕ
-prev_of s x = prev_in_owner s (owner_of s x) x
+abbrev pub prev_in_lists : Lists → ℕ → Option ℕ
+prev_in_lists s x = prev_in_owner s (owner_of s x) x
 
 -- `x` stands in the list
 abbrev pub In : ℕ → List ℕ → Type 0

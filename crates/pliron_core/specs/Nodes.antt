@@ -66,15 +66,15 @@ pub record IsList (nodes : List Node) (l : ℕ) (ends : Ends) (xs : List ℕ) : 
   pub distinct : IsDistinct xs
 
 -- nodes and ends stand for these lists, and only what stands in a list is owned
-pub record IsSound (nodes : List Node) (ends : List Ends) (lists : List (List ℕ)) : Type 0 where
+pub record AreSoundLists (nodes : List Node) (ends : List Ends) (lists : List (List ℕ)) : Type 0 where
   pub count : length ends ≡ length lists
   pub each : (l : ℕ) → l < length ends → IsList nodes l (ends_at ends l) (slice_index_or lists l [])
   pub owned : (x l : ℕ) → (node_at nodes x).owner ≡ Some l → (l < length ends) × In x (slice_index_or lists l [])
 
 -- the list's first node, where nothing stands before
-abbrev pub with_head : Ends → Option ℕ → Option ℕ → Ends
-with_head e None v = record e { head = v }
-with_head e (Some x) v = e
+abbrev pub with_first : Ends → Option ℕ → Option ℕ → Ends
+with_first e None v = record e { head = v }
+with_first e (Some x) v = e
 
 -- the list's last node, where nothing stands after
 abbrev pub with_tail : Ends → Option ℕ → Option ℕ → Ends

@@ -24,11 +24,11 @@ rank (p ∷ ps) zero = 0
 rank (p ∷ ps) (suc n) = if nat_eq p.target no_target then rank ps n else suc (rank ps n)
 
 -- a use, by its place among those that are taken
-abbrev pub seen : List (List Place) → Use → Use
-seen rows u = record { user = u.user; place = rank (slice_index_or rows u.user []) u.place }
+abbrev pub ranked_use : List (List Place) → Use → Use
+ranked_use rows u = record { user = u.user; place = rank (slice_index_or rows u.user []) u.place }
 
 abbrev pub uses_in : List (List Place) → List (List Use) → List (List Use)
-uses_in rows lists = map (map (seen rows)) lists
+uses_in rows lists = map (map (ranked_use rows)) lists
 
 -- the free places of the row are those in the gap
 pub record HasGap (row : List Place) (gap : Gap) : Type 0 where

@@ -21,5 +21,5 @@ view_of c = record {
   block_uses = c.successors.uses;
 }
 
-abbrev pub IsSound : Inside → Type 0
-IsSound c = IsWellFormed (view_of c)
+abbrev pub IsSoundContext : Inside → Type 0
+IsSoundContext c = IsWellFormed (view_of c)

@@ -13,8 +13,8 @@ pub record Table : Type 0 where
 abbrev pub targets_of : Table → ℕ → List ℕ
 targets_of s user = slice_index_or s.targets user []
 
-abbrev pub uses_of : Table → ℕ → List Use
-uses_of s target = slice_index_or s.uses target []
+abbrev pub table_uses : Table → ℕ → List Use
+table_uses s target = slice_index_or s.uses target []
 
 -- the lists of uses have each use once, and nothing else
 pub record AreAgreed (targets : List (List ℕ)) (uses : List (List Use)) : Type 0 where

@@ -1,4 +1,5 @@
 -- Words of the steps of a walk.
+pub use Rattle.pliron_core.specs.Edges.{blocks_in}
 use Rattle.std.specs.Prelude.{◌≡◌, ℕ, nat_eq, if◌then◌else◌, List, [], ◌∷◌, ◌++◌, drop, Option, Some, None}
 use Rattle.std.specs.List.{flat_map}
 use Rattle.pliron_core.specs.Lists.{first_of}
@@ -15,11 +16,6 @@ abbrev pub rest_from : Option ℕ → List ℕ → List ℕ
 rest_from None xs = []
 rest_from (Some at) xs = at ∷ rest_after at xs
 
--- the blocks of a region, if there is one
-abbrev pub blocks_in : Tree → Option ℕ → List ℕ
-blocks_in t None = []
-blocks_in t (Some r) = layout_of t r
-
 -- a block and those after it in its region
 abbrev pub blocks_from : Tree → Option ℕ → List ℕ
 blocks_from t None = []
@@ -34,5 +30,5 @@ abbrev pub first_in_regions : Tree → ℕ → ℕ → Option ℕ
 first_in_regions t op index = first_of (flat_map (λ r. children_of_region t r) (drop index (regions_of t op))) None
 
 -- the list has the part, and goes on with `next`
-abbrev pub GoesOn : List ℕ → List ℕ → Option ℕ → Type 0
-GoesOn whole part next = (front : List ℕ) × (back : List ℕ) × (whole ≡ front ++ (part ++ back)) × (first_of back None ≡ next)
+abbrev pub IsFollowedBy : List ℕ → List ℕ → Option ℕ → Type 0
+IsFollowedBy whole part next = (front : List ℕ) × (back : List ℕ) × (whole ≡ front ++ (part ++ back)) × (first_of back None ≡ next)

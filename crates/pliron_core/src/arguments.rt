@@ -2,7 +2,7 @@
 ghost use Rattle.std.specs.Prelude.{◌≡◌, ℕ, ◌+◌, ◌<◌, ◌≤◌, ◌^◌, ◌++◌, ◌∷◌, [], length, drop, remove, slice_get, slice_set, Some, IsTrue, ◌↔◌, IfOk, OnOk, OnErr, vec_len, vec_capacity};
 ghost use Rattle.std.specs.List.{range_with_len};
 ghost use Rattle.pliron_core.specs.Uses.{targets_of};
-ghost use Rattle.pliron_core.specs.Arguments.{Makers, row_of};
+ghost use Rattle.pliron_core.specs.Arguments.{Makers, argument_row_of};
 ghost use Rattle.pliron_core.specs.Making.{made_by, definitions_of};
 ghost use Rattle.pliron_core.specs.Writes.{numbered, result_definitions, argument_definitions};
 
@@ -71,7 +71,7 @@ impl Arguments {
     /// How many arguments a block has. Asks that there is such a block. Cost: constant.
     pub fn len(&self, block: Ptr<BasicBlock>) -> usize
         requires { block < length self.now.rows }
-        ensures { result ≡ length (row_of self.now block) }
+        ensures { result ≡ length (argument_row_of self.now block) }
     {
         self.lists.num_targets(block.index())
     }
@@ -80,15 +80,15 @@ impl Arguments {
     /// constant.
     pub fn get(&self, block: Ptr<BasicBlock>, i: usize) -> Value
         requires block { block < length self.now.rows }
-        requires index { i < length (row_of self.now block) }
-        ensures { slice_get (row_of self.now block) i ≡ Some result }
+        requires index { i < length (argument_row_of self.now block) }
+        ensures { slice_get (argument_row_of self.now block) i ≡ Some result }
     {
         Value::new(self.lists.target(block.index(), i))
     }
 
     /// Whether the value is the argument of the block at this index. Cost: constant.
     pub fn is_at(&self, block: Ptr<BasicBlock>, i: usize, value: Value) -> bool
-        ensures { IsTrue result ↔ (slice_get (row_of self.now block) i ≡ Some value) }
+        ensures { IsTrue result ↔ (slice_get (argument_row_of self.now block) i ≡ Some value) }
     {
         if block.index() < self.num_blocks() && i < self.len(block) {
             self.get(block, i) == value
@@ -163,9 +163,9 @@ impl Arguments {
     /// constant and at most twice the number of arguments after it.
     pub fn remove(&mut self, block: Ptr<BasicBlock>, i: usize)
         requires block { block < length self.old.rows }
-        requires index { i < length (row_of self.old block) }
-        ensures rows { self.new.rows ≡ slice_set self.old.rows block (remove (row_of self.old block) i) }
-        ensures definitions { self.new.definitions ≡ numbered self.old.definitions block i (drop (i + 1) (row_of self.old block)) }
+        requires index { i < length (argument_row_of self.old block) }
+        ensures rows { self.new.rows ≡ slice_set self.old.rows block (remove (argument_row_of self.old block) i) }
+        ensures definitions { self.new.definitions ≡ numbered self.old.definitions block i (drop (i + 1) (argument_row_of self.old block)) }
     {
         self.lists.agree();
         let value = self.lists.remove(block.index(), i);

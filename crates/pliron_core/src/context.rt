@@ -84,11 +84,11 @@ impl Model for Context {
 
     ghost Value = { View };
 
-    ghost use Rattle.pliron_core.specs.Tables.{view_of, IsSound};
+    ghost use Rattle.pliron_core.specs.Tables.{view_of, IsSoundContext};
 
     ghost view = { view_of };
 
-    ghost invariant = { IsSound };
+    ghost invariant = { IsSoundContext };
 }
 
 impl Context {

@@ -2,8 +2,8 @@
 //! constant time and no memory.
 
 ghost use Rattle.std.specs.Prelude.{◌≡◌, ◌+◌, ◌-◌, ◌<◌, ◌≤◌, [], ◌∷◌, ◌++◌, length, slice_set, slice_index_or, IsOk, OnOk, IfSome, Some, vec_len, vec_capacity};
-ghost use Rattle.pliron_core.specs.Lists.{Lists, owner_of, list_of, first_of, last_of, without, put_before, next_of, prev_of, AreOwned};
-ghost use Rattle.pliron_core.specs.Nodes.{with_next, with_prev, with_head, with_tail, InRange};
+ghost use Rattle.pliron_core.specs.Lists.{Lists, owner_of, list_of, first_of, last_of, without, put_before, next_in_lists, prev_in_lists, AreOwned};
+ghost use Rattle.pliron_core.specs.Nodes.{with_next, with_prev, with_first, with_tail, InRange};
 
 use std::alloc::{AllocError, Global};
 use std::marker::Model;
@@ -42,7 +42,7 @@ impl Model for Links {
     ghost Value = { Lists };
 
     ghost use Rattle.std.specs.Prelude.{◌-◌, vec_capacity, vec_len};
-    ghost use Rattle.pliron_core.specs.Nodes.{lists_of, owners_of, IsSound};
+    ghost use Rattle.pliron_core.specs.Nodes.{lists_of, owners_of, AreSoundLists};
 
     ghost view = { λ c. record {
       lists = lists_of c.nodes.items c.ends.items;
@@ -51,7 +51,7 @@ impl Model for Links {
       list_room = vec_capacity c.ends - vec_len c.ends;
     } };
 
-    ghost invariant = { λ c. IsSound c.nodes.items c.ends.items (lists_of c.nodes.items c.ends.items) };
+    ghost invariant = { λ c. AreSoundLists c.nodes.items c.ends.items (lists_of c.nodes.items c.ends.items) };
 }
 
 // Makes `next` stand after the node `before`, or at the head where there is none.
@@ -60,7 +60,7 @@ fn link_next(nodes: &mut Vec<Node>, ends: &mut Ends, before: Option<usize>, next
     ensures nodes { nodes.new.items ≡ with_next nodes.old.items before next }
     ensures len { vec_len nodes.new ≡ vec_len nodes.old }
     ensures capacity { vec_capacity nodes.new ≡ vec_capacity nodes.old }
-    ensures ends { ends.new ≡ with_head ends.old before next }
+    ensures ends { ends.new ≡ with_first ends.old before next }
 {
     match before {
         Some(key) => {
@@ -267,7 +267,7 @@ impl Links {
     /// list. Asks that the node is one that was added. Cost: constant.
     pub fn next(&self, node: usize) -> Option<usize>
         requires { node < length self.now.owners }
-        ensures next { result ≡ next_of self.now node }
+        ensures next { result ≡ next_in_lists self.now node }
         ensures same_owner { IfSome result (λ other. owner_of self.now other ≡ owner_of self.now node) }
     {
         let Node { owner, next, .. } = self.nodes[node];
@@ -281,7 +281,7 @@ impl Links {
     /// no list. Asks that the node is one that was added. Cost: constant.
     pub fn prev(&self, node: usize) -> Option<usize>
         requires { node < length self.now.owners }
-        ensures prev { result ≡ prev_of self.now node }
+        ensures prev { result ≡ prev_in_lists self.now node }
         ensures same_owner { IfSome result (λ other. owner_of self.now other ≡ owner_of self.now node) }
     {
         let Node { owner, prev, .. } = self.nodes[node];

@@ -2,7 +2,7 @@
 
 ghost use Rattle.std.specs.Prelude.{◌≡◌, ◌≢◌, ℕ, ◌+◌, ◌-◌, ◌^◌, ◌<◌, ◌≤◌, [], ◌∷◌, ◌++◌, length, map, slice_set, vec_capacity, vec_len, slice_get, slice_index_or, Some, take, IfOk, OnOk, OnErr, remove, replicate};
 ghost use Rattle.std.specs.List.{range_with_len};
-ghost use Rattle.pliron_core.specs.Uses.{Table, targets_of, uses_of, AreAgreed, replace_target};
+ghost use Rattle.pliron_core.specs.Uses.{Table, targets_of, table_uses, AreAgreed, replace_target};
 ghost use Rattle.pliron_core.specs.declared.uses.Use.{Use};
 ghost use Rattle.std.specs.Option.{option_map};
 ghost use Rattle.pliron_core.specs.declared.uses.Place.{Place as PlaceOf};
@@ -128,7 +128,7 @@ impl Uses {
     /// How many uses a target has. Asks that there is such a target. Cost: constant.
     pub fn num_uses(&self, target: usize) -> usize
         requires { target < length self.now.uses }
-        ensures { result ≡ length (uses_of self.now target) }
+        ensures { result ≡ length (table_uses self.now target) }
     {
         self.uses[target].len()
     }
@@ -137,8 +137,8 @@ impl Uses {
     /// index is below `num_uses`. Cost: constant.
     pub fn get_use(&self, target: usize, i: usize) -> Use
         requires target { target < length self.now.uses }
-        requires place { i < length (uses_of self.now target) }
-        ensures { slice_get (uses_of self.now target) i ≡ Some result }
+        requires place { i < length (table_uses self.now target) }
+        ensures { slice_get (table_uses self.now target) i ≡ Some result }
     {
         let Use { user, place } = self.uses[target].get(i);
         let gap = gap_at(&self.places, &self.gaps, user);

@@ -17,7 +17,7 @@ use Rattle.pliron_theory.proofs.Keeping.{keeps_refl, keeps_trans}
 use Rattle.pliron_theory.proofs.RemovedKeeps.{removed_keeps}
 use Rattle.pliron_dce.specs.Dead.{Item, Op, Arg, Use, IsDead}
 use Rattle.pliron_dce.specs.Steps.{IsReady, Among}
-use Rattle.pliron_dce.specs.Going.{Goes, Removes, GoInTurn, LeavesNoDead, HasDead, TellsDead, TellsGone, HasRegions, SomeHasRegions, IsOnTheWay}
+use Rattle.pliron_dce.specs.Going.{Goes, Removes, GoInTurn, LeavesNoDead, HasDead, TellsDead, TellsGone, HasRegions, SomeHasRegions, IsSweptSoFar}
 use Rattle.pliron_dce.proofs.ReadyLemmas.{ready_dead, no_dead}
 use Rattle.pliron_dce.proofs.Thinned.{IsThinned, back, forth}
 use Rattle.pliron_core.specs.declared.attrs.IRStatus.{IRStatus}
@@ -98,7 +98,7 @@ module _ (m : Meaning) (can_fold : Head → Bool) (SameTests : Head → Head →
   step t t' root (Use user place) w w' linked r g = absurd g
 
   abbrev OnWay : Tree → Tree → ℕ → List Item → Type 0
-  OnWay t0 t root gone = IsOnTheWay m shortened side_effects removable t0 t root gone
+  OnWay t0 t root gone = IsSweptSoFar m shortened side_effects removable t0 t root gone
 
   pub on_the_way : (t : Tree) (root : ℕ) → IsLive t root → OnWay t t root []
   on_the_way t root l = record {

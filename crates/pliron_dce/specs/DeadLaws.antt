@@ -6,7 +6,7 @@ use Rattle.pliron_laws.specs.Datum.{Head, Shape, Meaning}
 use Rattle.pliron_laws.specs.Linked.{IsWellLinked}
 use Rattle.pliron_dce.specs.Dead.{Item, Op, Arg, IsDead}
 use Rattle.pliron_dce.specs.Steps.{IsReady, Among, AreNoted, AreLookedAt}
-use Rattle.pliron_dce.specs.Going.{Goes, IsOnTheWay, LeavesNoDead}
+use Rattle.pliron_dce.specs.Going.{Goes, IsSweptSoFar, LeavesNoDead}
 
 -- a thing that is ready is dead; and where nothing is ready, nothing is dead
 pub record ReadyLaws (m : Meaning) (side_effects : Head → Option Bool) (removable : Head → ℕ → Bool → Option Bool) : Type 0 where
@@ -16,9 +16,9 @@ pub record ReadyLaws (m : Meaning) (side_effects : Head → Option Bool) (remova
 
 -- ready things go in turn: each step keeps what holds on the way, and at the end none of the dead stands
 pub record GoingLaws (m : Meaning) (shortened : Shape → ℕ → ℕ → Head) (side_effects : Head → Option Bool) (removable : Head → ℕ → Bool → Option Bool) : Type 0 where
-  pub start : (t : Tree) (root : ℕ) → IsLive t root → IsOnTheWay m shortened side_effects removable t t root []
-  pub more : (t0 t t' : Tree) (root : ℕ) (gone : List Item) (x : Item) → IsWellLinked m t0 root → IsTree t → IsTree t' → IsOnTheWay m shortened side_effects removable t0 t root gone → IsReady m side_effects removable t root x → Goes m shortened t t' x → IsOnTheWay m shortened side_effects removable t0 t' root (gone ++ x ∷ [])
-  pub done : (t0 t : Tree) (root : ℕ) (gone : List Item) → IsOnTheWay m shortened side_effects removable t0 t root gone → ((x : Item) → IsReady m side_effects removable t root x → ⊥) → LeavesNoDead m side_effects removable t0 t root
+  pub start : (t : Tree) (root : ℕ) → IsLive t root → IsSweptSoFar m shortened side_effects removable t t root []
+  pub more : (t0 t t' : Tree) (root : ℕ) (gone : List Item) (x : Item) → IsWellLinked m t0 root → IsTree t → IsTree t' → IsSweptSoFar m shortened side_effects removable t0 t root gone → IsReady m side_effects removable t root x → Goes m shortened t t' x → IsSweptSoFar m shortened side_effects removable t0 t' root (gone ++ x ∷ [])
+  pub done : (t0 t : Tree) (root : ℕ) (gone : List Item) → IsSweptSoFar m shortened side_effects removable t0 t root gone → ((x : Item) → IsReady m side_effects removable t root x → ⊥) → LeavesNoDead m side_effects removable t0 t root
 
 -- what is ready after a whole rewrite was ready before it, or is looked at
 abbrev pub PendingLaw : Meaning → (Shape → ℕ → ℕ → Head) → (Head → Option Bool) → (Head → ℕ → Bool → Option Bool) → Type 0

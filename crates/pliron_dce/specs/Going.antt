@@ -72,7 +72,7 @@ SomeHasRegions t gone = (x : Item) × Among x gone × HasRegions t x
 
 -- what holds on the way from the tree t0: dead things of t0 went in turn, all runs are kept, links stay,
 -- only what is inside the root changed, and what is dead is what was dead in t0 and still stands
-pub record IsOnTheWay (m : Meaning) (shortened : Shape → ℕ → ℕ → Head) (side_effects : Head → Option Bool) (removable : Head → ℕ → Bool → Option Bool) (t0 t : Tree) (root : ℕ) (gone : List Item) : Type 0 where
+pub record IsSweptSoFar (m : Meaning) (shortened : Shape → ℕ → ℕ → Head) (side_effects : Head → Option Bool) (removable : Head → ℕ → Bool → Option Bool) (t0 t : Tree) (root : ℕ) (gone : List Item) : Type 0 where
   pub went : GoInTurn m shortened gone t0 t
   pub dead : (x : Item) → Among x gone → IsDead m side_effects removable t0 root x
   pub keeps : KeepsRuns m t0 t

@@ -7,7 +7,7 @@ ghost use Rattle.pliron_laws.specs.Linked.{IsWellLinked};
 ghost use Rattle.pliron_theory.specs.Edges.{KeepsEdges, has_regions as is_with_regions};
 ghost use Rattle.pliron_dce.specs.Dead.{Item};
 ghost use Rattle.pliron_dce.specs.Steps.{IsReady};
-ghost use Rattle.pliron_dce.specs.Going.{Goes, HasRegions, SomeHasRegions, IsOnTheWay, LeavesNoDead, TellsGone};
+ghost use Rattle.pliron_dce.specs.Going.{Goes, HasRegions, SomeHasRegions, IsSweptSoFar, LeavesNoDead, TellsGone};
 ghost use Rattle.pliron_dce.specs.Work.{item_of, HasReady};
 
 use crate::ready::holder_of;
@@ -84,7 +84,7 @@ pub(crate) fn sweep<D: Dialect>(
     requires live { IsLive ctx.old.tree root }
     requires linked { IsWellLinked D.meaning ctx.old.tree root }
     requires all { HasReady D.meaning D.side_effects D.removable ctx.old.tree root candidates.items }
-    ensures gone { (gone : List Item) × IsOnTheWay D.meaning D.shortened D.side_effects D.removable ctx.old.tree ctx.new.tree root gone ×
+    ensures gone { (gone : List Item) × IsSweptSoFar D.meaning D.shortened D.side_effects D.removable ctx.old.tree ctx.new.tree root gone ×
         IfOk result (λ a. LeavesNoDead D.meaning D.side_effects D.removable ctx.old.tree ctx.new.tree root × TellsGone gone a.0 × (IsTrue a.1 ↔
         SomeHasRegions ctx.old.tree gone)) }
     ensures edges { IfOk result (λ a. (IsTrue a.1 → ⊥) → KeepsEdges ctx.old.tree ctx.new.tree) }

@@ -14,7 +14,7 @@ use Rattle.pliron_bench.specs.BenchNumbers.{datum_at, number_at}
 use Rattle.pliron_bench.specs.BenchMoves.{bench, act_of, no_act, branches, done, once, fitted, edge_of, edge_values, argument_count}
 use Rattle.pliron_evaluator.specs.declared.evaluator.values.Datum.{Datum as DatumValue}
 use Rattle.pliron_evaluator.specs.declared.evaluator.values.Move.{Move as MoveValue}
-use Rattle.pliron_evaluator.specs.Evaluator.{datum_of, move_of}
+use Rattle.pliron_evaluator.specs.Evaluator.{datum_of_value, move_of}
 use Rattle.pliron_laws.proofs.Records.{op_shows}
 use Rattle.pliron_laws.proofs.ShapeLemmas.{head_at, shape_head}
 
@@ -23,15 +23,15 @@ pub fitted_begins : (n : ℕ) (ds : List Datum) → fitted (suc n) ds ≡ datum_
 fitted_begins n [] = refl
 fitted_begins n (d ∷ ds) = refl
 
-pub datum_behind : (xs : List DatumValue) (i : ℕ) → datum_at (map datum_of xs) i ≡ datum_at (map datum_of (drop i xs)) 0
+pub datum_behind : (xs : List DatumValue) (i : ℕ) → datum_at (map datum_of_value xs) i ≡ datum_at (map datum_of_value (drop i xs)) 0
 datum_behind xs i =
     let same : i + 0 ≡ i = omega arith in
-    sym (ap (λ y. datum_at y 0) (sym (drop-map datum_of i xs)) ∙ get_or-drop i (map datum_of xs) 0 (Number (pos 0)) ∙ ap (datum_at (map datum_of xs)) same)
+    sym (ap (λ y. datum_at y 0) (sym (drop-map datum_of_value i xs)) ∙ get_or-drop i (map datum_of_value xs) 0 (Number (pos 0)) ∙ ap (datum_at (map datum_of_value xs)) same)
 
 -- the values along an edge
-pub along_edge : (n i : ℕ) (xs : List DatumValue) → map datum_of (edge_values n i xs) ≡ edge_values n i (map datum_of xs)
-along_edge n zero xs = sym (take-map datum_of n xs)
-along_edge n (suc i) xs = sym (drop-map datum_of n xs)
+pub along_edge : (n i : ℕ) (xs : List DatumValue) → map datum_of_value (edge_values n i xs) ≡ edge_values n i (map datum_of_value xs)
+along_edge n zero xs = sym (take-map datum_of_value n xs)
+along_edge n (suc i) xs = sym (drop-map datum_of_value n xs)
 
 module _ (t : Tree) (op : ℕ) (k : BenchKind) (memo : Datum) (input : List Datum) where
   -- what an operation of the kind does

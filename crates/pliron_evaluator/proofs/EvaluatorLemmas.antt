@@ -2,10 +2,10 @@
 use Rattle.std.proofs.Common.{◌≡◌, ◌≢◌, ℕ, suc, ◌<◌, ◌≤◌, ◌+◌, ◌-◌, if◌then◌else◌, Bool, true, false, nat_eq, List, [], ◌∷◌, ◌++◌, length, get_or, take, drop, map, Option, Some, None, refl, sym, ap, ◌∙◌, arith, append_assoc}
 use Rattle.std.proofs.lemmas.List.{drop_more, take_more, map-append, length-map, drop_all, drop-drop, append-nil}
 use Rattle.pliron_laws.specs.Datum.{Datum, Empty}
-use Rattle.pliron_laws.specs.States.{Environment, bound, bind, put_first, data_of}
+use Rattle.pliron_laws.specs.States.{Environment, bound, bind, prepended, data_of}
 use Rattle.pliron_evaluator.specs.declared.evaluator.values.Datum.{Datum as DatumValue}
-use Rattle.pliron_evaluator.specs.Tiny.{first_datum, fitted}
-use Rattle.pliron_evaluator.specs.Evaluator.{datum_of, environment_of}
+use Rattle.pliron_evaluator.specs.Tiny.{first_datum, fitted_or_empty}
+use Rattle.pliron_evaluator.specs.Evaluator.{datum_of_value, environment_of}
 
 -- at a place of a list
 pub drop_at : {X : Type 0} (xs : List X) (i : ℕ) (x : X) → i < length xs → x ≡ get_or xs i x → drop i xs ≡ x ∷ drop (i + 1) xs
@@ -15,30 +15,30 @@ pub take_at : {X : Type 0} (xs : List X) (i : ℕ) (x : X) → i < length xs →
 take_at xs i x lt e = take_more xs i x lt ∙ ap (λ z. take i xs ++ z ∷ []) (sym e)
 
 -- a value's datum is that of the binding here, or what the later ones say
-pub datum_here : (bs : List (ℕ × DatumValue)) (i v : ℕ) (b : ℕ × DatumValue) → i < length bs → b ≡ get_or bs i b → environment_of (drop i bs) v ≡ (if nat_eq v b.0 then Some (datum_of b.1) else environment_of (drop (i + 1) bs) v)
+pub datum_here : (bs : List (ℕ × DatumValue)) (i v : ℕ) (b : ℕ × DatumValue) → i < length bs → b ≡ get_or bs i b → environment_of (drop i bs) v ≡ (if nat_eq v b.0 then Some (datum_of_value b.1) else environment_of (drop (i + 1) bs) v)
 unfolding bound
 datum_here bs i v b lt e = ap (λ z. environment_of z v) (drop_at bs i b lt e)
 
 choice : {A : Type 0} (b c : Bool) (x y : A) → b ≡ c → (if b then x else y) ≡ (if c then x else y)
 choice b c x y e = ap (λ z. if z then x else y) e
 
-pub datum_found : (bs : List (ℕ × DatumValue)) (i v : ℕ) (b : ℕ × DatumValue) (d : DatumValue) → i < length bs → b ≡ get_or bs i b → nat_eq v b.0 ≡ true → datum_of d ≡ datum_of b.1 → environment_of bs v ≡ environment_of (drop i bs) v → Some (datum_of d) ≡ environment_of bs v
+pub datum_found : (bs : List (ℕ × DatumValue)) (i v : ℕ) (b : ℕ × DatumValue) (d : DatumValue) → i < length bs → b ≡ get_or bs i b → nat_eq v b.0 ≡ true → datum_of_value d ≡ datum_of_value b.1 → environment_of bs v ≡ environment_of (drop i bs) v → Some (datum_of_value d) ≡ environment_of bs v
 datum_found bs i v b d lt e same copied so_far = sym (so_far ∙ datum_here bs i v b lt e ∙ choice _ true _ _ same ∙ ap Some (sym copied))
 
 pub datum_passed : (bs : List (ℕ × DatumValue)) (i v : ℕ) (b : ℕ × DatumValue) → i < length bs → b ≡ get_or bs i b → nat_eq v b.0 ≡ false → environment_of bs v ≡ environment_of (drop i bs) v → environment_of bs v ≡ environment_of (drop (i + 1) bs) v
 datum_passed bs i v b lt e other so_far = so_far ∙ datum_here bs i v b lt e ∙ choice _ false _ _ other
 
 -- one binding more
-pub bind_more : (bs after : List (ℕ × DatumValue)) (vs : List ℕ) (ds : List DatumValue) (i v : ℕ) (x d : DatumValue) → i < length vs → i < length ds → v ≡ get_or vs i v → x ≡ get_or ds i x → datum_of d ≡ datum_of x → after ≡ (v, d) ∷ bs → bind (environment_of bs) (drop i vs) (map datum_of (drop i ds)) ≡ bind (environment_of after) (drop (i + 1) vs) (map datum_of (drop (i + 1) ds))
+pub bind_more : (bs after : List (ℕ × DatumValue)) (vs : List ℕ) (ds : List DatumValue) (i v : ℕ) (x d : DatumValue) → i < length vs → i < length ds → v ≡ get_or vs i v → x ≡ get_or ds i x → datum_of_value d ≡ datum_of_value x → after ≡ (v, d) ∷ bs → bind (environment_of bs) (drop i vs) (map datum_of_value (drop i ds)) ≡ bind (environment_of after) (drop (i + 1) vs) (map datum_of_value (drop (i + 1) ds))
 bind_more bs after vs ds i v x d lt lt' e f copied g =
-    ap (λ z. bind (environment_of bs) z (map datum_of (drop i ds))) (drop_at vs i v lt e)
-    ∙ ap (λ z. bind (environment_of bs) (v ∷ drop (i + 1) vs) (map datum_of z)) (drop_at ds i x lt' f)
-    ∙ ap (λ z. bind (bound (environment_of bs) v z) (drop (i + 1) vs) (map datum_of (drop (i + 1) ds))) (sym copied)
-    ∙ ap (λ z. bind (environment_of z) (drop (i + 1) vs) (map datum_of (drop (i + 1) ds))) (sym g)
+    ap (λ z. bind (environment_of bs) z (map datum_of_value (drop i ds))) (drop_at vs i v lt e)
+    ∙ ap (λ z. bind (environment_of bs) (v ∷ drop (i + 1) vs) (map datum_of_value z)) (drop_at ds i x lt' f)
+    ∙ ap (λ z. bind (bound (environment_of bs) v z) (drop (i + 1) vs) (map datum_of_value (drop (i + 1) ds))) (sym copied)
+    ∙ ap (λ z. bind (environment_of z) (drop (i + 1) vs) (map datum_of_value (drop (i + 1) ds))) (sym g)
 
-pub bind_done : (bs : List (ℕ × DatumValue)) (vs : List ℕ) (ds : List DatumValue) (i : ℕ) → length vs ≤ i → length ds ≤ i → bind (environment_of bs) (drop i vs) (map datum_of (drop i ds)) ≡ Some (environment_of bs)
+pub bind_done : (bs : List (ℕ × DatumValue)) (vs : List ℕ) (ds : List DatumValue) (i : ℕ) → length vs ≤ i → length ds ≤ i → bind (environment_of bs) (drop i vs) (map datum_of_value (drop i ds)) ≡ Some (environment_of bs)
 bind_done bs vs ds i le le' =
-    ap (λ z. bind (environment_of bs) z (map datum_of (drop i ds))) (drop_all i vs le) ∙ ap (λ z. bind (environment_of bs) [] (map datum_of z)) (drop_all i ds le')
+    ap (λ z. bind (environment_of bs) z (map datum_of_value (drop i ds))) (drop_all i vs le) ∙ ap (λ z. bind (environment_of bs) [] (map datum_of_value z)) (drop_all i ds le')
 
 bind_unequal : (env : Environment) (vs : List ℕ) (ds : List Datum) → length vs ≢ length ds → bind env vs ds ≡ None
 bind_unequal env [] [] n = absurd (n refl)
@@ -46,61 +46,61 @@ bind_unequal env [] (d ∷ ds) n = refl
 bind_unequal env (v ∷ vs) [] n = refl
 bind_unequal env (v ∷ vs) (d ∷ ds) n = bind_unequal (bound env v d) vs ds (λ e. n (ap suc e))
 
-pub bind_refused : (env : Environment) (vs : List ℕ) (ds : List DatumValue) → length vs ≢ length ds → bind env vs (map datum_of ds) ≡ None
-bind_refused env vs ds n = bind_unequal env vs (map datum_of ds) (λ e. n (e ∙ length-map ds datum_of))
+pub bind_refused : (env : Environment) (vs : List ℕ) (ds : List DatumValue) → length vs ≢ length ds → bind env vs (map datum_of_value ds) ≡ None
+bind_refused env vs ds n = bind_unequal env vs (map datum_of_value ds) (λ e. n (e ∙ length-map ds datum_of_value))
 
 -- the data found so far, and then those of the rest
 abbrev pub prepend : List Datum → Option (List Datum) → Option (List Datum)
 prepend ds None = None
 prepend ds (Some es) = Some (ds ++ es)
 
-found_first : (ds : List Datum) (d : Datum) (o : Option (List Datum)) → prepend ds (put_first (Some d) o) ≡ prepend (ds ++ d ∷ []) o
+found_first : (ds : List Datum) (d : Datum) (o : Option (List Datum)) → prepend ds (prepended (Some d) o) ≡ prepend (ds ++ d ∷ []) o
 found_first ds d None = refl
 found_first ds d (Some es) = ap Some (sym (append_assoc ds (d ∷ []) es))
 
-pub data_more : (env : Environment) (vs : List ℕ) (i v : ℕ) (d : DatumValue) (ds after : List DatumValue) → i < length vs → v ≡ get_or vs i v → Some (datum_of d) ≡ env v → after ≡ ds ++ d ∷ [] → prepend (map datum_of ds) (data_of env (drop i vs)) ≡ prepend (map datum_of after) (data_of env (drop (i + 1) vs))
+pub data_more : (env : Environment) (vs : List ℕ) (i v : ℕ) (d : DatumValue) (ds after : List DatumValue) → i < length vs → v ≡ get_or vs i v → Some (datum_of_value d) ≡ env v → after ≡ ds ++ d ∷ [] → prepend (map datum_of_value ds) (data_of env (drop i vs)) ≡ prepend (map datum_of_value after) (data_of env (drop (i + 1) vs))
 data_more env vs i v d ds after lt e found g =
-    ap (λ z. prepend (map datum_of ds) (data_of env z)) (drop_at vs i v lt e)
-    ∙ ap (λ o. prepend (map datum_of ds) (put_first o (data_of env (drop (i + 1) vs)))) (sym found)
-    ∙ found_first (map datum_of ds) (datum_of d) (data_of env (drop (i + 1) vs))
-    ∙ ap (λ z. prepend z (data_of env (drop (i + 1) vs))) (sym (map-append datum_of ds (d ∷ [])))
-    ∙ ap (λ z. prepend (map datum_of z) (data_of env (drop (i + 1) vs))) (sym g)
+    ap (λ z. prepend (map datum_of_value ds) (data_of env z)) (drop_at vs i v lt e)
+    ∙ ap (λ o. prepend (map datum_of_value ds) (prepended o (data_of env (drop (i + 1) vs)))) (sym found)
+    ∙ found_first (map datum_of_value ds) (datum_of_value d) (data_of env (drop (i + 1) vs))
+    ∙ ap (λ z. prepend z (data_of env (drop (i + 1) vs))) (sym (map-append datum_of_value ds (d ∷ [])))
+    ∙ ap (λ z. prepend (map datum_of_value z) (data_of env (drop (i + 1) vs))) (sym g)
 
 -- a datum at a place of the input, or none
-pub datum_in : (xs : List DatumValue) (i : ℕ) (x d : DatumValue) → i < length xs → x ≡ get_or xs i x → datum_of d ≡ datum_of x → datum_of d ≡ first_datum (map datum_of (drop i xs))
-datum_in xs i x d lt e copied = copied ∙ sym (ap (λ z. first_datum (map datum_of z)) (drop_at xs i x lt e))
+pub datum_in : (xs : List DatumValue) (i : ℕ) (x d : DatumValue) → i < length xs → x ≡ get_or xs i x → datum_of_value d ≡ datum_of_value x → datum_of_value d ≡ first_datum (map datum_of_value (drop i xs))
+datum_in xs i x d lt e copied = copied ∙ sym (ap (λ z. first_datum (map datum_of_value z)) (drop_at xs i x lt e))
 
-pub no_datum : (xs : List DatumValue) (i : ℕ) → length xs ≤ i → Empty ≡ first_datum (map datum_of (drop i xs))
-no_datum xs i le = sym (ap (λ z. first_datum (map datum_of z)) (drop_all i xs le))
+pub no_datum : (xs : List DatumValue) (i : ℕ) → length xs ≤ i → Empty ≡ first_datum (map datum_of_value (drop i xs))
+no_datum xs i le = sym (ap (λ z. first_datum (map datum_of_value z)) (drop_all i xs le))
 
 -- one copy more
-pub copies_more : (xs copies after : List DatumValue) (i : ℕ) (x d : DatumValue) → i < length xs → x ≡ get_or xs i x → datum_of d ≡ datum_of x → after ≡ copies ++ d ∷ [] → map datum_of copies ≡ map datum_of (take i xs) → map datum_of after ≡ map datum_of (take (i + 1) xs)
+pub copies_more : (xs copies after : List DatumValue) (i : ℕ) (x d : DatumValue) → i < length xs → x ≡ get_or xs i x → datum_of_value d ≡ datum_of_value x → after ≡ copies ++ d ∷ [] → map datum_of_value copies ≡ map datum_of_value (take i xs) → map datum_of_value after ≡ map datum_of_value (take (i + 1) xs)
 copies_more xs copies after i x d lt e copied g so_far =
-    ap (map datum_of) g ∙ map-append datum_of copies (d ∷ []) ∙ ap (λ z. z ++ datum_of d ∷ []) so_far ∙ ap (λ z. map datum_of (take i xs) ++ z ∷ []) copied ∙ sym (map-append datum_of (take i xs) (x ∷ [])) ∙ ap (map datum_of) (sym (take_at xs i x lt e))
+    ap (map datum_of_value) g ∙ map-append datum_of_value copies (d ∷ []) ∙ ap (λ z. z ++ datum_of_value d ∷ []) so_far ∙ ap (λ z. map datum_of_value (take i xs) ++ z ∷ []) copied ∙ sym (map-append datum_of_value (take i xs) (x ∷ [])) ∙ ap (map datum_of_value) (sym (take_at xs i x lt e))
 
-drop_one : (xs : List DatumValue) → drop 1 (map datum_of xs) ≡ map datum_of (drop 1 xs)
+drop_one : (xs : List DatumValue) → drop 1 (map datum_of_value xs) ≡ map datum_of_value (drop 1 xs)
 drop_one [] = refl
 drop_one (x ∷ xs) = refl
 
-pub tiny_begins : (n : ℕ) (ds : List Datum) → fitted (suc n) ds ≡ first_datum ds ∷ fitted n (drop 1 ds)
+pub tiny_begins : (n : ℕ) (ds : List Datum) → fitted_or_empty (suc n) ds ≡ first_datum ds ∷ fitted_or_empty n (drop 1 ds)
 tiny_begins n [] = refl
 tiny_begins n (d ∷ ds) = refl
 
 -- data that are cut or filled, datum by datum
 module _ (fit : ℕ → List Datum → List Datum) (first : List Datum → Datum) where
-  pub fitted_more : ((n : ℕ) (ds : List Datum) → fit (suc n) ds ≡ first ds ∷ fit n (drop 1 ds)) → (n i : ℕ) (xs ds after : List DatumValue) (d : DatumValue) → i < n → datum_of d ≡ first (map datum_of (drop i xs)) → after ≡ ds ++ d ∷ [] → map datum_of ds ++ fit (n - i) (map datum_of (drop i xs)) ≡ map datum_of after ++ fit (n - (i + 1)) (map datum_of (drop (i + 1) xs))
+  pub fitted_more : ((n : ℕ) (ds : List Datum) → fit (suc n) ds ≡ first ds ∷ fit n (drop 1 ds)) → (n i : ℕ) (xs ds after : List DatumValue) (d : DatumValue) → i < n → datum_of_value d ≡ first (map datum_of_value (drop i xs)) → after ≡ ds ++ d ∷ [] → map datum_of_value ds ++ fit (n - i) (map datum_of_value (drop i xs)) ≡ map datum_of_value after ++ fit (n - (i + 1)) (map datum_of_value (drop (i + 1) xs))
   fitted_more begins n i xs ds after d lt here g =
       let count : n - i ≡ suc (n - (i + 1)) = omega arith in
-      let further : drop 1 (map datum_of (drop i xs)) ≡ map datum_of (drop (i + 1) xs) = drop_one (drop i xs) ∙ ap (map datum_of) (drop-drop 1 i xs) in
-      ap (λ z. map datum_of ds ++ fit z (map datum_of (drop i xs))) count
-      ∙ ap (λ z. map datum_of ds ++ z) (begins (n - (i + 1)) (map datum_of (drop i xs)))
-      ∙ ap (λ z. map datum_of ds ++ (z ∷ fit (n - (i + 1)) (drop 1 (map datum_of (drop i xs))))) (sym here)
-      ∙ ap (λ z. map datum_of ds ++ (datum_of d ∷ fit (n - (i + 1)) z)) further
-      ∙ sym (append_assoc (map datum_of ds) (datum_of d ∷ []) (fit (n - (i + 1)) (map datum_of (drop (i + 1) xs))))
-      ∙ ap (λ z. z ++ fit (n - (i + 1)) (map datum_of (drop (i + 1) xs))) (sym (map-append datum_of ds (d ∷ [])))
-      ∙ ap (λ z. map datum_of z ++ fit (n - (i + 1)) (map datum_of (drop (i + 1) xs))) (sym g)
+      let further : drop 1 (map datum_of_value (drop i xs)) ≡ map datum_of_value (drop (i + 1) xs) = drop_one (drop i xs) ∙ ap (map datum_of_value) (drop-drop 1 i xs) in
+      ap (λ z. map datum_of_value ds ++ fit z (map datum_of_value (drop i xs))) count
+      ∙ ap (λ z. map datum_of_value ds ++ z) (begins (n - (i + 1)) (map datum_of_value (drop i xs)))
+      ∙ ap (λ z. map datum_of_value ds ++ (z ∷ fit (n - (i + 1)) (drop 1 (map datum_of_value (drop i xs))))) (sym here)
+      ∙ ap (λ z. map datum_of_value ds ++ (datum_of_value d ∷ fit (n - (i + 1)) z)) further
+      ∙ sym (append_assoc (map datum_of_value ds) (datum_of_value d ∷ []) (fit (n - (i + 1)) (map datum_of_value (drop (i + 1) xs))))
+      ∙ ap (λ z. z ++ fit (n - (i + 1)) (map datum_of_value (drop (i + 1) xs))) (sym (map-append datum_of_value ds (d ∷ [])))
+      ∙ ap (λ z. map datum_of_value z ++ fit (n - (i + 1)) (map datum_of_value (drop (i + 1) xs))) (sym g)
 
-  pub fitted_done : ((ds : List Datum) → fit 0 ds ≡ []) → (n i : ℕ) (xs ds : List DatumValue) → n ≤ i → map datum_of ds ++ fit (n - i) (map datum_of (drop i xs)) ≡ map datum_of ds
+  pub fitted_done : ((ds : List Datum) → fit 0 ds ≡ []) → (n i : ℕ) (xs ds : List DatumValue) → n ≤ i → map datum_of_value ds ++ fit (n - i) (map datum_of_value (drop i xs)) ≡ map datum_of_value ds
   fitted_done ends n i xs ds le =
       let count : n - i ≡ 0 = omega arith in
-      ap (λ z. map datum_of ds ++ fit z (map datum_of (drop i xs))) count ∙ ap (λ z. map datum_of ds ++ z) (ends (map datum_of (drop i xs))) ∙ append-nil (map datum_of ds)
+      ap (λ z. map datum_of_value ds ++ fit z (map datum_of_value (drop i xs))) count ∙ ap (λ z. map datum_of_value ds ++ z) (ends (map datum_of_value (drop i xs))) ∙ append-nil (map datum_of_value ds)

@@ -15,7 +15,7 @@ use Rattle.pliron_evaluator.specs.declared.evaluator.state.Next.{Next as NextVal
 use Rattle.pliron_evaluator.specs.declared.evaluator.state.Next.TheVariants.{Goes as GoesValue, Over as OverValue}
 use Rattle.pliron_evaluator.specs.declared.evaluator.state.State.{State as StateValue}
 use Rattle.pliron_evaluator.specs.declared.evaluator.values.Sight.{Sight as SightValue}
-use Rattle.pliron_evaluator.specs.Evaluator.{datum_of, sight_of, state_of, next_of}
+use Rattle.pliron_evaluator.specs.Evaluator.{datum_of_value, sight_of, state_of, next_of_value}
 use Rattle.pliron_laws.proofs.Records.{op_shows, block_of, region_entry}
 use Rattle.pliron_laws.proofs.ShapeLemmas.{live_at, operands_at}
 
@@ -60,13 +60,13 @@ pub block_count : (t : Tree) (b : ℕ) → IsBlock t b → length (arguments_of 
 block_count t b s = sym (ap count_arguments (block_stands t b s).1)
 
 -- what binding came to
-pub not_bound : (env after : Environment) (vs ws : List ℕ) (ds es : List DatumValue) (fits : Bool) → vs ≡ ws → ds ≡ es → fits ≡ false → bind env vs (map datum_of ds) ≡ (if fits then Some after else None) → bind env ws (map datum_of es) ≡ None
+pub not_bound : (env after : Environment) (vs ws : List ℕ) (ds es : List DatumValue) (fits : Bool) → vs ≡ ws → ds ≡ es → fits ≡ false → bind env vs (map datum_of_value ds) ≡ (if fits then Some after else None) → bind env ws (map datum_of_value es) ≡ None
 not_bound env after vs ws ds es fits e f g h =
-    sym (ap (λ z. bind env z (map datum_of ds)) e ∙ ap (λ z. bind env ws (map datum_of z)) f) ∙ h ∙ ap (λ z. if z then Some after else None) g
+    sym (ap (λ z. bind env z (map datum_of_value ds)) e ∙ ap (λ z. bind env ws (map datum_of_value z)) f) ∙ h ∙ ap (λ z. if z then Some after else None) g
 
-pub all_bound : (env after : Environment) (vs ws : List ℕ) (ds es : List DatumValue) (fits : Bool) → vs ≡ ws → ds ≡ es → fits ≡ true → bind env vs (map datum_of ds) ≡ (if fits then Some after else None) → bind env ws (map datum_of es) ≡ Some after
+pub all_bound : (env after : Environment) (vs ws : List ℕ) (ds es : List DatumValue) (fits : Bool) → vs ≡ ws → ds ≡ es → fits ≡ true → bind env vs (map datum_of_value ds) ≡ (if fits then Some after else None) → bind env ws (map datum_of_value es) ≡ Some after
 all_bound env after vs ws ds es fits e f g h =
-    sym (ap (λ z. bind env z (map datum_of ds)) e ∙ ap (λ z. bind env ws (map datum_of z)) f) ∙ h ∙ ap (λ z. if z then Some after else None) g
+    sym (ap (λ z. bind env z (map datum_of_value ds)) e ∙ ap (λ z. bind env ws (map datum_of_value z)) f) ∙ h ∙ ap (λ z. if z then Some after else None) g
 
 module _ (t : Tree) (s : State) (ds : List Datum) where
   entered : (o : Option ℕ) (b : ℕ) → o ≡ Some b → IsBlock t b → enter s (and_block t o) ds s.waiting ≡ begin s (body_of t b) s.waiting (bind s.environment (arguments_of t b) ds)
@@ -80,12 +80,12 @@ module _ (t : Tree) (s : State) (ds : List Datum) where
       entered o b is stands ∙ ap (begin s (body_of t b) s.waiting) e ∙ ap (λ z. Goes (at_rest s env z s.waiting)) (sym f)
 
 -- an answer of one call, told in the words of another
-pub in_words : {E : Type 0} (r : Result NextValue E) (x y : Next) → x ≡ y → IfOk r (λ n. next_of n ≡ x) → IfOk r (λ n. next_of n ≡ y)
+pub in_words : {E : Type 0} (r : Result NextValue E) (x y : Next) → x ≡ y → IfOk r (λ n. next_of_value n ≡ x) → IfOk r (λ n. next_of_value n ≡ y)
 in_words (Ok n) x y e h = h ∙ e
 in_words (Err z) x y e h = h
 
 -- where each move of the operation comes to the same
-pub by_move : {E : Type 0} (t : Tree) (op : ℕ) (r : Result NextValue E) (x : Next) (y : Operation → Next) → ((o : Operation) → op_at t op ≡ Some o → x ≡ y o) → IfOk r (λ n. next_of n ≡ x) → IfOk r (λ n. (o : Operation) → op_at t op ≡ Some o → next_of n ≡ y o)
+pub by_move : {E : Type 0} (t : Tree) (op : ℕ) (r : Result NextValue E) (x : Next) (y : Operation → Next) → ((o : Operation) → op_at t op ≡ Some o → x ≡ y o) → IfOk r (λ n. next_of_value n ≡ x) → IfOk r (λ n. (o : Operation) → op_at t op ≡ Some o → next_of_value n ≡ y o)
 by_move t op (Ok n) x y f h = λ o e. h ∙ f o e
 by_move t op (Err z) x y f h = h
 
@@ -123,7 +123,7 @@ module _ (m : Meaning) (t : Tree) (s : State) (op : ℕ) (rest : List ℕ) where
   turn_performs : (next : Move) (input : List Datum) → input_of s.environment (operands_of t op) s.answer ≡ Some input → (o : Operation) → op_at t op ≡ Some o → next ≡ m.act (shape_of m t o) s.memo input → perform t s o op rest next ≡ turn m t s op rest (op_at t op)
   turn_performs next input e o at is = sym (turn_moves o at ∙ ap (move m t s o op rest) e ∙ ap (perform t s o op rest) (sym is))
 
-  pub turned : {E : Type 0} (r : Result NextValue E) (next : Move) (input : List Datum) → IsLive t op → input_of s.environment (operands_of t op) s.answer ≡ Some input → ((o : Operation) → op_at t op ≡ Some o → next ≡ m.act (shape_of m t o) s.memo input) → IfOk r (λ n. (o : Operation) → op_at t op ≡ Some o → next_of n ≡ perform t s o op rest next) → IfOk r (λ n. next_of n ≡ turn m t s op rest (op_at t op))
+  pub turned : {E : Type 0} (r : Result NextValue E) (next : Move) (input : List Datum) → IsLive t op → input_of s.environment (operands_of t op) s.answer ≡ Some input → ((o : Operation) → op_at t op ≡ Some o → next ≡ m.act (shape_of m t o) s.memo input) → IfOk r (λ n. (o : Operation) → op_at t op ≡ Some o → next_of_value n ≡ perform t s o op rest next) → IfOk r (λ n. next_of_value n ≡ turn m t s op rest (op_at t op))
   turned (Ok n) next input live e acts h = let o = live_at t op live in h o.0 o.1 ∙ turn_performs next input e o.0 o.1 (acts o.0 o.1)
   turned (Err z) next input live e acts h = h
 
@@ -143,16 +143,16 @@ module _ (f : State → Next) (n : ℕ) where
 
   module _ (i : ℕ) (s : StateValue) (whole : Next) where
     module _ (lt : i < n) (so_far : run_from f (n - i) (state_of s) ≡ whole) (z : NextValue) where
-      one_more : next_of z ≡ f (state_of s) → whole ≡ onward (next_of z) (run_from f (n - (i + 1)))
+      one_more : next_of_value z ≡ f (state_of s) → whole ≡ onward (next_of_value z) (run_from f (n - (i + 1)))
       one_more e =
           let count : n - i ≡ suc (n - (i + 1)) = omega arith in
           sym so_far ∙ ap (λ k. run_from f k (state_of s)) count ∙ ap (λ y. onward y (run_from f (n - (i + 1)))) (sym e)
 
-      pub run_goes : (next : StateValue) → next_of z ≡ f (state_of s) → z ≡ GoesValue next → run_from f (n - (i + 1)) (state_of next) ≡ whole
-      run_goes next e is = sym (one_more e ∙ ap (λ y. onward (next_of y) (run_from f (n - (i + 1)))) is)
+      pub run_goes : (next : StateValue) → next_of_value z ≡ f (state_of s) → z ≡ GoesValue next → run_from f (n - (i + 1)) (state_of next) ≡ whole
+      run_goes next e is = sym (one_more e ∙ ap (λ y. onward (next_of_value y) (run_from f (n - (i + 1)))) is)
 
-      pub run_over : (sight : SightValue) → next_of z ≡ f (state_of s) → z ≡ OverValue sight → sight_of sight ≡ seen whole
-      run_over sight e is = sym (ap seen (one_more e ∙ ap (λ y. onward (next_of y) (run_from f (n - (i + 1)))) is))
+      pub run_over : (sight : SightValue) → next_of_value z ≡ f (state_of s) → z ≡ OverValue sight → sight_of sight ≡ seen whole
+      run_over sight e is = sym (ap seen (one_more e ∙ ap (λ y. onward (next_of_value y) (run_from f (n - (i + 1)))) is))
 
-    pub run_reached : n ≤ i → run_from f (n - i) (state_of s) ≡ whole → Reached (map datum_of s.effects.items) ≡ seen whole
+    pub run_reached : n ≤ i → run_from f (n - i) (state_of s) ≡ whole → Reached (map datum_of_value s.effects.items) ≡ seen whole
     run_reached le so_far = let count : n - i ≡ 0 = omega arith in ap (λ k. seen (run_from f k (state_of s))) (sym count) ∙ ap seen so_far

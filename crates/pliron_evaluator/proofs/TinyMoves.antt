@@ -7,10 +7,10 @@ use Rattle.pliron_evaluator.specs.declared.tiny.TinyKind.{TinyKind}
 use Rattle.pliron_evaluator.specs.declared.tiny.TinyKind.TheVariants.{Const, Ask, Scope, Br}
 use Rattle.pliron_laws.specs.Datum.{Datum, Head, Give, Goto, Trap, datum_of as content_of}
 use Rattle.pliron_laws.specs.Tree.{Operation, op_at, shape_of, entry_block, count_arguments}
-use Rattle.pliron_evaluator.specs.Tiny.{tiny, kind_of, act_of, ask_move, scope_move, has_begun, first_attribute, first_count}
+use Rattle.pliron_evaluator.specs.Tiny.{tiny, kind_of, tiny_act_of, ask_move, scope_move, has_begun, first_attribute, first_count}
 use Rattle.pliron_evaluator.specs.declared.evaluator.values.Datum.{Datum as DatumValue}
 use Rattle.pliron_evaluator.specs.declared.evaluator.values.Move.{Move as MoveValue}
-use Rattle.pliron_evaluator.specs.Evaluator.{datum_of, move_of}
+use Rattle.pliron_evaluator.specs.Evaluator.{datum_of_value, move_of}
 use Rattle.pliron_laws.proofs.Records.{op_shows}
 use Rattle.pliron_laws.proofs.ShapeLemmas.{head_at}
 
@@ -22,14 +22,14 @@ module _ (t : Tree) (op : ℕ) (h : Head) (stands : head_of t op ≡ Some h) (me
   same_head : (o : Operation) → op_at t op ≡ Some o → h ≡ o.head
   same_head o at = let same : Some h ≡ Some o.head = sym stands ∙ head_at t op o at in cc
 
-  acts : (k : Option TinyKind) → kind_of h.kind ≡ k → (o : Operation) → op_at t op ≡ Some o → act_of k (shape_of tiny t o) memo input ≡ tiny.act (shape_of tiny t o) memo input
+  acts : (k : Option TinyKind) → kind_of h.kind ≡ k → (o : Operation) → op_at t op ≡ Some o → tiny_act_of k (shape_of tiny t o) memo input ≡ tiny.act (shape_of tiny t o) memo input
   unfolding tiny shape_of
-  acts k e o at = ap (λ z. act_of z (shape_of tiny t o) memo input) (sym e ∙ ap (λ z. kind_of z.kind) (same_head o at))
+  acts k e o at = ap (λ z. tiny_act_of z (shape_of tiny t o) memo input) (sym e ∙ ap (λ z. kind_of z.kind) (same_head o at))
 
-  pub const_moves : (d : DatumValue) (ds : List DatumValue) → kind_of h.kind ≡ Some Const → datum_of d ≡ content_of (first_attribute h.attrs) → ds ≡ d ∷ [] → (o : Operation) → op_at t op ≡ Some o → Give (map datum_of ds) ≡ tiny.act (shape_of tiny t o) memo input
+  pub const_moves : (d : DatumValue) (ds : List DatumValue) → kind_of h.kind ≡ Some Const → datum_of_value d ≡ content_of (first_attribute h.attrs) → ds ≡ d ∷ [] → (o : Operation) → op_at t op ≡ Some o → Give (map datum_of_value ds) ≡ tiny.act (shape_of tiny t o) memo input
   unfolding shape_of
   const_moves d ds e f g o at =
-      ap (λ z. Give (map datum_of z)) g ∙ ap (λ z. Give (z ∷ [])) f ∙ ap (λ z. Give (content_of (first_attribute z.attrs) ∷ [])) (same_head o at) ∙ acts (Some Const) e o at
+      ap (λ z. Give (map datum_of_value z)) g ∙ ap (λ z. Give (z ∷ [])) f ∙ ap (λ z. Give (content_of (first_attribute z.attrs) ∷ [])) (same_head o at) ∙ acts (Some Const) e o at
 
   pub ask_moves : {E : Type 0} (r : Result MoveValue E) → kind_of h.kind ≡ Some Ask → IfOk r (λ n. move_of n ≡ ask_move (has_begun memo) input) → IfOk r (λ n. (o : Operation) → op_at t op ≡ Some o → move_of n ≡ tiny.act (shape_of tiny t o) memo input)
   ask_moves (Ok n) e g = λ o at. g ∙ acts (Some Ask) e o at

@@ -15,48 +15,48 @@ use Rattle.pliron_evaluator.specs.declared.evaluator.state.Next.{Next as NextVal
 use Rattle.pliron_evaluator.specs.declared.evaluator.state.Next.TheVariants.{Goes as GoesValue, Over as OverValue}
 
 -- p and q are the pointers of the two boxes
-abbrev pub datum_of : DatumValue → Datum
-datum_of EmptyValue = Empty
-datum_of (NumberValue n) = Number n
-datum_of (TextValue s) = Text s
-datum_of (JoinValue' p a q b) = Join (datum_of a) (datum_of b)
+abbrev pub datum_of_value : DatumValue → Datum
+datum_of_value EmptyValue = Empty
+datum_of_value (NumberValue n) = Number n
+datum_of_value (TextValue s) = Text s
+datum_of_value (JoinValue' p a q b) = Join (datum_of_value a) (datum_of_value b)
 
 abbrev pub move_of : MoveValue → Move
-move_of (GiveValue ds) = Give (map datum_of ds.items)
-move_of (VisitValue i ds memo) = Visit i (map datum_of ds.items) (datum_of memo)
-move_of (GotoValue i ds) = Goto i (map datum_of ds.items)
-move_of (LeaveValue ds) = Leave (map datum_of ds.items)
-move_of (EmitValue effect memo) = Emit (datum_of effect) (datum_of memo)
+move_of (GiveValue ds) = Give (map datum_of_value ds.items)
+move_of (VisitValue i ds memo) = Visit i (map datum_of_value ds.items) (datum_of_value memo)
+move_of (GotoValue i ds) = Goto i (map datum_of_value ds.items)
+move_of (LeaveValue ds) = Leave (map datum_of_value ds.items)
+move_of (EmitValue effect memo) = Emit (datum_of_value effect) (datum_of_value memo)
 move_of TrapValue = Trap
 
 abbrev pub sight_of : SightValue → Sight
-sight_of (EndedValue ds effects) = Ended (map datum_of ds.items) (map datum_of effects.items)
-sight_of (TrappedValue effects) = Trapped (map datum_of effects.items)
-sight_of (ReachedValue effects) = Reached (map datum_of effects.items)
+sight_of (EndedValue ds effects) = Ended (map datum_of_value ds.items) (map datum_of_value effects.items)
+sight_of (TrappedValue effects) = Trapped (map datum_of_value effects.items)
+sight_of (ReachedValue effects) = Reached (map datum_of_value effects.items)
 
 -- a value has the first datum that the list binds to it
 abbrev pub environment_of : List (ℕ × DatumValue) → Environment
 environment_of [] = λ v. None
-environment_of (b ∷ bs) = bound (environment_of bs) b.0 (datum_of b.1)
+environment_of (b ∷ bs) = bound (environment_of bs) b.0 (datum_of_value b.1)
 
-abbrev pub answer_of : Option (Vec DatumValue) → Option (List Datum)
-answer_of None = None
-answer_of (Some ds) = Some (map datum_of ds.items)
+abbrev pub answer_of_values : Option (Vec DatumValue) → Option (List Datum)
+answer_of_values None = None
+answer_of_values (Some ds) = Some (map datum_of_value ds.items)
 
 abbrev pub waiting_of : WaitingValue → Waiting
-waiting_of w = record { rest = w.rest.items; memo = datum_of w.memo }
+waiting_of w = record { rest = w.rest.items; memo = datum_of_value w.memo }
 
 abbrev pub state_of : StateValue → State
 state_of s = record {
   environment = environment_of s.environment.items;
   rest = s.rest.items;
-  memo = datum_of s.memo;
-  answer = answer_of s.answer;
+  memo = datum_of_value s.memo;
+  answer = answer_of_values s.answer;
   waiting = map waiting_of s.waiting.items;
-  world = map datum_of s.world.items;
-  effects = map datum_of s.effects.items;
+  world = map datum_of_value s.world.items;
+  effects = map datum_of_value s.effects.items;
 }
 
-abbrev pub next_of : NextValue → Next
-next_of (GoesValue s) = Goes (state_of s)
-next_of (OverValue x) = Over (sight_of x)
+abbrev pub next_of_value : NextValue → Next
+next_of_value (GoesValue s) = Goes (state_of s)
+next_of_value (OverValue x) = Over (sight_of x)

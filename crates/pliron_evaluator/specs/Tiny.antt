@@ -1,5 +1,6 @@
 -- A small dialect: a constant, a question to the outside world, a scope whose region is visited once,
 -- and a branch that forwards its operands.
+pub use Rattle.pliron_bench.specs.Bench.{first_attribute}
 use Rattle.std.specs.Prelude.{◌≡◌, ℕ, zero, suc, nat_eq, if◌then◌else◌, Bool, true, false, not, ◌&&◌, List, [], ◌∷◌, Option, Some, None, pos}
 use Rattle.std.specs.List.{range_with_len}
 use Rattle.pliron_core.specs.declared.attrs.AttrObj.{AttrObj}
@@ -14,20 +15,16 @@ use Rattle.pliron_evaluator.specs.declared.tiny.TinyKind.TheVariants.{Const, Ask
 use Rattle.pliron_laws.specs.Datum.{Datum, Empty, Number, datum_of, Head, Shape, Move, Give, Visit, Goto, Emit, Trap, Meaning}
 
 -- the number of a kind, and the kind with a number
-abbrev pub number_of : TinyKind → ℕ
-number_of Const = 0
-number_of Ask = 1
-number_of Scope = 2
-number_of Br = 3
+abbrev pub tiny_number_of : TinyKind → ℕ
+tiny_number_of Const = 0
+tiny_number_of Ask = 1
+tiny_number_of Scope = 2
+tiny_number_of Br = 3
 
 abbrev pub kind_of : ℕ → Option TinyKind
 kind_of n = if nat_eq n 0 then Some Const else if nat_eq n 1 then Some Ask else if nat_eq n 2 then Some Scope else if nat_eq n 3 then Some Br else None
 
--- the first attribute, by default 0; the first datum; the first count
-abbrev pub first_attribute : List AttrObj → AttrObj
-first_attribute [] = Int (pos 0)
-first_attribute (a ∷ others) = a
-
+-- the first datum, by default empty; the first count
 abbrev pub first_datum : List Datum → Datum
 first_datum [] = Empty
 first_datum (d ∷ ds) = d
@@ -37,10 +34,10 @@ first_count [] = 0
 first_count (n ∷ ns) = n
 
 -- so many data, cut or filled
-abbrev pub fitted : ℕ → List Datum → List Datum
-fitted zero ds = []
-fitted (suc n) [] = Empty ∷ fitted n []
-fitted (suc n) (d ∷ ds) = d ∷ fitted n ds
+abbrev pub fitted_or_empty : ℕ → List Datum → List Datum
+fitted_or_empty zero ds = []
+fitted_or_empty (suc n) [] = Empty ∷ fitted_or_empty n []
+fitted_or_empty (suc n) (d ∷ ds) = d ∷ fitted_or_empty n ds
 
 -- the memo after the first move
 abbrev pub begun : Datum
@@ -57,16 +54,16 @@ ask_move true input = Give (first_datum input ∷ [])
 
 -- the region is visited first, and nothing is given then
 abbrev pub scope_move : Bool → ℕ → List Datum → Move
-scope_move false count input = Visit 0 (fitted count input) begun
+scope_move false count input = Visit 0 (fitted_or_empty count input) begun
 scope_move true count input = Give []
 
 -- what an operation of this kind does
-abbrev pub act_of : Option TinyKind → Shape → Datum → List Datum → Move
-act_of None s memo input = Trap
-act_of (Some Const) s memo input = Give (datum_of (first_attribute s.head.attrs) ∷ [])
-act_of (Some Ask) s memo input = ask_move (has_begun memo) input
-act_of (Some Scope) s memo input = scope_move (has_begun memo) (first_count s.entry_arguments) input
-act_of (Some Br) s memo input = Goto 0 input
+abbrev pub tiny_act_of : Option TinyKind → Shape → Datum → List Datum → Move
+tiny_act_of None s memo input = Trap
+tiny_act_of (Some Const) s memo input = Give (datum_of (first_attribute s.head.attrs) ∷ [])
+tiny_act_of (Some Ask) s memo input = ask_move (has_begun memo) input
+tiny_act_of (Some Scope) s memo input = scope_move (has_begun memo) (first_count s.entry_arguments) input
+tiny_act_of (Some Br) s memo input = Goto 0 input
 
 -- how many operands, results, successors and regions it has
 abbrev pub admits_of : Option TinyKind → (operands results successors regions : ℕ) → Bool
@@ -97,7 +94,7 @@ forwarded_along (suc i) operands = []
 
 unfoldable pub tiny : Meaning
 tiny = record {
-  act = λ s memo input. act_of (kind_of s.head.kind) s memo input;
+  act = λ s memo input. tiny_act_of (kind_of s.head.kind) s memo input;
   admits = λ h a b c d. admits_of (kind_of h.kind) a b c d;
   may_be_root = λ h. true;
   is_terminator = λ h. is_br (kind_of h.kind);
@@ -107,25 +104,25 @@ tiny = record {
 
 -- the answers on side effects, and on the removal of arguments: those of blocks that are entered by
 -- branches alone
-abbrev pub effects_of : Option TinyKind → Option Bool
-effects_of None = None
-effects_of (Some Const) = Some false
-effects_of (Some Ask) = Some true
-effects_of (Some Scope) = Some true
-effects_of (Some Br) = None
+abbrev pub tiny_effects_of : Option TinyKind → Option Bool
+tiny_effects_of None = None
+tiny_effects_of (Some Const) = Some false
+tiny_effects_of (Some Ask) = Some true
+tiny_effects_of (Some Scope) = Some true
+tiny_effects_of (Some Br) = None
 
 unfoldable pub tiny_side_effects : Head → Option Bool
-tiny_side_effects h = effects_of (kind_of h.kind)
+tiny_side_effects h = tiny_effects_of (kind_of h.kind)
 
-abbrev pub removable_of : Option TinyKind → Bool → Option Bool
-removable_of None entry = None
-removable_of (Some Const) entry = None
-removable_of (Some Ask) entry = None
-removable_of (Some Scope) entry = Some (not entry)
-removable_of (Some Br) entry = None
+abbrev pub tiny_removable_of : Option TinyKind → Bool → Option Bool
+tiny_removable_of None entry = None
+tiny_removable_of (Some Const) entry = None
+tiny_removable_of (Some Ask) entry = None
+tiny_removable_of (Some Scope) entry = Some (not entry)
+tiny_removable_of (Some Br) entry = None
 
 unfoldable pub tiny_removable : Head → ℕ → Bool → Option Bool
-tiny_removable h i entry = removable_of (kind_of h.kind) entry
+tiny_removable h i entry = tiny_removable_of (kind_of h.kind) entry
 
 -- a constant folds to its attribute
 unfoldable pub tiny_folds : Head → Bool
@@ -153,22 +150,22 @@ unfoldable pub tiny_constant : AttrObj → Head
 tiny_constant attr = record { kind = 0; ssa = true; attrs = attr ∷ [] }
 
 unfoldable pub has_tiny_kind : Head → TinyKind → Bool
-has_tiny_kind h kind = nat_eq h.kind (number_of kind)
+has_tiny_kind h kind = nat_eq h.kind (tiny_number_of kind)
 
 abbrev pub answers_effects : Option Bool → Bool
 answers_effects None = false
 answers_effects (Some b) = true
 
-abbrev pub interface_of : Interface → Option TinyKind → Bool
-interface_of SideEffects k = answers_effects (effects_of k)
-interface_of BlockArgRemoval k = answers_effects (removable_of k true)
-interface_of ConstFold k = is_const k
-interface_of BranchFold k = false
-interface_of Branch k = is_br k
-interface_of Terminator k = is_br k
+abbrev pub tiny_interface_of : Interface → Option TinyKind → Bool
+tiny_interface_of SideEffects k = answers_effects (tiny_effects_of k)
+tiny_interface_of BlockArgRemoval k = answers_effects (tiny_removable_of k true)
+tiny_interface_of ConstFold k = is_const k
+tiny_interface_of BranchFold k = false
+tiny_interface_of Branch k = is_br k
+tiny_interface_of Terminator k = is_br k
 
 unfoldable pub has_tiny_interface : Head → Interface → Bool
-has_tiny_interface h interface = interface_of interface (kind_of h.kind)
+has_tiny_interface h interface = tiny_interface_of interface (kind_of h.kind)
 
 -- a branch that lost an operand has its head as before
 unfoldable pub tiny_shortened : Shape → ℕ → ℕ → Head

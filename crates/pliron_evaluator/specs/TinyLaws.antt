@@ -18,7 +18,7 @@ use Rattle.pliron_laws.specs.Outcomes.MaterialisesSome.{Rest}
 use Rattle.pliron_laws.specs.Replacing.FoldsBranch.{Kept}
 use Rattle.pliron_laws.specs.InPlace.{FoldsInPlace, TellsChange, PassSameTests}
 use Rattle.pliron_laws.specs.PlaceLaws.{pick_all, in_places, moved_places}
-use Rattle.pliron_evaluator.specs.Tiny.{first_attribute, first_count, fitted, ask_move, scope_move, has_begun, act_of, admits_of, is_br, is_const, forwarded_along, kind_of, tiny, effects_of, tiny_side_effects, removable_of, tiny_removable, tiny_folds, tiny_constants, tiny_accepts, tiny_constant, tiny_folds_branch, tiny_feasible, tiny_outcome, has_tiny_kind, has_tiny_interface, tiny_shortened}
+use Rattle.pliron_evaluator.specs.Tiny.{first_attribute, first_count, fitted_or_empty, ask_move, scope_move, has_begun, tiny_act_of, admits_of, is_br, is_const, forwarded_along, kind_of, tiny, tiny_effects_of, tiny_side_effects, tiny_removable_of, tiny_removable, tiny_folds, tiny_constants, tiny_accepts, tiny_constant, tiny_folds_branch, tiny_feasible, tiny_outcome, has_tiny_kind, has_tiny_interface, tiny_shortened}
 
 -- the parts of a test of counts
 parts : (x y z : Bool) → IsTrue (x && y && z) → IsTrue x × IsTrue y × IsTrue z
@@ -53,7 +53,7 @@ ends (Some Ask) a b c d h lt = absurd (none_above c (ask_counts a b c d h).1 lt)
 ends (Some Scope) a b c d h lt = absurd (none_above c (scope_counts a b c d h).1 lt)
 ends (Some Br) a b c d h lt = refl
 
-length-fitted : (n : ℕ) (ds : List Datum) → length (fitted n ds) ≡ n
+length-fitted : (n : ℕ) (ds : List Datum) → length (fitted_or_empty n ds) ≡ n
 length-fitted zero ds = refl
 length-fitted (suc n) [] = ap suc (length-fitted n [])
 length-fitted (suc n) (d ∷ ds) = ap suc (length-fitted n ds)
@@ -62,7 +62,7 @@ ask_fits : (b begun : Bool) (s : Shape) (input : List Datum) → s.results ≡ 1
 ask_fits b false s input e = tt
 ask_fits b true s input e = sym e
 
-visit_fits : (cs : List ℕ) (input : List Datum) (n : ℕ) → slice_get cs 0 ≡ Some n → length (fitted (first_count cs) input) ≡ n
+visit_fits : (cs : List ℕ) (input : List Datum) (n : ℕ) → slice_get cs 0 ≡ Some n → length (fitted_or_empty (first_count cs) input) ≡ n
 visit_fits [] input n e = grind arith
 visit_fits (c ∷ cs) input n e = length-fitted c input ∙ same_Some c n e
 
@@ -70,7 +70,7 @@ scope_fits : (b begun : Bool) (s : Shape) (input : List Datum) → s.results ≡
 scope_fits b false s input e = λ n at. visit_fits s.entry_arguments input n at
 scope_fits b true s input e = sym e
 
-fits : (k : Option TinyKind) (s : Shape) (memo : Datum) (input : List Datum) → IsTrue (admits_of k s.operands s.results s.successors (length s.entry_arguments)) → CountsFit (is_br k) s (act_of k s memo input)
+fits : (k : Option TinyKind) (s : Shape) (memo : Datum) (input : List Datum) → IsTrue (admits_of k s.operands s.results s.successors (length s.entry_arguments)) → CountsFit (is_br k) s (tiny_act_of k s memo input)
 fits None s memo input h = tt
 fits (Some Const) s memo input h = sym (constant_counts _ _ _ _ h).1
 fits (Some Ask) s memo input h = ask_fits false (has_begun memo) s input (ask_counts s.operands s.results s.successors (length s.entry_arguments) h).0
@@ -84,7 +84,7 @@ tiny_counts = record {
   moves = λ s h first later memo input comes. fits (kind_of s.head.kind) s memo input h;
 }
 
-gives : (k : Option TinyKind) (s : Shape) (input : List Datum) → effects_of k ≡ Some false → IsGive (act_of k s Empty input)
+gives : (k : Option TinyKind) (s : Shape) (input : List Datum) → tiny_effects_of k ≡ Some false → IsGive (tiny_act_of k s Empty input)
 gives None s input e = grind arith
 gives (Some Const) s input e = tt
 gives (Some Ask) s input e = grind arith
@@ -171,8 +171,8 @@ goes_alike a b first others j e f g = record {
 abbrev SameTests : Head → Head → Type 0
 SameTests = PassSameTests tiny tiny_folds tiny_folds_branch has_tiny_kind has_tiny_interface
 
-goes : (s : Shape) → IsTrue (is_br (kind_of s.head.kind)) → (memo : Datum) (input : List Datum) → act_of (kind_of s.head.kind) s memo input ≡ Goto 0 input
-goes s br memo input = ap (λ k. act_of k s memo input) (br_alone _ br)
+goes : (s : Shape) → IsTrue (is_br (kind_of s.head.kind)) → (memo : Datum) (input : List Datum) → tiny_act_of (kind_of s.head.kind) s memo input ≡ Goto 0 input
+goes s br memo input = ap (λ k. tiny_act_of k s memo input) (br_alone _ br)
 
 loses : (s : Shape) → Admitted tiny s → IsTrue (is_br (kind_of s.head.kind)) → (i j p : ℕ) → slice_get (forwarded_along i s.operands) j ≡ Some p → LosesOperand tiny SameTests s i j p s.head
 unfolding tiny
@@ -203,7 +203,7 @@ tiny_forwards = record {
   removal = λ s h br i j p lt e. loses s h br i j p e;
 }
 
-entry_kept : (k : Option TinyKind) → removable_of k true ≡ Some true → ⊥
+entry_kept : (k : Option TinyKind) → tiny_removable_of k true ≡ Some true → ⊥
 entry_kept None e = grind arith
 entry_kept (Some Const) e = grind arith
 entry_kept (Some Ask) e = grind arith
@@ -222,7 +222,7 @@ given (Leave ds) = None
 given (Emit e memo) = None
 given Trap = None
 
-constant_given : (k : Option TinyKind) (s : Shape) (memo : Datum) (input ds : List Datum) → IsTrue (is_const k) → act_of k s memo input ≡ Give ds → Known (Some (first_attribute s.head.attrs) ∷ []) ds
+constant_given : (k : Option TinyKind) (s : Shape) (memo : Datum) (input ds : List Datum) → IsTrue (is_const k) → tiny_act_of k s memo input ≡ Give ds → Known (Some (first_attribute s.head.attrs) ∷ []) ds
 unfolding given
 constant_given None s memo input ds c e = grind arith
 constant_given (Some Const) s memo input ds c e = subst (Known (Some (first_attribute s.head.attrs) ∷ [])) (same_Some (datum_of (first_attribute s.head.attrs) ∷ []) ds (ap given e)) (refl, tt)

@@ -4,7 +4,7 @@
 //! It is slow: a step costs as much as the state and the block are large.
 ghost use Rattle.std.specs.Prelude.{◌≡◌, map, IfOk};
 ghost use Rattle.pliron_laws.specs.Machine.{run, seen};
-ghost use Rattle.pliron_evaluator.specs.Evaluator.{datum_of, sight_of};
+ghost use Rattle.pliron_evaluator.specs.Evaluator.{datum_of_value, sight_of};
 
 mod bench_moves;
 mod environment;
@@ -31,7 +31,7 @@ pub fn evaluate<D: Evaluate>(
     world: Vec<Datum>,
     fuel: usize,
 ) -> Result<Sight, AllocError>
-    ensures { IfOk result (λ sight. sight_of sight ≡ seen (run D.meaning ctx.now.tree root (map datum_of inputs.items) (map datum_of world.items) fuel)) }
+    ensures { IfOk result (λ sight. sight_of sight ≡ seen (run D.meaning ctx.now.tree root (map datum_of_value inputs.items) (map datum_of_value world.items) fuel)) }
 {
     let mut state = start(alloc, root, inputs, world)?;
     for _ in 0..fuel {

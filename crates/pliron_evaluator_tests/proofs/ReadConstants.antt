@@ -11,7 +11,7 @@ use Rattle.pliron_laws.specs.Datum.{Datum, datum_of, Empty, Meaning, Give}
 use Rattle.pliron_laws.specs.Tree.{Operation, op_at, shape_of}
 use Rattle.pliron_theory.specs.Keeps.{IsFit}
 use Rattle.pliron_theory.specs.Renaming.{IsReadAs}
-use Rattle.pliron_evaluator.specs.Tiny.{first_attribute, kind_of, act_of, tiny}
+use Rattle.pliron_evaluator.specs.Tiny.{first_attribute, kind_of, tiny_act_of, tiny}
 use Rattle.pliron_evaluator.specs.declared.tiny.TinyKind.TheVariants.{Const}
 use Rattle.pliron_laws.proofs.Records.{op_shows}
 use Rattle.pliron_theory.proofs.ConstantData.{read_constant}
@@ -42,4 +42,4 @@ tiny_read t op v head c w at kind datum results operands regions first root f =
     gives : (o : Operation) → op_at t op ≡ Some o → tiny.act (shape_of tiny t o) Empty [] ≡ Give (c ∷ [])
     gives o e =
         let same : o.head ≡ head = some_is (sym (op_shows t op o e).head ∙ at) in
-        ap (λ k. act_of k (shape_of tiny t o) Empty []) (ap (λ h. kind_of h.kind) same ∙ kind) ∙ ap (λ h. Give (datum_of (first_attribute h.attrs) ∷ [])) same ∙ ap (λ d. Give (d ∷ [])) datum
+        ap (λ k. tiny_act_of k (shape_of tiny t o) Empty []) (ap (λ h. kind_of h.kind) same ∙ kind) ∙ ap (λ h. Give (datum_of (first_attribute h.attrs) ∷ [])) same ∙ ap (λ d. Give (d ∷ [])) datum

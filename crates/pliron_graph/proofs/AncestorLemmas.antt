@@ -13,7 +13,7 @@ use Rattle.pliron_core.proofs.WalkStepLemmas.{up_smaller}
 use Rattle.pliron_core.proofs.ContainedLemmas.{within_up}
 use Rattle.pliron_laws.specs.Datum.{Head}
 use Rattle.pliron_laws.specs.Answers.{ReadsHead, HeadPasses}
-use Rattle.pliron_graph.specs.Ancestors.{IsAtOrAbove, IsAbove, IsDirectlyIn, IsDirectlyInRegion, IsBlockInside, IsNearest, FindsNearest}
+use Rattle.pliron_graph.specs.Ancestors.{IsAtOrAbove, IsAncestor, IsDirectlyIn, IsDirectlyInRegion, IsBlockInside, IsNearest, FindsNearest}
 
 -- a search has come up to here: what is here is one of those that are looked at, and each of them that
 -- meets the test is here or further up
@@ -38,7 +38,7 @@ module _ (t : Tree) (w : IsTree t) (Meets : ℕ → Type 0) where
     further = λ k a m. (op, refl, a);
   }
 
-  pub climb_above : (op : ℕ) (o : Option ℕ) → o ≡ holder_of t op → IsClimb t (IsAbove t op) Meets o
+  pub climb_above : (op : ℕ) (o : Option ℕ) → o ≡ holder_of t op → IsClimb t (IsAncestor t op) Meets o
   climb_above op o f = record {
     live = λ k e. holder_live t w op k (sym f ∙ e);
     among = λ k e. Directly (sym f ∙ e);
@@ -62,8 +62,8 @@ module _ (t : Tree) (w : IsTree t) (Meets : ℕ → Type 0) where
   pub climb_on : (op : ℕ) (at : Option ℕ) (x : ℕ) (o : Option ℕ) → at ≡ Some x → o ≡ holder_of t x → (Meets x → ⊥) → IsClimb t (IsAtOrAbove t op) Meets at → IsClimb t (IsAtOrAbove t op) Meets o
   climb_on op = climb_step (IsAtOrAbove t op) (λ x p a e. inr (within_up t x p op e a))
 
-  pub climb_on_above : (op : ℕ) (at : Option ℕ) (x : ℕ) (o : Option ℕ) → at ≡ Some x → o ≡ holder_of t x → (Meets x → ⊥) → IsClimb t (IsAbove t op) Meets at → IsClimb t (IsAbove t op) Meets o
-  climb_on_above op = climb_step (IsAbove t op) (λ x p a e. inside_trans t p x op (Directly e) a)
+  pub climb_on_above : (op : ℕ) (at : Option ℕ) (x : ℕ) (o : Option ℕ) → at ≡ Some x → o ≡ holder_of t x → (Meets x → ⊥) → IsClimb t (IsAncestor t op) Meets at → IsClimb t (IsAncestor t op) Meets o
+  climb_on_above op = climb_step (IsAncestor t op) (λ x p a e. inside_trans t p x op (Directly e) a)
 
   -- it ends at the first that meets the test, or at the top
   pub climb_found : (Among : ℕ → Type 0) (at : Option ℕ) (x : ℕ) → at ≡ Some x → Meets x → IsClimb t Among Meets at → IsNearest (IsInside t) Among Meets x

@@ -7,7 +7,7 @@ use Rattle.std.proofs.lemmas.Option.{slice_get_within, slice_get-get_or}
 use Rattle.std.proofs.lemmas.Map.Made.{length-le_from_is_member}
 use Rattle.pliron_search.specs.Digraph.{Digraph, IsLawful}
 use Rattle.pliron_graph.specs.Components.{IsCyclic}
-use Rattle.pliron_search.specs.Internal.Membership.{In, in_from, contains_from, in_left, in_right, in_cases, in_from_any, any_from_in, not_in_from_any}
+use Rattle.pliron_search.specs.Internal.Membership.{HasMember, in_from, contains_from, in_left, in_right, in_cases, in_from_any, any_from_in, not_in_from_any}
 use Rattle.pliron_graph.specs.Internal.Collecting.{TakesIn, IsPathOutside, LeadsOutside, Collects}
 use Rattle.pliron_search.proofs.ItemLemmas.{in_from_item, item_from_in, apart_from}
 use Rattle.pliron_graph.proofs.ItemLemmas.{item_left, item_right}
@@ -21,7 +21,7 @@ read_item xs ys i v keys within is = slice_get-get_or xs i v within ∙ ap Some 
 pub single_cyclic : {N : Type 0} (g : Digraph N) (nodes : List N) (v : N) → length nodes ≤ 1 → slice_get nodes 0 ≡ Some v → (IsCyclic g nodes ↔ Contains (g.succ v) v)
 single_cyclic {N} g nodes v short at = (there, λ e. inr (v, contains_from nodes v (in_from_item nodes 0 v at), e))
   where
-    one : (xs : List N) (w : N) → length xs ≤ 1 → slice_get xs 0 ≡ Some v → In xs w → w ≡ v
+    one : (xs : List N) (w : N) → length xs ≤ 1 → slice_get xs 0 ≡ Some v → HasMember xs w → w ≡ v
     one [] w l a h = absurd h
     one (x ∷ xs) w l a (inl e) = let here : x ≡ v = cc in sym e ∙ here
     one (x ∷ y ∷ xs) w l a (inr h) = absurd (omega (arith, l))
@@ -42,11 +42,11 @@ module _ {N : Type 0} (eq : N → N → Bool) (g : Digraph N) (root : N) where
     pub added : List N
     pub is : now ≡ old ++ added
     pub distinct : IsDistinct eq now
-    pub inside : (x : N) → In added x → Contains g.nodes x
-    pub leads : (x : N) → In added x → LeadsOutside g old x root
-    pub has_root : In added root
+    pub inside : (x : N) → HasMember added x → Contains g.nodes x
+    pub leads : (x : N) → HasMember added x → LeadsOutside g old x root
+    pub has_root : HasMember added root
     pub past : length old ≤ next
-    pub closed : (k : ℕ) (y x : N) → length old ≤ k → k < next → slice_get now k ≡ Some y → In (g.pred y) x → In now x
+    pub closed : (k : ℕ) (y x : N) → length old ≤ k → k < next → slice_get now k ≡ Some y → HasMember (g.pred y) x → HasMember now x
 
 module _ {N : Type 0} (eq : N → N → Bool) (laws : IsEquivalence eq) (same : (x y : N) → eq x y ≡ true → x ≡ y) where
   all_left : (P : N → Type 0) (xs ys : List N) → AllByRecursion P (xs ++ ys) → AllByRecursion P xs
@@ -54,7 +54,7 @@ module _ {N : Type 0} (eq : N → N → Bool) (laws : IsEquivalence eq) (same : 
   all_left P (x ∷ xs) ys h = (h.0, all_left P xs ys h.1)
 
   -- the parts of a list without repeats share nothing
-  pub parts_apart : (xs ys : List N) (v : N) → IsDistinct eq (xs ++ ys) → In xs v → In ys v → ⊥
+  pub parts_apart : (xs ys : List N) (v : N) → IsDistinct eq (xs ++ ys) → HasMember xs v → HasMember ys v → ⊥
   unfolding IsDistinct
   parts_apart [] ys v h i j = i
   parts_apart (x ∷ xs) ys v h (inl e) j = apart_from eq laws same x (xs ++ ys) v h.0 (in_right xs ys v j) e
@@ -66,17 +66,17 @@ module _ {N : Type 0} (eq : N → N → Bool) (laws : IsEquivalence eq) (same : 
   right_distinct (x ∷ xs) ys h = right_distinct xs ys h.1
 
   -- nodes without repeats among others are no more than those
-  pub fewer : (xs ys : List N) → IsDistinct eq xs → ((v : N) → In xs v → In ys v) → length xs ≤ length ys
+  pub fewer : (xs ys : List N) → IsDistinct eq xs → ((v : N) → HasMember xs v → HasMember ys v) → length xs ≤ length ys
   fewer xs ys h within = length-le_from_is_member laws xs ys h (λ q m. any_from_in eq same laws.refl ys q (within q (in_from_any eq same laws.refl xs q m)))
 
   -- one more of the items is taken in
   pub takes_next : (xs old now new : List N) (i : ℕ) (x : N) → slice_get xs i ≡ Some x → new ≡ insert_key eq now x → IsDistinct eq new → TakesIn eq (take i xs) old now → TakesIn eq (take (i + 1) xs) old new
   takes_next xs old now new i x at keys distinct t = subst (λ zs. TakesIn eq zs old new) (sym (take_next xs i x at)) (by (list_any (eq x) now) refl)
     where
-      all_in : ((y : N) → In now y → In new y) → In new x → (y : N) → In (take i xs ++ x ∷ []) y → In new y
+      all_in : ((y : N) → HasMember now y → HasMember new y) → HasMember new x → (y : N) → HasMember (take i xs ++ x ∷ []) y → HasMember new y
       all_in more here y h = elim (in_cases (take i xs) (x ∷ []) y h) [
         | inl a ↦ more y (t.all y a)
-        | inr b ↦ elim b [ inl e ↦ subst (In new) e here | inr n ↦ absurd n ]
+        | inr b ↦ elim b [ inl e ↦ subst (HasMember new) e here | inr n ↦ absurd n ]
       ]
 
       by : (b : Bool) → list_any (eq x) now ≡ b → TakesIn eq (take i xs ++ x ∷ []) old new
@@ -86,7 +86,7 @@ module _ {N : Type 0} (eq : N → N → Bool) (laws : IsEquivalence eq) (same : 
             added = t.added;
             is = stays ∙ t.is;
             of = λ y h. in_left (take i xs) (x ∷ []) y (t.of y h);
-            all = all_in (λ y h. subst (λ z. In z y) (sym stays) h) (subst (λ z. In z x) (sym stays) (in_from_any eq same laws.refl now x e));
+            all = all_in (λ y h. subst (λ z. HasMember z y) (sym stays) h) (subst (λ z. HasMember z x) (sym stays) (in_from_any eq same laws.refl now x e));
             distinct = λ _. distinct;
           }
       by false e =
@@ -95,7 +95,7 @@ module _ {N : Type 0} (eq : N → N → Bool) (laws : IsEquivalence eq) (same : 
             added = t.added ++ x ∷ [];
             is = grows ∙ ap (λ z. z ++ x ∷ []) t.is ∙ append_assoc old t.added (x ∷ []);
             of = λ y h. elim (in_cases t.added (x ∷ []) y h) [ inl a ↦ in_left (take i xs) (x ∷ []) y (t.of y a) | inr b ↦ in_right (take i xs) (x ∷ []) y b ];
-            all = all_in (λ y h. subst (λ z. In z y) (sym grows) (in_left now (x ∷ []) y h)) (subst (λ z. In z x) (sym grows) (in_right now (x ∷ []) x (inl refl)));
+            all = all_in (λ y h. subst (λ z. HasMember z y) (sym grows) (in_left now (x ∷ []) y h)) (subst (λ z. HasMember z x) (sym grows) (in_right now (x ∷ []) x (inl refl)));
             distinct = λ _. distinct;
           }
 
@@ -109,7 +109,7 @@ module _ {N : Type 0} (eq : N → N → Bool) (laws : IsEquivalence eq) (same : 
       is = is;
       distinct = distinct;
       inside = λ x h. elim h [ inl e ↦ subst (Contains g.nodes) e member | inr n ↦ absurd n ];
-      leads = λ x h. elim h [ inl e ↦ ([], (λ i. not_in_from_any eq same laws.refl old root unheld (subst (In old) (sym e) i), sym e)) | inr n ↦ absurd n ];
+      leads = λ x h. elim h [ inl e ↦ ([], (λ i. not_in_from_any eq same laws.refl old root unheld (subst (HasMember old) (sym e) i), sym e)) | inr n ↦ absurd n ];
       has_root = inl refl;
       past = omega arith;
       closed = λ k y x low high at h. absurd (omega (arith, low, high));
@@ -122,7 +122,7 @@ module _ {N : Type 0} (eq : N → N → Bool) (laws : IsEquivalence eq) (same : 
           omega (arith, ap length c.is, length-append old c.added, fewer c.added g.nodes (right_distinct old c.added parts) (λ v h. in_from g.nodes v (c.inside v h)))
 
       -- an item from the end of the old ones on was added
-      item_added : (k : ℕ) (y : N) → length old ≤ k → slice_get now k ≡ Some y → In c.added y
+      item_added : (k : ℕ) (y : N) → length old ≤ k → slice_get now k ≡ Some y → HasMember c.added y
       item_added k y low at =
           let there : slice_get (old ++ c.added) k ≡ Some y = subst (λ z. slice_get z k ≡ Some y) c.is at in
           in_from_item c.added (k - length old) y (sym (item_right old c.added (k - length old) k (omega (arith, low))) ∙ there)
@@ -134,7 +134,7 @@ module _ {N : Type 0} (eq : N → N → Bool) (laws : IsEquivalence eq) (same : 
       collects_next new y at t =
           let is : new ≡ old ++ (c.added ++ t.added) = t.is ∙ ap (λ z. z ++ t.added) c.is ∙ append_assoc old c.added t.added in
           let distinct : IsDistinct eq new = t.distinct c.distinct in
-          let y_in : In c.added y = item_added next y c.past at in
+          let y_in : HasMember c.added y = item_added next y c.past at in
           let y_node : Contains g.nodes y = c.inside y y_in in
           record {
             added = c.added ++ t.added;
@@ -153,7 +153,7 @@ module _ {N : Type 0} (eq : N → N → Bool) (laws : IsEquivalence eq) (same : 
             closed = λ k z x low high there h. split k z x low high there h (order k next);
           }
         where
-          pred_node : Contains g.nodes y → (x : N) → In t.added x → Contains g.nodes x
+          pred_node : Contains g.nodes y → (x : N) → HasMember t.added x → Contains g.nodes x
           pred_node member x b = lawful.pred_in x y member (contains_from (g.pred y) x (t.of x b))
 
           order : (m n : ℕ) → (m < n) ⊎ (n ≤ m)
@@ -162,16 +162,16 @@ module _ {N : Type 0} (eq : N → N → Bool) (laws : IsEquivalence eq) (same : 
           kept : (k : ℕ) → k < length now → slice_get new k ≡ slice_get now k
           kept k l = subst (λ z. slice_get z k ≡ slice_get now k) (sym t.is) (item_left now t.added k l)
 
-          split : (k : ℕ) (z x : N) → length old ≤ k → k < next + 1 → slice_get new k ≡ Some z → In (g.pred z) x → (k < next) ⊎ (next ≤ k) → In new x
+          split : (k : ℕ) (z x : N) → length old ≤ k → k < next + 1 → slice_get new k ≡ Some z → HasMember (g.pred z) x → (k < next) ⊎ (next ≤ k) → HasMember new x
           split k z x low high there h (inl l) =
               let within : next < length now = slice_get_within now next y at in
-              subst (λ xs. In xs x) (sym t.is) (in_left now t.added x (c.closed k z x low l (sym (kept k (omega (arith, l, within))) ∙ there) h))
+              subst (λ xs. HasMember xs x) (sym t.is) (in_left now t.added x (c.closed k z x low l (sym (kept k (omega (arith, l, within))) ∙ there) h))
           split k z x low high there h (inr l) =
               let within : next < length now = slice_get_within now next y at in
               let here : k ≡ next = omega (arith, l, high) in
               let item : slice_get now next ≡ Some z = sym (kept next within) ∙ subst (λ j. slice_get new j ≡ Some z) here there in
               let one : z ≡ y = cc in
-              t.all x (subst (λ w. In (g.pred w) x) one h)
+              t.all x (subst (λ w. HasMember (g.pred w) x) one h)
 
       pub collected : length now ≤ next → Collects g eq root old now
       collected done = record {
@@ -182,18 +182,18 @@ module _ {N : Type 0} (eq : N → N → Bool) (laws : IsEquivalence eq) (same : 
         leads = λ x member. (c.leads x, λ h. back x h.0 member h.1);
       }
         where
-          all_closed : (y x : N) → In c.added y → In (g.pred y) x → In now x
+          all_closed : (y x : N) → HasMember c.added y → HasMember (g.pred y) x → HasMember now x
           all_closed y x h p =
               let k = item_from_in c.added y h in
               let at : slice_get now (length old + k.0) ≡ Some y = subst (λ z. slice_get z (length old + k.0) ≡ Some y) (sym c.is) (item_right old c.added k.0 (length old + k.0) refl ∙ k.1) in
               c.closed (length old + k.0) y x (omega arith) (omega (arith, done, slice_get_within now (length old + k.0) y at)) at p
 
-          not_old : (x : N) → In now x → (In old x → ⊥) → In c.added x
-          not_old x h n = elim (in_cases old c.added x (subst (λ z. In z x) c.is h)) [ inl a ↦ absurd (n a) | inr b ↦ b ]
+          not_old : (x : N) → HasMember now x → (HasMember old x → ⊥) → HasMember c.added x
+          not_old x h n = elim (in_cases old c.added x (subst (λ z. HasMember z x) c.is h)) [ inl a ↦ absurd (n a) | inr b ↦ b ]
 
-          back : (x : N) (ws : List N) → Contains g.nodes x → IsPathOutside g old x ws root → In c.added x
-          back x [] member p = subst (In c.added) (sym p.1) c.has_root
+          back : (x : N) (ws : List N) → Contains g.nodes x → IsPathOutside g old x ws root → HasMember c.added x
+          back x [] member p = subst (HasMember c.added) (sym p.1) c.has_root
           back x (w ∷ ws) member p =
               let w_node : Contains g.nodes w = lawful.succ_in x w member p.1 in
-              let rest : In c.added w = back w ws w_node p.2 in
+              let rest : HasMember c.added w = back w ws w_node p.2 in
               not_old x (all_closed w x rest (in_from (g.pred w) x ((lawful.inverse x w member w_node).1 p.1))) p.0

@@ -5,12 +5,12 @@ use Rattle.pliron_search.specs.Digraph.{Digraph, IsReached}
 use Rattle.pliron_search.specs.Search.{number_in}
 use Rattle.pliron_graph.specs.Components.{AreComponents, entry_then_nodes}
 use Rattle.pliron_graph.specs.declared.components.Scc.{Scc}
-use Rattle.pliron_search.specs.Internal.Membership.{In, in_from, contains_from, in_right}
+use Rattle.pliron_search.specs.Internal.Membership.{HasMember, in_from, contains_from, in_right}
 use Rattle.pliron_search.proofs.ItemLemmas.{in_from_item}
 use Rattle.pliron_graph.proofs.LawLemmas.{reaches_join}
 use Rattle.pliron_graph.proofs.ComponentLemmas.{latest_in_component}
 
-pub node_reached : {N : Type 0} (g : Digraph N) (v : N) → In g.nodes v → IsReached g (entry_then_nodes g) v
+pub node_reached : {N : Type 0} (g : Digraph N) (v : N) → HasMember g.nodes v → IsReached g (entry_then_nodes g) v
 node_reached g v h = (v, contains_from (option_to_list g.entry ++ g.nodes) v (in_right (option_to_list g.entry) g.nodes v h), ([], refl))
 
 module _ {N : Type 0} (eq : N → N → Bool) (g : Digraph N) (components : List (Scc N)) (are : AreComponents eq g components) where

@@ -5,7 +5,7 @@ use Rattle.pliron_search.specs.Digraph.{Digraph, IsPath, Reaches, IsReached}
 use Rattle.pliron_search.specs.Search.{Encloses, IsSearchNumbering}
 use Rattle.pliron_graph.specs.Components.{ReachEachOther, IsCyclic, Falls, HasGreatest}
 use Rattle.pliron_graph.specs.declared.components.Scc.{Scc}
-use Rattle.pliron_search.specs.Internal.Membership.{In, in_from, contains_from, in_left, in_right, in_cases}
+use Rattle.pliron_search.specs.Internal.Membership.{HasMember, in_from, contains_from, in_left, in_right, in_cases}
 use Rattle.pliron_graph.specs.Internal.Collecting.{IsPathOutside, LeadsOutside}
 use Rattle.pliron_search.proofs.ItemLemmas.{in_from_item}
 use Rattle.pliron_graph.proofs.ItemLemmas.{item_left, item_right}
@@ -18,16 +18,16 @@ order m n = grind arith
 module _ {N : Type 0} (g : Digraph N) (roots : List N) (pre post : N → ℕ) where
   -- the components that were taken when the nodes with numbers from left on were gone through
   pub record AreTaken (held : List N) (cs : List (Scc N)) (left : ℕ) : Type 0 where
-    pub late : (v : N) → IsReached g roots v → In held v ⊎ (post v < left)
-    pub reached : (v : N) → In held v → IsReached g roots v
-    pub closed : (u v : N) → In held u → ReachEachOther g u v → In held v
-    pub covers : (v : N) → In held v → (c : Scc N) × In cs c × In c.nodes.items v
-    pub inside : (c : Scc N) (v : N) → In cs c → In c.nodes.items v → In held v
-    pub shares : (c : Scc N) (u v : N) → In cs c → In c.nodes.items u → (In c.nodes.items v ↔ ReachEachOther g u v)
-    pub leads : (c : Scc N) → In cs c → (u : N) × In c.nodes.items u × ((v : N) → IsReached g roots v → (In held v → ⊥) → post v < post u)
+    pub late : (v : N) → IsReached g roots v → HasMember held v ⊎ (post v < left)
+    pub reached : (v : N) → HasMember held v → IsReached g roots v
+    pub closed : (u v : N) → HasMember held u → ReachEachOther g u v → HasMember held v
+    pub covers : (v : N) → HasMember held v → (c : Scc N) × HasMember cs c × HasMember c.nodes.items v
+    pub inside : (c : Scc N) (v : N) → HasMember cs c → HasMember c.nodes.items v → HasMember held v
+    pub shares : (c : Scc N) (u v : N) → HasMember cs c → HasMember c.nodes.items u → (HasMember c.nodes.items v ↔ ReachEachOther g u v)
+    pub leads : (c : Scc N) → HasMember cs c → (u : N) × HasMember c.nodes.items u × ((v : N) → IsReached g roots v → (HasMember held v → ⊥) → post v < post u)
     pub ordered : (i j : ℕ) (c e : Scc N) → i < j → slice_get cs i ≡ Some c → slice_get cs j ≡ Some e → HasGreatest post c.nodes.items e.nodes.items
-    pub members : (c : Scc N) → In cs c → Falls pre c.nodes.items
-    pub cyclic : (c : Scc N) → In cs c → (IsTrue c.is_cyclic ↔ IsCyclic g c.nodes.items)
+    pub members : (c : Scc N) → HasMember cs c → Falls pre c.nodes.items
+    pub cyclic : (c : Scc N) → HasMember cs c → (IsTrue c.is_cyclic ↔ IsCyclic g c.nodes.items)
 
 module _ {N : Type 0} (g : Digraph N) (roots : List N) (pre post : N → ℕ) (count : ℕ) (d : IsSearchNumbering g roots pre post count) where
   -- what u holds: itself and what it encloses
@@ -106,13 +106,13 @@ module _ {N : Type 0} (g : Digraph N) (roots : List N) (pre post : N → ℕ) (c
   }
 
   -- a node that is held has its component
-  pub passed : (held : List N) (cs : List (Scc N)) (r : N) → IsReached g roots r → In held r → AreTaken g roots pre post held cs (suc (post r)) → AreTaken g roots pre post held cs (post r)
+  pub passed : (held : List N) (cs : List (Scc N)) (r : N) → IsReached g roots r → HasMember held r → AreTaken g roots pre post held cs (suc (post r)) → AreTaken g roots pre post held cs (post r)
   passed held cs r hr there t = record {
     late = λ v hv. elim (t.late v hv) [
       | inl h ↦ inl h
       | inr l ↦ elim (order (post v) (post r)) [
         | inl k ↦ inr k
-        | inr y ↦ elim y [ inl s ↦ inl (subst (In held) (d.post_numbers.once r v hr hv (sym s)) there) | inr k ↦ absurd (omega (arith, l, k)) ]
+        | inr y ↦ elim y [ inl s ↦ inl (subst (HasMember held) (d.post_numbers.once r v hr hv (sym s)) there) | inr k ↦ absurd (omega (arith, l, k)) ]
       ]
     ];
     reached = t.reached;
@@ -126,13 +126,13 @@ module _ {N : Type 0} (g : Digraph N) (roots : List N) (pre post : N → ℕ) (c
     cyclic = t.cyclic;
   }
 
-  module _ (held added : List N) (cs : List (Scc N)) (c : Scc N) (r : N) (hr : IsReached g roots r) (fresh : In held r → ⊥) (t : AreTaken g roots pre post held cs (suc (post r)))
-      (collected : (x : N) → In added x → IsReached g roots x × LeadsOutside g held x r) (complete : (x : N) → IsReached g roots x → LeadsOutside g held x r → In added x)
-      (same : (x : N) → (Contains c.nodes.items x ↔ In added x)) where
-    unheld_low : (v : N) → IsReached g roots v → (In held v → ⊥) → post v ≤ post r
+  module _ (held added : List N) (cs : List (Scc N)) (c : Scc N) (r : N) (hr : IsReached g roots r) (fresh : HasMember held r → ⊥) (t : AreTaken g roots pre post held cs (suc (post r)))
+      (collected : (x : N) → HasMember added x → IsReached g roots x × LeadsOutside g held x r) (complete : (x : N) → IsReached g roots x → LeadsOutside g held x r → HasMember added x)
+      (same : (x : N) → (Contains c.nodes.items x ↔ HasMember added x)) where
+    unheld_low : (v : N) → IsReached g roots v → (HasMember held v → ⊥) → post v ≤ post r
     unheld_low v hv n = elim (t.late v hv) [ inl h ↦ absurd (n h) | inr l ↦ omega (arith, l) ]
 
-    first_fresh : (x : N) (ws : List N) → IsPathOutside g held x ws r → In held x → ⊥
+    first_fresh : (x : N) (ws : List N) → IsPathOutside g held x ws r → HasMember held x → ⊥
     first_fresh x [] p = p.0
     first_fresh x (w ∷ ws) p = p.0
 
@@ -142,24 +142,24 @@ module _ {N : Type 0} (g : Digraph N) (roots : List N) (pre post : N → ℕ) (c
         let rest = led_held w ws (next_reached x w hx p.1) p.2 in
         (held_source r x w hr hx p.1 rest.0 (unheld_low x hx p.0), (w ∷ rest.1.0, (p.1, rest.1.1)))
 
-    added_mutual : (x : N) → In added x → ReachEachOther g r x
+    added_mutual : (x : N) → HasMember added x → ReachEachOther g r x
     added_mutual x h =
         let k = collected x h in
         let m = led_held x k.1.0 k.0 k.1.1 in
         (holder_reaches r x hr k.0 m.0, m.1)
 
-    added_fresh : (x : N) → In added x → In held x → ⊥
+    added_fresh : (x : N) → HasMember added x → HasMember held x → ⊥
     added_fresh x h = let k = collected x h in first_fresh x k.1.0 k.1.1
 
     mutual_path : (x : N) (ws : List N) → Reaches g r x → IsPath g x ws r → IsPathOutside g held x ws r
-    mutual_path x [] there p = (λ h. fresh (subst (In held) p h), p)
+    mutual_path x [] there p = (λ h. fresh (subst (HasMember held) p h), p)
     mutual_path x (w ∷ ws) there p = (
       λ h. fresh (t.closed x r h ((w ∷ ws, p), there)),
       p.0,
       mutual_path w ws (reaches_join g r x w there (w ∷ [], (p.0, refl))) p.1,
     )
 
-    mutual_added : (x : N) → ReachEachOther g r x → In added x
+    mutual_added : (x : N) → ReachEachOther g r x → HasMember added x
     mutual_added x m = complete x (hr.0, hr.1, reaches_join g hr.0 r x hr.2 m.0) (m.1.0, mutual_path x m.1.0 m.0 m.1.1)
 
     mutual_next : (u v w : N) → ReachEachOther g u v → ReachEachOther g v w → ReachEachOther g u w
@@ -168,26 +168,26 @@ module _ {N : Type 0} (g : Digraph N) (roots : List N) (pre post : N → ℕ) (c
     mutual_back : (u v : N) → ReachEachOther g u v → ReachEachOther g v u
     mutual_back u v m = (m.1, m.0)
 
-    root_added : In added r
+    root_added : HasMember added r
     root_added = mutual_added r (([], refl), ([], refl))
 
-    member_added : (x : N) → In c.nodes.items x → In added x
+    member_added : (x : N) → HasMember c.nodes.items x → HasMember added x
     member_added x h = (same x).0 (contains_from c.nodes.items x h)
 
-    added_member : (x : N) → In added x → In c.nodes.items x
+    added_member : (x : N) → HasMember added x → HasMember c.nodes.items x
     added_member x h = in_from c.nodes.items x ((same x).1 h)
 
-    split : (v : N) → In (held ++ added) v → In held v ⊎ In added v
+    split : (v : N) → HasMember (held ++ added) v → HasMember held v ⊎ HasMember added v
     split v h = in_cases held added v h
 
-    split_component : (e : Scc N) → In (cs ++ c ∷ []) e → In cs e ⊎ (c ≡ e)
+    split_component : (e : Scc N) → HasMember (cs ++ c ∷ []) e → HasMember cs e ⊎ (c ≡ e)
     split_component e h = elim (in_cases cs (c ∷ []) e h) [ inl a ↦ inl a | inr b ↦ elim b [ inl s ↦ inr s | inr n ↦ absurd n ] ]
 
-    low_of_rest : (v : N) → IsReached g roots v → (In (held ++ added) v → ⊥) → post v < post r
+    low_of_rest : (v : N) → IsReached g roots v → (HasMember (held ++ added) v → ⊥) → post v < post r
     low_of_rest v hv n = elim (order (post v) (post r)) [
       | inl l ↦ l
       | inr y ↦ elim y [
-        | inl s ↦ absurd (n (in_right held added v (subst (In added) (d.post_numbers.once r v hr hv (sym s)) root_added)))
+        | inl s ↦ absurd (n (in_right held added v (subst (HasMember added) (d.post_numbers.once r v hr hv (sym s)) root_added)))
         | inr l ↦ absurd (omega (arith, l, unheld_low v hv (λ h. n (in_left held added v h))))
       ]
     ]
@@ -203,7 +203,7 @@ module _ {N : Type 0} (g : Digraph N) (roots : List N) (pre post : N → ℕ) (c
       ]
     ]
 
-    after : (a : Scc N) → In cs a → HasGreatest post a.nodes.items c.nodes.items
+    after : (a : Scc N) → HasMember cs a → HasGreatest post a.nodes.items c.nodes.items
     after a h =
         let l = t.leads a h in (
           l.0,
@@ -223,7 +223,7 @@ module _ {N : Type 0} (g : Digraph N) (roots : List N) (pre post : N → ℕ) (c
       ]
     ]
 
-    new_shares : (u v : N) → In c.nodes.items u → (In c.nodes.items v ↔ ReachEachOther g u v)
+    new_shares : (u v : N) → HasMember c.nodes.items u → (HasMember c.nodes.items v ↔ ReachEachOther g u v)
     new_shares u v hu =
         let m = added_mutual u (member_added u hu) in (
           λ hv. mutual_next u r v (mutual_back r u m) (added_mutual v (member_added v hv)),
@@ -237,7 +237,7 @@ module _ {N : Type 0} (g : Digraph N) (roots : List N) (pre post : N → ℕ) (c
         | inr l ↦ elim (order (post v) (post r)) [
           | inl k ↦ inr k
           | inr y ↦ elim y [
-            | inl s ↦ inl (in_right held added v (subst (In added) (d.post_numbers.once r v hr hv (sym s)) root_added))
+            | inl s ↦ inl (in_right held added v (subst (HasMember added) (d.post_numbers.once r v hr hv (sym s)) root_added))
             | inr k ↦ absurd (omega (arith, l, k))
           ]
         ]
@@ -253,15 +253,15 @@ module _ {N : Type 0} (g : Digraph N) (roots : List N) (pre post : N → ℕ) (c
       ];
       inside = λ e v h i. elim (split_component e h) [
         | inl a ↦ in_left held added v (t.inside e v a i)
-        | inr s ↦ in_right held added v (member_added v (subst (λ (z : Scc N). In z.nodes.items v) (sym s) i))
+        | inr s ↦ in_right held added v (member_added v (subst (λ (z : Scc N). HasMember z.nodes.items v) (sym s) i))
       ];
       shares = λ e u v h i. elim (split_component e h) [
         | inl a ↦ t.shares e u v a i
-        | inr s ↦ subst (λ (z : Scc N). In z.nodes.items v ↔ ReachEachOther g u v) s (new_shares u v (subst (λ (z : Scc N). In z.nodes.items u) (sym s) i))
+        | inr s ↦ subst (λ (z : Scc N). HasMember z.nodes.items v ↔ ReachEachOther g u v) s (new_shares u v (subst (λ (z : Scc N). HasMember z.nodes.items u) (sym s) i))
       ];
       leads = λ e h. elim (split_component e h) [
         | inl a ↦ let k = t.leads e a in (k.0, k.1, λ v hv n. k.2 v hv (λ x. n (in_left held added v x)))
-        | inr s ↦ (r, subst (λ (z : Scc N). In z.nodes.items r) s (added_member r root_added), low_of_rest)
+        | inr s ↦ (r, subst (λ (z : Scc N). HasMember z.nodes.items r) s (added_member r root_added), low_of_rest)
       ];
       ordered = taken_in_order;
       members = λ e h. elim (split_component e h) [ inl a ↦ t.members e a | inr s ↦ subst (λ (z : Scc N). Falls pre z.nodes.items) s falls ];

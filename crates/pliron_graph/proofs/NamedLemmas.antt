@@ -12,11 +12,11 @@ use Rattle.pliron_search.specs.ByNumber.{IsByNumber}
 use Rattle.pliron_search.specs.Search.{number_in}
 use Rattle.pliron_search.specs.Internal.AdjacencyLawful.{node_below, below_node}
 use Rattle.pliron_search.specs.Internal.Forest.{leaf, Grows, done}
-use Rattle.pliron_search.specs.Internal.Membership.{In, in_from, contains_from}
+use Rattle.pliron_search.specs.Internal.Membership.{HasMember, in_from, contains_from}
 use Rattle.pliron_search.proofs.NumberingLemmas.{search_from_growth}
 use Rattle.pliron_graph.specs.Components.{AreComponents, ReachEachOther, IsCyclic, Falls, HasGreatest, entry_then_nodes}
 use Rattle.pliron_graph.specs.declared.components.Scc.{Scc}
-use Rattle.pliron_graph.specs.Internal.Collecting.{AreFound}
+use Rattle.pliron_graph.specs.Internal.Collecting.{AreNumberedComponents}
 use Rattle.pliron_graph.specs.Internal.Named.{IsNamed, AreNamed}
 use Rattle.pliron_graph.proofs.PreSentinelLemmas.{contains_item, item_contained, item_of_push}
 use Rattle.pliron_search.proofs.NumberedLemmas.{in_map, of_map, named_items, number_of, node_in, place_named}
@@ -46,7 +46,7 @@ named_more {N} nodes cs ds i c d count at is all k a b at_a at_b = elim (item_of
 ]
 
 -- the numbers of components are below the number of nodes
-pub numbers_below : (n : ℕ) (g : Adjacency) (cs : List (Scc ℕ)) → n ≡ length g.succ → AreFound nat_eq (graph_of g) cs → All (λ c. All (λ k. k < n) c.nodes.items) cs
+pub numbers_below : (n : ℕ) (g : Adjacency) (cs : List (Scc ℕ)) → n ≡ length g.succ → AreNumberedComponents nat_eq (graph_of g) cs → All (λ c. All (λ k. k < n) c.nodes.items) cs
 numbers_below n g cs same found i c l j k m =
     let component : Scc ℕ = get_or cs i c in
     let number : ℕ = get_or (get_or cs i c).nodes.items j k in
@@ -55,8 +55,8 @@ numbers_below n g cs same found i c l j k m =
     omega (arith, low, same)
 
 module _ {N : Type 0} (eq : N → N → Bool) (laws : IsEquivalence eq) (g : Digraph N) (lists : Adjacency) (lawful : IsLawful eq g) (by : IsByNumber g lists)
-    (cs : List (Scc ℕ)) (ds : List (Scc N)) (found : AreFound nat_eq (graph_of lists) cs) (named : AreNamed g.nodes cs ds) where
-  member_low : (c : Scc ℕ) (k : ℕ) → Contains cs c → In c.nodes.items k → k < length lists.succ
+    (cs : List (Scc ℕ)) (ds : List (Scc N)) (found : AreNumberedComponents nat_eq (graph_of lists) cs) (named : AreNamed g.nodes cs ds) where
+  member_low : (c : Scc ℕ) (k : ℕ) → Contains cs c → HasMember c.nodes.items k → k < length lists.succ
   member_low c k h i = node_below (length lists.succ) k ((found.are.covers k).1 (c, h, contains_from c.nodes.items k i))
 
   counterpart : (i : ℕ) (e : Scc N) → slice_get ds i ≡ Some e → (c : Scc ℕ) × (slice_get cs i ≡ Some c)
@@ -75,7 +75,7 @@ module _ {N : Type 0} (eq : N → N → Bool) (laws : IsEquivalence eq) (g : Dig
       pub inside : Contains cs component
       pub items : e.nodes.items ≡ map node component.nodes.items
       pub number : ℕ
-      pub among : In component.nodes.items number
+      pub among : HasMember component.nodes.items number
       pub is : node number ≡ v
       pub low : number < length lists.succ
 
@@ -85,11 +85,11 @@ module _ {N : Type 0} (eq : N → N → Bool) (laws : IsEquivalence eq) (g : Dig
         let c = counterpart at.0 e at.1 in
         let items = items_named at.0 c.0 e c.1 at.1 in
         let inside = item_contained cs at.0 c.0 c.1 in
-        let m = of_map node c.0.nodes.items v (subst (λ z. In z v) items (in_from e.nodes.items v hv)) in
+        let m = of_map node c.0.nodes.items v (subst (λ z. HasMember z v) items (in_from e.nodes.items v hv)) in
         record { component = c.0; inside = inside; items = items; number = m.0; among = m.1; is = m.2; low = member_low c.0 m.0 inside m.1 }
 
-    member_named : (c : Scc ℕ) (e : Scc N) (k : ℕ) → e.nodes.items ≡ map node c.nodes.items → In c.nodes.items k → Contains e.nodes.items (node k)
-    member_named c e k items i = contains_from e.nodes.items (node k) (subst (λ z. In z (node k)) (sym items) (in_map node c.nodes.items k i))
+    member_named : (c : Scc ℕ) (e : Scc N) (k : ℕ) → e.nodes.items ≡ map node c.nodes.items → HasMember c.nodes.items k → Contains e.nodes.items (node k)
+    member_named c e k items i = contains_from e.nodes.items (node k) (subst (λ z. HasMember z (node k)) (sym items) (in_map node c.nodes.items k i))
 
     covered : (v : N) → Contains g.nodes v → (e : Scc N) × Contains ds e × Contains e.nodes.items v
     covered v h =
@@ -103,7 +103,7 @@ module _ {N : Type 0} (eq : N → N → Bool) (laws : IsEquivalence eq) (g : Dig
     covers_node : (e : Scc N) (v : N) → Contains ds e → Contains e.nodes.items v → Contains g.nodes v
     covers_node e v h hv =
         let m = has_number e v h hv in
-        contains_from g.nodes v (subst (In g.nodes) m.is (node_in eq laws g lists lawful by d m.number m.low))
+        contains_from g.nodes v (subst (HasMember g.nodes) m.is (node_in eq laws g lists lawful by d m.number m.low))
 
     shared : (e : Scc N) (u v : N) → Contains ds e → Contains e.nodes.items u → (Contains e.nodes.items v ↔ ReachEachOther g u v)
     shared e u v h hu = (there, back)
@@ -113,7 +113,7 @@ module _ {N : Type 0} (eq : N → N → Bool) (laws : IsEquivalence eq) (g : Dig
 
         there : Contains e.nodes.items v → ReachEachOther g u v
         there hv =
-            let j = of_map node m.component.nodes.items v (subst (λ z. In z v) m.items (in_from e.nodes.items v hv)) in
+            let j = of_map node m.component.nodes.items v (subst (λ z. HasMember z v) m.items (in_from e.nodes.items v hv)) in
             let both = (found.are.shares m.component m.number j.0 m.inside (contains_from m.component.nodes.items m.number m.among)).0 (contains_from m.component.nodes.items j.0 j.1) in
             let low : j.0 < length lists.succ = member_low m.component j.0 m.inside j.1 in
             let here : ReachEachOther g (node m.number) (node j.0) = (reaches_named eq laws g lists lawful by d m.number j.0 m.low both.0, reaches_named eq laws g lists lawful by d j.0 m.number low both.1) in
@@ -145,12 +145,12 @@ module _ {N : Type 0} (eq : N → N → Bool) (laws : IsEquivalence eq) (g : Dig
         let a = counterpart i e at_e in
         let b = counterpart j f at_f in
         let k = found.are.ordered i j a.0 b.0 l a.1 b.1 in
-        let k_in : In a.0.nodes.items k.0 = in_from a.0.nodes.items k.0 k.1 in
+        let k_in : HasMember a.0.nodes.items k.0 = in_from a.0.nodes.items k.0 k.1 in
         let k_low : k.0 < length lists.succ = member_low a.0 k.0 (item_contained cs i a.0 a.1) k_in in (
           node k.0,
           member_named a.0 e k.0 (items_named i a.0 e a.1 at_e) k_in,
           λ v hv.
-              let m = of_map node b.0.nodes.items v (subst (λ z. In z v) (items_named j b.0 f b.1 at_f) (in_from f.nodes.items v hv)) in
+              let m = of_map node b.0.nodes.items v (subst (λ z. HasMember z v) (items_named j b.0 f b.1 at_f) (in_from f.nodes.items v hv)) in
               let m_low : m.0 < length lists.succ = member_low b.0 m.0 (item_contained cs j b.0 b.1) m.1 in
               let less : number_in nat_eq found.are.orders.post m.0 < number_in nat_eq found.are.orders.post k.0 = k.2 m.0 (contains_from b.0.nodes.items m.0 m.1) in
               let here : number_in eq (map node found.are.orders.post) (node m.0) < number_in eq (map node found.are.orders.post) (node k.0) = omega (arith, less, post_place m.0 m_low, post_place k.0 k_low) in
@@ -187,13 +187,13 @@ module _ {N : Type 0} (eq : N → N → Bool) (laws : IsEquivalence eq) (g : Dig
         there : (c : Scc ℕ) → e.nodes.items ≡ map node c.nodes.items → Contains cs c → IsCyclic (graph_of lists) c.nodes.items → IsCyclic g e.nodes.items
         there c items inside (inl l) = inl (omega (arith, l, ap length items, length-map c.nodes.items node))
         there c items inside (inr x) =
-            let among : In c.nodes.items x.0 = in_from c.nodes.items x.0 x.1 in
+            let among : HasMember c.nodes.items x.0 = in_from c.nodes.items x.0 x.1 in
             inr (node x.0, member_named c e x.0 items among, loop_named eq laws g lists lawful by d x.0 (member_low c x.0 inside among) x.2)
 
         back : (c : Scc ℕ) → e.nodes.items ≡ map node c.nodes.items → Contains cs c → IsCyclic g e.nodes.items → IsCyclic (graph_of lists) c.nodes.items
         back c items inside (inl l) = inl (omega (arith, l, ap length items, length-map c.nodes.items node))
         back c items inside (inr x) =
-            let m = of_map node c.nodes.items x.0 (subst (λ z. In z x.0) items (in_from e.nodes.items x.0 x.1)) in
+            let m = of_map node c.nodes.items x.0 (subst (λ z. HasMember z x.0) items (in_from e.nodes.items x.0 x.1)) in
             let edge : Contains (g.succ (node m.0)) (node m.0) = subst (λ z. Contains (g.succ z) z) (sym m.2) x.2 in
             inr (m.0, contains_from c.nodes.items m.0 m.1, loop_numbered eq laws g lists lawful by d m.0 (member_low c m.0 inside m.1) edge)
 

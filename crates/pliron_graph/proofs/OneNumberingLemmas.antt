@@ -12,7 +12,7 @@
 use Rattle.std.proofs.Common.{◌≡◌, ℕ, zero, suc, ◌<◌, ◌≤◌, List, [], ◌∷◌, Option, Some, slice_get, refl, sym, ap, subst, arith, inl, inr, Contains}
 use Rattle.pliron_search.specs.Digraph.{Digraph, IsReached}
 use Rattle.pliron_search.specs.Search.{Encloses, IsFirstAt, IsNearest, IsTop, IsSearchNumbering}
-use Rattle.pliron_search.specs.Internal.Membership.{In, in_from, contains_from}
+use Rattle.pliron_search.specs.Internal.Membership.{HasMember, in_from, contains_from}
 use Rattle.pliron_graph.proofs.LawLemmas.{reached_next}
 use Rattle.pliron_graph.proofs.RankLemmas.{order, IsFixedByEarlier, same_numbers, same_by_order, same_counts}
 
@@ -62,7 +62,7 @@ module _ {N : Type 0} (g : Digraph N) (roots : List N) (pre post : N → ℕ) (c
   ]
 
   -- where v stands first in a list of reached nodes
-  pub first_place : (xs : List N) (v : N) → ((w : N) → In xs w → IsReached g roots w) → IsReached g roots v → In xs v → (k : ℕ) × IsFirstAt xs v k
+  pub first_place : (xs : List N) (v : N) → ((w : N) → HasMember xs w → IsReached g roots w) → IsReached g roots v → HasMember xs v → (k : ℕ) × IsFirstAt xs v k
   first_place [] v all hv h = absurd h
   first_place (x ∷ xs) v all hv h = elim (order (pre x) (pre v)) [
     | inl l ↦ later (first_place xs v (λ w k. all w (inr k)) hv) (λ s. omega (arith, l, ap pre s)) h
@@ -72,7 +72,7 @@ module _ {N : Type 0} (g : Digraph N) (roots : List N) (pre post : N → ℕ) (c
     ]
   ]
     where
-      later : (In xs v → (k : ℕ) × IsFirstAt xs v k) → (x ≡ v → ⊥) → In (x ∷ xs) v → (k : ℕ) × IsFirstAt (x ∷ xs) v k
+      later : (HasMember xs v → (k : ℕ) × IsFirstAt xs v k) → (x ≡ v → ⊥) → HasMember (x ∷ xs) v → (k : ℕ) × IsFirstAt (x ∷ xs) v k
       later rest apart (inl s) = absurd (apart s)
       later rest apart (inr i) = let r = rest i in (suc r.0, (r.1.0, first r.0 r.1.1))
         where
@@ -86,7 +86,7 @@ module _ {N : Type 0} (g : Digraph N) (roots : List N) (pre post pre' post' : N 
   Taken number xs v = (k j : ℕ) (w : N) → IsFirstAt xs v k → j < k → slice_get xs j ≡ Some w → number w < number v
 
   -- two nodes that are first in a list to have numbers from k on are one
-  one_taken : (xs : List N) (k : ℕ) (v u : N) → ((w : N) → In xs w → IsReached g roots w) → Contains xs v → Contains xs u → Taken pre xs v → Taken pre' xs u → pre v ≡ k → pre' u ≡ k → k ≤ pre u → k ≤ pre' v → v ≡ u
+  one_taken : (xs : List N) (k : ℕ) (v u : N) → ((w : N) → HasMember xs w → IsReached g roots w) → Contains xs v → Contains xs u → Taken pre xs v → Taken pre' xs u → pre v ≡ k → pre' u ≡ k → k ≤ pre u → k ≤ pre' v → v ≡ u
   one_taken xs k v u all cv cu taken taken' e e' m m' =
       let i = first_place g roots pre post count d xs v all (all v (in_from xs v cv)) (in_from xs v cv) in
       let j = first_place g roots pre post count d xs u all (all u (in_from xs u cu)) (in_from xs u cu) in
@@ -101,10 +101,10 @@ module _ {N : Type 0} (g : Digraph N) (roots : List N) (pre post pre' post' : N 
       one_item : (o : Option N) (a b : N) → o ≡ Some a → o ≡ Some b → a ≡ b
       one_item o a b p q = cc
 
-  root_reached : (w : N) → In roots w → IsReached g roots w
+  root_reached : (w : N) → HasMember roots w → IsReached g roots w
   root_reached w i = (w, contains_from roots w i, ([], refl))
 
-  next_reached : (p w : N) → IsReached g roots p → In (g.succ p) w → IsReached g roots w
+  next_reached : (p w : N) → IsReached g roots p → HasMember (g.succ p) w → IsReached g roots w
   next_reached p w h i = reached_next g roots pre post count d p w h (contains_from (g.succ p) w i)
 
   -- the node numbered k is told by those with smaller numbers

@@ -9,7 +9,7 @@ use Rattle.pliron_search.specs.Search.{number_in}
 use Rattle.pliron_graph.specs.Components.{AreComponents, Falls}
 use Rattle.pliron_graph.specs.declared.components.Scc.{Scc}
 use Rattle.pliron_graph.specs.Reverse.{IsSink, IsLastListed, IsInEarlier, AreLastOfSinks, ArePreSentinels}
-use Rattle.pliron_search.specs.Internal.Membership.{In, contains_from, in_from, in_from_any, any_from_in}
+use Rattle.pliron_search.specs.Internal.Membership.{HasMember, contains_from, in_from, in_from_any, any_from_in}
 use Rattle.pliron_search.proofs.GrowthLemmas.{Distinct}
 use Rattle.pliron_search.proofs.PlaceLemmas.{is_distinct}
 use Rattle.pliron_search.proofs.ItemLemmas.{in_from_item, item_from_in}
@@ -80,8 +80,8 @@ module _ {N : Type 0} (eq : N → N → Bool) (same : (x y : N) → eq x y ≡ t
     pub last_once : (nodes : List N) (v w : N) → All (λ u. Contains g.nodes u) nodes → IsLastListed eq g nodes v → IsLastListed eq g nodes w → v ≡ w
     last_once nodes v w inside a b =
         let place : number_in eq g.nodes v ≡ number_in eq g.nodes w = omega (arith, a.1 w b.0, b.1 v a.0) in
-        let node_v : In g.nodes v = in_from g.nodes v (All-contains (λ u. Contains g.nodes u) nodes v inside a.0) in
-        let node_w : In g.nodes w = in_from g.nodes w (All-contains (λ u. Contains g.nodes u) nodes w inside b.0) in
+        let node_v : HasMember g.nodes v = in_from g.nodes v (All-contains (λ u. Contains g.nodes u) nodes v inside a.0) in
+        let node_w : HasMember g.nodes w = in_from g.nodes w (All-contains (λ u. Contains g.nodes u) nodes w inside b.0) in
         let at_v : slice_get g.nodes (number_in eq g.nodes v) ≡ Some v = item_at_place eq same reflexive g.nodes v (place_within eq same reflexive g.nodes v node_v) in
         let at_w : slice_get g.nodes (number_in eq g.nodes w) ≡ Some w = item_at_place eq same reflexive g.nodes w (place_within eq same reflexive g.nodes w node_w) in
         let one : Some v ≡ Some w = sym at_v ∙ ap (slice_get g.nodes) place ∙ at_w in

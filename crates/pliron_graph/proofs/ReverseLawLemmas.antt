@@ -10,7 +10,7 @@ use Rattle.pliron_graph.specs.declared.components.Scc.{Scc}
 use Rattle.pliron_graph.specs.Reverse.{IsSink, IsLastListed, AreLastOfSinks, ArePreSentinels, reverse_of}
 use Rattle.pliron_graph.specs.declared.reverse_node.ReverseNode.{ReverseNode}
 use Rattle.pliron_graph.specs.declared.reverse_node.ReverseNode.TheVariants.{Sentinel, Real}
-use Rattle.pliron_search.specs.Internal.Membership.{In, in_from, contains_from, in_left, in_right, in_cases, in_from_any, any_from_in}
+use Rattle.pliron_search.specs.Internal.Membership.{HasMember, in_from, contains_from, in_left, in_right, in_cases, in_from_any, any_from_in}
 use Rattle.pliron_graph.specs.Internal.ReverseLawful.{in_map}
 use Rattle.pliron_graph.proofs.LawLemmas.{reaches_step, reaches_join}
 use Rattle.pliron_search.proofs.ItemLemmas.{item_from_in}
@@ -20,7 +20,7 @@ use Rattle.pliron_graph.proofs.ComponentLawLemmas.{between_components}
 
 module _ {X : Type 0} where
   -- one thing holds of each item, or another of some item
-  each_or_some : (P Q : X → Type 0) (xs : List X) → ((x : X) → In xs x → P x ⊎ Q x) → ((x : X) → In xs x → P x) ⊎ ((x : X) × In xs x × Q x)
+  each_or_some : (P Q : X → Type 0) (xs : List X) → ((x : X) → HasMember xs x → P x ⊎ Q x) → ((x : X) → HasMember xs x → P x) ⊎ ((x : X) × HasMember xs x × Q x)
   each_or_some P Q [] h = inl (λ x i. absurd i)
   each_or_some P Q (y ∷ ys) h = elim (h y (inl refl)) [
     | inr q ↦ inr (y, inl refl, q)
@@ -31,7 +31,7 @@ module _ {X : Type 0} where
   ]
 
   -- some item has the greatest number
-  greatest : (number : X → ℕ) (x : X) (xs : List X) → (v : X) × In (x ∷ xs) v × ((u : X) → In (x ∷ xs) u → number u ≤ number v)
+  greatest : (number : X → ℕ) (x : X) (xs : List X) → (v : X) × HasMember (x ∷ xs) v × ((u : X) → HasMember (x ∷ xs) u → number u ≤ number v)
   greatest number x [] = (x, inl refl, λ u i. elim i [ inl e ↦ omega (arith, ap number e) | inr k ↦ absurd k ])
   greatest number x (y ∷ ys) =
       let r = greatest number y ys in
@@ -41,7 +41,7 @@ module _ {X : Type 0} where
       ]
 
 -- an item of a list of real nodes is one
-real_item : {N : Type 0} (xs : List N) (r : ReverseNode N) → In (map Real xs) r → (x : N) × (r ≡ Real x) × In xs x
+real_item : {N : Type 0} (xs : List N) (r : ReverseNode N) → HasMember (map Real xs) r → (x : N) × (r ≡ Real x) × HasMember xs x
 real_item [] r h = absurd h
 real_item (x ∷ xs) r (inl e) = (x, sym e, inl refl)
 real_item (x ∷ xs) r (inr h) = let p = real_item xs r h in (p.0, p.1, inr p.2)
@@ -72,7 +72,7 @@ module _ {N : Type 0} (eq : N → N → Bool) (reflexive : (x : N) → eq x x �
 
   -- nodes are a sink, or an edge leads out
   sink_or_leaves : (nodes : List N) → IsSink g nodes ⊎ ((u v : N) × Contains nodes u × Contains (g.succ u) v × (Contains nodes v → ⊥))
-  sink_or_leaves nodes = elim (each_or_some (λ u. (v : N) → In (g.succ u) v → Contains nodes v) (λ u. (v : N) × In (g.succ u) v × (Contains nodes v → ⊥)) nodes (λ u hu. each_or_some (λ v. Contains nodes v) (λ v. Contains nodes v → ⊥) (g.succ u) (λ v hv. by v (list_any (eq v) nodes) refl))) [
+  sink_or_leaves nodes = elim (each_or_some (λ u. (v : N) → HasMember (g.succ u) v → Contains nodes v) (λ u. (v : N) × HasMember (g.succ u) v × (Contains nodes v → ⊥)) nodes (λ u hu. each_or_some (λ v. Contains nodes v) (λ v. Contains nodes v → ⊥) (g.succ u) (λ v hv. by v (list_any (eq v) nodes) refl))) [
     | inl all ↦ inl (λ i d l j e m. all (get_or nodes i d) (in_from nodes (get_or nodes i d) (Contains-get_or nodes i d l)) (get_or (g.succ (get_or nodes i d)) j e) (in_from (g.succ (get_or nodes i d)) (get_or (g.succ (get_or nodes i d)) j e) (Contains-get_or (g.succ (get_or nodes i d)) j e m)))
     | inr some ↦ inr (some.0, some.2.0, contains_from nodes some.0 some.1, contains_from (g.succ some.0) some.2.0 some.2.1, some.2.2)
   ]
@@ -139,7 +139,7 @@ module _ {N : Type 0} (eq : N → N → Bool) (reflexive : (x : N) → eq x x �
     here = item_right before (v ∷ after) 0 (length before) (omega arith)
 
     -- v stands once among the pre-sentinels
-    stands_once : In (before ++ after) v → ⊥
+    stands_once : HasMember (before ++ after) v → ⊥
     stands_once h = elim (in_cases before after v h) [
       | inl a ↦
           let k = item_from_in before v a in
@@ -150,7 +150,7 @@ module _ {N : Type 0} (eq : N → N → Bool) (reflexive : (x : N) → eq x x �
           twice (length before) (length before + suc k.0) (omega arith) here (item_right before (v ∷ after) (suc k.0) (length before + suc k.0) refl ∙ k.1)
     ]
 
-    in_whole : (u : N) → In (before ++ after) u → In (before ++ v ∷ after) u
+    in_whole : (u : N) → HasMember (before ++ after) u → HasMember (before ++ v ∷ after) u
     in_whole u h = elim (in_cases before after u h) [ inl a ↦ in_left before (v ∷ after) u a | inr b ↦ in_right before (v ∷ after) u (inr b) ]
 
     pub none_spare : Reaches (reverse_of eq g (before ++ after)) Sentinel (Real v) → ⊥
@@ -165,7 +165,7 @@ module _ {N : Type 0} (eq : N → N → Bool) (reflexive : (x : N) → eq x x �
             let path = path_forth (before ++ after) x.0 v ws member (subst (λ z. IsPath (reverse_of eq g (before ++ after)) z ws (Real v)) x.1 p.1) in
             let itself : Contains (before ++ v ∷ after) v = contains_from (before ++ v ∷ after) v (in_right before (v ∷ after) v (inl refl)) in
             let one : v ≡ x.0 = starts_apart starts.0 starts.1 (before ++ v ∷ after) starts.2 v x.0 itself among path in
-            stands_once (subst (In (before ++ after)) (sym one) x.2)
+            stands_once (subst (HasMember (before ++ after)) (sym one) x.2)
 
   pub all_reached : (starts : List N) → ArePreSentinels eq g starts → (v : N) → Contains g.nodes v → Reaches (reverse_of eq g starts) Sentinel (Real v)
   all_reached starts are v h = reaches_all are.0 are.1 starts are.2 (between_components eq g are.0 are.1) v h

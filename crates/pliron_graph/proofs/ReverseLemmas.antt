@@ -11,14 +11,14 @@ use Rattle.pliron_search.specs.Search.{IsListed, number_in}
 use Rattle.pliron_graph.specs.Reverse.{Reversed, Fits, reverse_pred}
 use Rattle.pliron_graph.specs.declared.reverse_node.ReverseNode.{ReverseNode}
 use Rattle.pliron_graph.specs.declared.reverse_node.ReverseNode.TheVariants.{Sentinel, Real}
-use Rattle.pliron_search.specs.Internal.Membership.{In, in_from, contains_from, any_from_in}
+use Rattle.pliron_search.specs.Internal.Membership.{HasMember, in_from, contains_from, any_from_in}
 use Rattle.pliron_graph.specs.Internal.ReverseLawful.{real_in}
 
 -- a node that stands behind the sentinel is a node
 pub real_node : {N : Type 0} (nodes : List N) (r : ReverseNode N) (v : N) → r ≡ Real v → Contains (Sentinel ∷ map Real nodes) r → Contains nodes v
 real_node nodes r v e h = contains_from nodes v (by (in_from (Sentinel ∷ map Real nodes) (Real v) (subst (Contains (Sentinel ∷ map Real nodes)) e h)))
   where
-    by : In (Sentinel ∷ map Real nodes) (Real v) → In nodes v
+    by : HasMember (Sentinel ∷ map Real nodes) (Real v) → HasMember nodes v
     by (inl s) = absurd (cc)
     by (inr i) = real_in nodes v i
 

@@ -8,9 +8,9 @@ use Rattle.pliron_search.specs.Digraph.{Digraph, IsLawful, IsPath, IsReached}
 use Rattle.pliron_search.specs.Search.{IsSearch, IsListed, number_in}
 use Rattle.pliron_graph.specs.Components.{entry_then_nodes}
 use Rattle.pliron_graph.specs.declared.components.Scc.{Scc}
-use Rattle.pliron_search.specs.Internal.Membership.{In, in_from, contains_from, in_cases, any_from_in, not_in_from_any, in_from_any}
+use Rattle.pliron_search.specs.Internal.Membership.{HasMember, in_from, contains_from, in_cases, any_from_in, not_in_from_any, in_from_any}
 use Rattle.pliron_search.specs.Internal.Forest.{Grew}
-use Rattle.pliron_graph.specs.Internal.Collecting.{IsTaken, LeadsOutside, AreFound}
+use Rattle.pliron_graph.specs.Internal.Collecting.{IsTaken, LeadsOutside, AreNumberedComponents}
 use Rattle.pliron_search.proofs.ItemLemmas.{in_from_item}
 use Rattle.pliron_graph.proofs.ItemLemmas.{item_left, item_right, place_of_item}
 use Rattle.pliron_graph.proofs.ComponentLemmas.{AreTaken, none_taken, passed, one_more}
@@ -27,7 +27,7 @@ module _ {N : Type 0} (eq : N → N → Bool) (g : Digraph N) (lawful : IsLawful
     | inr b ↦ contains_from g.nodes r b
   ]
     where
-      by : (e : Option N) → IfSome e (λ v. Contains g.nodes v) → In (option_to_list e) r → Contains g.nodes r
+      by : (e : Option N) → IfSome e (λ v. Contains g.nodes v) → HasMember (option_to_list e) r → Contains g.nodes r
       by None k a = absurd a
       by (Some x) k (inl s) = subst (Contains g.nodes) s k
       by (Some x) k (inr n) = absurd n
@@ -77,14 +77,14 @@ module _ {N : Type 0} (eq : N → N → Bool) (g : Digraph N) (lawful : IsLawful
           → AreTaken g (entry_then_nodes g) (number_in eq pre) (number_in eq post) new (cs ++ c ∷ []) (length rest)
       more held new cs c unheld taken t =
           let added = taken.collects.added in
-          let collected : (x : N) → In taken.collects.added x → IsReached g (entry_then_nodes g) x × LeadsOutside g held x root =
+          let collected : (x : N) → HasMember taken.collects.added x → IsReached g (entry_then_nodes g) x × LeadsOutside g held x root =
           λ x h. let node = taken.collects.inside x h in (node_reached g x (in_from g.nodes x node), (taken.collects.leads x node).0 h) in
-          let complete : (x : N) → IsReached g (entry_then_nodes g) x → LeadsOutside g held x root → In taken.collects.added x = λ x hx l. (taken.collects.leads x (reached_inside x hx)).1 l in
+          let complete : (x : N) → IsReached g (entry_then_nodes g) x → LeadsOutside g held x root → HasMember taken.collects.added x = λ x hx l. (taken.collects.leads x (reached_inside x hx)).1 l in
           subst (λ xs. AreTaken g (entry_then_nodes g) (number_in eq pre) (number_in eq post) xs (cs ++ c ∷ []) (length rest)) (sym taken.collects.is)
           (subst (AreTaken g (entry_then_nodes g) (number_in eq pre) (number_in eq post) (held ++ added) (cs ++ c ∷ [])) root_number
           (one_more g (entry_then_nodes g) (number_in eq pre) (number_in eq post) (length pre) search.numbering held added cs c root root_reached (not_in_from_any eq lawful.same laws.refl held root unheld) (before held cs t) collected complete taken.same taken.falls taken.cyclic))
 
-    pub finish : Grew eq g (entry_then_nodes g) [] [] pre post → (held : List N) (cs : List (Scc N)) → AreTaken g (entry_then_nodes g) (number_in eq pre) (number_in eq post) held cs 0 → AreFound eq g cs
+    pub finish : Grew eq g (entry_then_nodes g) [] [] pre post → (held : List N) (cs : List (Scc N)) → AreTaken g (entry_then_nodes g) (number_in eq pre) (number_in eq post) held cs 0 → AreNumberedComponents eq g cs
     finish grew held cs t = record {
       are = record {
         orders = record { pre = pre; post = post };
@@ -105,6 +105,6 @@ module _ {N : Type 0} (eq : N → N → Bool) (g : Digraph N) (lawful : IsLawful
       grew = grew;
     }
       where
-        filled : (xs : List N) (v : N) → In xs v → 0 < length xs
+        filled : (xs : List N) (v : N) → HasMember xs v → 0 < length xs
         filled [] v h = absurd h
         filled (x ∷ xs) v h = omega arith

@@ -8,8 +8,8 @@ abbrev pub IsAtOrAbove : Tree → (op k : ℕ) → Type 0
 IsAtOrAbove t op k = IsWithin t k op
 
 -- k is an ancestor of op
-abbrev pub IsAbove : Tree → (op k : ℕ) → Type 0
-IsAbove t op k = IsInside t k op
+abbrev pub IsAncestor : Tree → (op k : ℕ) → Type 0
+IsAncestor t op k = IsInside t k op
 
 -- the operation stands directly in the block
 abbrev pub IsDirectlyInBlock : Tree → (block op : ℕ) → Type 0

@@ -4,7 +4,7 @@ ghost use Rattle.std.specs.Prelude.{◌≡◌, ◌↔◌, IsTrue, IfSome};
 ghost use Rattle.pliron_core.specs.Tree.{IsLive, IsBlock, IsInside, parent_of};
 ghost use Rattle.pliron_core.specs.Erased.{StandsIn, IsBlockWithin};
 ghost use Rattle.pliron_laws.specs.Answers.{HeadPasses};
-ghost use Rattle.pliron_graph.specs.Ancestors.{IsAtOrAbove, IsAbove, IsDirectlyInBlock, IsDirectlyIn, IsDirectlyInRegion, IsBlockInside, FindsNearest, StrictlyPrecedes};
+ghost use Rattle.pliron_graph.specs.Ancestors.{IsAtOrAbove, IsAncestor, IsDirectlyInBlock, IsDirectlyIn, IsDirectlyInRegion, IsBlockInside, FindsNearest, StrictlyPrecedes};
 
 use pliron_core::{BasicBlock, Context, Operation, Ptr, Region};
 use pliron_laws::{Dialect, Interface};
@@ -157,7 +157,7 @@ pub fn find_ancestor_of_op_type<D: Dialect>(
     kind: D::Kind,
 ) -> Option<Ptr<Operation>>
     requires { IsLive ctx.now.tree op }
-    ensures nearest { FindsNearest (IsInside ctx.now.tree) (IsAbove ctx.now.tree op) (HeadPasses (λ h. D.is_of_kind h kind) ctx.now.tree) result }
+    ensures nearest { FindsNearest (IsInside ctx.now.tree) (IsAncestor ctx.now.tree op) (HeadPasses (λ h. D.is_of_kind h kind) ctx.now.tree) result }
     ensures stands { IfSome result (λ a. IsLive ctx.now.tree a) }
 {
     ctx.well_formed();
@@ -181,7 +181,7 @@ pub fn find_ancestor_of_op_interface<D: Dialect>(
     interface: Interface,
 ) -> Option<Ptr<Operation>>
     requires { IsLive ctx.now.tree op }
-    ensures nearest { FindsNearest (IsInside ctx.now.tree) (IsAbove ctx.now.tree op) (HeadPasses (λ h. D.has_interface h interface) ctx.now.tree) result }
+    ensures nearest { FindsNearest (IsInside ctx.now.tree) (IsAncestor ctx.now.tree op) (HeadPasses (λ h. D.has_interface h interface) ctx.now.tree) result }
     ensures stands { IfSome result (λ a. IsLive ctx.now.tree a) }
 {
     ctx.well_formed();

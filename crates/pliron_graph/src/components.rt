@@ -4,7 +4,7 @@ ghost use Rattle.std.specs.List.{All, IsDistinct, list_any};
 ghost use Rattle.pliron_graph.specs.Components.{AreComponents, IsCyclic, Falls, entry_then_nodes};
 ghost use Rattle.pliron_search.specs.Search.{IsListed, number_in};
 ghost use Rattle.pliron_search.specs.Internal.Forest.{Grew};
-ghost use Rattle.pliron_graph.specs.Internal.Collecting.{TakesIn, Collects, IsTaken, AreFound};
+ghost use Rattle.pliron_graph.specs.Internal.Collecting.{TakesIn, Collects, IsTaken, AreNumberedComponents};
 ghost use Rattle.pliron_graph.specs.Internal.Named.{AreNamed};
 
 use indexmap::IndexSet;
@@ -59,7 +59,7 @@ fn find_components<C, G: ControlFlowGraph<C>, S: ListedSet<G::Node>>(
     graph: &G,
 ) -> Result<Vec<Scc<G::Node>>, OptError>
     requires { G.is_lawful graph.now ctx.now }
-    ensures found { IfOk result (λ r. AreFound G.Node.eq (G.graph graph.now ctx.now) r.items) }
+    ensures found { IfOk result (λ r. AreNumberedComponents G.Node.eq (G.graph graph.now ctx.now) r.items) }
     ensures memory { IsOkUnless result OptError.Memory }
 {
     let (pre, post) = search_all::<C, G, S>(alloc, ctx, graph)?;
@@ -138,7 +138,7 @@ fn take_components<C, G: ControlFlowGraph<C>, S: ListedSet<G::Node>>(
 ) -> Result<Vec<Scc<G::Node>>, OptError>
     requires lawful { G.is_lawful graph.now ctx.now }
     requires grew { Grew G.Node.eq (G.graph graph.now ctx.now) (entry_then_nodes (G.graph graph.now ctx.now)) [] [] (S.listed pre.now) post.items }
-    ensures found { IfOk result (λ r. AreFound G.Node.eq (G.graph graph.now ctx.now) r.items) }
+    ensures found { IfOk result (λ r. AreNumberedComponents G.Node.eq (G.graph graph.now ctx.now) r.items) }
     ensures memory { IsOkUnless result OptError.Memory }
 {
     let mut held = S::empty(alloc);

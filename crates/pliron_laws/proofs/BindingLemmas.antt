@@ -4,7 +4,7 @@ use Rattle.std.proofs.lemmas.Bool.Decides.{eqb_tells}
 use Rattle.pliron_core.specs.Tree.{In}
 use Rattle.pliron_core.proofs.HoldingLemmas.{some_is, not_none, slice_in}
 use Rattle.pliron_laws.specs.Datum.{Datum}
-use Rattle.pliron_laws.specs.States.{Environment, bound, bind, put_first, data_of}
+use Rattle.pliron_laws.specs.States.{Environment, bound, bind, prepended, data_of}
 
 bound_other : (env : Environment) (w : ℕ) (d : Datum) (v : ℕ) → (v ≡ w → ⊥) → bound env w d v ≡ env v
 unfolding bound
@@ -37,13 +37,13 @@ pub data_at : (env : Environment) (vs : List ℕ) (ds : List Datum) → data_of 
 data_at env [] ds e n v at = absurd (not_none at)
 data_at env (w ∷ vs) ds e zero v at = go (env w) refl (data_of env vs) e
   where
-    go : (o : Option Datum) → env w ≡ o → (q : Option (List Datum)) → put_first o q ≡ Some ds → slice_get ds zero ≡ env v
+    go : (o : Option Datum) → env w ≡ o → (q : Option (List Datum)) → prepended o q ≡ Some ds → slice_get ds zero ≡ env v
     go None f q g = grind arith
     go (Some d) f None g = grind arith
     go (Some d) f (Some others) g = ap (λ z. slice_get z zero) (sym (some_is g)) ∙ sym f ∙ ap env (some_is at)
 data_at env (w ∷ vs) ds e (suc n) v at = go (env w) (data_of env vs) refl e (λ others f. data_at env vs others f n v at)
   where
-    go : (o : Option Datum) (q : Option (List Datum)) → data_of env vs ≡ q → put_first o q ≡ Some ds → ((others : List Datum) → data_of env vs ≡ Some others → slice_get others n ≡ env v) → slice_get ds (suc n) ≡ env v
+    go : (o : Option Datum) (q : Option (List Datum)) → data_of env vs ≡ q → prepended o q ≡ Some ds → ((others : List Datum) → data_of env vs ≡ Some others → slice_get others n ≡ env v) → slice_get ds (suc n) ≡ env v
     go None q f g rest = grind arith
     go (Some d) None f g rest = grind arith
     go (Some d) (Some others) f g rest = ap (λ z. slice_get z (suc n)) (sym (some_is g)) ∙ rest others f

@@ -14,7 +14,7 @@ use Rattle.pliron_core.proofs.FlatLemmas.{In-slice_get, slice_get-In}
 use Rattle.pliron_core.proofs.NextLemmas.{next_in-member, rest_from-step}
 use Rattle.pliron_laws.proofs.PassedLemmas.{ArePassed, passed_step}
 use Rattle.pliron_laws.specs.Linked.{EndsBlock, EdgesLast}
-use Rattle.pliron_laws.specs.EdgeChecks.{HasOwnSuccessors, OpHasOwnUsers, EndsBlockIf, IsFit}
+use Rattle.pliron_laws.specs.EdgeChecks.{HasOwnSuccessors, OpHasOwnUsers, EndsBlockIf, HasLawfulEdges}
 
 around_holder : (t : Tree) (o : Option ℕ) → up_from o (λ b. block_holder_of t b) ≡ up_from (up_from o (λ b. block_parent_of t b)) (λ r. region_parent_of t r)
 around_holder t None = refl
@@ -33,7 +33,7 @@ strictly t root k (inl e) n = absurd (n e)
 strictly t root k (inr i) n = i
 
 module _ (t : Tree) (w : IsTree t) (root : ℕ) where
-  edges_at : ((k : ℕ) → IsWithin t root k → IsFit t root k) → (k s : ℕ) → In s (successors_of t k) → IsInside t root k ⊎ HoldsBlock t root s → EndsBlock t k
+  edges_at : ((k : ℕ) → IsWithin t root k → HasLawfulEdges t root k) → (k s : ℕ) → In s (successors_of t k) → IsInside t root k ⊎ HoldsBlock t root s → EndsBlock t k
   edges_at fit k s i (inl u) = (fit k (inr u)).ends (λ e. not_inside-itself t w root (subst (λ x. IsInside t root x) e u)) s i
   edges_at fit k s i (inr held) =
       let r = region_held t s held.0 (block_parent_of t s) refl held.1 in
@@ -43,7 +43,7 @@ module _ (t : Tree) (w : IsTree t) (root : ℕ) where
       (fit k (inr u)).ends (λ e. not_inside-itself t w root (subst (λ x. IsInside t root x) e u)) s i
 
   -- where all operations within the root are fit, edges stand last
-  pub edges_of : ((k : ℕ) → IsWithin t root k → IsFit t root k) → EdgesLast t root
+  pub edges_of : ((k : ℕ) → IsWithin t root k → HasLawfulEdges t root k) → EdgesLast t root
   edges_of fit = λ k s i held. edges_at fit k s i held
 
   ends_of : EdgesLast t root → (k : ℕ) → IsWithin t root k → k ≢ root → EndsBlockIf t k
@@ -119,5 +119,5 @@ module _ (t : Tree) (w : IsTree t) where
       passed_step P (preorder t root) x o (distinct-preorder t w root) ((In-preorder t w root x).1 within) e p before
 
   -- and the other way round
-  pub fit_of : (root : ℕ) → EdgesLast t root → (k : ℕ) → IsWithin t root k → IsFit t root k
+  pub fit_of : (root : ℕ) → EdgesLast t root → (k : ℕ) → IsWithin t root k → HasLawfulEdges t root k
   fit_of root edges k within = record { ends = λ n. ends_of t w root edges k within n; users = users_of t w root edges k within }

@@ -38,6 +38,11 @@ is_entry t region block = is_first block (first_of (layout_of t region) None)
 abbrev pub ReadsPlace : {A : Type 0} → (Head → ℕ → Bool → A) → Tree → (op block : ℕ) → A → Type 0
 ReadsPlace f t op block a = (h : Head) (r i : ℕ) → head_of t op ≡ Some h → block_parent_of t block ≡ Some r → slot_of t r ≡ Some (record { op = op; index = i }) → a ≡ f h i (is_entry t r block)
 
+-- whether there is a head and it passes the test
+abbrev pub has_passing_head : (Head → Bool) → Option Head → Bool
+has_passing_head test None = false
+has_passing_head test (Some h) = test h
+
 -- the head of the operation passes the test
 abbrev pub HeadPasses : (Head → Bool) → Tree → ℕ → Type 0
 HeadPasses f t op = (h : Head) → head_of t op ≡ Some h → IsTrue (f h)

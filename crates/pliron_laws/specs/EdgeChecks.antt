@@ -27,6 +27,6 @@ abbrev pub EndsBlockIf : Tree → ℕ → Type 0
 EndsBlockIf t op = (s : ℕ) → In s (successors_of t op) → EndsBlock t op
 
 -- what the walk asks of an operation on its way
-pub record IsFit (t : Tree) (root op : ℕ) : Type 0 where
+pub record HasLawfulEdges (t : Tree) (root op : ℕ) : Type 0 where
   pub ends : op ≢ root → EndsBlockIf t op
   pub users : OpHasOwnUsers t op

@@ -46,15 +46,15 @@ bind env (v ∷ vs) (d ∷ ds) = bind (bound env v d) vs ds
 bind env [] (d ∷ ds) = None
 bind env (v ∷ vs) [] = None
 
-abbrev pub put_first : Option Datum → Option (List Datum) → Option (List Datum)
-put_first None o = None
-put_first (Some d) None = None
-put_first (Some d) (Some ds) = Some (d ∷ ds)
+abbrev pub prepended : Option Datum → Option (List Datum) → Option (List Datum)
+prepended None o = None
+prepended (Some d) None = None
+prepended (Some d) (Some ds) = Some (d ∷ ds)
 
 -- the data of these values, where each has one
 abbrev pub data_of : Environment → List ℕ → Option (List Datum)
 data_of env [] = Some []
-data_of env (v ∷ vs) = put_first (env v) (data_of env vs)
+data_of env (v ∷ vs) = prepended (env v) (data_of env vs)
 
 abbrev pub input_of : Environment → List ℕ → Option (List Datum) → Option (List Datum)
 input_of env operands None = data_of env operands

@@ -2,7 +2,7 @@
 ghost use Rattle.std.specs.Prelude.{◌≡◌, ◌≢◌, ◌↔◌, IsTrue, Some, None};
 ghost use Rattle.pliron_core.specs.Tree.{IsLive, IsBlock, IsRegion, body_of, block_parent_of, last_of};
 ghost use Rattle.pliron_laws.specs.Linked.{EdgesLast};
-ghost use Rattle.pliron_laws.specs.EdgeChecks.{HasOwnSuccessors, HasOwnUsers, RegionHasOwnUsers, OpHasOwnUsers, EndsBlockIf, IsFit, region_around};
+ghost use Rattle.pliron_laws.specs.EdgeChecks.{HasOwnSuccessors, HasOwnUsers, RegionHasOwnUsers, OpHasOwnUsers, EndsBlockIf, HasLawfulEdges, region_around};
 
 use pliron_core::{BasicBlock, Context, Operation, Ptr, Region};
 
@@ -115,9 +115,9 @@ fn op_has_own_users(ctx: &Context, op: Ptr<Operation>) -> bool
 
 // Whether the operation, unless it is the root, ends its block if it has successors, and its own blocks
 // are successors of operations beside them alone.
-fn is_fit(ctx: &Context, root: Ptr<Operation>, op: Ptr<Operation>) -> bool
+fn has_lawful_edges(ctx: &Context, root: Ptr<Operation>, op: Ptr<Operation>) -> bool
     requires { IsLive ctx.now.tree op }
-    ensures { IsTrue result ↔ IsFit ctx.now.tree root op }
+    ensures { IsTrue result ↔ HasLawfulEdges ctx.now.tree root op }
 {
     if op != root && !ends_block(ctx, op) {
         return false;
@@ -137,7 +137,7 @@ pub fn edges_last(root: Ptr<Operation>, ctx: &Context) -> bool
     ctx.well_formed();
     let mut at = Some(root);
     while let Some(op) = at {
-        if !is_fit(ctx, root, op) {
+        if !has_lawful_edges(ctx, root, op) {
             return false;
         }
         at = op.next_in_preorder(root, ctx);

@@ -13,7 +13,7 @@ use Rattle.pliron_core.proofs.GrownLemmas.{get_grown, get_last, get_last_same, i
 use Rattle.pliron_core.proofs.CreatedLemmas.{holder_kept}
 use Rattle.pliron_core.proofs.HoldingLemmas.{some_is, in_slice, slice_in, past_live, region_by, block_held, held_block, holder_by, holder_live}
 use Rattle.pliron_notation.specs.declared.build.Built.{Built}
-use Rattle.pliron_notation.specs.Building.{All, AddsOnly, IsMore, IsGrown, IsNewBlock, IsNewRegion, IsBuilt, GoesOn, AreStanding, appended}
+use Rattle.pliron_notation.specs.Building.{All, AddsOnly, IsExtended, IsGrown, IsNewBlock, IsNewRegion, IsBuilt, BuildingGoesOn, AreStanding, appended}
 use Rattle.pliron_notation.proofs.GrowthLemmas.{keeps-length, more-live, more-block, more-region, more-defined, more-region_parent, more-block_holder, more-holder, more-appended, more-created, more-block_created, more-operand, more-successor, kept-created, kept-appended, kept-block_created, kept-operand, kept-successor}
 
 -- what is added to a list that all has it
@@ -56,14 +56,14 @@ adds-none xs ys new e x i = inl (subst (In x) e i)
 pub length-last : (xs ys : List ℕ) (x : ℕ) → ys ≡ xs ++ x ∷ [] → length ys ≡ length xs + 1
 length-last xs ys x e = ap length e ∙ length-append xs (x ∷ [])
 
-pub goes-refl : (u : Tree) (built : Built) → GoesOn u built u built
+pub goes-refl : (u : Tree) (built : Built) → BuildingGoesOn u built u built
 goes-refl u built t root b = b
 
-pub goes-trans : (u v w : Tree) (a b c : Built) → GoesOn u a v b → GoesOn v b w c → GoesOn u a w c
+pub goes-trans : (u v w : Tree) (a b c : Built) → BuildingGoesOn u a v b → BuildingGoesOn v b w c → BuildingGoesOn u a w c
 goes-trans u v w a b c g h t root is = h t root (g t root is)
 
 -- what stands goes on standing where there is more
-pub standing-more : (u v : Tree) (built : Built) → IsMore u v → AreStanding u built → AreStanding v built
+pub standing-more : (u v : Tree) (built : Built) → IsExtended u v → AreStanding u built → AreStanding v built
 standing-more u v built m s = record {
   operations = λ x i. more-live u v m x (s.operations x i);
   blocks = λ x i. more-block u v m x (s.blocks x i);
@@ -132,7 +132,7 @@ module _ (u : Tree) (head : Head) (results regions block : ℕ) (is : IsTree u) 
   pub appended-other : (k : ℕ) → k ≢ op → parent_of v k ≡ parent_of u k
   appended-other k ne = get_or-set_other (created u head results regions).parents op k (Some block) None ne ∙ get_grown u.parents None k
 
-  abbrev m : IsMore u v
+  abbrev m : IsExtended u v
   m = more-appended u head results regions block is.keys
 
   module _ (t : Tree) (root : ℕ) (built : Built) (b : IsBuilt t u root built) (in_built : In block built.blocks.items) where
@@ -179,14 +179,14 @@ module _ (u : Tree) (head : Head) (results regions block : ℕ) (is : IsTree u) 
       regions = all-adds (IsNewRegion t v root) built.regions.items more.regions.items (regions_of v op) regs (λ x i. let n = b.regions x i in (n.0, more-region_parent u v m x n.0 n.1, n.2, n.3)) (new_region is_v);
     }
 
-  pub goes-appended : (w : Tree) (built more : Built) → w ≡ v → IsTree w → In block built.blocks.items → AddsOnly built.operations.items more.operations.items (op ∷ []) → more.blocks.items ≡ built.blocks.items → AddsOnly built.regions.items more.regions.items (regions_of w op) → GoesOn u built w more
+  pub goes-appended : (w : Tree) (built more : Built) → w ≡ v → IsTree w → In block built.blocks.items → AddsOnly built.operations.items more.operations.items (op ∷ []) → more.blocks.items ≡ built.blocks.items → AddsOnly built.regions.items more.regions.items (regions_of w op) → BuildingGoesOn u built w more
   goes-appended w built more same is_w i ops blocks regs t root b =
       subst (λ z. IsBuilt t z root more) (sym same)
       (appended-built t root built b i (subst IsTree same is_w) more ops blocks (subst (λ z. AddsOnly built.regions.items more.regions.items (regions_of z op)) same regs))
 
   pub standing-appended : (w : Tree) (built more : Built) → w ≡ v → IsTree w → AreStanding u built → AddsOnly built.operations.items more.operations.items (op ∷ []) → more.blocks.items ≡ built.blocks.items → AddsOnly built.regions.items more.regions.items (regions_of w op) → AddsOnly built.values.items more.values.items (results_of w op) → AreStanding w more
   standing-appended w built more same is_w s ops blocks regs values =
-      let mw : IsMore u w = subst (IsMore u) (sym same) m in
+      let mw : IsExtended u w = subst (IsExtended u) (sym same) m in
       let n = standing-more u w built mw s in
       record {
         operations = all-adds (IsLive w) built.operations.items more.operations.items (op ∷ []) ops n.operations (all-one (IsLive w) op (subst (λ z. IsLive z op) (sym same) appended-live));
@@ -203,7 +203,7 @@ module _ (u : Tree) (region arguments : ℕ) (is : IsTree u) where
   abbrev block : ℕ
   block = length u.bodies
 
-  abbrev mw : IsMore u w
+  abbrev mw : IsExtended u w
   mw = more-block_created u region arguments
 
   pub created-parent : block_parent_of w block ≡ Some region
@@ -236,12 +236,12 @@ module _ (u : Tree) (region arguments : ℕ) (is : IsTree u) where
   pub created-arguments : length (arguments_of w block) ≡ arguments
   created-arguments = let e : length u.bodies ≡ length u.arguments = sym is.keys.arguments in ap (λ k. length (get_or w.arguments k [])) e ∙ ap length (get_last_same u.arguments (range_with_len (length u.definitions) arguments) []) ∙ length-range_with_len (length u.definitions) arguments
 
-  pub goes-block : (v : Tree) (built more : Built) → v ≡ w → In region built.regions.items → more.operations.items ≡ built.operations.items → AddsOnly built.blocks.items more.blocks.items (block ∷ []) → more.regions.items ≡ built.regions.items → GoesOn u built v more
+  pub goes-block : (v : Tree) (built more : Built) → v ≡ w → In region built.regions.items → more.operations.items ≡ built.operations.items → AddsOnly built.blocks.items more.blocks.items (block ∷ []) → more.regions.items ≡ built.regions.items → BuildingGoesOn u built v more
   goes-block v built more same i ops blocks regs t root b = subst (λ z. IsBuilt t z root more) (sym same) (block-built t root built b i more ops blocks regs)
 
   pub standing-block : (v : Tree) (built more : Built) → v ≡ w → IsTree v → AreStanding u built → more.operations.items ≡ built.operations.items → AddsOnly built.blocks.items more.blocks.items (block ∷ []) → more.regions.items ≡ built.regions.items → AddsOnly built.values.items more.values.items (arguments_of v block) → AreStanding v more
   standing-block v built more same is_v s ops blocks regs values =
-      let mv : IsMore u v = subst (IsMore u) (sym same) mw in
+      let mv : IsExtended u v = subst (IsExtended u) (sym same) mw in
       let n = standing-more u v built mv s in
       record {
         operations = all-same (IsLive v) built.operations.items more.operations.items ops n.operations;
@@ -257,7 +257,7 @@ old-operands t is root op e le = let f = is.keys.operands in omega (arith, e, le
 old-successors : (t : Tree) → IsTree t → (root op : ℕ) → root ≡ length t.operations → root ≤ op → length t.successors ≤ op
 old-successors t is root op e le = let f = is.keys.successors in omega (arith, e, le, f)
 
-pub goes-operand : (u v : Tree) (built : Built) (op value : ℕ) → v ≡ operand_pushed u op value → In op built.operations.items → GoesOn u built v built
+pub goes-operand : (u v : Tree) (built : Built) (op value : ℕ) → v ≡ operand_pushed u op value → In op built.operations.items → BuildingGoesOn u built v built
 goes-operand u v built op value same i t root b = subst (λ z. IsBuilt t z root built) (sym same) (record {
   grown = record {
     before = b.grown.before;
@@ -272,7 +272,7 @@ goes-operand u v built op value same i t root b = subst (λ z. IsBuilt t z root 
   regions = b.regions;
 })
 
-pub goes-successor : (u v : Tree) (built : Built) (op block : ℕ) → v ≡ successor_pushed u op block → In op built.operations.items → GoesOn u built v built
+pub goes-successor : (u v : Tree) (built : Built) (op block : ℕ) → v ≡ successor_pushed u op block → In op built.operations.items → BuildingGoesOn u built v built
 goes-successor u v built op block same i t root b = subst (λ z. IsBuilt t z root built) (sym same) (record {
   grown = record {
     before = b.grown.before;
@@ -288,10 +288,10 @@ goes-successor u v built op block same i t root b = subst (λ z. IsBuilt t z roo
 })
 
 pub standing-operand : (u v : Tree) (built : Built) (op value : ℕ) → v ≡ operand_pushed u op value → AreStanding u built → AreStanding v built
-standing-operand u v built op value same s = standing-more u v built (subst (IsMore u) (sym same) (more-operand u op value)) s
+standing-operand u v built op value same s = standing-more u v built (subst (IsExtended u) (sym same) (more-operand u op value)) s
 
 pub standing-successor : (u v : Tree) (built : Built) (op block : ℕ) → v ≡ successor_pushed u op block → AreStanding u built → AreStanding v built
-standing-successor u v built op block same s = standing-more u v built (subst (IsMore u) (sym same) (more-successor u op block)) s
+standing-successor u v built op block same s = standing-more u v built (subst (IsExtended u) (sym same) (more-successor u op block)) s
 
 -- the operation of a text before anything is made in it
 module _ (t : Tree) (head : Head) (is : IsTree t) where

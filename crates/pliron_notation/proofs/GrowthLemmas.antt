@@ -11,31 +11,31 @@ use Rattle.pliron_core.proofs.GrownLemmas.{slice_get_kept}
 use Rattle.pliron_core.proofs.TableLemmas.{set-other}
 use Rattle.pliron_core.proofs.HoldingLemmas.{not_none, slot_is, region_by, holder_is, holder_by}
 use Rattle.pliron_core.proofs.CreatedLemmas.{defined_kept}
-use Rattle.pliron_notation.specs.Building.{Keeps, IsMore, IsKept, appended}
+use Rattle.pliron_notation.specs.Building.{KeepsEntries, IsExtended, IsKept, appended}
 
-pub keeps-more : {A : Type 0} (xs ys zs : List A) → Keeps xs ys → Keeps xs (ys ++ zs)
+pub keeps-more : {A : Type 0} (xs ys zs : List A) → KeepsEntries xs ys → KeepsEntries xs (ys ++ zs)
 keeps-more xs ys zs h k x e = slice_get_kept ys zs k x (h k x e)
 
-pub keeps-set : {A : Type 0} (xs ys : List A) (i : ℕ) (y : A) → length xs ≤ i → Keeps xs ys → Keeps xs (slice_set ys i y)
+pub keeps-set : {A : Type 0} (xs ys : List A) (i : ℕ) (y : A) → length xs ≤ i → KeepsEntries xs ys → KeepsEntries xs (slice_set ys i y)
 keeps-set xs ys i y le h k x e = set-other ys i k y (λ s. let lt : k < length xs = slice_get_within xs k x e in omega (arith, lt, s, le)) ∙ h k x e
 
-pub keeps-trans : {A : Type 0} (xs ys zs : List A) → Keeps xs ys → Keeps ys zs → Keeps xs zs
+pub keeps-trans : {A : Type 0} (xs ys zs : List A) → KeepsEntries xs ys → KeepsEntries ys zs → KeepsEntries xs zs
 keeps-trans xs ys zs h g k x e = g k x (h k x e)
 
 -- what a table that is kept reads, or it read the default before
-pub keeps-at : {A : Type 0} (xs ys : List A) (k : ℕ) (d : A) → Keeps xs ys → (get_or ys k d ≡ get_or xs k d) ⊎ (get_or xs k d ≡ d)
+pub keeps-at : {A : Type 0} (xs ys : List A) (k : ℕ) (d : A) → KeepsEntries xs ys → (get_or ys k d ≡ get_or xs k d) ⊎ (get_or xs k d ≡ d)
 keeps-at xs ys k d h = ⊎_elim
     (λ p. inl (get_or_from_slice_get ys k p.0 d (h k p.0 p.2) ∙ sym (get_or_from_slice_get xs k p.0 d p.2)))
     (λ p. inr (get_or_past xs k d p.0))
     (slice_get_cases xs k).1
 
-pub keeps-old : {A : Type 0} (xs ys : List A) (k : ℕ) (d : A) → k < length xs → Keeps xs ys → get_or ys k d ≡ get_or xs k d
+pub keeps-old : {A : Type 0} (xs ys : List A) (k : ℕ) (d : A) → k < length xs → KeepsEntries xs ys → get_or ys k d ≡ get_or xs k d
 keeps-old xs ys k d lt h = get_or_from_slice_get ys k (get_or xs k d) d (h k (get_or xs k d) (slice_get-get_or xs k d lt))
 
-pub keeps-some : {A : Type 0} (xs ys : List (Option A)) (k : ℕ) (b : A) → Keeps xs ys → get_or xs k None ≡ Some b → get_or ys k None ≡ Some b
+pub keeps-some : {A : Type 0} (xs ys : List (Option A)) (k : ℕ) (b : A) → KeepsEntries xs ys → get_or xs k None ≡ Some b → get_or ys k None ≡ Some b
 keeps-some xs ys k b h e = ⊎_elim (λ s. s ∙ e) (λ n. absurd (not_none (sym n ∙ e))) (keeps-at xs ys k None h)
 
-pub keeps-length : {A : Type 0} (xs ys : List A) → Keeps xs ys → length xs ≤ length ys
+pub keeps-length : {A : Type 0} (xs ys : List A) → KeepsEntries xs ys → length xs ≤ length ys
 keeps-length [] ys h = omega arith
 keeps-length (x ∷ xs) ys h =
     let at : slice_get (x ∷ xs) (length xs) ≡ Some (get_or (x ∷ xs) (length xs) x) = slice_get-get_or (x ∷ xs) (length xs) x (omega arith) in
@@ -45,10 +45,10 @@ nothing_at : {A : Type 0} (i : ℕ) (v : A) → slice_get {X = A} [] i ≡ Some 
 nothing_at zero v e = not_none e
 nothing_at (suc i) v e = not_none e
 
-pub more-refl : (t : Tree) → IsMore t t
+pub more-refl : (t : Tree) → IsExtended t t
 more-refl t = record { operations = λ k x e. e; parents = λ k x e. e; arguments = λ k x e. e; block_parents = λ k x e. e; slots = λ k x e. e; definitions = λ k x e. e }
 
-pub more-trans : (t u v : Tree) → IsMore t u → IsMore u v → IsMore t v
+pub more-trans : (t u v : Tree) → IsExtended t u → IsExtended u v → IsExtended t v
 more-trans t u v m n = record {
   operations = keeps-trans t.operations u.operations v.operations m.operations n.operations;
   parents = keeps-trans t.parents u.parents v.parents m.parents n.parents;
@@ -59,7 +59,7 @@ more-trans t u v m n = record {
 }
 
 -- what stands in the one stands in the other
-module _ (t u : Tree) (m : IsMore t u) where
+module _ (t u : Tree) (m : IsExtended t u) where
   pub more-row : (k : ℕ) → IsLive t k → row_of u k ≡ row_of t k
   more-row k live = ⊎_elim (λ s. s) (λ n. absurd (true≢false (sym (subst (λ z. IsSome z.head) n live)))) (keeps-at t.operations u.operations k no_entry m.operations)
 
@@ -112,7 +112,7 @@ module _ (t u : Tree) (m : IsMore t u) where
   more-holder x h e = let p = holder_is t x h e in holder_by u x p.0 h (more-parent x p.0 p.1) (more-block_holder p.0 h p.2)
 
 -- each step of the building gives more
-pub more-appended : (u : Tree) (head : Head) (results regions block : ℕ) → HaveSameKeys u → IsMore u (appended u head results regions block)
+pub more-appended : (u : Tree) (head : Head) (results regions block : ℕ) → HaveSameKeys u → IsExtended u (appended u head results regions block)
 more-appended u head results regions block keys = record {
   operations = keeps-more u.operations u.operations _ (λ k x e. e);
   parents = keeps-set u.parents _ (length u.operations) (Some block) (let s = keys.parents in omega (arith, s)) (keeps-more u.parents u.parents _ (λ k x e. e));
@@ -122,7 +122,7 @@ more-appended u head results regions block keys = record {
   definitions = keeps-more u.definitions u.definitions _ (λ k x e. e);
 }
 
-pub more-created : (u : Tree) (head : Head) (results regions : ℕ) → IsMore u (created u head results regions)
+pub more-created : (u : Tree) (head : Head) (results regions : ℕ) → IsExtended u (created u head results regions)
 more-created u head results regions = record {
   operations = keeps-more u.operations u.operations _ (λ k x e. e);
   parents = keeps-more u.parents u.parents _ (λ k x e. e);
@@ -132,7 +132,7 @@ more-created u head results regions = record {
   definitions = keeps-more u.definitions u.definitions _ (λ k x e. e);
 }
 
-pub more-block_created : (u : Tree) (region arguments : ℕ) → IsMore u (block_created u region arguments)
+pub more-block_created : (u : Tree) (region arguments : ℕ) → IsExtended u (block_created u region arguments)
 more-block_created u region arguments = record {
   operations = λ k x e. e;
   parents = λ k x e. e;
@@ -142,10 +142,10 @@ more-block_created u region arguments = record {
   definitions = keeps-more u.definitions u.definitions _ (λ k x e. e);
 }
 
-pub more-operand : (u : Tree) (op value : ℕ) → IsMore u (operand_pushed u op value)
+pub more-operand : (u : Tree) (op value : ℕ) → IsExtended u (operand_pushed u op value)
 more-operand u op value = record { operations = λ k x e. e; parents = λ k x e. e; arguments = λ k x e. e; block_parents = λ k x e. e; slots = λ k x e. e; definitions = λ k x e. e }
 
-pub more-successor : (u : Tree) (op block : ℕ) → IsMore u (successor_pushed u op block)
+pub more-successor : (u : Tree) (op block : ℕ) → IsExtended u (successor_pushed u op block)
 more-successor u op block = record { operations = λ k x e. e; parents = λ k x e. e; arguments = λ k x e. e; block_parents = λ k x e. e; slots = λ k x e. e; definitions = λ k x e. e }
 
 -- and leaves what t has

@@ -19,7 +19,7 @@ use Rattle.pliron_notation.specs.declared.syntax.BlockText.{BlockText}
 use Rattle.pliron_notation.specs.declared.syntax.Syntax.{Syntax}
 use Rattle.pliron_bench.specs.Bench.{head_with, plain_head, result_count, region_count}
 use Rattle.pliron_notation.specs.declared.syntax.Made.{Made}
-use Rattle.pliron_notation.specs.Building.{HasMade, Keeps, appended}
+use Rattle.pliron_notation.specs.Building.{HasMade, KeepsEntries, appended}
 use Rattle.pliron_notation.specs.Laid.{IsWhole, IsMadeAs, HasNoUses, IsLastOf, IsLaid, LaysOn, LaysOperation, LaysBlock}
 use Rattle.pliron_notation.proofs.BuildLemmas.{length-last, appended-row, appended-parent, appended-other, created-parent, start-row}
 use Rattle.pliron_notation.proofs.GrowthLemmas.{more-block_parent, more-block_created}
@@ -55,7 +55,7 @@ pub unused-same : (operands more successors others : List ℕ) → more ≡ oper
 unused-same operands more successors others e f h = record { no_operands = e ∙ h.no_operands; no_successors = f ∙ h.no_successors }
 
 -- one more operation
-module _ (s : Syntax) (root base : ℕ) (u : Tree) (built more : Built) (o : OperationText) (block : ℕ) (is : IsTree u) (l : IsLaid s root base 0 u built) (at : slice_get s.operations.items (length built.operations.items) ≡ Some o) (within : o.block < length built.blocks.items) (read : block ≡ get_or built.blocks.items o.block block) (key : more.operations.items ≡ built.operations.items ++ length u.operations ∷ []) (blocks : more.blocks.items ≡ built.blocks.items) (regions : Keeps built.regions.items more.regions.items) where
+module _ (s : Syntax) (root base : ℕ) (u : Tree) (built more : Built) (o : OperationText) (block : ℕ) (is : IsTree u) (l : IsLaid s root base 0 u built) (at : slice_get s.operations.items (length built.operations.items) ≡ Some o) (within : o.block < length built.blocks.items) (read : block ≡ get_or built.blocks.items o.block block) (key : more.operations.items ≡ built.operations.items ++ length u.operations ∷ []) (blocks : more.blocks.items ≡ built.blocks.items) (regions : KeepsEntries built.regions.items more.regions.items) where
   abbrev head : Head
   head = head_with o.kind o.number (pos o.first_edge)
 

@@ -15,7 +15,7 @@ use Rattle.pliron_bench.specs.Bench.{takes, by_kind, kind_of, head_with, number_
 use Rattle.pliron_bench.specs.BenchMoves.{bench}
 use Rattle.pliron_laws.specs.Linked.{EndsBlock, EdgesLast, IsWellLinked}
 use Rattle.pliron_bench.specs.Bench.{IsTop}
-use Rattle.pliron_notation.specs.Notation.{IsUpToLast, IsSound}
+use Rattle.pliron_notation.specs.Notation.{IsUpToLast, IsSoundSyntax}
 use Rattle.pliron_notation.specs.Building.{HasAllMade, IsGrown}
 use Rattle.pliron_notation.specs.Laid.{IsLastOf, IsLaid, IsAllLaid}
 use Rattle.pliron_notation.proofs.UndoneLemmas.{contained, old_not_within}
@@ -83,7 +83,7 @@ whole_admitted : (kind : BenchKind) → IsTop kind → IsTrue (admits (plain_hea
 whole_admitted kind (inl e) = subst (λ z. IsTrue (admits (plain_head z) 0 0 0 1)) (sym e) (taken_admitted Mod (plain_head Mod) 0 0 0 1 refl refl)
 whole_admitted kind (inr e) = subst (λ z. IsTrue (admits (plain_head z) 0 0 0 1)) (sym e) (taken_admitted Func (plain_head Func) 0 0 0 1 refl refl)
 
-module _ (s : Syntax) (t u : Tree) (root : ℕ) (wt : IsTree t) (wu : IsTree u) (g : IsGrown t u root) (sound : IsSound s) (built : Built) (all : HasAllMade s built) (l : IsLaid s root (length t.bodies) (length s.operations.items) u built) where
+module _ (s : Syntax) (t u : Tree) (root : ℕ) (wt : IsTree t) (wu : IsTree u) (g : IsGrown t u root) (sound : IsSoundSyntax s) (built : Built) (all : HasAllMade s built) (l : IsLaid s root (length t.bodies) (length s.operations.items) u built) where
   abbrev base : ℕ
   base = length t.bodies
 
@@ -184,5 +184,5 @@ module _ (s : Syntax) (t u : Tree) (root : ℕ) (wt : IsTree t) (wu : IsTree u) 
   linked = record { edges = all_edges; admitted = all_admitted }
 
 -- a text that is sound and all laid is well linked
-pub linked-text : (s : Syntax) (t u : Tree) (root : ℕ) → IsTree t → IsTree u → IsGrown t u root → IsSound s → IsAllLaid s t u root → IsWellLinked bench u root
+pub linked-text : (s : Syntax) (t u : Tree) (root : ℕ) → IsTree t → IsTree u → IsGrown t u root → IsSoundSyntax s → IsAllLaid s t u root → IsWellLinked bench u root
 linked-text s t u root wt wu g sound h = linked s t u root wt wu g sound h.0 h.1 h.2

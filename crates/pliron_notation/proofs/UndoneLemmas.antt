@@ -14,7 +14,7 @@ use Rattle.pliron_core.proofs.ClearedLemmas.{told, met_above}
 use Rattle.pliron_core.proofs.TreeLemmas.{cases_lt, block-within}
 use Rattle.pliron_core.proofs.HoldingLemmas.{some_is, not_none, past_live, region_live, result_live, argument_stands, slot_is, region_by, maker_is, region_parent_is, block_held, holder_live, inside_by}
 use Rattle.pliron_core.proofs.WithinLemmas.{is_within, within_is}
-use Rattle.pliron_notation.specs.Building.{Keeps, IsGrown}
+use Rattle.pliron_notation.specs.Building.{KeepsEntries, IsGrown}
 use Rattle.pliron_notation.proofs.GrowthLemmas.{keeps-old, more-block_holder}
 
 module _ (t u : Tree) (root : ℕ) (wt : IsTree t) (wu : IsTree u) (g : IsGrown t u root) where
@@ -105,7 +105,7 @@ module _ (t u : Tree) (root : ℕ) (wt : IsTree t) (wu : IsTree u) (g : IsGrown 
   abbrev gone : Option ℕ → Bool
   gone o = is_met_above u (nat_eq root) o
 
-  op_table : {A : Type 0} (d : A) (xs ys : List A) → Keeps xs ys → length xs ≡ root → ((k : ℕ) → (IsLive u k → ⊥) → get_or ys k d ≡ d) → (k : ℕ) → get_or (blanked (λ x. gone (Some x)) d ys) k d ≡ get_or xs k d
+  op_table : {A : Type 0} (d : A) (xs ys : List A) → KeepsEntries xs ys → length xs ≡ root → ((k : ℕ) → (IsLive u k → ⊥) → get_or ys k d ≡ d) → (k : ℕ) → get_or (blanked (λ x. gone (Some x)) d ys) k d ≡ get_or xs k d
   op_table d xs ys keeps count dead k = ⊎_elim old new (cases_lt k root)
     where
       old : k < root → get_or (blanked (λ x. gone (Some x)) d ys) k d ≡ get_or xs k d
@@ -178,7 +178,7 @@ module _ (t u : Tree) (root : ℕ) (wt : IsTree t) (wu : IsTree u) (g : IsGrown 
       go None f = let m = met_above u root (block_holder_of u b) e in not_none (sym (ap (λ o. up_from o (λ r. region_parent_of u r)) (same ∙ f)) ∙ m.1)
       go (Some r) f = let m = met_above u root (block_holder_of u b) e in old_block b (ap is_some f) (m.0, m.1, m.2)
 
-  block_table : {A : Type 0} (d : A) (xs ys : List A) → Keeps xs ys → length xs ≡ length t.bodies → ((b : ℕ) → block_parent_of u b ≡ None → get_or ys b d ≡ d) → (b : ℕ) → get_or (blanked (λ x. gone (block_holder_of u x)) d ys) b d ≡ get_or xs b d
+  block_table : {A : Type 0} (d : A) (xs ys : List A) → KeepsEntries xs ys → length xs ≡ length t.bodies → ((b : ℕ) → block_parent_of u b ≡ None → get_or ys b d ≡ d) → (b : ℕ) → get_or (blanked (λ x. gone (block_holder_of u x)) d ys) b d ≡ get_or xs b d
   block_table d xs ys keeps count dead b = ⊎_elim old new (cases_lt b (length t.bodies))
     where
       old : b < length t.bodies → get_or (blanked (λ x. gone (block_holder_of u x)) d ys) b d ≡ get_or xs b d

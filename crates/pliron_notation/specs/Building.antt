@@ -9,25 +9,25 @@ use Rattle.pliron_notation.specs.declared.syntax.Made.{Made}
 use Rattle.pliron_notation.specs.declared.syntax.Syntax.{Syntax}
 
 -- the table still has each entry
-abbrev pub Keeps : {A : Type 0} → List A → List A → Type 0
-Keeps {A} xs ys = (k : ℕ) (x : A) → slice_get xs k ≡ Some x → slice_get ys k ≡ Some x
+abbrev pub KeepsEntries : {A : Type 0} → List A → List A → Type 0
+KeepsEntries {A} xs ys = (k : ℕ) (x : A) → slice_get xs k ≡ Some x → slice_get ys k ≡ Some x
 
 -- what stands in t stands in u, at the same place and made by the same
-pub record IsMore (t u : Tree) : Type 0 where
-  pub operations : Keeps t.operations u.operations
-  pub parents : Keeps t.parents u.parents
-  pub arguments : Keeps t.arguments u.arguments
-  pub block_parents : Keeps t.block_parents u.block_parents
-  pub slots : Keeps t.slots u.slots
-  pub definitions : Keeps t.definitions u.definitions
+pub record IsExtended (t u : Tree) : Type 0 where
+  pub operations : KeepsEntries t.operations u.operations
+  pub parents : KeepsEntries t.parents u.parents
+  pub arguments : KeepsEntries t.arguments u.arguments
+  pub block_parents : KeepsEntries t.block_parents u.block_parents
+  pub slots : KeepsEntries t.slots u.slots
+  pub definitions : KeepsEntries t.definitions u.definitions
 
 -- all that t has is in u as it was
 pub record IsKept (t u : Tree) : Type 0 where
-  pub more : IsMore t u
-  pub operands : Keeps t.operands u.operands
-  pub successors : Keeps t.successors u.successors
-  pub bodies : Keeps t.bodies u.bodies
-  pub layouts : Keeps t.layouts u.layouts
+  pub more : IsExtended t u
+  pub operands : KeepsEntries t.operands u.operands
+  pub successors : KeepsEntries t.successors u.successors
+  pub bodies : KeepsEntries t.bodies u.bodies
+  pub layouts : KeepsEntries t.layouts u.layouts
 
 -- u is t and a new operation in no block, with what stands inside it: each of these operations has a
 -- holder that is new and older
@@ -57,8 +57,8 @@ pub record IsBuilt (t u : Tree) (root : ℕ) (built : Built) : Type 0 where
   pub regions : All (IsNewRegion t u root) built.regions.items
 
 -- the building goes on from u to v
-abbrev pub GoesOn : (u : Tree) (built : Built) (v : Tree) (more : Built) → Type 0
-GoesOn u built v more = (t : Tree) (root : ℕ) → IsBuilt t u root built → IsBuilt t v root more
+abbrev pub BuildingGoesOn : (u : Tree) (built : Built) (v : Tree) (more : Built) → Type 0
+BuildingGoesOn u built v more = (t : Tree) (root : ℕ) → IsBuilt t u root built → IsBuilt t v root more
 
 -- what is built stands
 pub record AreStanding (u : Tree) (built : Built) : Type 0 where

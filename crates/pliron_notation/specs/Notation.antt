@@ -64,7 +64,7 @@ abbrev pub AreSoundOperations : Syntax → Type 0
 AreSoundOperations s = (n : ℕ) (o : OperationText) → slice_get s.operations.items n ≡ Some o → IsSoundOperation s n o
 
 -- all can be made in this order, and each is sound
-pub record IsSound (s : Syntax) : Type 0 where
+pub record IsSoundSyntax (s : Syntax) : Type 0 where
   pub ordered : IsOrdered s first_made s.steps.items
   pub top : IsTop s.root
   pub operations : AreSoundOperations s

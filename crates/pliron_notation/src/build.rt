@@ -10,8 +10,8 @@ ghost use Rattle.pliron_notation.specs.declared.syntax.Syntax.{Syntax};
 ghost use Rattle.pliron_bench.specs.Bench.{head_with, plain_head as head_without, attribute_head as head_with_attribute, result_count, region_count as kind_regions};
 ghost use Rattle.pliron_bench.specs.BenchMoves.{bench};
 ghost use Rattle.pliron_laws.specs.Linked.{IsWellLinked};
-ghost use Rattle.pliron_notation.specs.Notation.{AllBelow, AreSoundOperations, IsSound, first_made};
-ghost use Rattle.pliron_notation.specs.Building.{AddsOnly, AreStanding, GoesOn, HasAllMade, HasMade, IsGrown, Keeps, appended};
+ghost use Rattle.pliron_notation.specs.Notation.{AllBelow, AreSoundOperations, IsSoundSyntax, first_made};
+ghost use Rattle.pliron_notation.specs.Building.{AddsOnly, AreStanding, BuildingGoesOn, HasAllMade, HasMade, IsGrown, KeepsEntries, appended};
 ghost use Rattle.pliron_notation.specs.Laid.{HasMoreOperands, HasMoreSuccessors, IsAllLaid, LaysBlock, LaysOn, LaysOperation, Wires};
 
 use crate::syntax::{BlockText, OperationText, Step, Syntax};
@@ -53,7 +53,7 @@ fn head_of(alloc: Global, text: &OperationText) -> Result<Head, AllocError>
 /// Asks that the syntax is sound, as `parse` makes it. Errors: want of memory, after which nothing of the
 /// text stands. Cost: linear in the text.
 pub fn build(alloc: Global, syntax: &Syntax, ctx: &mut Context) -> Result<Ptr<Operation>, NoMemory>
-    requires { IsSound syntax.now }
+    requires { IsSoundSyntax syntax.now }
     ensures built { IfOk result (λ root. IsGrown ctx.old.tree ctx.new.tree root) }
     ensures linked { IfOk result (λ root. IsWellLinked bench ctx.new.tree root) }
     ensures refused { OnErr result (IsSameTree ctx.old.tree ctx.new.tree) }
@@ -80,7 +80,7 @@ fn fill(
     ctx: &mut Context,
     root: Ptr<Operation>,
 ) -> Result<(), NoMemory>
-    requires sound { IsSound syntax.now }
+    requires sound { IsSoundSyntax syntax.now }
     requires live { IsLive ctx.old.tree root }
     requires region { length (regions_of ctx.old.tree root) ≡ 1 }
     ensures grown { (t : Tree) (head : TreeHead) → IsTree t → root ≡ length t.operations → ctx.old.tree ≡ created t head 0 1 → IsGrown t ctx.new.tree root }
@@ -106,10 +106,10 @@ fn make_all(
     ctx: &mut Context,
     built: &mut Built,
 ) -> Result<(), NoMemory>
-    requires sound { IsSound syntax.now }
+    requires sound { IsSoundSyntax syntax.now }
     requires first { HasMade built.old first_made }
     requires standing { AreStanding ctx.old.tree built.old }
-    ensures goes_on { GoesOn ctx.old.tree built.old ctx.new.tree built.new }
+    ensures goes_on { BuildingGoesOn ctx.old.tree built.old ctx.new.tree built.new }
     ensures standing { AreStanding ctx.new.tree built.new }
     ensures made { OnOk result (HasAllMade syntax.now built.new) }
     ensures laid { OnOk result (LaysOn syntax.now ctx.old.tree built.old ctx.new.tree built.new) }
@@ -130,7 +130,7 @@ fn connect_all(syntax: &Syntax, ctx: &mut Context, built: &Built) -> Result<(), 
     requires sound { AreSoundOperations syntax.now }
     requires made { HasAllMade syntax.now built.now }
     requires standing { AreStanding ctx.old.tree built.now }
-    ensures goes_on { GoesOn ctx.old.tree built.now ctx.new.tree built.now }
+    ensures goes_on { BuildingGoesOn ctx.old.tree built.now ctx.new.tree built.now }
     ensures wired { OnOk result (Wires syntax.now 0 (length syntax.now.operations.items) ctx.old.tree ctx.new.tree built.now) }
 {
     for number in 0..syntax.operations.len() {
@@ -178,7 +178,7 @@ fn add_operation(
 ) -> Result<(), NoMemory>
     requires block { text.now.block < length built.old.blocks.items }
     requires standing { AreStanding ctx.old.tree built.old }
-    ensures goes_on { GoesOn ctx.old.tree built.old ctx.new.tree built.new }
+    ensures goes_on { BuildingGoesOn ctx.old.tree built.old ctx.new.tree built.new }
     ensures standing { AreStanding ctx.new.tree built.new }
     ensures operations { OnOk result (length built.new.operations.items ≡ length built.old.operations.items + 1) }
     ensures blocks { built.new.blocks.items ≡ built.old.blocks.items }
@@ -204,7 +204,7 @@ fn remember_operation(ctx: &Context, built: &mut Built, op: Ptr<Operation>) -> R
     ensures regions { AddsOnly built.old.regions.items built.new.regions.items (regions_of ctx.now.tree op) }
     ensures values { AddsOnly built.old.values.items built.new.values.items (results_of ctx.now.tree op) }
     ensures operation { OnOk result (built.new.operations.items ≡ built.old.operations.items ++ op ∷ []) }
-    ensures kept_regions { Keeps built.old.regions.items built.new.regions.items }
+    ensures kept_regions { KeepsEntries built.old.regions.items built.new.regions.items }
     ensures operation_count { OnOk result (length built.new.operations.items ≡ length built.old.operations.items + 1) }
     ensures region_count { OnOk result (length built.new.regions.items ≡ length built.old.regions.items + length (regions_of ctx.now.tree op)) }
     ensures value_count { OnOk result (length built.new.values.items ≡ length built.old.values.items + length (results_of ctx.now.tree op)) }
@@ -236,7 +236,7 @@ fn remember_regions(
 ) -> Result<(), NoMemory>
     requires { IsLive ctx.now.tree op }
     ensures added { AddsOnly regions.old.items regions.new.items (regions_of ctx.now.tree op) }
-    ensures kept { Keeps regions.old.items regions.new.items }
+    ensures kept { KeepsEntries regions.old.items regions.new.items }
     ensures count { OnOk result (length regions.new.items ≡ length regions.old.items + length (regions_of ctx.now.tree op)) }
 {
     for i in 0..op.num_region(ctx) {
@@ -264,7 +264,7 @@ fn remember_arguments(
 fn add_block(ctx: &mut Context, built: &mut Built, text: &BlockText) -> Result<(), NoMemory>
     requires region { text.now.region < length built.old.regions.items }
     requires standing { AreStanding ctx.old.tree built.old }
-    ensures goes_on { GoesOn ctx.old.tree built.old ctx.new.tree built.new }
+    ensures goes_on { BuildingGoesOn ctx.old.tree built.old ctx.new.tree built.new }
     ensures standing { AreStanding ctx.new.tree built.new }
     ensures operations { built.new.operations.items ≡ built.old.operations.items }
     ensures blocks { OnOk result (length built.new.blocks.items ≡ length built.old.blocks.items + 1) }
@@ -291,7 +291,7 @@ fn connect(
     requires operands { AllBelow (length built.now.values.items) text.now.operands.items }
     requires successors { AllBelow (length built.now.blocks.items) text.now.successors.items }
     requires standing { AreStanding ctx.old.tree built.now }
-    ensures goes_on { GoesOn ctx.old.tree built.now ctx.new.tree built.now }
+    ensures goes_on { BuildingGoesOn ctx.old.tree built.now ctx.new.tree built.now }
     ensures standing { AreStanding ctx.new.tree built.now }
     ensures wired { OnOk result ((s : Syntax) → slice_get s.operations.items number ≡ Some text.now →
         Wires s number (number + 1) ctx.old.tree ctx.new.tree built.now) }
@@ -310,7 +310,7 @@ fn add_operands(
     requires op { In op built.now.operations.items }
     requires operands { AllBelow (length built.now.values.items) operands.now }
     requires standing { AreStanding ctx.old.tree built.now }
-    ensures goes_on { GoesOn ctx.old.tree built.now ctx.new.tree built.now }
+    ensures goes_on { BuildingGoesOn ctx.old.tree built.now ctx.new.tree built.now }
     ensures standing { AreStanding ctx.new.tree built.now }
     ensures added { OnOk result (HasMoreOperands ctx.old.tree ctx.new.tree op (length operands.now)) }
 {
@@ -330,7 +330,7 @@ fn add_successors(
     requires op { In op built.now.operations.items }
     requires successors { AllBelow (length built.now.blocks.items) successors.now }
     requires standing { AreStanding ctx.old.tree built.now }
-    ensures goes_on { GoesOn ctx.old.tree built.now ctx.new.tree built.now }
+    ensures goes_on { BuildingGoesOn ctx.old.tree built.now ctx.new.tree built.now }
     ensures standing { AreStanding ctx.new.tree built.now }
     ensures added { OnOk result (HasMoreSuccessors built.now ctx.old.tree ctx.new.tree op (length successors.now) successors.now) }
 {

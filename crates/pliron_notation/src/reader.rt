@@ -5,7 +5,7 @@ ghost use Rattle.pliron_laws.specs.declared.fault.OptError.TheVariants.{Memory};
 ghost use Rattle.pliron_laws.specs.Linked.{IsWellLinked};
 ghost use Rattle.pliron_bench.specs.BenchMoves.{bench};
 ghost use Rattle.pliron_notation.specs.Building.{IsGrown};
-ghost use Rattle.pliron_notation.specs.Notation.{IsSound};
+ghost use Rattle.pliron_notation.specs.Notation.{IsSoundSyntax};
 
 use crate::build::build;
 use crate::parser::parse;
@@ -41,7 +41,7 @@ pub fn read_text(
 }
 
 fn read_syntax(alloc: Global, text: &[u8]) -> Result<Syntax, Stop>
-    ensures { IfOk result (λ syntax. IsSound syntax) }
+    ensures { IfOk result (λ syntax. IsSoundSyntax syntax) }
 {
     let tokens = tokenise(alloc, text)?;
     let syntax = parse(alloc, &tokens)?;

@@ -1,7 +1,7 @@
 //! Syntax in the order of the text.
 ghost use Rattle.std.specs.Prelude.{pos, ◌≡◌, ◌&&◌, IsTrue, ◌+◌, length};
 ghost use Rattle.pliron_bench.specs.Bench.{head_with, takes_attributes, takes_operands};
-ghost use Rattle.pliron_notation.specs.Notation.{AllBelow, AreInRegion, AreSoundOperations, IsAdmittedText, IsNext, IsOrdered, IsSound, IsSoundOperation, IsUpToLast, first_made};
+ghost use Rattle.pliron_notation.specs.Notation.{AllBelow, AreInRegion, AreSoundOperations, IsAdmittedText, IsNext, IsOrdered, IsSoundSyntax, IsSoundOperation, IsUpToLast, first_made};
 
 use pliron_bench::BenchKind;
 use std::alloc::Global;
@@ -63,7 +63,7 @@ impl Syntax {
     /// Whether all can be made in this order, and makes a tree with edges only at the ends of blocks.
     /// Cost: one step for each operation, block, operand and successor.
     pub fn is_sound(&self) -> bool
-        ensures { IsTrue result → IsSound self.now }
+        ensures { IsTrue result → IsSoundSyntax self.now }
     {
         if !self.is_ordered() {
             return false;

@@ -12,15 +12,15 @@ status_of (Refused e) = 1
 status_of Writing = 2
 
 -- the text is all that was left to be read, where that is known
-abbrev pub IsWhole : Option (List ℕ) → List ℕ → Type 0
-IsWhole known text = IfSome known (λ bytes. bytes ≡ text)
+abbrev pub IsRestOfInput : Option (List ℕ) → List ℕ → Type 0
+IsRestOfInput known text = IfSome known (λ bytes. bytes ≡ text)
 
 -- what was left to be read, where that is known, is answered so by what the words ask for
 pub record IsAnswer {Command : Type 0} (asks : List (List ℕ) → Command → Type 0) (answers : Command → List ℕ → List ℕ → Type 0) (words : List (List ℕ)) (known : Option (List ℕ)) (answer : List ℕ) : Type 0 where
   pub command : Command
   pub text : List ℕ
   pub asked : asks words command
-  pub whole : IsWhole known text
+  pub whole : IsRestOfInput known text
   pub answered : answers command text answer
 
 -- a first part of the answer was written

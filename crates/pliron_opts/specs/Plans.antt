@@ -15,7 +15,7 @@ nested_prefix nested = if nested then codes "nested:" else []
 
 -- the text is the names joined by commas, after `nested:` where they are for each operation directly inside; and they
 -- are exactly where the text begins with `nested:`
-pub record IsList (text : List ℕ) (nested : Bool) (names : List (List ℕ)) : Type 0 where
+pub record IsNameList (text : List ℕ) (nested : Bool) (names : List (List ℕ)) : Type 0 where
   pub list : List ℕ
   pub whole : text ≡ nested_prefix nested ++ list
   pub exact : IsTrue nested ↔ BeginsWith text (codes "nested:")
@@ -28,4 +28,4 @@ pub record IsPlan (word : List ℕ) (runs : Option ℕ) (nested : Bool) (names :
   pub whole : word ≡ repeat_prefix runs ++ rest
   pub exact : IsSome runs ↔ BeginsWith word (codes "repeat:")
   pub few : IfSome runs (λ n. (1 ≤ n) × (n ≤ 64))
-  pub listed : IsList rest nested names
+  pub listed : IsNameList rest nested names

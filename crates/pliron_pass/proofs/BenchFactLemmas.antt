@@ -11,7 +11,7 @@ use Rattle.pliron_core.specs.Joined.{IsTree}
 use Rattle.pliron_core.specs.Walks.{children, children_of_region, contents, descend}
 use Rattle.pliron_core.proofs.ArgumentLemmas.{take_more}
 use Rattle.pliron_core.proofs.WalkLemmas.{contents-children}
-use Rattle.pliron_theory.specs.Edges.{blocks_below, edges_inside}
+use Rattle.pliron_theory.specs.Edges.{edges_to_depth, edges_inside}
 use Rattle.pliron_pass.specs.BenchFacts.{pairs_of, edge_pairs, begins_with, pairs_led, pairs_at, fact_kind, HoldsFact, fact_needs, fact_need, pairs_in, operations_in}
 use Rattle.pliron_pass.specs.BenchFactLaws.{one_kind}
 use Rattle.pliron_pass.specs.Cache.{IsFresh}
@@ -105,7 +105,7 @@ module _ (t : Tree) (w : IsTree t) where
       ∙ ap (λ z. (pairs_of (b, succs_of t b) ++ F y) ++ z) (flat_same (λ k. pairs_at t k ++ F k) F ys (λ k i. ap (λ z. z ++ F k) (led_by_none b y k ys e i)))
       ∙ append_assoc (pairs_of (b, succs_of t b)) (F y) (flat_map F ys)
 
-  walked_below : (n x : ℕ) → flat_map (pairs_at t) (descend (λ k. children t k) n x) ≡ flat_map pairs_of (blocks_below t n x)
+  walked_below : (n x : ℕ) → flat_map (pairs_at t) (descend (λ k. children t k) n x) ≡ flat_map pairs_of (edges_to_depth t n x)
   walked_below zero x = refl
   walked_below (suc n) x =
       flat_flat (pairs_at t) (λ c. c ∷ descend (λ k. children t k) n c) (children t x)
@@ -117,21 +117,21 @@ module _ (t : Tree) (w : IsTree t) where
       here c = pairs_at t c ++ flat_map (pairs_at t) (descend (λ k. children t k) n c)
 
       blocks : ℕ → List (ℕ × List ℕ)
-      blocks r = flat_map (λ b. (b, succs_of t b) ∷ flat_map (λ k. blocks_below t n k) (body_of t b)) (layout_of t r)
+      blocks r = flat_map (λ b. (b, succs_of t b) ∷ flat_map (λ k. edges_to_depth t n k) (body_of t b)) (layout_of t r)
 
       Below : Type 0
-      Below = (c : ℕ) → flat_map (pairs_at t) (descend (λ k. children t k) n c) ≡ flat_map pairs_of (blocks_below t n c)
+      Below = (c : ℕ) → flat_map (pairs_at t) (descend (λ k. children t k) n c) ≡ flat_map pairs_of (edges_to_depth t n c)
 
-      block : Below → (b : ℕ) → flat_map here (body_of t b) ≡ flat_map pairs_of ((b, succs_of t b) ∷ flat_map (λ k. blocks_below t n k) (body_of t b))
+      block : Below → (b : ℕ) → flat_map here (body_of t b) ≡ flat_map pairs_of ((b, succs_of t b) ∷ flat_map (λ k. edges_to_depth t n k) (body_of t b))
       block below b =
           block_pairs (λ c. flat_map (pairs_at t) (descend (λ k. children t k) n c)) b (body_of t b) refl
-          ∙ ap (λ z. pairs_of (b, succs_of t b) ++ z) (flat_same (λ c. flat_map (pairs_at t) (descend (λ k. children t k) n c)) (λ c. flat_map pairs_of (blocks_below t n c)) (body_of t b) (λ c i. below c) ∙ sym (flat_flat pairs_of (λ k. blocks_below t n k) (body_of t b)))
+          ∙ ap (λ z. pairs_of (b, succs_of t b) ++ z) (flat_same (λ c. flat_map (pairs_at t) (descend (λ k. children t k) n c)) (λ c. flat_map pairs_of (edges_to_depth t n c)) (body_of t b) (λ c i. below c) ∙ sym (flat_flat pairs_of (λ k. edges_to_depth t n k) (body_of t b)))
 
       region : Below → (r : ℕ) → flat_map here (children_of_region t r) ≡ flat_map pairs_of (blocks r)
       region below r =
           flat_flat here (λ b. body_of t b) (layout_of t r)
-          ∙ flat_same (λ b. flat_map here (body_of t b)) (λ b. flat_map pairs_of ((b, succs_of t b) ∷ flat_map (λ k. blocks_below t n k) (body_of t b))) (layout_of t r) (λ b i. block below b)
-          ∙ sym (flat_flat pairs_of (λ b. (b, succs_of t b) ∷ flat_map (λ k. blocks_below t n k) (body_of t b)) (layout_of t r))
+          ∙ flat_same (λ b. flat_map here (body_of t b)) (λ b. flat_map pairs_of ((b, succs_of t b) ∷ flat_map (λ k. edges_to_depth t n k) (body_of t b))) (layout_of t r) (λ b i. block below b)
+          ∙ sym (flat_flat pairs_of (λ b. (b, succs_of t b) ∷ flat_map (λ k. edges_to_depth t n k) (body_of t b)) (layout_of t r))
 
   pub edges_walked : (op : ℕ) → flat_map (pairs_at t) (contents t op) ≡ edge_pairs t op
   edges_walked op = ap (flat_map (pairs_at t)) (contents-children t w op) ∙ walked_below (suc (length t.operations)) op

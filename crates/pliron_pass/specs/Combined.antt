@@ -1,4 +1,5 @@
 -- What passes that are made of passes do.
+pub use Rattle.pliron_laws.specs.Answers.{has_passing_head}
 use Rattle.std.specs.Prelude.{◌≡◌, ℕ, ◌+◌, ◌<◌, List, [], ◌∷◌, ◌++◌, Bool, true, false, Option, Some, None, Result, Ok, Err}
 use Rattle.std.specs.Prelude.{IsOk, IfErr}
 use Rattle.pliron_core.specs.Tree.{Tree}
@@ -23,11 +24,6 @@ passes_name = 0x70 ∷ 0x61 ∷ 0x73 ∷ 0x73 ∷ 0x65 ∷ 0x73 ∷ []
 
 abbrev pub nested_name : List ℕ
 nested_name = 0x6e ∷ 0x65 ∷ 0x73 ∷ 0x74 ∷ 0x65 ∷ 0x64 ∷ 0x5f ∷ 0x6f ∷ 0x70 ∷ 0x73 ∷ 0x5f ∷ 0x70 ∷ 0x61 ∷ 0x73 ∷ 0x73 ∷ []
-
--- what a test says of a head, where there is one
-abbrev pub head_passes : (Head → Bool) → Option Head → Bool
-head_passes f None = false
-head_passes f (Some h) = f h
 
 abbrev pub emptied : {K E : Type 0} → Stage K E → Stage K E
 emptied s = record s { cache = [] }

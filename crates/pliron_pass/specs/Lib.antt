@@ -12,3 +12,4 @@ pub mod Optimising
 pub mod Repeating
 pub mod BenchFacts
 pub mod BenchFactLaws
+pub mod Headline

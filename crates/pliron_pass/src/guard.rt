@@ -1,15 +1,13 @@
 //! Passes under a guard.
 ghost use Rattle.std.specs.Prelude.{◌≡◌, ℕ, Bool, true};
 ghost use Rattle.pliron_core.specs.Tree.{Tree, IsLive, head_of};
-ghost use Rattle.pliron_pass.specs.Combined.{Guards, guarded_name, head_passes};
-ghost use Rattle.pliron_pass.specs.Outcome.{RunsPass};
-ghost use Rattle.pliron_pass.specs.Verifying.{IsFirstFault, verdict_by};
+ghost use Rattle.pliron_pass.specs.Combined.{Guards, guarded_name, has_passing_head};
 
 use crate::kinds::AnalysisKind;
 use crate::manager::AnalysisManager;
 use crate::pass::Pass;
 use crate::result::PassResult;
-use crate::run::PassManager;
+use crate::run::{Managed, PassManager};
 use pliron_core::{Context, Operation, Ptr};
 use pliron_laws::{Dialect, Interface, OptError};
 use std::alloc::Global;
@@ -88,7 +86,7 @@ impl<D: Dialect> OpGuard<D> {
 }
 
 impl<D: Dialect> Guard for OpGuard<D> {
-    ghost allows = { λ g op t. head_passes (λ h. D.is_of_kind h g.kind) (head_of t op) };
+    ghost allows = { λ g op t. has_passing_head (λ h. D.is_of_kind h g.kind) (head_of t op) };
 
     fn is_allowed(&self, op: Ptr<Operation>, ctx: &Context) -> bool {
         D::is_kind(op, ctx, self.kind)
@@ -115,7 +113,7 @@ impl<D: Dialect> OpInterfaceGuard<D> {
 }
 
 impl<D: Dialect> Guard for OpInterfaceGuard<D> {
-    ghost allows = { λ g op t. head_passes (λ h. D.has_interface h g.interface) (head_of t op) };
+    ghost allows = { λ g op t. has_passing_head (λ h. D.has_interface h g.interface) (head_of t op) };
 
     fn is_allowed(&self, op: Ptr<Operation>, ctx: &Context) -> bool {
         D::implements(op, ctx, self.interface)
@@ -137,9 +135,7 @@ impl<G: Guard, P: Pass> Pass for GuardedPass<G, P> {
 
     ghost name = { λ p. guarded_name };
 
-    ghost outcome = { λ p p' op s s' r. Guards G.allows (RunsPass P.name P.outcome (IsFirstFault P.D.has_interface
-        (verdict_by P.D.SideEffects.verdict P.D.BlockArgRemoval.verdict P.D.ConstFoldInterface.verdict P.D.BranchOpFoldInterface.verdict))
-        P.is_pass_manager) p.guard p'.guard p.pass p'.pass op s s' r };
+    ghost outcome = { λ p p' op s s' r. Guards G.allows ⟦<P as Managed>⟧.runs p.guard p'.guard p.pass p'.pass op s s' r };
 
     fn name(&self) -> &str {
         "guarded_pass"

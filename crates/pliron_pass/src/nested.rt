@@ -6,15 +6,14 @@ ghost use Rattle.pliron_laws.specs.Linked.{IsWellLinked};
 ghost use Rattle.pliron_pass.specs.Cache.{IsFresh};
 ghost use Rattle.pliron_theory.specs.Change.{IsPassChange};
 ghost use Rattle.pliron_pass.specs.Combined.{Closes, Steps, RunsOverAll, nested_name};
-ghost use Rattle.pliron_pass.specs.Outcome.{RunsPass};
 ghost use Rattle.pliron_pass.specs.Stage.{stage};
-ghost use Rattle.pliron_pass.specs.Verifying.{IsFirstFault, verdict_by};
 
+use crate::headline::run_pipeline;
 use crate::kinds::AnalysisKind;
 use crate::manager::AnalysisManager;
 use crate::pass::Pass;
 use crate::result::PassResult;
-use crate::run::{close, run_inner};
+use crate::run::{Managed, close};
 use pliron_core::{Context, IRStatus, Operation, Ptr};
 use pliron_laws::OptError;
 use std::alloc::Global;
@@ -51,12 +50,10 @@ fn run_held<P: Pass>(
     ensures children { children ctx.new.tree holder ≡ children ctx.old.tree holder }
     ensures fresh { OnOk result (IsFresh P.E.Kind.eq P.E.kind P.E.holds ctx.old.tree analyses.old.cache.entries →
         IsFresh P.E.Kind.eq P.E.kind P.E.holds ctx.new.tree analyses.new.cache.entries) }
-    ensures outcome { Steps P.E.Kind.eq (RunsPass P.name P.outcome (IsFirstFault P.D.has_interface
-        (verdict_by P.D.SideEffects.verdict P.D.BlockArgRemoval.verdict P.D.ConstFoldInterface.verdict P.D.BranchOpFoldInterface.verdict))
-        P.is_pass_manager) pass.old pass.new op (stage ctx.old analyses.old) (stage ctx.new analyses.new) result }
+    ensures outcome { Steps P.E.Kind.eq ⟦<P as Managed>⟧.runs pass.old pass.new op (stage ctx.old analyses.old) (stage ctx.new analyses.new) result }
 {
     ctx.well_formed();
-    let ran = run_inner(pass, alloc, op, ctx, analyses);
+    let ran = run_pipeline(pass, alloc, op, ctx, analyses);
     ctx.well_formed();
     ran
 }
@@ -74,9 +71,8 @@ fn run_nested<P: Pass>(
     ensures change { IsPassChange P.D.meaning ctx.old.tree ctx.new.tree op }
     ensures fresh { OnOk result (IsFresh P.E.Kind.eq P.E.kind P.E.holds ctx.old.tree analyses.old.cache.entries →
         IsFresh P.E.Kind.eq P.E.kind P.E.holds ctx.new.tree analyses.new.cache.entries) }
-    ensures outcome { RunsOverAll P.E.Kind.eq (RunsPass P.name P.outcome (IsFirstFault P.D.has_interface
-        (verdict_by P.D.SideEffects.verdict P.D.BlockArgRemoval.verdict P.D.ConstFoldInterface.verdict P.D.BranchOpFoldInterface.verdict))
-        P.is_pass_manager) (children ctx.old.tree op) pass.old pass.new (stage ctx.old analyses.old) (stage ctx.new analyses.new) result }
+    ensures outcome { RunsOverAll P.E.Kind.eq ⟦<P as Managed>⟧.runs (children ctx.old.tree op) pass.old pass.new (stage ctx.old analyses.old)
+        (stage ctx.new analyses.new) result }
 {
     ctx.well_formed();
     let mut changed = IRStatus::Unchanged;
@@ -98,9 +94,8 @@ impl<P: Pass> Pass for NestedOpsPass<P> {
 
     ghost name = { λ p. nested_name };
 
-    ghost outcome = { λ p p' op s s' r. Closes P.E.Kind.eq (λ u ran. RunsOverAll P.E.Kind.eq (RunsPass P.name P.outcome
-        (IsFirstFault P.D.has_interface (verdict_by P.D.SideEffects.verdict P.D.BlockArgRemoval.verdict P.D.ConstFoldInterface.verdict
-        P.D.BranchOpFoldInterface.verdict)) P.is_pass_manager) (children s.tree op) p.pass p'.pass s u ran) s' r };
+    ghost outcome = { λ p p' op s s' r. Closes P.E.Kind.eq (λ u ran. RunsOverAll P.E.Kind.eq ⟦<P as Managed>⟧.runs
+        (children s.tree op) p.pass p'.pass s u ran) s' r };
 
     fn name(&self) -> &str {
         "nested_ops_pass"

@@ -5,15 +5,14 @@ ghost use Rattle.pliron_laws.specs.Linked.{IsWellLinked};
 ghost use Rattle.pliron_pass.specs.Cache.{IsFresh};
 ghost use Rattle.pliron_theory.specs.Change.{IsPassChange};
 ghost use Rattle.pliron_pass.specs.Combined.{Closes, RunsEachOf, passes_name};
-ghost use Rattle.pliron_pass.specs.Outcome.{RunsPass};
 ghost use Rattle.pliron_pass.specs.Stage.{stage};
-ghost use Rattle.pliron_pass.specs.Verifying.{IsFirstFault, verdict_by};
 
+use crate::headline::run_pipeline;
 use crate::kinds::AnalysisKind;
 use crate::manager::AnalysisManager;
 use crate::pass::Pass;
 use crate::result::PassResult;
-use crate::run::{close, run_inner};
+use crate::run::{Managed, close};
 use pliron_core::{Context, IRStatus, Operation, Ptr};
 use pliron_laws::OptError;
 use std::alloc::Global;
@@ -61,13 +60,12 @@ fn run_all<P: Pass>(
     ensures change { IsPassChange P.D.meaning ctx.old.tree ctx.new.tree op }
     ensures fresh { OnOk result (IsFresh P.E.Kind.eq P.E.kind P.E.holds ctx.old.tree analyses.old.cache.entries →
         IsFresh P.E.Kind.eq P.E.kind P.E.holds ctx.new.tree analyses.new.cache.entries) }
-    ensures outcome { RunsEachOf P.E.Kind.eq (RunsPass P.name P.outcome (IsFirstFault P.D.has_interface
-        (verdict_by P.D.SideEffects.verdict P.D.BlockArgRemoval.verdict P.D.ConstFoldInterface.verdict P.D.BranchOpFoldInterface.verdict))
-        P.is_pass_manager) op passes.old.items passes.new.items (stage ctx.old analyses.old) (stage ctx.new analyses.new) result }
+    ensures outcome { RunsEachOf P.E.Kind.eq ⟦<P as Managed>⟧.runs op passes.old.items passes.new.items (stage ctx.old analyses.old)
+        (stage ctx.new analyses.new) result }
 {
     let mut changed = IRStatus::Unchanged;
     for i in 0..passes.len() {
-        changed |= run_inner(&mut passes[i], alloc, op, ctx, analyses)?;
+        changed |= run_pipeline(&mut passes[i], alloc, op, ctx, analyses)?;
     }
     Ok(changed)
 }
@@ -81,9 +79,8 @@ impl<P: Pass> Pass for Passes<P> {
 
     ghost name = { λ p. passes_name };
 
-    ghost outcome = { λ p p' op s s' r. Closes P.E.Kind.eq (λ u ran. RunsEachOf P.E.Kind.eq (RunsPass P.name P.outcome
-        (IsFirstFault P.D.has_interface (verdict_by P.D.SideEffects.verdict P.D.BlockArgRemoval.verdict P.D.ConstFoldInterface.verdict
-        P.D.BranchOpFoldInterface.verdict)) P.is_pass_manager) op p.passes.items p'.passes.items s u ran) s' r };
+    ghost outcome = { λ p p' op s s' r. Closes P.E.Kind.eq (λ u ran. RunsEachOf P.E.Kind.eq ⟦<P as Managed>⟧.runs op p.passes.items p'.passes.items s
+        u ran) s' r };
 
     fn name(&self) -> &str {
         "passes"

@@ -6,15 +6,14 @@ ghost use Rattle.pliron_pass.specs.Cache.{IsFresh};
 ghost use Rattle.pliron_theory.specs.Change.{IsPassChange};
 ghost use Rattle.pliron_pass.specs.Combined.{Closes};
 ghost use Rattle.pliron_pass.specs.Repeating.{RepeatsTo, repeat_name};
-ghost use Rattle.pliron_pass.specs.Outcome.{RunsPass};
 ghost use Rattle.pliron_pass.specs.Stage.{stage};
-ghost use Rattle.pliron_pass.specs.Verifying.{IsFirstFault, verdict_by};
 
+use crate::headline::run_pipeline;
 use crate::kinds::AnalysisKind;
 use crate::manager::AnalysisManager;
 use crate::pass::Pass;
 use crate::result::PassResult;
-use crate::run::{close, run_inner};
+use crate::run::{Managed, close};
 use pliron_core::{Context, IRStatus, Operation, Ptr};
 use pliron_laws::OptError;
 use std::alloc::Global;
@@ -60,16 +59,15 @@ fn run_repeated<P: Pass>(
     ensures change { IsPassChange P.D.meaning ctx.old.tree ctx.new.tree op }
     ensures fresh { OnOk result (IsFresh P.E.Kind.eq P.E.kind P.E.holds ctx.old.tree analyses.old.cache.entries →
         IsFresh P.E.Kind.eq P.E.kind P.E.holds ctx.new.tree analyses.new.cache.entries) }
-    ensures outcome { RepeatsTo P.E.Kind.eq (RunsPass P.name P.outcome (IsFirstFault P.D.has_interface
-        (verdict_by P.D.SideEffects.verdict P.D.BlockArgRemoval.verdict P.D.ConstFoldInterface.verdict P.D.BranchOpFoldInterface.verdict))
-        P.is_pass_manager) max op pass.old pass.new (stage ctx.old analyses.old) runs.new (stage ctx.new analyses.new) result }
+    ensures outcome { RepeatsTo P.E.Kind.eq ⟦<P as Managed>⟧.runs max op pass.old pass.new (stage ctx.old analyses.old) runs.new
+        (stage ctx.new analyses.new) result }
     ensures at_most { runs.new ≤ max }
 {
     let mut changed = IRStatus::Unchanged;
     *runs = 0;
     while *runs < max {
         *runs += 1;
-        match run_inner(pass, alloc, op, ctx, analyses)? {
+        match run_pipeline(pass, alloc, op, ctx, analyses)? {
             IRStatus::Unchanged => return Ok(changed),
             IRStatus::Changed => changed = IRStatus::Changed,
         }
@@ -87,9 +85,7 @@ impl<P: Pass> Pass for Repeat<P> {
     ghost name = { λ p. repeat_name };
 
     ghost outcome = { λ p p' op s s' r. (p'.max ≡ p.max) × (p'.runs ≤ p.max) ×
-        Closes P.E.Kind.eq (λ u ran. RepeatsTo P.E.Kind.eq (RunsPass P.name P.outcome (IsFirstFault P.D.has_interface
-        (verdict_by P.D.SideEffects.verdict P.D.BlockArgRemoval.verdict P.D.ConstFoldInterface.verdict P.D.BranchOpFoldInterface.verdict))
-        P.is_pass_manager) p.max op p.pass p'.pass s p'.runs u ran) s' r };
+        Closes P.E.Kind.eq (λ u ran. RepeatsTo P.E.Kind.eq ⟦<P as Managed>⟧.runs p.max op p.pass p'.pass s p'.runs u ran) s' r };
 
     fn name(&self) -> &str {
         "repeat"

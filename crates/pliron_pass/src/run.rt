@@ -4,18 +4,17 @@ ghost use Rattle.pliron_core.specs.Tree.{Tree, IsLive};
 ghost use Rattle.pliron_laws.specs.Linked.{IsWellLinked};
 ghost use Rattle.pliron_laws.specs.declared.fault.OptError.TheVariants.{Memory};
 ghost use Rattle.pliron_pass.specs.Answer.{FreshAfter, has_changed, kept_kinds};
-ghost use Rattle.pliron_pass.specs.Cache.{IsFresh, retained, cached_kinds};
+ghost use Rattle.pliron_pass.specs.Cache.{retained, cached_kinds};
 ghost use Rattle.pliron_theory.specs.Change.{IsPassChange};
-ghost use Rattle.pliron_pass.specs.Combined.{Steps, IsClosed};
-ghost use Rattle.pliron_pass.specs.Outcome.{IsVerified, RunsPass, RunsPlain};
+ghost use Rattle.pliron_pass.specs.Combined.{IsClosed};
+ghost use Rattle.pliron_pass.specs.Outcome.{IsVerified, OutcomeOf, RunsPass, RunsPlain};
 ghost use Rattle.pliron_pass.specs.Stage.{stage};
-ghost use Rattle.pliron_pass.specs.Verifying.{IsFirstFault, verdict_by};
 
 use crate::kinds::AnalysisKind;
 use crate::manager::AnalysisManager;
 use crate::pass::Pass;
 use crate::result::PassResult;
-use crate::verify::verify_operation;
+use crate::verify::{Verified, verify_operation};
 use pliron_core::{Context, IRStatus, Operation, Ptr};
 use pliron_laws::{Dialect, OptError};
 use std::alloc::Global;
@@ -29,8 +28,7 @@ fn verify_if<D: Dialect>(
     ctx: &Context,
 ) -> Result<(), OptError>
     requires { IsLive ctx.now.tree op }
-    ensures { IsVerified (IsFirstFault D.has_interface (verdict_by D.SideEffects.verdict D.BlockArgRemoval.verdict D.ConstFoldInterface.verdict
-        D.BranchOpFoldInterface.verdict)) fault wanted ctx.now.tree op result }
+    ensures { IsVerified ⟦<D as Verified>⟧.verifies fault wanted ctx.now.tree op result }
 {
     if !wanted {
         return Ok(());
@@ -55,9 +53,8 @@ fn run_plain<P: Pass>(
     ensures change { IsPassChange P.D.meaning ctx.old.tree ctx.new.tree op }
     ensures fresh { IfOk result (λ a. FreshAfter P.E.Kind.eq P.E.kind P.E.holds ctx.old.tree analyses.old.cache.entries ctx.new.tree
         analyses.new.cache.entries a) }
-    ensures outcome { RunsPlain P.name P.outcome (IsFirstFault P.D.has_interface
-        (verdict_by P.D.SideEffects.verdict P.D.BlockArgRemoval.verdict P.D.ConstFoldInterface.verdict P.D.BranchOpFoldInterface.verdict)) pass.old
-        pass.new op (stage ctx.old analyses.old) (stage ctx.new analyses.new) result }
+    ensures outcome { RunsPlain P.name P.outcome ⟦<P::D as Verified>⟧.verifies pass.old pass.new op (stage ctx.old analyses.old)
+        (stage ctx.new analyses.new) result }
 {
     let plan = analyses.pm_data.plan(pass.name());
     if plan.skips {
@@ -68,6 +65,16 @@ fn run_plain<P: Pass>(
     verify_if::<P::D>(plan.verifies_after, OptError::VerifyAfter, alloc, op, ctx)?;
     analyses.pm_data.count_run();
     result
+}
+
+/// A pass as a pass manager runs it. Each pass is; contracts alone speak of it.
+pub trait Managed: Pass {
+    // what `PassManager::run_pass` does with it, as `Pass::outcome` says what it does itself
+    ghost runs: { OutcomeOf Self Self.E.Kind Self.E };
+}
+
+impl<P: Pass> Managed for P {
+    ghost runs = { RunsPass P.name P.outcome ⟦<P::D as Verified>⟧.verifies P.is_pass_manager };
 }
 
 /// Runs passes by the configuration.
@@ -93,9 +100,7 @@ impl PassManager {
         ensures change { IsPassChange P.D.meaning ctx.old.tree ctx.new.tree op }
         ensures fresh { IfOk result (λ a. FreshAfter P.E.Kind.eq P.E.kind P.E.holds ctx.old.tree analyses.old.cache.entries ctx.new.tree
             analyses.new.cache.entries a) }
-        ensures outcome { RunsPass P.name P.outcome (IsFirstFault P.D.has_interface
-            (verdict_by P.D.SideEffects.verdict P.D.BlockArgRemoval.verdict P.D.ConstFoldInterface.verdict P.D.BranchOpFoldInterface.verdict))
-            P.is_pass_manager pass.old pass.new op (stage ctx.old analyses.old) (stage ctx.new analyses.new) result }
+        ensures outcome { ⟦<P as Managed>⟧.runs pass.old pass.new op (stage ctx.old analyses.old) (stage ctx.new analyses.new) result }
     {
         if pass.is_pass_manager() {
             pass.run(alloc, op, ctx, analyses)
@@ -103,31 +108,6 @@ impl PassManager {
             run_plain(pass, alloc, op, ctx, analyses)
         }
     }
-}
-
-/// Runs a pass, and keeps of the cache what it preserves.
-///
-/// Asks that the operation stands and is well linked. Errors: as `run_pass`. Cost: as `run_pass`, and after
-/// `Changed` a look-up for each entry of the cache.
-pub fn run_inner<P: Pass>(
-    pass: &mut P,
-    alloc: Global,
-    op: Ptr<Operation>,
-    ctx: &mut Context,
-    analyses: &mut AnalysisManager<P::E>,
-) -> Result<IRStatus, OptError>
-    requires live { IsLive ctx.old.tree op }
-    requires linked { IsWellLinked P.D.meaning ctx.old.tree op }
-    ensures change { IsPassChange P.D.meaning ctx.old.tree ctx.new.tree op }
-    ensures fresh { OnOk result (IsFresh P.E.Kind.eq P.E.kind P.E.holds ctx.old.tree analyses.old.cache.entries →
-        IsFresh P.E.Kind.eq P.E.kind P.E.holds ctx.new.tree analyses.new.cache.entries) }
-    ensures outcome { Steps P.E.Kind.eq (RunsPass P.name P.outcome (IsFirstFault P.D.has_interface
-        (verdict_by P.D.SideEffects.verdict P.D.BlockArgRemoval.verdict P.D.ConstFoldInterface.verdict P.D.BranchOpFoldInterface.verdict))
-        P.is_pass_manager) pass.old pass.new op (stage ctx.old analyses.old) (stage ctx.new analyses.new) result }
-{
-    let result = PassManager::run_pass(pass, alloc, op, ctx, analyses)?;
-    analyses.retain_preserved(&result);
-    Ok(result.ir_changed)
 }
 
 /// Ends what ran inner passes: the answer preserves all that is cached, and after an error the cache is

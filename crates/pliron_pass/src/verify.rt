@@ -1,6 +1,7 @@
 //! Verifying operations.
 ghost use Rattle.std.specs.Prelude.{◌≡◌, ℕ, Result, OnOk, IfErr, OnErr};
 ghost use Rattle.pliron_core.specs.Tree.{Tree, IsLive};
+ghost use Rattle.pliron_pass.specs.Outcome.{Verifying};
 ghost use Rattle.pliron_pass.specs.Verifying.{Verdict, PassesOne, FailsOne, Passes, Fails, IsFirstFault, verdict_by};
 
 use pliron_core::{Context, Operation, Ptr};
@@ -10,6 +11,22 @@ use pliron_laws::{
 };
 use std::alloc::Global;
 
+/// What verifying operations of a dialect may answer. Each dialect has it; contracts alone speak of it.
+pub trait Verified {
+    // what the check of an interface may answer for an operation; the last two have none
+    ghost verdict: { Verdict };
+
+    // what verifying an operation and all inside it answers
+    ghost verifies: { Verifying };
+}
+
+impl<D: Dialect> Verified for D {
+    ghost verdict = { verdict_by D.SideEffects.verdict D.BlockArgRemoval.verdict D.ConstFoldInterface.verdict D.BranchOpFoldInterface.verdict };
+
+    ghost verifies = { IsFirstFault D.has_interface (verdict_by D.SideEffects.verdict D.BlockArgRemoval.verdict D.ConstFoldInterface.verdict
+        D.BranchOpFoldInterface.verdict) };
+}
+
 // The check of an interface. The last two have none.
 fn check<D: Dialect>(
     interface: Interface,
@@ -18,8 +35,7 @@ fn check<D: Dialect>(
     ctx: &Context,
 ) -> Result<(), OptError>
     requires { IsLive ctx.now.tree op }
-    ensures { (verdict_by D.SideEffects.verdict D.BlockArgRemoval.verdict D.ConstFoldInterface.verdict D.BranchOpFoldInterface.verdict) interface
-        ctx.now.tree op result }
+    ensures { ⟦<D as Verified>⟧.verdict interface ctx.now.tree op result }
 {
     match interface {
         Interface::SideEffects => <D as SideEffects>::verify(alloc, op, ctx),
@@ -38,10 +54,8 @@ fn verify_one<D: Dialect>(
     ctx: &Context,
 ) -> Result<(), OptError>
     requires { IsLive ctx.now.tree op }
-    ensures ok { OnOk result (PassesOne D.has_interface (verdict_by D.SideEffects.verdict D.BlockArgRemoval.verdict D.ConstFoldInterface.verdict
-        D.BranchOpFoldInterface.verdict) ctx.now.tree op interface) }
-    ensures err { IfErr result (λ e. FailsOne D.has_interface (verdict_by D.SideEffects.verdict D.BlockArgRemoval.verdict D.ConstFoldInterface.verdict
-        D.BranchOpFoldInterface.verdict) ctx.now.tree op interface e) }
+    ensures ok { OnOk result (PassesOne D.has_interface ⟦<D as Verified>⟧.verdict ctx.now.tree op interface) }
+    ensures err { IfErr result (λ e. FailsOne D.has_interface ⟦<D as Verified>⟧.verdict ctx.now.tree op interface e) }
 {
     if D::implements(op, ctx, interface) {
         check::<D>(interface, alloc, op, ctx)
@@ -53,10 +67,8 @@ fn verify_one<D: Dialect>(
 // The checks of an operation.
 fn verify_each<D: Dialect>(alloc: Global, op: Ptr<Operation>, ctx: &Context) -> Result<(), OptError>
     requires { IsLive ctx.now.tree op }
-    ensures ok { OnOk result (Passes D.has_interface (verdict_by D.SideEffects.verdict D.BlockArgRemoval.verdict D.ConstFoldInterface.verdict
-        D.BranchOpFoldInterface.verdict) ctx.now.tree op) }
-    ensures err { IfErr result (λ e. Fails D.has_interface (verdict_by D.SideEffects.verdict D.BlockArgRemoval.verdict D.ConstFoldInterface.verdict
-        D.BranchOpFoldInterface.verdict) ctx.now.tree op e) }
+    ensures ok { OnOk result (Passes D.has_interface ⟦<D as Verified>⟧.verdict ctx.now.tree op) }
+    ensures err { IfErr result (λ e. Fails D.has_interface ⟦<D as Verified>⟧.verdict ctx.now.tree op e) }
 {
     verify_one::<D>(Interface::SideEffects, alloc, op, ctx)?;
     verify_one::<D>(Interface::BlockArgRemoval, alloc, op, ctx)?;
@@ -76,8 +88,7 @@ pub fn verify_operation<D: Dialect>(
     ctx: &Context,
 ) -> Result<(), OptError>
     requires { IsLive ctx.now.tree op }
-    ensures { IsFirstFault D.has_interface (verdict_by D.SideEffects.verdict D.BlockArgRemoval.verdict D.ConstFoldInterface.verdict
-        D.BranchOpFoldInterface.verdict) ctx.now.tree op result }
+    ensures { ⟦<D as Verified>⟧.verifies ctx.now.tree op result }
 {
     ctx.well_formed();
     let mut at = Some(op);

@@ -1,4 +1,3 @@
-pub mod Headline
 pub mod Honest
 pub mod Optimising
 pub mod Constants

@@ -5,6 +5,7 @@ use crate::optimisation::{Effect, Optimisation, OptimisingPass};
 use pliron_core::{Context, Operation, Ptr};
 use pliron_laws::{Dialect, OptError};
 use pliron_sccp::sccp;
+use pliron_theory::HasFolding;
 use std::alloc::Global;
 use std::marker::PhantomData;
 
@@ -19,13 +20,7 @@ impl<D: Dialect> Optimisation for Constants<D> {
 
     ghost name = { sccp_name };
 
-    ghost outcome = { λ t t' op r. PropagatesConstants (record {
-      meaning = D.meaning;
-      can_fold = D.can_fold;
-      can_fold_branch = D.can_fold_branch;
-      constants = D.constants;
-      feasible = D.feasible;
-    }) D.accepts D.constant_head D.ConstFoldInterface.outcome t t' op r };
+    ghost outcome = { λ t t' op r. PropagatesConstants ⟦<D as HasFolding>⟧.folding D.accepts D.constant_head D.ConstFoldInterface.outcome t t' op r };
 
     fn name() -> &'static str {
         "sccp"

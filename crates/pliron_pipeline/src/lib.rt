@@ -6,7 +6,6 @@
 mod constants;
 mod control_flow;
 mod dead_code;
-mod headline;
 mod honest;
 mod optimisation;
 mod step;
@@ -14,7 +13,7 @@ mod step;
 pub use constants::{Constants, SCCPPass};
 pub use control_flow::{ControlFlow, SimplifyCFGPass};
 pub use dead_code::{DCEPass, DeadCode};
-pub use headline::run_pipeline;
 pub use honest::schedules_are_honest;
 pub use optimisation::{Effect, Optimisation, OptimisingPass};
+pub use pliron_pass::run_pipeline;
 pub use step::{Pipeline, Schedule, Step};

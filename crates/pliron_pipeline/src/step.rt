@@ -1,6 +1,6 @@
 //! One of the passes here, and lists of them.
-ghost use Rattle.std.specs.Prelude.{◌≡◌, true, false, IfSome};
-ghost use Rattle.pliron_pipeline.specs.Steps.{step_name};
+ghost use Rattle.std.specs.Prelude.{◌≡◌, true, false, IfSome, IfNone};
+ghost use Rattle.pliron_pipeline.specs.Steps.{step_name, IsNoStep};
 ghost use Rattle.pliron_pass.specs.Combined.{nested_name, passes_name};
 ghost use Rattle.pliron_pass.specs.Repeating.{repeat_name};
 ghost use Rattle.pliron_pipeline.specs.declared.step.Step.TheVariants.{Sccp as ASccp, Dce as ADce, SimplifyCfg as ASimplifyCfg};
@@ -28,7 +28,8 @@ pub enum Step<D: Dialect, E: Analyses + Drop> {
 impl<D: Dialect, E: Analyses + Drop> Step<D, E> {
     /// The pass of this name: `sccp`, `dce` or `simplify-cfg`. Cost: constant.
     pub fn from_name(name: &str) -> Option<Self>
-        ensures { IfSome result (λ step. step_name step ≡ name.now) }
+        ensures named { IfSome result (λ step. step_name step ≡ name.now) }
+        ensures unknown { IfNone result (IsNoStep name.now) }
     {
         match name {
             "sccp" => Some(Step::Sccp(SCCPPass::new())),

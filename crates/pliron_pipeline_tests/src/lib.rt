@@ -1,7 +1,7 @@
 //! Tests of `pliron_pipeline`: the three passes and a failing one of a caller under each combinator, in a
 //! caller's enum that nests them several levels deep, by the call that promises what every nesting keeps;
-//! what is cached, counted and answered then; runs and facts before and after; and a driver. It has no
-//! function of its own.
+//! what is cached, counted and answered then; runs and facts before and after; and a driver. Its one function
+//! joins the ends of the promise at a root of `Bench`.
 #![tactic(auto)]
 
 #[cfg(test)]
@@ -14,5 +14,6 @@ mod kept;
 mod lines;
 #[cfg(test)]
 mod nest;
+pub mod promise;
 #[cfg(test)]
 mod texts;

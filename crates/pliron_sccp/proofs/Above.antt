@@ -7,7 +7,7 @@ use Rattle.pliron_core.proofs.UsedLemmas.{length_map}
 use Rattle.pliron_laws.specs.Tree.{Operation, op_at, shape_of}
 use Rattle.pliron_laws.specs.Laws.{Admitted}
 use Rattle.pliron_laws.specs.Folding.{KnowsMore, FoldsMonotonely}
-use Rattle.pliron_theory.specs.Facts.{Fact, Undetermined, Constant, NotAConstant, AtMost, known, answered, Facts, Says, handed, answers_of, Stands, MayGo, Forwards, AreClosed}
+use Rattle.pliron_theory.specs.Facts.{Fact, Undetermined, Constant, NotAConstant, AtMost, known, answered, Facts, Says, handed, answers_of, IsInReachedBlock, IsFeasibleEdge, Forwards, AreClosed}
 use Rattle.pliron_theory.proofs.FactLattice.{at_most_trans}
 use Rattle.pliron_theory.proofs.KnownData.{picked_at}
 
@@ -33,7 +33,7 @@ module _ (x : Says) (mono : FoldsMonotonely x.meaning x.can_fold x.can_fold_bran
   knows_more [] below some = tt
   knows_more (v ∷ vs) below some = knows_one (f.fact v) (g.fact v) (known (g.fact v)) refl (below v (inl refl)) (some v (inl refl)) (handed g vs) (handed f vs) (knows_more vs (λ w i. below w (inr i)) (λ w i. some w (inr i)))
 
-  module _ (k : ℕ) (o : Operation) (stands : Stands t g k) (at : op_at t k ≡ Some o) (admitted : Admitted x.meaning (shape_of x.meaning t o)) (below : (v : ℕ) → In v o.operands → AtMost (g.fact v) (f.fact v)) (some : (v : ℕ) → In v o.operands → f.fact v ≢ Undetermined) where
+  module _ (k : ℕ) (o : Operation) (stands : IsInReachedBlock t g k) (at : op_at t k ≡ Some o) (admitted : Admitted x.meaning (shape_of x.meaning t o)) (below : (v : ℕ) → In v o.operands → AtMost (g.fact v) (f.fact v)) (some : (v : ℕ) → In v o.operands → f.fact v ≢ Undetermined) where
     counted : length (handed g o.operands) ≡ (shape_of x.meaning t o).operands
     unfolding shape_of
     counted = length_map (λ v. known (g.fact v)) o.operands
@@ -46,12 +46,12 @@ module _ (x : Says) (mono : FoldsMonotonely x.meaning x.can_fold x.can_fold_bran
         at_most_trans (g.fact v) (answered p.0) (answered a) (closed.folded k i v p.0 o stands at folds listed p.1) p.2
 
     -- a block that is entered
-    pub above_jump : (i b : ℕ) → MayGo x t f o i b → MayGo x t g o i b
+    pub above_jump : (i b : ℕ) → IsFeasibleEdge x t f o i b → IsFeasibleEdge x t g o i b
     unfolding shape_of
     above_jump i b go = (go.0, λ folds. mono.jumps (shape_of x.meaning t o) o.successors admitted folds refl (handed g o.operands) (handed f o.operands) counted (knows_more o.operands below some) b (go.1 folds))
 
     -- an argument that is lowered to what is forwarded to it
-    pub above_argument : (i b j v w : ℕ) → IsTrue (x.meaning.is_branch o.head) → MayGo x t f o i b → slice_get (arguments_of t b) j ≡ Some v → Forwards x t o i j w → AtMost (g.fact v) (f.fact w)
+    pub above_argument : (i b j v w : ℕ) → IsTrue (x.meaning.is_branch o.head) → IsFeasibleEdge x t f o i b → slice_get (arguments_of t b) j ≡ Some v → Forwards x t o i j w → AtMost (g.fact v) (f.fact w)
     above_argument i b j v w branch go listed forwards =
         let p = picked_at (x.meaning.forwarded (shape_of x.meaning t o) i) o.operands j (Some w) forwards in
         at_most_trans (g.fact v) (g.fact w) (f.fact w) ((closed.branches k i b o stands at branch (above_jump i b go)).1 j v w listed forwards) (below w (in_slice o.operands p.0 w p.2))

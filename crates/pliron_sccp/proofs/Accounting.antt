@@ -11,8 +11,8 @@ use Rattle.pliron_theory.proofs.PutFacts.{instead, instead_it, instead_other}
 use Rattle.pliron_sccp.specs.declared.tables.Solver.{Solver}
 use Rattle.pliron_sccp.specs.Tables.{fact_in, reaches, waits_block, waits_value, facts_of, TakesBlock}
 use Rattle.pliron_sccp.specs.Chain.{blocks_inside, reached_blocks}
-use Rattle.pliron_sccp.specs.Inside.{values_of, values_inside}
-use Rattle.pliron_sccp.specs.Falling.{Falls}
+use Rattle.pliron_sccp.specs.Inside.{block_values, values_inside}
+use Rattle.pliron_sccp.specs.Falling.{FactsFall}
 use Rattle.pliron_sccp.specs.Looking.{TakesValues}
 use Rattle.pliron_sccp.specs.Propagated.{CountsPops}
 use Rattle.pliron_sccp.specs.Accounts.{IsAccounted, WaitsInside, IsUnsearched, NothingWaits, AreKnownThere}
@@ -168,7 +168,7 @@ module _ (t : Tree) (root : ℕ) where
   }
 
   -- facts that fall keep the account
-  pub falls_accounted : (s s' : Solver) (pops : ℕ) → WaitsInside t root s → Falls s s' → IsAccounted t root s pops → IsAccounted t root s' pops
+  pub falls_accounted : (s s' : Solver) (pops : ℕ) → WaitsInside t root s → FactsFall s s' → IsAccounted t root s pops → IsAccounted t root s' pops
   falls_accounted s s' pops w f a =
       let o = to_sums s pops a in
       let bl = sum_both (λ b. one_if (reaches s' b)) (λ b. one_if (waits_block s b)) (λ b. one_if (reaches s b)) (λ b. one_if (waits_block s' b)) (blocks_inside t root) (λ b i. block_least (reaches s b) (reaches s' b) (waits_block s b) (waits_block s' b) (λ y. (w.blocks b y).1) (f.blocks b) (f.entered b)) in
@@ -177,7 +177,7 @@ module _ (t : Tree) (root : ℕ) where
       let vm = sum_both (λ v. one_if (waits_value s' v)) (λ v. most (fact_in s v)) (λ v. one_if (waits_value s v)) (λ v. most (fact_in s' v)) (values_inside t root) (λ v i. value_most (fact_in s v) (fact_in s' v) (waits_value s v) (waits_value s' v) (f.below.fact v) (f.fell v)) in
       from_sums s' pops (record { least = omega (arith, o.least, bl, vl); most = omega (arith, o.most, bm, vm) })
 
-  pub falls_inside : (s s' : Solver) → WaitsInside t root s → Falls s s' → ((b : ℕ) → IsTrue (reaches s' b) → In b (blocks_inside t root)) → WaitsInside t root s'
+  pub falls_inside : (s s' : Solver) → WaitsInside t root s → FactsFall s s' → ((b : ℕ) → IsTrue (reaches s' b) → In b (blocks_inside t root)) → WaitsInside t root s'
   falls_inside s s' w f inside = record {
     blocks = λ b y. ⊎_elim (λ old. let z = w.blocks b old in (z.0, f.below.reaches b z.1)) (λ new. (inside b new.1, new.1)) (f.came b y);
     values = λ v y. ⊎_elim
@@ -269,9 +269,9 @@ module _ (t : Tree) (root : ℕ) where
       let b = sum_none (λ b. one_if (waits_block s b)) (blocks_inside t root) (λ b i. ap one_if (done.blocks b)) in
       let v = sum_none (λ v. one_if (waits_value s v)) (values_inside t root) (λ v i. ap one_if (done.values v)) in
       let r = counted_filter (λ b. reaches s b) (blocks_inside t root) in
-      let known = flat_map (λ b. values_of t b) (reached_blocks t root (facts_of s)) in
+      let known = flat_map (λ b. block_values t b) (reached_blocks t root (facts_of s)) in
       let k = sum_least (λ v. fact_in s v) known in
       let m = sum_most (λ v. fact_in s v) known in
-      let kl = sum_reached (λ v. least (fact_in s v)) (λ b. reaches s b) (λ b. values_of t b) (blocks_inside t root) (λ c v i e j. ap least (there c v i j e)) in
-      let ml = sum_reached (λ v. most (fact_in s v)) (λ b. reaches s b) (λ b. values_of t b) (blocks_inside t root) (λ c v i e j. ap most (there c v i j e)) in
+      let kl = sum_reached (λ v. least (fact_in s v)) (λ b. reaches s b) (λ b. block_values t b) (blocks_inside t root) (λ c v i e j. ap least (there c v i j e)) in
+      let ml = sum_reached (λ v. most (fact_in s v)) (λ b. reaches s b) (λ b. block_values t b) (blocks_inside t root) (λ c v i e j. ap most (there c v i j e)) in
       record { least = omega (arith, o.least, b, v, r, k, kl); most = omega (arith, o.most, b, v, r, m, ml) }

@@ -10,24 +10,24 @@ use Rattle.pliron_sccp.specs.declared.applying.Demand.{Demand}
 use Rattle.pliron_sccp.specs.declared.applying.Demand.TheVariants.{Enter, Lower}
 use Rattle.pliron_sccp.specs.Tables.{meant, fact_in, reaches, waits_block, waits_value, facts_of, Enters, Lowers}
 use Rattle.pliron_sccp.specs.Demands.{MeetsAll}
-use Rattle.pliron_sccp.specs.Settling.{AreBelow}
-use Rattle.pliron_sccp.specs.Falling.{Falls, IsApplied}
+use Rattle.pliron_sccp.specs.Settling.{AreAtMost}
+use Rattle.pliron_sccp.specs.Falling.{FactsFall, IsApplied}
 
 same_below : (f g : Fact) → g ≡ f → AtMost g f
 same_below f g e = inr (inr e)
 
-pub below_refl : (f : Facts) → AreBelow f f
+pub below_refl : (f : Facts) → AreAtMost f f
 below_refl f = record { reaches = λ b r. r; fact = λ v. at_most_refl (f.fact v) }
 
-pub below_trans : (f g h : Facts) → AreBelow f g → AreBelow g h → AreBelow f h
+pub below_trans : (f g h : Facts) → AreAtMost f g → AreAtMost g h → AreAtMost f h
 below_trans f g h a b = record { reaches = λ c r. a.reaches c (b.reaches c r); fact = λ v. at_most_trans (f.fact v) (g.fact v) (h.fact v) (a.fact v) (b.fact v) }
 
-met_below : (f g : Facts) (ds : List Demand) → AreBelow g f → MeetsAll f ds → MeetsAll g ds
+met_below : (f g : Facts) (ds : List Demand) → AreAtMost g f → MeetsAll f ds → MeetsAll g ds
 met_below f g [] below m = tt
 met_below f g (Enter b ∷ ds) below m = (below.reaches b m.0, met_below f g ds below m.1)
 met_below f g (Lower v a ∷ ds) below m = (at_most_trans (g.fact v) (f.fact v) (meant a) (below.fact v) m.0, met_below f g ds below m.1)
 
-pub falls_refl : (s : Solver) → Falls s s
+pub falls_refl : (s : Solver) → FactsFall s s
 falls_refl s = record { below = below_refl (facts_of s); told = λ v. inl refl; entered = λ b r. inl r; values = λ v w. w; blocks = λ b w. w; fell = λ v w. inl w; came = λ b w. inl w }
 
 pub at_most_both : (f g : Fact) → AtMost f g → AtMost g f → f ≡ g
@@ -43,7 +43,7 @@ at_most_both f g (inr (inr e)) below = e
 between : (f g h : Fact) → AtMost g f → AtMost h g → h ≡ f → g ≡ f
 between f g h p q e = at_most_both g f p (subst (λ z. AtMost z g) e q)
 
-pub falls_trans : (s s1 s2 : Solver) → Falls s s1 → Falls s1 s2 → Falls s s2
+pub falls_trans : (s s1 s2 : Solver) → FactsFall s s1 → FactsFall s1 s2 → FactsFall s s2
 falls_trans s s1 s2 p q = record {
   below = below_trans (facts_of s2) (facts_of s1) (facts_of s) q.below p.below;
   told = λ v. ⊎_elim (λ e. ⊎_elim (λ d. inl (e ∙ d)) (λ w. inr (q.values v w)) (p.told v)) (λ w. inr w) (q.told v);
@@ -119,7 +119,7 @@ module _ (block : ℕ) (s s' : Solver) (e : Enters block s s') where
       by true same r is = inr (ap (reaches s) (sym (eqb-true block b same)) ∙ r, e.reached b ∙ ap (λ c. if c then true else reaches s b) same)
       by false other r is = inl (sym (is ∙ ap (λ c. if c then true else waits_block s b) other) ∙ w)
 
-  entered_falls : Falls s s'
+  entered_falls : FactsFall s s'
   entered_falls = record {
     below = record { reaches = λ b r. reached_then b r; fact = λ v. same_below (fact_in s v) (fact_in s' v) (e.facts v) };
     told = λ v. inl (e.facts v);
@@ -171,7 +171,7 @@ module _ (value : ℕ) (to : TableFact) (s s' : Solver) (l : Lowers value (meant
   fell_here : waits_value s' value ≡ true → (waits_value s value ≡ true) ⊎ (fact_in s' value ≢ fact_in s value)
   fell_here w = ⊎_elim (λ p. inl (sym p.1 ∙ w)) (λ p. inr p.0) l.told
 
-  lowered_falls : Falls s s'
+  lowered_falls : FactsFall s s'
   lowered_falls = record {
     below = record { reaches = λ b r. l.reached b ∙ r; fact = fact_then };
     told = λ v. ⊎_elim (λ same. subst (λ z. (fact_in s' z ≡ fact_in s z) ⊎ (waits_value s' z ≡ true)) same told_here) (λ other. inl (l.others v other).0) (here_or v);

@@ -20,7 +20,7 @@ use Rattle.pliron_theory.proofs.SoundRuns.{PassesForwarded}
 use Rattle.pliron_sccp.specs.declared.rewriting.ConstantArgument.{ConstantArgument}
 use Rattle.pliron_theory.specs.Facts.{Facts, Says}
 use Rattle.pliron_theory.specs.Following.{Follows}
-use Rattle.pliron_sccp.specs.Steps.{IsArgumentStep, IsTold, AreArgumentSteps, IsPuttingOn, stands_for, StandForEach}
+use Rattle.pliron_sccp.specs.Steps.{IsArgumentStep, TellsCreated, AreArgumentSteps, IsPuttingOn, stands_for, StandForEach}
 use Rattle.pliron_sccp.specs.Chain.{KnownArgument, all_put, IsPartlyPut}
 use Rattle.pliron_sccp.proofs.StepLemmas.{told_then}
 use Rattle.pliron_core.specs.Status.{changed_by_either}
@@ -42,7 +42,7 @@ module _ (accepts : AttrObj → Bool) (head : AttrObj → Head) (attr : AttrObj)
   becomes_stays (Some Unchanged) (ok, e) k l = subst (λ z. IsLive z k) (sym e) l
   becomes_stays None same k l = subst (λ r. IsSome r.head) (sym (same.operations k)) l
 
-  pub becomes_told : (status : IRStatus) → Becomes (Some status) → IsTold status t u
+  pub becomes_told : (status : IRStatus) → Becomes (Some status) → TellsCreated status t u
   becomes_told Unchanged (over, e) = subst (IsSameTree t) (sym e) (same_refl t)
   becomes_told Changed (ok, e) = (
     length t.operations,
@@ -101,7 +101,7 @@ module _ (x : Says) (accepts : AttrObj → Bool) (head : AttrObj → Head) (star
   pub putting_can : (i : ℕ) (status : IRStatus) (now : Tree) → IsPuttingOn x accepts head start arguments i status now → (a : ConstantArgument) → slice_get arguments i ≡ Some a → (t₀ : Tree) (root : ℕ) (f₀ : Facts) → AreArgumentSteps x t₀ root f₀ start arguments → IsArgumentStep x t₀ root f₀ now a
   putting_can i status now g a at t₀ root f₀ s = record { first = s.first; follows = g.follows t₀ root f₀ s; known = s.each i a at }
 
-  pub putting_next : (i : ℕ) (status : IRStatus) (now : Tree) → IsPuttingOn x accepts head start arguments i status now → (a : ConstantArgument) → slice_get arguments i ≡ Some a → (next : Tree) (one : IRStatus) → ReplacesArgument accepts head a.attr a.block a.index now next one → IsTold one now next → ((k : ℕ) → IsLive now k → IsLive next k) → ((t₀ : Tree) (root : ℕ) (f₀ : Facts) → IsArgumentStep x t₀ root f₀ now a → Follows x t₀ root f₀ next) → IsPuttingOn x accepts head start arguments (i + 1) (changed_by_either status one) next
+  pub putting_next : (i : ℕ) (status : IRStatus) (now : Tree) → IsPuttingOn x accepts head start arguments i status now → (a : ConstantArgument) → slice_get arguments i ≡ Some a → (next : Tree) (one : IRStatus) → ReplacesArgument accepts head a.attr a.block a.index now next one → TellsCreated one now next → ((k : ℕ) → IsLive now k → IsLive next k) → ((t₀ : Tree) (root : ℕ) (f₀ : Facts) → IsArgumentStep x t₀ root f₀ now a → Follows x t₀ root f₀ next) → IsPuttingOn x accepts head start arguments (i + 1) (changed_by_either status one) next
   putting_next i status now g a at next one is told stays follows = record {
     follows = λ t₀ root f₀ s. follows t₀ root f₀ (putting_can i status now g a at t₀ root f₀ s);
     puts = puts;

@@ -17,15 +17,15 @@ use Rattle.pliron_laws.specs.Laws.{Admitted}
 use Rattle.pliron_laws.specs.Linked.{IsWellLinked}
 use Rattle.pliron_laws.specs.Folding.{AnswersTrue}
 use Rattle.pliron_laws.proofs.Records.{ShowsOperation, op_shows}
-use Rattle.pliron_theory.specs.Facts.{Fact, Undetermined, Constant, NotAConstant, AtMost, known, answered, Facts, Says, handed, answers_of, Stands, Forwards, IsEntered, AreClosed}
+use Rattle.pliron_theory.specs.Facts.{Fact, Undetermined, Constant, NotAConstant, AtMost, known, answered, Facts, Says, handed, answers_of, IsInReachedBlock, Forwards, IsEntered, AreClosed}
 use Rattle.pliron_theory.proofs.FactLattice.{at_most_refl, same_index, picked_in}
 use Rattle.pliron_theory.proofs.SweptKeeps.{admitted_shape}
 use Rattle.pliron_sccp.specs.declared.tables.Solver.{Solver}
 use Rattle.pliron_sccp.specs.Tables.{facts_of}
 use Rattle.pliron_sccp.specs.Inside.{values_inside}
-use Rattle.pliron_sccp.specs.Settling.{IsMet, AreBelow}
+use Rattle.pliron_sccp.specs.Settling.{IsMet, AreAtMost}
 use Rattle.pliron_sccp.specs.Precise.{AreOwed}
-use Rattle.pliron_sccp.specs.Visiting.{HasWay, IsGrounded, IsReady}
+use Rattle.pliron_sccp.specs.Visiting.{HasWay, IsGrounded, AreDetermined}
 use Rattle.pliron_sccp.specs.Demands.{MeetsAll}
 use Rattle.pliron_sccp.specs.Looking.{LooksAt}
 use Rattle.pliron_sccp.specs.Best.{IsAbove}
@@ -113,27 +113,27 @@ targets_of t k = successors_of t k ++ entries_of t k
 abbrev pub only_inside : Tree → ℕ → Facts → Facts
 only_inside t root g = record { reaches = g.reaches; fact = λ v. if lists (values_inside t root) v then g.fact v else NotAConstant }
 
-pub only_below : (t : Tree) (root : ℕ) (g f : Facts) → IsAbove t root f g → AreBelow (only_inside t root g) f
+pub only_below : (t : Tree) (root : ℕ) (g f : Facts) → IsAbove t root f g → AreAtMost (only_inside t root g) f
 only_below t root g f above = record { reaches = above.blocks; fact = λ v. by v (lists (values_inside t root) v) refl }
   where
     by : (v : ℕ) (b : Bool) → lists (values_inside t root) v ≡ b → AtMost (if b then g.fact v else NotAConstant) (f.fact v)
     by v true e = above.facts v (lists_in (values_inside t root) v e)
     by v false e = inr (inl refl)
 
-only_lower : (t : Tree) (root : ℕ) (g : Facts) → AreBelow (only_inside t root g) g
+only_lower : (t : Tree) (root : ℕ) (g : Facts) → AreAtMost (only_inside t root g) g
 only_lower t root g = record { reaches = λ b r. r; fact = λ v. by v (lists (values_inside t root) v) }
   where
     by : (v : ℕ) (b : Bool) → AtMost (if b then g.fact v else NotAConstant) (g.fact v)
     by v true = at_most_refl (g.fact v)
     by v false = inr (inl refl)
 
-pub only_above : (t : Tree) (root : ℕ) (g f : Facts) → AreBelow (only_inside t root g) f → IsAbove t root f g
+pub only_above : (t : Tree) (root : ℕ) (g f : Facts) → AreAtMost (only_inside t root g) f → IsAbove t root f g
 only_above t root g f below = record { blocks = below.reaches; facts = λ v i. subst (λ b. AtMost (if b then g.fact v else NotAConstant) (f.fact v)) (in_lists (values_inside t root) v i) (below.fact v) }
 
 -- what holds of the facts while operations are looked at: f are those from before, and the blocks seen are those that
 -- were looked through before and the one at hand
 pub record IsOn (x : Says) (t : Tree) (root : ℕ) (f : Facts) (seen : ℕ → Bool) (now : Facts) : Type 0 where
-  pub below : AreBelow now f
+  pub below : AreAtMost now f
   pub above : (g : Facts) → AreClosed x t root g → IsAbove t root now g
   pub ways : (b : ℕ) → IsTrue (now.reaches b) → HasWay t seen b
   pub held : (b k : ℕ) → IsTrue (now.reaches b) → block_holder_of t b ≡ Some k → (k ≡ root) ⊎ ((c : ℕ) × (parent_of t k ≡ Some c) × IsTrue (seen c))
@@ -143,7 +143,7 @@ pub record IsOn (x : Says) (t : Tree) (root : ℕ) (f : Facts) (seen : ℕ → B
 abbrev pub ForwardsItsOperands : Says → Type 0
 ForwardsItsOperands x = (s : Shape) → Admitted x.meaning s → IsTrue (x.meaning.is_branch s.head) → (i p : ℕ) → In p (x.meaning.forwarded s i) → p < s.operands
 
-module _ (x : Says) (t : Tree) (root : ℕ) (w : IsTree t) (linked : IsWellLinked x.meaning t root) (answers : AnswersTrue x.meaning x.can_fold x.constants) (places : ForwardsItsOperands x) (owed : AreOwed x t root) (f : Facts) (visited seen : ℕ → Bool) (inside : (b : ℕ) → IsTrue (f.reaches b) → HoldsBlock t root b) (grounded : IsGrounded t root f visited) (ready : IsReady t f visited) (more : (b : ℕ) → IsTrue (visited b) → IsTrue (seen b)) (k c : ℕ) (o : Operation) (p : parent_of t k ≡ Some c) (at : op_at t k ≡ Some o) (reached : IsTrue (f.reaches c)) (came : IsTrue (seen c)) (done rest : List ℕ) (body : body_of t c ≡ done ++ k ∷ rest) where
+module _ (x : Says) (t : Tree) (root : ℕ) (w : IsTree t) (linked : IsWellLinked x.meaning t root) (answers : AnswersTrue x.meaning x.can_fold x.constants) (places : ForwardsItsOperands x) (owed : AreOwed x t root) (f : Facts) (visited seen : ℕ → Bool) (inside : (b : ℕ) → IsTrue (f.reaches b) → HoldsBlock t root b) (grounded : IsGrounded t root f visited) (ready : AreDetermined t f visited) (more : (b : ℕ) → IsTrue (visited b) → IsTrue (seen b)) (k c : ℕ) (o : Operation) (p : parent_of t k ≡ Some c) (at : op_at t k ≡ Some o) (reached : IsTrue (f.reaches c)) (came : IsTrue (seen c)) (done rest : List ℕ) (body : body_of t c ≡ done ++ k ∷ rest) where
   shows : ShowsOperation t k o
   shows = op_shows t k o at
 
@@ -176,7 +176,7 @@ module _ (x : Says) (t : Tree) (root : ℕ) (w : IsTree t) (linked : IsWellLinke
       others = λ v none i. closed.others k v o stands at none i;
     }
       where
-        stands : Stands t g k
+        stands : IsInReachedBlock t g k
         stands = (c, p, (on.above g closed).blocks c (on.below.reaches c reached))
 
         below : (v : ℕ) → In v o.operands → AtMost (g.fact v) (now.fact v)
@@ -194,11 +194,11 @@ module _ (x : Says) (t : Tree) (root : ℕ) (w : IsTree t) (linked : IsWellLinke
       met : IsMet x t now new k o
       met = (asks new).0 looks.applied.met
 
-      falls : AreBelow new now
-      falls = subst (λ z. AreBelow new z) (sym same) looks.applied.falls.below
+      falls : AreAtMost new now
+      falls = subst (λ z. AreAtMost new z) (sym same) looks.applied.falls.below
 
-      least : (g : Facts) → AreBelow g now → IsMet x t now g k o → AreBelow g new
-      least g below m = looks.applied.least g (subst (λ z. AreBelow g z) same below) ((asks g).1 m)
+      least : (g : Facts) → AreAtMost g now → IsMet x t now g k o → AreAtMost g new
+      least g below m = looks.applied.least g (subst (λ z. AreAtMost g z) same below) ((asks g).1 m)
 
       above_still : (g : Facts) → AreClosed x t root g → IsAbove t root new g
       above_still g closed =
@@ -256,7 +256,7 @@ module _ (x : Says) (t : Tree) (root : ℕ) (w : IsTree t) (linked : IsWellLinke
         others = met.others;
       }
 
-      trial_below : AreBelow trial now
+      trial_below : AreAtMost trial now
       trial_below = record { reaches = λ b r. ap (λ a. reached_or a (lists (targets_of t k) b) (all_determined new.fact (arguments_of t b))) r; fact = falls.fact }
 
       came_from : (b : ℕ) → IsTrue (new.reaches b) → IsTrue (now.reaches b) ⊎ IsTarget b

@@ -17,15 +17,15 @@ use Rattle.pliron_theory.specs.Facts.{Fact, Undetermined, Constant, NotAConstant
 use Rattle.pliron_theory.specs.Sound.{IsMadeThere}
 use Rattle.pliron_sccp.specs.declared.tables.Solver.{Solver}
 use Rattle.pliron_sccp.specs.Tables.{fact_in, reaches, waits_block, facts_of, TakesBlock}
-use Rattle.pliron_sccp.specs.Falling.{Falls}
+use Rattle.pliron_sccp.specs.Falling.{FactsFall}
 use Rattle.pliron_sccp.specs.Inside.{values_inside}
 use Rattle.pliron_sccp.specs.Precise.{AreMostPrecise, AreOwed}
 use Rattle.pliron_sccp.specs.Demands.{AsksEntries}
-use Rattle.pliron_sccp.specs.Visiting.{HasWay, IsGrounded, IsReady}
+use Rattle.pliron_sccp.specs.Visiting.{HasWay, IsGrounded, AreDetermined}
 use Rattle.pliron_sccp.specs.Looking.{LooksAt, LooksThrough, TakesValues, AreUsersOf}
 use Rattle.pliron_sccp.specs.Looking.LooksThrough.{Nothing, Then}
 use Rattle.pliron_sccp.specs.Starting.{IsStarted}
-use Rattle.pliron_sccp.specs.Searching.{Steps, IsOnTheWay}
+use Rattle.pliron_sccp.specs.Searching.{Steps, IsSearchOnTheWay}
 use Rattle.pliron_sccp.specs.Searching.Steps.{Block, Values}
 use Rattle.pliron_sccp.specs.Accounts.{NothingWaits}
 use Rattle.pliron_sccp.specs.Best.{is_visited, IsAbove, IsBest}
@@ -50,7 +50,7 @@ module _ (s : Solver) (b : ℕ) where
   visited_reached : IsTrue (is_visited s b) → IsTrue (reaches s b)
   visited_reached y = sym (ap (λ z. if z then false else reaches s b) (visited_rests y)) ∙ y
 
-module _ (s u : Solver) (falls : Falls s u) (b : ℕ) where
+module _ (s u : Solver) (falls : FactsFall s u) (b : ℕ) where
   visited_still : IsTrue (is_visited s b) → IsTrue (is_visited u b)
   visited_still y = make_visited u b (falls.below.reaches b (visited_reached s b y)) (by (waits_block u b) refl)
     where
@@ -83,7 +83,7 @@ wider_way t seen more wider b way = record {
 
 module _ (x : Says) (t : Tree) (root : ℕ) (w : IsTree t) (linked : IsWellLinked x.meaning t root) (answers : AnswersTrue x.meaning x.can_fold x.constants) (places : ForwardsItsOperands x) (owed : AreOwed x t root) where
   -- f and visited are those from before, and the blocks seen are those that are looked through after
-  module _ (f : Facts) (visited seen : ℕ → Bool) (inside : (b : ℕ) → IsTrue (f.reaches b) → HoldsBlock t root b) (grounded : IsGrounded t root f visited) (ready : IsReady t f visited) (more : (b : ℕ) → IsTrue (visited b) → IsTrue (seen b)) where
+  module _ (f : Facts) (visited seen : ℕ → Bool) (inside : (b : ℕ) → IsTrue (f.reaches b) → HoldsBlock t root b) (grounded : IsGrounded t root f visited) (ready : AreDetermined t f visited) (more : (b : ℕ) → IsTrue (visited b) → IsTrue (seen b)) where
     -- what is said of an operation before it is looked at
     record IsNext (k c : ℕ) (done rest : List ℕ) (s : Solver) : Type 0 where
       placed : parent_of t k ≡ Some c
@@ -197,7 +197,7 @@ module _ (x : Says) (t : Tree) (root : ℕ) (w : IsTree t) (linked : IsWellLinke
             let y = (a.only q i).0 in
             (y.block, y.in_block, make_visited s y.block (sym (k.reached y.block) ∙ y.reached) (sym (k.blocks y.block) ∙ y.taken))
 
-  pub step_best : (s s' : Solver) (taken : ℕ) → Steps x t s s' taken → IsOnTheWay x t root s → IsBest x t root s → IsBest x t root s'
+  pub step_best : (s s' : Solver) (taken : ℕ) → Steps x t s s' taken → IsSearchOnTheWay x t root s → IsBest x t root s → IsBest x t root s'
   step_best s s' taken (Block c u k d e) o best = block_best s best o.started.inside c u s' k (o.waits.blocks c k.waited).1 d
   step_best s s' taken (Values none v) o best = values_best s best o.started.inside v.values v.users v.between s' v.takes v.are_users v.looks
 

@@ -12,7 +12,7 @@ use Rattle.pliron_laws.specs.Root.{HasPassed, IsDominated}
 use Rattle.pliron_laws.specs.Paths.{Path}
 use Rattle.pliron_theory.proofs.Bound.{made_within}
 use Rattle.pliron_theory.specs.Facts.{Undetermined, Facts}
-use Rattle.pliron_sccp.specs.Visiting.{IsGrounded, IsReady}
+use Rattle.pliron_sccp.specs.Visiting.{IsGrounded, AreDetermined}
 
 split_at : (u : ℕ) (xs : List ℕ) → In u xs → (done rest : List ℕ) × (xs ≡ done ++ u ∷ rest)
 split_at u [] i = absurd i
@@ -25,7 +25,7 @@ in_front x u (d ∷ done) rest (inl e) = inl e
 in_front x u (d ∷ done) rest (inr i) = inr (in_front x u done rest i)
 
 -- `f` and `visited` are those from before the block of the operation was taken, `now` are the facts so far
-module _ (t : Tree) (root : ℕ) (w : IsTree t) (f now : Facts) (visited : ℕ → Bool) (grounded : IsGrounded t root f visited) (ready : IsReady t f visited) (falls : (v : ℕ) → f.fact v ≢ Undetermined → now.fact v ≢ Undetermined) where
+module _ (t : Tree) (root : ℕ) (w : IsTree t) (f now : Facts) (visited : ℕ → Bool) (grounded : IsGrounded t root f visited) (ready : AreDetermined t f visited) (falls : (v : ℕ) → f.fact v ≢ Undetermined → now.fact v ≢ Undetermined) where
   holder_up : (k c h : ℕ) → parent_of t k ≡ Some c → holder_of t k ≡ Some h → block_holder_of t c ≡ Some h
   holder_up k c h p e = sym (ap (λ o. up_from o (λ b. block_holder_of t b)) p) ∙ e
 

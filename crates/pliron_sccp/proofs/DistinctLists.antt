@@ -1,5 +1,5 @@
 -- The blocks inside an operation, and the values that these and the operations inside it list.
-pub use Rattle.pliron_sccp.specs.Inside.{values_of}
+pub use Rattle.pliron_sccp.specs.Inside.{block_values}
 use Rattle.std.proofs.Common.{◌≡◌, ◌⊎◌, ℕ, zero, suc, ◌<◌, List, ◌∷◌, length, Option, Some, None, is_some, refl, sym, ap, ◌∙◌, subst, inl, inr, arith}
 use Rattle.std.specs.List.{flat_map}
 use Rattle.pliron_core.specs.declared.context.Def.TheVariants.{Result, Argument}
@@ -11,11 +11,11 @@ use Rattle.pliron_core.specs.Joined.{IsTree}
 use Rattle.pliron_core.proofs.ListLemmas.{In-cases, distinct-join, distinct-length}
 use Rattle.pliron_core.proofs.FlatLemmas.{flat_map-In, flat_map-same, distinct-flat_map, slice_get-In, distinct-indices}
 use Rattle.pliron_core.proofs.WalkLemmas.{inside_from, not_inside-itself, children_apart, distinct-regions, contents-shorter, distinct-preorder, In-preorder, within_live, live_within}
-use Rattle.pliron_sccp.specs.Chain.{blocks_below, blocks_inside}
+use Rattle.pliron_sccp.specs.Chain.{blocks_to_depth, blocks_inside}
 
 -- a block, and the blocks n levels deep inside its operations
 abbrev pub from_block : Tree → ℕ → ℕ → List ℕ
-from_block t n b = b ∷ flat_map (λ k. blocks_below t n k) (body_of t b)
+from_block t n b = b ∷ flat_map (λ k. blocks_to_depth t n k) (body_of t b)
 
 -- these of each block of a region
 abbrev pub from_region : Tree → ℕ → ℕ → List ℕ
@@ -51,12 +51,12 @@ module _ (t : Tree) (w : IsTree t) where
   abbrev IsFrom : ℕ → ℕ → Type 0
   IsFrom b z = (z ≡ b) ⊎ ((k : ℕ) × In k (body_of t b) × IsHeldWithin t k z)
 
-  from_is : (n b z : ℕ) → ((k y : ℕ) → In y (blocks_below t n k) → IsHeldWithin t k y) → In z (from_block t n b) → IsFrom b z
+  from_is : (n b z : ℕ) → ((k y : ℕ) → In y (blocks_to_depth t n k) → IsHeldWithin t k y) → In z (from_block t n b) → IsFrom b z
   from_is n b z held (inl e) = inl e
-  from_is n b z held (inr i) = let r = flat_map-In (λ k. blocks_below t n k) (body_of t b) z i in inr (r.0, r.1, held r.0 z r.2)
+  from_is n b z held (inr i) = let r = flat_map-In (λ k. blocks_to_depth t n k) (body_of t b) z i in inr (r.0, r.1, held r.0 z r.2)
 
   -- a block inside x is held by x or by what is inside it
-  pub below_held : (n x z : ℕ) → In z (blocks_below t n x) → IsHeldWithin t x z
+  pub below_held : (n x z : ℕ) → In z (blocks_to_depth t n x) → IsHeldWithin t x z
   below_held zero x z i = absurd i
   below_held (suc n) x z i =
       let r = flat_map-In (λ r. from_region t n r) (regions_of t x) z i in
@@ -91,17 +91,17 @@ module _ (t : Tree) (w : IsTree t) where
       let same : p.0 ≡ q.0 = children_apart t w p.0 q.0 x p.2.0 (held_by b p.0 x e p.1) (held_by c q.0 x f q.1) p.2.2 (subst (IsWithin t q.0) (sym m) q.2.2) in
       some_is (sym (w.bodies.owned p.0 b p.1) ∙ ap (parent_of t) same ∙ w.bodies.owned q.0 c q.1)
 
-  distinct_from : (n x b : ℕ) → ((k : ℕ) → IsDistinct (blocks_below t n k)) → block_holder_of t b ≡ Some x → IsDistinct (from_block t n b)
+  distinct_from : (n x b : ℕ) → ((k : ℕ) → IsDistinct (blocks_to_depth t n k)) → block_holder_of t b ≡ Some x → IsDistinct (from_block t n b)
   distinct_from n x b each e = (
-    λ i. let r = flat_map-In (λ k. blocks_below t n k) (body_of t b) b i in let h = below_held n r.0 b r.2 in not_deeper x b b r.0 h.0 e e r.1 h.1 h.2,
-    distinct-flat_map (λ k. blocks_below t n k) (body_of t b) (w.bodies.distinct b) (λ k i. each k) (λ k l z i j p q.
+    λ i. let r = flat_map-In (λ k. blocks_to_depth t n k) (body_of t b) b i in let h = below_held n r.0 b r.2 in not_deeper x b b r.0 h.0 e e r.1 h.1 h.2,
+    distinct-flat_map (λ k. blocks_to_depth t n k) (body_of t b) (w.bodies.distinct b) (λ k i. each k) (λ k l z i j p q.
         let h = below_held n k z p in
         let g = below_held n l z q in
         children_apart t w k l x h.0 (held_by b k x e i) (held_by b l x e j) h.2 (subst (IsWithin t l) (some_is (sym g.1 ∙ h.1)) g.2)),
   )
 
   -- no block is listed twice
-  pub distinct-below : (n x : ℕ) → IsDistinct (blocks_below t n x)
+  pub distinct-below : (n x : ℕ) → IsDistinct (blocks_to_depth t n x)
   distinct-below zero x = tt
   distinct-below (suc n) x =
       distinct-flat_map (λ r. from_region t n r) (regions_of t x) (distinct-regions t w x) (λ r i.
@@ -131,7 +131,7 @@ module _ (t : Tree) (w : IsTree t) where
   abbrev IsMadeIn : ℕ → ℕ → Type 0
   IsMadeIn b v = ((i : ℕ) × (definition_of t v ≡ Some (Argument b i))) ⊎ ((k : ℕ) × In k (body_of t b) × ((i : ℕ) × (definition_of t v ≡ Some (Result k i))))
 
-  made_of : (b v : ℕ) → In v (values_of t b) → IsMadeIn b v
+  made_of : (b v : ℕ) → In v (block_values t b) → IsMadeIn b v
   made_of b v i = elim (In-cases v (arguments_of t b) (flat_map (λ k. results_of t k) (body_of t b)) i) [
     | inl a ↦ let s = slice_get-In v (arguments_of t b) a in inl (s.0, w.joined.arguments b s.0 v s.1)
     | inr r ↦ let k = flat_map-In (λ k. results_of t k) (body_of t b) v r in let s = slice_get-In v (results_of t k.0) k.2 in inr (k.0, k.1, (s.0, w.joined.results k.0 s.0 v s.1))
@@ -141,7 +141,7 @@ module _ (t : Tree) (w : IsTree t) where
   argument_result e = absurd (cc)
 
   -- no value is listed by two blocks
-  pub values_apart : (b c v : ℕ) → In v (values_of t b) → In v (values_of t c) → b ≡ c
+  pub values_apart : (b c v : ℕ) → In v (block_values t b) → In v (block_values t c) → b ≡ c
   values_apart b c v i j = go (made_of b v i) (made_of c v j)
     where
       go : IsMadeIn b v → IsMadeIn c v → b ≡ c
@@ -153,7 +153,7 @@ module _ (t : Tree) (w : IsTree t) where
           some_is (sym (w.bodies.owned p.0 b p.1) ∙ ap (parent_of t) same ∙ w.bodies.owned q.0 c q.1)
 
   -- no value is listed twice by a block
-  pub distinct_values : (b : ℕ) → IsDistinct (values_of t b)
+  pub distinct_values : (b : ℕ) → IsDistinct (block_values t b)
   distinct_values b =
       distinct-join (arguments_of t b) (flat_map (λ k. results_of t k) (body_of t b)) (distinct_arguments b) (distinct-flat_map (λ k. results_of t k) (body_of t b) (w.bodies.distinct b) (λ k i. distinct_results k) (λ k l v i j p q.
       let a = slice_get-In v (results_of t k) p in
@@ -165,17 +165,17 @@ module _ (t : Tree) (w : IsTree t) where
       argument_result (sym (w.joined.arguments b a.0 v a.1) ∙ w.joined.results k.0 r.0 v r.1))
 
   -- no value is listed twice by the blocks inside an operation
-  pub distinct-values : (root : ℕ) → IsDistinct (flat_map (λ b. values_of t b) (blocks_inside t root))
+  pub distinct-values : (root : ℕ) → IsDistinct (flat_map (λ b. block_values t b) (blocks_inside t root))
   distinct-values root =
-      distinct-flat_map (λ b. values_of t b) (blocks_inside t root) (distinct-blocks root) (λ b i. distinct_values b) (λ b c v i j p q. values_apart b c v p q)
+      distinct-flat_map (λ b. block_values t b) (blocks_inside t root) (distinct-blocks root) (λ b i. distinct_values b) (λ b c v i j p q. values_apart b c v p q)
 
   -- with as many levels as operations nothing is left out
-  below_more : (n x : ℕ) → length (contents t x) < n → blocks_below t (suc n) x ≡ blocks_below t n x
+  below_more : (n x : ℕ) → length (contents t x) < n → blocks_to_depth t (suc n) x ≡ blocks_to_depth t n x
   below_more zero x lt = absurd (omega (arith, lt))
   below_more (suc n) x lt =
       flat_map-same (λ r. from_region t (suc n) r) (λ r. from_region t n r) (regions_of t x) (λ r i.
       flat_map-same (λ b. from_block t (suc n) b) (λ b. from_block t n b) (layout_of t r) (λ b j.
-      ap (λ zs. b ∷ zs) (flat_map-same (λ k. blocks_below t (suc n) k) (λ k. blocks_below t n k) (body_of t b) (λ k q.
+      ap (λ zs. b ∷ zs) (flat_map-same (λ k. blocks_to_depth t (suc n) k) (λ k. blocks_to_depth t n k) (body_of t b) (λ k q.
       let less = contents-shorter t w k x (held_by b k x (held_directly x r b i j) q) in below_more n k (omega (arith, less, lt))))))
 
   -- each block of the operation is followed by those inside its operations, to any depth

@@ -7,7 +7,7 @@ use Rattle.pliron_core.proofs.HoldingLemmas.{some_is, not_none}
 use Rattle.pliron_laws.specs.Acting.{pick}
 use Rattle.pliron_laws.specs.Tree.{Operation, op_at, shape_of}
 use Rattle.pliron_laws.proofs.Records.{ShowsOperation, op_shows}
-use Rattle.pliron_theory.specs.Facts.{Facts, Says, handed, MayGo}
+use Rattle.pliron_theory.specs.Facts.{Facts, Says, handed, IsFeasibleEdge}
 use Rattle.pliron_sccp.specs.declared.applying.Demand.{Demand}
 use Rattle.pliron_sccp.specs.Demands.{MeetsAll, Adds, AreFeasible, MayLead, AsksEntries, AsksJumps, AsksForwarded, FollowsEdge, AsksBranches, AsksEdges, AsksResults}
 use Rattle.pliron_sccp.specs.Settling.{IsMet}
@@ -28,17 +28,17 @@ module _ (x : Says) (t : Tree) (f : Facts) (op : ℕ) (o : Operation) (e : op_at
   shows = op_shows t op o e
 
   module _ {S : Type 0} (known : List (Option AttrObj)) (same : known ≡ handed f o.operands) where
-    pub may : (blocks : Option (HashSet ℕ S)) → AreFeasible x.meaning x.can_fold_branch x.feasible t op known blocks → (i b : ℕ) → slice_get o.successors i ≡ Some b → MayLead blocks b true → MayGo x t f o i b
+    pub may : (blocks : Option (HashSet ℕ S)) → AreFeasible x.meaning x.can_fold_branch x.feasible t op known blocks → (i b : ℕ) → slice_get o.successors i ≡ Some b → MayLead blocks b true → IsFeasibleEdge x t f o i b
     may None are i b at led = (at, λ folds. absurd (true≢false (sym folds ∙ are o.head shows.head)))
     may (Some blocks) are i b at led = (at, λ folds. subst (λ ks. In b (x.feasible (shape_of x.meaning t o) o.successors ks)) same (((are o e).1 b).0 (sym led)))
 
-    pub may_not : (blocks : Option (HashSet ℕ S)) → AreFeasible x.meaning x.can_fold_branch x.feasible t op known blocks → (i b : ℕ) → MayLead blocks b false → MayGo x t f o i b → ⊥
+    pub may_not : (blocks : Option (HashSet ℕ S)) → AreFeasible x.meaning x.can_fold_branch x.feasible t op known blocks → (i b : ℕ) → MayLead blocks b false → IsFeasibleEdge x t f o i b → ⊥
     may_not None are i b led go = true≢false (sym led)
     may_not (Some blocks) are i b led go =
         let among : In b (x.feasible (shape_of x.meaning t o) o.successors known) = subst (λ ks. In b (x.feasible (shape_of x.meaning t o) o.successors ks)) (sym same) (go.1 (are o e).0) in
         true≢false (sym (led ∙ ((are o e).1 b).1 among))
 
-  pub edge_asked : (i b : ℕ) (values : List ℕ) (a c : List Demand) → MayGo x t f o i b → map Some values ≡ pick (x.meaning.forwarded (shape_of x.meaning t o) i) o.operands → Adds a c (AsksForwarded t f b values) → Adds a c (λ now. FollowsEdge x t f o now i b)
+  pub edge_asked : (i b : ℕ) (values : List ℕ) (a c : List Demand) → IsFeasibleEdge x t f o i b → map Some values ≡ pick (x.meaning.forwarded (shape_of x.meaning t o) i) o.operands → Adds a c (AsksForwarded t f b values) → Adds a c (λ now. FollowsEdge x t f o now i b)
   edge_asked i b values a c go same p =
       adds_as (AsksForwarded t f b values) (λ now. FollowsEdge x t f o now i b) a c p
       (λ now. (

@@ -12,7 +12,7 @@ use Rattle.pliron_core.proofs.ListLemmas.{In-left, In-right}
 use Rattle.pliron_core.proofs.FlatLemmas.{In-flat_map}
 use Rattle.pliron_core.proofs.HoldingLemmas.{some_is, in_slice, slot_is, region_parent_is, maker_is, block_held, held_block, holder_is, inside_up, block_inside}
 use Rattle.pliron_sccp.specs.Chain.{blocks_inside}
-use Rattle.pliron_sccp.specs.Inside.{values_of, values_inside}
+use Rattle.pliron_sccp.specs.Inside.{block_values, values_inside}
 use Rattle.pliron_sccp.proofs.DistinctLists.{inside_nested}
 
 module _ (t : Tree) (w : IsTree t) where
@@ -51,10 +51,10 @@ module _ (t : Tree) (w : IsTree t) where
   holds_listed x z (m, e, inr i) = listed_in x m z i (listed_from m z z e (inl refl))
 
   pub argument_listed : (x b v : ℕ) → In b (blocks_inside t x) → In v (arguments_of t b) → In v (values_inside t x)
-  argument_listed x b v i j = In-flat_map (λ b. values_of t b) (blocks_inside t x) b v i (In-left v (arguments_of t b) (flat_map (λ k. results_of t k) (body_of t b)) j)
+  argument_listed x b v i j = In-flat_map (λ b. block_values t b) (blocks_inside t x) b v i (In-left v (arguments_of t b) (flat_map (λ k. results_of t k) (body_of t b)) j)
 
   pub result_listed : (x b k v : ℕ) → In b (blocks_inside t x) → parent_of t k ≡ Some b → In v (results_of t k) → In v (values_inside t x)
-  result_listed x b k v i p j = In-flat_map (λ b. values_of t b) (blocks_inside t x) b v i (In-right v (arguments_of t b) (flat_map (λ k. results_of t k) (body_of t b)) (In-flat_map (λ k. results_of t k) (body_of t b) k v (w.bodies.listed k b p) j))
+  result_listed x b k v i p j = In-flat_map (λ b. block_values t b) (blocks_inside t x) b v i (In-right v (arguments_of t b) (flat_map (λ k. results_of t k) (body_of t b)) (In-flat_map (λ k. results_of t k) (body_of t b) k v (w.bodies.listed k b p) j))
 
   -- a value that is made inside the operation
   pub made_listed : (x v : ℕ) → IsMadeInside t x v → IsDefined t v → In v (values_inside t x)

@@ -13,7 +13,7 @@ use Rattle.pliron_laws.specs.Datum.{Head}
 use Rattle.pliron_laws.proofs.Records.{operation_of, make_op}
 use Rattle.pliron_theory.specs.Facts.{Facts, Says, handed}
 use Rattle.pliron_sccp.specs.declared.rewriting.Fold.{Fold}
-use Rattle.pliron_sccp.specs.Chain.{is_reached, has_head, both}
+use Rattle.pliron_sccp.specs.Chain.{is_reached, has_passing_head, both}
 use Rattle.pliron_sccp.specs.Listed.{is_folding, IsFold, IsFoldOf, Each, alone_if, AddsFold, AreFolds}
 use Rattle.pliron_theory.proofs.Listing.{IsListing, listing_start, listing_step, listing_smaller, listing_end}
 
@@ -48,17 +48,17 @@ both_true false b p q = p
 
 module _ (x : Says) (t : Tree) (f : Facts) (k : ℕ) where
   pub no_block : parent_of t k ≡ None → is_folding x.can_fold t f k ≡ false
-  no_block e = ap (λ o. both (has_head x.can_fold (head_of t k)) (is_reached f o)) e ∙ both_false (has_head x.can_fold (head_of t k))
+  no_block e = ap (λ o. both (has_passing_head x.can_fold (head_of t k)) (is_reached f o)) e ∙ both_false (has_passing_head x.can_fold (head_of t k))
 
   pub not_reached : (b : ℕ) → parent_of t k ≡ Some b → f.reaches b ≡ false → is_folding x.can_fold t f k ≡ false
-  not_reached b e no_one = ap (λ o. both (has_head x.can_fold (head_of t k)) (is_reached f o)) e ∙ ap (both (has_head x.can_fold (head_of t k))) no_one ∙ both_false (has_head x.can_fold (head_of t k))
+  not_reached b e no_one = ap (λ o. both (has_passing_head x.can_fold (head_of t k)) (is_reached f o)) e ∙ ap (both (has_passing_head x.can_fold (head_of t k))) no_one ∙ both_false (has_passing_head x.can_fold (head_of t k))
 
   pub not_foldable : (h : Head) → head_of t k ≡ Some h → x.can_fold h ≡ false → is_folding x.can_fold t f k ≡ false
-  not_foldable h e no_fold = ap (λ o. both (has_head x.can_fold o) (is_reached f (parent_of t k))) e ∙ ap (λ c. both c (is_reached f (parent_of t k))) no_fold
+  not_foldable h e no_fold = ap (λ o. both (has_passing_head x.can_fold o) (is_reached f (parent_of t k))) e ∙ ap (λ c. both c (is_reached f (parent_of t k))) no_fold
 
   pub fold_found : (h : Head) (b : ℕ) (fold : Fold) → head_of t k ≡ Some h → IsTrue (x.can_fold h) → parent_of t k ≡ Some b → IsTrue (f.reaches b) → fold.op ≡ k → fold.known.items ≡ handed f (operands_of t k) → IsFoldOf x t f k (Some fold)
   fold_found h b fold e folds p reached same known = (
-    both_true _ _ (ap (has_head x.can_fold) e ∙ folds) (ap (is_reached f) p ∙ reached),
+    both_true _ _ (ap (has_passing_head x.can_fold) e ∙ folds) (ap (is_reached f) p ∙ reached),
     same,
     subst (λ z. IsFold x t f (record { op = z; known = fold.known })) (sym same) (operation_of t k h, make_op t k h e, (b, p, reached), folds, known),
   )

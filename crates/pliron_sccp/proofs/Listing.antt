@@ -10,7 +10,7 @@ use Rattle.pliron_core.proofs.FlatLemmas.{flat_map-same}
 use Rattle.pliron_core.proofs.ListLemmas.{In-right}
 use Rattle.pliron_core.proofs.ArgumentLemmas.{take_more}
 use Rattle.pliron_sccp.specs.Chain.{blocks_inside}
-use Rattle.pliron_sccp.specs.Inside.{blocks_of}
+use Rattle.pliron_sccp.specs.Inside.{blocks_directly_in}
 use Rattle.pliron_sccp.proofs.DistinctLists.{inside_nested, inside_block}
 
 pub flat_alone : (xs : List ℕ) → flat_map (λ x. x ∷ []) xs ≡ xs
@@ -30,17 +30,17 @@ abbrev pub AreOwing : Tree → ℕ → List ℕ → List ℕ → Type 0
 AreOwing t root found stack = found ++ flat_map (λ b. from_here t b) (reverse stack) ≡ blocks_inside t root
 
 module _ (t : Tree) (w : IsTree t) where
-  pub inside_from_blocks : (x : ℕ) → IsLive t x → blocks_inside t x ≡ flat_map (λ b. from_here t b) (blocks_of t x)
+  pub inside_from_blocks : (x : ℕ) → IsLive t x → blocks_inside t x ≡ flat_map (λ b. from_here t b) (blocks_directly_in t x)
   inside_from_blocks x live = inside_nested t w x live ∙ sym (flat_flat (λ b. from_here t b) (λ r. layout_of t r) (regions_of t x))
 
-  body_from_blocks : (b : ℕ) → flat_map (λ k. blocks_inside t k) (body_of t b) ≡ flat_map (λ b. from_here t b) (flat_map (λ k. blocks_of t k) (body_of t b))
+  body_from_blocks : (b : ℕ) → flat_map (λ k. blocks_inside t k) (body_of t b) ≡ flat_map (λ b. from_here t b) (flat_map (λ k. blocks_directly_in t k) (body_of t b))
   body_from_blocks b =
-      flat_map-same (λ k. blocks_inside t k) (λ k. flat_map (λ b. from_here t b) (blocks_of t k)) (body_of t b) (λ k i. inside_from_blocks k (w.joined.standing k b (w.bodies.owned k b i)).0)
-      ∙ sym (flat_flat (λ b. from_here t b) (λ k. blocks_of t k) (body_of t b))
+      flat_map-same (λ k. blocks_inside t k) (λ k. flat_map (λ b. from_here t b) (blocks_directly_in t k)) (body_of t b) (λ k i. inside_from_blocks k (w.joined.standing k b (w.bodies.owned k b i)).0)
+      ∙ sym (flat_flat (λ b. from_here t b) (λ k. blocks_directly_in t k) (body_of t b))
 
-  pub owing_start : (root : ℕ) (stack : List ℕ) → IsLive t root → stack ≡ reverse (blocks_of t root) → AreOwing t root [] stack
+  pub owing_start : (root : ℕ) (stack : List ℕ) → IsLive t root → stack ≡ reverse (blocks_directly_in t root) → AreOwing t root [] stack
   owing_start root stack live e =
-      ap (λ xs. flat_map (λ b. from_here t b) (reverse xs)) e ∙ ap (flat_map (λ b. from_here t b)) (reverse-reverse (blocks_of t root)) ∙ sym (inside_from_blocks root live)
+      ap (λ xs. flat_map (λ b. from_here t b) (reverse xs)) e ∙ ap (flat_map (λ b. from_here t b)) (reverse-reverse (blocks_directly_in t root)) ∙ sym (inside_from_blocks root live)
 
   -- the block on top of the stack comes next
   owing_top : (root b : ℕ) (found stack rest : List ℕ) → stack ≡ rest ++ b ∷ [] → AreOwing t root found stack → found ++ (from_here t b ++ flat_map (λ b. from_here t b) (reverse rest)) ≡ blocks_inside t root
@@ -51,10 +51,10 @@ module _ (t : Tree) (w : IsTree t) where
   owing_inside root b found stack rest e o =
       inside_block t w root b (subst (In b) (owing_top root b found stack rest e o) (In-right b found (from_here t b ++ flat_map (λ b. from_here t b) (reverse rest)) (inl refl)))
 
-  pub owing_step : (root b : ℕ) (found more stack rest later : List ℕ) → stack ≡ rest ++ b ∷ [] → AreOwing t root found stack → more ≡ found ++ b ∷ [] → later ≡ rest ++ reverse (flat_map (λ k. blocks_of t k) (body_of t b)) → AreOwing t root more later
+  pub owing_step : (root b : ℕ) (found more stack rest later : List ℕ) → stack ≡ rest ++ b ∷ [] → AreOwing t root found stack → more ≡ found ++ b ∷ [] → later ≡ rest ++ reverse (flat_map (λ k. blocks_directly_in t k) (body_of t b)) → AreOwing t root more later
   owing_step root b found more stack rest later e o m l =
       let f : ℕ → List ℕ = λ b. from_here t b in
-      let inner : List ℕ = flat_map (λ k. blocks_of t k) (body_of t b) in
+      let inner : List ℕ = flat_map (λ k. blocks_directly_in t k) (body_of t b) in
       let turned : reverse later ≡ inner ++ reverse rest = ap reverse l ∙ reverse-append rest (reverse inner) ∙ ap (λ xs. xs ++ reverse rest) (reverse-reverse inner) in
       let owed : flat_map f (reverse later) ≡ flat_map (λ k. blocks_inside t k) (body_of t b) ++ flat_map f (reverse rest) =
       ap (flat_map f) turned ∙ flat_map-append f inner (reverse rest) ∙ ap (λ xs. xs ++ flat_map f (reverse rest)) (sym (body_from_blocks b)) in

@@ -16,14 +16,14 @@ use Rattle.pliron_theory.specs.Facts.{Facts, Says, AreClosed, AreHeld}
 use Rattle.pliron_sccp.specs.declared.tables.Solver.{Solver}
 use Rattle.pliron_sccp.specs.Tables.{fact_in, reaches, waits_block, waits_value, facts_of, TakesBlock}
 use Rattle.pliron_sccp.specs.Chain.{blocks_inside}
-use Rattle.pliron_sccp.specs.Inside.{values_of, values_inside}
+use Rattle.pliron_sccp.specs.Inside.{block_values, values_inside}
 use Rattle.pliron_sccp.specs.Demands.{AsksEntries}
-use Rattle.pliron_sccp.specs.Settling.{AreBelow, AreStarted}
+use Rattle.pliron_sccp.specs.Settling.{AreAtMost, AreStarted}
 use Rattle.pliron_sccp.specs.Looking.{LooksThrough, TakesValues, AreUsersOf}
 use Rattle.pliron_sccp.specs.Looking.LooksThrough.{Nothing, Then}
 use Rattle.pliron_sccp.specs.Starting.{IsStarted}
 use Rattle.pliron_sccp.specs.Searched.{IsSearched}
-use Rattle.pliron_sccp.specs.Searching.{Steps, IsOnTheWay, IsSearching}
+use Rattle.pliron_sccp.specs.Searching.{Steps, IsSearchOnTheWay, IsSearching}
 use Rattle.pliron_sccp.specs.Searching.Steps.{Block, Values}
 use Rattle.pliron_sccp.specs.Accounts.{IsAccounted, AreKnownThere, NothingWaits}
 use Rattle.pliron_sccp.proofs.DistinctLists.{below_held, distinct-blocks, distinct-values}
@@ -38,7 +38,7 @@ use Rattle.pliron_sccp.proofs.Accounting.{unsearched_accounted, unsearched_insid
 -- a value that a block inside the root lists is made inside it
 pub listed_inside : (t : Tree) (w : IsTree t) (root v : ℕ) → In v (values_inside t root) → IsMadeInside t root v
 listed_inside t w root v i =
-    let b = flat_map-In (λ b. values_of t b) (blocks_inside t root) v i in
+    let b = flat_map-In (λ b. block_values t b) (blocks_inside t root) v i in
     let h : HoldsBlock t root b.0 = below_held t w (length t.operations) root b.0 b.1 in
     ⊎_elim (λ j. argument b.0 h j) (λ j. result b.0 h j) (In-cases v (arguments_of t b.0) (flat_map (λ k. results_of t k) (body_of t b.0)) b.2)
   where
@@ -84,10 +84,10 @@ module _ (x : Says) (t : Tree) (root : ℕ) (w : IsTree t) (live : IsLive t root
             no_other : g.reaches b ≡ false
             no_other = ap not (eq-eqb b b refl)
 
-            below : AreBelow g (facts_of start.before)
+            below : AreAtMost g (facts_of start.before)
             below = record { reaches = λ z r. absurd (true≢false (sym r ∙ start.unsearched.reached z)); fact = λ v. inr (inl refl) }
 
-            least : AreBelow g (facts_of s)
+            least : AreAtMost g (facts_of s)
             least = start.applied.least g below ((start.asks g).1 (λ r z i e. (entry_apart t root b none r z i e, λ v j. refl)))
 
     start_laid : IsLaidOut t root s
@@ -111,10 +111,10 @@ module _ (x : Says) (t : Tree) (root : ℕ) (w : IsTree t) (live : IsLive t root
             unknown_but t w start.before s b v listed none unknown none_before
             (start.applied.least g (below_but t w start.before s b v listed none unknown none_before) ((start.asks g).1 (λ r z i e. let y = entered r z i e in (y.0, λ a j. argument_but t w start.before s b v listed none unknown none_before a z j y.0))))
           where
-            in_values : (b v : ℕ) → In b (blocks_inside t root) → In v (values_of t b) → In v (values_inside t root)
-            in_values b v i j = In-flat_map (λ b. values_of t b) (blocks_inside t root) b v i j
+            in_values : (b v : ℕ) → In b (blocks_inside t root) → In v (block_values t b) → In v (values_inside t root)
+            in_values b v i j = In-flat_map (λ b. block_values t b) (blocks_inside t root) b v i j
 
-    pub start_on_way : IsOnTheWay x t root s
+    pub start_on_way : IsSearchOnTheWay x t root s
     start_on_way = record {
       settled = λ k b o p r at. ⊎_elim (λ old. absurd (true≢false (sym old ∙ start.unsearched.reached b))) (λ waits. inl waits) (start.applied.falls.entered b r);
       started = start_laid.started;
@@ -151,11 +151,11 @@ module _ (x : Says) (t : Tree) (root : ℕ) (w : IsTree t) (live : IsLive t root
           there = look_known x t root w edges k p.0 s q a p.1 p.2 l.started l.there;
         })
 
-    laid_of : (s : Solver) → IsOnTheWay x t root s → IsLaidOut t root s
+    laid_of : (s : Solver) → IsSearchOnTheWay x t root s → IsLaidOut t root s
     laid_of s o = record { started = o.started; held = o.held; there = o.there }
 
     -- a block was taken and looked through
-    pub block_on_way : (c : ℕ) (s u s' : Solver) → TakesBlock c s u → LooksThrough x t (body_of t c) u s' → IsOnTheWay x t root s → IsOnTheWay x t root s'
+    pub block_on_way : (c : ℕ) (s u s' : Solver) → TakesBlock c s u → LooksThrough x t (body_of t c) u s' → IsSearchOnTheWay x t root s → IsSearchOnTheWay x t root s'
     block_on_way c s u s' k d o =
         let l = through_laid (body_of t c) u s' d (λ j i. (c, w.bodies.owned j c i, k.reached c ∙ (o.waits.blocks c k.waited).1)) (laid_same s u k.facts k.reached (laid_of s o)) in
         record {
@@ -167,7 +167,7 @@ module _ (x : Says) (t : Tree) (root : ℕ) (w : IsTree t) (live : IsLive t root
         }
 
     -- all values were taken and their users looked at
-    pub values_on_way : (values users : List ℕ) (s u s' : Solver) → TakesValues values s u → AreUsersOf t values users u → LooksThrough x t users u s' → IsOnTheWay x t root s → IsOnTheWay x t root s'
+    pub values_on_way : (values users : List ℕ) (s u s' : Solver) → TakesValues values s u → AreUsersOf t values users u → LooksThrough x t users u s' → IsSearchOnTheWay x t root s → IsSearchOnTheWay x t root s'
     values_on_way values users s u s' k a d o =
         let l = through_laid users u s' d (λ j i. let y = (a.only j i).0 in (y.block, y.in_block, y.reached)) (laid_same s u k.facts k.reached (laid_of s o)) in
         record {
@@ -178,11 +178,11 @@ module _ (x : Says) (t : Tree) (root : ℕ) (w : IsTree t) (live : IsLive t root
           waits = falls_inside t root u s' (values_kept_inside t root values s u o.waits k) (through_falls x t users u s' d) (reached_listed s' l.started);
         }
 
-    pub step_on_way : (s s' : Solver) (taken : ℕ) → Steps x t s s' taken → IsOnTheWay x t root s → IsOnTheWay x t root s'
+    pub step_on_way : (s s' : Solver) (taken : ℕ) → Steps x t s s' taken → IsSearchOnTheWay x t root s → IsSearchOnTheWay x t root s'
     step_on_way s s' taken (Block c u k d e) o = block_on_way c s u s' k d o
     step_on_way s s' taken (Values none v) o = values_on_way v.values v.users s v.between s' v.takes v.are_users v.looks o
 
-    pub step_accounted : (s s' : Solver) (pops taken : ℕ) → Steps x t s s' taken → IsOnTheWay x t root s → IsAccounted t root s pops → IsAccounted t root s' (pops + taken)
+    pub step_accounted : (s s' : Solver) (pops taken : ℕ) → Steps x t s s' taken → IsSearchOnTheWay x t root s → IsAccounted t root s pops → IsAccounted t root s' (pops + taken)
     step_accounted s s' pops taken (Block c u k d e) o a =
         subst (λ n. IsAccounted t root s' (pops + n)) (sym e)
         (falls_accounted t root u s' (pops + 1) (block_inside t root c s u o.waits k) (through_falls x t (body_of t c) u s' d) (block_accounted t root w c s u pops o.waits k a))
@@ -217,7 +217,7 @@ module _ (x : Says) (t : Tree) (root : ℕ) (w : IsTree t) (live : IsLive t root
             values = λ y. ap (λ z. waits_value z y) is ∙ v.takes.values y;
           }
 
-  pub closed_at_end : (s : Solver) → NothingWaits s → IsOnTheWay x t root s → AreClosed x t root (facts_of s)
+  pub closed_at_end : (s : Solver) → NothingWaits s → IsSearchOnTheWay x t root s → AreClosed x t root (facts_of s)
   closed_at_end s done o = closed_when_settled x t root (facts_of s) o.started
       (λ k b q p r at. ⊎_elim
       (λ y. absurd (true≢false (sym y ∙ done.blocks b)))

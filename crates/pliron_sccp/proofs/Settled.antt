@@ -7,8 +7,8 @@ use Rattle.pliron_laws.specs.Tree.{Operation, op_at, shape_of}
 use Rattle.pliron_laws.proofs.Records.{make_op}
 use Rattle.pliron_theory.proofs.Alike.{map_same}
 use Rattle.pliron_theory.proofs.KnownData.{picked_at}
-use Rattle.pliron_theory.specs.Facts.{Fact, Undetermined, NotAConstant, AtMost, known, answered, Facts, Says, handed, Stands, IsEntered, AreClosed}
-use Rattle.pliron_sccp.specs.Settling.{IsMet, AreBelow, AreSettledBut, AreStarted}
+use Rattle.pliron_theory.specs.Facts.{Fact, Undetermined, NotAConstant, AtMost, known, answered, Facts, Says, handed, IsInReachedBlock, IsEntered, AreClosed}
+use Rattle.pliron_sccp.specs.Settling.{IsMet, AreAtMost, AreSettledBut, AreStarted}
 use Rattle.pliron_theory.proofs.FactLattice.{at_most_trans}
 
 -- what isn't constant stays so
@@ -18,11 +18,11 @@ varies_still f g (inr (inl n)) e = n
 varies_still f g (inr (inr s)) e = s ∙ e
 
 module _ (x : Says) (t : Tree) where
-  pub entered_still : (f g : Facts) (b : ℕ) → AreBelow g f → IsEntered t f b → IsEntered t g b
+  pub entered_still : (f g : Facts) (b : ℕ) → AreAtMost g f → IsEntered t f b → IsEntered t g b
   entered_still f g b below (reached, varies) = (below.reaches b reached, λ v i. varies_still (f.fact v) (g.fact v) (below.fact v) (varies v i))
 
   -- facts that fall go on meeting what was asked
-  pub met_still : (f now later : Facts) (k : ℕ) (o : Operation) → AreBelow later now → IsMet x t f now k o → IsMet x t f later k o
+  pub met_still : (f now later : Facts) (k : ℕ) (o : Operation) → AreAtMost later now → IsMet x t f now k o → IsMet x t f later k o
   met_still f now later k o below m = record {
     entries = λ r b i e. entered_still now later b below (m.entries r b i e);
     branches = λ i b branch go.
@@ -64,10 +64,10 @@ module _ (x : Says) (t : Tree) where
     others = λ k v o stands at none i. (met k o stands at).others v none i;
   }
     where
-      met : (k : ℕ) (o : Operation) → Stands t f k → op_at t k ≡ Some o → IsMet x t f f k o
+      met : (k : ℕ) (o : Operation) → IsInReachedBlock t f k → op_at t k ≡ Some o → IsMet x t f f k o
       met k o (b, p, r) at = ⊎_elim (λ z. absurd z) (λ y. ⊎_elim (λ m. m) (λ z. ⊎_elim (λ q. absurd q.2) (λ q. absurd q) z) y) (settled k b o p r at)
 
-      entries : (k r b : ℕ) → (k ≡ root) ⊎ Stands t f k → In r (regions_of t k) → first_of (layout_of t r) None ≡ Some b → IsEntered t f b
+      entries : (k r b : ℕ) → (k ≡ root) ⊎ IsInReachedBlock t f k → In r (regions_of t k) → first_of (layout_of t r) None ≡ Some b → IsEntered t f b
       entries k r b (inl s) i e = started.entries r b (subst (λ z. In r (regions_of t z)) s i) e
       entries k r b (inr (d, p, q)) i e =
           let live = (w.joined.standing k d p).0 in

@@ -25,7 +25,7 @@ use Rattle.pliron_theory.proofs.SoundRuns.{PassesForwarded}
 use Rattle.pliron_laws.proofs.Records.{ShowsOperation, op_shows}
 use Rattle.pliron_theory.specs.Facts.{Facts, Says, known, handed, answers_of}
 use Rattle.pliron_theory.specs.Following.{StandsAsBefore, Follows}
-use Rattle.pliron_sccp.specs.Steps.{IsFoldStep, AreFoldSteps, IsFoldingOn, IsTold}
+use Rattle.pliron_sccp.specs.Steps.{IsFoldStep, AreFoldSteps, IsFoldingOn, TellsCreated}
 use Rattle.pliron_sccp.specs.declared.rewriting.Fold.{Fold}
 use Rattle.pliron_sccp.specs.Chain.{FoldsInTurn, FoldsPartly}
 use Rattle.pliron_sccp.specs.Chain.FoldsPartly.{Broken, After}
@@ -47,12 +47,12 @@ module _ (accepts : AttrObj → Bool) (head : AttrObj → Head) (k : ℕ) (resul
     some_stays (materialised t k v (head attr)) u done (length t.operations) (ap (λ z. is_some z.head) (put_row-new t k v (head attr))),
   )
 
-pub told_of : (t u : Tree) (status : IRStatus) → TellsChange (Some status) t u → IsSameTree t u ⊎ ((z : ℕ) × (head_of t z ≡ None) × IsLive u z) → IsTold status t u
+pub told_of : (t u : Tree) (status : IRStatus) → TellsChange (Some status) t u → IsSameTree t u ⊎ ((z : ℕ) × (head_of t z ≡ None) × IsLive u z) → TellsCreated status t u
 told_of t u Unchanged is some = is
 told_of t u Changed is (inl same) = absurd (is same)
 told_of t u Changed is (inr new) = new
 
-pub told_then : (t u v : Tree) (a b : IRStatus) → ((k : ℕ) → IsLive u k → IsLive v k) → IsTold a t u → IsTold b u v → IsTold (changed_by_either a b) t v
+pub told_then : (t u v : Tree) (a b : IRStatus) → ((k : ℕ) → IsLive u k → IsLive v k) → TellsCreated a t u → TellsCreated b u v → TellsCreated (changed_by_either a b) t v
 told_then t u v Unchanged Unchanged stays p q = same_trans t u v p q
 told_then t u v Unchanged Changed stays p (k, none, live) = (k, ap (λ z. z.head) (sym (p.operations k)) ∙ none, live)
 told_then t u v Changed Unchanged stays (k, none, live) q = (k, none, stays k live)
@@ -79,7 +79,7 @@ module _ (x : Says) (t₀ : Tree) (root : ℕ) (f₀ : Facts) (t : Tree) (op : �
       ap length (s.known_is ∙ sym now.handed_same) ∙ length_map (λ v. known (s.follows.facts.fact v)) now.operation.operands ∙ ap length (sym shows.operands)
 
   module _ (accepts : AttrObj → Bool) (head : AttrObj → Head) (outcome branch_outcome : Outcome) (law : FoldsInPlace x.meaning x.constants accepts head outcome branch_outcome) where
-    pub step_told : (u : Tree) (status : IRStatus) → outcome t u op ks (Some status) → IsTold status t u
+    pub step_told : (u : Tree) (status : IRStatus) → outcome t u op ks (Some status) → TellsCreated status t u
     step_told u status is =
         let p = law.constant t u op ks (Some status) now.operation now.stands is in
         told_of t u status p.1 (some_told accepts head op now.operation.results (x.constants (shape_of x.meaning t now.operation) ks) t u p.0)
@@ -117,7 +117,7 @@ module _ (x : Says) (outcome : Outcome) (start : Tree) (folds : List Fold) where
       let e = s.each i fold at in
       record { first = s.first; follows = g.follows t₀ root f₀ s; operation = e.0; at = e.1; stands = e.2; folds = e.3; known_is = e.4 }
 
-  pub folding_next : (i : ℕ) (status : IRStatus) (here : Tree) → IsFoldingOn x outcome start folds i status here → (fold : Fold) → slice_get folds i ≡ Some fold → (next : Tree) (one : IRStatus) → outcome here next fold.op fold.known.items (Some one) → IsTold one here next → ((k : ℕ) → IsLive here k → IsLive next k) → ((t₀ : Tree) (root : ℕ) (f₀ : Facts) → IsFoldStep x t₀ root f₀ here fold.op fold.known.items → Follows x t₀ root f₀ next) → IsFoldingOn x outcome start folds (i + 1) (changed_by_either status one) next
+  pub folding_next : (i : ℕ) (status : IRStatus) (here : Tree) → IsFoldingOn x outcome start folds i status here → (fold : Fold) → slice_get folds i ≡ Some fold → (next : Tree) (one : IRStatus) → outcome here next fold.op fold.known.items (Some one) → TellsCreated one here next → ((k : ℕ) → IsLive here k → IsLive next k) → ((t₀ : Tree) (root : ℕ) (f₀ : Facts) → IsFoldStep x t₀ root f₀ here fold.op fold.known.items → Follows x t₀ root f₀ next) → IsFoldingOn x outcome start folds (i + 1) (changed_by_either status one) next
   folding_next i status here g fold at next one is told stays follows = record {
     follows = λ t₀ root f₀ s. follows t₀ root f₀ (folding_can i status here g fold at t₀ root f₀ s);
     partly = λ t₀ root f₀ s u z.

@@ -12,12 +12,12 @@ use Rattle.pliron_core.proofs.HoldingLemmas.{in_slice, some_is, not_none, inside
 use Rattle.pliron_laws.specs.Linked.{EdgesLast}
 use Rattle.pliron_laws.specs.Tree.{Operation, op_at}
 use Rattle.pliron_laws.proofs.Records.{make_op, op_shows}
-use Rattle.pliron_theory.specs.Facts.{Fact, Undetermined, NotAConstant, Facts, Says, Stands, AreHeld}
+use Rattle.pliron_theory.specs.Facts.{Fact, Undetermined, NotAConstant, Facts, Says, IsInReachedBlock, AreHeld}
 use Rattle.pliron_sccp.specs.declared.tables.Solver.{Solver}
 use Rattle.pliron_sccp.specs.Tables.{fact_in, reaches, waits_block, waits_value, facts_of, TakesBlock}
-use Rattle.pliron_sccp.specs.Inside.{values_of}
-use Rattle.pliron_sccp.specs.Settling.{IsMet, AreBelow, AreSettledBut, AreStarted}
-use Rattle.pliron_sccp.specs.Falling.{Falls}
+use Rattle.pliron_sccp.specs.Inside.{block_values}
+use Rattle.pliron_sccp.specs.Settling.{IsMet, AreAtMost, AreSettledBut, AreStarted}
+use Rattle.pliron_sccp.specs.Falling.{FactsFall}
 use Rattle.pliron_sccp.specs.Looking.{LooksAt, LooksThrough, TakesValues, AreUsersOf}
 use Rattle.pliron_sccp.specs.Looking.LooksThrough.{Nothing, Then}
 use Rattle.pliron_sccp.specs.Accounts.{AreKnownThere}
@@ -27,14 +27,14 @@ use Rattle.pliron_sccp.proofs.Applied.{falls_refl, falls_trans}
 
 -- two tables say the same of facts
 module _ (s u : Solver) (facts : (v : ℕ) → fact_in u v ≡ fact_in s v) (reached : (b : ℕ) → reaches u b ≡ reaches s b) where
-  pub below_same : AreBelow (facts_of u) (facts_of s)
+  pub below_same : AreAtMost (facts_of u) (facts_of s)
   below_same = record { reaches = λ b r. reached b ∙ r; fact = λ v. inr (inr (facts v)) }
 
   pub met_there : (x : Says) (t : Tree) (k : ℕ) (o : Operation) → IsMet x t (facts_of s) (facts_of s) k o → IsMet x t (facts_of u) (facts_of u) k o
   met_there x t k o m = met_same x t (facts_of s) (facts_of u) (facts_of u) k o (λ v i. facts v) (met_still x t (facts_of s) (facts_of s) (facts_of u) k o below_same m)
 
 -- facts of these are as before, or one of them waits
-pub same_or_waits : (s u : Solver) → Falls s u → (vs : List ℕ) → ((v : ℕ) → In v vs → fact_in u v ≡ fact_in s v) ⊎ ((v : ℕ) × In v vs × (waits_value u v ≡ true))
+pub same_or_waits : (s u : Solver) → FactsFall s u → (vs : List ℕ) → ((v : ℕ) → In v vs → fact_in u v ≡ fact_in s v) ⊎ ((v : ℕ) × In v vs × (waits_value u v ≡ true))
 same_or_waits s u f [] = inl (λ v i. absurd i)
 same_or_waits s u f (x ∷ vs) = ⊎_elim
     (λ e. ⊎_elim
@@ -84,30 +84,30 @@ entry_held t w k b i =
 
 -- facts by which the same blocks are reached, nothing is known of one value, and all others are not constant: where
 -- that value is listed by a block that is not reached
-module _ (t : Tree) (w : IsTree t) (s u : Solver) (b v : ℕ) (listed : In v (values_of t b)) (none : reaches u b ≡ false) (unknown : fact_in s v ≡ Undetermined) (still : (z : ℕ) → reaches s z ≡ true → reaches u z ≡ true) where
+module _ (t : Tree) (w : IsTree t) (s u : Solver) (b v : ℕ) (listed : In v (block_values t b)) (none : reaches u b ≡ false) (unknown : fact_in s v ≡ Undetermined) (still : (z : ℕ) → reaches s z ≡ true → reaches u z ≡ true) where
   abbrev pub all_but_one : Facts
   all_but_one = record { reaches = λ z. reaches u z; fact = λ z. if nat_eq v z then Undetermined else NotAConstant }
 
-  pub varies_but : (z d : ℕ) → In z (values_of t d) → reaches u d ≡ true → all_but_one.fact z ≡ NotAConstant
+  pub varies_but : (z d : ℕ) → In z (block_values t d) → reaches u d ≡ true → all_but_one.fact z ≡ NotAConstant
   varies_but z d i r = by (nat_eq v z) refl
     where
       by : (q : Bool) → nat_eq v z ≡ q → (if nat_eq v z then Undetermined else NotAConstant) ≡ NotAConstant
       by true e =
-          let same : b ≡ d = values_apart t w b d v listed (subst (λ y. In y (values_of t d)) (sym (eqb-true v z e)) i) in
+          let same : b ≡ d = values_apart t w b d v listed (subst (λ y. In y (block_values t d)) (sym (eqb-true v z e)) i) in
           absurd (true≢false (sym r ∙ ap (reaches u) (sym same) ∙ none))
       by false e = ap (λ q. if q then Undetermined else NotAConstant) e
 
   pub argument_but : (z d : ℕ) → In z (arguments_of t d) → reaches u d ≡ true → all_but_one.fact z ≡ NotAConstant
   argument_but z d i r = varies_but z d (In-left z (arguments_of t d) (flat_map (λ j. results_of t j) (body_of t d)) i) r
 
-  pub below_but : AreBelow all_but_one (facts_of s)
+  pub below_but : AreAtMost all_but_one (facts_of s)
   below_but = record { reaches = λ z r. still z r; fact = λ z. by z (nat_eq v z) refl }
     where
       by : (z : ℕ) (q : Bool) → nat_eq v z ≡ q → (fact_in s z ≡ Undetermined) ⊎ (all_but_one.fact z ≡ NotAConstant) ⊎ (all_but_one.fact z ≡ fact_in s z)
       by z true e = inl (ap (fact_in s) (sym (eqb-true v z e)) ∙ unknown)
       by z false e = inr (inl (ap (λ q. if q then Undetermined else NotAConstant) e))
 
-  pub unknown_but : AreBelow all_but_one (facts_of u) → fact_in u v ≡ Undetermined
+  pub unknown_but : AreAtMost all_but_one (facts_of u) → fact_in u v ≡ Undetermined
   unknown_but below = lowest (fact_in u v) (below.fact v)
     where
       own : all_but_one.fact v ≡ Undetermined
@@ -133,13 +133,13 @@ module _ (x : Says) (t : Tree) where
   IsSettled s todo = AreSettledBut x t (facts_of s) (λ b. waits_block s b ≡ true) (λ v. waits_value s v ≡ true) todo
 
   -- it is met by the facts now, or an operand fell
-  met_or_waits : (s u : Solver) (k : ℕ) (o : Operation) → Falls s u → IsMet x t (facts_of s) (facts_of u) k o → IsMet x t (facts_of u) (facts_of u) k o ⊎ ((v : ℕ) × In v o.operands × (waits_value u v ≡ true))
+  met_or_waits : (s u : Solver) (k : ℕ) (o : Operation) → FactsFall s u → IsMet x t (facts_of s) (facts_of u) k o → IsMet x t (facts_of u) (facts_of u) k o ⊎ ((v : ℕ) × In v o.operands × (waits_value u v ≡ true))
   met_or_waits s u k o f m = ⊎_elim (λ same. inl (met_same x t (facts_of s) (facts_of u) (facts_of u) k o same m)) (λ w. inr w) (same_or_waits s u f o.operands)
 
   look_settles : (k : ℕ) (ks : List ℕ) (s u : Solver) → LooksAt x t k s u → IsSettled s (λ j. In j (k ∷ ks)) → IsSettled u (λ j. In j ks)
   look_settles k ks s u l settled j b o p r at = ⊎_elim (λ old. before (settled j b o p old at)) (λ new. inl new) (f.entered b r)
     where
-      f : Falls s u
+      f : FactsFall s u
       f = l.applied.falls
 
       after_it : IsMet x t (facts_of s) (facts_of u) j o → (waits_block u b ≡ true) ⊎ IsMet x t (facts_of u) (facts_of u) j o ⊎ ((v : ℕ) × In v o.operands × (waits_value u v ≡ true)) ⊎ In j ks
@@ -159,7 +159,7 @@ module _ (x : Says) (t : Tree) where
   through_settles [] s u Nothing settled = settled
   through_settles (k ∷ ks) s u (Then _ q l d) settled = through_settles ks q u d (look_settles k ks s q l settled)
 
-  pub through_falls : (ks : List ℕ) (s u : Solver) → LooksThrough x t ks s u → Falls s u
+  pub through_falls : (ks : List ℕ) (s u : Solver) → LooksThrough x t ks s u → FactsFall s u
   through_falls [] s u Nothing = falls_refl s
   through_falls (k ∷ ks) s u (Then _ q l d) = falls_trans s q u l.applied.falls (through_falls ks q u d)
 
@@ -200,7 +200,7 @@ module _ (x : Says) (t : Tree) where
         g : Facts
         g = others_reached b
 
-        below : AreBelow g (facts_of s)
+        below : AreAtMost g (facts_of s)
         below = record { reaches = λ z r. another b z (λ e. true≢false (sym r ∙ ap (reaches s) (sym e) ∙ old)); fact = λ v. inr (inl refl) }
 
         successor : (i z : ℕ) → slice_get o.successors i ≡ Some z → not (nat_eq b z) ≡ true
@@ -215,7 +215,7 @@ module _ (x : Says) (t : Tree) where
           others = λ v none i. refl;
         }
 
-        least : AreBelow g (facts_of u)
+        least : AreAtMost g (facts_of u)
         least = l.applied.least g below ((l.asks o at g).1 met)
 
     pub came_from : (b : ℕ) → reaches u b ≡ true → (reaches s b ≡ true) ⊎ In b (entries_of t k) ⊎ In b (successors_of t k)
@@ -258,14 +258,14 @@ module _ (x : Says) (t : Tree) (root : ℕ) (w : IsTree t) (edges : EdgesLast t 
       entries = λ r b i e. entered_still x t (facts_of s) (facts_of u) b l.applied.falls.below (started.entries r b i e);
     }
 
-    stands_still : (j : ℕ) → Stands t (facts_of s) j → Stands t (facts_of u) j
+    stands_still : (j : ℕ) → IsInReachedBlock t (facts_of s) j → IsInReachedBlock t (facts_of u) j
     stands_still j y = (y.0, y.1, still y.0 y.2)
 
     pub look_holds : AreHeld t root (facts_of s) → AreHeld t root (facts_of u)
     look_holds held b j r e = ⊎_elim
         (λ old. ⊎_elim (λ h. inl h) (λ y. inr (stands_still j y)) (held b j old e))
         (λ y. ⊎_elim
-        (λ h. inr (subst (Stands t (facts_of u)) (some_is (sym h ∙ e)) (c, placed, still c here)))
+        (λ h. inr (subst (IsInReachedBlock t (facts_of u)) (some_is (sym h ∙ e)) (c, placed, still c here)))
         (λ h. ⊎_elim (λ q. inl q) (λ z. inr (stands_still j z)) (held c j here (sym h ∙ e)))
         y)
         (held_near b r)

@@ -10,7 +10,7 @@ use Rattle.std.specs.HashMap.{get}
 use Rattle.pliron_sccp.specs.declared.tables.Fact.TheVariants.{Undetermined as Unknown}
 use Rattle.pliron_sccp.specs.Tables.{meant_or, reaches, waits_block, waits_value, IsEmptySolver}
 use Rattle.pliron_sccp.specs.Chain.{blocks_inside}
-use Rattle.pliron_sccp.specs.Inside.{values_of}
+use Rattle.pliron_sccp.specs.Inside.{block_values}
 use Rattle.pliron_sccp.specs.Accounts.{IsUnsearched}
 use Rattle.pliron_sccp.specs.Starting.{Tracks}
 
@@ -36,11 +36,11 @@ tracks_step f x s u p rest s' q = tracks_join (f x) (flat_map f rest) s u s' p q
 pub one_step : (x : ℕ) (s u : Solver) → Tracks (x ∷ []) s u → (rest : List ℕ) (s' : Solver) → Tracks rest u s' → Tracks (x ∷ rest) s s'
 one_step x s u p rest s' q = tracks_join (x ∷ []) rest s u s' p q
 
-pub unsearched_when : (t : Tree) (root : ℕ) (blocks : List ℕ) (s s' : Solver) → blocks ≡ blocks_inside t root → IsEmptySolver s → Tracks (flat_map (λ b. values_of t b) blocks) s s' → IsUnsearched t root s'
+pub unsearched_when : (t : Tree) (root : ℕ) (blocks : List ℕ) (s s' : Solver) → blocks ≡ blocks_inside t root → IsEmptySolver s → Tracks (flat_map (λ b. block_values t b) blocks) s s' → IsUnsearched t root s'
 unsearched_when t root blocks s s' e empty k = record {
   reached = λ b. k.reached b ∙ empty.reached b;
-  inside = λ v i. k.tracked v (subst (λ xs. In v (flat_map (λ b. values_of t b) xs)) (sym e) i);
-  outside = λ v n. k.others v (λ i. n (subst (λ xs. In v (flat_map (λ b. values_of t b) xs)) e i)) ∙ empty.facts v;
+  inside = λ v i. k.tracked v (subst (λ xs. In v (flat_map (λ b. block_values t b) xs)) (sym e) i);
+  outside = λ v n. k.others v (λ i. n (subst (λ xs. In v (flat_map (λ b. block_values t b) xs)) e i)) ∙ empty.facts v;
   blocks = λ b. k.blocks b ∙ empty.blocks b;
   values = λ v. k.waiting v ∙ empty.values v;
 }

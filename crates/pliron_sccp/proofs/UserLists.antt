@@ -11,7 +11,7 @@ use Rattle.pliron_core.specs.Joined.{IsTree, HaveUses}
 use Rattle.pliron_core.proofs.ListLemmas.{In-left, In-right, In-cases, distinct-join}
 use Rattle.pliron_core.proofs.HoldingLemmas.{some_is, in_slice, slice_in}
 use Rattle.pliron_sccp.specs.declared.tables.Solver.{Solver}
-use Rattle.pliron_sccp.specs.Looking.{TakesValues, IsVisited, IsUserOf, AddsEach, AreUsersOf}
+use Rattle.pliron_sccp.specs.Looking.{TakesValues, IsLookedAt, IsUserOf, AddsEach, AreUsersOf}
 use Rattle.pliron_sccp.specs.Tables.{fact_in, reaches, waits_block, waits_value}
 
 -- a set's test, in the words of lists
@@ -90,15 +90,15 @@ key_added {eq} same_eq xs ys x first = by (list_any (nat_eq x) xs) refl
           members = λ k. (λ i. at_end k (subst (In k) grown i), λ s. subst (In k) (sym grown) (⊎_elim (λ i. In-left k xs (x ∷ []) i) (λ h. In-right k xs (x ∷ []) (inl (sym h))) s));
         }
 
-pub user_added : {eq : ℕ → ℕ → Bool} → ((x y : ℕ) → eq x y ≡ nat_eq x y) → (t : Tree) (s : Solver) (xs ys : List ℕ) (x : ℕ) → ys ≡ insert_key eq xs x → IsVisited t s x → AddsEach xs ys (λ k. (x ≡ k) × IsVisited t s k)
-user_added same t s xs ys x e seen = adds_as xs ys (λ k. x ≡ k) (λ k. (x ≡ k) × IsVisited t s k) (key_added same xs ys x e) (λ k. (λ h. (h, subst (IsVisited t s) h seen), λ p. p.0))
+pub user_added : {eq : ℕ → ℕ → Bool} → ((x y : ℕ) → eq x y ≡ nat_eq x y) → (t : Tree) (s : Solver) (xs ys : List ℕ) (x : ℕ) → ys ≡ insert_key eq xs x → IsLookedAt t s x → AddsEach xs ys (λ k. (x ≡ k) × IsLookedAt t s k)
+user_added same t s xs ys x e seen = adds_as xs ys (λ k. x ≡ k) (λ k. (x ≡ k) × IsLookedAt t s k) (key_added same xs ys x e) (λ k. (λ h. (h, subst (IsLookedAt t s) h seen), λ p. p.0))
 
-pub user_passed : (t : Tree) (s : Solver) (xs : List ℕ) (x : ℕ) → (IsVisited t s x → ⊥) → AddsEach xs xs (λ k. (x ≡ k) × IsVisited t s k)
-user_passed t s xs x none = adds_none xs (λ k. (x ≡ k) × IsVisited t s k) (λ k p. none (subst (IsVisited t s) (sym p.0) p.1))
+pub user_passed : (t : Tree) (s : Solver) (xs : List ℕ) (x : ℕ) → (IsLookedAt t s x → ⊥) → AddsEach xs xs (λ k. (x ≡ k) × IsLookedAt t s k)
+user_passed t s xs x none = adds_none xs (λ k. (x ≡ k) × IsLookedAt t s k) (λ k p. none (subst (IsLookedAt t s) (sym p.0) p.1))
 
 -- the uses before index i
 abbrev pub IsUserBefore : Tree → Solver → List Use → ℕ → ℕ → Type 0
-IsUserBefore t s uses i k = ((j place : ℕ) × (j < i) × (slice_get uses j ≡ Some (record { user = k; place = place }))) × IsVisited t s k
+IsUserBefore t s uses i k = ((j place : ℕ) × (j < i) × (slice_get uses j ≡ Some (record { user = k; place = place }))) × IsLookedAt t s k
 
 use_is : {u k p q : ℕ} → ◌≡◌ {A = Option Use} (Some (record { user = u; place = p })) (Some (record { user = k; place = q })) → u ≡ k
 use_is e = ap (λ x. x.user) (some_is e)
@@ -112,8 +112,8 @@ below_or (suc j) (suc i) l = ⊎_elim (λ a. inl (omega (arith, a))) (λ b. inr 
 pub uses_start : (t : Tree) (s : Solver) (uses : List Use) (xs : List ℕ) → AddsEach xs xs (IsUserBefore t s uses 0)
 uses_start t s uses xs = adds_none xs (IsUserBefore t s uses 0) (λ k p. let l = p.0.2 in absurd (omega (arith, l)))
 
-pub uses_next : (t : Tree) (s : Solver) (uses : List Use) (i u p : ℕ) (xs ys zs : List ℕ) → slice_get uses i ≡ Some (record { user = u; place = p }) → AddsEach xs ys (IsUserBefore t s uses i) → AddsEach ys zs (λ k. (u ≡ k) × IsVisited t s k) → AddsEach xs zs (IsUserBefore t s uses (i + 1))
-uses_next t s uses i u p xs ys zs at before more = adds_more xs ys zs (IsUserBefore t s uses i) (λ k. (u ≡ k) × IsVisited t s k) (IsUserBefore t s uses (i + 1)) before more
+pub uses_next : (t : Tree) (s : Solver) (uses : List Use) (i u p : ℕ) (xs ys zs : List ℕ) → slice_get uses i ≡ Some (record { user = u; place = p }) → AddsEach xs ys (IsUserBefore t s uses i) → AddsEach ys zs (λ k. (u ≡ k) × IsLookedAt t s k) → AddsEach xs zs (IsUserBefore t s uses (i + 1))
+uses_next t s uses i u p xs ys zs at before more = adds_more xs ys zs (IsUserBefore t s uses i) (λ k. (u ≡ k) × IsLookedAt t s k) (IsUserBefore t s uses (i + 1)) before more
     (λ k. (
       λ h. ⊎_elim (λ b. let l = b.0.2 in ((b.0.0, b.0.1, omega (arith, l), b.0.3), b.1)) (λ q. ((i, p, omega arith, at ∙ ap (λ z. Some (record { user = z; place = p })) q.0), q.1)) h,
       λ b. ⊎_elim (λ l. inl ((b.0.0, b.0.1, l, b.0.3), b.1)) (λ e. inr (use_is (sym at ∙ ap (slice_get uses) (sym e) ∙ b.0.3), b.1)) (below_or b.0.0 i b.0.2),

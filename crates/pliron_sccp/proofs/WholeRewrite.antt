@@ -13,11 +13,11 @@ use Rattle.pliron_sccp.specs.declared.rewriting.ConstantArgument.{ConstantArgume
 use Rattle.pliron_sccp.specs.declared.rewriting.Found.{Found}
 use Rattle.pliron_theory.specs.Facts.{Facts, Says}
 use Rattle.pliron_theory.specs.Following.{Follows}
-use Rattle.pliron_sccp.specs.Steps.{AreFoldSteps, AreArgumentSteps, IsFound, IsTold, StandForEach}
+use Rattle.pliron_sccp.specs.Steps.{AreFoldSteps, AreArgumentSteps, IsFound, TellsCreated, StandForEach}
 use Rattle.pliron_sccp.specs.Chain.{FoldsInTurn, FoldsPartly, KnownArgument, folding, known_arguments, all_put, IsPartlyPut, IsRewritten, IsPartlyRewritten}
 use Rattle.pliron_theory.proofs.FollowedFacts.{started}
 
-pub told_change : (t u : Tree) (status : IRStatus) → IsTold status t u → TellsChange (Some status) t u
+pub told_change : (t u : Tree) (status : IRStatus) → TellsCreated status t u → TellsChange (Some status) t u
 told_change t u Unchanged same = same
 told_change t u Changed (k, none, live) = λ same. live_dead u k live (ap (λ z. z.head) (same.operations k) ∙ none)
 

@@ -5,7 +5,7 @@ use Rattle.pliron_theory.specs.Facts.{Undetermined, NotAConstant}
 use Rattle.pliron_sccp.specs.declared.tables.Solver.{Solver}
 use Rattle.pliron_sccp.specs.Tables.{fact_in, reaches, waits_block, waits_value}
 use Rattle.pliron_sccp.specs.Chain.{blocks_inside, is_constant, varies}
-use Rattle.pliron_sccp.specs.Inside.{values_of, values_inside}
+use Rattle.pliron_sccp.specs.Inside.{block_values, values_inside}
 
 -- how many of these are so
 abbrev pub count : (ℕ → Bool) → List ℕ → ℕ
@@ -48,7 +48,7 @@ pub record IsUnsearched (t : Tree) (root : ℕ) (s : Solver) : Type 0 where
 
 -- what is known of a value that is made inside the root is known of one that is made in a block that is reached
 abbrev pub AreKnownThere : Tree → ℕ → Solver → Type 0
-AreKnownThere t root s = (b v : ℕ) → In b (blocks_inside t root) → In v (values_of t b) → reaches s b ≡ false → fact_in s v ≡ Undetermined
+AreKnownThere t root s = (b v : ℕ) → In b (blocks_inside t root) → In v (block_values t b) → reaches s b ≡ false → fact_in s v ≡ Undetermined
 
 -- nothing waits
 pub record NothingWaits (s : Solver) : Type 0 where

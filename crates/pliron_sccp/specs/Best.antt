@@ -5,7 +5,7 @@ use Rattle.pliron_theory.specs.Facts.{AtMost, Facts, Says, AreClosed}
 use Rattle.pliron_sccp.specs.declared.tables.Solver.{Solver}
 use Rattle.pliron_sccp.specs.Tables.{reaches, waits_block, facts_of}
 use Rattle.pliron_sccp.specs.Inside.{values_inside}
-use Rattle.pliron_sccp.specs.Visiting.{IsGrounded, IsReady}
+use Rattle.pliron_sccp.specs.Visiting.{IsGrounded, AreDetermined}
 
 -- the block was looked through: it is reached and does not wait
 abbrev pub is_visited : Solver → ℕ → Bool
@@ -20,5 +20,5 @@ pub record IsAbove (t : Tree) (root : ℕ) (f g : Facts) : Type 0 where
 -- stand above every closed set of facts
 pub record IsBest (x : Says) (t : Tree) (root : ℕ) (s : Solver) : Type 0 where
   pub grounded : IsGrounded t root (facts_of s) (is_visited s)
-  pub ready : IsReady t (facts_of s) (is_visited s)
+  pub ready : AreDetermined t (facts_of s) (is_visited s)
   pub above : (g : Facts) → AreClosed x t root g → IsAbove t root (facts_of s) g

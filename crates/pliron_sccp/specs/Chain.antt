@@ -1,4 +1,6 @@
 -- The chain of rewrites from the tree before to the tree after, by facts on the first.
+pub use Rattle.pliron_theory.specs.Sound.{both}
+pub use Rattle.pliron_laws.specs.Answers.{has_passing_head}
 use Rattle.std.specs.Prelude.{◌≡◌, zero, suc, ℕ, Bool, true, false, if◌then◌else◌, List, [], ◌∷◌, ◌++◌, Option, Some, None, ◌⊎◌, take, filter, length}
 use Rattle.std.specs.List.{flat_map}
 use Rattle.pliron_core.specs.declared.attrs.AttrObj.{AttrObj}
@@ -12,29 +14,21 @@ use Rattle.pliron_theory.specs.Rewrites.{materialised_first}
 use Rattle.pliron_theory.specs.Facts.{Fact, Undetermined, Constant, NotAConstant, Facts, handed}
 
 -- the blocks inside an operation, at most n levels deep, in pre-order: each is followed by those inside its operations
-abbrev pub blocks_below : Tree → ℕ → ℕ → List ℕ
-blocks_below t zero x = []
-blocks_below t (suc n) x = flat_map (λ r. flat_map (λ b. b ∷ flat_map (λ k. blocks_below t n k) (body_of t b)) (layout_of t r)) (regions_of t x)
+abbrev pub blocks_to_depth : Tree → ℕ → ℕ → List ℕ
+blocks_to_depth t zero x = []
+blocks_to_depth t (suc n) x = flat_map (λ r. flat_map (λ b. b ∷ flat_map (λ k. blocks_to_depth t n k) (body_of t b)) (layout_of t r)) (regions_of t x)
 
 -- all blocks inside the operation; nothing is nested deeper than there are operations
 abbrev pub blocks_inside : Tree → ℕ → List ℕ
-blocks_inside t root = blocks_below t (length t.operations) root
+blocks_inside t root = blocks_to_depth t (length t.operations) root
 
 abbrev pub is_reached : Facts → Option ℕ → Bool
 is_reached f None = false
 is_reached f (Some b) = f.reaches b
 
-abbrev pub has_head : (Head → Bool) → Option Head → Bool
-has_head p None = false
-has_head p (Some h) = p h
-
-abbrev pub both : Bool → Bool → Bool
-both true b = b
-both false b = false
-
 -- the operations inside the root that fold and stand in blocks that are reached, in pre-order
 abbrev pub folding : (Head → Bool) → Tree → ℕ → Facts → List ℕ
-folding can_fold t root f = filter (λ k. both (has_head can_fold (head_of t k)) (is_reached f (parent_of t k))) (contents t root)
+folding can_fold t root f = filter (λ k. both (has_passing_head can_fold (head_of t k)) (is_reached f (parent_of t k))) (contents t root)
 
 -- these operations are folded in turn, each in place by what the facts know of the operands that it had in t₀
 pub data FoldsInTurn (outcome : Outcome) (t₀ : Tree) (f : Facts) : List ℕ → Tree → Tree → Type 0 where

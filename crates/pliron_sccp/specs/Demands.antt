@@ -6,7 +6,7 @@ use Rattle.pliron_core.specs.Tree.{Tree, In, head_of, regions_of, successors_of,
 use Rattle.pliron_laws.specs.Datum.{Head, Meaning}
 use Rattle.pliron_laws.specs.Tree.{Operation, op_at, shape_of}
 use Rattle.pliron_laws.specs.Folding.{Feasible}
-use Rattle.pliron_theory.specs.Facts.{NotAConstant, AtMost, answered, Facts, Says, MayGo, Forwards, IsEntered}
+use Rattle.pliron_theory.specs.Facts.{NotAConstant, AtMost, answered, Facts, Says, IsFeasibleEdge, Forwards, IsEntered}
 use Rattle.pliron_sccp.specs.declared.applying.Demand.{Demand}
 use Rattle.pliron_sccp.specs.declared.applying.Demand.TheVariants.{Enter, Lower}
 use Rattle.pliron_sccp.specs.Tables.{meant}
@@ -46,7 +46,7 @@ AreFeasible m can_fold feasible t op known (Some blocks) = (o : Operation) → o
 
 -- where the branch may go, the block is reached, with what the edge forwards
 abbrev pub AsksBranches : Says → Tree → Facts → Operation → Facts → Type 0
-AsksBranches x t f o now = (i b : ℕ) → MayGo x t f o i b → IsTrue (now.reaches b) × ((j v w : ℕ) → slice_get (arguments_of t b) j ≡ Some v → Forwards x t o i j w → AtMost (now.fact v) (f.fact w))
+AsksBranches x t f o now = (i b : ℕ) → IsFeasibleEdge x t f o i b → IsTrue (now.reaches b) × ((j v w : ℕ) → slice_get (arguments_of t b) j ≡ Some v → Forwards x t o i j w → AtMost (now.fact v) (f.fact w))
 
 -- each result is at or below its answer
 abbrev pub AsksAnswers : List ℕ → List (Option AttrObj) → Facts → Type 0
@@ -79,7 +79,7 @@ abbrev pub GetsForwarded : Facts → List ℕ → Facts → (j v : ℕ) → Type
 GetsForwarded f values now j v = (w : ℕ) → slice_get values j ≡ Some w → AtMost (now.fact v) (f.fact w)
 
 abbrev pub FollowsEdge : Says → Tree → Facts → Operation → Facts → (i b : ℕ) → Type 0
-FollowsEdge x t f o now i b = MayGo x t f o i b → IsTrue (now.reaches b) × ((j v w : ℕ) → slice_get (arguments_of t b) j ≡ Some v → Forwards x t o i j w → AtMost (now.fact v) (f.fact w))
+FollowsEdge x t f o now i b = IsFeasibleEdge x t f o i b → IsTrue (now.reaches b) × ((j v w : ℕ) → slice_get (arguments_of t b) j ≡ Some v → Forwards x t o i j w → AtMost (now.fact v) (f.fact w))
 
 -- where it is a branch what that asks, else that each successor is entered
 abbrev pub AsksEdges : Says → Tree → Facts → ℕ → Operation → Facts → Type 0

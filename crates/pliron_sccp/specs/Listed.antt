@@ -3,19 +3,19 @@ use Rattle.std.specs.Prelude.{◌≡◌, ℕ, Bool, false, List, [], ◌∷◌, 
 use Rattle.pliron_core.specs.Tree.{Tree, head_of, parent_of, arguments_of}
 use Rattle.pliron_laws.specs.Datum.{Head}
 use Rattle.pliron_laws.specs.Tree.{Operation, op_at}
-use Rattle.pliron_theory.specs.Facts.{Facts, Says, Stands, handed}
+use Rattle.pliron_theory.specs.Facts.{Facts, Says, IsInReachedBlock, handed}
 use Rattle.pliron_sccp.specs.declared.rewriting.ConstantArgument.{ConstantArgument}
 use Rattle.pliron_sccp.specs.declared.rewriting.Fold.{Fold}
-use Rattle.pliron_sccp.specs.Chain.{is_reached, has_head, both, folding, KnownArgument, known_in_block}
+use Rattle.pliron_sccp.specs.Chain.{is_reached, has_passing_head, both, folding, KnownArgument, known_in_block}
 use Rattle.pliron_sccp.specs.Steps.{IsKnown, StandForEach}
 
 -- the operation folds and stands in a block that is reached
 abbrev pub is_folding : (Head → Bool) → Tree → Facts → ℕ → Bool
-is_folding can_fold t f k = both (has_head can_fold (head_of t k)) (is_reached f (parent_of t k))
+is_folding can_fold t f k = both (has_passing_head can_fold (head_of t k)) (is_reached f (parent_of t k))
 
 -- a fold of an operation that stands in a block that is reached, with what is known of its operands
 abbrev pub IsFold : Says → Tree → Facts → Fold → Type 0
-IsFold x t f fold = (o : Operation) × (op_at t fold.op ≡ Some o) × Stands t f fold.op × IsTrue (x.can_fold o.head) × (fold.known.items ≡ handed f o.operands)
+IsFold x t f fold = (o : Operation) × (op_at t fold.op ≡ Some o) × IsInReachedBlock t f fold.op × IsTrue (x.can_fold o.head) × (fold.known.items ≡ handed f o.operands)
 
 -- the fold of this operation, if it folds there
 abbrev pub IsFoldOf : Says → Tree → Facts → ℕ → Option Fold → Type 0

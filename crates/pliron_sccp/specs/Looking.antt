@@ -29,7 +29,7 @@ pub record TakesValues (taken : List ℕ) (s s' : Solver) : Type 0 where
   pub blocks : (b : ℕ) → waits_block s' b ≡ waits_block s b
 
 -- the operation stands in a block that is reached and was looked at
-pub record IsVisited (t : Tree) (s : Solver) (k : ℕ) : Type 0 where
+pub record IsLookedAt (t : Tree) (s : Solver) (k : ℕ) : Type 0 where
   pub block : ℕ
   pub in_block : parent_of t k ≡ Some block
   pub reached : reaches s block ≡ true
@@ -37,7 +37,7 @@ pub record IsVisited (t : Tree) (s : Solver) (k : ℕ) : Type 0 where
 
 -- the operation reads the value, and stands in such a block
 pub record IsUserOf (t : Tree) (s : Solver) (v k : ℕ) : Type 0 where
-  pub visited : IsVisited t s k
+  pub visited : IsLookedAt t s k
   pub reads : In v (operands_of t k)
 
 -- the list grows by what is so, each once
@@ -48,5 +48,5 @@ pub record AddsEach (old new : List ℕ) (IsSo : ℕ → Type 0) : Type 0 where
 -- the users of these values that stand where was looked, each once, and no others
 pub record AreUsersOf (t : Tree) (values users : List ℕ) (s : Solver) : Type 0 where
   pub distinct : IsDistinct users
-  pub only : (k : ℕ) → In k users → IsVisited t s k × ((v : ℕ) × In v values × In v (operands_of t k))
-  pub all : (k v : ℕ) → IsVisited t s k → In v values → In v (operands_of t k) → In k users
+  pub only : (k : ℕ) → In k users → IsLookedAt t s k × ((v : ℕ) × In v values × In v (operands_of t k))
+  pub all : (k v : ℕ) → IsLookedAt t s k → In v values → In v (operands_of t k) → In k users

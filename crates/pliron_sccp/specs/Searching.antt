@@ -28,7 +28,7 @@ pub data Steps (x : Says) (t : Tree) (s s' : Solver) (taken : ℕ) : Type 0 wher
 
 -- each operation where runs may come is settled, or what settles it waits; the rest of what closed facts owe; and what
 -- waits is inside the root
-pub record IsOnTheWay (x : Says) (t : Tree) (root : ℕ) (s : Solver) : Type 0 where
+pub record IsSearchOnTheWay (x : Says) (t : Tree) (root : ℕ) (s : Solver) : Type 0 where
   pub settled : AreSettledBut x t (facts_of s) (λ b. waits_block s b ≡ true) (λ v. waits_value s v ≡ true) (λ k. ⊥)
   pub started : AreStarted t root (facts_of s)
   pub held : AreHeld t root (facts_of s)
@@ -37,6 +37,6 @@ pub record IsOnTheWay (x : Says) (t : Tree) (root : ℕ) (s : Solver) : Type 0 w
 
 -- this, and the count so far; where the most precise facts are owed, the facts stand above every closed set of facts
 pub record IsSearching (x : Says) (t : Tree) (root : ℕ) (s : Solver) (pops : ℕ) : Type 0 where
-  pub way : IsOnTheWay x t root s
+  pub way : IsSearchOnTheWay x t root s
   pub accounted : IsAccounted t root s pops
   pub best : AreOwed x t root → IsBest x t root s

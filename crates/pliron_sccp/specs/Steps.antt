@@ -13,7 +13,7 @@ use Rattle.pliron_core.specs.declared.attrs.AttrObj.{AttrObj}
 use Rattle.pliron_core.specs.Tree.{Tree, IsLive, head_of, arguments_of}
 use Rattle.pliron_core.specs.Joined.{IsTree}
 use Rattle.pliron_laws.specs.Tree.{Operation, op_at}
-use Rattle.pliron_theory.specs.Facts.{Facts, Constant, Says, Stands, handed, AreClosed, AreHeld}
+use Rattle.pliron_theory.specs.Facts.{Facts, Constant, Says, IsInReachedBlock, handed, AreClosed, AreHeld}
 use Rattle.pliron_theory.specs.Following.{Follows}
 
 -- the operation folds and stands in a block that is reached, in the first tree, these constants are known of its
@@ -23,7 +23,7 @@ pub record IsFoldStep (x : Says) (t₀ : Tree) (root : ℕ) (f₀ : Facts) (t : 
   pub follows : Follows x t₀ root f₀ t
   pub operation : Operation
   pub at : op_at t₀ op ≡ Some operation
-  pub stands : Stands t₀ f₀ op
+  pub stands : IsInReachedBlock t₀ f₀ op
   pub folds : IsTrue (x.can_fold operation.head)
   pub known_is : known ≡ handed f₀ operation.operands
 
@@ -31,19 +31,19 @@ pub record IsFoldStep (x : Says) (t₀ : Tree) (root : ℕ) (f₀ : Facts) (t : 
 pub record AreFoldSteps (x : Says) (t₀ : Tree) (root : ℕ) (f₀ : Facts) (t : Tree) (folds : List Fold) : Type 0 where
   pub first : IsTree t₀
   pub follows : Follows x t₀ root f₀ t
-  pub each : (i : ℕ) (fold : Fold) → slice_get folds i ≡ Some fold → (o : Operation) × (op_at t₀ fold.op ≡ Some o) × Stands t₀ f₀ fold.op × IsTrue (x.can_fold o.head) × (fold.known.items ≡ handed f₀ o.operands)
+  pub each : (i : ℕ) (fold : Fold) → slice_get folds i ≡ Some fold → (o : Operation) × (op_at t₀ fold.op ≡ Some o) × IsInReachedBlock t₀ f₀ fold.op × IsTrue (x.can_fold o.head) × (fold.known.items ≡ handed f₀ o.operands)
 
 -- `Unchanged` says that the tree is as before but for spent keys, `Changed` that an operation stands that did not
-abbrev pub IsTold : IRStatus → Tree → Tree → Type 0
-IsTold Unchanged t u = IsSameTree t u
-IsTold Changed t u = (k : ℕ) × (head_of t k ≡ None) × IsLive u k
+abbrev pub TellsCreated : IRStatus → Tree → Tree → Type 0
+TellsCreated Unchanged t u = IsSameTree t u
+TellsCreated Changed t u = (k : ℕ) × (head_of t k ≡ None) × IsLive u k
 
 -- the operations before index i are folded: what folds the later ones from here folds all from the start
 pub record IsFoldingOn (x : Says) (outcome : Outcome) (start : Tree) (folds : List Fold) (i : ℕ) (status : IRStatus) (now : Tree) : Type 0 where
   pub follows : (t₀ : Tree) (root : ℕ) (f₀ : Facts) → AreFoldSteps x t₀ root f₀ start folds → Follows x t₀ root f₀ now
   pub partly : (t₀ : Tree) (root : ℕ) (f₀ : Facts) → AreFoldSteps x t₀ root f₀ start folds → (u : Tree) → FoldsPartly outcome t₀ f₀ (map (λ fold. fold.op) (drop i folds)) now u → FoldsPartly outcome t₀ f₀ (map (λ fold. fold.op) folds) start u
   pub turns : (t₀ : Tree) (root : ℕ) (f₀ : Facts) → AreFoldSteps x t₀ root f₀ start folds → (u : Tree) → FoldsInTurn outcome t₀ f₀ (map (λ fold. fold.op) (drop i folds)) now u → FoldsInTurn outcome t₀ f₀ (map (λ fold. fold.op) folds) start u
-  pub told : IsTold status start now
+  pub told : TellsCreated status start now
   pub stays : (k : ℕ) → IsLive start k → IsLive now k
 
 -- the argument at this index of a block that is reached is this constant, in the first tree
@@ -79,7 +79,7 @@ pub record AreArgumentSteps (x : Says) (t₀ : Tree) (root : ℕ) (f₀ : Facts)
 pub record IsPuttingOn (x : Says) (accepts : AttrObj → Bool) (head : AttrObj → Head) (start : Tree) (arguments : List ConstantArgument) (i : ℕ) (status : IRStatus) (now : Tree) : Type 0 where
   pub follows : (t₀ : Tree) (root : ℕ) (f₀ : Facts) → AreArgumentSteps x t₀ root f₀ start arguments → Follows x t₀ root f₀ now
   pub puts : (t₀ : Tree) (root : ℕ) (f₀ : Facts) → AreArgumentSteps x t₀ root f₀ start arguments → (known : List KnownArgument) → StandForEach t₀ arguments known → (all_put accepts head known start ≡ all_put accepts head (drop i known) now) × (all_put accepts head (take i known) start ≡ now)
-  pub told : IsTold status start now
+  pub told : TellsCreated status start now
   pub stays : (k : ℕ) → IsLive start k → IsLive now k
 
 -- these are the folds and the arguments that closed facts about the tree say
@@ -87,6 +87,6 @@ pub record IsFound (x : Says) (can_fold : Head → Bool) (t : Tree) (root : ℕ)
   pub closed : AreClosed x t root f
   pub held : AreHeld t root f
   pub folds : map (λ fold. fold.op) found.folds.items ≡ folding can_fold t root f
-  pub each_fold : (i : ℕ) (fold : Fold) → slice_get found.folds.items i ≡ Some fold → (o : Operation) × (op_at t fold.op ≡ Some o) × Stands t f fold.op × IsTrue (x.can_fold o.head) × (fold.known.items ≡ handed f o.operands)
+  pub each_fold : (i : ℕ) (fold : Fold) → slice_get found.folds.items i ≡ Some fold → (o : Operation) × (op_at t fold.op ≡ Some o) × IsInReachedBlock t f fold.op × IsTrue (x.can_fold o.head) × (fold.known.items ≡ handed f o.operands)
   pub arguments : StandForEach t found.arguments.items (known_arguments t root f)
   pub each_argument : (i : ℕ) (argument : ConstantArgument) → slice_get found.arguments.items i ≡ Some argument → IsKnown t f argument

@@ -21,6 +21,6 @@ pub record IsGrounded (t : Tree) (root : ℕ) (f : Facts) (visited : ℕ → Boo
   pub reached : (b : ℕ) → IsTrue (visited b) → IsTrue (f.reaches b)
 
 -- arguments of blocks that are reached, and results in blocks that were visited, are determined
-pub record IsReady (t : Tree) (f : Facts) (visited : ℕ → Bool) : Type 0 where
+pub record AreDetermined (t : Tree) (f : Facts) (visited : ℕ → Bool) : Type 0 where
   pub arguments : (b v : ℕ) → IsTrue (f.reaches b) → In v (arguments_of t b) → f.fact v ≢ Undetermined
   pub results : (b k v : ℕ) → IsTrue (visited b) → parent_of t k ≡ Some b → In v (results_of t k) → f.fact v ≢ Undetermined

@@ -4,7 +4,7 @@ ghost use Rattle.std.specs.List.{flat_map};
 ghost use Rattle.pliron_core.specs.Tree.{IsLive, IsBlock, IsRegion, body_of, layout_of, regions_of};
 ghost use Rattle.pliron_laws.specs.declared.fault.OptError.TheVariants.{Memory};
 ghost use Rattle.pliron_sccp.specs.Chain.{blocks_inside};
-ghost use Rattle.pliron_sccp.specs.Inside.{blocks_of};
+ghost use Rattle.pliron_sccp.specs.Inside.{blocks_directly_in};
 
 use pliron_core::{BasicBlock, Context, Operation, Ptr, Region};
 use pliron_laws::OptError;
@@ -36,7 +36,7 @@ fn list_regions(
     blocks: &mut Vec<Ptr<BasicBlock>>,
 ) -> Result<(), OptError>
     requires { IsLive ctx.now.tree op }
-    ensures ok { OnOk result (blocks.new.items ≡ blocks.old.items ++ blocks_of ctx.now.tree op) }
+    ensures ok { OnOk result (blocks.new.items ≡ blocks.old.items ++ blocks_directly_in ctx.now.tree op) }
     ensures err { IfErr result (λ e. e ≡ Memory) }
 {
     for i in 0..op.num_region(ctx) {
@@ -52,7 +52,7 @@ fn list_body(
     blocks: &mut Vec<Ptr<BasicBlock>>,
 ) -> Result<(), OptError>
     requires { IsBlock ctx.now.tree block }
-    ensures ok { OnOk result (blocks.new.items ≡ blocks.old.items ++ flat_map (λ k. blocks_of ctx.now.tree k) (body_of ctx.now.tree block)) }
+    ensures ok { OnOk result (blocks.new.items ≡ blocks.old.items ++ flat_map (λ k. blocks_directly_in ctx.now.tree k) (body_of ctx.now.tree block)) }
     ensures err { IfErr result (λ e. e ≡ Memory) }
 {
     ctx.well_formed();
@@ -84,7 +84,7 @@ fn stack_regions(
     stack: &mut Vec<Ptr<BasicBlock>>,
 ) -> Result<(), OptError>
     requires { IsLive ctx.now.tree op }
-    ensures ok { OnOk result (stack.new.items ≡ stack.old.items ++ reverse (blocks_of ctx.now.tree op)) }
+    ensures ok { OnOk result (stack.new.items ≡ stack.old.items ++ reverse (blocks_directly_in ctx.now.tree op)) }
     ensures err { IfErr result (λ e. e ≡ Memory) }
 {
     let mut blocks = Vec::new(alloc);
@@ -101,7 +101,7 @@ fn stack_body(
     stack: &mut Vec<Ptr<BasicBlock>>,
 ) -> Result<(), OptError>
     requires { IsBlock ctx.now.tree block }
-    ensures ok { OnOk result (stack.new.items ≡ stack.old.items ++ reverse (flat_map (λ k. blocks_of ctx.now.tree k) (body_of ctx.now.tree block))) }
+    ensures ok { OnOk result (stack.new.items ≡ stack.old.items ++ reverse (flat_map (λ k. blocks_directly_in ctx.now.tree k) (body_of ctx.now.tree block))) }
     ensures err { IfErr result (λ e. e ≡ Memory) }
 {
     let mut blocks = Vec::new(alloc);

@@ -5,7 +5,7 @@ ghost use Rattle.pliron_core.specs.Changes.{IsSameTree};
 ghost use Rattle.pliron_laws.specs.declared.fault.OptError.TheVariants.{Memory};
 ghost use Rattle.pliron_theory.specs.Facts.{Facts};
 ghost use Rattle.pliron_theory.specs.Following.{Follows};
-ghost use Rattle.pliron_sccp.specs.Steps.{IsFoldStep, AreFoldSteps, IsTold, IsArgumentStep, AreArgumentSteps, StandForEach, IsFound};
+ghost use Rattle.pliron_sccp.specs.Steps.{IsFoldStep, AreFoldSteps, TellsCreated, IsArgumentStep, AreArgumentSteps, StandForEach, IsFound};
 ghost use Rattle.pliron_theory.specs.Rewrites.{ReplacesArgument};
 ghost use Rattle.pliron_laws.specs.InPlace.{TellsChange};
 ghost use Rattle.pliron_sccp.specs.Chain.{FoldsInTurn, FoldsPartly, KnownArgument, all_put, IsPartlyPut, IsRewritten, IsPartlyRewritten};
@@ -37,7 +37,7 @@ pub fn fold_one<D: Dialect, R: Rewriter + Room>(
     requires step { (t₀ : Tree) × (root : ℕ) × (f₀ : Facts) × IsFoldStep ⟦<D as HasFolding>⟧.folding t₀ root f₀ ctx.old.tree fold.now.op fold.now.known.items }
     ensures ok { IfOk result (λ status. D.ConstFoldInterface.outcome ctx.old.tree ctx.new.tree fold.now.op fold.now.known.items (Some status)) }
     ensures refused { OnErr result (D.ConstFoldInterface.outcome ctx.old.tree ctx.new.tree fold.now.op fold.now.known.items None) }
-    ensures told { IfOk result (λ status. IsTold status ctx.old.tree ctx.new.tree) }
+    ensures told { IfOk result (λ status. TellsCreated status ctx.old.tree ctx.new.tree) }
     ensures stays { (k : ℕ) → IsLive ctx.old.tree k → IsLive ctx.new.tree k }
     ensures err { IfErr result (λ e. e ≡ Memory) }
     ensures follows { (t₀ : Tree) (root : ℕ) (f₀ : Facts) → IsFoldStep ⟦<D as HasFolding>⟧.folding t₀ root f₀ ctx.old.tree fold.now.op
@@ -65,7 +65,7 @@ pub fn fold_all<D: Dialect, R: Rewriter + Room>(
         FoldsInTurn D.ConstFoldInterface.outcome t₀ f₀ (map (λ fold. fold.op) folds.now) ctx.old.tree ctx.new.tree) }
     ensures refused { OnErr result ((t₀ : Tree) (root : ℕ) (f₀ : Facts) → AreFoldSteps ⟦<D as HasFolding>⟧.folding t₀ root f₀ ctx.old.tree folds.now →
         FoldsPartly D.ConstFoldInterface.outcome t₀ f₀ (map (λ fold. fold.op) folds.now) ctx.old.tree ctx.new.tree) }
-    ensures told { IfOk result (λ status. IsTold status ctx.old.tree ctx.new.tree) }
+    ensures told { IfOk result (λ status. TellsCreated status ctx.old.tree ctx.new.tree) }
     ensures stays { (k : ℕ) → IsLive ctx.old.tree k → IsLive ctx.new.tree k }
     ensures err { IfErr result (λ e. e ≡ Memory) }
     ensures follows { (t₀ : Tree) (root : ℕ) (f₀ : Facts) → AreFoldSteps ⟦<D as HasFolding>⟧.folding t₀ root f₀ ctx.old.tree folds.now →
@@ -101,7 +101,7 @@ pub fn put_argument<D: Dialect, R: Rewriter + Room>(
     ensures ok { IfOk result (λ status. ReplacesArgument D.accepts D.constant_head argument.now.attr argument.now.block argument.now.index
         ctx.old.tree ctx.new.tree status) }
     ensures refused { OnErr result (IsSameTree ctx.old.tree ctx.new.tree) }
-    ensures told { IfOk result (λ status. IsTold status ctx.old.tree ctx.new.tree) }
+    ensures told { IfOk result (λ status. TellsCreated status ctx.old.tree ctx.new.tree) }
     ensures stays { (k : ℕ) → IsLive ctx.old.tree k → IsLive ctx.new.tree k }
     ensures err { IfErr result (λ e. e ≡ Memory) }
     ensures follows { (t₀ : Tree) (root : ℕ) (f₀ : Facts) → IsArgumentStep ⟦<D as HasFolding>⟧.folding t₀ root f₀ ctx.old.tree argument.now →
@@ -136,7 +136,7 @@ pub fn put_all<D: Dialect, R: Rewriter + Room>(
     ensures refused { OnErr result ((t₀ : Tree) (root : ℕ) (f₀ : Facts) →
         AreArgumentSteps ⟦<D as HasFolding>⟧.folding t₀ root f₀ ctx.old.tree arguments.now → (known : List KnownArgument) →
         StandForEach t₀ arguments.now known → IsPartlyPut D.accepts D.constant_head known ctx.old.tree ctx.new.tree) }
-    ensures told { IfOk result (λ status. IsTold status ctx.old.tree ctx.new.tree) }
+    ensures told { IfOk result (λ status. TellsCreated status ctx.old.tree ctx.new.tree) }
     ensures stays { (k : ℕ) → IsLive ctx.old.tree k → IsLive ctx.new.tree k }
     ensures err { IfErr result (λ e. e ≡ Memory) }
     ensures follows { (t₀ : Tree) (root : ℕ) (f₀ : Facts) → AreArgumentSteps ⟦<D as HasFolding>⟧.folding t₀ root f₀ ctx.old.tree arguments.now →

@@ -4,7 +4,7 @@ ghost use Rattle.std.specs.List.{flat_map};
 ghost use Rattle.pliron_core.specs.Tree.{IsLive, IsBlock, In, arguments_of, body_of, results_of};
 ghost use Rattle.pliron_laws.specs.declared.fault.OptError.TheVariants.{Memory};
 ghost use Rattle.pliron_sccp.specs.Accounts.{IsUnsearched};
-ghost use Rattle.pliron_sccp.specs.Inside.{values_of};
+ghost use Rattle.pliron_sccp.specs.Inside.{block_values};
 ghost use Rattle.pliron_sccp.specs.Starting.{Tracks, IsStarted};
 
 use crate::applying::meet_all;
@@ -61,7 +61,7 @@ fn track_body(block: Ptr<BasicBlock>, ctx: &Context, solver: &mut Solver) -> Res
 /// Nothing is known yet of the values that the block lists.
 fn track_block(block: Ptr<BasicBlock>, ctx: &Context, solver: &mut Solver) -> Result<(), OptError>
     requires { IsBlock ctx.now.tree block }
-    ensures ok { OnOk result (Tracks (values_of ctx.now.tree block) solver.old solver.new) }
+    ensures ok { OnOk result (Tracks (block_values ctx.now.tree block) solver.old solver.new) }
     ensures err { IfErr result (λ e. e ≡ Memory) }
 {
     track_arguments(block, ctx, solver)?;
@@ -71,7 +71,7 @@ fn track_block(block: Ptr<BasicBlock>, ctx: &Context, solver: &mut Solver) -> Re
 /// Nothing is known yet of the values that these blocks list.
 fn track_all(blocks: &[Ptr<BasicBlock>], ctx: &Context, solver: &mut Solver) -> Result<(), OptError>
     requires { (b : ℕ) → In b blocks.now → IsBlock ctx.now.tree b }
-    ensures ok { OnOk result (Tracks (flat_map (λ b. values_of ctx.now.tree b) blocks.now) solver.old solver.new) }
+    ensures ok { OnOk result (Tracks (flat_map (λ b. block_values ctx.now.tree b) blocks.now) solver.old solver.new) }
     ensures err { IfErr result (λ e. e ≡ Memory) }
 {
     for i in 0..blocks.len() {

@@ -2,7 +2,7 @@
 ghost use Rattle.std.specs.Prelude.{◌≡◌, ◌↔◌, ℕ, OnOk, IfOk, IfErr, IsTrue};
 ghost use Rattle.pliron_core.specs.Tree.{IsLive};
 ghost use Rattle.pliron_laws.specs.declared.fault.OptError.TheVariants.{Memory};
-ghost use Rattle.pliron_sccp.specs.Looking.{IsVisited, IsUserOf, AreUsersOf, AddsEach};
+ghost use Rattle.pliron_sccp.specs.Looking.{IsLookedAt, IsUserOf, AreUsersOf, AddsEach};
 
 use crate::tables::Solver;
 use indexmap::IndexSet;
@@ -13,7 +13,7 @@ use std::alloc::Global;
 /// Whether the operation stands in a block that is reached and was looked at.
 fn is_visited(op: Ptr<Operation>, ctx: &Context, solver: &Solver) -> bool
     requires { IsLive ctx.now.tree op }
-    ensures { IsTrue result ↔ IsVisited ctx.now.tree solver.now op }
+    ensures { IsTrue result ↔ IsLookedAt ctx.now.tree solver.now op }
 {
     match op.get_parent_block(ctx) {
         Some(block) => solver.reaches(block) && !solver.waits(block),
@@ -29,7 +29,7 @@ fn add_user(
     users: &mut IndexSet<Ptr<Operation>>,
 ) -> Result<(), OptError>
     requires { IsLive ctx.now.tree op }
-    ensures ok { OnOk result (AddsEach users.old.keys users.new.keys (λ k. (op ≡ k) × IsVisited ctx.now.tree solver.now k)) }
+    ensures ok { OnOk result (AddsEach users.old.keys users.new.keys (λ k. (op ≡ k) × IsLookedAt ctx.now.tree solver.now k)) }
     ensures err { IfErr result (λ e. e ≡ Memory) }
 {
     if is_visited(op, ctx, solver) {

@@ -2,21 +2,21 @@
 use Rattle.std.proofs.Common.{◌≡◌, ℕ, zero, suc, ◌<◌, Bool, true, false, true≢false, List, [], ◌∷◌, Some, slice_get, sym, ◌∙◌, ap, arith, inl, inr}
 use Rattle.std.specs.Cmp.{IsEquivalence}
 use Rattle.std.specs.List.{IsDistinct, AllByRecursion}
-use Rattle.pliron_search.specs.Internal.Membership.{In}
+use Rattle.pliron_search.specs.Internal.Membership.{HasMember}
 
 module _ {X : Type 0} where
-  pub in_from_item : (xs : List X) (k : ℕ) (v : X) → slice_get xs k ≡ Some v → In xs v
+  pub in_from_item : (xs : List X) (k : ℕ) (v : X) → slice_get xs k ≡ Some v → HasMember xs v
   in_from_item [] k v e = absurd (cc e)
   in_from_item (x ∷ xs) zero v e = let here : x ≡ v = cc in inl here
   in_from_item (x ∷ xs) (suc k) v e = inr (in_from_item xs k v e)
 
-  pub item_from_in : (xs : List X) (v : X) → In xs v → (k : ℕ) × (slice_get xs k ≡ Some v)
+  pub item_from_in : (xs : List X) (v : X) → HasMember xs v → (k : ℕ) × (slice_get xs k ≡ Some v)
   item_from_in [] v h = absurd h
   item_from_in (x ∷ xs) v (inl e) = (0, ap Some e)
   item_from_in (x ∷ xs) v (inr h) = let r = item_from_in xs v h in (suc r.0, r.1)
 
 module _ {N : Type 0} (eq : N → N → Bool) (laws : IsEquivalence eq) (same : (x y : N) → eq x y ≡ true → x ≡ y) where
-  pub apart_from : (x : N) (ys : List N) (v : N) → AllByRecursion (λ y. eq x y ≡ false) ys → In ys v → x ≡ v → ⊥
+  pub apart_from : (x : N) (ys : List N) (v : N) → AllByRecursion (λ y. eq x y ≡ false) ys → HasMember ys v → x ≡ v → ⊥
   apart_from x [] v h i e = i
   apart_from x (y ∷ ys) v h (inl s) e = true≢false (sym (laws.refl x) ∙ ap (eq x) (e ∙ sym s) ∙ h.0)
   apart_from x (y ∷ ys) v h (inr i) e = apart_from x ys v h.1 i e

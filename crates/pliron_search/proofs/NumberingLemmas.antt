@@ -2,9 +2,9 @@
 use Rattle.std.proofs.Common.{◌≡◌, ℕ, suc, ◌+◌, Bool, true, false, not, cond, List, [], ◌∷◌, refl, sym, ◌∙◌, ap, subst, arith, inl, inr, ◌⊎◌, Contains}
 use Rattle.std.specs.List.{position_or_len, IsDistinct}
 use Rattle.pliron_search.specs.Digraph.{Digraph, IsReached}
-use Rattle.pliron_search.specs.Internal.Forest.{Forest, preorder, postorder, Grows, Grew}
+use Rattle.pliron_search.specs.Internal.Forest.{Forest, forest_preorder, postorder, Grows, Grew}
 use Rattle.pliron_search.specs.Search.{Encloses, Numbers, IsNearest, IsTop, IsSearchNumbering, IsSearch}
-use Rattle.pliron_search.specs.Internal.Membership.{In, in_from, contains_from, in_from_any, any_from_in}
+use Rattle.pliron_search.specs.Internal.Membership.{HasMember, in_from, contains_from, in_from_any, any_from_in}
 use Rattle.pliron_search.proofs.TreeLemmas.{size, InF, Above, Parent, parent_above, lower_in, upper_in, has_place, pre_in, in_pre, post_in, in_post, length_pre, length_post, Seated, seated_range, seated_each, seated_once, Placed, placed, above_encloses, encloses_above, comparable, top_free, parent_nearest}
 use Rattle.pliron_search.proofs.PlaceLemmas.{is_distinct}
 use Rattle.pliron_search.proofs.GrowthLemmas.{Distinct, pre_distinct, post_distinct, roots_found, found_reached, top_root, parent_edge, edge_found, before_first, root_order, child_order, reached_found}
@@ -14,7 +14,7 @@ module _ {N : Type 0} (eq : N → N → Bool) (same : (x y : N) → eq x y ≡ t
   abbrev pub place : List N → N → ℕ
   place xs v = position_or_len (eq v) xs
 
-  seated_next : (n m : N → ℕ) (a : ℕ) (xs : List N) → ((v : N) → In xs v → m v ≡ suc (n v)) → Seated n a xs → Seated m (a + 1) xs
+  seated_next : (n m : N → ℕ) (a : ℕ) (xs : List N) → ((v : N) → HasMember xs v → m v ≡ suc (n v)) → Seated n a xs → Seated m (a + 1) xs
   seated_next n m a [] h k = tt
   seated_next n m a (x ∷ xs) h k = (omega (arith, h x (inl refl), k.0), seated_next n m (a + 1) xs (λ v i. h v (inr i)) k.1)
 
@@ -22,22 +22,22 @@ module _ {N : Type 0} (eq : N → N → Bool) (same : (x y : N) → eq x y ≡ t
   seated_places [] h = tt
   seated_places (x ∷ xs) h =
       let here : place (x ∷ xs) x ≡ 0 = ap (λ b. cond (not b) (1 + place xs x) 0) (reflexive x) in
-      let later : (v : N) → In xs v → place (x ∷ xs) v ≡ suc (place xs v) = λ v i. step v i (eq v x) refl in
+      let later : (v : N) → HasMember xs v → place (x ∷ xs) v ≡ suc (place xs v) = λ v i. step v i (eq v x) refl in
       (here, seated_next (place xs) (place (x ∷ xs)) 0 xs later (seated_places xs h.1))
     where
-      step : (v : N) → In xs v → (b : Bool) → eq v x ≡ b → place (x ∷ xs) v ≡ suc (place xs v)
-      step v i true e = absurd (h.0 (subst (In xs) (same v x e) i))
+      step : (v : N) → HasMember xs v → (b : Bool) → eq v x ≡ b → place (x ∷ xs) v ≡ suc (place xs v)
+      step v i true e = absurd (h.0 (subst (HasMember xs) (same v x e) i))
       step v i false e = ap (λ b. cond (not b) (1 + place xs v) 0) e ∙ omega arith
 
   module _ (g : Digraph N) (roots : List N) (f : Forest N) (grows : Grows eq g [] roots f) where
     abbrev pub pre : N → ℕ
-    pre v = place (preorder f) v
+    pre v = place (forest_preorder f) v
 
     abbrev pub post : N → ℕ
     post v = place (postorder f) v
 
-    pre_seated : Seated pre 0 (preorder f)
-    pre_seated = seated_places (preorder f) (pre_distinct eq g same reflexive grows)
+    pre_seated : Seated pre 0 (forest_preorder f)
+    pre_seated = seated_places (forest_preorder f) (pre_distinct eq g same reflexive grows)
 
     post_seated : Seated post 0 (postorder f)
     post_seated = seated_places (postorder f) (post_distinct eq g same reflexive grows)
@@ -45,7 +45,7 @@ module _ {N : Type 0} (eq : N → N → Bool) (same : (x y : N) → eq x y ≡ t
     pub at_places : Placed pre post 0 0 f
     at_places = placed pre post 0 0 f pre_seated post_seated
 
-    pub closed : (u w : N) → InF f u → In (g.succ u) w → InF f w
+    pub closed : (u w : N) → InF f u → HasMember (g.succ u) w → InF f w
     closed u w h e = elim (edge_found eq g same reflexive pre post 0 0 grows at_places u w h e) [ inl n ↦ absurd n | inr k ↦ k.0 ]
 
     pub found : (v : N) → IsReached g roots v → InF f v
@@ -57,9 +57,9 @@ module _ {N : Type 0} (eq : N → N → Bool) (same : (x y : N) → eq x y ≡ t
 
     pre_numbers : Numbers (IsReached g roots) pre (size f)
     pre_numbers = record {
-      within = λ v h. omega (arith, (seated_range pre 0 (preorder f) v pre_seated (in_pre f v (found v h))).1, length_pre f);
-      each = λ k l. let r = seated_each pre 0 (preorder f) k pre_seated (omega (arith, l, length_pre f)) in (r.0, reached r.0 (pre_in f r.0 r.1), omega (arith, r.2));
-      once = λ u v h k e. seated_once pre 0 (preorder f) u v pre_seated (in_pre f u (found u h)) (in_pre f v (found v k)) e;
+      within = λ v h. omega (arith, (seated_range pre 0 (forest_preorder f) v pre_seated (in_pre f v (found v h))).1, length_pre f);
+      each = λ k l. let r = seated_each pre 0 (forest_preorder f) k pre_seated (omega (arith, l, length_pre f)) in (r.0, reached r.0 (pre_in f r.0 r.1), omega (arith, r.2));
+      once = λ u v h k e. seated_once pre 0 (forest_preorder f) u v pre_seated (in_pre f u (found u h)) (in_pre f v (found v k)) e;
     }
 
     post_numbers : Numbers (IsReached g roots) post (size f)
@@ -122,17 +122,17 @@ module _ {N : Type 0} (eq : N → N → Bool) (same : (x y : N) → eq x y ≡ t
 
   -- what a search from nothing answers
   pub search_from_growth : (g : Digraph N) (roots pre_list post_list : List N) → Grew eq g roots [] [] pre_list post_list → IsSearch eq g roots (record { pre = pre_list; post = post_list })
-  search_from_growth g roots p q grew = subst (λ x. IsSearch eq g roots (record { pre = x; post = q })) (sym grew.pre_is) (subst (λ x. IsSearch eq g roots (record { pre = preorder grew.forest; post = x })) (sym grew.post_is) (record {
+  search_from_growth g roots p q grew = subst (λ x. IsSearch eq g roots (record { pre = x; post = q })) (sym grew.pre_is) (subst (λ x. IsSearch eq g roots (record { pre = forest_preorder grew.forest; post = x })) (sym grew.post_is) (record {
     pre_listed = λ v. (
-      λ h. reached g roots grew.forest grew.grows v (pre_in grew.forest v (in_from_any eq same reflexive (preorder grew.forest) v h)),
-      λ h. any_from_in eq same reflexive (preorder grew.forest) v (in_pre grew.forest v (found g roots grew.forest grew.grows v h)),
+      λ h. reached g roots grew.forest grew.grows v (pre_in grew.forest v (in_from_any eq same reflexive (forest_preorder grew.forest) v h)),
+      λ h. any_from_in eq same reflexive (forest_preorder grew.forest) v (in_pre grew.forest v (found g roots grew.forest grew.grows v h)),
     );
     post_listed = λ v. (
       λ h. reached g roots grew.forest grew.grows v (post_in grew.forest v (in_from_any eq same reflexive (postorder grew.forest) v h)),
       λ h. any_from_in eq same reflexive (postorder grew.forest) v (in_post grew.forest v (found g roots grew.forest grew.grows v h)),
     );
     equal_lengths = length_post grew.forest ∙ sym (length_pre grew.forest);
-    numbering = subst (IsSearchNumbering g roots (place (preorder grew.forest)) (place (postorder grew.forest))) (sym (length_pre grew.forest)) (numbering g roots grew.forest grew.grows);
+    numbering = subst (IsSearchNumbering g roots (place (forest_preorder grew.forest)) (place (postorder grew.forest))) (sym (length_pre grew.forest)) (numbering g roots grew.forest grew.grows);
   }))
 
   -- and it left each node once
@@ -140,4 +140,4 @@ module _ {N : Type 0} (eq : N → N → Bool) (same : (x y : N) → eq x y ≡ t
   left_once g roots p q grew = subst (IsDistinct eq) (sym grew.post_is) (is_distinct eq same (postorder grew.forest) (post_distinct eq g same reflexive grew.grows))
 
   pub found_once : (g : Digraph N) (roots pre_list post_list : List N) → Grew eq g roots [] [] pre_list post_list → IsDistinct eq pre_list
-  found_once g roots p q grew = subst (IsDistinct eq) (sym grew.pre_is) (is_distinct eq same (preorder grew.forest) (pre_distinct eq g same reflexive grew.grows))
+  found_once g roots p q grew = subst (IsDistinct eq) (sym grew.pre_is) (is_distinct eq same (forest_preorder grew.forest) (pre_distinct eq g same reflexive grew.grows))

@@ -6,7 +6,7 @@ use Rattle.std.specs.Option.{unwrap_or}
 use Rattle.std.proofs.lemmas.Bool.Decides.{Decides-ltb}
 use Rattle.std.proofs.lemmas.List.Sums.{passes_at_first, prefix_len-le-length}
 use Rattle.pliron_search.specs.Search.{number_in}
-use Rattle.pliron_search.specs.Internal.Membership.{In}
+use Rattle.pliron_search.specs.Internal.Membership.{HasMember}
 use Rattle.pliron_search.proofs.GrowthLemmas.{Distinct}
 
 module _ {N : Type 0} (eq : N → N → Bool) (laws : IsEquivalence eq) where
@@ -39,7 +39,7 @@ module _ {N : Type 0} (eq : N → N → Bool) (laws : IsEquivalence eq) where
   place_of_equal (x ∷ xs) u v e = rw (laws.congr u v x e, place_of_equal xs u v e) refl
 
 module _ {N : Type 0} (eq : N → N → Bool) (same : (x y : N) → eq x y ≡ true → x ≡ y) where
-  differs : (x : N) (ys : List N) → (In ys x → ⊥) → AllByRecursion (λ y. eq x y ≡ false) ys
+  differs : (x : N) (ys : List N) → (HasMember ys x → ⊥) → AllByRecursion (λ y. eq x y ≡ false) ys
   differs x [] h = tt
   differs x (y ∷ ys) h = (by (eq x y) refl, differs x ys (λ i. h (inr i)))
     where

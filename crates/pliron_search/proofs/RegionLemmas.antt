@@ -28,7 +28,7 @@ use Rattle.pliron_core.proofs.WalkLemmas.{inside_within}
 use Rattle.pliron_core.proofs.ContainedLemmas.{next_in_layout}
 use Rattle.pliron_core.proofs.EdgeLemmas.{preds-rising, pred-source, source-pred}
 use Rattle.pliron_search.specs.Regions.{IsLawfulRegion}
-use Rattle.pliron_search.specs.Internal.Sources.{LeadsTo, AreSources, AreFound}
+use Rattle.pliron_search.specs.Internal.Sources.{HasEdgeTo, AreSources, AreSourcesSoFar}
 use Rattle.pliron_search.specs.Internal.RegionLawful.{in_keys, keys_have, owned, same_key}
 
 -- a list that is gone through by what comes next: what is done, and the rest from here on
@@ -52,10 +52,10 @@ module _ (t : Tree) (w : IsTree t) (r b : ℕ) (done : List ℕ) (o : Option ℕ
   listed_smaller = omega (arith, ap length step)
 
 -- the sources of a block, by its uses
-pub found_none : (v : View) (b : ℕ) → AreFound v b 0 []
+pub found_none : (v : View) (b : ℕ) → AreSourcesSoFar v b 0 []
 found_none v b = record { lead = λ a i. absurd i; all = λ k a one lt e p. absurd (omega arith) }
 
-module _ (v : View) (b i user place : ℕ) (xs : List ℕ) (u : HaveUses v) (f : AreFound v b i xs) (listed : slice_get (uses_of v.block_uses b) i ≡ Some (record { user = user; place = place })) where
+module _ (v : View) (b i user place : ℕ) (xs : List ℕ) (u : HaveUses v) (f : AreSourcesSoFar v b i xs) (listed : slice_get (uses_of v.block_uses b) i ≡ Some (record { user = user; place = place })) where
   -- each use before the next one is one before this one, or this one
   cases : (k a : ℕ) (one : Use) → k < i + 1 → slice_get (uses_of v.block_uses b) k ≡ Some one → parent_of v.tree one.user ≡ Some a → In a xs ⊎ (parent_of v.tree user ≡ Some a)
   cases k a one lt e p =
@@ -66,13 +66,13 @@ module _ (v : View) (b i user place : ℕ) (xs : List ℕ) (u : HaveUses v) (f :
         | inr h ↦ elim h [ inl below ↦ inl (f.all k a one below e p) | inr above ↦ absurd (omega arith) ]
       ]
 
-  pub found_same : (o : Option ℕ) → o ≡ None → o ≡ parent_of v.tree user → AreFound v b (i + 1) xs
+  pub found_same : (o : Option ℕ) → o ≡ None → o ≡ parent_of v.tree user → AreSourcesSoFar v b (i + 1) xs
   found_same o none e = record {
     lead = f.lead;
     all = λ k a one lt g p. elim (cases k a one lt g p) [ inl j ↦ j | inr q ↦ absurd (none-some a (sym none ∙ e ∙ q)) ];
   }
 
-  pub found_more : (s : ℕ) → Some s ≡ parent_of v.tree user → AreFound v b (i + 1) (xs ++ s ∷ [])
+  pub found_more : (s : ℕ) → Some s ≡ parent_of v.tree user → AreSourcesSoFar v b (i + 1) (xs ++ s ∷ [])
   found_more s e = record {
     lead = λ a j.
         elim (In-cases a xs (s ∷ []) j) [
@@ -87,7 +87,7 @@ module _ (v : View) (b i user place : ℕ) (xs : List ℕ) (u : HaveUses v) (f :
         elim (cases k a one lt g p) [ inl j ↦ In-left a xs (s ∷ []) j | inr q ↦ In-right a xs (s ∷ []) (inl (same_Some a s (sym q ∙ sym e))) ];
   }
 
-pub found_all : (v : View) (b n : ℕ) (xs : List ℕ) → HaveUses v → AreFound v b n xs → length (uses_of v.block_uses b) ≤ n → AreSources v.tree b xs
+pub found_all : (v : View) (b n : ℕ) (xs : List ℕ) → HaveUses v → AreSourcesSoFar v b n xs → length (uses_of v.block_uses b) ≤ n → AreSources v.tree b xs
 found_all v b n xs u f whole a = (
   f.lead a,
   λ l.
@@ -101,10 +101,10 @@ found_all v b n xs u f whole a = (
 
 -- in a lawful region the sources are the predecessors
 module _ (t : Tree) (r : ℕ) (h : IsLawfulRegion t r) (b : ℕ) (node : Contains (layout_of t r) b) where
-  pub pred_leads : (a : ℕ) → In a (preds_of t b) → LeadsTo t a b
+  pub pred_leads : (a : ℕ) → In a (preds_of t b) → HasEdgeTo t a b
   pred_leads a i = let s = pred-source t h.tree b a i in (s.0, s.2.parent, in_slice (successors_of t s.0) s.1 b s.3)
 
-  pub source_pred : (a : ℕ) → IsBlock t b → LeadsTo t a b → In a (preds_of t b)
+  pub source_pred : (a : ℕ) → IsBlock t b → HasEdgeTo t a b → In a (preds_of t b)
   source_pred a live l =
       let own = owned t r h b node in
       let up : block_holder_of t b ≡ Some h.holder = ap (λ o. up_from o (λ z. region_parent_of t z)) own ∙ h.held in

@@ -1,8 +1,8 @@
 -- Forests whose nodes are numbered in the order of the search, and what the numbers say.
 use Rattle.std.proofs.Common.{◌≡◌, ℕ, zero, suc, ◌+◌, ◌<◌, ◌≤◌, List, [], ◌∷◌, ◌++◌, length, refl, sym, ◌∙◌, ap, subst, arith, inl, inr, ◌⊎◌, add-zero, length-append}
-use Rattle.pliron_search.specs.Internal.Forest.{Forest, leaf, grow, preorder, postorder}
+use Rattle.pliron_search.specs.Internal.Forest.{Forest, leaf, grow, forest_preorder, postorder}
 use Rattle.pliron_search.specs.Search.{Encloses}
-use Rattle.pliron_search.specs.Internal.Membership.{In, in_left, in_right, in_cases}
+use Rattle.pliron_search.specs.Internal.Membership.{HasMember, in_left, in_right, in_cases}
 
 module _ {N : Type 0} where
   abbrev pub size : Forest N → ℕ
@@ -55,33 +55,33 @@ module _ {N : Type 0} where
   has_place (grow r c s) v (inr (inl h)) = elim (has_place c v h) [ inl t ↦ inr (r, inl (refl, t)) | inr k ↦ inr (k.0, inr (inl k.1)) ]
   has_place (grow r c s) v (inr (inr h)) = elim (has_place s v h) [ inl t ↦ inl (inr t) | inr k ↦ inr (k.0, inr (inr k.1)) ]
 
-  pub pre_in : (f : Forest N) (v : N) → In (preorder f) v → InF f v
+  pub pre_in : (f : Forest N) (v : N) → HasMember (forest_preorder f) v → InF f v
   pre_in leaf v h = absurd h
   pre_in (grow r c s) v (inl e) = inl e
-  pre_in (grow r c s) v (inr h) = elim (in_cases (preorder c) (preorder s) v h) [ inl a ↦ inr (inl (pre_in c v a)) | inr b ↦ inr (inr (pre_in s v b)) ]
+  pre_in (grow r c s) v (inr h) = elim (in_cases (forest_preorder c) (forest_preorder s) v h) [ inl a ↦ inr (inl (pre_in c v a)) | inr b ↦ inr (inr (pre_in s v b)) ]
 
-  pub in_pre : (f : Forest N) (v : N) → InF f v → In (preorder f) v
+  pub in_pre : (f : Forest N) (v : N) → InF f v → HasMember (forest_preorder f) v
   in_pre leaf v h = absurd h
   in_pre (grow r c s) v (inl e) = inl e
-  in_pre (grow r c s) v (inr (inl h)) = inr (in_left (preorder c) (preorder s) v (in_pre c v h))
-  in_pre (grow r c s) v (inr (inr h)) = inr (in_right (preorder c) (preorder s) v (in_pre s v h))
+  in_pre (grow r c s) v (inr (inl h)) = inr (in_left (forest_preorder c) (forest_preorder s) v (in_pre c v h))
+  in_pre (grow r c s) v (inr (inr h)) = inr (in_right (forest_preorder c) (forest_preorder s) v (in_pre s v h))
 
-  pub post_in : (f : Forest N) (v : N) → In (postorder f) v → InF f v
+  pub post_in : (f : Forest N) (v : N) → HasMember (postorder f) v → InF f v
   post_in leaf v h = absurd h
   post_in (grow r c s) v h = elim (in_cases (postorder c) (r ∷ postorder s) v h) [
     | inl a ↦ inr (inl (post_in c v a))
     | inr b ↦ elim b [ inl e ↦ inl e | inr d ↦ inr (inr (post_in s v d)) ]
   ]
 
-  pub in_post : (f : Forest N) (v : N) → InF f v → In (postorder f) v
+  pub in_post : (f : Forest N) (v : N) → InF f v → HasMember (postorder f) v
   in_post leaf v h = absurd h
   in_post (grow r c s) v (inl e) = in_right (postorder c) (r ∷ postorder s) v (inl e)
   in_post (grow r c s) v (inr (inl h)) = in_left (postorder c) (r ∷ postorder s) v (in_post c v h)
   in_post (grow r c s) v (inr (inr h)) = in_right (postorder c) (r ∷ postorder s) v (inr (in_post s v h))
 
-  pub length_pre : (f : Forest N) → length (preorder f) ≡ size f
+  pub length_pre : (f : Forest N) → length (forest_preorder f) ≡ size f
   length_pre leaf = refl
-  length_pre (grow r c s) = omega (arith, length-append (preorder c) (preorder s), length_pre c, length_pre s)
+  length_pre (grow r c s) = omega (arith, length-append (forest_preorder c) (forest_preorder s), length_pre c, length_pre s)
 
   pub length_post : (f : Forest N) → length (postorder f) ≡ size f
   length_post leaf = refl
@@ -103,17 +103,17 @@ module _ {N : Type 0} where
   seated_right number a [] ys h = seated_at number a (a + 0) ys (omega arith) h
   seated_right number a (x ∷ xs) ys h = seated_at number (a + 1 + length xs) (a + suc (length xs)) ys (omega arith) (seated_right number (a + 1) xs ys h.1)
 
-  pub seated_range : (number : N → ℕ) (a : ℕ) (xs : List N) (v : N) → Seated number a xs → In xs v → (a ≤ number v) × (number v < a + length xs)
+  pub seated_range : (number : N → ℕ) (a : ℕ) (xs : List N) (v : N) → Seated number a xs → HasMember xs v → (a ≤ number v) × (number v < a + length xs)
   seated_range number a [] v h i = absurd i
   seated_range number a (x ∷ xs) v h (inl e) = let k : number v ≡ a = sym (ap number e) ∙ h.0 in (omega (arith, k), omega (arith, k))
   seated_range number a (x ∷ xs) v h (inr i) = let r = seated_range number (a + 1) xs v h.1 i in (omega (arith, r.0), omega (arith, r.1))
 
-  pub seated_each : (number : N → ℕ) (a : ℕ) (xs : List N) (k : ℕ) → Seated number a xs → k < length xs → (v : N) × In xs v × (number v ≡ a + k)
+  pub seated_each : (number : N → ℕ) (a : ℕ) (xs : List N) (k : ℕ) → Seated number a xs → k < length xs → (v : N) × HasMember xs v × (number v ≡ a + k)
   seated_each number a [] k h l = absurd (omega (arith, l))
   seated_each number a (x ∷ xs) zero h l = (x, inl refl, h.0 ∙ sym (add-zero a))
   seated_each number a (x ∷ xs) (suc k) h l = let r = seated_each number (a + 1) xs k h.1 (omega (arith, l)) in (r.0, inr r.1, omega (arith, r.2))
 
-  pub seated_once : (number : N → ℕ) (a : ℕ) (xs : List N) (u v : N) → Seated number a xs → In xs u → In xs v → number u ≡ number v → u ≡ v
+  pub seated_once : (number : N → ℕ) (a : ℕ) (xs : List N) (u v : N) → Seated number a xs → HasMember xs u → HasMember xs v → number u ≡ number v → u ≡ v
   seated_once number a [] u v h i j e = absurd i
   seated_once number a (x ∷ xs) u v h (inl p) (inl q) e = sym p ∙ q
   seated_once number a (x ∷ xs) u v h (inl p) (inr j) e = let k : number u ≡ a = sym (ap number p) ∙ h.0 in absurd (omega (arith, k, e, (seated_range number (a + 1) xs v h.1 j).0))
@@ -126,11 +126,11 @@ module _ {N : Type 0} (pre post : N → ℕ) where
   Placed a b leaf = Unit {0}
   Placed a b (grow r c s) = (pre r ≡ a) × (post r ≡ b + size c) × Placed (a + 1) b c × Placed (a + 1 + size c) (b + size c + 1) s
 
-  pub placed : (a b : ℕ) (f : Forest N) → Seated pre a (preorder f) → Seated post b (postorder f) → Placed a b f
+  pub placed : (a b : ℕ) (f : Forest N) → Seated pre a (forest_preorder f) → Seated post b (postorder f) → Placed a b f
   placed a b leaf h k = tt
   placed a b (grow r c s) h k =
-      let left = seated_left pre (a + 1) (preorder c) (preorder s) h.1 in
-      let right : Seated pre (a + 1 + size c) (preorder s) = subst (λ n. Seated pre (a + 1 + n) (preorder s)) (length_pre c) (seated_right pre (a + 1) (preorder c) (preorder s) h.1) in
+      let left = seated_left pre (a + 1) (forest_preorder c) (forest_preorder s) h.1 in
+      let right : Seated pre (a + 1 + size c) (forest_preorder s) = subst (λ n. Seated pre (a + 1 + n) (forest_preorder s)) (length_pre c) (seated_right pre (a + 1) (forest_preorder c) (forest_preorder s) h.1) in
       let below = seated_left post b (postorder c) (r ∷ postorder s) k in
       let rest : Seated post (b + size c) (r ∷ postorder s) = subst (λ n. Seated post (b + n) (r ∷ postorder s)) (length_post c) (seated_right post b (postorder c) (r ∷ postorder s) k) in
       (h.0, rest.0, placed (a + 1) b c left below, placed (a + 1 + size c) (b + size c + 1) s right rest.1)

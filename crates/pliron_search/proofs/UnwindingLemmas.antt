@@ -8,7 +8,7 @@ use Rattle.pliron_search.proofs.WorkLemmas.{falls_skipped, falls_visited, falls_
 use Rattle.std.proofs.lemmas.Option.{slice_get_within, get_or_from_slice_get}
 use Rattle.std.specs.List.{list_any}
 use Rattle.pliron_search.specs.Digraph.{Digraph}
-use Rattle.pliron_search.specs.Internal.Forest.{leaf, grow, preorder, postorder, Grows, done, skip, visit, Grew}
+use Rattle.pliron_search.specs.Internal.Forest.{leaf, grow, forest_preorder, postorder, Grows, done, skip, visit, Grew}
 
 pub drop_at : {X : Type 0} (xs : List X) (i : ℕ) (x : X) → slice_get xs i ≡ Some x → drop i xs ≡ x ∷ drop (suc i) xs
 drop_at [] i x e = absurd (cc)
@@ -40,7 +40,7 @@ module _ {N : Type 0} (eq : N → N → Bool) (g : Digraph N) where
   joined w vs p q pm qm fa pn fb unseen a e b = record {
     forest = grow w a.forest b.forest;
     grows = visit unseen a.grows (subst (λ x. Grows eq g x vs b.forest) a.pre_is b.grows);
-    pre_is = b.pre_is ∙ ap (λ x. x ++ preorder b.forest) a.pre_is ∙ simp append_assoc;
+    pre_is = b.pre_is ∙ ap (λ x. x ++ forest_preorder b.forest) a.pre_is ∙ simp append_assoc;
     post_is = b.post_is ∙ ap (λ x. x ++ postorder b.forest) (e ∙ ap (λ x. x ++ w ∷ []) a.post_is) ∙ simp append_assoc;
   }
 

@@ -4,18 +4,18 @@ use Rattle.std.proofs.lemmas.List.{take_more, take_all}
 use Rattle.std.specs.List.{list_any, All, AllByRecursion}
 use Rattle.std.proofs.lemmas.List.Elements.{All-from_recursion}
 use Rattle.pliron_search.specs.Digraph.{Digraph}
-use Rattle.pliron_search.specs.Internal.Forest.{Forest, leaf, grow, preorder, postorder, Grows, done, skip, visit, Grew}
+use Rattle.pliron_search.specs.Internal.Forest.{Forest, leaf, grow, forest_preorder, postorder, Grows, done, skip, visit, Grew}
 use Rattle.pliron_search.specs.Search.{number_in}
-use Rattle.pliron_search.specs.Walks.{joined, IsWalk, AreWalks}
+use Rattle.pliron_search.specs.Walks.{concatenated, IsWalk, AreWalks}
 use Rattle.pliron_search.specs.Internal.Walked.{trees, Walked}
 use Rattle.pliron_search.specs.Internal.Membership.{in_from, contains_from}
 use Rattle.pliron_search.proofs.TreeLemmas.{size, InF, Above, Top, Placed, top_in, lower_in, upper_in, post_in, in_post, apart, root_apart_below, root_apart_later, top_free}
 use Rattle.pliron_search.proofs.NumberingLemmas as numbering
 use Rattle.pliron_search.proofs.NumberingLemmas.{search_from_growth}
 
-pub joined_push : {N : Type 0} (ws : List (List N)) (w : List N) → joined (ws ++ w ∷ []) ≡ joined ws ++ w
+pub joined_push : {N : Type 0} (ws : List (List N)) (w : List N) → concatenated (ws ++ w ∷ []) ≡ concatenated ws ++ w
 joined_push [] w = append-nil w
-joined_push (x ∷ ws) w = ap (λ z. x ++ z) (joined_push ws w) ∙ sym (append_assoc x (joined ws) w)
+joined_push (x ∷ ws) w = ap (λ z. x ++ z) (joined_push ws w) ∙ sym (append_assoc x (concatenated ws) w)
 
 -- one more list is reversed
 reversed_next : {A N : Type 0} (f : A → List N) (first now : List A) (i : ℕ) (w d : A) → i < length first → length now ≡ length first → f w ≡ reverse (f (get_or now i d))
@@ -45,11 +45,11 @@ module _ {N : Type 0} where
   trees_plus leaf h = refl
   trees_plus (grow r c s) h = ap (λ x. (postorder c ++ r ∷ []) ∷ x) (trees_plus s h)
 
-  pub pre_plus : (f h : Forest N) → preorder (plus f h) ≡ preorder f ++ preorder h
+  pub pre_plus : (f h : Forest N) → forest_preorder (plus f h) ≡ forest_preorder f ++ forest_preorder h
   pre_plus leaf h = refl
-  pre_plus (grow r c s) h = ap (λ x. r ∷ (preorder c ++ x)) (pre_plus s h) ∙ simp append_assoc
+  pre_plus (grow r c s) h = ap (λ x. r ∷ (forest_preorder c ++ x)) (pre_plus s h) ∙ simp append_assoc
 
-  joined_trees : (f : Forest N) → joined (trees f) ≡ postorder f
+  joined_trees : (f : Forest N) → concatenated (trees f) ≡ postorder f
   joined_trees leaf = refl
   joined_trees (grow r c s) = ap (λ x. (postorder c ++ r ∷ []) ++ x) (joined_trees s) ∙ simp append_assoc
 
@@ -79,7 +79,7 @@ module _ {N : Type 0} where
     tree_below a b (grow t d s) r c v p (inr h) (inr (inr i)) = tree_below (a + 1 + size d) (b + size d + 1) s r c v p.3 h i
 
 module _ {N : Type 0} (eq : N → N → Bool) (g : Digraph N) where
-  pub grows_plus : {seen xs ys : List N} {f h : Forest N} → Grows eq g seen xs f → Grows eq g (seen ++ preorder f) ys h → Grows eq g seen (xs ++ ys) (plus f h)
+  pub grows_plus : {seen xs ys : List N} {f h : Forest N} → Grows eq g seen xs f → Grows eq g (seen ++ forest_preorder f) ys h → Grows eq g seen (xs ++ ys) (plus f h)
   grows_plus {seen = p} {ys = ys} {h = h} done k = subst (λ x. Grows eq g x ys h) (append-nil p) k
   grows_plus (skip e gr) k = skip e (grows_plus gr k)
   grows_plus {ys = ys} {h = h} (visit {seen = p} {v = r} {c = c} {s = s} n gc gs) k =
@@ -96,7 +96,7 @@ module _ {N : Type 0} (eq : N → N → Bool) (g : Digraph N) where
   walked_past xs seen walks v there w = record {
     forest = plus w.forest leaf;
     grows = grows_plus w.grows (skip (subst (λ x. list_any (eq v) x ≡ true) w.seen_is there) done);
-    seen_is = w.seen_is ∙ sym (pre_plus w.forest leaf ∙ append-nil (preorder w.forest));
+    seen_is = w.seen_is ∙ sym (pre_plus w.forest leaf ∙ append-nil (forest_preorder w.forest));
     walks_are = w.walks_are ∙ sym (trees_plus w.forest leaf ∙ append-nil (trees w.forest));
   }
 
@@ -105,17 +105,17 @@ module _ {N : Type 0} (eq : N → N → Bool) (g : Digraph N) where
   walked_more xs seen seen' post walks v unseen new w = record {
     forest = plus w.forest new.forest;
     grows = grows_plus w.grows (subst (λ x. Grows eq g x (v ∷ []) new.forest) w.seen_is new.grows);
-    seen_is = new.pre_is ∙ ap (λ x. x ++ preorder new.forest) w.seen_is ∙ sym (pre_plus w.forest new.forest);
+    seen_is = new.pre_is ∙ ap (λ x. x ++ forest_preorder new.forest) w.seen_is ∙ sym (pre_plus w.forest new.forest);
     walks_are = ap (λ x. x ++ post ∷ []) w.walks_are ∙ ap (λ x. trees w.forest ++ x) (ap (λ x. x ∷ []) new.post_is ∙ sym (single new.grows unseen)) ∙ sym (trees_plus w.forest new.forest);
   }
 
   module _ (same : (x y : N) → eq x y ≡ true → x ≡ y) (reflexive : (x : N) → eq x x ≡ true) where
     all_trees : (xs : List N) (f : Forest N) (gr : Grows eq g [] xs f) (part : Forest N) → ((r : N) (c : Forest N) → IsTree part r c → IsTree f r c)
-        → AllByRecursion (IsWalk eq g xs (record { pre = preorder f; post = postorder f })) (trees part)
+        → AllByRecursion (IsWalk eq g xs (record { pre = forest_preorder f; post = postorder f })) (trees part)
     all_trees xs f gr leaf within = tt
     all_trees xs f gr (grow r c s) within =
         let tree = within r c (inl (refl, refl)) in
-        let pre = number_in eq (preorder f) in
+        let pre = number_in eq (forest_preorder f) in
         let post = number_in eq (postorder f) in
         let places = numbering.at_places eq same reflexive g xs f gr in
         let root = top_in f r (tree_top f r c tree) in (
@@ -137,10 +137,10 @@ module _ {N : Type 0} (eq : N → N → Bool) (g : Digraph N) where
 
     pub are_walks : (seen : List N) (walks : List (List N)) → Walked eq g g.nodes seen walks → AreWalks eq g walks
     are_walks seen walks w = subst (AreWalks eq g) (sym w.walks_are) (record {
-      pre = preorder w.forest;
-      search = search_from_growth eq same reflexive g g.nodes (preorder w.forest) (joined (trees w.forest)) (record { forest = w.forest; grows = w.grows; pre_is = refl; post_is = joined_trees w.forest });
-      each = subst (λ x. All (IsWalk eq g g.nodes (record { pre = preorder w.forest; post = x })) (trees w.forest)) (sym (joined_trees w.forest))
-          (All-from_recursion (IsWalk eq g g.nodes (record { pre = preorder w.forest; post = postorder w.forest })) (trees w.forest) (all_trees g.nodes w.forest w.grows w.forest (λ r c h. h)));
+      pre = forest_preorder w.forest;
+      search = search_from_growth eq same reflexive g g.nodes (forest_preorder w.forest) (concatenated (trees w.forest)) (record { forest = w.forest; grows = w.grows; pre_is = refl; post_is = joined_trees w.forest });
+      each = subst (λ x. All (IsWalk eq g g.nodes (record { pre = forest_preorder w.forest; post = x })) (trees w.forest)) (sym (joined_trees w.forest))
+          (All-from_recursion (IsWalk eq g g.nodes (record { pre = forest_preorder w.forest; post = postorder w.forest })) (trees w.forest) (all_trees g.nodes w.forest w.grows w.forest (λ r c h. h)));
     })
 
 pub next_take : {N : Type 0} (items ns : List N) (i : ℕ) (v : N) → items ≡ ns → i < length items → v ≡ get_or items i v → take (i + 1) ns ≡ take i ns ++ v ∷ []

@@ -4,7 +4,7 @@ use Rattle.std.specs.List.{list_any}
 use Rattle.std.proofs.lemmas.List.Sums.{sum_by-cons, sum_by_push}
 use Rattle.pliron_search.specs.Digraph.{Digraph}
 use Rattle.pliron_search.specs.Internal.Steps.{weight, stacked, work}
-use Rattle.pliron_search.specs.Internal.Membership.{In, in_from, any_append}
+use Rattle.pliron_search.specs.Internal.Membership.{HasMember, in_from, any_append}
 
 module _ {N : Type 0} (eq : N → N → Bool) (g : Digraph N) where
   weight_le : (seen : List N) (w v : N) → weight eq g (seen ++ w ∷ []) v ≤ weight eq g seen v
@@ -22,7 +22,7 @@ module _ {N : Type 0} (eq : N → N → Bool) (g : Digraph N) where
   weight_new : (seen : List N) (w : N) → list_any (eq w) seen ≡ false → eq w w ≡ true → weight eq g (seen ++ w ∷ []) w + (length (g.succ w) + 2) ≤ weight eq g seen w
   weight_new seen w unseen e = rw (any_append eq w seen (w ∷ []), unseen, e) (omega arith)
 
-  pub total_new : (seen : List N) (w : N) (ns : List N) → In ns w → list_any (eq w) seen ≡ false → eq w w ≡ true
+  pub total_new : (seen : List N) (w : N) (ns : List N) → HasMember ns w → list_any (eq w) seen ≡ false → eq w w ≡ true
       → sum_by (weight eq g (seen ++ w ∷ [])) ns + (length (g.succ w) + 2) ≤ sum_by (weight eq g seen) ns
   total_new seen w [] h unseen e = absurd h
   total_new seen w (n ∷ ns) (inl same) unseen e =

@@ -12,9 +12,9 @@ abbrev pub count_from : ℕ → ℕ → List ℕ
 count_from i zero = []
 count_from i (suc n) = i ∷ count_from (i + 1) n
 
-abbrev pub first_of : List ℕ → Option ℕ
-first_of [] = None
-first_of (x ∷ xs) = Some x
+abbrev pub first_listed : List ℕ → Option ℕ
+first_listed [] = None
+first_listed (x ∷ xs) = Some x
 
 -- each number of the table is below n
 abbrev pub AreBelow : ℕ → List (List ℕ) → Type 0
@@ -37,7 +37,7 @@ pub record AreInverse (g : Adjacency) : Type 0 where
 abbrev pub graph_of : Adjacency → Digraph ℕ
 graph_of g = record {
   nodes = count_from 0 (length g.succ);
-  entry = first_of (count_from 0 (length g.succ));
+  entry = first_listed (count_from 0 (length g.succ));
   succ = row g.succ;
   pred = row g.pred;
 }

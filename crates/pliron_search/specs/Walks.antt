@@ -5,9 +5,9 @@ use Rattle.pliron_search.specs.Digraph.{Digraph, IsReached}
 use Rattle.pliron_search.specs.Search.{Orders, IsSearch, IsTop, Encloses, number_in}
 
 -- the lists of a list of lists, one after the other
-abbrev pub joined : {N : Type 0} → List (List N) → List N
-joined [] = []
-joined (w ∷ ws) = w ++ joined ws
+abbrev pub concatenated : {N : Type 0} → List (List N) → List N
+concatenated [] = []
+concatenated (w ∷ ws) = w ++ concatenated ws
 
 -- a walk: a node that nothing encloses, last, with all that it encloses
 pub record IsWalk {N : Type 0} (eq : N → N → Bool) (g : Digraph N) (roots : List N) (o : Orders N) (walk : List N) : Type 0 where
@@ -20,8 +20,8 @@ pub record IsWalk {N : Type 0} (eq : N → N → Bool) (g : Digraph N) (roots : 
 -- the walks from the nodes in listed order, each by rising post-number, those with smaller numbers first
 pub record AreWalks {N : Type 0} (eq : N → N → Bool) (g : Digraph N) (walks : List (List N)) : Type 0 where
   pub pre : List N
-  pub search : IsSearch eq g g.nodes (record { pre = pre; post = joined walks })
-  pub each : All (IsWalk eq g g.nodes (record { pre = pre; post = joined walks })) walks
+  pub search : IsSearch eq g g.nodes (record { pre = pre; post = concatenated walks })
+  pub each : All (IsWalk eq g g.nodes (record { pre = pre; post = concatenated walks })) walks
 
 -- the same walks in the same order, each reversed
 abbrev pub AreReversedWalks : {N : Type 0} → (N → N → Bool) → Digraph N → List (List N) → Type 0
@@ -29,8 +29,8 @@ AreReversedWalks {N} eq g lists = (walks : List (List N)) × AreWalks eq g walks
 
 -- the walks one after the other
 abbrev pub IsPostOrder : {N : Type 0} → (N → N → Bool) → Digraph N → List N → Type 0
-IsPostOrder {N} eq g order = (walks : List (List N)) × AreWalks eq g walks × (order ≡ joined walks)
+IsPostOrder {N} eq g order = (walks : List (List N)) × AreWalks eq g walks × (order ≡ concatenated walks)
 
 -- the reversed walks one after the other
 abbrev pub IsTopologicalOrder : {N : Type 0} → (N → N → Bool) → Digraph N → List N → Type 0
-IsTopologicalOrder {N} eq g order = (lists : List (List N)) × AreReversedWalks eq g lists × (order ≡ joined lists)
+IsTopologicalOrder {N} eq g order = (lists : List (List N)) × AreReversedWalks eq g lists × (order ≡ concatenated lists)

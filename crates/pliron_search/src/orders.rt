@@ -2,7 +2,7 @@
 ghost use Rattle.std.specs.Prelude.{◌≡◌, ◌<◌, IfOk, IsOkUnless, length, map, reverse};
 ghost use Rattle.std.specs.List.{All};
 ghost use Rattle.pliron_search.specs.Internal.Walked.{AreFoundWalks, AreNamedLists};
-ghost use Rattle.pliron_search.specs.Walks.{joined, AreWalks, AreReversedWalks, IsPostOrder, IsTopologicalOrder};
+ghost use Rattle.pliron_search.specs.Walks.{concatenated, AreWalks, AreReversedWalks, IsPostOrder, IsTopologicalOrder};
 
 use crate::search::walk_over;
 use crate::traversal::named;
@@ -143,7 +143,7 @@ fn reverse_each<N>(lists: &mut [Vec<N>])
 
 // The lists, one after the other.
 fn join<N: Copy>(alloc: Global, lists: &[Vec<N>]) -> Result<Vec<N>, OptError>
-    ensures joins { IfOk result (λ r. r.items ≡ joined (map (λ w. w.items) lists.now)) }
+    ensures joins { IfOk result (λ r. r.items ≡ concatenated (map (λ w. w.items) lists.now)) }
     ensures memory { IsOkUnless result OptError.Memory }
 {
     let mut all = Vec::new(alloc);

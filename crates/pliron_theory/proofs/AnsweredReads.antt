@@ -13,7 +13,7 @@ use Rattle.pliron_laws.specs.Machine.{leave, given, begin, enter, entry_in, go_t
 use Rattle.pliron_laws.specs.Acting.{Comes, Begins, Answered, Told, Known}
 use Rattle.pliron_laws.specs.Folding.{Constants, AnswersTrue}
 use Rattle.pliron_theory.specs.Keeps.{IsFit}
-use Rattle.pliron_theory.specs.Renaming.{IsReached, IsReadAs}
+use Rattle.pliron_theory.specs.Renaming.{RunReaches, IsReadAs}
 use Rattle.pliron_laws.proofs.Records.{op_shows, block_shows, entry_shows}
 use Rattle.pliron_theory.proofs.Simulation.{Kept, IfGoes}
 use Rattle.pliron_theory.proofs.Alike.{data_long}
@@ -100,7 +100,7 @@ module _ (m : Meaning) (can_fold : Head → Bool) (constants : Constants) (answe
         go (Some z) e = let y = entry_shows t r z e in begin_holds s a ws waits y.key z y.stands ds _ refl
 
     -- the operation o' at k moves
-    module _ (s : State) (r : IsReached m t root s) (g : Holds s) (k : ℕ) (rest : List ℕ) (at : s.rest ≡ k ∷ rest) (o' : Operation) (here : op_at t k ≡ Some o') (input : List Datum) (has : input_of s.environment o'.operands s.answer ≡ Some input) where
+    module _ (s : State) (r : RunReaches m t root s) (g : Holds s) (k : ℕ) (rest : List ℕ) (at : s.rest ≡ k ∷ rest) (o' : Operation) (here : op_at t k ≡ Some o') (input : List Datum) (has : input_of s.environment o'.operands s.answer ≡ Some input) where
       same : k ≡ op → o' ≡ o
       same e = some_is (sym here ∙ ap (op_at t) e ∙ stands)
 
@@ -165,28 +165,28 @@ module _ (m : Meaning) (can_fold : Head → Bool) (constants : Constants) (answe
       perform_holds (Emit x next) e = told_holds x next e s.world
       perform_holds Trap e = tt
 
-    move_holds : (s : State) → IsReached m t root s → Holds s → (k : ℕ) (rest : List ℕ) → s.rest ≡ k ∷ rest → (o' : Operation) → op_at t k ≡ Some o' → (x : Option (List Datum)) → input_of s.environment o'.operands s.answer ≡ x → IfGoes (move m t s o' k rest x) Holds
+    move_holds : (s : State) → RunReaches m t root s → Holds s → (k : ℕ) (rest : List ℕ) → s.rest ≡ k ∷ rest → (o' : Operation) → op_at t k ≡ Some o' → (x : Option (List Datum)) → input_of s.environment o'.operands s.answer ≡ x → IfGoes (move m t s o' k rest x) Holds
     move_holds s r g k rest at o' here None has = tt
     move_holds s r g k rest at o' here (Some input) has = perform_holds s r g k rest at o' here input has _ refl
 
-    turn_holds : (s : State) → IsReached m t root s → Holds s → (k : ℕ) (rest : List ℕ) → s.rest ≡ k ∷ rest → (x : Option Operation) → op_at t k ≡ x → IfGoes (turn m t s k rest x) Holds
+    turn_holds : (s : State) → RunReaches m t root s → Holds s → (k : ℕ) (rest : List ℕ) → s.rest ≡ k ∷ rest → (x : Option Operation) → op_at t k ≡ x → IfGoes (turn m t s k rest x) Holds
     turn_holds s r g k rest at None here = tt
     turn_holds s r g k rest at (Some o') here = move_holds s r g k rest at o' here _ refl
 
-    rest_holds : (s : State) → IsReached m t root s → Holds s → (xs : List ℕ) → s.rest ≡ xs → IfGoes (step_at m t s xs) Holds
+    rest_holds : (s : State) → RunReaches m t root s → Holds s → (xs : List ℕ) → s.rest ≡ xs → IfGoes (step_at m t s xs) Holds
     rest_holds s r g [] at = leave_holds s g.always s.waiting g.waits []
     rest_holds s r g (k ∷ rest) at = turn_holds s r g k rest at _ refl
 
-    kept : Kept (step m t) (λ s. IsReached m t root s × Holds s)
+    kept : Kept (step m t) (λ s. RunReaches m t root s × Holds s)
     unfolding step
-    kept = record { keeps = λ s p. both_go (IsReached m t root) Holds (step_at m t s s.rest) ((reached_kept m t root).keeps s p.0) (rest_holds s p.0 p.1 s.rest refl) }
+    kept = record { keeps = λ s p. both_go (RunReaches m t root) Holds (step_at m t s s.rest) ((reached_kept m t root).keeps s p.0) (rest_holds s p.0 p.1 s.rest refl) }
 
     begins : (inputs world : List Datum) → Holds (start root inputs world)
     begins inputs world = record { always = λ x a d e q. grind arith; mind = λ e. absurd (not_itself w.joined.rooted (subst (IsInside t root) (sym e) inside)); waits = tt }
 
     read_inside : IsReadAs m t v (datum_of c) root
     read_inside s k rest r e none u =
-        let g = reached_holds m t root (λ z. IsReached m t root z × Holds z) kept (λ inputs world. (reached_start m t root inputs world, begins inputs world)) s r in
+        let g = reached_holds m t root (λ z. RunReaches m t root z × Holds z) kept (λ inputs world. (reached_start m t root inputs world, begins inputs world)) s r in
         let x = read_data m t root w f s r k v rest e none u in
         x.1 ∙ ap Some (sym (g.1.always v c x.0 (fact_here v c) x.1))
 

@@ -15,7 +15,7 @@ use Rattle.pliron_core.proofs.NeighbourLemmas.{last_of-In}
 use Rattle.pliron_core.proofs.RowLemmas.{last_of-append}
 use Rattle.pliron_laws.specs.Datum.{Datum, Meaning}
 use Rattle.pliron_laws.specs.Tree.{Operation, Block, op_at, block_at, entry_block}
-use Rattle.pliron_laws.specs.States.{Environment, Waiting, State, bound, bind, put_first, data_of}
+use Rattle.pliron_laws.specs.States.{Environment, Waiting, State, bound, bind, prepended, data_of}
 use Rattle.pliron_laws.specs.Machine.{start, step}
 use Rattle.pliron_laws.specs.Paths.{Path, Leads}
 use Rattle.pliron_laws.specs.Root.{defining_block, HasPassed, IsDominated, WellDefined}
@@ -59,7 +59,7 @@ all_data env [] b = ([], refl)
 all_data env (v ∷ vs) b =
     let x = b v (inl refl) in
     let y = all_data env vs (λ w i. b w (inr i)) in
-    (x.0 ∷ y.0, ap₂ put_first x.1 y.1)
+    (x.0 ∷ y.0, ap₂ prepended x.1 y.1)
 
 -- where the last of a distinct list stands, the list ends
 pub last_ends : (k : ℕ) (done rest xs : List ℕ) → IsDistinct xs → xs ≡ done ++ k ∷ rest → last_of None xs ≡ Some k → rest ≡ []

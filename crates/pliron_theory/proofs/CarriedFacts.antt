@@ -11,7 +11,7 @@ use Rattle.pliron_theory.specs.Renaming.{GivesConstant}
 use Rattle.pliron_laws.proofs.Records.{ShowsOperation, operation_of, op_shows, make_op, region_entry}
 use Rattle.pliron_theory.proofs.Alike.{shape_same}
 use Rattle.pliron_theory.proofs.KnownData.{picked_at}
-use Rattle.pliron_theory.specs.Facts.{Fact, Constant, NotAConstant, AtMost, known, answered, Facts, Says, handed, answers_of, Stands, MayGo, Forwards}
+use Rattle.pliron_theory.specs.Facts.{Fact, Constant, NotAConstant, AtMost, known, answered, Facts, Says, handed, answers_of, IsInReachedBlock, IsFeasibleEdge, Forwards}
 use Rattle.pliron_theory.specs.Sound.{AreSound, IsRightResult}
 use Rattle.pliron_theory.proofs.FactLattice.{picked_in}
 
@@ -29,7 +29,7 @@ pub record IsCarried (x : Says) (t t' : Tree) (f f' : Facts) (read read' : ℕ �
   pub fresh : (k : ℕ) → New k → (row_of t k ≡ no_entry) × (parent_of t k ≡ None)
   pub childless : (k : ℕ) → New k → regions_of t' k ≡ []
   pub edgeless : (k : ℕ) → New k → successors_of t' k ≡ []
-  pub placed : (k : ℕ) → New k → Stands t' f' k
+  pub placed : (k : ℕ) → New k → IsInReachedBlock t' f' k
   pub gives : (k : ℕ) → New k → (v : ℕ) × (c : AttrObj) × GivesConstant x.meaning t' k v (datum_of c) × (read' v ≡ Constant c)
   pub reaches : (b : ℕ) → f'.reaches b ≡ f.reaches b
   pub used : (k v : ℕ) → In v (operands_of t k) → (f'.fact (rename v) ≡ f.fact v) × (read' (rename v) ≡ read v)
@@ -94,10 +94,10 @@ module _ (x : Says) (t t' : Tree) (root : ℕ) (f f' : Facts) (read read' : ℕ 
   pub holds_too : (op b : ℕ) → HoldsBlock t op b → HoldsBlock t' op b
   holds_too op b (k, e, within) = (k, block_holders b ∙ e, within_more t t' holders within)
 
-  stands_too : (k : ℕ) → Stands t f k → Stands t' f' k
+  stands_too : (k : ℕ) → IsInReachedBlock t f k → IsInReachedBlock t' f' k
   stands_too k (b, p, r) = (b, c.parents k (not_new k b p) ∙ p, c.reaches b ∙ r)
 
-  stands_back : (k : ℕ) → (New k → ⊥) → Stands t' f' k → Stands t f k
+  stands_back : (k : ℕ) → (New k → ⊥) → IsInReachedBlock t' f' k → IsInReachedBlock t f k
   stands_back k n (b, p, r) = (b, sym (c.parents k n) ∙ p, sym (c.reaches b) ∙ r)
 
   -- shapes
@@ -188,10 +188,10 @@ module _ (x : Says) (t t' : Tree) (root : ℕ) (f f' : Facts) (read read' : ℕ 
   no_arguments : (b v : ℕ) → (HoldsBlock t' root b → ⊥) → In v (arguments_of t' b) → read' v ≡ NotAConstant
   no_arguments b v never i = let j = subst (In v) (c.arguments b) i in c.listed_arguments b v j ∙ sound.no_arguments b v (λ h. never (holds_too root b h)) j
 
-  held : (b k : ℕ) → IsTrue (f'.reaches b) → block_holder_of t' b ≡ Some k → (k ≡ root) ⊎ Stands t' f' k
+  held : (b k : ℕ) → IsTrue (f'.reaches b) → block_holder_of t' b ≡ Some k → (k ≡ root) ⊎ IsInReachedBlock t' f' k
   held b k r e = ⊎_elim (λ s. inl s) (λ s. inr (stands_too k s)) (sound.held b k (sym (c.reaches b) ∙ r) (sym (block_holders b) ∙ e))
 
-  entries : (k r b : ℕ) → (k ≡ root) ⊎ Stands t' f' k → In r (regions_of t' k) → first_of (layout_of t' r) None ≡ Some b → IsTrue (f'.reaches b) × ((v : ℕ) → In v (arguments_of t' b) → read' v ≡ NotAConstant)
+  entries : (k r b : ℕ) → (k ≡ root) ⊎ IsInReachedBlock t' f' k → In r (regions_of t' k) → first_of (layout_of t' r) None ≡ Some b → IsTrue (f'.reaches b) × ((v : ℕ) → In v (arguments_of t' b) → read' v ≡ NotAConstant)
   entries k r b may i e = ⊎_elim
       (λ n. absurd (not_in r (regions_of t' k) (c.childless k n) i))
       (λ n.
@@ -199,7 +199,7 @@ module _ (x : Says) (t t' : Tree) (root : ℕ) (f f' : Facts) (read read' : ℕ 
       (c.reaches b ∙ y.0, λ v j. let u = subst (In v) (c.arguments b) j in c.listed_arguments b v u ∙ y.1 v u))
       (c.told k)
 
-  jumps : (k i b : ℕ) (o : Operation) → Stands t' f' k → op_at t' k ≡ Some o → MayGo x t' f' o i b → IsTrue (f'.reaches b) × ((j v : ℕ) → slice_get (arguments_of t' b) j ≡ Some v → (read' v ≡ NotAConstant) ⊎ (IsTrue (x.meaning.is_branch o.head) × ((y : ℕ) → Forwards x t' o i j y → AtMost (read' v) (read' y))))
+  jumps : (k i b : ℕ) (o : Operation) → IsInReachedBlock t' f' k → op_at t' k ≡ Some o → IsFeasibleEdge x t' f' o i b → IsTrue (f'.reaches b) × ((j v : ℕ) → slice_get (arguments_of t' b) j ≡ Some v → (read' v ≡ NotAConstant) ⊎ (IsTrue (x.meaning.is_branch o.head) × ((y : ℕ) → Forwards x t' o i j y → AtMost (read' v) (read' y))))
   jumps k i b o' stands at go = by (c.told k)
     where
       by : New k ⊎ (New k → ⊥) → IsTrue (f'.reaches b) × ((j v : ℕ) → slice_get (arguments_of t' b) j ≡ Some v → (read' v ≡ NotAConstant) ⊎ (IsTrue (x.meaning.is_branch o'.head) × ((y : ℕ) → Forwards x t' o' i j y → AtMost (read' v) (read' y))))
@@ -209,7 +209,7 @@ module _ (x : Says) (t t' : Tree) (root : ℕ) (f f' : Facts) (read read' : ℕ 
           b4 : WasBefore k o'
           b4 = before k n o' at
 
-          went : MayGo x t f b4.operation i b
+          went : IsFeasibleEdge x t f b4.operation i b
           went = (ap (λ z. slice_get z i) (sym b4.successors) ∙ go.0, λ folds. feasible_was (go.1 (ap x.can_fold_branch b4.head ∙ folds)))
             where
               feasible_was : In b (x.feasible (shape_of x.meaning t' o') o'.successors (handed f' o'.operands)) → In b (x.feasible (shape_of x.meaning t b4.operation) b4.operation.successors (handed f b4.operation.operands))
@@ -238,7 +238,7 @@ module _ (x : Says) (t t' : Tree) (root : ℕ) (f f' : Facts) (read read' : ℕ 
               same : read' v ≡ read v
               same = c.listed_arguments b v (in_slice (arguments_of t b) j v at_old)
 
-  results : (k i v : ℕ) (o : Operation) → Stands t' f' k → op_at t' k ≡ Some o → slice_get o.results i ≡ Some v → IsRightResult x t' f' read' k i v o
+  results : (k i v : ℕ) (o : Operation) → IsInReachedBlock t' f' k → op_at t' k ≡ Some o → slice_get o.results i ≡ Some v → IsRightResult x t' f' read' k i v o
   results k i v o' stands at listed = by (c.told k)
     where
       by : New k ⊎ (New k → ⊥) → IsRightResult x t' f' read' k i v o'

@@ -11,7 +11,7 @@ use Rattle.pliron_core.specs.Joined.{IsTree}
 use Rattle.pliron_core.proofs.HoldingLemmas.{some_is, in_slice, slice_in, inside_block}
 use Rattle.pliron_laws.specs.Tree.{Operation, op_at}
 use Rattle.pliron_laws.proofs.Records.{op_shows}
-use Rattle.pliron_theory.specs.Facts.{NotAConstant, AtMost, answered, Facts, Says, answers_of, Stands, MayGo, Forwards, AreClosed, AreHeld}
+use Rattle.pliron_theory.specs.Facts.{NotAConstant, AtMost, answered, Facts, Says, answers_of, IsInReachedBlock, IsFeasibleEdge, Forwards, AreClosed, AreHeld}
 use Rattle.pliron_theory.specs.Sound.{AreSound, IsRightResult, is_it, answer_or, both, read_result, read_from, read_of}
 use Rattle.pliron_theory.proofs.FactLattice.{at_most_refl, at_most_trans}
 
@@ -23,7 +23,7 @@ module _ (x : Says) (t : Tree) (f : Facts) where
     pub operation : Operation
     pub answer : Option AttrObj
     pub made : definition_of t v ≡ Some (Result op index)
-    pub stands : Stands t f op
+    pub stands : IsInReachedBlock t f op
     pub at : op_at t op ≡ Some operation
     pub folds : IsTrue (x.can_fold operation.head)
     pub result : slice_get operation.results index ≡ Some v
@@ -59,7 +59,7 @@ module _ (x : Says) (t : Tree) (f : Facts) where
       from (Some (Result k i)) e = result k i e _ _ refl refl (ap (read_from x t f v) e)
 
   -- of such a result its answer is read
-  pub read_fold : (k i v : ℕ) (o : Operation) (a : Option AttrObj) → definition_of t v ≡ Some (Result k i) → Stands t f k → op_at t k ≡ Some o → IsTrue (x.can_fold o.head) → slice_get o.results i ≡ Some v → slice_get (answers_of x t f o) i ≡ Some a → read_of x t f v ≡ answered a
+  pub read_fold : (k i v : ℕ) (o : Operation) (a : Option AttrObj) → definition_of t v ≡ Some (Result k i) → IsInReachedBlock t f k → op_at t k ≡ Some o → IsTrue (x.can_fold o.head) → slice_get o.results i ≡ Some v → slice_get (answers_of x t f o) i ≡ Some a → read_of x t f v ≡ answered a
   unfolding read_of
   read_fold k i v o a d (b, p, r) q c s e =
       ap (read_from x t f v) d
@@ -72,7 +72,7 @@ module _ (x : Says) (t : Tree) (f : Facts) where
       ∙ ap (λ z. answer_or z (f.fact v)) e
 
 module _ (x : Says) (t : Tree) (root : ℕ) (f : Facts) (w : IsTree t) (closed : AreClosed x t root f) (held : AreHeld t root f) where
-  stands_inside : (k : ℕ) → Stands t f k → IsInside t root k
+  stands_inside : (k : ℕ) → IsInReachedBlock t f k → IsInside t root k
   stands_inside k (b, p, r) = inside_block b p (closed.inside b r)
 
   made_result : (k v : ℕ) → In v (results_of t k) → (i : ℕ) × (slice_get (results_of t k) i ≡ Some v) × (definition_of t v ≡ Some (Result k i))
@@ -109,10 +109,10 @@ module _ (x : Says) (t : Tree) (root : ℕ) (f : Facts) (w : IsTree t) (closed :
   no_arguments : (b v : ℕ) → (HoldsBlock t root b → ⊥) → In v (arguments_of t b) → read_of x t f v ≡ NotAConstant
   no_arguments b v never i = read_argument b v i ∙ closed.outside v (λ made. never (subst (IsMakerInside t root) (made_argument b v i).1 made))
 
-  entries : (k r b : ℕ) → (k ≡ root) ⊎ Stands t f k → In r (regions_of t k) → first_of (layout_of t r) None ≡ Some b → IsTrue (f.reaches b) × ((v : ℕ) → In v (arguments_of t b) → read_of x t f v ≡ NotAConstant)
+  entries : (k r b : ℕ) → (k ≡ root) ⊎ IsInReachedBlock t f k → In r (regions_of t k) → first_of (layout_of t r) None ≡ Some b → IsTrue (f.reaches b) × ((v : ℕ) → In v (arguments_of t b) → read_of x t f v ≡ NotAConstant)
   entries k r b may i e = let y = closed.entries k r b may i e in (y.0, λ v j. read_argument b v j ∙ y.1 v j)
 
-  jumps : (k i b : ℕ) (o : Operation) → Stands t f k → op_at t k ≡ Some o → MayGo x t f o i b → IsTrue (f.reaches b) × ((j v : ℕ) → slice_get (arguments_of t b) j ≡ Some v → (read_of x t f v ≡ NotAConstant) ⊎ (IsTrue (x.meaning.is_branch o.head) × ((y : ℕ) → Forwards x t o i j y → AtMost (read_of x t f v) (read_of x t f y))))
+  jumps : (k i b : ℕ) (o : Operation) → IsInReachedBlock t f k → op_at t k ≡ Some o → IsFeasibleEdge x t f o i b → IsTrue (f.reaches b) × ((j v : ℕ) → slice_get (arguments_of t b) j ≡ Some v → (read_of x t f v ≡ NotAConstant) ⊎ (IsTrue (x.meaning.is_branch o.head) × ((y : ℕ) → Forwards x t o i j y → AtMost (read_of x t f v) (read_of x t f y))))
   jumps k i b o stands at go = by _ refl
     where
       by : (c : Bool) → x.meaning.is_branch o.head ≡ c → IsTrue (f.reaches b) × ((j v : ℕ) → slice_get (arguments_of t b) j ≡ Some v → (read_of x t f v ≡ NotAConstant) ⊎ (IsTrue (x.meaning.is_branch o.head) × ((y : ℕ) → Forwards x t o i j y → AtMost (read_of x t f v) (read_of x t f y))))
@@ -123,7 +123,7 @@ module _ (x : Says) (t : Tree) (root : ℕ) (f : Facts) (w : IsTree t) (closed :
           let y = closed.jumps k i b o stands at e go.0 in
           (y.0, λ j v a. inl (let i = in_slice (arguments_of t b) j v a in read_argument b v i ∙ y.1 v i))
 
-  results : (k i v : ℕ) (o : Operation) → Stands t f k → op_at t k ≡ Some o → slice_get o.results i ≡ Some v → IsRightResult x t f (read_of x t f) k i v o
+  results : (k i v : ℕ) (o : Operation) → IsInReachedBlock t f k → op_at t k ≡ Some o → slice_get o.results i ≡ Some v → IsRightResult x t f (read_of x t f) k i v o
   results k i v o stands at listed = by _ refl
     where
       listed_there : slice_get (results_of t k) i ≡ Some v

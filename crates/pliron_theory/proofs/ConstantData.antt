@@ -13,7 +13,7 @@ use Rattle.pliron_laws.specs.Tree.{Block, op_at, entry_block, shape_of}
 use Rattle.pliron_laws.specs.States.{Environment, State, bound, bind, data_of, input_of}
 use Rattle.pliron_laws.specs.Machine.{start}
 use Rattle.pliron_theory.specs.Keeps.{IsFit, KeepsRuns}
-use Rattle.pliron_theory.specs.Renaming.{MayUse, IsReached, HasSameDatum, GivesConstant, IsReadAs}
+use Rattle.pliron_theory.specs.Renaming.{MayUse, RunReaches, HasSameDatum, GivesConstant, IsReadAs}
 use Rattle.pliron_theory.proofs.Simulation.{agree_trans}
 use Rattle.pliron_theory.proofs.Frames.{Facts, Makes, Rules, Holding, holding_kept}
 use Rattle.pliron_laws.proofs.Records.{op_shows, block_shows, entry_shows}
@@ -113,7 +113,7 @@ module _ (m : Meaning) (t : Tree) (w : IsTree t) (root n v : ℕ) (c : Datum) (g
   begins : (inputs world : List Datum) → Holding m t facts rules root (start root inputs world)
   begins inputs world = record { holder = None; always = λ d e. grind arith; place = λ others f. absurd (apart (head_is root [] others f)); below = tt }
 
-  pub constant_datum : (s : State) → IsReached m t root s → (d : Datum) → s.environment v ≡ Some d → d ≡ c
+  pub constant_datum : (s : State) → RunReaches m t root s → (d : Datum) → s.environment v ≡ Some d → d ≡ c
   constant_datum s r = (reached_holds m t root (Holding m t facts rules root) (holding_kept m t facts rules root) begins s r).always
 
 In-replaced : (old new : ℕ) (xs : List ℕ) → In old xs → In new (map (replace_target old new) xs)

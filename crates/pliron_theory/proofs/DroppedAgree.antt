@@ -7,11 +7,11 @@ use Rattle.pliron_core.proofs.ListLemmas.{decide_in}
 use Rattle.pliron_core.proofs.HoldingLemmas.{some_is, some_of, in_slice, slice_in}
 use Rattle.pliron_laws.specs.Datum.{Datum, Empty, Head, Meaning, Shape, Move}
 use Rattle.pliron_laws.specs.Tree.{Operation, op_at, block_with, block_at, and_block, entry_block, count_arguments, shape_of}
-use Rattle.pliron_laws.specs.States.{Environment, bound, bind, put_first, data_of}
+use Rattle.pliron_laws.specs.States.{Environment, bound, bind, prepended, data_of}
 use Rattle.pliron_laws.specs.Machine.{entry_in, block_in, step}
 use Rattle.pliron_laws.specs.Agree.{Agree}
 use Rattle.pliron_laws.specs.Acting.{Act, MovesAlike, ActAlike, PassesSame, JumpsSame, pick}
-use Rattle.pliron_theory.specs.Renaming.{IsReached}
+use Rattle.pliron_theory.specs.Renaming.{RunReaches}
 use Rattle.pliron_theory.specs.Keeps.{IsFit}
 use Rattle.pliron_theory.specs.Dropping.{IsArgumentDropped, PassesWithout, entry_key, LeadsWithout, HoldsWithout}
 use Rattle.pliron_theory.proofs.Simulation.{anything_kept}
@@ -54,7 +54,7 @@ pick_data : (env : Environment) (vs : List ℕ) (input : List Datum) → data_of
 pick_data env [] input e p w q = grind arith
 pick_data env (x ∷ vs) input e p w q = go (env x) (data_of env vs) refl e p q (λ ds f i r. pick_data env vs ds f i w r)
   where
-    go : (a : Option Datum) (b : Option (List Datum)) → env x ≡ a → put_first a b ≡ Some input → (p : ℕ) → slice_get (x ∷ vs) p ≡ Some w → ((ds : List Datum) → b ≡ Some ds → (i : ℕ) → slice_get vs i ≡ Some w → (d : Datum) × (env w ≡ Some d) × (slice_get ds i ≡ Some d)) → (d : Datum) × (env w ≡ Some d) × (slice_get input p ≡ Some d)
+    go : (a : Option Datum) (b : Option (List Datum)) → env x ≡ a → prepended a b ≡ Some input → (p : ℕ) → slice_get (x ∷ vs) p ≡ Some w → ((ds : List Datum) → b ≡ Some ds → (i : ℕ) → slice_get vs i ≡ Some w → (d : Datum) × (env w ≡ Some d) × (slice_get ds i ≡ Some d)) → (d : Datum) × (env w ≡ Some d) × (slice_get input p ≡ Some d)
     go None b ea f p r again = grind arith
     go (Some d) None ea f p r again = grind arith
     go (Some d) (Some ds) ea f zero r again = (d, ap env (sym (some_is r)) ∙ ea, ap (λ z. slice_get z zero) (sym (some_is f)))
@@ -69,7 +69,7 @@ picked_data env vs (w ∷ ws) (p ∷ ps) input e q =
     let rest : map Some ws ≡ pick ps vs = cc in
     let x = pick_data env vs input e p w (sym here) in
     let y = picked_data env vs ws ps input e rest in
-    (x.0 ∷ y.0, ap₂ put_first x.1 y.1, ap₂ (λ a b. a ∷ b) (sym x.2) y.2)
+    (x.0 ∷ y.0, ap₂ prepended x.1 y.1, ap₂ (λ a b. a ∷ b) (sym x.2) y.2)
 
 module _ (m : Meaning) (t t' : Tree) (block index v : ℕ) (kept : ℕ → List ℕ) (w : IsTree t) (w' : IsTree t') (h : IsArgumentDropped t t' block index v kept) where
   abbrev gone : ℕ → Bool
@@ -271,7 +271,7 @@ module _ (m : Meaning) (t t' : Tree) (block index v : ℕ) (kept : ℕ → List 
     first_some : (k : ℕ) (o o' : Operation) (x y : Option (List Datum)) (p q : List Datum) → x ≡ Some p → y ≡ Some q → Acts k o o' p q → FirstAlike m t t' comparison k o o' x y
     first_some k o o' x y p q e g r = subst (λ z. FirstAlike m t t' comparison k o o' z y) (sym e) (subst (λ z. FirstAlike m t t' comparison k o o' (Some p) z) (sym g) r)
 
-    reads : Reads m t t' comparison (IsReached m t root) (λ s. Unit {0})
+    reads : Reads m t t' comparison (RunReaches m t root) (λ s. Unit {0})
     reads s s' i j r k rest o o' e none l oe oe' = elim (decide_in block (successors_of t k)) [ inl b ↦ branch b | inr n ↦ other n ]
       where
         y : IsReady t w root m f.linked.edges f.defined s k rest
@@ -296,7 +296,7 @@ module _ (m : Meaning) (t t' : Tree) (block index v : ℕ) (kept : ℕ → List 
 
     pub dropped_agree : Agree m t t' root
     dropped_agree =
-        substituted_agree m t t' comparison substitutes (IsReached m t root) (λ s. Unit {0}) reads (λ s s' i r k rest l e q. grind arith) root (reached_kept m t root) (anything_kept (step m t')) (record {
+        substituted_agree m t t' comparison substitutes (RunReaches m t root) (λ s. Unit {0}) reads (λ s s' i r k rest l e q. grind arith) root (reached_kept m t root) (anything_kept (step m t')) (record {
           stays = refl;
           same = refl;
           own = tt;

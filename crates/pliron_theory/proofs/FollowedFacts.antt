@@ -35,7 +35,7 @@ use Rattle.pliron_laws.proofs.PutLinks.{linked_first}
 use Rattle.pliron_laws.specs.Linked.{IsWellLinked}
 use Rattle.pliron_theory.proofs.MaterialisedKeeps.{result_keeps}
 use Rattle.pliron_theory.proofs.SweptKeeps.{same_keeps}
-use Rattle.pliron_theory.specs.Facts.{Fact, Constant, Facts, Says, handed, answers_of, Stands, AreClosed, AreHeld}
+use Rattle.pliron_theory.specs.Facts.{Fact, Constant, Facts, Says, handed, answers_of, IsInReachedBlock, AreClosed, AreHeld}
 use Rattle.pliron_theory.specs.Sound.{read_of}
 use Rattle.pliron_theory.specs.Following.{StandsAsBefore, Follows, FollowingLaws}
 use Rattle.pliron_theory.proofs.SoundEverywhere.{sound_facts}
@@ -133,7 +133,7 @@ module _ (x : Says) (t₀ : Tree) (root : ℕ) (f₀ : Facts) (w₀ : IsTree t�
 
   module _ (answers : AnswersTrue x.meaning x.can_fold x.constants) (jumps : AnswersJumps x.meaning x.can_fold_branch x.feasible) (passes : PassesForwarded x.meaning) (accepts : AttrObj → Bool) (head : AttrObj → Head) (makes : MakesConstants x.meaning accepts head) (plain : (attr : AttrObj) → IsTrue (accepts attr) → x.meaning.is_branch (head attr) ≡ false) where
     -- a constant is put before an operation in a block that is reached
-    pub put_on : (t : Tree) → Follows x t₀ root f₀ t → (k i v : ℕ) (attr : AttrObj) → Stands t₀ f₀ k → IsLive t₀ k → slice_get (results_of t₀ k) i ≡ Some v → read_of x t₀ f₀ v ≡ Constant attr → IsTrue (accepts attr) → Follows x t₀ root f₀ (materialised t k v (head attr))
+    pub put_on : (t : Tree) → Follows x t₀ root f₀ t → (k i v : ℕ) (attr : AttrObj) → IsInReachedBlock t₀ f₀ k → IsLive t₀ k → slice_get (results_of t₀ k) i ≡ Some v → read_of x t₀ f₀ v ≡ Constant attr → IsTrue (accepts attr) → Follows x t₀ root f₀ (materialised t k v (head attr))
     put_on t g k i v attr (b, p, reached) live listed is accepted = subst (Follows x t₀ root f₀) (sym (put_is t k v b (head attr) g.tree here)) done
       where
         here : parent_of t k ≡ Some b
@@ -177,7 +177,7 @@ module _ (x : Says) (t₀ : Tree) (root : ℕ) (f₀ : Facts) (w₀ : IsTree t�
         some_lives k results more (materialised t k v (head attr)) u done z (subst (λ r. IsSome r.head) (sym (put_row t k v z (head attr) (live-within t z l))) l)
 
     -- some of the answered results of an operation are materialised
-    pub fold_on : (k : ℕ) (o₀ : Operation) → Stands t₀ f₀ k → op_at t₀ k ≡ Some o₀ → IsTrue (x.can_fold o₀.head) → (t t' : Tree) → Follows x t₀ root f₀ t → IsTree t' → MaterialisesSome accepts head k o₀.results (answers_of x t₀ f₀ o₀) t t' → length t.operations ≤ length t'.operations → Follows x t₀ root f₀ t'
+    pub fold_on : (k : ℕ) (o₀ : Operation) → IsInReachedBlock t₀ f₀ k → op_at t₀ k ≡ Some o₀ → IsTrue (x.can_fold o₀.head) → (t t' : Tree) → Follows x t₀ root f₀ t → IsTree t' → MaterialisesSome accepts head k o₀.results (answers_of x t₀ f₀ o₀) t t' → length t.operations ≤ length t'.operations → Follows x t₀ root f₀ t'
     fold_on k o₀ stands at folds t t' g w' (Rest same) longer = same_on t t' g w' same longer
     fold_on k o₀ stands at folds t t' g w' (Then i v attr listed said accepted done) longer =
         fold_on k o₀ stands at folds (materialised t k v (head attr)) t' (put_on t g k i v attr stands live listed_there is accepted) w' done grown

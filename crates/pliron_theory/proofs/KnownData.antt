@@ -4,7 +4,7 @@ use Rattle.std.proofs.lemmas.Bool.Decides.{eqb_tells}
 use Rattle.pliron_core.specs.declared.attrs.AttrObj.{AttrObj}
 use Rattle.pliron_core.proofs.HoldingLemmas.{some_is, not_none}
 use Rattle.pliron_laws.specs.Datum.{Datum, datum_of}
-use Rattle.pliron_laws.specs.States.{Environment, bound, bind, put_first}
+use Rattle.pliron_laws.specs.States.{Environment, bound, bind, prepended}
 use Rattle.pliron_laws.specs.Acting.{Known, pick}
 
 -- a constant that is known is the datum at its place
@@ -27,7 +27,7 @@ some_at [] j d e = absurd (not_none e)
 some_at (x ∷ ds) zero d e = ap Some e
 some_at (x ∷ ds) (suc j) d e = some_at ds j d e
 
-pub put_both : (o : Option Datum) (p : Option (List Datum)) (ds : List Datum) → put_first o p ≡ Some ds → (d : Datum) × (others : List Datum) × (o ≡ Some d) × (p ≡ Some others) × (d ∷ others ≡ ds)
+pub put_both : (o : Option Datum) (p : Option (List Datum)) (ds : List Datum) → prepended o p ≡ Some ds → (d : Datum) × (others : List Datum) × (o ≡ Some d) × (p ≡ Some others) × (d ∷ others ≡ ds)
 put_both None p ds e = grind arith
 put_both (Some d) None ds e = grind arith
 put_both (Some d) (Some others) ds e = (d, others, refl, refl, some_is e)

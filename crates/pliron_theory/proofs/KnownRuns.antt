@@ -10,7 +10,7 @@ use Rattle.pliron_laws.specs.Tree.{Operation, op_at, shape_of}
 use Rattle.pliron_laws.specs.Folding.{Constants, Feasible, AnswersTrue, AnswersJumps}
 use Rattle.pliron_laws.specs.Linked.{EndsBlock}
 use Rattle.pliron_theory.specs.Keeps.{IsFit}
-use Rattle.pliron_theory.specs.Knowing.{AreClosed, FactsLaw}
+use Rattle.pliron_theory.specs.Knowing.{AreClosedUnderFolding, FactsLaw}
 use Rattle.pliron_theory.specs.Facts.{Fact, known, answered, Facts, Says, handed, answers_of}
 use Rattle.pliron_theory.specs.Sound.{IsRightResult}
 use Rattle.pliron_laws.proofs.Records.{op_shows}
@@ -58,7 +58,7 @@ pub handed_everywhere : (facts : ℕ → Option AttrObj) (vs : List ℕ) → han
 handed_everywhere facts [] = refl
 handed_everywhere facts (v ∷ vs) = ap₂ (λ o os. o ∷ os) (known_answered (facts v)) (handed_everywhere facts vs)
 
-module _ (x : Says) (t : Tree) (root : ℕ) (facts : ℕ → Option AttrObj) (w : IsTree t) (f : IsFit x.meaning t root) (closed : AreClosed x.meaning x.can_fold x.constants t root facts) where
+module _ (x : Says) (t : Tree) (root : ℕ) (facts : ℕ → Option AttrObj) (w : IsTree t) (f : IsFit x.meaning t root) (closed : AreClosedUnderFolding x.meaning x.can_fold x.constants t root facts) where
   abbrev read : ℕ → Fact
   read v = answered (facts v)
 

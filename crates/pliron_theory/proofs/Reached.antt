@@ -3,7 +3,7 @@ use Rattle.std.proofs.Common.{◌≡◌, ℕ, zero, suc, List, refl, ap, ◌∙�
 use Rattle.pliron_laws.specs.Datum.{Datum, Meaning}
 use Rattle.pliron_laws.specs.Tree.{Tree}
 use Rattle.pliron_laws.specs.Machine.{State, Next, Goes, Over, Sight, run_from, onward, step, start}
-use Rattle.pliron_theory.specs.Renaming.{IsReached}
+use Rattle.pliron_theory.specs.Renaming.{RunReaches}
 use Rattle.pliron_theory.proofs.Simulation.{IfGoes, Kept}
 
 goes_same : (a b : State) → Goes a ≡ Goes b → a ≡ b
@@ -21,14 +21,14 @@ one_more f (suc n) s a b e g = go (f s) refl e (λ c h. one_more f n c a b h g)
     go (Goes c) h k again = ap (λ o. onward o (run_from f (suc n))) h ∙ again c k
     go (Over x) h k again = absurd (not_over x a k)
 
-pub reached_kept : (m : Meaning) (t : Tree) (root : ℕ) → Kept (step m t) (IsReached m t root)
+pub reached_kept : (m : Meaning) (t : Tree) (root : ℕ) → Kept (step m t) (RunReaches m t root)
 reached_kept m t root = record { keeps = λ s r. go s r (step m t s) refl }
   where
-    go : (s : State) → IsReached m t root s → (o : Next) → step m t s ≡ o → IfGoes o (IsReached m t root)
+    go : (s : State) → RunReaches m t root s → (o : Next) → step m t s ≡ o → IfGoes o (RunReaches m t root)
     go s r (Goes a) e = (r.0, r.1, suc r.2, one_more (step m t) r.2 (start root r.0 r.1) s a r.3 e)
     go s r (Over x) e = tt
 
-pub reached_start : (m : Meaning) (t : Tree) (root : ℕ) (inputs world : List Datum) → IsReached m t root (start root inputs world)
+pub reached_start : (m : Meaning) (t : Tree) (root : ℕ) (inputs world : List Datum) → RunReaches m t root (start root inputs world)
 reached_start m t root inputs world = (inputs, world, zero, refl)
 
 -- what holds at the start and is kept holds in each state that is reached
@@ -40,5 +40,5 @@ keeps_on f P kept (suc n) s a p e = go (f s) (kept.keeps s p) e (λ c q h. keeps
     go (Goes c) q h again = again c q h
     go (Over x) q h again = absurd (not_over x a h)
 
-pub reached_holds : (m : Meaning) (t : Tree) (root : ℕ) (P : State → Type 0) → Kept (step m t) P → ((inputs world : List Datum) → P (start root inputs world)) → (s : State) → IsReached m t root s → P s
+pub reached_holds : (m : Meaning) (t : Tree) (root : ℕ) (P : State → Type 0) → Kept (step m t) P → ((inputs world : List Datum) → P (start root inputs world)) → (s : State) → RunReaches m t root s → P s
 reached_holds m t root P kept begins s r = keeps_on (step m t) P kept r.2 (start root r.0 r.1) s (begins r.0 r.1) r.3

@@ -12,7 +12,7 @@ use Rattle.pliron_laws.specs.Machine.{entry_in, block_in, step}
 use Rattle.pliron_laws.specs.Agree.{Agree}
 use Rattle.pliron_laws.specs.Acting.{ActAlike, PassesSame, JumpsSame}
 use Rattle.pliron_laws.specs.Replacing.{JumpsTo}
-use Rattle.pliron_theory.specs.Renaming.{IsReached}
+use Rattle.pliron_theory.specs.Renaming.{RunReaches}
 use Rattle.pliron_theory.specs.Keeps.{IsFit}
 use Rattle.pliron_theory.specs.Rebranching.{IsRebranched, ActsInPlace}
 use Rattle.pliron_theory.proofs.Simulation.{anything_kept}
@@ -250,7 +250,7 @@ module _ (m : Meaning) (t t' : Tree) (a op new : ℕ) (front : List ℕ) (w : Is
   first_some k o o' x y p q e f r = subst (λ z. FirstAlike m t t' comparison k o o' z y) (sym e) (subst (λ z. FirstAlike m t t' comparison k o o' (Some p) z) (sym f) r)
 
   module _ (root : ℕ) (f : IsFit m t root) (alike : ActsInPlace m t t' root op new) (left : root ≢ op) where
-    reads : Reads m t t' comparison (IsReached m t root) (λ s. Unit {0})
+    reads : Reads m t t' comparison (RunReaches m t root) (λ s. Unit {0})
     reads s s' i j r k rest o o' e none l oe oe' = elim (cases_eq k op) [ inl q ↦ branch q | inr np ↦ stays np ]
       where
         stays : k ≢ op → FirstAlike m t t' comparison k o o' (data_of s.environment o.operands) (data_of s'.environment o'.operands)
@@ -270,7 +270,7 @@ module _ (m : Meaning) (t t' : Tree) (a op new : ℕ) (front : List ℕ) (w : Is
 
     pub rebranched_agree : Agree m t t' root
     rebranched_agree =
-        substituted_agree m t t' comparison substitutes (IsReached m t root) (λ s. Unit {0}) reads (λ s s' i r k rest l e q. grind arith) root (reached_kept m t root) (anything_kept (step m t')) (record {
+        substituted_agree m t t' comparison substitutes (RunReaches m t root) (λ s. Unit {0}) reads (λ s s' i r k rest l e q. grind arith) root (reached_kept m t root) (anything_kept (step m t')) (record {
           stays = refl;
           same = exchanged_other op new root left (live_old root f.live);
           own = tt;

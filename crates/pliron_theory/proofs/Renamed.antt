@@ -10,7 +10,7 @@ use Rattle.pliron_core.specs.Reads.{has_ssa_at, ssa_in}
 use Rattle.pliron_core.proofs.HoldingLemmas.{some_is, some_of, inside_alike, within_alike}
 use Rattle.pliron_laws.specs.Datum.{Datum, Empty, Head, Meaning}
 use Rattle.pliron_laws.specs.Tree.{Operation, Block, op_at, block_with, block_at, region_with, region_at, entry_of, and_block, entry_block, count_arguments, shape_of}
-use Rattle.pliron_laws.specs.States.{Environment, State, bind, put_first, data_of}
+use Rattle.pliron_laws.specs.States.{Environment, State, bind, prepended, data_of}
 use Rattle.pliron_laws.specs.Machine.{entry_in, block_in}
 use Rattle.pliron_laws.specs.Agree.{Agree}
 use Rattle.pliron_laws.specs.Acting.{PassesSame, JumpsSame}
@@ -18,7 +18,7 @@ use Rattle.pliron_laws.specs.Paths.{Path}
 use Rattle.pliron_laws.specs.Root.{defining_block, HasPassed, IsDominated, WellDefined}
 use Rattle.pliron_laws.specs.Linked.{EndsBlock, IsWellLinked}
 use Rattle.pliron_theory.specs.Keeps.{IsFit, KeepsRuns}
-use Rattle.pliron_theory.specs.Renaming.{IsRenamed, MayUse, IsReached, HaveSameData}
+use Rattle.pliron_theory.specs.Renaming.{IsRenamed, MayUse, RunReaches, HaveSameData}
 use Rattle.pliron_theory.proofs.Lockstep.{EnvsTied}
 use Rattle.pliron_laws.proofs.Records.{op_shows, operation_of, make_op, no_op}
 use Rattle.pliron_theory.proofs.Alike.{alike_refl, shape_same, SameBut, bind_same}
@@ -264,16 +264,16 @@ module _ (t t' : Tree) (rename : ℕ → ℕ) (h : IsRenamed t t' rename) where
 
   data_renamed : (env env' : Environment) (vs : List ℕ) → ((v : ℕ) → In v vs → env v ≡ env' (rename v)) → data_of env vs ≡ data_of env' (map rename vs)
   data_renamed env env' [] f = refl
-  data_renamed env env' (v ∷ vs) f = ap₂ put_first (f v (inl refl)) (data_renamed env env' vs (λ w i. f w (inr i)))
+  data_renamed env env' (v ∷ vs) f = ap₂ prepended (f v (inl refl)) (data_renamed env env' vs (λ w i. f w (inr i)))
 
   module _ (m : Meaning) (root : ℕ) (live : IsLive t root) (same : HaveSameData m t t' rename root) where
-    reads : Reads m t t' comparison (IsReached m t root) (IsReached m t' root)
+    reads : Reads m t t' comparison (RunReaches m t root) (RunReaches m t' root)
     reads s s' i j r k rest o o' e none l oe oe' =
         let f = same_op k o o' oe oe' in
         first_alike m k o o' (shape_renamed m o ∙ ap (shape_of m t') f) (data_of s.environment o.operands) (data_of s'.environment o'.operands)
         (data_renamed s.environment s'.environment o.operands (λ v q. same s s' k v rest i j (λ x. r.environment x refl) e (r.place.0 ∙ sym (placed_same s.rest) ∙ e) none (sym r.answer ∙ none) (subst (In v) (sym (op_shows t k o oe).operands) q) ∙ r.environment (rename v) refl) ∙ ap (λ z. data_of s'.environment z.operands) f)
 
-    skips : Skips m t t' comparison (IsReached m t root)
+    skips : Skips m t t' comparison (RunReaches m t root)
     skips s s' i r k rest l e q = grind arith
 
     begun : (inputs : List Datum) → Begun m t t' comparison root Empty inputs
@@ -283,7 +283,7 @@ module _ (t t' : Tree) (rename : ℕ → ℕ) (h : IsRenamed t t' rename) where
         let oe = make_op t root x.0 x.1 in
         Starts o (record o { operands = map rename o.operands }) oe (op_renamed root o oe) (alike_refl m.act _ _ inputs inputs (shape_renamed m o) refl) refl
 
-    begins : BeginsAlike m t t' comparison (substitutes m) (IsReached m t root) (IsReached m t' root) reads skips root
+    begins : BeginsAlike m t t' comparison (substitutes m) (RunReaches m t root) (RunReaches m t' root) reads skips root
     begins = record {
       stays = refl;
       same = refl;
@@ -295,12 +295,12 @@ module _ (t t' : Tree) (rename : ℕ → ℕ) (h : IsRenamed t t' rename) where
     }
 
     pub renamed_agree : Agree m t t' root
-    renamed_agree = substituted_agree m t t' comparison (substitutes m) (IsReached m t root) (IsReached m t' root) reads skips root (reached_kept m t root) (reached_kept m t' root) begins
+    renamed_agree = substituted_agree m t t' comparison (substitutes m) (RunReaches m t root) (RunReaches m t' root) reads skips root (reached_kept m t root) (reached_kept m t' root) begins
 
     -- a state of a run after it has its like before
-    pub renamed_back : (s' : State) → IsReached m t' root s' → (k : ℕ) (rest : List ℕ) → s'.rest ≡ k ∷ rest → s'.answer ≡ None → (s : State) × IsReached m t root s × (s.rest ≡ k ∷ rest) × (s.answer ≡ None) × ((v : ℕ) → s.environment v ≡ s'.environment v)
+    pub renamed_back : (s' : State) → RunReaches m t' root s' → (k : ℕ) (rest : List ℕ) → s'.rest ≡ k ∷ rest → s'.answer ≡ None → (s : State) × RunReaches m t root s × (s.rest ≡ k ∷ rest) × (s.answer ≡ None) × ((v : ℕ) → s.environment v ≡ s'.environment v)
     renamed_back s' r k rest e none =
-        let x = substituted_back m t t' comparison (substitutes m) (IsReached m t root) (IsReached m t' root) reads skips root (reached_kept m t root) (reached_kept m t' root) begins s' r in
+        let x = substituted_back m t t' comparison (substitutes m) (RunReaches m t root) (RunReaches m t' root) reads skips root (reached_kept m t root) (reached_kept m t' root) begins s' r in
         (x.0, x.1, placed_same x.0.rest ∙ sym x.2.place.0 ∙ e, x.2.answer ∙ none, λ v. x.2.environment v refl)
 
 pub renamed_keeps : (m : Meaning) (t t' : Tree) (rename : ℕ → ℕ) → IsRenamed t t' rename → length t.operations ≡ length t'.operations → ((root : ℕ) → IsFit m t root → (user v : ℕ) → In v (operands_of t user) → MayUse t root user (rename v)) → ((root : ℕ) → IsFit m t root → IsFit m t' root → HaveSameData m t t' rename root) → KeepsRuns m t t'

@@ -14,7 +14,7 @@ use Rattle.pliron_theory.specs.Keeps.{IsFit}
 use Rattle.pliron_theory.specs.Renaming.{IsReadAs}
 use Rattle.pliron_laws.proofs.Records.{op_shows}
 use Rattle.pliron_theory.proofs.Reading.{ready_when_reached}
-use Rattle.pliron_theory.specs.Facts.{Fact, NotAConstant, AtMost, Facts, Says, Stands, MayGo, Forwards}
+use Rattle.pliron_theory.specs.Facts.{Fact, NotAConstant, AtMost, Facts, Says, IsInReachedBlock, IsFeasibleEdge, Forwards}
 use Rattle.pliron_theory.specs.Sound.{AreSound, IsMadeThere, IsRightResult, SoundFactsLaw}
 use Rattle.pliron_theory.proofs.SoundRuns.{PassesForwarded, MayMove, AreKept, constants_read}
 
@@ -41,15 +41,15 @@ module _ (says : Says) (t : Tree) (root : ℕ) (f : Facts) (read : ℕ → Fact)
 
   -- the other root is in a block that is reached, where it is inside this one
   abbrev pub Counts : ℕ → Type 0
-  Counts other = IsWithin t root other → (other ≡ root) ⊎ Stands t f other
+  Counts other = IsWithin t root other → (other ≡ root) ⊎ IsInReachedBlock t f other
 
   module _ (other : ℕ) (counts : Counts other) (fit : IsFit says.meaning t other) where
-    stands : (k : ℕ) → MayMove t other Comes_to k → IsInside t root k → Stands t f k
+    stands : (k : ℕ) → MayMove t other Comes_to k → IsInside t root k → IsInReachedBlock t f k
     stands k may inside = (may.1.0, may.1.1, may.1.2 (block_inside may.1.0 may.1.1 inside))
 
-    counted : (k : ℕ) → (k ≡ other) ⊎ MayMove t other Comes_to k → IsWithin t root k → (k ≡ root) ⊎ Stands t f k
+    counted : (k : ℕ) → (k ≡ other) ⊎ MayMove t other Comes_to k → IsWithin t root k → (k ≡ root) ⊎ IsInReachedBlock t f k
     counted k may (inl e) = inl e
-    counted k (inl e) (inr inside) = subst (λ z. (z ≡ root) ⊎ Stands t f z) (sym e) (counts (inr (subst (IsInside t root) e inside)))
+    counted k (inl e) (inr inside) = subst (λ z. (z ≡ root) ⊎ IsInReachedBlock t f z) (sym e) (counts (inr (subst (IsInside t root) e inside)))
     counted k (inr may) (inr inside) = inr (stands k may inside)
 
     within_or : (k : ℕ) → IsWithin t root k ⊎ (IsWithin t root k → ⊥)
@@ -77,7 +77,7 @@ module _ (says : Says) (t : Tree) (root : ℕ) (f : Facts) (read : ℕ → Fact)
         arguments (inl within) v j = (sound.entries k r b (counted k may within) i e).1 v j
         arguments (inr never) v j = sound.no_arguments b v (λ h. never (subst (IsWithin t root) (some_is (sym h.1 ∙ held)) h.2)) j
 
-    jumps : (k i b : ℕ) (o : Operation) → MayMove t other Comes_to k → op_at t k ≡ Some o → MayGo says t f o i b → Comes_to b × ((j v : ℕ) → slice_get (arguments_of t b) j ≡ Some v → (read v ≡ NotAConstant) ⊎ (IsTrue (says.meaning.is_branch o.head) × ((y : ℕ) → Forwards says t o i j y → AtMost (read v) (read y))))
+    jumps : (k i b : ℕ) (o : Operation) → MayMove t other Comes_to k → op_at t k ≡ Some o → IsFeasibleEdge says t f o i b → Comes_to b × ((j v : ℕ) → slice_get (arguments_of t b) j ≡ Some v → (read v ≡ NotAConstant) ⊎ (IsTrue (says.meaning.is_branch o.head) × ((y : ℕ) → Forwards says t o i j y → AtMost (read v) (read y))))
     jumps k i b o may e go = by (inside_or t root k w.joined.rooted)
       where
         target : In b (successors_of t k)
@@ -101,20 +101,20 @@ module _ (says : Says) (t : Tree) (root : ℕ) (f : Facts) (read : ℕ → Fact)
     kept = record { finer = sound.finer; visits = visits; jumps = jumps; results = results }
 
   -- nothing in a root that stands where runs do not come is in a block that is reached
-  module _ (other : ℕ) (inside : IsInside t root other) (away : Stands t f other → ⊥) where
+  module _ (other : ℕ) (inside : IsInside t root other) (away : IsInReachedBlock t f other → ⊥) where
     not_root : (k : ℕ) → IsWithin t other k → k ≢ root
     not_root k (inl e) s = not_itself w.joined.rooted (subst (λ z. IsInside t root z) (sym e ∙ s) inside)
     not_root k (inr i) s = not_itself w.joined.rooted (deeper inside (subst (IsInside t other) s i))
 
-    held_stands : (b k : ℕ) → IsWithin t other k → IsTrue (f.reaches b) → block_holder_of t b ≡ Some k → Stands t f k
+    held_stands : (b k : ℕ) → IsWithin t other k → IsTrue (f.reaches b) → block_holder_of t b ≡ Some k → IsInReachedBlock t f k
     held_stands b k within reached e = ⊎_elim (λ s. absurd (not_root k within s)) (λ x. x) (sound.held b k reached e)
 
-    none_inside : (k : ℕ) → IsInside t other k → Stands t f k → ⊥
+    none_inside : (k : ℕ) → IsInside t other k → IsInReachedBlock t f k → ⊥
     none_inside k (Directly e) (b, p, reached) = away (held_stands b other (inl refl) reached (sym (ap (λ o. up_from o (λ b. block_holder_of t b)) p) ∙ e))
     none_inside k (Deeper h e i) (b, p, reached) = none_inside h i (held_stands b h (inr i) reached (sym (ap (λ o. up_from o (λ b. block_holder_of t b)) p) ∙ e))
 
-    none_within : (k : ℕ) → IsWithin t other k → Stands t f k → ⊥
-    none_within k (inl e) s = away (subst (Stands t f) e s)
+    none_within : (k : ℕ) → IsWithin t other k → IsInReachedBlock t f k → ⊥
+    none_within k (inl e) s = away (subst (IsInReachedBlock t f) e s)
     none_within k (inr i) s = none_inside k i s
 
     pub not_made : (v : ℕ) → IsMadeThere t f v → IsMadeInside t other v → ⊥
@@ -143,7 +143,7 @@ sound_facts says answers branches passes t root f read w sound v c made is other
         let ready = ready_when_reached says.meaning t other w fit s r k rest q none in
         absurd (not_made says t root f read w sound other inside away v made (fit.defined.own_values k v ready.inside i))
       where
-        away : Stands t f other → ⊥
+        away : IsInReachedBlock t f other → ⊥
         away (d, q, reached) = let same : d ≡ b = some_is (sym q ∙ p) in absurd (true≢false (sym reached ∙ ap f.reaches same ∙ e))
 
     by : IsInside t root other ⊎ (IsInside t root other → ⊥) → IsReadAs says.meaning t v (datum_of c) other

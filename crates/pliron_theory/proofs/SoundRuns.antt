@@ -12,7 +12,7 @@ use Rattle.pliron_laws.specs.Acting.{Comes, Begins, Answered, Told, Known, pick}
 use Rattle.pliron_laws.specs.Laws.{Admitted}
 use Rattle.pliron_laws.specs.Folding.{AnswersTrue, AnswersJumps}
 use Rattle.pliron_theory.specs.Keeps.{IsFit}
-use Rattle.pliron_theory.specs.Renaming.{IsReached, IsReadAs, GivesConstant}
+use Rattle.pliron_theory.specs.Renaming.{RunReaches, IsReadAs, GivesConstant}
 use Rattle.pliron_theory.proofs.Frames.{Facts as FrameFacts, Makes, Rules, Holding, holding_kept}
 use Rattle.pliron_laws.proofs.Records.{ShowsEntry, op_shows, block_shows, entry_shows}
 use Rattle.pliron_theory.proofs.Alike.{data_long}
@@ -21,7 +21,7 @@ use Rattle.pliron_theory.proofs.Reached.{reached_holds}
 use Rattle.pliron_theory.proofs.Reading.{read_data}
 use Rattle.pliron_theory.proofs.SweptKeeps.{admitted_shape}
 use Rattle.pliron_theory.proofs.KnownData.{known_at, picked_at, some_at}
-use Rattle.pliron_theory.specs.Facts.{Fact, Constant, NotAConstant, AtMost, answered, Facts, Says, handed, answers_of, MayGo, Forwards}
+use Rattle.pliron_theory.specs.Facts.{Fact, Constant, NotAConstant, AtMost, answered, Facts, Says, handed, answers_of, IsFeasibleEdge, Forwards}
 use Rattle.pliron_theory.proofs.ConstantKeeps.{no_data}
 use Rattle.pliron_theory.specs.Sound.{IsRightResult}
 use Rattle.pliron_theory.proofs.FactLattice.{Fits, fits_lower, fits_answered, Agrees, bind_agrees, FitEach, read_fits, read_known, same_index, picked_in}
@@ -38,7 +38,7 @@ MayMove t root Comes_to k = IsInside t root k × ((b : ℕ) × (parent_of t k �
 pub record AreKept (x : Says) (t : Tree) (root : ℕ) (Comes_to : ℕ → Type 0) (f : Facts) (read : ℕ → Fact) : Type 0 where
   pub finer : (v : ℕ) → AtMost (f.fact v) (read v)
   pub visits : (k r b : ℕ) → (k ≡ root) ⊎ MayMove t root Comes_to k → In r (regions_of t k) → first_of (layout_of t r) None ≡ Some b → Comes_to b × ((v : ℕ) → In v (arguments_of t b) → read v ≡ NotAConstant)
-  pub jumps : (k i b : ℕ) (o : Operation) → MayMove t root Comes_to k → op_at t k ≡ Some o → MayGo x t f o i b → Comes_to b × ((j v : ℕ) → slice_get (arguments_of t b) j ≡ Some v → (read v ≡ NotAConstant) ⊎ (IsTrue (x.meaning.is_branch o.head) × ((w : ℕ) → Forwards x t o i j w → AtMost (read v) (read w))))
+  pub jumps : (k i b : ℕ) (o : Operation) → MayMove t root Comes_to k → op_at t k ≡ Some o → IsFeasibleEdge x t f o i b → Comes_to b × ((j v : ℕ) → slice_get (arguments_of t b) j ≡ Some v → (read v ≡ NotAConstant) ⊎ (IsTrue (x.meaning.is_branch o.head) × ((w : ℕ) → Forwards x t o i j w → AtMost (read v) (read w))))
   pub results : (k i v : ℕ) (o : Operation) → MayMove t root Comes_to k → op_at t k ≡ Some o → slice_get o.results i ≡ Some v → IsRightResult x t f read k i v o
 
 module _ (says : Says) (answers : AnswersTrue says.meaning says.can_fold says.constants) (jumps : AnswersJumps says.meaning says.can_fold_branch says.feasible) (passes : PassesForwarded says.meaning) (t : Tree) (root : ℕ) (Comes_to : ℕ → Type 0) (found : Facts) (read : ℕ → Fact) (w : IsTree t) (f : IsFit says.meaning t root) (kept : AreKept says t root Comes_to found read) where
@@ -248,7 +248,7 @@ module _ (says : Says) (answers : AnswersTrue says.meaning says.can_fold says.co
   begins : (inputs world : List Datum) → Holding m t knowing rules root (start root inputs world)
   begins inputs world = record { holder = None; always = λ v d e. absurd (not_none e); place = (refl, has_some None inputs, tt, tt); below = tt }
 
-  holds : (s : State) → IsReached m t root s → Holding m t knowing rules root s
+  holds : (s : State) → RunReaches m t root s → Holding m t knowing rules root s
   holds s r = reached_holds m t root (Holding m t knowing rules root) (holding_kept m t knowing rules root) begins s r
 
   -- wherever an operation reads a value that is this constant, it has that datum

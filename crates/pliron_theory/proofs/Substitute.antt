@@ -5,7 +5,7 @@ use Rattle.pliron_laws.specs.Tree.{Tree, Operation, Block, op_at, shape_of}
 use Rattle.pliron_laws.specs.Machine.{Environment, State, Goes, bind, data_of, input_of, leave, entry_in, block_in, perform, move, turn, step_at, step, start}
 use Rattle.pliron_laws.specs.Agree.{Agree}
 use Rattle.pliron_laws.specs.Acting.{Comes, Begins, Answered, Told, MovesAlike, ActAlike}
-use Rattle.pliron_theory.specs.Renaming.{IsReached}
+use Rattle.pliron_theory.specs.Renaming.{RunReaches}
 use Rattle.pliron_theory.proofs.Simulation.{Pace, Left, Kept, KeepPace, pace_under_both, other_way, agree_by, followed}
 use Rattle.pliron_theory.proofs.Lockstep.{NextAlike, paced, Ties, Tied, EnvsTied, EntersTied, alike_tied, leave_tied, trap_tied}
 
@@ -218,13 +218,13 @@ module _ (m : Meaning) (t t' : Tree) (c : Comparison) where
       substituted_agree root kept kept' b = agree_by m t t' root (λ s s'. I s × J s' × Tied ties s s') left (substituted_pace kept kept') (tied_start root b)
 
       -- a state that the one run comes to has its like in the other
-      pub substituted_reached : (root : ℕ) → Kept (step m t) I → Kept (step m t') J → BeginsAlike root → (s : State) → IsReached m t root s → (s' : State) × IsReached m t' root s' × Tied ties s s'
+      pub substituted_reached : (root : ℕ) → Kept (step m t) I → Kept (step m t') J → BeginsAlike root → (s : State) → RunReaches m t root s → (s' : State) × RunReaches m t' root s' × Tied ties s s'
       substituted_reached root kept kept' b s r =
           let x = followed (step m t) (step m t') (λ s s'. I s × J s' × Tied ties s s') left (substituted_pace kept kept') r.2 (start root r.0 r.1) (start root r.0 r.1) s (tied_start root b r.0 r.1) r.3 in
           (x.0, (r.0, r.1, x.1, x.2), x.3.2)
 
       -- and the other way round
-      pub substituted_back : (root : ℕ) → Kept (step m t) I → Kept (step m t') J → BeginsAlike root → (s' : State) → IsReached m t' root s' → (s : State) × IsReached m t root s × Tied ties s s'
+      pub substituted_back : (root : ℕ) → Kept (step m t) I → Kept (step m t') J → BeginsAlike root → (s' : State) → RunReaches m t' root s' → (s : State) × RunReaches m t root s × Tied ties s s'
       substituted_back root kept kept' b s' r =
           let x = followed (step m t') (step m t) (λ s' s. I s × J s' × Tied ties s s') (λ s' s. left s s') (other_way (step m t) (step m t') (λ s s'. I s × J s' × Tied ties s s') left (substituted_pace kept kept')) r.2 (start root r.0 r.1) (start root r.0 r.1) s' (tied_start root b r.0 r.1) r.3 in
           (x.0, (r.0, r.1, x.1, x.2), x.3.2)

@@ -14,7 +14,7 @@ use Rattle.pliron_laws.specs.Acting.{PassesSame, JumpsSame}
 use Rattle.pliron_laws.specs.Root.{WellDefined}
 use Rattle.pliron_laws.specs.Linked.{EdgesLast}
 use Rattle.pliron_theory.specs.Sweeping.{is_maker_dead, IsSwept, DeadGive}
-use Rattle.pliron_theory.specs.Renaming.{IsReached}
+use Rattle.pliron_theory.specs.Renaming.{RunReaches}
 use Rattle.pliron_theory.proofs.Simulation.{anything_kept}
 use Rattle.pliron_theory.proofs.Lockstep.{Tied, EnvsTied}
 use Rattle.pliron_theory.proofs.Bound.{IsOnWay, IsReady, ready, way_kept, way_start}
@@ -215,5 +215,5 @@ module _ (m : Meaning) (t t' : Tree) (dead dead_block : ℕ → Bool) (w : IsTre
     swept_agree live = substituted_agree m t t' comparison substitutes On Any (reads On Any) skips root (way_kept t w root m edges well) (anything_kept (step m t')) (begins live)
 
     -- a state of a run has its like without what is dead
-    pub swept_reached : IsLive t root → (s : State) → IsReached m t root s → (s' : State) × IsReached m t' root s' × Tied (ties m t t' comparison) s s'
+    pub swept_reached : IsLive t root → (s : State) → RunReaches m t root s → (s' : State) × RunReaches m t' root s' × Tied (ties m t t' comparison) s s'
     swept_reached live = substituted_reached m t t' comparison substitutes On Any (reads On Any) skips root (way_kept t w root m edges well) (anything_kept (step m t')) (begins live)

@@ -9,15 +9,19 @@ use Rattle.pliron_core.specs.Edges.{succs_of}
 use Rattle.pliron_core.specs.Joined.{IsTree}
 use Rattle.pliron_core.specs.Changes.{IsSameTree}
 
+-- the blocks of the regions of an operation, in order
+abbrev pub blocks_directly_in : Tree → ℕ → List ℕ
+blocks_directly_in t op = flat_map (λ r. layout_of t r) (regions_of t op)
+
 -- the blocks in the regions of the operations, n levels deep, each with its successors and before the
 -- blocks inside it
-abbrev pub blocks_below : Tree → ℕ → ℕ → List (ℕ × List ℕ)
-blocks_below t zero op = []
-blocks_below t (suc n) op = flat_map (λ r. flat_map (λ b. (b, succs_of t b) ∷ flat_map (λ k. blocks_below t n k) (body_of t b)) (layout_of t r)) (regions_of t op)
+abbrev pub edges_to_depth : Tree → ℕ → ℕ → List (ℕ × List ℕ)
+edges_to_depth t zero op = []
+edges_to_depth t (suc n) op = flat_map (λ r. flat_map (λ b. (b, succs_of t b) ∷ flat_map (λ k. edges_to_depth t n k) (body_of t b)) (layout_of t r)) (regions_of t op)
 
 -- all blocks inside the operation, in pre-order, each with its successors
 abbrev pub edges_inside : Tree → ℕ → List (ℕ × List ℕ)
-edges_inside t op = blocks_below t (suc (length t.operations)) op
+edges_inside t op = edges_to_depth t (suc (length t.operations)) op
 
 -- the blocks and edges inside each operation that still stands are as before
 abbrev pub KeepsEdges : Tree → Tree → Type 0

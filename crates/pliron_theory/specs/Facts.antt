@@ -49,12 +49,12 @@ abbrev pub answers_of : Says → Tree → Facts → Operation → List (Option A
 answers_of x t f o = x.constants (shape_of x.meaning t o) (handed f o.operands)
 
 -- the operation stands in a block that is reached
-abbrev pub Stands : Tree → Facts → ℕ → Type 0
-Stands t f k = (b : ℕ) × (parent_of t k ≡ Some b) × IsTrue (f.reaches b)
+abbrev pub IsInReachedBlock : Tree → Facts → ℕ → Type 0
+IsInReachedBlock t f k = (b : ℕ) × (parent_of t k ≡ Some b) × IsTrue (f.reaches b)
 
 -- the edge i leads to the block b, which is feasible where the operation folds as a branch
-abbrev pub MayGo : Says → Tree → Facts → Operation → (i b : ℕ) → Type 0
-MayGo x t f o i b = (slice_get o.successors i ≡ Some b) × (IsTrue (x.can_fold_branch o.head) → In b (x.feasible (shape_of x.meaning t o) o.successors (handed f o.operands)))
+abbrev pub IsFeasibleEdge : Says → Tree → Facts → Operation → (i b : ℕ) → Type 0
+IsFeasibleEdge x t f o i b = (slice_get o.successors i ≡ Some b) × (IsTrue (x.can_fold_branch o.head) → In b (x.feasible (shape_of x.meaning t o) o.successors (handed f o.operands)))
 
 -- the edge i forwards the value w to the argument with index j
 abbrev pub Forwards : Says → Tree → Operation → (i j w : ℕ) → Type 0
@@ -70,14 +70,14 @@ pub record AreClosed (x : Says) (t : Tree) (root : ℕ) (f : Facts) : Type 0 whe
   -- nothing is known of values that are not made inside the root, its own results among them
   pub outside : (v : ℕ) → (IsMadeInside t root v → ⊥) → f.fact v ≡ NotAConstant
   -- the entry of each region of the root, and of each operation in a block that is reached
-  pub entries : (k r b : ℕ) → (k ≡ root) ⊎ Stands t f k → In r (regions_of t k) → first_of (layout_of t r) None ≡ Some b → IsEntered t f b
+  pub entries : (k r b : ℕ) → (k ≡ root) ⊎ IsInReachedBlock t f k → In r (regions_of t k) → first_of (layout_of t r) None ≡ Some b → IsEntered t f b
   -- where a branch may go, each argument is at or below what the edge forwards to it, where it forwards one
-  pub branches : (k i b : ℕ) (o : Operation) → Stands t f k → op_at t k ≡ Some o → IsTrue (x.meaning.is_branch o.head) → MayGo x t f o i b → IsTrue (f.reaches b) × ((j v w : ℕ) → slice_get (arguments_of t b) j ≡ Some v → Forwards x t o i j w → AtMost (f.fact v) (f.fact w))
-  pub jumps : (k i b : ℕ) (o : Operation) → Stands t f k → op_at t k ≡ Some o → x.meaning.is_branch o.head ≡ false → slice_get o.successors i ≡ Some b → IsEntered t f b
+  pub branches : (k i b : ℕ) (o : Operation) → IsInReachedBlock t f k → op_at t k ≡ Some o → IsTrue (x.meaning.is_branch o.head) → IsFeasibleEdge x t f o i b → IsTrue (f.reaches b) × ((j v w : ℕ) → slice_get (arguments_of t b) j ≡ Some v → Forwards x t o i j w → AtMost (f.fact v) (f.fact w))
+  pub jumps : (k i b : ℕ) (o : Operation) → IsInReachedBlock t f k → op_at t k ≡ Some o → x.meaning.is_branch o.head ≡ false → slice_get o.successors i ≡ Some b → IsEntered t f b
   -- a result of an operation that folds is at or below its answer, other results are not constant
-  pub folded : (k i v : ℕ) (a : Option AttrObj) (o : Operation) → Stands t f k → op_at t k ≡ Some o → IsTrue (x.can_fold o.head) → slice_get o.results i ≡ Some v → slice_get (answers_of x t f o) i ≡ Some a → AtMost (f.fact v) (answered a)
-  pub others : (k v : ℕ) (o : Operation) → Stands t f k → op_at t k ≡ Some o → x.can_fold o.head ≡ false → In v o.results → f.fact v ≡ NotAConstant
+  pub folded : (k i v : ℕ) (a : Option AttrObj) (o : Operation) → IsInReachedBlock t f k → op_at t k ≡ Some o → IsTrue (x.can_fold o.head) → slice_get o.results i ≡ Some v → slice_get (answers_of x t f o) i ≡ Some a → AtMost (f.fact v) (answered a)
+  pub others : (k v : ℕ) (o : Operation) → IsInReachedBlock t f k → op_at t k ≡ Some o → x.can_fold o.head ≡ false → In v o.results → f.fact v ≡ NotAConstant
 
 -- what holds a block that is reached is the root or stands in a block that is reached
 abbrev pub AreHeld : Tree → ℕ → Facts → Type 0
-AreHeld t root f = (b k : ℕ) → IsTrue (f.reaches b) → block_holder_of t b ≡ Some k → (k ≡ root) ⊎ Stands t f k
+AreHeld t root f = (b k : ℕ) → IsTrue (f.reaches b) → block_holder_of t b ≡ Some k → (k ≡ root) ⊎ IsInReachedBlock t f k

@@ -11,7 +11,7 @@ use Rattle.pliron_laws.specs.Linked.{IsWellLinked}
 use Rattle.pliron_laws.specs.Outcomes.{MaterialisesSome}
 use Rattle.pliron_theory.specs.Edges.{KeepsEdges}
 use Rattle.pliron_theory.specs.Rewrites.{materialised_first}
-use Rattle.pliron_theory.specs.Facts.{Fact, Constant, Facts, Says, handed, answers_of, Stands, AreClosed, AreHeld}
+use Rattle.pliron_theory.specs.Facts.{Fact, Constant, Facts, Says, handed, answers_of, IsInReachedBlock, AreClosed, AreHeld}
 use Rattle.pliron_theory.specs.Sound.{AreSound, read_of}
 
 -- an operation of the first tree stands as it did, but for operands, about which the same is known
@@ -49,6 +49,6 @@ pub record Follows (x : Says) (t₀ : Tree) (root : ℕ) (f₀ : Facts) (t : Tre
 -- what these know of its operands goes on, and so does a constant put first in a block for an argument, and a refusal
 pub record FollowingLaws (x : Says) (accepts : AttrObj → Bool) (head : AttrObj → Head) : Type 0 where
   pub start : (t₀ : Tree) (root : ℕ) (f₀ : Facts) → IsTree t₀ → AreClosed x t₀ root f₀ → AreHeld t₀ root f₀ → Follows x t₀ root f₀ t₀
-  pub folded : (t₀ : Tree) (root : ℕ) (f₀ : Facts) (t t' : Tree) → IsTree t₀ → Follows x t₀ root f₀ t → IsTree t' → (k : ℕ) (o₀ : Operation) → Stands t₀ f₀ k → op_at t₀ k ≡ Some o₀ → IsTrue (x.can_fold o₀.head) → MaterialisesSome accepts head k o₀.results (answers_of x t₀ f₀ o₀) t t' → length t.operations ≤ length t'.operations → Follows x t₀ root f₀ t'
+  pub folded : (t₀ : Tree) (root : ℕ) (f₀ : Facts) (t t' : Tree) → IsTree t₀ → Follows x t₀ root f₀ t → IsTree t' → (k : ℕ) (o₀ : Operation) → IsInReachedBlock t₀ f₀ k → op_at t₀ k ≡ Some o₀ → IsTrue (x.can_fold o₀.head) → MaterialisesSome accepts head k o₀.results (answers_of x t₀ f₀ o₀) t t' → length t.operations ≤ length t'.operations → Follows x t₀ root f₀ t'
   pub argument : (t₀ : Tree) (root : ℕ) (f₀ : Facts) (t : Tree) → IsTree t₀ → Follows x t₀ root f₀ t → (b v : ℕ) (attr : AttrObj) → IsTrue (f₀.reaches b) → In v (arguments_of t₀ b) → f₀.fact v ≡ Constant attr → IsTrue (accepts attr) → IsTree (materialised_first t b v (head attr)) → KeepsRuns x.meaning t (materialised_first t b v (head attr)) → Follows x t₀ root f₀ (materialised_first t b v (head attr))
   pub same : (t₀ : Tree) (root : ℕ) (f₀ : Facts) (t t' : Tree) → IsTree t₀ → Follows x t₀ root f₀ t → IsTree t' → IsSameTree t t' → length t.operations ≤ length t'.operations → Follows x t₀ root f₀ t'

@@ -7,7 +7,7 @@ use Rattle.pliron_laws.specs.States.{State, data_of}
 use Rattle.pliron_laws.specs.Acting.{ActAlike, PassesSame}
 use Rattle.pliron_laws.specs.Linked.{IsAdmitted}
 use Rattle.pliron_laws.specs.Replacing.{JumpsTo}
-use Rattle.pliron_theory.specs.Renaming.{IsReached}
+use Rattle.pliron_theory.specs.Renaming.{RunReaches}
 
 -- the operation `new` stands in the place of `op`, which ended the block a and is gone; neither has
 -- results or regions, and what `new` names `op` named
@@ -33,7 +33,7 @@ pub record IsRebranched (t t' : Tree) (a op new : ℕ) (front : List ℕ) : Type
 
 -- from the data that a run reads at `op`, the operation `new` acts alike
 abbrev pub ActsInPlace : Meaning → (t t' : Tree) → (root op new : ℕ) → Type 0
-ActsInPlace m t t' root op new = (s : State) (rest : List ℕ) (o o' : Operation) (first : List Datum) → IsReached m t root s → s.rest ≡ op ∷ rest → s.answer ≡ None → op_at t op ≡ Some o → op_at t' new ≡ Some o' → data_of s.environment o.operands ≡ Some first → (first' : List Datum) × (data_of s.environment o'.operands ≡ Some first') × ActAlike m.act PassesSame (JumpsTo (successors_of t op) (successors_of t' new)) (shape_of m t o) (shape_of m t' o') first first'
+ActsInPlace m t t' root op new = (s : State) (rest : List ℕ) (o o' : Operation) (first : List Datum) → RunReaches m t root s → s.rest ≡ op ∷ rest → s.answer ≡ None → op_at t op ≡ Some o → op_at t' new ≡ Some o' → data_of s.environment o.operands ≡ Some first → (first' : List Datum) × (data_of s.environment o'.operands ≡ Some first') × ActAlike m.act PassesSame (JumpsTo (successors_of t op) (successors_of t' new)) (shape_of m t o) (shape_of m t' o') first first'
 
 -- the dialect admits the operation, and it forwards as many values along each edge as the target has
 -- arguments

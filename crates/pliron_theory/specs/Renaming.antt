@@ -27,16 +27,16 @@ pub record MayUse (t : Tree) (root user v : ℕ) : Type 0 where
   pub dominated : IsMakerInside t root (definition_of t v) → IsDominated t user v
 
 -- some run of the root comes to this state
-abbrev pub IsReached : Meaning → Tree → ℕ → State → Type 0
-IsReached m t root s = (inputs world : List Datum) × (n : ℕ) × (run m t root inputs world n ≡ Goes s)
+abbrev pub RunReaches : Meaning → Tree → ℕ → State → Type 0
+RunReaches m t root s = (inputs world : List Datum) × (n : ℕ) × (run m t root inputs world n ≡ Goes s)
 
 -- wherever an operation reads its operands, each has the same datum as the value that it is renamed to
 abbrev pub HaveSameData : Meaning → (t t' : Tree) → (ℕ → ℕ) → ℕ → Type 0
-HaveSameData m t t' rename root = (s s' : State) (k v : ℕ) (rest : List ℕ) → IsReached m t root s → IsReached m t' root s' → ((x : ℕ) → s.environment x ≡ s'.environment x) → s.rest ≡ k ∷ rest → s'.rest ≡ k ∷ rest → s.answer ≡ None → s'.answer ≡ None → In v (operands_of t k) → s.environment v ≡ s.environment (rename v)
+HaveSameData m t t' rename root = (s s' : State) (k v : ℕ) (rest : List ℕ) → RunReaches m t root s → RunReaches m t' root s' → ((x : ℕ) → s.environment x ≡ s'.environment x) → s.rest ≡ k ∷ rest → s'.rest ≡ k ∷ rest → s.answer ≡ None → s'.answer ≡ None → In v (operands_of t k) → s.environment v ≡ s.environment (rename v)
 
 -- wherever an operation reads the one value, the other one has the same datum
 abbrev pub HasSameDatum : Meaning → (t t' : Tree) → (old new : ℕ) → ℕ → Type 0
-HasSameDatum m t t' old new root = (s s' : State) (k : ℕ) (rest : List ℕ) → IsReached m t root s → IsReached m t' root s' → ((x : ℕ) → s.environment x ≡ s'.environment x) → s.rest ≡ k ∷ rest → s'.rest ≡ k ∷ rest → s.answer ≡ None → s'.answer ≡ None → In old (operands_of t k) → s.environment old ≡ s.environment new
+HasSameDatum m t t' old new root = (s s' : State) (k : ℕ) (rest : List ℕ) → RunReaches m t root s → RunReaches m t' root s' → ((x : ℕ) → s.environment x ≡ s'.environment x) → s.rest ≡ k ∷ rest → s'.rest ≡ k ∷ rest → s.answer ≡ None → s'.answer ≡ None → In old (operands_of t k) → s.environment old ≡ s.environment new
 
 -- the operation has this one result and neither operands nor regions, and gives this datum at once
 pub record GivesConstant (m : Meaning) (t : Tree) (n v : ℕ) (c : Datum) : Type 0 where
@@ -47,4 +47,4 @@ pub record GivesConstant (m : Meaning) (t : Tree) (n v : ℕ) (c : Datum) : Type
 
 -- wherever an operation reads the value, it has this datum
 abbrev pub IsReadAs : Meaning → Tree → (v : ℕ) → Datum → ℕ → Type 0
-IsReadAs m t v c root = (s : State) (k : ℕ) (rest : List ℕ) → IsReached m t root s → s.rest ≡ k ∷ rest → s.answer ≡ None → In v (operands_of t k) → s.environment v ≡ Some c
+IsReadAs m t v c root = (s : State) (k : ℕ) (rest : List ℕ) → RunReaches m t root s → s.rest ≡ k ∷ rest → s.answer ≡ None → In v (operands_of t k) → s.environment v ≡ Some c

@@ -18,7 +18,7 @@ use Rattle.pliron_theory.specs.Sweeping.{IsSwept, AreGone, AreAway, ArePut, Give
 use Rattle.pliron_theory.specs.Splicing.{IsSpliced, JumpsNow}
 use Rattle.pliron_theory.specs.Rebranching.{IsRebranched, ActsInPlace, FitsInPlace}
 use Rattle.pliron_theory.specs.Dropping.{IsArgumentDropped, LeadsWithout, HoldsWithout, AreEdgesTo, EdgesLose}
-use Rattle.pliron_theory.specs.Renaming.{IsRenamed, MayUse, IsReached, HaveSameData, HasSameDatum, GivesConstant, IsReadAs}
+use Rattle.pliron_theory.specs.Renaming.{IsRenamed, MayUse, RunReaches, HaveSameData, HasSameDatum, GivesConstant, IsReadAs}
 
 -- keeping runs is reflexive and transitive, and spent keys are nothing to it
 pub record KeepingLaws : Type 0 where
@@ -32,7 +32,7 @@ FewerRootsLaw = (m : Meaning) (fewer : Head → Bool) (t u : Tree) → ((h : Hea
 
 -- in a root that is fit to run, each operand has a datum when an operation first reads it
 abbrev pub OperandsHaveData : Type 0
-OperandsHaveData = (m : Meaning) (t : Tree) (root : ℕ) → IsTree t → IsFit m t root → (s : State) → IsReached m t root s → (k v : ℕ) (rest : List ℕ) → s.rest ≡ k ∷ rest → s.answer ≡ None → In v (operands_of t k) → (d : Datum) × (s.environment v ≡ Some d)
+OperandsHaveData = (m : Meaning) (t : Tree) (root : ℕ) → IsTree t → IsFit m t root → (s : State) → RunReaches m t root s → (k v : ℕ) (rest : List ℕ) → s.rest ≡ k ∷ rest → s.answer ≡ None → In v (operands_of t k) → (d : Datum) × (s.environment v ≡ Some d)
 
 -- operations that give at once, and blocks that no run comes to, may go where nothing names them
 pub record SweepingLaws : Type 0 where

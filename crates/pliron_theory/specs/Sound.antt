@@ -9,7 +9,7 @@ use Rattle.pliron_laws.specs.Datum.{datum_of}
 use Rattle.pliron_laws.specs.Tree.{Operation, op_at}
 use Rattle.pliron_theory.specs.Renaming.{GivesConstant}
 use Rattle.pliron_theory.specs.Rewrites.{IsConstant}
-use Rattle.pliron_theory.specs.Facts.{Fact, Constant, NotAConstant, AtMost, answered, Facts, Says, answers_of, Stands, MayGo, Forwards, AreClosed, AreHeld}
+use Rattle.pliron_theory.specs.Facts.{Fact, Constant, NotAConstant, AtMost, answered, Facts, Says, answers_of, IsInReachedBlock, IsFeasibleEdge, Forwards, AreClosed, AreHeld}
 
 -- `read` is right about the result at i of an operation: it isn't constant, it is at or below what folding
 -- the operation answers, or the operation gives this constant at once
@@ -21,17 +21,17 @@ pub record AreSound (x : Says) (t : Tree) (root : ℕ) (f : Facts) (read : ℕ �
   pub finer : (v : ℕ) → AtMost (f.fact v) (read v)
   -- blocks that are reached are inside the root, and so is what is known of values
   pub inside : (b : ℕ) → IsTrue (f.reaches b) → HoldsBlock t root b
-  pub held : (b k : ℕ) → IsTrue (f.reaches b) → block_holder_of t b ≡ Some k → (k ≡ root) ⊎ Stands t f k
+  pub held : (b k : ℕ) → IsTrue (f.reaches b) → block_holder_of t b ≡ Some k → (k ≡ root) ⊎ IsInReachedBlock t f k
   pub no_results : (k v : ℕ) → (IsInside t root k → ⊥) → In v (results_of t k) → read v ≡ NotAConstant
   pub no_arguments : (b v : ℕ) → (HoldsBlock t root b → ⊥) → In v (arguments_of t b) → read v ≡ NotAConstant
   -- each move from where runs may come to leads to where they may come to, and binds what is read
-  pub entries : (k r b : ℕ) → (k ≡ root) ⊎ Stands t f k → In r (regions_of t k) → first_of (layout_of t r) None ≡ Some b → IsTrue (f.reaches b) × ((v : ℕ) → In v (arguments_of t b) → read v ≡ NotAConstant)
-  pub jumps : (k i b : ℕ) (o : Operation) → Stands t f k → op_at t k ≡ Some o → MayGo x t f o i b → IsTrue (f.reaches b) × ((j v : ℕ) → slice_get (arguments_of t b) j ≡ Some v → (read v ≡ NotAConstant) ⊎ (IsTrue (x.meaning.is_branch o.head) × ((w : ℕ) → Forwards x t o i j w → AtMost (read v) (read w))))
-  pub results : (k i v : ℕ) (o : Operation) → Stands t f k → op_at t k ≡ Some o → slice_get o.results i ≡ Some v → IsRightResult x t f read k i v o
+  pub entries : (k r b : ℕ) → (k ≡ root) ⊎ IsInReachedBlock t f k → In r (regions_of t k) → first_of (layout_of t r) None ≡ Some b → IsTrue (f.reaches b) × ((v : ℕ) → In v (arguments_of t b) → read v ≡ NotAConstant)
+  pub jumps : (k i b : ℕ) (o : Operation) → IsInReachedBlock t f k → op_at t k ≡ Some o → IsFeasibleEdge x t f o i b → IsTrue (f.reaches b) × ((j v : ℕ) → slice_get (arguments_of t b) j ≡ Some v → (read v ≡ NotAConstant) ⊎ (IsTrue (x.meaning.is_branch o.head) × ((w : ℕ) → Forwards x t o i j w → AtMost (read v) (read w))))
+  pub results : (k i v : ℕ) (o : Operation) → IsInReachedBlock t f k → op_at t k ≡ Some o → slice_get o.results i ≡ Some v → IsRightResult x t f read k i v o
 
 -- the value is made in a block that is reached
 abbrev pub IsMadeThere : Tree → Facts → ℕ → Type 0
-IsMadeThere t f v = ((k : ℕ) × Stands t f k × In v (results_of t k)) ⊎ ((b : ℕ) × IsTrue (f.reaches b) × In v (arguments_of t b))
+IsMadeThere t f v = ((k : ℕ) × IsInReachedBlock t f k × In v (results_of t k)) ⊎ ((b : ℕ) × IsTrue (f.reaches b) × In v (arguments_of t b))
 
 -- every run of every root that is fit to run reads these constants
 abbrev pub SoundFactsLaw : Says → Type 0
@@ -68,5 +68,5 @@ read_of x t f v = read_from x t f v (definition_of t v)
 -- closed facts on the first tree: every answer of an operation that folds and stands in a block that is reached, and
 -- each constant of an argument of such a block, is what every run of every root that is fit to run reads
 pub record ClosedFactsLaw (x : Says) : Type 0 where
-  pub results : (t : Tree) (root : ℕ) (f : Facts) → IsTree t → AreClosed x t root f → AreHeld t root f → (k i v : ℕ) (c : AttrObj) (o : Operation) → Stands t f k → op_at t k ≡ Some o → IsTrue (x.can_fold o.head) → slice_get o.results i ≡ Some v → slice_get (answers_of x t f o) i ≡ Some (Some c) → IsConstant x.meaning t v c
+  pub results : (t : Tree) (root : ℕ) (f : Facts) → IsTree t → AreClosed x t root f → AreHeld t root f → (k i v : ℕ) (c : AttrObj) (o : Operation) → IsInReachedBlock t f k → op_at t k ≡ Some o → IsTrue (x.can_fold o.head) → slice_get o.results i ≡ Some v → slice_get (answers_of x t f o) i ≡ Some (Some c) → IsConstant x.meaning t v c
   pub arguments : (t : Tree) (root : ℕ) (f : Facts) → IsTree t → AreClosed x t root f → AreHeld t root f → (b v : ℕ) (c : AttrObj) → IsTrue (f.reaches b) → In v (arguments_of t b) → f.fact v ≡ Constant c → IsConstant x.meaning t v c

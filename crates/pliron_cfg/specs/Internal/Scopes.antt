@@ -12,10 +12,10 @@ start_of (Block block) = OfBlock block
 start_of (Region region) = OfRegion region
 
 -- what it looks into stands
-abbrev pub Stands : Tree → Scope → Type 0
-Stands t (Operation op) = IsLive t op
-Stands t (Block block) = IsBlock t block
-Stands t (Region region) = IsRegion t region
+abbrev pub ScopeStands : Tree → Scope → Type 0
+ScopeStands t (Operation op) = IsLive t op
+ScopeStands t (Block block) = IsBlock t block
+ScopeStands t (Region region) = IsRegion t region
 
 -- the operation itself, or the one that holds the block or the region
 abbrev pub IsHolder : Tree → Scope → ℕ → Type 0

@@ -3,7 +3,7 @@ ghost use Rattle.std.specs.Prelude.{◌≡◌, ◌++◌, ◌↔◌, ℕ, IfOk, O
 ghost use Rattle.std.specs.List.{flat_map};
 ghost use Rattle.pliron_core.specs.Tree.{In, IsDistinct, IsLive, IsBlock, IsRegion, results_of, layout_of, arguments_of};
 ghost use Rattle.pliron_core.specs.Walks.{preorder};
-ghost use Rattle.pliron_cfg.specs.Internal.Contents.{contents_of, contents_in, blocks_below, values_of};
+ghost use Rattle.pliron_cfg.specs.Internal.Contents.{contents_of, contents_in, blocks_directly_in, values_made_by};
 
 use crate::visits::operations_of;
 use indexmap::IndexSet;
@@ -92,7 +92,7 @@ fn push_blocks_below(
     blocks: &mut Vec<Ptr<BasicBlock>>,
 ) -> Result<(), OptError>
     requires { IsLive ctx.now.tree op }
-    ensures items { OnOk result (blocks.new.items ≡ blocks.old.items ++ blocks_below ctx.now.tree op) }
+    ensures items { OnOk result (blocks.new.items ≡ blocks.old.items ++ blocks_directly_in ctx.now.tree op) }
     ensures memory { IsOkUnless result OptError.Memory }
 {
     for i in 0..op.num_region(ctx) {
@@ -108,7 +108,7 @@ pub(crate) fn push_inner_blocks(
     blocks: &mut Vec<Ptr<BasicBlock>>,
 ) -> Result<(), OptError>
     requires { (k : ℕ) → In k ops.now → IsLive ctx.now.tree k }
-    ensures items { OnOk result (blocks.new.items ≡ blocks.old.items ++ flat_map (λ k. blocks_below ctx.now.tree k) ops.now) }
+    ensures items { OnOk result (blocks.new.items ≡ blocks.old.items ++ flat_map (λ k. blocks_directly_in ctx.now.tree k) ops.now) }
     ensures memory { IsOkUnless result OptError.Memory }
 {
     for op in ops {
@@ -154,7 +154,7 @@ pub(crate) fn values_made(
 ) -> Result<Vec<Value>, OptError>
     requires ops { (k : ℕ) → In k ops.now → IsLive ctx.now.tree k }
     requires blocks { (b : ℕ) → In b blocks.now → IsBlock ctx.now.tree b }
-    ensures items { IfOk result (λ r. r.items ≡ values_of ctx.now.tree ops.now blocks.now) }
+    ensures items { IfOk result (λ r. r.items ≡ values_made_by ctx.now.tree ops.now blocks.now) }
     ensures memory { IsOkUnless result OptError.Memory }
 {
     let mut values = Vec::new(alloc);

@@ -5,7 +5,7 @@ ghost use Rattle.pliron_laws.specs.declared.fault.OptError.TheVariants.{LiveUse,
 ghost use Rattle.pliron_theory.specs.Keeps.{KeepsRuns};
 ghost use Rattle.pliron_search.specs.Regions.{IsLawfulRegion};
 ghost use Rattle.pliron_block_laws.specs.Cutting.{AreCut};
-ghost use Rattle.pliron_block_laws.specs.Leaving.{MayGo};
+ghost use Rattle.pliron_block_laws.specs.Leaving.{BlocksMayGo};
 ghost use Rattle.pliron_cfg.specs.Visited.{IsReachedIn};
 ghost use Rattle.pliron_cfg.specs.Removed.{HasLiveUse};
 ghost use Rattle.pliron_cfg.specs.Internal.Clears.{ClearsRegion};
@@ -27,7 +27,7 @@ fn erase_blocks<D: Dialect, R: Rewriter>(
     rewriter: &mut R,
 )
     requires lawful { IsLawfulRegion ctx.old.tree region }
-    requires may { MayGo ctx.old.tree region blocks.now }
+    requires may { BlocksMayGo ctx.old.tree region blocks.now }
     requires distinct { IsDistinct blocks.now }
     ensures cut { AreCut ctx.old.tree ctx.new.tree region blocks.now }
     ensures runs { KeepsRuns D.meaning ctx.old.tree ctx.new.tree }

@@ -2,7 +2,7 @@
 ghost use Rattle.std.specs.Prelude.{◌≡◌, ℕ, ◌<◌, length, filter, slice_get, nat_lt, Some, IsTrue, ◌↔◌, MatchOption};
 ghost use Rattle.pliron_core.specs.Tree.{IsLive, IsBlock, IsDefined, successors_of, uses_of};
 ghost use Rattle.pliron_core.specs.Edges.{succs_of, preds_of};
-ghost use Rattle.pliron_core.specs.EdgeUses.{IsSource, IsFirst, IsEdge, IsFirstEdge};
+ghost use Rattle.pliron_core.specs.EdgeUses.{IsSource, IsFirstPlace, IsEdge, IsFirstEdge};
 
 use super::Context;
 use crate::keys::{BasicBlock, Operation, Ptr, Value};
@@ -169,7 +169,7 @@ fn is_first_edge(ctx: &Context, block: Ptr<BasicBlock>, user: Ptr<Operation>, pl
     requires block { IsBlock ctx.now.tree block }
     requires user { IsLive ctx.now.tree user }
     requires place { place < length (successors_of ctx.now.tree user) }
-    ensures { IsTrue result ↔ IsFirst ctx.now.tree block user place }
+    ensures { IsTrue result ↔ IsFirstPlace ctx.now.tree block user place }
 {
     ctx.well_formed();
     let uses = block.num_use(ctx);

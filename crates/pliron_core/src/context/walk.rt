@@ -4,7 +4,7 @@ ghost use Rattle.std.specs.Option.{ForSome};
 ghost use Rattle.pliron_core.specs.Lists.{first_of, next_in};
 ghost use Rattle.pliron_core.specs.Tree.{IsLive, IsBlock, IsRegion, IsInside, IsWithin, slot_of, holder_of};
 ghost use Rattle.pliron_core.specs.Walks.{children, preorder, HasExactContents};
-ghost use Rattle.pliron_core.specs.WalkSteps.{first_in_blocks, first_in_regions, GoesOn};
+ghost use Rattle.pliron_core.specs.WalkSteps.{first_in_blocks, first_in_regions, IsFollowedBy};
 
 use super::{Context, RegionSlot};
 use crate::keys::{Operation, Ptr};
@@ -145,7 +145,7 @@ impl Ptr<Operation> {
     fn next_after(self, root: Ptr<Operation>, ctx: &Context) -> Option<Ptr<Operation>>
         requires live { IsLive ctx.now.tree root }
         requires within { IsWithin ctx.now.tree root self }
-        ensures { GoesOn (preorder ctx.now.tree root) (preorder ctx.now.tree self) result }
+        ensures { IsFollowedBy (preorder ctx.now.tree root) (preorder ctx.now.tree self) result }
     {
         ctx.well_formed();
         let mut at = self;

@@ -7,7 +7,7 @@ ghost use Rattle.pliron_laws.specs.Answers.{ReadsHead};
 ghost use Rattle.pliron_bench.specs.Bench.{kind_of, first_attribute, first_edge_count as first_count_of};
 ghost use Rattle.pliron_bench.specs.BenchNumbers.{datum_at, as_number, number_at, sum as sum_of, product as product_of, quotient as quotient_of};
 ghost use Rattle.pliron_bench.specs.BenchMoves.{bench, act_of, done, once, fitted, read_word, print_word, give_or_trap, edge_of as edge_in, edge_values};
-ghost use Rattle.pliron_evaluator.specs.Evaluator.{datum_of, move_of};
+ghost use Rattle.pliron_evaluator.specs.Evaluator.{datum_of_value, move_of};
 
 use crate::evaluator::shapes::{num_entry_argument, num_target_argument};
 use crate::evaluator::values::{Datum, Evaluate, Move, all_copies, one};
@@ -20,7 +20,7 @@ use std::alloc::{AllocError, Global};
 
 // The datum at this index, where a missing one counts as 0.
 fn datum_at(alloc: Global, input: &[Datum], i: usize) -> Result<Datum, AllocError>
-    ensures { IfOk result (λ datum. datum_of datum ≡ datum_at (map datum_of input.now) i) }
+    ensures { IfOk result (λ datum. datum_of_value datum ≡ datum_at (map datum_of_value input.now) i) }
 {
     if i < input.len() {
         input[i].copy(alloc)
@@ -31,7 +31,7 @@ fn datum_at(alloc: Global, input: &[Datum], i: usize) -> Result<Datum, AllocErro
 
 // The datum as a number of 64 signed bits.
 fn as_number(datum: &Datum) -> i64
-    ensures { result ≡ as_number (datum_of datum.now) }
+    ensures { result ≡ as_number (datum_of_value datum.now) }
 {
     match datum {
         Datum::Number(number) => wrapped(*number),
@@ -41,7 +41,7 @@ fn as_number(datum: &Datum) -> i64
 
 // The number at this index, where a missing one counts as 0.
 fn number_at(input: &[Datum], i: usize) -> i64
-    ensures { result ≡ number_at (map datum_of input.now) i }
+    ensures { result ≡ number_at (map datum_of_value input.now) i }
 {
     if i < input.len() {
         as_number(&input[i])
@@ -52,14 +52,14 @@ fn number_at(input: &[Datum], i: usize) -> i64
 
 // The number alone.
 fn one_number(alloc: Global, number: i64) -> Result<Vec<Datum>, AllocError>
-    ensures { IfOk result (λ values. map datum_of values.items ≡ NumberOf number ∷ []) }
+    ensures { IfOk result (λ values. map datum_of_value values.items ≡ NumberOf number ∷ []) }
 {
     one(alloc, Datum::Number(number as i128))
 }
 
 // So many data, cut or filled with 0.
 fn fitted(alloc: Global, count: usize, input: &[Datum]) -> Result<Vec<Datum>, AllocError>
-    ensures { IfOk result (λ values. map datum_of values.items ≡ fitted count (map datum_of input.now)) }
+    ensures { IfOk result (λ values. map datum_of_value values.items ≡ fitted count (map datum_of_value input.now)) }
 {
     let mut data = Vec::new(alloc);
     for i in 0..count {
@@ -70,7 +70,7 @@ fn fitted(alloc: Global, count: usize, input: &[Datum]) -> Result<Vec<Datum>, Al
 
 // So many copies of the datum.
 fn copies_of(alloc: Global, datum: &Datum, count: usize) -> Result<Vec<Datum>, AllocError>
-    ensures { IfOk result (λ copies. map datum_of copies.items ≡ replicate count (datum_of datum.now)) }
+    ensures { IfOk result (λ copies. map datum_of_value copies.items ≡ replicate count (datum_of_value datum.now)) }
 {
     let mut copies = Vec::new(alloc);
     for _ in 0..count {
@@ -80,29 +80,29 @@ fn copies_of(alloc: Global, datum: &Datum, count: usize) -> Result<Vec<Datum>, A
 }
 
 fn word(alloc: Global, text: &str) -> Result<Datum, AllocError>
-    ensures { IfOk result (λ datum. datum_of datum ≡ TextOf text.now) }
+    ensures { IfOk result (λ datum. datum_of_value datum ≡ TextOf text.now) }
 {
     Ok(Datum::Text(Text::new(String::from_str(alloc, text)?)))
 }
 
 // The memo after a visit or an effect.
 fn done() -> Datum
-    ensures { datum_of result ≡ done }
+    ensures { datum_of_value result ≡ done }
 {
     Datum::Number(1)
 }
 
 // The first region is visited.
 fn visit(alloc: Global, count: usize, input: &[Datum]) -> Result<Move, AllocError>
-    ensures { IfOk result (λ next. move_of next ≡ Visit 0 (fitted count (map datum_of input.now)) done) }
+    ensures { IfOk result (λ next. move_of next ≡ Visit 0 (fitted count (map datum_of_value input.now)) done) }
 {
     let values = fitted(alloc, count, input)?;
     Ok(Move::Visit(0, values, done()))
 }
 
 fn func_move(alloc: Global, memo: &Datum, count: usize, input: &[Datum]) -> Result<Move, AllocError>
-    ensures { IfOk result (λ next. move_of next ≡ once (datum_of memo.now) (Visit 0 (fitted count (map datum_of input.now)) done) (Leave
-        (map datum_of input.now))) }
+    ensures { IfOk result (λ next. move_of next ≡ once (datum_of_value memo.now) (Visit 0 (fitted count (map datum_of_value input.now)) done) (Leave
+        (map datum_of_value input.now))) }
 {
     match memo {
         Datum::Empty => visit(alloc, count, input),
@@ -116,7 +116,7 @@ fn scope_move(
     count: usize,
     input: &[Datum],
 ) -> Result<Move, AllocError>
-    ensures { IfOk result (λ next. move_of next ≡ once (datum_of memo.now) (Visit 0 (fitted count (map datum_of input.now)) done) (Give [])) }
+    ensures { IfOk result (λ next. move_of next ≡ once (datum_of_value memo.now) (Visit 0 (fitted count (map datum_of_value input.now)) done) (Give [])) }
 {
     match memo {
         Datum::Empty => visit(alloc, count, input),
@@ -125,7 +125,7 @@ fn scope_move(
 }
 
 fn read_move(alloc: Global, memo: &Datum, input: &[Datum]) -> Result<Move, AllocError>
-    ensures { IfOk result (λ next. move_of next ≡ once (datum_of memo.now) (Emit read_word done) (Give (datum_at (map datum_of input.now) 0 ∷ []))) }
+    ensures { IfOk result (λ next. move_of next ≡ once (datum_of_value memo.now) (Emit read_word done) (Give (datum_at (map datum_of_value input.now) 0 ∷ []))) }
 {
     match memo {
         Datum::Empty => Ok(Move::Emit(word(alloc, "read")?, done())),
@@ -137,7 +137,7 @@ fn read_move(alloc: Global, memo: &Datum, input: &[Datum]) -> Result<Move, Alloc
 }
 
 fn print_move(alloc: Global, memo: &Datum, input: &[Datum]) -> Result<Move, AllocError>
-    ensures { IfOk result (λ next. move_of next ≡ once (datum_of memo.now) (Emit (JoinOf print_word (datum_at (map datum_of input.now) 0)) done) (Give [])) }
+    ensures { IfOk result (λ next. move_of next ≡ once (datum_of_value memo.now) (Emit (JoinOf print_word (datum_at (map datum_of_value input.now) 0)) done) (Give [])) }
 {
     match memo {
         Datum::Empty => {
@@ -162,22 +162,22 @@ fn const_move(alloc: Global, attrs: &Attrs) -> Result<Move, AllocError>
 }
 
 fn add_move(alloc: Global, input: &[Datum]) -> Result<Move, AllocError>
-    ensures { IfOk result (λ next. move_of next ≡ Give (NumberOf (sum_of (number_at (map datum_of input.now) 0) (number_at (map datum_of input.now) 1)) ∷ [])) }
+    ensures { IfOk result (λ next. move_of next ≡ Give (NumberOf (sum_of (number_at (map datum_of_value input.now) 0) (number_at (map datum_of_value input.now) 1)) ∷ [])) }
 {
     let number = sum(number_at(input, 0), number_at(input, 1));
     Ok(Move::Give(one_number(alloc, number)?))
 }
 
 fn mul_move(alloc: Global, input: &[Datum]) -> Result<Move, AllocError>
-    ensures { IfOk result (λ next. move_of next ≡ Give (NumberOf (product_of (number_at (map datum_of input.now) 0) (number_at
-        (map datum_of input.now) 1)) ∷ [])) }
+    ensures { IfOk result (λ next. move_of next ≡ Give (NumberOf (product_of (number_at (map datum_of_value input.now) 0) (number_at
+        (map datum_of_value input.now) 1)) ∷ [])) }
 {
     let number = product(number_at(input, 0), number_at(input, 1));
     Ok(Move::Give(one_number(alloc, number)?))
 }
 
 fn div_move(alloc: Global, input: &[Datum]) -> Result<Move, AllocError>
-    ensures { IfOk result (λ next. move_of next ≡ give_or_trap (quotient_of (number_at (map datum_of input.now) 0) (number_at (map datum_of input.now) 1))) }
+    ensures { IfOk result (λ next. move_of next ≡ give_or_trap (quotient_of (number_at (map datum_of_value input.now) 0) (number_at (map datum_of_value input.now) 1))) }
 {
     match quotient(number_at(input, 0), number_at(input, 1)) {
         Some(number) => Ok(Move::Give(one_number(alloc, number)?)),
@@ -213,8 +213,8 @@ fn values_along<'a>(attrs: &Attrs, edge: usize, values: &'a [Datum]) -> &'a [Dat
 }
 
 fn cbr_move(alloc: Global, attrs: &Attrs, input: &[Datum]) -> Result<Move, AllocError>
-    ensures { IfOk result (λ next. move_of next ≡ Goto (edge_in (number_at (map datum_of input.now) 0)) (edge_values (first_count_of attrs.now)
-        (edge_in (number_at (map datum_of input.now) 0)) (drop 1 (map datum_of input.now)))) }
+    ensures { IfOk result (λ next. move_of next ≡ Goto (edge_in (number_at (map datum_of_value input.now) 0)) (edge_values (first_count_of attrs.now)
+        (edge_in (number_at (map datum_of_value input.now) 0)) (drop 1 (map datum_of_value input.now)))) }
 {
     let edge = edge_of(number_at(input, 0));
     let values = values_along(attrs, edge, behind_first(input));
@@ -228,9 +228,9 @@ fn fork_move(
     input: &[Datum],
 ) -> Result<Move, AllocError>
     requires { IsLive ctx.now.tree op }
-    ensures { IfOk result (λ next. move_of next ≡ Goto (edge_in (number_at (map datum_of input.now) 0)) (replicate (slice_index_or (map
-        (λ b. count_arguments (block_at ctx.now.tree b)) (successors_of ctx.now.tree op)) (edge_in (number_at (map datum_of input.now) 0)) 0)
-        (datum_at (map datum_of input.now) 0))) }
+    ensures { IfOk result (λ next. move_of next ≡ Goto (edge_in (number_at (map datum_of_value input.now) 0)) (replicate (slice_index_or (map
+        (λ b. count_arguments (block_at ctx.now.tree b)) (successors_of ctx.now.tree op)) (edge_in (number_at (map datum_of_value input.now) 0)) 0)
+        (datum_at (map datum_of_value input.now) 0))) }
 {
     let edge = edge_of(number_at(input, 0));
     let count = num_target_argument(ctx, op, edge);
@@ -250,7 +250,7 @@ fn act(
     requires live { IsLive ctx.now.tree op }
     requires kind { ReadsHead (λ h. kind_of h.kind) ctx.now.tree op (Some kind) }
     ensures { IfOk result (λ next. (o : OperationRecord) → op_at ctx.now.tree op ≡ Some o → move_of next ≡
-        act_of kind (shape_of bench ctx.now.tree o) (datum_of memo.now) (map datum_of input.now)) }
+        act_of kind (shape_of bench ctx.now.tree o) (datum_of_value memo.now) (map datum_of_value input.now)) }
 {
     match kind {
         BenchKind::Mod => Ok(Move::Give(Vec::new(alloc))),

@@ -2,7 +2,7 @@
 ghost use Rattle.std.specs.Prelude.{◌≡◌, [], ◌∷◌, map, Some, None, if◌then◌else◌, IfOk, OnOk, MatchOption};
 ghost use Rattle.std.specs.Option.{option_map};
 ghost use Rattle.pliron_laws.specs.States.{bind, data_of};
-ghost use Rattle.pliron_evaluator.specs.Evaluator.{datum_of, environment_of, answer_of};
+ghost use Rattle.pliron_evaluator.specs.Evaluator.{datum_of_value, environment_of, answer_of_values};
 
 use crate::evaluator::values::Datum;
 use pliron_core::Value;
@@ -34,7 +34,7 @@ pub(super) fn bind(
     values: &[Value],
     content: &[Datum],
 ) -> Result<bool, AllocError>
-    ensures { IfOk result (λ fits. bind (environment_of environment.old.items) values.now (map datum_of content.now) ≡
+    ensures { IfOk result (λ fits. bind (environment_of environment.old.items) values.now (map datum_of_value content.now) ≡
         (if fits then Some (environment_of environment.new.items) else None)) }
 {
     if values.len() != content.len() {
@@ -52,7 +52,7 @@ pub(super) fn datum_at(
     environment: &[(Value, Datum)],
     value: Value,
 ) -> Result<Option<Datum>, AllocError>
-    ensures { IfOk result (λ found. option_map datum_of found ≡ environment_of environment.now value) }
+    ensures { IfOk result (λ found. option_map datum_of_value found ≡ environment_of environment.now value) }
 {
     for (bound, datum) in environment {
         if value == *bound {
@@ -68,7 +68,7 @@ pub(super) fn all_data(
     environment: &[(Value, Datum)],
     values: &[Value],
 ) -> Result<Option<Vec<Datum>>, AllocError>
-    ensures { IfOk result (λ found. answer_of found ≡ data_of (environment_of environment.now) values.now) }
+    ensures { IfOk result (λ found. answer_of_values found ≡ data_of (environment_of environment.now) values.now) }
 {
     let mut data = Vec::new(alloc);
     for value in values {

@@ -5,7 +5,7 @@ ghost use Rattle.std.specs.Option.{ForSome};
 ghost use Rattle.pliron_core.specs.Tree.{IsLive, IsBlock, operands_of, results_of, regions_of, successors_of};
 ghost use Rattle.pliron_laws.specs.Tree.{Operation as OperationRecord, op_at, and_block};
 ghost use Rattle.pliron_laws.specs.Machine.{start, trap, at_rest, bind, leave, given, enter, go_to, emit, entry_in, input_of, perform, turn, step};
-ghost use Rattle.pliron_evaluator.specs.Evaluator.{datum_of, move_of, environment_of, answer_of, waiting_of, state_of, next_of};
+ghost use Rattle.pliron_evaluator.specs.Evaluator.{datum_of_value, move_of, environment_of, answer_of_values, waiting_of, state_of, next_of_value};
 
 use crate::evaluator::environment::{all_data, bind, put_first, take_first};
 use crate::evaluator::values::{Datum, Evaluate, Move, Sight, all_copies, one};
@@ -41,7 +41,7 @@ pub(super) enum Next {
 }
 
 fn trap(state: State) -> Next
-    ensures { next_of result ≡ trap (state_of state) }
+    ensures { next_of_value result ≡ trap (state_of state) }
 {
     Next::Over(Sight::Trapped(state.effects))
 }
@@ -59,7 +59,7 @@ fn at_rest(state: State) -> State
 
 // A visit ends with these values, or the run where nothing waits.
 fn leave(mut state: State, values: Vec<Datum>) -> Next
-    ensures { next_of result ≡ leave (state_of state) (map waiting_of state.waiting.items) (map datum_of values.items) }
+    ensures { next_of_value result ≡ leave (state_of state) (map waiting_of state.waiting.items) (map datum_of_value values.items) }
 {
     match take_first(&mut state.waiting) {
         Some(waiting) => Next::Goes(State {
@@ -82,8 +82,8 @@ fn give(
 ) -> Result<Next, AllocError>
     requires live { IsLive ctx.now.tree op }
     requires first { slice_get state.rest.items 0 ≡ Some op }
-    ensures { IfOk result (λ next. next_of next ≡ given (state_of state) (drop 1 state.rest.items) (map waiting_of state.waiting.items)
-        (map datum_of values.items) (bind (environment_of state.environment.items) (results_of ctx.now.tree op) (map datum_of values.items))) }
+    ensures { IfOk result (λ next. next_of_value next ≡ given (state_of state) (drop 1 state.rest.items) (map waiting_of state.waiting.items)
+        (map datum_of_value values.items) (bind (environment_of state.environment.items) (results_of ctx.now.tree op) (map datum_of_value values.items))) }
 {
     let results = all_results(alloc, op, ctx)?;
     if !bind(
@@ -110,7 +110,7 @@ fn enter(
     values: Vec<Datum>,
 ) -> Result<Next, AllocError>
     requires { ForSome block (λ b. IsBlock ctx.now.tree b) }
-    ensures { IfOk result (λ next. next_of next ≡ enter (state_of state) (and_block ctx.now.tree block) (map datum_of values.items)
+    ensures { IfOk result (λ next. next_of_value next ≡ enter (state_of state) (and_block ctx.now.tree block) (map datum_of_value values.items)
         (map waiting_of state.waiting.items)) }
 {
     let Some(block) = block else {
@@ -166,8 +166,8 @@ fn visit(
     memo: Datum,
 ) -> Result<Next, AllocError>
     requires { IsLive ctx.now.tree op }
-    ensures { IfOk result (λ next. next_of next ≡ enter (state_of state) (entry_in ctx.now.tree (slice_get (regions_of ctx.now.tree op) i))
-        (map datum_of values.items) (record { rest = state.rest.items; memo = datum_of memo } ∷ map waiting_of state.waiting.items)) }
+    ensures { IfOk result (λ next. next_of_value next ≡ enter (state_of state) (entry_in ctx.now.tree (slice_get (regions_of ctx.now.tree op) i))
+        (map datum_of_value values.items) (record { rest = state.rest.items; memo = datum_of_value memo } ∷ map waiting_of state.waiting.items)) }
 {
     let rest = mem::replace(&mut state.rest, Vec::new(alloc));
     put_first(&mut state.waiting, Waiting { rest, memo })?;
@@ -184,8 +184,8 @@ fn go_to(
     values: Vec<Datum>,
 ) -> Result<Next, AllocError>
     requires { IsLive ctx.now.tree op }
-    ensures { IfOk result (λ next. next_of next ≡ go_to ctx.now.tree (state_of state) (slice_get (successors_of ctx.now.tree op) i)
-        (map datum_of values.items) (map waiting_of state.waiting.items)) }
+    ensures { IfOk result (λ next. next_of_value next ≡ go_to ctx.now.tree (state_of state) (slice_get (successors_of ctx.now.tree op) i)
+        (map datum_of_value values.items) (map waiting_of state.waiting.items)) }
 {
     if state.waiting.is_empty() {
         return Ok(trap(state));
@@ -195,7 +195,7 @@ fn go_to(
 
 // The effect is told, and the world answers, or the run makes no further move.
 fn emit(alloc: Global, mut state: State, effect: Datum, memo: Datum) -> Result<Next, AllocError>
-    ensures { IfOk result (λ next. next_of next ≡ emit (state_of state) (datum_of effect) (datum_of memo) (map datum_of state.world.items)) }
+    ensures { IfOk result (λ next. next_of_value next ≡ emit (state_of state) (datum_of_value effect) (datum_of_value memo) (map datum_of_value state.world.items)) }
 {
     put_first(&mut state.effects, effect)?;
     match take_first(&mut state.world) {
@@ -221,7 +221,7 @@ fn perform(
 ) -> Result<Next, AllocError>
     requires live { IsLive ctx.now.tree op }
     requires first { slice_get state.rest.items 0 ≡ Some op }
-    ensures { IfOk result (λ after. (o : OperationRecord) → op_at ctx.now.tree op ≡ Some o → next_of after ≡
+    ensures { IfOk result (λ after. (o : OperationRecord) → op_at ctx.now.tree op ≡ Some o → next_of_value after ≡
         perform ctx.now.tree (state_of state) o op (drop 1 state.rest.items) (move_of next)) }
 {
     match next {
@@ -242,8 +242,8 @@ fn input_of(
     op: Ptr<Operation>,
 ) -> Result<Option<Vec<Datum>>, AllocError>
     requires { IsLive ctx.now.tree op }
-    ensures { IfOk result (λ input. answer_of input ≡ input_of (environment_of state.now.environment.items) (operands_of ctx.now.tree op)
-        (answer_of state.now.answer)) }
+    ensures { IfOk result (λ input. answer_of_values input ≡ input_of (environment_of state.now.environment.items) (operands_of ctx.now.tree op)
+        (answer_of_values state.now.answer)) }
 {
     match &state.answer {
         Some(answer) => Ok(Some(all_copies(alloc, answer.as_slice())?)),
@@ -262,7 +262,7 @@ fn turn<D: Evaluate>(
     op: Ptr<Operation>,
 ) -> Result<Next, AllocError>
     requires { slice_get state.rest.items 0 ≡ Some op }
-    ensures { IfOk result (λ after. next_of after ≡ turn D.meaning ctx.now.tree (state_of state) op (drop 1 state.rest.items) (op_at ctx.now.tree op)) }
+    ensures { IfOk result (λ after. next_of_value after ≡ turn D.meaning ctx.now.tree (state_of state) op (drop 1 state.rest.items) (op_at ctx.now.tree op)) }
 {
     if !op.is_live(ctx) {
         return Ok(trap(state));
@@ -280,7 +280,7 @@ pub(super) fn step<D: Evaluate>(
     ctx: &Context,
     state: State,
 ) -> Result<Next, AllocError>
-    ensures { IfOk result (λ after. next_of after ≡ step D.meaning ctx.now.tree (state_of state)) }
+    ensures { IfOk result (λ after. next_of_value after ≡ step D.meaning ctx.now.tree (state_of state)) }
 {
     if state.rest.is_empty() {
         return Ok(leave(state, Vec::new(alloc)));
@@ -296,7 +296,7 @@ pub(super) fn start(
     inputs: Vec<Datum>,
     world: Vec<Datum>,
 ) -> Result<State, AllocError>
-    ensures { IfOk result (λ state. state_of state ≡ start root (map datum_of inputs.items) (map datum_of world.items)) }
+    ensures { IfOk result (λ state. state_of state ≡ start root (map datum_of_value inputs.items) (map datum_of_value world.items)) }
 {
     let mut rest = Vec::new(alloc);
     rest.push(root)?;

@@ -3,8 +3,8 @@ ghost use Rattle.std.specs.Prelude.{◌≡◌, map, drop, IfOk};
 ghost use Rattle.pliron_core.specs.Tree.{IsLive};
 ghost use Rattle.pliron_laws.specs.Datum.{datum_of as content_of};
 ghost use Rattle.pliron_laws.specs.Answers.{ReadsHead};
-ghost use Rattle.pliron_evaluator.specs.Tiny.{first_attribute, first_datum, fitted, begun, has_begun, ask_move, scope_move};
-ghost use Rattle.pliron_evaluator.specs.Evaluator.{datum_of, move_of};
+ghost use Rattle.pliron_evaluator.specs.Tiny.{first_attribute, first_datum, fitted_or_empty, begun, has_begun, ask_move, scope_move};
+ghost use Rattle.pliron_evaluator.specs.Evaluator.{datum_of_value, move_of};
 
 use crate::evaluator::shapes::num_entry_argument;
 use crate::evaluator::values::{Datum, Evaluate, Move, all_copies, one};
@@ -15,7 +15,7 @@ use std::alloc::{AllocError, Global};
 // The datum of the first attribute, by default 0.
 fn constant(alloc: Global, ctx: &Context, op: Ptr<Operation>) -> Result<Datum, AllocError>
     requires { IsLive ctx.now.tree op }
-    ensures { IfOk result (λ datum. ReadsHead (λ h. content_of (first_attribute h.attrs)) ctx.now.tree op (datum_of datum)) }
+    ensures { IfOk result (λ datum. ReadsHead (λ h. content_of (first_attribute h.attrs)) ctx.now.tree op (datum_of_value datum)) }
 {
     let attrs = &op.head(ctx).attrs;
     if attrs.is_empty() {
@@ -27,7 +27,7 @@ fn constant(alloc: Global, ctx: &Context, op: Ptr<Operation>) -> Result<Datum, A
 
 // The datum at this index, if there is one.
 fn datum_or_empty(alloc: Global, input: &[Datum], i: usize) -> Result<Datum, AllocError>
-    ensures { IfOk result (λ datum. datum_of datum ≡ first_datum (map datum_of (drop i input.now))) }
+    ensures { IfOk result (λ datum. datum_of_value datum ≡ first_datum (map datum_of_value (drop i input.now))) }
 {
     if i < input.len() {
         input[i].copy(alloc)
@@ -38,7 +38,7 @@ fn datum_or_empty(alloc: Global, input: &[Datum], i: usize) -> Result<Datum, All
 
 // So many data, cut or filled.
 fn fitted(alloc: Global, count: usize, input: &[Datum]) -> Result<Vec<Datum>, AllocError>
-    ensures { IfOk result (λ values. map datum_of values.items ≡ fitted count (map datum_of input.now)) }
+    ensures { IfOk result (λ values. map datum_of_value values.items ≡ fitted_or_empty count (map datum_of_value input.now)) }
 {
     let mut data = Vec::new(alloc);
     for i in 0..count {
@@ -49,7 +49,7 @@ fn fitted(alloc: Global, count: usize, input: &[Datum]) -> Result<Vec<Datum>, Al
 
 // Whether the operation made its first move already.
 fn has_begun(memo: &Datum) -> bool
-    ensures { result ≡ has_begun (datum_of memo.now) }
+    ensures { result ≡ has_begun (datum_of_value memo.now) }
 {
     match memo {
         Datum::Empty => false,
@@ -59,13 +59,13 @@ fn has_begun(memo: &Datum) -> bool
 
 // The memo after the first move.
 fn begun() -> Datum
-    ensures { datum_of result ≡ begun }
+    ensures { datum_of_value result ≡ begun }
 {
     Datum::Number(1)
 }
 
 fn ask_move(alloc: Global, memo: &Datum, input: &[Datum]) -> Result<Move, AllocError>
-    ensures { IfOk result (λ next. move_of next ≡ ask_move (has_begun (datum_of memo.now)) (map datum_of input.now)) }
+    ensures { IfOk result (λ next. move_of next ≡ ask_move (has_begun (datum_of_value memo.now)) (map datum_of_value input.now)) }
 {
     let datum = datum_or_empty(alloc, input, 0)?;
     if has_begun(memo) {
@@ -81,7 +81,7 @@ fn scope_move(
     count: usize,
     input: &[Datum],
 ) -> Result<Move, AllocError>
-    ensures { IfOk result (λ next. move_of next ≡ scope_move (has_begun (datum_of memo.now)) count (map datum_of input.now)) }
+    ensures { IfOk result (λ next. move_of next ≡ scope_move (has_begun (datum_of_value memo.now)) count (map datum_of_value input.now)) }
 {
     if has_begun(memo) {
         Ok(Move::Give(Vec::new(alloc)))

@@ -3,7 +3,7 @@ ghost use Rattle.std.specs.Prelude.{◌≡◌, [], ◌∷◌, map, IfOk};
 ghost use Rattle.pliron_core.specs.Tree.{IsLive};
 ghost use Rattle.pliron_laws.specs.Datum.{Join, datum_of as content_of};
 ghost use Rattle.pliron_laws.specs.Answers.{ReadsShape};
-ghost use Rattle.pliron_evaluator.specs.Evaluator.{datum_of, move_of};
+ghost use Rattle.pliron_evaluator.specs.Evaluator.{datum_of_value, move_of};
 
 use pliron_core::{AttrObj, Context, Operation, Ptr, Text};
 use pliron_laws::HasMeaning;
@@ -29,7 +29,7 @@ impl Datum {
     ///
     /// Errors: want of memory. Cost: the length of a text.
     pub fn of(alloc: Global, attr: &AttrObj) -> Result<Datum, AllocError>
-        ensures { IfOk result (λ datum. datum_of datum ≡ content_of attr.now) }
+        ensures { IfOk result (λ datum. datum_of_value datum ≡ content_of attr.now) }
     {
         match attr {
             AttrObj::Int(number) => Ok(Datum::Number(*number)),
@@ -41,7 +41,7 @@ impl Datum {
     ///
     /// Errors: want of memory. Cost: constant.
     pub fn join(alloc: Global, first: Datum, others: Datum) -> Result<Datum, AllocError>
-        ensures { IfOk result (λ datum. datum_of datum ≡ Join (datum_of first) (datum_of others)) }
+        ensures { IfOk result (λ datum. datum_of_value datum ≡ Join (datum_of_value first) (datum_of_value others)) }
     {
         let first = Box::new(alloc, first)?;
         let others = Box::new(alloc, others)?;
@@ -52,7 +52,7 @@ impl Datum {
     ///
     /// Errors: want of memory. Cost: the numbers and the lengths of the texts in it.
     pub fn copy(&self, alloc: Global) -> Result<Datum, AllocError>
-        ensures { IfOk result (λ datum. datum_of datum ≡ datum_of self.now) }
+        ensures { IfOk result (λ datum. datum_of_value datum ≡ datum_of_value self.now) }
     {
         match self {
             Datum::Empty => Ok(Datum::Empty),
@@ -108,13 +108,13 @@ pub trait Evaluate: HasMeaning {
         input: &[Datum],
     ) -> Result<Move, AllocError>
         requires { IsLive ctx.now.tree op }
-        ensures { IfOk result (λ next. ReadsShape Self.meaning (λ s. Self.meaning.act s (datum_of memo.now) (map datum_of input.now)) ctx.now.tree op
+        ensures { IfOk result (λ next. ReadsShape Self.meaning (λ s. Self.meaning.act s (datum_of_value memo.now) (map datum_of_value input.now)) ctx.now.tree op
             (move_of next)) };
 }
 
 /// Copies of the data, in order.
 pub(crate) fn all_copies(alloc: Global, items: &[Datum]) -> Result<Vec<Datum>, AllocError>
-    ensures { IfOk result (λ copies. map datum_of copies.items ≡ map datum_of items.now) }
+    ensures { IfOk result (λ copies. map datum_of_value copies.items ≡ map datum_of_value items.now) }
 {
     let mut copies = Vec::new(alloc);
     for datum in items {

@@ -6,29 +6,29 @@ use Rattle.pliron_search.specs.Digraph.{Digraph, IsLawful}
 use Rattle.pliron_graph.specs.Reverse.{reverse_of, reverse_succ, reverse_pred}
 use Rattle.pliron_graph.specs.declared.reverse_node.ReverseNode.{ReverseNode}
 use Rattle.pliron_graph.specs.declared.reverse_node.ReverseNode.TheVariants.{Sentinel, Real}
-use Rattle.pliron_search.specs.Internal.Membership.{In, in_from, contains_from, in_left, in_right, in_cases, in_from_any, any_from_in}
+use Rattle.pliron_search.specs.Internal.Membership.{HasMember, in_from, contains_from, in_left, in_right, in_cases, in_from_any, any_from_in}
 
-pub in_map : {A B : Type 0} (f : A → B) (xs : List A) (x : A) → In xs x → In (map f xs) (f x)
+pub in_map : {A B : Type 0} (f : A → B) (xs : List A) (x : A) → HasMember xs x → HasMember (map f xs) (f x)
 in_map f [] x h = absurd h
 in_map f (y ∷ ys) x (inl e) = inl (ap f e)
 in_map f (y ∷ ys) x (inr h) = inr (in_map f ys x h)
 
-pub real_in : {N : Type 0} (xs : List N) (x : N) → In (map Real xs) (Real x) → In xs x
+pub real_in : {N : Type 0} (xs : List N) (x : N) → HasMember (map Real xs) (Real x) → HasMember xs x
 real_in [] x h = absurd h
 real_in (y ∷ ys) x (inl e) = inl (cc)
 real_in (y ∷ ys) x (inr h) = inr (real_in ys x h)
 
-pub no_sentinel : {N : Type 0} (xs : List N) → In (map Real xs) Sentinel → ⊥
+pub no_sentinel : {N : Type 0} (xs : List N) → HasMember (map Real xs) Sentinel → ⊥
 no_sentinel [] h = h
 no_sentinel (y ∷ ys) (inl e) = absurd (cc)
 no_sentinel (y ∷ ys) (inr h) = no_sentinel ys h
 
-only_sentinel : {N : Type 0} (t : Bool) (u : N) → In (if t then Sentinel ∷ [] else []) (Real u) → ⊥
+only_sentinel : {N : Type 0} (t : Bool) (u : N) → HasMember (if t then Sentinel ∷ [] else []) (Real u) → ⊥
 only_sentinel true u (inl e) = absurd (cc)
 only_sentinel true u (inr n) = n
 only_sentinel false u n = n
 
-sentinel_then : (N : Type 0) (t : Bool) → In {N = ReverseNode N} (if t then Sentinel ∷ [] else []) Sentinel → t ≡ true
+sentinel_then : (N : Type 0) (t : Bool) → HasMember {N = ReverseNode N} (if t then Sentinel ∷ [] else []) Sentinel → t ≡ true
 sentinel_then N true h = refl
 sentinel_then N false h = absurd h
 
@@ -58,10 +58,10 @@ module _ {N : Type 0} (eq : N → N → Bool) (req : ReverseNode N → ReverseNo
   unfolding IsDistinct
   all_distinct = (sentinel_apart g.nodes, distinct_real g.nodes lawful.distinct)
 
-  start_node : (v : N) → In starts v → In g.nodes v
+  start_node : (v : N) → HasMember starts v → HasMember g.nodes v
   start_node v h = in_from g.nodes v (All-contains (λ x. Contains g.nodes x) starts v inside (contains_from starts v h))
 
-  succ_in : (u v : ReverseNode N) → In (Sentinel ∷ map Real g.nodes) u → In (reverse_succ g starts u) v → In (Sentinel ∷ map Real g.nodes) v
+  succ_in : (u v : ReverseNode N) → HasMember (Sentinel ∷ map Real g.nodes) u → HasMember (reverse_succ g starts u) v → HasMember (Sentinel ∷ map Real g.nodes) v
   succ_in Sentinel Sentinel hu h = inl refl
   succ_in Sentinel (Real v) hu h = inr (in_map Real g.nodes v (start_node v (real_in starts v h)))
   succ_in (Real u) Sentinel hu h = inl refl
@@ -69,7 +69,7 @@ module _ {N : Type 0} (eq : N → N → Bool) (req : ReverseNode N → ReverseNo
   succ_in (Real u) (Real v) (inr hu) h =
       inr (in_map Real g.nodes v (in_from g.nodes v (lawful.pred_in v u (contains_from g.nodes u (real_in g.nodes u hu)) (contains_from (g.pred u) v (real_in (g.pred u) v h)))))
 
-  pred_in : (u v : ReverseNode N) → In (Sentinel ∷ map Real g.nodes) v → In (reverse_pred eq g starts v) u → In (Sentinel ∷ map Real g.nodes) u
+  pred_in : (u v : ReverseNode N) → HasMember (Sentinel ∷ map Real g.nodes) v → HasMember (reverse_pred eq g starts v) u → HasMember (Sentinel ∷ map Real g.nodes) u
   pred_in u Sentinel hv h = absurd h
   pred_in Sentinel (Real v) hv h = inl refl
   pred_in (Real u) (Real v) (inl e) h = absurd (cc)
@@ -78,7 +78,7 @@ module _ {N : Type 0} (eq : N → N → Bool) (req : ReverseNode N → ReverseNo
     | inr b ↦ absurd (only_sentinel (list_any (eq v) starts) u b)
   ]
 
-  pred_succ : (u v : ReverseNode N) → In (Sentinel ∷ map Real g.nodes) u → In (Sentinel ∷ map Real g.nodes) v → In (reverse_pred eq g starts v) u → In (reverse_succ g starts u) v
+  pred_succ : (u v : ReverseNode N) → HasMember (Sentinel ∷ map Real g.nodes) u → HasMember (Sentinel ∷ map Real g.nodes) v → HasMember (reverse_pred eq g starts v) u → HasMember (reverse_succ g starts u) v
   pred_succ u Sentinel hu hv h = absurd h
   pred_succ Sentinel (Real v) hu hv h = elim (in_cases (map Real (g.succ v)) (if list_any (eq v) starts then Sentinel ∷ [] else []) Sentinel h) [
     | inl a ↦ absurd (no_sentinel (g.succ v) a)
@@ -91,7 +91,7 @@ module _ {N : Type 0} (eq : N → N → Bool) (req : ReverseNode N → ReverseNo
     | inr b ↦ absurd (only_sentinel (list_any (eq v) starts) u b)
   ]
 
-  succ_pred : (u v : ReverseNode N) → In (Sentinel ∷ map Real g.nodes) u → In (Sentinel ∷ map Real g.nodes) v → In (reverse_succ g starts u) v → In (reverse_pred eq g starts v) u
+  succ_pred : (u v : ReverseNode N) → HasMember (Sentinel ∷ map Real g.nodes) u → HasMember (Sentinel ∷ map Real g.nodes) v → HasMember (reverse_succ g starts u) v → HasMember (reverse_pred eq g starts v) u
   succ_pred Sentinel Sentinel hu hv h = absurd (no_sentinel starts h)
   succ_pred (Real u) Sentinel hu hv h = absurd (no_sentinel (g.pred u) h)
   succ_pred Sentinel (Real v) hu hv h =

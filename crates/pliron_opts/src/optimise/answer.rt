@@ -5,7 +5,7 @@ ghost use Rattle.pliron_core.specs.Changes.{IsInsideChange, IsSameTree};
 ghost use Rattle.pliron_core.specs.Writes.{no_tree};
 ghost use Rattle.pliron_core.specs.declared.attrs.IRStatus.TheVariants.{Unchanged};
 ghost use Rattle.pliron_laws.specs.Linked.{IsWellLinked};
-ghost use Rattle.pliron_pipeline.specs.Headline.{DoAsBefore};
+ghost use Rattle.pliron_pass.specs.Headline.{DoAsBefore};
 ghost use Rattle.pliron_opts.specs.Answered.{IsOptimised, status_line};
 ghost use Rattle.pliron_opts.specs.Ran.{RunsAlone};
 

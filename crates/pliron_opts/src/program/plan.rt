@@ -1,7 +1,7 @@
 //! Lists of passes as words.
 ghost use Rattle.std.specs.Prelude.{◌≡◌, ◌≤◌, ◌++◌, ◌↔◌, map, codes, IsTrue, IfOk, IfSome};
 ghost use Rattle.std.specs.Fmt.{decimal};
-ghost use Rattle.pliron_opts.specs.Plans.{BeginsWith, IsList, IsPlan, nested_prefix};
+ghost use Rattle.pliron_opts.specs.Plans.{BeginsWith, IsNameList, IsPlan, nested_prefix};
 
 use std::alloc::{AllocError, Global};
 
@@ -64,7 +64,7 @@ impl<'t> Plan<'t> {
     /// The plan of this list and so many runs.
     fn of(alloc: Global, runs: Option<usize>, word: &'t str) -> Result<Self, AllocError>
         ensures runs { IfOk result (λ plan. plan.runs ≡ runs) }
-        ensures list { IfOk result (λ plan. IsList word.now plan.nested (map (λ name. name.now) plan.names.items)) }
+        ensures list { IfOk result (λ plan. IsNameList word.now plan.nested (map (λ name. name.now) plan.names.items)) }
     {
         let (nested, list) = nested_list(word);
         let names: Vec<&str> = list.split(',').collect(alloc)?;

@@ -6,9 +6,9 @@ use Rattle.std.proofs.lemmas.Bool.{eqb-true, eq-eqb}
 use Rattle.std.proofs.lemmas.Bool.Decides.{eqb_tells}
 use Rattle.std.proofs.lemmas.Option.{slice_get_within, same_Some}
 use Rattle.pliron_search.specs.Digraph.{IsLawful}
-use Rattle.pliron_search.specs.Adjacency.{Adjacency, graph_of, count_from, first_of, row, AreInverse}
+use Rattle.pliron_search.specs.Adjacency.{Adjacency, graph_of, count_from, first_listed, row, AreInverse}
 use Rattle.pliron_search.specs.ByNumber.{IsByNumber}
-use Rattle.pliron_search.specs.Internal.Membership.{In, in_from, contains_from, in_from_any, any_from_in}
+use Rattle.pliron_search.specs.Internal.Membership.{HasMember, in_from, contains_from, in_from_any, any_from_in}
 
 pub same : (x y : ℕ) → nat_eq x y ≡ true → x ≡ y
 same x y h = eqb-true x y h
@@ -16,16 +16,16 @@ same x y h = eqb-true x y h
 pub reflexive : (x : ℕ) → nat_eq x x ≡ true
 reflexive x = eq-eqb x x refl
 
-pub counted : (i n v : ℕ) → In (count_from i n) v → (i ≤ v) × (v < i + n)
+pub counted : (i n v : ℕ) → HasMember (count_from i n) v → (i ≤ v) × (v < i + n)
 counted i zero v h = absurd h
 counted i (suc n) v (inl e) = (omega (arith, e), omega (arith, e))
 counted i (suc n) v (inr h) = let r = counted (i + 1) n v h in (omega (arith, r.0), omega (arith, r.1))
 
-count_has : (i n v : ℕ) → i ≤ v → v < i + n → In (count_from i n) v
+count_has : (i n v : ℕ) → i ≤ v → v < i + n → HasMember (count_from i n) v
 count_has i zero v l h = absurd (omega arith)
 count_has i (suc n) v l h = by (nat_eq i v) refl (λ m. count_has (i + 1) n v m (omega arith))
   where
-    by : (b : Bool) → nat_eq i v ≡ b → (i + 1 ≤ v → In (count_from (i + 1) n) v) → (i ≡ v) ⊎ In (count_from (i + 1) n) v
+    by : (b : Bool) → nat_eq i v ≡ b → (i + 1 ≤ v → HasMember (count_from (i + 1) n) v) → (i ≡ v) ⊎ HasMember (count_from (i + 1) n) v
     by true e rest = inl (same i v e)
     by false e rest = inr (rest (elim (eqb_tells i v) [ inl t ↦ absurd (true≢false (sym t.0 ∙ e)) | inr t ↦ omega (arith, l, t.1) ]))
 
@@ -38,7 +38,7 @@ unfolding IsDistinct
 distinct i zero = tt
 distinct i (suc n) = (apart i (i + 1) n (omega arith), distinct (i + 1) n)
 
-entry : (n : ℕ) → IfSome (first_of (count_from 0 n)) (λ v. Contains (count_from 0 n) v)
+entry : (n : ℕ) → IfSome (first_listed (count_from 0 n)) (λ v. Contains (count_from 0 n) v)
 entry zero = tt
 entry (suc n) = contains_from (count_from 0 (suc n)) 0 (inl refl)
 
@@ -75,13 +75,13 @@ count_at i zero k l = absurd (omega (arith, l))
 count_at i (suc n) zero l = ap Some (omega arith)
 count_at i (suc n) (suc k) l = count_at (i + 1) n k (omega (arith, l)) ∙ ap Some (omega arith)
 
-named_row : (n : ℕ) (xs : List ℕ) → ((v : ℕ) → In xs v → v < n) → map Some xs ≡ map (λ j. slice_get (count_from 0 n) j) xs
+named_row : (n : ℕ) (xs : List ℕ) → ((v : ℕ) → HasMember xs v → v < n) → map Some xs ≡ map (λ j. slice_get (count_from 0 n) j) xs
 named_row n [] h = refl
 named_row n (x ∷ xs) h =
     let here : Some x ≡ slice_get (count_from 0 n) x = sym (count_at 0 n x (h x (inl refl)) ∙ ap Some (omega arith)) in
     ap (λ o. o ∷ map Some xs) here ∙ ap (λ zs. slice_get (count_from 0 n) x ∷ zs) (named_row n xs (λ v i. h v (inr i)))
 
-first_counted : (n : ℕ) → first_of (count_from 0 n) ≡ slice_get (count_from 0 n) 0
+first_counted : (n : ℕ) → first_listed (count_from 0 n) ≡ slice_get (count_from 0 n) 0
 first_counted zero = refl
 first_counted (suc n) = refl
 

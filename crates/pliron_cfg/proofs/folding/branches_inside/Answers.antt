@@ -3,7 +3,7 @@ use Rattle.pliron_core.specs.Walks.{contents}
 use Rattle.pliron_core.specs.Tree.{head_of}
 use Rattle.pliron_core.proofs.WalkLemmas.{inside_live}
 use Rattle.pliron_theory.proofs.Listing.{IsListing, walk_start, walk_inside, walk_step, walk_smaller, walk_end, filter_each}
-use Rattle.pliron_cfg.specs.Folded.{branch_at, passes}
+use Rattle.pliron_cfg.specs.Folded.{branch_at, has_passing_head}
 use Rattle.pliron_cfg.proofs.folding.branches_inside.Goals as goal
 
 pub loop-at-init : goal.loop-at-init
@@ -36,4 +36,4 @@ loop-at-preserved g c =
 pub returns-clause-ok : goal.returns-clause-ok
 returns-clause-ok g c =
     let t = c.args.ctx.now.tree in
-    walk_end (branch_at g.D.BranchOpFoldInterface.can_fold_branch t) t c.args.root c.well_formed-2.ensures.tree c.loop-at.branches.items c.loop-at.at c.loop-at.invariant c.in_default.is ∙ filter_each (λ k. passes g.D.BranchOpFoldInterface.can_fold_branch (head_of t k)) (contents t c.args.root)
+    walk_end (branch_at g.D.BranchOpFoldInterface.can_fold_branch t) t c.args.root c.well_formed-2.ensures.tree c.loop-at.branches.items c.loop-at.at c.loop-at.invariant c.in_default.is ∙ filter_each (λ k. has_passing_head g.D.BranchOpFoldInterface.can_fold_branch (head_of t k)) (contents t c.args.root)

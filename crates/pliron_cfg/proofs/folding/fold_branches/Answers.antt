@@ -3,7 +3,7 @@ use Rattle.std.proofs.lemmas.Option.{slice_get_read}
 use Rattle.std.proofs.lemmas.List.{drop_all}
 use Rattle.pliron_laws.proofs.FoldLemmas.{on_err}
 use Rattle.pliron_cfg.specs.Folded.{FoldsAll, FoldsSome, FoldsSome.Stopped}
-use Rattle.pliron_cfg.specs.FoldSteps.{IsFoldingOn}
+use Rattle.pliron_cfg.specs.FoldSteps.{IsFoldingBranches}
 use Rattle.pliron_cfg.proofs.FoldLemmas.{folding_start, folding_can, folding_next, folding_broken, folding_change, folding_end, told_honestly, linked_still}
 use Rattle.pliron_cfg.proofs.folding.fold_branches.Goals as goal
 
@@ -13,7 +13,7 @@ returns-in_err-branches-clause-refused g c = on_err _ c.from_residual.result Sto
 pub loop-i-init : goal.loop-i-init
 loop-i-init g c =
     let t = c.args.ctx.now.tree in
-    subst (λ z. IsFoldingOn _ _ _ _ _ c.args.root t z 0 _ t) (sym c.in_ok-branches.ensures.ok) (folding_start g.D.HasMeaning.meaning g.D.ConstFoldInterface.can_fold g.D.BranchOpFoldInterface.can_fold_branch g.D.ConstFoldInterface.constants g.D.BranchOpFoldInterface.outcome c.args.root t c.well_formed-2.ensures.tree c.requires.live c.requires.linked)
+    subst (λ z. IsFoldingBranches _ _ _ _ _ c.args.root t z 0 _ t) (sym c.in_ok-branches.ensures.ok) (folding_start g.D.HasMeaning.meaning g.D.ConstFoldInterface.can_fold g.D.BranchOpFoldInterface.can_fold_branch g.D.ConstFoldInterface.constants g.D.BranchOpFoldInterface.outcome c.args.root t c.well_formed-2.ensures.tree c.requires.live c.requires.linked)
 
 pub fold_one-requires : goal.fold_one-requires
 fold_one-requires g c =
@@ -46,7 +46,7 @@ loop-i-preserved g c =
     let w = c.well_formed-2.ensures.tree in
     let can = folding_can _ _ _ _ _ _ _ w _ _ _ _ c.loop-i.invariant c.index.result.now at in
     let step = c.in_ok-fold_one.ensures.step c.args.root can.0 can.1 in
-    subst (λ z. IsFoldingOn _ _ _ _ _ c.args.root c.args.ctx.now.tree c.in_ok-branches.branches.items (c.loop-i.i + 1) z c.fold_one.new.ctx.tree) (sym c.bitor_assign.ensures.after)
+    subst (λ z. IsFoldingBranches _ _ _ _ _ c.args.root c.args.ctx.now.tree c.in_ok-branches.branches.items (c.loop-i.i + 1) z c.fold_one.new.ctx.tree) (sym c.bitor_assign.ensures.after)
     (folding_next _ _ _ _ _ _ _ w _ _ _ _ c.loop-i.invariant c.index.result.now at c.fold_one.new.ctx.tree c.in_ok-fold_one.field-0 c.in_ok-fold_one.ensures.ok c.in_ok-fold_one.ensures.told step)
 
 pub returns-clause-folds : goal.returns-clause-folds

@@ -9,7 +9,7 @@ use Rattle.pliron_cfg.specs.Visits.{AreVisits}
 use Rattle.pliron_theory.proofs.ChangeLemmas.{change_refl}
 use Rattle.std.proofs.lemmas.Result.{IfOk-weaker}
 use Rattle.pliron_cfg.specs.Merged.{MergesSome.Nothing}
-use Rattle.pliron_cfg.proofs.Whole.{all_linked, all_merged, partly, partly_change, partly_links, either_way, err_weaker}
+use Rattle.pliron_cfg.proofs.Whole.{all_linked, all_merged, partly, partly_change, partly_links, either_way, err_weaker, none_new, no_block_new, branch_went, ok_whole}
 use Rattle.pliron_cfg.proofs.merging.merge_inside_region.Goals as goal
 
 pub merge_among-requires : goal.merge_among-requires
@@ -75,3 +75,36 @@ returns-in_err-visits-clause-refused g c = on_err _ c.from_residual.result (inl 
 
 pub visits_inside_region-requires-clause-edges : goal.visits_inside_region-requires-clause-edges
 visits_inside_region-requires-clause-edges g c = λ holder e. (c.requires.linked holder e).edges
+
+pub returns-clause-told : goal.returns-clause-told
+returns-clause-told g c =
+    let t = c.args.ctx.now.tree in
+    let w = c.well_formed-2.ensures.tree in
+    let x = region_has t c.args.region c.requires.region in
+    let root = x.0 in
+    let live = region_parent_live t c.args.region root w.joined c.requires.region x.1 in
+    let linked = c.requires.linked root x.1 in
+    let visits = subst (AreVisits t (OfRegion c.args.region t) c.in_ok-visits.visits.regions.items) (sym c.deref.ensures.value) c.in_ok-visits.ensures.visits in
+    IfOk-weaker c.merge_among.result _ _ (λ s y. branch_went _ _ _ _ g.met.D.Dialect.forwards_operands (OfRegion c.args.region) root (region_lasts c.args.region root) t w live linked (region_starts t c.args.region root c.requires.region x.1) _ _ visits c.merge_among.new.ctx.tree s y) c.merge_among.ensures.ok
+
+pub returns-clause-unreachable : goal.returns-clause-unreachable
+returns-clause-unreachable g c =
+    let t = c.args.ctx.now.tree in
+    let w = c.well_formed-2.ensures.tree in
+    let x = region_has t c.args.region c.requires.region in
+    let root = x.0 in
+    let live = region_parent_live t c.args.region root w.joined c.requires.region x.1 in
+    let linked = c.requires.linked root x.1 in
+    let visits = subst (AreVisits t (OfRegion c.args.region t) c.in_ok-visits.visits.regions.items) (sym c.deref.ensures.value) c.in_ok-visits.ensures.visits in
+    ok_whole c.merge_among.result _ (λ s y. none_new _ _ _ _ g.met.D.Dialect.forwards_operands (OfRegion c.args.region) root (region_lasts c.args.region root) t w live linked (region_starts t c.args.region root c.requires.region x.1) _ _ visits c.merge_among.new.ctx.tree y.0) c.merge_among.ensures.ok
+
+pub returns-clause-blocks : goal.returns-clause-blocks
+returns-clause-blocks g c =
+    let t = c.args.ctx.now.tree in
+    let w = c.well_formed-2.ensures.tree in
+    let x = region_has t c.args.region c.requires.region in
+    let root = x.0 in
+    let live = region_parent_live t c.args.region root w.joined c.requires.region x.1 in
+    let linked = c.requires.linked root x.1 in
+    let visits = subst (AreVisits t (OfRegion c.args.region t) c.in_ok-visits.visits.regions.items) (sym c.deref.ensures.value) c.in_ok-visits.ensures.visits in
+    ok_whole c.merge_among.result _ (λ s y. no_block_new _ _ _ _ g.met.D.Dialect.forwards_operands (OfRegion c.args.region) root (region_lasts c.args.region root) t w live linked (region_starts t c.args.region root c.requires.region x.1) _ _ visits c.merge_among.new.ctx.tree y.0) c.merge_among.ensures.ok

@@ -3,7 +3,7 @@ use Rattle.pliron_core.specs.Tree.{In}
 use Rattle.pliron_core.specs.Reads.{has_ssa}
 use Rattle.pliron_core.proofs.ListLemmas.{In-right}
 use Rattle.pliron_search.specs.Regions.{IsLawfulRegion}
-use Rattle.pliron_cfg.specs.Visited.{IsEnteredIf}
+use Rattle.pliron_cfg.specs.Visited.{IsLookedIntoIf}
 use Rattle.pliron_cfg.specs.Internal.Seen.{Grew}
 use Rattle.pliron_cfg.proofs.Lawful.{visited_lawful, entered_stands, seen_few, fewer_left}
 use Rattle.pliron_cfg.proofs.Visiting.{IsVisiting, nested_in, visiting_starts, visiting_searched, visiting_other, visits_found}
@@ -56,7 +56,7 @@ loop-region-preserved c =
           let blocks : c.if-has_ssa_dominance.blocks.items ≡ c.loop-region.blocks.items ++ entered = ap (λ z. z.items) w.blocks-is ∙ w.in_ok-extend_from_slice.ensures.items ∙ ap (λ z. c.loop-region.blocks.items ++ z) w.deref-then-has_ssa_dominance.ensures.value in
           let regions : c.if-has_ssa_dominance.regions.items ≡ c.loop-region.regions.items ++ r ∷ [] = ap (λ z. z.items) w.regions-is ∙ w.in_ok-push.ensures.items in
           rw (blocks, regions) (visiting_searched t c.well_formed-2.ensures.tree Start c.loop-region.seen.keys c.pop.new.self.items c.loop-region.regions.items c.loop-region.blocks.items r h entered c.push_new-in-Some.new.seen.keys c.push_new-in-Some.new.waiting.items sound complete g ssa
-          (λ b i. subst (λ z. IsEnteredIf z t r b) ssa (sound b i)) (λ b i. complete b (subst (λ z. IsEnteredIf z t r b) (sym ssa) i)))
+          (λ b i. subst (λ z. IsLookedIntoIf z t r b) ssa (sound b i)) (λ b i. complete b (subst (λ z. IsLookedIntoIf z t r b) (sym ssa) i)))
       | else-has_ssa_dominance w ↦
           rw (w.blocks-is, w.regions-is) (visiting_other t c.well_formed-2.ensures.tree Start c.loop-region.seen.keys c.pop.new.self.items c.loop-region.regions.items c.loop-region.blocks.items r h entered c.push_new-in-Some.new.seen.keys c.push_new-in-Some.new.waiting.items sound complete g
           (λ yes. true≢false (sym yes ∙ sym c.has_ssa_dominance.ensures ∙ w.if-has_ssa_dominance.false)))

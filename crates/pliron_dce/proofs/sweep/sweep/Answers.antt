@@ -1,6 +1,6 @@
 use Rattle.std.proofs.Common.{refl, rules, inl, inr, ◌↔◌, IsTrue, ◌++◌, ◌∷◌, List, [], IfOk, ⊎_elim, sym, subst}
 use Rattle.pliron_dce.specs.Dead.{Item}
-use Rattle.pliron_dce.specs.Going.{IsOnTheWay, LeavesNoDead, TellsGone, SomeHasRegions}
+use Rattle.pliron_dce.specs.Going.{IsSweptSoFar, LeavesNoDead, TellsGone, SomeHasRegions}
 use Rattle.pliron_dce.specs.Work.{item_of, HasReady}
 use Rattle.pliron_dce.proofs.SweepLemmas.{step_less}
 use Rattle.pliron_dce.proofs.Progress.{on_the_way, one_more, at_the_end, tells_more, edges_more, regions_more}
@@ -35,6 +35,6 @@ returns-in_err-had-clause-gone g c =
     let way = c.loop-next.invariant.way in
     let none : (x : List Item) → IfOk c.from_residual.result (λ a. LeavesNoDead g.D.HasMeaning.meaning g.D.SideEffects.side_effects g.D.BlockArgRemoval.removable c.args.ctx.now.tree c.take_one-taken.new.ctx.tree c.args.root × TellsGone x a.0 × (IsTrue a.1 ↔ SomeHasRegions c.args.ctx.now.tree x)) = λ x. search rules in
     ⊎_elim
-    (λ same. (way.0, subst (λ z. IsOnTheWay g.D.HasMeaning.meaning g.D.Dialect.shortened g.D.SideEffects.side_effects g.D.BlockArgRemoval.removable c.args.ctx.now.tree z c.args.root way.0) (sym same) way.1, none way.0))
+    (λ same. (way.0, subst (λ z. IsSweptSoFar g.D.HasMeaning.meaning g.D.Dialect.shortened g.D.SideEffects.side_effects g.D.BlockArgRemoval.removable c.args.ctx.now.tree z c.args.root way.0) (sym same) way.1, none way.0))
     (λ goes. (way.0 ++ item_of c.in-Some.next ∷ [], one_more _ _ _ _ g.met.D.Dialect.forwards_operands (λ h h' s. s.branch) g.met.D.Dialect.keeps_counts g.D.SideEffects.side_effects g.met.D.Dialect.gives_at_once g.D.BlockArgRemoval.removable g.met.D.Dialect.acts_without_argument c.args.ctx.now.tree c.loop-next.ctx.tree c.take_one-taken.new.ctx.tree c.args.root way.0 (item_of c.in-Some.next) c.requires.linked c.well_formed-in-Some.ensures.tree c.well_formed-in-Some-2.ensures.tree way.1 c.in-Some.ensures.some goes, none (way.0 ++ item_of c.in-Some.next ∷ [])))
     c.in_err-had.ensures.refused

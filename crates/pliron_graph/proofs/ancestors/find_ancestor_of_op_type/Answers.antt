@@ -1,5 +1,5 @@
 use Rattle.pliron_laws.specs.Answers.{HeadPasses}
-use Rattle.pliron_graph.specs.Ancestors.{IsAbove}
+use Rattle.pliron_graph.specs.Ancestors.{IsAncestor}
 use Rattle.pliron_graph.proofs.AncestorLemmas.{above_smaller, climb_above, climb_on_above, climb_found, climb_none, head_passes, head_fails}
 use Rattle.pliron_graph.proofs.ancestors.find_ancestor_of_op_type.Goals as goal
 
@@ -11,7 +11,7 @@ loop-at-init g c =
 pub returns-then-is_kind-clause-nearest : goal.returns-then-is_kind-clause-nearest
 returns-then-is_kind-clause-nearest g c =
     let t = c.args.ctx.now.tree in
-    climb_found t c.well_formed-2.ensures.tree (HeadPasses (λ h. g.D.Dialect.is_of_kind h c.args.kind) t) (IsAbove t c.args.op) c.loop-at.at c.in-Some.above c.in-Some.is (head_passes (λ h. g.D.Dialect.is_of_kind h c.args.kind) t c.in-Some.above c.is_kind.result c.is_kind.ensures c.if-is_kind.true) c.loop-at.invariant
+    climb_found t c.well_formed-2.ensures.tree (HeadPasses (λ h. g.D.Dialect.is_of_kind h c.args.kind) t) (IsAncestor t c.args.op) c.loop-at.at c.in-Some.above c.in-Some.is (head_passes (λ h. g.D.Dialect.is_of_kind h c.args.kind) t c.in-Some.above c.is_kind.result c.is_kind.ensures c.if-is_kind.true) c.loop-at.invariant
 
 pub loop-at-smaller : goal.loop-at-smaller
 loop-at-smaller g c =
@@ -27,4 +27,4 @@ loop-at-preserved g c =
 pub returns-clause-nearest : goal.returns-clause-nearest
 returns-clause-nearest g c =
     let t = c.args.ctx.now.tree in
-    climb_none t c.well_formed-2.ensures.tree (HeadPasses (λ h. g.D.Dialect.is_of_kind h c.args.kind) t) (IsAbove t c.args.op) c.loop-at.at c.in_default.is c.loop-at.invariant
+    climb_none t c.well_formed-2.ensures.tree (HeadPasses (λ h. g.D.Dialect.is_of_kind h c.args.kind) t) (IsAncestor t c.args.op) c.loop-at.at c.in_default.is c.loop-at.invariant

@@ -3,14 +3,14 @@ use Rattle.std.specs.Option.{ForSome}
 use Rattle.pliron_core.specs.Tree.{IsWithin}
 use Rattle.pliron_core.specs.Walks.{preorder}
 use Rattle.pliron_core.specs.WalkSteps.{rest_from}
-use Rattle.pliron_laws.specs.EdgeChecks.{IsFit}
+use Rattle.pliron_laws.specs.EdgeChecks.{HasLawfulEdges}
 use Rattle.pliron_laws.proofs.PassedLemmas.{ArePassed}
 use Rattle.pliron_laws.proofs.edges.edges_last.Given as goal
 
 abbrev pub invariant-loop-at : goal.invariant-loop-at
 invariant-loop-at l = record {
   within : ForSome l.at (λ k. IsWithin l.ctx.tree l.root k);
-  passed : ArePassed (λ k. IsFit l.ctx.tree l.root k) (preorder l.ctx.tree l.root) l.at;
+  passed : ArePassed (λ k. HasLawfulEdges l.ctx.tree l.root k) (preorder l.ctx.tree l.root) l.at;
 }
 
 abbrev pub decreases-loop-at : goal.decreases-loop-at

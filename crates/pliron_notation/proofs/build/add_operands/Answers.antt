@@ -1,5 +1,5 @@
 use Rattle.std.proofs.Common.{rules, get_or, sym, subst, arith}
-use Rattle.pliron_notation.specs.Building.{GoesOn}
+use Rattle.pliron_notation.specs.Building.{BuildingGoesOn}
 use Rattle.pliron_notation.specs.Laid.{HasMoreOperands}
 use Rattle.pliron_notation.proofs.WiredLemmas.{no-more-operands, one-more-operand}
 use Rattle.pliron_notation.proofs.BuildLemmas.{goes-refl, in-at, in-read, goes-trans, goes-operand, standing-operand}
@@ -15,7 +15,7 @@ push_operand-requires-clause-value c =
     c.loop-number.invariant.1.values c.index.result.now (in-read c.args.built.now.values.items number c.index.result.now lt c.index.ensures)
 
 pub returns-in_err-push_operand-clause-goes_on : goal.returns-in_err-push_operand-clause-goes_on
-returns-in_err-push_operand-clause-goes_on c = subst (λ z. GoesOn c.args.ctx.now.tree c.args.built.now z.tree c.args.built.now) (sym c.in_err-push_operand.ensures.err) c.loop-number.invariant.0
+returns-in_err-push_operand-clause-goes_on c = subst (λ z. BuildingGoesOn c.args.ctx.now.tree c.args.built.now z.tree c.args.built.now) (sym c.in_err-push_operand.ensures.err) c.loop-number.invariant.0
 
 pub loop-number-preserved : goal.loop-number-preserved
 loop-number-preserved c =

@@ -1,5 +1,5 @@
 use Rattle.std.proofs.Common.{rules, length, get_or, refl, sym, subst, arith}
-use Rattle.pliron_notation.specs.Building.{GoesOn}
+use Rattle.pliron_notation.specs.Building.{BuildingGoesOn}
 use Rattle.std.proofs.lemmas.Option.{slice_get_read}
 use Rattle.pliron_notation.specs.Laid.{HasMoreSuccessors}
 use Rattle.pliron_notation.proofs.WiredLemmas.{no-more-successors, one-more-successor}
@@ -16,7 +16,7 @@ push_successor-requires-clause-block c =
     c.loop-number.invariant.1.blocks c.index.result.now (in-read c.args.built.now.blocks.items number c.index.result.now lt c.index.ensures)
 
 pub returns-in_err-push_successor-clause-goes_on : goal.returns-in_err-push_successor-clause-goes_on
-returns-in_err-push_successor-clause-goes_on c = subst (λ z. GoesOn c.args.ctx.now.tree c.args.built.now z.tree c.args.built.now) (sym c.in_err-push_successor.ensures.err) c.loop-number.invariant.0
+returns-in_err-push_successor-clause-goes_on c = subst (λ z. BuildingGoesOn c.args.ctx.now.tree c.args.built.now z.tree c.args.built.now) (sym c.in_err-push_successor.ensures.err) c.loop-number.invariant.0
 
 pub loop-number-preserved : goal.loop-number-preserved
 loop-number-preserved c =

@@ -1,7 +1,7 @@
 use Rattle.std.proofs.Common.{◌∷◌, [], sym, subst, arith}
 use Rattle.pliron_core.specs.Tree.{In, regions_of}
 use Rattle.pliron_core.proofs.HoldingLemmas.{in_slice}
-use Rattle.pliron_notation.specs.Building.{Keeps}
+use Rattle.pliron_notation.specs.Building.{KeepsEntries}
 use Rattle.pliron_notation.proofs.GrowthLemmas.{keeps-more}
 use Rattle.pliron_notation.proofs.BuildLemmas.{adds-more, length-last}
 use Rattle.pliron_notation.proofs.build.remember_regions.Goals as goal
@@ -14,10 +14,10 @@ loop-i-preserved c =
     let made = regions_of c.args.ctx.now.tree c.args.op in
     let more = length-last c.loop-i.regions.items c.remember.new.table.items c.get_region.result c.in_ok-remember.ensures.ok in
     let count = c.loop-i.invariant.1 in
-    (adds-more c.args.regions.now.items c.loop-i.regions.items c.remember.new.table.items made c.get_region.result c.in_ok-remember.ensures.ok c.loop-i.invariant.0 (in_slice made c.loop-i.i c.get_region.result c.get_region.ensures.region), omega (arith, more, count), subst (Keeps c.args.regions.now.items) (sym c.in_ok-remember.ensures.ok) (keeps-more c.args.regions.now.items c.loop-i.regions.items (c.get_region.result ∷ []) c.loop-i.invariant.2))
+    (adds-more c.args.regions.now.items c.loop-i.regions.items c.remember.new.table.items made c.get_region.result c.in_ok-remember.ensures.ok c.loop-i.invariant.0 (in_slice made c.loop-i.i c.get_region.result c.get_region.ensures.region), omega (arith, more, count), subst (KeepsEntries c.args.regions.now.items) (sym c.in_ok-remember.ensures.ok) (keeps-more c.args.regions.now.items c.loop-i.regions.items (c.get_region.result ∷ []) c.loop-i.invariant.2))
 
 pub returns-in_err-remember-clause-kept : goal.returns-in_err-remember-clause-kept
-returns-in_err-remember-clause-kept c = subst (Keeps c.args.regions.now.items) (sym c.in_err-remember.ensures.err) c.loop-i.invariant.2
+returns-in_err-remember-clause-kept c = subst (KeepsEntries c.args.regions.now.items) (sym c.in_err-remember.ensures.err) c.loop-i.invariant.2
 
 pub returns-clause-kept : goal.returns-clause-kept
 returns-clause-kept c = c.loop-i.invariant.2

@@ -11,25 +11,25 @@ loop-runs-init g c = record {
   at_most = omega arith;
 }
 
-pub returns-in_err-run_inner-clause-change : goal.returns-in_err-run_inner-clause-change
-returns-in_err-run_inner-clause-change g c = change_trans g.P.D.HasMeaning.meaning c.args.ctx.now.tree c.loop-runs.ctx.tree c.run_inner.new.ctx.tree c.args.op c.loop-runs.invariant.change c.in_err-run_inner.ensures.change
+pub returns-in_err-run_pipeline-clause-change : goal.returns-in_err-run_pipeline-clause-change
+returns-in_err-run_pipeline-clause-change g c = change_trans g.P.D.HasMeaning.meaning c.args.ctx.now.tree c.loop-runs.ctx.tree c.run_pipeline.new.ctx.tree c.args.op c.loop-runs.invariant.change c.in_err-run_pipeline.ensures.change
 
-pub returns-in_err-run_inner-clause-outcome : goal.returns-in_err-run_inner-clause-outcome
-returns-in_err-run_inner-clause-outcome g c =
-    let e : c.from_residual.result ≡ Err c.in_err-run_inner.field-0.0 = search rules in
-    Failed c.in_err-run_inner.field-0.0 c.loop-runs.changed c.loop-runs.runs c.loop-runs.pass _ e refl c.loop-runs-test.true c.loop-runs.invariant.ran c.in_err-run_inner.ensures.outcome
+pub returns-in_err-run_pipeline-clause-outcome : goal.returns-in_err-run_pipeline-clause-outcome
+returns-in_err-run_pipeline-clause-outcome g c =
+    let e : c.from_residual.result ≡ Err c.in_err-run_pipeline.field-0.0 = search rules in
+    Failed c.in_err-run_pipeline.field-0.0 c.loop-runs.changed c.loop-runs.runs c.loop-runs.pass _ e refl c.loop-runs-test.true c.loop-runs.invariant.ran c.in_err-run_pipeline.ensures.outcome
 
 pub returns-in-Unchanged-clause-change : goal.returns-in-Unchanged-clause-change
-returns-in-Unchanged-clause-change g c = change_trans g.P.D.HasMeaning.meaning c.args.ctx.now.tree c.loop-runs.ctx.tree c.run_inner.new.ctx.tree c.args.op c.loop-runs.invariant.change c.in_ok-run_inner.ensures.change
+returns-in-Unchanged-clause-change g c = change_trans g.P.D.HasMeaning.meaning c.args.ctx.now.tree c.loop-runs.ctx.tree c.run_pipeline.new.ctx.tree c.args.op c.loop-runs.invariant.change c.in_ok-run_pipeline.ensures.change
 
 pub returns-in-Unchanged-clause-outcome : goal.returns-in-Unchanged-clause-outcome
-returns-in-Unchanged-clause-outcome g c = Settled c.loop-runs.changed c.loop-runs.runs c.loop-runs.pass _ refl refl c.loop-runs-test.true c.loop-runs.invariant.ran (rw c.in-Unchanged.is at c.in_ok-run_inner.ensures.outcome)
+returns-in-Unchanged-clause-outcome g c = Settled c.loop-runs.changed c.loop-runs.runs c.loop-runs.pass _ refl refl c.loop-runs-test.true c.loop-runs.invariant.ran (rw c.in-Unchanged.is at c.in_ok-run_pipeline.ensures.outcome)
 
 pub loop-runs-preserved : goal.loop-runs-preserved
 loop-runs-preserved g c = record {
-  change = change_trans g.P.D.HasMeaning.meaning c.args.ctx.now.tree c.loop-runs.ctx.tree c.run_inner.new.ctx.tree c.args.op c.loop-runs.invariant.change c.in_ok-run_inner.ensures.change;
-  fresh = λ f. c.in_ok-run_inner.ensures.fresh (c.loop-runs.invariant.fresh f);
-  ran = OneMore c.run_inner.new.pass _ c.loop-runs.invariant.ran (rw c.in-Changed.is at c.in_ok-run_inner.ensures.outcome);
+  change = change_trans g.P.D.HasMeaning.meaning c.args.ctx.now.tree c.loop-runs.ctx.tree c.run_pipeline.new.ctx.tree c.args.op c.loop-runs.invariant.change c.in_ok-run_pipeline.ensures.change;
+  fresh = λ f. c.in_ok-run_pipeline.ensures.fresh (c.loop-runs.invariant.fresh f);
+  ran = OneMore c.run_pipeline.new.pass _ c.loop-runs.invariant.ran (rw c.in-Changed.is at c.in_ok-run_pipeline.ensures.outcome);
   at_most = omega (arith, c.loop-runs-test.true);
 }
 

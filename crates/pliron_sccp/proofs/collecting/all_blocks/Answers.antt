@@ -1,12 +1,12 @@
 use Rattle.std.proofs.Common.{◌≡◌, [], ◌++◌, reverse, ap, ◌∙◌, subst, sym, arith}
-use Rattle.pliron_sccp.specs.Inside.{blocks_of}
+use Rattle.pliron_sccp.specs.Inside.{blocks_directly_in}
 use Rattle.pliron_sccp.proofs.Listing.{AreOwing, owing_start, owing_inside, owing_step, owing_smaller, owing_end}
 use Rattle.pliron_sccp.proofs.collecting.all_blocks.Goals as goal
 
 pub loop-block-init : goal.loop-block-init
 loop-block-init c =
     let t = c.args.ctx.now.tree in
-    let first = c.in_ok-stack_regions.ensures.ok ∙ ap (λ xs. xs ++ reverse (blocks_of t c.args.root)) c.new-stack.ensures.items in
+    let first = c.in_ok-stack_regions.ensures.ok ∙ ap (λ xs. xs ++ reverse (blocks_directly_in t c.args.root)) c.new-stack.ensures.items in
     subst (λ xs. AreOwing t c.args.root xs c.stack_regions.new.stack.items) (sym c.new-found.ensures.items) (owing_start t c.well_formed-2.ensures.tree c.args.root c.stack_regions.new.stack.items c.requires first)
 
 pub stack_body-requires : goal.stack_body-requires

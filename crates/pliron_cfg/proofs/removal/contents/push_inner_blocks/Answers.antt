@@ -1,5 +1,5 @@
 use Rattle.pliron_cfg.proofs.ListLemmas.{mapped_more, item_in}
-use Rattle.pliron_cfg.specs.Internal.Contents.{blocks_below}
+use Rattle.pliron_cfg.specs.Internal.Contents.{blocks_directly_in}
 use Rattle.pliron_cfg.proofs.removal.contents.push_inner_blocks.Goals as goal
 
 pub push_blocks_below-requires : goal.push_blocks_below-requires
@@ -7,4 +7,4 @@ push_blocks_below-requires c = c.requires c.op-item.result (item_in c.args.ops.n
 
 pub loop-op-preserved : goal.loop-op-preserved
 loop-op-preserved c =
-    mapped_more (λ k. blocks_below c.args.ctx.now.tree k) c.args.ops.now c.loop-op.op-index c.op-item.result c.args.blocks.now.items c.loop-op.blocks.items c.push_blocks_below.new.blocks.items c.loop-op-test.true c.op-item.is c.loop-op.invariant c.in_ok-push_blocks_below.ensures.items
+    mapped_more (λ k. blocks_directly_in c.args.ctx.now.tree k) c.args.ops.now c.loop-op.op-index c.op-item.result c.args.blocks.now.items c.loop-op.blocks.items c.push_blocks_below.new.blocks.items c.loop-op-test.true c.op-item.is c.loop-op.invariant c.in_ok-push_blocks_below.ensures.items

@@ -1,7 +1,7 @@
 use Rattle.std.proofs.Common.{◌≡◌, ap, ◌∙◌, sym, None, ℕ}
 use Rattle.std.specs.List.{flat_map}
 use Rattle.std.proofs.lemmas.Option.{same_Some}
-use Rattle.pliron_core.specs.Lists.{owner_of, next_of, next_in, first_of}
+use Rattle.pliron_core.specs.Lists.{owner_of, next_in_lists, next_in, first_of}
 use Rattle.pliron_core.specs.Tree.{View, parent_of, block_parent_of, body_of, layout_of, slot_of}
 use Rattle.pliron_core.specs.WalkSteps.{rest_after}
 use Rattle.pliron_core.proofs.WalkLemmas.{HasPlace, place_of}
@@ -21,7 +21,7 @@ same_block c k p =
 
 after_block : (c : After-first_from_block-next) (k : ℕ) (p : HasPlace c.args.self.now.tree c.args.op k) → c.first_from_block-next.result ≡ first_of (flat_map (λ b. body_of c.args.self.now.tree b) (rest_after p.block (layout_of c.args.self.now.tree p.region))) None
 after_block c k p =
-    first_after_block c.args.self.now.tree c.well_formed-2.ensures.tree c.self.inside.layout (ap (λ (v : View). v.tree.layouts) c.self.view_is) (ap (λ (v : View). v.tree.block_parents) c.self.view_is) p.block p.region c.next.result c.first_from_block-next.result p.in_region (c.next.ensures.next ∙ ap (next_of c.self.inside.layout) (same_block c k p)) c.first_from_block-next.ensures
+    first_after_block c.args.self.now.tree c.well_formed-2.ensures.tree c.self.inside.layout (ap (λ (v : View). v.tree.layouts) c.self.view_is) (ap (λ (v : View). v.tree.block_parents) c.self.view_is) p.block p.region c.next.result c.first_from_block-next.result p.in_region (c.next.ensures.next ∙ ap (next_in_lists c.self.inside.layout) (same_block c k p)) c.first_from_block-next.ensures
 
 pub returns-then-is_some : goal.returns-then-is_some
 returns-then-is_some c k e =

@@ -1,7 +1,7 @@
 use Rattle.std.proofs.Common.{◌≡◌, ◌<◌, [], length, map, get_or, Some, ap, ◌∙◌, rules, arith}
 use Rattle.std.specs.List.{slice_get}
 use Rattle.std.proofs.lemmas.List.{length-map, get_or_default}
-use Rattle.pliron_core.specs.Places.{at, rank, seen}
+use Rattle.pliron_core.specs.Places.{at, rank, ranked_use}
 use Rattle.pliron_core.proofs.TableLemmas.{at-within}
 use Rattle.pliron_core.proofs.PlaceLemmas.{use-there, use-seen, target-real}
 use Rattle.pliron_core.proofs.uses.Uses.get_use.Goals as goal
@@ -9,7 +9,7 @@ use Rattle.pliron_core.proofs.uses.Uses.get_use.Goals as goal
 pub gap_at-gap-requires-clause-user : goal.gap_at-gap-requires-clause-user
 gap_at-gap-requires-clause-user c =
     let r = rw (← c.self.view_is) at c.requires in
-    let ht : c.args.target < length c.self.inside.uses.items = omega (arith, r.target, length-map c.self.inside.uses.items (map (seen c.self.inside.places.items))) in
+    let ht : c.args.target < length c.self.inside.uses.items = omega (arith, r.target, length-map c.self.inside.uses.items (map (ranked_use c.self.inside.places.items))) in
     let e : at c.self.inside.uses.items c.args.target c.args.i ≡ Some c.get-user.result = use-there _ _ _ _ _ ht c.index.ensures c.get-user.ensures in
     let p : at c.self.inside.places.items c.get-user.result.user c.get-user.result.place ≡ Some (record { target = c.args.target; at = c.args.i }) = c.self.invariant.linked.placed _ _ _ _ e in
     let h : c.get-user.result.user < length c.self.inside.places.items = at-within _ _ _ _ p in
@@ -18,7 +18,7 @@ gap_at-gap-requires-clause-user c =
 pub index-requires-2 : goal.index-requires-2
 index-requires-2 c =
     let r = rw (← c.self.view_is) at c.requires in
-    let ht : c.args.target < length c.self.inside.uses.items = omega (arith, r.target, length-map c.self.inside.uses.items (map (seen c.self.inside.places.items))) in
+    let ht : c.args.target < length c.self.inside.uses.items = omega (arith, r.target, length-map c.self.inside.uses.items (map (ranked_use c.self.inside.places.items))) in
     let e : at c.self.inside.uses.items c.args.target c.args.i ≡ Some c.get-user.result = use-there _ _ _ _ _ ht c.index.ensures c.get-user.ensures in
     let p : at c.self.inside.places.items c.get-user.result.user c.get-user.result.place ≡ Some (record { target = c.args.target; at = c.args.i }) = c.self.invariant.linked.placed _ _ _ _ e in
     let h : c.get-user.result.user < length c.self.inside.places.items = at-within _ _ _ _ p in
@@ -27,7 +27,7 @@ index-requires-2 c =
 pub rank_at-place-requires-clause-gap : goal.rank_at-place-requires-clause-gap
 rank_at-place-requires-clause-gap c =
     let r = rw (← c.self.view_is) at c.requires in
-    let ht : c.args.target < length c.self.inside.uses.items = omega (arith, r.target, length-map c.self.inside.uses.items (map (seen c.self.inside.places.items))) in
+    let ht : c.args.target < length c.self.inside.uses.items = omega (arith, r.target, length-map c.self.inside.uses.items (map (ranked_use c.self.inside.places.items))) in
     let e : at c.self.inside.uses.items c.args.target c.args.i ≡ Some c.get-user.result = use-there _ _ _ _ _ ht c.index.ensures c.get-user.ensures in
     let p : at c.self.inside.places.items c.get-user.result.user c.get-user.result.place ≡ Some (record { target = c.args.target; at = c.args.i }) = c.self.invariant.linked.placed _ _ _ _ e in
     let h : c.get-user.result.user < length c.self.inside.places.items = at-within _ _ _ _ p in
@@ -37,7 +37,7 @@ rank_at-place-requires-clause-gap c =
 pub rank_at-place-requires-clause-taken : goal.rank_at-place-requires-clause-taken
 rank_at-place-requires-clause-taken c =
     let r = rw (← c.self.view_is) at c.requires in
-    let ht : c.args.target < length c.self.inside.uses.items = omega (arith, r.target, length-map c.self.inside.uses.items (map (seen c.self.inside.places.items))) in
+    let ht : c.args.target < length c.self.inside.uses.items = omega (arith, r.target, length-map c.self.inside.uses.items (map (ranked_use c.self.inside.places.items))) in
     let e : at c.self.inside.uses.items c.args.target c.args.i ≡ Some c.get-user.result = use-there _ _ _ _ _ ht c.index.ensures c.get-user.ensures in
     let p : at c.self.inside.places.items c.get-user.result.user c.get-user.result.place ≡ Some (record { target = c.args.target; at = c.args.i }) = c.self.invariant.linked.placed _ _ _ _ e in
     let h : c.get-user.result.user < length c.self.inside.places.items = at-within _ _ _ _ p in
@@ -47,7 +47,7 @@ rank_at-place-requires-clause-taken c =
 pub returns : goal.returns
 returns c =
     let r = rw (← c.self.view_is) at c.requires in
-    let ht : c.args.target < length c.self.inside.uses.items = omega (arith, r.target, length-map c.self.inside.uses.items (map (seen c.self.inside.places.items))) in
+    let ht : c.args.target < length c.self.inside.uses.items = omega (arith, r.target, length-map c.self.inside.uses.items (map (ranked_use c.self.inside.places.items))) in
     let e : at c.self.inside.uses.items c.args.target c.args.i ≡ Some c.get-user.result = use-there _ _ _ _ _ ht c.index.ensures c.get-user.ensures in
     let p : at c.self.inside.places.items c.get-user.result.user c.get-user.result.place ≡ Some (record { target = c.args.target; at = c.args.i }) = c.self.invariant.linked.placed _ _ _ _ e in
     let h : c.get-user.result.user < length c.self.inside.places.items = at-within _ _ _ _ p in

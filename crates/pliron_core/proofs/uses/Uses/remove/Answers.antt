@@ -1,7 +1,7 @@
 use Rattle.std.proofs.Common.{◌≡◌, ◌<◌, [], length, get_or, set, map, ap, sym, ◌∙◌, arith}
 use Rattle.std.specs.List.{slice_get, remove}
 use Rattle.std.proofs.lemmas.List.{length-map}
-use Rattle.pliron_core.specs.Places.{held, gap_of, seen, targets_in}
+use Rattle.pliron_core.specs.Places.{held, gap_of, ranked_use, targets_in}
 use Rattle.pliron_core.proofs.PlaceLemmas.{row-targets}
 use Rattle.pliron_core.proofs.RelocateLemmas.{held-kept, users-kept, users-set, user-within}
 use Rattle.pliron_core.proofs.uses.Uses.remove.Goals as goal
@@ -57,8 +57,8 @@ returns-clause-targets c =
 
 pub returns-clause-count : goal.returns-clause-count
 returns-clause-count c =
-    let before = length-map c.self.inside.uses.items (map (seen c.self.inside.places.items)) in
-    let after = length-map c.settle_gap.new.uses.items (map (seen c.settle_gap.new.places.items)) in
+    let before = length-map c.self.inside.uses.items (map (ranked_use c.self.inside.places.items)) in
+    let after = length-map c.settle_gap.new.uses.items (map (ranked_use c.settle_gap.new.places.items)) in
     rw (← c.self.view_is) (after ∙ c.settle_gap.ensures.count ∙ c.widen_gap-target.ensures.count ∙ c.open_gap.ensures.count ∙ sym before)
 
 pub returns-clause-rooms : goal.returns-clause-rooms

@@ -1,14 +1,14 @@
 use Rattle.std.proofs.Common.{◌-◌, ◌<◌, length, map, ap, ◌∙◌, sym, arith}
 use Rattle.std.specs.List.{slice_get}
 use Rattle.std.proofs.lemmas.List.{length-map}
-use Rattle.pliron_core.specs.Places.{seen}
+use Rattle.pliron_core.specs.Places.{ranked_use}
 use Rattle.pliron_core.proofs.MoveLemmas.{reads, put_back, linked-moved, gaps-moved, targets-moved, reword}
 use Rattle.pliron_core.proofs.uses.Uses.replace.Goals as goal
 
 pub returns-in-Err-clause-err : goal.returns-in-Err-clause-err
 returns-in-Err-clause-err c =
     let r = rw (← c.self.view_is) at c.requires in
-    let long = length-map c.self.inside.uses.items (map (seen c.self.inside.places.items)) in
+    let long = length-map c.self.inside.uses.items (map (ranked_use c.self.inside.places.items)) in
     let ho : c.args.old < length c.self.inside.uses.items = omega (arith, r.old, long) in
     let hn : c.args.new < length c.self.inside.uses.items = omega (arith, r.new, long) in
     rw (put_back _ _ _ _ _ _ _ _ ho hn r.differ c.index_mut.ensures.value c.replace-moved.ensures.value c.index_mut-2.ensures.value c.in-Err.ensures.err) c.self.view_is
@@ -16,7 +16,7 @@ returns-in-Err-clause-err c =
 pub retarget-requires-clause-listed : goal.retarget-requires-clause-listed
 retarget-requires-clause-listed c k u e =
     let r = rw (← c.self.view_is) at c.requires in
-    let long = length-map c.self.inside.uses.items (map (seen c.self.inside.places.items)) in
+    let long = length-map c.self.inside.uses.items (map (ranked_use c.self.inside.places.items)) in
     let ho : c.args.old < length c.self.inside.uses.items = omega (arith, r.old, long) in
     let hn : c.args.new < length c.self.inside.uses.items = omega (arith, r.new, long) in
     let q = reads _ _ _ _ _ _ _ _ _ ho hn r.differ c.index_mut.ensures.value c.replace-moved.ensures.value (c.replace-moved.ensures.after ∙ c.new.ensures) c.index_mut-2.ensures.value c.in_default.ensures.ok c.index.ensures in
@@ -25,7 +25,7 @@ retarget-requires-clause-listed c k u e =
 pub retarget-requires-clause-placed : goal.retarget-requires-clause-placed
 retarget-requires-clause-placed c k user place e =
     let r = rw (← c.self.view_is) at c.requires in
-    let long = length-map c.self.inside.uses.items (map (seen c.self.inside.places.items)) in
+    let long = length-map c.self.inside.uses.items (map (ranked_use c.self.inside.places.items)) in
     let ho : c.args.old < length c.self.inside.uses.items = omega (arith, r.old, long) in
     let hn : c.args.new < length c.self.inside.uses.items = omega (arith, r.new, long) in
     let q = reads _ _ _ _ _ _ _ _ _ ho hn r.differ c.index_mut.ensures.value c.replace-moved.ensures.value (c.replace-moved.ensures.after ∙ c.new.ensures) c.index_mut-2.ensures.value c.in_default.ensures.ok c.index.ensures in
@@ -34,7 +34,7 @@ retarget-requires-clause-placed c k user place e =
 pub invariant_of-self-2 : goal.invariant_of-self-2
 invariant_of-self-2 c =
     let r = rw (← c.self.view_is) at c.requires in
-    let long = length-map c.self.inside.uses.items (map (seen c.self.inside.places.items)) in
+    let long = length-map c.self.inside.uses.items (map (ranked_use c.self.inside.places.items)) in
     let ho : c.args.old < length c.self.inside.uses.items = omega (arith, r.old, long) in
     let hn : c.args.new < length c.self.inside.uses.items = omega (arith, r.new, long) in
     let q = reads _ _ _ _ _ _ _ _ _ ho hn r.differ c.index_mut.ensures.value c.replace-moved.ensures.value (c.replace-moved.ensures.after ∙ c.new.ensures) c.index_mut-2.ensures.value c.in_default.ensures.ok c.index.ensures in
@@ -47,7 +47,7 @@ invariant_of-self-2 c =
 pub returns-clause-targets : goal.returns-clause-targets
 returns-clause-targets c =
     let r = rw (← c.self.view_is) at c.requires in
-    let long = length-map c.self.inside.uses.items (map (seen c.self.inside.places.items)) in
+    let long = length-map c.self.inside.uses.items (map (ranked_use c.self.inside.places.items)) in
     let ho : c.args.old < length c.self.inside.uses.items = omega (arith, r.old, long) in
     let hn : c.args.new < length c.self.inside.uses.items = omega (arith, r.new, long) in
     let q = reads _ _ _ _ _ _ _ _ _ ho hn r.differ c.index_mut.ensures.value c.replace-moved.ensures.value (c.replace-moved.ensures.after ∙ c.new.ensures) c.index_mut-2.ensures.value c.in_default.ensures.ok c.index.ensures in

@@ -3,7 +3,7 @@ use Rattle.std.specs.List.{slice_get}
 use Rattle.std.proofs.lemmas.Grind.{common_steps}
 use Rattle.pliron_laws.specs.Machine.{leave, turn, step}
 use Rattle.pliron_laws.specs.Tree.{op_at}
-use Rattle.pliron_evaluator.specs.Evaluator.{datum_of, state_of}
+use Rattle.pliron_evaluator.specs.Evaluator.{datum_of_value, state_of}
 use Rattle.pliron_evaluator.proofs.EvaluatorSteps.{first_drop, in_words, step_ends, step_turns}
 use Rattle.pliron_evaluator.proofs.evaluator.state.step.Goals as goal
 
@@ -11,7 +11,7 @@ pub returns-then-is_empty : goal.returns-then-is_empty
 returns-then-is_empty g c =
     let s = state_of c.args.state in
     let empty : c.args.state.rest.items ≡ [] = grind (arith, common_steps) in
-    c.leave.ensures ∙ ap (λ z. leave s s.waiting (map datum_of z)) c.new.ensures.items ∙ step_ends g.D.HasMeaning.meaning c.args.ctx.now.tree s empty
+    c.leave.ensures ∙ ap (λ z. leave s s.waiting (map datum_of_value z)) c.new.ensures.items ∙ step_ends g.D.HasMeaning.meaning c.args.ctx.now.tree s empty
 
 pub returns : goal.returns
 returns g c =

@@ -4,7 +4,7 @@ use Rattle.std.proofs.lemmas.Option.{same_Some}
 use Rattle.pliron_core.specs.Lists.{next_in}
 use Rattle.pliron_core.specs.Tree.{IsLive, IsWithin, holder_of}
 use Rattle.pliron_core.specs.Walks.{children, contents, preorder}
-use Rattle.pliron_core.specs.WalkSteps.{GoesOn}
+use Rattle.pliron_core.specs.WalkSteps.{IsFollowedBy}
 use Rattle.pliron_core.proofs.WalkLemmas.{within_live, inside_up, contents-shorter, length-contents}
 use Rattle.pliron_core.proofs.NextLemmas.{keys_unequal, keys_same}
 use Rattle.pliron_core.proofs.WalkStepLemmas.{found_beside, found_above, goes_on-root}
@@ -35,7 +35,7 @@ returns-in-Some c =
     let t = c.args.ctx.now.tree in
     let u = up at.After-index in
     let found = found_beside t c.well_formed-2.ensures.tree c.args.root c.loop-root.at u.0 c.next_sibling.result u.1 u.2 (beside at.After-next_sibling u.0 u.1) (ap is_some c.in-Some.is) in
-    c.loop-root.invariant.same (Some c.new.result) (subst (GoesOn (preorder t c.args.root) (preorder t c.loop-root.at)) (c.in-Some.is ∙ ap Some (sym c.new.ensures)) found)
+    c.loop-root.invariant.same (Some c.new.result) (subst (IsFollowedBy (preorder t c.args.root) (preorder t c.loop-root.at)) (c.in-Some.is ∙ ap Some (sym c.new.ensures)) found)
 
 pub loop-root-smaller : goal.loop-root-smaller
 loop-root-smaller c =
@@ -59,4 +59,4 @@ loop-root-preserved c =
 pub returns : goal.returns
 returns c =
     let t = c.args.ctx.now.tree in
-    c.loop-root.invariant.same None (subst (λ k. GoesOn (preorder t c.args.root) (preorder t k) None) (sym (keys_same c.loop-root.at c.args.root c.loop-root-test.ensures)) (goes_on-root t c.well_formed-2.ensures.tree c.args.root))
+    c.loop-root.invariant.same None (subst (λ k. IsFollowedBy (preorder t c.args.root) (preorder t k) None) (sym (keys_same c.loop-root.at c.args.root c.loop-root-test.ensures)) (goes_on-root t c.well_formed-2.ensures.tree c.args.root))

@@ -1,13 +1,13 @@
 use Rattle.std.proofs.Common.{◌-◌, length, Option, ℕ}
 use Rattle.pliron_core.specs.Tree.{IsWithin}
 use Rattle.pliron_core.specs.Walks.{contents, preorder}
-use Rattle.pliron_core.specs.WalkSteps.{GoesOn}
+use Rattle.pliron_core.specs.WalkSteps.{IsFollowedBy}
 use Rattle.pliron_core.proofs.context.walk.Ptr+Operation.next_after.Given as goal
 
 abbrev pub invariant-loop-root : goal.invariant-loop-root
 invariant-loop-root l = record {
   within : IsWithin l.ctx.tree l.root l.at;
-  same : (o : Option ℕ) → GoesOn (preorder l.ctx.tree l.root) (preorder l.ctx.tree l.at) o → GoesOn (preorder l.ctx.tree l.root) (preorder l.ctx.tree l.fn.self) o;
+  same : (o : Option ℕ) → IsFollowedBy (preorder l.ctx.tree l.root) (preorder l.ctx.tree l.at) o → IsFollowedBy (preorder l.ctx.tree l.root) (preorder l.ctx.tree l.fn.self) o;
 }
 
 abbrev pub decreases-loop-root : goal.decreases-loop-root

@@ -1,7 +1,7 @@
 use Rattle.std.proofs.Common.{refl}
 use Rattle.pliron_pass.specs.Stage.{stage}
 use Rattle.pliron_pass.proofs.StageLemmas.{cache_set}
-use Rattle.pliron_pipeline.proofs.headline.run_pipeline.Goals as goal
+use Rattle.pliron_pass.proofs.headline.run_pipeline.Goals as goal
 
 pub returns-clause-outcome : goal.returns-clause-outcome
 returns-clause-outcome g c = record {

@@ -3,16 +3,18 @@ ghost use Rattle.std.specs.Prelude.{OnOk};
 ghost use Rattle.pliron_core.specs.Tree.{IsLive};
 ghost use Rattle.pliron_core.specs.Changes.{IsInsideChange};
 ghost use Rattle.pliron_laws.specs.Linked.{IsWellLinked};
+ghost use Rattle.pliron_theory.specs.Change.{IsPassChange};
 ghost use Rattle.pliron_pass.specs.Cache.{IsFresh};
 ghost use Rattle.pliron_pass.specs.Combined.{Steps};
-ghost use Rattle.pliron_pass.specs.Outcome.{RunsPass};
 ghost use Rattle.pliron_pass.specs.Stage.{stage};
-ghost use Rattle.pliron_pass.specs.Verifying.{IsFirstFault, verdict_by};
-ghost use Rattle.pliron_pipeline.specs.Headline.{DoAsBefore};
+ghost use Rattle.pliron_pass.specs.Headline.{DoAsBefore};
 
+use crate::kinds::AnalysisKind;
+use crate::manager::AnalysisManager;
+use crate::pass::Pass;
+use crate::run::{Managed, PassManager};
 use pliron_core::{Context, IRStatus, Operation, Ptr};
 use pliron_laws::OptError;
-use pliron_pass::{AnalysisManager, Pass, PassManager};
 use std::alloc::Global;
 
 /// Runs a pass on the operation, whatever passes are nested in it, and keeps of the cache what it
@@ -21,7 +23,8 @@ use std::alloc::Global;
 /// For every dialect that keeps its laws, every pass, and every analysis that keeps its law: whatever this
 /// answers, each operation that was fit to run and still stands does exactly what it did, and is fit to run;
 /// the operation stands and is well linked; outside it only operands change that named a value made inside
-/// it. Without an error, a cache that was fresh is fresh. What it did is the pass's own outcome.
+/// it (all this is what each pass owes, `change`). Without an error, a cache that was fresh is fresh. What it did
+/// is the pass's own outcome.
 ///
 /// Asks that the operation stands and is well linked. Errors: those of the pass; `VerifyBefore` and
 /// `VerifyAfter` where the configuration asks for verifying and a fault is found; want of memory. Cost: that
@@ -41,9 +44,8 @@ pub fn run_pipeline<P: Pass>(
     ensures inside { IsInsideChange ctx.old.tree ctx.new.tree op }
     ensures fresh { OnOk result (IsFresh P.E.Kind.eq P.E.kind P.E.holds ctx.old.tree analyses.old.cache.entries →
         IsFresh P.E.Kind.eq P.E.kind P.E.holds ctx.new.tree analyses.new.cache.entries) }
-    ensures outcome { Steps P.E.Kind.eq (RunsPass P.name P.outcome (IsFirstFault P.D.has_interface
-        (verdict_by P.D.SideEffects.verdict P.D.BlockArgRemoval.verdict P.D.ConstFoldInterface.verdict P.D.BranchOpFoldInterface.verdict))
-        P.is_pass_manager) pass.old pass.new op (stage ctx.old analyses.old) (stage ctx.new analyses.new) result }
+    ensures outcome { Steps P.E.Kind.eq ⟦<P as Managed>⟧.runs pass.old pass.new op (stage ctx.old analyses.old) (stage ctx.new analyses.new) result }
+    ensures change { IsPassChange P.D.meaning ctx.old.tree ctx.new.tree op }
 {
     let answer = PassManager::run_pass(pass, alloc, op, ctx, analyses)?;
     analyses.retain_preserved(&answer);
