@@ -305,6 +305,12 @@ impl Dialect for Bench {
         }
     }
 
+    /// Of every operation. Cost: constant.
+    #[tactic(auto, unfolding(crate::specs::BenchMoves::bench))]
+    fn may_be_root(_op: Ptr<Operation>, _ctx: &Context) -> bool {
+        true
+    }
+
     /// Whether it is a `br` or `cbr`. Cost: constant.
     #[tactic(auto, unfolding(crate::specs::BenchMoves::bench))]
     fn is_branch(op: Ptr<Operation>, ctx: &Context) -> bool {

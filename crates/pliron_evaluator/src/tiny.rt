@@ -325,6 +325,11 @@ impl Dialect for Tiny {
     }
 
     #[tactic(auto, unfolding(crate::specs::Tiny::tiny))]
+    fn may_be_root(_op: Ptr<Operation>, _ctx: &Context) -> bool {
+        true
+    }
+
+    #[tactic(auto, unfolding(crate::specs::Tiny::tiny))]
     fn is_branch(op: Ptr<Operation>, ctx: &Context) -> bool {
         Tiny::is_terminator(op, ctx)
     }

@@ -19,7 +19,11 @@ EdgesLast t root = (k s : ℕ) → In s (successors_of t k) → IsInside t root 
 abbrev pub IsAdmitted : Meaning → Tree → ℕ → Type 0
 IsAdmitted m t k = (h : Head) → head_of t k ≡ Some h → IsTrue (m.admits h (length (operands_of t k)) (length (results_of t k)) (length (successors_of t k)) (length (regions_of t k)))
 
+-- the dialect admits the root and all operations inside it
+abbrev pub AllAdmitted : Meaning → Tree → ℕ → Type 0
+AllAdmitted m t root = (k : ℕ) → IsWithin t root k → IsAdmitted m t k
+
 -- edges stand last, and the dialect admits the root and all operations inside it
 pub record IsWellLinked (m : Meaning) (t : Tree) (root : ℕ) : Type 0 where
   pub edges : EdgesLast t root
-  pub admitted : (k : ℕ) → IsWithin t root k → IsAdmitted m t k
+  pub admitted : AllAdmitted m t root

@@ -330,6 +330,12 @@ pub trait Dialect: SideEffects + BlockArgRemoval + ConstFoldInterface + BranchOp
         requires { IsLive ctx.now.tree op }
         ensures { ReadsHead Self.meaning.is_terminator ctx.now.tree op result };
 
+    /// Whether runs may begin at the operation: for such roots alone runs are promised. Reads the head
+    /// alone. Asks that the operation stands (`is_live` tests it).
+    fn may_be_root(op: Ptr<Operation>, ctx: &Context) -> bool
+        requires { IsLive ctx.now.tree op }
+        ensures { ReadsHead Self.meaning.may_be_root ctx.now.tree op result };
+
     /// Whether the operation is a branch. Reads the head alone. Asks that the operation stands (`is_live`
     /// tests it).
     fn is_branch(op: Ptr<Operation>, ctx: &Context) -> bool

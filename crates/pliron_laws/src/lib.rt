@@ -8,6 +8,7 @@
 mod dialect;
 mod edges;
 mod fault;
+mod linked;
 pub mod materialise;
 pub mod reads;
 mod room;
@@ -18,4 +19,5 @@ pub use dialect::{
 };
 pub use edges::edges_last;
 pub use fault::OptError;
+pub use linked::is_well_linked;
 pub use room::Room;

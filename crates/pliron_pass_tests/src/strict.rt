@@ -176,6 +176,10 @@ impl Dialect for Strict {
         Bench::is_terminator(op, ctx)
     }
 
+    fn may_be_root(op: Ptr<Operation>, ctx: &Context) -> bool {
+        Bench::may_be_root(op, ctx)
+    }
+
     fn is_branch(op: Ptr<Operation>, ctx: &Context) -> bool {
         Bench::is_branch(op, ctx)
     }

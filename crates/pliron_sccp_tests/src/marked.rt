@@ -173,6 +173,10 @@ impl Dialect for Marked {
         <Tiny as Dialect>::is_terminator(op, ctx)
     }
 
+    fn may_be_root(op: Ptr<Operation>, ctx: &Context) -> bool {
+        <Tiny as Dialect>::may_be_root(op, ctx)
+    }
+
     fn is_branch(op: Ptr<Operation>, ctx: &Context) -> bool {
         <Tiny as Dialect>::is_branch(op, ctx)
     }
