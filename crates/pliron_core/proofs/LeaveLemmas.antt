@@ -6,8 +6,8 @@ use Rattle.std.proofs.lemmas.List.{get_or-set_same, get_or-set_other, map-set, s
 use Rattle.std.proofs.lemmas.Option.{slice_get_within}
 use Rattle.std.proofs.lemmas.Bool.{cases_eq}
 use Rattle.pliron_core.specs.declared.uses.Use.{Use}
-use Rattle.pliron_core.specs.declared.uses.Place.{Place}
-use Rattle.pliron_core.specs.declared.uses.Gap.{Gap}
+use Rattle.pliron_core.specs.declared.places.Place.{Place}
+use Rattle.pliron_core.specs.declared.places.Gap.{Gap}
 use Rattle.pliron_core.specs.Places.{at, put, cut, held, rank, no_target, no_gap, free_place, gap_of, targets_in, HasGap, HaveGaps, IsLinked, AreLinked}
 use Rattle.pliron_core.proofs.PlaceLemmas.{row-targets, gaps-put, target-real}
 use Rattle.pliron_core.proofs.TableLemmas.{set-same, set-other, at-within, put-here, put-other, put-cases, cut-cases, cut-kept, put-length, take-within, take-below}

@@ -7,10 +7,10 @@ use Rattle.std.proofs.lemmas.Bool.Decides.{nat_tests}
 use Rattle.std.proofs.lemmas.Option.{slice_get_within, slice_get-map}
 use Rattle.std.proofs.lemmas.List.{get_or-set_same, get_or-set_other, length-set, get_or_default, length-map, set-get_or, set-set}
 use Rattle.pliron_core.specs.declared.uses.Use.{Use}
-use Rattle.pliron_core.specs.declared.uses.Place.{Place}
+use Rattle.pliron_core.specs.declared.places.Place.{Place}
 use Rattle.std.proofs.Math.ListN.{get_or-map}
 use Rattle.pliron_core.specs.Uses.{replace_target}
-use Rattle.pliron_core.specs.declared.uses.Gap.{Gap}
+use Rattle.pliron_core.specs.declared.places.Gap.{Gap}
 use Rattle.pliron_core.specs.Places.{at, held, no_target, shifted, gap_of, HasGap, HaveGaps, IsLinked, targets_in}
 use Rattle.pliron_core.proofs.PlaceLemmas.{at-map}
 use Rattle.pliron_core.proofs.GapLemmas.{held-free, held-taken}

@@ -8,9 +8,9 @@ use Rattle.std.proofs.Math.ListN.{get_or-map}
 use Rattle.std.proofs.lemmas.Grind.{common_steps}
 use Rattle.std.specs.Option.{option_map}
 use Rattle.pliron_core.specs.declared.uses.Use.{Use}
-use Rattle.pliron_core.specs.declared.uses.Place.{Place}
+use Rattle.pliron_core.specs.declared.places.Place.{Place}
 use Rattle.pliron_core.specs.Uses.{Table, AreAgreed}
-use Rattle.pliron_core.specs.declared.uses.Gap.{Gap}
+use Rattle.pliron_core.specs.declared.places.Gap.{Gap}
 use Rattle.pliron_core.specs.Places.{at, held, rank, ranked_use, no_target, no_gap, gap_of, targets_in, uses_in, HasGap, HaveGaps, IsLinked, AreLinked}
 use Rattle.pliron_core.proofs.TableLemmas.{at-same, at-other, at-within}
 use Rattle.pliron_core.proofs.GapLemmas.{same, held-at, held-from, held-push, rank-once}

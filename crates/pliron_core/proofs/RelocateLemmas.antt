@@ -3,8 +3,8 @@ use Rattle.std.proofs.Common.{◌≡◌, ◌≢◌, ◌⊎◌, ℕ, ◌+◌, ◌
 use Rattle.std.specs.List.{slice_get}
 use Rattle.std.proofs.lemmas.List.{get_or-set_same, map-set, set-set, set-get_or, length-set, length-map}
 use Rattle.pliron_core.specs.declared.uses.Use.{Use}
-use Rattle.pliron_core.specs.declared.uses.Place.{Place}
-use Rattle.pliron_core.specs.declared.uses.Gap.{Gap}
+use Rattle.pliron_core.specs.declared.places.Place.{Place}
+use Rattle.pliron_core.specs.declared.places.Gap.{Gap}
 use Rattle.pliron_core.specs.Places.{at, put, held, no_target, free_place, gap_of, targets_in, HasGap, HaveGaps, IsLinked, AreLinked}
 use Rattle.pliron_core.proofs.PlaceLemmas.{row-targets, gaps-put}
 use Rattle.pliron_core.proofs.TableLemmas.{at-within, put-here, put-other, put-cases}

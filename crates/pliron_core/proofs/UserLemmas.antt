@@ -5,8 +5,8 @@ use Rattle.std.proofs.lemmas.List.{map-append, get_or_past, length-replicate}
 use Rattle.std.proofs.lemmas.List.FromFn.{get_or-map-range_with_len, length-map-range_with_len, map-range_with_len_more}
 use Rattle.std.proofs.lemmas.Option.{slice_get-get_or}
 use Rattle.pliron_core.specs.declared.uses.Use.{Use}
-use Rattle.pliron_core.specs.declared.uses.Place.{Place}
-use Rattle.pliron_core.specs.declared.uses.Gap.{Gap}
+use Rattle.pliron_core.specs.declared.places.Place.{Place}
+use Rattle.pliron_core.specs.declared.places.Gap.{Gap}
 use Rattle.pliron_core.specs.Places.{at, held, no_target, no_gap, gap_of, targets_in, places_from, uses_by, HasGap, HaveGaps, IsLinked, AreLinked}
 use Rattle.pliron_core.proofs.TableLemmas.{at-within}
 use Rattle.pliron_core.proofs.GapLemmas.{same, held-taken}

@@ -2,8 +2,8 @@
 use Rattle.std.specs.Prelude.{zero, suc, ◌≡◌, ◌≢◌, ◌≤◌, ◌<◌, ℕ, ◌+◌, ◌&&◌, nat_eq, nat_lt, if◌then◌else◌, List, [], ◌∷◌, length, Option, Some, slice_index_or, slice_get, slice_set, take, ◌-◌, map, Vec, vec_len, vec_capacity}
 use Rattle.std.specs.List.{range_with_len}
 use Rattle.pliron_core.specs.declared.uses.Use.{Use}
-use Rattle.pliron_core.specs.declared.uses.Place.{Place}
-use Rattle.pliron_core.specs.declared.uses.Gap.{Gap}
+use Rattle.pliron_core.specs.declared.places.Place.{Place}
+use Rattle.pliron_core.specs.declared.places.Gap.{Gap}
 
 -- no target has this key: a place that names it is free
 abbrev pub no_target : ℕ

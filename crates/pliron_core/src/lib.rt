@@ -10,6 +10,7 @@ mod context;
 mod keys;
 mod laws;
 mod links;
+mod places;
 mod rewriter;
 mod row;
 mod uses;

@@ -1,7 +1,7 @@
 use Rattle.std.proofs.Common.{◌≡◌, [], length, get_or, ap, arith}
 use Rattle.pliron_core.specs.Places.{held, gap_of}
 use Rattle.pliron_core.proofs.RelocateLemmas.{empty-gap, held-kept}
-use Rattle.pliron_core.proofs.uses.open_gap.Goals as goal
+use Rattle.pliron_core.proofs.places.open_gap.Goals as goal
 
 pub returns-then-gap_at-eq0-clause-linked : goal.returns-then-gap_at-eq0-clause-linked
 returns-then-gap_at-eq0-clause-linked c =

@@ -1,6 +1,6 @@
 use Rattle.std.proofs.Common.{◌≡◌, ◌<◌, ◌≤◌, ◌-◌, length}
 use Rattle.pliron_core.specs.Places.{gap_of, targets_in, AreLinked, KeepRooms}
-use Rattle.pliron_core.proofs.uses.open_gap.Given as goal
+use Rattle.pliron_core.proofs.places.open_gap.Given as goal
 
 abbrev pub invariant-loop-places : goal.invariant-loop-places
 invariant-loop-places l = record {

@@ -2,7 +2,7 @@ use Rattle.std.proofs.Common.{◌≡◌, ◌<◌, [], length, get_or, ap, ◌∙
 use Rattle.pliron_core.specs.Places.{held, gap_of, targets_in}
 use Rattle.pliron_core.proofs.RelocateLemmas.{held-kept, users-kept}
 use Rattle.pliron_core.proofs.LeaveLemmas.{closed-linked, closed-targets}
-use Rattle.pliron_core.proofs.uses.settle_gap.Goals as goal
+use Rattle.pliron_core.proofs.places.settle_gap.Goals as goal
 
 pub close_gap-requires-clause-end : goal.close_gap-requires-clause-end
 close_gap-requires-clause-end c =

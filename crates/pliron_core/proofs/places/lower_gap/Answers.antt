@@ -1,6 +1,6 @@
 use Rattle.std.proofs.Common.{ap, arith}
 use Rattle.pliron_core.proofs.RelocateLemmas.{lower-from, lower-to, lowered}
-use Rattle.pliron_core.proofs.uses.lower_gap.Goals as goal
+use Rattle.pliron_core.proofs.places.lower_gap.Goals as goal
 
 pub overflow_add-start : goal.overflow_add-start
 overflow_add-start c =

@@ -1,7 +1,7 @@
 use Rattle.std.proofs.Common.{◌≡◌, ℕ, length, vec_capacity}
 use Rattle.std.specs.Option.{option_map}
 use Rattle.pliron_core.specs.Places.{at, shifted}
-use Rattle.pliron_core.proofs.uses.retarget.Given as goal
+use Rattle.pliron_core.proofs.places.retarget.Given as goal
 
 abbrev pub invariant-loop-k : goal.invariant-loop-k
 invariant-loop-k l = record {

@@ -3,7 +3,7 @@ use Rattle.pliron_core.specs.Places.{at, no_target}
 use Rattle.pliron_core.proofs.TableLemmas.{some-at}
 use Rattle.pliron_core.proofs.GapLemmas.{same}
 use Rattle.pliron_core.proofs.RelocateLemmas.{kept_first, linked-relocated}
-use Rattle.pliron_core.proofs.uses.relocate.Goals as goal
+use Rattle.pliron_core.proofs.places.relocate.Goals as goal
 
 pub set_entry-requires-3 : goal.set_entry-requires-3
 set_entry-requires-3 c =

@@ -2,7 +2,7 @@ use Rattle.std.proofs.Common.{◌≡◌, ◌<◌, ◌+◌, [], length, get_or, a
 use Rattle.std.proofs.lemmas.List.{get_or_default}
 use Rattle.pliron_core.specs.Places.{held, gap_of}
 use Rattle.pliron_core.proofs.GapLemmas.{held-length}
-use Rattle.pliron_core.proofs.uses.count_at.Goals as goal
+use Rattle.pliron_core.proofs.places.count_at.Goals as goal
 
 pub overflow_sub-result : goal.overflow_sub-result
 overflow_sub-result c =

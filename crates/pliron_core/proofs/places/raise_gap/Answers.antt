@@ -1,6 +1,6 @@
 use Rattle.std.proofs.Common.{ap, arith}
 use Rattle.pliron_core.proofs.RelocateLemmas.{raise-from, raise-to, raised}
-use Rattle.pliron_core.proofs.uses.raise_gap.Goals as goal
+use Rattle.pliron_core.proofs.places.raise_gap.Goals as goal
 
 pub overflow_add-start : goal.overflow_add-start
 overflow_add-start c =

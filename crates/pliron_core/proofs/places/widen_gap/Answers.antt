@@ -4,7 +4,7 @@ use Rattle.pliron_core.specs.Places.{at, no_target}
 use Rattle.pliron_core.proofs.TableLemmas.{at-within, row-length, at-inside, some-at}
 use Rattle.pliron_core.proofs.GapLemmas.{held-length}
 use Rattle.pliron_core.proofs.LeaveLemmas.{behind-gap, behind-real, stands1, widened}
-use Rattle.pliron_core.proofs.uses.widen_gap.Goals as goal
+use Rattle.pliron_core.proofs.places.widen_gap.Goals as goal
 
 pub overflow_add-place : goal.overflow_add-place
 overflow_add-place c =

@@ -1,7 +1,7 @@
 use Rattle.std.proofs.Common.{◌≡◌, length, refl, rules, arith, ap, ◌∙◌, get_or, []}
 use Rattle.std.proofs.lemmas.List.{length-set, get_or_default}
 use Rattle.pliron_core.proofs.MoveLemmas.{all_kept, standing, one_written}
-use Rattle.pliron_core.proofs.uses.retarget.Goals as goal
+use Rattle.pliron_core.proofs.places.retarget.Goals as goal
 
 pub loop-k-init : goal.loop-k-init
 loop-k-init c = record { each = λ u p. all_kept _ _ _ _; len = refl; capacity = refl }

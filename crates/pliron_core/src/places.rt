@@ -1,0 +1,301 @@
+//! The places of each user, with a gap where targets went, and how they move.
+
+ghost use Rattle.std.specs.Prelude.{◌≡◌, ◌≢◌, ℕ, ◌+◌, ◌-◌, ◌^◌, ◌<◌, ◌≤◌, [], ◌∷◌, ◌++◌, length, map, slice_set, vec_capacity, vec_len, slice_get, slice_index_or, Some, take, IfOk, OnOk, OnErr, remove, replicate};
+ghost use Rattle.pliron_core.specs.declared.uses.Use.{Use};
+ghost use Rattle.std.specs.Option.{option_map};
+ghost use Rattle.pliron_core.specs.declared.places.Place.{Place as PlaceOf};
+ghost use Rattle.pliron_core.specs.Places.{at, put, held, rank, shifted, targets_in, no_target, free_place, gap_of, HasGap, HaveGaps, IsLinked, AreLinked, KeepRooms, places_from};
+
+use crate::row::{Row, entry, pop_entry, set_entry};
+use crate::uses::Use;
+use std::alloc::{AllocError, Global};
+
+/// What a place of a user names, and where its use stands in the target's list.
+#[derive(Clone, Copy)]
+pub struct Place {
+    pub target: usize,
+    pub at: usize,
+}
+
+/// The places of a user that are free: the first one, and how many there are.
+///
+/// What is removed leaves a free place, and the gap moves to where a target is removed; so removals one
+/// beside the other move no places, whichever way they go.
+#[derive(Clone, Copy)]
+pub struct Gap {
+    pub start: usize,
+    pub len: usize,
+}
+
+// What a free place has.
+const FREE: Place = Place {
+    target: usize::MAX,
+    at: 0,
+};
+
+/// The places of so many targets, by rising key, each with one use.
+pub fn new_places(alloc: Global, first: usize, count: usize) -> Result<Row<Place>, AllocError>
+    requires { first + count < 2 ^ 64 }
+    ensures { IfOk result (λ row. row ≡ places_from first count) }
+{
+    let mut row = Row::new(alloc);
+    for i in 0..count {
+        row.push(Place {
+            target: first + i,
+            at: 0,
+        })?;
+    }
+    Ok(row)
+}
+
+/// The gap of a user.
+pub fn gap_at(places: &Vec<Row<Place>>, gaps: &Vec<Gap>, user: usize) -> Gap
+    requires gaps { HaveGaps places.now.items gaps.now.items }
+    requires user { user < length gaps.now.items }
+    ensures gap { result ≡ gap_of gaps.now.items user }
+    ensures few { length (slice_index_or places.now.items user []) < 2 ^ 64 }
+{
+    let _ = places[user].len();
+    gaps[user]
+}
+
+/// How many targets a user has.
+pub fn count_at(places: &Vec<Row<Place>>, gaps: &Vec<Gap>, user: usize) -> usize
+    requires gaps { HaveGaps places.now.items gaps.now.items }
+    requires user { user < length gaps.now.items }
+    ensures { result ≡ length (held (slice_index_or places.now.items user [])) }
+{
+    let count = places[user].len();
+    count - gap_at(places, gaps, user).len
+}
+
+/// The target at an index among those of a row.
+pub fn target_at(row: &Row<Place>, gap: Gap, i: usize) -> usize
+    requires gap { HasGap row.now gap }
+    requires index { i < length (held row.now) }
+    ensures { slice_get (held row.now) i ≡ Some result }
+{
+    let _ = row.len();
+    if i < gap.start {
+        row.get(i).target
+    } else {
+        row.get(i + gap.len).target
+    }
+}
+
+/// The index that a taken place has among those that are taken.
+pub fn rank_at(row: &Row<Place>, gap: Gap, place: usize) -> usize
+    requires gap { HasGap row.now gap }
+    requires taken { (p : PlaceOf) × (slice_get row.now place ≡ Some p) × (p.target ≢ no_target) }
+    ensures { result ≡ rank row.now place }
+{
+    let _ = row.len();
+    if place < gap.start {
+        place
+    } else {
+        place - gap.len
+    }
+}
+
+/// What stands at a taken place of the user moves to a free one.
+pub fn relocate(
+    places: &mut Vec<Row<Place>>,
+    uses: &mut Vec<Row<Use>>,
+    user: usize,
+    from: usize,
+    to: usize,
+)
+    requires linked { IsLinked places.old.items uses.old.items }
+    requires from { (p : PlaceOf) × (at places.old.items user from ≡ Some p) × (p.target ≢ no_target) }
+    requires to { (p : PlaceOf) × (at places.old.items user to ≡ Some p) × (p.target ≡ no_target) }
+    ensures linked { IsLinked places.new.items uses.new.items }
+    ensures moved { (p : PlaceOf) → at places.old.items user from ≡ Some p → places.new.items ≡ put (put places.old.items user to p) user from free_place }
+    ensures count { length uses.new.items ≡ length uses.old.items }
+    ensures rooms { (vec_len places.new ≡ vec_len places.old) × (vec_capacity places.new ≡ vec_capacity places.old) × (vec_len uses.new ≡
+        vec_len uses.old) × (vec_capacity uses.new ≡ vec_capacity uses.old) }
+{
+    let Place { target, at } = entry(places, user, from);
+    set_entry(uses, target, at, Use { user, place: to });
+    set_entry(places, user, to, Place { target, at });
+    set_entry(places, user, from, FREE);
+}
+
+/// The gap of the user goes one place down: what stands before it goes behind it.
+pub fn lower_gap(
+    places: &mut Vec<Row<Place>>,
+    gaps: &mut Vec<Gap>,
+    uses: &mut Vec<Row<Use>>,
+    user: usize,
+)
+    requires linked { AreLinked places.old.items gaps.old.items uses.old.items }
+    requires user { user < length gaps.old.items }
+    requires len { 0 < (gap_of gaps.old.items user).len }
+    requires start { 0 < (gap_of gaps.old.items user).start }
+    ensures linked { AreLinked places.new.items gaps.new.items uses.new.items }
+    ensures targets { targets_in places.new.items ≡ targets_in places.old.items }
+    ensures gap { gap_of gaps.new.items user ≡ record { start = (gap_of gaps.old.items user).start - 1; len = (gap_of gaps.old.items user).len } }
+    ensures count { length uses.new.items ≡ length uses.old.items }
+    ensures rooms { KeepRooms places.old places.new gaps.old gaps.new uses.old uses.new }
+{
+    let Gap { start, len } = gap_at(places, gaps, user);
+    relocate(places, uses, user, start - 1, start + len - 1);
+    gaps[user] = Gap {
+        start: start - 1,
+        len,
+    };
+}
+
+/// The gap of the user goes one place up: what stands behind it goes before it.
+pub fn raise_gap(
+    places: &mut Vec<Row<Place>>,
+    gaps: &mut Vec<Gap>,
+    uses: &mut Vec<Row<Use>>,
+    user: usize,
+)
+    requires linked { AreLinked places.old.items gaps.old.items uses.old.items }
+    requires user { user < length gaps.old.items }
+    requires len { 0 < (gap_of gaps.old.items user).len }
+    requires start { (gap_of gaps.old.items user).start < length (held (slice_index_or places.old.items user [])) }
+    ensures linked { AreLinked places.new.items gaps.new.items uses.new.items }
+    ensures targets { targets_in places.new.items ≡ targets_in places.old.items }
+    ensures gap { gap_of gaps.new.items user ≡ record { start = (gap_of gaps.old.items user).start + 1; len = (gap_of gaps.old.items user).len } }
+    ensures count { length uses.new.items ≡ length uses.old.items }
+    ensures rooms { KeepRooms places.old places.new gaps.old gaps.new uses.old uses.new }
+{
+    let Gap { start, len } = gap_at(places, gaps, user);
+    relocate(places, uses, user, start + len, start);
+    gaps[user] = Gap {
+        start: start + 1,
+        len,
+    };
+}
+
+/// The gap of the user goes to where its target `i` stands, or, where it has as many, to the end.
+pub fn open_gap(
+    places: &mut Vec<Row<Place>>,
+    gaps: &mut Vec<Gap>,
+    uses: &mut Vec<Row<Use>>,
+    user: usize,
+    i: usize,
+)
+    requires linked { AreLinked places.old.items gaps.old.items uses.old.items }
+    requires user { user < length gaps.old.items }
+    requires index { i ≤ length (held (slice_index_or places.old.items user [])) }
+    ensures linked { AreLinked places.new.items gaps.new.items uses.new.items }
+    ensures targets { targets_in places.new.items ≡ targets_in places.old.items }
+    ensures start { (gap_of gaps.new.items user).start ≡ i }
+    ensures count { length uses.new.items ≡ length uses.old.items }
+    ensures rooms { KeepRooms places.old places.new gaps.old gaps.new uses.old uses.new }
+{
+    if gap_at(places, gaps, user).len == 0 {
+        gaps[user] = Gap { start: i, len: 0 };
+        return;
+    }
+    while gap_at(places, gaps, user).start > i {
+        lower_gap(places, gaps, uses, user);
+    }
+    while gap_at(places, gaps, user).start < i {
+        raise_gap(places, gaps, uses, user);
+    }
+}
+
+/// The target behind the gap of the user goes, and is the answer. The last use of that target takes the
+/// index of the use that goes.
+pub fn widen_gap(
+    places: &mut Vec<Row<Place>>,
+    gaps: &mut Vec<Gap>,
+    uses: &mut Vec<Row<Use>>,
+    user: usize,
+) -> usize
+    requires linked { AreLinked places.old.items gaps.old.items uses.old.items }
+    requires user { user < length gaps.old.items }
+    requires start { (gap_of gaps.old.items user).start < length (held (slice_index_or places.old.items user [])) }
+    ensures linked { AreLinked places.new.items gaps.new.items uses.new.items }
+    ensures target { slice_get (held (slice_index_or places.old.items user [])) (gap_of gaps.old.items user).start ≡ Some result }
+    ensures targets { targets_in places.new.items ≡ slice_set (targets_in places.old.items) user (remove (slice_index_or
+        (targets_in places.old.items) user []) (gap_of gaps.old.items user).start) }
+    ensures count { length uses.new.items ≡ length uses.old.items }
+    ensures rooms { KeepRooms places.old places.new gaps.old gaps.new uses.old uses.new }
+{
+    let Gap { start, len } = gap_at(places, gaps, user);
+    let place = start + len;
+    let Place { target, at } = entry(places, user, place);
+    let end = uses[target].len() - 1;
+    let moved = entry(uses, target, end);
+    set_entry(places, moved.user, moved.place, Place { target, at });
+    set_entry(uses, target, at, moved);
+    pop_entry(uses, target);
+    set_entry(places, user, place, FREE);
+    gaps[user] = Gap {
+        start,
+        len: len + 1,
+    };
+    target
+}
+
+/// The gap of the user, which stands at the end, goes.
+pub fn close_gap(places: &mut Vec<Row<Place>>, gaps: &mut Vec<Gap>, user: usize)
+    requires gaps { HaveGaps places.old.items gaps.old.items }
+    requires user { user < length gaps.old.items }
+    requires end { (gap_of gaps.old.items user).start ≡ length (held (slice_index_or places.old.items user [])) }
+    ensures places { places.new.items ≡ slice_set places.old.items user (take (gap_of gaps.old.items user).start (slice_index_or places.old.items user [])) }
+    ensures gaps { HaveGaps places.new.items gaps.new.items }
+    ensures rooms { (vec_len places.new ≡ vec_len places.old) × (vec_capacity places.new ≡ vec_capacity places.old) × (vec_len gaps.new ≡
+        vec_len gaps.old) × (vec_capacity gaps.new ≡ vec_capacity gaps.old) }
+{
+    let start = gap_at(places, gaps, user).start;
+    places[user].truncate(start);
+    gaps[user] = Gap { start: 0, len: 0 };
+}
+
+/// The gap of the user goes where it stands at the end or is longer than the targets are many.
+pub fn settle_gap(
+    places: &mut Vec<Row<Place>>,
+    gaps: &mut Vec<Gap>,
+    uses: &mut Vec<Row<Use>>,
+    user: usize,
+)
+    requires linked { AreLinked places.old.items gaps.old.items uses.old.items }
+    requires user { user < length gaps.old.items }
+    ensures linked { AreLinked places.new.items gaps.new.items uses.new.items }
+    ensures targets { targets_in places.new.items ≡ targets_in places.old.items }
+    ensures count { length uses.new.items ≡ length uses.old.items }
+    ensures rooms { KeepRooms places.old places.new gaps.old gaps.new uses.old uses.new }
+{
+    let Gap { start, len } = gap_at(places, gaps, user);
+    let count = count_at(places, gaps, user);
+    if start < count && len <= count {
+        return;
+    }
+    open_gap(places, gaps, uses, user, count);
+    close_gap(places, gaps, user);
+}
+
+/// The places of these uses of `old` name `new`, where the uses now stand from `first` on.
+pub fn retarget(
+    places: &mut Vec<Row<Place>>,
+    moved: &Row<Use>,
+    old: usize,
+    new: usize,
+    first: usize,
+)
+    requires listed { (k : ℕ) (u : Use) → slice_get moved.now k ≡ Some u → at places.old.items u.user u.place ≡ Some (record { target = old; at = k }) }
+    requires placed { (k user place : ℕ) → at places.old.items user place ≡ Some (record { target = old; at = k }) → slice_get moved.now k ≡
+        Some (record { user = user; place = place }) }
+    requires fits { first + length moved.now < 2 ^ 64 }
+    ensures each { (user place : ℕ) → at places.new.items user place ≡ option_map (shifted old new first (length moved.now)) (at places.old.items user place) }
+    ensures len { length places.new.items ≡ length places.old.items }
+    ensures capacity { vec_capacity places.new ≡ vec_capacity places.old }
+{
+    for k in 0..moved.len() {
+        let Use { user, place } = moved.get(k);
+        let row = &mut places[user];
+        row.set(
+            place,
+            Place {
+                target: new,
+                at: first + k,
+            },
+        );
+    }
+}
