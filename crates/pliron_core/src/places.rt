@@ -33,8 +33,8 @@ const FREE: Place = Place {
     at: 0,
 };
 
-/// The places of so many targets, by rising key, each with one use.
-pub fn new_places(alloc: Global, first: usize, count: usize) -> Result<Row<Place>, AllocError>
+// The places of so many targets, by rising key, each with one use.
+pub(super) fn new_places(alloc: Global, first: usize, count: usize) -> Result<Row<Place>, AllocError>
     requires { first + count < 2 ^ 64 }
     ensures { IfOk result (λ row. row ≡ places_from first count) }
 {
@@ -48,8 +48,8 @@ pub fn new_places(alloc: Global, first: usize, count: usize) -> Result<Row<Place
     Ok(row)
 }
 
-/// The gap of a user.
-pub fn gap_at(places: &Vec<Row<Place>>, gaps: &Vec<Gap>, user: usize) -> Gap
+// The gap of a user.
+pub(super) fn gap_at(places: &Vec<Row<Place>>, gaps: &Vec<Gap>, user: usize) -> Gap
     requires gaps { HaveGaps places.now.items gaps.now.items }
     requires user { user < length gaps.now.items }
     ensures gap { result ≡ gap_of gaps.now.items user }
@@ -59,8 +59,8 @@ pub fn gap_at(places: &Vec<Row<Place>>, gaps: &Vec<Gap>, user: usize) -> Gap
     gaps[user]
 }
 
-/// How many targets a user has.
-pub fn count_at(places: &Vec<Row<Place>>, gaps: &Vec<Gap>, user: usize) -> usize
+// How many targets a user has.
+pub(super) fn count_at(places: &Vec<Row<Place>>, gaps: &Vec<Gap>, user: usize) -> usize
     requires gaps { HaveGaps places.now.items gaps.now.items }
     requires user { user < length gaps.now.items }
     ensures { result ≡ length (held (slice_index_or places.now.items user [])) }
@@ -69,8 +69,8 @@ pub fn count_at(places: &Vec<Row<Place>>, gaps: &Vec<Gap>, user: usize) -> usize
     count - gap_at(places, gaps, user).len
 }
 
-/// The target at an index among those of a row.
-pub fn target_at(row: &Row<Place>, gap: Gap, i: usize) -> usize
+// The target at an index among those of a row.
+pub(super) fn target_at(row: &Row<Place>, gap: Gap, i: usize) -> usize
     requires gap { HasGap row.now gap }
     requires index { i < length (held row.now) }
     ensures { slice_get (held row.now) i ≡ Some result }
@@ -83,8 +83,8 @@ pub fn target_at(row: &Row<Place>, gap: Gap, i: usize) -> usize
     }
 }
 
-/// The index that a taken place has among those that are taken.
-pub fn rank_at(row: &Row<Place>, gap: Gap, place: usize) -> usize
+// The index that a taken place has among those that are taken.
+pub(super) fn rank_at(row: &Row<Place>, gap: Gap, place: usize) -> usize
     requires gap { HasGap row.now gap }
     requires taken { (p : PlaceOf) × (slice_get row.now place ≡ Some p) × (p.target ≢ no_target) }
     ensures { result ≡ rank row.now place }
@@ -97,8 +97,8 @@ pub fn rank_at(row: &Row<Place>, gap: Gap, place: usize) -> usize
     }
 }
 
-/// What stands at a taken place of the user moves to a free one.
-pub fn relocate(
+// What stands at a taken place of the user moves to a free one.
+pub(super) fn relocate(
     places: &mut Vec<Row<Place>>,
     uses: &mut Vec<Row<Use>>,
     user: usize,
@@ -120,8 +120,8 @@ pub fn relocate(
     set_entry(places, user, from, FREE);
 }
 
-/// The gap of the user goes one place down: what stands before it goes behind it.
-pub fn lower_gap(
+// The gap of the user goes one place down: what stands before it goes behind it.
+pub(super) fn lower_gap(
     places: &mut Vec<Row<Place>>,
     gaps: &mut Vec<Gap>,
     uses: &mut Vec<Row<Use>>,
@@ -145,8 +145,8 @@ pub fn lower_gap(
     };
 }
 
-/// The gap of the user goes one place up: what stands behind it goes before it.
-pub fn raise_gap(
+// The gap of the user goes one place up: what stands behind it goes before it.
+pub(super) fn raise_gap(
     places: &mut Vec<Row<Place>>,
     gaps: &mut Vec<Gap>,
     uses: &mut Vec<Row<Use>>,
@@ -170,8 +170,8 @@ pub fn raise_gap(
     };
 }
 
-/// The gap of the user goes to where its target `i` stands, or, where it has as many, to the end.
-pub fn open_gap(
+// The gap of the user goes to where its target `i` stands, or, where it has as many, to the end.
+pub(super) fn open_gap(
     places: &mut Vec<Row<Place>>,
     gaps: &mut Vec<Gap>,
     uses: &mut Vec<Row<Use>>,
@@ -199,9 +199,9 @@ pub fn open_gap(
     }
 }
 
-/// The target behind the gap of the user goes, and is the answer. The last use of that target takes the
-/// index of the use that goes.
-pub fn widen_gap(
+// The target behind the gap of the user goes, and is the answer. The last use of that target takes the
+// index of the use that goes.
+pub(super) fn widen_gap(
     places: &mut Vec<Row<Place>>,
     gaps: &mut Vec<Gap>,
     uses: &mut Vec<Row<Use>>,
@@ -233,8 +233,8 @@ pub fn widen_gap(
     target
 }
 
-/// The gap of the user, which stands at the end, goes.
-pub fn close_gap(places: &mut Vec<Row<Place>>, gaps: &mut Vec<Gap>, user: usize)
+// The gap of the user, which stands at the end, goes.
+pub(super) fn close_gap(places: &mut Vec<Row<Place>>, gaps: &mut Vec<Gap>, user: usize)
     requires gaps { HaveGaps places.old.items gaps.old.items }
     requires user { user < length gaps.old.items }
     requires end { (gap_of gaps.old.items user).start ≡ length (held (slice_index_or places.old.items user [])) }
@@ -248,8 +248,8 @@ pub fn close_gap(places: &mut Vec<Row<Place>>, gaps: &mut Vec<Gap>, user: usize)
     gaps[user] = Gap { start: 0, len: 0 };
 }
 
-/// The gap of the user goes where it stands at the end or is longer than the targets are many.
-pub fn settle_gap(
+// The gap of the user goes where it stands at the end or is longer than the targets are many.
+pub(super) fn settle_gap(
     places: &mut Vec<Row<Place>>,
     gaps: &mut Vec<Gap>,
     uses: &mut Vec<Row<Use>>,
@@ -271,8 +271,8 @@ pub fn settle_gap(
     close_gap(places, gaps, user);
 }
 
-/// The places of these uses of `old` name `new`, where the uses now stand from `first` on.
-pub fn retarget(
+// The places of these uses of `old` name `new`, where the uses now stand from `first` on.
+pub(super) fn retarget(
     places: &mut Vec<Row<Place>>,
     moved: &Row<Use>,
     old: usize,
