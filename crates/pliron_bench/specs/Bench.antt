@@ -147,5 +147,5 @@ abbrev pub first_edge_count : List AttrObj → ℕ
 first_edge_count attrs = count_of (first_attribute attrs)
 
 -- operations of the kind stand alone
-abbrev pub IsTop : BenchKind → Type 0
-IsTop kind = (kind ≡ Mod) ⊎ (kind ≡ Func)
+abbrev pub IsTopKind : BenchKind → Type 0
+IsTopKind kind = (kind ≡ Mod) ⊎ (kind ≡ Func)

@@ -1,6 +1,6 @@
 //! The kinds of operations.
 ghost use Rattle.std.specs.Prelude.{◌≡◌, IsTrue};
-ghost use Rattle.pliron_bench.specs.Bench.{kind_of, number_of, is_ssa, result_count, region_count, successor_count, IsTop};
+ghost use Rattle.pliron_bench.specs.Bench.{kind_of, number_of, is_ssa, result_count, region_count, successor_count, IsTopKind};
 
 /// The kind of an operation.
 #[derive(Clone, Copy, Debug, PartialEq, Eq)]
@@ -166,7 +166,7 @@ impl BenchKind {
 
     /// Whether operations of the kind stand in a `mod` or alone. Cost: constant.
     pub fn is_top(self) -> bool
-        ensures { IsTrue result → IsTop self }
+        ensures { IsTrue result → IsTopKind self }
     {
         match self {
             BenchKind::Mod | BenchKind::Func => true,

@@ -48,8 +48,8 @@ pub is_use : (c : View) → HaveUses c → (v i : ℕ) (u : Use) → slice_get (
 is_use c h v i u e = in_slice (operands_of c.tree u.user) u.place v (h.value_uses.listed v i u e)
 
 -- a set and one more
-pub inserted : (ks : List ℕ) (x k : ℕ) → In k (insert_key (λ a b. nat_eq a b && true) ks x) ↔ (In k ks ⊎ (k ≡ x))
-inserted ks x k = by (list_any (λ b. nat_eq x b && true) ks) refl
+pub in_inserted : (ks : List ℕ) (x k : ℕ) → In k (insert_key (λ a b. nat_eq a b && true) ks x) ↔ (In k ks ⊎ (k ≡ x))
+in_inserted ks x k = by (list_any (λ b. nat_eq x b && true) ks) refl
   where
     by : (z : Bool) → list_any (λ b. nat_eq x b && true) ks ≡ z → In k (if z then ks else ks ++ x ∷ []) ↔ (In k ks ⊎ (k ≡ x))
     by true e = (λ i. inl i, λ i. ⊎_elim (λ a. a) (λ s. subst (λ y. In y ks) (sym s) (tested_in ks x e)) i)

@@ -34,8 +34,8 @@ use Rattle.pliron_cfg.specs.FoldSteps.{TellsErased, IsBranchInside, IsBranchFold
 use Rattle.pliron_cfg.proofs.KnownLemmas.{known_read}
 
 -- what is inside something stands in a block
-pub placed : (t : Tree) (root op : ℕ) → IsInside t root op → IsSome (parent_of t op)
-placed t root op inside = let up = inside_step t root op inside in let s = holder_steps t op up.0 up.1 in ap is_some s.1
+pub stands_in_block : (t : Tree) (root op : ℕ) → IsInside t root op → IsSome (parent_of t op)
+stands_in_block t root op inside = let up = inside_step t root op inside in let s = holder_steps t op up.0 up.1 in ap is_some s.1
 
 -- the outcome, whatever was answered
 pub either : (P : Option IRStatus → Type 0) (r : Result IRStatus OptError) → IfOk r (λ status. P (Some status)) → OnErr r (P None) → (a : Option IRStatus) × P a

@@ -2,9 +2,9 @@
 use Rattle.std.proofs.Common.{inl, inr, ⊎_elim, ℕ, List, [], ◌∷◌, ◌++◌, length-append, refl, sym, subst, arith}
 use Rattle.pliron_core.specs.Lists.{In, IsDistinct}
 use Rattle.pliron_core.proofs.ListLemmas.{In-left, In-right, In-cases}
-use Rattle.pliron_cfg.specs.Internal.Seen.{Grew}
+use Rattle.pliron_cfg.specs.Internal.Seen.{HasGrown}
 
-pub grew_none : (s w : List ℕ) → Grew [] s w s w
+pub grew_none : (s w : List ℕ) → HasGrown [] s w s w
 grew_none s w = record {
   kept = λ r i. i;
   only = λ r i. inl i;
@@ -21,8 +21,8 @@ pub distinct_push : (xs : List ℕ) (x : ℕ) → IsDistinct xs → (In x xs →
 distinct_push [] x d n = ((λ i. i), tt)
 distinct_push (y ∷ ys) x d n = ((λ i. ⊎_elim (λ j. d.0 j) (λ j. ⊎_elim (λ e. n (inl (sym e))) (λ z. z) j) (In-cases y ys (x ∷ []) i)), distinct_push ys x d.1 (λ i. n (inr i)))
 
-module _ (rs s w s' w' : List ℕ) (x : ℕ) (g : Grew rs s w s' w') where
-  pub grew_old : In x s' → Grew (rs ++ x ∷ []) s w s' w'
+module _ (rs s w s' w' : List ℕ) (x : ℕ) (g : HasGrown rs s w s' w') where
+  pub grew_old : In x s' → HasGrown (rs ++ x ∷ []) s w s' w'
   grew_old i = record {
     kept = g.kept;
     only = λ r j. ⊎_elim (λ a. inl a) (λ a. inr (In-left r rs (x ∷ []) a)) (g.only r j);
@@ -34,7 +34,7 @@ module _ (rs s w s' w' : List ℕ) (x : ℕ) (g : Grew rs s w s' w') where
     distinct = g.distinct;
   }
 
-  pub grew_new : (In x s' → ⊥) → Grew (rs ++ x ∷ []) s w (s' ++ x ∷ []) (w' ++ x ∷ [])
+  pub grew_new : (In x s' → ⊥) → HasGrown (rs ++ x ∷ []) s w (s' ++ x ∷ []) (w' ++ x ∷ [])
   grew_new n = record {
     kept = λ r j. In-left r s' (x ∷ []) (g.kept r j);
     only = λ r j. ⊎_elim (λ a. ⊎_elim (λ b. inl b) (λ b. inr (In-left r rs (x ∷ []) b)) (g.only r a)) (λ a. inr (In-right r rs (x ∷ []) a)) (In-cases r s' (x ∷ []) j);

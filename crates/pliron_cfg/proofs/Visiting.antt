@@ -9,7 +9,7 @@ use Rattle.pliron_core.proofs.FlatLemmas.{In-flat_map, flat_map-In}
 use Rattle.pliron_core.proofs.ListLemmas.{In-left, In-right, In-cases}
 use Rattle.pliron_cfg.specs.Visited.{IsVisited, IsVisited.Starts, IsVisited.Nested, IsLookedInto, IsReachedIn}
 use Rattle.pliron_cfg.specs.Visits.{AreVisits}
-use Rattle.pliron_cfg.specs.Internal.Seen.{Grew}
+use Rattle.pliron_cfg.specs.Internal.Seen.{HasGrown}
 
 -- a region with what it leads to
 pub record IsDone (t : Tree) (seen rs bs : List ℕ) (r : ℕ) : Type 0 where
@@ -30,7 +30,7 @@ pub record IsVisiting (t : Tree) (Start : ℕ → Type 0) (seen waiting rs bs : 
 abbrev pub nested_in : Tree → List ℕ → List ℕ
 nested_in t bs = flat_map (λ b. flat_map (λ k. regions_of t k) (body_of t b)) bs
 
-pub visiting_starts : (t : Tree) (starts seen waiting : List ℕ) → Grew starts [] [] seen waiting → IsVisiting t (λ r. In r starts) seen waiting [] []
+pub visiting_starts : (t : Tree) (starts seen waiting : List ℕ) → HasGrown starts [] [] seen waiting → IsVisiting t (λ r. In r starts) seen waiting [] []
 visiting_starts t starts seen waiting g = record {
   visited = λ r i. Starts (⊎_elim (λ z. absurd z) (λ j. j) (g.only r i));
   starts = g.all;
@@ -41,7 +41,7 @@ visiting_starts t starts seen waiting g = record {
   distinct = g.distinct tt;
 }
 
-module _ (t : Tree) (w : IsTree t) (Start : ℕ → Type 0) (seen rest rs bs : List ℕ) (r : ℕ) (h : IsVisiting t Start seen (rest ++ r ∷ []) rs bs) (entered seen' waiting' : List ℕ) (in_entered : (b : ℕ) → In b entered → IsLookedInto t r b) (all_entered : (b : ℕ) → IsLookedInto t r b → In b entered) (g : Grew (nested_in t entered) seen rest seen' waiting') where
+module _ (t : Tree) (w : IsTree t) (Start : ℕ → Type 0) (seen rest rs bs : List ℕ) (r : ℕ) (h : IsVisiting t Start seen (rest ++ r ∷ []) rs bs) (entered seen' waiting' : List ℕ) (in_entered : (b : ℕ) → In b entered → IsLookedInto t r b) (all_entered : (b : ℕ) → IsLookedInto t r b → In b entered) (g : HasGrown (nested_in t entered) seen rest seen' waiting') where
   here : In r seen
   here = h.waits r (In-right r rest (r ∷ []) (inl refl))
 

@@ -8,7 +8,7 @@ ghost use Rattle.pliron_laws.specs.Linked.{EdgesLast};
 ghost use Rattle.pliron_search.specs.Regions.{IsLawfulRegion};
 ghost use Rattle.pliron_cfg.specs.Visited.{IsReachedIn, IsLookedInto, OfOperation, OfBlock, OfRegion};
 ghost use Rattle.pliron_cfg.specs.Visits.{AreVisits};
-ghost use Rattle.pliron_cfg.specs.Internal.Seen.{Grew};
+ghost use Rattle.pliron_cfg.specs.Internal.Seen.{HasGrown};
 
 mod last_first;
 
@@ -151,7 +151,7 @@ fn push_new(
     seen: &mut IndexSet<Ptr<Region>>,
     waiting: &mut Vec<Ptr<Region>>,
 ) -> Result<(), OptError>
-    ensures grew { OnOk result (Grew regions.now seen.old.keys waiting.old.items seen.new.keys waiting.new.items) }
+    ensures grew { OnOk result (HasGrown regions.now seen.old.keys waiting.old.items seen.new.keys waiting.new.items) }
     ensures memory { IsOkUnless result OptError.Memory }
 {
     for region in regions {

@@ -78,8 +78,8 @@ own_successors t op b p some ends =
 no_block : (o : Option ℕ) (b : ℕ) → o ≡ None → o ≡ Some b → ⊥
 no_block o b e f = let g : None ≡ Some b = sym e ∙ f in grind arith
 
-pub placed : (t : Tree) (op : ℕ) → parent_of t op ≡ None → 0 < length (successors_of t op) → EndsBlockIf t op → ⊥
-placed t op p some ends = let e = at_end t op some ends in no_block (parent_of t op) e.block p e.in_block
+pub is_placed : (t : Tree) (op : ℕ) → parent_of t op ≡ None → 0 < length (successors_of t op) → EndsBlockIf t op → ⊥
+is_placed t op p some ends = let e = at_end t op some ends in no_block (parent_of t op) e.block p e.in_block
 
 member_of_next : (x z : ℕ) (xs : List ℕ) → next_in x xs ≡ Some z → In z xs
 member_of_next x z [] e = absurd (cc)

@@ -17,7 +17,7 @@ use Rattle.pliron_laws.specs.Datum.{Head, Meaning}
 use Rattle.pliron_laws.specs.Tree.{Operation, op_at, op_with, shape_of}
 use Rattle.pliron_laws.specs.Answers.{ReadsShape, IsMaterialised}
 use Rattle.pliron_laws.specs.Folding.{Constants}
-use Rattle.pliron_laws.specs.Outcomes.{Materialises, IsFresh, materialised}
+use Rattle.pliron_laws.specs.Outcomes.{Materialises, IsFreshConstant, materialised}
 use Rattle.pliron_laws.specs.Outcomes.Materialises.{Finished, Unanswered, Refused, Unknown, PassedOver, Put}
 use Rattle.pliron_laws.specs.InPlace.{TellsChange}
 use Rattle.pliron_laws.proofs.ConstantLemmas.{new_row}
@@ -43,7 +43,7 @@ none_of (Some x) other = absurd (other x refl)
 pub passed_over : (accepts : AttrObj → Bool) (head : AttrObj → Head) (attr : AttrObj) (t now : Tree) (made : Option ℕ) → IsMaterialised accepts head attr t now made → made ≡ None → (accepts attr ≡ false) × (now ≡ t)
 passed_over accepts head attr t now made is e = subst (λ z. IsMaterialised accepts head attr t now z) e is
 
-pub fresh_made : (accepts : AttrObj → Bool) (head : AttrObj → Head) (attr : AttrObj) (t now : Tree) (c v : ℕ) (made : Option ℕ) → IsTree t → IsDefined t v → IsMaterialised accepts head attr t now made → made ≡ Some c → IsTrue (accepts attr) × IsFresh t now c v (head attr)
+pub fresh_made : (accepts : AttrObj → Bool) (head : AttrObj → Head) (attr : AttrObj) (t now : Tree) (c v : ℕ) (made : Option ℕ) → IsTree t → IsDefined t v → IsMaterialised accepts head attr t now made → made ≡ Some c → IsTrue (accepts attr) × IsFreshConstant t now c v (head attr)
 fresh_made accepts head attr t now c v made w value is e =
     let m : IsMaterialised accepts head attr t now (Some c) = subst (λ z. IsMaterialised accepts head attr t now z) e is in
     (m.0, record { tree = w; made = m.2; key = m.1; value = value })

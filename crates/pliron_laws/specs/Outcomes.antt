@@ -43,7 +43,7 @@ abbrev pub materialised_at : Tree → OpInsertionPoint → ℕ → Head → Tree
 materialised_at t point v head = replaced (inserted (created t head 1 0) point (next_op t)) v (next_value t)
 
 -- c was just made in t for a constant, and the value stands there
-pub record IsFresh (t now : Tree) (c v : ℕ) (head : Head) : Type 0 where
+pub record IsFreshConstant (t now : Tree) (c v : ℕ) (head : Head) : Type 0 where
   pub tree : IsTree t
   pub made : now ≡ created t head 1 0
   pub key : c ≡ length t.operations

@@ -6,7 +6,7 @@ ghost use Rattle.pliron_core.specs.Joined.{IsTree};
 ghost use Rattle.pliron_core.specs.Writes.{replaced};
 ghost use Rattle.pliron_core.specs.Insertion.{IsPointFor, inserted};
 ghost use Rattle.pliron_core.specs.Changes.{IsSameTree};
-ghost use Rattle.pliron_laws.specs.Outcomes.{IsFresh, materialised_at};
+ghost use Rattle.pliron_laws.specs.Outcomes.{IsFreshConstant, materialised_at};
 
 use pliron_core::{Context, NoMemory, Operation, Ptr, Rewriter, Value};
 
@@ -46,12 +46,12 @@ pub fn put_constant<R: Rewriter>(
     old: Value,
     rewriter: &mut R,
 ) -> Result<(), NoMemory>
-    requires fresh { (t : Tree) × (head : Head) × IsFresh t ctx.old.tree constant old head }
+    requires fresh { (t : Tree) × (head : Head) × IsFreshConstant t ctx.old.tree constant old head }
     requires point { IsPointFor ctx.old.tree (R.point rewriter.old) constant }
-    ensures ok { OnOk result ((t : Tree) (head : Head) → IsFresh t ctx.old.tree constant old head → ctx.new.tree ≡
+    ensures ok { OnOk result ((t : Tree) (head : Head) → IsFreshConstant t ctx.old.tree constant old head → ctx.new.tree ≡
         materialised_at t (R.point rewriter.old) old head) }
     ensures tree { OnOk result (IsTree (inserted ctx.old.tree (R.point rewriter.old) constant)) }
-    ensures err { OnErr result ((t : Tree) (head : Head) → IsFresh t ctx.old.tree constant old head → IsSameTree t ctx.new.tree) }
+    ensures err { OnErr result ((t : Tree) (head : Head) → IsFreshConstant t ctx.old.tree constant old head → IsSameTree t ctx.new.tree) }
     ensures longer { length ctx.old.tree.operations ≤ length ctx.new.tree.operations }
     ensures point { R.point rewriter.new ≡ R.point rewriter.old }
 {

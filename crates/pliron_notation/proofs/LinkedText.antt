@@ -14,7 +14,7 @@ use Rattle.pliron_notation.specs.declared.syntax.Syntax.{Syntax}
 use Rattle.pliron_bench.specs.Bench.{takes, by_kind, kind_of, head_with, number_of, plain_head, result_count, region_count}
 use Rattle.pliron_bench.specs.BenchMoves.{bench}
 use Rattle.pliron_laws.specs.Linked.{EndsBlock, EdgesLast, IsWellLinked}
-use Rattle.pliron_bench.specs.Bench.{IsTop}
+use Rattle.pliron_bench.specs.Bench.{IsTopKind}
 use Rattle.pliron_notation.specs.Notation.{IsUpToLast, IsSoundSyntax}
 use Rattle.pliron_notation.specs.Building.{HasAllMade, IsGrown}
 use Rattle.pliron_notation.specs.Laid.{IsLastOf, IsLaid, IsAllLaid}
@@ -79,7 +79,7 @@ taken_admitted kind h a b c d e is = subst (λ z. IsTrue (by_kind false (takes h
 admits_same : (h g : Head) (a b c d a' b' c' d' : ℕ) → h ≡ g → a ≡ a' → b ≡ b' → c ≡ c' → d ≡ d' → IsTrue (admits g a' b' c' d') → IsTrue (admits h a b c d)
 admits_same h g a b c d a' b' c' d' eh ea eb ec ed is = subst IsTrue (sym (ap (λ z. admits z a b c d) eh ∙ ap (λ z. admits g z b c d) ea ∙ ap (λ z. admits g a' z c d) eb ∙ ap (λ z. admits g a' b' z d) ec ∙ ap (λ z. admits g a' b' c' z) ed)) is
 
-whole_admitted : (kind : BenchKind) → IsTop kind → IsTrue (admits (plain_head kind) 0 0 0 1)
+whole_admitted : (kind : BenchKind) → IsTopKind kind → IsTrue (admits (plain_head kind) 0 0 0 1)
 whole_admitted kind (inl e) = subst (λ z. IsTrue (admits (plain_head z) 0 0 0 1)) (sym e) (taken_admitted Mod (plain_head Mod) 0 0 0 1 refl refl)
 whole_admitted kind (inr e) = subst (λ z. IsTrue (admits (plain_head z) 0 0 0 1)) (sym e) (taken_admitted Func (plain_head Func) 0 0 0 1 refl refl)
 

@@ -1,7 +1,7 @@
 -- Texts of the bench notation that can be made in the order of the text, and what is made of them.
 use Rattle.std.specs.Prelude.{◌≡◌, pos, ℕ, ◌+◌, ◌<◌, ◌≤◌, List, [], ◌∷◌, Option, Some, None, length, slice_get, IsTrue}
 use Rattle.pliron_core.specs.Tree.{In}
-use Rattle.pliron_bench.specs.Bench.{takes, head_with, result_count, region_count, IsTop}
+use Rattle.pliron_bench.specs.Bench.{takes, head_with, result_count, region_count, IsTopKind}
 use Rattle.pliron_bench.specs.declared.kind.BenchKind.{BenchKind}
 use Rattle.pliron_notation.specs.declared.syntax.OperationText.{OperationText}
 use Rattle.pliron_notation.specs.declared.syntax.BlockText.{BlockText}
@@ -66,5 +66,5 @@ AreSoundOperations s = (n : ℕ) (o : OperationText) → slice_get s.operations.
 -- all can be made in this order, and each is sound
 pub record IsSoundSyntax (s : Syntax) : Type 0 where
   pub ordered : IsOrdered s first_made s.steps.items
-  pub top : IsTop s.root
+  pub top : IsTopKind s.root
   pub operations : AreSoundOperations s

@@ -15,7 +15,7 @@ planned word runs nested names pipeline schedule plan inside named scheduled = r
 }
 
 -- a list of one item
-pub only : {A : Type 0} (xs : List A) (x : A) → length xs ≡ 1 → x ≡ get_or xs 0 x → xs ≡ x ∷ []
-only [] x e at = absurd (omega arith)
-only (y ∷ []) x e at = ap (λ z. z ∷ []) (sym at)
-only (y ∷ z ∷ zs) x e at = absurd (omega arith)
+pub only_item : {A : Type 0} (xs : List A) (x : A) → length xs ≡ 1 → x ≡ get_or xs 0 x → xs ≡ x ∷ []
+only_item [] x e at = absurd (omega arith)
+only_item (y ∷ []) x e at = ap (λ z. z ∷ []) (sym at)
+only_item (y ∷ z ∷ zs) x e at = absurd (omega arith)

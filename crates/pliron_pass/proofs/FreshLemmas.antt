@@ -9,7 +9,7 @@ use Rattle.pliron_core.specs.Tree.{Tree, IsLive}
 use Rattle.pliron_core.specs.declared.attrs.IRStatus.{IRStatus}
 use Rattle.pliron_core.specs.declared.attrs.IRStatus.TheVariants.{Changed, Unchanged}
 use Rattle.pliron_core.proofs.WithinLemmas.{equal_from}
-use Rattle.pliron_pass.specs.Cache.{IsFresh, IsFreshEntry, retained, same_key}
+use Rattle.pliron_pass.specs.Cache.{IsFresh, IsFreshEntry, retained, is_same_key}
 use Rattle.pliron_pass.specs.Grown.{cached_at}
 use Rattle.pliron_theory.specs.Edges.{edges_inside}
 use Rattle.pliron_core.specs.Joined.{IsTree}
@@ -59,11 +59,11 @@ module _ {K E : Type 0} (eq : K → K → Bool) (kind : E → K) (holds : E → 
 
 -- where an analysis is written that is of its kind and holds
 module _ {K E : Type 0} (eq : K → K → Bool) (kind : E → K) (holds : E → ℕ → Tree → Type 0) (t : Tree) (k : K) (o : ℕ) (w : E) (of : kind w ≡ k) (says : IsLive t o → holds w o t) where
-  pub fresh_written : (es : List ((K × ℕ) × E)) → IsFresh eq kind holds t es → IsFresh eq kind holds t (set_value (same_key eq (k, o)) es w)
+  pub fresh_written : (es : List ((K × ℕ) × E)) → IsFresh eq kind holds t es → IsFresh eq kind holds t (set_value (is_same_key eq (k, o)) es w)
   fresh_written [] f = tt
   fresh_written (p ∷ ps) f = go (fresh_written ps f.1) (eq k p.0.0) refl (nat_eq o p.0.1) refl
     where
-      go : IsFresh eq kind holds t (set_value (same_key eq (k, o)) ps w) → (a : Bool) → eq k p.0.0 ≡ a → (b : Bool) → nat_eq o p.0.1 ≡ b → IsFresh eq kind holds t (cond (a && b) ((p.0, w) ∷ ps) (p ∷ set_value (same_key eq (k, o)) ps w))
+      go : IsFresh eq kind holds t (set_value (is_same_key eq (k, o)) ps w) → (a : Bool) → eq k p.0.0 ≡ a → (b : Bool) → nat_eq o p.0.1 ≡ b → IsFresh eq kind holds t (cond (a && b) ((p.0, w) ∷ ps) (p ∷ set_value (is_same_key eq (k, o)) ps w))
       go rest true x true y =
           let s : p.0.1 ≡ o = equal_from o p.0.1 y in
           ((f.0.0, λ live. (subst (λ z. eq z p.0.0 ≡ true) (sym of) x, subst (λ z. holds w z t) (sym s) (says (subst (λ z. IsLive t z) s live)))), f.1)

@@ -11,7 +11,7 @@ ghost use Rattle.pliron_theory.specs.Edges.{edges_inside};
 ghost use Rattle.pliron_pass.specs.Optimising.{edge_kinds, with_edge_kind};
 ghost use Rattle.pliron_pass.specs.Cache.{IsFresh};
 ghost use Rattle.pliron_pass.specs.Computing.{Computes};
-ghost use Rattle.pliron_pass.specs.Grown.{cached_at, HasNeeds, Grows};
+ghost use Rattle.pliron_pass.specs.Grown.{cached_at, HasNeeds, AddsLowerRanks};
 ghost use Rattle.pliron_pass.specs.Lending.{LendsEntry, LendsComputed, EndsComputed};
 
 use crate::kinds::AnalysisKind;
@@ -100,8 +100,8 @@ impl<E: Analyses + Drop> AnalysisManager<E> {
             IsFresh E.Kind.eq E.kind E.holds ctx.now.tree self.new.cache.entries }
         ensures found { IsSome (cached_at E.Kind.eq self.old.cache.entries kind op) → IsOk result }
         ensures computed { OnOk result (Computes E.Kind.eq E.needs E.need op kind self.old.cache.entries self.new.cache.entries) }
-        ensures grows { Grows E.rank op (E.rank kind + 1) self.old.cache.entries self.new.cache.entries }
-        ensures refused { OnErr result (Grows E.rank op (E.rank kind) self.old.cache.entries self.new.cache.entries) }
+        ensures grows { AddsLowerRanks E.rank op (E.rank kind + 1) self.old.cache.entries self.new.cache.entries }
+        ensures refused { OnErr result (AddsLowerRanks E.rank op (E.rank kind) self.old.cache.entries self.new.cache.entries) }
         ensures data { self.new.pm_data ≡ self.old.pm_data }
     {
         if self.cache.contains_key(&(kind, op)) {
@@ -172,7 +172,7 @@ impl<E: Analyses + Drop> AnalysisManager<E> {
         ensures* writes_back { sem 𝓛 (LendsComputed E.row E.Kind.row E.Kind.Eq.own E.Kind.PartialEq E.Kind.Hash.own self.entry
             (λ es es'. IsFresh E.Kind.eq E.kind E.holds ctx.now.tree es →
             IsFresh E.Kind.eq E.kind E.holds ctx.now.tree es') (λ es es'. Computes E.Kind.eq E.needs E.need op kind es es')
-            (λ es es'. Grows E.rank op (E.rank kind) es es') kind op result) }
+            (λ es es'. AddsLowerRanks E.rank op (E.rank kind) es es') kind op result) }
     {
         self.compute_analysis(kind, op, ctx)?;
         match self.cache.get_mut(&(kind, op)) {
@@ -195,7 +195,7 @@ impl<E: Analyses + Drop> AnalysisManager<E> {
         ensures* ends { sem 𝓛 (EndsComputed E.row E.Kind.row E.Kind.Eq.own E.Kind.PartialEq E.Kind.Hash.own self.entry
             (λ es es'. IsFresh E.Kind.eq E.kind E.holds ctx.now.tree es →
             IsFresh E.Kind.eq E.kind E.holds ctx.now.tree es') (λ es es'. Computes E.Kind.eq E.needs E.need op kind es es')
-            (λ es es'. Grows E.rank op (E.rank kind) es es') kind op result) }
+            (λ es es'. AddsLowerRanks E.rank op (E.rank kind) es es') kind op result) }
     {
         self.compute_analysis(kind, op, ctx)?;
         match self.cache.get(&(kind, op)) {

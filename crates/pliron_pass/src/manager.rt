@@ -5,7 +5,7 @@ ghost use Rattle.std.specs.Borrow.{sem};
 ghost use Rattle.pliron_pass.specs.Lending.{LendsData};
 ghost use Rattle.indexmap.specs.IndexMap.{get};
 ghost use Rattle.pliron_laws.specs.declared.fault.OptError.TheVariants.{Memory};
-ghost use Rattle.pliron_pass.specs.Cache.{retained, cached_kinds, same_key, with_kind};
+ghost use Rattle.pliron_pass.specs.Cache.{retained, cached_kinds, is_same_key, with_kind};
 ghost use Rattle.pliron_pass.specs.Answer.{has_changed, kept_kinds};
 ghost use Rattle.pliron_pass.specs.Config.{skips, verifies_before, verifies_after};
 
@@ -109,7 +109,7 @@ impl<E: AnalysisKind> AnalysisManager<E> {
 
     /// The entry, where one is cached. Cost: one look-up.
     pub fn try_get_analysis(&self, kind: E::Kind, op: Ptr<Operation>) -> Option<&E>
-        ensures { option_copied result ≡ get (same_key E.Kind.eq) self.now.cache (kind, op) }
+        ensures { option_copied result ≡ get (is_same_key E.Kind.eq) self.now.cache (kind, op) }
     {
         self.cache.get(&(kind, op))
     }

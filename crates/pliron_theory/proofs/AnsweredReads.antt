@@ -17,7 +17,7 @@ use Rattle.pliron_theory.specs.Renaming.{RunReaches, IsReadAs}
 use Rattle.pliron_laws.proofs.Records.{op_shows, block_shows, entry_shows}
 use Rattle.pliron_theory.proofs.Simulation.{Kept, IfGoes}
 use Rattle.pliron_theory.proofs.Alike.{data_long}
-use Rattle.pliron_theory.proofs.KnownData.{Confirms, known_at, bind_confirms}
+use Rattle.pliron_theory.proofs.KnownData.{Confirms, known_data_at, bind_confirms}
 use Rattle.pliron_theory.proofs.Reached.{reached_kept, reached_start, reached_holds}
 use Rattle.pliron_theory.proofs.Reading.{read_data, ready_when_reached}
 use Rattle.pliron_theory.proofs.SweptKeeps.{admitted_shape}
@@ -140,7 +140,7 @@ module _ (m : Meaning) (can_fold : Head → Bool) (constants : Constants) (answe
               let acts_o : m.act (shape_of m t o) s.memo input ≡ Give ds = ap (λ p. m.act (shape_of m t p) s.memo input) (sym (same z.0)) ∙ acts in
               let ad = admitted_shape m t op o stands (f.linked.admitted op (inr inside)) in
               let k_ds = answers.gives (shape_of m t o) ad folds known q.first q.counted q.knows q.later s.memo input ds q.comes acts_o in
-              known_at (constants (shape_of m t o) known) ds k_ds i a d (said ∙ ap (λ p. Some (Some p)) y.1) (ap (slice_get ds) (sym z.1) ∙ there)
+              known_data_at (constants (shape_of m t o) known) ds k_ds i a d (said ∙ ap (λ p. Some (Some p)) y.1) (ap (slice_get ds) (sym z.1) ∙ there)
 
       told_holds : (x next : Datum) → m.act (shape_of m t o') s.memo input ≡ Emit x next → (world : List Datum) → IfGoes (emit s x next world) Holds
       told_holds x next acts [] = tt

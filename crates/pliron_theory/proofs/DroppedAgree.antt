@@ -19,7 +19,7 @@ use Rattle.pliron_theory.proofs.Lockstep.{EnvsTied}
 use Rattle.pliron_theory.proofs.Bound.{IsReady}
 use Rattle.pliron_laws.proofs.Records.{op_shows, operation_of, make_op, no_op, region_entry}
 use Rattle.pliron_theory.proofs.Alike.{alike_refl, shape_same, SameBut, bound_same, bind_same, data_same, data_long}
-use Rattle.pliron_theory.proofs.Substitute.{placed, Comparison, Begun, Starts, Enters, Substitutes, FirstAlike, Reads, substituted_agree}
+use Rattle.pliron_theory.proofs.Substitute.{placed_all, Comparison, Begun, Starts, Enters, Substitutes, FirstAlike, Reads, substituted_agree}
 use Rattle.pliron_theory.proofs.Reached.{reached_kept, reached_start}
 use Rattle.pliron_theory.proofs.Reading.{ready_when_reached}
 use Rattle.pliron_theory.proofs.Keys.{not_is}
@@ -94,7 +94,7 @@ module _ (m : Meaning) (t t' : Tree) (block index v : ℕ) (kept : ℕ → List 
     gotos = λ k i ds j es. (j ≡ i) × PassesWithout block index count (slice_get (successors_of t k) i) ds es;
   }
 
-  placed_same : (ks : List ℕ) → ks ≡ placed (λ k. None) (λ k. k) ks
+  placed_same : (ks : List ℕ) → ks ≡ placed_all (λ k. None) (λ k. k) ks
   placed_same [] = refl
   placed_same (k ∷ ks) = ap (λ l. k ∷ l) (placed_same ks)
 

@@ -8,13 +8,13 @@ use Rattle.pliron_laws.specs.States.{Environment, bound, bind, prepended}
 use Rattle.pliron_laws.specs.Acting.{Known, pick}
 
 -- a constant that is known is the datum at its place
-pub known_at : (known : List (Option AttrObj)) (ds : List Datum) → Known known ds → (i : ℕ) (c : AttrObj) (d : Datum) → slice_get known i ≡ Some (Some c) → slice_get ds i ≡ Some d → datum_of c ≡ d
-known_at [] ds k i c d e f = grind arith
-known_at (a ∷ known) [] k i c d e f = absurd k
-known_at (None ∷ known) (x ∷ ds) k zero c d e f = grind arith
-known_at (Some a ∷ known) (x ∷ ds) k zero c d e f = let g : a ≡ c = some_is (some_is e) in let h : x ≡ d = some_is f in ap datum_of (sym g) ∙ k.0 ∙ h
-known_at (None ∷ known) (x ∷ ds) k (suc i) c d e f = known_at known ds k i c d e f
-known_at (Some a ∷ known) (x ∷ ds) k (suc i) c d e f = known_at known ds k.1 i c d e f
+pub known_data_at : (known : List (Option AttrObj)) (ds : List Datum) → Known known ds → (i : ℕ) (c : AttrObj) (d : Datum) → slice_get known i ≡ Some (Some c) → slice_get ds i ≡ Some d → datum_of c ≡ d
+known_data_at [] ds k i c d e f = grind arith
+known_data_at (a ∷ known) [] k i c d e f = absurd k
+known_data_at (None ∷ known) (x ∷ ds) k zero c d e f = grind arith
+known_data_at (Some a ∷ known) (x ∷ ds) k zero c d e f = let g : a ≡ c = some_is (some_is e) in let h : x ≡ d = some_is f in ap datum_of (sym g) ∙ k.0 ∙ h
+known_data_at (None ∷ known) (x ∷ ds) k (suc i) c d e f = known_data_at known ds k i c d e f
+known_data_at (Some a ∷ known) (x ∷ ds) k (suc i) c d e f = known_data_at known ds k.1 i c d e f
 
 -- what is picked stands at the picked place
 pub picked_at : {A : Type 0} (places : List ℕ) (xs : List A) (j : ℕ) (a : Option A) → slice_get (pick places xs) j ≡ Some a → (p : ℕ) × (slice_get places j ≡ Some p) × (slice_get xs p ≡ a)

@@ -8,7 +8,7 @@ use Rattle.pliron_theory.specs.Keeps.{IsFit, KeepsRuns}
 use Rattle.pliron_theory.specs.Sweeping.{IsSwept, AreAway, ArePut, GivesNow}
 use Rattle.pliron_theory.specs.Renaming.{IsReadAs}
 use Rattle.pliron_theory.proofs.Simulation.{agree_sym}
-use Rattle.pliron_theory.proofs.Substitute.{put, placed}
+use Rattle.pliron_theory.proofs.Substitute.{put_one, placed_all}
 use Rattle.pliron_theory.proofs.SweptLists.{place_if}
 use Rattle.pliron_theory.proofs.SweptAgree.{swept_agree, swept_reached}
 use Rattle.pliron_theory.proofs.PutStays.{no_block_dead, put_fit}
@@ -17,7 +17,7 @@ use Rattle.pliron_theory.proofs.PutStays.{no_block_dead, put_fit}
 abbrev pub KeepsReads : Meaning → (t t' : Tree) → Type 0
 KeepsReads m t t' = (root : ℕ) → IsFit m t root → (v : ℕ) (c : Datum) → IsReadAs m t v c root → IsReadAs m t' v c root
 
--- t' is before, and t after; the operations are made and put at once
+-- t' is before, and t after; the operations are made and put_one at once
 module _ (m : Meaning) (t t' : Tree) (dead : ℕ → Bool) (w : IsTree t) (w' : IsTree t') (h : IsSwept t t' dead no_block_dead) (g : AreAway t' dead no_block_dead) (p : ArePut m t t' dead) (longer : length t'.operations ≤ length t.operations) (fresh : (k : ℕ) → dead k ≡ true → length t'.operations ≤ k) (gives : (k : ℕ) → dead k ≡ true → GivesNow m t k) where
   old : (k : ℕ) → k < length t'.operations → dead k ≡ false
   old k lt = go (dead k) refl
@@ -52,5 +52,5 @@ module _ (m : Meaning) (t t' : Tree) (dead : ℕ → Bool) (w : IsTree t) (w' : 
       let f' = fit root f in
       let lk = user_old k v i in
       let x = swept_reached m t t' dead no_block_dead w w' h root f'.linked.edges f'.defined (λ k b i d e q. gives k d) (old root (past_live t' root f.live)) f'.live s r in
-      let at : x.0.rest ≡ k ∷ placed (λ z. place_if (dead z)) (λ z. z) rest = x.2.place.0 ∙ ap (placed (λ z. place_if (dead z)) (λ z. z)) e ∙ ap (λ b. put (λ z. z) (place_if b) k (placed (λ z. place_if (dead z)) (λ z. z) rest)) lk in
+      let at : x.0.rest ≡ k ∷ placed_all (λ z. place_if (dead z)) (λ z. z) rest = x.2.place.0 ∙ ap (placed_all (λ z. place_if (dead z)) (λ z. z)) e ∙ ap (λ b. put_one (λ z. z) (place_if b) k (placed_all (λ z. place_if (dead z)) (λ z. z) rest)) lk in
       x.2.environment v (h.values k v lk i) ∙ reads x.0 k _ x.1 at (sym x.2.answer ∙ none) (subst (In v) (sym (h.operands k lk)) i)

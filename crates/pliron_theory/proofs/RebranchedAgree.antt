@@ -20,7 +20,7 @@ use Rattle.pliron_theory.proofs.Lockstep.{EnvsTied}
 use Rattle.pliron_theory.proofs.Bound.{IsReady}
 use Rattle.pliron_laws.proofs.Records.{op_shows, operation_of, make_op, no_op, region_entry}
 use Rattle.pliron_theory.proofs.Alike.{alike_refl, shape_same, SameBut, bind_same, data_same}
-use Rattle.pliron_theory.proofs.Substitute.{placed, Comparison, Begun, Starts, Enters, Substitutes, FirstAlike, Reads, substituted_agree}
+use Rattle.pliron_theory.proofs.Substitute.{placed_all, Comparison, Begun, Starts, Enters, Substitutes, FirstAlike, Reads, substituted_agree}
 use Rattle.pliron_theory.proofs.Reached.{reached_kept, reached_start}
 use Rattle.pliron_theory.proofs.Reading.{ready_when_reached}
 use Rattle.pliron_theory.proofs.Keys.{is_not, not_is}
@@ -83,11 +83,11 @@ module _ (m : Meaning) (t t' : Tree) (a op new : ℕ) (front : List ℕ) (w : Is
   body_live : (c k : ℕ) → In k (body_of t c) → k ≢ new
   body_live c k i = live_old k (w.joined.standing k c (w.bodies.owned k c i)).0
 
-  placed_free : (xs : List ℕ) → (In op xs → ⊥) → ((k : ℕ) → In k xs → k ≢ new) → placed (λ k. None) (exchanged op new) xs ≡ xs
+  placed_free : (xs : List ℕ) → (In op xs → ⊥) → ((k : ℕ) → In k xs → k ≢ new) → placed_all (λ k. None) (exchanged op new) xs ≡ xs
   placed_free [] f g = refl
   placed_free (x ∷ xs) f g = ap₂ (λ p q. p ∷ q) (exchanged_other op new x (λ e. f (inl (sym e))) (g x (inl refl))) (placed_free xs (λ i. f (inr i)) (λ k i. g k (inr i)))
 
-  placed_end : (xs : List ℕ) → (In op xs → ⊥) → ((k : ℕ) → In k xs → k ≢ new) → placed (λ k. None) (exchanged op new) (xs ++ op ∷ []) ≡ xs ++ new ∷ []
+  placed_end : (xs : List ℕ) → (In op xs → ⊥) → ((k : ℕ) → In k xs → k ≢ new) → placed_all (λ k. None) (exchanged op new) (xs ++ op ∷ []) ≡ xs ++ new ∷ []
   placed_end [] f g = ap (λ k. k ∷ []) (exchanged_first op new)
   placed_end (x ∷ xs) f g = ap₂ (λ p q. p ∷ q) (exchanged_other op new x (λ e. f (inl (sym e))) (g x (inl refl))) (placed_end xs (λ i. f (inr i)) (λ k i. g k (inr i)))
 
@@ -99,9 +99,9 @@ module _ (m : Meaning) (t t' : Tree) (a op new : ℕ) (front : List ℕ) (w : Is
       left (x ∷ xs) (inl e) = inl e
       left (x ∷ xs) (inr j) = inr (left xs j)
 
-  body_placed : (c : ℕ) → body_of t' c ≡ placed (λ k. None) (exchanged op new) (body_of t c)
+  body_placed : (c : ℕ) → body_of t' c ≡ placed_all (λ k. None) (exchanged op new) (body_of t c)
   body_placed c = elim (cases_eq c a) [
-    | inl e ↦ ap (body_of t') e ∙ h.put ∙ sym (placed_end front (λ i. distinct-apart front (op ∷ []) (subst IsDistinct h.split (w.bodies.distinct a)) op i (inl refl)) (λ k i. body_live a k (front_in k i))) ∙ ap (placed (λ k. None) (exchanged op new)) (sym h.split ∙ ap (body_of t) (sym e))
+    | inl e ↦ ap (body_of t') e ∙ h.put ∙ sym (placed_end front (λ i. distinct-apart front (op ∷ []) (subst IsDistinct h.split (w.bodies.distinct a)) op i (inl refl)) (λ k i. body_live a k (front_in k i))) ∙ ap (placed_all (λ k. None) (exchanged op new)) (sym h.split ∙ ap (body_of t) (sym e))
     | inr ne ↦ h.bodies c ne ∙ sym (placed_free (body_of t c) (λ i. ne (some_is (sym (w.bodies.owned op c i) ∙ op_in))) (λ k i. body_live c k i))
   ]
 
@@ -109,7 +109,7 @@ module _ (m : Meaning) (t t' : Tree) (a op new : ℕ) (front : List ℕ) (w : Is
   SameBlock None None = Unit {0}
   SameBlock None (Some y) = ⊥
   SameBlock (Some x) None = ⊥
-  SameBlock (Some x) (Some y) = (y.operations ≡ placed (λ k. None) (exchanged op new) x.operations) × (y.arguments ≡ x.arguments)
+  SameBlock (Some x) (Some y) = (y.operations ≡ placed_all (λ k. None) (exchanged op new) x.operations) × (y.arguments ≡ x.arguments)
 
   block_same : (c : ℕ) → SameBlock (block_at t c) (block_at t' c)
   unfolding block_at

@@ -22,7 +22,7 @@ use Rattle.pliron_theory.specs.Renaming.{IsRenamed, MayUse, RunReaches, HaveSame
 use Rattle.pliron_theory.proofs.Lockstep.{EnvsTied}
 use Rattle.pliron_laws.proofs.Records.{op_shows, operation_of, make_op, no_op}
 use Rattle.pliron_theory.proofs.Alike.{alike_refl, shape_same, SameBut, bind_same}
-use Rattle.pliron_theory.proofs.Substitute.{placed, Comparison, Begun, Starts, Enters, Substitutes, FirstAlike, Reads, Skips, BeginsAlike, substituted_agree, substituted_back}
+use Rattle.pliron_theory.proofs.Substitute.{placed_all, Comparison, Begun, Starts, Enters, Substitutes, FirstAlike, Reads, Skips, BeginsAlike, substituted_agree, substituted_back}
 use Rattle.pliron_theory.proofs.SweptStays.{admitted_same}
 use Rattle.pliron_theory.proofs.Reached.{reached_kept, reached_start}
 
@@ -217,7 +217,7 @@ module _ (t t' : Tree) (rename : ℕ → ℕ) (h : IsRenamed t t' rename) where
   abbrev pub comparison : Comparison
   comparison = record { places = λ k. None; swap = λ k. k; Own = λ rest. Unit {0}; Env = SameBut none_gone; visits = λ k. PassesSame; gotos = λ k. JumpsSame }
 
-  placed_same : (ks : List ℕ) → ks ≡ placed (λ k. None) (λ k. k) ks
+  placed_same : (ks : List ℕ) → ks ≡ placed_all (λ k. None) (λ k. k) ks
   placed_same [] = refl
   placed_same (k ∷ ks) = ap (λ l. k ∷ l) (placed_same ks)
 

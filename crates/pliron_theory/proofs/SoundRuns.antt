@@ -20,7 +20,7 @@ use Rattle.pliron_theory.proofs.Bound.{IsAt, HasAnswer, has_some, places, place_
 use Rattle.pliron_theory.proofs.Reached.{reached_holds}
 use Rattle.pliron_theory.proofs.Reading.{read_data}
 use Rattle.pliron_theory.proofs.SweptKeeps.{admitted_shape}
-use Rattle.pliron_theory.proofs.KnownData.{known_at, picked_at, some_at}
+use Rattle.pliron_theory.proofs.KnownData.{known_data_at, picked_at, some_at}
 use Rattle.pliron_theory.specs.Facts.{Fact, Constant, NotAConstant, AtMost, answered, Facts, Says, handed, answers_of, IsFeasibleEdge, Forwards}
 use Rattle.pliron_theory.proofs.ConstantKeeps.{no_data}
 use Rattle.pliron_theory.specs.Sound.{IsRightResult}
@@ -162,7 +162,7 @@ module _ (says : Says) (answers : AnswersTrue says.meaning says.can_fold says.co
           right (inr (inl (folds, below))) =
               let a = answer folds in
               let known = answers.gives (shape_of m t o) ad folds (handed found o.operands) x.first x.counted x.known x.later memo input ds x.comes acts in
-              fits_lower (read v) (answered a.0) d (below a.0 a.1) (fits_answered a.0 d (λ c g. known_at (answers_of says t found o) ds known i c d (a.1 ∙ ap Some g) there))
+              fits_lower (read v) (answered a.0) d (below a.0 a.1) (fits_answered a.0 d (λ c g. known_data_at (answers_of says t found o) ds known i c d (a.1 ∙ ap Some g) there))
           right (inr (inr (c, g, is))) =
               let s = op_shows t k o e in
               let none : o.operands ≡ [] = sym s.operands ∙ g.operands in

@@ -24,7 +24,7 @@ use Rattle.pliron_theory.proofs.Lockstep.{Tied, EnvsTied}
 use Rattle.pliron_theory.proofs.Bound.{IsOnWay, IsReady, ready, way_kept, way_start, last_ends}
 use Rattle.pliron_laws.proofs.Records.{op_shows, block_shows, entry_shows, operation_of, make_op, block_of, make_block, region_entry}
 use Rattle.pliron_theory.proofs.Alike.{alike_refl, shape_same, SameBut, bind_same, data_same, data_long}
-use Rattle.pliron_theory.proofs.Substitute.{put, placed, taken, one_if, Comparison, Begun, Starts, HeadAt, PlaceAt, fresh, ties, Enters, Substitutes, FirstAlike, Reads, Skips, substituted_agree}
+use Rattle.pliron_theory.proofs.Substitute.{put_one, placed_all, taken, one_if, Comparison, Begun, Starts, HeadAt, PlaceAt, fresh, ties, Enters, Substitutes, FirstAlike, Reads, Skips, substituted_agree}
 use Rattle.pliron_theory.proofs.SweptAgree.{bind_gone}
 use Rattle.pliron_theory.proofs.Keys.{is_not, not_is}
 
@@ -45,17 +45,17 @@ module _ (jump : ℕ) (l : List ℕ) where
   abbrev pub place : ℕ → Option (List ℕ)
   place k = taking (nat_eq jump k) l
 
-  pub placed_free : (xs : List ℕ) → (In jump xs → ⊥) → placed place (λ k. k) xs ≡ xs
+  pub placed_free : (xs : List ℕ) → (In jump xs → ⊥) → placed_all place (λ k. k) xs ≡ xs
   placed_free [] f = refl
-  placed_free (x ∷ xs) f = ap (λ b. put (λ k. k) (taking b l) x (placed place (λ k. k) xs)) (not_is jump x (λ e. f (inl (sym e)))) ∙ ap (λ ys. x ∷ ys) (placed_free xs (λ i. f (inr i)))
+  placed_free (x ∷ xs) f = ap (λ b. put_one (λ k. k) (taking b l) x (placed_all place (λ k. k) xs)) (not_is jump x (λ e. f (inl (sym e)))) ∙ ap (λ ys. x ∷ ys) (placed_free xs (λ i. f (inr i)))
 
   pub taken_free : (xs : List ℕ) → (In jump xs → ⊥) → taken place xs ≡ 0
   taken_free [] f = refl
   taken_free (x ∷ xs) f = ap (λ b. one_if (taking b l) + taken place xs) (not_is jump x (λ e. f (inl (sym e)))) ∙ ap (λ n. one_if (taking false l) + n) (taken_free xs (λ i. f (inr i)))
 
-  pub placed_end : (xs : List ℕ) → (In jump xs → ⊥) → placed place (λ k. k) (xs ++ jump ∷ []) ≡ xs ++ l
-  placed_end [] f = ap (λ b. put (λ k. k) (taking b l) jump []) (eq-eqb jump jump refl) ∙ append-nil l
-  placed_end (x ∷ xs) f = ap (λ b. put (λ k. k) (taking b l) x (placed place (λ k. k) (xs ++ jump ∷ []))) (not_is jump x (λ e. f (inl (sym e)))) ∙ ap (λ ys. x ∷ ys) (placed_end xs (λ i. f (inr i)))
+  pub placed_end : (xs : List ℕ) → (In jump xs → ⊥) → placed_all place (λ k. k) (xs ++ jump ∷ []) ≡ xs ++ l
+  placed_end [] f = ap (λ b. put_one (λ k. k) (taking b l) jump []) (eq-eqb jump jump refl) ∙ append-nil l
+  placed_end (x ∷ xs) f = ap (λ b. put_one (λ k. k) (taking b l) x (placed_all place (λ k. k) (xs ++ jump ∷ []))) (not_is jump x (λ e. f (inl (sym e)))) ∙ ap (λ ys. x ∷ ys) (placed_end xs (λ i. f (inr i)))
 
 module _ (m : Meaning) (t t' : Tree) (a b jump : ℕ) (front : List ℕ) (w : IsTree t) (w' : IsTree t') (h : IsSpliced t t' a b jump front) (root : ℕ) where
   abbrev pub gone : ℕ → Bool
@@ -76,9 +76,9 @@ module _ (m : Meaning) (t t' : Tree) (a b jump : ℕ) (front : List ℕ) (w : Is
   not_in_front : In jump front → ⊥
   not_in_front i = distinct-apart front (jump ∷ []) (subst IsDistinct h.split (w.bodies.distinct a)) jump i (inl refl)
 
-  body_placed : (c : ℕ) → c ≢ b → body_of t' c ≡ placed (place jump (body_of t b)) (λ k. k) (body_of t c)
+  body_placed : (c : ℕ) → c ≢ b → body_of t' c ≡ placed_all (place jump (body_of t b)) (λ k. k) (body_of t c)
   body_placed c ne = elim (cases_eq c a) [
-    | inl e ↦ ap (body_of t') e ∙ h.joined ∙ sym (placed_end jump (body_of t b) front not_in_front) ∙ ap (placed (place jump (body_of t b)) (λ k. k)) (sym h.split ∙ ap (body_of t) (sym e))
+    | inl e ↦ ap (body_of t') e ∙ h.joined ∙ sym (placed_end jump (body_of t b) front not_in_front) ∙ ap (placed_all (place jump (body_of t b)) (λ k. k)) (sym h.split ∙ ap (body_of t) (sym e))
     | inr na ↦ h.bodies c na ne ∙ sym (placed_free jump (body_of t b) (body_of t c) (not_in c na))
   ]
 
@@ -86,7 +86,7 @@ module _ (m : Meaning) (t t' : Tree) (a b jump : ℕ) (front : List ℕ) (w : Is
   SplicedBlock None None = Unit {0}
   SplicedBlock None (Some y) = ⊥
   SplicedBlock (Some x) None = ⊥
-  SplicedBlock (Some x) (Some y) = (y.operations ≡ placed (place jump (body_of t b)) (λ k. k) x.operations) × (y.arguments ≡ x.arguments)
+  SplicedBlock (Some x) (Some y) = (y.operations ≡ placed_all (place jump (body_of t b)) (λ k. k) x.operations) × (y.arguments ≡ x.arguments)
 
   block_spliced : (c : ℕ) → c ≢ b → SplicedBlock (block_at t c) (block_at t' c)
   unfolding block_at
@@ -279,9 +279,9 @@ module _ (m : Meaning) (t t' : Tree) (a b jump : ℕ) (front : List ℕ) (w : Is
         free : In jump (body_of t b) → ⊥
         free = not_in b (λ f. h.apart (sym f))
 
-        there : s'.rest ≡ placed (place jump (body_of t b)) (λ z. z) (body_of t b)
+        there : s'.rest ≡ placed_all (place jump (body_of t b)) (λ z. z) (body_of t b)
         there =
-            r.place.0 ∙ ap (placed (place jump (body_of t b)) (λ z. z)) (e ∙ ap (λ z. k ∷ z) ends) ∙ ap (λ z. put (λ p. p) (taking z (body_of t b)) k []) d ∙ append-nil (body_of t b)
+            r.place.0 ∙ ap (placed_all (place jump (body_of t b)) (λ z. z)) (e ∙ ap (λ z. k ∷ z) ends) ∙ ap (λ z. put_one (λ p. p) (taking z (body_of t b)) k []) d ∙ append-nil (body_of t b)
             ∙ sym (placed_free jump (body_of t b) (body_of t b) free)
 
         tied : Tied (ties m t t' comparison) x s'

@@ -13,15 +13,15 @@ use Rattle.pliron_theory.proofs.Lockstep.{NextAlike, paced, Ties, Tied, EnvsTied
 abbrev pub Places : Type 0
 Places = ℕ → Option (List ℕ)
 
-abbrev pub put : (ℕ → ℕ) → Option (List ℕ) → ℕ → List ℕ → List ℕ
-put swap None k ks = swap k ∷ ks
-put swap (Some l) k ks = l ++ ks
+abbrev pub put_one : (ℕ → ℕ) → Option (List ℕ) → ℕ → List ℕ → List ℕ
+put_one swap None k ks = swap k ∷ ks
+put_one swap (Some l) k ks = l ++ ks
 
 -- the list with other operations in the places of those that are taken, and the key in the other tree
 -- of each one that stays
-abbrev pub placed : Places → (ℕ → ℕ) → List ℕ → List ℕ
-placed p swap [] = []
-placed p swap (k ∷ ks) = put swap (p k) k (placed p swap ks)
+abbrev pub placed_all : Places → (ℕ → ℕ) → List ℕ → List ℕ
+placed_all p swap [] = []
+placed_all p swap (k ∷ ks) = put_one swap (p k) k (placed_all p swap ks)
 
 abbrev pub one_if : Option (List ℕ) → ℕ
 one_if None = 0
@@ -79,8 +79,8 @@ module _ (m : Meaning) (t t' : Tree) (c : Comparison) where
   abbrev pub ties : Ties
   ties = record {
     Env = c.Env;
-    At = λ rest rest' memo answer. (rest' ≡ placed c.places c.swap rest) × PlaceAt rest memo answer × c.Own rest;
-    Wait = λ rest rest' memo. (rest' ≡ placed c.places c.swap rest) × WaitAt rest memo × c.Own rest;
+    At = λ rest rest' memo answer. (rest' ≡ placed_all c.places c.swap rest) × PlaceAt rest memo answer × c.Own rest;
+    Wait = λ rest rest' memo. (rest' ≡ placed_all c.places c.swap rest) × WaitAt rest memo × c.Own rest;
     resume = λ rest rest' memo answer w. (w.0, resumed rest memo answer w.1, w.2);
   }
 
@@ -89,7 +89,7 @@ module _ (m : Meaning) (t t' : Tree) (c : Comparison) where
   Enters None None ds es = Unit {0}
   Enters None (Some b) ds es = ⊥
   Enters (Some b) None ds es = ⊥
-  Enters (Some b) (Some b') ds es = (b'.operations ≡ placed c.places c.swap b.operations) × c.Own b.operations × ((env env' : Environment) → c.Env env env' → EnvsTied c.Env (bind env b.arguments ds) (bind env' b'.arguments es))
+  Enters (Some b) (Some b') ds es = (b'.operations ≡ placed_all c.places c.swap b.operations) × c.Own b.operations × ((env env' : Environment) → c.Env env env' → EnvsTied c.Env (bind env b.arguments ds) (bind env' b'.arguments es))
 
   enters : (b b' : Option Block) (ds es : List Datum) → Enters b b' ds es → EntersTied ties b b' ds es
   enters None None ds es e = tt
@@ -124,11 +124,11 @@ module _ (m : Meaning) (t t' : Tree) (c : Comparison) where
   left s s' = taken c.places s.rest
 
   module _ (h : Substitutes) where
-    acts : (s s' : State) → Tied ties s s' → (k : ℕ) (rest rest' : List ℕ) → s.rest ≡ k ∷ rest → rest' ≡ placed c.places c.swap rest → c.places k ≡ None → (o o' : Operation) → op_at t k ≡ Some o → op_at t' (c.swap k) ≡ Some o' → (first first' : List Datum) → ActsAlike k o o' first first' → (later : Bool) (input : List Datum) → Comes m.act (shape_of m t o) first later s.memo input → (b : Move) → MovesAlike (c.visits k) (c.gotos k) (m.act (shape_of m t o) s.memo input) b → NextAlike (Tied ties) (perform t s o k rest (m.act (shape_of m t o) s.memo input)) (perform t' s' o' (c.swap k) rest' b)
+    acts : (s s' : State) → Tied ties s s' → (k : ℕ) (rest rest' : List ℕ) → s.rest ≡ k ∷ rest → rest' ≡ placed_all c.places c.swap rest → c.places k ≡ None → (o o' : Operation) → op_at t k ≡ Some o → op_at t' (c.swap k) ≡ Some o' → (first first' : List Datum) → ActsAlike k o o' first first' → (later : Bool) (input : List Datum) → Comes m.act (shape_of m t o) first later s.memo input → (b : Move) → MovesAlike (c.visits k) (c.gotos k) (m.act (shape_of m t o) s.memo input) b → NextAlike (Tied ties) (perform t s o k rest (m.act (shape_of m t o) s.memo input)) (perform t' s' o' (c.swap k) rest' b)
     acts s s' r k rest rest' e q l o o' oe oe' first first' alike later input comes b same =
         alike_tied ties t t' s s' r k (c.swap k) rest rest' o o' (c.visits k) (c.gotos k) (m.act (shape_of m t o) s.memo input) b same (record {
           after = (q, fresh rest, own);
-          wait = λ i ds memo f. (ap (λ z. c.swap k ∷ z) q ∙ ap (λ z. put c.swap z k (placed c.places c.swap rest)) (sym l), (l, λ answer. GoesOn o o' oe oe' first first' alike (Answered i ds memo answer comes f)), subst c.Own e r.place.2);
+          wait = λ i ds memo f. (ap (λ z. c.swap k ∷ z) q ∙ ap (λ z. put_one c.swap z k (placed_all c.places c.swap rest)) (sym l), (l, λ answer. GoesOn o o' oe oe' first first' alike (Answered i ds memo answer comes f)), subst c.Own e r.place.2);
           told = λ x memo answer f. (r.place.0, told memo answer (GoesOn o o' oe oe' first first' alike (Told x memo answer comes f)), r.place.2);
           results = λ env env' ds tied. h.results k o o' l oe oe' env env' ds tied;
           entries = λ i ds es v. enters _ _ ds es (h.entries k o o' l oe oe' i ds es v);
@@ -141,7 +141,7 @@ module _ (m : Meaning) (t t' : Tree) (c : Comparison) where
         told : (memo answer : Datum) → Begun k memo (answer ∷ []) → PlaceAt s.rest memo (Some (answer ∷ []))
         told memo answer g = subst (λ z. PlaceAt z memo (Some (answer ∷ []))) (sym e) (subst (λ z. HeadAt z k memo (Some (answer ∷ []))) (sym l) g)
 
-    turn_stays : (s s' : State) → Tied ties s s' → (k : ℕ) (rest rest' : List ℕ) → s.rest ≡ k ∷ rest → rest' ≡ placed c.places c.swap rest → c.places k ≡ None → (o o' : Operation) → op_at t k ≡ Some o → op_at t' (c.swap k) ≡ Some o' → (s.answer ≡ None → FirstAlike k o o' (data_of s.environment o.operands) (data_of s'.environment o'.operands)) → NextAlike (Tied ties) (turn m t s k rest (Some o)) (turn m t' s' (c.swap k) rest' (Some o'))
+    turn_stays : (s s' : State) → Tied ties s s' → (k : ℕ) (rest rest' : List ℕ) → s.rest ≡ k ∷ rest → rest' ≡ placed_all c.places c.swap rest → c.places k ≡ None → (o o' : Operation) → op_at t k ≡ Some o → op_at t' (c.swap k) ≡ Some o' → (s.answer ≡ None → FirstAlike k o o' (data_of s.environment o.operands) (data_of s'.environment o'.operands)) → NextAlike (Tied ties) (turn m t s k rest (Some o)) (turn m t' s' (c.swap k) rest' (Some o'))
     turn_stays s s' r k rest rest' e q l o o' oe oe' reads = go s.answer refl (subst (λ z. HeadAt z k s.memo s.answer) l (subst (λ z. PlaceAt z s.memo s.answer) e r.place.1))
       where
         same_op : (a b : Operation) (u : Tree) (j : ℕ) → op_at u j ≡ Some a → op_at u j ≡ Some b → a ≡ b
@@ -169,7 +169,7 @@ module _ (m : Meaning) (t t' : Tree) (c : Comparison) where
         go (Some input) f a = subst (λ z. NextAlike (Tied ties) (move m t s o k rest (input_of s.environment o.operands z)) (move m t' s' o' (c.swap k) rest' (input_of s'.environment o'.operands s'.answer))) (sym f) (subst (λ z. NextAlike (Tied ties) (move m t s o k rest (Some input)) (move m t' s' o' (c.swap k) rest' (input_of s'.environment o'.operands z))) (sym f ∙ r.answer) (on input a))
 
     module _ (I J : State → Type 0) (reads : Reads I J) (skips : Skips I) where
-      step_stays : (s s' : State) → I s → J s' → Tied ties s s' → (k : ℕ) (rest rest' : List ℕ) → s.rest ≡ k ∷ rest → rest' ≡ placed c.places c.swap rest → c.places k ≡ None → (o : Option Operation) → op_at t k ≡ o → NextAlike (Tied ties) (turn m t s k rest o) (turn m t' s' (c.swap k) rest' (op_at t' (c.swap k)))
+      step_stays : (s s' : State) → I s → J s' → Tied ties s s' → (k : ℕ) (rest rest' : List ℕ) → s.rest ≡ k ∷ rest → rest' ≡ placed_all c.places c.swap rest → c.places k ≡ None → (o : Option Operation) → op_at t k ≡ o → NextAlike (Tied ties) (turn m t s k rest o) (turn m t' s' (c.swap k) rest' (op_at t' (c.swap k)))
       step_stays s s' i j r k rest rest' e q l None oe = subst (λ z. NextAlike (Tied ties) (turn m t s k rest None) (turn m t' s' (c.swap k) rest' z)) (sym (h.absent k l oe)) (trap_tied ties s s' r)
       step_stays s s' i j r k rest rest' e q l (Some o) oe =
           let x = h.other k o l oe in
@@ -177,14 +177,14 @@ module _ (m : Meaning) (t t' : Tree) (c : Comparison) where
 
       pace_rest : (s s' : State) → I s → J s' → Tied ties s s' → (rest : List ℕ) → s.rest ≡ rest → Pace (step m t) (step m t') (Tied ties) left s s'
       unfolding step left
-      pace_rest s s' i j r [] e = paced _ _ _ _ s s' (leave s s.waiting []) (leave s' s'.waiting []) (ap (step_at m t s) e) (ap (step_at m t' s') (r.place.0 ∙ ap (placed c.places c.swap) e)) (leave_tied ties s s' r s.waiting s'.waiting r.waiting [])
+      pace_rest s s' i j r [] e = paced _ _ _ _ s s' (leave s s.waiting []) (leave s' s'.waiting []) (ap (step_at m t s) e) (ap (step_at m t' s') (r.place.0 ∙ ap (placed_all c.places c.swap) e)) (leave_tied ties s s' r s.waiting s'.waiting r.waiting [])
       pace_rest s s' i j r (k ∷ rest) e = by_place (c.places k) refl
         where
           by_place : (x : Option (List ℕ)) → c.places k ≡ x → Pace (step m t) (step m t') (Tied ties) left s s'
           by_place (Some l) d = let x = skips s s' i r k rest l e d in Left x.0 x.1 x.2 x.3
           by_place None l =
-              let q : s'.rest ≡ c.swap k ∷ placed c.places c.swap rest = r.place.0 ∙ ap (placed c.places c.swap) e ∙ ap (λ x. put c.swap x k (placed c.places c.swap rest)) l in
-              paced _ _ _ _ s s' (step_at m t s (k ∷ rest)) (step_at m t' s' (c.swap k ∷ placed c.places c.swap rest)) (ap (step_at m t s) e) (ap (step_at m t' s') q) (step_stays s s' i j r k rest (placed c.places c.swap rest) e refl l (op_at t k) refl)
+              let q : s'.rest ≡ c.swap k ∷ placed_all c.places c.swap rest = r.place.0 ∙ ap (placed_all c.places c.swap) e ∙ ap (λ x. put_one c.swap x k (placed_all c.places c.swap rest)) l in
+              paced _ _ _ _ s s' (step_at m t s (k ∷ rest)) (step_at m t' s' (c.swap k ∷ placed_all c.places c.swap rest)) (ap (step_at m t s) e) (ap (step_at m t' s') q) (step_stays s s' i j r k rest (placed_all c.places c.swap rest) e refl l (op_at t k) refl)
 
       -- what an agreement asks at the root and at the start
       pub record BeginsAlike (root : ℕ) : Type 0 where
@@ -207,7 +207,7 @@ module _ (m : Meaning) (t t' : Tree) (c : Comparison) where
           environment = b.empty;
           memo = refl;
           answer = refl;
-          place = (ap (λ x. x ∷ []) (sym b.same) ∙ sym (ap (λ x. put c.swap x root []) b.stays), subst (λ z. HeadAt z root Empty (Some inputs)) (sym b.stays) (b.alike inputs), b.own);
+          place = (ap (λ x. x ∷ []) (sym b.same) ∙ sym (ap (λ x. put_one c.swap x root []) b.stays), subst (λ z. HeadAt z root Empty (Some inputs)) (sym b.stays) (b.alike inputs), b.own);
           waiting = tt;
           world = refl;
           effects = refl;

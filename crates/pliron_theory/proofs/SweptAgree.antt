@@ -20,7 +20,7 @@ use Rattle.pliron_theory.proofs.Lockstep.{Tied, EnvsTied}
 use Rattle.pliron_theory.proofs.Bound.{IsOnWay, IsReady, ready, way_kept, way_start}
 use Rattle.pliron_laws.proofs.Records.{op_shows, block_shows, entry_shows, operation_of, make_op}
 use Rattle.pliron_theory.proofs.Alike.{alike_refl, SameBut, bind_same, data_same, data_long}
-use Rattle.pliron_theory.proofs.Substitute.{put, placed, taken, one_if, Comparison, Begun, Starts, HeadAt, PlaceAt, fresh, ties, Enters, Substitutes, FirstAlike, Reads, Skips, BeginsAlike, substituted_agree, substituted_reached}
+use Rattle.pliron_theory.proofs.Substitute.{put_one, placed_all, taken, one_if, Comparison, Begun, Starts, HeadAt, PlaceAt, fresh, ties, Enters, Substitutes, FirstAlike, Reads, Skips, BeginsAlike, substituted_agree, substituted_reached}
 use Rattle.pliron_theory.proofs.SweptLists.{place_if, placed_swept}
 use Rattle.pliron_theory.proofs.SweptRecords.{SweptBlock, op_same, block_is_swept, entry_is_swept, shape_swept}
 
@@ -164,7 +164,7 @@ module _ (m : Meaning) (t t' : Tree) (dead dead_block : ℕ → Bool) (w : IsTre
           environment = bg.2;
           memo = sym fr.0 ∙ r.memo;
           answer = sym fr.1 ∙ r.answer;
-          place = (r.place.0 ∙ ap (placed (λ z. place_if (dead z)) (λ z. z)) e ∙ ap (λ x. put (λ z. z) (place_if x) k (placed (λ z. place_if (dead z)) (λ z. z) rest)) d, fresh m t t' comparison rest, live_rest k rest (subst IsLiveRest e r.place.2));
+          place = (r.place.0 ∙ ap (placed_all (λ z. place_if (dead z)) (λ z. z)) e ∙ ap (λ x. put_one (λ z. z) (place_if x) k (placed_all (λ z. place_if (dead z)) (λ z. z) rest)) d, fresh m t t' comparison rest, live_rest k rest (subst IsLiveRest e r.place.2));
           waiting = rw y.waits at r.waiting;
           world = r.world;
           effects = r.effects;

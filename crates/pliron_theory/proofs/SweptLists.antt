@@ -4,7 +4,7 @@ use Rattle.pliron_core.specs.Lists.{In, first_of, last_of}
 use Rattle.pliron_core.proofs.LastLemmas.{last_front}
 use Rattle.pliron_core.proofs.RowLemmas.{last_of-append}
 use Rattle.pliron_theory.specs.Sweeping.{keep, swept}
-use Rattle.pliron_theory.proofs.Substitute.{put, placed}
+use Rattle.pliron_theory.proofs.Substitute.{put_one, placed_all}
 
 abbrev pub place_if : Bool → Option (List ℕ)
 place_if true = Some []
@@ -72,10 +72,10 @@ module _ (dead : ℕ → Bool) where
   swept_all (x ∷ xs) f = ap (λ b. keep b x (swept dead xs)) (f x (inl refl)) ∙ ap (λ l. x ∷ l) (swept_all xs (λ k i. f k (inr i)))
 
   -- the same as places that nothing takes
-  pub placed_swept : (ks : List ℕ) → placed (λ k. place_if (dead k)) (λ k. k) ks ≡ swept dead ks
+  pub placed_swept : (ks : List ℕ) → placed_all (λ k. place_if (dead k)) (λ k. k) ks ≡ swept dead ks
   placed_swept [] = refl
   placed_swept (k ∷ ks) = go (dead k) (placed_swept ks)
     where
-      go : (b : Bool) → placed (λ k. place_if (dead k)) (λ k. k) ks ≡ swept dead ks → put (λ k. k) (place_if b) k (placed (λ k. place_if (dead k)) (λ k. k) ks) ≡ keep b k (swept dead ks)
+      go : (b : Bool) → placed_all (λ k. place_if (dead k)) (λ k. k) ks ≡ swept dead ks → put_one (λ k. k) (place_if b) k (placed_all (λ k. place_if (dead k)) (λ k. k) ks) ≡ keep b k (swept dead ks)
       go true e = e
       go false e = ap (λ l. k ∷ l) e

@@ -3,7 +3,7 @@ use Rattle.std.specs.Prelude.{◌≡◌, ◌⊎◌, ◌+◌, ℕ, List, length}
 use Rattle.pliron_core.specs.Lists.{In, IsDistinct}
 
 -- these regions are seen too, and those that are seen for the first time wait
-pub record Grew (regions seen waiting seen' waiting' : List ℕ) : Type 0 where
+pub record HasGrown (regions seen waiting seen' waiting' : List ℕ) : Type 0 where
   pub kept : (r : ℕ) → In r seen → In r seen'
   pub only : (r : ℕ) → In r seen' → In r seen ⊎ In r regions
   pub all : (r : ℕ) → In r regions → In r seen'

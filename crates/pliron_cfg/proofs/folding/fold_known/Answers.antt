@@ -7,14 +7,14 @@ use Rattle.pliron_core.proofs.UsedLemmas.{length_map}
 use Rattle.pliron_theory.proofs.Answered.{answered}
 use Rattle.pliron_theory.proofs.FoldedBranches.{branch_folds, branch_links, branch_outcomes}
 use Rattle.pliron_cfg.specs.Folded.{known_of}
-use Rattle.pliron_cfg.proofs.FoldLemmas.{placed, either, told, step}
+use Rattle.pliron_cfg.proofs.FoldLemmas.{stands_in_block, either, told, step}
 use Rattle.pliron_cfg.proofs.folding.fold_known.Goals as goal
 
 pub fold_in_place-done-requires-clause-live : goal.fold_in_place-done-requires-clause-live
 fold_in_place-done-requires-clause-live g c = inside_live c.args.ctx.now.tree c.well_formed-2.ensures.tree c.requires.branch.0 c.args.op c.requires.branch.2.0
 
 pub fold_in_place-done-requires-clause-placed : goal.fold_in_place-done-requires-clause-placed
-fold_in_place-done-requires-clause-placed g c = placed c.args.ctx.now.tree c.requires.branch.0 c.args.op c.requires.branch.2.0
+fold_in_place-done-requires-clause-placed g c = stands_in_block c.args.ctx.now.tree c.requires.branch.0 c.args.op c.requires.branch.2.0
 
 pub fold_in_place-done-requires-clause-folds : goal.fold_in_place-done-requires-clause-folds
 fold_in_place-done-requires-clause-folds g c = c.requires.branch.2.1

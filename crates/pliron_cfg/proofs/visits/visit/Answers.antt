@@ -4,7 +4,7 @@ use Rattle.pliron_core.specs.Reads.{has_ssa}
 use Rattle.pliron_core.proofs.ListLemmas.{In-right}
 use Rattle.pliron_search.specs.Regions.{IsLawfulRegion}
 use Rattle.pliron_cfg.specs.Visited.{IsLookedIntoIf}
-use Rattle.pliron_cfg.specs.Internal.Seen.{Grew}
+use Rattle.pliron_cfg.specs.Internal.Seen.{HasGrown}
 use Rattle.pliron_cfg.proofs.Lawful.{visited_lawful, entered_stands, seen_few, fewer_left}
 use Rattle.pliron_cfg.proofs.Visiting.{IsVisiting, nested_in, visiting_starts, visiting_searched, visiting_other, visits_found}
 use Rattle.pliron_cfg.proofs.visits.visit.Goals as goal
@@ -12,9 +12,9 @@ use Rattle.pliron_cfg.proofs.visits.visit.Goals.{then-has_ssa_dominance+in_ok-pu
 
 pub loop-region-init : goal.loop-region-init
 loop-region-init c =
-    let grew : Grew c.args.starts.now [] [] c.push_new.new.seen.keys c.push_new.new.waiting.items =
-    subst (λ z. Grew c.args.starts.now [] z c.push_new.new.seen.keys c.push_new.new.waiting.items) c.new-waiting.ensures.items
-    (subst (λ z. Grew c.args.starts.now z c.new-waiting.result.items c.push_new.new.seen.keys c.push_new.new.waiting.items) c.new-seen.ensures.empty c.in_ok-push_new.ensures.grew) in
+    let grew : HasGrown c.args.starts.now [] [] c.push_new.new.seen.keys c.push_new.new.waiting.items =
+    subst (λ z. HasGrown c.args.starts.now [] z c.push_new.new.seen.keys c.push_new.new.waiting.items) c.new-waiting.ensures.items
+    (subst (λ z. HasGrown c.args.starts.now z c.new-waiting.result.items c.push_new.new.seen.keys c.push_new.new.waiting.items) c.new-seen.ensures.empty c.in_ok-push_new.ensures.grew) in
     rw (c.new-regions.ensures.items, c.new-blocks.ensures.items) (visiting_starts c.args.ctx.now.tree c.args.starts.now c.push_new.new.seen.keys c.push_new.new.waiting.items grew)
 
 pub entered_blocks-requires : goal.entered_blocks-requires
@@ -46,8 +46,8 @@ loop-region-preserved c =
     let h : IsVisiting t Start c.loop-region.seen.keys (c.pop.new.self.items ++ r ∷ []) c.loop-region.regions.items c.loop-region.blocks.items =
     subst (λ z. IsVisiting t Start c.loop-region.seen.keys z c.loop-region.regions.items c.loop-region.blocks.items) e c.loop-region.invariant in
     let same : c.deref-in-Some.result.now ≡ nested_in t entered = c.deref-in-Some.ensures.value ∙ c.in_ok-nested.ensures.items ∙ ap (nested_in t) c.deref.ensures.value in
-    let g : Grew (nested_in t entered) c.loop-region.seen.keys c.pop.new.self.items c.push_new-in-Some.new.seen.keys c.push_new-in-Some.new.waiting.items =
-    subst (λ z. Grew z c.loop-region.seen.keys c.pop.new.self.items c.push_new-in-Some.new.seen.keys c.push_new-in-Some.new.waiting.items) same c.in_ok-push_new-2.ensures.grew in
+    let g : HasGrown (nested_in t entered) c.loop-region.seen.keys c.pop.new.self.items c.push_new-in-Some.new.seen.keys c.push_new-in-Some.new.waiting.items =
+    subst (λ z. HasGrown z c.loop-region.seen.keys c.pop.new.self.items c.push_new-in-Some.new.seen.keys c.push_new-in-Some.new.waiting.items) same c.in_ok-push_new-2.ensures.grew in
     let sound = λ (b : ℕ). (c.in_ok-entered.ensures.entered b).0 in
     let complete = λ (b : ℕ). (c.in_ok-entered.ensures.entered b).1 in
     elim c.if-has_ssa_dominance.branch [

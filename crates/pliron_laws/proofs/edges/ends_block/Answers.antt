@@ -2,7 +2,7 @@ use Rattle.std.proofs.Common.{◌<◌, length, sym, arith}
 use Rattle.pliron_core.specs.Tree.{successors_of}
 use Rattle.pliron_laws.specs.EdgeChecks.{EndsBlockIf}
 use Rattle.pliron_laws.proofs.AnswerLemmas.{no, refuted}
-use Rattle.pliron_laws.proofs.EdgeLastLemmas.{last_in, own_successors, placed}
+use Rattle.pliron_laws.proofs.EdgeLastLemmas.{last_in, own_successors, is_placed}
 use Rattle.pliron_laws.proofs.edges.ends_block.Goals as goal
 
 pub returns-then-is_last : goal.returns-then-is_last
@@ -26,4 +26,4 @@ pub returns-in-None : goal.returns-in-None
 returns-in-None c =
     let t = c.args.ctx.now.tree in
     let some : 0 < length (successors_of t c.args.op) = omega arith in
-    no (EndsBlockIf t c.args.op) (placed t c.args.op (sym c.in-None.ensures.block) some)
+    no (EndsBlockIf t c.args.op) (is_placed t c.args.op (sym c.in-None.ensures.block) some)
