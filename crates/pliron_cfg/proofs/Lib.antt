@@ -6,7 +6,6 @@ pub mod Lawful
 pub mod Tested
 pub mod KnownLemmas
 pub mod FoldLemmas
-pub mod CopiedLists
 pub mod CheckLemmas
 pub mod DropSteps
 pub mod EraseSteps

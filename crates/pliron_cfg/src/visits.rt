@@ -16,6 +16,7 @@ use crate::visits::last_first::LastFirst;
 use indexmap::IndexSet;
 use pliron_core::{BasicBlock, Context, Operation, Ptr, Region};
 use pliron_laws::OptError;
+use pliron_laws::reads::all_operations;
 use pliron_search::DFSTraversal;
 use std::alloc::{AllocError, Global};
 
@@ -25,27 +26,6 @@ use std::alloc::{AllocError, Global};
 pub struct Visits {
     pub regions: Vec<Ptr<Region>>,
     pub blocks: Vec<Ptr<BasicBlock>>,
-}
-
-/// The operations of a block, in order. Asks that the block stands (`is_live` tests it). Errors: want of
-/// memory. Cost: linear in them.
-pub fn operations_of(
-    alloc: Global,
-    ctx: &Context,
-    block: Ptr<BasicBlock>,
-) -> Result<Vec<Ptr<Operation>>, OptError>
-    requires { IsBlock ctx.now.tree block }
-    ensures items { IfOk result (λ ops. ops.items ≡ body_of ctx.now.tree block) }
-    ensures memory { IsOkUnless result OptError.Memory }
-{
-    ctx.well_formed();
-    let mut ops = Vec::new(alloc);
-    let mut at = block.get_head(ctx);
-    while let Some(op) = at {
-        ops.push(op)?;
-        at = op.get_next(ctx);
-    }
-    Ok(ops)
 }
 
 // Adds the regions of the operation.
@@ -76,7 +56,7 @@ fn push_nested(
     ensures memory { IsOkUnless result OptError.Memory }
 {
     ctx.well_formed();
-    let ops = operations_of(alloc, ctx, block)?;
+    let ops = all_operations(alloc, block, ctx)?;
     for op in &ops {
         push_regions(ctx, *op, regions)?;
     }

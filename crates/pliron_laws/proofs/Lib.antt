@@ -10,3 +10,5 @@ pub mod LinkedLemmas
 pub mod BodyLemmas
 pub mod RisingLemmas
 pub mod BindingLemmas
+pub mod CopiedLists
+pub mod MappedLists

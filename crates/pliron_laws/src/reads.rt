@@ -1,8 +1,9 @@
 //! What is read of an operation or a block as a whole list.
-ghost use Rattle.std.specs.Prelude.{◌≡◌, None, Some, IfOk, IfSome, IfNone, slice_get};
-ghost use Rattle.pliron_core.specs.Tree.{IsLive, IsBlock, operands_of, results_of, arguments_of, body_of};
+ghost use Rattle.std.specs.Prelude.{◌≡◌, ◌++◌, None, Some, IfOk, OnOk, IfSome, IfNone, slice_get};
+ghost use Rattle.std.specs.List.{flat_map};
+ghost use Rattle.pliron_core.specs.Tree.{IsLive, IsBlock, IsRegion, operands_of, results_of, arguments_of, body_of, layout_of, regions_of};
 
-use pliron_core::{BasicBlock, Context, Operation, Ptr, Value};
+use pliron_core::{BasicBlock, Context, Operation, Ptr, Region, Value};
 use std::alloc::{AllocError, Global};
 
 /// The operands of the operation, in order. Asks that the operation stands (`is_live` tests it). Errors: want
@@ -74,4 +75,39 @@ pub fn all_operations(
         at = op.get_next(ctx);
     }
     Ok(operations)
+}
+
+/// Adds the blocks of the region, in order. Asks that the region stands (`is_live` tests it). Errors: want of
+/// memory. Cost: linear in them.
+pub fn push_layout(
+    region: Ptr<Region>,
+    ctx: &Context,
+    blocks: &mut Vec<Ptr<BasicBlock>>,
+) -> Result<(), AllocError>
+    requires { IsRegion ctx.now.tree region }
+    ensures { OnOk result (blocks.new.items ≡ blocks.old.items ++ layout_of ctx.now.tree region) }
+{
+    ctx.well_formed();
+    let mut at = region.get_head(ctx);
+    while let Some(block) = at {
+        blocks.push(block)?;
+        at = block.get_next(ctx);
+    }
+    Ok(())
+}
+
+/// Adds the blocks of the operation's regions, in order. Asks that the operation stands (`is_live` tests it).
+/// Errors: want of memory. Cost: linear in them.
+pub fn push_layouts(
+    op: Ptr<Operation>,
+    ctx: &Context,
+    blocks: &mut Vec<Ptr<BasicBlock>>,
+) -> Result<(), AllocError>
+    requires { IsLive ctx.now.tree op }
+    ensures { OnOk result (blocks.new.items ≡ blocks.old.items ++ flat_map (λ r. layout_of ctx.now.tree r) (regions_of ctx.now.tree op)) }
+{
+    for i in 0..op.num_region(ctx) {
+        push_layout(op.get_region(ctx, i), ctx, blocks)?;
+    }
+    Ok(())
 }

@@ -5,10 +5,10 @@ ghost use Rattle.pliron_core.specs.Tree.{In, IsDistinct, IsLive, IsBlock, IsRegi
 ghost use Rattle.pliron_core.specs.Walks.{preorder};
 ghost use Rattle.pliron_cfg.specs.Internal.Contents.{contents_of, contents_in, blocks_directly_in, values_made_by};
 
-use crate::visits::operations_of;
 use indexmap::IndexSet;
 use pliron_core::{BasicBlock, Context, Operation, Ptr, Region, Value};
 use pliron_laws::OptError;
+use pliron_laws::reads::{all_operations, push_layout, push_layouts};
 use std::alloc::Global;
 
 // Adds the operation and its contents.
@@ -42,7 +42,7 @@ fn push_block_contents(
     ensures memory { IsOkUnless result OptError.Memory }
 {
     ctx.well_formed();
-    let direct = operations_of(alloc, ctx, block)?;
+    let direct = all_operations(alloc, block, ctx)?;
     for op in &direct {
         push_contents(ctx, *op, ops)?;
     }
@@ -66,41 +66,6 @@ pub(crate) fn operations_in(
     Ok(ops)
 }
 
-// Adds the blocks of the region.
-pub(crate) fn push_layout(
-    ctx: &Context,
-    region: Ptr<Region>,
-    blocks: &mut Vec<Ptr<BasicBlock>>,
-) -> Result<(), OptError>
-    requires { IsRegion ctx.now.tree region }
-    ensures items { OnOk result (blocks.new.items ≡ blocks.old.items ++ layout_of ctx.now.tree region) }
-    ensures memory { IsOkUnless result OptError.Memory }
-{
-    ctx.well_formed();
-    let mut at = region.get_head(ctx);
-    while let Some(block) = at {
-        blocks.push(block)?;
-        at = block.get_next(ctx);
-    }
-    Ok(())
-}
-
-// Adds the blocks directly in the operation.
-fn push_blocks_below(
-    ctx: &Context,
-    op: Ptr<Operation>,
-    blocks: &mut Vec<Ptr<BasicBlock>>,
-) -> Result<(), OptError>
-    requires { IsLive ctx.now.tree op }
-    ensures items { OnOk result (blocks.new.items ≡ blocks.old.items ++ blocks_directly_in ctx.now.tree op) }
-    ensures memory { IsOkUnless result OptError.Memory }
-{
-    for i in 0..op.num_region(ctx) {
-        push_layout(ctx, op.get_region(ctx, i), blocks)?;
-    }
-    Ok(())
-}
-
 // Adds the blocks directly in these operations.
 pub(crate) fn push_inner_blocks(
     ctx: &Context,
@@ -112,7 +77,7 @@ pub(crate) fn push_inner_blocks(
     ensures memory { IsOkUnless result OptError.Memory }
 {
     for op in ops {
-        push_blocks_below(ctx, *op, blocks)?;
+        push_layouts(*op, ctx, blocks)?;
     }
     Ok(())
 }
@@ -196,7 +161,7 @@ pub(crate) fn blocks_left(
 {
     ctx.well_formed();
     let mut all = Vec::new(alloc);
-    push_layout(ctx, region, &mut all)?;
+    push_layout(region, ctx, &mut all)?;
     let mut left = Vec::new(alloc);
     for block in &all {
         if !reached.contains(block) {

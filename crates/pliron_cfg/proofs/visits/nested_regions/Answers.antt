@@ -1,7 +1,8 @@
 use Rattle.std.proofs.Common.{[]}
 use Rattle.std.specs.List.{flat_map}
 use Rattle.pliron_core.specs.Tree.{regions_of, body_of}
-use Rattle.pliron_cfg.proofs.ListLemmas.{mapped_more, item_in}
+use Rattle.pliron_cfg.proofs.ListLemmas.{item_in}
+use Rattle.pliron_laws.proofs.MappedLists.{mapped_more}
 use Rattle.pliron_cfg.proofs.visits.nested_regions.Goals as goal
 
 pub push_nested-requires : goal.push_nested-requires

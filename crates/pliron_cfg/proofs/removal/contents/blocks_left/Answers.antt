@@ -14,7 +14,7 @@ loop-block-preserved c =
     let x = c.block-item.result in
     let keys = c.args.reached.now.keys in
     let t = c.args.ctx.now.tree in
-    let same : all ≡ layout_of t c.args.region = c.deref-block-items.ensures.value ∙ c.in_ok-push_layout.ensures.items ∙ ap (λ z. z ++ layout_of t c.args.region) c.new-all.ensures.items in
+    let same : all ≡ layout_of t c.args.region = c.deref-block-items.ensures.value ∙ c.in_ok-push_layout.ensures ∙ ap (λ z. z ++ layout_of t c.args.region) c.new-all.ensures.items in
     let d : IsDistinct all = subst IsDistinct (sym same) (c.well_formed-2.ensures.tree.layouts.distinct c.args.region) in
     let more : take (i + 1) all ≡ take i all ++ x ∷ [] = take_more all i x c.loop-block-test.true ∙ ap (λ z. take i all ++ z ∷ []) (sym c.block-item.is) in
     let fresh = fresh_at all i x d c.loop-block-test.true c.block-item.is in
@@ -31,6 +31,6 @@ pub returns-clause-members : goal.returns-clause-members
 returns-clause-members c =
     let t = c.args.ctx.now.tree in
     let all = c.deref-block-items.result.now in
-    let same : all ≡ layout_of t c.args.region = c.deref-block-items.ensures.value ∙ c.in_ok-push_layout.ensures.items ∙ ap (λ z. z ++ layout_of t c.args.region) c.new-all.ensures.items in
+    let same : all ≡ layout_of t c.args.region = c.deref-block-items.ensures.value ∙ c.in_ok-push_layout.ensures ∙ ap (λ z. z ++ layout_of t c.args.region) c.new-all.ensures.items in
     let whole : length all ≤ c.loop-block.block-index = omega (arith, c.loop-block-test.false) in
     (subst (λ z. AreLeft z c.args.reached.now.keys c.loop-block.left.items) (take_all c.loop-block.block-index all whole ∙ same) c.loop-block.invariant).members

@@ -1,5 +1,6 @@
 use Rattle.std.proofs.Common.{[]}
-use Rattle.pliron_cfg.proofs.ListLemmas.{mapped_more, item_in}
+use Rattle.pliron_cfg.proofs.ListLemmas.{item_in}
+use Rattle.pliron_laws.proofs.MappedLists.{mapped_more}
 use Rattle.pliron_cfg.specs.Internal.Contents.{contents_of}
 use Rattle.pliron_cfg.proofs.removal.contents.operations_in.Goals as goal
 

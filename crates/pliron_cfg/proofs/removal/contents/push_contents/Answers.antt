@@ -4,7 +4,7 @@ use Rattle.pliron_core.specs.Walks.{preorder}
 use Rattle.pliron_core.specs.WalkSteps.{rest_from}
 use Rattle.pliron_core.proofs.WalkStepLemmas.{next_inside}
 use Rattle.pliron_laws.proofs.EdgeLastLemmas.{walk_smaller}
-use Rattle.pliron_cfg.proofs.CopiedLists.{copied_first, copied_all, contents_next}
+use Rattle.pliron_laws.proofs.CopiedLists.{copied_first, copied_all, contents_next}
 use Rattle.pliron_cfg.proofs.removal.contents.push_contents.Goals as goal
 
 pub loop-at-init : goal.loop-at-init

@@ -1,7 +1,8 @@
 use Rattle.std.proofs.Common.{◌≤◌, [], length, sym, ◌∙◌, arith, append-nil}
 use Rattle.std.specs.List.{flat_map}
 use Rattle.pliron_core.specs.Tree.{results_of, arguments_of}
-use Rattle.pliron_cfg.proofs.ListLemmas.{mapped_more, mapped_all, item_in}
+use Rattle.pliron_cfg.proofs.ListLemmas.{item_in}
+use Rattle.pliron_laws.proofs.MappedLists.{mapped_more, mapped_all}
 use Rattle.pliron_cfg.proofs.removal.contents.values_made.Goals as goal
 
 pub push_results-requires : goal.push_results-requires

@@ -3,8 +3,8 @@ use Rattle.pliron_core.specs.Tree.{layout_of}
 use Rattle.pliron_core.specs.WalkSteps.{rest_from}
 use Rattle.pliron_core.proofs.ContainedLemmas.{next_in_layout}
 use Rattle.pliron_laws.proofs.EdgeLastLemmas.{layout_first, layout_placed, layout_smaller}
-use Rattle.pliron_cfg.proofs.CopiedLists.{copied_first, copied_next, copied_all}
-use Rattle.pliron_cfg.proofs.removal.contents.push_layout.Goals as goal
+use Rattle.pliron_laws.proofs.CopiedLists.{copied_first, copied_next, copied_all}
+use Rattle.pliron_laws.proofs.reads.push_layout.Goals as goal
 
 pub loop-at-init : goal.loop-at-init
 loop-at-init c =
@@ -34,5 +34,5 @@ loop-at-preserved c =
           (subst (λ o. c.loop-at.blocks.items ++ rest_from o (layout_of t r) ≡ c.args.blocks.now.items ++ layout_of t r) c.in-Some.is c.loop-at.invariant.split) c.in_ok-push.ensures.items;
     }
 
-pub returns-clause-items : goal.returns-clause-items
-returns-clause-items c = copied_all (layout_of c.args.ctx.now.tree c.args.region) c.args.blocks.now.items c.loop-at.blocks.items c.loop-at.at c.in_default.is c.loop-at.invariant.split
+pub returns : goal.returns
+returns c = copied_all (layout_of c.args.ctx.now.tree c.args.region) c.args.blocks.now.items c.loop-at.blocks.items c.loop-at.at c.in_default.is c.loop-at.invariant.split

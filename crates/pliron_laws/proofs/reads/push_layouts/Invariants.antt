@@ -1,7 +1,7 @@
 use Rattle.std.proofs.Common.{◌≡◌, ◌++◌, take}
 use Rattle.std.specs.List.{flat_map}
 use Rattle.pliron_core.specs.Tree.{regions_of, layout_of}
-use Rattle.pliron_cfg.proofs.removal.contents.push_blocks_below.Given as goal
+use Rattle.pliron_laws.proofs.reads.push_layouts.Given as goal
 
 abbrev pub invariant-loop-i : goal.invariant-loop-i
 invariant-loop-i l = l.blocks.items ≡ l.fn.blocks.items ++ flat_map (λ r. layout_of l.ctx.tree r) (take l.i (regions_of l.ctx.tree l.op))

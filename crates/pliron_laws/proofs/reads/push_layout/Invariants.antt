@@ -2,7 +2,7 @@ use Rattle.std.proofs.Common.{◌≡◌, ◌++◌, Some, length}
 use Rattle.std.specs.Option.{ForSome}
 use Rattle.pliron_core.specs.Tree.{layout_of, block_parent_of}
 use Rattle.pliron_core.specs.WalkSteps.{rest_from}
-use Rattle.pliron_cfg.proofs.removal.contents.push_layout.Given as goal
+use Rattle.pliron_laws.proofs.reads.push_layout.Given as goal
 
 abbrev pub invariant-loop-at : goal.invariant-loop-at
 invariant-loop-at l = record {
