@@ -18,10 +18,8 @@ use Rattle.pliron_pipeline.specs.Optimising.{RunsOptimisation, RunsOptimisation.
 use Rattle.pliron_pipeline.specs.declared.optimisation.Effect.{Effect}
 use Rattle.pliron_pipeline.specs.declared.step.Step.{Step}
 use Rattle.pliron_pipeline.specs.declared.step.Step.TheVariants.{Sccp, Dce, SimplifyCfg}
-use Rattle.pliron_pipeline.specs.declared.step.Pipeline.{Pipeline}
-use Rattle.pliron_pipeline.specs.declared.step.Pipeline.TheVariants.{Flat, Nested}
-use Rattle.pliron_pipeline.specs.declared.step.Schedule.{Schedule}
-use Rattle.pliron_pipeline.specs.declared.step.Schedule.TheVariants.{Once, Repeated}
+use Rattle.either.specs.declared.Either.{Either}
+use Rattle.either.specs.declared.Either.TheVariants.{Left, Right}
 
 both_unchanged : (c d : IRStatus) → changed_by_either c d ≡ Unchanged → (c ≡ Unchanged) × (d ≡ Unchanged)
 both_unchanged Unchanged d e = (refl, e)
@@ -101,14 +99,8 @@ step_cases Q a b c d e f g h i (SimplifyCfg p) (Sccp q) = g p q
 step_cases Q a b c d e f g h i (SimplifyCfg p) (Dce q) = h p q
 step_cases Q a b c d e f g h i (SimplifyCfg p) (SimplifyCfg q) = i p q
 
-pub pipeline_cases : {D E B K : Type 0} (Q : Pipeline D E B K → Pipeline D E B K → Type 0) → ((p : _) (q : _) → Q (Flat p) (Flat q)) → ((p : _) (q : _) → Q (Flat p) (Nested q)) → ((p : _) (q : _) → Q (Nested p) (Flat q)) → ((p : _) (q : _) → Q (Nested p) (Nested q)) → (x y : Pipeline D E B K) → Q x y
-pipeline_cases Q a b c d (Flat p) (Flat q) = a p q
-pipeline_cases Q a b c d (Flat p) (Nested q) = b p q
-pipeline_cases Q a b c d (Nested p) (Flat q) = c p q
-pipeline_cases Q a b c d (Nested p) (Nested q) = d p q
-
-pub schedule_cases : {D E B K : Type 0} (Q : Schedule D E B K → Schedule D E B K → Type 0) → ((p : _) (q : _) → Q (Once p) (Once q)) → ((p : _) (q : _) → Q (Once p) (Repeated q)) → ((p : _) (q : _) → Q (Repeated p) (Once q)) → ((p : _) (q : _) → Q (Repeated p) (Repeated q)) → (x y : Schedule D E B K) → Q x y
-schedule_cases Q a b c d (Once p) (Once q) = a p q
-schedule_cases Q a b c d (Once p) (Repeated q) = b p q
-schedule_cases Q a b c d (Repeated p) (Once q) = c p q
-schedule_cases Q a b c d (Repeated p) (Repeated q) = d p q
+pub side_cases : {A B : Type 0} (Q : Either A B → Either A B → Type 0) → ((p q : A) → Q (Left p) (Left q)) → ((p : A) (q : B) → Q (Left p) (Right q)) → ((p : B) (q : A) → Q (Right p) (Left q)) → ((p q : B) → Q (Right p) (Right q)) → (x y : Either A B) → Q x y
+side_cases Q a b c d (Left p) (Left q) = a p q
+side_cases Q a b c d (Left p) (Right q) = b p q
+side_cases Q a b c d (Right p) (Left q) = c p q
+side_cases Q a b c d (Right p) (Right q) = d p q

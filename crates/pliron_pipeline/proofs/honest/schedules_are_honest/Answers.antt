@@ -1,9 +1,9 @@
-use Rattle.pliron_pipeline.proofs.HonestLemmas.{schedule_cases, repeat_same}
+use Rattle.pliron_pipeline.proofs.HonestLemmas.{side_cases, repeat_same}
 use Rattle.pliron_pipeline.proofs.honest.schedules_are_honest.Goals as goal
 
 pub returns : goal.returns
 returns g c = record {
-  same = schedule_cases _
+  same = side_cases _
       (λ p q op s s' a. c.pipelines_are_honest.ensures.same p q op s s' a)
       (λ p q op s s' a runs e. absurd runs)
       (λ p q op s s' a runs e. absurd runs)
