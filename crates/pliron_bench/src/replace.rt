@@ -1,10 +1,9 @@
 //! A branch that becomes a jump.
-ghost use Rattle.std.specs.Prelude.{◌≡◌, ℕ, List, ◌∷◌, ◌<◌, ◌≤◌, [], Some, None, IsSome, IfErr, OnOk, OnErr, length};
+ghost use Rattle.std.specs.Prelude.{◌≡◌, ℕ, List, ◌∷◌, ◌<◌, ◌≤◌, [], Some, None, IsSome, OnOk, OnErr, length, IsOkUnless};
 ghost use Rattle.pliron_core.specs.declared.rewriter.OpInsertionPoint.TheVariants.{BeforeOperation};
 ghost use Rattle.pliron_core.specs.Tree.{In, IsLive, IsBlock, IsDefined, operands_of, successors_of, results_of, regions_of, parent_of};
 ghost use Rattle.pliron_core.specs.Insertion.{IsPointFor, inserted};
 ghost use Rattle.pliron_core.specs.Changes.{IsSameTree};
-ghost use Rattle.pliron_laws.specs.declared.fault.OptError.TheVariants.{Memory};
 ghost use Rattle.pliron_laws.specs.Tree.{Operation as OperationOf, op_at};
 ghost use Rattle.pliron_laws.specs.Replacing.{with_edges};
 ghost use Rattle.pliron_bench.specs.BenchOutcomes.{BecomesJump};
@@ -86,7 +85,7 @@ pub fn jump_in_place<R: Rewriter + Room>(
     requires point { R.point rewriter.old ≡ BeforeOperation op }
     ensures ok { OnOk result ((o : OperationOf) → op_at ctx.old.tree op ≡ Some o → BecomesJump ctx.old.tree ctx.new.tree op o edge) }
     ensures refused { OnErr result (IsSameTree ctx.old.tree ctx.new.tree) }
-    ensures err { IfErr result (λ e. e ≡ Memory) }
+    ensures memory { IsOkUnless result OptError.Memory }
     ensures longer { length ctx.old.tree.operations ≤ length ctx.new.tree.operations }
 {
     ctx.well_formed();

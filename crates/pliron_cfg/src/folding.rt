@@ -2,11 +2,10 @@
 //!
 //! It knows what every run reads of constants, and no dialect. Of the regions that are looked at, of blocks
 //! that go or are joined and of passes it knows nothing.
-ghost use Rattle.std.specs.Prelude.{◌≡◌, ◌++◌, ◌⊎◌, ℕ, Some, None, OnOk, OnErr, IfOk, IfErr};
+ghost use Rattle.std.specs.Prelude.{◌≡◌, ◌++◌, ◌⊎◌, ℕ, Some, None, OnOk, OnErr, IfOk, IsOkUnless};
 ghost use Rattle.pliron_core.specs.Tree.{IsLive, block_parent_of};
 ghost use Rattle.pliron_laws.specs.InPlace.{TellsChange};
 ghost use Rattle.pliron_laws.specs.Linked.{IsWellLinked};
-ghost use Rattle.pliron_laws.specs.declared.fault.OptError.TheVariants.{Memory};
 ghost use Rattle.pliron_theory.specs.Change.{IsPassChange};
 ghost use Rattle.pliron_cfg.specs.Folded.{branch_at, branches_of, known_operands as constants_of, FoldsAll, FoldsSome};
 ghost use Rattle.pliron_cfg.specs.FoldSteps.{IsBranchInside, IsBranchFoldStep, TellsErased};
@@ -26,7 +25,7 @@ fn add_branch<D: Dialect>(
 ) -> Result<(), OptError>
     requires { IsLive ctx.now.tree op }
     ensures ok { OnOk result (branches.new.items ≡ branches.old.items ++ branch_at D.can_fold_branch ctx.now.tree op) }
-    ensures err { IfErr result (λ e. e ≡ Memory) }
+    ensures memory { IsOkUnless result OptError.Memory }
 {
     if D::folds_branch(op, ctx) {
         branches.push(op)?;
@@ -42,7 +41,7 @@ fn branches_inside<D: Dialect>(
 ) -> Result<Vec<Ptr<Operation>>, OptError>
     requires { IsLive ctx.now.tree root }
     ensures ok { IfOk result (λ branches. branches.items ≡ branches_of D.can_fold_branch ctx.now.tree root) }
-    ensures err { IfErr result (λ e. e ≡ Memory) }
+    ensures memory { IsOkUnless result OptError.Memory }
 {
     ctx.well_formed();
     let mut branches = Vec::new(alloc);
@@ -68,7 +67,7 @@ fn fold_known<D: Dialect, R: Rewriter + Room>(
         (constants_of D.meaning D.can_fold D.constants ctx.old.tree op) (Some status)) }
     ensures refused { OnErr result (D.BranchOpFoldInterface.outcome ctx.old.tree ctx.new.tree op
         (constants_of D.meaning D.can_fold D.constants ctx.old.tree op) None) }
-    ensures err { IfErr result (λ e. e ≡ Memory) }
+    ensures memory { IsOkUnless result OptError.Memory }
     ensures told { IfOk result (λ status. TellsErased status ctx.old.tree ctx.new.tree) }
     ensures step { (root : ℕ) → IsWellLinked D.meaning ctx.old.tree root → IsBranchInside D.can_fold_branch ctx.old.tree root op →
         IsBranchFoldStep D.meaning D.can_fold_branch ctx.old.tree ctx.new.tree root op }
@@ -92,7 +91,7 @@ fn fold_one<D: Dialect, R: Rewriter + Room>(
         (constants_of D.meaning D.can_fold D.constants ctx.old.tree op) (Some status)) }
     ensures refused { OnErr result ((ctx.new.tree ≡ ctx.old.tree) ⊎ D.BranchOpFoldInterface.outcome ctx.old.tree ctx.new.tree op
         (constants_of D.meaning D.can_fold D.constants ctx.old.tree op) None) }
-    ensures err { IfErr result (λ e. e ≡ Memory) }
+    ensures memory { IsOkUnless result OptError.Memory }
     ensures told { IfOk result (λ status. TellsErased status ctx.old.tree ctx.new.tree) }
     ensures step { (root : ℕ) → IsWellLinked D.meaning ctx.old.tree root → IsBranchInside D.can_fold_branch ctx.old.tree root op →
         IsBranchFoldStep D.meaning D.can_fold_branch ctx.old.tree ctx.new.tree root op }
@@ -128,7 +127,7 @@ pub fn fold_branches<D: Dialect, R: Rewriter + Room>(
     ensures blocks { OnOk result ((b : ℕ) → block_parent_of ctx.new.tree b ≡ block_parent_of ctx.old.tree b) }
     ensures refused { OnErr result (FoldsSome D.meaning D.can_fold D.constants D.BranchOpFoldInterface.outcome
         (branches_of D.can_fold_branch ctx.old.tree root) ctx.old.tree ctx.new.tree) }
-    ensures err { IfErr result (λ e. e ≡ Memory) }
+    ensures memory { IsOkUnless result OptError.Memory }
     ensures change { IsPassChange D.meaning ctx.old.tree ctx.new.tree root }
     ensures links { (r : ℕ) → IsLive ctx.old.tree r → IsWellLinked D.meaning ctx.old.tree r → IsLive ctx.new.tree r → IsWellLinked D.meaning ctx.new.tree r }
 {

@@ -6,9 +6,8 @@
 //!
 //! It knows the regions that are looked at, and the rewrites of blocks. Of branches that fold, of blocks that
 //! nothing leads to, of passes and of any dialect it knows nothing.
-ghost use Rattle.std.specs.Prelude.{◌≡◌, ◌∷◌, [], ℕ, Some, IfOk, OnOk, OnErr, IfErr};
+ghost use Rattle.std.specs.Prelude.{◌≡◌, ◌∷◌, [], ℕ, Some, IfOk, OnOk, OnErr, IsOkUnless};
 ghost use Rattle.pliron_core.specs.Tree.{In, IsBlock, IsLive, IsRegion, IsWithin, block_holder_of, region_parent_of};
-ghost use Rattle.pliron_laws.specs.declared.fault.OptError.TheVariants.{Memory};
 ghost use Rattle.pliron_laws.specs.Linked.{IsWellLinked};
 ghost use Rattle.pliron_theory.specs.Change.{IsPassChange};
 ghost use Rattle.pliron_block_laws.specs.Links.{KeepsLinks};
@@ -38,7 +37,7 @@ fn merge_at<D: Dialect, R: Rewriter + Room>(
     ensures ok { IfOk result (λ status. MergesAmong D.meaning (first ∷ []) ctx.old.tree ctx.new.tree ×
         HasNoPairAmong D.meaning (first ∷ []) ctx.new.tree × TellsMerged D.meaning (first ∷ []) ctx.old.tree ctx.new.tree status) }
     ensures refused { OnErr result (MergesAmongPartly D.meaning (first ∷ []) ctx.old.tree ctx.new.tree) }
-    ensures err { IfErr result (λ e. e ≡ Memory) }
+    ensures memory { IsOkUnless result OptError.Memory }
 {
     ctx.well_formed();
     let mut status = IRStatus::Unchanged;
@@ -62,7 +61,7 @@ fn merge_among<D: Dialect, R: Rewriter + Room>(
     ensures ok { IfOk result (λ status. MergesAmong D.meaning blocks.now ctx.old.tree ctx.new.tree ×
         HasNoPairAmong D.meaning blocks.now ctx.new.tree × TellsMerged D.meaning blocks.now ctx.old.tree ctx.new.tree status) }
     ensures refused { OnErr result (MergesAmongPartly D.meaning blocks.now ctx.old.tree ctx.new.tree) }
-    ensures err { IfErr result (λ e. e ≡ Memory) }
+    ensures memory { IsOkUnless result OptError.Memory }
 {
     ctx.well_formed();
     let mut status = IRStatus::Unchanged;
@@ -107,7 +106,7 @@ pub fn merge_inside_op<D: Dialect, R: Rewriter + Room>(
     ensures unreachable { OnOk result ((b : ℕ) → IsUnreachable (OfOperation op) ctx.new.tree b → IsUnreachable (OfOperation op) ctx.old.tree b) }
     ensures blocks { OnOk result ((b : ℕ) → IsBlock ctx.new.tree b → IsBlock ctx.old.tree b) }
     ensures refused { OnErr result (MergesPartly (OfOperation op) D.meaning ctx.old.tree ctx.new.tree) }
-    ensures err { IfErr result (λ e. e ≡ Memory) }
+    ensures memory { IsOkUnless result OptError.Memory }
     ensures change { IsPassChange D.meaning ctx.old.tree ctx.new.tree op }
     ensures links { KeepsLinks D.meaning ctx.old.tree ctx.new.tree }
 {
@@ -133,7 +132,7 @@ pub fn merge_inside_block<D: Dialect, R: Rewriter + Room>(
     ensures unreachable { OnOk result ((b : ℕ) → IsUnreachable (OfBlock block) ctx.new.tree b → IsUnreachable (OfBlock block) ctx.old.tree b) }
     ensures blocks { OnOk result ((b : ℕ) → IsBlock ctx.new.tree b → IsBlock ctx.old.tree b) }
     ensures refused { OnErr result (MergesPartly (OfBlock block) D.meaning ctx.old.tree ctx.new.tree) }
-    ensures err { IfErr result (λ e. e ≡ Memory) }
+    ensures memory { IsOkUnless result OptError.Memory }
     ensures change { (holder : ℕ) → block_holder_of ctx.old.tree block ≡ Some holder → IsPassChange D.meaning ctx.old.tree ctx.new.tree holder }
     ensures links { KeepsLinks D.meaning ctx.old.tree ctx.new.tree }
 {
@@ -160,7 +159,7 @@ pub fn merge_inside_region<D: Dialect, R: Rewriter + Room>(
     ensures unreachable { OnOk result ((b : ℕ) → IsUnreachable (OfRegion region) ctx.new.tree b → IsUnreachable (OfRegion region) ctx.old.tree b) }
     ensures blocks { OnOk result ((b : ℕ) → IsBlock ctx.new.tree b → IsBlock ctx.old.tree b) }
     ensures refused { OnErr result (MergesPartly (OfRegion region) D.meaning ctx.old.tree ctx.new.tree) }
-    ensures err { IfErr result (λ e. e ≡ Memory) }
+    ensures memory { IsOkUnless result OptError.Memory }
     ensures change { (holder : ℕ) → region_parent_of ctx.old.tree region ≡ Some holder → IsPassChange D.meaning ctx.old.tree ctx.new.tree holder }
     ensures links { KeepsLinks D.meaning ctx.old.tree ctx.new.tree }
 {

@@ -15,13 +15,12 @@
 //! and places, and an operation that is still admitted; what the folds in place leave is made of
 //! such operations, put before others, of other operands, and of a branch put in the place of one, with
 //! successors that the old one had.
-ghost use Rattle.std.specs.Prelude.{◌≡◌, ◌<◌, ◌≤◌, ℕ, Bool, List, Option, Some, IfOk, IfErr, OnErr, IsTrue, IsSome, length};
+ghost use Rattle.std.specs.Prelude.{◌≡◌, ◌<◌, ◌≤◌, ℕ, Bool, List, Option, Some, IfOk, OnErr, IsTrue, IsSome, length, IsOkUnless};
 ghost use Rattle.pliron_core.specs.declared.attrs.AttrObj.{AttrObj as Attribute};
 ghost use Rattle.pliron_core.specs.declared.rewriter.OpInsertionPoint.TheVariants.{BeforeOperation};
 ghost use Rattle.std.specs.Prelude.{Result as ResultOf};
 ghost use Rattle.pliron_laws.specs.declared.fault.OptError.{OptError as FaultName};
 ghost use Rattle.pliron_core.specs.Tree.{Tree, IsLive, block_holder_of, operands_of, successors_of, parent_of};
-ghost use Rattle.pliron_laws.specs.declared.fault.OptError.TheVariants.{Memory};
 ghost use Rattle.pliron_laws.specs.Datum.{Head, Shape, Meaning};
 ghost use Rattle.pliron_laws.specs.Folding.{Constants, Feasible, AnswersTrue, AnswersJumps, MakesConstants};
 ghost use Rattle.pliron_laws.specs.Laws.{KeepsCounts, GivesAtOnce, ForwardsOperands, ActsWithoutArgument};
@@ -136,7 +135,7 @@ pub trait ConstFoldInterface: HasMeaning {
         requires folds { HeadPasses can_fold ctx.now.tree op }
         requires entries { length operand_attrs.now ≡ length (operands_of ctx.now.tree op) }
         ensures ok { IfOk result (λ answers. ReadsShape Self.meaning (λ s. constants s operand_attrs.now) ctx.now.tree op answers.items) }
-        ensures err { IfErr result (λ e. e ≡ Memory) };
+        ensures memory { IsOkUnless result OptError.Memory };
 
     /// Folds the operation where it stands, if its operands have these constants. Asks that the
     /// operation folds, for one entry for each operand, and for an insertion point just before it.
@@ -156,7 +155,7 @@ pub trait ConstFoldInterface: HasMeaning {
         requires point { R.point rewriter.old ≡ BeforeOperation op }
         ensures ok { IfOk result (λ status. outcome ctx.old.tree ctx.new.tree op operand_attrs.now (Some status)) }
         ensures refused { OnErr result (outcome ctx.old.tree ctx.new.tree op operand_attrs.now Option.None) }
-        ensures err { IfErr result (λ e. e ≡ Memory) }
+        ensures memory { IsOkUnless result OptError.Memory }
         ensures longer { length ctx.old.tree.operations ≤ length ctx.new.tree.operations };
 
     /// Folds the operation by constants: asks `check_fold` for the constants of its results, and puts,
@@ -182,7 +181,7 @@ pub trait ConstFoldInterface: HasMeaning {
         ensures ok { IfOk result (λ status. materialising Self.meaning constants accepts constant_head ctx.old.tree ctx.new.tree op operand_attrs.now
             (Some status)) }
         ensures refused { OnErr result (materialising Self.meaning constants accepts constant_head ctx.old.tree ctx.new.tree op operand_attrs.now Option.None) }
-        ensures err { IfErr result (λ e. e ≡ Memory) }
+        ensures memory { IsOkUnless result OptError.Memory }
         ensures longer { length ctx.old.tree.operations ≤ length ctx.new.tree.operations }
         ensures point { R.point rewriter.new ≡ R.point rewriter.old }
     {
@@ -217,7 +216,7 @@ pub trait ConstFoldInterface: HasMeaning {
     ) -> Result<Option<Ptr<Operation>>, OptError>
         ensures ok { IfOk result (λ made. IsMaterialised accepts constant_head attr.now ctx.old.tree ctx.new.tree made) }
         ensures refused { OnErr result (ctx.new ≡ ctx.old) }
-        ensures err { IfErr result (λ e. e ≡ Memory) };
+        ensures memory { IsOkUnless result OptError.Memory };
 
     // what the check may answer for an operation
     ghost verdict: { Tree → ℕ → ResultOf (Unit {0}) FaultName → Type 0 };
@@ -260,7 +259,7 @@ pub trait BranchOpFoldInterface: HasMeaning {
         requires folds { HeadPasses can_fold_branch ctx.now.tree op }
         requires entries { length operand_attrs.now ≡ length (operands_of ctx.now.tree op) }
         ensures ok { IfOk result (λ blocks. ReadsEdges Self.meaning (λ s targets. feasible s targets operand_attrs.now) ctx.now.tree op blocks.items) }
-        ensures err { IfErr result (λ e. e ≡ Memory) };
+        ensures memory { IsOkUnless result OptError.Memory };
 
     /// Folds the branch where it stands, if its operands have these constants. Asks that the operation
     /// folds as a branch, for one entry for each operand, and for an insertion point just before it.
@@ -280,7 +279,7 @@ pub trait BranchOpFoldInterface: HasMeaning {
         requires point { R.point rewriter.old ≡ BeforeOperation op }
         ensures ok { IfOk result (λ status. outcome ctx.old.tree ctx.new.tree op operand_attrs.now (Some status)) }
         ensures refused { OnErr result (outcome ctx.old.tree ctx.new.tree op operand_attrs.now Option.None) }
-        ensures err { IfErr result (λ e. e ≡ Memory) }
+        ensures memory { IsOkUnless result OptError.Memory }
         ensures longer { length ctx.old.tree.operations ≤ length ctx.new.tree.operations };
 
     // what the check may answer for an operation
@@ -355,7 +354,7 @@ pub trait Dialect: SideEffects + BlockArgRemoval + ConstFoldInterface + BranchOp
         requires branch { HeadPasses Self.meaning.is_branch ctx.now.tree op }
         requires edge { i < length (successors_of ctx.now.tree op) }
         ensures ok { IfOk result (λ values. AreForwarded Self.meaning ctx.now.tree op i values.items) }
-        ensures err { IfErr result (λ e. e ≡ Memory) };
+        ensures memory { IsOkUnless result OptError.Memory };
 
     /// The operand that the branch forwards at place `j` of its edge `i`; `None` where the edge has no
     /// such place. Asks that it is a branch with such an edge.
@@ -373,7 +372,7 @@ pub trait Dialect: SideEffects + BlockArgRemoval + ConstFoldInterface + BranchOp
         requires branch { HeadPasses Self.meaning.is_branch ctx.now.tree op }
         requires edge { i < length (successors_of ctx.now.tree op) }
         ensures ok { IfOk result (λ value. IsForwardedAt Self.meaning ctx.now.tree op i j value) }
-        ensures err { IfErr result (λ e. e ≡ Memory) }
+        ensures memory { IsOkUnless result OptError.Memory }
     {
         let values = Self::successor_operands(alloc, op, ctx, i)?;
         Ok(values.get(j).copied())

@@ -1,6 +1,5 @@
 //! Room for changes of a tree.
-ghost use Rattle.std.specs.Prelude.{◌≡◌, IfErr};
-ghost use Rattle.pliron_laws.specs.declared.fault.OptError.TheVariants.{Memory};
+ghost use Rattle.std.specs.Prelude.{◌≡◌, IsOkUnless};
 
 use crate::fault::OptError;
 use pliron_core::{IRRewriter, Rewriter};
@@ -14,7 +13,7 @@ pub trait Room: Rewriter {
     /// Errors: want of memory.
     fn room(&mut self, alloc: Global, n: usize) -> Result<(), OptError>
         ensures point { Self.point self.new ≡ Self.point self.old }
-        ensures err { IfErr result (λ e. e ≡ Memory) };
+        ensures memory { IsOkUnless result OptError.Memory };
 }
 
 /// Without a listener there is nothing to make room for.

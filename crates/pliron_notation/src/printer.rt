@@ -1,6 +1,5 @@
 //! From a tree to text.
-ghost use Rattle.std.specs.Prelude.{◌≡◌, IfErr};
-ghost use Rattle.pliron_laws.specs.declared.fault.OptError.TheVariants.{Memory};
+ghost use Rattle.std.specs.Prelude.{◌≡◌, IsOkUnless};
 ghost use Rattle.pliron_core.specs.Tree.{IsLive, IsBlock, IsRegion};
 ghost use Rattle.pliron_notation.specs.Printing.{AllStand, IsStanding};
 
@@ -34,7 +33,7 @@ struct Printer {
 /// Asks that the operation stands. Errors: want of memory. Cost: linear in the tree.
 pub fn print_text(alloc: Global, root: Ptr<Operation>, ctx: &Context) -> Result<String, OptError>
     requires { IsLive ctx.now.tree root }
-    ensures { IfErr result (λ e. e ≡ Memory) }
+    ensures { IsOkUnless result OptError.Memory }
 {
     let steps = steps_of(alloc, root, ctx)?;
     let mut printer = Printer {

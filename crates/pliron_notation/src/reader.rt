@@ -1,5 +1,5 @@
 //! Reading a text of the bench notation.
-ghost use Rattle.std.specs.Prelude.{◌≡◌, None, IfOk, IfErr, IfSome, OnErr};
+ghost use Rattle.std.specs.Prelude.{◌≡◌, None, IfOk, IfSome, OnErr, IsOkUnless};
 ghost use Rattle.pliron_core.specs.Changes.{IsSameTree};
 ghost use Rattle.pliron_laws.specs.declared.fault.OptError.TheVariants.{Memory};
 ghost use Rattle.pliron_laws.specs.Linked.{IsWellLinked};
@@ -31,7 +31,7 @@ pub fn read_text(
     ensures linked { IfOk result (λ read. IfSome read (λ root. IsWellLinked bench ctx.new.tree root)) }
     ensures unreadable { IfOk result (λ read. read ≡ None → ctx.new ≡ ctx.old) }
     ensures refused { OnErr result (IsSameTree ctx.old.tree ctx.new.tree) }
-    ensures err { IfErr result (λ e. e ≡ Memory) }
+    ensures memory { IsOkUnless result OptError.Memory }
 {
     match read_syntax(alloc, text) {
         Ok(syntax) => Ok(Some(build(alloc, &syntax, ctx)?)),

@@ -1,11 +1,10 @@
 //! Computing analyses.
-ghost use Rattle.std.specs.Prelude.{◌≡◌, ℕ, Bool, true, ◌+◌, ◌<◌, Option, IsSome, IsTrue, IfOk, OnOk, OnErr, IsOk, IfErr, length, option_map, slice_get};
+ghost use Rattle.std.specs.Prelude.{◌≡◌, ℕ, Bool, true, ◌+◌, ◌<◌, Option, IsSome, IsTrue, IfOk, OnOk, OnErr, IsOk, length, option_map, slice_get, IsOkUnless};
 ghost use Rattle.std.specs.Borrow.{sem};
 ghost use Rattle.std.specs.Option.{option_copied_mut};
 ghost use Rattle.pliron_core.specs.Tree.{Tree, IsLive};
 ghost use Rattle.pliron_core.specs.Joined.{IsTree};
 ghost use Rattle.pliron_core.specs.Changes.{IsSameTree};
-ghost use Rattle.pliron_laws.specs.declared.fault.OptError.TheVariants.{Memory};
 ghost use Rattle.pliron_pass.specs.Answer.{has_changed, kept_kinds};
 ghost use Rattle.pliron_theory.specs.Edges.{edges_inside};
 ghost use Rattle.pliron_pass.specs.Optimising.{edge_kinds, with_edge_kind};
@@ -120,7 +119,7 @@ impl<E: Analyses + Drop> AnalysisManager<E> {
         ensures kept { OnOk result (kept_kinds answer.new ≡ with_edge_kind E.Kind.eq E.reads_edges_alone (kept_kinds answer.old) (option_map
             (λ p. p.0.0) (slice_get self.now.cache.entries i))) }
         ensures changed { has_changed answer.new ≡ has_changed answer.old }
-        ensures memory { IfErr result (λ e. e ≡ Memory) }
+        ensures memory { IsOkUnless result OptError.Memory }
     {
         match self.cached_kind(i) {
             Some(kind) => {
@@ -140,7 +139,7 @@ impl<E: Analyses + Drop> AnalysisManager<E> {
     pub fn keep_edge_kinds(&self, changed: IRStatus) -> Result<PassResult<E::Kind>, OptError>
         ensures changed { IfOk result (λ r. has_changed r ≡ changed) }
         ensures kept { IfOk result (λ r. kept_kinds r ≡ edge_kinds E.Kind.eq E.reads_edges_alone self.now.cache.entries) }
-        ensures memory { IfErr result (λ e. e ≡ Memory) }
+        ensures memory { IsOkUnless result OptError.Memory }
     {
         let mut result = PassResult::new(self.alloc);
         result.ir_changed = changed;

@@ -1,10 +1,9 @@
 //! The cache of analyses.
-ghost use Rattle.std.specs.Prelude.{◌≡◌, [], ℕ, List, Option, IfOk, OnOk, IfErr, slice_get, option_map, option_copied, false};
+ghost use Rattle.std.specs.Prelude.{◌≡◌, [], ℕ, List, Option, IfOk, OnOk, slice_get, option_map, option_copied, false, IsOkUnless};
 ghost use Rattle.std.specs.List.{list_any};
 ghost use Rattle.std.specs.Borrow.{sem};
 ghost use Rattle.pliron_pass.specs.Lending.{LendsData};
 ghost use Rattle.indexmap.specs.IndexMap.{get};
-ghost use Rattle.pliron_laws.specs.declared.fault.OptError.TheVariants.{Memory};
 ghost use Rattle.pliron_pass.specs.Cache.{retained, cached_kinds, is_same_key, with_kind};
 ghost use Rattle.pliron_pass.specs.Answer.{has_changed, kept_kinds};
 ghost use Rattle.pliron_pass.specs.Config.{skips, verifies_before, verifies_after};
@@ -118,7 +117,7 @@ impl<E: AnalysisKind> AnalysisManager<E> {
         ensures kept { OnOk result (kept_kinds answer.new ≡ with_kind E.Kind.eq (kept_kinds answer.old) (option_map (λ p. p.0.0)
             (slice_get self.now.cache.entries i))) }
         ensures changed { has_changed answer.new ≡ has_changed answer.old }
-        ensures memory { IfErr result (λ e. e ≡ Memory) }
+        ensures memory { IsOkUnless result OptError.Memory }
     {
         match self.cached_kind(i) {
             Some(kind) => answer.set_preserved(kind),
@@ -130,7 +129,7 @@ impl<E: AnalysisKind> AnalysisManager<E> {
     pub(crate) fn keep_all(&self, changed: IRStatus) -> Result<PassResult<E::Kind>, OptError>
         ensures changed { IfOk result (λ r. has_changed r ≡ changed) }
         ensures kept { IfOk result (λ r. kept_kinds r ≡ cached_kinds E.Kind.eq self.now.cache.entries) }
-        ensures memory { IfErr result (λ e. e ≡ Memory) }
+        ensures memory { IsOkUnless result OptError.Memory }
     {
         let mut result = PassResult::new(self.alloc);
         result.ir_changed = changed;

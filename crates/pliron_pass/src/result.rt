@@ -1,7 +1,6 @@
 //! The answer of a pass.
-ghost use Rattle.std.specs.Prelude.{◌≡◌, [], is_ok, if◌then◌else◌, IfErr};
+ghost use Rattle.std.specs.Prelude.{◌≡◌, [], is_ok, if◌then◌else◌, IsOkUnless};
 ghost use Rattle.indexmap.specs.IndexSet.{insert_key};
-ghost use Rattle.pliron_laws.specs.declared.fault.OptError.TheVariants.{Memory};
 ghost use Rattle.pliron_pass.specs.Answer.{has_changed, kept_kinds, IsNewAnswer};
 
 use indexmap::IndexSet;
@@ -34,7 +33,7 @@ impl<K: Copy + Eq + Hash> PassResult<K> {
     pub fn set_preserved(&mut self, kind: K) -> Result<(), OptError>
         ensures kept { kept_kinds self.new ≡ (if is_ok result then insert_key K.eq (kept_kinds self.old) kind else kept_kinds self.old) }
         ensures changed { has_changed self.new ≡ has_changed self.old }
-        ensures memory { IfErr result (λ e. e ≡ Memory) }
+        ensures memory { IsOkUnless result OptError.Memory }
     {
         self.preserved.insert(kind)?;
         Ok(())

@@ -21,6 +21,7 @@ use Rattle.pliron_laws.specs.Linked.{EndsBlock, IsAdmitted, IsWellLinked}
 use Rattle.pliron_theory.specs.Keeps.{IsFit, KeepsRuns}
 use Rattle.pliron_theory.specs.Dropping.{IsArgumentDropped, LeadsWithout, HoldsWithout}
 use Rattle.pliron_laws.proofs.Records.{op_shows, operation_of, make_op}
+use Rattle.pliron_theory.proofs.KeptPlaces.{KeepsPlaces, same_block_holder, same_holder, inside_forth, inside_back, within_forth, within_back}
 use Rattle.pliron_theory.proofs.SweptStays.{admitted_same}
 use Rattle.pliron_theory.proofs.DroppedAgree.{live_forth, live_back, shows_after, parts_same, shapes, dropped_agree}
 
@@ -32,31 +33,8 @@ in_picked vs (w ∷ ws) (p ∷ ps) e x (inl s) = let here : Some w ≡ slice_get
 in_picked vs (w ∷ ws) (p ∷ ps) e x (inr i) = let rest : map Some ws ≡ pick ps vs = cc in in_picked vs ws ps rest x i
 
 module _ (m : Meaning) (t t' : Tree) (block index v : ℕ) (kept : ℕ → List ℕ) (w : IsTree t) (w' : IsTree t') (h : IsArgumentDropped t t' block index v kept) where
-  same_block_holder : (b : ℕ) → block_holder_of t' b ≡ block_holder_of t b
-  same_block_holder b = ap (λ o. up_from o (λ r. region_parent_of t' r)) (h.block_parents b) ∙ go (block_parent_of t b)
-    where
-      go : (o : Option ℕ) → up_from o (λ r. region_parent_of t' r) ≡ up_from o (λ r. region_parent_of t r)
-      go None = refl
-      go (Some r) = ap op_of_slot (h.slots r)
-
-  same_holder : (x : ℕ) → holder_of t' x ≡ holder_of t x
-  same_holder x = ap (λ o. up_from o (λ b. block_holder_of t' b)) (h.parents x) ∙ go (parent_of t x)
-    where
-      go : (o : Option ℕ) → up_from o (λ b. block_holder_of t' b) ≡ up_from o (λ b. block_holder_of t b)
-      go None = refl
-      go (Some b) = same_block_holder b
-
-  inside_forth : (op x : ℕ) → IsInside t op x → IsInside t' op x
-  inside_forth op x i = inside_alike t t' same_holder i
-
-  inside_back : (op x : ℕ) → IsInside t' op x → IsInside t op x
-  inside_back op x i = inside_alike t' t (λ y. sym (same_holder y)) i
-
-  within_forth : (op x : ℕ) → IsWithin t op x → IsWithin t' op x
-  within_forth op x i = within_alike t t' same_holder i
-
-  within_back : (op x : ℕ) → IsWithin t' op x → IsWithin t op x
-  within_back op x i = within_alike t' t (λ y. sym (same_holder y)) i
+  places : KeepsPlaces t t'
+  places = record { parents = h.parents; block_parents = h.block_parents; slots = h.slots }
 
   succs_same : (b : ℕ) → succs_of t' b ≡ succs_of t b
   succs_same b = ap (λ xs. succs_from t' (last_of None xs)) (h.bodies b) ∙ go (last_of None (body_of t b))
@@ -87,8 +65,8 @@ module _ (m : Meaning) (t t' : Tree) (block index v : ℕ) (kept : ℕ → List 
   result_alike k i = record {
     home = ap (λ o. up_from o (λ b. block_parent_of t' b)) (h.parents k) ∙ go (parent_of t k);
     passed = λ before b done p. pass before b done p;
-    forth = λ root j. inside_forth root k j;
-    back = λ root j. inside_back root k j;
+    forth = λ root j. inside_forth places root k j;
+    back = λ root j. inside_back places root k j;
   }
     where
       go : (o : Option ℕ) → up_from o (λ b. block_parent_of t' b) ≡ up_from o (λ b. block_parent_of t b)
@@ -103,8 +81,8 @@ module _ (m : Meaning) (t t' : Tree) (block index v : ℕ) (kept : ℕ → List 
   argument_alike c i j = record {
     home = h.block_parents c;
     passed = λ before b done p. p;
-    forth = λ root x. (x.0, same_block_holder c ∙ x.1, within_forth root x.0 x.2);
-    back = λ root x. (x.0, sym (same_block_holder c) ∙ x.1, within_back root x.0 x.2);
+    forth = λ root x. (x.0, same_block_holder places c ∙ x.1, within_forth places root x.0 x.2);
+    back = λ root x. (x.0, sym (same_block_holder places c) ∙ x.1, within_back places root x.0 x.2);
   }
 
   -- what makes a value that is still used
@@ -133,7 +111,7 @@ module _ (m : Meaning) (t t' : Tree) (block index v : ℕ) (kept : ℕ → List 
       let same = made_alike k x i in
       record {
         around = d.around;
-        holds = within_forth d.around user d.holds;
+        holds = within_forth places d.around user d.holds;
         block = d.block;
         region = d.region;
         in_block = h.parents d.around ∙ d.in_block;
@@ -155,11 +133,11 @@ module _ (m : Meaning) (t t' : Tree) (block index v : ℕ) (kept : ℕ → List 
     defined : WellDefined m t' root
     defined = record {
       no_successors = h.successors root ∙ f.defined.no_successors;
-      own_values = λ k x i j. (made_alike k x j).forth root (f.defined.own_values k x (inside_back root k i) (old_operand k x j));
-      dominance = λ k r i j. ssa k r (within_back root k i) (subst (In r) (h.regions k) j);
-      forwards = λ k i b o ins e br s. forwards k i b o (inside_back root k ins) e br s;
-      terminators = λ k b x i e tr q. ap (last_of None) (h.bodies b) ∙ last k b x (inside_back root k i) e tr (sym (h.parents k) ∙ q);
-      unused = λ k x user i ne j u. f.defined.unused k x user (inside_back root k i) (λ e. ne (h.successors k ∙ e)) (subst (In x) (h.results k) j) (old_operand user x u);
+      own_values = λ k x i j. (made_alike k x j).forth root (f.defined.own_values k x (inside_back places root k i) (old_operand k x j));
+      dominance = λ k r i j. ssa k r (within_back places root k i) (subst (In r) (h.regions k) j);
+      forwards = λ k i b o ins e br s. forwards k i b o (inside_back places root k ins) e br s;
+      terminators = λ k b x i e tr q. ap (last_of None) (h.bodies b) ∙ last k b x (inside_back places root k i) e tr (sym (h.parents k) ∙ q);
+      unused = λ k x user i ne j u. f.defined.unused k x user (inside_back places root k i) (λ e. ne (h.successors k ∙ e)) (subst (In x) (h.results k) j) (old_operand user x u);
       dominated = λ user x i made. dominated_forth user user x i (f.defined.dominated user x (old_operand user x i) ((made_alike user x i).back root made));
     }
       where
@@ -199,12 +177,12 @@ module _ (m : Meaning) (t t' : Tree) (block index v : ℕ) (kept : ℕ → List 
     linked : IsWellLinked m t' root
     linked = record {
       edges = λ k s i held. edge (f.linked.edges k s (subst (In s) (h.successors k) i) (held_back k s held));
-      admitted = λ k i. admitted k (within_back root k i);
+      admitted = λ k i. admitted k (within_back places root k i);
     }
       where
         held_back : (k s : ℕ) → IsInside t' root k ⊎ HoldsBlock t' root s → IsInside t root k ⊎ HoldsBlock t root s
-        held_back k s (inl i) = inl (inside_back root k i)
-        held_back k s (inr x) = inr (x.0, sym (same_block_holder s) ∙ x.1, within_back root x.0 x.2)
+        held_back k s (inl i) = inl (inside_back places root k i)
+        held_back k s (inr x) = inr (x.0, sym (same_block_holder places s) ∙ x.1, within_back places root x.0 x.2)
 
         edge : {k : ℕ} → EndsBlock t k → EndsBlock t' k
         edge {k} ends = record {

@@ -57,3 +57,4 @@ pub mod CarriedFacts
 pub mod PutFacts
 pub mod PutInside
 pub mod FollowedFacts
+pub mod KeptPlaces

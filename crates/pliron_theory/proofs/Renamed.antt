@@ -19,6 +19,7 @@ use Rattle.pliron_laws.specs.Root.{defining_block, HasPassed, IsDominated, WellD
 use Rattle.pliron_laws.specs.Linked.{EndsBlock, IsWellLinked}
 use Rattle.pliron_theory.specs.Keeps.{IsFit, KeepsRuns}
 use Rattle.pliron_theory.specs.Renaming.{IsRenamed, MayUse, RunReaches, HaveSameData}
+use Rattle.pliron_theory.proofs.KeptPlaces.{KeepsPlaces, same_block_holder, same_holder, inside_forth, inside_back, within_forth, within_back}
 use Rattle.pliron_theory.proofs.Lockstep.{EnvsTied}
 use Rattle.pliron_laws.proofs.Records.{op_shows, operation_of, make_op, no_op}
 use Rattle.pliron_theory.proofs.Alike.{alike_refl, shape_same, SameBut, bind_same}
@@ -32,41 +33,18 @@ In-map f (x ∷ xs) y (inl e) = (x, inl refl, sym e)
 In-map f (x ∷ xs) y (inr i) = let r = In-map f xs y i in (r.0, inr r.1, r.2)
 
 module _ (t t' : Tree) (rename : ℕ → ℕ) (h : IsRenamed t t' rename) where
-  same_block_holder : (b : ℕ) → block_holder_of t' b ≡ block_holder_of t b
-  same_block_holder b = ap (λ o. up_from o (λ r. region_parent_of t' r)) (h.block_parents b) ∙ go (block_parent_of t b)
-    where
-      go : (o : Option ℕ) → up_from o (λ r. region_parent_of t' r) ≡ up_from o (λ r. region_parent_of t r)
-      go None = refl
-      go (Some r) = ap op_of_slot (h.slots r)
-
-  same_holder : (x : ℕ) → holder_of t' x ≡ holder_of t x
-  same_holder x = ap (λ o. up_from o (λ b. block_holder_of t' b)) (h.parents x) ∙ go (parent_of t x)
-    where
-      go : (o : Option ℕ) → up_from o (λ b. block_holder_of t' b) ≡ up_from o (λ b. block_holder_of t b)
-      go None = refl
-      go (Some b) = same_block_holder b
-
-  inside_forth : (op x : ℕ) → IsInside t op x → IsInside t' op x
-  inside_forth op x i = inside_alike t t' same_holder i
-
-  inside_back : (op x : ℕ) → IsInside t' op x → IsInside t op x
-  inside_back op x i = inside_alike t' t (λ y. sym (same_holder y)) i
-
-  within_forth : (op x : ℕ) → IsWithin t op x → IsWithin t' op x
-  within_forth op x i = within_alike t t' same_holder i
-
-  within_back : (op x : ℕ) → IsWithin t' op x → IsWithin t op x
-  within_back op x i = within_alike t' t (λ y. sym (same_holder y)) i
+  places : KeepsPlaces t t'
+  places = record { parents = h.parents; block_parents = h.block_parents; slots = h.slots }
 
   made_forth : (root : ℕ) (d : Option Def) → IsMakerInside t root d → IsMakerInside t' root d
   made_forth root None i = i
-  made_forth root (Some (Result k j)) i = inside_forth root k i
-  made_forth root (Some (Argument b j)) i = (i.0, same_block_holder b ∙ i.1, within_forth root i.0 i.2)
+  made_forth root (Some (Result k j)) i = inside_forth places root k i
+  made_forth root (Some (Argument b j)) i = (i.0, same_block_holder places b ∙ i.1, within_forth places root i.0 i.2)
 
   made_back : (root : ℕ) (d : Option Def) → IsMakerInside t' root d → IsMakerInside t root d
   made_back root None i = i
-  made_back root (Some (Result k j)) i = inside_back root k i
-  made_back root (Some (Argument b j)) i = (i.0, sym (same_block_holder b) ∙ i.1, within_back root i.0 i.2)
+  made_back root (Some (Result k j)) i = inside_back places root k i
+  made_back root (Some (Argument b j)) i = (i.0, sym (same_block_holder places b) ∙ i.1, within_back places root i.0 i.2)
 
   succs_same : (b : ℕ) → succs_of t' b ≡ succs_of t b
   succs_same b = ap (λ xs. succs_from t' (last_of None xs)) (h.bodies b) ∙ go (last_of None (body_of t b))
@@ -97,7 +75,7 @@ module _ (t t' : Tree) (rename : ℕ → ℕ) (h : IsRenamed t t' rename) where
   dominated_forth : (user v : ℕ) → IsDominated t user v → IsDominated t' user v
   dominated_forth user v d = record {
     around = d.around;
-    holds = within_forth d.around user d.holds;
+    holds = within_forth places d.around user d.holds;
     block = d.block;
     region = d.region;
     in_block = h.parents d.around ∙ d.in_block;
@@ -160,15 +138,15 @@ module _ (t t' : Tree) (rename : ℕ → ℕ) (h : IsRenamed t t' rename) where
     defined = record {
       no_successors = h.successors root ∙ f.defined.no_successors;
       own_values = λ k v i j. own k v i (old_operand k v j);
-      dominance = λ k r i j. subst (λ o. IsTrue (has_ssa_at t' o)) (sym (ap op_of_slot (h.slots r))) (ssa (region_parent_of t r) (f.defined.dominance k r (within_back root k i) (subst (In r) (ap (λ z. z.regions) (h.rows k)) j)));
+      dominance = λ k r i j. subst (λ o. IsTrue (has_ssa_at t' o)) (sym (ap op_of_slot (h.slots r))) (ssa (region_parent_of t r) (f.defined.dominance k r (within_back places root k i) (subst (In r) (ap (λ z. z.regions) (h.rows k)) j)));
       forwards = λ k i b o ins e br s. forwards k i b o ins e br s;
-      terminators = λ k b x i e tr q. ap (last_of None) (h.bodies b) ∙ f.defined.terminators k b x (inside_back root k i) (sym (ap (λ z. z.head) (h.rows k)) ∙ e) tr (sym (h.parents k) ∙ q);
+      terminators = λ k b x i e tr q. ap (last_of None) (h.bodies b) ∙ f.defined.terminators k b x (inside_back places root k i) (sym (ap (λ z. z.head) (h.rows k)) ∙ e) tr (sym (h.parents k) ∙ q);
       unused = λ k v user i ne j u. jumper k v user i ne j (old_operand user v u);
       dominated = λ user v i made. dominated user v (old_operand user v i) made;
     }
       where
         own : (k v : ℕ) → IsInside t' root k → (x : ℕ) × In x (operands_of t k) × (rename x ≡ v) → IsMakerInside t' root (definition_of t' v)
-        own k v i x = subst (λ z. IsMakerInside t' root (definition_of t' z)) x.2 (subst (IsMakerInside t' root) (sym (h.definitions (rename x.0))) (made_forth root (definition_of t (rename x.0)) ((uses k x.0 x.1).own (inside_back root k i))))
+        own k v i x = subst (λ z. IsMakerInside t' root (definition_of t' z)) x.2 (subst (IsMakerInside t' root) (sym (h.definitions (rename x.0))) (made_forth root (definition_of t (rename x.0)) ((uses k x.0 x.1).own (inside_back places root k i))))
 
         ssa : (o : Option ℕ) → IsTrue (has_ssa_at t o) → IsTrue (has_ssa_at t' o)
         ssa None e = e
@@ -179,11 +157,11 @@ module _ (t t' : Tree) (rename : ℕ → ℕ) (h : IsRenamed t t' rename) where
             let x = some_of (head_of t k) (subst IsSome (ap (λ z. z.head) (h.rows k)) (subst IsSome (sym (op_shows t' k o e).head) refl)) in
             let old = make_op t k x.0 x.1 in
             let same : record (operation_of t k x.0) { operands = map rename (operands_of t k) } ≡ o = some_is (sym (op_renamed k (operation_of t k x.0) old) ∙ e) in
-            let base = f.defined.forwards k i b (operation_of t k x.0) (inside_back root k ins) old (subst (λ z. IsTrue (m.is_branch z)) (sym (ap (λ z. z.head) same)) br) (ap (λ z. slice_get z.successors i) same ∙ s) in
+            let base = f.defined.forwards k i b (operation_of t k x.0) (inside_back places root k ins) old (subst (λ z. IsTrue (m.is_branch z)) (sym (ap (λ z. z.head) same)) br) (ap (λ z. slice_get z.successors i) same ∙ s) in
             ap (λ z. length (m.forwarded (shape_of m t' z) i)) (sym same) ∙ ap (λ z. length (m.forwarded z i)) (sym (shape_renamed m (operation_of t k x.0))) ∙ base ∙ ap length (sym (h.arguments b))
 
         jumper : (k v user : ℕ) → IsInside t' root k → successors_of t' k ≢ [] → In v (results_of t' k) → (x : ℕ) × In x (operands_of t user) × (rename x ≡ v) → ⊥
-        jumper k v user i ne j x = (uses user x.0 x.1).no_jumper k (inside_back root k i) (λ e. ne (h.successors k ∙ e)) (subst (λ z. In z (results_of t k)) (sym x.2) (subst (In v) (ap (λ z. z.results) (h.rows k)) j))
+        jumper k v user i ne j x = (uses user x.0 x.1).no_jumper k (inside_back places root k i) (λ e. ne (h.successors k ∙ e)) (subst (λ z. In z (results_of t k)) (sym x.2) (subst (In v) (ap (λ z. z.results) (h.rows k)) j))
 
         dominated : (user v : ℕ) → (x : ℕ) × In x (operands_of t user) × (rename x ≡ v) → IsMakerInside t' root (definition_of t' v) → IsDominated t' user v
         dominated user v x made = subst (IsDominated t' user) x.2 (dominated_forth user (rename x.0) ((uses user x.0 x.1).dominated (made_back root (definition_of t (rename x.0)) (subst (IsMakerInside t' root) (h.definitions (rename x.0)) (subst (λ z. IsMakerInside t' root (definition_of t' z)) (sym x.2) made)))))
@@ -191,12 +169,12 @@ module _ (t t' : Tree) (rename : ℕ → ℕ) (h : IsRenamed t t' rename) where
     linked : IsWellLinked m t' root
     linked = record {
       edges = λ k s i held. edge (f.linked.edges k s (subst (In s) (h.successors k) i) (held_back k s held));
-      admitted = λ k i. admitted_same m t t' k (ap (λ z. z.head) (h.rows k)) (ap length (h.operands k) ∙ length-map (operands_of t k) rename) (ap (λ z. length z.results) (h.rows k)) (ap length (h.successors k)) (ap (λ z. length z.regions) (h.rows k)) (f.linked.admitted k (within_back root k i));
+      admitted = λ k i. admitted_same m t t' k (ap (λ z. z.head) (h.rows k)) (ap length (h.operands k) ∙ length-map (operands_of t k) rename) (ap (λ z. length z.results) (h.rows k)) (ap length (h.successors k)) (ap (λ z. length z.regions) (h.rows k)) (f.linked.admitted k (within_back places root k i));
     }
       where
         held_back : (k s : ℕ) → IsInside t' root k ⊎ HoldsBlock t' root s → IsInside t root k ⊎ HoldsBlock t root s
-        held_back k s (inl i) = inl (inside_back root k i)
-        held_back k s (inr x) = inr (x.0, sym (same_block_holder s) ∙ x.1, within_back root x.0 x.2)
+        held_back k s (inl i) = inl (inside_back places root k i)
+        held_back k s (inr x) = inr (x.0, sym (same_block_holder places s) ∙ x.1, within_back places root x.0 x.2)
 
         edge : {k : ℕ} → EndsBlock t k → EndsBlock t' k
         edge {k} ends = record {

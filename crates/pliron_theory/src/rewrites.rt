@@ -2,12 +2,11 @@
 //!
 //! Each is wholly done or not at all, whatever it answers, and each asks only what makes it right; so a
 //! pass that makes its changes by these calls keeps runs, also where memory is refused.
-ghost use Rattle.std.specs.Prelude.{◌≡◌, ◌<◌, ℕ, Some, IsSome, IfOk, IfErr, OnErr, IsTrue, length, slice_get};
+ghost use Rattle.std.specs.Prelude.{◌≡◌, ◌<◌, ℕ, Some, IsSome, IfOk, OnErr, IsTrue, length, slice_get, IsOkUnless};
 ghost use Rattle.pliron_core.specs.declared.rewriter.OpInsertionPoint.TheVariants.{BeforeOperation, AtBlockStart};
 ghost use Rattle.pliron_core.specs.Tree.{IsLive, IsBlock, IsDefined, results_of, arguments_of, parent_of};
 ghost use Rattle.pliron_core.specs.Changes.{IsSameTree};
 ghost use Rattle.pliron_core.specs.Erased.{IsSelfContained};
-ghost use Rattle.pliron_laws.specs.declared.fault.OptError.TheVariants.{Memory};
 ghost use Rattle.pliron_theory.specs.Keeps.{KeepsRuns};
 ghost use Rattle.pliron_laws.specs.Outcomes.{materialised_at};
 ghost use Rattle.pliron_theory.specs.Rewrites.{ErasesUnused, IsConstant, ReplacesResult, ReplacesArgument, BecomesIfAccepted, IsPoint, PutKeepsRuns};
@@ -32,7 +31,7 @@ pub fn erase_unused<D: Dialect, R: Rewriter + Room>(
     requires contained { IsSelfContained ctx.old.tree op }
     ensures ok { IfOk result (λ status. ErasesUnused D.side_effects op ctx.old.tree ctx.new.tree status) }
     ensures refused { OnErr result (ctx.new ≡ ctx.old) }
-    ensures err { IfErr result (λ e. e ≡ Memory) }
+    ensures memory { IsOkUnless result OptError.Memory }
     ensures runs { KeepsRuns D.meaning ctx.old.tree ctx.new.tree }
     ensures point { R.point rewriter.new ≡ R.point rewriter.old }
 {
@@ -68,7 +67,7 @@ pub fn replace_result_by_constant<D: Dialect, R: Rewriter + Room>(
     requires constant { (v : ℕ) → slice_get (results_of ctx.old.tree op) index ≡ Some v → IsConstant D.meaning ctx.old.tree v attr.now }
     ensures ok { IfOk result (λ status. ReplacesResult D.accepts D.constant_head attr.now op index ctx.old.tree ctx.new.tree status) }
     ensures refused { OnErr result (IsSameTree ctx.old.tree ctx.new.tree) }
-    ensures err { IfErr result (λ e. e ≡ Memory) }
+    ensures memory { IsOkUnless result OptError.Memory }
     ensures runs { KeepsRuns D.meaning ctx.old.tree ctx.new.tree }
     ensures point { R.point rewriter.new ≡ BeforeOperation op }
 {
@@ -98,7 +97,7 @@ pub fn replace_argument_by_constant<D: Dialect, R: Rewriter + Room>(
     requires constant { (v : ℕ) → slice_get (arguments_of ctx.old.tree block) index ≡ Some v → IsConstant D.meaning ctx.old.tree v attr.now }
     ensures ok { IfOk result (λ status. ReplacesArgument D.accepts D.constant_head attr.now block index ctx.old.tree ctx.new.tree status) }
     ensures refused { OnErr result (IsSameTree ctx.old.tree ctx.new.tree) }
-    ensures err { IfErr result (λ e. e ≡ Memory) }
+    ensures memory { IsOkUnless result OptError.Memory }
     ensures runs { KeepsRuns D.meaning ctx.old.tree ctx.new.tree }
     ensures point { R.point rewriter.new ≡ AtBlockStart block }
 {
@@ -122,7 +121,7 @@ fn replace_by_constant<D: Dialect, R: Rewriter + Room>(
     ensures ok { IfOk result (λ status. BecomesIfAccepted D.accepts attr.now (materialised_at ctx.old.tree (R.point rewriter.old) old
         (D.constant_head attr.now)) ctx.old.tree ctx.new.tree status) }
     ensures refused { OnErr result (IsSameTree ctx.old.tree ctx.new.tree) }
-    ensures err { IfErr result (λ e. e ≡ Memory) }
+    ensures memory { IsOkUnless result OptError.Memory }
     ensures runs { KeepsRuns D.meaning ctx.old.tree ctx.new.tree }
     ensures point { R.point rewriter.new ≡ R.point rewriter.old }
 {

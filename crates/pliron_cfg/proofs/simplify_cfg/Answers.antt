@@ -18,7 +18,7 @@ returns-in_err-merge_inside_op-clause-err g c =
       folded = c.fold_branches.new.ctx.tree;
       fold_status = c.in_ok-status.status;
       folds = c.in_ok-status.ensures.folds;
-      stops = inr (c.in_err-merge_inside_op.ensures.err, record { removed = c.remove_blocks_inside_op.new.ctx.tree; removal_status = c.in_ok-remove_blocks_inside_op.field-0; removes = c.in_ok-remove_blocks_inside_op.ensures.ok; merges = c.in_err-merge_inside_op.ensures.refused });
+      stops = inr (c.in_err-merge_inside_op.ensures.memory, record { removed = c.remove_blocks_inside_op.new.ctx.tree; removal_status = c.in_ok-remove_blocks_inside_op.field-0; removes = c.in_ok-remove_blocks_inside_op.ensures.ok; merges = c.in_err-merge_inside_op.ensures.refused });
     }))
 
 pub returns-in_err-merge_inside_op-clause-change : goal.returns-in_err-merge_inside_op-clause-change

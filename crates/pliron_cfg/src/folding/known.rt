@@ -1,9 +1,8 @@
 //! Constants that are known of an operation's operands: those that folding answers with no operand known.
-ghost use Rattle.std.specs.Prelude.{◌≡◌, Option, Some, None, IfOk, IfErr, replicate};
+ghost use Rattle.std.specs.Prelude.{◌≡◌, Option, Some, None, IfOk, replicate, IsOkUnless};
 ghost use Rattle.pliron_core.specs.Tree.{IsLive, IsDefined, definition_of};
 ghost use Rattle.pliron_laws.specs.Answers.{HeadPasses};
 ghost use Rattle.pliron_laws.specs.Tree.{op_at};
-ghost use Rattle.pliron_laws.specs.declared.fault.OptError.TheVariants.{Memory};
 ghost use Rattle.pliron_cfg.specs.Folded.{answered_for, known_of as constant_of, known_operands as constants_of};
 
 use pliron_core::{AttrObj, Context, Def, Operation, Ptr, Value};
@@ -13,7 +12,7 @@ use std::alloc::Global;
 /// As many entries without a constant.
 fn nothing_known(alloc: Global, count: usize) -> Result<Vec<Option<AttrObj>>, OptError>
     ensures ok { IfOk result (λ entries. entries.items ≡ replicate count None) }
-    ensures err { IfErr result (λ e. e ≡ Memory) }
+    ensures memory { IsOkUnless result OptError.Memory }
 {
     let mut entries = Vec::new(alloc);
     for _i in 0..count {
@@ -32,7 +31,7 @@ fn answered<D: Dialect>(
     requires live { IsLive ctx.now.tree op }
     requires folds { HeadPasses D.can_fold ctx.now.tree op }
     ensures ok { IfOk result (λ attr. attr ≡ answered_for D.meaning D.constants ctx.now.tree (op_at ctx.now.tree op) index) }
-    ensures err { IfErr result (λ e. e ≡ Memory) }
+    ensures memory { IsOkUnless result OptError.Memory }
 {
     let nothing = nothing_known(alloc, op.num_operand(ctx))?;
     let mut answers = <D as ConstFoldInterface>::check_fold(alloc, op, ctx, &nothing)?;
@@ -51,7 +50,7 @@ fn known_of<D: Dialect>(
 ) -> Result<Option<AttrObj>, OptError>
     requires { IsDefined ctx.now.tree value }
     ensures ok { IfOk result (λ attr. attr ≡ constant_of D.meaning D.can_fold D.constants ctx.now.tree (definition_of ctx.now.tree value)) }
-    ensures err { IfErr result (λ e. e ≡ Memory) }
+    ensures memory { IsOkUnless result OptError.Memory }
 {
     ctx.well_formed();
     match value.def(ctx) {
@@ -76,7 +75,7 @@ pub(crate) fn known_operands<D: Dialect>(
 ) -> Result<Vec<Option<AttrObj>>, OptError>
     requires { IsLive ctx.now.tree op }
     ensures ok { IfOk result (λ attrs. attrs.items ≡ constants_of D.meaning D.can_fold D.constants ctx.now.tree op) }
-    ensures err { IfErr result (λ e. e ≡ Memory) }
+    ensures memory { IsOkUnless result OptError.Memory }
 {
     ctx.well_formed();
     let mut attrs = Vec::new(alloc);

@@ -1,7 +1,6 @@
 //! Merging one pair of blocks.
-ghost use Rattle.std.specs.Prelude.{◌≡◌, ℕ, Some, OnOk, OnErr, IfErr, length, take};
+ghost use Rattle.std.specs.Prelude.{◌≡◌, ℕ, Some, OnOk, OnErr, length, take, IsOkUnless};
 ghost use Rattle.pliron_core.specs.Tree.{IsBlock, arguments_of, block_holder_of, block_parent_of, body_of};
-ghost use Rattle.pliron_laws.specs.declared.fault.OptError.TheVariants.{Memory};
 ghost use Rattle.pliron_laws.specs.Linked.{IsWellLinked};
 ghost use Rattle.pliron_block_laws.specs.Pairs.{IsMergeable, all_moved_last, forwarded_uses, joined, merged};
 ghost use Rattle.pliron_block_laws.specs.Joining.{JoinsWell};
@@ -39,7 +38,7 @@ fn forward_uses<D: Dialect, R: Rewriter + Room>(
     ensures ok { OnOk result (ctx.new.tree ≡ forwarded_uses ctx.old.tree (arguments_of ctx.old.tree pair.now.second) pair.now.values.items) }
     ensures refused { OnErr result ((n : ℕ) × (ctx.new.tree ≡ forwarded_uses ctx.old.tree (take n
         (arguments_of ctx.old.tree pair.now.second)) pair.now.values.items)) }
-    ensures err { IfErr result (λ e. e ≡ Memory) }
+    ensures memory { IsOkUnless result OptError.Memory }
 {
     ctx.well_formed();
     for i in 0..pair.values.len() {
@@ -106,7 +105,7 @@ pub(crate) fn merge_pair<D: Dialect, R: Rewriter + Room>(
         (arguments_of ctx.old.tree pair.now.second) pair.now.values.items) pair.now.first pair.now.second pair.now.jump) }
     ensures refused { OnErr result ((n : ℕ) × (ctx.new.tree ≡ forwarded_uses ctx.old.tree (take n
         (arguments_of ctx.old.tree pair.now.second)) pair.now.values.items)) }
-    ensures err { IfErr result (λ e. e ≡ Memory) }
+    ensures memory { IsOkUnless result OptError.Memory }
 {
     ctx.well_formed();
     let moves = count_operations(pair.second, ctx);

@@ -1,8 +1,7 @@
 //! Finding pairs of blocks that may be merged.
-ghost use Rattle.std.specs.Prelude.{◌≡◌, ◌∷◌, [], ◌↔◌, ℕ, List, Some, None, IfOk, IfErr, MatchOption, IsTrue, length};
+ghost use Rattle.std.specs.Prelude.{◌≡◌, ◌∷◌, [], ◌↔◌, ℕ, List, Some, None, IfOk, MatchOption, IsTrue, length, IsOkUnless};
 ghost use Rattle.pliron_core.specs.Tree.{In, IsBlock, IsDefined, IsLive, arguments_of, block_holder_of, first_of, layout_of, parent_of, successors_of};
 ghost use Rattle.pliron_core.specs.Edges.{preds_of};
-ghost use Rattle.pliron_laws.specs.declared.fault.OptError.TheVariants.{Memory};
 ghost use Rattle.pliron_laws.specs.Linked.{EdgesLast};
 ghost use Rattle.pliron_block_laws.specs.Pairs.{IsMergeable};
 ghost use Rattle.pliron_cfg.specs.Internal.MergeSteps.{IsOnlyWay, AllDefined};
@@ -96,7 +95,7 @@ pub(crate) fn find_pair<D: Dialect>(
     requires edges { (holder : ℕ) → block_holder_of ctx.now.tree first ≡ Some holder → EdgesLast ctx.now.tree holder }
     ensures ok { IfOk result (λ found. MatchOption found ((b jump : ℕ) (values : List ℕ) → IsMergeable D.meaning ctx.now.tree first b jump values →
         ⊥) (λ pair. IsMergeable D.meaning ctx.now.tree first pair.second pair.jump pair.values.items × (pair.first ≡ first))) }
-    ensures err { IfErr result (λ e. e ≡ Memory) }
+    ensures memory { IsOkUnless result OptError.Memory }
 {
     ctx.well_formed();
     let Some(way) = only_way::<D>(first, ctx) else {
