@@ -1,5 +1,5 @@
 -- Passes made of passes that tell truly whether they changed the tree do so too.
-use Rattle.std.proofs.Common.{◌≡◌, ℕ, List, Bool, Result, Ok, refl, sym, ap, ◌∙◌, subst}
+use Rattle.std.proofs.Common.{◌≡◌, ℕ, List, Bool, true, false, Result, Ok, refl, sym, ap, ◌∙◌, subst}
 use Rattle.pliron_core.specs.Tree.{Tree}
 use Rattle.pliron_core.specs.Changes.{IsSameTree}
 use Rattle.pliron_core.specs.Status.{changed_by_either}
@@ -9,7 +9,7 @@ use Rattle.pliron_core.proofs.SameTreeLemmas.{same_refl, same_trans}
 use Rattle.pliron_laws.specs.declared.fault.OptError.{OptError}
 use Rattle.pliron_pass.specs.Answer.{has_changed}
 use Rattle.pliron_pass.specs.Combined.{StepsTo, Closes, Closes.Done, Closes.Failed, Closes.Short, RunsEach, RunsEach.EachNone, RunsEach.EachNext, RunsEachOf, RunsOver, RunsOver.OverNone, RunsOver.OverNext, RunsOverAll}
-use Rattle.pliron_pass.specs.Outcome.{OutcomeOf, Verifying, RunsPlain, RunsPlain.Skipped, RunsPlain.Refused, RunsPlain.Ran, RunsPlain.Spoilt}
+use Rattle.pliron_pass.specs.Outcome.{OutcomeOf, Verifying, RunsBy, RunsPass, RunsPlain, RunsPlain.Skipped, RunsPlain.Refused, RunsPlain.Ran, RunsPlain.Spoilt}
 use Rattle.pliron_pass.specs.Repeating.{Repeats, Repeats.NoRun, Repeats.OneMore, RepeatsTo, RepeatsTo.Full, RepeatsTo.Settled, RepeatsTo.Failed as Gives_up}
 use Rattle.pliron_pass.specs.Stage.{Stage}
 use Rattle.pliron_pass.specs.declared.result.PassResult.{PassResult}
@@ -42,6 +42,14 @@ plain_honest {K = K} {E = E} {P = P} name outcome verifies honest = record { sam
     go p p' op s s' a (Refused runs err fault same_pass same is) e = absurd (cc)
     go p p' op s s' a (Ran runs before u ran after same) e = subst (λ z. IsSameTree s.tree z.tree) (sym same) (honest.same p p' op s u a ran e)
     go p p' op s s' a (Spoilt runs before b ran err fault is) e = absurd (cc)
+
+-- a pass however it is run
+pub run_honest : {K E P : Type 0} (name : P → List ℕ) (outcome : OutcomeOf P K E) (verifies : Verifying) (managed : P → Bool) → IsHonest outcome → IsHonest (RunsPass name outcome verifies managed)
+run_honest {K = K} {E = E} {P = P} name outcome verifies managed honest = record { same = λ p. go p (managed p) }
+  where
+    go : (p : P) (b : Bool) (p' : P) (op : ℕ) (s s' : Stage K E) (a : PassResult K) → RunsBy name outcome verifies b p p' op s s' (Ok a) → has_changed a ≡ Unchanged → IsSameTree s.tree s'.tree
+    go p true = honest.same p
+    go p false = (plain_honest name outcome verifies honest).same p
 
 module _ {K E P : Type 0} (eq : K → K → Bool) (inner : OutcomeOf P K E) (honest : IsHonest inner) where
   pub step_same : (p p' : P) (op : ℕ) (s s' : Stage K E) (c : IRStatus) → StepsTo eq inner p p' op s s' c → c ≡ Unchanged → IsSameTree s.tree s'.tree

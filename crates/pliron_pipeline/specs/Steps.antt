@@ -21,8 +21,8 @@ IsNoStep name = (name ≢ sccp_name) × (name ≢ dce_name) × (name ≢ simplif
 
 -- a list of passes for the operation itself, or for each operation directly inside it
 abbrev pub PipelineOf : (D E B K : Type 0) → Type 0
-PipelineOf D E B K = Either (Passes (Step D E B K)) (NestedOpsPass (Passes (Step D E B K)))
+PipelineOf D E B K = Either (Passes (Step D E B K) D E B K) (NestedOpsPass (Passes (Step D E B K) D E B K) D E B K)
 
 -- a pipeline once, or again and again
 abbrev pub ScheduleOf : (D E B K : Type 0) → Type 0
-ScheduleOf D E B K = Either (PipelineOf D E B K) (Repeat (PipelineOf D E B K))
+ScheduleOf D E B K = Either (PipelineOf D E B K) (Repeat (PipelineOf D E B K) D E B K)
