@@ -8,7 +8,7 @@ use Rattle.pliron_core.specs.Joined.{IsTree}
 use Rattle.pliron_core.proofs.ListLemmas.{decide_in}
 use Rattle.pliron_theory.specs.Facts.{Fact, Undetermined, Constant, NotAConstant, AtMost}
 use Rattle.pliron_theory.proofs.PutFacts.{instead, instead_it, instead_other}
-use Rattle.pliron_sccp.specs.declared.tables.Solver.{Solver}
+use Rattle.pliron_sccp.specs.declared.facts.Tables.{Tables}
 use Rattle.pliron_sccp.specs.Tables.{fact_in, reaches, waits_block, waits_value, facts_of, TakesBlock}
 use Rattle.pliron_sccp.specs.Chain.{blocks_inside, reached_blocks}
 use Rattle.pliron_sccp.specs.Inside.{block_values, values_inside}
@@ -127,12 +127,12 @@ sum_members (y ∷ taken) xs p d e within so =
         (same_or x)
 
 -- the account as sums over the two lists
-pub record HasSums (blocks values : List ℕ) (s : Solver) (pops : ℕ) : Type 0 where
+pub record HasSums (blocks values : List ℕ) (s : Tables) (pops : ℕ) : Type 0 where
   pub least : sum_of (λ b. one_if (reaches s b)) blocks + sum_of (λ v. least (fact_in s v)) values ≤ pops + (sum_of (λ b. one_if (waits_block s b)) blocks + sum_of (λ v. one_if (waits_value s v)) values)
   pub most : pops + (sum_of (λ b. one_if (waits_block s b)) blocks + sum_of (λ v. one_if (waits_value s v)) values) ≤ sum_of (λ b. one_if (reaches s b)) blocks + sum_of (λ v. most (fact_in s v)) values
 
 module _ (t : Tree) (root : ℕ) where
-  to_sums : (s : Solver) (pops : ℕ) → IsAccounted t root s pops → HasSums (blocks_inside t root) (values_inside t root) s pops
+  to_sums : (s : Tables) (pops : ℕ) → IsAccounted t root s pops → HasSums (blocks_inside t root) (values_inside t root) s pops
   to_sums s pops a =
       let r = counted_filter (λ b. reaches s b) (blocks_inside t root) in
       let b = counted_filter (λ b. waits_block s b) (blocks_inside t root) in
@@ -141,7 +141,7 @@ module _ (t : Tree) (root : ℕ) where
       let m = sum_most (λ v. fact_in s v) (values_inside t root) in
       record { least = omega (arith, a.least, r, b, w, k); most = omega (arith, a.most, r, b, w, m) }
 
-  from_sums : (s : Solver) (pops : ℕ) → HasSums (blocks_inside t root) (values_inside t root) s pops → IsAccounted t root s pops
+  from_sums : (s : Tables) (pops : ℕ) → HasSums (blocks_inside t root) (values_inside t root) s pops → IsAccounted t root s pops
   from_sums s pops a =
       let r = counted_filter (λ b. reaches s b) (blocks_inside t root) in
       let b = counted_filter (λ b. waits_block s b) (blocks_inside t root) in
@@ -151,7 +151,7 @@ module _ (t : Tree) (root : ℕ) where
       record { least = omega (arith, a.least, r, b, w, k); most = omega (arith, a.most, r, b, w, m) }
 
   -- before the search nothing is reached, known and taken
-  pub unsearched_accounted : (s : Solver) → IsUnsearched t root s → IsAccounted t root s 0
+  pub unsearched_accounted : (s : Tables) → IsUnsearched t root s → IsAccounted t root s 0
   unsearched_accounted s u =
       let r = sum_none (λ b. one_if (reaches s b)) (blocks_inside t root) (λ b i. ap one_if (u.reached b)) in
       let b = sum_none (λ b. one_if (waits_block s b)) (blocks_inside t root) (λ b i. ap one_if (u.blocks b)) in
@@ -160,7 +160,7 @@ module _ (t : Tree) (root : ℕ) where
       let m = sum_none (λ v. most (fact_in s v)) (values_inside t root) (λ v i. ap most (u.inside v i)) in
       from_sums s 0 (record { least = omega (arith, r, b, w, k); most = omega (arith, r, b, w, m) })
 
-  pub unsearched_inside : (s : Solver) → IsUnsearched t root s → WaitsInside t root s
+  pub unsearched_inside : (s : Tables) → IsUnsearched t root s → WaitsInside t root s
   unsearched_inside s u = record {
     blocks = λ b w. absurd (true≢false (sym w ∙ u.blocks b));
     values = λ v w. absurd (true≢false (sym w ∙ u.values v));
@@ -168,7 +168,7 @@ module _ (t : Tree) (root : ℕ) where
   }
 
   -- facts that fall keep the account
-  pub falls_accounted : (s s' : Solver) (pops : ℕ) → WaitsInside t root s → FactsFall s s' → IsAccounted t root s pops → IsAccounted t root s' pops
+  pub falls_accounted : (s s' : Tables) (pops : ℕ) → WaitsInside t root s → FactsFall s s' → IsAccounted t root s pops → IsAccounted t root s' pops
   falls_accounted s s' pops w f a =
       let o = to_sums s pops a in
       let bl = sum_both (λ b. one_if (reaches s' b)) (λ b. one_if (waits_block s b)) (λ b. one_if (reaches s b)) (λ b. one_if (waits_block s' b)) (blocks_inside t root) (λ b i. block_least (reaches s b) (reaches s' b) (waits_block s b) (waits_block s' b) (λ y. (w.blocks b y).1) (f.blocks b) (f.entered b)) in
@@ -177,7 +177,7 @@ module _ (t : Tree) (root : ℕ) where
       let vm = sum_both (λ v. one_if (waits_value s' v)) (λ v. most (fact_in s v)) (λ v. one_if (waits_value s v)) (λ v. most (fact_in s' v)) (values_inside t root) (λ v i. value_most (fact_in s v) (fact_in s' v) (waits_value s v) (waits_value s' v) (f.below.fact v) (f.fell v)) in
       from_sums s' pops (record { least = omega (arith, o.least, bl, vl); most = omega (arith, o.most, bm, vm) })
 
-  pub falls_inside : (s s' : Solver) → WaitsInside t root s → FactsFall s s' → ((b : ℕ) → IsTrue (reaches s' b) → In b (blocks_inside t root)) → WaitsInside t root s'
+  pub falls_inside : (s s' : Tables) → WaitsInside t root s → FactsFall s s' → ((b : ℕ) → IsTrue (reaches s' b) → In b (blocks_inside t root)) → WaitsInside t root s'
   falls_inside s s' w f inside = record {
     blocks = λ b y. ⊎_elim (λ old. let z = w.blocks b old in (z.0, f.below.reaches b z.1)) (λ new. (inside b new.1, new.1)) (f.came b y);
     values = λ v y. ⊎_elim
@@ -197,7 +197,7 @@ module _ (t : Tree) (root : ℕ) where
 
   module _ (w : IsTree t) where
     -- one block was taken
-    pub block_accounted : (b : ℕ) (s s' : Solver) (pops : ℕ) → WaitsInside t root s → TakesBlock b s s' → IsAccounted t root s pops → IsAccounted t root s' (pops + 1)
+    pub block_accounted : (b : ℕ) (s s' : Tables) (pops : ℕ) → WaitsInside t root s → TakesBlock b s s' → IsAccounted t root s pops → IsAccounted t root s' (pops + 1)
     block_accounted b s s' pops inside k a =
         let o = to_sums s pops a in
         let r = sum_same (λ c. one_if (reaches s' c)) (λ c. one_if (reaches s c)) (blocks_inside t root) (λ c i. ap one_if (k.reached c)) in
@@ -221,7 +221,7 @@ module _ (t : Tree) (root : ℕ) where
         now c = k.blocks c ∙ ap (λ z. if z then false else waits_block s c) (turned b c)
 
     -- all values that waited were taken
-    pub values_accounted : (taken : List ℕ) (s s' : Solver) (pops : ℕ) → WaitsInside t root s → TakesValues taken s s' → IsAccounted t root s pops → IsAccounted t root s' (pops + length taken)
+    pub values_accounted : (taken : List ℕ) (s s' : Tables) (pops : ℕ) → WaitsInside t root s → TakesValues taken s s' → IsAccounted t root s pops → IsAccounted t root s' (pops + length taken)
     values_accounted taken s s' pops inside k a =
         let o = to_sums s pops a in
         let r = sum_same (λ c. one_if (reaches s' c)) (λ c. one_if (reaches s c)) (blocks_inside t root) (λ c i. ap one_if (k.reached c)) in
@@ -232,7 +232,7 @@ module _ (t : Tree) (root : ℕ) where
         let all = sum_members taken (values_inside t root) (λ v. waits_value s v) (distinct-values t w root) k.distinct (λ v i. (inside.values v ((k.waited v).1 i)).0) k.waited in
         from_sums s' (pops + length taken) (record { least = omega (arith, o.least, r, l, b, none, all); most = omega (arith, o.most, r, m, b, none, all) })
 
-  pub block_inside : (b : ℕ) (s s' : Solver) → WaitsInside t root s → TakesBlock b s s' → WaitsInside t root s'
+  pub block_inside : (b : ℕ) (s s' : Tables) → WaitsInside t root s → TakesBlock b s s' → WaitsInside t root s'
   block_inside b s s' w k = record {
     blocks = λ c y. let z = w.blocks c (before (nat_eq b c) c (sym (k.blocks c) ∙ y)) in (z.0, k.reached c ∙ z.1);
     values = λ v y. let z = w.values v (sym (k.values v) ∙ y) in (z.0, λ e. z.1 (sym (k.facts v) ∙ e));
@@ -243,7 +243,7 @@ module _ (t : Tree) (root : ℕ) where
       before true c e = absurd (true≢false (sym e))
       before false c e = e
 
-  pub values_kept_inside : (taken : List ℕ) (s s' : Solver) → WaitsInside t root s → TakesValues taken s s' → WaitsInside t root s'
+  pub values_kept_inside : (taken : List ℕ) (s s' : Tables) → WaitsInside t root s → TakesValues taken s s' → WaitsInside t root s'
   values_kept_inside taken s s' w k = record {
     blocks = λ c y. let z = w.blocks c (sym (k.blocks c) ∙ y) in (z.0, k.reached c ∙ z.1);
     values = λ v y. absurd (true≢false (sym y ∙ k.values v));
@@ -251,7 +251,7 @@ module _ (t : Tree) (root : ℕ) where
   }
 
   -- the count is bounded by the tree alone, and where something waits there is room for one more
-  pub accounted_bound : (s : Solver) (pops : ℕ) → IsAccounted t root s pops → pops ≤ length (blocks_inside t root) + 2 * length (values_inside t root)
+  pub accounted_bound : (s : Tables) (pops : ℕ) → IsAccounted t root s pops → pops ≤ length (blocks_inside t root) + 2 * length (values_inside t root)
   accounted_bound s pops a =
       let o = to_sums s pops a in
       let r = sum_bound (λ b. one_if (reaches s b)) 1 (blocks_inside t root) (λ b i. one_one (reaches s b)) in
@@ -263,7 +263,7 @@ module _ (t : Tree) (root : ℕ) where
       one_one false = omega arith
 
   -- where nothing waits any more the account is the count that is owed
-  pub accounted_counts : (s : Solver) (pops : ℕ) → NothingWaits s → AreKnownThere t root s → IsAccounted t root s pops → CountsPops t root (facts_of s) pops
+  pub accounted_counts : (s : Tables) (pops : ℕ) → NothingWaits s → AreKnownThere t root s → IsAccounted t root s pops → CountsPops t root (facts_of s) pops
   accounted_counts s pops done there a =
       let o = to_sums s pops a in
       let b = sum_none (λ b. one_if (waits_block s b)) (blocks_inside t root) (λ b i. ap one_if (done.blocks b)) in

@@ -20,8 +20,8 @@ use Rattle.pliron_laws.proofs.Records.{ShowsOperation, op_shows}
 use Rattle.pliron_theory.specs.Facts.{Fact, Undetermined, Constant, NotAConstant, AtMost, known, answered, Facts, Says, handed, answers_of, IsInReachedBlock, Forwards, IsEntered, AreClosed}
 use Rattle.pliron_theory.proofs.FactLattice.{at_most_refl, same_index, picked_in}
 use Rattle.pliron_theory.proofs.SweptKeeps.{admitted_shape}
-use Rattle.pliron_sccp.specs.declared.tables.Solver.{Solver}
-use Rattle.pliron_sccp.specs.Tables.{facts_of}
+use Rattle.pliron_sccp.specs.declared.facts.Tables.{Tables}
+use Rattle.pliron_sccp.specs.Tables.{constants_of, facts_of}
 use Rattle.pliron_sccp.specs.Inside.{values_inside}
 use Rattle.pliron_sccp.specs.Settling.{IsMet, AreAtMost}
 use Rattle.pliron_sccp.specs.Precise.{AreOwed}
@@ -184,12 +184,12 @@ module _ (x : Says) (t : Tree) (root : ℕ) (w : IsTree t) (linked : IsWellLinke
             let j = operand_in v i in
             (on.above g closed).facts v (made_listed t w root v (owed.defined.own_values k v k_inside j) (w.joined.operands k v j))
 
-    module _ (s s' : Solver) (same : now ≡ facts_of s) (looks : LooksAt x t k s s') where
+    module _ (s s' : Tables) (same : now ≡ facts_of s) (looks : LooksAt x t k s s') where
       abbrev pub new : Facts
       new = facts_of s'
 
-      asks : (g : Facts) → MeetsAll g looks.asked ↔ IsMet x t now g k o
-      asks g = subst (λ z. MeetsAll g looks.asked ↔ IsMet x t z g k o) (sym same) (looks.asks o at g)
+      asks : (g : Facts) → MeetsAll (constants_of s) g looks.asked ↔ IsMet x t now g k o
+      asks g = subst (λ z. MeetsAll (constants_of s) g looks.asked ↔ IsMet x t z g k o) (sym same) (looks.asks o at g)
 
       met : IsMet x t now new k o
       met = (asks new).0 looks.applied.met

@@ -15,7 +15,7 @@ use Rattle.pliron_laws.specs.Folding.{AnswersTrue}
 use Rattle.pliron_laws.proofs.ShapeLemmas.{live_at}
 use Rattle.pliron_theory.specs.Facts.{Fact, Undetermined, Constant, NotAConstant, AtMost, Facts, Says, AreClosed}
 use Rattle.pliron_theory.specs.Sound.{IsMadeThere}
-use Rattle.pliron_sccp.specs.declared.tables.Solver.{Solver}
+use Rattle.pliron_sccp.specs.declared.facts.Tables.{Tables}
 use Rattle.pliron_sccp.specs.Tables.{fact_in, reaches, waits_block, facts_of, TakesBlock}
 use Rattle.pliron_sccp.specs.Falling.{FactsFall}
 use Rattle.pliron_sccp.specs.Inside.{values_inside}
@@ -36,7 +36,7 @@ use Rattle.pliron_sccp.proofs.Stepping.{first_blocks, entries_of, first_in, in_f
 use Rattle.pliron_sccp.proofs.BestLook.{lists, lists_in, in_lists, varying, only_inside, only_below, only_above, IsOn, ForwardsItsOperands, look_on, look_results}
 
 -- blocks that were looked through
-module _ (s : Solver) (b : ℕ) where
+module _ (s : Tables) (b : ℕ) where
   make_visited : IsTrue (reaches s b) → waits_block s b ≡ false → IsTrue (is_visited s b)
   make_visited r rests = ap (λ z. if z then false else reaches s b) rests ∙ r
 
@@ -50,7 +50,7 @@ module _ (s : Solver) (b : ℕ) where
   visited_reached : IsTrue (is_visited s b) → IsTrue (reaches s b)
   visited_reached y = sym (ap (λ z. if z then false else reaches s b) (visited_rests y)) ∙ y
 
-module _ (s u : Solver) (falls : FactsFall s u) (b : ℕ) where
+module _ (s u : Tables) (falls : FactsFall s u) (b : ℕ) where
   visited_still : IsTrue (is_visited s b) → IsTrue (is_visited u b)
   visited_still y = make_visited u b (falls.below.reaches b (visited_reached s b y)) (by (waits_block u b) refl)
     where
@@ -85,7 +85,7 @@ module _ (x : Says) (t : Tree) (root : ℕ) (w : IsTree t) (linked : IsWellLinke
   -- f and visited are those from before, and the blocks seen are those that are looked through after
   module _ (f : Facts) (visited seen : ℕ → Bool) (inside : (b : ℕ) → IsTrue (f.reaches b) → HoldsBlock t root b) (grounded : IsGrounded t root f visited) (ready : AreDetermined t f visited) (more : (b : ℕ) → IsTrue (visited b) → IsTrue (seen b)) where
     -- what is said of an operation before it is looked at
-    record IsNext (k c : ℕ) (done rest : List ℕ) (s : Solver) : Type 0 where
+    record IsNext (k c : ℕ) (done rest : List ℕ) (s : Tables) : Type 0 where
       placed : parent_of t k ≡ Some c
       reached : IsTrue (f.reaches c)
       came : IsTrue (seen c)
@@ -93,17 +93,17 @@ module _ (x : Says) (t : Tree) (root : ℕ) (w : IsTree t) (linked : IsWellLinke
       on : IsOn x t root f seen (facts_of s)
       front : (q v : ℕ) → In q done → In v (results_of t q) → fact_in s v ≢ Undetermined
 
-    one_on : (k c : ℕ) (done rest : List ℕ) (s u : Solver) → LooksAt x t k s u → IsNext k c done rest s → IsOn x t root f seen (facts_of u)
+    one_on : (k c : ℕ) (done rest : List ℕ) (s u : Tables) → LooksAt x t k s u → IsNext k c done rest s → IsOn x t root f seen (facts_of u)
     one_on k c done rest s u looks n =
         let o = live_at t k (w.joined.standing k c n.placed).0 in
         look_on x t root w linked answers places owed f visited seen inside grounded ready more k c o.0 n.placed o.1 n.reached n.came done rest n.body (facts_of s) n.on n.front s u refl looks
 
-    one_results : (k c : ℕ) (done rest : List ℕ) (s u : Solver) → LooksAt x t k s u → IsNext k c done rest s → (v : ℕ) → In v (results_of t k) → fact_in u v ≢ Undetermined
+    one_results : (k c : ℕ) (done rest : List ℕ) (s u : Tables) → LooksAt x t k s u → IsNext k c done rest s → (v : ℕ) → In v (results_of t k) → fact_in u v ≢ Undetermined
     one_results k c done rest s u looks n =
         let o = live_at t k (w.joined.standing k c n.placed).0 in
         look_results x t root w linked answers places owed f visited seen inside grounded ready more k c o.0 n.placed o.1 n.reached n.came done rest n.body (facts_of s) n.on n.front s u refl looks
 
-    through_block : (c : ℕ) → IsTrue (f.reaches c) → IsTrue (seen c) → (ks : List ℕ) (s u : Solver) → LooksThrough x t ks s u → (done : List ℕ) → body_of t c ≡ done ++ ks → IsOn x t root f seen (facts_of s) → ((q v : ℕ) → In q done → In v (results_of t q) → fact_in s v ≢ Undetermined) → IsOn x t root f seen (facts_of u) × ((q v : ℕ) → In q (body_of t c) → In v (results_of t q) → fact_in u v ≢ Undetermined)
+    through_block : (c : ℕ) → IsTrue (f.reaches c) → IsTrue (seen c) → (ks : List ℕ) (s u : Tables) → LooksThrough x t ks s u → (done : List ℕ) → body_of t c ≡ done ++ ks → IsOn x t root f seen (facts_of s) → ((q v : ℕ) → In q done → In v (results_of t q) → fact_in s v ≢ Undetermined) → IsOn x t root f seen (facts_of u) × ((q v : ℕ) → In q (body_of t c) → In v (results_of t q) → fact_in u v ≢ Undetermined)
     through_block c reached came [] s u Nothing done body on front = (on, λ q v i j. front q v (subst (In q) (body ∙ append-nil done) i) j)
     through_block c reached came (k ∷ ks) s u (Then _ q a d) done body on front =
         let n : IsNext k c done ks s = record { placed = w.bodies.owned k c (subst (In k) (sym body) (In-right k done (k ∷ ks) (inl refl))); reached = reached; came = came; body = body; on = on; front = front } in
@@ -113,7 +113,7 @@ module _ (x : Says) (t : Tree) (root : ℕ) (w : IsTree t) (linked : IsWellLinke
         (λ last. ⊎_elim (λ e. one_results k c done ks s q a n v (subst (λ z. In v (results_of t z)) e j)) (λ none. absurd none) last)
         (In-cases y done (k ∷ []) i))
 
-    through_users : (ks : List ℕ) (s u : Solver) → LooksThrough x t ks s u → ((k : ℕ) → In k ks → (c : ℕ) × (parent_of t k ≡ Some c) × IsTrue (visited c)) → IsOn x t root f seen (facts_of s) → IsOn x t root f seen (facts_of u)
+    through_users : (ks : List ℕ) (s u : Tables) → LooksThrough x t ks s u → ((k : ℕ) → In k ks → (c : ℕ) × (parent_of t k ≡ Some c) × IsTrue (visited c)) → IsOn x t root f seen (facts_of s) → IsOn x t root f seen (facts_of u)
     through_users [] s u Nothing placed on = on
     through_users (k ∷ ks) s u (Then _ q a d) placed on =
         let p = placed k (inl refl) in
@@ -127,7 +127,7 @@ module _ (x : Says) (t : Tree) (root : ℕ) (w : IsTree t) (linked : IsWellLinke
           front = λ y v i j. below_undetermined (f.fact v) (fact_in s v) (on.below.fact v) (ready.results p.0 y v p.2 (w.bodies.owned y p.0 (subst (In y) (sym split.2) (In-left y split.0 (k ∷ split.1) i))) j);
         }))
 
-    finish : (u : Solver) → IsOn x t root f seen (facts_of u) → ((b : ℕ) → IsTrue (seen b) → IsTrue (is_visited u b)) → ((b : ℕ) → IsTrue (is_visited u b) → IsTrue (seen b)) → ((b k v : ℕ) → IsTrue (seen b) → parent_of t k ≡ Some b → In v (results_of t k) → fact_in u v ≢ Undetermined) → IsBest x t root u
+    finish : (u : Tables) → IsOn x t root f seen (facts_of u) → ((b : ℕ) → IsTrue (seen b) → IsTrue (is_visited u b)) → ((b : ℕ) → IsTrue (is_visited u b) → IsTrue (seen b)) → ((b k v : ℕ) → IsTrue (seen b) → parent_of t k ≡ Some b → In v (results_of t k) → fact_in u v ≢ Undetermined) → IsBest x t root u
     finish u on there back results = record {
       grounded = record {
         ways = λ b r. wider_way t seen (is_visited u) there b (on.ways b r);
@@ -138,9 +138,9 @@ module _ (x : Says) (t : Tree) (root : ℕ) (w : IsTree t) (linked : IsWellLinke
       above = on.above;
     }
 
-  module _ (s : Solver) (best : IsBest x t root s) (inside : (b : ℕ) → IsTrue (reaches s b) → HoldsBlock t root b) where
+  module _ (s : Tables) (best : IsBest x t root s) (inside : (b : ℕ) → IsTrue (reaches s b) → HoldsBlock t root b) where
     -- nothing was looked at yet
-    begin : (seen : ℕ → Bool) → ((b : ℕ) → IsTrue (is_visited s b) → IsTrue (seen b)) → (u : Solver) → ((v : ℕ) → fact_in u v ≡ fact_in s v) → ((b : ℕ) → reaches u b ≡ reaches s b) → IsOn x t root (facts_of s) seen (facts_of u)
+    begin : (seen : ℕ → Bool) → ((b : ℕ) → IsTrue (is_visited s b) → IsTrue (seen b)) → (u : Tables) → ((v : ℕ) → fact_in u v ≡ fact_in s v) → ((b : ℕ) → reaches u b ≡ reaches s b) → IsOn x t root (facts_of s) seen (facts_of u)
     begin seen more u facts reached = record {
       below = record { reaches = λ b r. reached b ∙ r; fact = λ v. inr (inr (facts v)) };
       above = λ g closed.
@@ -152,7 +152,7 @@ module _ (x : Says) (t : Tree) (root : ℕ) (w : IsTree t) (linked : IsWellLinke
     }
 
     -- a block was taken and looked through
-    pub block_best : (c : ℕ) (u s' : Solver) → TakesBlock c s u → IsTrue (reaches s c) → LooksThrough x t (body_of t c) u s' → IsBest x t root s'
+    pub block_best : (c : ℕ) (u s' : Tables) → TakesBlock c s u → IsTrue (reaches s c) → LooksThrough x t (body_of t c) u s' → IsBest x t root s'
     block_best c u s' k reached d =
         let r = through_block (facts_of s) (is_visited s) (is_visited u) inside best.grounded best.ready more c reached came (body_of t c) u s' d [] refl (begin (is_visited u) more u k.facts k.reached) (λ q v i. absurd i) in
         let falls = through_falls x t (body_of t c) u s' d in
@@ -183,7 +183,7 @@ module _ (x : Says) (t : Tree) (root : ℕ) (w : IsTree t) (linked : IsWellLinke
             by false e = inr (make_visited s b (sym (k.reached b) ∙ visited_reached u b y) (sym (waits_then b false e) ∙ visited_rests u b y))
 
     -- all values that waited were taken, and their users looked at
-    pub values_best : (taken users : List ℕ) (u s' : Solver) → TakesValues taken s u → AreUsersOf t taken users u → LooksThrough x t users u s' → IsBest x t root s'
+    pub values_best : (taken users : List ℕ) (u s' : Tables) → TakesValues taken s u → AreUsersOf t taken users u → LooksThrough x t users u s' → IsBest x t root s'
     values_best taken users u s' k a d =
         let r = through_users (facts_of s) (is_visited s) (is_visited s) inside best.grounded best.ready (λ b y. y) users u s' d placed (begin (is_visited s) (λ b y. y) u k.facts k.reached) in
         let falls = through_falls x t users u s' d in
@@ -197,12 +197,12 @@ module _ (x : Says) (t : Tree) (root : ℕ) (w : IsTree t) (linked : IsWellLinke
             let y = (a.only q i).0 in
             (y.block, y.in_block, make_visited s y.block (sym (k.reached y.block) ∙ y.reached) (sym (k.blocks y.block) ∙ y.taken))
 
-  pub step_best : (s s' : Solver) (taken : ℕ) → Steps x t s s' taken → IsSearchOnTheWay x t root s → IsBest x t root s → IsBest x t root s'
+  pub step_best : (s s' : Tables) (taken : ℕ) → Steps x t s s' taken → IsSearchOnTheWay x t root s → IsBest x t root s → IsBest x t root s'
   step_best s s' taken (Block c u k d e) o best = block_best s best o.started.inside c u s' k (o.waits.blocks c k.waited).1 d
-  step_best s s' taken (Values none v) o best = values_best s best o.started.inside v.values v.users v.between s' v.takes v.are_users v.looks
+  step_best s s' taken (Values none v) o best = values_best s best o.started.inside v.takes.values v.users v.between s' v.takes.takes v.takes.are_users v.looks
 
   -- where the entries of the root were entered and nothing was looked at
-  module _ (s : Solver) (start : IsStarted t root s) where
+  module _ (s : Tables) (start : IsStarted t root s) where
     entered : AsksEntries t root (facts_of s)
     entered = (start.asks (facts_of s)).0 start.applied.met
 
@@ -259,7 +259,7 @@ module _ (x : Says) (t : Tree) (root : ℕ) (w : IsTree t) (linked : IsWellLinke
     }
 
   -- where nothing waits any more the facts are the most precise ones
-  pub best_precise : (s : Solver) → NothingWaits s → AreClosed x t root (facts_of s) → IsBest x t root s → AreMostPrecise x t root (facts_of s)
+  pub best_precise : (s : Tables) → NothingWaits s → AreClosed x t root (facts_of s) → IsBest x t root s → AreMostPrecise x t root (facts_of s)
   best_precise s done closed best = record {
     closed = closed;
     blocks = λ g other b r. (best.above g other).blocks b r;

@@ -8,7 +8,7 @@ use Rattle.pliron_laws.specs.Acting.{pick}
 use Rattle.pliron_laws.specs.Tree.{Operation, op_at, shape_of}
 use Rattle.pliron_laws.proofs.Records.{ShowsOperation, op_shows}
 use Rattle.pliron_theory.specs.Facts.{Facts, Says, handed, IsFeasibleEdge}
-use Rattle.pliron_sccp.specs.declared.applying.Demand.{Demand}
+use Rattle.pliron_sccp.specs.declared.demands.Demand.{Demand}
 use Rattle.pliron_sccp.specs.Demands.{MeetsAll, Adds, AreFeasible, MayLead, AsksEntries, AsksJumps, AsksForwarded, FollowsEdge, AsksBranches, AsksEdges, AsksResults}
 use Rattle.pliron_sccp.specs.Settling.{IsMet}
 use Rattle.pliron_sccp.proofs.Demanded.{adds_as}
@@ -38,52 +38,53 @@ module _ (x : Says) (t : Tree) (f : Facts) (op : ℕ) (o : Operation) (e : op_at
         let among : In b (x.feasible (shape_of x.meaning t o) o.successors known) = subst (λ ks. In b (x.feasible (shape_of x.meaning t o) o.successors ks)) (sym same) (go.1 (are o e).0) in
         true≢false (sym (led ∙ ((are o e).1 b).1 among))
 
-  pub edge_asked : (i b : ℕ) (values : List ℕ) (a c : List Demand) → IsFeasibleEdge x t f o i b → map Some values ≡ pick (x.meaning.forwarded (shape_of x.meaning t o) i) o.operands → Adds a c (AsksForwarded t f b values) → Adds a c (λ now. FollowsEdge x t f o now i b)
-  edge_asked i b values a c go same p =
-      adds_as (AsksForwarded t f b values) (λ now. FollowsEdge x t f o now i b) a c p
-      (λ now. (
-        λ m may_be. (m.0, λ j v w at fw. m.1 j v w at (out_of_some values j w (ap (λ l. slice_get l j) same ∙ fw))),
-        λ g. let y = g go in (y.0, λ j v w at is. y.1 j v w at (ap (λ l. slice_get l j) (sym same) ∙ into_some values j w is)),
-      ))
+  module _ (constants : List AttrObj) where
+    pub edge_asked : (i b : ℕ) (values : List ℕ) (a c : List Demand) → IsFeasibleEdge x t f o i b → map Some values ≡ pick (x.meaning.forwarded (shape_of x.meaning t o) i) o.operands → Adds constants a c (AsksForwarded t f b values) → Adds constants a c (λ now. FollowsEdge x t f o now i b)
+    edge_asked i b values a c go same p =
+        adds_as constants (AsksForwarded t f b values) (λ now. FollowsEdge x t f o now i b) a c p
+        (λ now. (
+          λ m may_be. (m.0, λ j v w at fw. m.1 j v w at (out_of_some values j w (ap (λ l. slice_get l j) same ∙ fw))),
+          λ g. let y = g go in (y.0, λ j v w at is. y.1 j v w at (ap (λ l. slice_get l j) (sym same) ∙ into_some values j w is)),
+        ))
 
-  pub branches_asked : (a b : List Demand) → Adds a b (λ now. (i c : ℕ) → slice_get (successors_of t op) i ≡ Some c → FollowsEdge x t f o now i c) → Adds a b (AsksBranches x t f o)
-  branches_asked a b p =
-      adds_as (λ now. (i c : ℕ) → slice_get (successors_of t op) i ≡ Some c → FollowsEdge x t f o now i c) (AsksBranches x t f o) a b p
-      (λ now. (λ m i c go. m i c (ap (λ l. slice_get l i) shows.successors ∙ go.0) go, λ m i c at go. m i c go))
+    pub branches_asked : (a b : List Demand) → Adds constants a b (λ now. (i c : ℕ) → slice_get (successors_of t op) i ≡ Some c → FollowsEdge x t f o now i c) → Adds constants a b (AsksBranches x t f o)
+    branches_asked a b p =
+        adds_as constants (λ now. (i c : ℕ) → slice_get (successors_of t op) i ≡ Some c → FollowsEdge x t f o now i c) (AsksBranches x t f o) a b p
+        (λ now. (λ m i c go. m i c (ap (λ l. slice_get l i) shows.successors ∙ go.0) go, λ m i c at go. m i c go))
 
-  pub branching_edges : (a b : List Demand) → IsTrue (x.meaning.is_branch o.head) → Adds a b (AsksBranches x t f o) → Adds a b (AsksEdges x t f op o)
-  branching_edges a b branch p =
-      adds_as (AsksBranches x t f o) (AsksEdges x t f op o) a b p
-      (λ now. (λ m. (λ yes. m, λ none. absurd (true≢false (sym branch ∙ none))), λ m. m.0 branch))
+    pub branching_edges : (a b : List Demand) → IsTrue (x.meaning.is_branch o.head) → Adds constants a b (AsksBranches x t f o) → Adds constants a b (AsksEdges x t f op o)
+    branching_edges a b branch p =
+        adds_as constants (AsksBranches x t f o) (AsksEdges x t f op o) a b p
+        (λ now. (λ m. (λ yes. m, λ none. absurd (true≢false (sym branch ∙ none))), λ m. m.0 branch))
 
-  pub jumping_edges : (a b : List Demand) → x.meaning.is_branch o.head ≡ false → Adds a b (AsksJumps t op) → Adds a b (AsksEdges x t f op o)
-  jumping_edges a b none p =
-      adds_as (AsksJumps t op) (AsksEdges x t f op o) a b p
-      (λ now. (λ m. (λ yes. absurd (true≢false (sym yes ∙ none)), λ same. m), λ m. m.1 none))
+    pub jumping_edges : (a b : List Demand) → x.meaning.is_branch o.head ≡ false → Adds constants a b (AsksJumps t op) → Adds constants a b (AsksEdges x t f op o)
+    jumping_edges a b none p =
+        adds_as constants (AsksJumps t op) (AsksEdges x t f op o) a b p
+        (λ now. (λ m. (λ yes. absurd (true≢false (sym yes ∙ none)), λ same. m), λ m. m.1 none))
 
-  -- all that an operation asks
-  pub all_asked : (known : List (Option AttrObj)) → known ≡ handed f o.operands → (d0 d1 d2 d3 : List Demand) → d0 ≡ [] → Adds d0 d1 (AsksEntries t op) → Adds d1 d2 (AsksEdges x t f op o) → Adds d2 d3 (AsksResults x.can_fold (x.constants (shape_of x.meaning t o) known) o) → (now : Facts) → MeetsAll now d3 ↔ IsMet x t f now op o
-  all_asked known same d0 d1 d2 d3 none p1 p2 p3 now = (there, back)
-    where
-      there : MeetsAll now d3 → IsMet x t f now op o
-      there m =
-          let results = (p3 now).0 m in
-          let edges = (p2 now).0 results.0 in
-          let entries = (p1 now).0 edges.0 in
-          record {
-            entries = λ r b i a. entries.1 r b i a;
-            branches = λ i b branch go. edges.1.0 branch i b go;
-            jumps = λ i b no_branch at. edges.1.1 no_branch i b (ap (λ l. slice_get l i) shows.successors ∙ at);
-            folded = λ i v a folds at said. results.1.0 folds i v a at (ap (λ ks. slice_get (x.constants (shape_of x.meaning t o) ks) i) same ∙ said);
-            others = λ v never i. results.1.1 never v i;
-          }
+    -- all that an operation asks
+    pub all_asked : (known : List (Option AttrObj)) → known ≡ handed f o.operands → (d0 d1 d2 d3 : List Demand) → d0 ≡ [] → Adds constants d0 d1 (AsksEntries t op) → Adds constants d1 d2 (AsksEdges x t f op o) → Adds constants d2 d3 (AsksResults x.can_fold (x.constants (shape_of x.meaning t o) known) o) → (now : Facts) → MeetsAll constants now d3 ↔ IsMet x t f now op o
+    all_asked known same d0 d1 d2 d3 none p1 p2 p3 now = (there, back)
+      where
+        there : MeetsAll constants now d3 → IsMet x t f now op o
+        there m =
+            let results = (p3 now).0 m in
+            let edges = (p2 now).0 results.0 in
+            let entries = (p1 now).0 edges.0 in
+            record {
+              entries = λ r b i a. entries.1 r b i a;
+              branches = λ i b branch go. edges.1.0 branch i b go;
+              jumps = λ i b no_branch at. edges.1.1 no_branch i b (ap (λ l. slice_get l i) shows.successors ∙ at);
+              folded = λ i v a folds at said. results.1.0 folds i v a at (ap (λ ks. slice_get (x.constants (shape_of x.meaning t o) ks) i) same ∙ said);
+              others = λ v never i. results.1.1 never v i;
+            }
 
-      back : IsMet x t f now op o → MeetsAll now d3
-      back m =
-          (p3 now).1 (
-            (p2 now).1 (
-              (p1 now).1 (subst (MeetsAll now) (sym none) tt, λ r b i a. m.entries r b i a),
-              (λ branch i b go. m.branches i b branch go, λ no_branch i b at. m.jumps i b no_branch (ap (λ l. slice_get l i) (sym shows.successors) ∙ at)),
-            ),
-            (λ folds i v a at said. m.folded i v a folds at (ap (λ ks. slice_get (x.constants (shape_of x.meaning t o) ks) i) (sym same) ∙ said), λ never v i. m.others v never i),
-          )
+        back : IsMet x t f now op o → MeetsAll constants now d3
+        back m =
+            (p3 now).1 (
+              (p2 now).1 (
+                (p1 now).1 (subst (MeetsAll constants now) (sym none) tt, λ r b i a. m.entries r b i a),
+                (λ branch i b go. m.branches i b branch go, λ no_branch i b at. m.jumps i b no_branch (ap (λ l. slice_get l i) (sym shows.successors) ∙ at)),
+              ),
+              (λ folds i v a at said. m.folded i v a folds at (ap (λ ks. slice_get (x.constants (shape_of x.meaning t o) ks) i) (sym same) ∙ said), λ never v i. m.others v never i),
+            )

@@ -5,7 +5,10 @@ pub mod Determined
 pub mod Above
 pub mod Settled
 pub mod Counting
-pub mod Waiting
+pub mod Worklists
+pub mod Marked
+pub mod Written
+pub mod Fresh
 pub mod Demanded
 pub mod Applied
 pub mod EdgesAsked
@@ -15,7 +18,7 @@ pub mod ListedFolds
 pub mod ListedArguments
 pub mod FoundChange
 pub mod Going
-pub mod Tracked
+pub mod Numbered
 pub mod UserLists
 pub mod InsideLists
 pub mod Stepping

@@ -4,29 +4,30 @@ use Rattle.std.specs.List.{flat_map}
 use Rattle.std.proofs.lemmas.Bool.{eq-eqb}
 use Rattle.std.proofs.lemmas.Option.{slice_get_within}
 use Rattle.pliron_core.specs.Lists.{In}
-use Rattle.pliron_core.specs.Tree.{Tree, IsLive, IsBlock, HoldsBlock, results_of, arguments_of, parent_of, body_of, definition_of}
+use Rattle.pliron_core.specs.Tree.{Tree, IsLive, IsBlock, HoldsBlock, IsInside, results_of, arguments_of, parent_of, body_of, layout_of, definition_of, successors_of, block_parent_of, block_holder_of, region_parent_of, up_from}
 use Rattle.pliron_core.specs.Joined.{IsTree, HaveFewKeys}
 use Rattle.pliron_core.specs.Changes.{IsMadeInside, IsMakerInside}
 use Rattle.pliron_core.proofs.FlatLemmas.{In-flat_map, flat_map-In, slice_get-In}
 use Rattle.pliron_core.proofs.ListLemmas.{decide_in, In-cases, distinct-length}
+use Rattle.pliron_core.proofs.NeighbourLemmas.{first_of-In}
 use Rattle.pliron_core.proofs.HoldingLemmas.{some_is, some_of, not_none, inside_block}
 use Rattle.pliron_laws.specs.Linked.{IsWellLinked, EdgesLast}
 use Rattle.pliron_laws.specs.Folding.{AnswersTrue}
 use Rattle.pliron_theory.specs.Facts.{Facts, Says, AreClosed, AreHeld}
-use Rattle.pliron_sccp.specs.declared.tables.Solver.{Solver}
+use Rattle.pliron_sccp.specs.declared.facts.Tables.{Tables}
 use Rattle.pliron_sccp.specs.Tables.{fact_in, reaches, waits_block, waits_value, facts_of, TakesBlock}
 use Rattle.pliron_sccp.specs.Chain.{blocks_inside}
 use Rattle.pliron_sccp.specs.Inside.{block_values, values_inside}
 use Rattle.pliron_sccp.specs.Demands.{AsksEntries}
 use Rattle.pliron_sccp.specs.Settling.{AreAtMost, AreStarted}
-use Rattle.pliron_sccp.specs.Looking.{LooksThrough, TakesValues, AreUsersOf}
+use Rattle.pliron_sccp.specs.Looking.{AreTargetsNumbered, LooksThrough, TakesValues, AreUsersOf}
 use Rattle.pliron_sccp.specs.Looking.LooksThrough.{Nothing, Then}
 use Rattle.pliron_sccp.specs.Starting.{IsStarted}
 use Rattle.pliron_sccp.specs.Searched.{IsSearched}
 use Rattle.pliron_sccp.specs.Searching.{Steps, IsSearchOnTheWay, IsSearching}
 use Rattle.pliron_sccp.specs.Searching.Steps.{Block, Values}
 use Rattle.pliron_sccp.specs.Accounts.{IsAccounted, AreKnownThere, NothingWaits}
-use Rattle.pliron_sccp.proofs.DistinctLists.{below_held, distinct-blocks, distinct-values}
+use Rattle.pliron_sccp.proofs.DistinctLists.{held_directly, below_held, distinct-blocks, distinct-values}
 use Rattle.pliron_sccp.proofs.DistinctLists.{inside_block as stands_inside}
 use Rattle.pliron_sccp.proofs.InsideLists.{holds_listed}
 use Rattle.pliron_sccp.proofs.Settled.{entered_still, varies_still, closed_when_settled}
@@ -58,17 +59,17 @@ fewer all pops zero l none = absurd (none refl)
 fewer all pops (suc taken) l none = omega (arith, l)
 
 -- what is reached is laid out as closed facts owe
-pub record IsLaidOut (t : Tree) (root : ℕ) (s : Solver) : Type 0 where
+pub record IsLaidOut (t : Tree) (root : ℕ) (s : Tables) : Type 0 where
   pub started : AreStarted t root (facts_of s)
   pub held : AreHeld t root (facts_of s)
   pub there : AreKnownThere t root s
 
 module _ (x : Says) (t : Tree) (root : ℕ) (w : IsTree t) (live : IsLive t root) where
-  reached_listed : (s : Solver) → AreStarted t root (facts_of s) → (b : ℕ) → IsTrue (reaches s b) → In b (blocks_inside t root)
+  reached_listed : (s : Tables) → AreStarted t root (facts_of s) → (b : ℕ) → IsTrue (reaches s b) → In b (blocks_inside t root)
   reached_listed s started b r = holds_listed t w root b (started.inside b r)
 
   -- at the start
-  module _ (s : Solver) (start : IsStarted t root s) where
+  module _ (s : Tables) (start : IsStarted t root s) where
     entered : AsksEntries t root (facts_of s)
     entered = (start.asks (facts_of s)).0 start.applied.met
 
@@ -116,6 +117,7 @@ module _ (x : Says) (t : Tree) (root : ℕ) (w : IsTree t) (live : IsLive t root
 
     pub start_on_way : IsSearchOnTheWay x t root s
     start_on_way = record {
+      numbered = λ b i. start.applied.falls.numbers b ∙ start.unsearched.numbered b i;
       settled = λ k b o p r at. ⊎_elim (λ old. absurd (true≢false (sym old ∙ start.unsearched.reached b))) (λ waits. inl waits) (start.applied.falls.entered b r);
       started = start_laid.started;
       held = start_laid.held;
@@ -127,7 +129,7 @@ module _ (x : Says) (t : Tree) (root : ℕ) (w : IsTree t) (live : IsLive t root
     start_accounted = falls_accounted t root start.before s 0 (unsearched_inside t root start.before start.unsearched) start.applied.falls (unsearched_accounted t root start.before start.unsearched)
 
   -- where the tables say the same of facts
-  laid_same : (s u : Solver) → ((v : ℕ) → fact_in u v ≡ fact_in s v) → ((b : ℕ) → reaches u b ≡ reaches s b) → IsLaidOut t root s → IsLaidOut t root u
+  laid_same : (s u : Tables) → ((v : ℕ) → fact_in u v ≡ fact_in s v) → ((b : ℕ) → reaches u b ≡ reaches s b) → IsLaidOut t root s → IsLaidOut t root u
   laid_same s u facts reached l = record {
     started = record {
       inside = λ b r. l.started.inside b (sym (reached b) ∙ r);
@@ -139,7 +141,7 @@ module _ (x : Says) (t : Tree) (root : ℕ) (w : IsTree t) (live : IsLive t root
   }
 
   module _ (edges : EdgesLast t root) where
-    through_laid : (ks : List ℕ) (s u : Solver) → LooksThrough x t ks s u → ((k : ℕ) → In k ks → (c : ℕ) × (parent_of t k ≡ Some c) × (reaches s c ≡ true)) → IsLaidOut t root s → IsLaidOut t root u
+    through_laid : (ks : List ℕ) (s u : Tables) → LooksThrough x t ks s u → ((k : ℕ) → In k ks → (c : ℕ) × (parent_of t k ≡ Some c) × (reaches s c ≡ true)) → IsLaidOut t root s → IsLaidOut t root u
     through_laid [] s u Nothing placed l = l
     through_laid (k ∷ ks) s u (Then _ q a d) placed l =
         let p = placed k (inl refl) in
@@ -151,14 +153,15 @@ module _ (x : Says) (t : Tree) (root : ℕ) (w : IsTree t) (live : IsLive t root
           there = look_known x t root w edges k p.0 s q a p.1 p.2 l.started l.there;
         })
 
-    laid_of : (s : Solver) → IsSearchOnTheWay x t root s → IsLaidOut t root s
+    laid_of : (s : Tables) → IsSearchOnTheWay x t root s → IsLaidOut t root s
     laid_of s o = record { started = o.started; held = o.held; there = o.there }
 
     -- a block was taken and looked through
-    pub block_on_way : (c : ℕ) (s u s' : Solver) → TakesBlock c s u → LooksThrough x t (body_of t c) u s' → IsSearchOnTheWay x t root s → IsSearchOnTheWay x t root s'
+    pub block_on_way : (c : ℕ) (s u s' : Tables) → TakesBlock c s u → LooksThrough x t (body_of t c) u s' → IsSearchOnTheWay x t root s → IsSearchOnTheWay x t root s'
     block_on_way c s u s' k d o =
         let l = through_laid (body_of t c) u s' d (λ j i. (c, w.bodies.owned j c i, k.reached c ∙ (o.waits.blocks c k.waited).1)) (laid_same s u k.facts k.reached (laid_of s o)) in
         record {
+          numbered = λ b i. (through_falls x t (body_of t c) u s' d).numbers b ∙ k.numbers b ∙ o.numbered b i;
           settled = through_settles x t (body_of t c) u s' d (block_settles x t w c s u k o.settled);
           started = l.started;
           held = l.held;
@@ -167,10 +170,11 @@ module _ (x : Says) (t : Tree) (root : ℕ) (w : IsTree t) (live : IsLive t root
         }
 
     -- all values were taken and their users looked at
-    pub values_on_way : (values users : List ℕ) (s u s' : Solver) → TakesValues values s u → AreUsersOf t values users u → LooksThrough x t users u s' → IsSearchOnTheWay x t root s → IsSearchOnTheWay x t root s'
+    pub values_on_way : (values users : List ℕ) (s u s' : Tables) → TakesValues values s u → AreUsersOf t values users u → LooksThrough x t users u s' → IsSearchOnTheWay x t root s → IsSearchOnTheWay x t root s'
     values_on_way values users s u s' k a d o =
         let l = through_laid users u s' d (λ j i. let y = (a.only j i).0 in (y.block, y.in_block, y.reached)) (laid_same s u k.facts k.reached (laid_of s o)) in
         record {
+          numbered = λ b i. (through_falls x t users u s' d).numbers b ∙ k.numbers b ∙ o.numbered b i;
           settled = through_settles x t users u s' d (values_settle x t w values users s u k a o.settled);
           started = l.started;
           held = l.held;
@@ -178,46 +182,62 @@ module _ (x : Says) (t : Tree) (root : ℕ) (w : IsTree t) (live : IsLive t root
           waits = falls_inside t root u s' (values_kept_inside t root values s u o.waits k) (through_falls x t users u s' d) (reached_listed s' l.started);
         }
 
-    pub step_on_way : (s s' : Solver) (taken : ℕ) → Steps x t s s' taken → IsSearchOnTheWay x t root s → IsSearchOnTheWay x t root s'
+    pub step_on_way : (s s' : Tables) (taken : ℕ) → Steps x t s s' taken → IsSearchOnTheWay x t root s → IsSearchOnTheWay x t root s'
     step_on_way s s' taken (Block c u k d e) o = block_on_way c s u s' k d o
-    step_on_way s s' taken (Values none v) o = values_on_way v.values v.users s v.between s' v.takes v.are_users v.looks o
+    step_on_way s s' taken (Values none v) o = values_on_way v.takes.values v.users s v.between s' v.takes.takes v.takes.are_users v.looks o
 
-    pub step_accounted : (s s' : Solver) (pops taken : ℕ) → Steps x t s s' taken → IsSearchOnTheWay x t root s → IsAccounted t root s pops → IsAccounted t root s' (pops + taken)
+    pub step_accounted : (s s' : Tables) (pops taken : ℕ) → Steps x t s s' taken → IsSearchOnTheWay x t root s → IsAccounted t root s pops → IsAccounted t root s' (pops + taken)
     step_accounted s s' pops taken (Block c u k d e) o a =
         subst (λ n. IsAccounted t root s' (pops + n)) (sym e)
         (falls_accounted t root u s' (pops + 1) (block_inside t root c s u o.waits k) (through_falls x t (body_of t c) u s' d) (block_accounted t root w c s u pops o.waits k a))
     step_accounted s s' pops taken (Values none v) o a =
-        subst (λ n. IsAccounted t root s' (pops + n)) (sym v.counted)
-        (falls_accounted t root v.between s' (pops + length v.values) (values_kept_inside t root v.values s v.between o.waits v.takes) (through_falls x t v.users v.between s' v.looks) (values_accounted t root w v.values s v.between pops o.waits v.takes a))
+        subst (λ n. IsAccounted t root s' (pops + n)) (sym v.takes.counted)
+        (falls_accounted t root v.between s' (pops + length v.takes.values) (values_kept_inside t root v.takes.values s v.between o.waits v.takes.takes) (through_falls x t v.users v.between s' v.looks) (values_accounted t root w v.takes.values s v.between pops o.waits v.takes.takes a))
+
+  -- the blocks that an operation in a block that is reached may enter have numbers
+  pub targets_numbered : EdgesLast t root → (s : Tables) → IsSearchOnTheWay x t root s → AreTargetsNumbered t s
+  targets_numbered edges s o k b placed reached = record {
+    entries = λ r e i first. o.numbered e (holds_listed t w root e (k, held_directly t w k r e i (first_of-In e (layout_of t r) first), inr within));
+    successors = λ e i. let h = holds in o.numbered e (holds_listed t w root e (h.0, beside e i ∙ h.1, h.2));
+  }
+    where
+      holds : HoldsBlock t root b
+      holds = o.started.inside b reached
+
+      within : IsInside t root k
+      within = inside_block b placed holds
+
+      beside : (e : ℕ) → In e (successors_of t k) → block_holder_of t e ≡ block_holder_of t b
+      beside e i = ap (λ q. up_from q (λ r. region_parent_of t r)) ((edges k e i (inl within)).own_region e i ∙ ap (block_parent_of t) (some_is (sym (edges k e i (inl within)).in_block ∙ placed)))
 
   -- where nothing was taken nothing waits
-  pub nothing_waits : (s s' : Solver) (taken : ℕ) → taken ≡ 0 → Steps x t s s' taken → NothingWaits s'
+  pub nothing_waits : (s s' : Tables) (taken : ℕ) → taken ≡ 0 → Steps x t s s' taken → NothingWaits s'
   nothing_waits s s' taken none_taken (Block c u k d e) = absurd (one_is_none (sym e ∙ none_taken))
     where
       one_is_none : ◌≡◌ {A = ℕ} 1 0 → ⊥
       one_is_none e = omega (arith, e)
-  nothing_waits s s' taken none_taken (Values none v) = same (no_users v.users v.are_users (no_values v.values (sym v.counted ∙ none_taken))) v.looks
+  nothing_waits s s' taken none_taken (Values none v) = same (no_users v.users v.takes.are_users (no_values v.takes.values (sym v.takes.counted ∙ none_taken))) v.looks
     where
       no_values : (vs : List ℕ) → length vs ≡ 0 → vs ≡ []
       no_values [] e = refl
       no_values (y ∷ ys) e = absurd (omega (arith, e))
 
-      no_users : (us : List ℕ) → AreUsersOf t v.values us v.between → v.values ≡ [] → us ≡ []
+      no_users : (us : List ℕ) → AreUsersOf t v.takes.values us v.between → v.takes.values ≡ [] → us ≡ []
       no_users [] a e = refl
       no_users (k ∷ us) a e = let y = (a.only k (inl refl)).1 in absurd (subst (In y.0) e y.1)
 
-      same_tables : (u : Solver) → LooksThrough x t [] v.between u → u ≡ v.between
+      same_tables : (u : Tables) → LooksThrough x t [] v.between u → u ≡ v.between
       same_tables u Nothing = refl
 
       same : v.users ≡ [] → LooksThrough x t v.users v.between s' → NothingWaits s'
       same e d =
           let is : s' ≡ v.between = same_tables s' (subst (λ us. LooksThrough x t us v.between s') e d) in
           record {
-            blocks = λ b. ap (λ z. waits_block z b) is ∙ v.takes.blocks b ∙ none b;
-            values = λ y. ap (λ z. waits_value z y) is ∙ v.takes.values y;
+            blocks = λ b. ap (λ z. waits_block z b) is ∙ v.takes.takes.blocks b ∙ none b;
+            values = λ y. ap (λ z. waits_value z y) is ∙ v.takes.takes.values y;
           }
 
-  pub closed_at_end : (s : Solver) → NothingWaits s → IsSearchOnTheWay x t root s → AreClosed x t root (facts_of s)
+  pub closed_at_end : (s : Tables) → NothingWaits s → IsSearchOnTheWay x t root s → AreClosed x t root (facts_of s)
   closed_at_end s done o = closed_when_settled x t root (facts_of s) o.started
       (λ k b q p r at. ⊎_elim
       (λ y. absurd (true≢false (sym y ∙ done.blocks b)))
@@ -259,10 +279,10 @@ module _ (x : Says) (t : Tree) (root : ℕ) (w : IsTree t) (live : IsLive t root
   few_to_take few = let b = few_blocks few in let v = few_values few in omega (arith, b, v)
 
   module _ (linked : IsWellLinked x.meaning t root) (answers : AnswersTrue x.meaning x.can_fold x.constants) (places : ForwardsItsOperands x) where
-    pub started_search : (s : Solver) → IsStarted t root s → IsSearching x t root s 0
+    pub started_search : (s : Tables) → IsStarted t root s → IsSearching x t root s 0
     started_search s start = record { way = start_on_way s start; accounted = start_accounted s start; best = λ owed. start_best x t root w linked answers places owed s start }
 
-    module _ (s s' : Solver) (pops taken : ℕ) (step : Steps x t s s' taken) (so_far : IsSearching x t root s pops) where
+    module _ (s s' : Tables) (pops taken : ℕ) (step : Steps x t s s' taken) (so_far : IsSearching x t root s pops) where
       pub next_search : IsSearching x t root s' (pops + taken)
       next_search = record {
         way = step_on_way linked.edges s s' taken step so_far.way;

@@ -1,9 +1,9 @@
 -- What looking at operations does to what is settled and to what is reached.
-use Rattle.std.proofs.Common.{◌≡◌, ◌⊎◌, inl, inr, ⊎_elim, ℕ, Bool, true, false, true≢false, not, nat_eq, if◌then◌else◌, List, [], ◌∷◌, Some, None, slice_get, refl, sym, ap, ◌∙◌, subst, arith}
+use Rattle.std.proofs.Common.{◌≡◌, ◌⊎◌, ◌↔◌, inl, inr, ⊎_elim, ℕ, Bool, true, false, true≢false, not, nat_eq, if◌then◌else◌, List, [], ◌∷◌, Some, None, slice_get, refl, sym, ap, ◌∙◌, subst, arith}
 use Rattle.std.specs.List.{flat_map}
 use Rattle.std.proofs.lemmas.Bool.{eqb-true, eq-eqb}
 use Rattle.pliron_core.specs.Lists.{In, first_of}
-use Rattle.pliron_core.specs.Tree.{Tree, IsInside, regions_of, results_of, successors_of, arguments_of, parent_of, body_of, layout_of, block_parent_of, block_holder_of, region_parent_of, up_from}
+use Rattle.pliron_core.specs.Tree.{Tree, IsInside, IsLive, regions_of, results_of, successors_of, arguments_of, parent_of, body_of, layout_of, block_parent_of, block_holder_of, region_parent_of, up_from}
 use Rattle.pliron_core.specs.Joined.{IsTree}
 use Rattle.pliron_core.proofs.FlatLemmas.{In-flat_map, flat_map-In}
 use Rattle.pliron_core.proofs.ListLemmas.{decide_in, In-left, In-right}
@@ -13,20 +13,52 @@ use Rattle.pliron_laws.specs.Linked.{EdgesLast}
 use Rattle.pliron_laws.specs.Tree.{Operation, op_at}
 use Rattle.pliron_laws.proofs.Records.{make_op, op_shows}
 use Rattle.pliron_theory.specs.Facts.{Fact, Undetermined, NotAConstant, Facts, Says, IsInReachedBlock, AreHeld}
-use Rattle.pliron_sccp.specs.declared.tables.Solver.{Solver}
-use Rattle.pliron_sccp.specs.Tables.{fact_in, reaches, waits_block, waits_value, facts_of, TakesBlock}
+use Rattle.pliron_sccp.specs.declared.facts.Tables.{Tables}
+use Rattle.pliron_sccp.specs.Tables.{constants_of, fact_in, has_number, lowest_facts, reaches, waits_block, waits_value, facts_of, TakesBlock}
 use Rattle.pliron_sccp.specs.Inside.{block_values}
 use Rattle.pliron_sccp.specs.Settling.{IsMet, AreAtMost, AreSettledBut, AreStarted}
 use Rattle.pliron_sccp.specs.Falling.{FactsFall}
-use Rattle.pliron_sccp.specs.Looking.{LooksAt, LooksThrough, TakesValues, AreUsersOf}
+use Rattle.pliron_sccp.specs.Demands.{Asks, AsksEntries, CanMeet, MeetsAll}
+use Rattle.pliron_sccp.specs.declared.demands.Demand.{Demand}
+use Rattle.pliron_sccp.specs.Looking.{AreTargetsNumbered, HasNumberedTargets, LooksAt, LooksThrough, TakesValues, AreUsersOf}
 use Rattle.pliron_sccp.specs.Looking.LooksThrough.{Nothing, Then}
 use Rattle.pliron_sccp.specs.Accounts.{AreKnownThere}
 use Rattle.pliron_sccp.proofs.DistinctLists.{held_directly, values_apart}
 use Rattle.pliron_sccp.proofs.Settled.{met_still, met_same, entered_still, varies_still}
 use Rattle.pliron_sccp.proofs.Applied.{falls_refl, falls_trans}
 
+-- what an operation asks can be met where the blocks that it may enter have numbers
+pub can_meet : (x : Says) (t : Tree) (k : ℕ) (s : Tables) (asked : List Demand) → IsLive t k → HasNumberedTargets t s k → Asks (constants_of s) x t (facts_of s) k asked → CanMeet s asked
+can_meet x t k s asked live n asks = (asks o.0 o.1 (lowest_facts s)).1 met
+  where
+    o : (o : Operation) × (op_at t k ≡ Some o)
+    o = let h = some_of _ live in (_, make_op t k h.0 h.1)
+
+    successor : (i b : ℕ) → slice_get o.0.successors i ≡ Some b → has_number s b ≡ true
+    successor i b e = n.successors b (subst (In b) (sym (op_shows t k o.0 o.1).successors) (in_slice o.0.successors i b e))
+
+    met : IsMet x t (facts_of s) (lowest_facts s) k o.0
+    met = record {
+      entries = λ r b i e. (n.entries r b i e, λ v j. refl);
+      branches = λ i b branch go. (successor i b go.0, λ j v y listed forwards. inr (inl refl));
+      jumps = λ i b none e. (successor i b e, λ v j. refl);
+      folded = λ i v a folds listed said. inr (inl refl);
+      others = λ v none i. refl;
+    }
+
+-- numbers stay
+pub targets_same : (t : Tree) (s u : Tables) → ((b : ℕ) → has_number u b ≡ has_number s b) → (k : ℕ) → HasNumberedTargets t s k → HasNumberedTargets t u k
+targets_same t s u numbers k n = record { entries = λ r b i e. numbers b ∙ n.entries r b i e; successors = λ b i. numbers b ∙ n.successors b i }
+
+pub targets_kept : (t : Tree) (s u : Tables) → ((b : ℕ) → has_number u b ≡ has_number s b) → ((b : ℕ) → reaches u b ≡ reaches s b) → AreTargetsNumbered t s → AreTargetsNumbered t u
+targets_kept t s u numbers reached n k b placed r = targets_same t s u numbers k (n k b placed (sym (reached b) ∙ r))
+
+-- the entries of the root can be met where all blocks inside it have numbers
+pub can_start : (t : Tree) (root : ℕ) (s : Tables) (asked : List Demand) → ((r b : ℕ) → In r (regions_of t root) → first_of (layout_of t r) None ≡ Some b → has_number s b ≡ true) → ((now : Facts) → MeetsAll (constants_of s) now asked ↔ AsksEntries t root now) → CanMeet s asked
+can_start t root s asked n asks = (asks (lowest_facts s)).1 (λ r b i e. (n r b i e, λ v j. refl))
+
 -- two tables say the same of facts
-module _ (s u : Solver) (facts : (v : ℕ) → fact_in u v ≡ fact_in s v) (reached : (b : ℕ) → reaches u b ≡ reaches s b) where
+module _ (s u : Tables) (facts : (v : ℕ) → fact_in u v ≡ fact_in s v) (reached : (b : ℕ) → reaches u b ≡ reaches s b) where
   pub below_same : AreAtMost (facts_of u) (facts_of s)
   below_same = record { reaches = λ b r. reached b ∙ r; fact = λ v. inr (inr (facts v)) }
 
@@ -34,7 +66,7 @@ module _ (s u : Solver) (facts : (v : ℕ) → fact_in u v ≡ fact_in s v) (rea
   met_there x t k o m = met_same x t (facts_of s) (facts_of u) (facts_of u) k o (λ v i. facts v) (met_still x t (facts_of s) (facts_of s) (facts_of u) k o below_same m)
 
 -- facts of these are as before, or one of them waits
-pub same_or_waits : (s u : Solver) → FactsFall s u → (vs : List ℕ) → ((v : ℕ) → In v vs → fact_in u v ≡ fact_in s v) ⊎ ((v : ℕ) × In v vs × (waits_value u v ≡ true))
+pub same_or_waits : (s u : Tables) → FactsFall s u → (vs : List ℕ) → ((v : ℕ) → In v vs → fact_in u v ≡ fact_in s v) ⊎ ((v : ℕ) × In v vs × (waits_value u v ≡ true))
 same_or_waits s u f [] = inl (λ v i. absurd i)
 same_or_waits s u f (x ∷ vs) = ⊎_elim
     (λ e. ⊎_elim
@@ -84,7 +116,7 @@ entry_held t w k b i =
 
 -- facts by which the same blocks are reached, nothing is known of one value, and all others are not constant: where
 -- that value is listed by a block that is not reached
-module _ (t : Tree) (w : IsTree t) (s u : Solver) (b v : ℕ) (listed : In v (block_values t b)) (none : reaches u b ≡ false) (unknown : fact_in s v ≡ Undetermined) (still : (z : ℕ) → reaches s z ≡ true → reaches u z ≡ true) where
+module _ (t : Tree) (w : IsTree t) (s u : Tables) (b v : ℕ) (listed : In v (block_values t b)) (none : reaches u b ≡ false) (unknown : fact_in s v ≡ Undetermined) (still : (z : ℕ) → reaches s z ≡ true → reaches u z ≡ true) where
   abbrev pub all_but_one : Facts
   all_but_one = record { reaches = λ z. reaches u z; fact = λ z. if nat_eq v z then Undetermined else NotAConstant }
 
@@ -121,7 +153,7 @@ module _ (t : Tree) (w : IsTree t) (s u : Solver) (b v : ℕ) (listed : In v (bl
       lowest f (inr (inl n)) = absurd (apart (sym own ∙ n))
       lowest f (inr (inr e)) = sym e ∙ own
 
-pub not_yet : (s u : Solver) (b : ℕ) → ((z : ℕ) → reaches s z ≡ true → reaches u z ≡ true) → reaches u b ≡ false → reaches s b ≡ false
+pub not_yet : (s u : Tables) (b : ℕ) → ((z : ℕ) → reaches s z ≡ true → reaches u z ≡ true) → reaches u b ≡ false → reaches s b ≡ false
 not_yet s u b still none = by (reaches s b) refl
   where
     by : (q : Bool) → reaches s b ≡ q → reaches s b ≡ false
@@ -129,14 +161,14 @@ not_yet s u b still none = by (reaches s b) refl
     by false e = e
 
 module _ (x : Says) (t : Tree) where
-  abbrev pub IsSettled : Solver → (ℕ → Type 0) → Type 0
+  abbrev pub IsSettled : Tables → (ℕ → Type 0) → Type 0
   IsSettled s todo = AreSettledBut x t (facts_of s) (λ b. waits_block s b ≡ true) (λ v. waits_value s v ≡ true) todo
 
   -- it is met by the facts now, or an operand fell
-  met_or_waits : (s u : Solver) (k : ℕ) (o : Operation) → FactsFall s u → IsMet x t (facts_of s) (facts_of u) k o → IsMet x t (facts_of u) (facts_of u) k o ⊎ ((v : ℕ) × In v o.operands × (waits_value u v ≡ true))
+  met_or_waits : (s u : Tables) (k : ℕ) (o : Operation) → FactsFall s u → IsMet x t (facts_of s) (facts_of u) k o → IsMet x t (facts_of u) (facts_of u) k o ⊎ ((v : ℕ) × In v o.operands × (waits_value u v ≡ true))
   met_or_waits s u k o f m = ⊎_elim (λ same. inl (met_same x t (facts_of s) (facts_of u) (facts_of u) k o same m)) (λ w. inr w) (same_or_waits s u f o.operands)
 
-  look_settles : (k : ℕ) (ks : List ℕ) (s u : Solver) → LooksAt x t k s u → IsSettled s (λ j. In j (k ∷ ks)) → IsSettled u (λ j. In j ks)
+  look_settles : (k : ℕ) (ks : List ℕ) (s u : Tables) → LooksAt x t k s u → IsSettled s (λ j. In j (k ∷ ks)) → IsSettled u (λ j. In j ks)
   look_settles k ks s u l settled j b o p r at = ⊎_elim (λ old. before (settled j b o p old at)) (λ new. inl new) (f.entered b r)
     where
       f : FactsFall s u
@@ -155,17 +187,17 @@ module _ (x : Says) (t : Tree) where
       before (inr (inr (inr (inl e)))) = after_it (here e)
       before (inr (inr (inr (inr i)))) = inr (inr (inr i))
 
-  pub through_settles : (ks : List ℕ) (s u : Solver) → LooksThrough x t ks s u → IsSettled s (λ j. In j ks) → IsSettled u (λ j. ⊥)
+  pub through_settles : (ks : List ℕ) (s u : Tables) → LooksThrough x t ks s u → IsSettled s (λ j. In j ks) → IsSettled u (λ j. ⊥)
   through_settles [] s u Nothing settled = settled
   through_settles (k ∷ ks) s u (Then _ q l d) settled = through_settles ks q u d (look_settles k ks s q l settled)
 
-  pub through_falls : (ks : List ℕ) (s u : Solver) → LooksThrough x t ks s u → FactsFall s u
+  pub through_falls : (ks : List ℕ) (s u : Tables) → LooksThrough x t ks s u → FactsFall s u
   through_falls [] s u Nothing = falls_refl s
   through_falls (k ∷ ks) s u (Then _ q l d) = falls_trans s q u l.applied.falls (through_falls ks q u d)
 
   module _ (w : IsTree t) where
     -- a block is taken: its operations are still to be looked at
-    pub block_settles : (c : ℕ) (s u : Solver) → TakesBlock c s u → IsSettled s (λ j. ⊥) → IsSettled u (λ j. In j (body_of t c))
+    pub block_settles : (c : ℕ) (s u : Tables) → TakesBlock c s u → IsSettled s (λ j. ⊥) → IsSettled u (λ j. In j (body_of t c))
     block_settles c s u k settled j b o p r at = before (settled j b o p (sym (k.reached b) ∙ r) at)
       where
         taken : (q : Bool) → nat_eq c b ≡ q → waits_block s b ≡ true → (waits_block u b ≡ true) ⊎ IsMet x t (facts_of u) (facts_of u) j o ⊎ ((v : ℕ) × In v o.operands × (waits_value u v ≡ true)) ⊎ In j (body_of t c)
@@ -179,7 +211,7 @@ module _ (x : Says) (t : Tree) where
         before (inr (inr (inr z))) = absurd z
 
     -- all values are taken: their users are still to be looked at
-    pub values_settle : (values users : List ℕ) (s u : Solver) → TakesValues values s u → AreUsersOf t values users u → IsSettled s (λ j. ⊥) → IsSettled u (λ j. In j users)
+    pub values_settle : (values users : List ℕ) (s u : Tables) → TakesValues values s u → AreUsersOf t values users u → IsSettled s (λ j. ⊥) → IsSettled u (λ j. In j users)
     values_settle values users s u k a settled j b o p r at = before (settled j b o p (sym (k.reached b) ∙ r) at)
       where
         read : (q : Bool) → waits_block u b ≡ q → (v : ℕ) → In v o.operands → waits_value s v ≡ true → (waits_block u b ≡ true) ⊎ IsMet x t (facts_of u) (facts_of u) j o ⊎ ((v : ℕ) × In v o.operands × (waits_value u v ≡ true)) ⊎ In j users
@@ -193,7 +225,7 @@ module _ (x : Says) (t : Tree) where
         before (inr (inr (inr z))) = absurd z
 
   -- a block that comes to be reached is an entry of the operation's regions or a successor of it
-  module _ (k : ℕ) (o : Operation) (at : op_at t k ≡ Some o) (s u : Solver) (l : LooksAt x t k s u) where
+  module _ (k : ℕ) (o : Operation) (at : op_at t k ≡ Some o) (s u : Tables) (l : LooksAt x t k s u) where
     not_else : (b : ℕ) → reaches s b ≡ false → (In b (entries_of t k) → ⊥) → (In b (successors_of t k) → ⊥) → reaches u b ≡ true → ⊥
     not_else b old no_entry no_successor new = true≢false (sym (least.reaches b new) ∙ ap not (eq-eqb b b refl))
       where
@@ -229,7 +261,7 @@ module _ (x : Says) (t : Tree) where
 
 -- an operation in a block that is reached is looked at
 module _ (x : Says) (t : Tree) (root : ℕ) (w : IsTree t) (edges : EdgesLast t root) where
-  module _ (k c : ℕ) (s u : Solver) (l : LooksAt x t k s u) (placed : parent_of t k ≡ Some c) (here : reaches s c ≡ true) (started : AreStarted t root (facts_of s)) where
+  module _ (k c : ℕ) (s u : Tables) (l : LooksAt x t k s u) (placed : parent_of t k ≡ Some c) (here : reaches s c ≡ true) (started : AreStarted t root (facts_of s)) where
     operation : (o : Operation) × (op_at t k ≡ Some o)
     operation = let h = some_of _ (w.joined.standing k c placed).0 in (_, make_op t k h.0 h.1)
 

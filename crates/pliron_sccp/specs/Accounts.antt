@@ -2,8 +2,8 @@
 use Rattle.std.specs.Prelude.{◌≡◌, ◌≢◌, ◌≤◌, ◌+◌, ◌*◌, ℕ, Bool, true, false, List, filter, length, IsTrue}
 use Rattle.pliron_core.specs.Tree.{Tree, In}
 use Rattle.pliron_theory.specs.Facts.{Undetermined, NotAConstant}
-use Rattle.pliron_sccp.specs.declared.tables.Solver.{Solver}
-use Rattle.pliron_sccp.specs.Tables.{fact_in, reaches, waits_block, waits_value}
+use Rattle.pliron_sccp.specs.declared.facts.Tables.{Tables}
+use Rattle.pliron_sccp.specs.Tables.{has_number, fact_in, reaches, waits_block, waits_value}
 use Rattle.pliron_sccp.specs.Chain.{blocks_inside, is_constant, varies}
 use Rattle.pliron_sccp.specs.Inside.{block_values, values_inside}
 
@@ -13,44 +13,45 @@ count p xs = length (filter p xs)
 
 -- of the blocks inside the root, how many are reached; of the values that these list, how many are constants, and how
 -- many are not constant; and how many of both still wait
-abbrev pub reached_count : Tree → ℕ → Solver → ℕ
+abbrev pub reached_count : Tree → ℕ → Tables → ℕ
 reached_count t root s = count (λ b. reaches s b) (blocks_inside t root)
 
-abbrev pub constant_count : Tree → ℕ → Solver → ℕ
+abbrev pub constant_count : Tree → ℕ → Tables → ℕ
 constant_count t root s = count (λ v. is_constant (fact_in s v)) (values_inside t root)
 
-abbrev pub varying_count : Tree → ℕ → Solver → ℕ
+abbrev pub varying_count : Tree → ℕ → Tables → ℕ
 varying_count t root s = count (λ v. varies (fact_in s v)) (values_inside t root)
 
-abbrev pub waiting_count : Tree → ℕ → Solver → ℕ
+abbrev pub waiting_count : Tree → ℕ → Tables → ℕ
 waiting_count t root s = count (λ b. waits_block s b) (blocks_inside t root) + count (λ v. waits_value s v) (values_inside t root)
 
 -- what was taken and what still waits are together at least as many as the blocks that are reached and the values that
 -- are known, and at most one more for each value that is not constant, since such a one may have fallen twice
-pub record IsAccounted (t : Tree) (root : ℕ) (s : Solver) (pops : ℕ) : Type 0 where
+pub record IsAccounted (t : Tree) (root : ℕ) (s : Tables) (pops : ℕ) : Type 0 where
   pub least : reached_count t root s + constant_count t root s + varying_count t root s ≤ pops + waiting_count t root s
   pub most : pops + waiting_count t root s ≤ reached_count t root s + constant_count t root s + 2 * varying_count t root s
 
 -- a block that waits is inside the root and reached, a value that waits is listed there and known, and other values are
 -- not constant
-pub record WaitsInside (t : Tree) (root : ℕ) (s : Solver) : Type 0 where
+pub record WaitsInside (t : Tree) (root : ℕ) (s : Tables) : Type 0 where
   pub blocks : (b : ℕ) → waits_block s b ≡ true → In b (blocks_inside t root) × IsTrue (reaches s b)
   pub values : (v : ℕ) → waits_value s v ≡ true → In v (values_inside t root) × (fact_in s v ≢ Undetermined)
   pub outside : (v : ℕ) → (In v (values_inside t root) → ⊥) → fact_in s v ≡ NotAConstant
 
--- before the search: nothing is reached, nothing is known inside the root, and nothing waits
-pub record IsUnsearched (t : Tree) (root : ℕ) (s : Solver) : Type 0 where
+-- before the search: nothing is reached, nothing is known inside the root, nothing waits, and the blocks have numbers
+pub record IsUnsearched (t : Tree) (root : ℕ) (s : Tables) : Type 0 where
   pub reached : (b : ℕ) → reaches s b ≡ false
   pub inside : (v : ℕ) → In v (values_inside t root) → fact_in s v ≡ Undetermined
   pub outside : (v : ℕ) → (In v (values_inside t root) → ⊥) → fact_in s v ≡ NotAConstant
   pub blocks : (b : ℕ) → waits_block s b ≡ false
   pub values : (v : ℕ) → waits_value s v ≡ false
+  pub numbered : (b : ℕ) → In b (blocks_inside t root) → has_number s b ≡ true
 
 -- what is known of a value that is made inside the root is known of one that is made in a block that is reached
-abbrev pub AreKnownThere : Tree → ℕ → Solver → Type 0
+abbrev pub AreKnownThere : Tree → ℕ → Tables → Type 0
 AreKnownThere t root s = (b v : ℕ) → In b (blocks_inside t root) → In v (block_values t b) → reaches s b ≡ false → fact_in s v ≡ Undetermined
 
 -- nothing waits
-pub record NothingWaits (s : Solver) : Type 0 where
+pub record NothingWaits (s : Tables) : Type 0 where
   pub blocks : (b : ℕ) → waits_block s b ≡ false
   pub values : (v : ℕ) → waits_value s v ≡ false

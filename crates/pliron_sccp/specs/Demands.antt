@@ -6,24 +6,36 @@ use Rattle.pliron_core.specs.Tree.{Tree, In, head_of, regions_of, successors_of,
 use Rattle.pliron_laws.specs.Datum.{Head, Meaning}
 use Rattle.pliron_laws.specs.Tree.{Operation, op_at, shape_of}
 use Rattle.pliron_laws.specs.Folding.{Feasible}
-use Rattle.pliron_theory.specs.Facts.{NotAConstant, AtMost, answered, Facts, Says, IsFeasibleEdge, Forwards, IsEntered}
-use Rattle.pliron_sccp.specs.declared.applying.Demand.{Demand}
-use Rattle.pliron_sccp.specs.declared.applying.Demand.TheVariants.{Enter, Lower}
-use Rattle.pliron_sccp.specs.Tables.{meant}
+use Rattle.pliron_theory.specs.Facts.{Fact, Constant, NotAConstant, AtMost, answered, Facts, Says, IsFeasibleEdge, Forwards, IsEntered}
+use Rattle.pliron_sccp.specs.declared.demands.Demand.{Demand}
+use Rattle.pliron_sccp.specs.declared.demands.Demand.TheVariants.{Enter, Lower, Answer}
+use Rattle.pliron_sccp.specs.declared.facts.Tables.{Tables}
+use Rattle.pliron_sccp.specs.Cells.{Means}
+use Rattle.pliron_sccp.specs.Tables.{constants_of, lowest_facts}
 use Rattle.pliron_sccp.specs.Settling.{IsMet}
 
--- the block is reached, or the value's fact is at or below this one
-abbrev pub Meets : Facts → Demand → Type 0
-Meets now (Enter b) = IsTrue (now.reaches b)
-Meets now (Lower v a) = AtMost (now.fact v) (meant a)
+-- the block is reached, or the value's fact is at or below what the cell means by these constants, or at or below this
+-- constant
+abbrev pub Meets : List AttrObj → Facts → Demand → Type 0
+Meets constants now (Enter b) = IsTrue (now.reaches b)
+Meets constants now (Lower v cell) = (f : Fact) × Means constants cell f × AtMost (now.fact v) f
+Meets constants now (Answer v c) = AtMost (now.fact v) (Constant c)
 
-abbrev pub MeetsAll : Facts → List Demand → Type 0
-MeetsAll now [] = Unit {0}
-MeetsAll now (d ∷ ds) = Meets now d × MeetsAll now ds
+abbrev pub MeetsAll : List AttrObj → Facts → List Demand → Type 0
+MeetsAll constants now [] = Unit {0}
+MeetsAll constants now (d ∷ ds) = Meets constants now d × MeetsAll constants now ds
+
+-- these tables have a number for each block and each constant that is asked for
+abbrev pub CanMeet : Tables → List Demand → Type 0
+CanMeet s asked = MeetsAll (constants_of s) (lowest_facts s) asked
 
 -- what is asked now is what was asked before, and this
-abbrev pub Adds : List Demand → List Demand → (Facts → Type 0) → Type 0
-Adds old new P = (now : Facts) → MeetsAll now new ↔ (MeetsAll now old × P now)
+abbrev pub Adds : List AttrObj → (old new : List Demand) → (Facts → Type 0) → Type 0
+Adds constants old new P = (now : Facts) → MeetsAll constants now new ↔ (MeetsAll constants now old × P now)
+
+-- whatever the constants are
+abbrev pub AlwaysAdds : (old new : List Demand) → (Facts → Type 0) → Type 0
+AlwaysAdds old new P = (constants : List AttrObj) → Adds constants old new P
 
 -- the items before index i are so
 abbrev pub EachBefore : List ℕ → ℕ → (ℕ → ℕ → Type 0) → Type 0
@@ -62,8 +74,8 @@ MayLead None b answer = IsTrue answer
 MayLead (Some blocks) b answer = answer ≡ contains nat_eq blocks b
 
 -- facts meet all that is asked exactly if they meet the operation, as it was read under the facts f
-abbrev pub Asks : Says → Tree → Facts → ℕ → List Demand → Type 0
-Asks x t f op asked = (o : Operation) → op_at t op ≡ Some o → (now : Facts) → MeetsAll now asked ↔ IsMet x t f now op o
+abbrev pub Asks : List AttrObj → Says → Tree → Facts → ℕ → List Demand → Type 0
+Asks constants x t f op asked = (o : Operation) → op_at t op ≡ Some o → (now : Facts) → MeetsAll constants now asked ↔ IsMet x t f now op o
 
 -- what is asked for the item at one index
 abbrev pub IsNotConstant : Facts → (j v : ℕ) → Type 0

@@ -2,7 +2,7 @@
 pub use Rattle.pliron_theory.specs.Edges.{blocks_directly_in}
 use Rattle.std.specs.Prelude.{ℕ, List, ◌++◌}
 use Rattle.std.specs.List.{flat_map}
-use Rattle.pliron_core.specs.Tree.{Tree, regions_of, results_of, arguments_of, body_of, layout_of}
+use Rattle.pliron_core.specs.Tree.{Tree, results_of, arguments_of, body_of}
 use Rattle.pliron_sccp.specs.Chain.{blocks_inside}
 
 -- the values that a block lists: its arguments, and the results of its operations

@@ -5,6 +5,7 @@ pub mod Steps
 pub mod Settling
 pub mod Visiting
 pub mod Found
+pub mod Cells
 pub mod Tables
 pub mod Demands
 pub mod Falling

@@ -1,37 +1,42 @@
 -- What the tables of the search for facts say, and what each call does to them.
-use Rattle.std.specs.Prelude.{◌≡◌, ◌≢◌, ◌⊎◌, ℕ, Bool, true, false, nat_eq, if◌then◌else◌, Option, Some, None}
-use Rattle.std.specs.HashMap.{get}
-use Rattle.std.specs.HashSet.{contains}
-use Rattle.indexmap.specs.IndexSet.{contains as waits}
-use Rattle.pliron_sccp.specs.declared.tables.Fact.{Fact as TableFact}
-use Rattle.pliron_sccp.specs.declared.tables.Fact.TheVariants.{Undetermined as Unknown, Constant as Known, NotAConstant as Varying}
-use Rattle.pliron_sccp.specs.declared.tables.Solver.{Solver}
-use Rattle.pliron_theory.specs.Facts.{Fact, Undetermined, Constant, NotAConstant, AtMost, Facts}
+use Rattle.std.specs.Prelude.{◌≡◌, ◌≢◌, ◌⊎◌, ◌+◌, ◌<◌, ◌^◌, ℕ, Bool, true, false, nat_eq, if◌then◌else◌, List, Some, length}
+use Rattle.std.specs.List.{list_any}
+use Rattle.indexmap.specs.IndexSet.{contains, index_of}
+use Rattle.pliron_core.specs.declared.attrs.AttrObj.{AttrObj}
+use Rattle.pliron_sccp.specs.declared.facts.Tables.{Tables}
+use Rattle.pliron_sccp.specs.Cells.{is_reached, is_waiting, mark_at, cell_at, fall_at, said, KeepsConstants}
+use Rattle.pliron_theory.specs.Facts.{Fact, Undetermined, NotAConstant, AtMost, Facts}
 
-abbrev pub meant : TableFact → Fact
-meant Unknown = Undetermined
-meant (Known c) = Constant c
-meant Varying = NotAConstant
+-- whether the block has a number
+abbrev pub has_number : Tables → ℕ → Bool
+has_number s b = contains nat_eq s.blocks b
 
--- a value that was never entered is not a constant
-abbrev pub meant_or : Option TableFact → Fact
-meant_or None = NotAConstant
-meant_or (Some f) = meant f
+-- the constants, in the order of their numbers
+abbrev pub constants_of : Tables → List AttrObj
+constants_of s = s.constants.items
 
-abbrev pub fact_in : Solver → ℕ → Fact
-fact_in s v = meant_or (get nat_eq s.facts v)
+abbrev pub fact_in : Tables → ℕ → Fact
+fact_in s v = said s.constants.items (cell_at s.cells.items (index_of nat_eq s.values v))
 
-abbrev pub reaches : Solver → ℕ → Bool
-reaches s b = contains nat_eq s.reached b
+abbrev pub reaches : Tables → ℕ → Bool
+reaches s b = is_reached (mark_at s.marks.items (index_of nat_eq s.blocks b))
 
-abbrev pub waits_block : Solver → ℕ → Bool
-waits_block s b = waits nat_eq s.blocks b
+abbrev pub waits_block : Tables → ℕ → Bool
+waits_block s b = is_waiting (mark_at s.marks.items (index_of nat_eq s.blocks b))
 
-abbrev pub waits_value : Solver → ℕ → Bool
-waits_value s v = waits nat_eq s.values v
+abbrev pub waits_value : Tables → ℕ → Bool
+waits_value s v = fall_at s.falls.items (index_of nat_eq s.values v)
 
-abbrev pub facts_of : Solver → Facts
+-- how many values wait
+abbrev pub left_values : Tables → ℕ
+left_values s = length s.waiting_values.items
+
+abbrev pub facts_of : Tables → Facts
 facts_of s = record { reaches = λ b. reaches s b; fact = λ v. fact_in s v }
+
+-- the lowest facts that these tables can hold: each block with a number is reached, and nothing is a constant
+abbrev pub lowest_facts : Tables → Facts
+lowest_facts s = record { reaches = λ b. has_number s b; fact = λ v. NotAConstant }
 
 -- m is the greatest fact at or below f and g
 pub record IsMeet (f g m : Fact) : Type 0 where
@@ -43,41 +48,73 @@ pub record IsMeet (f g m : Fact) : Type 0 where
 abbrev pub FallsTo : Fact → Fact → Fact → Type 0
 FallsTo f g m = IsMeet f g m × (m ≢ f)
 
-pub record IsEmptySolver (s : Solver) : Type 0 where
-  pub facts : (v : ℕ) → fact_in s v ≡ NotAConstant
+-- over these blocks and values: no block is reached, nothing is known of a value, and nothing waits
+pub record AreNew (blocks values : List ℕ) (s : Tables) : Type 0 where
+  pub numbers : (b : ℕ) → has_number s b ≡ list_any (nat_eq b) blocks
   pub reached : (b : ℕ) → reaches s b ≡ false
-  pub blocks : (b : ℕ) → waits_block s b ≡ false
-  pub values : (v : ℕ) → waits_value s v ≡ false
+  pub facts : (v : ℕ) → fact_in s v ≡ (if list_any (nat_eq v) values then Undetermined else NotAConstant)
+  pub blocks_wait : (b : ℕ) → waits_block s b ≡ false
+  pub values_wait : (v : ℕ) → waits_value s v ≡ false
 
 -- the block is reached, and waits if it was not
-pub record Enters (block : ℕ) (s s' : Solver) : Type 0 where
+pub record Enters (block : ℕ) (s s' : Tables) : Type 0 where
   pub reached : (b : ℕ) → reaches s' b ≡ (if nat_eq block b then true else reaches s b)
-  pub told : ((reaches s block ≡ true) × ((b : ℕ) → waits_block s' b ≡ waits_block s b)) ⊎ ((reaches s block ≡ false) × ((b : ℕ) → waits_block s' b ≡ (if nat_eq block b then true else waits_block s b)))
+  pub blocks : (b : ℕ) → waits_block s' b ≡ (if nat_eq block b then (if reaches s block then waits_block s block else true) else waits_block s b)
   pub facts : (v : ℕ) → fact_in s' v ≡ fact_in s v
   pub values : (v : ℕ) → waits_value s' v ≡ waits_value s v
+  pub numbers : (b : ℕ) → has_number s' b ≡ has_number s b
+  pub keeps : KeepsConstants (constants_of s) (constants_of s')
 
 -- the fact of the value falls to the greatest one below both, and it waits if that is another one
-pub record Lowers (value : ℕ) (to : Fact) (s s' : Solver) : Type 0 where
+pub record Lowers (value : ℕ) (to : Fact) (s s' : Tables) : Type 0 where
   pub met : IsMeet (fact_in s value) to (fact_in s' value)
   pub told : ((fact_in s' value ≡ fact_in s value) × (waits_value s' value ≡ waits_value s value)) ⊎ ((fact_in s' value ≢ fact_in s value) × (waits_value s' value ≡ true))
   pub others : (v : ℕ) → nat_eq value v ≡ false → (fact_in s' v ≡ fact_in s v) × (waits_value s' v ≡ waits_value s v)
   pub reached : (b : ℕ) → reaches s' b ≡ reaches s b
   pub blocks : (b : ℕ) → waits_block s' b ≡ waits_block s b
+  pub numbers : (b : ℕ) → has_number s' b ≡ has_number s b
+  pub keeps : KeepsConstants (constants_of s) (constants_of s')
+
+-- the value with this number waits, and nothing else changed
+pub record NowWaits (n : ℕ) (s s' : Tables) : Type 0 where
+  pub waits : (v : ℕ) → index_of nat_eq s.values v ≡ Some n → waits_value s' v ≡ true
+  pub others : (v : ℕ) → (index_of nat_eq s.values v ≡ Some n → ⊥) → waits_value s' v ≡ waits_value s v
+  pub facts : (v : ℕ) → fact_in s' v ≡ fact_in s v
+  pub reached : (b : ℕ) → reaches s' b ≡ reaches s b
+  pub blocks : (b : ℕ) → waits_block s' b ≡ waits_block s b
+  pub numbers : (b : ℕ) → has_number s' b ≡ has_number s b
+  pub keeps : KeepsConstants (constants_of s) (constants_of s')
 
 -- the block waits no longer
-pub record TakesBlock (block : ℕ) (s s' : Solver) : Type 0 where
+pub record TakesBlock (block : ℕ) (s s' : Tables) : Type 0 where
   pub waited : waits_block s block ≡ true
   pub blocks : (b : ℕ) → waits_block s' b ≡ (if nat_eq block b then false else waits_block s b)
   pub reached : (b : ℕ) → reaches s' b ≡ reaches s b
   pub facts : (v : ℕ) → fact_in s' v ≡ fact_in s v
   pub values : (v : ℕ) → waits_value s' v ≡ waits_value s v
+  pub numbers : (b : ℕ) → has_number s' b ≡ has_number s b
+
+-- the value waits no longer
+pub record TakesValue (value : ℕ) (s s' : Tables) : Type 0 where
+  pub waited : waits_value s value ≡ true
+  pub values : (v : ℕ) → waits_value s' v ≡ (if nat_eq value v then false else waits_value s v)
+  pub facts : (v : ℕ) → fact_in s' v ≡ fact_in s v
+  pub reached : (b : ℕ) → reaches s' b ≡ reaches s b
+  pub blocks : (b : ℕ) → waits_block s' b ≡ waits_block s b
+  pub numbers : (b : ℕ) → has_number s' b ≡ has_number s b
+  pub fewer : left_values s ≡ left_values s' + 1
+  pub few : left_values s < 2 ^ 64
 
 -- nothing of what is said changed
-pub record SaysSame (s s' : Solver) : Type 0 where
+pub record SaysSame (s s' : Tables) : Type 0 where
   pub facts : (v : ℕ) → fact_in s' v ≡ fact_in s v
   pub reached : (b : ℕ) → reaches s' b ≡ reaches s b
   pub blocks : (b : ℕ) → waits_block s' b ≡ waits_block s b
   pub values : (v : ℕ) → waits_value s' v ≡ waits_value s v
+  pub numbers : (b : ℕ) → has_number s' b ≡ has_number s b
 
-abbrev pub NoBlockWaits : Solver → Solver → Type 0
+abbrev pub NoBlockWaits : Tables → Tables → Type 0
 NoBlockWaits s s' = SaysSame s s' × ((b : ℕ) → waits_block s b ≡ false)
+
+abbrev pub NoValueWaits : Tables → Tables → Type 0
+NoValueWaits s s' = SaysSame s s' × ((v : ℕ) → waits_value s v ≡ false)

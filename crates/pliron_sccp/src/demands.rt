@@ -1,31 +1,46 @@
-//! What an operation asks of the facts, read under the facts so far.
-ghost use Rattle.std.specs.Prelude.{◌≡◌, ◌<◌, ◌↔◌, ℕ, nat_eq, true, if◌then◌else◌, Some, OnOk, IfOk, IfErr, IsTrue, length, slice_get};
+//! What an operation asks of the facts, read under the facts so far; and facts fall until they meet it.
+//!
+//! What is asked names a constant by its number in the tables, so that none is copied to hand it on.
+ghost use Rattle.std.specs.Prelude.{◌≡◌, ◌≤◌, ◌<◌, ◌↔◌, ◌∷◌, [], ℕ, List, nat_eq, true, if◌then◌else◌, Some, OnOk, IfOk, IfErr, IsTrue, length, slice_get};
 ghost use Rattle.std.specs.HashSet.{contains};
 ghost use Rattle.pliron_core.specs.Tree.{IsLive, IsBlock, IsRegion, In, operands_of, results_of, successors_of};
 ghost use Rattle.pliron_laws.specs.Tree.{Operation as OperationOf, op_at, shape_of};
 ghost use Rattle.pliron_laws.specs.Answers.{HeadPasses};
 ghost use Rattle.pliron_laws.specs.declared.fault.OptError.TheVariants.{Memory};
-ghost use Rattle.pliron_theory.specs.Facts.{answered, handed, IsEntered, known as known_of, NotAConstant as Varies};
-ghost use Rattle.pliron_sccp.specs.Tables.{facts_of, fact_in, meant};
-ghost use Rattle.pliron_sccp.specs.Demands.{Adds, Asks, AsksEntries, AsksEdges, AsksJumps, AsksAnswers, AsksResults, AsksForwarded, AsksBranches, FollowsEdge, AreFeasible, MayLead, EntryEntered};
+ghost use Rattle.pliron_theory.specs.Facts.{answered, handed, AtMost, IsEntered, known as known_of, NotAConstant as Varies};
+ghost use Rattle.pliron_sccp.specs.Tables.{constants_of, facts_of, fact_in};
+ghost use Rattle.pliron_sccp.specs.Cells.{Means};
+ghost use Rattle.pliron_sccp.specs.Falling.{IsApplied};
+ghost use Rattle.pliron_sccp.specs.Demands.{Adds, AlwaysAdds, CanMeet, Asks, AsksEntries, AsksEdges, AsksJumps, AsksAnswers, AsksResults, AsksForwarded, AsksBranches, FollowsEdge, AreFeasible, MayLead, EntryEntered};
 
-use crate::applying::Demand;
-use crate::tables::{Fact, Solver};
+use crate::cells::Cell;
+use crate::facts::Tables;
 use pliron_core::{AttrObj, BasicBlock, Context, Operation, Ptr, Region, Value};
 use pliron_laws::{BranchOpFoldInterface, ConstFoldInterface, Dialect, OptError};
 use pliron_theory::HasFolding;
 use std::alloc::Global;
 use std::collections::HashSet;
 
+/// One thing that an operation asks.
+#[derive(Drop)]
+pub enum Demand {
+    /// The block is reached.
+    Enter(Ptr<BasicBlock>),
+    /// The fact of the value is at or below what the cell means.
+    Lower(Value, Cell),
+    /// The fact of the value is at or below this constant.
+    Answer(Value, AttrObj),
+}
+
 /// The block is reached, and its arguments are not constants.
 fn ask_entry(block: Ptr<BasicBlock>, ctx: &Context, asked: &mut Vec<Demand>) -> Result<(), OptError>
     requires { IsBlock ctx.now.tree block }
-    ensures ok { OnOk result (Adds asked.old.items asked.new.items (λ now. IsEntered ctx.now.tree now block)) }
+    ensures ok { OnOk result (AlwaysAdds asked.old.items asked.new.items (λ now. IsEntered ctx.now.tree now block)) }
     ensures err { IfErr result (λ e. e ≡ Memory) }
 {
     asked.push(Demand::Enter(block))?;
     for i in 0..block.num_argument(ctx) {
-        asked.push(Demand::Lower(block.get_argument(ctx, i), Fact::NotAConstant))?;
+        asked.push(Demand::Lower(block.get_argument(ctx, i), Cell::NotAConstant))?;
     }
     Ok(())
 }
@@ -33,11 +48,11 @@ fn ask_entry(block: Ptr<BasicBlock>, ctx: &Context, asked: &mut Vec<Demand>) -> 
 /// No result is a constant.
 fn ask_unknown(op: Ptr<Operation>, ctx: &Context, asked: &mut Vec<Demand>) -> Result<(), OptError>
     requires { IsLive ctx.now.tree op }
-    ensures ok { OnOk result (Adds asked.old.items asked.new.items (λ now. (v : ℕ) → In v (results_of ctx.now.tree op) → now.fact v ≡ Varies)) }
+    ensures ok { OnOk result (AlwaysAdds asked.old.items asked.new.items (λ now. (v : ℕ) → In v (results_of ctx.now.tree op) → now.fact v ≡ Varies)) }
     ensures err { IfErr result (λ e. e ≡ Memory) }
 {
     for i in 0..op.num_result(ctx) {
-        asked.push(Demand::Lower(op.get_result(ctx, i), Fact::NotAConstant))?;
+        asked.push(Demand::Lower(op.get_result(ctx, i), Cell::NotAConstant))?;
     }
     Ok(())
 }
@@ -45,7 +60,7 @@ fn ask_unknown(op: Ptr<Operation>, ctx: &Context, asked: &mut Vec<Demand>) -> Re
 /// The region's entry is entered, if it has one.
 fn ask_region(region: Ptr<Region>, ctx: &Context, asked: &mut Vec<Demand>) -> Result<(), OptError>
     requires { IsRegion ctx.now.tree region }
-    ensures ok { OnOk result (Adds asked.old.items asked.new.items (λ now. EntryEntered ctx.now.tree now 0 region)) }
+    ensures ok { OnOk result (AlwaysAdds asked.old.items asked.new.items (λ now. EntryEntered ctx.now.tree now 0 region)) }
     ensures err { IfErr result (λ e. e ≡ Memory) }
 {
     match region.get_head(ctx) {
@@ -64,7 +79,7 @@ pub fn ask_entries(
     asked: &mut Vec<Demand>,
 ) -> Result<(), OptError>
     requires { IsLive ctx.now.tree op }
-    ensures ok { OnOk result (Adds asked.old.items asked.new.items (λ now. AsksEntries ctx.now.tree op now)) }
+    ensures ok { OnOk result (AlwaysAdds asked.old.items asked.new.items (λ now. AsksEntries ctx.now.tree op now)) }
     ensures err { IfErr result (λ e. e ≡ Memory) }
 {
     for i in 0..op.num_region(ctx) {
@@ -76,7 +91,7 @@ pub fn ask_entries(
 /// Each successor is entered.
 fn ask_jumps(op: Ptr<Operation>, ctx: &Context, asked: &mut Vec<Demand>) -> Result<(), OptError>
     requires { IsLive ctx.now.tree op }
-    ensures ok { OnOk result (Adds asked.old.items asked.new.items (λ now. AsksJumps ctx.now.tree op now)) }
+    ensures ok { OnOk result (AlwaysAdds asked.old.items asked.new.items (λ now. AsksJumps ctx.now.tree op now)) }
     ensures err { IfErr result (λ e. e ≡ Memory) }
 {
     for i in 0..op.num_successor(ctx) {
@@ -89,14 +104,14 @@ fn ask_jumps(op: Ptr<Operation>, ctx: &Context, asked: &mut Vec<Demand>) -> Resu
 pub(crate) fn known(
     alloc: Global,
     value: Value,
-    solver: &Solver,
+    tables: &Tables,
 ) -> Result<Option<AttrObj>, OptError>
-    ensures ok { IfOk result (λ attr. attr ≡ known_of (fact_in solver.now value)) }
+    ensures ok { IfOk result (λ attr. attr ≡ known_of (fact_in tables.now value)) }
     ensures err { IfErr result (λ e. e ≡ Memory) }
 {
-    match solver.fact(value) {
-        Some(Fact::Constant(attr)) => Ok(Some(attr.copy(alloc)?)),
-        _ => Ok(None),
+    match tables.constant(value) {
+        Some(attr) => Ok(Some(attr.copy(alloc)?)),
+        None => Ok(None),
     }
 }
 
@@ -105,51 +120,44 @@ pub(crate) fn known_operands(
     alloc: Global,
     op: Ptr<Operation>,
     ctx: &Context,
-    solver: &Solver,
+    tables: &Tables,
 ) -> Result<Vec<Option<AttrObj>>, OptError>
     requires { IsLive ctx.now.tree op }
-    ensures ok { IfOk result (λ attrs. attrs.items ≡ handed (facts_of solver.now) (operands_of ctx.now.tree op)) }
+    ensures ok { IfOk result (λ attrs. attrs.items ≡ handed (facts_of tables.now) (operands_of ctx.now.tree op)) }
     ensures err { IfErr result (λ e. e ≡ Memory) }
 {
     let mut attrs = Vec::new(alloc);
     for i in 0..op.num_operand(ctx) {
-        attrs.push(known(alloc, op.get_operand(ctx, i), solver)?)?;
+        attrs.push(known(alloc, op.get_operand(ctx, i), tables)?)?;
     }
     Ok(attrs)
 }
 
-/// The fact of one of these values.
-fn forwarded_fact(
-    alloc: Global,
-    values: &[Value],
-    j: usize,
-    solver: &Solver,
-) -> Result<Fact, OptError>
+/// What is known of one of these values.
+fn forwarded_cell(values: &[Value], j: usize, tables: &Tables) -> Cell
     requires { j < length values.now }
-    ensures ok { IfOk result (λ fact. (w : ℕ) → slice_get values.now j ≡ Some w → meant fact ≡ fact_in solver.now w) }
-    ensures err { IfErr result (λ e. e ≡ Memory) }
+    ensures { (w : ℕ) → slice_get values.now j ≡ Some w → Means (constants_of tables.now) result (fact_in tables.now w) }
 {
-    solver.copied_fact(alloc, values[j])
+    tables.cell(values[j])
 }
 
 /// The block is reached, and each argument that gets one of these values is at or below its fact.
 fn ask_forwarded(
-    alloc: Global,
     block: Ptr<BasicBlock>,
     values: &[Value],
     ctx: &Context,
-    solver: &Solver,
+    tables: &Tables,
     asked: &mut Vec<Demand>,
 ) -> Result<(), OptError>
     requires { IsBlock ctx.now.tree block }
-    ensures ok { OnOk result (Adds asked.old.items asked.new.items (λ now. AsksForwarded ctx.now.tree (facts_of solver.now) block values.now now)) }
+    ensures ok { OnOk result (Adds (constants_of tables.now) asked.old.items asked.new.items (λ now. AsksForwarded ctx.now.tree (facts_of tables.now) block values.now now)) }
     ensures err { IfErr result (λ e. e ≡ Memory) }
 {
     asked.push(Demand::Enter(block))?;
     let count = block.num_argument(ctx).min(values.len());
     for j in 0..count {
-        let fact = forwarded_fact(alloc, values, j, solver)?;
-        asked.push(Demand::Lower(block.get_argument(ctx, j), fact))?;
+        let cell = forwarded_cell(values, j, tables);
+        asked.push(Demand::Lower(block.get_argument(ctx, j), cell))?;
     }
     Ok(())
 }
@@ -221,7 +229,7 @@ fn ask_edge<D: Dialect>(
     op: Ptr<Operation>,
     i: usize,
     ctx: &Context,
-    solver: &Solver,
+    tables: &Tables,
     known: &[Option<AttrObj>],
     feasible: &Option<HashSet<u64>>,
     asked: &mut Vec<Demand>,
@@ -229,16 +237,16 @@ fn ask_edge<D: Dialect>(
     requires live { IsLive ctx.now.tree op }
     requires branch { HeadPasses D.meaning.is_branch ctx.now.tree op }
     requires edge { i < length (successors_of ctx.now.tree op) }
-    requires known { known.now ≡ handed (facts_of solver.now) (operands_of ctx.now.tree op) }
+    requires known { known.now ≡ handed (facts_of tables.now) (operands_of ctx.now.tree op) }
     requires feasible { AreFeasible D.meaning D.can_fold_branch D.feasible ctx.now.tree op known.now feasible.now }
     ensures ok { OnOk result ((o : OperationOf) → op_at ctx.now.tree op ≡ Some o → (b : ℕ) → slice_get (successors_of ctx.now.tree op) i ≡ Some b →
-        Adds asked.old.items asked.new.items (λ now. FollowsEdge ⟦<D as HasFolding>⟧.folding ctx.now.tree (facts_of solver.now) o now i b)) }
+        Adds (constants_of tables.now) asked.old.items asked.new.items (λ now. FollowsEdge ⟦<D as HasFolding>⟧.folding ctx.now.tree (facts_of tables.now) o now i b)) }
     ensures err { IfErr result (λ e. e ≡ Memory) }
 {
     let block = op.get_successor(ctx, i);
     if may_go(feasible, block) {
         let values = D::successor_operands(alloc, op, ctx, i)?;
-        ask_forwarded(alloc, block, &values, ctx, solver, asked)
+        ask_forwarded(block, &values, ctx, tables, asked)
     } else {
         Ok(())
     }
@@ -249,21 +257,21 @@ fn ask_each_edge<D: Dialect>(
     alloc: Global,
     op: Ptr<Operation>,
     ctx: &Context,
-    solver: &Solver,
+    tables: &Tables,
     known: &[Option<AttrObj>],
     feasible: &Option<HashSet<u64>>,
     asked: &mut Vec<Demand>,
 ) -> Result<(), OptError>
     requires live { IsLive ctx.now.tree op }
     requires branch { HeadPasses D.meaning.is_branch ctx.now.tree op }
-    requires known { known.now ≡ handed (facts_of solver.now) (operands_of ctx.now.tree op) }
+    requires known { known.now ≡ handed (facts_of tables.now) (operands_of ctx.now.tree op) }
     requires feasible { AreFeasible D.meaning D.can_fold_branch D.feasible ctx.now.tree op known.now feasible.now }
     ensures ok { OnOk result ((o : OperationOf) → op_at ctx.now.tree op ≡ Some o →
-        Adds asked.old.items asked.new.items (λ now. AsksBranches ⟦<D as HasFolding>⟧.folding ctx.now.tree (facts_of solver.now) o now)) }
+        Adds (constants_of tables.now) asked.old.items asked.new.items (λ now. AsksBranches ⟦<D as HasFolding>⟧.folding ctx.now.tree (facts_of tables.now) o now)) }
     ensures err { IfErr result (λ e. e ≡ Memory) }
 {
     for i in 0..op.num_successor(ctx) {
-        ask_edge::<D>(alloc, op, i, ctx, solver, known, feasible, asked)?;
+        ask_edge::<D>(alloc, op, i, ctx, tables, known, feasible, asked)?;
     }
     Ok(())
 }
@@ -273,37 +281,59 @@ fn ask_branches<D: Dialect>(
     alloc: Global,
     op: Ptr<Operation>,
     ctx: &Context,
-    solver: &Solver,
+    tables: &Tables,
     known: &[Option<AttrObj>],
     asked: &mut Vec<Demand>,
 ) -> Result<(), OptError>
     requires live { IsLive ctx.now.tree op }
     requires branch { HeadPasses D.meaning.is_branch ctx.now.tree op }
-    requires known { known.now ≡ handed (facts_of solver.now) (operands_of ctx.now.tree op) }
+    requires known { known.now ≡ handed (facts_of tables.now) (operands_of ctx.now.tree op) }
     ensures ok { OnOk result ((o : OperationOf) → op_at ctx.now.tree op ≡ Some o →
-        Adds asked.old.items asked.new.items (λ now. AsksBranches ⟦<D as HasFolding>⟧.folding ctx.now.tree (facts_of solver.now) o now)) }
+        Adds (constants_of tables.now) asked.old.items asked.new.items (λ now. AsksBranches ⟦<D as HasFolding>⟧.folding ctx.now.tree (facts_of tables.now) o now)) }
     ensures err { IfErr result (λ e. e ≡ Memory) }
 {
     let feasible = feasible_blocks::<D>(alloc, op, ctx, known)?;
-    ask_each_edge::<D>(alloc, op, ctx, solver, known, &feasible, asked)
+    ask_each_edge::<D>(alloc, op, ctx, tables, known, &feasible, asked)
+}
+
+/// The result at this index, if there is one, is at or below the answer.
+fn ask_answer(
+    op: Ptr<Operation>,
+    i: usize,
+    answer: Option<AttrObj>,
+    ctx: &Context,
+    asked: &mut Vec<Demand>,
+) -> Result<(), OptError>
+    requires { IsLive ctx.now.tree op }
+    ensures ok { OnOk result (AlwaysAdds asked.old.items asked.new.items (λ now. (v : ℕ) → slice_get (results_of ctx.now.tree op) i ≡ Some v →
+        AtMost (now.fact v) (answered answer))) }
+    ensures err { IfErr result (λ e. e ≡ Memory) }
+{
+    if i >= op.num_result(ctx) {
+        return Ok(());
+    }
+    let value = op.get_result(ctx, i);
+    asked.push(match answer {
+        Some(attr) => Demand::Answer(value, attr),
+        None => Demand::Lower(value, Cell::NotAConstant),
+    })?;
+    Ok(())
 }
 
 /// Each result is at or below its answer.
 fn ask_answers(
-    alloc: Global,
     op: Ptr<Operation>,
     ctx: &Context,
-    answers: &[Option<AttrObj>],
+    answers: Vec<Option<AttrObj>>,
     asked: &mut Vec<Demand>,
 ) -> Result<(), OptError>
     requires { IsLive ctx.now.tree op }
-    ensures ok { OnOk result (Adds asked.old.items asked.new.items (λ now. AsksAnswers (results_of ctx.now.tree op) answers.now now)) }
+    ensures ok { OnOk result (AlwaysAdds asked.old.items asked.new.items (λ now. AsksAnswers (results_of ctx.now.tree op) answers.items now)) }
     ensures err { IfErr result (λ e. e ≡ Memory) }
 {
-    let count = op.num_result(ctx).min(answers.len());
-    for i in 0..count {
-        let fact = answered_fact(alloc, &answers[i])?;
-        asked.push(Demand::Lower(op.get_result(ctx, i), fact))?;
+    let mut rest = answers;
+    while let Some(answer) = rest.pop() {
+        ask_answer(op, rest.len(), answer, ctx, asked)?;
     }
     Ok(())
 }
@@ -319,25 +349,14 @@ fn ask_results<D: Dialect>(
     requires live { IsLive ctx.now.tree op }
     requires entries { length known.now ≡ length (operands_of ctx.now.tree op) }
     ensures ok { OnOk result ((o : OperationOf) → op_at ctx.now.tree op ≡ Some o →
-        Adds asked.old.items asked.new.items (λ now. AsksResults D.can_fold (D.constants (shape_of D.meaning ctx.now.tree o) known.now) o now)) }
+        AlwaysAdds asked.old.items asked.new.items (λ now. AsksResults D.can_fold (D.constants (shape_of D.meaning ctx.now.tree o) known.now) o now)) }
     ensures err { IfErr result (λ e. e ≡ Memory) }
 {
     if D::folds(op, ctx) {
         let answers = <D as ConstFoldInterface>::check_fold(alloc, op, ctx, known)?;
-        ask_answers(alloc, op, ctx, &answers, asked)
+        ask_answers(op, ctx, answers, asked)
     } else {
         ask_unknown(op, ctx, asked)
-    }
-}
-
-/// The fact that an answer of a fold is.
-fn answered_fact(alloc: Global, answer: &Option<AttrObj>) -> Result<Fact, OptError>
-    ensures ok { IfOk result (λ fact. meant fact ≡ answered answer.now) }
-    ensures err { IfErr result (λ e. e ≡ Memory) }
-{
-    match answer {
-        Some(attr) => Ok(Fact::Constant(attr.copy(alloc)?)),
-        None => Ok(Fact::NotAConstant),
     }
 }
 
@@ -346,18 +365,18 @@ fn ask_edges<D: Dialect>(
     alloc: Global,
     op: Ptr<Operation>,
     ctx: &Context,
-    solver: &Solver,
+    tables: &Tables,
     known: &[Option<AttrObj>],
     asked: &mut Vec<Demand>,
 ) -> Result<(), OptError>
     requires live { IsLive ctx.now.tree op }
-    requires known { known.now ≡ handed (facts_of solver.now) (operands_of ctx.now.tree op) }
+    requires known { known.now ≡ handed (facts_of tables.now) (operands_of ctx.now.tree op) }
     ensures ok { OnOk result ((o : OperationOf) → op_at ctx.now.tree op ≡ Some o →
-        Adds asked.old.items asked.new.items (λ now. AsksEdges ⟦<D as HasFolding>⟧.folding ctx.now.tree (facts_of solver.now) op o now)) }
+        Adds (constants_of tables.now) asked.old.items asked.new.items (λ now. AsksEdges ⟦<D as HasFolding>⟧.folding ctx.now.tree (facts_of tables.now) op o now)) }
     ensures err { IfErr result (λ e. e ≡ Memory) }
 {
     if D::is_branch(op, ctx) {
-        ask_branches::<D>(alloc, op, ctx, solver, known, asked)
+        ask_branches::<D>(alloc, op, ctx, tables, known, asked)
     } else {
         ask_jumps(op, ctx, asked)
     }
@@ -373,16 +392,42 @@ pub fn demands<D: Dialect>(
     alloc: Global,
     op: Ptr<Operation>,
     ctx: &Context,
-    solver: &Solver,
+    tables: &Tables,
 ) -> Result<Vec<Demand>, OptError>
     requires { IsLive ctx.now.tree op }
-    ensures ok { IfOk result (λ asked. Asks ⟦<D as HasFolding>⟧.folding ctx.now.tree (facts_of solver.now) op asked.items) }
+    ensures ok { IfOk result (λ asked. Asks (constants_of tables.now) ⟦<D as HasFolding>⟧.folding ctx.now.tree (facts_of tables.now) op asked.items) }
     ensures err { IfErr result (λ e. e ≡ Memory) }
 {
-    let known = known_operands(alloc, op, ctx, solver)?;
+    let known = known_operands(alloc, op, ctx, tables)?;
     let mut asked = Vec::new(alloc);
     ask_entries(op, ctx, &mut asked)?;
-    ask_edges::<D>(alloc, op, ctx, solver, &known, &mut asked)?;
+    ask_edges::<D>(alloc, op, ctx, tables, &known, &mut asked)?;
     ask_results::<D>(alloc, op, ctx, &known, &mut asked)?;
     Ok(asked)
+}
+
+/// Meets one thing that is asked, and does nothing else. Takes no memory.
+fn meet(demand: Demand, tables: &mut Tables)
+    requires { CanMeet tables.old (demand ∷ []) }
+    ensures { IsApplied (constants_of tables.old) (demand ∷ []) tables.old tables.new }
+{
+    match demand {
+        Demand::Enter(block) => tables.enter(block),
+        Demand::Lower(value, cell) => tables.lower(value, cell),
+        Demand::Answer(value, attr) => tables.answer(value, attr),
+    }
+}
+
+/// Meets all that is asked, and does nothing else: what fell waits. Takes no memory.
+///
+/// Asks that the blocks and the constants that are asked for have their numbers here. Cost: one step for
+/// each.
+pub fn meet_all(asked: Vec<Demand>, tables: &mut Tables)
+    requires { CanMeet tables.old asked.items }
+    ensures { IsApplied (constants_of tables.old) asked.items tables.old tables.new }
+{
+    let mut rest = asked;
+    while let Some(demand) = rest.pop() {
+        meet(demand, tables);
+    }
 }

@@ -8,11 +8,11 @@ ghost use Rattle.pliron_sccp.specs.Listed.{IsFoldOf, AddsFold, AreFolds, AddsKno
 ghost use Rattle.pliron_sccp.specs.Chain.{known_arguments};
 ghost use Rattle.pliron_sccp.specs.Found.{HasFound};
 
-use crate::collecting::all_blocks;
 use crate::demands::{known, known_operands};
+use crate::facts::Tables;
+use crate::inside::all_blocks;
 use crate::rewriting::{ConstantArgument, Fold, Found};
-use crate::searching::search;
-use crate::tables::Solver;
+use crate::search::search;
 use pliron_core::{BasicBlock, Context, Operation, Ptr};
 use pliron_laws::{Dialect, OptError};
 use pliron_theory::HasFolding;
@@ -23,23 +23,23 @@ fn fold_of<D: Dialect>(
     alloc: Global,
     op: Ptr<Operation>,
     ctx: &Context,
-    solver: &Solver,
+    tables: &Tables,
 ) -> Result<Option<Fold>, OptError>
     requires { IsLive ctx.now.tree op }
-    ensures ok { IfOk result (λ fold. IsFoldOf ⟦<D as HasFolding>⟧.folding ctx.now.tree (facts_of solver.now) op fold) }
+    ensures ok { IfOk result (λ fold. IsFoldOf ⟦<D as HasFolding>⟧.folding ctx.now.tree (facts_of tables.now) op fold) }
     ensures err { IfErr result (λ e. e ≡ Memory) }
 {
     ctx.well_formed();
     let Some(block) = op.get_parent_block(ctx) else {
         return Ok(None);
     };
-    if !solver.reaches(block) {
+    if !tables.reaches(block) {
         return Ok(None);
     }
     if !D::folds(op, ctx) {
         return Ok(None);
     }
-    let known = known_operands(alloc, op, ctx, solver)?;
+    let known = known_operands(alloc, op, ctx, tables)?;
     Ok(Some(Fold { op, known }))
 }
 
@@ -48,14 +48,14 @@ fn add_fold<D: Dialect>(
     alloc: Global,
     op: Ptr<Operation>,
     ctx: &Context,
-    solver: &Solver,
+    tables: &Tables,
     folds: &mut Vec<Fold>,
 ) -> Result<(), OptError>
     requires { IsLive ctx.now.tree op }
-    ensures ok { OnOk result (AddsFold ⟦<D as HasFolding>⟧.folding ctx.now.tree (facts_of solver.now) op folds.old.items folds.new.items) }
+    ensures ok { OnOk result (AddsFold ⟦<D as HasFolding>⟧.folding ctx.now.tree (facts_of tables.now) op folds.old.items folds.new.items) }
     ensures err { IfErr result (λ e. e ≡ Memory) }
 {
-    match fold_of::<D>(alloc, op, ctx, solver)? {
+    match fold_of::<D>(alloc, op, ctx, tables)? {
         Some(fold) => folds.push(fold)?,
         None => {}
     }
@@ -67,17 +67,17 @@ fn all_folds<D: Dialect>(
     alloc: Global,
     root: Ptr<Operation>,
     ctx: &Context,
-    solver: &Solver,
+    tables: &Tables,
 ) -> Result<Vec<Fold>, OptError>
     requires { IsLive ctx.now.tree root }
-    ensures ok { IfOk result (λ folds. AreFolds ⟦<D as HasFolding>⟧.folding ctx.now.tree root (facts_of solver.now) folds.items) }
+    ensures ok { IfOk result (λ folds. AreFolds ⟦<D as HasFolding>⟧.folding ctx.now.tree root (facts_of tables.now) folds.items) }
     ensures err { IfErr result (λ e. e ≡ Memory) }
 {
     ctx.well_formed();
     let mut folds = Vec::new(alloc);
     let mut at = root.next_in_preorder(root, ctx);
     while let Some(op) = at {
-        add_fold::<D>(alloc, op, ctx, solver, &mut folds)?;
+        add_fold::<D>(alloc, op, ctx, tables, &mut folds)?;
         at = op.next_in_preorder(root, ctx);
     }
     Ok(folds)
@@ -88,18 +88,18 @@ fn add_arguments(
     alloc: Global,
     block: Ptr<BasicBlock>,
     ctx: &Context,
-    solver: &Solver,
+    tables: &Tables,
     arguments: &mut Vec<ConstantArgument>,
 ) -> Result<(), OptError>
     requires { IsBlock ctx.now.tree block }
-    ensures ok { OnOk result (AddsKnown ctx.now.tree (facts_of solver.now) block arguments.old.items arguments.new.items) }
+    ensures ok { OnOk result (AddsKnown ctx.now.tree (facts_of tables.now) block arguments.old.items arguments.new.items) }
     ensures err { IfErr result (λ e. e ≡ Memory) }
 {
-    if !solver.reaches(block) {
+    if !tables.reaches(block) {
         return Ok(());
     }
     for index in 0..block.num_argument(ctx) {
-        match known(alloc, block.get_argument(ctx, index), solver)? {
+        match known(alloc, block.get_argument(ctx, index), tables)? {
             Some(attr) => arguments.push(ConstantArgument { block, index, attr })?,
             None => {}
         }
@@ -112,18 +112,18 @@ fn all_arguments(
     alloc: Global,
     root: Ptr<Operation>,
     ctx: &Context,
-    solver: &Solver,
+    tables: &Tables,
 ) -> Result<Vec<ConstantArgument>, OptError>
     requires { IsLive ctx.now.tree root }
-    ensures ok { IfOk result (λ arguments. AreArguments ctx.now.tree (facts_of solver.now) arguments.items (known_arguments ctx.now.tree root
-        (facts_of solver.now))) }
+    ensures ok { IfOk result (λ arguments. AreArguments ctx.now.tree (facts_of tables.now) arguments.items (known_arguments ctx.now.tree root
+        (facts_of tables.now))) }
     ensures err { IfErr result (λ e. e ≡ Memory) }
 {
     ctx.well_formed();
     let blocks = all_blocks(alloc, root, ctx)?;
     let mut arguments = Vec::new(alloc);
     for i in 0..blocks.len() {
-        add_arguments(alloc, blocks[i], ctx, solver, &mut arguments)?;
+        add_arguments(alloc, blocks[i], ctx, tables, &mut arguments)?;
     }
     Ok(arguments)
 }
@@ -143,7 +143,7 @@ pub(crate) fn find<D: Dialect>(
     ensures err { IfErr result (λ e. e ≡ Memory) }
 {
     let searched = search::<D>(alloc, root, ctx)?;
-    let folds = all_folds::<D>(alloc, root, ctx, &searched.solver)?;
-    let arguments = all_arguments(alloc, root, ctx, &searched.solver)?;
+    let folds = all_folds::<D>(alloc, root, ctx, &searched.tables)?;
+    let arguments = all_arguments(alloc, root, ctx, &searched.tables)?;
     Ok((Found { folds, arguments }, searched.pops))
 }

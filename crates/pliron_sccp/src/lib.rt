@@ -6,16 +6,13 @@
 //! It stands on the theory of runs and knows nothing of the other optimisations, of passes and of the program.
 #![tactic(auto)]
 
-mod applying;
-mod collecting;
+mod cells;
 mod demands;
+mod facts;
 mod found;
-mod looking;
+mod inside;
 mod propagation;
 mod rewriting;
-mod searching;
-mod starting;
-mod tables;
-mod users;
+mod search;
 
 pub use propagation::{sccp, sccp_counted};

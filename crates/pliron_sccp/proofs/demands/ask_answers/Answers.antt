@@ -1,18 +1,36 @@
-use Rattle.std.proofs.Common.{◌<◌, ◌≡◌, Some, length, slice_get, refl, arith}
+use Rattle.std.proofs.Common.{◌≡◌, ◌+◌, ◌∷◌, ◌++◌, [], ℕ, Some, length, slice_get, append_assoc, sym, ap, ◌∙◌, subst, arith}
+use Rattle.std.proofs.lemmas.Grind.{common_steps}
+use Rattle.std.proofs.lemmas.List.{append-nil}
 use Rattle.pliron_core.specs.Tree.{results_of}
-use Rattle.std.proofs.lemmas.Option.{slice_get_read}
-use Rattle.pliron_sccp.specs.Demands.{GetsAnswer}
-use Rattle.pliron_sccp.proofs.Demanded.{adds_next, answer_asked, answers_asked}
+use Rattle.pliron_theory.specs.Facts.{AtMost, answered}
+use Rattle.pliron_sccp.specs.Demands.{Adds}
+use Rattle.pliron_sccp.proofs.Worklists.{length_one}
+use Rattle.pliron_sccp.proofs.Demanded.{answers_start, answers_next, answers_end, get_amid, none_empty}
 use Rattle.pliron_sccp.proofs.demands.ask_answers.Goals as goal
 
-pub loop-i-preserved : goal.loop-i-preserved
-loop-i-preserved c =
-    let all = c.args.answers.now in
-    let within : c.loop-i.i < length all = omega arith in
-    let at : slice_get all c.loop-i.i ≡ Some c.index-answers-i.result = slice_get_read all (length all) c.loop-i.i c.index-answers-i.result refl within c.index-answers-i.is in
-    adds_next (results_of c.args.ctx.now.tree c.args.op) (λ now j v. GetsAnswer all now j v) c.loop-i.i c.get_result.result c.args.asked.now.items c.loop-i.asked.items c.push.new.self.items c.get_result.ensures.value c.loop-i.invariant
-    (answer_asked all c.loop-i.i c.get_result.result c.index-answers-i.result c.in_ok-fact.fact c.loop-i.asked.items c.push.new.self.items at c.in_ok-fact.ensures.ok c.in_ok-push.ensures.items)
+pub loop-answer-init : goal.loop-answer-init
+loop-answer-init c = (λ constants. answers_start constants (results_of c.args.ctx.now.tree c.args.op) c.args.answers.items c.args.asked.now.items, ([], sym (append-nil c.args.answers.items)))
+
+pub loop-answer-preserved : goal.loop-answer-preserved
+loop-answer-preserved c =
+    let results = results_of c.args.ctx.now.tree c.args.op in
+    let answers = c.args.answers.items in
+    let rest = c.loop-answer.rest.items in
+    let next = c.pop.new.self.items in
+    let a = c.in-Some.answer in
+    let items : rest ≡ next ++ a ∷ [] = c.in-Some.ensures.items in
+    let gone = c.loop-answer.invariant.1.0 in
+    let whole : answers ≡ (next ++ a ∷ []) ++ gone = c.loop-answer.invariant.1.1 ∙ ap (λ z. z ++ gone) items in
+    let size : length rest ≡ length next + 1 = ap length items ∙ length_one next a in
+    let len : c.len.result ≡ length next = grind (arith, common_steps) in
+    let at : slice_get answers (length next) ≡ Some a = ap (λ z. slice_get z (length next)) whole ∙ get_amid next a gone in (
+      λ constants. answers_next constants results answers (length next) (length rest) a c.args.asked.now.items c.loop-answer.asked.items c.ask_answer.new.asked.items size at (c.loop-answer.invariant.0 constants)
+          (subst (λ i. Adds constants c.loop-answer.asked.items c.ask_answer.new.asked.items (λ now. (w : ℕ) → slice_get results i ≡ Some w → AtMost (now.fact w) (answered a))) len (c.in_ok-ask_answer.ensures.ok constants)),
+      (a ∷ gone, whole ∙ append_assoc next (a ∷ []) gone),
+    )
 
 pub returns-clause-ok : goal.returns-clause-ok
-returns-clause-ok c =
-    answers_asked (results_of c.args.ctx.now.tree c.args.op) c.args.answers.now c.loop-i.i c.args.asked.now.items c.loop-i.asked.items (λ j p q. omega (arith, p, q)) c.loop-i.invariant
+returns-clause-ok c = λ constants.
+    let empty = none_empty c.pop.result _ c.in_default.is c.pop.ensures.variant in
+    let none : length c.loop-answer.rest.items ≡ 0 = grind (arith, common_steps, empty) in
+    answers_end constants (results_of c.args.ctx.now.tree c.args.op) c.args.answers.items (length c.loop-answer.rest.items) c.args.asked.now.items c.loop-answer.asked.items none (c.loop-answer.invariant.0 constants)

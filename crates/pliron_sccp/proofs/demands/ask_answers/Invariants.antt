@@ -1,6 +1,12 @@
+use Rattle.std.proofs.Common.{◌≡◌, ◌++◌, List, Option, length}
+use Rattle.pliron_core.specs.declared.attrs.AttrObj.{AttrObj}
 use Rattle.pliron_core.specs.Tree.{results_of}
-use Rattle.pliron_sccp.specs.Demands.{Adds, EachBefore, GetsAnswer}
+use Rattle.pliron_sccp.specs.Demands.{Adds}
+use Rattle.pliron_sccp.proofs.Demanded.{AnsweredFrom}
 use Rattle.pliron_sccp.proofs.demands.ask_answers.Given as goal
 
-abbrev pub invariant-loop-i : goal.invariant-loop-i
-invariant-loop-i l = Adds l.initial.asked.items l.asked.items (λ now. EachBefore (results_of l.ctx.tree l.op) l.i (GetsAnswer l.answers now))
+abbrev pub invariant-loop-answer : goal.invariant-loop-answer
+invariant-loop-answer l = ((constants : List AttrObj) → Adds constants l.initial.asked.items l.asked.items (AnsweredFrom constants (results_of l.ctx.tree l.op) l.fn.answers.items (length l.rest.items))) × ((gone : List (Option AttrObj)) × (l.fn.answers.items ≡ l.rest.items ++ gone))
+
+abbrev pub decreases-loop-answer : goal.decreases-loop-answer
+decreases-loop-answer l = length l.rest.items

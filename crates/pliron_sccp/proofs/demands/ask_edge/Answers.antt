@@ -3,7 +3,7 @@ use Rattle.std.proofs.lemmas.Result.{on_ok_weaker}
 use Rattle.pliron_core.proofs.HoldingLemmas.{some_is}
 use Rattle.pliron_laws.proofs.Records.{op_shows}
 use Rattle.pliron_theory.specs.Facts.{Says, handed}
-use Rattle.pliron_sccp.specs.Tables.{facts_of}
+use Rattle.pliron_sccp.specs.Tables.{constants_of, facts_of}
 use Rattle.pliron_sccp.specs.Demands.{Adds, MayLead, FollowsEdge}
 use Rattle.pliron_sccp.proofs.Demanded.{nothing_asked}
 use Rattle.pliron_sccp.proofs.EdgesAsked.{may, may_not, edge_asked}
@@ -13,7 +13,7 @@ pub returns-in_ok-values-clause-ok : goal.returns-in_ok-values-clause-ok
 returns-in_ok-values-clause-ok g c =
     let x : Says = (record { meaning = g.D.HasMeaning.meaning; can_fold = g.D.ConstFoldInterface.can_fold; can_fold_branch = g.D.BranchOpFoldInterface.can_fold_branch; constants = g.D.ConstFoldInterface.constants; feasible = g.D.BranchOpFoldInterface.feasible }) in
     let t = c.args.ctx.now.tree in
-    let f = facts_of c.args.solver.now in
+    let f = facts_of c.args.tables.now in
     let a = c.args.asked.now.items in
     let z = c.ask_forwarded.new.asked.items in
     let block = c.get_successor-block.result in
@@ -24,19 +24,19 @@ returns-in_ok-values-clause-ok g c =
     let known = c.requires.known ∙ ap (handed f) s.operands in
     let led = subst (λ q. MayLead c.args.feasible.now block q) c.if-may_go.true c.may_go.ensures in
     let go = may x t f c.args.op o e c.args.known.now known c.args.feasible.now c.requires.feasible c.args.i block (ap (λ l. slice_get l c.args.i) (sym s.successors) ∙ c.get_successor-block.ensures.successor) led in
-    subst (λ q. Adds a z (λ now. FollowsEdge x t f o now c.args.i q)) here
-    (edge_asked x t f c.args.op o e c.args.i block c.deref.result.now a z go (ap (map Some) c.deref.ensures.value ∙ c.in_ok-values.ensures.ok o e) p))
+    subst (λ q. Adds (constants_of c.args.tables.now) a z (λ now. FollowsEdge x t f o now c.args.i q)) here
+    (edge_asked x t f c.args.op o e (constants_of c.args.tables.now) c.args.i block c.deref.result.now a z go (ap (map Some) c.deref.ensures.value ∙ c.in_ok-values.ensures.ok o e) p))
     c.ask_forwarded.ensures.ok
 
 pub returns-else-may_go-clause-ok : goal.returns-else-may_go-clause-ok
 returns-else-may_go-clause-ok g c = λ o e b at.
     let x : Says = (record { meaning = g.D.HasMeaning.meaning; can_fold = g.D.ConstFoldInterface.can_fold; can_fold_branch = g.D.BranchOpFoldInterface.can_fold_branch; constants = g.D.ConstFoldInterface.constants; feasible = g.D.BranchOpFoldInterface.feasible }) in
     let t = c.args.ctx.now.tree in
-    let f = facts_of c.args.solver.now in
+    let f = facts_of c.args.tables.now in
     let block = c.get_successor-block.result in
     let s = op_shows t c.args.op o e in
     let here = some_is (sym c.get_successor-block.ensures.successor ∙ at) in
     let known = c.requires.known ∙ ap (handed f) s.operands in
     let led = subst (λ q. MayLead c.args.feasible.now block q) c.if-may_go.false c.may_go.ensures in
-    nothing_asked (λ now. FollowsEdge x t f o now c.args.i b) c.args.asked.now.items
+    nothing_asked (constants_of c.args.tables.now) (λ now. FollowsEdge x t f o now c.args.i b) c.args.asked.now.items
     (λ now go. absurd (may_not x t f c.args.op o e c.args.known.now known c.args.feasible.now c.requires.feasible c.args.i b (subst (λ q. MayLead c.args.feasible.now q false) here led) go))

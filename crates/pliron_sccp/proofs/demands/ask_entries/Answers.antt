@@ -5,11 +5,11 @@ use Rattle.pliron_sccp.proofs.Demanded.{adds_next, entries_asked}
 use Rattle.pliron_sccp.proofs.demands.ask_entries.Goals as goal
 
 pub loop-i-preserved : goal.loop-i-preserved
-loop-i-preserved c =
-    adds_next (regions_of c.args.ctx.now.tree c.args.op) (λ now j r. EntryEntered c.args.ctx.now.tree now j r) c.loop-i.i c.get_region.result c.args.asked.now.items c.loop-i.asked.items c.ask_region.new.asked.items c.get_region.ensures.region c.loop-i.invariant c.in_ok-ask_region.ensures.ok
+loop-i-preserved c = λ constants.
+    adds_next constants (regions_of c.args.ctx.now.tree c.args.op) (λ now j r. EntryEntered c.args.ctx.now.tree now j r) c.loop-i.i c.get_region.result c.args.asked.now.items c.loop-i.asked.items c.ask_region.new.asked.items c.get_region.ensures.region (c.loop-i.invariant constants) (c.in_ok-ask_region.ensures.ok constants)
 
 pub returns-clause-ok : goal.returns-clause-ok
-returns-clause-ok c =
+returns-clause-ok c = λ constants.
     let rs = regions_of c.args.ctx.now.tree c.args.op in
     let whole : length rs ≤ c.loop-i.i = omega arith in
-    entries_asked c.args.ctx.now.tree rs c.loop-i.i c.args.asked.now.items c.loop-i.asked.items whole c.loop-i.invariant
+    entries_asked constants c.args.ctx.now.tree rs c.loop-i.i c.args.asked.now.items c.loop-i.asked.items whole (c.loop-i.invariant constants)

@@ -5,12 +5,12 @@ use Rattle.pliron_sccp.proofs.Demanded.{adds_next, adds_unknown, entry_asked}
 use Rattle.pliron_sccp.proofs.demands.ask_entry.Goals as goal
 
 pub loop-i-preserved : goal.loop-i-preserved
-loop-i-preserved c =
-    adds_next (arguments_of c.args.ctx.now.tree c.args.block) (λ now j v. now.fact v ≡ NotAConstant) c.loop-i.i c.get_argument.result c.push.new.self.items c.loop-i.asked.items c.push-in-loop-i.new.self.items c.get_argument.ensures.argument c.loop-i.invariant
-    (adds_unknown c.loop-i.asked.items c.push-in-loop-i.new.self.items c.get_argument.result c.in_ok-push-2.ensures.items)
+loop-i-preserved c = λ constants.
+    adds_next constants (arguments_of c.args.ctx.now.tree c.args.block) (λ now j v. now.fact v ≡ NotAConstant) c.loop-i.i c.get_argument.result c.push.new.self.items c.loop-i.asked.items c.push-in-loop-i.new.self.items c.get_argument.ensures.argument (c.loop-i.invariant constants)
+    (adds_unknown constants c.loop-i.asked.items c.push-in-loop-i.new.self.items c.get_argument.result c.in_ok-push-2.ensures.items)
 
 pub returns-clause-ok : goal.returns-clause-ok
-returns-clause-ok c =
+returns-clause-ok c = λ constants.
     let vs = arguments_of c.args.ctx.now.tree c.args.block in
     let whole : length vs ≤ c.loop-i.i = omega arith in
-    entry_asked vs c.args.block c.loop-i.i c.args.asked.now.items c.push.new.self.items c.loop-i.asked.items c.in_ok-push.ensures.items whole c.loop-i.invariant
+    entry_asked constants vs c.args.block c.loop-i.i c.args.asked.now.items c.push.new.self.items c.loop-i.asked.items c.in_ok-push.ensures.items whole (c.loop-i.invariant constants)

@@ -15,12 +15,12 @@ returns-in_ok-answers-clause-ok g c =
     let a = c.args.asked.now.items in
     let b = c.ask_answers.new.asked.items in
     on_ok_weaker c.ask_answers.result
-    (λ p o e.
+    (λ p o e constants.
     let s = op_shows t c.args.op o e in
     let answers = d.constants (shape_of g.D.HasMeaning.meaning t o) c.args.known.now in
-    folding_asked d.can_fold answers o a b (sym (c.folds.ensures o.head s.head) ∙ c.if-folds.true)
-    (subst (λ rs. Adds a b (AsksAnswers rs answers)) s.results
-    (subst (λ z. Adds a b (AsksAnswers (results_of t c.args.op) z)) (c.deref.ensures.value ∙ c.in_ok-answers.ensures.ok o e) p)))
+    folding_asked constants d.can_fold answers o a b (sym (c.folds.ensures o.head s.head) ∙ c.if-folds.true)
+    (subst (λ rs. Adds constants a b (AsksAnswers rs answers)) s.results
+    (subst (λ z. Adds constants a b (AsksAnswers (results_of t c.args.op) z)) (c.in_ok-answers.ensures.ok o e) (p constants))))
     c.ask_answers.ensures.ok
 
 pub returns-else-folds-clause-ok : goal.returns-else-folds-clause-ok
@@ -30,8 +30,8 @@ returns-else-folds-clause-ok g c =
     let a = c.args.asked.now.items in
     let b = c.ask_unknown.new.asked.items in
     on_ok_weaker c.ask_unknown.result
-    (λ p o e.
+    (λ p o e constants.
     let s = op_shows t c.args.op o e in
-    others_asked d.can_fold (d.constants (shape_of g.D.HasMeaning.meaning t o) c.args.known.now) o a b (sym (c.folds.ensures o.head s.head) ∙ c.if-folds.false)
-    (subst (λ rs. Adds a b (λ now. (v : ℕ) → In v rs → now.fact v ≡ NotAConstant)) s.results p))
+    others_asked constants d.can_fold (d.constants (shape_of g.D.HasMeaning.meaning t o) c.args.known.now) o a b (sym (c.folds.ensures o.head s.head) ∙ c.if-folds.false)
+    (subst (λ rs. Adds constants a b (λ now. (v : ℕ) → In v rs → now.fact v ≡ NotAConstant)) s.results (p constants)))
     c.ask_unknown.ensures.ok

@@ -5,12 +5,12 @@ use Rattle.pliron_sccp.proofs.Demanded.{adds_next, adds_unknown, unknown_asked}
 use Rattle.pliron_sccp.proofs.demands.ask_unknown.Goals as goal
 
 pub loop-i-preserved : goal.loop-i-preserved
-loop-i-preserved c =
-    adds_next (results_of c.args.ctx.now.tree c.args.op) (λ now j v. now.fact v ≡ NotAConstant) c.loop-i.i c.get_result.result c.args.asked.now.items c.loop-i.asked.items c.push.new.self.items c.get_result.ensures.value c.loop-i.invariant
-    (adds_unknown c.loop-i.asked.items c.push.new.self.items c.get_result.result c.in_ok-push.ensures.items)
+loop-i-preserved c = λ constants.
+    adds_next constants (results_of c.args.ctx.now.tree c.args.op) (λ now j v. now.fact v ≡ NotAConstant) c.loop-i.i c.get_result.result c.args.asked.now.items c.loop-i.asked.items c.push.new.self.items c.get_result.ensures.value (c.loop-i.invariant constants)
+    (adds_unknown constants c.loop-i.asked.items c.push.new.self.items c.get_result.result c.in_ok-push.ensures.items)
 
 pub returns-clause-ok : goal.returns-clause-ok
-returns-clause-ok c =
+returns-clause-ok c = λ constants.
     let vs = results_of c.args.ctx.now.tree c.args.op in
     let whole : length vs ≤ c.loop-i.i = omega arith in
-    unknown_asked vs c.loop-i.i c.args.asked.now.items c.loop-i.asked.items whole c.loop-i.invariant
+    unknown_asked constants vs c.loop-i.i c.args.asked.now.items c.loop-i.asked.items whole (c.loop-i.invariant constants)

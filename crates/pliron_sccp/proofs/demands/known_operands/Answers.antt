@@ -5,4 +5,4 @@ use Rattle.pliron_sccp.proofs.demands.known_operands.Goals as goal
 
 pub loop-i-preserved : goal.loop-i-preserved
 loop-i-preserved c =
-    handed_more (facts_of c.args.solver.now) (operands_of c.args.ctx.now.tree c.args.op) c.loop-i.i c.get_operand.result c.loop-i.attrs.items c.push.new.self.items c.in_ok-known.field-0 c.get_operand.ensures.operand c.loop-i.invariant c.in_ok-known.ensures.ok c.in_ok-push.ensures.items
+    handed_more (facts_of c.args.tables.now) (operands_of c.args.ctx.now.tree c.args.op) c.loop-i.i c.get_operand.result c.loop-i.attrs.items c.push.new.self.items c.in_ok-known.field-0 c.get_operand.ensures.operand c.loop-i.invariant c.in_ok-known.ensures.ok c.in_ok-push.ensures.items

@@ -5,4 +5,4 @@ use Rattle.pliron_sccp.specs.Tables.{facts_of}
 use Rattle.pliron_sccp.proofs.demands.known_operands.Given as goal
 
 abbrev pub invariant-loop-i : goal.invariant-loop-i
-invariant-loop-i l = l.attrs.items ≡ handed (facts_of l.solver) (take l.i (operands_of l.ctx.tree l.op))
+invariant-loop-i l = l.attrs.items ≡ handed (facts_of l.tables) (take l.i (operands_of l.ctx.tree l.op))

@@ -6,12 +6,12 @@ use Rattle.pliron_sccp.proofs.found.add_arguments.Goals.{in-Some+in_ok-push-in-S
 use Rattle.pliron_sccp.proofs.found.add_arguments.Goals as goal
 
 pub loop-index-init : goal.loop-index-init
-loop-index-init c = added_start c.args.ctx.now.tree (facts_of c.args.solver.now) c.args.block c.args.arguments.now.items
+loop-index-init c = added_start c.args.ctx.now.tree (facts_of c.args.tables.now) c.args.block c.args.arguments.now.items
 
 pub loop-index-preserved : goal.loop-index-preserved
 loop-index-preserved c =
     let t = c.args.ctx.now.tree in
-    let f = facts_of c.args.solver.now in
+    let f = facts_of c.args.tables.now in
     let at = c.get_argument.ensures.argument in
     let reached = sym c.reaches.ensures ∙ c.if-not-reaches.false in
     elim c.match-branch-2.branch [
@@ -23,4 +23,4 @@ pub returns-clause-ok : goal.returns-clause-ok
 returns-clause-ok c =
     let t = c.args.ctx.now.tree in
     let whole : length (arguments_of t c.args.block) ≤ c.loop-index.index = omega arith in
-    added_all t (facts_of c.args.solver.now) c.args.block c.args.arguments.now.items c.loop-index.index c.loop-index.arguments.items c.loop-index.invariant whole (sym c.reaches.ensures ∙ c.if-not-reaches.false)
+    added_all t (facts_of c.args.tables.now) c.args.block c.args.arguments.now.items c.loop-index.index c.loop-index.arguments.items c.loop-index.invariant whole (sym c.reaches.ensures ∙ c.if-not-reaches.false)

@@ -3,4 +3,4 @@ use Rattle.pliron_sccp.proofs.ListedArguments.{AreAdded}
 use Rattle.pliron_sccp.proofs.found.add_arguments.Given as goal
 
 abbrev pub invariant-loop-index : goal.invariant-loop-index
-invariant-loop-index l = AreAdded l.ctx.tree (facts_of l.solver) l.block l.initial.arguments.items l.index l.arguments.items
+invariant-loop-index l = AreAdded l.ctx.tree (facts_of l.tables) l.block l.initial.arguments.items l.index l.arguments.items

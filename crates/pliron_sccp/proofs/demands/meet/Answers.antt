@@ -1,0 +1,28 @@
+use Rattle.std.proofs.Common.{◌∷◌, [], subst, sym}
+use Rattle.pliron_sccp.specs.Demands.{CanMeet}
+use Rattle.pliron_sccp.specs.Falling.{IsApplied}
+use Rattle.pliron_sccp.specs.Tables.{constants_of}
+use Rattle.pliron_sccp.proofs.Applied.{enter_applied, lower_applied, answer_applied}
+use Rattle.pliron_sccp.proofs.demands.meet.Goals as goal
+
+pub enter-requires : goal.enter-requires
+enter-requires c = (subst (λ z. CanMeet c.args.tables.now (z ∷ [])) c.in-Enter.is c.requires).0
+
+pub lower-requires : goal.lower-requires
+lower-requires c = let m = (subst (λ z. CanMeet c.args.tables.now (z ∷ [])) c.in-Lower.is c.requires).0 in (m.0, m.1)
+
+pub returns-in-Enter : goal.returns-in-Enter
+returns-in-Enter c =
+    let s = c.args.tables.now in
+    subst (λ z. IsApplied (constants_of s) (z ∷ []) s c.enter.new.self) (sym c.in-Enter.is) (enter_applied c.in-Enter.block s c.enter.new.self c.enter.ensures (constants_of s))
+
+pub returns-in-Lower : goal.returns-in-Lower
+returns-in-Lower c =
+    let s = c.args.tables.now in
+    let m = (subst (λ z. CanMeet s (z ∷ [])) c.in-Lower.is c.requires).0 in
+    subst (λ z. IsApplied (constants_of s) (z ∷ []) s c.lower.new.self) (sym c.in-Lower.is) (lower_applied c.in-Lower.value m.0 s c.lower.new.self (c.lower.ensures m.0 m.1) (constants_of s) c.in-Lower.cell m.1)
+
+pub returns-in-Answer : goal.returns-in-Answer
+returns-in-Answer c =
+    let s = c.args.tables.now in
+    subst (λ z. IsApplied (constants_of s) (z ∷ []) s c.answer.new.self) (sym c.in-Answer.is) (answer_applied c.in-Answer.value c.in-Answer.attr s c.answer.new.self c.answer.ensures (constants_of s))

@@ -1,0 +1,34 @@
+use Rattle.std.proofs.Common.{Result, Ok, Err, refl}
+use Rattle.std.specs.Result.{IfOk}
+use Rattle.pliron_sccp.specs.Searching.Steps.{Block, Values}
+use Rattle.pliron_sccp.proofs.Marked.{waits_reached}
+use Rattle.pliron_sccp.proofs.Stepping.{targets_same, targets_kept}
+use Rattle.pliron_sccp.proofs.UserLists.{takes_from}
+use Rattle.pliron_sccp.proofs.Written.{none_of}
+use Rattle.pliron_sccp.proofs.search.step.Goals as goal
+
+if_ok_then : {X Y : Type 0} {P Q : X → Type 0} (r : Result X Y) → ((x : X) → P x → Q x) → IfOk r P → IfOk r Q
+if_ok_then (Ok x) f p = f x p
+if_ok_then (Err e) f p = p
+
+pub visit_block-requires-clause-targets : goal.visit_block-requires-clause-targets
+visit_block-requires-clause-targets g c = λ k i.
+    let s = c.args.tables.now in
+    let taken = c.in-Some.ensures.taken in
+    let placed = c.well_formed-2.ensures.tree.bodies.owned k c.in-Some.block i in
+    targets_same c.args.ctx.now.tree s c.next_block.new.self taken.numbers k (c.requires.targets k c.in-Some.block placed (waits_reached _ taken.waited))
+
+pub visit_values-requires : goal.visit_values-requires
+visit_values-requires g c =
+    let n = none_of c.next_block.result c.in-None.is c.next_block.ensures.none in
+    targets_kept c.args.ctx.now.tree c.args.tables.now c.next_block.new.self n.0.numbers n.0.reached c.requires.targets
+
+pub returns-in_ok-visit_block-in-Some-clause-ok : goal.returns-in_ok-visit_block-in-Some-clause-ok
+returns-in_ok-visit_block-in-Some-clause-ok g c = Block c.in-Some.block c.next_block.new.self c.in-Some.ensures.taken c.in_ok-visit_block-in-Some.ensures.ok refl
+
+pub returns-in-None-clause-ok : goal.returns-in-None-clause-ok
+returns-in-None-clause-ok g c =
+    let n = none_of c.next_block.result c.in-None.is c.next_block.ensures.none in
+    if_ok_then c.visit_values.result
+    (λ taken v. Values n.1 (record { users = v.users; between = v.between; takes = takes_from c.args.ctx.now.tree c.args.tables.now c.next_block.new.self v.between v.users taken n.0 v.takes; looks = v.looks }))
+    c.visit_values.ensures.ok

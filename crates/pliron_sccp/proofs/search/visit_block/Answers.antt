@@ -1,0 +1,43 @@
+use Rattle.std.proofs.Common.{ap, ◌∙◌, refl}
+use Rattle.pliron_core.specs.Tree.{body_of, up_from}
+use Rattle.pliron_core.specs.Lists.{next_in}
+use Rattle.pliron_theory.specs.Facts.{Says}
+use Rattle.pliron_sccp.specs.Looking.{LooksThrough}
+use Rattle.pliron_sccp.specs.Looking.LooksThrough.{Nothing, Then}
+use Rattle.pliron_sccp.proofs.Stepping.{targets_same}
+use Rattle.pliron_sccp.proofs.Going.{walk_start, walk_next, walk_smaller, walk_end}
+use Rattle.pliron_sccp.proofs.search.visit_block.Goals as goal
+
+pub loop-at-init : goal.loop-at-init
+loop-at-init g c =
+    let x : Says = record { meaning = g.D.HasMeaning.meaning; can_fold = g.D.ConstFoldInterface.can_fold; can_fold_branch = g.D.BranchOpFoldInterface.can_fold_branch; constants = g.D.ConstFoldInterface.constants; feasible = g.D.BranchOpFoldInterface.feasible } in
+    (walk_start (LooksThrough x c.args.ctx.now.tree) (body_of c.args.ctx.now.tree c.args.block) c.get_head-at.result c.args.tables.now c.get_head-at.ensures.first, λ b. refl)
+
+pub look_at-requires-clause-live : goal.look_at-requires-clause-live
+look_at-requires-clause-live g c =
+    let w = c.well_formed-2.ensures.tree in
+    (w.joined.standing c.in-Some.op c.args.block (w.bodies.owned c.in-Some.op c.args.block (c.loop-at.invariant.0.within c.in-Some.op c.in-Some.is))).0
+
+pub look_at-requires-clause-targets : goal.look_at-requires-clause-targets
+look_at-requires-clause-targets g c = targets_same c.args.ctx.now.tree c.args.tables.now c.loop-at.tables c.loop-at.invariant.1 c.in-Some.op (c.requires.targets c.in-Some.op (c.loop-at.invariant.0.within c.in-Some.op c.in-Some.is))
+
+pub loop-at-preserved : goal.loop-at-preserved
+loop-at-preserved g c =
+    let x : Says = record { meaning = g.D.HasMeaning.meaning; can_fold = g.D.ConstFoldInterface.can_fold; can_fold_branch = g.D.BranchOpFoldInterface.can_fold_branch; constants = g.D.ConstFoldInterface.constants; feasible = g.D.BranchOpFoldInterface.feasible } in
+    let w = c.well_formed-2.ensures.tree in
+    let owned = w.bodies.owned c.in-Some.op c.args.block (c.loop-at.invariant.0.within c.in-Some.op c.in-Some.is) in
+    let next = c.get_next-at.ensures.next ∙ ap (λ o. up_from o (λ b. next_in c.in-Some.op (body_of c.args.ctx.now.tree b))) owned in
+    (walk_next (LooksThrough x c.args.ctx.now.tree) (body_of c.args.ctx.now.tree c.args.block) c.loop-at.at c.get_next-at.result c.in-Some.op c.args.tables.now c.loop-at.tables c.look_at.new.tables (w.bodies.distinct c.args.block) c.loop-at.invariant.0 c.in-Some.is next (λ rest u d. Then c.in-Some.op c.look_at.new.tables c.in_ok-look_at.ensures.ok d), λ b. c.in_ok-look_at.ensures.ok.applied.falls.numbers b ∙ c.loop-at.invariant.1 b)
+
+pub loop-at-smaller : goal.loop-at-smaller
+loop-at-smaller g c =
+    let x : Says = record { meaning = g.D.HasMeaning.meaning; can_fold = g.D.ConstFoldInterface.can_fold; can_fold_branch = g.D.BranchOpFoldInterface.can_fold_branch; constants = g.D.ConstFoldInterface.constants; feasible = g.D.BranchOpFoldInterface.feasible } in
+    let w = c.well_formed-2.ensures.tree in
+    let owned = w.bodies.owned c.in-Some.op c.args.block (c.loop-at.invariant.0.within c.in-Some.op c.in-Some.is) in
+    let next = c.get_next-at.ensures.next ∙ ap (λ o. up_from o (λ b. next_in c.in-Some.op (body_of c.args.ctx.now.tree b))) owned in
+    walk_smaller (LooksThrough x c.args.ctx.now.tree) (body_of c.args.ctx.now.tree c.args.block) c.loop-at.at c.get_next-at.result c.in-Some.op c.args.tables.now c.loop-at.tables (w.bodies.distinct c.args.block) c.loop-at.invariant.0 c.in-Some.is next
+
+pub returns-clause-ok : goal.returns-clause-ok
+returns-clause-ok g c =
+    let x : Says = record { meaning = g.D.HasMeaning.meaning; can_fold = g.D.ConstFoldInterface.can_fold; can_fold_branch = g.D.BranchOpFoldInterface.can_fold_branch; constants = g.D.ConstFoldInterface.constants; feasible = g.D.BranchOpFoldInterface.feasible } in
+    walk_end (LooksThrough x c.args.ctx.now.tree) (body_of c.args.ctx.now.tree c.args.block) c.loop-at.at c.args.tables.now c.loop-at.tables c.in_default.is Nothing c.loop-at.invariant.0

@@ -1,0 +1,256 @@
+//! Listing what stands inside an operation.
+ghost use Rattle.std.specs.Prelude.{◌≡◌, ◌++◌, ◌∷◌, [], ℕ, OnOk, IfOk, IfErr, reverse};
+ghost use Rattle.std.specs.List.{flat_map};
+ghost use Rattle.pliron_core.specs.Tree.{IsLive, IsBlock, IsRegion, In, arguments_of, body_of, layout_of, regions_of, results_of};
+ghost use Rattle.pliron_laws.specs.declared.fault.OptError.TheVariants.{Memory};
+ghost use Rattle.pliron_sccp.specs.Chain.{blocks_inside};
+ghost use Rattle.pliron_sccp.specs.Inside.{block_values, blocks_directly_in};
+ghost use Rattle.pliron_sccp.specs.Starting.{AddsKeys};
+
+use indexmap::IndexSet;
+use pliron_core::{BasicBlock, Context, Operation, Ptr, Region, Value};
+use pliron_laws::OptError;
+use std::alloc::Global;
+
+/// Adds the blocks of the region, in order.
+fn list_region(
+    region: Ptr<Region>,
+    ctx: &Context,
+    blocks: &mut Vec<Ptr<BasicBlock>>,
+) -> Result<(), OptError>
+    requires { IsRegion ctx.now.tree region }
+    ensures ok { OnOk result (blocks.new.items ≡ blocks.old.items ++ layout_of ctx.now.tree region) }
+    ensures err { IfErr result (λ e. e ≡ Memory) }
+{
+    ctx.well_formed();
+    let mut at = region.get_head(ctx);
+    while let Some(block) = at {
+        blocks.push(block)?;
+        at = block.get_next(ctx);
+    }
+    Ok(())
+}
+
+/// Adds the blocks of the operation's regions, in order.
+fn list_regions(
+    op: Ptr<Operation>,
+    ctx: &Context,
+    blocks: &mut Vec<Ptr<BasicBlock>>,
+) -> Result<(), OptError>
+    requires { IsLive ctx.now.tree op }
+    ensures ok { OnOk result (blocks.new.items ≡ blocks.old.items ++ blocks_directly_in ctx.now.tree op) }
+    ensures err { IfErr result (λ e. e ≡ Memory) }
+{
+    for i in 0..op.num_region(ctx) {
+        list_region(op.get_region(ctx, i), ctx, blocks)?;
+    }
+    Ok(())
+}
+
+/// Adds the blocks of the regions of the block's operations, in order.
+fn list_body(
+    block: Ptr<BasicBlock>,
+    ctx: &Context,
+    blocks: &mut Vec<Ptr<BasicBlock>>,
+) -> Result<(), OptError>
+    requires { IsBlock ctx.now.tree block }
+    ensures ok { OnOk result (blocks.new.items ≡ blocks.old.items ++ flat_map (λ k. blocks_directly_in ctx.now.tree k) (body_of ctx.now.tree block)) }
+    ensures err { IfErr result (λ e. e ≡ Memory) }
+{
+    ctx.well_formed();
+    let mut at = block.get_head(ctx);
+    while let Some(op) = at {
+        list_regions(op, ctx, blocks)?;
+        at = op.get_next(ctx);
+    }
+    Ok(())
+}
+
+/// Puts these on the stack, so that the first comes off first.
+fn stack_up(blocks: Vec<Ptr<BasicBlock>>, stack: &mut Vec<Ptr<BasicBlock>>) -> Result<(), OptError>
+    ensures ok { OnOk result (stack.new.items ≡ stack.old.items ++ reverse blocks.items) }
+    ensures err { IfErr result (λ e. e ≡ Memory) }
+{
+    let mut rest = blocks;
+    while let Some(block) = rest.pop() {
+        stack.push(block)?;
+    }
+    Ok(())
+}
+
+/// Puts the blocks of the operation's regions on the stack, so that the first comes off first.
+fn stack_regions(
+    alloc: Global,
+    op: Ptr<Operation>,
+    ctx: &Context,
+    stack: &mut Vec<Ptr<BasicBlock>>,
+) -> Result<(), OptError>
+    requires { IsLive ctx.now.tree op }
+    ensures ok { OnOk result (stack.new.items ≡ stack.old.items ++ reverse (blocks_directly_in ctx.now.tree op)) }
+    ensures err { IfErr result (λ e. e ≡ Memory) }
+{
+    let mut blocks = Vec::new(alloc);
+    list_regions(op, ctx, &mut blocks)?;
+    stack_up(blocks, stack)
+}
+
+/// Puts the blocks of the regions of the block's operations on the stack, so that the first comes off
+/// first.
+fn stack_body(
+    alloc: Global,
+    block: Ptr<BasicBlock>,
+    ctx: &Context,
+    stack: &mut Vec<Ptr<BasicBlock>>,
+) -> Result<(), OptError>
+    requires { IsBlock ctx.now.tree block }
+    ensures ok { OnOk result (stack.new.items ≡ stack.old.items ++ reverse (flat_map (λ k. blocks_directly_in ctx.now.tree k) (body_of ctx.now.tree block))) }
+    ensures err { IfErr result (λ e. e ≡ Memory) }
+{
+    let mut blocks = Vec::new(alloc);
+    list_body(block, ctx, &mut blocks)?;
+    stack_up(blocks, stack)
+}
+
+/// The blocks inside the operation, at any depth, in pre-order: each is followed by those inside its
+/// operations.
+///
+/// Asks that the operation stands. Errors: want of memory. Cost: one step for each operation, block and
+/// region inside it; the depth takes memory on a list alone.
+pub fn all_blocks(
+    alloc: Global,
+    root: Ptr<Operation>,
+    ctx: &Context,
+) -> Result<Vec<Ptr<BasicBlock>>, OptError>
+    requires { IsLive ctx.now.tree root }
+    ensures ok { IfOk result (λ blocks. blocks.items ≡ blocks_inside ctx.now.tree root) }
+    ensures err { IfErr result (λ e. e ≡ Memory) }
+{
+    ctx.well_formed();
+    let mut stack = Vec::new(alloc);
+    stack_regions(alloc, root, ctx, &mut stack)?;
+    let mut found = Vec::new(alloc);
+    while let Some(block) = stack.pop() {
+        found.push(block)?;
+        stack_body(alloc, block, ctx, &mut stack)?;
+    }
+    Ok(found)
+}
+
+/// These blocks, each with a number.
+///
+/// Errors: want of memory. Cost: one step for each.
+pub fn block_numbers(
+    alloc: Global,
+    blocks: &[Ptr<BasicBlock>],
+) -> Result<IndexSet<Ptr<BasicBlock>>, OptError>
+    ensures ok { IfOk result (λ numbered. AddsKeys blocks.now [] numbered.keys) }
+    ensures err { IfErr result (λ e. e ≡ Memory) }
+{
+    let mut numbered = IndexSet::new(alloc);
+    for i in 0..blocks.len() {
+        add_block(blocks[i], &mut numbered)?;
+    }
+    Ok(numbered)
+}
+
+/// One block more.
+fn add_block(block: Ptr<BasicBlock>, blocks: &mut IndexSet<Ptr<BasicBlock>>) -> Result<(), OptError>
+    ensures ok { OnOk result (AddsKeys (block ∷ []) blocks.old.keys blocks.new.keys) }
+    ensures err { IfErr result (λ e. e ≡ Memory) }
+{
+    blocks.insert(block)?;
+    Ok(())
+}
+
+/// One value more.
+fn add_value(value: Value, values: &mut IndexSet<Value>) -> Result<(), OptError>
+    ensures ok { OnOk result (AddsKeys (value ∷ []) values.old.keys values.new.keys) }
+    ensures err { IfErr result (λ e. e ≡ Memory) }
+{
+    values.insert(value)?;
+    Ok(())
+}
+
+/// The results more.
+fn add_results(
+    op: Ptr<Operation>,
+    ctx: &Context,
+    values: &mut IndexSet<Value>,
+) -> Result<(), OptError>
+    requires { IsLive ctx.now.tree op }
+    ensures ok { OnOk result (AddsKeys (results_of ctx.now.tree op) values.old.keys values.new.keys) }
+    ensures err { IfErr result (λ e. e ≡ Memory) }
+{
+    for i in 0..op.num_result(ctx) {
+        add_value(op.get_result(ctx, i), values)?;
+    }
+    Ok(())
+}
+
+/// The block's arguments more.
+fn add_arguments(
+    block: Ptr<BasicBlock>,
+    ctx: &Context,
+    values: &mut IndexSet<Value>,
+) -> Result<(), OptError>
+    requires { IsBlock ctx.now.tree block }
+    ensures ok { OnOk result (AddsKeys (arguments_of ctx.now.tree block) values.old.keys values.new.keys) }
+    ensures err { IfErr result (λ e. e ≡ Memory) }
+{
+    for i in 0..block.num_argument(ctx) {
+        add_value(block.get_argument(ctx, i), values)?;
+    }
+    Ok(())
+}
+
+/// The results of the block's operations more.
+fn add_body(
+    block: Ptr<BasicBlock>,
+    ctx: &Context,
+    values: &mut IndexSet<Value>,
+) -> Result<(), OptError>
+    requires { IsBlock ctx.now.tree block }
+    ensures ok { OnOk result (AddsKeys (flat_map (λ k. results_of ctx.now.tree k) (body_of ctx.now.tree block)) values.old.keys values.new.keys) }
+    ensures err { IfErr result (λ e. e ≡ Memory) }
+{
+    ctx.well_formed();
+    let mut at = block.get_head(ctx);
+    while let Some(op) = at {
+        add_results(op, ctx, values)?;
+        at = op.get_next(ctx);
+    }
+    Ok(())
+}
+
+/// The values that the block lists more.
+fn add_block_values(
+    block: Ptr<BasicBlock>,
+    ctx: &Context,
+    values: &mut IndexSet<Value>,
+) -> Result<(), OptError>
+    requires { IsBlock ctx.now.tree block }
+    ensures ok { OnOk result (AddsKeys (block_values ctx.now.tree block) values.old.keys values.new.keys) }
+    ensures err { IfErr result (λ e. e ≡ Memory) }
+{
+    add_arguments(block, ctx, values)?;
+    add_body(block, ctx, values)
+}
+
+/// The values that these blocks list, each with a number.
+///
+/// Asks that the blocks stand. Errors: want of memory. Cost: one step for each operation and value.
+pub fn value_numbers(
+    alloc: Global,
+    blocks: &[Ptr<BasicBlock>],
+    ctx: &Context,
+) -> Result<IndexSet<Value>, OptError>
+    requires { (b : ℕ) → In b blocks.now → IsBlock ctx.now.tree b }
+    ensures ok { IfOk result (λ numbered. AddsKeys (flat_map (λ b. block_values ctx.now.tree b) blocks.now) [] numbered.keys) }
+    ensures err { IfErr result (λ e. e ≡ Memory) }
+{
+    let mut numbered = IndexSet::new(alloc);
+    for i in 0..blocks.len() {
+        add_block_values(blocks[i], ctx, &mut numbered)?;
+    }
+    Ok(numbered)
+}
