@@ -1,21 +1,17 @@
 -- What the checks of blocks and operations come to.
-use Rattle.std.proofs.Common.{◌≡◌, ◌≢◌, ◌⊎◌, ℕ, ◌+◌, ◌<◌, ◌≤◌, suc, List, [], ◌∷◌, length, Option, Some, None, IsTrue, refl, sym, ap, ◌∙◌, subst, inl, inr, slice_get, arith, map, Bool, true, false, is_some}
+use Rattle.std.proofs.Common.{◌≡◌, ◌≢◌, ◌⊎◌, ℕ, ◌+◌, ◌<◌, ◌≤◌, List, [], ◌∷◌, length, Option, Some, None, IsTrue, refl, sym, ap, ◌∙◌, subst, inl, inr, slice_get, arith, true, is_some}
 use Rattle.std.proofs.lemmas.List.{length-map}
 use Rattle.std.proofs.lemmas.Option.{same_Some, slice_get_within}
-use Rattle.std.proofs.lemmas.Bool.{false≢true, true≢false}
-use Rattle.pliron_core.specs.declared.context.Def.{Def}
-use Rattle.pliron_core.specs.declared.context.Def.TheVariants.{Result, Argument}
-use Rattle.pliron_core.specs.declared.context.RegionSlot.{RegionSlot}
+use Rattle.std.proofs.lemmas.Bool.{true≢false}
 use Rattle.pliron_core.specs.declared.uses.Use.{Use}
-use Rattle.pliron_core.specs.Tree.{Tree, In, IsInside, IsWithin, HoldsBlock, operands_of, successors_of, results_of, regions_of, arguments_of, parent_of, body_of, block_parent_of, region_parent_of, block_holder_of, definition_of, op_of_slot, up_from, head_of, uses_of, last_of, IsLive}
+use Rattle.pliron_core.specs.Tree.{Tree, In, IsInside, IsWithin, HoldsBlock, successors_of, results_of, regions_of, arguments_of, block_parent_of, region_parent_of, op_of_slot, up_from, head_of, IsLive}
 use Rattle.pliron_core.specs.Changes.{IsMadeInside, IsMakerInside}
 use Rattle.pliron_core.specs.Joined.{IsTree}
-use Rattle.pliron_core.specs.Uses.{AreAgreed}
-use Rattle.pliron_core.proofs.FlatLemmas.{In-slice_get, slice_get-In}
+use Rattle.pliron_core.proofs.FlatLemmas.{slice_get-In}
 use Rattle.pliron_laws.specs.Datum.{Head, Meaning}
 use Rattle.pliron_laws.specs.Tree.{Operation, op_at, op_with, shape_of}
 use Rattle.pliron_laws.specs.Linked.{EndsBlock}
-use Rattle.pliron_laws.specs.EdgeChecks.{HasOwnUsers, EndsBlockIf, region_around}
+use Rattle.pliron_laws.specs.EdgeChecks.{EndsBlockIf, region_around}
 use Rattle.pliron_laws.specs.Answers.{AreForwarded}
 use Rattle.pliron_laws.proofs.ShapeLemmas.{head_at, live_at}
 use Rattle.pliron_fit.specs.Misfit.{ForwardsAt}

@@ -1,9 +1,9 @@
 -- A set that lists the contents of a root in pre-order.
-use Rattle.std.proofs.Common.{◌≡◌, ◌↔◌, ℕ, ◌<◌, true, false, nat_eq, ◌&&◌, List, [], ◌∷◌, ◌++◌, Option, Some, None, length, refl, sym, ap, ◌∙◌, subst, inl, inr, ◌≢◌, append_assoc, append-nil, if◌then◌else◌, arith, position, slice_get, get_or}
+use Rattle.std.proofs.Common.{◌≡◌, ◌↔◌, ℕ, true, nat_eq, ◌&&◌, List, [], ◌∷◌, ◌++◌, Option, Some, length, refl, sym, ap, ◌∙◌, subst, inl, inr, ◌≢◌, append_assoc, arith, position, slice_get, get_or}
 use Rattle.std.specs.List.{list_any}
 use Rattle.std.proofs.lemmas.List.Quantifiers.{position-Some}
 use Rattle.std.proofs.lemmas.Option.{slice_get_read}
-use Rattle.std.proofs.lemmas.Bool.{cases_Bool, eq-eqb, false≢true, or_cases, and_cases}
+use Rattle.std.proofs.lemmas.Bool.{cases_Bool, eq-eqb, false≢true, or_cases}
 use Rattle.pliron_core.specs.Tree.{Tree, In, IsDistinct, IsInside, IsWithin}
 use Rattle.pliron_core.specs.Lists.{next_in}
 use Rattle.pliron_core.specs.Joined.{IsTree}

@@ -1,6 +1,6 @@
 -- What the parts of the check find.
-use Rattle.std.specs.Prelude.{◌≡◌, ◌≢◌, ℕ, [], Some, length, slice_get, IsTrue}
-use Rattle.pliron_core.specs.Tree.{Tree, In, IsInside, IsWithin, operands_of, successors_of, results_of, regions_of, arguments_of, block_parent_of}
+use Rattle.std.specs.Prelude.{◌≡◌, ◌≢◌, ℕ, [], Some, IsTrue}
+use Rattle.pliron_core.specs.Tree.{Tree, In, IsInside, operands_of, successors_of, results_of, regions_of, arguments_of, block_parent_of}
 use Rattle.pliron_core.specs.Changes.{IsMadeInside}
 use Rattle.pliron_core.specs.Reads.{has_ssa}
 use Rattle.pliron_laws.specs.Datum.{Meaning}

@@ -1,5 +1,5 @@
 -- Fit to run, but for dominance of uses.
-use Rattle.std.specs.Prelude.{◌≡◌, ◌≢◌, ℕ, [], Some, IsTrue}
+use Rattle.std.specs.Prelude.{◌≡◌, ◌≢◌, ℕ, [], IsTrue}
 use Rattle.pliron_core.specs.Tree.{Tree, In, IsInside, IsWithin, operands_of, successors_of, results_of, regions_of}
 use Rattle.pliron_core.specs.Changes.{IsMadeInside}
 use Rattle.pliron_core.specs.Reads.{has_ssa}

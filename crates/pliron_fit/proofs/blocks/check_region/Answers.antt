@@ -1,7 +1,6 @@
 use Rattle.std.proofs.Common.{◌<◌, length, sym, subst, ◌∙◌, ap, is_some}
 use Rattle.pliron_core.specs.Tree.{layout_of}
 use Rattle.pliron_core.specs.WalkSteps.{rest_from}
-use Rattle.pliron_laws.proofs.AnswerLemmas.{refuted}
 use Rattle.pliron_laws.proofs.PassedLemmas.{ArePassed, passed_all, passed_start}
 use Rattle.pliron_laws.proofs.EdgeLastLemmas.{layout_first, layout_placed, layout_smaller, layout_passed}
 use Rattle.pliron_fit.specs.Checks.{IsFitBlock}

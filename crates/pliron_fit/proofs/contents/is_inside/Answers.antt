@@ -1,7 +1,6 @@
-use Rattle.std.proofs.Common.{◌≡◌, sym, ◌∙◌, inr}
+use Rattle.std.proofs.Common.{sym, ◌∙◌, inr}
 use Rattle.pliron_core.proofs.NextLemmas.{keys_unequal, keys_same}
-use Rattle.pliron_core.specs.Tree.{IsInside}
-use Rattle.pliron_laws.proofs.AnswerLemmas.{no, refuted}
+use Rattle.pliron_laws.proofs.AnswerLemmas.{refuted}
 use Rattle.pliron_fit.proofs.ContentsLemmas.{listed_within, within_not_root, inside_not_root}
 use Rattle.pliron_fit.proofs.contents.is_inside.Goals as goal
 

@@ -1,6 +1,6 @@
-use Rattle.std.proofs.Common.{◌≡◌, ◌≤◌, length, arith, sym, subst, Some, slice_get, refl}
+use Rattle.std.proofs.Common.{◌≤◌, length, arith, sym, subst, refl}
 use Rattle.std.proofs.lemmas.Option.{slice_get_read}
-use Rattle.pliron_core.specs.Tree.{In, IsWithin}
+use Rattle.pliron_core.specs.Tree.{In}
 use Rattle.pliron_core.proofs.FlatLemmas.{In-slice_get}
 use Rattle.pliron_core.proofs.WalkLemmas.{In-preorder, within_live}
 use Rattle.pliron_fit.specs.Checks.{IsSoundAt}

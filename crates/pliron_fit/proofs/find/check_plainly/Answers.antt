@@ -1,4 +1,4 @@
-use Rattle.std.proofs.Common.{◌≡◌, length, arith, sym, ◌∙◌}
+use Rattle.std.proofs.Common.{arith, sym, ◌∙◌}
 use Rattle.pliron_core.specs.Tree.{head_of, successors_of}
 use Rattle.pliron_laws.proofs.AnswerLemmas.{refuted}
 use Rattle.pliron_fit.proofs.CheckLemmas.{its_head, not_empty, is_empty}

@@ -1,4 +1,4 @@
-use Rattle.std.proofs.Common.{◌≡◌, ◌≤◌, ℕ, length, arith, sym, ◌∙◌}
+use Rattle.std.proofs.Common.{◌≤◌, ℕ, length, arith}
 use Rattle.pliron_core.specs.Tree.{In, operands_of, successors_of, results_of, uses_of}
 use Rattle.pliron_core.proofs.FlatLemmas.{In-slice_get, slice_get-In}
 use Rattle.pliron_fit.proofs.CheckLemmas.{at_each, one_more_at, first_use, no_use, not_empty, is_empty}
