@@ -16,15 +16,15 @@ use Rattle.pliron_laws.proofs.PassedLemmas.{ArePassed, passed_step}
 use Rattle.pliron_laws.specs.Linked.{EndsBlock, EdgesLast}
 use Rattle.pliron_laws.specs.EdgeChecks.{HasOwnSuccessors, OpHasOwnUsers, EndsBlockIf, HasLawfulEdges}
 
-around_holder : (t : Tree) (o : Option ℕ) → up_from o (λ b. block_holder_of t b) ≡ up_from (up_from o (λ b. block_parent_of t b)) (λ r. region_parent_of t r)
+pub around_holder : (t : Tree) (o : Option ℕ) → up_from o (λ b. block_holder_of t b) ≡ up_from (up_from o (λ b. block_parent_of t b)) (λ r. region_parent_of t r)
 around_holder t None = refl
 around_holder t (Some b) = refl
 
-region_held : (t : Tree) (s h : ℕ) (o : Option ℕ) → block_parent_of t s ≡ o → up_from o (λ r. region_parent_of t r) ≡ Some h → (r : ℕ) × (block_parent_of t s ≡ Some r) × (region_parent_of t r ≡ Some h)
+pub region_held : (t : Tree) (s h : ℕ) (o : Option ℕ) → block_parent_of t s ≡ o → up_from o (λ r. region_parent_of t r) ≡ Some h → (r : ℕ) × (block_parent_of t s ≡ Some r) × (region_parent_of t r ≡ Some h)
 region_held t s h None e f = grind arith
 region_held t s h (Some r) e f = (r, e, f)
 
-listed : (t : Tree) (r h : ℕ) (o : Option RegionSlot) → IsListedBy t r o → op_of_slot o ≡ Some h → In r (regions_of t h)
+pub listed : (t : Tree) (r h : ℕ) (o : Option RegionSlot) → IsListedBy t r o → op_of_slot o ≡ Some h → In r (regions_of t h)
 listed t r h None l e = elim l [ ]
 listed t r h (Some slot) l e = subst (λ k. In r (regions_of t k)) (same_Some slot.op h e) (In-slice_get (regions_of t slot.op) slot.index r l)
 

@@ -6,8 +6,8 @@ ghost use Rattle.pliron_laws.specs.EdgeChecks.{HasOwnSuccessors, HasOwnUsers, Re
 
 use pliron_core::{BasicBlock, Context, Operation, Ptr, Region};
 
-// The region of a block.
-fn region_of(ctx: &Context, block: Ptr<BasicBlock>) -> Ptr<Region>
+/// The region of the block. Asks that the block stands (`is_live` tests it). Cost: constant.
+pub fn region_of(ctx: &Context, block: Ptr<BasicBlock>) -> Ptr<Region>
     requires { IsBlock ctx.now.tree block }
     ensures { block_parent_of ctx.now.tree block ≡ Some result }
 {
@@ -17,8 +17,9 @@ fn region_of(ctx: &Context, block: Ptr<BasicBlock>) -> Ptr<Region>
     }
 }
 
-// Whether the operation stands directly in the region.
-fn is_directly_in(ctx: &Context, op: Ptr<Operation>, region: Ptr<Region>) -> bool
+/// Whether the operation stands directly in the region. Asks that the operation stands (`is_live` tests it).
+/// Cost: constant.
+pub fn is_directly_in(ctx: &Context, op: Ptr<Operation>, region: Ptr<Region>) -> bool
     requires { IsLive ctx.now.tree op }
     ensures { IsTrue result ↔ (region_around ctx.now.tree op ≡ Some region) }
 {
@@ -43,8 +44,9 @@ fn has_own_successors(ctx: &Context, op: Ptr<Operation>, block: Ptr<BasicBlock>)
     true
 }
 
-// Whether the operation is the last of the block.
-fn is_last(ctx: &Context, op: Ptr<Operation>, block: Ptr<BasicBlock>) -> bool
+/// Whether the operation is the last of the block. Asks that the block stands (`is_live` tests it). Cost:
+/// constant.
+pub fn is_last(ctx: &Context, op: Ptr<Operation>, block: Ptr<BasicBlock>) -> bool
     requires { IsBlock ctx.now.tree block }
     ensures { IsTrue result ↔ (last_of None (body_of ctx.now.tree block) ≡ Some op) }
 {
@@ -54,8 +56,9 @@ fn is_last(ctx: &Context, op: Ptr<Operation>, block: Ptr<BasicBlock>) -> bool
     }
 }
 
-// Whether the operation, if it has successors, ends its block.
-fn ends_block(ctx: &Context, op: Ptr<Operation>) -> bool
+/// Whether the operation, if it has successors, is the last of its block and has only blocks of its own region
+/// as successors. Asks that the operation stands (`is_live` tests it). Cost: linear in its successors.
+pub fn ends_block(ctx: &Context, op: Ptr<Operation>) -> bool
     requires { IsLive ctx.now.tree op }
     ensures { IsTrue result ↔ EndsBlockIf ctx.now.tree op }
 {

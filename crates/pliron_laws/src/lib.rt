@@ -6,7 +6,7 @@
 #![tactic(auto)]
 
 mod dialect;
-mod edges;
+pub mod edges;
 mod fault;
 mod linked;
 pub mod materialise;
@@ -19,5 +19,5 @@ pub use dialect::{
 };
 pub use edges::edges_last;
 pub use fault::OptError;
-pub use linked::is_well_linked;
+pub use linked::{is_admitted, is_well_linked};
 pub use room::Room;

@@ -7,8 +7,9 @@ use crate::dialect::Dialect;
 use crate::edges::edges_last;
 use pliron_core::{Context, Operation, Ptr};
 
-// Whether the dialect admits the operation.
-fn is_admitted<D: Dialect>(op: Ptr<Operation>, ctx: &Context) -> bool
+/// Whether the dialect admits the operation, by its head and counts. Asks that the operation stands (`is_live`
+/// tests it). Cost: that of `admits`.
+pub fn is_admitted<D: Dialect>(op: Ptr<Operation>, ctx: &Context) -> bool
     requires { IsLive ctx.now.tree op }
     ensures { IsTrue result ↔ IsAdmitted D.meaning ctx.now.tree op }
 {
