@@ -12,4 +12,6 @@ pub enum ArithmeticKind {
     Jump,
     Branch,
     Return,
+    If,
+    While,
 }

@@ -21,4 +21,9 @@ use pliron_dialects::ByKinds;
 /// | `jump` | goes to its block with its operands |
 /// | `branch` | goes to its first block unless its first operand is 0, else to its second |
 /// | `return` | leaves the region with its operands |
+/// | `if` | visits its first region unless its first operand is 0, else its second, with the other operands, and gives what the visit gives |
+/// | `while` | visits its region with its operands, and again with the values of each visit until the first of them is 0; then gives the others |
+///
+/// Where an operation passes or gives more values than there are places for, the last ones are cut; where it has
+/// fewer, the others are 0.
 pub type Arithmetic = ByKinds<ArithmeticKind>;

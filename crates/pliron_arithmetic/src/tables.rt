@@ -19,6 +19,8 @@ impl Kinds for ArithmeticKind {
             ArithmeticKind::Jump => 6,
             ArithmeticKind::Branch => 7,
             ArithmeticKind::Return => 8,
+            ArithmeticKind::If => 9,
+            ArithmeticKind::While => 10,
         }
     }
 
@@ -33,6 +35,8 @@ impl Kinds for ArithmeticKind {
             6 => Some(ArithmeticKind::Jump),
             7 => Some(ArithmeticKind::Branch),
             8 => Some(ArithmeticKind::Return),
+            9 => Some(ArithmeticKind::If),
+            10 => Some(ArithmeticKind::While),
             _ => None,
         }
     }
@@ -56,6 +60,8 @@ impl Kinds for ArithmeticKind {
             ArithmeticKind::Jump => Form::Jumps,
             ArithmeticKind::Branch => Form::Branches,
             ArithmeticKind::Return => Form::Leaves,
+            ArithmeticKind::If => Form::Acts,
+            ArithmeticKind::While => Form::Acts,
         }
     }
 
@@ -74,6 +80,8 @@ impl Kinds for ArithmeticKind {
     fn takes(self, operands: usize, results: usize, regions: usize) -> bool {
         match self {
             ArithmeticKind::Function => operands == 0 && results == 0 && regions == 1,
+            ArithmeticKind::If => regions == 2,
+            ArithmeticKind::While => regions == 1,
             _ => false,
         }
     }
