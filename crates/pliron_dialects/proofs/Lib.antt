@@ -1,0 +1,4 @@
+pub mod NumberLemmas
+pub mod RoleReads
+pub mod JumpLemmas
+pub mod EdgeLemmas

@@ -1,0 +1,13 @@
+pub mod Numbers
+pub mod Forms
+pub mod Roles
+pub mod Visits
+pub mod RoleTables
+pub mod RoleOutcomes
+pub mod Places
+pub mod RoleParts
+pub mod CountLaws
+pub mod FoldLaws
+pub mod BranchLaws
+pub mod RemovalLaws
+pub mod PlaceFolds

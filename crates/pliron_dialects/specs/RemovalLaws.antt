@@ -1,0 +1,172 @@
+-- A branch of a dialect of roles can lose a value that it forwards.
+use Rattle.std.proofs.Common.{◌≡◌, inl, inr, ℕ, zero, suc, ◌+◌, ◌-◌, ◌<◌, ◌≤◌, min, Bool, true, false, true≢false, nat_eq, if◌then◌else◌, List, [], ◌∷◌, Option, Some, None, length, slice_get, slice_set, map, remove, take, drop, IsTrue, refl, ap, ap₂, sym, ◌∙◌, subst, arith}
+use Rattle.std.specs.Prelude.{pos}
+use Rattle.std.specs.List.{range_with_len}
+use Rattle.std.specs.Option.{option_map}
+use Rattle.pliron_core.specs.declared.attrs.AttrObj.{AttrObj}
+use Rattle.pliron_core.specs.declared.attrs.AttrObj.TheVariants.{Int}
+use Rattle.pliron_core.proofs.GrownLemmas.{range_at}
+use Rattle.pliron_laws.specs.Datum.{Datum, Empty, Head, Shape, Goto}
+use Rattle.pliron_laws.specs.Acting.{MovesAlike, ActAlike, PassesSame, DropsAt}
+use Rattle.pliron_laws.specs.Laws.{moved_up, fewer_operands, LosesOperand, ForwardsOperands}
+use Rattle.pliron_laws.specs.InPlace.{PassSameTests}
+use Rattle.pliron_laws.specs.PlaceLaws.{shifted}
+use Rattle.pliron_dialects.specs.Numbers.{is_zero}
+use Rattle.pliron_dialects.specs.Forms.{by_form, first_edge_count, edge_of, edge_values, branches, jump_places, branch_places, one_fewer_counted, shortened_of, as_it_is}
+use Rattle.pliron_dialects.specs.Roles.{Role, Jumps, Branches, by_role, form_of, condition_of, act_of, no_act, meaning_by}
+use Rattle.pliron_dialects.specs.RoleTables.{folds_by, branch_folds_by, is_of_number, interfaces_by, shortened_by}
+use Rattle.pliron_dialects.specs.RoleParts.{Admits, of_role, takes_again, count_below, count_set, count_fits, count_kept, comes_first}
+use Rattle.pliron_dialects.specs.FoldLaws.{branch_quiet}
+use Rattle.pliron_dialects.specs.Places.{range_below, range_without, take_without, drop_without, take_kept, drop_kept, not_cut}
+use Rattle.pliron_dialects.specs.BranchLaws.{edge_places, alone, some_edge, within, distinct, PassesAt, passes, at_once, goto_alike, nowhere}
+
+-- the tests of the dialect read the same of both heads
+abbrev SameTests : (ℕ → Option Role) → {K : Type 0} → (K → ℕ) → Head → Head → Type 0
+SameTests roles number_of = PassSameTests (meaning_by roles) (folds_by roles) (branch_folds_by roles) (is_of_number number_of) (interfaces_by roles)
+
+-- to the same edge with the same values, but for the one at place j of edge i
+abbrev JumpsLess : ℕ → ℕ → ℕ → List Datum → ℕ → List Datum → Type 0
+JumpsLess i j k ds l es = (l ≡ k) × DropsAt i j k ds es
+
+-- ---- edges
+
+nothing_without : (b : Bool) (p j : ℕ) → [] ≡ map (moved_up p) (if b then remove [] j else [])
+nothing_without true p zero = refl
+nothing_without true p (suc j) = refl
+nothing_without false p j = refl
+
+jump_edges : (n j p k : ℕ) → slice_get (jump_places n 0) j ≡ Some p → jump_places (n - 1) k ≡ map (moved_up p) (if nat_eq k 0 then remove (jump_places n k) j else jump_places n k)
+jump_edges zero j p zero e = nowhere j p e
+jump_edges (suc n) j p zero e = let a = range_at 0 (suc n) j p e in ap (range_with_len 0) (omega arith) ∙ sym (range_without p n 0 j (omega (arith, a.0)) (omega (arith, a.1)))
+jump_edges n j p (suc k) e = nothing_without (nat_eq (suc k) 0) p j
+
+first_edges : (c n j p k : ℕ) → c < n → slice_get (branch_places c n 0) j ≡ Some p → branch_places (c - 1) (n - 1) k ≡ map (moved_up p) (if nat_eq k 0 then remove (branch_places c n k) j else branch_places c n k)
+first_edges zero n j p k lt e = nowhere j p e
+first_edges (suc c) n j p zero lt e = let a = range_at 1 (suc c) j p e in ap (range_with_len 1) (omega arith) ∙ sym (range_without p c 1 j (omega (arith, a.0)) (omega (arith, a.1)))
+first_edges (suc c) n j p (suc zero) lt e =
+    let a = range_at 1 (suc c) j p e in
+    ap₂ range_with_len (omega arith) (omega (arith, lt)) ∙ sym (ap (λ x. map (moved_up p) (range_with_len x (n - suc (suc c)))) (omega arith) ∙ shifted p (suc c) (n - suc (suc c)) (omega (arith, a.0, a.1)))
+first_edges (suc c) n j p (suc (suc k)) lt e = nothing_without (nat_eq (suc (suc k)) 0) p j
+
+second_without : (c m n j p : ℕ) → n - suc c ≡ m → slice_get (range_with_len (suc c) m) j ≡ Some p → range_with_len (suc c) (n - 1 - suc c) ≡ map (moved_up p) (remove (range_with_len (suc c) m) j)
+second_without c zero n j p f e = nowhere j p e
+second_without c (suc m) n j p f e = let a = range_at (suc c) (suc m) j p e in ap (range_with_len (suc c)) (omega (arith, f)) ∙ sym (range_without p m (suc c) j (omega (arith, a.0)) (omega (arith, a.1)))
+
+second_edges : (c n j p k : ℕ) → slice_get (branch_places c n 1) j ≡ Some p → branch_places c (n - 1) k ≡ map (moved_up p) (if nat_eq k 1 then remove (branch_places c n k) j else branch_places c n k)
+second_edges c n j p zero e = let a = range_at (suc c) (n - suc c) j p e in sym (range_below p c 1 (omega (arith, a.0)))
+second_edges c n j p (suc zero) e = second_without c (n - suc c) n j p refl e
+second_edges c n j p (suc (suc k)) e = nothing_without (nat_eq (suc (suc k)) 1) p j
+
+-- ---- moves
+
+first_loses : (c c' j p : ℕ) (b : Bool) (first : List Datum) → suc c' ≡ c → p ≡ 1 + j → j ≤ c' → c < length first → MovesAlike PassesSame (JumpsLess 0 j) (Goto (if b then 1 else 0) (edge_values c (if b then 1 else 0) (drop 1 first))) (Goto (if b then 1 else 0) (edge_values c' (if b then 1 else 0) (drop 1 (remove first p))))
+first_loses c c' j p b [] e f le lt = absurd (omega (arith, lt))
+first_loses c c' j zero b (d ∷ ds) e f le lt = absurd (omega (arith, f))
+first_loses c c' j (suc q) false (d ∷ ds) e f le lt = goto_alike PassesSame (JumpsLess 0 j) 0 0 (take c ds) (take c' (remove ds q)) (refl, inl (refl, ap (λ x. take c' (remove ds x)) (omega (arith, f)) ∙ take_without c' j ds le (omega (arith, e, lt)) ∙ ap (λ x. remove (take x ds) j) e))
+first_loses c c' j (suc q) true (d ∷ ds) e f le lt = goto_alike PassesSame (JumpsLess 0 j) 1 1 (drop c ds) (drop c' (remove ds q)) (refl, inr ((λ x. omega (arith, x)), ap (λ x. drop c' (remove ds x)) (omega (arith, f)) ∙ drop_without c' j ds le (omega (arith, e, lt)) ∙ ap (λ x. drop x ds) e))
+
+second_loses : (c j p : ℕ) (b : Bool) (first : List Datum) → p ≡ suc c + j → p < length first → MovesAlike PassesSame (JumpsLess 1 j) (Goto (if b then 1 else 0) (edge_values c (if b then 1 else 0) (drop 1 first))) (Goto (if b then 1 else 0) (edge_values c (if b then 1 else 0) (drop 1 (remove first p))))
+second_loses c j p b [] f lt = absurd (omega (arith, lt))
+second_loses c j zero b (d ∷ ds) f lt = absurd (omega (arith, f))
+second_loses c j (suc q) false (d ∷ ds) f lt = goto_alike PassesSame (JumpsLess 1 j) 0 0 (take c ds) (take c (remove ds q)) (refl, inr ((λ x. omega (arith, x)), take_kept c q ds (omega (arith, f))))
+second_loses c j (suc q) true (d ∷ ds) f lt = goto_alike PassesSame (JumpsLess 1 j) 1 1 (drop c ds) (drop c (remove ds q)) (refl, inl (refl, drop_kept c q j ds (omega (arith, f)) (omega (arith, lt))))
+
+condition_kept : (first : List Datum) (p : ℕ) → 0 < p → condition_of (remove first p) ≡ condition_of first
+condition_kept first zero lt = absurd (omega (arith, lt))
+condition_kept [] (suc p) lt = refl
+condition_kept (d ∷ ds) (suc p) lt = refl
+
+module _ (roles : ℕ → Option Role) {K : Type 0} (number_of : K → ℕ) where
+  -- what acts alike at its first move acts alike, where a branch goes on at once
+  alike_at_once : (s s' : Shape) (first first' : List Datum) (i j : ℕ) → IsTrue ((meaning_by roles).is_branch s.head) → MovesAlike PassesSame (JumpsLess i j) ((meaning_by roles).act s Empty first) ((meaning_by roles).act s' Empty first') → ActAlike (meaning_by roles).act PassesSame (JumpsLess i j) s s' first first'
+  unfolding meaning_by
+  alike_at_once s s' first first' i j br begin = record {
+    begin = begin;
+    later = λ memo input comes. absurd (true≢false (comes_first _ s first true memo input (branch_quiet (roles s.head.kind) s br) comes).once);
+  }
+
+  -- ---- the branches
+
+  same_tests : (h : Head) (attrs : List AttrObj) → SameTests roles number_of h (record h { attrs = attrs })
+  unfolding meaning_by folds_by branch_folds_by is_of_number interfaces_by
+  same_tests h attrs = record { terminator = refl; branch = refl; folds = refl; folds_branch = refl; kinds = λ kind. refl; interfaces = λ interface. refl }
+
+  jump_loses : (o : Option Role) (s : Shape) (j p : ℕ) → o ≡ Some Jumps → roles s.head.kind ≡ o → Admits o s → slice_get (jump_places s.operands 0) j ≡ Some p → LosesOperand (meaning_by roles) (SameTests roles number_of) s 0 j p s.head
+  unfolding meaning_by
+  jump_loses o s j p f e h at = record {
+    same_head = inl refl;
+    same_tests = same_tests s.head s.head.attrs;
+    admitted = subst (λ x. Admits x (fewer_operands s s.head)) (sym (e ∙ f)) (subst (λ x. Admits x s) f h);
+    same_edges = λ k. subst (λ x. edge_places x (fewer_operands s s.head) k ≡ map (moved_up p) (if nat_eq k 0 then remove (edge_places x s k) j else edge_places x s k)) (sym (e ∙ f)) (jump_edges s.operands j p k at);
+    alike = λ first l. alike_at_once s (fewer_operands s s.head) first (remove first p) 0 j (subst (λ x. IsTrue (by_form false branches (option_map form_of x))) (sym (e ∙ f)) refl)
+        (subst (λ x. MovesAlike PassesSame (JumpsLess 0 j) (by_role no_act act_of x s Empty first) (by_role no_act act_of x (fewer_operands s s.head) Empty (remove first p))) (sym (e ∙ f)) (goto_alike PassesSame (JumpsLess 0 j) 0 0 first (remove first p) (refl, inl (refl, ap (remove first) (omega (arith, (range_at 0 s.operands j p at).0))))));
+  }
+
+  branch_loses_first : (o : Option Role) (s : Shape) (j p : ℕ) → o ≡ Some Branches → roles s.head.kind ≡ o → Admits o s → slice_get (branch_places (min (first_edge_count s.head.attrs) (s.operands - 1)) s.operands 0) j ≡ Some p → LosesOperand (meaning_by roles) (SameTests roles number_of) s 0 j p (one_fewer_counted s.head 0)
+  unfolding meaning_by
+  branch_loses_first o s j p f e h cut_at =
+      let k = of_role Branches s (subst (λ x. Admits x s) f h) in
+      let c : ℕ = first_edge_count s.head.attrs in
+      let s' : Shape = fewer_operands s (one_fewer_counted s.head 0) in
+      let lt : first_edge_count s.head.attrs < s.operands = count_below s.head.attrs s.operands k.attributes in
+      let whole : min (first_edge_count s.head.attrs) (s.operands - 1) ≡ first_edge_count s.head.attrs = not_cut (first_edge_count s.head.attrs) s.operands lt in
+      let at : slice_get (branch_places (first_edge_count s.head.attrs) s.operands 0) j ≡ Some p = subst (λ x. slice_get (branch_places x s.operands 0) j ≡ Some p) whole cut_at in
+      let place = range_at 1 (first_edge_count s.head.attrs) j p at in
+      let count : first_edge_count (one_fewer_counted s.head 0).attrs ≡ first_edge_count s.head.attrs - 1 = count_set s.head.attrs s.operands (first_edge_count s.head.attrs - 1) k.attributes in
+      record {
+        same_head = inr (0, Int (pos (first_edge_count s.head.attrs - 1)), refl);
+        same_tests = same_tests s.head (slice_set s.head.attrs 0 (Int (pos (first_edge_count s.head.attrs - 1))));
+        admitted = subst (λ x. Admits x s') (sym (e ∙ f)) (takes_again Branches s'.head s'.operands s.results s.successors (length s.entry_arguments) (record { dominance = k.dominance; attributes = count_fits s.head.attrs s.operands (s.operands - 1) (first_edge_count s.head.attrs - 1) k.attributes (omega (arith, lt, place.1)); successors = k.successors; counts = k.counts }));
+        same_edges = λ n. subst (λ x. edge_places x s' n ≡ map (moved_up p) (if nat_eq n 0 then remove (edge_places x s n) j else edge_places x s n)) (sym (e ∙ f)) (ap (λ x. branch_places x (s.operands - 1) n) (ap (λ x. min x (s.operands - 1 - 1)) count ∙ omega (arith, lt, place.1)) ∙ subst (λ x. branch_places (first_edge_count s.head.attrs - 1) (s.operands - 1) n ≡ map (moved_up p) (if nat_eq n 0 then remove (branch_places x s.operands n) j else branch_places x s.operands n)) (sym whole) (first_edges (first_edge_count s.head.attrs) s.operands j p n lt at));
+        alike = λ first l. alike_at_once s s' first (remove first p) 0 j (subst (λ x. IsTrue (by_form false branches (option_map form_of x))) (sym (e ∙ f)) refl)
+            (subst (λ x. MovesAlike PassesSame (JumpsLess 0 j) (by_role no_act act_of x s Empty first) (by_role no_act act_of x s' Empty (remove first p))) (sym (e ∙ f))
+            (subst (λ n. MovesAlike PassesSame (JumpsLess 0 j) (act_of Branches s Empty first) (Goto (edge_of n) (edge_values (first_edge_count s'.head.attrs) (edge_of n) (drop 1 (remove first p))))) (sym (condition_kept first p (omega (arith, place.0))))
+            (subst (λ n. MovesAlike PassesSame (JumpsLess 0 j) (act_of Branches s Empty first) (Goto (edge_of (condition_of first)) (edge_values n (edge_of (condition_of first)) (drop 1 (remove first p))))) (sym count)
+            (first_loses (first_edge_count s.head.attrs) (first_edge_count s.head.attrs - 1) j p (is_zero (condition_of first)) first (omega (arith, place.1)) place.0 (omega (arith, place.1)) (omega (arith, lt, l))))));
+      }
+
+  branch_loses_second : (o : Option Role) (s : Shape) (j p : ℕ) → o ≡ Some Branches → roles s.head.kind ≡ o → Admits o s → slice_get (branch_places (min (first_edge_count s.head.attrs) (s.operands - 1)) s.operands 1) j ≡ Some p → LosesOperand (meaning_by roles) (SameTests roles number_of) s 1 j p s.head
+  unfolding meaning_by
+  branch_loses_second o s j p f e h cut_at =
+      let k = of_role Branches s (subst (λ x. Admits x s) f h) in
+      let s' : Shape = fewer_operands s s.head in
+      let lt : first_edge_count s.head.attrs < s.operands = count_below s.head.attrs s.operands k.attributes in
+      let whole : min (first_edge_count s.head.attrs) (s.operands - 1) ≡ first_edge_count s.head.attrs = not_cut (first_edge_count s.head.attrs) s.operands lt in
+      let at : slice_get (branch_places (first_edge_count s.head.attrs) s.operands 1) j ≡ Some p = subst (λ x. slice_get (branch_places x s.operands 1) j ≡ Some p) whole cut_at in
+      let place = range_at (suc (first_edge_count s.head.attrs)) (s.operands - suc (first_edge_count s.head.attrs)) j p at in
+      record {
+        same_head = inl refl;
+        same_tests = same_tests s.head s.head.attrs;
+        admitted = subst (λ x. Admits x s') (sym (e ∙ f)) (takes_again Branches s.head s'.operands s.results s.successors (length s.entry_arguments) (record { dominance = k.dominance; attributes = count_kept s.head.attrs s.operands (s.operands - 1) k.attributes (omega (arith, place.1)); successors = k.successors; counts = k.counts }));
+        same_edges = λ n. subst (λ x. edge_places x s' n ≡ map (moved_up p) (if nat_eq n 1 then remove (edge_places x s n) j else edge_places x s n)) (sym (e ∙ f)) (ap (λ x. branch_places x (s.operands - 1) n) (omega (arith, place.1)) ∙ subst (λ x. branch_places (first_edge_count s.head.attrs) (s.operands - 1) n ≡ map (moved_up p) (if nat_eq n 1 then remove (branch_places x s.operands n) j else branch_places x s.operands n)) (sym whole) (second_edges (first_edge_count s.head.attrs) s.operands j p n at));
+        alike = λ first l. alike_at_once s s' first (remove first p) 1 j (subst (λ x. IsTrue (by_form false branches (option_map form_of x))) (sym (e ∙ f)) refl)
+            (subst (λ x. MovesAlike PassesSame (JumpsLess 1 j) (by_role no_act act_of x s Empty first) (by_role no_act act_of x s' Empty (remove first p))) (sym (e ∙ f))
+            (subst (λ n. MovesAlike PassesSame (JumpsLess 1 j) (act_of Branches s Empty first) (Goto (edge_of n) (edge_values (first_edge_count s.head.attrs) (edge_of n) (drop 1 (remove first p))))) (sym (condition_kept first p (omega (arith, place.0))))
+            (second_loses (first_edge_count s.head.attrs) j p (is_zero (condition_of first)) first (omega (arith, place.0)) (omega (arith, place.0, place.1, l)))));
+      }
+
+  role_loses : (k : Role) (s : Shape) (i j p : ℕ) → roles s.head.kind ≡ Some k → Admits (Some k) s → IsTrue (branches (form_of k)) → i < s.successors → slice_get (edge_places (Some k) s i) j ≡ Some p → LosesOperand (meaning_by roles) (SameTests roles number_of) s i j p (shortened_of (form_of k) s.head i)
+  role_loses Jumps s zero j p e h br lt at = jump_loses (Some Jumps) s j p refl e h at
+  role_loses Jumps s (suc i) j p e h br lt at = nowhere j p at
+  role_loses Branches s zero j p e h br lt at = branch_loses_first (Some Branches) s j p refl e h at
+  role_loses Branches s (suc zero) j p e h br lt at = branch_loses_second (Some Branches) s j p refl e h at
+  role_loses Branches s (suc (suc i)) j p e h br lt at = nowhere j p at
+  role_loses _ s i j p e h br lt at = grind arith
+
+  loses : (o : Option Role) (s : Shape) (i j p : ℕ) → roles s.head.kind ≡ o → Admits o s → IsTrue (by_form false branches (option_map form_of o)) → i < s.successors → slice_get (edge_places o s i) j ≡ Some p → LosesOperand (meaning_by roles) (SameTests roles number_of) s i j p (by_form as_it_is shortened_of (option_map form_of o) s.head i)
+  loses None s i j p e h br lt at = grind arith
+  loses (Some k) s i j p e h br lt at = role_loses k s i j p e h br lt at
+
+pub forwards_operands : (roles : ℕ → Option Role) {K : Type 0} (number_of : K → ℕ) → ForwardsOperands (meaning_by roles) (folds_by roles) (SameTests roles number_of) (shortened_by roles)
+unfolding meaning_by folds_by shortened_by
+forwards_operands roles number_of = record {
+  alone = λ s h br. alone (roles s.head.kind) s h br;
+  some_edge = λ s h br. some_edge (roles s.head.kind) s h br;
+  places = λ s h br i p l. within (roles s.head.kind) s i p h br l;
+  distinct = λ s h br i j k l p e f. distinct (roles s.head.kind) s i j k l p br e f;
+  passes = λ s h br first l later memo input i ds comes e.
+      let at = comes_first _ s first later memo input (branch_quiet (roles s.head.kind) s br) comes in
+      subst (PassesAt (edge_places (roles s.head.kind) s) first) e (subst (λ x. PassesAt (edge_places (roles s.head.kind) s) first (by_role no_act act_of (roles s.head.kind) s memo x)) (sym at.same_input) (passes (roles s.head.kind) s memo first h br l));
+  one_way = λ s h br one first l. at_once (roles s.head.kind) s first h br one;
+  removal = λ s h br i j p lt at. loses roles number_of (roles s.head.kind) s i j p refl h br lt at;
+}

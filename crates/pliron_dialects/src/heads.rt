@@ -1,0 +1,36 @@
+//! The heads of new operations.
+ghost use Rattle.std.specs.Prelude.{◌≡◌, IfOk};
+ghost use Rattle.pliron_dialects.specs.Forms.{attribute_head as head_with_attribute, plain_head as head_without};
+
+use pliron_core::{AttrObj, Attrs, Head};
+use std::alloc::{AllocFailed, Global};
+
+/// The head of an operation of the kind with this number, without attributes. Takes no memory. Cost:
+/// constant.
+pub fn plain_head(alloc: Global, number: u32) -> Head
+    ensures { result ≡ head_without number }
+{
+    Head {
+        kind: number,
+        ssa: true,
+        attrs: Attrs::new(Vec::new(alloc)),
+    }
+}
+
+/// The head of an operation of the kind with this number, with one attribute. Errors: want of memory. Cost:
+/// constant.
+pub fn attribute_head(
+    alloc: Global,
+    number: u32,
+    attr: AttrObj,
+) -> Result<Head, AllocFailed<AttrObj>>
+    ensures { IfOk result (λ head. head ≡ head_with_attribute number attr) }
+{
+    let mut attrs = Vec::new(alloc);
+    attrs.push(attr)?;
+    Ok(Head {
+        kind: number,
+        ssa: true,
+        attrs: Attrs::new(attrs),
+    })
+}
