@@ -3,6 +3,7 @@ pub mod Search
 pub mod Walks
 pub mod EdgeKinds
 pub mod Adjacency
+pub mod AdjacencyLaws
 pub mod ByNumber
 pub mod Regions
 pub mod Internal
