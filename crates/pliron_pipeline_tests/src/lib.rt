@@ -16,4 +16,6 @@ mod lines;
 mod nest;
 pub mod promise;
 #[cfg(test)]
+mod start;
+#[cfg(test)]
 mod texts;
