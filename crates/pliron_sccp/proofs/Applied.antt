@@ -9,7 +9,7 @@ use Rattle.pliron_core.specs.declared.attrs.AttrObj.{AttrObj}
 use Rattle.pliron_sccp.specs.declared.cells.Cell.{Cell}
 use Rattle.pliron_sccp.specs.declared.demands.Demand.{Demand}
 use Rattle.pliron_sccp.specs.declared.demands.Demand.TheVariants.{Enter, Lower, Answer}
-use Rattle.pliron_sccp.specs.Tables.{constants_of, fact_in, lowest_facts, reaches, waits_block, waits_value, facts_of, Enters, Lowers}
+use Rattle.pliron_sccp.specs.Tables.{known_constants, fact_in, lowest_facts, reaches, waits_block, waits_value, facts_of, Enters, Lowers}
 use Rattle.pliron_sccp.specs.Demands.{CanMeet, Meets, MeetsAll}
 use Rattle.pliron_sccp.specs.Cells.{KeepsConstants, Means}
 use Rattle.pliron_sccp.specs.Settling.{AreAtMost}
@@ -241,9 +241,9 @@ module _ (old new : List AttrObj) (keeps : KeepsConstants old new) (low : Facts)
   }
 
 -- what the tables can meet, they can meet after facts fell
-meets_then : (s s' : Tables) → FactsFall s s' → (d : Demand) → Meets (constants_of s) (lowest_facts s) d → Meets (constants_of s') (lowest_facts s') d
+meets_then : (s s' : Tables) → FactsFall s s' → (d : Demand) → Meets (known_constants s) (lowest_facts s) d → Meets (known_constants s') (lowest_facts s') d
 meets_then s s' f (Enter b) m = f.numbers b ∙ m
-meets_then s s' f (Lower v cell) m = (m.0, means_kept (constants_of s) (constants_of s') f.keeps cell m.0 m.1, inr (inl refl))
+meets_then s s' f (Lower v cell) m = (m.0, means_kept (known_constants s) (known_constants s') f.keeps cell m.0 m.1, inr (inl refl))
 meets_then s s' f (Answer v c) m = inr (inl refl)
 
 meets_amid : (constants : List AttrObj) (g : Facts) (before : List Demand) (d : Demand) (after : List Demand) → MeetsAll constants g ((before ++ d ∷ []) ++ after) → Meets constants g d
@@ -252,20 +252,20 @@ meets_amid constants g (x ∷ before) d after m = meets_amid constants g before 
 
 -- the last ones of a list are done first
 abbrev pub IsDone : List Demand → Tables → List Demand → Tables → Type 0
-IsDone all s rest now = (done : List Demand) × (all ≡ rest ++ done) × IsApplied (constants_of s) done s now
+IsDone all s rest now = (done : List Demand) × (all ≡ rest ++ done) × IsApplied (known_constants s) done s now
 
 pub start_done : (all : List Demand) (s : Tables) → IsDone all s all s
-start_done all s = ([], sym (append-nil all), applied_none (constants_of s) s)
+start_done all s = ([], sym (append-nil all), applied_none (known_constants s) s)
 
 module _ (all : List Demand) (last : Demand) (now next : List Demand) (s s1 : Tables) (can : CanMeet s all) (e : now ≡ next ++ last ∷ []) (d : IsDone all s now s1) where
-  last_met : Meets (constants_of s) (lowest_facts s) last
-  last_met = meets_amid (constants_of s) (lowest_facts s) next last d.0 (subst (MeetsAll (constants_of s) (lowest_facts s)) (d.1 ∙ ap (λ z. z ++ d.0) e) can)
+  last_met : Meets (known_constants s) (lowest_facts s) last
+  last_met = meets_amid (known_constants s) (lowest_facts s) next last d.0 (subst (MeetsAll (known_constants s) (lowest_facts s)) (d.1 ∙ ap (λ z. z ++ d.0) e) can)
 
   pub can_meet_last : CanMeet s1 (last ∷ [])
   can_meet_last = (meets_then s s1 d.2.falls last last_met, tt)
 
-  pub next_done : (s2 : Tables) → IsApplied (constants_of s1) (last ∷ []) s1 s2 → IsDone all s next s2
-  next_done s2 a = (last ∷ d.0, d.1 ∙ ap (λ z. z ++ d.0) e ∙ append_assoc next (last ∷ []) d.0, applied_more (constants_of s) last d.0 s s1 s2 d.2 (applied_kept (constants_of s) (constants_of s1) d.2.falls.keeps (lowest_facts s) last s1 s2 last_met a))
+  pub next_done : (s2 : Tables) → IsApplied (known_constants s1) (last ∷ []) s1 s2 → IsDone all s next s2
+  next_done s2 a = (last ∷ d.0, d.1 ∙ ap (λ z. z ++ d.0) e ∙ append_assoc next (last ∷ []) d.0, applied_more (known_constants s) last d.0 s s1 s2 d.2 (applied_kept (known_constants s) (known_constants s1) d.2.falls.keeps (lowest_facts s) last s1 s2 last_met a))
 
-pub all_done : (all now : List Demand) (s s1 : Tables) → now ≡ [] → IsDone all s now s1 → IsApplied (constants_of s) all s s1
-all_done all now s s1 e d = subst (λ z. IsApplied (constants_of s) z s s1) (sym (d.1 ∙ ap (λ z. z ++ d.0) e)) d.2
+pub all_done : (all now : List Demand) (s s1 : Tables) → now ≡ [] → IsDone all s now s1 → IsApplied (known_constants s) all s s1
+all_done all now s s1 e d = subst (λ z. IsApplied (known_constants s) z s s1) (sym (d.1 ∙ ap (λ z. z ++ d.0) e)) d.2

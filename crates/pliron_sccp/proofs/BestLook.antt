@@ -21,7 +21,7 @@ use Rattle.pliron_theory.specs.Facts.{Fact, Undetermined, Constant, NotAConstant
 use Rattle.pliron_theory.proofs.FactLattice.{at_most_refl, same_index, picked_in}
 use Rattle.pliron_theory.proofs.SweptKeeps.{admitted_shape}
 use Rattle.pliron_sccp.specs.declared.facts.Tables.{Tables}
-use Rattle.pliron_sccp.specs.Tables.{constants_of, facts_of}
+use Rattle.pliron_sccp.specs.Tables.{known_constants, facts_of}
 use Rattle.pliron_sccp.specs.Inside.{values_inside}
 use Rattle.pliron_sccp.specs.Settling.{IsMet, AreAtMost}
 use Rattle.pliron_sccp.specs.Precise.{AreOwed}
@@ -188,8 +188,8 @@ module _ (x : Says) (t : Tree) (root : ℕ) (w : IsTree t) (linked : IsWellLinke
       abbrev pub new : Facts
       new = facts_of s'
 
-      asks : (g : Facts) → MeetsAll (constants_of s) g looks.asked ↔ IsMet x t now g k o
-      asks g = subst (λ z. MeetsAll (constants_of s) g looks.asked ↔ IsMet x t z g k o) (sym same) (looks.asks o at g)
+      asks : (g : Facts) → MeetsAll (known_constants s) g looks.asked ↔ IsMet x t now g k o
+      asks g = subst (λ z. MeetsAll (known_constants s) g looks.asked ↔ IsMet x t z g k o) (sym same) (looks.asks o at g)
 
       met : IsMet x t now new k o
       met = (asks new).0 looks.applied.met

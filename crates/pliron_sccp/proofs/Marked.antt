@@ -3,7 +3,7 @@ use Rattle.std.proofs.Common.{◌≡◌, ℕ, ◌<◌, Bool, true, false, nat_eq
 use Rattle.std.specs.List.{position, slice_index_or, slice_set}
 use Rattle.pliron_sccp.specs.declared.cells.Mark.{Mark}
 use Rattle.pliron_sccp.specs.declared.cells.Mark.TheVariants.{Unreached, Waiting, Visited}
-use Rattle.pliron_sccp.specs.Cells.{table_at, is_reached, is_waiting}
+use Rattle.pliron_sccp.specs.Cells.{table_at, was_reached, is_waiting}
 use Rattle.pliron_sccp.proofs.Worklists.{read_set}
 use Rattle.std.proofs.lemmas.Bool.{eqb-true}
 
@@ -14,27 +14,27 @@ test_if test false x y = refl
 
 module _ (marks : List Mark) (keys : List ℕ) (k n : ℕ) (at : position (nat_eq k) keys ≡ Some n) (lt : n < length marks) where
   -- the block is entered
-  pub reached_entered : (b : ℕ) → is_reached (table_at Unreached (slice_set marks n Waiting) (position (nat_eq b) keys)) ≡ (if nat_eq k b then true else is_reached (table_at Unreached marks (position (nat_eq b) keys)))
-  reached_entered b = ap is_reached (read_set Unreached Waiting marks keys k n at lt b) ∙ test_if is_reached (nat_eq k b) Waiting (table_at Unreached marks (position (nat_eq b) keys))
+  pub reached_entered : (b : ℕ) → was_reached (table_at Unreached (slice_set marks n Waiting) (position (nat_eq b) keys)) ≡ (if nat_eq k b then true else was_reached (table_at Unreached marks (position (nat_eq b) keys)))
+  reached_entered b = ap was_reached (read_set Unreached Waiting marks keys k n at lt b) ∙ test_if was_reached (nat_eq k b) Waiting (table_at Unreached marks (position (nat_eq b) keys))
 
-  pub waits_entered : slice_index_or marks n Unreached ≡ Unreached → (b : ℕ) → is_waiting (table_at Unreached (slice_set marks n Waiting) (position (nat_eq b) keys)) ≡ (if nat_eq k b then (if is_reached (table_at Unreached marks (position (nat_eq k) keys)) then is_waiting (table_at Unreached marks (position (nat_eq k) keys)) else true) else is_waiting (table_at Unreached marks (position (nat_eq b) keys)))
+  pub waits_entered : slice_index_or marks n Unreached ≡ Unreached → (b : ℕ) → is_waiting (table_at Unreached (slice_set marks n Waiting) (position (nat_eq b) keys)) ≡ (if nat_eq k b then (if was_reached (table_at Unreached marks (position (nat_eq k) keys)) then is_waiting (table_at Unreached marks (position (nat_eq k) keys)) else true) else is_waiting (table_at Unreached marks (position (nat_eq b) keys)))
   waits_entered fails b =
-      let old : is_reached (table_at Unreached marks (position (nat_eq k) keys)) ≡ false = ap (λ o. is_reached (table_at Unreached marks o)) at ∙ ap is_reached fails in
-      let first : (if is_reached (table_at Unreached marks (position (nat_eq k) keys)) then is_waiting (table_at Unreached marks (position (nat_eq k) keys)) else true) ≡ true = ap (λ c. if c then is_waiting (table_at Unreached marks (position (nat_eq k) keys)) else true) old in
+      let old : was_reached (table_at Unreached marks (position (nat_eq k) keys)) ≡ false = ap (λ o. was_reached (table_at Unreached marks o)) at ∙ ap was_reached fails in
+      let first : (if was_reached (table_at Unreached marks (position (nat_eq k) keys)) then is_waiting (table_at Unreached marks (position (nat_eq k) keys)) else true) ≡ true = ap (λ c. if c then is_waiting (table_at Unreached marks (position (nat_eq k) keys)) else true) old in
       ap is_waiting (read_set Unreached Waiting marks keys k n at lt b) ∙ test_if is_waiting (nat_eq k b) Waiting (table_at Unreached marks (position (nat_eq b) keys)) ∙ ap (λ z. if nat_eq k b then z else is_waiting (table_at Unreached marks (position (nat_eq b) keys))) (sym first)
 
   -- the block is taken
   pub waits_taken : (b : ℕ) → is_waiting (table_at Unreached (slice_set marks n Visited) (position (nat_eq b) keys)) ≡ (if nat_eq k b then false else is_waiting (table_at Unreached marks (position (nat_eq b) keys)))
   waits_taken b = ap is_waiting (read_set Unreached Visited marks keys k n at lt b) ∙ test_if is_waiting (nat_eq k b) Visited (table_at Unreached marks (position (nat_eq b) keys))
 
-  pub reached_taken : is_reached (slice_index_or marks n Unreached) ≡ true → (b : ℕ) → is_reached (table_at Unreached (slice_set marks n Visited) (position (nat_eq b) keys)) ≡ is_reached (table_at Unreached marks (position (nat_eq b) keys))
-  reached_taken passes b = ap is_reached (read_set Unreached Visited marks keys k n at lt b) ∙ test_if is_reached (nat_eq k b) Visited (table_at Unreached marks (position (nat_eq b) keys)) ∙ by (nat_eq k b) refl
+  pub reached_taken : was_reached (slice_index_or marks n Unreached) ≡ true → (b : ℕ) → was_reached (table_at Unreached (slice_set marks n Visited) (position (nat_eq b) keys)) ≡ was_reached (table_at Unreached marks (position (nat_eq b) keys))
+  reached_taken passes b = ap was_reached (read_set Unreached Visited marks keys k n at lt b) ∙ test_if was_reached (nat_eq k b) Visited (table_at Unreached marks (position (nat_eq b) keys)) ∙ by (nat_eq k b) refl
     where
-      by : (c : Bool) → nat_eq k b ≡ c → (if c then true else is_reached (table_at Unreached marks (position (nat_eq b) keys))) ≡ is_reached (table_at Unreached marks (position (nat_eq b) keys))
+      by : (c : Bool) → nat_eq k b ≡ c → (if c then true else was_reached (table_at Unreached marks (position (nat_eq b) keys))) ≡ was_reached (table_at Unreached marks (position (nat_eq b) keys))
       by false e = refl
-      by true e = sym (ap (λ z. is_reached (table_at Unreached marks (position (nat_eq z) keys))) (sym (eqb-true k b e)) ∙ ap (λ o. is_reached (table_at Unreached marks o)) at ∙ passes)
+      by true e = sym (ap (λ z. was_reached (table_at Unreached marks (position (nat_eq z) keys))) (sym (eqb-true k b e)) ∙ ap (λ o. was_reached (table_at Unreached marks o)) at ∙ passes)
 
-pub waits_reached : (m : Mark) → is_waiting m ≡ true → is_reached m ≡ true
+pub waits_reached : (m : Mark) → is_waiting m ≡ true → was_reached m ≡ true
 waits_reached Unreached e = e
 waits_reached Waiting e = refl
 waits_reached Visited e = refl

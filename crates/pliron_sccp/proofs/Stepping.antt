@@ -14,7 +14,7 @@ use Rattle.pliron_laws.specs.Tree.{Operation, op_at}
 use Rattle.pliron_laws.proofs.Records.{make_op, op_shows}
 use Rattle.pliron_theory.specs.Facts.{Fact, Undetermined, NotAConstant, Facts, Says, IsInReachedBlock, AreHeld}
 use Rattle.pliron_sccp.specs.declared.facts.Tables.{Tables}
-use Rattle.pliron_sccp.specs.Tables.{constants_of, fact_in, has_number, lowest_facts, reaches, waits_block, waits_value, facts_of, TakesBlock}
+use Rattle.pliron_sccp.specs.Tables.{known_constants, fact_in, is_numbered, lowest_facts, reaches, waits_block, waits_value, facts_of, TakesBlock}
 use Rattle.pliron_sccp.specs.Inside.{block_values}
 use Rattle.pliron_sccp.specs.Settling.{IsMet, AreAtMost, AreSettledBut, AreStarted}
 use Rattle.pliron_sccp.specs.Falling.{FactsFall}
@@ -28,13 +28,13 @@ use Rattle.pliron_sccp.proofs.Settled.{met_still, met_same, entered_still, varie
 use Rattle.pliron_sccp.proofs.Applied.{falls_refl, falls_trans}
 
 -- what an operation asks can be met where the blocks that it may enter have numbers
-pub can_meet : (x : Says) (t : Tree) (k : ℕ) (s : Tables) (asked : List Demand) → IsLive t k → HasNumberedTargets t s k → Asks (constants_of s) x t (facts_of s) k asked → CanMeet s asked
+pub can_meet : (x : Says) (t : Tree) (k : ℕ) (s : Tables) (asked : List Demand) → IsLive t k → HasNumberedTargets t s k → Asks (known_constants s) x t (facts_of s) k asked → CanMeet s asked
 can_meet x t k s asked live n asks = (asks o.0 o.1 (lowest_facts s)).1 met
   where
     o : (o : Operation) × (op_at t k ≡ Some o)
     o = let h = some_of _ live in (_, make_op t k h.0 h.1)
 
-    successor : (i b : ℕ) → slice_get o.0.successors i ≡ Some b → has_number s b ≡ true
+    successor : (i b : ℕ) → slice_get o.0.successors i ≡ Some b → is_numbered s b ≡ true
     successor i b e = n.successors b (subst (In b) (sym (op_shows t k o.0 o.1).successors) (in_slice o.0.successors i b e))
 
     met : IsMet x t (facts_of s) (lowest_facts s) k o.0
@@ -47,14 +47,14 @@ can_meet x t k s asked live n asks = (asks o.0 o.1 (lowest_facts s)).1 met
     }
 
 -- numbers stay
-pub targets_same : (t : Tree) (s u : Tables) → ((b : ℕ) → has_number u b ≡ has_number s b) → (k : ℕ) → HasNumberedTargets t s k → HasNumberedTargets t u k
+pub targets_same : (t : Tree) (s u : Tables) → ((b : ℕ) → is_numbered u b ≡ is_numbered s b) → (k : ℕ) → HasNumberedTargets t s k → HasNumberedTargets t u k
 targets_same t s u numbers k n = record { entries = λ r b i e. numbers b ∙ n.entries r b i e; successors = λ b i. numbers b ∙ n.successors b i }
 
-pub targets_kept : (t : Tree) (s u : Tables) → ((b : ℕ) → has_number u b ≡ has_number s b) → ((b : ℕ) → reaches u b ≡ reaches s b) → AreTargetsNumbered t s → AreTargetsNumbered t u
+pub targets_kept : (t : Tree) (s u : Tables) → ((b : ℕ) → is_numbered u b ≡ is_numbered s b) → ((b : ℕ) → reaches u b ≡ reaches s b) → AreTargetsNumbered t s → AreTargetsNumbered t u
 targets_kept t s u numbers reached n k b placed r = targets_same t s u numbers k (n k b placed (sym (reached b) ∙ r))
 
 -- the entries of the root can be met where all blocks inside it have numbers
-pub can_start : (t : Tree) (root : ℕ) (s : Tables) (asked : List Demand) → ((r b : ℕ) → In r (regions_of t root) → first_of (layout_of t r) None ≡ Some b → has_number s b ≡ true) → ((now : Facts) → MeetsAll (constants_of s) now asked ↔ AsksEntries t root now) → CanMeet s asked
+pub can_start : (t : Tree) (root : ℕ) (s : Tables) (asked : List Demand) → ((r b : ℕ) → In r (regions_of t root) → first_of (layout_of t r) None ≡ Some b → is_numbered s b ≡ true) → ((now : Facts) → MeetsAll (known_constants s) now asked ↔ AsksEntries t root now) → CanMeet s asked
 can_start t root s asked n asks = (asks (lowest_facts s)).1 (λ r b i e. (n r b i e, λ v j. refl))
 
 -- two tables say the same of facts

@@ -12,7 +12,7 @@ use Rattle.pliron_core.proofs.ListLemmas.{In-left, In-right, In-cases, distinct-
 use Rattle.pliron_core.proofs.HoldingLemmas.{some_is, in_slice, slice_in}
 use Rattle.pliron_sccp.specs.declared.facts.Tables.{Tables}
 use Rattle.pliron_sccp.specs.Looking.{IsLookedAt, IsUserOf, AddsEach, TakesUsers}
-use Rattle.pliron_sccp.specs.Tables.{fact_in, has_number, left_values, reaches, waits_block, waits_value, NoValueWaits, SaysSame, TakesValue}
+use Rattle.pliron_sccp.specs.Tables.{fact_in, is_numbered, left_values, reaches, waits_block, waits_value, NoValueWaits, SaysSame, TakesValue}
 use Rattle.pliron_sccp.proofs.Worklists.{any_in, in_any}
 
 -- the equality of keys, as a set has it
@@ -136,7 +136,7 @@ pub record IsTaking (t : Tree) (start now : Tables) (users : List ℕ) (taken : 
   pub facts : (v : ℕ) → fact_in now v ≡ fact_in start v
   pub reached : (b : ℕ) → reaches now b ≡ reaches start b
   pub blocks : (b : ℕ) → waits_block now b ≡ waits_block start b
-  pub numbers : (b : ℕ) → has_number now b ≡ has_number start b
+  pub numbers : (b : ℕ) → is_numbered now b ≡ is_numbered start b
   pub users_are : AddsEach [] users (λ k. (v : ℕ) × In v values × IsUserOf t start v k)
   pub counted : taken ≡ length values
   pub left : taken + left_values now ≡ left_values start

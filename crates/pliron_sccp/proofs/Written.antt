@@ -8,7 +8,7 @@ use Rattle.pliron_sccp.specs.declared.cells.Cell.{Cell}
 use Rattle.pliron_sccp.specs.declared.cells.Cell.TheVariants.{Undetermined as Unknown, Constant as Known, NotAConstant as Varying}
 use Rattle.pliron_sccp.specs.declared.facts.Tables.{Tables}
 use Rattle.pliron_sccp.specs.Cells.{cell_at, constant_or, is_unknown, said, unknown_count, KeepsConstants, Means}
-use Rattle.pliron_sccp.specs.Tables.{constants_of, fact_in, has_number, reaches, waits_block, waits_value, FallsTo, IsMeet, Lowers, NowWaits}
+use Rattle.pliron_sccp.specs.Tables.{known_constants, fact_in, is_numbered, reaches, waits_block, waits_value, FallsTo, IsMeet, Lowers, NowWaits}
 use Rattle.std.specs.Option.{IfNone}
 use Rattle.std.proofs.lemmas.List.{get_or-set_same}
 use Rattle.pliron_sccp.proofs.Worklists.{read_set, same_number}
@@ -143,7 +143,7 @@ stays_low value to s low = record {
 }
 
 -- a cell is written, and then its value waits
-pub falls_then : {u : Tables} (s s' : Tables) (value n : ℕ) (to m : Fact) → NowWaits n u s' → position (nat_eq value) s.values.keys ≡ Some n → u.values.keys ≡ s.values.keys → fact_in u value ≡ m → ((v : ℕ) → nat_eq value v ≡ false → fact_in u v ≡ fact_in s v) → ((v : ℕ) → waits_value u v ≡ waits_value s v) → ((b : ℕ) → reaches u b ≡ reaches s b) → ((b : ℕ) → waits_block u b ≡ waits_block s b) → ((b : ℕ) → has_number u b ≡ has_number s b) → KeepsConstants (constants_of s) (constants_of u) → FallsTo (fact_in s value) to m → Lowers value to s s'
+pub falls_then : {u : Tables} (s s' : Tables) (value n : ℕ) (to m : Fact) → NowWaits n u s' → position (nat_eq value) s.values.keys ≡ Some n → u.values.keys ≡ s.values.keys → fact_in u value ≡ m → ((v : ℕ) → nat_eq value v ≡ false → fact_in u v ≡ fact_in s v) → ((v : ℕ) → waits_value u v ≡ waits_value s v) → ((b : ℕ) → reaches u b ≡ reaches s b) → ((b : ℕ) → waits_block u b ≡ waits_block s b) → ((b : ℕ) → is_numbered u b ≡ is_numbered s b) → KeepsConstants (known_constants s) (known_constants u) → FallsTo (fact_in s value) to m → Lowers value to s s'
 falls_then {u} s s' value n to m w at keys here others waiting reached blocks numbers keeps fall = record {
   met = subst (IsMeet (fact_in s value) to) (sym is) fall.0;
   told = inr ((λ e. fall.1 (sym is ∙ e)), w.waits value at_u);

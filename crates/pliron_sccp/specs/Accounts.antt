@@ -3,7 +3,7 @@ use Rattle.std.specs.Prelude.{◌≡◌, ◌≢◌, ◌≤◌, ◌+◌, ◌*◌,
 use Rattle.pliron_core.specs.Tree.{Tree, In}
 use Rattle.pliron_theory.specs.Facts.{Undetermined, NotAConstant}
 use Rattle.pliron_sccp.specs.declared.facts.Tables.{Tables}
-use Rattle.pliron_sccp.specs.Tables.{has_number, fact_in, reaches, waits_block, waits_value}
+use Rattle.pliron_sccp.specs.Tables.{is_numbered, fact_in, reaches, waits_block, waits_value}
 use Rattle.pliron_sccp.specs.Chain.{blocks_inside, is_constant, varies}
 use Rattle.pliron_sccp.specs.Inside.{block_values, values_inside}
 
@@ -45,7 +45,7 @@ pub record IsUnsearched (t : Tree) (root : ℕ) (s : Tables) : Type 0 where
   pub outside : (v : ℕ) → (In v (values_inside t root) → ⊥) → fact_in s v ≡ NotAConstant
   pub blocks : (b : ℕ) → waits_block s b ≡ false
   pub values : (v : ℕ) → waits_value s v ≡ false
-  pub numbered : (b : ℕ) → In b (blocks_inside t root) → has_number s b ≡ true
+  pub numbered : (b : ℕ) → In b (blocks_inside t root) → is_numbered s b ≡ true
 
 -- what is known of a value that is made inside the root is known of one that is made in a block that is reached
 abbrev pub AreKnownThere : Tree → ℕ → Tables → Type 0

@@ -7,10 +7,10 @@ use Rattle.pliron_sccp.specs.declared.cells.Mark.TheVariants.{Unreached, Waiting
 use Rattle.pliron_sccp.specs.declared.cells.Cell.{Cell}
 use Rattle.pliron_sccp.specs.declared.cells.Cell.TheVariants.{Undetermined as Unknown, Constant as Known, NotAConstant as Varying}
 
-abbrev pub is_reached : Mark → Bool
-is_reached Unreached = false
-is_reached Waiting = true
-is_reached Visited = true
+abbrev pub was_reached : Mark → Bool
+was_reached Unreached = false
+was_reached Waiting = true
+was_reached Visited = true
 
 abbrev pub is_waiting : Mark → Bool
 is_waiting Unreached = false

@@ -11,7 +11,7 @@ use Rattle.pliron_sccp.specs.declared.demands.Demand.{Demand}
 use Rattle.pliron_sccp.specs.declared.demands.Demand.TheVariants.{Enter, Lower, Answer}
 use Rattle.pliron_sccp.specs.declared.facts.Tables.{Tables}
 use Rattle.pliron_sccp.specs.Cells.{Means}
-use Rattle.pliron_sccp.specs.Tables.{constants_of, lowest_facts}
+use Rattle.pliron_sccp.specs.Tables.{known_constants, lowest_facts}
 use Rattle.pliron_sccp.specs.Settling.{IsMet}
 
 -- the block is reached, or the value's fact is at or below what the cell means by these constants, or at or below this
@@ -27,7 +27,7 @@ MeetsAll constants now (d ∷ ds) = Meets constants now d × MeetsAll constants 
 
 -- these tables have a number for each block and each constant that is asked for
 abbrev pub CanMeet : Tables → List Demand → Type 0
-CanMeet s asked = MeetsAll (constants_of s) (lowest_facts s) asked
+CanMeet s asked = MeetsAll (known_constants s) (lowest_facts s) asked
 
 -- what is asked now is what was asked before, and this
 abbrev pub Adds : List AttrObj → (old new : List Demand) → (Facts → Type 0) → Type 0

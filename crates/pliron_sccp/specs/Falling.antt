@@ -5,7 +5,7 @@ use Rattle.pliron_sccp.specs.declared.facts.Tables.{Tables}
 use Rattle.pliron_sccp.specs.declared.demands.Demand.{Demand}
 use Rattle.pliron_core.specs.declared.attrs.AttrObj.{AttrObj}
 use Rattle.pliron_sccp.specs.Cells.{KeepsConstants}
-use Rattle.pliron_sccp.specs.Tables.{constants_of, fact_in, has_number, reaches, waits_block, waits_value, facts_of}
+use Rattle.pliron_sccp.specs.Tables.{known_constants, fact_in, is_numbered, reaches, waits_block, waits_value, facts_of}
 use Rattle.pliron_sccp.specs.Demands.{MeetsAll}
 use Rattle.pliron_sccp.specs.Settling.{AreAtMost}
 
@@ -17,8 +17,8 @@ pub record FactsFall (s s' : Tables) : Type 0 where
   pub values : (v : ℕ) → waits_value s v ≡ true → waits_value s' v ≡ true
   pub blocks : (b : ℕ) → waits_block s b ≡ true → waits_block s' b ≡ true
   pub fell : (v : ℕ) → waits_value s' v ≡ true → (waits_value s v ≡ true) ⊎ (fact_in s' v ≢ fact_in s v)
-  pub numbers : (b : ℕ) → has_number s' b ≡ has_number s b
-  pub keeps : KeepsConstants (constants_of s) (constants_of s')
+  pub numbers : (b : ℕ) → is_numbered s' b ≡ is_numbered s b
+  pub keeps : KeepsConstants (known_constants s) (known_constants s')
   pub came : (b : ℕ) → waits_block s' b ≡ true → (waits_block s b ≡ true) ⊎ ((reaches s b ≡ false) × (reaches s' b ≡ true))
 
 -- all that is asked by these constants is met, and nothing else was done: facts that stood at or below the old ones and

@@ -4,20 +4,20 @@ use Rattle.pliron_core.specs.Tree.{Tree, In, IsDistinct, first_of, layout_of, op
 use Rattle.pliron_theory.specs.Facts.{Says}
 use Rattle.pliron_sccp.specs.declared.demands.Demand.{Demand}
 use Rattle.pliron_sccp.specs.declared.facts.Tables.{Tables}
-use Rattle.pliron_sccp.specs.Tables.{constants_of, has_number, fact_in, reaches, waits_block, waits_value, facts_of}
+use Rattle.pliron_sccp.specs.Tables.{known_constants, is_numbered, fact_in, reaches, waits_block, waits_value, facts_of}
 use Rattle.pliron_sccp.specs.Demands.{Asks}
 use Rattle.pliron_sccp.specs.Falling.{IsApplied}
 
 -- one operation was looked at: what it asks of the facts before is met, and nothing else was done
 pub record LooksAt (x : Says) (t : Tree) (k : ℕ) (s s' : Tables) : Type 0 where
   pub asked : List Demand
-  pub asks : Asks (constants_of s) x t (facts_of s) k asked
-  pub applied : IsApplied (constants_of s) asked s s'
+  pub asks : Asks (known_constants s) x t (facts_of s) k asked
+  pub applied : IsApplied (known_constants s) asked s s'
 
 -- the blocks that the operation may enter have numbers
 pub record HasNumberedTargets (t : Tree) (s : Tables) (k : ℕ) : Type 0 where
-  pub entries : (r b : ℕ) → In r (regions_of t k) → first_of (layout_of t r) None ≡ Some b → has_number s b ≡ true
-  pub successors : (b : ℕ) → In b (successors_of t k) → has_number s b ≡ true
+  pub entries : (r b : ℕ) → In r (regions_of t k) → first_of (layout_of t r) None ≡ Some b → is_numbered s b ≡ true
+  pub successors : (b : ℕ) → In b (successors_of t k) → is_numbered s b ≡ true
 
 -- so it is for each operation in a block that is reached
 abbrev pub AreTargetsNumbered : Tree → Tables → Type 0
@@ -36,7 +36,7 @@ pub record TakesValues (taken : List ℕ) (s s' : Tables) : Type 0 where
   pub facts : (v : ℕ) → fact_in s' v ≡ fact_in s v
   pub reached : (b : ℕ) → reaches s' b ≡ reaches s b
   pub blocks : (b : ℕ) → waits_block s' b ≡ waits_block s b
-  pub numbers : (b : ℕ) → has_number s' b ≡ has_number s b
+  pub numbers : (b : ℕ) → is_numbered s' b ≡ is_numbered s b
 
 -- the operation stands in a block that is reached and was looked at
 pub record IsLookedAt (t : Tree) (s : Tables) (k : ℕ) : Type 0 where

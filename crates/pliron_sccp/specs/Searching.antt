@@ -3,7 +3,7 @@ use Rattle.std.specs.Prelude.{◌≡◌, ℕ, true, false, List}
 use Rattle.pliron_core.specs.Tree.{Tree, In, body_of}
 use Rattle.pliron_theory.specs.Facts.{Says, AreHeld}
 use Rattle.pliron_sccp.specs.declared.facts.Tables.{Tables}
-use Rattle.pliron_sccp.specs.Tables.{has_number, waits_block, waits_value, facts_of, TakesBlock}
+use Rattle.pliron_sccp.specs.Tables.{is_numbered, waits_block, waits_value, facts_of, TakesBlock}
 use Rattle.pliron_sccp.specs.Chain.{blocks_inside}
 use Rattle.pliron_sccp.specs.Looking.{LooksThrough, TakesUsers}
 use Rattle.pliron_sccp.specs.Settling.{AreSettledBut, AreStarted}
@@ -32,7 +32,7 @@ pub record IsSearchOnTheWay (x : Says) (t : Tree) (root : ℕ) (s : Tables) : Ty
   pub held : AreHeld t root (facts_of s)
   pub there : AreKnownThere t root s
   pub waits : WaitsInside t root s
-  pub numbered : (b : ℕ) → In b (blocks_inside t root) → has_number s b ≡ true
+  pub numbered : (b : ℕ) → In b (blocks_inside t root) → is_numbered s b ≡ true
 
 -- this, and the count so far; where the most precise facts are owed, the facts stand above every closed set of facts
 pub record IsSearching (x : Says) (t : Tree) (root : ℕ) (s : Tables) (pops : ℕ) : Type 0 where

@@ -4,7 +4,7 @@ use Rattle.pliron_core.specs.Tree.{Tree, In}
 use Rattle.pliron_theory.specs.Facts.{Facts}
 use Rattle.pliron_sccp.specs.declared.demands.Demand.{Demand}
 use Rattle.pliron_sccp.specs.declared.facts.Tables.{Tables}
-use Rattle.pliron_sccp.specs.Tables.{constants_of}
+use Rattle.pliron_sccp.specs.Tables.{known_constants}
 use Rattle.pliron_sccp.specs.Demands.{MeetsAll, AsksEntries}
 use Rattle.pliron_sccp.specs.Falling.{IsApplied}
 use Rattle.pliron_sccp.specs.Accounts.{IsUnsearched}
@@ -18,5 +18,5 @@ pub record IsStarted (t : Tree) (root : ℕ) (s : Tables) : Type 0 where
   pub before : Tables
   pub unsearched : IsUnsearched t root before
   pub asked : List Demand
-  pub asks : (now : Facts) → MeetsAll (constants_of before) now asked ↔ AsksEntries t root now
-  pub applied : IsApplied (constants_of before) asked before s
+  pub asks : (now : Facts) → MeetsAll (known_constants before) now asked ↔ AsksEntries t root now
+  pub applied : IsApplied (known_constants before) asked before s

@@ -4,22 +4,22 @@ use Rattle.std.specs.List.{list_any}
 use Rattle.indexmap.specs.IndexSet.{contains, index_of}
 use Rattle.pliron_core.specs.declared.attrs.AttrObj.{AttrObj}
 use Rattle.pliron_sccp.specs.declared.facts.Tables.{Tables}
-use Rattle.pliron_sccp.specs.Cells.{is_reached, is_waiting, mark_at, cell_at, fall_at, said, KeepsConstants}
+use Rattle.pliron_sccp.specs.Cells.{was_reached, is_waiting, mark_at, cell_at, fall_at, said, KeepsConstants}
 use Rattle.pliron_theory.specs.Facts.{Fact, Undetermined, NotAConstant, AtMost, Facts}
 
 -- whether the block has a number
-abbrev pub has_number : Tables → ℕ → Bool
-has_number s b = contains nat_eq s.blocks b
+abbrev pub is_numbered : Tables → ℕ → Bool
+is_numbered s b = contains nat_eq s.blocks b
 
 -- the constants, in the order of their numbers
-abbrev pub constants_of : Tables → List AttrObj
-constants_of s = s.constants.items
+abbrev pub known_constants : Tables → List AttrObj
+known_constants s = s.constants.items
 
 abbrev pub fact_in : Tables → ℕ → Fact
 fact_in s v = said s.constants.items (cell_at s.cells.items (index_of nat_eq s.values v))
 
 abbrev pub reaches : Tables → ℕ → Bool
-reaches s b = is_reached (mark_at s.marks.items (index_of nat_eq s.blocks b))
+reaches s b = was_reached (mark_at s.marks.items (index_of nat_eq s.blocks b))
 
 abbrev pub waits_block : Tables → ℕ → Bool
 waits_block s b = is_waiting (mark_at s.marks.items (index_of nat_eq s.blocks b))
@@ -36,7 +36,7 @@ facts_of s = record { reaches = λ b. reaches s b; fact = λ v. fact_in s v }
 
 -- the lowest facts that these tables can hold: each block with a number is reached, and nothing is a constant
 abbrev pub lowest_facts : Tables → Facts
-lowest_facts s = record { reaches = λ b. has_number s b; fact = λ v. NotAConstant }
+lowest_facts s = record { reaches = λ b. is_numbered s b; fact = λ v. NotAConstant }
 
 -- m is the greatest fact at or below f and g
 pub record IsMeet (f g m : Fact) : Type 0 where
@@ -50,7 +50,7 @@ FallsTo f g m = IsMeet f g m × (m ≢ f)
 
 -- over these blocks and values: no block is reached, nothing is known of a value, and nothing waits
 pub record AreNew (blocks values : List ℕ) (s : Tables) : Type 0 where
-  pub numbers : (b : ℕ) → has_number s b ≡ list_any (nat_eq b) blocks
+  pub numbers : (b : ℕ) → is_numbered s b ≡ list_any (nat_eq b) blocks
   pub reached : (b : ℕ) → reaches s b ≡ false
   pub facts : (v : ℕ) → fact_in s v ≡ (if list_any (nat_eq v) values then Undetermined else NotAConstant)
   pub blocks_wait : (b : ℕ) → waits_block s b ≡ false
@@ -62,8 +62,8 @@ pub record Enters (block : ℕ) (s s' : Tables) : Type 0 where
   pub blocks : (b : ℕ) → waits_block s' b ≡ (if nat_eq block b then (if reaches s block then waits_block s block else true) else waits_block s b)
   pub facts : (v : ℕ) → fact_in s' v ≡ fact_in s v
   pub values : (v : ℕ) → waits_value s' v ≡ waits_value s v
-  pub numbers : (b : ℕ) → has_number s' b ≡ has_number s b
-  pub keeps : KeepsConstants (constants_of s) (constants_of s')
+  pub numbers : (b : ℕ) → is_numbered s' b ≡ is_numbered s b
+  pub keeps : KeepsConstants (known_constants s) (known_constants s')
 
 -- the fact of the value falls to the greatest one below both, and it waits if that is another one
 pub record Lowers (value : ℕ) (to : Fact) (s s' : Tables) : Type 0 where
@@ -72,8 +72,8 @@ pub record Lowers (value : ℕ) (to : Fact) (s s' : Tables) : Type 0 where
   pub others : (v : ℕ) → nat_eq value v ≡ false → (fact_in s' v ≡ fact_in s v) × (waits_value s' v ≡ waits_value s v)
   pub reached : (b : ℕ) → reaches s' b ≡ reaches s b
   pub blocks : (b : ℕ) → waits_block s' b ≡ waits_block s b
-  pub numbers : (b : ℕ) → has_number s' b ≡ has_number s b
-  pub keeps : KeepsConstants (constants_of s) (constants_of s')
+  pub numbers : (b : ℕ) → is_numbered s' b ≡ is_numbered s b
+  pub keeps : KeepsConstants (known_constants s) (known_constants s')
 
 -- the value with this number waits, and nothing else changed
 pub record NowWaits (n : ℕ) (s s' : Tables) : Type 0 where
@@ -82,8 +82,8 @@ pub record NowWaits (n : ℕ) (s s' : Tables) : Type 0 where
   pub facts : (v : ℕ) → fact_in s' v ≡ fact_in s v
   pub reached : (b : ℕ) → reaches s' b ≡ reaches s b
   pub blocks : (b : ℕ) → waits_block s' b ≡ waits_block s b
-  pub numbers : (b : ℕ) → has_number s' b ≡ has_number s b
-  pub keeps : KeepsConstants (constants_of s) (constants_of s')
+  pub numbers : (b : ℕ) → is_numbered s' b ≡ is_numbered s b
+  pub keeps : KeepsConstants (known_constants s) (known_constants s')
 
 -- the block waits no longer
 pub record TakesBlock (block : ℕ) (s s' : Tables) : Type 0 where
@@ -92,7 +92,7 @@ pub record TakesBlock (block : ℕ) (s s' : Tables) : Type 0 where
   pub reached : (b : ℕ) → reaches s' b ≡ reaches s b
   pub facts : (v : ℕ) → fact_in s' v ≡ fact_in s v
   pub values : (v : ℕ) → waits_value s' v ≡ waits_value s v
-  pub numbers : (b : ℕ) → has_number s' b ≡ has_number s b
+  pub numbers : (b : ℕ) → is_numbered s' b ≡ is_numbered s b
 
 -- the value waits no longer
 pub record TakesValue (value : ℕ) (s s' : Tables) : Type 0 where
@@ -101,7 +101,7 @@ pub record TakesValue (value : ℕ) (s s' : Tables) : Type 0 where
   pub facts : (v : ℕ) → fact_in s' v ≡ fact_in s v
   pub reached : (b : ℕ) → reaches s' b ≡ reaches s b
   pub blocks : (b : ℕ) → waits_block s' b ≡ waits_block s b
-  pub numbers : (b : ℕ) → has_number s' b ≡ has_number s b
+  pub numbers : (b : ℕ) → is_numbered s' b ≡ is_numbered s b
   pub fewer : left_values s ≡ left_values s' + 1
   pub few : left_values s < 2 ^ 64
 
@@ -111,7 +111,7 @@ pub record SaysSame (s s' : Tables) : Type 0 where
   pub reached : (b : ℕ) → reaches s' b ≡ reaches s b
   pub blocks : (b : ℕ) → waits_block s' b ≡ waits_block s b
   pub values : (v : ℕ) → waits_value s' v ≡ waits_value s v
-  pub numbers : (b : ℕ) → has_number s' b ≡ has_number s b
+  pub numbers : (b : ℕ) → is_numbered s' b ≡ is_numbered s b
 
 abbrev pub NoBlockWaits : Tables → Tables → Type 0
 NoBlockWaits s s' = SaysSame s s' × ((b : ℕ) → waits_block s b ≡ false)

@@ -8,7 +8,7 @@ ghost use Rattle.pliron_laws.specs.Tree.{Operation as OperationOf, op_at, shape_
 ghost use Rattle.pliron_laws.specs.Answers.{HeadPasses};
 ghost use Rattle.pliron_laws.specs.declared.fault.OptError.TheVariants.{Memory};
 ghost use Rattle.pliron_theory.specs.Facts.{answered, handed, AtMost, IsEntered, known as known_of, NotAConstant as Varies};
-ghost use Rattle.pliron_sccp.specs.Tables.{constants_of, facts_of, fact_in};
+ghost use Rattle.pliron_sccp.specs.Tables.{known_constants, facts_of, fact_in};
 ghost use Rattle.pliron_sccp.specs.Cells.{Means};
 ghost use Rattle.pliron_sccp.specs.Falling.{IsApplied};
 ghost use Rattle.pliron_sccp.specs.Demands.{Adds, AlwaysAdds, CanMeet, Asks, AsksEntries, AsksEdges, AsksJumps, AsksAnswers, AsksResults, AsksForwarded, AsksBranches, FollowsEdge, AreFeasible, MayLead, EntryEntered};
@@ -136,7 +136,7 @@ pub(crate) fn known_operands(
 /// What is known of one of these values.
 fn forwarded_cell(values: &[Value], j: usize, tables: &Tables) -> Cell
     requires { j < length values.now }
-    ensures { (w : ℕ) → slice_get values.now j ≡ Some w → Means (constants_of tables.now) result (fact_in tables.now w) }
+    ensures { (w : ℕ) → slice_get values.now j ≡ Some w → Means (known_constants tables.now) result (fact_in tables.now w) }
 {
     tables.cell(values[j])
 }
@@ -150,7 +150,7 @@ fn ask_forwarded(
     asked: &mut Vec<Demand>,
 ) -> Result<(), OptError>
     requires { IsBlock ctx.now.tree block }
-    ensures ok { OnOk result (Adds (constants_of tables.now) asked.old.items asked.new.items (λ now. AsksForwarded ctx.now.tree (facts_of tables.now) block values.now now)) }
+    ensures ok { OnOk result (Adds (known_constants tables.now) asked.old.items asked.new.items (λ now. AsksForwarded ctx.now.tree (facts_of tables.now) block values.now now)) }
     ensures err { IfErr result (λ e. e ≡ Memory) }
 {
     asked.push(Demand::Enter(block))?;
@@ -240,7 +240,7 @@ fn ask_edge<D: Dialect>(
     requires known { known.now ≡ handed (facts_of tables.now) (operands_of ctx.now.tree op) }
     requires feasible { AreFeasible D.meaning D.can_fold_branch D.feasible ctx.now.tree op known.now feasible.now }
     ensures ok { OnOk result ((o : OperationOf) → op_at ctx.now.tree op ≡ Some o → (b : ℕ) → slice_get (successors_of ctx.now.tree op) i ≡ Some b →
-        Adds (constants_of tables.now) asked.old.items asked.new.items (λ now. FollowsEdge ⟦<D as HasFolding>⟧.folding ctx.now.tree (facts_of tables.now) o now i b)) }
+        Adds (known_constants tables.now) asked.old.items asked.new.items (λ now. FollowsEdge ⟦<D as HasFolding>⟧.folding ctx.now.tree (facts_of tables.now) o now i b)) }
     ensures err { IfErr result (λ e. e ≡ Memory) }
 {
     let block = op.get_successor(ctx, i);
@@ -267,7 +267,7 @@ fn ask_each_edge<D: Dialect>(
     requires known { known.now ≡ handed (facts_of tables.now) (operands_of ctx.now.tree op) }
     requires feasible { AreFeasible D.meaning D.can_fold_branch D.feasible ctx.now.tree op known.now feasible.now }
     ensures ok { OnOk result ((o : OperationOf) → op_at ctx.now.tree op ≡ Some o →
-        Adds (constants_of tables.now) asked.old.items asked.new.items (λ now. AsksBranches ⟦<D as HasFolding>⟧.folding ctx.now.tree (facts_of tables.now) o now)) }
+        Adds (known_constants tables.now) asked.old.items asked.new.items (λ now. AsksBranches ⟦<D as HasFolding>⟧.folding ctx.now.tree (facts_of tables.now) o now)) }
     ensures err { IfErr result (λ e. e ≡ Memory) }
 {
     for i in 0..op.num_successor(ctx) {
@@ -289,7 +289,7 @@ fn ask_branches<D: Dialect>(
     requires branch { HeadPasses D.meaning.is_branch ctx.now.tree op }
     requires known { known.now ≡ handed (facts_of tables.now) (operands_of ctx.now.tree op) }
     ensures ok { OnOk result ((o : OperationOf) → op_at ctx.now.tree op ≡ Some o →
-        Adds (constants_of tables.now) asked.old.items asked.new.items (λ now. AsksBranches ⟦<D as HasFolding>⟧.folding ctx.now.tree (facts_of tables.now) o now)) }
+        Adds (known_constants tables.now) asked.old.items asked.new.items (λ now. AsksBranches ⟦<D as HasFolding>⟧.folding ctx.now.tree (facts_of tables.now) o now)) }
     ensures err { IfErr result (λ e. e ≡ Memory) }
 {
     let feasible = feasible_blocks::<D>(alloc, op, ctx, known)?;
@@ -372,7 +372,7 @@ fn ask_edges<D: Dialect>(
     requires live { IsLive ctx.now.tree op }
     requires known { known.now ≡ handed (facts_of tables.now) (operands_of ctx.now.tree op) }
     ensures ok { OnOk result ((o : OperationOf) → op_at ctx.now.tree op ≡ Some o →
-        Adds (constants_of tables.now) asked.old.items asked.new.items (λ now. AsksEdges ⟦<D as HasFolding>⟧.folding ctx.now.tree (facts_of tables.now) op o now)) }
+        Adds (known_constants tables.now) asked.old.items asked.new.items (λ now. AsksEdges ⟦<D as HasFolding>⟧.folding ctx.now.tree (facts_of tables.now) op o now)) }
     ensures err { IfErr result (λ e. e ≡ Memory) }
 {
     if D::is_branch(op, ctx) {
@@ -395,7 +395,7 @@ pub fn demands<D: Dialect>(
     tables: &Tables,
 ) -> Result<Vec<Demand>, OptError>
     requires { IsLive ctx.now.tree op }
-    ensures ok { IfOk result (λ asked. Asks (constants_of tables.now) ⟦<D as HasFolding>⟧.folding ctx.now.tree (facts_of tables.now) op asked.items) }
+    ensures ok { IfOk result (λ asked. Asks (known_constants tables.now) ⟦<D as HasFolding>⟧.folding ctx.now.tree (facts_of tables.now) op asked.items) }
     ensures err { IfErr result (λ e. e ≡ Memory) }
 {
     let known = known_operands(alloc, op, ctx, tables)?;
@@ -409,7 +409,7 @@ pub fn demands<D: Dialect>(
 /// Meets one thing that is asked, and does nothing else. Takes no memory.
 fn meet(demand: Demand, tables: &mut Tables)
     requires { CanMeet tables.old (demand ∷ []) }
-    ensures { IsApplied (constants_of tables.old) (demand ∷ []) tables.old tables.new }
+    ensures { IsApplied (known_constants tables.old) (demand ∷ []) tables.old tables.new }
 {
     match demand {
         Demand::Enter(block) => tables.enter(block),
@@ -424,7 +424,7 @@ fn meet(demand: Demand, tables: &mut Tables)
 /// each.
 pub fn meet_all(asked: Vec<Demand>, tables: &mut Tables)
     requires { CanMeet tables.old asked.items }
-    ensures { IsApplied (constants_of tables.old) asked.items tables.old tables.new }
+    ensures { IsApplied (known_constants tables.old) asked.items tables.old tables.new }
 {
     let mut rest = asked;
     while let Some(demand) = rest.pop() {

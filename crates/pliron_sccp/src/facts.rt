@@ -57,7 +57,7 @@ impl Tables {
     ghost use Rattle.pliron_laws.specs.declared.fault.OptError.TheVariants.{Memory};
     ghost use Rattle.pliron_theory.specs.Facts.{AtMost, Fact, Constant as IsConstant, known as known_of};
     ghost use Rattle.pliron_sccp.specs.Cells.{Means};
-    ghost use Rattle.pliron_sccp.specs.Tables.{constants_of, fact_in, has_number, reaches, waits_block, AreNew, Enters, FallsTo, Lowers, NowWaits, TakesBlock, TakesValue, NoBlockWaits, NoValueWaits};
+    ghost use Rattle.pliron_sccp.specs.Tables.{known_constants, fact_in, is_numbered, reaches, waits_block, AreNew, Enters, FallsTo, Lowers, NowWaits, TakesBlock, TakesValue, NoBlockWaits, NoValueWaits};
 
     /// Tables over these blocks and values, with all the room that they ever need.
     ///
@@ -118,7 +118,7 @@ impl Tables {
 
     /// What is known of the value, a constant by its number. Cost: one look-up.
     pub fn cell(&self, value: Value) -> Cell
-        ensures { Means (constants_of self.now) result (fact_in self.now value) }
+        ensures { Means (known_constants self.now) result (fact_in self.now value) }
     {
         match self.values.get_index_of(&value) {
             Some(n) => self.cells[n],
@@ -142,7 +142,7 @@ impl Tables {
     ///
     /// Asks that the block has a number. Cost: one look-up.
     pub fn enter(&mut self, block: Ptr<BasicBlock>)
-        requires { has_number self.old block ≡ true }
+        requires { is_numbered self.old block ≡ true }
         ensures { Enters block self.old self.new }
     {
         let Some(n) = self.blocks.get_index_of(&block) else {
@@ -170,11 +170,11 @@ impl Tables {
 
     /// What the fact falls to, where that is another one than before.
     fn fallen(&self, old: Cell, to: Cell) -> Option<Cell>
-        requires old { (f : Fact) × Means (constants_of self.now) old f }
-        requires to { (g : Fact) × Means (constants_of self.now) to g }
-        ensures falls { IfSome result (λ new. (f g : Fact) → Means (constants_of self.now) old f → Means (constants_of self.now) to g →
-            (m : Fact) × Means (constants_of self.now) new m × FallsTo f g m) }
-        ensures stays { IfNone result ((f g : Fact) → Means (constants_of self.now) old f → Means (constants_of self.now) to g → AtMost f g) }
+        requires old { (f : Fact) × Means (known_constants self.now) old f }
+        requires to { (g : Fact) × Means (known_constants self.now) to g }
+        ensures falls { IfSome result (λ new. (f g : Fact) → Means (known_constants self.now) old f → Means (known_constants self.now) to g →
+            (m : Fact) × Means (known_constants self.now) new m × FallsTo f g m) }
+        ensures stays { IfNone result ((f g : Fact) → Means (known_constants self.now) old f → Means (known_constants self.now) to g → AtMost f g) }
     {
         match to {
             Cell::Undetermined => None,
@@ -201,8 +201,8 @@ impl Tables {
     ///
     /// Asks that a constant in the cell has its number here. Cost: one look-up, and comparing two attributes.
     pub fn lower(&mut self, value: Value, to: Cell)
-        requires { (g : Fact) × Means (constants_of self.old) to g }
-        ensures { (g : Fact) → Means (constants_of self.old) to g → Lowers value g self.old self.new }
+        requires { (g : Fact) × Means (known_constants self.old) to g }
+        ensures { (g : Fact) → Means (known_constants self.old) to g → Lowers value g self.old self.new }
     {
         let Some(n) = self.values.get_index_of(&value) else {
             return;

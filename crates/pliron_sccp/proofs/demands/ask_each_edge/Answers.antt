@@ -2,7 +2,7 @@ use Rattle.std.proofs.Common.{◌<◌, ◌≤◌, length, get_or, arith}
 use Rattle.std.proofs.lemmas.Option.{slice_get-get_or}
 use Rattle.pliron_core.specs.Tree.{successors_of}
 use Rattle.pliron_theory.specs.Facts.{Says}
-use Rattle.pliron_sccp.specs.Tables.{constants_of, facts_of}
+use Rattle.pliron_sccp.specs.Tables.{known_constants, facts_of}
 use Rattle.pliron_sccp.specs.Demands.{FollowsEdge}
 use Rattle.pliron_sccp.proofs.Demanded.{adds_next, adds_end}
 use Rattle.pliron_sccp.proofs.EdgesAsked.{branches_asked}
@@ -15,7 +15,7 @@ loop-i-preserved g c = λ o e.
     let bs = successors_of t c.args.op in
     let within : c.loop-i.i < length bs = omega arith in
     let at = slice_get-get_or bs c.loop-i.i 0 within in
-    adds_next (constants_of c.args.tables.now) bs (λ now j b. FollowsEdge x t (facts_of c.args.tables.now) o now j b) c.loop-i.i (get_or bs c.loop-i.i 0) c.args.asked.now.items c.loop-i.asked.items c.ask_edge.new.asked.items at (c.loop-i.invariant o e) (c.in_ok-ask_edge.ensures.ok o e (get_or bs c.loop-i.i 0) at)
+    adds_next (known_constants c.args.tables.now) bs (λ now j b. FollowsEdge x t (facts_of c.args.tables.now) o now j b) c.loop-i.i (get_or bs c.loop-i.i 0) c.args.asked.now.items c.loop-i.asked.items c.ask_edge.new.asked.items at (c.loop-i.invariant o e) (c.in_ok-ask_edge.ensures.ok o e (get_or bs c.loop-i.i 0) at)
 
 pub returns-clause-ok : goal.returns-clause-ok
 returns-clause-ok g c = λ o e.
@@ -23,5 +23,5 @@ returns-clause-ok g c = λ o e.
     let t = c.args.ctx.now.tree in
     let bs = successors_of t c.args.op in
     let whole : length bs ≤ c.loop-i.i = omega arith in
-    branches_asked x t (facts_of c.args.tables.now) c.args.op o e (constants_of c.args.tables.now) c.args.asked.now.items c.loop-i.asked.items
-    (adds_end (constants_of c.args.tables.now) bs (λ now j b. FollowsEdge x t (facts_of c.args.tables.now) o now j b) c.loop-i.i c.args.asked.now.items c.loop-i.asked.items whole (c.loop-i.invariant o e))
+    branches_asked x t (facts_of c.args.tables.now) c.args.op o e (known_constants c.args.tables.now) c.args.asked.now.items c.loop-i.asked.items
+    (adds_end (known_constants c.args.tables.now) bs (λ now j b. FollowsEdge x t (facts_of c.args.tables.now) o now j b) c.loop-i.i c.args.asked.now.items c.loop-i.asked.items whole (c.loop-i.invariant o e))

@@ -3,7 +3,7 @@ use Rattle.std.proofs.lemmas.Result.{on_ok_weaker}
 use Rattle.pliron_core.proofs.HoldingLemmas.{some_is}
 use Rattle.pliron_laws.proofs.Records.{op_shows}
 use Rattle.pliron_theory.specs.Facts.{Says, handed}
-use Rattle.pliron_sccp.specs.Tables.{constants_of, facts_of}
+use Rattle.pliron_sccp.specs.Tables.{known_constants, facts_of}
 use Rattle.pliron_sccp.specs.Demands.{Adds, MayLead, FollowsEdge}
 use Rattle.pliron_sccp.proofs.Demanded.{nothing_asked}
 use Rattle.pliron_sccp.proofs.EdgesAsked.{may, may_not, edge_asked}
@@ -24,8 +24,8 @@ returns-in_ok-values-clause-ok g c =
     let known = c.requires.known ∙ ap (handed f) s.operands in
     let led = subst (λ q. MayLead c.args.feasible.now block q) c.if-may_go.true c.may_go.ensures in
     let go = may x t f c.args.op o e c.args.known.now known c.args.feasible.now c.requires.feasible c.args.i block (ap (λ l. slice_get l c.args.i) (sym s.successors) ∙ c.get_successor-block.ensures.successor) led in
-    subst (λ q. Adds (constants_of c.args.tables.now) a z (λ now. FollowsEdge x t f o now c.args.i q)) here
-    (edge_asked x t f c.args.op o e (constants_of c.args.tables.now) c.args.i block c.deref.result.now a z go (ap (map Some) c.deref.ensures.value ∙ c.in_ok-values.ensures.ok o e) p))
+    subst (λ q. Adds (known_constants c.args.tables.now) a z (λ now. FollowsEdge x t f o now c.args.i q)) here
+    (edge_asked x t f c.args.op o e (known_constants c.args.tables.now) c.args.i block c.deref.result.now a z go (ap (map Some) c.deref.ensures.value ∙ c.in_ok-values.ensures.ok o e) p))
     c.ask_forwarded.ensures.ok
 
 pub returns-else-may_go-clause-ok : goal.returns-else-may_go-clause-ok
@@ -38,5 +38,5 @@ returns-else-may_go-clause-ok g c = λ o e b at.
     let here = some_is (sym c.get_successor-block.ensures.successor ∙ at) in
     let known = c.requires.known ∙ ap (handed f) s.operands in
     let led = subst (λ q. MayLead c.args.feasible.now block q) c.if-may_go.false c.may_go.ensures in
-    nothing_asked (constants_of c.args.tables.now) (λ now. FollowsEdge x t f o now c.args.i b) c.args.asked.now.items
+    nothing_asked (known_constants c.args.tables.now) (λ now. FollowsEdge x t f o now c.args.i b) c.args.asked.now.items
     (λ now go. absurd (may_not x t f c.args.op o e c.args.known.now known c.args.feasible.now c.requires.feasible c.args.i b (subst (λ q. MayLead c.args.feasible.now q false) here led) go))

@@ -1,7 +1,7 @@
 use Rattle.std.proofs.Common.{◌<◌, length, get_or, arith}
 use Rattle.std.proofs.lemmas.Option.{slice_get-get_or}
 use Rattle.pliron_core.specs.Tree.{arguments_of}
-use Rattle.pliron_sccp.specs.Tables.{constants_of, facts_of}
+use Rattle.pliron_sccp.specs.Tables.{known_constants, facts_of}
 use Rattle.pliron_sccp.specs.Demands.{GetsForwarded}
 use Rattle.pliron_sccp.proofs.Demanded.{adds_next, forward_asked, forwarded_asked}
 use Rattle.pliron_sccp.proofs.demands.ask_forwarded.Goals as goal
@@ -11,9 +11,9 @@ loop-j-preserved c =
     let f = facts_of c.args.tables.now in
     let values = c.args.values.now in
     let within : c.loop-j.j < length values = omega arith in
-    adds_next (constants_of c.args.tables.now) (arguments_of c.args.ctx.now.tree c.args.block) (λ now j v. GetsForwarded f values now j v) c.loop-j.j c.get_argument.result c.push.new.self.items c.loop-j.asked.items c.push-in-loop-j.new.self.items c.get_argument.ensures.argument c.loop-j.invariant
-    (forward_asked (constants_of c.args.tables.now) f values c.loop-j.j c.get_argument.result (get_or values c.loop-j.j 0) c.forwarded_cell-cell.result c.loop-j.asked.items c.push-in-loop-j.new.self.items (slice_get-get_or values c.loop-j.j 0 within) c.forwarded_cell-cell.ensures c.in_ok-push-2.ensures.items)
+    adds_next (known_constants c.args.tables.now) (arguments_of c.args.ctx.now.tree c.args.block) (λ now j v. GetsForwarded f values now j v) c.loop-j.j c.get_argument.result c.push.new.self.items c.loop-j.asked.items c.push-in-loop-j.new.self.items c.get_argument.ensures.argument c.loop-j.invariant
+    (forward_asked (known_constants c.args.tables.now) f values c.loop-j.j c.get_argument.result (get_or values c.loop-j.j 0) c.forwarded_cell-cell.result c.loop-j.asked.items c.push-in-loop-j.new.self.items (slice_get-get_or values c.loop-j.j 0 within) c.forwarded_cell-cell.ensures c.in_ok-push-2.ensures.items)
 
 pub returns-clause-ok : goal.returns-clause-ok
 returns-clause-ok c =
-    forwarded_asked (constants_of c.args.tables.now) c.args.ctx.now.tree (facts_of c.args.tables.now) c.args.values.now c.args.block c.loop-j.j c.args.asked.now.items c.push.new.self.items c.loop-j.asked.items c.in_ok-push.ensures.items (λ k p q. omega (arith, p, q)) c.loop-j.invariant
+    forwarded_asked (known_constants c.args.tables.now) c.args.ctx.now.tree (facts_of c.args.tables.now) c.args.values.now c.args.block c.loop-j.j c.args.asked.now.items c.push.new.self.items c.loop-j.asked.items c.in_ok-push.ensures.items (λ k p q. omega (arith, p, q)) c.loop-j.invariant

@@ -1,7 +1,7 @@
 use Rattle.std.proofs.Common.{◌∷◌, [], subst, sym}
 use Rattle.pliron_sccp.specs.Demands.{CanMeet}
 use Rattle.pliron_sccp.specs.Falling.{IsApplied}
-use Rattle.pliron_sccp.specs.Tables.{constants_of}
+use Rattle.pliron_sccp.specs.Tables.{known_constants}
 use Rattle.pliron_sccp.proofs.Applied.{enter_applied, lower_applied, answer_applied}
 use Rattle.pliron_sccp.proofs.demands.meet.Goals as goal
 
@@ -14,15 +14,15 @@ lower-requires c = let m = (subst (λ z. CanMeet c.args.tables.now (z ∷ [])) c
 pub returns-in-Enter : goal.returns-in-Enter
 returns-in-Enter c =
     let s = c.args.tables.now in
-    subst (λ z. IsApplied (constants_of s) (z ∷ []) s c.enter.new.self) (sym c.in-Enter.is) (enter_applied c.in-Enter.block s c.enter.new.self c.enter.ensures (constants_of s))
+    subst (λ z. IsApplied (known_constants s) (z ∷ []) s c.enter.new.self) (sym c.in-Enter.is) (enter_applied c.in-Enter.block s c.enter.new.self c.enter.ensures (known_constants s))
 
 pub returns-in-Lower : goal.returns-in-Lower
 returns-in-Lower c =
     let s = c.args.tables.now in
     let m = (subst (λ z. CanMeet s (z ∷ [])) c.in-Lower.is c.requires).0 in
-    subst (λ z. IsApplied (constants_of s) (z ∷ []) s c.lower.new.self) (sym c.in-Lower.is) (lower_applied c.in-Lower.value m.0 s c.lower.new.self (c.lower.ensures m.0 m.1) (constants_of s) c.in-Lower.cell m.1)
+    subst (λ z. IsApplied (known_constants s) (z ∷ []) s c.lower.new.self) (sym c.in-Lower.is) (lower_applied c.in-Lower.value m.0 s c.lower.new.self (c.lower.ensures m.0 m.1) (known_constants s) c.in-Lower.cell m.1)
 
 pub returns-in-Answer : goal.returns-in-Answer
 returns-in-Answer c =
     let s = c.args.tables.now in
-    subst (λ z. IsApplied (constants_of s) (z ∷ []) s c.answer.new.self) (sym c.in-Answer.is) (answer_applied c.in-Answer.value c.in-Answer.attr s c.answer.new.self c.answer.ensures (constants_of s))
+    subst (λ z. IsApplied (known_constants s) (z ∷ []) s c.answer.new.self) (sym c.in-Answer.is) (answer_applied c.in-Answer.value c.in-Answer.attr s c.answer.new.self c.answer.ensures (known_constants s))

@@ -2,7 +2,7 @@ use Rattle.std.proofs.Common.{inl, refl, subst, sym}
 use Rattle.pliron_core.specs.Tree.{layout_of}
 use Rattle.pliron_core.proofs.NeighbourLemmas.{first_of-In}
 use Rattle.pliron_sccp.specs.Demands.{MeetsAll}
-use Rattle.pliron_sccp.specs.Tables.{constants_of}
+use Rattle.pliron_sccp.specs.Tables.{known_constants}
 use Rattle.pliron_sccp.proofs.DistinctLists.{held_directly}
 use Rattle.pliron_sccp.proofs.InsideLists.{holds_listed}
 use Rattle.pliron_sccp.proofs.Stepping.{can_start}
@@ -15,7 +15,7 @@ meet_all-requires c =
     let s = c.in_ok-tables.tables in
     can_start t c.args.root s c.ask_entries.new.asked.items
     (λ r b i e. c.in_ok-tables.ensures.ok.numbered b (holds_listed t w c.args.root b (c.args.root, held_directly t w c.args.root r b i (first_of-In b (layout_of t r) e), inl refl)))
-    (λ now. let a = c.in_ok-ask_entries.ensures.ok (constants_of s) now in (λ m. (a.0 m).1, λ p. a.1 (subst (MeetsAll (constants_of s) now) (sym c.new-asked.ensures.items) tt, p)))
+    (λ now. let a = c.in_ok-ask_entries.ensures.ok (known_constants s) now in (λ m. (a.0 m).1, λ p. a.1 (subst (MeetsAll (known_constants s) now) (sym c.new-asked.ensures.items) tt, p)))
 
 pub returns-clause-ok : goal.returns-clause-ok
 returns-clause-ok c =
@@ -24,6 +24,6 @@ returns-clause-ok c =
       before = s;
       unsearched = c.in_ok-tables.ensures.ok;
       asked = c.ask_entries.new.asked.items;
-      asks = λ now. let a = c.in_ok-ask_entries.ensures.ok (constants_of s) now in (λ m. (a.0 m).1, λ p. a.1 (subst (MeetsAll (constants_of s) now) (sym c.new-asked.ensures.items) tt, p));
+      asks = λ now. let a = c.in_ok-ask_entries.ensures.ok (known_constants s) now in (λ m. (a.0 m).1, λ p. a.1 (subst (MeetsAll (known_constants s) now) (sym c.new-asked.ensures.items) tt, p));
       applied = c.meet_all.ensures;
     }

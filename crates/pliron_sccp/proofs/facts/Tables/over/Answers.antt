@@ -3,7 +3,7 @@ use Rattle.std.proofs.lemmas.Grind.{common_steps}
 use Rattle.std.specs.List.{list_any, position}
 use Rattle.pliron_sccp.specs.declared.cells.Mark.TheVariants.{Unreached}
 use Rattle.pliron_sccp.specs.declared.cells.Cell.TheVariants.{Undetermined as Unknown}
-use Rattle.pliron_sccp.specs.Cells.{AreOnce, is_reached, is_waiting}
+use Rattle.pliron_sccp.specs.Cells.{AreOnce, was_reached, is_waiting}
 use Rattle.pliron_sccp.proofs.Worklists.{once_from}
 use Rattle.pliron_sccp.proofs.Fresh.{numbered_at, fresh_at, fresh_read, fresh_fact, count_most, none_known}
 use Rattle.pliron_sccp.proofs.UserLists.{and_true, distinct_by}
@@ -59,7 +59,7 @@ returns-clause-ok c =
     let vl : c.len-value_count.result ≡ length values = grind (arith, common_steps) in
     record {
       numbers = λ b. refl;
-      reached = λ b. ap is_reached (fresh_read Unreached c.len-block_count.result marks m ml (position (nat_eq b) blocks));
+      reached = λ b. ap was_reached (fresh_read Unreached c.len-block_count.result marks m ml (position (nat_eq b) blocks));
       facts = fresh_fact c.in_ok-constants.constants.items values cells (distinct_by (λ x y. refl) values c.len-value_count.ensures.unique) (λ i. fresh_at Unknown c.len-value_count.result cells e el i) (el ∙ vl);
       blocks_wait = λ b. ap is_waiting (fresh_read Unreached c.len-block_count.result marks m ml (position (nat_eq b) blocks));
       values_wait = λ v. fresh_read false c.len-value_count.result falls f fl (position (nat_eq v) values);
