@@ -1,4 +1,5 @@
 //! Tokens, taken one by one.
+use crate::expected::Expected;
 use crate::stop::Stop;
 use crate::tokens::{Name, Token};
 use pliron_bench::BenchKind;
@@ -6,13 +7,17 @@ use pliron_bench::BenchKind;
 /// The tokens that are left.
 #[derive(Drop)]
 pub struct Cursor<'t> {
+    count: usize,
     rest: &'t [Token],
 }
 
 impl<'t> Cursor<'t> {
     /// All these tokens are left. Cost: constant.
     pub fn new(tokens: &'t [Token]) -> Self {
-        Cursor { rest: tokens }
+        Cursor {
+            count: tokens.len(),
+            rest: tokens,
+        }
     }
 
     /// How many tokens are left. Cost: constant.
@@ -20,14 +25,31 @@ impl<'t> Cursor<'t> {
         self.rest.len()
     }
 
-    /// Takes the next token. Errors: `Unreadable` where none is left. Cost: constant.
-    pub fn next(&mut self) -> Result<Token, Stop> {
-        match self.rest.split_first() {
-            Some((token, rest)) => {
-                self.rest = rest;
-                Ok(*token)
-            }
-            None => Err(Stop::Unreadable),
+    /// The next token was to be something else. Cost: constant.
+    pub fn stop(&self, expected: Expected) -> Stop {
+        Stop::at(self.count.saturating_sub(self.rest.len()), expected)
+    }
+
+    /// The token that was taken last was to be something else. Cost: constant.
+    pub fn stop_before(&self, expected: Expected) -> Stop {
+        Stop::at(self.last(), expected)
+    }
+
+    /// The number of the token that was taken last. Cost: constant.
+    pub fn last(&self) -> usize {
+        let next = self.count.saturating_sub(self.rest.len());
+        next.saturating_sub(1)
+    }
+
+    /// The next token. Cost: constant.
+    fn peek(&self) -> Option<Token> {
+        self.rest.first().copied()
+    }
+
+    /// Goes to the token after the next one. Cost: constant.
+    fn skip(&mut self) {
+        if let Some((_, rest)) = self.rest.split_first() {
+            self.rest = rest;
         }
     }
 
@@ -43,35 +65,41 @@ impl<'t> Cursor<'t> {
     }
 
     /// Takes the given token. Errors: `Unreadable` where another one or none is left. Cost: constant.
-    pub fn expect(&mut self, token: Token) -> Result<(), Stop> {
-        if self.next()? == token {
+    pub fn expect(&mut self, token: Token, expected: Expected) -> Result<(), Stop> {
+        if self.accept(token) {
             Ok(())
         } else {
-            Err(Stop::Unreadable)
+            Err(self.stop(expected))
         }
     }
 
     /// Takes a name. Errors: `Unreadable` where none comes next. Cost: constant.
-    pub fn name(&mut self) -> Result<Name, Stop> {
-        match self.next()? {
-            Token::Name(name) => Ok(name),
-            _ => Err(Stop::Unreadable),
+    pub fn name(&mut self, expected: Expected) -> Result<Name, Stop> {
+        match self.accept_name() {
+            Some(name) => Ok(name),
+            None => Err(self.stop(expected)),
         }
     }
 
     /// Takes a number. Errors: `Unreadable` where none comes next. Cost: constant.
     pub fn number(&mut self) -> Result<i64, Stop> {
-        match self.next()? {
-            Token::Number(number) => Ok(number),
-            _ => Err(Stop::Unreadable),
+        match self.peek() {
+            Some(Token::Number(number)) => {
+                self.skip();
+                Ok(number)
+            }
+            _ => Err(self.stop(Expected::Number)),
         }
     }
 
     /// Takes a kind. Errors: `Unreadable` where none comes next. Cost: constant.
-    pub fn kind(&mut self) -> Result<BenchKind, Stop> {
-        match self.next()? {
-            Token::Kind(kind) => Ok(kind),
-            _ => Err(Stop::Unreadable),
+    pub fn kind(&mut self, expected: Expected) -> Result<BenchKind, Stop> {
+        match self.peek() {
+            Some(Token::Kind(kind)) => {
+                self.skip();
+                Ok(kind)
+            }
+            _ => Err(self.stop(expected)),
         }
     }
 

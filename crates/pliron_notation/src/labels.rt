@@ -1,5 +1,4 @@
 //! Names that may be used before they are defined.
-use crate::stop::Stop;
 use crate::tokens::Name;
 use std::alloc::{AllocError, Global};
 
@@ -18,6 +17,8 @@ struct Entry {
     earlier: Option<usize>,
     /// Its number once it is defined.
     number: Option<usize>,
+    /// The token that mentions it first.
+    mention: usize,
 }
 
 /// The labels of a text. Each has a place, by the order of their first mention, and a number once it
@@ -42,11 +43,11 @@ impl Labels {
         })
     }
 
-    /// The place of a label. Errors: want of memory. Cost: constant, amortised.
-    pub fn place(&mut self, label: Label) -> Result<usize, AllocError> {
+    /// The place of a label, which this token mentions. Errors: want of memory. Cost: constant, amortised.
+    pub fn place(&mut self, label: Label, mention: usize) -> Result<usize, AllocError> {
         let place = match self.last_up_to(label) {
             Some((place, scope)) if scope == label.scope => place,
-            earlier => self.add(label.scope, earlier.map(|(place, _)| place))?,
+            earlier => self.add(label.scope, earlier.map(|(place, _)| place), mention)?,
         };
         if let Some(latest) = self.latest.get_mut(label.name.number) {
             *latest = Some(place);
@@ -70,32 +71,53 @@ impl Labels {
     }
 
     /// Adds a label, and answers its place.
-    fn add(&mut self, scope: usize, earlier: Option<usize>) -> Result<usize, AllocError> {
+    fn add(
+        &mut self,
+        scope: usize,
+        earlier: Option<usize>,
+        mention: usize,
+    ) -> Result<usize, AllocError> {
         let place = self.entries.len();
         self.entries.push(Entry {
             scope,
             earlier,
             number: None,
+            mention,
         })?;
         Ok(place)
     }
 
-    /// Gives the label its number. Errors: `Unreadable` where the label has one; want of memory. Cost:
-    /// constant, amortised.
-    pub fn define(&mut self, label: Label, number: usize) -> Result<(), Stop> {
-        let place = self.place(label)?;
+    /// Gives the label, which this token mentions, its number, and answers whether it had none. Errors: want of
+    /// memory. Cost: constant, amortised.
+    pub fn define(
+        &mut self,
+        label: Label,
+        number: usize,
+        mention: usize,
+    ) -> Result<bool, AllocError> {
+        let place = self.place(label, mention)?;
         match self.entries.get_mut(place) {
             Some(entry) if entry.number.is_none() => {
                 entry.number = Some(number);
-                Ok(())
+                Ok(true)
             }
-            _ => Err(Stop::Unreadable),
+            _ => Ok(false),
         }
     }
 
-    /// Writes the label's number for each place. Errors: `Unreadable` where a label has none. Cost: the
-    /// number of places.
-    pub fn resolve(&self, places: &mut Vec<usize>) -> Result<(), Stop> {
+    /// The first token that mentions a label without a number. Cost: the number of labels.
+    pub fn first_undefined(&self) -> Option<usize> {
+        let mut first: Option<usize> = None;
+        for entry in &self.entries {
+            if entry.number.is_none() {
+                first = Some(first.map_or(entry.mention, |token| token.min(entry.mention)));
+            }
+        }
+        first
+    }
+
+    /// Writes the label's number for each place. A place without one stays. Cost: the number of places.
+    pub fn resolve(&self, places: &mut Vec<usize>) {
         for place in places.iter_mut() {
             match self.entries.get(*place) {
                 Some(
@@ -104,9 +126,8 @@ impl Labels {
                         ..
                     },
                 ) => *place = *number,
-                _ => return Err(Stop::Unreadable),
+                _ => {}
             }
         }
-        Ok(())
     }
 }

@@ -5,6 +5,7 @@
 
 mod build;
 mod cursor;
+mod expected;
 mod labels;
 mod parser;
 mod printer;
@@ -15,5 +16,7 @@ mod syntax;
 mod tokens;
 mod words;
 
+pub use expected::Expected;
 pub use printer::print_text;
-pub use reader::read_text;
+pub use reader::{TextFault, find_text_fault, read_text};
+pub use tokens::Span;

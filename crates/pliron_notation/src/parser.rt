@@ -1,5 +1,6 @@
 //! From tokens to syntax.
 use crate::cursor::Cursor;
+use crate::expected::Expected;
 use crate::labels::{Label, Labels};
 use crate::stop::Stop;
 use crate::syntax::{BlockText, OperationText, Step, Syntax};
@@ -20,6 +21,13 @@ struct OpenRegion {
     number: usize,
     /// Its last block so far.
     block: Option<usize>,
+}
+
+impl OpenRegion {
+    /// Whether the region has a block at least.
+    fn needs_block(&self) -> bool {
+        self.kind == BenchKind::Func || self.kind == BenchKind::Scope
+    }
 }
 
 /// What was read last in a region.
@@ -51,9 +59,9 @@ struct Parser<'t> {
 /// memory. Cost: linear in the tokens.
 pub fn parse(alloc: Global, text: &Tokens) -> Result<Syntax, Stop> {
     let mut cursor = Cursor::new(&text.tokens);
-    let root = cursor.kind()?;
+    let root = cursor.kind(Expected::Root)?;
     if !root.is_top() {
-        return Err(Stop::Unreadable);
+        return Err(cursor.stop_before(Expected::Root));
     }
     let mut parser = Parser {
         alloc,
@@ -84,7 +92,7 @@ impl Parser<'_> {
         if self.open.is_empty() && self.cursor.len() == 0 {
             Ok(())
         } else {
-            Err(Stop::Unreadable)
+            Err(self.cursor.stop(Expected::End))
         }
     }
 
@@ -99,16 +107,29 @@ impl Parser<'_> {
         }
         match (place, is_parted) {
             (Place::BlockStart, false) | (Place::Operation, true) => self.operation(region),
-            _ => Err(Stop::Unreadable),
+            _ => Err(self.cursor.stop(self.expected(region, place, is_parted))),
+        }
+    }
+
+    /// What was to stand next in the region, after this and with a semicolon or without one.
+    fn expected(&self, region: OpenRegion, place: &Place, is_parted: bool) -> Expected {
+        match (place, is_parted) {
+            (Place::RegionStart, _) if region.needs_block() => Expected::BlockOfRegion,
+            (Place::RegionStart, _) => Expected::BlockOrEnd,
+            (Place::BlockStart, false) => Expected::OperationOrEnd,
+            (Place::BlockStart, true) => Expected::Block,
+            (Place::Branch, true) => Expected::BlockAfterBranch,
+            (_, false) => Expected::SemicolonOrEnd,
+            (_, true) => Expected::OperationOrBlock,
         }
     }
 
     /// Opens the region of an operation of this kind, in this `func`.
     fn open_region(&mut self, kind: BenchKind, func: usize) -> Result<(), Stop> {
         if self.open.len() >= MAX_DEPTH {
-            return Err(Stop::Unreadable);
+            return Err(self.cursor.stop_before(Expected::FewerRegions));
         }
-        self.cursor.expect(Token::OpenBrace)?;
+        self.cursor.expect(Token::OpenBrace, Expected::OpenBrace)?;
         let number = self.regions;
         self.regions = number.saturating_add(1);
         let func = if kind == BenchKind::Func {
@@ -127,9 +148,8 @@ impl Parser<'_> {
 
     /// Ends the region. The brace is taken.
     fn close_region(&mut self, region: OpenRegion, place: &Place) -> Result<Place, Stop> {
-        let needs_block = region.kind == BenchKind::Func || region.kind == BenchKind::Scope;
-        if needs_block && *place == Place::RegionStart {
-            return Err(Stop::Unreadable);
+        if region.needs_block() && *place == Place::RegionStart {
+            return Err(self.cursor.stop_before(Expected::BlockOfRegion));
         }
         let _ = self.open.pop();
         Ok(Place::Operation)
@@ -137,13 +157,16 @@ impl Parser<'_> {
 
     /// Reads the head of a block.
     fn block(&mut self, region: OpenRegion) -> Result<Place, Stop> {
-        let name = self.cursor.name()?;
+        let name = self.cursor.name(Expected::Block)?;
         let number = self.syntax.blocks.len();
         let scope = region.number;
-        self.blocks.define(Label { scope, name }, number)?;
-        self.cursor.expect(Token::OpenRound)?;
+        let token = self.cursor.last();
+        if !self.blocks.define(Label { scope, name }, number, token)? {
+            return Err(Stop::at(token, Expected::NewBlock));
+        }
+        self.cursor.expect(Token::OpenRound, Expected::OpenRound)?;
         let arguments = self.arguments(region)?;
-        self.cursor.expect(Token::Colon)?;
+        self.cursor.expect(Token::Colon, Expected::Colon)?;
         self.syntax.steps.push(Step::Block(number))?;
         self.syntax.blocks.push(BlockText {
             region: region.number,
@@ -163,37 +186,49 @@ impl Parser<'_> {
             return Ok(0);
         }
         if region.kind == BenchKind::Mod {
-            return Err(Stop::Unreadable);
+            return Err(self.cursor.stop(Expected::NoArguments));
         }
         // Each turn takes a token.
         for _ in 0..self.cursor.len() {
-            let name = self.cursor.name()?;
+            let name = self.cursor.name(Expected::Value)?;
             self.define(region.func, name)?;
-            match self.cursor.next()? {
-                Token::Comma => {}
-                Token::CloseRound => return Ok(self.syntax.values.saturating_sub(first)),
-                _ => return Err(Stop::Unreadable),
+            if self.is_list_end()? {
+                return Ok(self.syntax.values.saturating_sub(first));
             }
         }
-        Err(Stop::Unreadable)
+        Err(self.cursor.stop(Expected::Value))
+    }
+
+    /// Reads what follows a member of a list in brackets, and answers whether it is the closing one.
+    fn is_list_end(&mut self) -> Result<bool, Stop> {
+        if self.cursor.accept(Token::CloseRound) {
+            return Ok(true);
+        }
+        self.cursor
+            .expect(Token::Comma, Expected::CommaOrCloseRound)?;
+        Ok(false)
     }
 
     /// Takes in that the next value of the text has this name.
     fn define(&mut self, func: usize, name: Name) -> Result<(), Stop> {
         let number = self.syntax.values;
-        self.values.define(Label { scope: func, name }, number)?;
+        let token = self.cursor.last();
+        if !self
+            .values
+            .define(Label { scope: func, name }, number, token)?
+        {
+            return Err(Stop::at(token, Expected::NewValue));
+        }
         self.syntax.values = number.saturating_add(1);
         Ok(())
     }
 
     /// Reads an operation up to its region, which it opens.
     fn operation(&mut self, region: OpenRegion) -> Result<Place, Stop> {
-        let count = self.results(region.func)?;
-        let kind = self.cursor.kind()?;
-        if count != kind.result_count() || kind.is_top() != (region.kind == BenchKind::Mod) {
-            return Err(Stop::Unreadable);
-        }
-        let block = region.block.ok_or(Stop::Unreadable)?;
+        let kind = self.kind(region)?;
+        let block = region
+            .block
+            .ok_or(self.cursor.stop_before(Expected::BlockOfRegion))?;
         let text = self.operation_text(kind, region, block)?;
         let number = self.syntax.operations.len();
         self.syntax.steps.push(Step::Operation(number))?;
@@ -212,6 +247,30 @@ impl Parser<'_> {
         })
     }
 
+    /// Reads the results and the kind of an operation, which are to fit one another and the region.
+    fn kind(&mut self, region: OpenRegion) -> Result<BenchKind, Stop> {
+        let count = self.results(region.func)?;
+        let kind = self.cursor.kind(Expected::Kind)?;
+        let in_mod = region.kind == BenchKind::Mod;
+        if kind.is_top() != in_mod {
+            let expected = if in_mod {
+                Expected::TopKind
+            } else {
+                Expected::InnerKind
+            };
+            return Err(self.cursor.stop_before(expected));
+        }
+        if count != kind.result_count() {
+            let expected = match count {
+                0 => Expected::KindWithoutResults,
+                1 => Expected::KindWithOneResult,
+                _ => Expected::KindWithTwoResults,
+            };
+            return Err(self.cursor.stop_before(expected));
+        }
+        Ok(kind)
+    }
+
     /// Reads the results before a kind, of which there are at most two, and answers how many.
     fn results(&mut self, func: usize) -> Result<usize, Stop> {
         let Some(name) = self.cursor.accept_name() else {
@@ -221,10 +280,10 @@ impl Parser<'_> {
         if self.cursor.accept(Token::Equals) {
             return Ok(1);
         }
-        self.cursor.expect(Token::Comma)?;
-        let name = self.cursor.name()?;
+        self.cursor.expect(Token::Comma, Expected::CommaOrEquals)?;
+        let name = self.cursor.name(Expected::Value)?;
         self.define(func, name)?;
-        self.cursor.expect(Token::Equals)?;
+        self.cursor.expect(Token::Equals, Expected::Equals)?;
         Ok(2)
     }
 
@@ -267,7 +326,7 @@ impl Parser<'_> {
 
     /// Reads an operand.
     fn operand(&mut self, region: OpenRegion, text: &mut OperationText) -> Result<(), Stop> {
-        let name = self.cursor.name()?;
+        let name = self.cursor.name(Expected::Value)?;
         self.add_operand(region, name, text)
     }
 
@@ -278,8 +337,10 @@ impl Parser<'_> {
         text: &mut OperationText,
     ) -> Result<(), Stop> {
         let scope = region.func;
-        text.operands
-            .push(self.values.place(Label { scope, name })?)?;
+        let place = self
+            .values
+            .place(Label { scope, name }, self.cursor.last())?;
+        text.operands.push(place)?;
         Ok(())
     }
 
@@ -297,30 +358,30 @@ impl Parser<'_> {
 
     /// Reads a successor.
     fn successor(&mut self, region: OpenRegion, text: &mut OperationText) -> Result<(), Stop> {
-        let name = self.cursor.name()?;
+        let name = self.cursor.name(Expected::Block)?;
         let scope = region.number;
-        text.successors
-            .push(self.blocks.place(Label { scope, name })?)?;
+        let place = self
+            .blocks
+            .place(Label { scope, name }, self.cursor.last())?;
+        text.successors.push(place)?;
         Ok(())
     }
 
     /// Reads a successor and what is forwarded to it.
     fn edge(&mut self, region: OpenRegion, text: &mut OperationText) -> Result<(), Stop> {
         self.successor(region, text)?;
-        self.cursor.expect(Token::OpenRound)?;
+        self.cursor.expect(Token::OpenRound, Expected::OpenRound)?;
         if self.cursor.accept(Token::CloseRound) {
             return Ok(());
         }
         // Each turn takes a token.
         for _ in 0..self.cursor.len() {
             self.operand(region, text)?;
-            match self.cursor.next()? {
-                Token::Comma => {}
-                Token::CloseRound => return Ok(()),
-                _ => return Err(Stop::Unreadable),
+            if self.is_list_end()? {
+                return Ok(());
             }
         }
-        Err(Stop::Unreadable)
+        Err(self.cursor.stop(Expected::Value))
     }
 
     /// Reads the condition and the two edges of a `cbr`.
@@ -334,9 +395,17 @@ impl Parser<'_> {
     /// Writes the numbers of values and blocks for their names. A name that the text doesn't define
     /// makes it unreadable.
     fn resolve(&mut self) -> Result<(), Stop> {
+        match (self.values.first_undefined(), self.blocks.first_undefined()) {
+            (None, None) => {}
+            (Some(value), Some(block)) if block < value => {
+                return Err(Stop::at(block, Expected::DefinedBlock));
+            }
+            (Some(value), _) => return Err(Stop::at(value, Expected::DefinedValue)),
+            (None, Some(block)) => return Err(Stop::at(block, Expected::DefinedBlock)),
+        }
         for operation in self.syntax.operations.iter_mut() {
-            self.values.resolve(&mut operation.operands)?;
-            self.blocks.resolve(&mut operation.successors)?;
+            self.values.resolve(&mut operation.operands);
+            self.blocks.resolve(&mut operation.successors);
         }
         Ok(())
     }

@@ -1,5 +1,5 @@
 //! Reading a text of the bench notation.
-ghost use Rattle.std.specs.Prelude.{◌≡◌, None, IfOk, IfSome, OnErr, IsOkUnless};
+ghost use Rattle.std.specs.Prelude.{◌≡◌, ◌+◌, ◌≤◌, length, None, IfOk, IfSome, OnErr, IsOkUnless};
 ghost use Rattle.pliron_core.specs.Changes.{IsSameTree};
 ghost use Rattle.pliron_laws.specs.declared.fault.OptError.TheVariants.{Memory};
 ghost use Rattle.pliron_laws.specs.Linked.{IsWellLinked};
@@ -8,13 +8,22 @@ ghost use Rattle.pliron_notation.specs.Building.{IsGrown};
 ghost use Rattle.pliron_notation.specs.Notation.{IsSoundSyntax};
 
 use crate::build::build;
+use crate::expected::{Expected, Misread};
 use crate::parser::parse;
 use crate::stop::Stop;
 use crate::syntax::Syntax;
-use crate::tokens::tokenise;
+use crate::tokens::{Span, span_of_token, tokenise};
 use pliron_core::{Context, Operation, Ptr};
 use pliron_laws::OptError;
 use std::alloc::Global;
+
+/// The first place at which a text leaves the notation, and what was to stand there. A name that is never
+/// defined is found at the text's end, and its place is where it stands first.
+#[derive(Clone, Copy, Debug, Drop, PartialEq, Eq)]
+pub struct TextFault {
+    pub span: Span,
+    pub expected: Expected,
+}
 
 /// Reads a text of the bench notation and builds its operation, which stands in no block and is well
 /// linked. `None` is an unreadable text, which is decided before anything is made.
@@ -35,19 +44,57 @@ pub fn read_text(
 {
     match read_syntax(alloc, text) {
         Ok(syntax) => Ok(Some(build(alloc, &syntax, ctx)?)),
-        Err(Stop::Unreadable) => Ok(None),
+        Err(Stop::Unreadable(_)) => Ok(None),
         Err(Stop::NoMemory) => Err(OptError::Memory),
     }
 }
 
+/// Where and why `read_text` finds a text unreadable; `None` where it reads it.
+///
+/// Errors: want of memory. Cost: that of reading.
+pub fn find_text_fault(alloc: Global, text: &[u8]) -> Result<Option<TextFault>, OptError>
+    ensures within { IfOk result (λ found. IfSome found (λ fault. fault.span.start + fault.span.len ≤ length text.now)) }
+    ensures memory { IsOkUnless result OptError.Memory }
+{
+    match read_syntax(alloc, text) {
+        Ok(_) => Ok(None),
+        Err(Stop::Unreadable(Misread { token, expected })) => Ok(Some(TextFault {
+            span: span_of_token(text, token),
+            expected,
+        })),
+        Err(Stop::NoMemory) => Err(OptError::Memory),
+    }
+}
+
+/// The syntax of a text. Errors: the first place at which it leaves the notation; want of memory.
 fn read_syntax(alloc: Global, text: &[u8]) -> Result<Syntax, Stop>
     ensures { IfOk result (λ syntax. IsSoundSyntax syntax) }
 {
     let tokens = tokenise(alloc, text)?;
-    let syntax = parse(alloc, &tokens)?;
+    let parsed = parse(alloc, &tokens);
+    match tokens.misread {
+        Some(misread) => Err(earlier(parsed, misread)),
+        None => sound(parsed),
+    }
+}
+
+/// The syntax that was parsed, if it makes a tree.
+fn sound(parsed: Result<Syntax, Stop>) -> Result<Syntax, Stop>
+    ensures { IfOk result (λ syntax. IsSoundSyntax syntax) }
+{
+    let syntax = parsed?;
     if syntax.is_sound() {
         Ok(syntax)
     } else {
-        Err(Stop::Unreadable)
+        Err(Stop::at(0, Expected::Root))
+    }
+}
+
+/// Why reading ends that parsed tokens up to this misread place.
+fn earlier(parsed: Result<Syntax, Stop>, misread: Misread) -> Stop {
+    match parsed {
+        Err(Stop::NoMemory) => Stop::NoMemory,
+        Err(Stop::Unreadable(fault)) if fault.token < misread.token => Stop::Unreadable(fault),
+        _ => Stop::Unreadable(misread),
     }
 }

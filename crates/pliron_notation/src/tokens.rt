@@ -1,10 +1,10 @@
 //! From bytes to tokens.
 ghost use Rattle.std.specs.Prelude.{◌≡◌, ◌+◌, ◌<◌, ◌≤◌, length};
 
-use crate::stop::Stop;
+use crate::expected::{Expected, Misread};
 use crate::words::Words;
 use pliron_bench::BenchKind;
-use std::alloc::Global;
+use std::alloc::{AllocError, Global};
 
 /// A name, by its number among the names of the text.
 #[derive(Clone, Copy, Debug, PartialEq, Eq)]
@@ -63,49 +63,117 @@ fn number_of(lexeme: &[u8]) -> Option<i64> {
     }
 }
 
-/// The token of a lexeme, or `None` for a blank.
-fn token_of<'t>(lexeme: &'t [u8], words: &mut Words<'t>) -> Result<Option<Token>, Stop> {
+/// Whether the lexeme is a blank.
+fn is_blank(lexeme: &[u8]) -> bool {
     match lexeme {
-        [b' ' | b'\t' | b'\r' | b'\n'] => Ok(None),
-        [b'{'] => Ok(Some(Token::OpenBrace)),
-        [b'}'] => Ok(Some(Token::CloseBrace)),
-        [b'('] => Ok(Some(Token::OpenRound)),
-        [b')'] => Ok(Some(Token::CloseRound)),
-        [b','] => Ok(Some(Token::Comma)),
-        [b':'] => Ok(Some(Token::Colon)),
-        [b';'] => Ok(Some(Token::Semicolon)),
-        [b'='] => Ok(Some(Token::Equals)),
-        [b'-' | b'0'..=b'9', ..] => match number_of(lexeme) {
-            Some(number) => Ok(Some(Token::Number(number))),
-            None => Err(Stop::Unreadable),
-        },
-        [b'a'..=b'z' | b'A'..=b'Z', ..] => Ok(Some(words.token(lexeme)?)),
-        _ => Err(Stop::Unreadable),
+        [b' ' | b'\t' | b'\r' | b'\n'] => true,
+        _ => false,
     }
 }
 
-/// The tokens of a text, and how many names it has.
+/// What a lexeme is.
+#[derive(Clone, Copy)]
+enum Lexeme {
+    Blank,
+    Token(Token),
+    /// No token, where this one was to stand.
+    Strange(Expected),
+}
+
+/// What a lexeme is. Errors: want of memory.
+fn token_of<'t>(lexeme: &'t [u8], words: &mut Words<'t>) -> Result<Lexeme, AllocError> {
+    if is_blank(lexeme) {
+        return Ok(Lexeme::Blank);
+    }
+    Ok(match lexeme {
+        [b'{'] => Lexeme::Token(Token::OpenBrace),
+        [b'}'] => Lexeme::Token(Token::CloseBrace),
+        [b'('] => Lexeme::Token(Token::OpenRound),
+        [b')'] => Lexeme::Token(Token::CloseRound),
+        [b','] => Lexeme::Token(Token::Comma),
+        [b':'] => Lexeme::Token(Token::Colon),
+        [b';'] => Lexeme::Token(Token::Semicolon),
+        [b'='] => Lexeme::Token(Token::Equals),
+        [b'-' | b'0'..=b'9', ..] => match number_of(lexeme) {
+            Some(number) => Lexeme::Token(Token::Number(number)),
+            None => Lexeme::Strange(Expected::Number),
+        },
+        [b'a'..=b'z' | b'A'..=b'Z', ..] => match words.token(lexeme)? {
+            Some(token) => Lexeme::Token(token),
+            None => Lexeme::Strange(Expected::ShortWord),
+        },
+        _ => Lexeme::Strange(Expected::Token),
+    })
+}
+
+/// The tokens of a text up to the first place that is no token, and how many names they have.
 #[derive(Drop)]
 pub struct Tokens {
     pub tokens: Vec<Token>,
     pub names: usize,
+    /// What stands behind them, where the text goes on.
+    pub misread: Option<Misread>,
 }
 
-/// The tokens of a text. Errors: `Unreadable` where something in it is no token; want of memory. Cost: linear
-/// in the text, but for look-ups of words.
-pub fn tokenise(alloc: Global, text: &[u8]) -> Result<Tokens, Stop> {
+/// The tokens of a text, up to the first place that is no token. Errors: want of memory. Cost: linear in the
+/// text, but for look-ups of words.
+pub fn tokenise(alloc: Global, text: &[u8]) -> Result<Tokens, AllocError> {
     let mut words = Words::new(alloc, text.len())?;
     let mut tokens = Vec::new(alloc);
+    let mut misread = None;
     let mut rest = text;
     while !rest.is_empty() {
         let (lexeme, after) = rest.split_at(lexeme_len(rest));
-        if let Some(token) = token_of(lexeme, &mut words)? {
-            tokens.push(token)?;
+        match token_of(lexeme, &mut words)? {
+            Lexeme::Blank => {}
+            Lexeme::Token(token) => tokens.push(token)?,
+            Lexeme::Strange(expected) => {
+                let token = tokens.len();
+                misread = Some(Misread { token, expected });
+                break;
+            }
         }
         rest = after;
     }
     Ok(Tokens {
         tokens,
         names: words.names(),
+        misread,
     })
+}
+
+/// The bytes of a token.
+#[derive(Clone, Copy, Debug, Drop, PartialEq, Eq)]
+pub struct Span {
+    /// How many bytes of the text stand before it.
+    pub start: usize,
+    /// How many bytes it has; none where it is the end of the text.
+    pub len: usize,
+}
+
+/// The place of the token of this number in a text, or its end where there are no more. Cost: linear in the
+/// text before it.
+pub fn span_of_token(text: &[u8], number: usize) -> Span
+    ensures { result.start + result.len ≤ length text.now }
+{
+    let mut count: usize = 0;
+    let mut rest = text;
+    while !rest.is_empty() {
+        let len = lexeme_len(rest);
+        let (lexeme, after) = rest.split_at(len);
+        if !is_blank(lexeme) {
+            if count == number {
+                return Span {
+                    start: text.len() - rest.len(),
+                    len,
+                };
+            }
+            count = count.saturating_add(1);
+        }
+        rest = after;
+    }
+    Span {
+        start: text.len(),
+        len: 0,
+    }
 }

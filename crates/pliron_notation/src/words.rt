@@ -1,5 +1,4 @@
 //! The words of a text and their tokens.
-use crate::stop::Stop;
 use crate::tokens::{Name, Token};
 use pliron_bench::BenchKind;
 use std::alloc::{AllocError, Global};
@@ -70,12 +69,11 @@ impl<'t> Words<'t> {
         self.names
     }
 
-    /// The token of a word. Errors: `Unreadable` where the word is too long for a name; want of memory. Cost:
-    /// a few comparisons with words, and a look-up in a tree where these find neither the word nor a free
-    /// slot.
-    pub fn token(&mut self, word: &'t [u8]) -> Result<Token, Stop> {
+    /// The token of a word, or `None` where the word is too long for a name. Errors: want of memory. Cost: a
+    /// few comparisons with words, and a look-up in a tree where these find neither the word nor a free slot.
+    pub fn token(&mut self, word: &'t [u8]) -> Result<Option<Token>, AllocError> {
         match self.place(word) {
-            Place::Met(token) => Ok(token),
+            Place::Met(token) => Ok(Some(token)),
             Place::Free(slot) => self.put(slot, word),
             Place::Crowded => self.other(word),
         }
@@ -100,35 +98,40 @@ impl<'t> Words<'t> {
     }
 
     /// The token of a word that wasn't met, for which this slot is free.
-    fn put(&mut self, slot: usize, word: &'t [u8]) -> Result<Token, Stop> {
-        let token = self.new_token(word)?;
+    fn put(&mut self, slot: usize, word: &'t [u8]) -> Result<Option<Token>, AllocError> {
+        let Some(token) = self.new_token(word) else {
+            return Ok(None);
+        };
         self.entries.push(Entry { word, token })?;
         if let Some(number) = self.slots.get_mut(slot) {
             *number = self.entries.len();
         }
-        Ok(token)
+        Ok(Some(token))
     }
 
     /// The token of a word that no slot has.
-    fn other(&mut self, word: &'t [u8]) -> Result<Token, Stop> {
+    fn other(&mut self, word: &'t [u8]) -> Result<Option<Token>, AllocError> {
         if let Some(token) = self.others.get(word) {
-            return Ok(*token);
+            return Ok(Some(*token));
         }
-        let token = self.new_token(word)?;
+        let Some(token) = self.new_token(word) else {
+            return Ok(None);
+        };
         self.others.insert(word, token)?;
-        Ok(token)
+        Ok(Some(token))
     }
 
-    /// The token of a word that wasn't met: a kind, or a name with the next number.
-    fn new_token(&mut self, word: &[u8]) -> Result<Token, Stop> {
+    /// The token of a word that wasn't met: a kind, or a name with the next number; `None` where the word is
+    /// too long for a name.
+    fn new_token(&mut self, word: &[u8]) -> Option<Token> {
         if let Some(kind) = BenchKind::from_word(word) {
-            return Ok(Token::Kind(kind));
+            return Some(Token::Kind(kind));
         }
         if word.len() > MAX_NAME {
-            return Err(Stop::Unreadable);
+            return None;
         }
         let number = self.names;
         self.names = number.saturating_add(1);
-        Ok(Token::Name(Name { number }))
+        Some(Token::Name(Name { number }))
     }
 }
