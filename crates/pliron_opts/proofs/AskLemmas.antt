@@ -1,12 +1,11 @@
 -- What words ask for.
 use Rattle.std.proofs.Common.{◌≡◌, ℕ, Bool, List, [], ◌∷◌, Option, length, get_or, sym, ap, subst, arith}
 use Rattle.pliron_opts.specs.Plans.{IsPlan}
-use Rattle.pliron_pipeline.specs.declared.step.Pipeline.{Pipeline}
-use Rattle.pliron_pipeline.specs.declared.step.Schedule.{Schedule}
+use Rattle.pliron_pipeline.specs.Steps.{PipelineOf, ScheduleOf}
 use Rattle.pliron_opts.specs.Asked.{IsPlanned, is_nested, names_of}
 use Rattle.pliron_opts.specs.Ran.{IsScheduled}
 
-pub planned : {D E B K : Type 0} (word : List ℕ) (runs : Option ℕ) (nested : Bool) (names : List (List ℕ)) (pipeline : Pipeline D E B K) (schedule : Schedule D E B K) → IsPlan word runs nested names → is_nested pipeline ≡ nested → names_of pipeline ≡ names → IsScheduled runs pipeline schedule → IsPlanned word schedule
+pub planned : {D E B K : Type 0} (word : List ℕ) (runs : Option ℕ) (nested : Bool) (names : List (List ℕ)) (pipeline : PipelineOf D E B K) (schedule : ScheduleOf D E B K) → IsPlan word runs nested names → is_nested pipeline ≡ nested → names_of pipeline ≡ names → IsScheduled runs pipeline schedule → IsPlanned word schedule
 planned word runs nested names pipeline schedule plan inside named scheduled = record {
   runs = runs;
   pipeline = pipeline;

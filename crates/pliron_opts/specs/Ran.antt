@@ -7,14 +7,13 @@ use Rattle.pliron_pass.specs.Config.{skips, verifies_before, verifies_after}
 use Rattle.pliron_pass.specs.Outcome.{OutcomeOf}
 use Rattle.pliron_pass.specs.Stage.{Stage}
 use Rattle.pliron_pass.specs.declared.config.PMData.{PMData}
-use Rattle.pliron_pipeline.specs.declared.step.Pipeline.{Pipeline}
-use Rattle.pliron_pipeline.specs.declared.step.Schedule.{Schedule}
-use Rattle.pliron_pipeline.specs.declared.step.Schedule.TheVariants.{Once, Repeated}
+use Rattle.either.specs.declared.Either.TheVariants.{Left, Right}
+use Rattle.pliron_pipeline.specs.Steps.{PipelineOf, ScheduleOf}
 
 -- the pipeline once, or at most so many times where a number is given
-abbrev pub IsScheduled : {D E B K : Type 0} → Option ℕ → Pipeline D E B K → Schedule D E B K → Type 0
-IsScheduled runs pipeline (Once once) = (runs ≡ None) × (once ≡ pipeline)
-IsScheduled runs pipeline (Repeated repeated) = (runs ≡ Some repeated.max) × (repeated.pass ≡ pipeline)
+abbrev pub IsScheduled : {D E B K : Type 0} → Option ℕ → PipelineOf D E B K → ScheduleOf D E B K → Type 0
+IsScheduled runs pipeline (Left once) = (runs ≡ None) × (once ≡ pipeline)
+IsScheduled runs pipeline (Right repeated) = (runs ≡ Some repeated.max) × (repeated.pass ≡ pipeline)
 
 -- nothing is skipped, verified or counted
 pub record IsPlain (d : PMData) : Type 0 where

@@ -13,3 +13,4 @@ pub mod Repeating
 pub mod BenchFacts
 pub mod BenchFactLaws
 pub mod Headline
+pub mod OneOf

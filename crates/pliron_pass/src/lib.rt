@@ -7,6 +7,7 @@
 mod analyses;
 mod bench_facts;
 mod config;
+mod either_pass;
 mod guard;
 mod headline;
 mod kinds;
@@ -22,6 +23,7 @@ mod verify;
 pub use analyses::Analyses;
 pub use bench_facts::{BenchFactKind, BenchFacts};
 pub use config::{PMConfig, PMData, PMState};
+pub use either::Either;
 pub use guard::{Guard, GuardedPass, OpGuard, OpInterfaceGuard, OpInterfacePass, OpPass};
 pub use headline::run_pipeline;
 pub use kinds::AnalysisKind;

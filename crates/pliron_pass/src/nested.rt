@@ -31,6 +31,13 @@ impl<P: Pass> NestedOpsPass<P> {
     {
         NestedOpsPass { pass }
     }
+
+    /// The pass that it runs, as it is now: after a run, as the last operation left it. Cost: constant.
+    pub fn pass(&self) -> &P
+        ensures { result.now ≡ self.now.pass }
+    {
+        &self.pass
+    }
 }
 
 // Runs a pass on one of the operations directly inside `holder`, which stays as it is but for the

@@ -15,7 +15,7 @@ use crate::result::PassResult;
 use crate::run::{Managed, close};
 use pliron_core::{Context, IRStatus, Operation, Ptr};
 use pliron_laws::OptError;
-use std::alloc::Global;
+use std::alloc::{AllocFailed, Global};
 
 /// Runs passes in turn.
 #[derive(Drop)]
@@ -33,17 +33,21 @@ impl<P: Pass> Passes<P> {
         }
     }
 
-    /// Adds a pass at the end. Errors: want of memory, where the pass comes back, and the list is as it was.
-    /// Cost: constant, amortised.
-    pub fn add_pass(&mut self, pass: P) -> Result<(), P>
+    /// Adds a pass at the end. Errors: want of memory, where the pass comes back as the error's `value`, and
+    /// the list is as it was; `?` makes `OptError::Memory` of it. Cost: constant, amortised.
+    pub fn add_pass(&mut self, pass: P) -> Result<(), AllocFailed<P>>
         ensures added { OnOk result (self.new.passes.items ≡ self.old.passes.items ++ pass ∷ []) }
         ensures refused { OnErr result (self.new.passes.items ≡ self.old.passes.items) }
-        ensures back { IfErr result (λ p. p ≡ pass) }
+        ensures back { IfErr result (λ refused. refused.value ≡ pass) }
     {
-        match self.passes.push(pass) {
-            Ok(()) => Ok(()),
-            Err(refused) => Err(refused.value),
-        }
+        self.passes.push(pass)
+    }
+
+    /// The passes in turn, as they are now: after a run, as it left them. Cost: constant.
+    pub fn passes(&self) -> &[P]
+        ensures { result.now ≡ self.now.passes.items }
+    {
+        &self.passes
     }
 }
 

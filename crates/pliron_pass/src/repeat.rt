@@ -42,6 +42,13 @@ impl<P: Pass> Repeat<P> {
     {
         self.runs
     }
+
+    /// The pass that it runs, as it is now: after a run, as the last inner run left it. Cost: constant.
+    pub fn pass(&self) -> &P
+        ensures { result.now ≡ self.now.pass }
+    {
+        &self.pass
+    }
 }
 
 // Runs a pass while it changes something, at most `max` times, and counts the runs.

@@ -79,8 +79,8 @@ fn adding(rt: HostRuntime) {
     let alloc = rt.alloc();
     let mut passes = Passes::new(alloc);
     for runs in 0..9 {
-        if let Err(back) = passes.add_pass(Tally { runs }) {
-            assert_eq!(rt; back.runs, runs);
+        if let Err(refused) = passes.add_pass(Tally { runs }) {
+            assert_eq!(rt; refused.value.runs, runs);
         }
     }
 }

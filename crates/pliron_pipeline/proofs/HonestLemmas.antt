@@ -1,5 +1,5 @@
 -- Passes made of passes that tell truly whether they changed the tree do so too.
-use Rattle.std.proofs.Common.{◌≡◌, ℕ, List, Bool, Result, Ok, refl, sym, ap, ◌∙◌, subst}
+use Rattle.std.proofs.Common.{◌≡◌, ℕ, List, Bool, true, false, Result, Ok, refl, sym, ap, ◌∙◌, subst}
 use Rattle.pliron_core.specs.Tree.{Tree}
 use Rattle.pliron_core.specs.Changes.{IsSameTree}
 use Rattle.pliron_core.specs.Status.{changed_by_either}
@@ -9,7 +9,7 @@ use Rattle.pliron_core.proofs.SameTreeLemmas.{same_refl, same_trans}
 use Rattle.pliron_laws.specs.declared.fault.OptError.{OptError}
 use Rattle.pliron_pass.specs.Answer.{has_changed}
 use Rattle.pliron_pass.specs.Combined.{StepsTo, Closes, Closes.Done, Closes.Failed, Closes.Short, RunsEach, RunsEach.EachNone, RunsEach.EachNext, RunsEachOf, RunsOver, RunsOver.OverNone, RunsOver.OverNext, RunsOverAll}
-use Rattle.pliron_pass.specs.Outcome.{OutcomeOf, Verifying, RunsPlain, RunsPlain.Skipped, RunsPlain.Refused, RunsPlain.Ran, RunsPlain.Spoilt}
+use Rattle.pliron_pass.specs.Outcome.{OutcomeOf, Verifying, RunsBy, RunsPass, RunsPlain, RunsPlain.Skipped, RunsPlain.Refused, RunsPlain.Ran, RunsPlain.Spoilt}
 use Rattle.pliron_pass.specs.Repeating.{Repeats, Repeats.NoRun, Repeats.OneMore, RepeatsTo, RepeatsTo.Full, RepeatsTo.Settled, RepeatsTo.Failed as Gives_up}
 use Rattle.pliron_pass.specs.Stage.{Stage}
 use Rattle.pliron_pass.specs.declared.result.PassResult.{PassResult}
@@ -18,10 +18,8 @@ use Rattle.pliron_pipeline.specs.Optimising.{RunsOptimisation, RunsOptimisation.
 use Rattle.pliron_pipeline.specs.declared.optimisation.Effect.{Effect}
 use Rattle.pliron_pipeline.specs.declared.step.Step.{Step}
 use Rattle.pliron_pipeline.specs.declared.step.Step.TheVariants.{Sccp, Dce, SimplifyCfg}
-use Rattle.pliron_pipeline.specs.declared.step.Pipeline.{Pipeline}
-use Rattle.pliron_pipeline.specs.declared.step.Pipeline.TheVariants.{Flat, Nested}
-use Rattle.pliron_pipeline.specs.declared.step.Schedule.{Schedule}
-use Rattle.pliron_pipeline.specs.declared.step.Schedule.TheVariants.{Once, Repeated}
+use Rattle.either.specs.declared.Either.{Either}
+use Rattle.either.specs.declared.Either.TheVariants.{Left, Right}
 
 both_unchanged : (c d : IRStatus) → changed_by_either c d ≡ Unchanged → (c ≡ Unchanged) × (d ≡ Unchanged)
 both_unchanged Unchanged d e = (refl, e)
@@ -44,6 +42,14 @@ plain_honest {K = K} {E = E} {P = P} name outcome verifies honest = record { sam
     go p p' op s s' a (Refused runs err fault same_pass same is) e = absurd (cc)
     go p p' op s s' a (Ran runs before u ran after same) e = subst (λ z. IsSameTree s.tree z.tree) (sym same) (honest.same p p' op s u a ran e)
     go p p' op s s' a (Spoilt runs before b ran err fault is) e = absurd (cc)
+
+-- a pass however it is run
+pub run_honest : {K E P : Type 0} (name : P → List ℕ) (outcome : OutcomeOf P K E) (verifies : Verifying) (managed : P → Bool) → IsHonest outcome → IsHonest (RunsPass name outcome verifies managed)
+run_honest {K = K} {E = E} {P = P} name outcome verifies managed honest = record { same = λ p. go p (managed p) }
+  where
+    go : (p : P) (b : Bool) (p' : P) (op : ℕ) (s s' : Stage K E) (a : PassResult K) → RunsBy name outcome verifies b p p' op s s' (Ok a) → has_changed a ≡ Unchanged → IsSameTree s.tree s'.tree
+    go p true = honest.same p
+    go p false = (plain_honest name outcome verifies honest).same p
 
 module _ {K E P : Type 0} (eq : K → K → Bool) (inner : OutcomeOf P K E) (honest : IsHonest inner) where
   pub step_same : (p p' : P) (op : ℕ) (s s' : Stage K E) (c : IRStatus) → StepsTo eq inner p p' op s s' c → c ≡ Unchanged → IsSameTree s.tree s'.tree
@@ -101,14 +107,8 @@ step_cases Q a b c d e f g h i (SimplifyCfg p) (Sccp q) = g p q
 step_cases Q a b c d e f g h i (SimplifyCfg p) (Dce q) = h p q
 step_cases Q a b c d e f g h i (SimplifyCfg p) (SimplifyCfg q) = i p q
 
-pub pipeline_cases : {D E B K : Type 0} (Q : Pipeline D E B K → Pipeline D E B K → Type 0) → ((p : _) (q : _) → Q (Flat p) (Flat q)) → ((p : _) (q : _) → Q (Flat p) (Nested q)) → ((p : _) (q : _) → Q (Nested p) (Flat q)) → ((p : _) (q : _) → Q (Nested p) (Nested q)) → (x y : Pipeline D E B K) → Q x y
-pipeline_cases Q a b c d (Flat p) (Flat q) = a p q
-pipeline_cases Q a b c d (Flat p) (Nested q) = b p q
-pipeline_cases Q a b c d (Nested p) (Flat q) = c p q
-pipeline_cases Q a b c d (Nested p) (Nested q) = d p q
-
-pub schedule_cases : {D E B K : Type 0} (Q : Schedule D E B K → Schedule D E B K → Type 0) → ((p : _) (q : _) → Q (Once p) (Once q)) → ((p : _) (q : _) → Q (Once p) (Repeated q)) → ((p : _) (q : _) → Q (Repeated p) (Once q)) → ((p : _) (q : _) → Q (Repeated p) (Repeated q)) → (x y : Schedule D E B K) → Q x y
-schedule_cases Q a b c d (Once p) (Once q) = a p q
-schedule_cases Q a b c d (Once p) (Repeated q) = b p q
-schedule_cases Q a b c d (Repeated p) (Once q) = c p q
-schedule_cases Q a b c d (Repeated p) (Repeated q) = d p q
+pub side_cases : {A B : Type 0} (Q : Either A B → Either A B → Type 0) → ((p q : A) → Q (Left p) (Left q)) → ((p : A) (q : B) → Q (Left p) (Right q)) → ((p : B) (q : A) → Q (Right p) (Left q)) → ((p q : B) → Q (Right p) (Right q)) → (x y : Either A B) → Q x y
+side_cases Q a b c d (Left p) (Left q) = a p q
+side_cases Q a b c d (Left p) (Right q) = b p q
+side_cases Q a b c d (Right p) (Left q) = c p q
+side_cases Q a b c d (Right p) (Right q) = d p q

@@ -1,11 +1,7 @@
 //! One of the passes here, and lists of them.
 ghost use Rattle.std.specs.Prelude.{◌≡◌, true, false, IfSome, IfNone};
 ghost use Rattle.pliron_pipeline.specs.Steps.{step_name, IsNoStep};
-ghost use Rattle.pliron_pass.specs.Combined.{nested_name, passes_name};
-ghost use Rattle.pliron_pass.specs.Repeating.{repeat_name};
 ghost use Rattle.pliron_pipeline.specs.declared.step.Step.TheVariants.{Sccp as ASccp, Dce as ADce, SimplifyCfg as ASimplifyCfg};
-ghost use Rattle.pliron_pipeline.specs.declared.step.Pipeline.TheVariants.{Flat as AFlat, Nested as ANested};
-ghost use Rattle.pliron_pipeline.specs.declared.step.Schedule.TheVariants.{Once as AOnce, Repeated as ARepeated};
 
 use crate::constants::SCCPPass;
 use crate::control_flow::SimplifyCFGPass;
@@ -13,7 +9,7 @@ use crate::dead_code::DCEPass;
 use pliron_core::{Context, Operation, Ptr};
 use pliron_laws::{Dialect, OptError};
 use pliron_pass::{
-    Analyses, AnalysisKind, AnalysisManager, NestedOpsPass, Pass, PassResult, Passes, Repeat,
+    Analyses, AnalysisKind, AnalysisManager, Either, NestedOpsPass, Pass, PassResult, Passes, Repeat,
 };
 use std::alloc::Global;
 
@@ -94,96 +90,8 @@ impl<D: Dialect, E: Analyses + Drop> Pass for Step<D, E> {
     }
 }
 
-/// A list of passes that is run on an operation itself, or on each operation directly inside it.
-#[derive(Drop)]
-pub enum Pipeline<D: Dialect, E: Analyses + Drop> {
-    Flat(Passes<Step<D, E>>),
-    Nested(NestedOpsPass<Passes<Step<D, E>>>),
-}
+/// A list of passes that is run on an operation itself (`Left`), or on each operation directly inside it.
+pub type Pipeline<D, E> = Either<Passes<Step<D, E>>, NestedOpsPass<Passes<Step<D, E>>>>;
 
-impl<D: Dialect, E: Analyses + Drop> Pass for Pipeline<D, E> {
-    type D = D;
-
-    type E = E;
-
-    ghost is_pass_manager = { λ p. true };
-
-    ghost name = { elim [ AFlat p ↦ passes_name | ANested p ↦ nested_name ] };
-
-    ghost outcome = { elim [
-      | AFlat p ↦ elim [ AFlat q ↦ ⟦<Passes<Step<D, E>> as Pass>⟧.outcome p q | ANested q ↦ λ op s s' r. ⊥ ]
-      | ANested p ↦ elim
-          [ AFlat q ↦ λ op s s' r. ⊥ | ANested q ↦ ⟦<NestedOpsPass<Passes<Step<D, E>>> as Pass>⟧.outcome p q ]
-    ] };
-
-    fn name(&self) -> &str {
-        match self {
-            Pipeline::Flat(passes) => passes.name(),
-            Pipeline::Nested(passes) => passes.name(),
-        }
-    }
-
-    fn run(
-        &mut self,
-        alloc: Global,
-        op: Ptr<Operation>,
-        ctx: &mut Context,
-        analyses: &mut AnalysisManager<E>,
-    ) -> Result<PassResult<<E as AnalysisKind>::Kind>, OptError> {
-        match self {
-            Pipeline::Flat(passes) => passes.run(alloc, op, ctx, analyses),
-            Pipeline::Nested(passes) => passes.run(alloc, op, ctx, analyses),
-        }
-    }
-
-    fn is_pass_manager(&self) -> bool {
-        true
-    }
-}
-
-/// A pipeline that is run once, or again and again until it changes nothing, at most so many times.
-#[derive(Drop)]
-pub enum Schedule<D: Dialect, E: Analyses + Drop> {
-    Once(Pipeline<D, E>),
-    Repeated(Repeat<Pipeline<D, E>>),
-}
-
-impl<D: Dialect, E: Analyses + Drop> Pass for Schedule<D, E> {
-    type D = D;
-
-    type E = E;
-
-    ghost is_pass_manager = { λ p. true };
-
-    ghost name = { elim [ AOnce p ↦ ⟦<Pipeline<D, E> as Pass>⟧.name p | ARepeated p ↦ repeat_name ] };
-
-    ghost outcome = { elim [
-      | AOnce p ↦ elim [ AOnce q ↦ ⟦<Pipeline<D, E> as Pass>⟧.outcome p q | ARepeated q ↦ λ op s s' r. ⊥ ]
-      | ARepeated p ↦ elim
-          [ AOnce q ↦ λ op s s' r. ⊥ | ARepeated q ↦ ⟦<Repeat<Pipeline<D, E>> as Pass>⟧.outcome p q ]
-    ] };
-
-    fn name(&self) -> &str {
-        match self {
-            Schedule::Once(pipeline) => pipeline.name(),
-            Schedule::Repeated(pipeline) => pipeline.name(),
-        }
-    }
-
-    fn run(
-        &mut self,
-        alloc: Global,
-        op: Ptr<Operation>,
-        ctx: &mut Context,
-        analyses: &mut AnalysisManager<E>,
-    ) -> Result<PassResult<<E as AnalysisKind>::Kind>, OptError> {
-        match self {
-            Schedule::Once(pipeline) => pipeline.run(alloc, op, ctx, analyses),
-            Schedule::Repeated(pipeline) => pipeline.run(alloc, op, ctx, analyses),
-        }
-    }
-
-    fn is_pass_manager(&self) -> bool {
-        true
-    }
-}
+/// A pipeline that is run once (`Left`), or again and again until it changes nothing, at most so many times.
+pub type Schedule<D, E> = Either<Pipeline<D, E>, Repeat<Pipeline<D, E>>>;

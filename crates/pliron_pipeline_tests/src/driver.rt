@@ -20,7 +20,7 @@ fn optimised(
     let mut passes = Passes::<Step<Bench, BenchFacts>>::new(alloc);
     for name in names {
         if let Some(step) = Step::from_name(name) {
-            passes.add_pass(step).map_err(|_| OptError::Memory)?;
+            passes.add_pass(step)?;
         }
     }
     let mut analyses = AnalysisManager::new(alloc);

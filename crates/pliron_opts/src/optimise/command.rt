@@ -6,7 +6,7 @@ ghost use Rattle.pliron_opts.specs.Ran.{IsScheduled};
 
 use crate::program::Plan;
 use pliron_laws::Dialect;
-use pliron_pass::{BenchFacts, NestedOpsPass, Passes, Repeat};
+use pliron_pass::{BenchFacts, Either, NestedOpsPass, Passes, Repeat};
 use pliron_pipeline::{Pipeline, Schedule, Step};
 use std::alloc::{AllocError, Global};
 
@@ -52,9 +52,9 @@ fn pipeline<D: Dialect>(
         return Ok(None);
     };
     Ok(Some(if nested {
-        Pipeline::Nested(NestedOpsPass::new(passes))
+        Either::Right(NestedOpsPass::new(passes))
     } else {
-        Pipeline::Flat(passes)
+        Either::Left(passes)
     }))
 }
 
@@ -66,8 +66,8 @@ fn schedule<D: Dialect>(
     ensures { IsScheduled runs pipeline result }
 {
     match runs {
-        Some(max) => Schedule::Repeated(Repeat::new(max, pipeline)),
-        None => Schedule::Once(pipeline),
+        Some(max) => Either::Right(Repeat::new(max, pipeline)),
+        None => Either::Left(pipeline),
     }
 }
 
