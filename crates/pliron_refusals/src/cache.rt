@@ -130,9 +130,9 @@ pub fn adding(alloc: Global) -> Result<Seen, OptError> {
         let Some(step) = Step::from_name(name) else {
             return Ok(Seen::Wrong);
         };
-        if let Err(back) = passes.add_pass(step) {
+        if let Err(refused) = passes.add_pass(step) {
             is_refused = true;
-            if back.name() != name {
+            if refused.value.name() != name {
                 return Ok(Seen::Wrong);
             }
         }

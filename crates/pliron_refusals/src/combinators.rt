@@ -52,9 +52,7 @@ fn both(alloc: Global) -> Result<Passes<Step<Bench, BenchFacts>>, OptError> {
     let mut passes = Passes::new(alloc);
     for name in ["sccp", "dce"] {
         if let Some(step) = Step::from_name(name) {
-            if passes.add_pass(step).is_err() {
-                return Err(OptError::Memory);
-            }
+            passes.add_pass(step)?;
         }
     }
     Ok(passes)
