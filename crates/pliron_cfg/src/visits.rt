@@ -87,7 +87,11 @@ fn in_visiting_order(
 ) -> Result<Vec<Ptr<BasicBlock>>, AllocError>
     ensures { IfOk result (λ r. r.items ≡ search.now.pre) }
 {
-    search.pre_order().collect(alloc)
+    let mut order = Vec::new(alloc);
+    for node in search.pre_order() {
+        order.push(node)?;
+    }
+    Ok(order)
 }
 
 // The blocks that the entry of the region reaches.
