@@ -18,7 +18,7 @@ impl Dice {
         }
     }
 
-    /// A number below the bound, which isn't 0. Cost: constant.
+    /// A number below the bound. Asks that the bound isn't 0. Cost: constant.
     pub fn below(&mut self, bound: u64) -> u64
         requires { 0 < bound }
         ensures { result < bound }
@@ -31,7 +31,7 @@ impl Dice {
         times == 0 || self.below(times) == 0
     }
 
-    /// A place in a list of this length, if it has one. Cost: constant.
+    /// A place in a list of this length. Asks that the length isn't 0. Cost: constant.
     pub fn place_in(&mut self, length: usize) -> usize
         requires { 0 < length }
         ensures { result < length }

@@ -55,6 +55,7 @@ fn first_facts(
 }
 
 /// A total is computed with the edges and the size that it needs, which are cached as far as they came.
+/// Errors: want of memory before the call that is tried. Cost: that of the computations.
 pub fn computing(alloc: Global) -> Result<Seen, OptError> {
     let mut ctx = Context::new(alloc);
     let mut analyses = AnalysisManager::new(alloc);
@@ -81,7 +82,8 @@ fn computing_in(
     })
 }
 
-/// Naming a second kind as preserved, refused, leaves the first one named alone.
+/// Naming a second kind as preserved, refused, leaves the first one named alone. Errors: want of memory
+/// before the call that is tried. Cost: constant.
 pub fn preserving(alloc: Global) -> Result<Seen, OptError> {
     let mut ctx = Context::new(alloc);
     let mut analyses = AnalysisManager::new(alloc);
@@ -122,7 +124,8 @@ fn preserving_in(
     })
 }
 
-/// Passes are added, more than there is room for at once; one that is refused comes back.
+/// Passes are added, more than there is room for at once; one that is refused comes back. Errors: want of
+/// memory before the call that is tried. Cost: linear in the passes.
 pub fn adding(alloc: Global) -> Result<Seen, OptError> {
     let mut passes = Passes::<Step<Bench, BenchFacts>>::new(alloc);
     let mut is_refused = false;

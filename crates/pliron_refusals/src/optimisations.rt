@@ -78,7 +78,7 @@ fn is_one_of(trees: &str, line: &str) -> bool {
 }
 
 /// What is seen of an optimisation that answered so and left this line, where it goes through these trees,
-/// the last of which is the answer.
+/// the last of which is the answer. Cost: linear in the trees.
 pub fn seen_of<T>(answer: &Result<T, OptError>, trees: &str, line: &str) -> Seen {
     match answer {
         Ok(_) => Seen::answered(trees.rsplit_once('|').map_or(trees, |ends| ends.1).trim() == line),
