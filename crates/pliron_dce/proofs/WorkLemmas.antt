@@ -1,5 +1,7 @@
 -- What is still to be looked at, as items.
-use Rattle.std.proofs.Common.{◌≡◌, ◌⊎◌, inl, inr, ⊎_elim, ℕ, ◌+◌, add-one, take, slice_get, Bool, List, [], ◌∷◌, ◌++◌, Option, Some, None, IfSome, refl, sym, ap, ◌∙◌, subst}
+use Rattle.std.proofs.Common.{◌≡◌, ◌⊎◌, inl, inr, ⊎_elim, ℕ, zero, suc, ◌+◌, add-one, arith, Contains, take, slice_get, Bool, List, [], ◌∷◌, ◌++◌, Option, Some, None, IfSome, IfNone, append_assoc, refl, sym, ap, ◌∙◌, subst}
+use Rattle.std.specs.Prelude.{IsPermutation}
+use Rattle.std.proofs.lemmas.List.Sorted.{Contains-permutation}
 use Rattle.pliron_core.specs.declared.context.Def.{Def}
 use Rattle.pliron_core.specs.declared.context.Def.TheVariants.{Result, Argument as Definition}
 use Rattle.pliron_core.specs.Changes.{IsMadeInside}
@@ -10,7 +12,7 @@ use Rattle.pliron_laws.specs.Datum.{Head, Meaning}
 use Rattle.pliron_dce.specs.declared.work.Candidate.{Candidate}
 use Rattle.pliron_dce.specs.Dead.{Item, Op, Arg}
 use Rattle.pliron_dce.specs.Steps.{IsReady, Among, AreLookedAt}
-use Rattle.pliron_dce.specs.Work.{item_of, items_of, HasReady, LooksAround}
+use Rattle.pliron_dce.specs.Work.{item_of, items_of, HasReady, KeepsReady, LooksAround}
 
 pub among_split : (x : Item) (cs : List Candidate) (c : Candidate) → Among x (items_of (cs ++ c ∷ [])) → Among x (items_of cs) ⊎ (x ≡ item_of c)
 among_split x [] c (inl e) = inr e
@@ -27,9 +29,57 @@ pub among_last : (cs : List Candidate) (c : Candidate) → Among (item_of c) (it
 among_last [] c = inl refl
 among_last (d ∷ cs) c = inr (among_last cs c)
 
+pub among_left : (x : Item) (cs ds : List Candidate) → Among x (items_of cs) → Among x (items_of (cs ++ ds))
+among_left x [] ds i = absurd i
+among_left x (c ∷ cs) ds (inl e) = inl e
+among_left x (c ∷ cs) ds (inr i) = inr (among_left x cs ds i)
+
+pub among_right : (x : Item) (cs ds : List Candidate) → Among x (items_of ds) → Among x (items_of (cs ++ ds))
+among_right x [] ds i = i
+among_right x (c ∷ cs) ds i = inr (among_right x cs ds i)
+
+pub among_cases : (x : Item) (cs ds : List Candidate) → Among x (items_of (cs ++ ds)) → Among x (items_of cs) ⊎ Among x (items_of ds)
+among_cases x [] ds i = inr i
+among_cases x (c ∷ cs) ds (inl e) = inl (inl e)
+among_cases x (c ∷ cs) ds (inr i) = ⊎_elim (λ j. inl (inr j)) (λ j. inr j) (among_cases x cs ds i)
+
+among_contains : (x : Item) (cs : List Candidate) → Among x (items_of cs) → (c : Candidate) × Contains cs c × (x ≡ item_of c)
+among_contains x [] i = absurd i
+among_contains x (c ∷ cs) (inl e) = (c, (zero, omega arith, refl), e)
+among_contains x (c ∷ cs) (inr i) = let r = among_contains x cs i in (r.0, (suc r.1.0, omega (arith, r.1.1), r.1.2), r.2)
+
+contains_among : (c : Candidate) (cs : List Candidate) → Contains cs c → Among (item_of c) (items_of cs)
+contains_among c [] (k, l, e) = absurd (omega (arith, l))
+contains_among c (d ∷ cs) (zero, l, e) = inl (ap item_of (sym e))
+contains_among c (d ∷ cs) (suc k, l, e) = inr (contains_among c cs (k, omega (arith, l), e))
+
+-- an order changes nothing
+pub among_permuted : (x : Item) (cs ds : List Candidate) → IsPermutation cs ds → Among x (items_of cs) → Among x (items_of ds)
+among_permuted x cs ds p i =
+    let r = among_contains x cs i in
+    subst (λ z. Among z (items_of ds)) (sym r.2) (contains_among r.0 ds (Contains-permutation cs ds r.0 p r.1))
+
 -- what isn't ready may go from the list
-pub has_ready_still : (m : Meaning) (side_effects : Head → Option Bool) (removable : Head → ℕ → Bool → Option Bool) (t : Tree) (root : ℕ) (old new : List Candidate) (c : Candidate) → old ≡ new ++ c ∷ [] → (IsReady m side_effects removable t root (item_of c) → ⊥) → HasReady m side_effects removable t root old → HasReady m side_effects removable t root new
-has_ready_still m side_effects removable t root old new c e n h x r = ⊎_elim (λ i. i) (λ s. absurd (n (subst (IsReady m side_effects removable t root) s r))) (among_split x new c (subst (λ z. Among x (items_of z)) e (h x r)))
+pub keeps_ready_still : (m : Meaning) (side_effects : Head → Option Bool) (removable : Head → ℕ → Bool → Option Bool) (t : Tree) (root : ℕ) (start old new : List Candidate) (c : Candidate) → old ≡ new ++ c ∷ [] → (IsReady m side_effects removable t root (item_of c) → ⊥) → KeepsReady m side_effects removable t root start old → KeepsReady m side_effects removable t root start new
+keeps_ready_still m side_effects removable t root start old new c e n h x r i = ⊎_elim (λ j. j) (λ s. absurd (n (subst (IsReady m side_effects removable t root) s r))) (among_split x new c (subst (λ z. Among x (items_of z)) e (h x r i)))
+
+-- what isn't ready need not come into the round
+pub keeps_ready_past : (m : Meaning) (side_effects : Head → Option Bool) (removable : Head → ℕ → Bool → Option Bool) (t : Tree) (root : ℕ) (old now new : List Candidate) (c : Candidate) → (IsReady m side_effects removable t root (item_of c) → ⊥) → KeepsReady m side_effects removable t root (old ++ now) new → KeepsReady m side_effects removable t root ((old ++ c ∷ []) ++ now) new
+keeps_ready_past m side_effects removable t root old now new c n h x r i = ⊎_elim (λ j. ⊎_elim (λ k. h x r (among_left x old now k)) (λ s. absurd (n (subst (IsReady m side_effects removable t root) s r))) (among_split x old c j)) (λ j. h x r (among_right x old now j)) (among_cases x (old ++ c ∷ []) now i)
+
+-- what comes into the round is there
+pub keeps_ready_more : (m : Meaning) (side_effects : Head → Option Bool) (removable : Head → ℕ → Bool → Option Bool) (t : Tree) (root : ℕ) (old now new : List Candidate) (c : Candidate) → KeepsReady m side_effects removable t root (old ++ now) new → KeepsReady m side_effects removable t root ((old ++ c ∷ []) ++ now) (new ++ c ∷ [])
+keeps_ready_more m side_effects removable t root old now new c h x r i = ⊎_elim (λ j. ⊎_elim (λ k. among_front x new c (h x r (among_left x old now k))) (λ s. subst (λ z. Among z (items_of (new ++ c ∷ []))) (sym s) (among_last new c)) (among_split x old c j)) (λ j. among_front x new c (h x r (among_right x old now j))) (among_cases x (old ++ c ∷ []) now i)
+
+-- the next one of a round that has all that is ready, if there is one
+module _ (m : Meaning) (side_effects : Head → Option Bool) (removable : Head → ℕ → Bool → Option Bool) (t : Tree) (root : ℕ) (round new : List Candidate) (all : HasReady m side_effects removable t root round) where
+  pub next_of_round : (found : Option Candidate) (later : List Candidate) → IfSome found (λ next. KeepsReady m side_effects removable t root round (new ++ next ∷ [])) → IfSome found (λ next. HasReady m side_effects removable t root ((later ++ new) ++ next ∷ []))
+  next_of_round None later h = tt
+  next_of_round (Some next) later h = λ x r. subst (λ z. Among x (items_of z)) (sym (append_assoc later new (next ∷ []))) (among_right x later (new ++ next ∷ []) (h x r (all x r)))
+
+  pub none_of_round : (found : Option Candidate) → IfNone found (KeepsReady m side_effects removable t root round []) → IfNone found ((x : Item) → IsReady m side_effects removable t root x → ⊥)
+  none_of_round None h = λ x r. h x r (all x r)
+  none_of_round (Some next) h = tt
 
 pub within_within : (t : Tree) (k a s : ℕ) → IsWithin t k a → IsWithin t a s → IsWithin t k s
 within_within t k a s (inl e) i = subst (λ z. IsWithin t z s) e i

@@ -1,9 +1,10 @@
 -- What is still to be looked at.
-use Rattle.std.specs.Prelude.{◌≡◌, ◌≢◌, ℕ, Bool, List, map, Option, Some}
+use Rattle.std.specs.Prelude.{◌≡◌, ◌≢◌, ◌++◌, ℕ, Bool, List, map, Option, Some}
 use Rattle.pliron_core.specs.Tree.{Tree, In, IsInside, IsWithin, HoldsBlock, arguments_of, block_holder_of}
 use Rattle.pliron_core.specs.Changes.{IsMadeInside}
 use Rattle.pliron_laws.specs.Datum.{Head, Meaning}
 use Rattle.pliron_dce.specs.declared.work.Candidate.{Candidate}
+use Rattle.pliron_dce.specs.declared.work.Work.{Work}
 use Rattle.pliron_dce.specs.declared.work.Candidate.TheVariants.{Operation, Argument}
 use Rattle.pliron_dce.specs.Dead.{Item, Op, Arg}
 use Rattle.pliron_dce.specs.Steps.{IsReady, Among}
@@ -15,9 +16,17 @@ item_of (Argument v) = Arg v
 abbrev pub items_of : List Candidate → List Item
 items_of cs = map item_of cs
 
+-- what waits: for the next round, and in this one
+abbrev pub waiting : Work → List Candidate
+waiting w = w.later.items ++ w.round.items
+
 -- each thing that is ready is among these
 abbrev pub HasReady : Meaning → (Head → Option Bool) → (Head → ℕ → Bool → Option Bool) → Tree → ℕ → List Candidate → Type 0
 HasReady m side_effects removable t root work = (x : Item) → IsReady m side_effects removable t root x → Among x (items_of work)
+
+-- each thing among the first that is ready is among the second
+abbrev pub KeepsReady : Meaning → (Head → Option Bool) → (Head → ℕ → Bool → Option Bool) → Tree → ℕ → (old new : List Candidate) → Type 0
+KeepsReady m side_effects removable t root old new = (x : Item) → IsReady m side_effects removable t root x → Among x (items_of old) → Among x (items_of new)
 
 -- what was there is there, and each operation around the value that does not hold the site
 pub record LooksAround (t : Tree) (site v : ℕ) (old new : List Candidate) : Type 0 where

@@ -58,10 +58,10 @@ pub fn ready_things_are_seen<D: Dialect>()
 /// Errors: want of memory. The tree is then one after some whole rewrites: dead operations with their
 /// contents, and dead arguments with the operands forwarded to them.
 ///
-/// Cost: one look at each operation and argument inside, and one more for each use that it loses. An
+/// Cost: one look at each operation and argument inside, and two more for each use that it loses. An
 /// argument that goes asks each edge to its block for the one operand that it forwards there
-/// (`successor_operand`) and takes that one out; the arguments after it that stay, or go later, move up by
-/// one place.
+/// (`successor_operand`) and takes that one out. The arguments of a block that may go at one time go side by
+/// side, the last one first; so those that stay behind them move once for all of these.
 pub fn dce<D: Dialect>(
     alloc: Global,
     op: Ptr<Operation>,

@@ -8,15 +8,14 @@ ghost use Rattle.pliron_theory.specs.Edges.{KeepsEdges, has_regions as is_with_r
 ghost use Rattle.pliron_dce.specs.Dead.{Item};
 ghost use Rattle.pliron_dce.specs.Steps.{IsReady};
 ghost use Rattle.pliron_dce.specs.Going.{Goes, HasRegions, SomeHasRegions, IsSweptSoFar, LeavesNoDead, TellsGone};
-ghost use Rattle.pliron_dce.specs.Work.{item_of, HasReady};
+ghost use Rattle.pliron_dce.specs.Work.{item_of, waiting, HasReady};
 
 use crate::ready::holder_of;
 use crate::take::{take_argument, take_operation};
-use crate::work::{Candidate, next_ready, note};
+use crate::work::{Candidate, Work, next_ready, note};
 use pliron_core::{Context, Def, IRStatus, Operation, Ptr};
 use pliron_laws::{Dialect, OptError};
 use std::alloc::Global;
-use std::collections::VecDeque;
 
 // Whether the operation has regions.
 fn has_regions(op: Ptr<Operation>, ctx: &Context) -> bool
@@ -37,14 +36,14 @@ fn take_one<D: Dialect>(
     alloc: Global,
     next: Candidate,
     root: Ptr<Operation>,
-    work: &mut VecDeque<Candidate>,
+    work: &mut Work,
     ctx: &mut Context,
 ) -> Result<bool, OptError>
     requires linked { IsWellLinked D.meaning ctx.old.tree root }
     requires ready { IsReady D.meaning D.side_effects D.removable ctx.old.tree root (item_of next) }
-    requires all { HasReady D.meaning D.side_effects D.removable ctx.old.tree root (work.old.items ++ next ∷ []) }
+    requires all { HasReady D.meaning D.side_effects D.removable ctx.old.tree root (waiting work.old ++ next ∷ []) }
     ensures goes { OnOk result (Goes D.meaning D.shortened ctx.old.tree ctx.new.tree (item_of next)) }
-    ensures all { OnOk result (HasReady D.meaning D.side_effects D.removable ctx.new.tree root work.new.items) }
+    ensures all { OnOk result (HasReady D.meaning D.side_effects D.removable ctx.new.tree root (waiting work.new)) }
     ensures regions { IfOk result (λ had. IsTrue had ↔ HasRegions ctx.old.tree (item_of next)) }
     ensures refused { OnErr result ((ctx.new.tree ≡ ctx.old.tree) ⊎ Goes D.meaning D.shortened ctx.old.tree ctx.new.tree (item_of next)) }
     ensures err { IfErr result (λ e. e ≡ Memory) }
@@ -90,10 +89,13 @@ pub(crate) fn sweep<D: Dialect>(
     ensures edges { IfOk result (λ a. (IsTrue a.1 → ⊥) → KeepsEdges ctx.old.tree ctx.new.tree) }
     ensures err { IfErr result (λ e. e ≡ Memory) }
 {
-    let mut work = VecDeque::from_vec(candidates);
+    let mut work = Work {
+        round: candidates,
+        later: Vec::new(alloc),
+    };
     let mut status = IRStatus::Unchanged;
     let mut regions = false;
-    while let Some(next) = next_ready::<D>(&mut work, root, ctx) {
+    while let Some(next) = next_ready::<D>(&mut work, root, ctx)? {
         ctx.well_formed();
         let taken = take_one::<D>(alloc, next, root, &mut work, ctx);
         ctx.well_formed();

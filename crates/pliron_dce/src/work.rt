@@ -1,17 +1,19 @@
-//! What is still to be looked at: candidates are taken from the back, and what lost a use goes to the
-//! front, so that it is looked at after those that wait already.
-ghost use Rattle.std.specs.Prelude.{◌≡◌, ◌↔◌, ◌++◌, ◌∷◌, [], IfOk, OnOk, IfErr, IfSome, IfNone, IsTrue};
+//! What is still to be looked at, in rounds: what lost a use in one round is looked at in the next one.
+//!
+//! In each round the arguments go before the operations, the last one first. So those of one block go side
+//! by side, whichever way their uses went, and so do the operands that were forwarded to them; what a block
+//! or a branch loses side by side costs one step each.
+ghost use Rattle.std.specs.Prelude.{◌≡◌, ◌↔◌, ◌++◌, ◌∷◌, [], IfOk, OnOk, IfErr, IfSome, IfNone, IsTrue, IsPermutation};
 ghost use Rattle.pliron_core.specs.Tree.{IsLive, IsDefined};
 ghost use Rattle.pliron_laws.specs.Linked.{IsWellLinked};
 ghost use Rattle.pliron_dce.specs.Dead.{Item};
 ghost use Rattle.pliron_dce.specs.Steps.{IsReady, Among, AreLookedAt};
-ghost use Rattle.pliron_dce.specs.Work.{item_of, items_of, HasReady, LooksAround, IsAroundMaker};
+ghost use Rattle.pliron_dce.specs.Work.{item_of, items_of, waiting, HasReady, KeepsReady, LooksAround, IsAroundMaker};
 
 use crate::ready::{holder_of, is_ready_argument, is_ready_operation, is_within};
 use pliron_core::{Context, Def, Operation, Ptr, Value};
 use pliron_laws::Dialect;
 use std::alloc::AllocError;
-use std::collections::VecDeque;
 
 // What may be dead.
 #[derive(Clone, Copy, PartialEq, Eq)]
@@ -20,33 +22,118 @@ pub(crate) enum Candidate {
     Argument(Value),
 }
 
-// The last one that is ready; those after it are not, and go.
-pub(crate) fn next_ready<D: Dialect>(
-    work: &mut VecDeque<Candidate>,
+// What is still to be looked at.
+#[derive(Drop)]
+pub(crate) struct Work {
+    // in this round, the last one first
+    pub(crate) round: Vec<Candidate>,
+    // in the next one
+    pub(crate) later: Vec<Candidate>,
+}
+
+impl Work {
+    // The candidate is looked at in the next round.
+    fn add(&mut self, candidate: Candidate) -> Result<(), AllocError>
+        ensures kept { OnOk result ((x : Item) → Among x (items_of (waiting self.old)) → Among x (items_of (waiting self.new))) }
+        ensures added { OnOk result (Among (item_of candidate) (items_of (waiting self.new))) }
+    {
+        self.later.push(candidate)?;
+        Ok(())
+    }
+}
+
+// Whether the candidate may go at once.
+fn is_ready<D: Dialect>(candidate: &Candidate, root: Ptr<Operation>, ctx: &Context) -> bool
+    requires linked { IsWellLinked D.meaning ctx.now.tree root }
+    ensures { IsTrue result ↔ IsReady D.meaning D.side_effects D.removable ctx.now.tree root (item_of candidate.now) }
+{
+    match *candidate {
+        Candidate::Operation(op) => is_ready_operation::<D>(op, root, ctx),
+        Candidate::Argument(value) => is_ready_argument::<D>(value, root, ctx),
+    }
+}
+
+// The last one of this round that is ready; those after it are not, and go.
+fn next_in_round<D: Dialect>(
+    round: &mut Vec<Candidate>,
     root: Ptr<Operation>,
     ctx: &Context,
 ) -> Option<Candidate>
     requires linked { IsWellLinked D.meaning ctx.now.tree root }
-    requires all { HasReady D.meaning D.side_effects D.removable ctx.now.tree root work.old.items }
     ensures some { IfSome result (λ next. IsReady D.meaning D.side_effects D.removable ctx.now.tree root (item_of next)) }
-    ensures all { IfSome result (λ next. HasReady D.meaning D.side_effects D.removable ctx.now.tree root (work.new.items ++ next ∷ [])) }
-    ensures none { IfNone result ((x : Item) → IsReady D.meaning D.side_effects D.removable ctx.now.tree root x → ⊥) }
+    ensures kept { IfSome result (λ next. KeepsReady D.meaning D.side_effects D.removable ctx.now.tree root round.old.items (round.new.items ++ next ∷ [])) }
+    ensures none { IfNone result (KeepsReady D.meaning D.side_effects D.removable ctx.now.tree root round.old.items []) }
+    ensures empty { IfNone result (round.new.items ≡ []) }
 {
-    while let Some(next) = work.pop_back() {
-        match next {
-            Candidate::Operation(op) => {
-                if is_ready_operation::<D>(op, root, ctx) {
-                    return Some(Candidate::Operation(op));
-                }
-            }
-            Candidate::Argument(value) => {
-                if is_ready_argument::<D>(value, root, ctx) {
-                    return Some(Candidate::Argument(value));
-                }
-            }
+    while let Some(next) = round.pop() {
+        if is_ready::<D>(&next, root, ctx) {
+            return Some(next);
         }
     }
     None
+}
+
+// The arguments last, in the order in which they were made: a block is made with its arguments.
+fn put_arguments_last(candidates: &mut Vec<Candidate>) -> Result<(), AllocError>
+    ensures { IsPermutation candidates.old.items candidates.new.items }
+{
+    candidates.sort_by_key(|candidate| match candidate {
+        Candidate::Operation(_) => None,
+        Candidate::Argument(value) => Some(value.key()),
+    })
+}
+
+// Those of the candidates that are ready come into the round.
+fn push_ready<D: Dialect>(
+    round: &mut Vec<Candidate>,
+    candidates: &[Candidate],
+    root: Ptr<Operation>,
+    ctx: &Context,
+) -> Result<(), AllocError>
+    requires linked { IsWellLinked D.meaning ctx.now.tree root }
+    ensures { OnOk result (KeepsReady D.meaning D.side_effects D.removable ctx.now.tree root (candidates.now ++ round.old.items) round.new.items) }
+{
+    for candidate in candidates {
+        if is_ready::<D>(candidate, root, ctx) {
+            round.push(*candidate)?;
+        }
+    }
+    Ok(())
+}
+
+// What waits for the next round and is ready comes into this one.
+fn begin_round<D: Dialect>(
+    work: &mut Work,
+    root: Ptr<Operation>,
+    ctx: &Context,
+) -> Result<(), AllocError>
+    requires linked { IsWellLinked D.meaning ctx.now.tree root }
+    ensures { OnOk result (KeepsReady D.meaning D.side_effects D.removable ctx.now.tree root (waiting work.old) work.new.round.items) }
+{
+    push_ready::<D>(&mut work.round, &work.later, root, ctx)?;
+    work.later.clear();
+    put_arguments_last(&mut work.round)?;
+    Ok(())
+}
+
+// The next one that is ready, of this round or of the next one. What is looked at and not ready goes.
+pub(crate) fn next_ready<D: Dialect>(
+    work: &mut Work,
+    root: Ptr<Operation>,
+    ctx: &Context,
+) -> Result<Option<Candidate>, AllocError>
+    requires linked { IsWellLinked D.meaning ctx.now.tree root }
+    requires all { HasReady D.meaning D.side_effects D.removable ctx.now.tree root (waiting work.old) }
+    ensures some { IfOk result (λ found. IfSome found (λ next. IsReady D.meaning D.side_effects D.removable ctx.now.tree root (item_of next))) }
+    ensures all { IfOk result (λ found. IfSome found (λ next.
+        HasReady D.meaning D.side_effects D.removable ctx.now.tree root (waiting work.new ++ next ∷ []))) }
+    ensures none { IfOk result (λ found. IfNone found ((x : Item) → IsReady D.meaning D.side_effects D.removable ctx.now.tree root x → ⊥)) }
+{
+    if let Some(next) = next_in_round::<D>(&mut work.round, root, ctx) {
+        return Ok(Some(next));
+    }
+    begin_round::<D>(work, root, ctx)?;
+    Ok(next_in_round::<D>(&mut work.round, root, ctx))
 }
 
 // The operation that holds what makes the value.
@@ -64,14 +151,14 @@ fn holder_of_maker(value: Value, ctx: &Context) -> Option<Ptr<Operation>>
 
 // The operations around what makes the value, up to the first that holds the site.
 fn push_around(
-    work: &mut VecDeque<Candidate>,
+    work: &mut Work,
     value: Value,
     site: Ptr<Operation>,
     ctx: &Context,
 ) -> Result<(), AllocError>
     requires value { IsDefined ctx.now.tree value }
     requires site { IsLive ctx.now.tree site }
-    ensures { OnOk result (LooksAround ctx.now.tree site value work.old.items work.new.items) }
+    ensures { OnOk result (LooksAround ctx.now.tree site value (waiting work.old) (waiting work.new)) }
 {
     ctx.well_formed();
     let mut around = holder_of_maker(value, ctx);
@@ -79,7 +166,7 @@ fn push_around(
         if is_within(site, op, ctx) {
             return Ok(());
         }
-        work.push_front(Candidate::Operation(op))?;
+        work.add(Candidate::Operation(op))?;
         around = op.get_parent_op(ctx);
     }
     Ok(())
@@ -88,22 +175,22 @@ fn push_around(
 // What may have become ready when these values lost uses by operations that `site` holds: what makes
 // each of them, and the operations around it that do not hold those.
 pub(crate) fn note(
-    work: &mut VecDeque<Candidate>,
+    work: &mut Work,
     site: Ptr<Operation>,
     used: &[Value],
     ctx: &Context,
 ) -> Result<(), AllocError>
     requires site { IsLive ctx.now.tree site }
-    ensures kept { OnOk result ((x : Item) → Among x (items_of work.old.items) → Among x (items_of work.new.items)) }
-    ensures looked { OnOk result (AreLookedAt ctx.now.tree site used.now (items_of work.new.items)) }
+    ensures kept { OnOk result ((x : Item) → Among x (items_of (waiting work.old)) → Among x (items_of (waiting work.new))) }
+    ensures looked { OnOk result (AreLookedAt ctx.now.tree site used.now (items_of (waiting work.new))) }
 {
     for value in used {
         if !value.is_live(ctx) {
             continue;
         }
         match value.def(ctx) {
-            Def::Result(op, _) => work.push_front(Candidate::Operation(op))?,
-            Def::Argument(_, _) => work.push_front(Candidate::Argument(*value))?,
+            Def::Result(op, _) => work.add(Candidate::Operation(op))?,
+            Def::Argument(_, _) => work.add(Candidate::Argument(*value))?,
         }
         push_around(work, *value, site, ctx)?;
     }

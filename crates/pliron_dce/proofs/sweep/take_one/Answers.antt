@@ -4,7 +4,7 @@ use Rattle.pliron_core.specs.Tree.{IsLive, arguments_of}
 use Rattle.pliron_dce.specs.declared.work.Candidate.TheVariants.{Operation, Argument}
 use Rattle.pliron_dce.specs.Steps.{IsReady}
 use Rattle.pliron_dce.specs.Going.{Goes}
-use Rattle.pliron_dce.specs.Work.{item_of, HasReady}
+use Rattle.pliron_dce.specs.Work.{item_of, waiting, HasReady}
 use Rattle.pliron_laws.proofs.FoldLemmas.{on_err}
 use Rattle.pliron_dce.proofs.TakeLemmas.{op_live}
 use Rattle.pliron_dce.proofs.SweepLemmas.{ready_all, op_site, argument_site, argument_listed}
@@ -34,9 +34,9 @@ returns-in_ok-note-in-Some-clause-goes g c =
 pub returns-in_ok-note-in-Some-clause-all : goal.returns-in_ok-note-in-Some-clause-all
 returns-in_ok-note-in-Some-clause-all g c =
     let ready = subst (λ z. IsReady g.D.HasMeaning.meaning g.D.SideEffects.side_effects g.D.BlockArgRemoval.removable c.args.ctx.now.tree c.args.root (item_of z)) c.in-Operation.is c.requires.ready in
-    let all = subst (λ z. HasReady g.D.HasMeaning.meaning g.D.SideEffects.side_effects g.D.BlockArgRemoval.removable c.args.ctx.now.tree c.args.root (c.args.work.now.items ++ z ∷ [])) c.in-Operation.is c.requires.all in
+    let all = subst (λ z. HasReady g.D.HasMeaning.meaning g.D.SideEffects.side_effects g.D.BlockArgRemoval.removable c.args.ctx.now.tree c.args.root ((waiting c.args.work.now) ++ z ∷ [])) c.in-Operation.is c.requires.all in
     let live = op_live g.D.HasMeaning.meaning g.D.SideEffects.side_effects c.args.ctx.now.tree c.args.root c.in-Operation.op c.well_formed-2.ensures.tree c.requires.linked g.met.D.Dialect.keeps_counts g.D.BlockArgRemoval.removable g.met.D.Dialect.gives_at_once ready in
-    ready_all _ _ _ _ g.met.D.Dialect.forwards_operands (λ h h' s. s.branch) g.met.D.Dialect.keeps_counts g.D.SideEffects.side_effects g.met.D.Dialect.gives_at_once g.D.BlockArgRemoval.removable g.met.D.Dialect.acts_without_argument c.args.ctx.now.tree c.take_operation.new.ctx.tree c.args.root c.in-Some.site (Operation c.in-Operation.op) c.in_ok-used-in-Some.used.items c.args.work.now.items c.note.new.work.items c.well_formed-2.ensures.tree c.well_formed-in-Some.ensures.tree c.requires.linked ready (live, c.in_ok-used-in-Some.ensures.gone) all (c.in_ok-used-in-Some.ensures.noted c.in-Some.site (sym c.in-Some.ensures.holder)) (search (rules, c.in_ok-note-in-Some.ensures.looked)) c.in_ok-note-in-Some.ensures.kept
+    ready_all _ _ _ _ g.met.D.Dialect.forwards_operands (λ h h' s. s.branch) g.met.D.Dialect.keeps_counts g.D.SideEffects.side_effects g.met.D.Dialect.gives_at_once g.D.BlockArgRemoval.removable g.met.D.Dialect.acts_without_argument c.args.ctx.now.tree c.take_operation.new.ctx.tree c.args.root c.in-Some.site (Operation c.in-Operation.op) c.in_ok-used-in-Some.used.items (waiting c.args.work.now) (waiting c.note.new.work) c.well_formed-2.ensures.tree c.well_formed-in-Some.ensures.tree c.requires.linked ready (live, c.in_ok-used-in-Some.ensures.gone) all (c.in_ok-used-in-Some.ensures.noted c.in-Some.site (sym c.in-Some.ensures.holder)) (search (rules, c.in_ok-note-in-Some.ensures.looked)) c.in_ok-note-in-Some.ensures.kept
 
 pub take_argument-requires-clause-index : goal.take_argument-requires-clause-index
 take_argument-requires-clause-index g c =
@@ -53,8 +53,8 @@ pub returns-in_ok-note-in-Argument-def-clause-all : goal.returns-in_ok-note-in-A
 returns-in_ok-note-in-Argument-def-clause-all g c =
     let ready = subst (λ z. IsReady g.D.HasMeaning.meaning g.D.SideEffects.side_effects g.D.BlockArgRemoval.removable c.args.ctx.now.tree c.args.root (item_of z)) c.in-Argument.is c.requires.ready in
     let at = argument_listed g.D.HasMeaning.meaning g.D.BlockArgRemoval.removable c.args.ctx.now.tree c.args.root c.in-Argument.value c.in-Argument-def.block c.in-Argument-def.index c.well_formed-2.ensures.tree ready c.in-Argument-def.ensures.definition in
-    let all = subst (λ z. HasReady g.D.HasMeaning.meaning g.D.SideEffects.side_effects g.D.BlockArgRemoval.removable c.args.ctx.now.tree c.args.root (c.args.work.now.items ++ z ∷ [])) c.in-Argument.is c.requires.all in
-    ready_all _ _ _ _ g.met.D.Dialect.forwards_operands (λ h h' s. s.branch) g.met.D.Dialect.keeps_counts g.D.SideEffects.side_effects g.met.D.Dialect.gives_at_once g.D.BlockArgRemoval.removable g.met.D.Dialect.acts_without_argument c.args.ctx.now.tree c.take_argument.new.ctx.tree c.args.root c.holder_of-site.result (Argument c.in-Argument.value) c.in_ok-used-in-Argument-def.used.items c.args.work.now.items c.note-in-Argument-def.new.work.items c.well_formed-2.ensures.tree c.well_formed-in-Argument-def.ensures.tree c.requires.linked ready (c.in_ok-used-in-Argument-def.ensures.gone c.in-Argument.value at) all (c.in_ok-used-in-Argument-def.ensures.noted c.holder_of-site.result c.holder_of-site.ensures.holder) (search (rules, c.in_ok-note-in-Argument-def.ensures.looked)) c.in_ok-note-in-Argument-def.ensures.kept
+    let all = subst (λ z. HasReady g.D.HasMeaning.meaning g.D.SideEffects.side_effects g.D.BlockArgRemoval.removable c.args.ctx.now.tree c.args.root ((waiting c.args.work.now) ++ z ∷ [])) c.in-Argument.is c.requires.all in
+    ready_all _ _ _ _ g.met.D.Dialect.forwards_operands (λ h h' s. s.branch) g.met.D.Dialect.keeps_counts g.D.SideEffects.side_effects g.met.D.Dialect.gives_at_once g.D.BlockArgRemoval.removable g.met.D.Dialect.acts_without_argument c.args.ctx.now.tree c.take_argument.new.ctx.tree c.args.root c.holder_of-site.result (Argument c.in-Argument.value) c.in_ok-used-in-Argument-def.used.items (waiting c.args.work.now) (waiting c.note-in-Argument-def.new.work) c.well_formed-2.ensures.tree c.well_formed-in-Argument-def.ensures.tree c.requires.linked ready (c.in_ok-used-in-Argument-def.ensures.gone c.in-Argument.value at) all (c.in_ok-used-in-Argument-def.ensures.noted c.holder_of-site.result c.holder_of-site.ensures.holder) (search (rules, c.in_ok-note-in-Argument-def.ensures.looked)) c.in_ok-note-in-Argument-def.ensures.kept
 
 pub returns-in_err-note-in-Some-clause-refused : goal.returns-in_err-note-in-Some-clause-refused
 returns-in_err-note-in-Some-clause-refused g c =

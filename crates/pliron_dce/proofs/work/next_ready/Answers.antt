@@ -1,17 +1,25 @@
-use Rattle.std.proofs.Common.{rules, ◌≡◌, ◌++◌, ◌∷◌, [], ap, ◌∙◌}
-use Rattle.pliron_laws.proofs.AnswerLemmas.{refuted}
-use Rattle.pliron_dce.specs.declared.work.Candidate.TheVariants.{Operation, Argument}
-use Rattle.pliron_dce.proofs.WorkLemmas.{has_ready_still}
+use Rattle.std.proofs.Common.{◌++◌, ◌∷◌, [], ⊎_elim, append_assoc, sym, subst}
+use Rattle.pliron_dce.specs.Steps.{Among}
+use Rattle.pliron_dce.specs.Work.{items_of, HasReady}
+use Rattle.pliron_dce.proofs.WorkLemmas.{among_left, among_right, among_cases, next_of_round, none_of_round}
 use Rattle.pliron_dce.proofs.work.next_ready.Goals as goal
 
-pub loop-next-preserved-else-is_ready_operation : goal.loop-next-preserved-else-is_ready_operation
-loop-next-preserved-else-is_ready_operation g c =
-    let e : c.loop-next.work.items ≡ c.pop_back.new.self.items ++ c.in-Some.next ∷ [] = search (rules, c.in-Some.ensures) in
-    let e2 : c.loop-next.work.items ≡ c.pop_back.new.self.items ++ Operation c.in-Operation.op ∷ [] = e ∙ ap (λ z. c.pop_back.new.self.items ++ z ∷ []) c.in-Operation.is in
-    has_ready_still g.D.HasMeaning.meaning g.D.SideEffects.side_effects g.D.BlockArgRemoval.removable c.args.ctx.now.tree c.args.root c.loop-next.work.items c.pop_back.new.self.items (Operation c.in-Operation.op) e2 (λ r. refuted c.is_ready_operation.result c.if-is_ready_operation.false (c.is_ready_operation.ensures.1 r)) c.loop-next.invariant
+pub returns-in-Some-clause-all : goal.returns-in-Some-clause-all
+returns-in-Some-clause-all g c = λ x r.
+    let later = c.args.work.now.later.items in
+    let round = c.next_in_round.new.round.items in
+    let next = c.in-Some.next in
+    subst (λ z. Among x (items_of z)) (sym (append_assoc later round (next ∷ [])))
+    (⊎_elim (λ i. among_left x later (round ++ next ∷ []) i) (λ i. among_right x later (round ++ next ∷ []) (c.in-Some.ensures.kept x r i)) (among_cases x later c.args.work.now.round.items (c.requires.all x r)))
 
-pub loop-next-preserved : goal.loop-next-preserved
-loop-next-preserved g c =
-    let e : c.loop-next.work.items ≡ c.pop_back.new.self.items ++ c.in-Some.next ∷ [] = search (rules, c.in-Some.ensures) in
-    let e2 : c.loop-next.work.items ≡ c.pop_back.new.self.items ++ Argument c.in-Argument.value ∷ [] = e ∙ ap (λ z. c.pop_back.new.self.items ++ z ∷ []) c.in-Argument.is in
-    has_ready_still g.D.HasMeaning.meaning g.D.SideEffects.side_effects g.D.BlockArgRemoval.removable c.args.ctx.now.tree c.args.root c.loop-next.work.items c.pop_back.new.self.items (Argument c.in-Argument.value) e2 (λ r. refuted c.is_ready_argument.result c.if-is_ready_argument.false (c.is_ready_argument.ensures.1 r)) c.loop-next.invariant
+pub returns-clause-all : goal.returns-clause-all
+returns-clause-all g c =
+    let all : HasReady g.D.HasMeaning.meaning g.D.SideEffects.side_effects g.D.BlockArgRemoval.removable c.args.ctx.now.tree c.args.root c.begin_round.new.work.round.items = λ x r.
+    c.in_ok-begin_round.ensures x r (⊎_elim (λ i. among_left x c.args.work.now.later.items c.next_in_round.new.round.items i) (λ i. absurd (c.in_default.ensures.none x r i)) (among_cases x c.args.work.now.later.items c.args.work.now.round.items (c.requires.all x r))) in
+    next_of_round g.D.HasMeaning.meaning g.D.SideEffects.side_effects g.D.BlockArgRemoval.removable c.args.ctx.now.tree c.args.root c.begin_round.new.work.round.items c.next_in_round-2.new.round.items all c.next_in_round-2.result c.begin_round.new.work.later.items c.next_in_round-2.ensures.kept
+
+pub returns-clause-none : goal.returns-clause-none
+returns-clause-none g c =
+    let all : HasReady g.D.HasMeaning.meaning g.D.SideEffects.side_effects g.D.BlockArgRemoval.removable c.args.ctx.now.tree c.args.root c.begin_round.new.work.round.items = λ x r.
+    c.in_ok-begin_round.ensures x r (⊎_elim (λ i. among_left x c.args.work.now.later.items c.next_in_round.new.round.items i) (λ i. absurd (c.in_default.ensures.none x r i)) (among_cases x c.args.work.now.later.items c.args.work.now.round.items (c.requires.all x r))) in
+    none_of_round g.D.HasMeaning.meaning g.D.SideEffects.side_effects g.D.BlockArgRemoval.removable c.args.ctx.now.tree c.args.root c.begin_round.new.work.round.items c.next_in_round-2.new.round.items all c.next_in_round-2.result c.next_in_round-2.ensures.none

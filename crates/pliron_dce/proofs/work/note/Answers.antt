@@ -1,14 +1,14 @@
-use Rattle.std.proofs.Common.{◌≡◌, ℕ, Some, inl, inr, refl, sym, ap, ◌∙◌, subst}
+use Rattle.std.proofs.Common.{◌≡◌, ℕ, Some, sym, ap, ◌∙◌, subst}
 use Rattle.std.proofs.lemmas.Option.{slice_get-get_or}
 use Rattle.pliron_core.specs.declared.context.Def.TheVariants.{Result, Argument}
 use Rattle.pliron_core.specs.Tree.{definition_of}
 use Rattle.pliron_laws.proofs.AnswerLemmas.{refuted}
 use Rattle.pliron_dce.specs.Dead.{Item, Op, Arg}
 use Rattle.pliron_dce.specs.Steps.{Among}
-use Rattle.pliron_dce.specs.Work.{items_of}
+use Rattle.pliron_dce.specs.Work.{items_of, waiting}
 use Rattle.pliron_dce.proofs.WorkLemmas.{looked_more, looked_past, same_maker, other_maker}
 use Rattle.pliron_dce.proofs.work.note.Goals as goal
-use Rattle.pliron_dce.proofs.work.note.Goals.{in-Result+in_ok-push_front-in-Result, in-Argument+in_ok-push_front-in-Argument}
+use Rattle.pliron_dce.proofs.work.note.Goals.{in-Result+in_ok-add-in-Result, in-Argument+in_ok-add-in-Argument}
 
 pub loop-value-preserved-then-not-is_live : goal.loop-value-preserved-then-not-is_live
 loop-value-preserved-then-not-is_live c = record {
@@ -20,19 +20,19 @@ pub loop-value-preserved : goal.loop-value-preserved
 loop-value-preserved c =
     let at = slice_get-get_or c.args.used.now c.loop-value.value-index _ c.loop-value-test.true ∙ ap Some (sym c.value-item.is) in
     let looks = c.in_ok-push_around.ensures in
-    let more : (x : Item) → Among x (items_of c.loop-value.work.items) → Among x (items_of c.match-def.work.items) = elim c.match-def.branch [
-      | in-Result+in_ok-push_front-in-Result w ↦ λ x i. subst (λ z. Among x (items_of z)) (sym (ap (λ z. z.items) w.work-is ∙ w.in_ok-push_front-in-Result.ensures.items)) (inr i)
-      | in-Argument+in_ok-push_front-in-Argument w ↦ λ x i. subst (λ z. Among x (items_of z)) (sym (ap (λ z. z.items) w.work-is ∙ w.in_ok-push_front-in-Argument.ensures.items)) (inr i)
+    let more : (x : Item) → Among x (items_of (waiting c.loop-value.work)) → Among x (items_of (waiting c.match-def.work)) = elim c.match-def.branch [
+      | in-Result+in_ok-add-in-Result w ↦ λ x i. subst (λ z. Among x (items_of (waiting z))) (sym w.work-is) (w.in_ok-add-in-Result.ensures.kept x i)
+      | in-Argument+in_ok-add-in-Argument w ↦ λ x i. subst (λ z. Among x (items_of (waiting z))) (sym w.work-is) (w.in_ok-add-in-Argument.ensures.kept x i)
     ] in
-    let makers : (k n : ℕ) → definition_of c.args.ctx.now.tree c.value-item.result ≡ Some (Result k n) → Among (Op k) (items_of c.match-def.work.items) = elim c.match-def.branch [
-      | in-Result+in_ok-push_front-in-Result w ↦ λ k n e. subst (λ z. Among (Op z) (items_of c.match-def.work.items)) (same_maker w.in-Result.ensures.definition e) (subst (λ z. Among (Op w.in-Result.op) (items_of z)) (sym (ap (λ z. z.items) w.work-is ∙ w.in_ok-push_front-in-Result.ensures.items)) (inl refl))
-      | in-Argument+in_ok-push_front-in-Argument w ↦ λ k n e. absurd (other_maker e w.in-Argument.ensures.definition)
+    let makers : (k n : ℕ) → definition_of c.args.ctx.now.tree c.value-item.result ≡ Some (Result k n) → Among (Op k) (items_of (waiting c.match-def.work)) = elim c.match-def.branch [
+      | in-Result+in_ok-add-in-Result w ↦ λ k n e. subst (λ z. Among (Op z) (items_of (waiting c.match-def.work))) (same_maker w.in-Result.ensures.definition e) (subst (λ z. Among (Op w.in-Result.op) (items_of (waiting z))) (sym w.work-is) w.in_ok-add-in-Result.ensures.added)
+      | in-Argument+in_ok-add-in-Argument w ↦ λ k n e. absurd (other_maker e w.in-Argument.ensures.definition)
     ] in
-    let arguments : (b n : ℕ) → definition_of c.args.ctx.now.tree c.value-item.result ≡ Some (Argument b n) → Among (Arg c.value-item.result) (items_of c.match-def.work.items) = elim c.match-def.branch [
-      | in-Result+in_ok-push_front-in-Result w ↦ λ b n e. absurd (other_maker w.in-Result.ensures.definition e)
-      | in-Argument+in_ok-push_front-in-Argument w ↦ λ b n e. subst (λ z. Among (Arg c.value-item.result) (items_of z)) (sym (ap (λ z. z.items) w.work-is ∙ w.in_ok-push_front-in-Argument.ensures.items)) (inl refl)
+    let arguments : (b n : ℕ) → definition_of c.args.ctx.now.tree c.value-item.result ≡ Some (Argument b n) → Among (Arg c.value-item.result) (items_of (waiting c.match-def.work)) = elim c.match-def.branch [
+      | in-Result+in_ok-add-in-Result w ↦ λ b n e. absurd (other_maker w.in-Result.ensures.definition e)
+      | in-Argument+in_ok-add-in-Argument w ↦ λ b n e. subst (λ z. Among (Arg c.value-item.result) (items_of (waiting z))) (sym w.work-is) w.in_ok-add-in-Argument.ensures.added
     ] in
     record {
       kept = λ x i. looks.kept x (more x (c.loop-value.invariant.kept x i));
-      looked = looked_more c.args.ctx.now.tree c.args.site c.value-item.result c.args.used.now c.loop-value.value-index c.loop-value.work.items c.match-def.work.items c.push_around.new.work.items c.loop-value.invariant.looked at more looks makers arguments;
+      looked = looked_more c.args.ctx.now.tree c.args.site c.value-item.result c.args.used.now c.loop-value.value-index (waiting c.loop-value.work) (waiting c.match-def.work) (waiting c.push_around.new.work) c.loop-value.invariant.looked at more looks makers arguments;
     }

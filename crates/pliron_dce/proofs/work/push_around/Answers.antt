@@ -1,12 +1,11 @@
-use Rattle.std.proofs.Common.{◌<◌, ◌-◌, ◌∙◌, inl, inr, ⊎_elim, refl, sym, subst, length, suc}
+use Rattle.std.proofs.Common.{◌<◌, ◌-◌, ◌∙◌, inl, inr, ⊎_elim, sym, subst, length, suc}
 use Rattle.std.specs.Option.{option_map_or}
 use Rattle.pliron_core.specs.Tree.{IsLive, IsWithin}
 use Rattle.pliron_core.specs.Walks.{contents}
 use Rattle.pliron_core.proofs.HoldingLemmas.{some_is}
 use Rattle.pliron_core.proofs.WalkStepLemmas.{up_smaller}
-use Rattle.pliron_dce.specs.Work.{items_of}
+use Rattle.pliron_dce.specs.Work.{items_of, waiting}
 use Rattle.pliron_dce.specs.Dead.{Op}
-use Rattle.pliron_dce.specs.Steps.{Among}
 use Rattle.pliron_dce.proofs.WorkLemmas.{within_within, above_within, none_left, some_told}
 use Rattle.pliron_dce.proofs.work.push_around.Goals as goal
 
@@ -34,13 +33,13 @@ loop-around-smaller c =
 pub loop-around-preserved : goal.loop-around-preserved
 loop-around-preserved c =
     let t = c.args.ctx.now.tree in
-    let same = c.in_ok-push_front.ensures.items in
+    let added = c.in_ok-add.ensures in
     record {
       live = λ k e. some_told (λ z. IsLive t z) c.get_parent_op-around.ensures.live e;
-      kept = λ x i. subst (λ z. Among x (items_of z)) (sym same) (inr (c.loop-around.invariant.kept x i));
+      kept = λ x i. added.kept x (c.loop-around.invariant.kept x i);
       rest = λ k i n. ⊎_elim
-          (λ j. inl (subst (λ z. Among (Op k) (items_of z)) (sym same) (inr j)))
-          (λ a. above_within t k c.in-Some.op c.get_parent_op-around.result c.get_parent_op-around.ensures.holder (items_of c.push_front.new.self.items) (subst (λ z. Among (Op c.in-Some.op) (items_of z)) (sym same) (inl refl)) (subst (IsWithin t k) (some_is (sym a.1 ∙ c.in-Some.is)) a.2))
+          (λ j. inl (added.kept (Op k) j))
+          (λ a. above_within t k c.in-Some.op c.get_parent_op-around.result c.get_parent_op-around.ensures.holder (items_of (waiting c.add.new.self)) added.added (subst (IsWithin t k) (some_is (sym a.1 ∙ c.in-Some.is)) a.2))
           (c.loop-around.invariant.rest k i n);
     }
 
