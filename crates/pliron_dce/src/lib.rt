@@ -7,10 +7,9 @@
 //! and of the program it knows nothing.
 #![tactic(auto)]
 
-ghost use Rattle.std.specs.Prelude.{◌≡◌, ◌↔◌, ℕ, List, IfOk, IfErr, OnErr, IsTrue};
+ghost use Rattle.std.specs.Prelude.{◌≡◌, ◌↔◌, ℕ, List, IfOk, OnErr, IsTrue, IsOkUnless};
 ghost use Rattle.pliron_core.specs.Tree.{IsLive};
 ghost use Rattle.pliron_core.specs.declared.attrs.IRStatus.TheVariants.{Unchanged};
-ghost use Rattle.pliron_laws.specs.declared.fault.OptError.TheVariants.{Memory};
 ghost use Rattle.pliron_theory.specs.Change.{IsPassChange};
 ghost use Rattle.pliron_theory.specs.Edges.{KeepsEdges};
 ghost use Rattle.pliron_laws.specs.Linked.{IsWellLinked};
@@ -76,7 +75,7 @@ pub fn dce<D: Dialect>(
     ensures status { IfOk result (λ a. TellsDead D.meaning D.side_effects D.removable ctx.old.tree op a) }
     ensures tells { IfOk result (λ a. (a ≡ Unchanged) ↔ (ctx.new.tree ≡ ctx.old.tree)) }
     ensures links { (root : ℕ) → IsWellLinked D.meaning ctx.old.tree root → IsLive ctx.new.tree root → IsWellLinked D.meaning ctx.new.tree root }
-    ensures err { IfErr result (λ e. e ≡ Memory) }
+    ensures memory { IsOkUnless result OptError.Memory }
 {
     let (status, _) = dce_with_regions::<D>(alloc, op, ctx)?;
     Ok(status)
@@ -102,7 +101,7 @@ pub fn dce_with_regions<D: Dialect>(
     ensures tells { IfOk result (λ a. (a.0 ≡ Unchanged) ↔ (ctx.new.tree ≡ ctx.old.tree)) }
     ensures edges { IfOk result (λ a. (IsTrue a.1 → ⊥) → KeepsEdges ctx.old.tree ctx.new.tree) }
     ensures links { (root : ℕ) → IsWellLinked D.meaning ctx.old.tree root → IsLive ctx.new.tree root → IsWellLinked D.meaning ctx.new.tree root }
-    ensures err { IfErr result (λ e. e ≡ Memory) }
+    ensures memory { IsOkUnless result OptError.Memory }
 {
     let work = all_candidates(alloc, op, ctx)?;
     sweep::<D>(alloc, op, work, ctx)

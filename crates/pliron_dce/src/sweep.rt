@@ -1,7 +1,6 @@
 //! The loop: what is ready goes, until nothing is.
-ghost use Rattle.std.specs.Prelude.{◌≡◌, ◌↔◌, ◌⊎◌, ◌++◌, ◌∷◌, [], ℕ, List, IfOk, OnOk, IfErr, OnErr, IsTrue};
+ghost use Rattle.std.specs.Prelude.{◌≡◌, ◌↔◌, ◌⊎◌, ◌++◌, ◌∷◌, [], ℕ, List, IfOk, OnOk, OnErr, IsTrue, IsOkUnless};
 ghost use Rattle.pliron_core.specs.Tree.{IsLive};
-ghost use Rattle.pliron_laws.specs.declared.fault.OptError.TheVariants.{Memory};
 ghost use Rattle.pliron_theory.specs.Keeps.{KeepsRuns};
 ghost use Rattle.pliron_laws.specs.Linked.{IsWellLinked};
 ghost use Rattle.pliron_theory.specs.Edges.{KeepsEdges, has_regions as is_with_regions};
@@ -46,7 +45,7 @@ fn take_one<D: Dialect>(
     ensures all { OnOk result (HasReady D.meaning D.side_effects D.removable ctx.new.tree root (waiting work.new)) }
     ensures regions { IfOk result (λ had. IsTrue had ↔ HasRegions ctx.old.tree (item_of next)) }
     ensures refused { OnErr result ((ctx.new.tree ≡ ctx.old.tree) ⊎ Goes D.meaning D.shortened ctx.old.tree ctx.new.tree (item_of next)) }
-    ensures err { IfErr result (λ e. e ≡ Memory) }
+    ensures memory { IsOkUnless result OptError.Memory }
 {
     ctx.well_formed();
     match next {
@@ -87,7 +86,7 @@ pub(crate) fn sweep<D: Dialect>(
         IfOk result (λ a. LeavesNoDead D.meaning D.side_effects D.removable ctx.old.tree ctx.new.tree root × TellsGone gone a.0 × (IsTrue a.1 ↔
         SomeHasRegions ctx.old.tree gone)) }
     ensures edges { IfOk result (λ a. (IsTrue a.1 → ⊥) → KeepsEdges ctx.old.tree ctx.new.tree) }
-    ensures err { IfErr result (λ e. e ≡ Memory) }
+    ensures memory { IsOkUnless result OptError.Memory }
 {
     let mut work = Work {
         round: candidates,

@@ -1,8 +1,7 @@
 //! Whole rewrites: one dead thing goes.
-ghost use Rattle.std.specs.Prelude.{◌≡◌, ◌↔◌, ◌<◌, length, ℕ, Some, IfOk, OnOk, IfErr, OnErr, IsTrue, slice_get};
+ghost use Rattle.std.specs.Prelude.{◌≡◌, ◌↔◌, ◌<◌, length, ℕ, Some, IfOk, OnOk, OnErr, IsTrue, slice_get, IsOkUnless};
 ghost use Rattle.pliron_core.specs.Tree.{In, IsLive, IsBlock, operands_of, arguments_of, holder_of, block_holder_of};
 ghost use Rattle.pliron_core.specs.Erased.{erased};
-ghost use Rattle.pliron_laws.specs.declared.fault.OptError.TheVariants.{Memory};
 ghost use Rattle.pliron_laws.specs.Linked.{IsWellLinked};
 ghost use Rattle.pliron_dce.specs.Dead.{Item};
 ghost use Rattle.pliron_dce.specs.Going.{Removes};
@@ -59,7 +58,7 @@ pub(crate) fn take_operation<D: Dialect>(
     ensures gone { IfOk result (λ used. ctx.new.tree ≡ erased ctx.old.tree op) }
     ensures noted { IfOk result (λ used. (site : ℕ) → holder_of ctx.old.tree op ≡ Some site → AreNoted ctx.old.tree ctx.new.tree site used.items) }
     ensures refused { OnErr result (ctx.new ≡ ctx.old) }
-    ensures err { IfErr result (λ e. e ≡ Memory) }
+    ensures memory { IsOkUnless result OptError.Memory }
 {
     ctx.well_formed();
     let used = operands_within(alloc, op, ctx)?;
@@ -84,7 +83,7 @@ pub(crate) fn take_argument<D: Dialect>(
         Removes D.meaning D.shortened ctx.old.tree ctx.new.tree v) }
     ensures noted { IfOk result (λ used. (site : ℕ) → block_holder_of ctx.old.tree block ≡ Some site → AreNoted ctx.old.tree ctx.new.tree site used.items) }
     ensures refused { OnErr result (ctx.new ≡ ctx.old) }
-    ensures err { IfErr result (λ e. e ≡ Memory) }
+    ensures memory { IsOkUnless result OptError.Memory }
 {
     ctx.well_formed();
     let mut forwards = Vec::new(alloc);

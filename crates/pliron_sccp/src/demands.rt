@@ -1,12 +1,11 @@
 //! What an operation asks of the facts, read under the facts so far; and facts fall until they meet it.
 //!
 //! What is asked names a constant by its number in the tables, so that none is copied to hand it on.
-ghost use Rattle.std.specs.Prelude.{◌≡◌, ◌≤◌, ◌<◌, ◌↔◌, ◌∷◌, [], ℕ, List, nat_eq, true, if◌then◌else◌, Some, OnOk, IfOk, IfErr, IsTrue, length, slice_get};
+ghost use Rattle.std.specs.Prelude.{◌≡◌, ◌≤◌, ◌<◌, ◌↔◌, ◌∷◌, [], ℕ, List, nat_eq, true, if◌then◌else◌, Some, OnOk, IfOk, IsTrue, length, slice_get, IsOkUnless};
 ghost use Rattle.std.specs.HashSet.{contains};
 ghost use Rattle.pliron_core.specs.Tree.{IsLive, IsBlock, IsRegion, In, operands_of, results_of, successors_of};
 ghost use Rattle.pliron_laws.specs.Tree.{Operation as OperationOf, op_at, shape_of};
 ghost use Rattle.pliron_laws.specs.Answers.{HeadPasses};
-ghost use Rattle.pliron_laws.specs.declared.fault.OptError.TheVariants.{Memory};
 ghost use Rattle.pliron_theory.specs.Facts.{answered, handed, AtMost, IsEntered, known as known_of, NotAConstant as Varies};
 ghost use Rattle.pliron_sccp.specs.Tables.{known_constants, facts_of, fact_in};
 ghost use Rattle.pliron_sccp.specs.Cells.{Means};
@@ -36,7 +35,7 @@ pub enum Demand {
 fn ask_entry(block: Ptr<BasicBlock>, ctx: &Context, asked: &mut Vec<Demand>) -> Result<(), OptError>
     requires { IsBlock ctx.now.tree block }
     ensures ok { OnOk result (AlwaysAdds asked.old.items asked.new.items (λ now. IsEntered ctx.now.tree now block)) }
-    ensures err { IfErr result (λ e. e ≡ Memory) }
+    ensures memory { IsOkUnless result OptError.Memory }
 {
     asked.push(Demand::Enter(block))?;
     for i in 0..block.num_argument(ctx) {
@@ -49,7 +48,7 @@ fn ask_entry(block: Ptr<BasicBlock>, ctx: &Context, asked: &mut Vec<Demand>) -> 
 fn ask_unknown(op: Ptr<Operation>, ctx: &Context, asked: &mut Vec<Demand>) -> Result<(), OptError>
     requires { IsLive ctx.now.tree op }
     ensures ok { OnOk result (AlwaysAdds asked.old.items asked.new.items (λ now. (v : ℕ) → In v (results_of ctx.now.tree op) → now.fact v ≡ Varies)) }
-    ensures err { IfErr result (λ e. e ≡ Memory) }
+    ensures memory { IsOkUnless result OptError.Memory }
 {
     for i in 0..op.num_result(ctx) {
         asked.push(Demand::Lower(op.get_result(ctx, i), Cell::NotAConstant))?;
@@ -61,7 +60,7 @@ fn ask_unknown(op: Ptr<Operation>, ctx: &Context, asked: &mut Vec<Demand>) -> Re
 fn ask_region(region: Ptr<Region>, ctx: &Context, asked: &mut Vec<Demand>) -> Result<(), OptError>
     requires { IsRegion ctx.now.tree region }
     ensures ok { OnOk result (AlwaysAdds asked.old.items asked.new.items (λ now. EntryEntered ctx.now.tree now 0 region)) }
-    ensures err { IfErr result (λ e. e ≡ Memory) }
+    ensures memory { IsOkUnless result OptError.Memory }
 {
     match region.get_head(ctx) {
         Some(entry) => ask_entry(entry, ctx, asked),
@@ -80,7 +79,7 @@ pub fn ask_entries(
 ) -> Result<(), OptError>
     requires { IsLive ctx.now.tree op }
     ensures ok { OnOk result (AlwaysAdds asked.old.items asked.new.items (λ now. AsksEntries ctx.now.tree op now)) }
-    ensures err { IfErr result (λ e. e ≡ Memory) }
+    ensures memory { IsOkUnless result OptError.Memory }
 {
     for i in 0..op.num_region(ctx) {
         ask_region(op.get_region(ctx, i), ctx, asked)?;
@@ -92,7 +91,7 @@ pub fn ask_entries(
 fn ask_jumps(op: Ptr<Operation>, ctx: &Context, asked: &mut Vec<Demand>) -> Result<(), OptError>
     requires { IsLive ctx.now.tree op }
     ensures ok { OnOk result (AlwaysAdds asked.old.items asked.new.items (λ now. AsksJumps ctx.now.tree op now)) }
-    ensures err { IfErr result (λ e. e ≡ Memory) }
+    ensures memory { IsOkUnless result OptError.Memory }
 {
     for i in 0..op.num_successor(ctx) {
         ask_entry(op.get_successor(ctx, i), ctx, asked)?;
@@ -107,7 +106,7 @@ pub(crate) fn known(
     tables: &Tables,
 ) -> Result<Option<AttrObj>, OptError>
     ensures ok { IfOk result (λ attr. attr ≡ known_of (fact_in tables.now value)) }
-    ensures err { IfErr result (λ e. e ≡ Memory) }
+    ensures memory { IsOkUnless result OptError.Memory }
 {
     match tables.constant(value) {
         Some(attr) => Ok(Some(attr.copy(alloc)?)),
@@ -124,7 +123,7 @@ pub(crate) fn known_operands(
 ) -> Result<Vec<Option<AttrObj>>, OptError>
     requires { IsLive ctx.now.tree op }
     ensures ok { IfOk result (λ attrs. attrs.items ≡ handed (facts_of tables.now) (operands_of ctx.now.tree op)) }
-    ensures err { IfErr result (λ e. e ≡ Memory) }
+    ensures memory { IsOkUnless result OptError.Memory }
 {
     let mut attrs = Vec::new(alloc);
     for i in 0..op.num_operand(ctx) {
@@ -151,7 +150,7 @@ fn ask_forwarded(
 ) -> Result<(), OptError>
     requires { IsBlock ctx.now.tree block }
     ensures ok { OnOk result (Adds (known_constants tables.now) asked.old.items asked.new.items (λ now. AsksForwarded ctx.now.tree (facts_of tables.now) block values.now now)) }
-    ensures err { IfErr result (λ e. e ≡ Memory) }
+    ensures memory { IsOkUnless result OptError.Memory }
 {
     asked.push(Demand::Enter(block))?;
     let count = block.num_argument(ctx).min(values.len());
@@ -165,7 +164,7 @@ fn ask_forwarded(
 /// One block more.
 fn add_block(blocks: &mut HashSet<u64>, block: Ptr<BasicBlock>) -> Result<(), OptError>
     ensures ok { OnOk result ((b : ℕ) → contains nat_eq blocks.new b ≡ (if nat_eq block b then true else contains nat_eq blocks.old b)) }
-    ensures err { IfErr result (λ e. e ≡ Memory) }
+    ensures memory { IsOkUnless result OptError.Memory }
 {
     blocks.insert(block.key())?;
     Ok(())
@@ -183,7 +182,7 @@ fn branch_blocks<D: Dialect>(
     requires entries { length known.now ≡ length (operands_of ctx.now.tree op) }
     ensures ok { IfOk result (λ blocks. (o : OperationOf) → op_at ctx.now.tree op ≡ Some o → (b : ℕ) → IsTrue (contains nat_eq blocks b) ↔
         In b (D.feasible (shape_of D.meaning ctx.now.tree o) o.successors known.now)) }
-    ensures err { IfErr result (λ e. e ≡ Memory) }
+    ensures memory { IsOkUnless result OptError.Memory }
 {
     let targets = <D as BranchOpFoldInterface>::check_fold(alloc, op, ctx, known)?;
     let mut blocks = HashSet::new(alloc);
@@ -203,7 +202,7 @@ fn feasible_blocks<D: Dialect>(
     requires live { IsLive ctx.now.tree op }
     requires entries { length known.now ≡ length (operands_of ctx.now.tree op) }
     ensures ok { IfOk result (λ blocks. AreFeasible D.meaning D.can_fold_branch D.feasible ctx.now.tree op known.now blocks) }
-    ensures err { IfErr result (λ e. e ≡ Memory) }
+    ensures memory { IsOkUnless result OptError.Memory }
 {
     if D::folds_branch(op, ctx) {
         let blocks = branch_blocks::<D>(alloc, op, ctx, known)?;
@@ -241,7 +240,7 @@ fn ask_edge<D: Dialect>(
     requires feasible { AreFeasible D.meaning D.can_fold_branch D.feasible ctx.now.tree op known.now feasible.now }
     ensures ok { OnOk result ((o : OperationOf) → op_at ctx.now.tree op ≡ Some o → (b : ℕ) → slice_get (successors_of ctx.now.tree op) i ≡ Some b →
         Adds (known_constants tables.now) asked.old.items asked.new.items (λ now. FollowsEdge ⟦<D as HasFolding>⟧.folding ctx.now.tree (facts_of tables.now) o now i b)) }
-    ensures err { IfErr result (λ e. e ≡ Memory) }
+    ensures memory { IsOkUnless result OptError.Memory }
 {
     let block = op.get_successor(ctx, i);
     if may_go(feasible, block) {
@@ -268,7 +267,7 @@ fn ask_each_edge<D: Dialect>(
     requires feasible { AreFeasible D.meaning D.can_fold_branch D.feasible ctx.now.tree op known.now feasible.now }
     ensures ok { OnOk result ((o : OperationOf) → op_at ctx.now.tree op ≡ Some o →
         Adds (known_constants tables.now) asked.old.items asked.new.items (λ now. AsksBranches ⟦<D as HasFolding>⟧.folding ctx.now.tree (facts_of tables.now) o now)) }
-    ensures err { IfErr result (λ e. e ≡ Memory) }
+    ensures memory { IsOkUnless result OptError.Memory }
 {
     for i in 0..op.num_successor(ctx) {
         ask_edge::<D>(alloc, op, i, ctx, tables, known, feasible, asked)?;
@@ -290,7 +289,7 @@ fn ask_branches<D: Dialect>(
     requires known { known.now ≡ handed (facts_of tables.now) (operands_of ctx.now.tree op) }
     ensures ok { OnOk result ((o : OperationOf) → op_at ctx.now.tree op ≡ Some o →
         Adds (known_constants tables.now) asked.old.items asked.new.items (λ now. AsksBranches ⟦<D as HasFolding>⟧.folding ctx.now.tree (facts_of tables.now) o now)) }
-    ensures err { IfErr result (λ e. e ≡ Memory) }
+    ensures memory { IsOkUnless result OptError.Memory }
 {
     let feasible = feasible_blocks::<D>(alloc, op, ctx, known)?;
     ask_each_edge::<D>(alloc, op, ctx, tables, known, &feasible, asked)
@@ -307,7 +306,7 @@ fn ask_answer(
     requires { IsLive ctx.now.tree op }
     ensures ok { OnOk result (AlwaysAdds asked.old.items asked.new.items (λ now. (v : ℕ) → slice_get (results_of ctx.now.tree op) i ≡ Some v →
         AtMost (now.fact v) (answered answer))) }
-    ensures err { IfErr result (λ e. e ≡ Memory) }
+    ensures memory { IsOkUnless result OptError.Memory }
 {
     if i >= op.num_result(ctx) {
         return Ok(());
@@ -329,7 +328,7 @@ fn ask_answers(
 ) -> Result<(), OptError>
     requires { IsLive ctx.now.tree op }
     ensures ok { OnOk result (AlwaysAdds asked.old.items asked.new.items (λ now. AsksAnswers (results_of ctx.now.tree op) answers.items now)) }
-    ensures err { IfErr result (λ e. e ≡ Memory) }
+    ensures memory { IsOkUnless result OptError.Memory }
 {
     let mut rest = answers;
     while let Some(answer) = rest.pop() {
@@ -350,7 +349,7 @@ fn ask_results<D: Dialect>(
     requires entries { length known.now ≡ length (operands_of ctx.now.tree op) }
     ensures ok { OnOk result ((o : OperationOf) → op_at ctx.now.tree op ≡ Some o →
         AlwaysAdds asked.old.items asked.new.items (λ now. AsksResults D.can_fold (D.constants (shape_of D.meaning ctx.now.tree o) known.now) o now)) }
-    ensures err { IfErr result (λ e. e ≡ Memory) }
+    ensures memory { IsOkUnless result OptError.Memory }
 {
     if D::folds(op, ctx) {
         let answers = <D as ConstFoldInterface>::check_fold(alloc, op, ctx, known)?;
@@ -373,7 +372,7 @@ fn ask_edges<D: Dialect>(
     requires known { known.now ≡ handed (facts_of tables.now) (operands_of ctx.now.tree op) }
     ensures ok { OnOk result ((o : OperationOf) → op_at ctx.now.tree op ≡ Some o →
         Adds (known_constants tables.now) asked.old.items asked.new.items (λ now. AsksEdges ⟦<D as HasFolding>⟧.folding ctx.now.tree (facts_of tables.now) op o now)) }
-    ensures err { IfErr result (λ e. e ≡ Memory) }
+    ensures memory { IsOkUnless result OptError.Memory }
 {
     if D::is_branch(op, ctx) {
         ask_branches::<D>(alloc, op, ctx, tables, known, asked)
@@ -396,7 +395,7 @@ pub fn demands<D: Dialect>(
 ) -> Result<Vec<Demand>, OptError>
     requires { IsLive ctx.now.tree op }
     ensures ok { IfOk result (λ asked. Asks (known_constants tables.now) ⟦<D as HasFolding>⟧.folding ctx.now.tree (facts_of tables.now) op asked.items) }
-    ensures err { IfErr result (λ e. e ≡ Memory) }
+    ensures memory { IsOkUnless result OptError.Memory }
 {
     let known = known_operands(alloc, op, ctx, tables)?;
     let mut asked = Vec::new(alloc);

@@ -3,7 +3,7 @@
 //!
 //! Everything above speaks of the words of `specs/Tables` alone, so that other tables can stand behind
 //! the same contracts.
-ghost use Rattle.std.specs.Prelude.{◌≡◌, ◌≤◌, ◌+◌, ◌<◌, ◌^◌, ℕ, nat_eq, Some, length, slice_get, vec_capacity};
+ghost use Rattle.std.specs.Prelude.{◌≡◌, ◌≤◌, ◌+◌, ◌<◌, ◌^◌, ℕ, nat_eq, Some, length, slice_get, vec_capacity, IsOkUnless};
 ghost use Rattle.std.specs.List.{list_any};
 ghost use Rattle.indexmap.specs.IndexSet.{index_of};
 ghost use Rattle.pliron_sccp.specs.declared.cells.Cell.TheVariants.{Constant as Known};
@@ -53,8 +53,7 @@ pub struct Tables {
 }
 
 impl Tables {
-    ghost use Rattle.std.specs.Prelude.{◌≡◌, ℕ, true, IfOk, IfErr, IfSome, IfNone, None};
-    ghost use Rattle.pliron_laws.specs.declared.fault.OptError.TheVariants.{Memory};
+    ghost use Rattle.std.specs.Prelude.{◌≡◌, ℕ, true, IfOk, IfSome, IfNone, None};
     ghost use Rattle.pliron_theory.specs.Facts.{AtMost, Fact, Constant as IsConstant, known as known_of};
     ghost use Rattle.pliron_sccp.specs.Cells.{Means};
     ghost use Rattle.pliron_sccp.specs.Tables.{known_constants, fact_in, is_numbered, reaches, waits_block, AreNew, Enters, FallsTo, Lowers, NowWaits, TakesBlock, TakesValue, NoBlockWaits, NoValueWaits};
@@ -68,7 +67,7 @@ impl Tables {
         values: IndexSet<Value>,
     ) -> Result<Tables, OptError>
         ensures ok { IfOk result (λ s. AreNew blocks.keys values.keys s) }
-        ensures err { IfErr result (λ e. e ≡ Memory) }
+        ensures memory { IsOkUnless result OptError.Memory }
     {
         let block_count = blocks.len();
         let value_count = values.len();

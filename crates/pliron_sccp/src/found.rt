@@ -1,8 +1,7 @@
 //! What facts say is to be rewritten: the operations that fold and the constant arguments.
-ghost use Rattle.std.specs.Prelude.{◌≡◌, OnOk, IfOk, IfErr};
+ghost use Rattle.std.specs.Prelude.{◌≡◌, OnOk, IfOk, IsOkUnless};
 ghost use Rattle.pliron_core.specs.Tree.{IsLive, IsBlock};
 ghost use Rattle.pliron_laws.specs.Linked.{IsWellLinked};
-ghost use Rattle.pliron_laws.specs.declared.fault.OptError.TheVariants.{Memory};
 ghost use Rattle.pliron_sccp.specs.Tables.{facts_of};
 ghost use Rattle.pliron_sccp.specs.Listed.{IsFoldOf, AddsFold, AreFolds, AddsKnown, AreArguments};
 ghost use Rattle.pliron_sccp.specs.Chain.{known_arguments};
@@ -27,7 +26,7 @@ fn fold_of<D: Dialect>(
 ) -> Result<Option<Fold>, OptError>
     requires { IsLive ctx.now.tree op }
     ensures ok { IfOk result (λ fold. IsFoldOf ⟦<D as HasFolding>⟧.folding ctx.now.tree (facts_of tables.now) op fold) }
-    ensures err { IfErr result (λ e. e ≡ Memory) }
+    ensures memory { IsOkUnless result OptError.Memory }
 {
     ctx.well_formed();
     let Some(block) = op.get_parent_block(ctx) else {
@@ -53,7 +52,7 @@ fn add_fold<D: Dialect>(
 ) -> Result<(), OptError>
     requires { IsLive ctx.now.tree op }
     ensures ok { OnOk result (AddsFold ⟦<D as HasFolding>⟧.folding ctx.now.tree (facts_of tables.now) op folds.old.items folds.new.items) }
-    ensures err { IfErr result (λ e. e ≡ Memory) }
+    ensures memory { IsOkUnless result OptError.Memory }
 {
     match fold_of::<D>(alloc, op, ctx, tables)? {
         Some(fold) => folds.push(fold)?,
@@ -71,7 +70,7 @@ fn all_folds<D: Dialect>(
 ) -> Result<Vec<Fold>, OptError>
     requires { IsLive ctx.now.tree root }
     ensures ok { IfOk result (λ folds. AreFolds ⟦<D as HasFolding>⟧.folding ctx.now.tree root (facts_of tables.now) folds.items) }
-    ensures err { IfErr result (λ e. e ≡ Memory) }
+    ensures memory { IsOkUnless result OptError.Memory }
 {
     ctx.well_formed();
     let mut folds = Vec::new(alloc);
@@ -93,7 +92,7 @@ fn add_arguments(
 ) -> Result<(), OptError>
     requires { IsBlock ctx.now.tree block }
     ensures ok { OnOk result (AddsKnown ctx.now.tree (facts_of tables.now) block arguments.old.items arguments.new.items) }
-    ensures err { IfErr result (λ e. e ≡ Memory) }
+    ensures memory { IsOkUnless result OptError.Memory }
 {
     if !tables.reaches(block) {
         return Ok(());
@@ -117,7 +116,7 @@ fn all_arguments(
     requires { IsLive ctx.now.tree root }
     ensures ok { IfOk result (λ arguments. AreArguments ctx.now.tree (facts_of tables.now) arguments.items (known_arguments ctx.now.tree root
         (facts_of tables.now))) }
-    ensures err { IfErr result (λ e. e ≡ Memory) }
+    ensures memory { IsOkUnless result OptError.Memory }
 {
     ctx.well_formed();
     let blocks = all_blocks(alloc, root, ctx)?;
@@ -140,7 +139,7 @@ pub(crate) fn find<D: Dialect>(
     requires live { IsLive ctx.now.tree root }
     requires linked { IsWellLinked D.meaning ctx.now.tree root }
     ensures ok { IfOk result (λ r. HasFound ⟦<D as HasFolding>⟧.folding D.can_fold ctx.now.tree root r.0 r.1) }
-    ensures err { IfErr result (λ e. e ≡ Memory) }
+    ensures memory { IsOkUnless result OptError.Memory }
 {
     let searched = search::<D>(alloc, root, ctx)?;
     let folds = all_folds::<D>(alloc, root, ctx, &searched.tables)?;

@@ -1,8 +1,7 @@
 //! Listing what stands inside an operation.
-ghost use Rattle.std.specs.Prelude.{◌≡◌, ◌++◌, ◌∷◌, [], ℕ, OnOk, IfOk, IfErr, reverse};
+ghost use Rattle.std.specs.Prelude.{◌≡◌, ◌++◌, ◌∷◌, [], ℕ, OnOk, IfOk, reverse, IsOkUnless};
 ghost use Rattle.std.specs.List.{flat_map};
 ghost use Rattle.pliron_core.specs.Tree.{IsLive, IsBlock, IsRegion, In, arguments_of, body_of, layout_of, regions_of, results_of};
-ghost use Rattle.pliron_laws.specs.declared.fault.OptError.TheVariants.{Memory};
 ghost use Rattle.pliron_sccp.specs.Chain.{blocks_inside};
 ghost use Rattle.pliron_sccp.specs.Inside.{block_values, blocks_directly_in};
 ghost use Rattle.pliron_sccp.specs.Starting.{AddsKeys};
@@ -20,7 +19,7 @@ fn list_region(
 ) -> Result<(), OptError>
     requires { IsRegion ctx.now.tree region }
     ensures ok { OnOk result (blocks.new.items ≡ blocks.old.items ++ layout_of ctx.now.tree region) }
-    ensures err { IfErr result (λ e. e ≡ Memory) }
+    ensures memory { IsOkUnless result OptError.Memory }
 {
     ctx.well_formed();
     let mut at = region.get_head(ctx);
@@ -39,7 +38,7 @@ fn list_regions(
 ) -> Result<(), OptError>
     requires { IsLive ctx.now.tree op }
     ensures ok { OnOk result (blocks.new.items ≡ blocks.old.items ++ blocks_directly_in ctx.now.tree op) }
-    ensures err { IfErr result (λ e. e ≡ Memory) }
+    ensures memory { IsOkUnless result OptError.Memory }
 {
     for i in 0..op.num_region(ctx) {
         list_region(op.get_region(ctx, i), ctx, blocks)?;
@@ -55,7 +54,7 @@ fn list_body(
 ) -> Result<(), OptError>
     requires { IsBlock ctx.now.tree block }
     ensures ok { OnOk result (blocks.new.items ≡ blocks.old.items ++ flat_map (λ k. blocks_directly_in ctx.now.tree k) (body_of ctx.now.tree block)) }
-    ensures err { IfErr result (λ e. e ≡ Memory) }
+    ensures memory { IsOkUnless result OptError.Memory }
 {
     ctx.well_formed();
     let mut at = block.get_head(ctx);
@@ -69,7 +68,7 @@ fn list_body(
 /// Puts these on the stack, so that the first comes off first.
 fn stack_up(blocks: Vec<Ptr<BasicBlock>>, stack: &mut Vec<Ptr<BasicBlock>>) -> Result<(), OptError>
     ensures ok { OnOk result (stack.new.items ≡ stack.old.items ++ reverse blocks.items) }
-    ensures err { IfErr result (λ e. e ≡ Memory) }
+    ensures memory { IsOkUnless result OptError.Memory }
 {
     let mut rest = blocks;
     while let Some(block) = rest.pop() {
@@ -87,7 +86,7 @@ fn stack_regions(
 ) -> Result<(), OptError>
     requires { IsLive ctx.now.tree op }
     ensures ok { OnOk result (stack.new.items ≡ stack.old.items ++ reverse (blocks_directly_in ctx.now.tree op)) }
-    ensures err { IfErr result (λ e. e ≡ Memory) }
+    ensures memory { IsOkUnless result OptError.Memory }
 {
     let mut blocks = Vec::new(alloc);
     list_regions(op, ctx, &mut blocks)?;
@@ -104,7 +103,7 @@ fn stack_body(
 ) -> Result<(), OptError>
     requires { IsBlock ctx.now.tree block }
     ensures ok { OnOk result (stack.new.items ≡ stack.old.items ++ reverse (flat_map (λ k. blocks_directly_in ctx.now.tree k) (body_of ctx.now.tree block))) }
-    ensures err { IfErr result (λ e. e ≡ Memory) }
+    ensures memory { IsOkUnless result OptError.Memory }
 {
     let mut blocks = Vec::new(alloc);
     list_body(block, ctx, &mut blocks)?;
@@ -123,7 +122,7 @@ pub fn all_blocks(
 ) -> Result<Vec<Ptr<BasicBlock>>, OptError>
     requires { IsLive ctx.now.tree root }
     ensures ok { IfOk result (λ blocks. blocks.items ≡ blocks_inside ctx.now.tree root) }
-    ensures err { IfErr result (λ e. e ≡ Memory) }
+    ensures memory { IsOkUnless result OptError.Memory }
 {
     ctx.well_formed();
     let mut stack = Vec::new(alloc);
@@ -144,7 +143,7 @@ pub fn block_numbers(
     blocks: &[Ptr<BasicBlock>],
 ) -> Result<IndexSet<Ptr<BasicBlock>>, OptError>
     ensures ok { IfOk result (λ numbered. AddsKeys blocks.now [] numbered.keys) }
-    ensures err { IfErr result (λ e. e ≡ Memory) }
+    ensures memory { IsOkUnless result OptError.Memory }
 {
     let mut numbered = IndexSet::new(alloc);
     for i in 0..blocks.len() {
@@ -156,7 +155,7 @@ pub fn block_numbers(
 /// One block more.
 fn add_block(block: Ptr<BasicBlock>, blocks: &mut IndexSet<Ptr<BasicBlock>>) -> Result<(), OptError>
     ensures ok { OnOk result (AddsKeys (block ∷ []) blocks.old.keys blocks.new.keys) }
-    ensures err { IfErr result (λ e. e ≡ Memory) }
+    ensures memory { IsOkUnless result OptError.Memory }
 {
     blocks.insert(block)?;
     Ok(())
@@ -165,7 +164,7 @@ fn add_block(block: Ptr<BasicBlock>, blocks: &mut IndexSet<Ptr<BasicBlock>>) -> 
 /// One value more.
 fn add_value(value: Value, values: &mut IndexSet<Value>) -> Result<(), OptError>
     ensures ok { OnOk result (AddsKeys (value ∷ []) values.old.keys values.new.keys) }
-    ensures err { IfErr result (λ e. e ≡ Memory) }
+    ensures memory { IsOkUnless result OptError.Memory }
 {
     values.insert(value)?;
     Ok(())
@@ -179,7 +178,7 @@ fn add_results(
 ) -> Result<(), OptError>
     requires { IsLive ctx.now.tree op }
     ensures ok { OnOk result (AddsKeys (results_of ctx.now.tree op) values.old.keys values.new.keys) }
-    ensures err { IfErr result (λ e. e ≡ Memory) }
+    ensures memory { IsOkUnless result OptError.Memory }
 {
     for i in 0..op.num_result(ctx) {
         add_value(op.get_result(ctx, i), values)?;
@@ -195,7 +194,7 @@ fn add_arguments(
 ) -> Result<(), OptError>
     requires { IsBlock ctx.now.tree block }
     ensures ok { OnOk result (AddsKeys (arguments_of ctx.now.tree block) values.old.keys values.new.keys) }
-    ensures err { IfErr result (λ e. e ≡ Memory) }
+    ensures memory { IsOkUnless result OptError.Memory }
 {
     for i in 0..block.num_argument(ctx) {
         add_value(block.get_argument(ctx, i), values)?;
@@ -211,7 +210,7 @@ fn add_body(
 ) -> Result<(), OptError>
     requires { IsBlock ctx.now.tree block }
     ensures ok { OnOk result (AddsKeys (flat_map (λ k. results_of ctx.now.tree k) (body_of ctx.now.tree block)) values.old.keys values.new.keys) }
-    ensures err { IfErr result (λ e. e ≡ Memory) }
+    ensures memory { IsOkUnless result OptError.Memory }
 {
     ctx.well_formed();
     let mut at = block.get_head(ctx);
@@ -230,7 +229,7 @@ fn add_block_values(
 ) -> Result<(), OptError>
     requires { IsBlock ctx.now.tree block }
     ensures ok { OnOk result (AddsKeys (block_values ctx.now.tree block) values.old.keys values.new.keys) }
-    ensures err { IfErr result (λ e. e ≡ Memory) }
+    ensures memory { IsOkUnless result OptError.Memory }
 {
     add_arguments(block, ctx, values)?;
     add_body(block, ctx, values)
@@ -246,7 +245,7 @@ pub fn value_numbers(
 ) -> Result<IndexSet<Value>, OptError>
     requires { (b : ℕ) → In b blocks.now → IsBlock ctx.now.tree b }
     ensures ok { IfOk result (λ numbered. AddsKeys (flat_map (λ b. block_values ctx.now.tree b) blocks.now) [] numbered.keys) }
-    ensures err { IfErr result (λ e. e ≡ Memory) }
+    ensures memory { IsOkUnless result OptError.Memory }
 {
     let mut numbered = IndexSet::new(alloc);
     for i in 0..blocks.len() {

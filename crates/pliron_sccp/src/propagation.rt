@@ -1,7 +1,6 @@
 //! Constant propagation: facts are found, and the tree is rewritten by them.
-ghost use Rattle.std.specs.Prelude.{◌≡◌, Some, IfOk, IfErr, OnOk, OnErr, ℕ};
+ghost use Rattle.std.specs.Prelude.{◌≡◌, Some, IfOk, OnOk, OnErr, ℕ, IsOkUnless};
 ghost use Rattle.pliron_core.specs.Tree.{IsLive};
-ghost use Rattle.pliron_laws.specs.declared.fault.OptError.TheVariants.{Memory};
 ghost use Rattle.pliron_laws.specs.InPlace.{TellsChange};
 ghost use Rattle.pliron_laws.specs.Linked.{IsWellLinked};
 ghost use Rattle.pliron_theory.specs.Change.{IsPassChange};
@@ -35,7 +34,7 @@ pub fn sccp_counted<D: Dialect>(
     ensures tells { IfOk result (λ a. TellsChange (Some a.0) ctx.old.tree ctx.new.tree) }
     ensures edges { KeepsEdges ctx.old.tree ctx.new.tree }
     ensures links { (root : ℕ) → IsWellLinked D.meaning ctx.old.tree root → IsWellLinked D.meaning ctx.new.tree root }
-    ensures err { IfErr result (λ e. e ≡ Memory) }
+    ensures memory { IsOkUnless result OptError.Memory }
 {
     ctx.well_formed();
     let (found, pops) = find::<D>(alloc, op, ctx)?;
@@ -77,7 +76,7 @@ pub fn sccp<D: Dialect>(
     ensures tells { IfOk result (λ a. TellsChange (Some a) ctx.old.tree ctx.new.tree) }
     ensures edges { KeepsEdges ctx.old.tree ctx.new.tree }
     ensures links { (root : ℕ) → IsWellLinked D.meaning ctx.old.tree root → IsWellLinked D.meaning ctx.new.tree root }
-    ensures err { IfErr result (λ e. e ≡ Memory) }
+    ensures memory { IsOkUnless result OptError.Memory }
 {
     let (status, _) = sccp_counted::<D>(alloc, op, ctx)?;
     Ok(status)

@@ -1,8 +1,7 @@
 //! Rewriting a tree by facts about it.
-ghost use Rattle.std.specs.Prelude.{◌≡◌, ◌≤◌, ◌<◌, ℕ, List, Some, None, IsSome, IfOk, IfErr, OnErr, OnOk, length, map, slice_get};
+ghost use Rattle.std.specs.Prelude.{◌≡◌, ◌≤◌, ◌<◌, ℕ, List, Some, None, IsSome, IfOk, OnErr, OnOk, length, map, slice_get, IsOkUnless};
 ghost use Rattle.pliron_core.specs.Tree.{Tree, IsLive};
 ghost use Rattle.pliron_core.specs.Changes.{IsSameTree};
-ghost use Rattle.pliron_laws.specs.declared.fault.OptError.TheVariants.{Memory};
 ghost use Rattle.pliron_theory.specs.Facts.{Facts};
 ghost use Rattle.pliron_theory.specs.Following.{Follows};
 ghost use Rattle.pliron_sccp.specs.Steps.{IsFoldStep, AreFoldSteps, TellsCreated, IsArgumentStep, AreArgumentSteps, StandForEach, IsFound};
@@ -39,7 +38,7 @@ pub fn fold_one<D: Dialect, R: Rewriter + Room>(
     ensures refused { OnErr result (D.ConstFoldInterface.outcome ctx.old.tree ctx.new.tree fold.now.op fold.now.known.items None) }
     ensures told { IfOk result (λ status. TellsCreated status ctx.old.tree ctx.new.tree) }
     ensures stays { (k : ℕ) → IsLive ctx.old.tree k → IsLive ctx.new.tree k }
-    ensures err { IfErr result (λ e. e ≡ Memory) }
+    ensures memory { IsOkUnless result OptError.Memory }
     ensures follows { (t₀ : Tree) (root : ℕ) (f₀ : Facts) → IsFoldStep ⟦<D as HasFolding>⟧.folding t₀ root f₀ ctx.old.tree fold.now.op
         fold.now.known.items → Follows ⟦<D as HasFolding>⟧.folding t₀ root f₀ ctx.new.tree }
 {
@@ -67,7 +66,7 @@ pub fn fold_all<D: Dialect, R: Rewriter + Room>(
         FoldsPartly D.ConstFoldInterface.outcome t₀ f₀ (map (λ fold. fold.op) folds.now) ctx.old.tree ctx.new.tree) }
     ensures told { IfOk result (λ status. TellsCreated status ctx.old.tree ctx.new.tree) }
     ensures stays { (k : ℕ) → IsLive ctx.old.tree k → IsLive ctx.new.tree k }
-    ensures err { IfErr result (λ e. e ≡ Memory) }
+    ensures memory { IsOkUnless result OptError.Memory }
     ensures follows { (t₀ : Tree) (root : ℕ) (f₀ : Facts) → AreFoldSteps ⟦<D as HasFolding>⟧.folding t₀ root f₀ ctx.old.tree folds.now →
         Follows ⟦<D as HasFolding>⟧.folding t₀ root f₀ ctx.new.tree }
 {
@@ -103,7 +102,7 @@ pub fn put_argument<D: Dialect, R: Rewriter + Room>(
     ensures refused { OnErr result (IsSameTree ctx.old.tree ctx.new.tree) }
     ensures told { IfOk result (λ status. TellsCreated status ctx.old.tree ctx.new.tree) }
     ensures stays { (k : ℕ) → IsLive ctx.old.tree k → IsLive ctx.new.tree k }
-    ensures err { IfErr result (λ e. e ≡ Memory) }
+    ensures memory { IsOkUnless result OptError.Memory }
     ensures follows { (t₀ : Tree) (root : ℕ) (f₀ : Facts) → IsArgumentStep ⟦<D as HasFolding>⟧.folding t₀ root f₀ ctx.old.tree argument.now →
         Follows ⟦<D as HasFolding>⟧.folding t₀ root f₀ ctx.new.tree }
 {
@@ -138,7 +137,7 @@ pub fn put_all<D: Dialect, R: Rewriter + Room>(
         StandForEach t₀ arguments.now known → IsPartlyPut D.accepts D.constant_head known ctx.old.tree ctx.new.tree) }
     ensures told { IfOk result (λ status. TellsCreated status ctx.old.tree ctx.new.tree) }
     ensures stays { (k : ℕ) → IsLive ctx.old.tree k → IsLive ctx.new.tree k }
-    ensures err { IfErr result (λ e. e ≡ Memory) }
+    ensures memory { IsOkUnless result OptError.Memory }
     ensures follows { (t₀ : Tree) (root : ℕ) (f₀ : Facts) → AreArgumentSteps ⟦<D as HasFolding>⟧.folding t₀ root f₀ ctx.old.tree arguments.now →
         Follows ⟦<D as HasFolding>⟧.folding t₀ root f₀ ctx.new.tree }
 {
@@ -173,7 +172,7 @@ pub fn rewrite<D: Dialect, R: Rewriter + Room>(
     ensures refused { OnErr result ((root : ℕ) (f : Facts) → IsFound ⟦<D as HasFolding>⟧.folding D.can_fold ctx.old.tree root f found.now →
         IsPartlyRewritten D.can_fold D.accepts D.constant_head D.ConstFoldInterface.outcome ctx.old.tree root f ctx.new.tree) }
     ensures told { IfOk result (λ status. TellsChange (Some status) ctx.old.tree ctx.new.tree) }
-    ensures err { IfErr result (λ e. e ≡ Memory) }
+    ensures memory { IsOkUnless result OptError.Memory }
     ensures follows { (root : ℕ) (f : Facts) → IsFound ⟦<D as HasFolding>⟧.folding D.can_fold ctx.old.tree root f found.now →
         Follows ⟦<D as HasFolding>⟧.folding ctx.old.tree root f ctx.new.tree }
 {

@@ -9,9 +9,8 @@
 //! no region is gone through in rounds: a fact falls at most twice, and only its users are looked at then. In
 //! deep nests of loops an inner loop is thus not gone through again for each round of the outer ones, and
 //! the work stays linear.
-ghost use Rattle.std.specs.Prelude.{◌≡◌, ◌↔◌, ℕ, true, OnOk, IfOk, IfErr, IsTrue};
+ghost use Rattle.std.specs.Prelude.{◌≡◌, ◌↔◌, ℕ, true, OnOk, IfOk, IsTrue, IsOkUnless};
 ghost use Rattle.pliron_core.specs.Tree.{IsLive, IsBlock, In, body_of};
-ghost use Rattle.pliron_laws.specs.declared.fault.OptError.TheVariants.{Memory};
 ghost use Rattle.pliron_laws.specs.Linked.{IsWellLinked};
 ghost use Rattle.pliron_sccp.specs.Accounts.{IsUnsearched};
 ghost use Rattle.pliron_sccp.specs.Looking.{AddsEach, AreTargetsNumbered, HasNumberedTargets, IsLookedAt, IsUserOf, LooksAt, LooksThrough, TakesUsers};
@@ -33,7 +32,7 @@ use std::alloc::Global;
 fn unsearched(alloc: Global, root: Ptr<Operation>, ctx: &Context) -> Result<Tables, OptError>
     requires { IsLive ctx.now.tree root }
     ensures ok { IfOk result (λ tables. IsUnsearched ctx.now.tree root tables) }
-    ensures err { IfErr result (λ e. e ≡ Memory) }
+    ensures memory { IsOkUnless result OptError.Memory }
 {
     ctx.well_formed();
     let blocks = all_blocks(alloc, root, ctx)?;
@@ -50,7 +49,7 @@ fn unsearched(alloc: Global, root: Ptr<Operation>, ctx: &Context) -> Result<Tabl
 pub fn start(alloc: Global, root: Ptr<Operation>, ctx: &Context) -> Result<Tables, OptError>
     requires { IsLive ctx.now.tree root }
     ensures ok { IfOk result (λ tables. IsStarted ctx.now.tree root tables) }
-    ensures err { IfErr result (λ e. e ≡ Memory) }
+    ensures memory { IsOkUnless result OptError.Memory }
 {
     ctx.well_formed();
     let mut tables = unsearched(alloc, root, ctx)?;
@@ -80,7 +79,7 @@ fn add_user(
 ) -> Result<(), OptError>
     requires { IsLive ctx.now.tree op }
     ensures ok { OnOk result (AddsEach users.old.keys users.new.keys (λ k. (op ≡ k) × IsLookedAt ctx.now.tree tables.now k)) }
-    ensures err { IfErr result (λ e. e ≡ Memory) }
+    ensures memory { IsOkUnless result OptError.Memory }
 {
     if is_visited(op, ctx, tables) {
         users.insert(op)?;
@@ -96,7 +95,7 @@ fn add_users(
     users: &mut IndexSet<Ptr<Operation>>,
 ) -> Result<(), OptError>
     ensures ok { OnOk result (AddsEach users.old.keys users.new.keys (λ k. IsUserOf ctx.now.tree tables.now value k)) }
-    ensures err { IfErr result (λ e. e ≡ Memory) }
+    ensures memory { IsOkUnless result OptError.Memory }
 {
     ctx.well_formed();
     if !value.is_live(ctx) {
@@ -123,7 +122,7 @@ fn take_users(
     tables: &mut Tables,
 ) -> Result<(IndexSet<Ptr<Operation>>, u128), OptError>
     ensures ok { IfOk result (λ r. TakesUsers ctx.now.tree r.0.keys tables.old tables.new r.1) }
-    ensures err { IfErr result (λ e. e ≡ Memory) }
+    ensures memory { IsOkUnless result OptError.Memory }
 {
     let mut users = IndexSet::new(alloc);
     let mut taken: u128 = 0;
@@ -146,7 +145,7 @@ fn look_at<D: Dialect>(
     requires live { IsLive ctx.now.tree op }
     requires targets { HasNumberedTargets ctx.now.tree tables.old op }
     ensures ok { OnOk result (LooksAt ⟦<D as HasFolding>⟧.folding ctx.now.tree op tables.old tables.new) }
-    ensures err { IfErr result (λ e. e ≡ Memory) }
+    ensures memory { IsOkUnless result OptError.Memory }
 {
     let asked = demands::<D>(alloc, op, ctx, tables)?;
     meet_all(asked, tables);
@@ -165,7 +164,7 @@ fn look_through<D: Dialect>(
     requires live { (k : ℕ) → In k ops.now → IsLive ctx.now.tree k }
     requires targets { (k : ℕ) → In k ops.now → HasNumberedTargets ctx.now.tree tables.old k }
     ensures ok { OnOk result (LooksThrough ⟦<D as HasFolding>⟧.folding ctx.now.tree ops.now tables.old tables.new) }
-    ensures err { IfErr result (λ e. e ≡ Memory) }
+    ensures memory { IsOkUnless result OptError.Memory }
 {
     for i in 0..ops.len() {
         look_at::<D>(alloc, ops[i], ctx, tables)?;
@@ -185,7 +184,7 @@ fn visit_block<D: Dialect>(
     requires block { IsBlock ctx.now.tree block }
     requires targets { (k : ℕ) → In k (body_of ctx.now.tree block) → HasNumberedTargets ctx.now.tree tables.old k }
     ensures ok { OnOk result (LooksThrough ⟦<D as HasFolding>⟧.folding ctx.now.tree (body_of ctx.now.tree block) tables.old tables.new) }
-    ensures err { IfErr result (λ e. e ≡ Memory) }
+    ensures memory { IsOkUnless result OptError.Memory }
 {
     ctx.well_formed();
     let mut at = block.get_head(ctx);
@@ -204,7 +203,7 @@ fn visit_values<D: Dialect>(
 ) -> Result<u128, OptError>
     requires { AreTargetsNumbered ctx.now.tree tables.old }
     ensures ok { IfOk result (λ taken. VisitsValues ⟦<D as HasFolding>⟧.folding ctx.now.tree tables.old tables.new taken) }
-    ensures err { IfErr result (λ e. e ≡ Memory) }
+    ensures memory { IsOkUnless result OptError.Memory }
 {
     ctx.well_formed();
     let (users, taken) = take_users(alloc, ctx, tables)?;
@@ -218,7 +217,7 @@ fn step<D: Dialect>(alloc: Global, ctx: &Context, tables: &mut Tables) -> Result
     requires blocks { (b : ℕ) → waits_block tables.old b ≡ true → IsBlock ctx.now.tree b }
     requires targets { AreTargetsNumbered ctx.now.tree tables.old }
     ensures ok { IfOk result (λ taken. Steps ⟦<D as HasFolding>⟧.folding ctx.now.tree tables.old tables.new taken) }
-    ensures err { IfErr result (λ e. e ≡ Memory) }
+    ensures memory { IsOkUnless result OptError.Memory }
 {
     ctx.well_formed();
     match tables.next_block() {
@@ -251,7 +250,7 @@ pub fn search<D: Dialect>(
     requires live { IsLive ctx.now.tree root }
     requires linked { IsWellLinked D.meaning ctx.now.tree root }
     ensures ok { IfOk result (λ r. IsSearched ⟦<D as HasFolding>⟧.folding ctx.now.tree root r.tables r.pops) }
-    ensures err { IfErr result (λ e. e ≡ Memory) }
+    ensures memory { IsOkUnless result OptError.Memory }
 {
     ctx.well_formed();
     let mut tables = start(alloc, root, ctx)?;
