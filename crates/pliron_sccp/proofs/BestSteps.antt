@@ -25,8 +25,8 @@ use Rattle.pliron_sccp.specs.Visiting.{HasWay, IsGrounded, AreDetermined}
 use Rattle.pliron_sccp.specs.Looking.{LooksAt, LooksThrough, TakesValues, AreUsersOf}
 use Rattle.pliron_sccp.specs.Looking.LooksThrough.{Nothing, Then}
 use Rattle.pliron_sccp.specs.Starting.{IsStarted}
-use Rattle.pliron_sccp.specs.Searching.{Steps, IsSearchOnTheWay}
-use Rattle.pliron_sccp.specs.Searching.Steps.{Block, Values}
+use Rattle.pliron_sccp.specs.Searching.{TakesTurn, IsSearchOnTheWay}
+use Rattle.pliron_sccp.specs.Searching.TakesTurn.{Block, Values}
 use Rattle.pliron_sccp.specs.Accounts.{NothingWaits}
 use Rattle.pliron_sccp.specs.Best.{is_visited, IsAbove, IsBest}
 use Rattle.pliron_sccp.proofs.Accounting.{below_undetermined}
@@ -197,7 +197,7 @@ module _ (x : Says) (t : Tree) (root : ℕ) (w : IsTree t) (linked : IsWellLinke
             let y = (a.only q i).0 in
             (y.block, y.in_block, make_visited s y.block (sym (k.reached y.block) ∙ y.reached) (sym (k.blocks y.block) ∙ y.taken))
 
-  pub step_best : (s s' : Tables) (taken : ℕ) → Steps x t s s' taken → IsSearchOnTheWay x t root s → IsBest x t root s → IsBest x t root s'
+  pub step_best : (s s' : Tables) (taken : ℕ) → TakesTurn x t s s' taken → IsSearchOnTheWay x t root s → IsBest x t root s → IsBest x t root s'
   step_best s s' taken (Block c u k d e) o best = block_best s best o.started.inside c u s' k (o.waits.blocks c k.waited).1 d
   step_best s s' taken (Values none v) o best = values_best s best o.started.inside v.takes.values v.users v.between s' v.takes.takes v.takes.are_users v.looks
 

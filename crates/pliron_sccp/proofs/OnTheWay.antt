@@ -24,8 +24,8 @@ use Rattle.pliron_sccp.specs.Looking.{AreTargetsNumbered, LooksThrough, TakesVal
 use Rattle.pliron_sccp.specs.Looking.LooksThrough.{Nothing, Then}
 use Rattle.pliron_sccp.specs.Starting.{IsStarted}
 use Rattle.pliron_sccp.specs.Searched.{IsSearched}
-use Rattle.pliron_sccp.specs.Searching.{Steps, IsSearchOnTheWay, IsSearching}
-use Rattle.pliron_sccp.specs.Searching.Steps.{Block, Values}
+use Rattle.pliron_sccp.specs.Searching.{TakesTurn, IsSearchOnTheWay, IsSearching}
+use Rattle.pliron_sccp.specs.Searching.TakesTurn.{Block, Values}
 use Rattle.pliron_sccp.specs.Accounts.{IsAccounted, AreKnownThere, NothingWaits}
 use Rattle.pliron_sccp.proofs.DistinctLists.{held_directly, below_held, distinct-blocks, distinct-values}
 use Rattle.pliron_sccp.proofs.DistinctLists.{inside_block as stands_inside}
@@ -182,11 +182,11 @@ module _ (x : Says) (t : Tree) (root : ℕ) (w : IsTree t) (live : IsLive t root
           waits = falls_inside t root u s' (values_kept_inside t root values s u o.waits k) (through_falls x t users u s' d) (reached_listed s' l.started);
         }
 
-    pub step_on_way : (s s' : Tables) (taken : ℕ) → Steps x t s s' taken → IsSearchOnTheWay x t root s → IsSearchOnTheWay x t root s'
+    pub step_on_way : (s s' : Tables) (taken : ℕ) → TakesTurn x t s s' taken → IsSearchOnTheWay x t root s → IsSearchOnTheWay x t root s'
     step_on_way s s' taken (Block c u k d e) o = block_on_way c s u s' k d o
     step_on_way s s' taken (Values none v) o = values_on_way v.takes.values v.users s v.between s' v.takes.takes v.takes.are_users v.looks o
 
-    pub step_accounted : (s s' : Tables) (pops taken : ℕ) → Steps x t s s' taken → IsSearchOnTheWay x t root s → IsAccounted t root s pops → IsAccounted t root s' (pops + taken)
+    pub step_accounted : (s s' : Tables) (pops taken : ℕ) → TakesTurn x t s s' taken → IsSearchOnTheWay x t root s → IsAccounted t root s pops → IsAccounted t root s' (pops + taken)
     step_accounted s s' pops taken (Block c u k d e) o a =
         subst (λ n. IsAccounted t root s' (pops + n)) (sym e)
         (falls_accounted t root u s' (pops + 1) (block_inside t root c s u o.waits k) (through_falls x t (body_of t c) u s' d) (block_accounted t root w c s u pops o.waits k a))
@@ -211,7 +211,7 @@ module _ (x : Says) (t : Tree) (root : ℕ) (w : IsTree t) (live : IsLive t root
       beside e i = ap (λ q. up_from q (λ r. region_parent_of t r)) ((edges k e i (inl within)).own_region e i ∙ ap (block_parent_of t) (some_is (sym (edges k e i (inl within)).in_block ∙ placed)))
 
   -- where nothing was taken nothing waits
-  pub nothing_waits : (s s' : Tables) (taken : ℕ) → taken ≡ 0 → Steps x t s s' taken → NothingWaits s'
+  pub nothing_waits : (s s' : Tables) (taken : ℕ) → taken ≡ 0 → TakesTurn x t s s' taken → NothingWaits s'
   nothing_waits s s' taken none_taken (Block c u k d e) = absurd (one_is_none (sym e ∙ none_taken))
     where
       one_is_none : ◌≡◌ {A = ℕ} 1 0 → ⊥
@@ -282,7 +282,7 @@ module _ (x : Says) (t : Tree) (root : ℕ) (w : IsTree t) (live : IsLive t root
     pub started_search : (s : Tables) → IsStarted t root s → IsSearching x t root s 0
     started_search s start = record { way = start_on_way s start; accounted = start_accounted s start; best = λ owed. start_best x t root w linked answers places owed s start }
 
-    module _ (s s' : Tables) (pops taken : ℕ) (step : Steps x t s s' taken) (so_far : IsSearching x t root s pops) where
+    module _ (s s' : Tables) (pops taken : ℕ) (step : TakesTurn x t s s' taken) (so_far : IsSearching x t root s pops) where
       pub next_search : IsSearching x t root s' (pops + taken)
       next_search = record {
         way = step_on_way linked.edges s s' taken step so_far.way;

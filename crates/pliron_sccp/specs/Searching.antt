@@ -20,9 +20,9 @@ pub record VisitsValues (x : Says) (t : Tree) (s s' : Tables) (taken : ℕ) : Ty
 
 -- a block that waited was taken and looked through, or else all values that waited, and their users were looked at;
 -- so many were taken
-pub data Steps (x : Says) (t : Tree) (s s' : Tables) (taken : ℕ) : Type 0 where
-  Block : (b : ℕ) (u : Tables) → TakesBlock b s u → LooksThrough x t (body_of t b) u s' → taken ≡ 1 → Steps x t s s' taken
-  Values : ((b : ℕ) → waits_block s b ≡ false) → VisitsValues x t s s' taken → Steps x t s s' taken
+pub data TakesTurn (x : Says) (t : Tree) (s s' : Tables) (taken : ℕ) : Type 0 where
+  Block : (b : ℕ) (u : Tables) → TakesBlock b s u → LooksThrough x t (body_of t b) u s' → taken ≡ 1 → TakesTurn x t s s' taken
+  Values : ((b : ℕ) → waits_block s b ≡ false) → VisitsValues x t s s' taken → TakesTurn x t s s' taken
 
 -- each operation where runs may come is settled, or what settles it waits; the rest of what closed facts owe; and what
 -- waits is inside the root, whose blocks have numbers

@@ -15,7 +15,7 @@ ghost use Rattle.pliron_laws.specs.Linked.{IsWellLinked};
 ghost use Rattle.pliron_sccp.specs.Accounts.{IsUnsearched};
 ghost use Rattle.pliron_sccp.specs.Looking.{AddsEach, AreTargetsNumbered, HasNumberedTargets, IsLookedAt, IsUserOf, LooksAt, LooksThrough, TakesUsers};
 ghost use Rattle.pliron_sccp.specs.Searched.{IsSearched};
-ghost use Rattle.pliron_sccp.specs.Searching.{VisitsValues, Steps};
+ghost use Rattle.pliron_sccp.specs.Searching.{VisitsValues, TakesTurn};
 ghost use Rattle.pliron_sccp.specs.Starting.{IsStarted};
 ghost use Rattle.pliron_sccp.specs.Tables.{waits_block};
 
@@ -216,7 +216,7 @@ fn visit_values<D: Dialect>(
 fn step<D: Dialect>(alloc: Global, ctx: &Context, tables: &mut Tables) -> Result<u128, OptError>
     requires blocks { (b : ℕ) → waits_block tables.old b ≡ true → IsBlock ctx.now.tree b }
     requires targets { AreTargetsNumbered ctx.now.tree tables.old }
-    ensures ok { IfOk result (λ taken. Steps ⟦<D as HasFolding>⟧.folding ctx.now.tree tables.old tables.new taken) }
+    ensures ok { IfOk result (λ taken. TakesTurn ⟦<D as HasFolding>⟧.folding ctx.now.tree tables.old tables.new taken) }
     ensures memory { IsOkUnless result OptError.Memory }
 {
     ctx.well_formed();

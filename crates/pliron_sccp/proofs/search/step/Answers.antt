@@ -1,6 +1,6 @@
 use Rattle.std.proofs.Common.{Result, Ok, Err, refl}
 use Rattle.std.specs.Result.{IfOk}
-use Rattle.pliron_sccp.specs.Searching.Steps.{Block, Values}
+use Rattle.pliron_sccp.specs.Searching.TakesTurn.{Block, Values}
 use Rattle.pliron_sccp.proofs.Marked.{waits_reached}
 use Rattle.pliron_sccp.proofs.Stepping.{targets_same, targets_kept}
 use Rattle.pliron_sccp.proofs.UserLists.{takes_from}
