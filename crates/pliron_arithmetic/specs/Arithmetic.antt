@@ -5,8 +5,8 @@ use Rattle.pliron_arithmetic.specs.declared.kind.ArithmeticKind.{ArithmeticKind}
 use Rattle.pliron_arithmetic.specs.declared.kind.ArithmeticKind.TheVariants.{Function, Lit, Add, Mul, Neg, Less, Jump, Branch, Return, If, While}
 use Rattle.pliron_laws.specs.Datum.{Datum, Shape, Move, Give, Leave}
 use Rattle.pliron_laws.specs.Laws.{CountsFit}
-use Rattle.pliron_dialects.specs.Numbers.{nth_number, sum, product, less, is_zero}
-use Rattle.pliron_dialects.specs.Forms.{edge_of}
+use Rattle.pliron_dialects.specs.Numbers.{nth_number, wrapped_sum, wrapped_product, less, is_zero}
+use Rattle.pliron_dialects.specs.Forms.{edge_by_condition}
 use Rattle.pliron_dialects.specs.Roles.{Role, Tables, KeepsTables, ActsFit, condition_of, Constant, Computes, Jumps, Branches, Leaves, Acts}
 use Rattle.pliron_dialects.specs.Visits.{once, fitted, visit_of, length-fitted, visit_fits, once_fits}
 
@@ -23,7 +23,7 @@ abbrev pub if_takes : ℕ → ℕ → ℕ → Bool
 if_takes operands results regions = nat_eq regions 2
 
 abbrev pub if_act : Shape → Datum → List Datum → Move
-if_act s memo input = once memo (visit_of (edge_of (condition_of input)) s (drop 1 input)) (Give (fitted s.results input))
+if_act s memo input = once memo (visit_of (edge_by_condition (condition_of input)) s (drop 1 input)) (Give (fitted s.results input))
 
 -- a `while` visits its region with its operands, and again with the values of each visit until the first of them
 -- is 0; then it gives the others
@@ -40,9 +40,9 @@ while_act s memo input = once memo (visit_of 0 s input) (again_unless (is_zero (
 abbrev pub arithmetic_role_of : ArithmeticKind → Role
 arithmetic_role_of Function = Acts function_takes function_act
 arithmetic_role_of Lit = Constant
-arithmetic_role_of Add = Computes 2 (λ ns. sum (nth_number ns 0) (nth_number ns 1))
-arithmetic_role_of Mul = Computes 2 (λ ns. product (nth_number ns 0) (nth_number ns 1))
-arithmetic_role_of Neg = Computes 1 (λ ns. product (nth_number ns 0) (negsuc 0))
+arithmetic_role_of Add = Computes 2 (λ ns. wrapped_sum (nth_number ns 0) (nth_number ns 1))
+arithmetic_role_of Mul = Computes 2 (λ ns. wrapped_product (nth_number ns 0) (nth_number ns 1))
+arithmetic_role_of Neg = Computes 1 (λ ns. wrapped_product (nth_number ns 0) (negsuc 0))
 arithmetic_role_of Less = Computes 2 (λ ns. less (nth_number ns 0) (nth_number ns 1))
 arithmetic_role_of Jump = Jumps
 arithmetic_role_of Branch = Branches
@@ -115,7 +115,7 @@ acts Less = tt
 acts Jump = tt
 acts Branch = tt
 acts Return = tt
-acts If = λ s h memo input. once_fits false s memo (visit_of (edge_of (condition_of input)) s (drop 1 input)) (Give (fitted s.results input)) (visit_fits false (edge_of (condition_of input)) s (drop 1 input)) (length-fitted s.results input)
+acts If = λ s h memo input. once_fits false s memo (visit_of (edge_by_condition (condition_of input)) s (drop 1 input)) (Give (fitted s.results input)) (visit_fits false (edge_by_condition (condition_of input)) s (drop 1 input)) (length-fitted s.results input)
 acts While = λ s h memo input. once_fits false s memo (visit_of 0 s input) (again_unless (is_zero (condition_of input)) s (drop 1 input)) (visit_fits false 0 s input) (again_fits (is_zero (condition_of input)) s (drop 1 input))
 
 pub keeps_arithmetic : KeepsTables arithmetic

@@ -21,8 +21,8 @@ use Rattle.pliron_laws.specs.Replacing.{branch_replaced}
 use Rattle.pliron_laws.proofs.ShapeLemmas.{head_at, operands_at, live_at}
 use Rattle.pliron_dialects.specs.declared.form.Form.{Form}
 use Rattle.pliron_dialects.specs.declared.form.Form.TheVariants.{Branches as BranchesForm}
-use Rattle.pliron_dialects.specs.Numbers.{is_zero, known_at}
-use Rattle.pliron_dialects.specs.Forms.{by_form, plain_head, edge_of, places_in, no_places, as_it_is, shortened_of, folds_branch_of}
+use Rattle.pliron_dialects.specs.Numbers.{is_zero, known_number_at}
+use Rattle.pliron_dialects.specs.Forms.{by_form, head_of_kind, edge_by_condition, places_by_form, forwards_nothing, head_unchanged, shortened_by_form, folds_branch_of}
 use Rattle.pliron_dialects.specs.Roles.{Role, Constant, Computes, Jumps, Branches, Leaves, Acts, by_role, form_of, form_at, takes_by, meaning_by}
 use Rattle.pliron_dialects.specs.RoleTables.{branch_folds_by, shortened_by}
 use Rattle.pliron_dialects.specs.RoleOutcomes.{known_edge, admits_shape, edge_under, BecomesJump, JumpsWhereKnown, branch_outcome_by}
@@ -35,8 +35,8 @@ block_more xs items more j block e f at =
     e ∙ ap (λ z. z ++ block ∷ []) f ∙ sym (take_more xs j block at) ∙ ap (λ n. take n xs) (sym (add-one j))
 
 -- the edge of a number that was stored in 64 bits
-pub edge_is : (e : ℕ) (c : ℤ) → FitsSigned w64 c → e ≡ edge_of (to_z w64 (of_z w64 c)) → e ≡ edge_of c
-edge_is e c fits f = f ∙ ap edge_of (to_z-of_z w64 c fits)
+pub edge_is : (e : ℕ) (c : ℤ) → FitsSigned w64 c → e ≡ edge_by_condition (to_z w64 (of_z w64 c)) → e ≡ edge_by_condition c
+edge_is e c fits f = f ∙ ap edge_by_condition (to_z-of_z w64 c fits)
 
 module _ (roles : ℕ → Option Role) (n : ℕ) where
   some_head : (o : Option Head) → IsSome o → (h : Head) × (o ≡ Some h)
@@ -49,7 +49,7 @@ module _ (roles : ℕ → Option Role) (n : ℕ) where
   place_is : (t : Tree) (op i j first count p : ℕ) → ReadsPlaces roles t op i (range_with_len first count) → (o : Operation) → op_at t op ≡ Some o → slice_get ((meaning_by roles).forwarded (shape_of (meaning_by roles) t o) i) j ≡ Some p → (p ≡ first + j) × (j < count)
   unfolding meaning_by shape_of
   place_is t op i j first count p reads o at place =
-      let is = reads o.head (head_at t op o at) ∙ ap (λ z. by_form no_places places_in (form_at roles o.head.kind) o.head.attrs (length z) i) (sym (operands_at t op o at)) in
+      let is = reads o.head (head_at t op o at) ∙ ap (λ z. by_form forwards_nothing places_by_form (form_at roles o.head.kind) o.head.attrs (length z) i) (sym (operands_at t op o at)) in
       range_at first count j p (ap (λ z. slice_get z j) is ∙ place)
 
   pub place_below : (t : Tree) (op i j first count : ℕ) → IsLive t op → ReadsPlaces roles t op i (range_with_len first count) → HasPlace (meaning_by roles) t op i j → j < count
@@ -58,18 +58,18 @@ module _ (roles : ℕ → Option Role) (n : ℕ) where
       let p = has o.0 o.1 in
       (place_is t op i j first count p.0 reads o.0 o.1 p.1).1
 
-  pub edge_loses : (t u u' : Tree) (op i j first count v : ℕ) → ReadsPlaces roles t op i (range_with_len first count) → slice_get (operands_of t op) (first + j) ≡ Some v → u ≡ operand_removed t op (first + j) → ((h : Head) → head_of u op ≡ Some h → u' ≡ with_head u op (by_form as_it_is shortened_of (form_at roles h.kind) h i)) → LosesForwarded (meaning_by roles) (shortened_by roles) t u' op i j v
+  pub edge_loses : (t u u' : Tree) (op i j first count v : ℕ) → ReadsPlaces roles t op i (range_with_len first count) → slice_get (operands_of t op) (first + j) ≡ Some v → u ≡ operand_removed t op (first + j) → ((h : Head) → head_of u op ≡ Some h → u' ≡ with_head u op (by_form head_unchanged shortened_by_form (form_at roles h.kind) h i)) → LosesForwarded (meaning_by roles) (shortened_by roles) t u' op i j v
   unfolding shortened_by shape_of
   edge_loses t u u' op i j first count v reads at e shortened = λ o p is place.
       let here : p ≡ first + j = (place_is t op i j first count p reads o is place).0 in
       let head : head_of u op ≡ Some o.head = ap (λ z. head_of z op) e ∙ head_at t op o is in (
         ap (slice_get o.operands) here ∙ ap (λ z. slice_get z (first + j)) (operands_at t op o is) ∙ at,
-        shortened o.head head ∙ ap (λ z. with_head z op (by_form as_it_is shortened_of (form_at roles o.head.kind) o.head i)) (e ∙ ap (operand_removed t op) (sym here)),
+        shortened o.head head ∙ ap (λ z. with_head z op (by_form head_unchanged shortened_by_form (form_at roles o.head.kind) o.head i)) (e ∙ ap (operand_removed t op) (sym here)),
       )
 
   -- ---- a jump in the place of a branch
 
-  pub becomes_jump : (t u : Tree) (op b edge : ℕ) (places values items : List ℕ) → slice_get (successors_of t op) edge ≡ Some b → ReadsPlaces roles t op edge places → values ≡ items → map Some items ≡ pick places (operands_of t op) → u ≡ branch_replaced t op (plain_head n) values (b ∷ []) → (o : Operation) → op_at t op ≡ Some o → BecomesJump roles n t u op o edge
+  pub becomes_jump : (t u : Tree) (op b edge : ℕ) (places values items : List ℕ) → slice_get (successors_of t op) edge ≡ Some b → ReadsPlaces roles t op edge places → values ≡ items → map Some items ≡ pick places (operands_of t op) → u ≡ branch_replaced t op (head_of_kind n) values (b ∷ []) → (o : Operation) → op_at t op ≡ Some o → BecomesJump roles n t u op o edge
   becomes_jump t u op b edge places values items to reads same picked e o at = record {
     block = b;
     values = values;
@@ -109,7 +109,7 @@ module _ (roles : ℕ → Option Role) (n : ℕ) where
   below_two true e n f g = omega (arith, f, g)
   below_two false e n f g = omega (arith, f, g)
 
-  pub branch_edge : (t : Tree) (op e : ℕ) (c : ℤ) (admitted : Bool) → IsLive t op → HeadPasses (branch_folds_by roles) t op → ReadsCounts (meaning_by roles).admits t op admitted → admitted ≡ true → e ≡ edge_of c → e < length (successors_of t op)
+  pub branch_edge : (t : Tree) (op e : ℕ) (c : ℤ) (admitted : Bool) → IsLive t op → HeadPasses (branch_folds_by roles) t op → ReadsCounts (meaning_by roles).admits t op admitted → admitted ≡ true → e ≡ edge_by_condition c → e < length (successors_of t op)
   branch_edge t op e c admitted live passes reads is f = below_two (is_zero c) e (length (successors_of t op)) (branch_taken t op admitted live passes reads is).1.successors f
 
   -- what is read off the counts says whether the shape is admitted
@@ -139,23 +139,23 @@ module _ (roles : ℕ → Option Role) (n : ℕ) where
   not_admitted (Some BranchesForm) q = refl
   not_admitted _ q = refl
 
-  pub stays_unknown : (t : Tree) (op : ℕ) (known : List (Option AttrObj)) → IsLive t op → None ≡ known_at known 0 → branch_outcome_by roles n t t op known (Some Unchanged)
+  pub stays_unknown : (t : Tree) (op : ℕ) (known : List (Option AttrObj)) → IsLive t op → None ≡ known_number_at known 0 → branch_outcome_by roles n t t op known (Some Unchanged)
   stays_unknown t op known live none =
       stays t op known live (λ o at. ap (known_edge (form_at roles (shape_of (meaning_by roles) t o).head.kind) (admits_shape roles (shape_of (meaning_by roles) t o))) (sym none) ∙ no_condition (form_at roles (shape_of (meaning_by roles) t o).head.kind) (admits_shape roles (shape_of (meaning_by roles) t o)))
 
   pub stays_unadmitted : (t : Tree) (op : ℕ) (known : List (Option AttrObj)) (admitted : Bool) → IsLive t op → ReadsCounts (meaning_by roles).admits t op admitted → admitted ≡ false → branch_outcome_by roles n t t op known (Some Unchanged)
   stays_unadmitted t op known admitted live reads is =
-      stays t op known live (λ o at. ap (λ a. known_edge (form_at roles (shape_of (meaning_by roles) t o).head.kind) a (known_at known 0)) (sym (admits_read t op admitted o reads at) ∙ is) ∙ not_admitted (form_at roles (shape_of (meaning_by roles) t o).head.kind) (known_at known 0))
+      stays t op known live (λ o at. ap (λ a. known_edge (form_at roles (shape_of (meaning_by roles) t o).head.kind) a (known_number_at known 0)) (sym (admits_read t op admitted o reads at) ∙ is) ∙ not_admitted (form_at roles (shape_of (meaning_by roles) t o).head.kind) (known_number_at known 0))
 
   -- it becomes a jump where its edge is known
-  edge_known : (t : Tree) (op : ℕ) (known : List (Option AttrObj)) (c : ℤ) (admitted : Bool) (o : Operation) → HeadPasses (branch_folds_by roles) t op → ReadsCounts (meaning_by roles).admits t op admitted → admitted ≡ true → Some c ≡ known_at known 0 → op_at t op ≡ Some o → edge_under roles (shape_of (meaning_by roles) t o) known ≡ Some (edge_of c)
+  edge_known : (t : Tree) (op : ℕ) (known : List (Option AttrObj)) (c : ℤ) (admitted : Bool) (o : Operation) → HeadPasses (branch_folds_by roles) t op → ReadsCounts (meaning_by roles).admits t op admitted → admitted ≡ true → Some c ≡ known_number_at known 0 → op_at t op ≡ Some o → edge_under roles (shape_of (meaning_by roles) t o) known ≡ Some (edge_by_condition c)
   unfolding shape_of
   edge_known t op known c admitted o passes reads is knows at =
-      ap (λ k. known_edge (option_map form_of k) (admits_shape roles (shape_of (meaning_by roles) t o)) (known_at known 0)) (folds_branch t op o.head passes (head_at t op o at))
-      ∙ ap (λ a. known_edge (Some BranchesForm) a (known_at known 0)) (sym (admits_read t op admitted o reads at) ∙ is)
+      ap (λ k. known_edge (option_map form_of k) (admits_shape roles (shape_of (meaning_by roles) t o)) (known_number_at known 0)) (folds_branch t op o.head passes (head_at t op o at))
+      ∙ ap (λ a. known_edge (Some BranchesForm) a (known_number_at known 0)) (sym (admits_read t op admitted o reads at) ∙ is)
       ∙ ap (known_edge (Some BranchesForm) true) (sym knows)
 
-  pub jumps_known : (t u : Tree) (op e : ℕ) (known : List (Option AttrObj)) (c : ℤ) (admitted : Bool) → IsLive t op → HeadPasses (branch_folds_by roles) t op → ReadsCounts (meaning_by roles).admits t op admitted → admitted ≡ true → Some c ≡ known_at known 0 → e ≡ edge_of c → ((o : Operation) → op_at t op ≡ Some o → BecomesJump roles n t u op o e) → branch_outcome_by roles n t u op known (Some Changed)
+  pub jumps_known : (t u : Tree) (op e : ℕ) (known : List (Option AttrObj)) (c : ℤ) (admitted : Bool) → IsLive t op → HeadPasses (branch_folds_by roles) t op → ReadsCounts (meaning_by roles).admits t op admitted → admitted ≡ true → Some c ≡ known_number_at known 0 → e ≡ edge_by_condition c → ((o : Operation) → op_at t op ≡ Some o → BecomesJump roles n t u op o e) → branch_outcome_by roles n t u op known (Some Changed)
   unfolding branch_outcome_by
   jumps_known t u op e known c admitted live passes reads is knows f jumps =
       let o = live_at t op live in

@@ -17,15 +17,15 @@ use Rattle.pliron_laws.specs.Answers.{AreForwarded, IsForwardedAt, ReadsHead, Re
 use Rattle.pliron_laws.proofs.ShapeLemmas.{head_at, operands_at}
 use Rattle.pliron_dialects.specs.declared.form.Form.{Form}
 use Rattle.pliron_dialects.specs.declared.form.Form.TheVariants.{Constant, Computes, Jumps, Branches, Leaves, Acts}
-use Rattle.pliron_dialects.specs.Numbers.{known_at}
-use Rattle.pliron_dialects.specs.Forms.{by_form, places_in, no_places, is_constant, folds_branch_of, answer_of, answers_of, feasible_of, no_jump, taken}
+use Rattle.pliron_dialects.specs.Numbers.{known_number_at}
+use Rattle.pliron_dialects.specs.Forms.{by_form, places_by_form, forwards_nothing, is_constant, folds_branch_of, answer_of, answers_of, feasible_of, no_jump, taken}
 use Rattle.pliron_dialects.specs.Roles.{Role, Tables, by_role, role_at, form_at, form_of, value_of, meaning_by}
 use Rattle.pliron_dialects.specs.RoleTables.{answers_by, constants_by, accepts_numbers, constant_head_of, branch_folds_by, feasible_by}
 use Rattle.pliron_dialects.specs.RoleOutcomes.{form_in, fold_of, outcome_by}
 
 -- the places of an edge as an answer that is read off the head
 abbrev pub ReadsPlaces : (ℕ → Option Role) → Tree → ℕ → ℕ → List ℕ → Type 0
-ReadsPlaces roles t op i places = ReadsHead (λ h. by_form no_places places_in (form_at roles h.kind) h.attrs (length (operands_of t op)) i) t op places
+ReadsPlaces roles t op i places = ReadsHead (λ h. by_form forwards_nothing places_by_form (form_at roles h.kind) h.attrs (length (operands_of t op)) i) t op places
 
 same_head : (t : Tree) (op : ℕ) (h : Head) (o : Operation) → head_of t op ≡ Some h → op_at t op ≡ Some o → h ≡ o.head
 same_head t op h o e at = same_Some h o.head (sym e ∙ head_at t op o at)
@@ -53,25 +53,25 @@ successors_with t op o at = go (head_of t op) at
     go None e = grind arith
     go (Some h) e = sym (ap (λ z. z.successors) (same_Some _ o e))
 
-form_taken : (f : Form) (targets : List ℕ) (known : List (Option AttrObj)) → IsTrue (folds_branch_of f) → taken targets (known_at known 0) ≡ feasible_of f targets known
+form_taken : (f : Form) (targets : List ℕ) (known : List (Option AttrObj)) → IsTrue (folds_branch_of f) → taken targets (known_number_at known 0) ≡ feasible_of f targets known
 form_taken Branches targets known f = refl
 form_taken _ targets known f = grind arith
 
-branch_taken : (o : Option Form) (targets : List ℕ) (known : List (Option AttrObj)) → IsTrue (by_form false folds_branch_of o) → taken targets (known_at known 0) ≡ by_form no_jump feasible_of o targets known
+branch_taken : (o : Option Form) (targets : List ℕ) (known : List (Option AttrObj)) → IsTrue (by_form false folds_branch_of o) → taken targets (known_number_at known 0) ≡ by_form no_jump feasible_of o targets known
 branch_taken None targets known f = grind arith
 branch_taken (Some k) targets known f = form_taken k targets known f
 
-pub taken_read : (roles : ℕ → Option Role) (t : Tree) (op : ℕ) (known : List (Option AttrObj)) (items : List ℕ) → HeadPasses (branch_folds_by roles) t op → items ≡ taken (successors_of t op) (known_at known 0) → ReadsEdges (meaning_by roles) (λ s targets. feasible_by roles s targets known) t op items
+pub taken_read : (roles : ℕ → Option Role) (t : Tree) (op : ℕ) (known : List (Option AttrObj)) (items : List ℕ) → HeadPasses (branch_folds_by roles) t op → items ≡ taken (successors_of t op) (known_number_at known 0) → ReadsEdges (meaning_by roles) (λ s targets. feasible_by roles s targets known) t op items
 unfolding branch_folds_by feasible_by shape_of
 taken_read roles t op known items g i = λ o at.
-    i ∙ ap (λ z. taken z (known_at known 0)) (sym (successors_with t op o at)) ∙ branch_taken (form_at roles o.head.kind) o.successors known (g o.head (head_at t op o at))
+    i ∙ ap (λ z. taken z (known_number_at known 0)) (sym (successors_with t op o at)) ∙ branch_taken (form_at roles o.head.kind) o.successors known (g o.head (head_at t op o at))
 
 -- ---- places
 
 picked_same : (roles : ℕ → Option Role) (t : Tree) (op i : ℕ) (places : List ℕ) (o : Operation) → ReadsPlaces roles t op i places → op_at t op ≡ Some o → pick places (operands_of t op) ≡ pick ((meaning_by roles).forwarded (shape_of (meaning_by roles) t o) i) o.operands
 unfolding meaning_by shape_of
 picked_same roles t op i places o f at =
-    ap (λ z. pick z (operands_of t op)) (f o.head (head_at t op o at)) ∙ ap (λ z. pick (by_form no_places places_in (form_at roles o.head.kind) o.head.attrs (length z) i) z) (sym (operands_at t op o at))
+    ap (λ z. pick z (operands_of t op)) (f o.head (head_at t op o at)) ∙ ap (λ z. pick (by_form forwards_nothing places_by_form (form_at roles o.head.kind) o.head.attrs (length z) i) z) (sym (operands_at t op o at))
 
 pub forwarded_read : (roles : ℕ → Option Role) (t : Tree) (op i : ℕ) (places values : List ℕ) → ReadsPlaces roles t op i places → map Some values ≡ pick places (operands_of t op) → AreForwarded (meaning_by roles) t op i values
 forwarded_read roles t op i places values f g = λ o at. g ∙ picked_same roles t op i places o f at

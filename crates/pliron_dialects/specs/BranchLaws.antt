@@ -7,14 +7,14 @@ use Rattle.pliron_laws.specs.Datum.{Datum, Empty, Shape, Move, Give, Visit, Goto
 use Rattle.pliron_laws.specs.Acting.{MovesAlike, pick}
 use Rattle.pliron_laws.specs.PlaceLaws.{pick_all}
 use Rattle.pliron_dialects.specs.Numbers.{is_zero}
-use Rattle.pliron_dialects.specs.Forms.{by_form, first_edge_count, edge_of, edge_values, branches, jump_places, branch_places, places_in, no_places, folds_of}
+use Rattle.pliron_dialects.specs.Forms.{by_form, first_edge_operands, edge_by_condition, edge_values, branches, jump_places, branch_places, places_by_form, forwards_nothing, folds_of}
 use Rattle.pliron_dialects.specs.Roles.{Role, Jumps, Branches, by_role, form_of, condition_of, act_of, no_act}
 use Rattle.pliron_dialects.specs.RoleParts.{Admits, IsOfRole, of_role, no_result, count_below}
 use Rattle.pliron_dialects.specs.Places.{picked_behind, picked_first, picked_last, in_range, not_cut}
 
 -- the places of the operands that an edge forwards, by the role
 abbrev pub edge_places : Option Role → Shape → ℕ → List ℕ
-edge_places o s i = by_form no_places places_in (option_map form_of o) s.head.attrs s.operands i
+edge_places o s i = by_form forwards_nothing places_by_form (option_map form_of o) s.head.attrs s.operands i
 
 -- ---- what branches have beside their edges
 
@@ -53,7 +53,7 @@ branch_within c n (suc (suc i)) p lt h = absurd h
 
 role_within : (k : Role) (s : Shape) (i p : ℕ) → IsTrue (branches (form_of k)) → IsOfRole k s → In p (edge_places (Some k) s i) → p < s.operands
 role_within Jumps s i p br h l = jump_within s.operands i p l
-role_within Branches s i p br h l = let lt = count_below s.head.attrs s.operands h.attributes in branch_within (min (first_edge_count s.head.attrs) (s.operands - 1)) s.operands i p (omega (arith, lt)) l
+role_within Branches s i p br h l = let lt = count_below s.head.attrs s.operands h.attributes in branch_within (min (first_edge_operands s.head.attrs) (s.operands - 1)) s.operands i p (omega (arith, lt)) l
 role_within _ s i p br h l = grind arith
 
 pub within : (o : Option Role) (s : Shape) (i p : ℕ) → Admits o s → IsTrue (by_form false branches (option_map form_of o)) → In p (edge_places o s i) → p < s.operands
@@ -79,7 +79,7 @@ branch_distinct c n (suc (suc i)) j k l p e f = nowhere k p e
 
 role_distinct : (k : Role) (s : Shape) (i j u v p : ℕ) → IsTrue (branches (form_of k)) → slice_get (edge_places (Some k) s i) u ≡ Some p → slice_get (edge_places (Some k) s j) v ≡ Some p → (i ≡ j) × (u ≡ v)
 role_distinct Jumps s i j u v p br e f = jump_distinct s.operands i j u v p e f
-role_distinct Branches s i j u v p br e f = branch_distinct (min (first_edge_count s.head.attrs) (s.operands - 1)) s.operands i j u v p e f
+role_distinct Branches s i j u v p br e f = branch_distinct (min (first_edge_operands s.head.attrs) (s.operands - 1)) s.operands i j u v p e f
 role_distinct _ s i j u v p br e f = grind arith
 
 pub distinct : (o : Option Role) (s : Shape) (i j u v p : ℕ) → IsTrue (by_form false branches (option_map form_of o)) → slice_get (edge_places o s i) u ≡ Some p → slice_get (edge_places o s j) v ≡ Some p → (i ≡ j) × (u ≡ v)
@@ -106,7 +106,7 @@ role_passes : (k : Role) (s : Shape) (memo : Datum) (first : List Datum) → IsT
 role_passes Jumps s memo first br h l = sym (pick_all first s.operands l)
 role_passes Branches s memo first br h l =
     let lt = count_below s.head.attrs s.operands h.attributes in
-    subst (λ c. map Some (edge_values (first_edge_count s.head.attrs) (edge_of (condition_of first)) (drop 1 first)) ≡ pick (branch_places c s.operands (edge_of (condition_of first))) first) (sym (not_cut (first_edge_count s.head.attrs) s.operands lt)) (branch_edge_passes (first_edge_count s.head.attrs) s.operands (is_zero (condition_of first)) first lt l)
+    subst (λ c. map Some (edge_values (first_edge_operands s.head.attrs) (edge_by_condition (condition_of first)) (drop 1 first)) ≡ pick (branch_places c s.operands (edge_by_condition (condition_of first))) first) (sym (not_cut (first_edge_operands s.head.attrs) s.operands lt)) (branch_edge_passes (first_edge_operands s.head.attrs) s.operands (is_zero (condition_of first)) first lt l)
 role_passes _ s memo first br h l = grind arith
 
 pub passes : (o : Option Role) (s : Shape) (memo : Datum) (first : List Datum) → Admits o s → IsTrue (by_form false branches (option_map form_of o)) → length first ≡ s.operands → PassesAt (edge_places o s) first (by_role no_act act_of o s memo first)

@@ -7,15 +7,15 @@ use Rattle.pliron_laws.specs.Datum.{Datum, Empty, Shape, Move, Give, Meaning}
 use Rattle.pliron_laws.specs.Acting.{MovesAlike, DropsAt, JumpsSame}
 use Rattle.pliron_laws.specs.Laws.{CountsFit, KeepsCounts, IsGive, GivesAtOnce, ActsWithoutArgument}
 use Rattle.pliron_laws.specs.Folding.{MakesConstant, MakesConstants, constant_shape}
-use Rattle.pliron_dialects.specs.Numbers.{fits, is_number}
-use Rattle.pliron_dialects.specs.Forms.{by_form, successor_count, ends_block, branches, effects_of, removable_of, no_removal, attribute_head}
+use Rattle.pliron_dialects.specs.Numbers.{fits, is_whole_number}
+use Rattle.pliron_dialects.specs.Forms.{by_form, successors_of_form, ends_block, branches, effects_of, removable_of, no_removal, head_with_attribute}
 use Rattle.pliron_dialects.specs.Roles.{Role, Constant, Computes, Jumps, Branches, Leaves, Acts, ActsFit, by_role, form_of, act_of, no_act, takes_by, meaning_by}
 use Rattle.pliron_dialects.specs.RoleTables.{effects_by, removable_by, accepts_numbers, constant_head_of}
 use Rattle.pliron_dialects.specs.RoleParts.{Admits, OwnMovesFit, of_role, one_result, no_result}
 
 -- ---- counts
 
-role_ends : (r : Role) → 0 < successor_count (form_of r) → IsTrue (ends_block (form_of r))
+role_ends : (r : Role) → 0 < successors_of_form (form_of r) → IsTrue (ends_block (form_of r))
 role_ends Constant lt = absurd (omega (arith, lt))
 role_ends (Computes n value) lt = absurd (omega (arith, lt))
 role_ends Jumps lt = refl
@@ -88,10 +88,10 @@ and_true : (x : Bool) → IsTrue x → IsTrue (x && true)
 and_true true h = refl
 and_true false h = grind arith
 
-admits_constant : (o : Option Role) (n : ℕ) (x : Datum) (attr : AttrObj) → IsTrue (is_number attr) → o ≡ Some Constant → Admits o (constant_shape (attribute_head n attr))
-admits_constant o n x attr h e = subst (λ z. Admits z (constant_shape (attribute_head n attr))) (sym e) (number_admitted attr h)
+admits_constant : (o : Option Role) (n : ℕ) (x : Datum) (attr : AttrObj) → IsTrue (is_whole_number attr) → o ≡ Some Constant → Admits o (constant_shape (head_with_attribute n attr))
+admits_constant o n x attr h e = subst (λ z. Admits z (constant_shape (head_with_attribute n attr))) (sym e) (number_admitted attr h)
   where
-    number_admitted : (attr : AttrObj) → IsTrue (is_number attr) → Admits (Some Constant) (constant_shape (attribute_head n attr))
+    number_admitted : (attr : AttrObj) → IsTrue (is_whole_number attr) → Admits (Some Constant) (constant_shape (head_with_attribute n attr))
     number_admitted (Int m) h = and_true (fits m && true) (and_true (fits m) h)
     number_admitted (Words s) h = grind arith
 
@@ -100,5 +100,5 @@ unfolding meaning_by accepts_numbers constant_head_of
 makes_constants roles n e = λ attr h. record {
   admitted = admits_constant (roles n) n Empty attr h e;
   no_terminator = subst (λ z. by_form false ends_block (option_map form_of z) ≡ false) (sym e) refl;
-  gives = subst (λ z. by_role no_act act_of z (constant_shape (attribute_head n attr)) Empty [] ≡ act_of Constant (constant_shape (attribute_head n attr)) Empty []) (sym e) refl;
+  gives = subst (λ z. by_role no_act act_of z (constant_shape (head_with_attribute n attr)) Empty [] ≡ act_of Constant (constant_shape (head_with_attribute n attr)) Empty []) (sym e) refl;
 }

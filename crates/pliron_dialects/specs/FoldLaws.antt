@@ -8,8 +8,8 @@ use Rattle.pliron_core.specs.Lists.{In}
 use Rattle.pliron_laws.specs.Datum.{Datum, Number, Head, Shape, Move, Give, Visit, Goto, Leave, Emit, Trap}
 use Rattle.pliron_laws.specs.Acting.{Known}
 use Rattle.pliron_laws.specs.Folding.{AnswersTrue, AnswersJumps}
-use Rattle.pliron_dialects.specs.Numbers.{as_number, nth_number, known_as, known_at, all_known, with_number}
-use Rattle.pliron_dialects.specs.Forms.{by_form, edge_of, branches, folds_of, folds_branch_of, only, taken as taken_of, feasible_of, no_jump}
+use Rattle.pliron_dialects.specs.Numbers.{whole_number_of, nth_number, known_as, known_number_at, all_known, with_number}
+use Rattle.pliron_dialects.specs.Forms.{by_form, edge_by_condition, branches, folds_of, folds_branch_of, only_successor, taken as taken_of, feasible_of, no_jump}
 use Rattle.pliron_dialects.specs.Roles.{Role, Constant, Computes, Jumps, Branches, Leaves, Acts, by_role, form_of, condition_of, act_of, no_act, meaning_by}
 use Rattle.pliron_dialects.specs.RoleTables.{folds_by, answers_by, constants_by, branch_folds_by, feasible_by}
 use Rattle.pliron_dialects.specs.RoleParts.{Admits, of_role, one_result, IsQuiet, comes_first}
@@ -21,11 +21,11 @@ abbrev pub Agrees : Option ℤ → ℤ → Type 0
 Agrees None n = Unit {0}
 Agrees (Some m) n = m ≡ n
 
-pub known_agrees : (known : List (Option AttrObj)) (ds : List Datum) (i : ℕ) → Known known ds → Agrees (known_at known i) (nth_number (map as_number ds) i)
+pub known_agrees : (known : List (Option AttrObj)) (ds : List Datum) (i : ℕ) → Known known ds → Agrees (known_number_at known i) (nth_number (map whole_number_of ds) i)
 known_agrees [] ds i h = tt
 known_agrees (a ∷ known) [] i h = absurd h
 known_agrees (None ∷ known) (d ∷ ds) zero h = tt
-known_agrees (Some a ∷ known) (d ∷ ds) zero h = ap as_number h.0
+known_agrees (Some a ∷ known) (d ∷ ds) zero h = ap whole_number_of h.0
 known_agrees (None ∷ known) (d ∷ ds) (suc i) h = known_agrees known ds i h
 known_agrees (Some a ∷ known) (d ∷ ds) (suc i) h = known_agrees known ds i h.1
 
@@ -38,12 +38,12 @@ one_more_agrees : (n m : ℤ) (o : Option (List ℤ)) (ns : List ℤ) → m ≡ 
 one_more_agrees n m None ns e a = tt
 one_more_agrees n m (Some ms) ns e a = ap₂ (λ x xs. x ∷ xs) e a
 
-all_agree : (known : List (Option AttrObj)) (ds : List Datum) → Known known ds → AllAgree (all_known known) (map as_number ds)
+all_agree : (known : List (Option AttrObj)) (ds : List Datum) → Known known ds → AllAgree (all_known known) (map whole_number_of ds)
 all_agree [] [] h = refl
 all_agree [] (d ∷ ds) h = absurd h
 all_agree (a ∷ known) [] h = absurd h
 all_agree (None ∷ known) (d ∷ ds) h = tt
-all_agree (Some a ∷ known) (d ∷ ds) h = one_more_agrees (as_number d) _ (all_known known) (map as_number ds) (ap as_number h.0) (all_agree known ds h.1)
+all_agree (Some a ∷ known) (d ∷ ds) h = one_more_agrees (whole_number_of d) _ (all_known known) (map whole_number_of ds) (ap whole_number_of h.0) (all_agree known ds h.1)
 
 -- ---- constants
 
@@ -62,7 +62,7 @@ value_known value (Some ms) ns a = (ap (λ z. Number (value z)) a, tt)
 
 role_gives : (r : Role) (s : Shape) (known : List (Option AttrObj)) (memo : Datum) (first : List Datum) → IsTrue (folds_of (form_of r)) → Known known first → GivesKnown (answers_by s.head known r) (act_of r s memo first)
 role_gives Constant s known memo first f h = (refl, tt)
-role_gives (Computes n value) s known memo first f h = value_known value (all_known known) (map as_number first) (all_agree known first h)
+role_gives (Computes n value) s known memo first f h = value_known value (all_known known) (map whole_number_of first) (all_agree known first h)
 role_gives Jumps s known memo first f h = grind arith
 role_gives Branches s known memo first f h = grind arith
 role_gives Leaves s known memo first f h = grind arith
@@ -119,21 +119,21 @@ folds_branches : (o : Option Role) → IsTrue (by_form false folds_branch_of (op
 folds_branches None f = f
 folds_branches (Some r) f = role_branches r f
 
-only_in : (targets : List ℕ) (i b : ℕ) → In b (only (slice_get targets i)) → In b targets
+only_in : (targets : List ℕ) (i b : ℕ) → In b (only_successor (slice_get targets i)) → In b targets
 only_in [] i b h = h
 only_in (x ∷ targets) zero b (inl e) = inl e
 only_in (x ∷ targets) zero b (inr h) = absurd h
 only_in (x ∷ targets) (suc i) b h = inr (only_in targets i b h)
 
 get_in : (targets : List ℕ) (i b : ℕ) → slice_get targets i ≡ Some b → In b targets
-get_in targets i b e = only_in targets i b (subst (λ o. In b (only o)) (sym e) (inl refl))
+get_in targets i b e = only_in targets i b (subst (λ o. In b (only_successor o)) (sym e) (inl refl))
 
 taken_in : (targets : List ℕ) (p : Option ℤ) (b : ℕ) → In b (taken_of targets p) → In b targets
 taken_in targets None b h = h
-taken_in targets (Some c) b h = only_in targets (edge_of c) b h
+taken_in targets (Some c) b h = only_in targets (edge_by_condition c) b h
 
 role_in : (r : Role) (targets : List ℕ) (known : List (Option AttrObj)) (b : ℕ) → In b (feasible_of (form_of r) targets known) → In b targets
-role_in Branches targets known b h = taken_in targets (known_at known 0) b h
+role_in Branches targets known b h = taken_in targets (known_number_at known 0) b h
 role_in Jumps targets known b h = h
 role_in Constant targets known b h = h
 role_in (Computes n value) targets known b h = h
@@ -153,12 +153,12 @@ JumpsWithin targets blocks (Leave ds) = Unit {0}
 JumpsWithin targets blocks (Emit e memo) = Unit {0}
 JumpsWithin targets blocks Trap = Unit {0}
 
-edge_within : (targets : List ℕ) (p : Option ℤ) (c : ℤ) → Agrees p c → (b : ℕ) → slice_get targets (edge_of c) ≡ Some b → In b (taken_of targets p)
-edge_within targets None c a b e = get_in targets (edge_of c) b e
-edge_within targets (Some n) c a b e = subst (λ o. In b (only o)) (sym e ∙ ap (λ x. slice_get targets (edge_of x)) (sym a)) (inl refl)
+edge_within : (targets : List ℕ) (p : Option ℤ) (c : ℤ) → Agrees p c → (b : ℕ) → slice_get targets (edge_by_condition c) ≡ Some b → In b (taken_of targets p)
+edge_within targets None c a b e = get_in targets (edge_by_condition c) b e
+edge_within targets (Some n) c a b e = subst (λ o. In b (only_successor o)) (sym e ∙ ap (λ x. slice_get targets (edge_by_condition x)) (sym a)) (inl refl)
 
 role_goes : (r : Role) (s : Shape) (targets : List ℕ) (known : List (Option AttrObj)) (memo : Datum) (first : List Datum) → IsTrue (folds_branch_of (form_of r)) → Known known first → JumpsWithin targets (feasible_of (form_of r) targets known) (act_of r s memo first)
-role_goes Branches s targets known memo first f h = edge_within targets (known_at known 0) (condition_of first) (known_agrees known first 0 h)
+role_goes Branches s targets known memo first f h = edge_within targets (known_number_at known 0) (condition_of first) (known_agrees known first 0 h)
 role_goes Jumps s targets known memo first f h = grind arith
 role_goes Constant s targets known memo first f h = grind arith
 role_goes (Computes n value) s targets known memo first f h = grind arith

@@ -8,7 +8,7 @@ use Rattle.pliron_laws.specs.declared.dialect.Interface.{Interface}
 use Rattle.pliron_laws.specs.declared.dialect.Interface.TheVariants.{SideEffects, BlockArgRemoval, ConstFold, BranchFold, Branch, Terminator}
 use Rattle.pliron_dialects.specs.declared.form.Form.{Form}
 use Rattle.pliron_dialects.specs.declared.form.Form.TheVariants.{Constant, Computes, Jumps, Branches, Leaves, Acts}
-use Rattle.pliron_dialects.specs.Numbers.{is_zero, is_number, known_at, all_known}
+use Rattle.pliron_dialects.specs.Numbers.{is_zero, is_whole_number, known_number_at, all_known}
 
 -- what a table says of a form, or `other` of none
 abbrev pub by_form : {A : Type 0} → A → (Form → A) → Option Form → A
@@ -17,10 +17,10 @@ by_form other table (Some f) = table f
 
 -- ---- counts and attributes
 
-abbrev pub successor_count : Form → ℕ
-successor_count Jumps = 1
-successor_count Branches = 2
-successor_count _ = 0
+abbrev pub successors_of_form : Form → ℕ
+successors_of_form Jumps = 1
+successors_of_form Branches = 2
+successors_of_form _ = 0
 
 -- whether there are no attributes; one, which is a number within 64 signed bits; or one, which counts some of
 -- the operands behind the first one
@@ -29,7 +29,7 @@ has_none [] = true
 has_none (a ∷ attrs) = false
 
 abbrev pub has_number : List AttrObj → Bool
-has_number (a ∷ []) = is_number a
+has_number (a ∷ []) = is_whole_number a
 has_number _ = false
 
 abbrev pub is_count : AttrObj → ℕ → Bool
@@ -56,14 +56,14 @@ takes_counts _ own a b d = nat_eq b 0 && nat_eq d 0
 -- whether there are operations of the form with this head, and with these counts of operands, results,
 -- successors and regions
 abbrev pub takes : Form → Bool → Head → ℕ → ℕ → ℕ → ℕ → Bool
-takes f own h a b c d = h.ssa && takes_attributes f h.attrs a && nat_eq c (successor_count f) && takes_counts f own a b d
+takes f own h a b c d = h.ssa && takes_attributes f h.attrs a && nat_eq c (successors_of_form f) && takes_counts f own a b d
 
 -- the head of an operation without attributes, and with one
-abbrev pub plain_head : ℕ → Head
-plain_head n = record { kind = n; ssa = true; attrs = [] }
+abbrev pub head_of_kind : ℕ → Head
+head_of_kind n = record { kind = n; ssa = true; attrs = [] }
 
-abbrev pub attribute_head : ℕ → AttrObj → Head
-attribute_head n a = record { kind = n; ssa = true; attrs = a ∷ [] }
+abbrev pub head_with_attribute : ℕ → AttrObj → Head
+head_with_attribute n a = record { kind = n; ssa = true; attrs = a ∷ [] }
 
 -- the first of the attributes, by default 0
 abbrev pub first_attribute : List AttrObj → AttrObj
@@ -71,13 +71,13 @@ first_attribute [] = Int (pos 0)
 first_attribute (a ∷ attrs) = a
 
 -- how many operands the first edge of a branch forwards
-abbrev pub count_of : AttrObj → ℕ
-count_of (Int (pos n)) = n
-count_of (Int (negsuc n)) = 0
-count_of (Words s) = 0
+abbrev pub counted_by : AttrObj → ℕ
+counted_by (Int (pos n)) = n
+counted_by (Int (negsuc n)) = 0
+counted_by (Words s) = 0
 
-abbrev pub first_edge_count : List AttrObj → ℕ
-first_edge_count attrs = count_of (first_attribute attrs)
+abbrev pub first_edge_operands : List AttrObj → ℕ
+first_edge_operands attrs = counted_by (first_attribute attrs)
 
 abbrev pub ends_block : Form → Bool
 ends_block Jumps = true
@@ -93,8 +93,8 @@ branches _ = false
 -- ---- edges
 
 -- the edge that is taken: the second one where the condition is 0
-abbrev pub edge_of : ℤ → ℕ
-edge_of c = if is_zero c then 1 else 0
+abbrev pub edge_by_condition : ℤ → ℕ
+edge_by_condition c = if is_zero c then 1 else 0
 
 -- of the values behind the condition, the first n go along the first edge
 abbrev pub edge_values : {A : Type 0} → ℕ → ℕ → List A → List A
@@ -113,28 +113,28 @@ branch_places n operands (suc zero) = range_with_len (suc n) (operands - suc n)
 branch_places n operands (suc (suc i)) = []
 
 abbrev pub counted_places : List AttrObj → ℕ → ℕ → List ℕ
-counted_places attrs operands i = branch_places (min (first_edge_count attrs) (operands - 1)) operands i
+counted_places attrs operands i = branch_places (min (first_edge_operands attrs) (operands - 1)) operands i
 
 -- by the attributes, how many operands there are, and the edge
-abbrev pub places_in : Form → List AttrObj → ℕ → ℕ → List ℕ
-places_in Jumps attrs operands i = jump_places operands i
-places_in Branches attrs operands i = counted_places attrs operands i
-places_in _ attrs operands i = []
+abbrev pub places_by_form : Form → List AttrObj → ℕ → ℕ → List ℕ
+places_by_form Jumps attrs operands i = jump_places operands i
+places_by_form Branches attrs operands i = counted_places attrs operands i
+places_by_form _ attrs operands i = []
 
-abbrev pub no_places : List AttrObj → ℕ → ℕ → List ℕ
-no_places attrs operands i = []
+abbrev pub forwards_nothing : List AttrObj → ℕ → ℕ → List ℕ
+forwards_nothing attrs operands i = []
 
 -- a branch that lost a value of its first edge counts one fewer there
 abbrev pub one_fewer_counted : Head → ℕ → Head
-one_fewer_counted h zero = record h { attrs = slice_set h.attrs 0 (Int (pos (first_edge_count h.attrs - 1))) }
+one_fewer_counted h zero = record h { attrs = slice_set h.attrs 0 (Int (pos (first_edge_operands h.attrs - 1))) }
 one_fewer_counted h (suc i) = h
 
-abbrev pub shortened_of : Form → Head → ℕ → Head
-shortened_of Branches h i = one_fewer_counted h i
-shortened_of _ h i = h
+abbrev pub shortened_by_form : Form → Head → ℕ → Head
+shortened_by_form Branches h i = one_fewer_counted h i
+shortened_by_form _ h i = h
 
-abbrev pub as_it_is : Head → ℕ → Head
-as_it_is h i = h
+abbrev pub head_unchanged : Head → ℕ → Head
+head_unchanged h i = h
 
 -- ---- answers
 
@@ -179,17 +179,17 @@ answers_of (Computes n) answer = answer ∷ []
 answers_of _ answer = []
 
 -- the successor at this index alone
-abbrev pub only : Option ℕ → List ℕ
-only None = []
-only (Some b) = b ∷ []
+abbrev pub only_successor : Option ℕ → List ℕ
+only_successor None = []
+only_successor (Some b) = b ∷ []
 
 -- a branch folds to the one block that it takes where its condition is known
 abbrev pub taken : List ℕ → Option ℤ → List ℕ
 taken targets None = targets
-taken targets (Some c) = only (slice_get targets (edge_of c))
+taken targets (Some c) = only_successor (slice_get targets (edge_by_condition c))
 
 abbrev pub feasible_of : Form → List ℕ → List (Option AttrObj) → List ℕ
-feasible_of Branches targets known = taken targets (known_at known 0)
+feasible_of Branches targets known = taken targets (known_number_at known 0)
 feasible_of _ targets known = targets
 
 abbrev pub no_jump : List ℕ → List (Option AttrObj) → List ℕ

@@ -6,11 +6,11 @@ use Rattle.pliron_core.specs.declared.attrs.AttrObj.TheVariants.{Int, Text as Wo
 use Rattle.pliron_laws.specs.Datum.{Datum, Empty, Number, Text, Join, datum_of}
 
 -- a datum as a number: a whole number is brought into 64 signed bits, all else counts as 0
-abbrev pub as_number : Datum → ℤ
-as_number (Number n) = int_wrap w64 n
-as_number Empty = pos 0
-as_number (Text s) = pos 0
-as_number (Join a b) = pos 0
+abbrev pub whole_number_of : Datum → ℤ
+whole_number_of (Number n) = int_wrap w64 n
+whole_number_of Empty = pos 0
+whole_number_of (Text s) = pos 0
+whole_number_of (Join a b) = pos 0
 
 -- the number at this place, where a missing one counts as 0
 abbrev pub nth_number : List ℤ → ℕ → ℤ
@@ -27,28 +27,28 @@ is_zero (pos (suc n)) = false
 is_zero (negsuc n) = false
 
 -- sums and products wrap
-abbrev pub sum : ℤ → ℤ → ℤ
-sum a b = int_wrap w64 (a +ℤ b)
+abbrev pub wrapped_sum : ℤ → ℤ → ℤ
+wrapped_sum a b = int_wrap w64 (a +ℤ b)
 
-abbrev pub product : ℤ → ℤ → ℤ
-product a b = int_wrap w64 (a *ℤ b)
+abbrev pub wrapped_product : ℤ → ℤ → ℤ
+wrapped_product a b = int_wrap w64 (a *ℤ b)
 
 -- 1 if a is below b, else 0
 abbrev pub less : ℤ → ℤ → ℤ
 less a b = if int_lt a b then pos 1 else pos 0
 
 -- whether the attribute is a number within 64 signed bits
-abbrev pub is_number : AttrObj → Bool
-is_number (Int n) = fits n
-is_number (Words s) = false
+abbrev pub is_whole_number : AttrObj → Bool
+is_whole_number (Int n) = fits n
+is_whole_number (Words s) = false
 
 -- the number that is known of an operand, and that of the operand at this place
 abbrev pub known_as : Option AttrObj → Option ℤ
 known_as None = None
-known_as (Some a) = Some (as_number (datum_of a))
+known_as (Some a) = Some (whole_number_of (datum_of a))
 
-abbrev pub known_at : List (Option AttrObj) → ℕ → Option ℤ
-known_at known i = known_as (slice_index_or known i None)
+abbrev pub known_number_at : List (Option AttrObj) → ℕ → Option ℤ
+known_number_at known i = known_as (slice_index_or known i None)
 
 -- the numbers of all operands, where all are known
 abbrev pub with_number : Option ℤ → Option (List ℤ) → Option (List ℤ)

@@ -26,8 +26,8 @@ use Rattle.pliron_laws.specs.Replacing.{FoldsBranch, ReplacesBranch, JumpsTo, br
 use Rattle.pliron_laws.specs.Replacing.FoldsBranch.{Kept, Replaced}
 use Rattle.pliron_laws.specs.InPlace.{FoldsInPlace, TellsChange}
 use Rattle.pliron_laws.specs.PlaceLaws.{pick_all}
-use Rattle.pliron_dialects.specs.Numbers.{known_at}
-use Rattle.pliron_dialects.specs.Forms.{by_form, first_edge_count, plain_head, edge_of, edge_values, branches}
+use Rattle.pliron_dialects.specs.Numbers.{known_number_at}
+use Rattle.pliron_dialects.specs.Forms.{by_form, first_edge_operands, head_of_kind, edge_by_condition, edge_values, branches}
 use Rattle.pliron_dialects.specs.Roles.{Role, Constant, Computes, Jumps, Branches, Leaves, Acts, by_role, form_of, form_at, condition_of, act_of, no_act, meaning_by}
 use Rattle.pliron_dialects.specs.RoleTables.{constants_by, accepts_numbers, constant_head_of}
 use Rattle.pliron_dialects.specs.RoleOutcomes.{form_in, fold_of, outcome_by, known_edge, admits_shape, BecomesJump, JumpsWhereKnown, branch_outcome_by}
@@ -83,41 +83,41 @@ module _ (roles : ℕ → Option Role) (n : ℕ) where
 
 -- ---- branches
 
-taken_move : (o : Option Role) (s : Shape) (targets : List ℕ) (b : ℕ) (c : ℤ) (first first' : List Datum) → o ≡ Some Branches → Admits o s → length first ≡ s.operands → slice_get targets (edge_of c) ≡ Some b → c ≡ condition_of first → map Some first' ≡ pick (edge_places o s (edge_of c)) first → MovesAlike PassesSame (JumpsTo targets (b ∷ [])) (by_role no_act act_of o s Empty first) (Goto 0 first')
+taken_move : (o : Option Role) (s : Shape) (targets : List ℕ) (b : ℕ) (c : ℤ) (first first' : List Datum) → o ≡ Some Branches → Admits o s → length first ≡ s.operands → slice_get targets (edge_by_condition c) ≡ Some b → c ≡ condition_of first → map Some first' ≡ pick (edge_places o s (edge_by_condition c)) first → MovesAlike PassesSame (JumpsTo targets (b ∷ [])) (by_role no_act act_of o s Empty first) (Goto 0 first')
 taken_move o s targets b c first first' f h l at e p =
     let x : ℤ = condition_of first in
-    let values : List Datum = edge_values (first_edge_count s.head.attrs) (edge_of (condition_of first)) (drop 1 first) in
-    let passed : map Some (edge_values (first_edge_count s.head.attrs) (edge_of (condition_of first)) (drop 1 first)) ≡ pick (edge_places (Some Branches) s (edge_of (condition_of first))) first = passes (Some Branches) s Empty first (subst (λ z. Admits z s) f h) refl l in
-    let given : map Some first' ≡ pick (edge_places (Some Branches) s (edge_of (condition_of first))) first = subst (λ z. map Some first' ≡ pick (edge_places (Some Branches) s (edge_of z)) first) e (subst (λ z. map Some first' ≡ pick (edge_places z s (edge_of c)) first) f p) in
+    let values : List Datum = edge_values (first_edge_operands s.head.attrs) (edge_by_condition (condition_of first)) (drop 1 first) in
+    let passed : map Some (edge_values (first_edge_operands s.head.attrs) (edge_by_condition (condition_of first)) (drop 1 first)) ≡ pick (edge_places (Some Branches) s (edge_by_condition (condition_of first))) first = passes (Some Branches) s Empty first (subst (λ z. Admits z s) f h) refl l in
+    let given : map Some first' ≡ pick (edge_places (Some Branches) s (edge_by_condition (condition_of first))) first = subst (λ z. map Some first' ≡ pick (edge_places (Some Branches) s (edge_by_condition z)) first) e (subst (λ z. map Some first' ≡ pick (edge_places z s (edge_by_condition c)) first) f p) in
     subst (λ z. MovesAlike PassesSame (JumpsTo targets (b ∷ [])) (by_role no_act act_of z s Empty first) (Goto 0 first')) (sym f)
-    (goto_alike PassesSame (JumpsTo targets (b ∷ [])) (edge_of (condition_of first)) 0 values first' (sym at ∙ ap (λ z. slice_get targets (edge_of z)) e, same_data first' values (given ∙ sym passed)))
+    (goto_alike PassesSame (JumpsTo targets (b ∷ [])) (edge_by_condition (condition_of first)) 0 values first' (sym at ∙ ap (λ z. slice_get targets (edge_by_condition z)) e, same_data first' values (given ∙ sym passed)))
 
 only_edge : (x k e : ℕ) → slice_get (x ∷ []) k ≡ Some e → (k ≡ 0) × (x ≡ e)
 only_edge x zero e h = (refl, same_Some x e h)
 only_edge x (suc k) e h = nowhere k e h
 
 module _ (roles : ℕ → Option Role) (m : ℕ) (jumps : roles m ≡ Some Jumps) where
-  values_same : (o : Option Role) (m : ℕ) (places : List ℕ) → o ≡ Some Jumps → pick (edge_places o (branch_shape (plain_head m) (length places) 1) 0) places ≡ map Some places
-  values_same o m places e = subst (λ z. pick (edge_places z (branch_shape (plain_head m) (length places) 1) 0) places ≡ map Some places) (sym e) (pick_all places (length places) refl)
+  values_same : (o : Option Role) (m : ℕ) (places : List ℕ) → o ≡ Some Jumps → pick (edge_places o (branch_shape (head_of_kind m) (length places) 1) 0) places ≡ map Some places
+  values_same o m places e = subst (λ z. pick (edge_places z (branch_shape (head_of_kind m) (length places) 1) 0) places ≡ map Some places) (sym e) (pick_all places (length places) refl)
 
   jump_goes : (o : Option Role) (s : Shape) (first : List Datum) → o ≡ Some Jumps → by_role no_act act_of o s Empty first ≡ Goto 0 first
   jump_goes o s first e = ap (λ z. by_role no_act act_of z s Empty first) e
 
-  replaces : (s : Shape) (targets : List ℕ) (known : List (Option AttrObj)) (c : ℤ) (b : ℕ) → roles s.head.kind ≡ Some Branches → Admits (roles s.head.kind) s → known_at known 0 ≡ Some c → slice_get targets (edge_of c) ≡ Some b → ReplacesBranch (meaning_by roles) s targets (b ∷ []) known (plain_head m) ((meaning_by roles).forwarded s (edge_of c)) (edge_of c ∷ [])
+  replaces : (s : Shape) (targets : List ℕ) (known : List (Option AttrObj)) (c : ℤ) (b : ℕ) → roles s.head.kind ≡ Some Branches → Admits (roles s.head.kind) s → known_number_at known 0 ≡ Some c → slice_get targets (edge_by_condition c) ≡ Some b → ReplacesBranch (meaning_by roles) s targets (b ∷ []) known (head_of_kind m) ((meaning_by roles).forwarded s (edge_by_condition c)) (edge_by_condition c ∷ [])
   unfolding meaning_by
   replaces s targets known c b f h k at = record {
     branch = subst (λ z. IsTrue (by_form false branches (option_map form_of z))) (sym jumps) refl;
-    admitted = subst (λ z. Admits z (branch_shape (plain_head m) (length (edge_places (roles s.head.kind) s (edge_of c))) 1)) (sym jumps) refl;
+    admitted = subst (λ z. Admits z (branch_shape (head_of_kind m) (length (edge_places (roles s.head.kind) s (edge_by_condition c))) 1)) (sym jumps) refl;
     targets_kept = ap (λ o. o ∷ []) (sym at);
     values_kept = λ i e g.
-        let is = only_edge (edge_of c) i e g in
-        subst (λ z. pick (edge_places (roles m) (branch_shape (plain_head m) (length (edge_places (roles s.head.kind) s (edge_of c))) 1) z) (edge_places (roles s.head.kind) s (edge_of c)) ≡ map Some (edge_places (roles s.head.kind) s e)) (sym is.0)
-        (values_same (roles m) m (edge_places (roles s.head.kind) s (edge_of c)) jumps ∙ ap (λ z. map Some (edge_places (roles s.head.kind) s z)) is.1);
+        let is = only_edge (edge_by_condition c) i e g in
+        subst (λ z. pick (edge_places (roles m) (branch_shape (head_of_kind m) (length (edge_places (roles s.head.kind) s (edge_by_condition c))) 1) z) (edge_places (roles s.head.kind) s (edge_by_condition c)) ≡ map Some (edge_places (roles s.head.kind) s e)) (sym is.0)
+        (values_same (roles m) m (edge_places (roles s.head.kind) s (edge_by_condition c)) jumps ∙ ap (λ z. map Some (edge_places (roles s.head.kind) s z)) is.1);
     alike = λ first first' l g p.
         let agrees : c ≡ condition_of first = subst (λ z. Agrees z (condition_of first)) k (known_agrees known first 0 g) in
         let branch = subst (λ z. IsTrue (by_form false branches (option_map form_of z))) (sym f) refl in
         record {
-          begin = subst (λ z. MovesAlike PassesSame (JumpsTo targets (b ∷ [])) (by_role no_act act_of (roles s.head.kind) s Empty first) z) (sym (jump_goes (roles m) (branch_shape (plain_head m) (length (edge_places (roles s.head.kind) s (edge_of c))) 1) first' jumps)) (taken_move (roles s.head.kind) s targets b c first first' f h l at agrees p);
+          begin = subst (λ z. MovesAlike PassesSame (JumpsTo targets (b ∷ [])) (by_role no_act act_of (roles s.head.kind) s Empty first) z) (sym (jump_goes (roles m) (branch_shape (head_of_kind m) (length (edge_places (roles s.head.kind) s (edge_by_condition c))) 1) first' jumps)) (taken_move (roles s.head.kind) s targets b c first first' f h l at agrees p);
           later = λ memo input comes. absurd (true≢false (comes_first _ s first true memo input (branch_quiet (roles s.head.kind) s branch) comes).once);
         };
   }
@@ -131,17 +131,17 @@ module _ (roles : ℕ → Option Role) (m : ℕ) (jumps : roles m ≡ Some Jumps
   is_branch_role (Some Leaves) e = grind arith
   is_branch_role (Some (Acts takes act)) e = grind arith
 
-  jump_within : (t t' : Tree) (op : ℕ) (known : List (Option AttrObj)) (o : Operation) (s : Shape) (c : ℤ) → op_at t op ≡ Some o → shape_of (meaning_by roles) t o ≡ s → roles s.head.kind ≡ Some Branches → Admits (roles s.head.kind) s → known_at known 0 ≡ Some c → BecomesJump roles m t t' op o (edge_of c) → FoldsBranch (meaning_by roles) op known t t' × (IsSameTree t t' → ⊥)
+  jump_within : (t t' : Tree) (op : ℕ) (known : List (Option AttrObj)) (o : Operation) (s : Shape) (c : ℤ) → op_at t op ≡ Some o → shape_of (meaning_by roles) t o ≡ s → roles s.head.kind ≡ Some Branches → Admits (roles s.head.kind) s → known_number_at known 0 ≡ Some c → BecomesJump roles m t t' op o (edge_by_condition c) → FoldsBranch (meaning_by roles) op known t t' × (IsSameTree t t' → ⊥)
   jump_within t t' op known o s c at e f h k j =
       let new = replaces (shape_of (meaning_by roles) t o) o.successors known c j.block (ap (λ z. roles z.head.kind) e ∙ f) (subst (λ z. Admits (roles z.head.kind) z) (sym e) h) k j.target in (
-        subst (FoldsBranch (meaning_by roles) op known t) (sym j.tree) (Replaced o (plain_head m) j.values (j.block ∷ []) ((meaning_by roles).forwarded (shape_of (meaning_by roles) t o) (edge_of c)) (edge_of c ∷ []) at j.forwarded new),
-        differs t t' op o.head (head_at t op o at) (ap (λ z. row_of z op) j.tree ∙ replaced_gone t op (plain_head m) j.values (j.block ∷ []) (stands t op o.head (head_at t op o at))),
+        subst (FoldsBranch (meaning_by roles) op known t) (sym j.tree) (Replaced o (head_of_kind m) j.values (j.block ∷ []) ((meaning_by roles).forwarded (shape_of (meaning_by roles) t o) (edge_by_condition c)) (edge_by_condition c ∷ []) at j.forwarded new),
+        differs t t' op o.head (head_at t op o at) (ap (λ z. row_of z op) j.tree ∙ replaced_gone t op (head_of_kind m) j.values (j.block ∷ []) (stands t op o.head (head_at t op o at))),
       )
 
   kept_within : (t t' : Tree) (op : ℕ) (known : List (Option AttrObj)) (status : IRStatus) → t' ≡ t → status ≡ Unchanged → FoldsBranch (meaning_by roles) op known t t' × TellsChange (Some status) t t'
   kept_within t t' op known status e f = (Kept (same_tree t t' e), subst (λ a. TellsChange (Some a) t t') (sym f) (same_tree t t' e))
 
-  edge_within : (k : Option Form) (a : Bool) (q : Option ℤ) (t t' : Tree) (op : ℕ) (known : List (Option AttrObj)) (o : Operation) (answer : Option IRStatus) → op_at t op ≡ Some o → form_at roles (shape_of (meaning_by roles) t o).head.kind ≡ k → admits_shape roles (shape_of (meaning_by roles) t o) ≡ a → known_at known 0 ≡ q → JumpsWhereKnown roles m (known_edge k a q) t t' op o answer → FoldsBranch (meaning_by roles) op known t t' × TellsChange answer t t'
+  edge_within : (k : Option Form) (a : Bool) (q : Option ℤ) (t t' : Tree) (op : ℕ) (known : List (Option AttrObj)) (o : Operation) (answer : Option IRStatus) → op_at t op ≡ Some o → form_at roles (shape_of (meaning_by roles) t o).head.kind ≡ k → admits_shape roles (shape_of (meaning_by roles) t o) ≡ a → known_number_at known 0 ≡ q → JumpsWhereKnown roles m (known_edge k a q) t t' op o answer → FoldsBranch (meaning_by roles) op known t t' × TellsChange answer t t'
   edge_within k a q t t' op known o None at e f g j = (Kept j, tt)
   edge_within (Some BranchesForm) true (Some c) t t' op known o (Some status) at e f g j =
       let w = jump_within t t' op known o (shape_of (meaning_by roles) t o) c at refl (is_branch_role _ e) f g j.0 in
@@ -154,5 +154,5 @@ pub folds_in_place : (roles : ℕ → Option Role) (n m : ℕ) → roles m ≡ S
 unfolding outcome_by branch_outcome_by
 folds_in_place roles n m jumps = record {
   constant = λ t t' op known answer o at h. constant_within roles n (form_in roles (head_of t op)) t t' op known answer o at h;
-  branch = λ t t' op known answer h. edge_within roles m jumps (form_at roles (shape_of (meaning_by roles) t h.0).head.kind) (admits_shape roles (shape_of (meaning_by roles) t h.0)) (known_at known 0) t t' op known h.0 answer h.1 refl refl refl h.2;
+  branch = λ t t' op known answer h. edge_within roles m jumps (form_at roles (shape_of (meaning_by roles) t h.0).head.kind) (admits_shape roles (shape_of (meaning_by roles) t h.0)) (known_number_at known 0) t t' op known h.0 answer h.1 refl refl refl h.2;
 }

@@ -12,7 +12,7 @@ use Rattle.pliron_laws.specs.Laws.{moved_up, fewer_operands, LosesOperand, Forwa
 use Rattle.pliron_laws.specs.InPlace.{PassSameTests}
 use Rattle.pliron_laws.specs.PlaceLaws.{shifted}
 use Rattle.pliron_dialects.specs.Numbers.{is_zero}
-use Rattle.pliron_dialects.specs.Forms.{by_form, first_edge_count, edge_of, edge_values, branches, jump_places, branch_places, one_fewer_counted, shortened_of, as_it_is}
+use Rattle.pliron_dialects.specs.Forms.{by_form, first_edge_operands, edge_by_condition, edge_values, branches, jump_places, branch_places, one_fewer_counted, shortened_by_form, head_unchanged}
 use Rattle.pliron_dialects.specs.Roles.{Role, Jumps, Branches, by_role, form_of, condition_of, act_of, no_act, meaning_by}
 use Rattle.pliron_dialects.specs.RoleTables.{folds_by, branch_folds_by, is_of_number, interfaces_by, shortened_by}
 use Rattle.pliron_dialects.specs.RoleParts.{Admits, of_role, takes_again, count_below, count_set, count_fits, count_kept, comes_first}
@@ -102,50 +102,50 @@ module _ (roles : ℕ → Option Role) {K : Type 0} (number_of : K → ℕ) wher
         (subst (λ x. MovesAlike PassesSame (JumpsLess 0 j) (by_role no_act act_of x s Empty first) (by_role no_act act_of x (fewer_operands s s.head) Empty (remove first p))) (sym (e ∙ f)) (goto_alike PassesSame (JumpsLess 0 j) 0 0 first (remove first p) (refl, inl (refl, ap (remove first) (omega (arith, (range_at 0 s.operands j p at).0))))));
   }
 
-  branch_loses_first : (o : Option Role) (s : Shape) (j p : ℕ) → o ≡ Some Branches → roles s.head.kind ≡ o → Admits o s → slice_get (branch_places (min (first_edge_count s.head.attrs) (s.operands - 1)) s.operands 0) j ≡ Some p → LosesOperand (meaning_by roles) (SameTests roles number_of) s 0 j p (one_fewer_counted s.head 0)
+  branch_loses_first : (o : Option Role) (s : Shape) (j p : ℕ) → o ≡ Some Branches → roles s.head.kind ≡ o → Admits o s → slice_get (branch_places (min (first_edge_operands s.head.attrs) (s.operands - 1)) s.operands 0) j ≡ Some p → LosesOperand (meaning_by roles) (SameTests roles number_of) s 0 j p (one_fewer_counted s.head 0)
   unfolding meaning_by
   branch_loses_first o s j p f e h cut_at =
       let k = of_role Branches s (subst (λ x. Admits x s) f h) in
-      let c : ℕ = first_edge_count s.head.attrs in
+      let c : ℕ = first_edge_operands s.head.attrs in
       let s' : Shape = fewer_operands s (one_fewer_counted s.head 0) in
-      let lt : first_edge_count s.head.attrs < s.operands = count_below s.head.attrs s.operands k.attributes in
-      let whole : min (first_edge_count s.head.attrs) (s.operands - 1) ≡ first_edge_count s.head.attrs = not_cut (first_edge_count s.head.attrs) s.operands lt in
-      let at : slice_get (branch_places (first_edge_count s.head.attrs) s.operands 0) j ≡ Some p = subst (λ x. slice_get (branch_places x s.operands 0) j ≡ Some p) whole cut_at in
-      let place = range_at 1 (first_edge_count s.head.attrs) j p at in
-      let count : first_edge_count (one_fewer_counted s.head 0).attrs ≡ first_edge_count s.head.attrs - 1 = count_set s.head.attrs s.operands (first_edge_count s.head.attrs - 1) k.attributes in
+      let lt : first_edge_operands s.head.attrs < s.operands = count_below s.head.attrs s.operands k.attributes in
+      let whole : min (first_edge_operands s.head.attrs) (s.operands - 1) ≡ first_edge_operands s.head.attrs = not_cut (first_edge_operands s.head.attrs) s.operands lt in
+      let at : slice_get (branch_places (first_edge_operands s.head.attrs) s.operands 0) j ≡ Some p = subst (λ x. slice_get (branch_places x s.operands 0) j ≡ Some p) whole cut_at in
+      let place = range_at 1 (first_edge_operands s.head.attrs) j p at in
+      let count : first_edge_operands (one_fewer_counted s.head 0).attrs ≡ first_edge_operands s.head.attrs - 1 = count_set s.head.attrs s.operands (first_edge_operands s.head.attrs - 1) k.attributes in
       record {
-        same_head = inr (0, Int (pos (first_edge_count s.head.attrs - 1)), refl);
-        same_tests = same_tests s.head (slice_set s.head.attrs 0 (Int (pos (first_edge_count s.head.attrs - 1))));
-        admitted = subst (λ x. Admits x s') (sym (e ∙ f)) (takes_again Branches s'.head s'.operands s.results s.successors (length s.entry_arguments) (record { dominance = k.dominance; attributes = count_fits s.head.attrs s.operands (s.operands - 1) (first_edge_count s.head.attrs - 1) k.attributes (omega (arith, lt, place.1)); successors = k.successors; counts = k.counts }));
-        same_edges = λ n. subst (λ x. edge_places x s' n ≡ map (moved_up p) (if nat_eq n 0 then remove (edge_places x s n) j else edge_places x s n)) (sym (e ∙ f)) (ap (λ x. branch_places x (s.operands - 1) n) (ap (λ x. min x (s.operands - 1 - 1)) count ∙ omega (arith, lt, place.1)) ∙ subst (λ x. branch_places (first_edge_count s.head.attrs - 1) (s.operands - 1) n ≡ map (moved_up p) (if nat_eq n 0 then remove (branch_places x s.operands n) j else branch_places x s.operands n)) (sym whole) (first_edges (first_edge_count s.head.attrs) s.operands j p n lt at));
+        same_head = inr (0, Int (pos (first_edge_operands s.head.attrs - 1)), refl);
+        same_tests = same_tests s.head (slice_set s.head.attrs 0 (Int (pos (first_edge_operands s.head.attrs - 1))));
+        admitted = subst (λ x. Admits x s') (sym (e ∙ f)) (takes_again Branches s'.head s'.operands s.results s.successors (length s.entry_arguments) (record { dominance = k.dominance; attributes = count_fits s.head.attrs s.operands (s.operands - 1) (first_edge_operands s.head.attrs - 1) k.attributes (omega (arith, lt, place.1)); successors = k.successors; counts = k.counts }));
+        same_edges = λ n. subst (λ x. edge_places x s' n ≡ map (moved_up p) (if nat_eq n 0 then remove (edge_places x s n) j else edge_places x s n)) (sym (e ∙ f)) (ap (λ x. branch_places x (s.operands - 1) n) (ap (λ x. min x (s.operands - 1 - 1)) count ∙ omega (arith, lt, place.1)) ∙ subst (λ x. branch_places (first_edge_operands s.head.attrs - 1) (s.operands - 1) n ≡ map (moved_up p) (if nat_eq n 0 then remove (branch_places x s.operands n) j else branch_places x s.operands n)) (sym whole) (first_edges (first_edge_operands s.head.attrs) s.operands j p n lt at));
         alike = λ first l. alike_at_once s s' first (remove first p) 0 j (subst (λ x. IsTrue (by_form false branches (option_map form_of x))) (sym (e ∙ f)) refl)
             (subst (λ x. MovesAlike PassesSame (JumpsLess 0 j) (by_role no_act act_of x s Empty first) (by_role no_act act_of x s' Empty (remove first p))) (sym (e ∙ f))
-            (subst (λ n. MovesAlike PassesSame (JumpsLess 0 j) (act_of Branches s Empty first) (Goto (edge_of n) (edge_values (first_edge_count s'.head.attrs) (edge_of n) (drop 1 (remove first p))))) (sym (condition_kept first p (omega (arith, place.0))))
-            (subst (λ n. MovesAlike PassesSame (JumpsLess 0 j) (act_of Branches s Empty first) (Goto (edge_of (condition_of first)) (edge_values n (edge_of (condition_of first)) (drop 1 (remove first p))))) (sym count)
-            (first_loses (first_edge_count s.head.attrs) (first_edge_count s.head.attrs - 1) j p (is_zero (condition_of first)) first (omega (arith, place.1)) place.0 (omega (arith, place.1)) (omega (arith, lt, l))))));
+            (subst (λ n. MovesAlike PassesSame (JumpsLess 0 j) (act_of Branches s Empty first) (Goto (edge_by_condition n) (edge_values (first_edge_operands s'.head.attrs) (edge_by_condition n) (drop 1 (remove first p))))) (sym (condition_kept first p (omega (arith, place.0))))
+            (subst (λ n. MovesAlike PassesSame (JumpsLess 0 j) (act_of Branches s Empty first) (Goto (edge_by_condition (condition_of first)) (edge_values n (edge_by_condition (condition_of first)) (drop 1 (remove first p))))) (sym count)
+            (first_loses (first_edge_operands s.head.attrs) (first_edge_operands s.head.attrs - 1) j p (is_zero (condition_of first)) first (omega (arith, place.1)) place.0 (omega (arith, place.1)) (omega (arith, lt, l))))));
       }
 
-  branch_loses_second : (o : Option Role) (s : Shape) (j p : ℕ) → o ≡ Some Branches → roles s.head.kind ≡ o → Admits o s → slice_get (branch_places (min (first_edge_count s.head.attrs) (s.operands - 1)) s.operands 1) j ≡ Some p → LosesOperand (meaning_by roles) (SameTests roles number_of) s 1 j p s.head
+  branch_loses_second : (o : Option Role) (s : Shape) (j p : ℕ) → o ≡ Some Branches → roles s.head.kind ≡ o → Admits o s → slice_get (branch_places (min (first_edge_operands s.head.attrs) (s.operands - 1)) s.operands 1) j ≡ Some p → LosesOperand (meaning_by roles) (SameTests roles number_of) s 1 j p s.head
   unfolding meaning_by
   branch_loses_second o s j p f e h cut_at =
       let k = of_role Branches s (subst (λ x. Admits x s) f h) in
       let s' : Shape = fewer_operands s s.head in
-      let lt : first_edge_count s.head.attrs < s.operands = count_below s.head.attrs s.operands k.attributes in
-      let whole : min (first_edge_count s.head.attrs) (s.operands - 1) ≡ first_edge_count s.head.attrs = not_cut (first_edge_count s.head.attrs) s.operands lt in
-      let at : slice_get (branch_places (first_edge_count s.head.attrs) s.operands 1) j ≡ Some p = subst (λ x. slice_get (branch_places x s.operands 1) j ≡ Some p) whole cut_at in
-      let place = range_at (suc (first_edge_count s.head.attrs)) (s.operands - suc (first_edge_count s.head.attrs)) j p at in
+      let lt : first_edge_operands s.head.attrs < s.operands = count_below s.head.attrs s.operands k.attributes in
+      let whole : min (first_edge_operands s.head.attrs) (s.operands - 1) ≡ first_edge_operands s.head.attrs = not_cut (first_edge_operands s.head.attrs) s.operands lt in
+      let at : slice_get (branch_places (first_edge_operands s.head.attrs) s.operands 1) j ≡ Some p = subst (λ x. slice_get (branch_places x s.operands 1) j ≡ Some p) whole cut_at in
+      let place = range_at (suc (first_edge_operands s.head.attrs)) (s.operands - suc (first_edge_operands s.head.attrs)) j p at in
       record {
         same_head = inl refl;
         same_tests = same_tests s.head s.head.attrs;
         admitted = subst (λ x. Admits x s') (sym (e ∙ f)) (takes_again Branches s.head s'.operands s.results s.successors (length s.entry_arguments) (record { dominance = k.dominance; attributes = count_kept s.head.attrs s.operands (s.operands - 1) k.attributes (omega (arith, place.1)); successors = k.successors; counts = k.counts }));
-        same_edges = λ n. subst (λ x. edge_places x s' n ≡ map (moved_up p) (if nat_eq n 1 then remove (edge_places x s n) j else edge_places x s n)) (sym (e ∙ f)) (ap (λ x. branch_places x (s.operands - 1) n) (omega (arith, place.1)) ∙ subst (λ x. branch_places (first_edge_count s.head.attrs) (s.operands - 1) n ≡ map (moved_up p) (if nat_eq n 1 then remove (branch_places x s.operands n) j else branch_places x s.operands n)) (sym whole) (second_edges (first_edge_count s.head.attrs) s.operands j p n at));
+        same_edges = λ n. subst (λ x. edge_places x s' n ≡ map (moved_up p) (if nat_eq n 1 then remove (edge_places x s n) j else edge_places x s n)) (sym (e ∙ f)) (ap (λ x. branch_places x (s.operands - 1) n) (omega (arith, place.1)) ∙ subst (λ x. branch_places (first_edge_operands s.head.attrs) (s.operands - 1) n ≡ map (moved_up p) (if nat_eq n 1 then remove (branch_places x s.operands n) j else branch_places x s.operands n)) (sym whole) (second_edges (first_edge_operands s.head.attrs) s.operands j p n at));
         alike = λ first l. alike_at_once s s' first (remove first p) 1 j (subst (λ x. IsTrue (by_form false branches (option_map form_of x))) (sym (e ∙ f)) refl)
             (subst (λ x. MovesAlike PassesSame (JumpsLess 1 j) (by_role no_act act_of x s Empty first) (by_role no_act act_of x s' Empty (remove first p))) (sym (e ∙ f))
-            (subst (λ n. MovesAlike PassesSame (JumpsLess 1 j) (act_of Branches s Empty first) (Goto (edge_of n) (edge_values (first_edge_count s.head.attrs) (edge_of n) (drop 1 (remove first p))))) (sym (condition_kept first p (omega (arith, place.0))))
-            (second_loses (first_edge_count s.head.attrs) j p (is_zero (condition_of first)) first (omega (arith, place.0)) (omega (arith, place.0, place.1, l)))));
+            (subst (λ n. MovesAlike PassesSame (JumpsLess 1 j) (act_of Branches s Empty first) (Goto (edge_by_condition n) (edge_values (first_edge_operands s.head.attrs) (edge_by_condition n) (drop 1 (remove first p))))) (sym (condition_kept first p (omega (arith, place.0))))
+            (second_loses (first_edge_operands s.head.attrs) j p (is_zero (condition_of first)) first (omega (arith, place.0)) (omega (arith, place.0, place.1, l)))));
       }
 
-  role_loses : (k : Role) (s : Shape) (i j p : ℕ) → roles s.head.kind ≡ Some k → Admits (Some k) s → IsTrue (branches (form_of k)) → i < s.successors → slice_get (edge_places (Some k) s i) j ≡ Some p → LosesOperand (meaning_by roles) (SameTests roles number_of) s i j p (shortened_of (form_of k) s.head i)
+  role_loses : (k : Role) (s : Shape) (i j p : ℕ) → roles s.head.kind ≡ Some k → Admits (Some k) s → IsTrue (branches (form_of k)) → i < s.successors → slice_get (edge_places (Some k) s i) j ≡ Some p → LosesOperand (meaning_by roles) (SameTests roles number_of) s i j p (shortened_by_form (form_of k) s.head i)
   role_loses Jumps s zero j p e h br lt at = jump_loses (Some Jumps) s j p refl e h at
   role_loses Jumps s (suc i) j p e h br lt at = nowhere j p at
   role_loses Branches s zero j p e h br lt at = branch_loses_first (Some Branches) s j p refl e h at
@@ -153,7 +153,7 @@ module _ (roles : ℕ → Option Role) {K : Type 0} (number_of : K → ℕ) wher
   role_loses Branches s (suc (suc i)) j p e h br lt at = nowhere j p at
   role_loses _ s i j p e h br lt at = grind arith
 
-  loses : (o : Option Role) (s : Shape) (i j p : ℕ) → roles s.head.kind ≡ o → Admits o s → IsTrue (by_form false branches (option_map form_of o)) → i < s.successors → slice_get (edge_places o s i) j ≡ Some p → LosesOperand (meaning_by roles) (SameTests roles number_of) s i j p (by_form as_it_is shortened_of (option_map form_of o) s.head i)
+  loses : (o : Option Role) (s : Shape) (i j p : ℕ) → roles s.head.kind ≡ o → Admits o s → IsTrue (by_form false branches (option_map form_of o)) → i < s.successors → slice_get (edge_places o s i) j ≡ Some p → LosesOperand (meaning_by roles) (SameTests roles number_of) s i j p (by_form head_unchanged shortened_by_form (option_map form_of o) s.head i)
   loses None s i j p e h br lt at = grind arith
   loses (Some k) s i j p e h br lt at = role_loses k s i j p e h br lt at
 

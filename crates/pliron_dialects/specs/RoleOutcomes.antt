@@ -10,10 +10,10 @@ use Rattle.pliron_laws.specs.Tree.{Operation, op_at, shape_of}
 use Rattle.pliron_laws.specs.Acting.{pick}
 use Rattle.pliron_laws.specs.InPlace.{Outcome, materialising}
 use Rattle.pliron_laws.specs.Replacing.{branch_replaced}
-use Rattle.pliron_dialects.specs.Numbers.{known_at}
+use Rattle.pliron_dialects.specs.Numbers.{known_number_at}
 use Rattle.pliron_dialects.specs.declared.form.Form.{Form}
 use Rattle.pliron_dialects.specs.declared.form.Form.TheVariants.{Constant, Branches}
-use Rattle.pliron_dialects.specs.Forms.{plain_head, edge_of}
+use Rattle.pliron_dialects.specs.Forms.{head_of_kind, edge_by_condition}
 use Rattle.pliron_dialects.specs.Roles.{Role, form_at, by_role, takes_by, meaning_by}
 use Rattle.pliron_dialects.specs.RoleTables.{constants_by, accepts_numbers, constant_head_of}
 
@@ -31,14 +31,14 @@ outcome_by roles n t t' op known answer = fold_of roles n (form_in roles (head_o
 
 -- the edge that is known to be taken: that of an admitted branch whose condition is known
 abbrev pub known_edge : Option Form → Bool → Option ℤ → Option ℕ
-known_edge (Some Branches) true (Some c) = Some (edge_of c)
+known_edge (Some Branches) true (Some c) = Some (edge_by_condition c)
 known_edge _ _ _ = None
 
 abbrev pub admits_shape : (ℕ → Option Role) → Shape → Bool
 admits_shape roles s = by_role false (takes_by s.head s.operands s.results s.successors (length s.entry_arguments)) (roles s.head.kind)
 
 abbrev pub edge_under : (ℕ → Option Role) → Shape → List (Option AttrObj) → Option ℕ
-edge_under roles s known = known_edge (form_at roles s.head.kind) (admits_shape roles s) (known_at known 0)
+edge_under roles s known = known_edge (form_at roles s.head.kind) (admits_shape roles s) (known_number_at known 0)
 
 -- a jump, with this number, to the target of this edge, with the values that the edge forwards, stands in the
 -- place of op
@@ -47,7 +47,7 @@ pub record BecomesJump (roles : ℕ → Option Role) (n : ℕ) (t t' : Tree) (op
   pub values : List ℕ
   pub target : slice_get o.successors edge ≡ Some block
   pub forwarded : map Some values ≡ pick ((meaning_by roles).forwarded (shape_of (meaning_by roles) t o) edge) o.operands
-  pub tree : t' ≡ branch_replaced t op (plain_head n) values (block ∷ [])
+  pub tree : t' ≡ branch_replaced t op (head_of_kind n) values (block ∷ [])
 
 -- where memory was refused the tree is as before, but for spent keys; else the branch stays, or becomes a jump
 -- where its edge is known

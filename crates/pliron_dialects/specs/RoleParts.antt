@@ -8,7 +8,7 @@ use Rattle.std.specs.Prelude.{pos, negsuc}
 use Rattle.pliron_laws.specs.Datum.{Datum, Empty, Head, Shape, Move, Give, Visit, Goto, Leave, Emit, Trap}
 use Rattle.pliron_laws.specs.Acting.{Act, Comes}
 use Rattle.pliron_laws.specs.Acting.Comes.{Begins, Answered, Told}
-use Rattle.pliron_dialects.specs.Forms.{takes_attributes, takes_counts, successor_count, has_count, first_edge_count}
+use Rattle.pliron_dialects.specs.Forms.{takes_attributes, takes_counts, successors_of_form, has_count, first_edge_operands}
 use Rattle.pliron_dialects.specs.Roles.{Role, Tables, KeepsTables, Constant, Computes, Jumps, Branches, Leaves, Acts, ActsFit, by_role, role_at, form_of, own_takes, takes_by}
 
 pub both_parts : (x y : Bool) → IsTrue (x && y) → IsTrue x × IsTrue y
@@ -22,15 +22,15 @@ same a b h = search (rules, arith)
 pub record IsTaken (r : Role) (h : Head) (a b c d : ℕ) : Type 0 where
   pub dominance : IsTrue h.ssa
   pub attributes : IsTrue (takes_attributes (form_of r) h.attrs a)
-  pub successors : c ≡ successor_count (form_of r)
+  pub successors : c ≡ successors_of_form (form_of r)
   pub counts : IsTrue (takes_counts (form_of r) (own_takes r a b d) a b d)
 
 pub is_taken : (r : Role) (h : Head) (a b c d : ℕ) → IsTrue (takes_by h a b c d r) → IsTaken r h a b c d
 is_taken r h a b c d t =
-    let p = both_parts (h.ssa && takes_attributes (form_of r) h.attrs a && nat_eq c (successor_count (form_of r))) (takes_counts (form_of r) (own_takes r a b d) a b d) t in
-    let q = both_parts (h.ssa && takes_attributes (form_of r) h.attrs a) (nat_eq c (successor_count (form_of r))) p.0 in
+    let p = both_parts (h.ssa && takes_attributes (form_of r) h.attrs a && nat_eq c (successors_of_form (form_of r))) (takes_counts (form_of r) (own_takes r a b d) a b d) t in
+    let q = both_parts (h.ssa && takes_attributes (form_of r) h.attrs a) (nat_eq c (successors_of_form (form_of r))) p.0 in
     let u = both_parts h.ssa (takes_attributes (form_of r) h.attrs a) q.0 in
-    record { dominance = u.0; attributes = u.1; successors = same c (successor_count (form_of r)) q.1; counts = p.1 }
+    record { dominance = u.0; attributes = u.1; successors = same c (successors_of_form (form_of r)) q.1; counts = p.1 }
 
 -- one result and no region; neither
 pub one_result : (a n b d : ℕ) → IsTrue (nat_eq a n && nat_eq b 1 && nat_eq d 0) → b ≡ 1
@@ -52,7 +52,7 @@ of_role r s h = is_taken r s.head s.operands s.results s.successors (length s.en
 pub below : (a b : ℕ) → IsTrue (nat_lt a b) → a < b
 below a b h = search (rules, arith)
 
-pub count_below : (attrs : List AttrObj) (a : ℕ) → IsTrue (has_count attrs a) → first_edge_count attrs < a
+pub count_below : (attrs : List AttrObj) (a : ℕ) → IsTrue (has_count attrs a) → first_edge_operands attrs < a
 count_below [] a h = grind arith
 count_below (Int (pos n) ∷ []) a h = below n a h
 count_below (Int (pos n) ∷ x ∷ attrs) a h = grind arith
@@ -90,17 +90,17 @@ same_true a b e = search (rules, arith)
 
 pub takes_again : (r : Role) (h : Head) (a b c d : ℕ) → IsTaken r h a b c d → IsTrue (takes_by h a b c d r)
 takes_again r h a b c d t =
-    both_true (h.ssa && takes_attributes (form_of r) h.attrs a && nat_eq c (successor_count (form_of r))) (takes_counts (form_of r) (own_takes r a b d) a b d)
-    (both_true (h.ssa && takes_attributes (form_of r) h.attrs a) (nat_eq c (successor_count (form_of r)))
+    both_true (h.ssa && takes_attributes (form_of r) h.attrs a && nat_eq c (successors_of_form (form_of r))) (takes_counts (form_of r) (own_takes r a b d) a b d)
+    (both_true (h.ssa && takes_attributes (form_of r) h.attrs a) (nat_eq c (successors_of_form (form_of r)))
     (both_true h.ssa (takes_attributes (form_of r) h.attrs a) t.dominance t.attributes)
-    (same_true c (successor_count (form_of r)) t.successors))
+    (same_true c (successors_of_form (form_of r)) t.successors))
     t.counts
 
 below_true : (a b : ℕ) → a < b → IsTrue (nat_lt a b)
 below_true a b lt = search (rules, arith)
 
 -- the count of the first edge alone is the attribute
-pub count_set : (attrs : List AttrObj) (a n : ℕ) → IsTrue (has_count attrs a) → first_edge_count (slice_set attrs 0 (Int (pos n))) ≡ n
+pub count_set : (attrs : List AttrObj) (a n : ℕ) → IsTrue (has_count attrs a) → first_edge_operands (slice_set attrs 0 (Int (pos n))) ≡ n
 count_set [] a n h = grind arith
 count_set (x ∷ attrs) a n h = refl
 
@@ -113,7 +113,7 @@ count_fits (Int (negsuc m) ∷ x ∷ attrs) a b n h lt = grind arith
 count_fits (Words w ∷ []) a b n h lt = grind arith
 count_fits (Words w ∷ x ∷ attrs) a b n h lt = grind arith
 
-pub count_kept : (attrs : List AttrObj) (a b : ℕ) → IsTrue (has_count attrs a) → first_edge_count attrs < b → IsTrue (has_count attrs b)
+pub count_kept : (attrs : List AttrObj) (a b : ℕ) → IsTrue (has_count attrs a) → first_edge_operands attrs < b → IsTrue (has_count attrs b)
 count_kept [] a b h lt = grind arith
 count_kept (Int (pos m) ∷ []) a b h lt = below_true m b lt
 count_kept (Int (pos m) ∷ x ∷ attrs) a b h lt = grind arith

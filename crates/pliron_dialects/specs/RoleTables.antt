@@ -3,8 +3,8 @@ use Rattle.std.specs.Prelude.{ℕ, nat_eq, Bool, false, List, [], Option, None, 
 use Rattle.pliron_core.specs.declared.attrs.AttrObj.{AttrObj}
 use Rattle.pliron_laws.specs.declared.dialect.Interface.{Interface}
 use Rattle.pliron_laws.specs.Datum.{Head, Shape}
-use Rattle.pliron_dialects.specs.Numbers.{is_number}
-use Rattle.pliron_dialects.specs.Forms.{by_form, effects_of, removable_of, no_removal, folds_of, folds_branch_of, answer_of, answers_of, feasible_of, no_jump, interface_of, attribute_head, shortened_of, as_it_is}
+use Rattle.pliron_dialects.specs.Numbers.{is_whole_number}
+use Rattle.pliron_dialects.specs.Forms.{by_form, effects_of, removable_of, no_removal, folds_of, folds_branch_of, answer_of, answers_of, feasible_of, no_jump, interface_of, head_with_attribute, shortened_by_form, head_unchanged}
 use Rattle.pliron_dialects.specs.Roles.{Role, by_role, form_of, value_of, form_at}
 
 unfoldable pub effects_by : (ℕ → Option Role) → Head → Option Bool
@@ -24,10 +24,10 @@ constants_by roles s known = by_role [] (answers_by s.head known) (roles s.head.
 
 -- a constant is made of a number within 64 signed bits, as an operation with this number
 unfoldable pub accepts_numbers : AttrObj → Bool
-accepts_numbers attr = is_number attr
+accepts_numbers attr = is_whole_number attr
 
 unfoldable pub constant_head_of : ℕ → AttrObj → Head
-constant_head_of n attr = attribute_head n attr
+constant_head_of n attr = head_with_attribute n attr
 
 unfoldable pub branch_folds_by : (ℕ → Option Role) → Head → Bool
 branch_folds_by roles h = by_form false folds_branch_of (form_at roles h.kind)
@@ -42,4 +42,4 @@ unfoldable pub interfaces_by : (ℕ → Option Role) → Head → Interface → 
 interfaces_by roles h interface = by_form false (interface_of interface) (form_at roles h.kind)
 
 unfoldable pub shortened_by : (ℕ → Option Role) → Shape → ℕ → ℕ → Head
-shortened_by roles s i j = by_form as_it_is shortened_of (form_at roles s.head.kind) s.head i
+shortened_by roles s i j = by_form head_unchanged shortened_by_form (form_at roles s.head.kind) s.head i

@@ -4,8 +4,8 @@ use Rattle.pliron_dialects.specs.declared.form.Form.{Form}
 use Rattle.pliron_dialects.specs.declared.form.Form.TheVariants.{Constant as ConstantForm, Computes as ComputesForm, Jumps as JumpsForm, Branches as BranchesForm, Leaves as LeavesForm, Acts as ActsForm}
 use Rattle.pliron_laws.specs.Datum.{Datum, Number, datum_of, Head, Shape, Move, Give, Goto, Leave, Trap, Meaning}
 use Rattle.pliron_laws.specs.Laws.{CountsFit}
-use Rattle.pliron_dialects.specs.Numbers.{as_number, nth_number}
-use Rattle.pliron_dialects.specs.Forms.{by_form, takes, first_attribute, first_edge_count, edge_of, edge_values, ends_block, branches, places_in, no_places}
+use Rattle.pliron_dialects.specs.Numbers.{whole_number_of, nth_number}
+use Rattle.pliron_dialects.specs.Forms.{by_form, takes, first_attribute, first_edge_operands, edge_by_condition, edge_values, ends_block, branches, places_by_form, forwards_nothing}
 
 pub data Role : Type 0 where
   -- it has no operands, and gives the number of its one attribute
@@ -72,13 +72,13 @@ by_role other table (Some r) = table r
 
 -- what a branch decides by: its first operand, as a number
 abbrev pub condition_of : List Datum → ℤ
-condition_of input = nth_number (map as_number input) 0
+condition_of input = nth_number (map whole_number_of input) 0
 
 abbrev pub act_of : Role → Shape → Datum → List Datum → Move
 act_of Constant s memo input = Give (datum_of (first_attribute s.head.attrs) ∷ [])
-act_of (Computes n value) s memo input = Give (Number (value (map as_number input)) ∷ [])
+act_of (Computes n value) s memo input = Give (Number (value (map whole_number_of input)) ∷ [])
 act_of Jumps s memo input = Goto 0 input
-act_of Branches s memo input = Goto (edge_of (condition_of input)) (edge_values (first_edge_count s.head.attrs) (edge_of (condition_of input)) (drop 1 input))
+act_of Branches s memo input = Goto (edge_by_condition (condition_of input)) (edge_values (first_edge_operands s.head.attrs) (edge_by_condition (condition_of input)) (drop 1 input))
 act_of Leaves s memo input = Leave input
 act_of (Acts takes act) s memo input = act s memo input
 
@@ -102,5 +102,5 @@ meaning_by roles = record {
   may_be_root = λ h. true;
   is_terminator = λ h. by_form false ends_block (form_at roles h.kind);
   is_branch = λ h. by_form false branches (form_at roles h.kind);
-  forwarded = λ s i. by_form no_places places_in (form_at roles s.head.kind) s.head.attrs s.operands i;
+  forwarded = λ s i. by_form forwards_nothing places_by_form (form_at roles s.head.kind) s.head.attrs s.operands i;
 }

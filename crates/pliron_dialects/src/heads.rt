@@ -1,6 +1,6 @@
 //! The heads of new operations.
 ghost use Rattle.std.specs.Prelude.{◌≡◌, IfOk};
-ghost use Rattle.pliron_dialects.specs.Forms.{attribute_head as head_with_attribute, plain_head as head_without};
+ghost use Rattle.pliron_dialects.specs.Forms.{head_with_attribute, head_of_kind as head_without};
 
 use pliron_core::{AttrObj, Attrs, Head};
 use std::alloc::{AllocFailed, Global};

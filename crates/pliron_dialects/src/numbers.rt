@@ -2,8 +2,8 @@
 ghost use Rattle.std.specs.Prelude.{◌≡◌, min, OnOk, IfOk, IfSome, IfNone, option_map};
 ghost use Rattle.std.specs.Int.{w64, int_wrap};
 ghost use Rattle.pliron_laws.specs.Datum.{datum_of};
-ghost use Rattle.pliron_dialects.specs.Numbers.{as_number as number_in, fits as is_within, is_number as is_number_within, nth_number as nth_in, known_at, all_known, sum as sum_of, product as product_of, less as less_of};
-ghost use Rattle.pliron_dialects.specs.Forms.{edge_of as edge_in, count_of};
+ghost use Rattle.pliron_dialects.specs.Numbers.{whole_number_of as number_in, fits as is_within, is_whole_number as is_number_within, nth_number as nth_in, known_number_at, all_known, wrapped_sum as sum_of, wrapped_product as product_of, less as less_of};
+ghost use Rattle.pliron_dialects.specs.Forms.{edge_by_condition as edge_in, counted_by};
 
 use pliron_core::AttrObj;
 use std::alloc::{AllocFailed, Global};
@@ -73,7 +73,7 @@ pub fn less(a: i64, b: i64) -> i64
 
 /// The number that is known of the operand at this index. Cost: constant.
 pub fn known_number(operand_attrs: &[Option<AttrObj>], i: usize) -> Option<i64>
-    ensures { result ≡ known_at operand_attrs.now i }
+    ensures { result ≡ known_number_at operand_attrs.now i }
 {
     if i >= operand_attrs.len() {
         return None;
@@ -110,7 +110,7 @@ pub fn edge_of(condition: i64) -> usize
 
 /// How many operands the attribute counts, at most so many. Cost: constant.
 pub fn count_up_to(attr: &AttrObj, most: usize) -> usize
-    ensures { result ≡ min (count_of attr.now) most }
+    ensures { result ≡ min (counted_by attr.now) most }
 {
     match attr {
         AttrObj::Int(number) => {

@@ -8,7 +8,7 @@ ghost use Rattle.pliron_laws.specs.Datum.{Head as HeadOf};
 ghost use Rattle.pliron_laws.specs.Acting.{pick};
 ghost use Rattle.pliron_laws.specs.Answers.{ReadsHead};
 ghost use Rattle.pliron_laws.specs.Answers.{with_head};
-ghost use Rattle.pliron_dialects.specs.Forms.{by_form, count_of, first_edge_count as first_count_of, as_it_is, shortened_of, places_in, no_places, counted_places, only};
+ghost use Rattle.pliron_dialects.specs.Forms.{by_form, counted_by, first_edge_operands as first_count_of, head_unchanged, shortened_by_form, places_by_form, forwards_nothing, counted_places, only_successor};
 ghost use Rattle.pliron_dialects.specs.Roles.{role_at, form_at as form_by};
 
 use crate::form::Form;
@@ -57,7 +57,7 @@ fn branch_places(attrs: &Attrs, operands: usize, i: usize) -> Places
 
 // The places of the operands that an edge of an operation of this form forwards.
 fn places_in_form(form: Form, attrs: &Attrs, operands: usize, i: usize) -> Places
-    ensures places { places_in form attrs.now operands i ≡ range_with_len result.first result.count }
+    ensures places { places_by_form form attrs.now operands i ≡ range_with_len result.first result.count }
     ensures within { (j : ℕ) → j < result.count → result.first + j < operands }
     ensures fits { result.first + result.count ≤ 18446744073709551615 }
 {
@@ -81,7 +81,7 @@ fn places_in_form(form: Form, attrs: &Attrs, operands: usize, i: usize) -> Place
 /// Cost: constant.
 pub fn places_at<K: Kinds>(op: Ptr<Operation>, ctx: &Context, i: usize) -> Places
     requires { IsLive ctx.now.tree op }
-    ensures places { ReadsHead (λ h. by_form no_places places_in (form_by (role_at K.tables) h.kind) h.attrs (length
+    ensures places { ReadsHead (λ h. by_form forwards_nothing places_by_form (form_by (role_at K.tables) h.kind) h.attrs (length
         (operands_of ctx.now.tree op)) i) ctx.now.tree op (range_with_len result.first result.count) }
     ensures within { (j : ℕ) → j < result.count → result.first + j < length (operands_of ctx.now.tree op) }
     ensures fits { result.first + result.count ≤ 18446744073709551615 }
@@ -153,7 +153,7 @@ pub fn only_successor(
     i: usize,
 ) -> Result<Vec<Ptr<BasicBlock>>, AllocFailed<Ptr<BasicBlock>>>
     requires { IsLive ctx.now.tree op }
-    ensures { IfOk result (λ blocks. blocks.items ≡ only (slice_get (successors_of ctx.now.tree op) i)) }
+    ensures { IfOk result (λ blocks. blocks.items ≡ only_successor (slice_get (successors_of ctx.now.tree op) i)) }
 {
     let mut blocks = Vec::new(alloc);
     if i < op.num_successor(ctx) {
@@ -164,7 +164,7 @@ pub fn only_successor(
 
 // The count of an attribute, less one.
 fn one_fewer(attr: &AttrObj) -> AttrObj
-    ensures { result ≡ Int (pos (count_of attr.now - 1)) }
+    ensures { result ≡ Int (pos (counted_by attr.now - 1)) }
 {
     match attr {
         AttrObj::Int(number) => {
@@ -183,7 +183,7 @@ fn one_fewer(attr: &AttrObj) -> AttrObj
 pub fn shorten<K: Kinds>(op: Ptr<Operation>, ctx: &mut Context, i: usize)
     requires { IsLive ctx.old.tree op }
     ensures head { (h : HeadOf) → head_of ctx.old.tree op ≡ Some h → ctx.new.tree ≡
-        with_head ctx.old.tree op (by_form as_it_is shortened_of (form_by (role_at K.tables) h.kind) h i) }
+        with_head ctx.old.tree op (by_form head_unchanged shortened_by_form (form_by (role_at K.tables) h.kind) h i) }
     ensures block_uses { ctx.new.block_uses ≡ ctx.old.block_uses }
 {
     if i > 0 {

@@ -6,7 +6,7 @@ ghost use Rattle.pliron_core.specs.Insertion.{IsPointFor, inserted};
 ghost use Rattle.pliron_core.specs.Changes.{IsSameTree};
 ghost use Rattle.pliron_laws.specs.Tree.{Operation as OperationOf, op_at};
 ghost use Rattle.pliron_laws.specs.Replacing.{with_edges};
-ghost use Rattle.pliron_dialects.specs.Forms.{plain_head as head_without};
+ghost use Rattle.pliron_dialects.specs.Forms.{head_of_kind as head_without};
 ghost use Rattle.pliron_dialects.specs.Roles.{role_at};
 ghost use Rattle.pliron_dialects.specs.RoleOutcomes.{BecomesJump};
 

@@ -2,7 +2,7 @@
 ghost use Rattle.std.specs.Prelude.{◌≡◌, ℕ, Some};
 ghost use Rattle.pliron_core.specs.Tree.{IsLive, IsBlock, block_parent_of};
 ghost use Rattle.pliron_laws.specs.Answers.{ReadsHead, is_entry};
-ghost use Rattle.pliron_dialects.specs.Forms.{takes_attributes as attributes_taken, takes_counts as counts_taken, successor_count, has_number as is_one_number, has_count as is_one_count, is_count, takes as takes_all};
+ghost use Rattle.pliron_dialects.specs.Forms.{takes_attributes as attributes_taken, takes_counts as counts_taken, successors_of_form, has_number as is_one_number, has_count as is_one_count, is_count, takes as takes_all};
 ghost use Rattle.pliron_dialects.specs.Forms.{ends_block as is_ending, branches as is_branching, effects_of, removable_of, folds_of, folds_branch_of, interface_of};
 ghost use Rattle.pliron_dialects.specs.Roles.{role_at, form_at as form_by};
 
@@ -73,7 +73,7 @@ fn counts_below(attr: &AttrObj, operands: usize) -> bool
 impl Form {
     // How many successors an operation of the form has.
     fn successor_count(self) -> usize
-        ensures { result ≡ successor_count self }
+        ensures { result ≡ successors_of_form self }
     {
         match self {
             Form::Jumps => 1,

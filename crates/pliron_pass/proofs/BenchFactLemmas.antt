@@ -43,8 +43,8 @@ flat_same : {A : Type 0} (f g : ℕ → List A) (xs : List ℕ) → ((x : ℕ) �
 flat_same f g [] h = refl
 flat_same f g (x ∷ xs) h = ap (λ z. z ++ flat_map f xs) (h x (inl refl)) ∙ ap (λ z. g x ++ z) (flat_same f g xs (λ y i. h y (inr i)))
 
-is_same_key : (n : ℕ) → nat_eq n n ≡ true
-is_same_key n = grind arith
+key_alike : (n : ℕ) → nat_eq n n ≡ true
+key_alike n = grind arith
 
 other_key : (n m : ℕ) → n ≢ m → nat_eq n m ≡ false
 other_key n m ne = grind (arith, ne)
@@ -55,7 +55,7 @@ pairs_first t k b e f = ap (pairs_led t k) e ∙ ap (λ c. if c then pairs_of (b
   where
     begins : (xs : List ℕ) → first_of xs None ≡ Some k → begins_with k xs ≡ true
     begins [] g = absurd (cc)
-    begins (x ∷ xs) g = let s : x ≡ k = cc in subst (λ z. nat_eq k z ≡ true) (sym s) (is_same_key k)
+    begins (x ∷ xs) g = let s : x ≡ k = cc in subst (λ z. nat_eq k z ≡ true) (sym s) (key_alike k)
 
 pub pairs_later : (t : Tree) (k b : ℕ) → parent_of t k ≡ Some b → first_of (body_of t b) None ≢ Some k → pairs_at t k ≡ []
 pairs_later t k b e f = ap (pairs_led t k) e ∙ ap (λ c. if c then pairs_of (b, succs_of t b) else []) (begins (body_of t b) f)
@@ -89,7 +89,7 @@ module _ (t : Tree) (w : IsTree t) where
   led_by_first b y ys e =
       ap (λ o. pairs_led t y o) (w.bodies.owned y b (subst (In y) (sym e) (inl refl)))
       ∙ ap (λ zs. if begins_with y zs then pairs_of (b, succs_of t b) else []) e
-      ∙ ap (λ c. if c then pairs_of (b, succs_of t b) else []) (is_same_key y)
+      ∙ ap (λ c. if c then pairs_of (b, succs_of t b) else []) (key_alike y)
 
   led_by_none : (b y k : ℕ) (ys : List ℕ) → body_of t b ≡ y ∷ ys → In k ys → pairs_at t k ≡ []
   led_by_none b y k ys e i =

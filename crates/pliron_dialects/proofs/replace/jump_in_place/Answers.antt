@@ -1,7 +1,7 @@
 use Rattle.std.proofs.Common.{◌∙◌, subst}
 use Rattle.std.specs.List.{range_with_len}
 use Rattle.pliron_core.specs.Tree.{In}
-use Rattle.pliron_dialects.specs.Forms.{plain_head}
+use Rattle.pliron_dialects.specs.Forms.{head_of_kind}
 use Rattle.pliron_dialects.proofs.EdgeLemmas.{becomes_jump}
 use Rattle.pliron_dialects.proofs.JumpLemmas.{jump_values, jump_point, old_contained, new_contained, jump_undone, jump_done, jump_long, undone_jump_long}
 use Rattle.pliron_dialects.proofs.replace.jump_in_place.Goals as goal
@@ -24,7 +24,7 @@ returns-in-Ok-clause-ok g c =
     let t = c.args.ctx.now.tree in
     let places = c.places_at-places in
     becomes_jump _ _ t c.erase_operation.new.ctx.tree c.args.op c.get_successor-target.result c.args.edge (range_with_len places.result.first places.result.count) c.as_slice.result.now c.in_ok-values.values.items c.get_successor-target.ensures.successor places.ensures.places c.as_slice.ensures.value c.in_ok-values.ensures
-    (jump_done t c.create.new.ctx.tree c.put_jump.new.ctx.tree c.erase_operation.new.ctx.tree c.args.op c.in_ok-jump.jump c.get_successor-target.result (plain_head (g.K.Kinds.tables.number_of g.K.Kinds.tables.jump)) c.jump_head.result _ _ c.as_slice.result.now c.in_ok-jump.ensures.ok c.jump_head.ensures c.in_ok-jump.ensures.key c.room.ensures.point c.requires.point c.in-Ok.ensures.ok c.erase_operation.ensures.erased)
+    (jump_done t c.create.new.ctx.tree c.put_jump.new.ctx.tree c.erase_operation.new.ctx.tree c.args.op c.in_ok-jump.jump c.get_successor-target.result (head_of_kind (g.K.Kinds.tables.number_of g.K.Kinds.tables.jump)) c.jump_head.result _ _ c.as_slice.result.now c.in_ok-jump.ensures.ok c.jump_head.ensures c.in_ok-jump.ensures.key c.room.ensures.point c.requires.point c.in-Ok.ensures.ok c.erase_operation.ensures.erased)
 
 pub erase_operation-requires-in-Err-clause-contained : goal.erase_operation-requires-in-Err-clause-contained
 erase_operation-requires-in-Err-clause-contained g c =
