@@ -1,0 +1,9 @@
+//! Tests of the dialect `Arithmetic`, on texts. It has no function of its own.
+#![tactic(auto)]
+
+#[cfg(test)]
+mod folds;
+#[cfg(test)]
+mod reading;
+#[cfg(test)]
+mod writing;
