@@ -60,9 +60,9 @@ fn check_plainly<D: Dialect>(
 }
 
 /// One thing that keeps the operation from being fit to run, with its place; `None` only where all is right
-/// but for dominance of uses, at which this doesn't look: runs may begin there, it has no successors and uses
-/// nothing from outside, nothing outside uses what is made inside it, the tree is well linked there, all regions
-/// have dominance, edges forward what their targets take, terminators stand last, and results of what has
+/// but for dominance of uses, at which this doesn't look: runs may begin there, it has no successors, what
+/// stands inside it uses nothing from outside, nothing outside uses what is made inside it, the tree is well linked
+/// there, all regions have dominance, edges forward what their targets take, terminators stand last, and results of what has
 /// successors have no use. Which of several things comes is open.
 ///
 /// Asks that the operation stands. Errors: want of memory. Cost: one step for each operation, block, region,
