@@ -4,6 +4,8 @@
 #[cfg(test)]
 mod folds;
 #[cfg(test)]
+mod passes;
+#[cfg(test)]
 mod reading;
 #[cfg(test)]
 mod writing;
