@@ -1,0 +1,2 @@
+pub mod Observes
+pub mod Optimised
