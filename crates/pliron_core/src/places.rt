@@ -34,7 +34,11 @@ const FREE: Place = Place {
 };
 
 // The places of so many targets, by rising key, each with one use.
-pub(super) fn new_places(alloc: Global, first: usize, count: usize) -> Result<Row<Place>, AllocError>
+pub(super) fn new_places(
+    alloc: Global,
+    first: usize,
+    count: usize,
+) -> Result<Row<Place>, AllocError>
     requires { first + count < 2 ^ 64 }
     ensures { IfOk result (λ row. row ≡ places_from first count) }
 {

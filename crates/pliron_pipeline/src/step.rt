@@ -9,7 +9,8 @@ use crate::dead_code::DCEPass;
 use pliron_core::{Context, Operation, Ptr};
 use pliron_laws::{Dialect, OptError};
 use pliron_pass::{
-    Analyses, AnalysisKind, AnalysisManager, Either, NestedOpsPass, Pass, PassResult, Passes, Repeat,
+    Analyses, AnalysisKind, AnalysisManager, Either, NestedOpsPass, Pass, PassResult, Passes,
+    Repeat,
 };
 use std::alloc::Global;
 
