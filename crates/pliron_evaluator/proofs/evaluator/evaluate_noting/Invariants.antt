@@ -1,7 +1,7 @@
 use Rattle.std.proofs.Common.{◌≡◌, ◌-◌, map}
 use Rattle.pliron_laws.specs.Machine.{run, run_from, step}
 use Rattle.pliron_evaluator.specs.Evaluator.{datum_of_value, state_of}
-use Rattle.pliron_evaluator.proofs.evaluator.evaluate.Given as goal
+use Rattle.pliron_evaluator.proofs.evaluator.evaluate_noting.Given as goal
 
 abbrev pub invariant-loop : goal.invariant-loop
 invariant-loop g l =

@@ -1,6 +1,6 @@
 use Rattle.pliron_laws.specs.Machine.{step}
 use Rattle.pliron_evaluator.proofs.EvaluatorSteps.{run_starts, run_goes, run_over, run_reached}
-use Rattle.pliron_evaluator.proofs.evaluator.evaluate.Goals as goal
+use Rattle.pliron_evaluator.proofs.evaluator.evaluate_noting.Goals as goal
 
 pub loop-init : goal.loop-init
 loop-init g c = run_starts (step g.D.HasMeaning.meaning c.args.ctx.now.tree) c.args.fuel c.in_ok-state.state _ c.in_ok-state.ensures
