@@ -2,7 +2,8 @@
 """Programs of known shapes, to measure optimisations.
 
   shapes.py SHAPE N bench|llvm|mlir  a text of about N operations
-  shapes.py list                     the names of the shapes
+  shapes.py list                     the names of the shapes, but those that bench alone can write:
+                                     boxed, fiftyboxes
 
 One program is built and printed in three notations, so that all optimisers see the same control flow: in
 that of this repository, with the shortest names and no blanks; in LLVM's, where an argument of a block is
@@ -327,6 +328,18 @@ def shiftargs(n, rng):
     return [f]
 
 
+def alternating(n, rng):
+    """two blocks of n/2 arguments; those of the second are freed from both ends in turn."""
+    f = Fn(1)
+    count = max(2, n // 2)
+    last, first = f.block(count), f.block(count)
+    f.br(f.entry, first, *[f.entry.args[0]] * count)
+    ends = [i // 2 if i % 2 == 0 else count - 1 - i // 2 for i in range(count)]
+    f.br(first, last, *[first.args[i] for i in reversed(ends)])
+    f.ret(last)
+    return [f]
+
+
 def funcs(n, rng):
     """n/10 small functions in one module, each a known diamond."""
     out = []
@@ -379,7 +392,22 @@ SHAPES = {"chain": chain, "diamonds": diamonds, "merges": merges, "loops": loops
           "nest": nest, "brchain": brchain, "brchain_rev": brchain_rev,
           "unreach": unreach, "dead": dead, "deadring": deadring, "fan": fan,
           "manyargs": manyargs, "liveargs": liveargs,
-          "lateargs": lateargs, "shiftargs": shiftargs, "funcs": funcs, "mixed": mixed}
+          "lateargs": lateargs, "shiftargs": shiftargs, "alternating": alternating, "funcs": funcs, "mixed": mixed}
+
+
+def boxes(n, depth):
+    """n/2 values inside boxes that hold one another, used outside by a chain of n/2 sums, the first sum free."""
+    names = short_names()
+    count = max(1, n // 2)
+    read = [next(names) for _ in range(count)]
+    total = [next(names) for _ in range(count)]
+    inside = ";".join(f"{r}=read" for r in read)
+    sums = ";".join(f"{total[i]}=add {read[i]} {total[i + 1] if i + 1 < count else read[i]}" for i in range(count))
+    return "func{z():" + "box{z():" * depth + inside + "}" * depth + ";" + sums + ";ret}\n"
+
+
+# in the bench notation alone, since the others have nothing like a box: a box, and fifty; a text holds 64 levels at most
+BOXES = {"boxed": lambda n: boxes(n, 1), "fiftyboxes": lambda n: boxes(n, 50)}
 
 
 def bench(fns, w):
@@ -532,6 +560,8 @@ PRINT = {"bench": bench, "llvm": llvm, "mlir": mlir}
 
 
 def text_of(shape, n, notation):
+    if shape in BOXES:
+        return BOXES[shape](n)
     parts = []
     PRINT[notation](SHAPES[shape](n, random.Random(1)), parts.append)
     return "".join(parts)
