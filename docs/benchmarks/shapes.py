@@ -331,7 +331,6 @@ def shiftargs(n, rng):
     return [f]
 
 
-<<<<<<< HEAD
 def alternating(n, rng):
     """two blocks of n/2 arguments; those of the second are freed from both ends in turn."""
     f = Fn(1)
@@ -340,7 +339,10 @@ def alternating(n, rng):
     f.br(f.entry, first, *[f.entry.args[0]] * count)
     ends = [i // 2 if i % 2 == 0 else count - 1 - i // 2 for i in range(count)]
     f.br(first, last, *[first.args[i] for i in reversed(ends)])
-=======
+    f.ret(last)
+    return [f]
+
+
 def sum_loop(f, m):
     """a loop of m sums, each of the one before, of which one more falls each time round; its end."""
     one = f.const(f.entry, 1)
@@ -369,13 +371,10 @@ def sumbr(n, rng):
     loop, end, sums = sum_loop(f, max(2, n - 6))
     last = f.block(len(sums))
     f.br(end, last, *sums)
->>>>>>> c994b3a7b05bb6a8a135cd72222b0f6c91ea750f
     f.ret(last)
     return [f]
 
 
-<<<<<<< HEAD
-=======
 def shiftbr(n, rng):
     """a loop without an end whose n arguments move on by one place each time, and a number is read for the first."""
     f = Fn()
@@ -387,7 +386,6 @@ def shiftbr(n, rng):
     return [f]
 
 
->>>>>>> c994b3a7b05bb6a8a135cd72222b0f6c91ea750f
 def funcs(n, rng):
     """n/10 small functions in one module, each a known diamond."""
     out = []
@@ -440,8 +438,8 @@ SHAPES = {"chain": chain, "diamonds": diamonds, "merges": merges, "loops": loops
           "nest": nest, "brchain": brchain, "brchain_rev": brchain_rev,
           "unreach": unreach, "dead": dead, "deadring": deadring, "fan": fan,
           "manyargs": manyargs, "liveargs": liveargs,
-<<<<<<< HEAD
-          "lateargs": lateargs, "shiftargs": shiftargs, "alternating": alternating, "funcs": funcs, "mixed": mixed}
+          "lateargs": lateargs, "shiftargs": shiftargs, "alternating": alternating,
+          "sumsink": sumsink, "sumbr": sumbr, "shiftbr": shiftbr, "funcs": funcs, "mixed": mixed}
 
 
 def boxes(n, depth):
@@ -457,10 +455,6 @@ def boxes(n, depth):
 
 # in the bench notation alone, since the others have nothing like a box: a box, and fifty; a text holds 64 levels at most
 BOXES = {"boxed": lambda n: boxes(n, 1), "fiftyboxes": lambda n: boxes(n, 50)}
-=======
-          "lateargs": lateargs, "shiftargs": shiftargs,
-          "sumsink": sumsink, "sumbr": sumbr, "shiftbr": shiftbr, "funcs": funcs, "mixed": mixed}
->>>>>>> c994b3a7b05bb6a8a135cd72222b0f6c91ea750f
 
 
 def bench(fns, w):
