@@ -4,6 +4,7 @@
 #![tactic(auto)]
 
 mod kind;
+mod moves;
 mod tables;
 
 pub use kind::ArithmeticKind;

@@ -8,4 +8,6 @@ mod passes;
 #[cfg(test)]
 mod reading;
 #[cfg(test)]
+mod runs;
+#[cfg(test)]
 mod writing;

@@ -52,10 +52,6 @@ index-map f xs i x e = get_or-map f xs i x 0 (slice_get_within xs i x e) ∙ ap 
 pub no_index-map : (f : ℕ → ℕ) (xs : List ℕ) (i : ℕ) → length xs ≤ i → slice_index_or (map f xs) i 0 ≡ 0
 no_index-map f xs i le = let same : length (map f xs) ≡ length xs = length-map xs f in get_or_past (map f xs) i 0 (omega (arith, same))
 
--- how many arguments the entry of the first region has
-pub entry_count : (t : Tree) (rs : List ℕ) (r : ℕ) (o : Option ℕ) → slice_get rs 0 ≡ Some r → IsRegion t r → o ≡ first_of (layout_of t r) None → count_arguments (and_block t o) ≡ slice_index_or (map (λ z. count_arguments (entry_block t z)) rs) 0 0
-entry_count t rs r o at stands e = ap count_arguments (begins t r o stands e) ∙ sym (index-map (λ z. count_arguments (entry_block t z)) rs 0 r at)
-
 pub block_count : (t : Tree) (b : ℕ) → IsBlock t b → length (arguments_of t b) ≡ count_arguments (and_block t (Some b))
 block_count t b s = sym (ap count_arguments (block_stands t b s).1)
 

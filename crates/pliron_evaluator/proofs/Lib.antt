@@ -3,3 +3,4 @@ pub mod EvaluatorLemmas
 pub mod EvaluatorSteps
 pub mod TinyMoves
 pub mod BenchActs
+mod KindMoves

@@ -1,3 +1,4 @@
 pub mod Tiny
 pub mod Evaluator
 pub mod TinyLaws
+pub mod OwnMoves

@@ -4,7 +4,6 @@ pub use Rattle.pliron_bench.specs.Bench.{first_attribute}
 use Rattle.std.specs.Prelude.{◌≡◌, ℕ, zero, suc, nat_eq, if◌then◌else◌, Bool, true, false, not, ◌&&◌, List, [], ◌∷◌, Option, Some, None, pos}
 use Rattle.std.specs.List.{range_with_len}
 use Rattle.pliron_core.specs.declared.attrs.AttrObj.{AttrObj}
-use Rattle.pliron_core.specs.declared.attrs.AttrObj.TheVariants.{Int}
 use Rattle.pliron_core.specs.declared.attrs.IRStatus.{IRStatus}
 use Rattle.pliron_core.specs.declared.attrs.IRStatus.TheVariants.{Unchanged}
 use Rattle.pliron_core.specs.Tree.{Tree}

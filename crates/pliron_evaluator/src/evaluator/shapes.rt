@@ -1,9 +1,20 @@
 //! How many values a visit or a jump of an operation is to pass.
 ghost use Rattle.std.specs.Prelude.{◌≡◌, map, slice_index_or};
-ghost use Rattle.pliron_core.specs.Tree.{IsLive, regions_of, successors_of};
+ghost use Rattle.pliron_core.specs.Tree.{IsLive, IsRegion, regions_of, successors_of};
 ghost use Rattle.pliron_laws.specs.Tree.{block_at, entry_block, count_arguments};
 
-use pliron_core::{Context, Operation, Ptr};
+use pliron_core::{Context, Operation, Ptr, Region};
+
+/// How many arguments the entry block of the region has, 0 if there is none.
+pub(super) fn num_region_argument(ctx: &Context, region: Ptr<Region>) -> usize
+    requires { IsRegion ctx.now.tree region }
+    ensures { result ≡ count_arguments (entry_block ctx.now.tree region) }
+{
+    match region.get_head(ctx) {
+        Some(block) => block.num_argument(ctx),
+        None => 0,
+    }
+}
 
 /// How many arguments the entry block of the first region has, 0 if there is none.
 pub(super) fn num_entry_argument(ctx: &Context, op: Ptr<Operation>) -> usize
@@ -13,10 +24,7 @@ pub(super) fn num_entry_argument(ctx: &Context, op: Ptr<Operation>) -> usize
     if op.num_region(ctx) == 0 {
         return 0;
     }
-    match op.get_region(ctx, 0).get_head(ctx) {
-        Some(block) => block.num_argument(ctx),
-        None => 0,
-    }
+    num_region_argument(ctx, op.get_region(ctx, 0))
 }
 
 /// How many arguments the successor with this index has, 0 if there is none.

@@ -1,15 +1,10 @@
-use Rattle.std.proofs.Common.{sym, ap, ◌∙◌}
+use Rattle.std.proofs.Common.{sym, ◌∙◌}
 use Rattle.pliron_core.specs.Tree.{regions_of}
-use Rattle.pliron_laws.specs.Tree.{and_block, count_arguments}
-use Rattle.pliron_evaluator.proofs.EvaluatorSteps.{entry_count, block_count}
+use Rattle.pliron_laws.specs.Tree.{entry_block, count_arguments}
+use Rattle.pliron_evaluator.proofs.EvaluatorSteps.{index-map}
 use Rattle.pliron_evaluator.proofs.evaluator.shapes.num_entry_argument.Goals as goal
 
-pub returns-in-Some : goal.returns-in-Some
-returns-in-Some c =
+pub returns : goal.returns
+returns c =
     let t = c.args.ctx.now.tree in
-    c.num_argument.ensures ∙ block_count t c.in-Some.block c.in-Some.ensures.stands ∙ ap (λ o. count_arguments (and_block t o)) (sym c.in-Some.is) ∙ entry_count t (regions_of t c.args.op) c.get_region.result c.get_head.result c.get_region.ensures.region c.get_region.ensures.stands c.get_head.ensures.first
-
-pub returns-in-None : goal.returns-in-None
-returns-in-None c =
-    let t = c.args.ctx.now.tree in
-    ap (λ o. count_arguments (and_block t o)) (sym c.in-None.is) ∙ entry_count t (regions_of t c.args.op) c.get_region.result c.get_head.result c.get_region.ensures.region c.get_region.ensures.stands c.get_head.ensures.first
+    c.num_region_argument.ensures ∙ sym (index-map (λ r. count_arguments (entry_block t r)) (regions_of t c.args.op) 0 c.get_region.result c.get_region.ensures.region)
