@@ -713,3 +713,10 @@ C func { b0(): scope { b0(): a = const 2; b = add a a; ret }; print b; ret } \
 C func { b0(): box { b0(x): a = const 2; b = mul a a } } => func { b0(): box { b0(v0): v1 = const 2; v2 = const 4; v3 = mul v1 v1 } }
 U func { b0(): a = const 1; fork a b1 b1; b1(p, q): s = add p q; ret s } => func { b0(): v0 = const 1; fork v0 b1 b1; b1(v1, v2): v3 = add v1 v2; ret v3 }
 U mod { } => mod { }";
+
+// How often the search takes something, for each of `MADE` in turn: by a plain program that keeps facts by name, and its
+// worklists as lists.
+pub static COUNTS: &str = "\
+1 11 7 15 9 9 7 18 10 8 1 6 10 11 9 8 10 8 11 9 10 6 19 12 18 11 10 17 7 12 10 18 10 12 10 4 13 13 6 20 17 13 8 10 15 9 12 13 16 8 10 19 12 15 8 3 10 \
+20 11 11 8 11 8 9 11 2 8 7 9 7 18 16 27 9 21 14 13 8 13 22 1 11 14 14 16 2 13 19 9 8 7 10 17 16 11 3 14 12 12 11 1 15 16 11 7 11 8 8 13 9 1 10 15 9 6 \
+10 8 11 7 12 12 9 6 8 9 8 13 11 10 8 9 8 7 8 12 16 11 14 13 17 16 7 17 15 18 12 6 12 8 7 13 12 8 11 12 15 5 17 7 16 ";

@@ -3,7 +3,7 @@ ghost use Rattle.pliron_bench.specs.BenchMoves.{bench};
 ghost use Rattle.pliron_core.specs.Tree.{IsLive};
 ghost use Rattle.pliron_laws.specs.Linked.{IsWellLinked};
 
-use super::cases::{HOSTILE, MADE, ROWS};
+use super::cases::{COUNTS, HOSTILE, MADE, ROWS};
 use pliron_bench::Bench;
 use pliron_core::{Context, IRStatus, Operation, Ptr};
 use pliron_notation::{print_text, read_text};
@@ -188,6 +188,19 @@ fn counts(rt: HostRuntime) -> Result<(), Fail> {
     counted(&rt, alloc, sums, IRStatus::Changed, 4)?;
     let answer = "func { b0(x): r = read; ret r }";
     counted(&rt, alloc, answer, IRStatus::Unchanged, 3)
+}
+
+// A plain second program counts the same.
+#[test]
+fn made_texts_are_counted(rt: HostRuntime) -> Result<(), Fail> {
+    let mut rest = COUNTS;
+    for line in MADE.lines() {
+        let case = read_case(line)?;
+        let (count, behind) = number_before(rest)?;
+        counted(&rt, rt.alloc(), case.text, case.status, count)?;
+        rest = behind;
+    }
+    Ok(())
 }
 
 // The second operation of the first block of the operation.
