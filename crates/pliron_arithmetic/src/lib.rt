@@ -5,6 +5,7 @@
 
 mod kind;
 mod tables;
+mod words;
 
 pub use kind::ArithmeticKind;
 use pliron_dialects::ByKinds;

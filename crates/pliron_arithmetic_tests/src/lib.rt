@@ -6,6 +6,10 @@ mod folds;
 #[cfg(test)]
 mod passes;
 #[cfg(test)]
+mod program;
+#[cfg(test)]
 mod reading;
+#[cfg(test)]
+mod texts;
 #[cfg(test)]
 mod writing;
