@@ -8,11 +8,13 @@ ghost use Rattle.pliron_evaluator.specs.Evaluator.{datum_of_value, sight_of};
 
 mod bench_moves;
 mod environment;
+mod notes;
 mod shapes;
 mod state;
 mod tiny_moves;
 mod values;
 
+pub use crate::evaluator::notes::{Noted, Notes};
 use crate::evaluator::state::{Next, start, step};
 use pliron_core::{Context, Operation, Ptr};
 use std::alloc::{AllocError, Global};
@@ -33,8 +35,28 @@ pub fn evaluate<D: Evaluate>(
 ) -> Result<Sight, AllocError>
     ensures { IfOk result (λ sight. sight_of sight ≡ seen (run D.meaning ctx.now.tree root (map datum_of_value inputs.items) (map datum_of_value world.items) fuel)) }
 {
+    let mut notes = Notes::of_last(alloc);
+    evaluate_noting::<D>(alloc, ctx, root, inputs, world, fuel, &mut notes)
+}
+
+/// The same, where notes are taken of the moves: each is noted before it is made.
+///
+/// Errors: want of memory. Cost: that of `evaluate`, and where all moves are noted, one more copy of what each
+/// operation reads.
+pub fn evaluate_noting<D: Evaluate>(
+    alloc: Global,
+    ctx: &Context,
+    root: Ptr<Operation>,
+    inputs: Vec<Datum>,
+    world: Vec<Datum>,
+    fuel: usize,
+    notes: &mut Notes,
+) -> Result<Sight, AllocError>
+    ensures { IfOk result (λ sight. sight_of sight ≡ seen (run D.meaning ctx.now.tree root (map datum_of_value inputs.items) (map datum_of_value world.items) fuel)) }
+{
     let mut state = start(alloc, root, inputs, world)?;
     for _ in 0..fuel {
+        notes.take(alloc, ctx, &state)?;
         match step::<D>(alloc, ctx, state)? {
             Next::Goes(next) => state = next,
             Next::Over(sight) => return Ok(sight),

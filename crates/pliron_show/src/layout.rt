@@ -36,11 +36,25 @@ pub fn pretty(alloc: Global, text: &[u8]) -> Result<Vec<u8>, AllocError>
     Ok(layout.text)
 }
 
-/// Whether the text begins with the head of a block: a name and an opening bracket.
-fn begins_block(text: &[u8]) -> bool {
-    text.iter()
-        .find(|byte| !byte.is_ascii_alphanumeric() && **byte != b'_')
-        == Some(&b'(')
+/// Whether the byte is a blank. Cost: constant.
+pub fn is_blank(byte: u8) -> bool {
+    byte == b' ' || byte == b'\n' || byte == b'\t' || byte == b'\r'
+}
+
+/// Whether the text begins with the head of a block: a name and an opening bracket, with or without blanks
+/// between them. Cost: linear in that name and these blanks.
+pub fn begins_block(text: &[u8]) -> bool {
+    let mut is_behind_name = false;
+    for byte in text {
+        if is_blank(*byte) {
+            is_behind_name = true;
+        } else if *byte == b'(' {
+            return true;
+        } else if is_behind_name || (!byte.is_ascii_alphanumeric() && *byte != b'_') {
+            return false;
+        }
+    }
+    false
 }
 
 impl Layout {

@@ -6,9 +6,11 @@
 mod fault;
 mod layout;
 mod mark;
+mod places;
 mod run;
 
 pub use fault::text_fault;
 pub use layout::pretty;
-pub use mark::{Mark, Position, marked, position_of};
-pub use run::{RunWish, run_text, seen, sight_text};
+pub use mark::{Mark, Position, Source, marked, position_of};
+pub use places::{OperationPlace, operation_places, place_of};
+pub use run::{End, RunWish, Told, end_of, run_text, seen, sight_text};

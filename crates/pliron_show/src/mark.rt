@@ -28,6 +28,13 @@ pub fn position_of(text: &[u8], start: usize) -> Position {
     Position { line, column }
 }
 
+/// A text, and where it is from.
+#[derive(Clone, Copy)]
+pub struct Source<'t> {
+    pub name: &'t str,
+    pub text: &'t [u8],
+}
+
 /// What is told of a part of a text.
 #[derive(Clone, Copy)]
 pub struct Mark<'t> {
@@ -49,6 +56,21 @@ fn shown(byte: u8) -> char {
         b' '..=b'~' => char::from(byte),
         _ => '?',
     }
+}
+
+/// Writes so many bytes of the text from a place on, as they are shown. Errors: want of memory. Cost: linear in
+/// these.
+pub fn push_bytes(
+    told: &mut String,
+    text: &[u8],
+    start: usize,
+    len: usize,
+) -> Result<(), AllocError> {
+    let start = start.min(text.len());
+    for byte in text[start..].iter().take(len) {
+        told.push(shown(*byte))?;
+    }
+    Ok(())
 }
 
 /// The line that holds the byte after so many: how many bytes stand before and within it.

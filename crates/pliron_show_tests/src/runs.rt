@@ -1,16 +1,24 @@
 //! Runs of texts, worked by hand: inputs, the world's answers, the text, and what is seen, where `|` stands for
 //! the end of a line.
 use crate::lines::with_lines;
-use pliron_show::{RunWish, run_text};
+use pliron_show::{End, RunWish, Source, run_text};
 use std::alloc::Global;
 use std::process::Abort;
 
 fn expect_run(rt: &impl Abort, alloc: Global, text: &str, wanted: &str, wish: &RunWish) {
     let wanted = with_lines(alloc, wanted).expect(rt, "memory");
-    let seen = run_text(alloc, text.as_bytes(), wish)
+    let source = Source {
+        name: "in.plir",
+        text: text.as_bytes(),
+    };
+    let told = run_text(alloc, &source, wish)
         .expect(rt, "memory")
         .expect(rt, "a readable text");
-    assert!(rt; seen.as_str() == wanted.as_str(), "{text} => {seen}");
+    assert!(rt;
+        told.seen.as_str() == wanted.as_str(),
+        "{text} => {}",
+        told.seen
+    );
 }
 
 /// Texts, and what is seen of their runs on 3 and 4 in a world that answers 7 and 8, up to 20 moves.
@@ -28,9 +36,56 @@ fn runs_are_seen(rt: HostRuntime) {
         inputs: &[3, 4],
         world: &[7, 8],
         steps: 20,
+        trace: false,
     };
     for case in RUNS.lines() {
         let (text, wanted) = case.split_once(" => ").expect(&rt, "a case");
         expect_run(&rt, rt.alloc(), text, wanted, &wish);
     }
+}
+
+/// A text that divides by zero in its second turn.
+static TURNS: &str = "func {
+b0(x):
+  one = const -1;
+  br b1(x);
+b1(n):
+  q = div x n;
+  m = add n one;
+  br b1(m)
+}
+";
+
+/// What is told of its run on 1.
+static TURNS_TOLD: &str = "1:1 func <- 1
+3:3 one = const -1
+4:3 br b1(x) <- 1
+6:3 q = div x n <- 1 1
+7:3 m = add n one <- 1 -1
+8:3 br b1(m) <- 0
+6:3 q = div x n <- 1 0
+error: the run trapped
+ --> in.plir:6:3
+  |
+6 |   q = div x n;
+  |   ^^^^^^^^^^^ at this operation
+";
+
+#[test]
+fn moves_and_traps_are_told(rt: HostRuntime) {
+    let source = Source {
+        name: "in.plir",
+        text: TURNS.as_bytes(),
+    };
+    let wish = RunWish {
+        inputs: &[1],
+        world: &[],
+        steps: 100,
+        trace: true,
+    };
+    let told = run_text(rt.alloc(), &source, &wish)
+        .expect(&rt, "memory")
+        .expect(&rt, "a readable text");
+    assert!(rt; told.report.as_str() == TURNS_TOLD, "{}", told.report);
+    assert!(rt; told.end == End::Trapped);
 }

@@ -234,8 +234,8 @@ fn perform(
     }
 }
 
-// The input of the operation: what it was answered, or the data of its operands.
-fn input_of(
+/// The input of the operation: what it was answered, or the data of its operands.
+pub(super) fn input_of(
     alloc: Global,
     ctx: &Context,
     state: &State,

@@ -1,0 +1,15 @@
+use Rattle.pliron_laws.specs.Machine.{step}
+use Rattle.pliron_evaluator.proofs.EvaluatorSteps.{run_starts, run_goes, run_over, run_reached}
+use Rattle.pliron_evaluator.proofs.evaluator.evaluate_noting.Goals as goal
+
+pub loop-init : goal.loop-init
+loop-init g c = run_starts (step g.D.HasMeaning.meaning c.args.ctx.now.tree) c.args.fuel c.in_ok-state.state _ c.in_ok-state.ensures
+
+pub loop-preserved : goal.loop-preserved
+loop-preserved g c = run_goes (step g.D.HasMeaning.meaning c.args.ctx.now.tree) c.args.fuel c.loop.counter c.loop.state _ c.loop-test.true c.loop.invariant c.in_ok-next.field-0 c.in-Goes.next c.in_ok-next.ensures c.in-Goes.is
+
+pub returns-in-Over : goal.returns-in-Over
+returns-in-Over g c = run_over (step g.D.HasMeaning.meaning c.args.ctx.now.tree) c.args.fuel c.loop.counter c.loop.state _ c.loop-test.true c.loop.invariant c.in_ok-next.field-0 c.in-Over.sight c.in_ok-next.ensures c.in-Over.is
+
+pub returns : goal.returns
+returns g c = run_reached (step g.D.HasMeaning.meaning c.args.ctx.now.tree) c.args.fuel c.loop.counter c.loop.state _ c.loop-test.false c.loop.invariant

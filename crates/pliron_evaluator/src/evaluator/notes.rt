@@ -1,0 +1,61 @@
+//! What is noted of the moves of a run.
+use crate::evaluator::state::{State, input_of};
+use crate::evaluator::values::Datum;
+use pliron_core::{Context, Operation, Ptr};
+use std::alloc::{AllocError, Global};
+
+/// A move: its operation, and what that was answered or the data of its operands, where each has one.
+#[derive(Drop)]
+pub struct Noted {
+    pub op: Ptr<Operation>,
+    pub input: Option<Vec<Datum>>,
+}
+
+/// What is noted of the moves of a run.
+#[derive(Drop)]
+pub struct Notes {
+    /// The operation that made the last move. There is none before the first one, and where a block ended that
+    /// no operation ended.
+    pub last: Option<Ptr<Operation>>,
+    /// All moves in order, where they are noted.
+    pub moves: Vec<Noted>,
+    keeps_moves: bool,
+}
+
+impl Notes {
+    /// Of the last move alone. Cost: constant.
+    pub fn of_last(alloc: Global) -> Self {
+        Notes {
+            last: None,
+            moves: Vec::new(alloc),
+            keeps_moves: false,
+        }
+    }
+
+    /// Of all moves. Cost: constant.
+    pub fn of_all(alloc: Global) -> Self {
+        Notes {
+            last: None,
+            moves: Vec::new(alloc),
+            keeps_moves: true,
+        }
+    }
+
+    /// Notes the move that comes next.
+    pub(super) fn take(
+        &mut self,
+        alloc: Global,
+        ctx: &Context,
+        state: &State,
+    ) -> Result<(), AllocError> {
+        self.last = state.rest.first().copied();
+        match self.last {
+            Some(op) if self.keeps_moves && op.is_live(ctx) => {
+                let input = input_of(alloc, ctx, state, op)?;
+                self.moves.push(Noted { op, input })?;
+                Ok(())
+            }
+            _ => Ok(()),
+        }
+    }
+}
