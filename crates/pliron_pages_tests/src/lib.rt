@@ -5,8 +5,6 @@
 #[cfg(test)]
 mod graphs;
 #[cfg(test)]
-mod inner;
-#[cfg(test)]
 mod passes;
 #[cfg(test)]
 mod trees;
