@@ -1,0 +1,170 @@
+//! The words of the program.
+use clap::{Arg, ArgAction, ArgMatches, Command, Error, value_parser};
+use std::alloc::{AllocError, Global};
+
+fn file<'a>(alloc: Global) -> Arg<'a> {
+    Arg::new(alloc, "file")
+        .value_name("FILE")
+        .help("The text; standard input, where it is `-` or left out")
+}
+
+fn output<'a>(alloc: Global) -> Arg<'a> {
+    Arg::new(alloc, "output")
+        .short('o')
+        .long("output")
+        .value_name("FILE")
+        .help("Where to write; standard output, where it is left out")
+}
+
+fn flag<'a>(alloc: Global, name: &'a str, help: &'a str) -> Arg<'a> {
+    Arg::new(alloc, name)
+        .long(name)
+        .action(ArgAction::SetTrue)
+        .help(help)
+}
+
+fn numbers<'a>(alloc: Global, name: &'a str, help: &'a str) -> Arg<'a> {
+    Arg::new(alloc, name)
+        .long(name)
+        .value_name("N")
+        .action(ArgAction::Append)
+        .allow_negative_numbers(true)
+        .value_parser(value_parser!(i64))
+        .help(help)
+}
+
+fn pipeline<'a>(alloc: Global) -> Arg<'a> {
+    Arg::new(alloc, "pipeline")
+        .value_name("PIPELINE")
+        .required(true)
+        .help("Passes, as `sccp,dce`, `nested(sccp,dce)` or `repeat<8>(sccp,simplify-cfg,dce)`")
+}
+
+fn print_after<'a>(alloc: Global) -> Arg<'a> {
+    Arg::new(alloc, "print-after")
+        .long("print-after")
+        .value_name("NAME")
+        .help("Tell the text after each run of this pass, on standard error")
+}
+
+/// What `opt` is about.
+static OPT: &str = "\
+Runs passes on a text and writes what they leave. Passes: sccp (constants, and what is never entered), \
+dce (what nothing uses), simplify-cfg (branches and blocks). Statuses: 0; 1 where passes or memory were \
+refused, or verifying found a fault; 2 for words, files and texts that can't be used";
+
+fn opt<'a>(alloc: Global) -> Result<Command<'a>, AllocError> {
+    Command::new(alloc, "opt")
+        .about(OPT)
+        .arg(pipeline(alloc))?
+        .arg(file(alloc))?
+        .arg(output(alloc))?
+        .arg(print_after(alloc))?
+        .arg(flag(
+            alloc,
+            "print-after-all",
+            "Tell the text after each run of each pass, on standard error",
+        ))?
+        .arg(flag(
+            alloc,
+            "pretty",
+            "Write one operation a line, as on a terminal",
+        ))?
+        .arg(flag(alloc, "one-line", "Write one line, as where no terminal is"))?
+        .arg(flag(
+            alloc,
+            "verify-each",
+            "Verify operations before and after each pass",
+        ))?
+        .arg(flag(
+            alloc,
+            "stats",
+            "Tell how much each pass changed, on standard error",
+        ))
+}
+
+fn steps<'a>(alloc: Global) -> Arg<'a> {
+    Arg::new(alloc, "steps")
+        .long("steps")
+        .value_name("N")
+        .value_parser(value_parser!(usize))
+        .default_value("100000")
+        .help("The most moves that the run makes")
+}
+
+fn compare<'a>(alloc: Global) -> Arg<'a> {
+    Arg::new(alloc, "compare")
+        .long("compare")
+        .value_name("PIPELINE")
+        .help(
+            "Run the text before and after these passes, and say whether the same is seen; status 3 where it isn't",
+        )
+}
+
+/// What `run` is about.
+static RUN: &str = "\
+Runs a text, and writes its effects as they come and how it ends. Statuses: 0 where it ends with values; \
+1 where memory was refused; 2 for words, files and texts that can't be used; 3 where it traps or is cut \
+off";
+
+fn run<'a>(alloc: Global) -> Result<Command<'a>, AllocError> {
+    Command::new(alloc, "run")
+        .about(RUN)
+        .arg(file(alloc))?
+        .arg(output(alloc))?
+        .arg(numbers(
+            alloc,
+            "input",
+            "A value that the text's operation gets; once for each, in order",
+        ))?
+        .arg(numbers(
+            alloc,
+            "world",
+            "What the world answers to an effect; once for each, in order",
+        ))?
+        .arg(steps(alloc))?
+        .arg(compare(alloc))?
+        .arg(flag(
+            alloc,
+            "trace",
+            "Tell each move with what it takes, on standard error",
+        ))
+}
+
+/// What `check` is about.
+static CHECK: &str = "\
+Looks whether a text is well linked and fit to run, but for dominance of uses, or tells the first thing \
+that keeps it from that, on standard error. Statuses: 0 where it is fit; 1 where memory was refused; 2 \
+for words, files and texts that can't be used; 3 where it isn't fit";
+
+fn check<'a>(alloc: Global) -> Result<Command<'a>, AllocError> {
+    Command::new(alloc, "check").about(CHECK).arg(file(alloc))
+}
+
+/// The command with one more under it, if that could be made.
+fn with<'a>(
+    command: Command<'a>,
+    inner: Result<Command<'a>, AllocError>,
+) -> Result<Command<'a>, AllocError> {
+    match inner {
+        Ok(inner) => command.subcommand(inner),
+        Err(error) => Err(error),
+    }
+}
+
+fn command<'a>(alloc: Global) -> Result<Command<'a>, AllocError> {
+    let plir = Command::new(alloc, "plir")
+        .version("0.1.0")
+        .about("Texts of operations: passes, runs, and marks under what is wrong")
+        .subcommand_required(true)
+        .arg_required_else_help(true);
+    let plir = with(plir, opt(alloc))?;
+    let plir = with(plir, run(alloc))?;
+    with(plir, check(alloc))
+}
+
+/// What the words ask for. Errors: words that the program doesn't have, or asking for help; want of memory. Cost:
+/// linear in the words.
+pub fn parsed<'a>(alloc: Global, words: &'a [String]) -> Result<ArgMatches<'a>, Error> {
+    command(alloc)?.try_get_matches_from(words)
+}

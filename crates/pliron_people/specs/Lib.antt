@@ -1,0 +1,4 @@
+pub mod Checked
+pub mod Observes
+pub mod Optimised
+pub mod Outcomes
