@@ -2,7 +2,8 @@
 """Programs of known shapes, to measure optimisations.
 
   shapes.py SHAPE N bench|llvm|mlir  a text of about N operations
-  shapes.py list                     the names of the shapes
+  shapes.py list                     the names of the shapes, but those that bench alone can write:
+                                     boxed, fiftyboxes
 
 One program is built and printed in three notations, so that all optimisers see the same control flow: in
 that of this repository, with the shortest names and no blanks; in LLVM's, where an argument of a block is
@@ -79,6 +80,9 @@ class Fn:
 
     def print(self, b, x):
         b.ops.append(("print", None, (x,)))
+
+    def sink(self, b, *vals):
+        b.ops.append(("sink", None, vals))
 
     def br(self, b, to, *vals):
         b.term = ("br", (to, vals))
@@ -327,6 +331,61 @@ def shiftargs(n, rng):
     return [f]
 
 
+def alternating(n, rng):
+    """two blocks of n/2 arguments; those of the second are freed from both ends in turn."""
+    f = Fn(1)
+    count = max(2, n // 2)
+    last, first = f.block(count), f.block(count)
+    f.br(f.entry, first, *[f.entry.args[0]] * count)
+    ends = [i // 2 if i % 2 == 0 else count - 1 - i // 2 for i in range(count)]
+    f.br(first, last, *[first.args[i] for i in reversed(ends)])
+    f.ret(last)
+    return [f]
+
+
+def sum_loop(f, m):
+    """a loop of m sums, each of the one before, of which one more falls each time round; its end."""
+    one = f.const(f.entry, 1)
+    loop, end = f.block(1), f.block(0)
+    f.br(f.entry, loop, one)
+    sums = []
+    for _ in range(m):
+        sums.append(f.bin(loop, "add", sums[-1] if sums else loop.args[0], one))
+    r = f.read(loop)
+    f.cbr(loop, r, loop, [sums[-1]], end, [])
+    return loop, end, sums
+
+
+def sumsink(n, rng):
+    """a loop of n sums that all go into one operation."""
+    f = Fn()
+    loop, end, sums = sum_loop(f, max(2, n - 6))
+    f.sink(loop, *sums)
+    f.ret(end)
+    return [f]
+
+
+def sumbr(n, rng):
+    """a loop of n sums that one branch behind it forwards to a block."""
+    f = Fn()
+    loop, end, sums = sum_loop(f, max(2, n - 6))
+    last = f.block(len(sums))
+    f.br(end, last, *sums)
+    f.ret(last)
+    return [f]
+
+
+def shiftbr(n, rng):
+    """a loop without an end whose n arguments move on by one place each time, and a number is read for the first."""
+    f = Fn()
+    one = f.const(f.entry, 1)
+    loop = f.block(max(2, n))
+    f.br(f.entry, loop, *[one] * len(loop.args))
+    r = f.read(loop)
+    f.br(loop, loop, r, *loop.args[:-1])
+    return [f]
+
+
 def funcs(n, rng):
     """n/10 small functions in one module, each a known diamond."""
     out = []
@@ -379,7 +438,23 @@ SHAPES = {"chain": chain, "diamonds": diamonds, "merges": merges, "loops": loops
           "nest": nest, "brchain": brchain, "brchain_rev": brchain_rev,
           "unreach": unreach, "dead": dead, "deadring": deadring, "fan": fan,
           "manyargs": manyargs, "liveargs": liveargs,
-          "lateargs": lateargs, "shiftargs": shiftargs, "funcs": funcs, "mixed": mixed}
+          "lateargs": lateargs, "shiftargs": shiftargs, "alternating": alternating,
+          "sumsink": sumsink, "sumbr": sumbr, "shiftbr": shiftbr, "funcs": funcs, "mixed": mixed}
+
+
+def boxes(n, depth):
+    """n/2 values inside boxes that hold one another, used outside by a chain of n/2 sums, the first sum free."""
+    names = short_names()
+    count = max(1, n // 2)
+    read = [next(names) for _ in range(count)]
+    total = [next(names) for _ in range(count)]
+    inside = ";".join(f"{r}=read" for r in read)
+    sums = ";".join(f"{total[i]}=add {read[i]} {total[i + 1] if i + 1 < count else read[i]}" for i in range(count))
+    return "func{z():" + "box{z():" * depth + inside + "}" * depth + ";" + sums + ";ret}\n"
+
+
+# in the bench notation alone, since the others have nothing like a box: a box, and fifty; a text holds 64 levels at most
+BOXES = {"boxed": lambda n: boxes(n, 1), "fiftyboxes": lambda n: boxes(n, 50)}
 
 
 def bench(fns, w):
@@ -427,7 +502,7 @@ def bench_fn(f, w):
 
 def llvm(fns, w):
     w(f"; ops {sum(f.count() for f in fns)} blocks {sum(len(f.blocks) for f in fns)} funcs {len(fns)}\n")
-    w("declare i64 @read()\ndeclare void @print(i64)\n")
+    w("declare i64 @read()\ndeclare void @print(i64)\ndeclare void @sink(...)\n")
     for n, f in enumerate(fns):
         llvm_fn(n, f, w)
 
@@ -443,7 +518,7 @@ def llvm_fn(n, f, w):
         for e in b.term[1:] if b.term[0] == "br" else b.term[2:] if b.term[0] == "cbr" else []:
             for i, x in enumerate(e[1]):
                 incoming[e[0].id][i].append((val(x), b.id))
-    nret = max(len(b.term[1]) for b in f.blocks if b.term[0] == "ret")
+    nret = max((len(b.term[1]) for b in f.blocks if b.term[0] == "ret"), default=0)
     rt = "void" if nret == 0 else "i64" if nret == 1 else "{" + ", ".join(["i64"] * nret) + "}"
     w(f"define {rt} @f{n}(" + ", ".join(f"i64 %v{x}" for x in f.entry.args) + ") {\n")
     for b in f.blocks:
@@ -460,6 +535,8 @@ def llvm_fn(n, f, w):
                 w(f"  %v{r} = call i64 @read()\n")
             elif kind == "print":
                 w(f"  call void @print(i64 {val(a[0])})\n")
+            elif kind == "sink":
+                w("  call void (...) @sink(" + ", ".join(f"i64 {val(x)}" for x in a) + ")\n")
             elif kind != "const":
                 w(f"  %v{r} = {'sdiv' if kind == 'div' else kind} i64 {val(a[0])}, {val(a[1])}\n")
         t = b.term
@@ -532,6 +609,8 @@ PRINT = {"bench": bench, "llvm": llvm, "mlir": mlir}
 
 
 def text_of(shape, n, notation):
+    if shape in BOXES:
+        return BOXES[shape](n)
     parts = []
     PRINT[notation](SHAPES[shape](n, random.Random(1)), parts.append)
     return "".join(parts)

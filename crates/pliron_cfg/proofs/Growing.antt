@@ -45,3 +45,16 @@ module _ (rs s w s' w' : List ℕ) (x : ℕ) (g : HasGrown rs s w s' w') where
     count = let e = g.count in omega (arith, e, length-append w' (x ∷ []), length-append s' (x ∷ []));
     distinct = λ d. distinct_push s' x (g.distinct d) n;
   }
+
+-- and more regions
+pub grew_both : (rs qs s w s' w' s'' w'' : List ℕ) → HasGrown rs s w s' w' → HasGrown qs s' w' s'' w'' → HasGrown (rs ++ qs) s w s'' w''
+grew_both rs qs s w s' w' s'' w'' g h = record {
+  kept = λ r i. h.kept r (g.kept r i);
+  only = λ r i. ⊎_elim (λ a. ⊎_elim (λ b. inl b) (λ b. inr (In-left r rs qs b)) (g.only r a)) (λ a. inr (In-right r rs qs a)) (h.only r i);
+  all = λ r i. ⊎_elim (λ a. h.kept r (g.all r a)) (λ a. h.all r a) (In-cases r rs qs i);
+  wait = λ r i. h.wait r (g.wait r i);
+  fresh = λ r i. ⊎_elim (λ a. ⊎_elim (λ b. inl b) (λ b. inr (h.wait r b)) (g.fresh r a)) (λ a. inr a) (h.fresh r i);
+  within = λ r i. ⊎_elim (λ a. ⊎_elim (λ b. inl b) (λ b. inr (h.kept r b)) (g.within r a)) (λ a. inr a) (h.within r i);
+  count = let e = g.count in let f = h.count in omega (arith, e, f);
+  distinct = λ d. h.distinct (g.distinct d);
+}

@@ -1,5 +1,5 @@
 -- The search for visited regions.
-use Rattle.std.proofs.Common.{◌≡◌, ◌⊎◌, inl, inr, ⊎_elim, ℕ, List, [], ◌∷◌, ◌++◌, Some, IsTrue, refl, sym, subst}
+use Rattle.std.proofs.Common.{◌≡◌, ◌↔◌, ◌⊎◌, inl, inr, ⊎_elim, ℕ, List, [], ◌∷◌, ◌++◌, Some, IsTrue, refl, sym, subst}
 use Rattle.std.specs.List.{flat_map}
 use Rattle.pliron_core.specs.Lists.{IsDistinct}
 use Rattle.pliron_core.specs.Tree.{Tree, In, regions_of, parent_of, body_of}
@@ -85,6 +85,18 @@ module _ (t : Tree) (w : IsTree t) (Start : ℕ → Type 0) (seen rest rs bs : L
 
   pub visiting_other : (IsTrue (has_ssa t r) → ⊥) → IsVisiting t Start seen' waiting' rs bs
   visiting_other none = visiting_next rs bs (λ x i. i) (λ x i. i) (λ s. absurd (none s)) (λ s b i. absurd (none s)) (λ x i. inl i) (λ b i. inl i)
+
+-- the same blocks in another order
+pub visiting_reordered : (t : Tree) (Start : ℕ → Type 0) (seen waiting rs bs bs' : List ℕ) → ((b : ℕ) → In b bs' ↔ In b bs) → IsVisiting t Start seen waiting rs bs → IsVisiting t Start seen waiting rs bs'
+visiting_reordered t Start seen waiting rs bs bs' same h = record {
+  visited = h.visited;
+  starts = h.starts;
+  waits = h.waits;
+  done = λ r i. ⊎_elim (λ a. inl a) (λ d. inr (record { nested = d.nested; listed = d.listed; blocks = λ s b e. (same b).1 (d.blocks s b e) })) (h.done r i);
+  found = h.found;
+  reached = λ b i. h.reached b ((same b).0 i);
+  distinct = h.distinct;
+}
 
 -- where nothing waits, all is done
 module _ (t : Tree) (Start : ℕ → Type 0) (seen rs bs : List ℕ) (h : IsVisiting t Start seen [] rs bs) where

@@ -1,14 +1,14 @@
 //! Which regions and blocks the simplification of control flow looks at.
 //!
 //! It knows regions as graphs, and nothing of rewrites or dialects.
-ghost use Rattle.std.specs.Prelude.{Some, ◌≡◌, ◌↔◌, ◌++◌, ℕ, IfOk, OnOk, IsOkUnless};
+ghost use Rattle.std.specs.Prelude.{Some, ◌≡◌, ◌↔◌, ◌++◌, [], ℕ, IfOk, OnOk, IsOkUnless, IsTrue};
 ghost use Rattle.std.specs.List.{flat_map};
 ghost use Rattle.pliron_core.specs.Tree.{In, IsLive, IsBlock, IsRegion, body_of, regions_of, block_holder_of, region_parent_of};
 ghost use Rattle.pliron_laws.specs.Linked.{EdgesLast};
 ghost use Rattle.pliron_search.specs.Regions.{IsLawfulRegion};
 ghost use Rattle.pliron_cfg.specs.Visited.{IsReachedIn, IsLookedInto, OfOperation, OfBlock, OfRegion};
 ghost use Rattle.pliron_cfg.specs.Visits.{AreVisits};
-ghost use Rattle.pliron_cfg.specs.Internal.Seen.{HasGrown};
+ghost use Rattle.pliron_cfg.specs.Internal.Seen.{HasGrown, blocks_postponed};
 
 mod last_first;
 
@@ -21,11 +21,19 @@ use pliron_search::DFSTraversal;
 use std::alloc::{AllocError, Global};
 
 /// What a call looks at: the visited regions with SSA dominance, each before those that are nested in it,
-/// and the blocks that their entries reach.
+/// and the blocks that their entries reach, each before those of the regions nested in it, and these before
+/// the blocks that the search comes to after it.
 #[derive(Drop)]
 pub struct Visits {
     pub regions: Vec<Ptr<Region>>,
     pub blocks: Vec<Ptr<BasicBlock>>,
+}
+
+// A block that is listed once so many regions wait, and no more.
+#[derive(Clone, Copy)]
+struct Postponed {
+    block: Ptr<BasicBlock>,
+    waiting: usize,
 }
 
 // Adds the regions of the operation.
@@ -61,23 +69,6 @@ fn push_nested(
         push_regions(ctx, *op, regions)?;
     }
     Ok(())
-}
-
-// The regions of the operations of the blocks.
-fn nested_regions(
-    alloc: Global,
-    ctx: &Context,
-    blocks: &[Ptr<BasicBlock>],
-) -> Result<Vec<Ptr<Region>>, OptError>
-    requires { (b : ℕ) → In b blocks.now → IsBlock ctx.now.tree b }
-    ensures items { IfOk result (λ r. r.items ≡ flat_map (λ b. flat_map (λ k. regions_of ctx.now.tree k) (body_of ctx.now.tree b)) blocks.now) }
-    ensures memory { IsOkUnless result OptError.Memory }
-{
-    let mut regions = Vec::new(alloc);
-    for block in blocks {
-        push_nested(alloc, ctx, *block, &mut regions)?;
-    }
-    Ok(regions)
 }
 
 // The nodes in the order in which the search came to them.
@@ -146,7 +137,60 @@ fn push_new(
     Ok(())
 }
 
-// Visits the regions, and so on down.
+// The regions nested in these blocks wait. Where the blocks are to be listed, each is postponed until those
+// nested in it and in the blocks after it are visited.
+fn enter(
+    alloc: Global,
+    ctx: &Context,
+    entered: &[Ptr<BasicBlock>],
+    listed: bool,
+    seen: &mut IndexSet<Ptr<Region>>,
+    waiting: &mut Vec<Ptr<Region>>,
+    postponed: &mut Vec<Postponed>,
+) -> Result<(), OptError>
+    requires { (b : ℕ) → In b entered.now → IsBlock ctx.now.tree b }
+    ensures grown { OnOk result (HasGrown (flat_map (λ b. flat_map (λ k. regions_of ctx.now.tree k) (body_of ctx.now.tree b)) entered.now)
+        seen.old.keys waiting.old.items seen.new.keys waiting.new.items) }
+    ensures listed { OnOk result (IsTrue listed → blocks_postponed postponed.new.items ≡ blocks_postponed postponed.old.items ++ entered.now) }
+    ensures other { OnOk result ((IsTrue listed → ⊥) → postponed.new.items ≡ postponed.old.items) }
+    ensures memory { IsOkUnless result OptError.Memory }
+{
+    for block in entered {
+        if listed {
+            postponed.push(Postponed {
+                block: *block,
+                waiting: waiting.len(),
+            })?;
+        }
+        let mut nested = Vec::new(alloc);
+        push_nested(alloc, ctx, *block, &mut nested)?;
+        push_new(&nested, seen, waiting)?;
+    }
+    Ok(())
+}
+
+// The last of the postponed blocks are listed, all those for which no region waits that comes before them.
+fn list_postponed(
+    postponed: &mut Vec<Postponed>,
+    waiting: usize,
+    blocks: &mut Vec<Ptr<BasicBlock>>,
+) -> Result<(), OptError>
+    ensures same { OnOk result ((b : ℕ) → In b (blocks.new.items ++ blocks_postponed postponed.new.items) ↔ In b (blocks.old.items ++ blocks_postponed postponed.old.items)) }
+    ensures all { OnOk result (waiting ≡ 0 → postponed.new.items ≡ []) }
+    ensures memory { IsOkUnless result OptError.Memory }
+{
+    while let Some(last) = postponed.pop() {
+        if last.waiting < waiting {
+            postponed.push(last)?;
+            return Ok(());
+        }
+        blocks.push(last.block)?;
+    }
+    Ok(())
+}
+
+// Visits the regions, and so on down: a region, and then what is nested in it, the last first. So the blocks
+// come in the order of the list read backwards.
 fn visit(alloc: Global, ctx: &Context, starts: &[Ptr<Region>]) -> Result<Visits, OptError>
     requires lawful { (r : ℕ) → In r starts.now → IsLawfulRegion ctx.now.tree r }
     ensures visits { IfOk result (λ v. AreVisits ctx.now.tree (λ r. In r starts.now) v.regions.items v.blocks.items) }
@@ -157,16 +201,27 @@ fn visit(alloc: Global, ctx: &Context, starts: &[Ptr<Region>]) -> Result<Visits,
     let mut blocks = Vec::new(alloc);
     let mut seen = IndexSet::new(alloc);
     let mut waiting = Vec::new(alloc);
+    let mut postponed = Vec::new(alloc);
     push_new(starts, &mut seen, &mut waiting)?;
     while let Some(region) = waiting.pop() {
         let entered = entered_blocks(alloc, ctx, region)?;
-        let nested = nested_regions(alloc, ctx, &entered)?;
-        push_new(&nested, &mut seen, &mut waiting)?;
-        if region.has_ssa_dominance(ctx) {
+        let listed = region.has_ssa_dominance(ctx);
+        enter(
+            alloc,
+            ctx,
+            &entered,
+            listed,
+            &mut seen,
+            &mut waiting,
+            &mut postponed,
+        )?;
+        if listed {
             regions.push(region)?;
-            blocks.extend_from_slice(&entered)?;
         }
+        list_postponed(&mut postponed, waiting.len(), &mut blocks)?;
     }
+    list_postponed(&mut postponed, 0, &mut blocks)?;
+    blocks.reverse();
     Ok(Visits { regions, blocks })
 }
 

@@ -4,11 +4,12 @@ ghost use Rattle.pliron_core.specs.Tree.{IsLive};
 ghost use Rattle.pliron_laws.specs.Linked.{IsWellLinked};
 
 use pliron_bench::Bench;
+use pliron_cases::listener::Counting;
 use pliron_cfg::{
     fold_branches, merge_inside_block, merge_inside_op, merge_inside_region,
     remove_blocks_inside_block, remove_blocks_inside_op, remove_blocks_inside_region, simplify_cfg,
 };
-use pliron_core::{Context, IRRewriter, IRStatus, Operation, Ptr};
+use pliron_core::{Context, IRStatus, Operation, Ptr};
 use pliron_laws::OptError;
 use std::alloc::Global;
 
@@ -27,6 +28,7 @@ fn remove_from_first_region(
     alloc: Global,
     root: Ptr<Operation>,
     ctx: &mut Context,
+    rewriter: &mut Counting,
 ) -> Result<IRStatus, OptError>
     requires live { IsLive ctx.old.tree root }
     requires linked { IsWellLinked bench ctx.old.tree root }
@@ -39,8 +41,7 @@ fn remove_from_first_region(
     if region.get_parent_op(ctx) != root {
         return Ok(IRStatus::Unchanged);
     }
-    let mut rewriter = IRRewriter::new();
-    remove_blocks_inside_region::<Bench, IRRewriter>(alloc, region, ctx, &mut rewriter)
+    remove_blocks_inside_region::<Bench, Counting>(alloc, region, ctx, rewriter)
 }
 
 // What removal answers for the first block of the root.
@@ -48,6 +49,7 @@ fn remove_from_first_block(
     alloc: Global,
     root: Ptr<Operation>,
     ctx: &mut Context,
+    rewriter: &mut Counting,
 ) -> Result<IRStatus, OptError>
     requires live { IsLive ctx.old.tree root }
     requires linked { IsWellLinked bench ctx.old.tree root }
@@ -63,8 +65,7 @@ fn remove_from_first_block(
     if block.get_parent_region(ctx) != Some(region) || region.get_parent_op(ctx) != root {
         return Ok(IRStatus::Unchanged);
     }
-    let mut rewriter = IRRewriter::new();
-    remove_blocks_inside_block::<Bench, IRRewriter>(alloc, block, ctx, &mut rewriter)
+    remove_blocks_inside_block::<Bench, Counting>(alloc, block, ctx, rewriter)
 }
 
 // What merging answers for the first region of the root.
@@ -72,6 +73,7 @@ fn merge_first_region(
     alloc: Global,
     root: Ptr<Operation>,
     ctx: &mut Context,
+    rewriter: &mut Counting,
 ) -> Result<IRStatus, OptError>
     requires live { IsLive ctx.old.tree root }
     requires linked { IsWellLinked bench ctx.old.tree root }
@@ -84,8 +86,7 @@ fn merge_first_region(
     if region.get_parent_op(ctx) != root {
         return Ok(IRStatus::Unchanged);
     }
-    let mut rewriter = IRRewriter::new();
-    merge_inside_region::<Bench, IRRewriter>(alloc, region, ctx, &mut rewriter)
+    merge_inside_region::<Bench, Counting>(alloc, region, ctx, rewriter)
 }
 
 // What merging answers for the first block of the root.
@@ -93,6 +94,7 @@ fn merge_first_block(
     alloc: Global,
     root: Ptr<Operation>,
     ctx: &mut Context,
+    rewriter: &mut Counting,
 ) -> Result<IRStatus, OptError>
     requires live { IsLive ctx.old.tree root }
     requires linked { IsWellLinked bench ctx.old.tree root }
@@ -108,8 +110,7 @@ fn merge_first_block(
     if block.get_parent_region(ctx) != Some(region) || region.get_parent_op(ctx) != root {
         return Ok(IRStatus::Unchanged);
     }
-    let mut rewriter = IRRewriter::new();
-    merge_inside_block::<Bench, IRRewriter>(alloc, block, ctx, &mut rewriter)
+    merge_inside_block::<Bench, Counting>(alloc, block, ctx, rewriter)
 }
 
 // What the call of this name answers for the root.
@@ -118,25 +119,25 @@ pub fn called(
     root: Ptr<Operation>,
     ctx: &mut Context,
     call: &str,
+    rewriter: &mut Counting,
 ) -> Result<IRStatus, OptError>
     requires live { IsLive ctx.old.tree root }
     requires linked { IsWellLinked bench ctx.old.tree root }
 {
-    let mut rewriter = IRRewriter::new();
     if call == "fold" {
-        fold_branches::<Bench, IRRewriter>(alloc, root, ctx, &mut rewriter)
+        fold_branches::<Bench, Counting>(alloc, root, ctx, rewriter)
     } else if call == "remove" {
-        remove_blocks_inside_op::<Bench, IRRewriter>(alloc, root, ctx, &mut rewriter)
+        remove_blocks_inside_op::<Bench, Counting>(alloc, root, ctx, rewriter)
     } else if call == "merge" {
-        merge_inside_op::<Bench, IRRewriter>(alloc, root, ctx, &mut rewriter)
+        merge_inside_op::<Bench, Counting>(alloc, root, ctx, rewriter)
     } else if call == "remove-region" {
-        remove_from_first_region(alloc, root, ctx)
+        remove_from_first_region(alloc, root, ctx, rewriter)
     } else if call == "remove-block" {
-        remove_from_first_block(alloc, root, ctx)
+        remove_from_first_block(alloc, root, ctx, rewriter)
     } else if call == "merge-region" {
-        merge_first_region(alloc, root, ctx)
+        merge_first_region(alloc, root, ctx, rewriter)
     } else if call == "merge-block" {
-        merge_first_block(alloc, root, ctx)
+        merge_first_block(alloc, root, ctx, rewriter)
     } else {
         simplify_cfg::<Bench>(alloc, root, ctx)
     }

@@ -108,6 +108,14 @@ merge C func { b0(x): cbr x b1() b2(); b1(): br b3(q); b2(): br b4(p); b3(p): pr
     => func { b0(v0): cbr v0 b1() b2(); b1(): br b3(v1); b2(): print v1; ret; b3(v1): print v1; ret }
 merge C func { b0(x): cbr x b2() b1(); b1(): br b3(q); b2(): br b4(p); b3(p): print p; ret; b4(q): print q; ret } \
     => func { b0(v0): cbr v0 b2() b1(); b1(): print v1; ret; b2(): br b3(v1); b3(v1): print v1; ret }
+merge C func { b0(): scope { b0(): br b1(q); b1(p): print p; ret }; scope { b0(): br b1(p); b1(q): print q; ret }; ret } \
+    => func { b0(): scope { b0(): print v0; ret }; scope { b0(): br b1(v0); b1(v0): print v0; ret }; ret }
+merge C func { b0(x): cbr x b1() b2(); b1(): br b3(q); b2(): scope { b0(): br b1(p); b1(q): print q; ret }; ret; b3(p): print p; ret } \
+    => func { b0(v0): cbr v0 b1() b2(); b1(): br b3(v1); b2(): scope { b0(): print v1; ret }; ret; b3(v1): print v1; ret }
+merge C func { b0(): scope { b0(): br b1(p); b1(q): print q; ret }; br b1(q); b1(p): print p; ret } \
+    => func { b0(): scope { b0(): br b1(v0); b1(v0): print v0; ret }; print v0; ret }
+merge C func { b0(x): cbr x b2() b1(); b1(): br b3(q); b2(): scope { b0(): br b1(p); b1(q): print q; ret }; ret; b3(p): print p; ret } \
+    => func { b0(v0): cbr v0 b2() b1(); b1(): print v1; ret; b2(): scope { b0(): br b1(v1); b1(v1): print v1; ret }; ret }
 remove R func { b0(x): cbr x b1() b2(); b1(): scope { b0(): print v; ret; b1(): v = const 1; ret }; ret; b2(): scope { b0(): ret; b1(): ret }; ret } \
     => func { b0(v0): cbr v0 b1() b2(); b1(): scope { b0(): print v1; ret; b1(): v1 = const 1; ret }; ret; b2(): scope { b0(): ret }; ret }
 remove R func { b0(x): cbr x b2() b1(); b1(): scope { b0(): print v; ret; b1(): v = const 1; ret }; ret; b2(): scope { b0(): ret; b1(): ret }; ret } \

@@ -6,7 +6,8 @@ ghost use Rattle.pliron_laws.specs.Linked.{IsWellLinked};
 use super::calls::{called, letter};
 use super::cases::{DEFINED, HOSTILE, ORDERS, ROWS};
 use pliron_bench::Bench;
-use pliron_cfg::{merge_inside_op, remove_blocks_inside_op, simplify_cfg};
+use pliron_cases::listener::Counting;
+use pliron_cfg::{fold_branches, merge_inside_op, remove_blocks_inside_op, simplify_cfg};
 use pliron_core::{Context, IRRewriter, IRStatus, Operation, Ptr};
 use pliron_notation::{print_text, read_text};
 use std::alloc::Global;
@@ -25,8 +26,10 @@ fn left_of(
     requires live { IsLive ctx.old.tree root }
     requires linked { IsWellLinked bench ctx.old.tree root }
 {
-    let told = letter(called(alloc, root, ctx, call))?;
+    let mut rewriter = Counting::new();
+    let told = letter(called(alloc, root, ctx, call, &mut rewriter))?;
     assert_eq!(rt; told, expected);
+    assert!(rt; rewriter.had_room());
     if !root.is_live(ctx) {
         return Err(Fail::from("gone"));
     }
@@ -120,6 +123,52 @@ fn none_left(
     Ok(())
 }
 
+// The three parts of `simplify_cfg`, one after the other, through a rewriter that counts.
+fn check_room(rt: &impl Abort, alloc: Global, ctx: &mut Context, text: &str) -> Result<(), Fail> {
+    let Some(root) = read_text(alloc, text.as_bytes(), ctx)? else {
+        return Err(Fail::from("unreadable"));
+    };
+    let mut rewriter = Counting::new();
+    ctx.well_formed();
+    let folded = fold_branches::<Bench, Counting>(alloc, root, ctx, &mut rewriter);
+    assert!(rt; folded.is_ok());
+    ctx.well_formed();
+    let removed = remove_blocks_inside_op::<Bench, Counting>(alloc, root, ctx, &mut rewriter);
+    if removed.is_ok() {
+        merge_inside_op::<Bench, Counting>(alloc, root, ctx, &mut rewriter)?;
+    }
+    assert!(rt; rewriter.had_room(), "{text}");
+    Ok(())
+}
+
+fn check_case_has_room(rt: &impl Abort, alloc: Global, case: &str) -> Result<(), Fail> {
+    let Some((line, _)) = case.split_once(" => ") else {
+        return Err(Fail::from("no arrow"));
+    };
+    let Some((_, text)) = line.split_once(" ") else {
+        return Err(Fail::from("no answer"));
+    };
+    let mut ctx = Context::new(alloc);
+    check_room(rt, alloc, &mut ctx, text)
+}
+
+fn check_named_have_room(rt: &impl Abort, alloc: Global, cases: &str) -> Result<(), Fail> {
+    for line in cases.lines() {
+        let Some((_, case)) = line.split_once(" ") else {
+            return Err(Fail::from("no call"));
+        };
+        check_case_has_room(rt, alloc, case)?;
+    }
+    Ok(())
+}
+
+fn check_all_have_room(rt: &impl Abort, alloc: Global, cases: &str) -> Result<(), Fail> {
+    for case in cases.lines() {
+        check_case_has_room(rt, alloc, case)?;
+    }
+    Ok(())
+}
+
 fn check_none_left(
     rt: &impl Abort,
     alloc: Global,
@@ -144,6 +193,14 @@ fn check_all_left(rt: &impl Abort, alloc: Global, cases: &str) -> Result<(), Fai
         check_none_left(rt, alloc, &mut ctx, text)?;
     }
     Ok(())
+}
+
+#[test]
+fn each_change_has_room(rt: HostRuntime) -> Result<(), Fail> {
+    check_named_have_room(&rt, rt.alloc(), ROWS)?;
+    check_named_have_room(&rt, rt.alloc(), ORDERS)?;
+    check_all_have_room(&rt, rt.alloc(), HOSTILE)?;
+    check_all_have_room(&rt, rt.alloc(), DEFINED)
 }
 
 #[test]

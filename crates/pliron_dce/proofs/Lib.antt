@@ -11,6 +11,7 @@ pub mod Pending
 pub mod MeasureLemmas
 pub mod TakeLemmas
 pub mod WorkLemmas
+pub mod AroundSets
 pub mod SweepLemmas
 pub mod StepMeasure
 pub mod CandidateLemmas

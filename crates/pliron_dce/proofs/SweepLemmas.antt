@@ -1,7 +1,7 @@
 -- What the loop knows after a thing went.
-use Rattle.std.proofs.Common.{◌≡◌, ⊎_elim, ℕ, Bool, true, false, List, [], ◌∷◌, ◌++◌, ◌<◌, Option, Some, IsSome, slice_get, refl, sym, subst}
+use Rattle.std.proofs.Common.{◌≡◌, ⊎_elim, inr, ℕ, Bool, true, false, List, [], ◌∷◌, ◌++◌, ◌<◌, Option, Some, IsSome, slice_get, refl, sym, subst}
 use Rattle.pliron_core.specs.declared.context.Def.TheVariants.{Argument}
-use Rattle.pliron_core.specs.Tree.{Tree, IsLive, IsMadeBy, IsWithin, holder_of, definition_of, arguments_of}
+use Rattle.pliron_core.specs.Tree.{Tree, In, IsLive, IsMadeBy, IsWithin, holder_of, definition_of, arguments_of}
 use Rattle.pliron_dce.proofs.ReadyTests.{ready_defined}
 use Rattle.pliron_core.specs.Erased.{erased, IsSelfContained}
 use Rattle.pliron_core.proofs.HoldingLemmas.{holder_live, inside_by, not_itself}
@@ -18,7 +18,7 @@ use Rattle.pliron_dce.specs.declared.work.Candidate.{Candidate}
 use Rattle.pliron_dce.specs.Dead.{Item, Op, Arg, Use}
 use Rattle.pliron_dce.specs.Going.{Goes, Removes}
 use Rattle.pliron_dce.specs.Steps.{IsReady, IsReadyArgument, Among, AreNoted, AreLookedAt}
-use Rattle.pliron_dce.specs.Work.{item_of, items_of, HasReady}
+use Rattle.pliron_dce.specs.Work.{item_of, items_of, HasReady, AreClosed}
 use Rattle.pliron_dce.proofs.Progress.{step, gone_unready}
 use Rattle.pliron_dce.proofs.Pending.{ready_before}
 use Rattle.pliron_dce.specs.Measures.{things}
@@ -26,34 +26,19 @@ use Rattle.pliron_dce.proofs.StepMeasure.{erased_less, removed_less}
 use Rattle.pliron_dce.proofs.WorkLemmas.{among_split}
 
 module _ (m : Meaning) (can_fold : Head → Bool) (SameTests : Head → Head → Type 0) (shortened : Shape → ℕ → ℕ → Head) (law : ForwardsOperands m can_fold SameTests shortened) (tests : (h h' : Head) → SameTests h h' → m.is_branch h' ≡ m.is_branch h) (counts : KeepsCounts m) (side_effects : Head → Option Bool) (free : GivesAtOnce m side_effects) (removable : Head → ℕ → Bool → Option Bool) (without : ActsWithoutArgument m removable) where
-  pub ready_all : (t t' : Tree) (root site : ℕ) (c : Candidate) (used : List ℕ) (old new : List Candidate) → IsTree t → IsTree t' → IsWellLinked m t root → IsReady m side_effects removable t root (item_of c) → Goes m shortened t t' (item_of c) → HasReady m side_effects removable t root (old ++ c ∷ []) → AreNoted t t' site used → AreLookedAt t' site used (items_of new) → ((x : Item) → Among x (items_of old) → Among x (items_of new)) → HasReady m side_effects removable t' root new
-  ready_all t t' root site c used old new w w' linked r g all noted looked kept x rx =
+  pub ready_all : (t t' : Tree) (root : ℕ) (c : Candidate) (used : List ℕ) (old new : List Candidate) → IsTree t → IsTree t' → IsWellLinked m t root → IsReady m side_effects removable t root (item_of c) → Goes m shortened t t' (item_of c) → HasReady m side_effects removable t root (old ++ c ∷ []) → AreNoted t t' used → AreLookedAt t' used (items_of new) → ((x : Item) → Among x (items_of old) → Among x (items_of new)) → HasReady m side_effects removable t' root new
+  ready_all t t' root c used old new w w' linked r g all noted looked kept x rx =
       let s = step m can_fold SameTests shortened law tests counts side_effects free removable without t t' root (item_of c) w w' linked r g in
       ⊎_elim
       (λ before. ⊎_elim (λ i. kept x i) (λ e. absurd (gone_unready m can_fold SameTests shortened law tests counts side_effects free removable without t t' root (item_of c) w w' linked r g (subst (IsReady m side_effects removable t' root) e rx))) (among_split x old c (all x before)))
       (λ i. i)
-      (ready_before m side_effects removable t t' root site w w' s.thins used noted (items_of new) looked x rx)
+      (ready_before m side_effects removable t t' root w w' s.thins used noted (items_of new) looked x rx)
 
-  -- the site of an operation stands after it
-  pub op_site : (t : Tree) (root op site : ℕ) → IsTree t → IsWellLinked m t root → IsReady m side_effects removable t root (Op op) → holder_of t op ≡ Some site → IsLive (erased t op) site
-  op_site t root op site w linked r held = subst (λ z. IsSome z.head) (sym ((erased_swept t op w live contained).rows site (told (op_erased t op site) refl))) (holder_live t op site w.joined held).1
-    where
-      live : IsLive t op
-      live = (inside_live t w.joined r.may.inside).1
-
-      contained : IsSelfContained t op
-      contained = ready_contained m side_effects removable counts free t root w linked op r.may r.none
-
-      outside : IsWithin t op site → ⊥
-      outside i = not_itself w.joined.rooted (inside_by site held i)
-
-      told : (b : Bool) → op_erased t op site ≡ b → op_erased t op site ≡ false
-      told true e = absurd (outside (within_is t op site e))
-      told false e = e
-
-  -- what stood stands after an argument went
-  pub argument_site : (t t' : Tree) (v site : ℕ) → IsTree t → Removes m shortened t t' v → IsLive t site → IsLive t' site
-  argument_site t t' v site w g l = subst (λ z. IsLive z site) (sym g.removed) ((placed_end m can_fold SameTests shortened law tests t w g.block g.index g.edges g.complete g.between g.lose 0).0.live site l)
+  -- those around an operation that stands are as before
+  pub closed_after : (t t' : Tree) (root : ℕ) (x : Item) (ks : List ℕ) → IsTree t → IsTree t' → IsWellLinked m t root → IsReady m side_effects removable t root x → Goes m shortened t t' x → AreClosed t ks → AreClosed t' ks
+  closed_after t t' root x ks w w' linked r g closed k a i l j =
+      let s = step m can_fold SameTests shortened law tests counts side_effects free removable without t t' root x w w' linked r g in
+      ⊎_elim (λ e. subst (λ z. In z ks) e i) (λ q. closed k a i (s.thins.live_before k l) q) (s.thins.within_back a k (inr j))
 
 -- the place of a ready argument
 pub argument_listed : (m : Meaning) (removable : Head → ℕ → Bool → Option Bool) (t : Tree) (root v block index : ℕ) → IsTree t → IsReadyArgument m removable t root v → definition_of t v ≡ Some (Argument block index) → slice_get (arguments_of t block) index ≡ Some v

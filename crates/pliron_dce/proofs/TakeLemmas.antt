@@ -172,13 +172,13 @@ module _ (m : Meaning) (can_fold : Head → Bool) (SameTests : Head → Head →
     pub removes : Removes m shortened t (argument_removed u block index) v
     removes = record { block = block; index = index; argument = argument; edges = edges; complete = to; between = u; lose = lose; removed = refl }
 
-    pub noted : (forwards : List Bool) (used : List ℕ) → TellsSoFar m t index edges (length edges) forwards used → (site : ℕ) → block_holder_of t block ≡ Some site → AreNoted t (argument_removed u block index) site used
-    noted forwards used tells site held_by user x i = elim (decide_in block (successors_of t user)) [
+    pub noted : (forwards : List Bool) (used : List ℕ) → TellsSoFar m t index edges (length edges) forwards used → AreNoted t (argument_removed u block index) used
+    noted forwards used tells user x i = elim (decide_in block (successors_of t user)) [
       | inl j ↦ own j
       | inr n ↦ inr (subst (In x) (sym ((placed user).same (none_lost m can_fold SameTests shortened law tests t w block index edges to u lose user n)).1) i)
     ]
       where
-        own : In block (successors_of t user) → (In x used × IsInside t site user) ⊎ In x (operands_of u user)
+        own : In block (successors_of t user) → In x used ⊎ In x (operands_of u user)
         own j =
             let l = some_of (head_of t user) (user_live m can_fold SameTests shortened law tests t w block index user (slice_in (successors_of t user) block j).0 (slice_in (successors_of t user) block j).1) in
             let o = operation_of t user l.0 in
@@ -193,7 +193,7 @@ module _ (m : Meaning) (can_fold : Head → Bool) (SameTests : Head → Head →
             inr (in_slice (operands_of u user) y.0 x (z.1 ∙ sym z.2 ∙ p.1)))
             (λ q.
             let n = agreed.complete user q.0 block ((placed user).sound q.0 q.1) in
-            inl (tells.values n.0 p.0 x (record { user = user; place = q.0 }) o (slice_get_within edges n.0 (record { user = user; place = q.0 }) n.1) n.1 oe q.2 p.1, Directly (beside user site j held_by)))
+            inl (tells.values n.0 p.0 x (record { user = user; place = q.0 }) o (slice_get_within edges n.0 (record { user = user; place = q.0 }) n.1) n.1 oe q.2 p.1))
             (a.1.there p.0 (slice_get_within (operands_of t user) p.0 x p.1))
 
 pub argument_at : (t : Tree) (block index : ℕ) → index < length (arguments_of t block) → (v : ℕ) × (slice_get (arguments_of t block) index ≡ Some v)
@@ -231,9 +231,9 @@ module _ (m : Meaning) (side_effects : Head → Option Bool) (t : Tree) (root op
   pub op_contained : IsSelfContained t op
   op_contained = ready_contained m side_effects removable counts free t root w linked op r.may r.none
 
-  pub op_noted : (used : List ℕ) → AreOperandsWithin t op used → (site : ℕ) → holder_of t op ≡ Some site → AreNoted t (erased t op) site used
-  op_noted used all site held user x i = go (op_erased t op user) refl
+  pub op_noted : (used : List ℕ) → AreOperandsWithin t op used → AreNoted t (erased t op) used
+  op_noted used all user x i = go (op_erased t op user) refl
     where
-      go : (b : Bool) → op_erased t op user ≡ b → (In x used × IsInside t site user) ⊎ In x (operands_of (erased t op) user)
-      go true d = let y = within_is t op user d in inl (all user x y i, within_inside (Directly held) y)
+      go : (b : Bool) → op_erased t op user ≡ b → In x used ⊎ In x (operands_of (erased t op) user)
+      go true d = inl (all user x (within_is t op user d) i)
       go false l = inr (subst (In x) (sym ((erased_swept t op w op_live op_contained).operands user l)) i)

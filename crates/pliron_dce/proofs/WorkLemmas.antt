@@ -1,18 +1,19 @@
 -- What is still to be looked at, as items.
-use Rattle.std.proofs.Common.{◌≡◌, ◌⊎◌, inl, inr, ⊎_elim, ℕ, zero, suc, ◌+◌, add-one, arith, Contains, take, slice_get, Bool, List, [], ◌∷◌, ◌++◌, Option, Some, None, IfSome, IfNone, append_assoc, refl, sym, ap, ◌∙◌, subst}
+use Rattle.std.proofs.Common.{◌≡◌, ◌⊎◌, inl, inr, ⊎_elim, ℕ, zero, suc, ◌+◌, add-one, arith, Contains, take, slice_get, Bool, List, [], ◌∷◌, ◌++◌, Option, Some, None, IfSome, IfNone, map, refl, sym, ap, ◌∙◌, subst}
 use Rattle.std.specs.Prelude.{IsPermutation}
 use Rattle.std.proofs.lemmas.List.Sorted.{Contains-permutation}
 use Rattle.pliron_core.specs.declared.context.Def.{Def}
 use Rattle.pliron_core.specs.declared.context.Def.TheVariants.{Result, Argument as Definition}
 use Rattle.pliron_core.specs.Changes.{IsMadeInside}
-use Rattle.pliron_core.specs.Tree.{Tree, In, IsDefined, IsWithin, holder_of, definition_of}
+use Rattle.pliron_core.specs.Tree.{Tree, In, IsDefined, definition_of}
 use Rattle.pliron_core.proofs.ArgumentLemmas.{take_more}
-use Rattle.pliron_core.proofs.HoldingLemmas.{inside_up, within_inside}
 use Rattle.pliron_laws.specs.Datum.{Head, Meaning}
 use Rattle.pliron_dce.specs.declared.work.Candidate.{Candidate}
 use Rattle.pliron_dce.specs.Dead.{Item, Op, Arg}
 use Rattle.pliron_dce.specs.Steps.{IsReady, Among, AreLookedAt}
-use Rattle.pliron_dce.specs.Work.{item_of, items_of, HasReady, KeepsReady, LooksAround}
+use Rattle.pliron_dce.specs.declared.work.Candidate.TheVariants.{Operation}
+use Rattle.pliron_dce.specs.declared.work.Work.{Work}
+use Rattle.pliron_dce.specs.Work.{item_of, items_of, waiting, HasReady, KeepsReady}
 
 pub among_split : (x : Item) (cs : List Candidate) (c : Candidate) → Among x (items_of (cs ++ c ∷ [])) → Among x (items_of cs) ⊎ (x ≡ item_of c)
 among_split x [] c (inl e) = inr e
@@ -71,41 +72,82 @@ keeps_ready_past m side_effects removable t root old now new c n h x r i = ⊎_e
 pub keeps_ready_more : (m : Meaning) (side_effects : Head → Option Bool) (removable : Head → ℕ → Bool → Option Bool) (t : Tree) (root : ℕ) (old now new : List Candidate) (c : Candidate) → KeepsReady m side_effects removable t root (old ++ now) new → KeepsReady m side_effects removable t root ((old ++ c ∷ []) ++ now) (new ++ c ∷ [])
 keeps_ready_more m side_effects removable t root old now new c h x r i = ⊎_elim (λ j. ⊎_elim (λ k. among_front x new c (h x r (among_left x old now k))) (λ s. subst (λ z. Among z (items_of (new ++ c ∷ []))) (sym s) (among_last new c)) (among_split x old c j)) (λ j. among_front x new c (h x r (among_right x old now j))) (among_cases x (old ++ c ∷ []) now i)
 
--- the next one of a round that has all that is ready, if there is one
-module _ (m : Meaning) (side_effects : Head → Option Bool) (removable : Head → ℕ → Bool → Option Bool) (t : Tree) (root : ℕ) (round new : List Candidate) (all : HasReady m side_effects removable t root round) where
-  pub next_of_round : (found : Option Candidate) (later : List Candidate) → IfSome found (λ next. KeepsReady m side_effects removable t root round (new ++ next ∷ [])) → IfSome found (λ next. HasReady m side_effects removable t root ((later ++ new) ++ next ∷ []))
-  next_of_round None later h = tt
-  next_of_round (Some next) later h = λ x r. subst (λ z. Among x (items_of z)) (sym (append_assoc later new (next ∷ []))) (among_right x later (new ++ next ∷ []) (h x r (all x r)))
+-- the parts of what waits: around what lost uses, later, and in the round
+module _ (m : Meaning) (side_effects : Head → Option Bool) (removable : Head → ℕ → Bool → Option Bool) (t : Tree) (root : ℕ) (around ls rs : List Candidate) where
+  abbrev Kept : (old new : List Candidate) → Type 0
+  Kept old new = KeepsReady m side_effects removable t root old new
 
-  pub none_of_round : (found : Option Candidate) → IfNone found (KeepsReady m side_effects removable t root round []) → IfNone found ((x : Item) → IsReady m side_effects removable t root x → ⊥)
-  none_of_round None h = λ x r. h x r (all x r)
-  none_of_round (Some next) h = tt
+  pub next_kept : (rest : List Candidate) (found : Option Candidate) → IfSome found (λ next. Kept rs (rest ++ next ∷ [])) → IfSome found (λ next. Kept (around ++ (ls ++ rs)) ((around ++ (ls ++ rest)) ++ next ∷ []))
+  next_kept rest None h = tt
+  next_kept rest (Some next) h = λ x r i. ⊎_elim
+      (λ j. among_left x (around ++ (ls ++ rest)) (next ∷ []) (among_left x around (ls ++ rest) j))
+      (λ j. ⊎_elim
+      (λ k. among_left x (around ++ (ls ++ rest)) (next ∷ []) (among_right x around (ls ++ rest) (among_left x ls rest k)))
+      (λ k. ⊎_elim
+      (λ q. among_left x (around ++ (ls ++ rest)) (next ∷ []) (among_right x around (ls ++ rest) (among_right x ls rest q)))
+      (λ s. subst (λ z. Among z (items_of ((around ++ (ls ++ rest)) ++ next ∷ []))) (sym s) (among_last (around ++ (ls ++ rest)) next))
+      (among_split x rest next (h x r k)))
+      (among_cases x ls rs j))
+      (among_cases x around (ls ++ rs) i)
 
-pub within_within : (t : Tree) (k a s : ℕ) → IsWithin t k a → IsWithin t a s → IsWithin t k s
-within_within t k a s (inl e) i = subst (λ z. IsWithin t z s) e i
-within_within t k a s (inr j) i = inr (within_inside j i)
+  pub none_kept : (rest : List Candidate) (found : Option Candidate) → IfNone found (Kept rs []) → IfNone found (Kept (around ++ (ls ++ rs)) (around ++ (ls ++ rest)))
+  none_kept rest (Some next) h = tt
+  none_kept rest None h = λ x r i. ⊎_elim (λ j. among_left x around (ls ++ rest) j) (λ j. ⊎_elim (λ k. among_right x around (ls ++ rest) (among_left x ls rest k)) (λ k. absurd (h x r k)) (among_cases x ls rs j)) (among_cases x around (ls ++ rs) i)
 
--- one step up
-pub above_within : (t : Tree) (k op : ℕ) (o : Option ℕ) → o ≡ holder_of t op → (items : List Item) → Among (Op op) items → IsWithin t k op → Among (Op k) items ⊎ ((a : ℕ) × (o ≡ Some a) × IsWithin t k a)
-above_within t k op o e items here (inl s) = inl (subst (λ z. Among (Op z) items) s here)
-above_within t k op o e items here (inr i) = let y = inside_up i in inr (y.0, e ∙ y.1, y.2)
+  pub later_kept : (new none : List Candidate) → Kept (ls ++ rs) new → Kept (around ++ (ls ++ rs)) (around ++ (none ++ new))
+  later_kept new none h x r i = ⊎_elim (λ j. among_left x around (none ++ new) j) (λ j. among_right x around (none ++ new) (among_right x none new (h x r j))) (among_cases x around (ls ++ rs) i)
 
-pub none_left : {A : Type 0} {o : Option ℕ} {a : ℕ} → o ≡ None → o ≡ Some a → A
-none_left {a = a} e f = let q : None ≡ Some a = sym e ∙ f in absurd (cc)
+-- those around come into the round
+pub around_kept : (around ls rs none : List Candidate) (x : Item) → Among x (items_of (around ++ (ls ++ rs))) → Among x (items_of (none ++ (ls ++ (rs ++ around))))
+around_kept around ls rs none x i = among_right x none (ls ++ (rs ++ around)) (⊎_elim (λ j. among_right x ls (rs ++ around) (among_right x rs around j)) (λ j. ⊎_elim (λ k. among_left x ls (rs ++ around) k) (λ k. among_right x ls (rs ++ around) (among_left x rs around k)) (among_cases x ls rs j)) (among_cases x around (ls ++ rs) i))
+
+-- what is found of all that is ready
+module _ (m : Meaning) (side_effects : Head → Option Bool) (removable : Head → ℕ → Bool → Option Bool) (t : Tree) (root : ℕ) (old new : List Candidate) (all : HasReady m side_effects removable t root old) where
+  pub next_of_all : (found : Option Candidate) → IfSome found (λ next. KeepsReady m side_effects removable t root old (new ++ next ∷ [])) → IfSome found (λ next. HasReady m side_effects removable t root (new ++ next ∷ []))
+  next_of_all None h = tt
+  next_of_all (Some next) h = λ x r. h x r (all x r)
+
+  pub none_of_all : (found : Option Candidate) → IfNone found (KeepsReady m side_effects removable t root old new) → IfNone found (new ≡ []) → IfNone found ((x : Item) → IsReady m side_effects removable t root x → ⊥)
+  none_of_all (Some next) h e = tt
+  none_of_all None h e = λ x r. subst (λ z. Among x (items_of z)) e (h x r (all x r))
+
+-- where no part has any, nothing waits
+pub none_waits : (found : Option Candidate) (work : Work) → work.around.keys ≡ [] → work.later.items ≡ [] → IfNone found (work.round.items ≡ []) → IfNone found (waiting work ≡ [])
+none_waits (Some next) work a l r = tt
+none_waits None work a l r = ap (λ z. map (λ k. Operation k) z ++ (work.later.items ++ work.round.items)) a ∙ ap (λ z. z ++ work.round.items) l ∙ r
+
+-- at the start all waits in the round
+pub all_wait : (work : Work) (items : List Candidate) → work.round.items ≡ items → work.later.items ≡ [] → work.around.keys ≡ [] → waiting work ≡ items
+all_wait work items e l a = ap (λ z. map (λ k. Operation k) z ++ (work.later.items ++ work.round.items)) a ∙ ap (λ z. z ++ work.round.items) l ∙ e
+
+-- an operation of the set, as an item
+pub among_set : (ks : List ℕ) (k : ℕ) → In k ks → Among (Op k) (items_of (map (λ n. Operation n) ks))
+among_set (x ∷ ks) k (inl e) = inl (ap Op e)
+among_set (x ∷ ks) k (inr i) = inr (among_set ks k i)
+among_set [] k i = absurd i
+
+-- a larger set
+pub among_more : (old new : List ℕ) (rest : List Candidate) → ((k : ℕ) → In k old → In k new) → (x : Item) → Among x (items_of (map (λ n. Operation n) old ++ rest)) → Among x (items_of (map (λ n. Operation n) new ++ rest))
+among_more old new rest more x i = ⊎_elim (λ j. among_left x (map (λ n. Operation n) new) rest (by old (λ k q. more k q) j)) (λ j. among_right x (map (λ n. Operation n) new) rest j) (among_cases x (map (λ n. Operation n) old) rest i)
+  where
+    by : (ks : List ℕ) → ((k : ℕ) → In k ks → In k new) → Among x (items_of (map (λ n. Operation n) ks)) → Among x (items_of (map (λ n. Operation n) new))
+    by [] h j = absurd j
+    by (k ∷ ks) h (inl e) = subst (λ z. Among z (items_of (map (λ n. Operation n) new))) (sym e) (among_set new k (h k (inl refl)))
+    by (k ∷ ks) h (inr j) = by ks (λ q y. h q (inr y)) j
 
 pub some_told : {A : Type 0} {o : Option A} {x : A} (P : A → Type 0) → IfSome o P → o ≡ Some x → P x
 some_told P i e = subst (λ z. IfSome z P) e i
 
 -- one more value was looked at
-pub looked_more : (t : Tree) (site v : ℕ) (values : List ℕ) (i : ℕ) (old mid new : List Candidate) → AreLookedAt t site (take i values) (items_of old) → slice_get values i ≡ Some v → ((x : Item) → Among x (items_of old) → Among x (items_of mid)) → LooksAround t site v mid new → ((k n : ℕ) → definition_of t v ≡ Some (Result k n) → Among (Op k) (items_of mid)) → ((b n : ℕ) → definition_of t v ≡ Some (Definition b n) → Among (Arg v) (items_of mid)) → AreLookedAt t site (take (i + 1) values) (items_of new)
-looked_more t site v values i old mid new before at more looks makers arguments = record {
-  makers = λ u k n j d e. ⊎_elim (λ y. all (Op k) (before.makers u k n y d e)) (λ s. looks.kept (Op k) (makers k n (ap (definition_of t) (sym s) ∙ e))) (was u j);
-  arguments = λ u b n j d e. ⊎_elim (λ y. all (Arg u) (before.arguments u b n y d e)) (λ s. subst (λ z. Among (Arg z) (items_of new)) (sym s) (looks.kept (Arg v) (arguments b n (ap (definition_of t) (sym s) ∙ e)))) (was u j);
-  around = λ u k j d m n. ⊎_elim (λ y. all (Op k) (before.around u k y d m n)) (λ s. looks.around k (subst (IsMadeInside t k) s m) n) (was u j);
+pub looked_more : (t : Tree) (v : ℕ) (values : List ℕ) (i : ℕ) (old mid new : List Candidate) → AreLookedAt t (take i values) (items_of old) → slice_get values i ≡ Some v → ((x : Item) → Among x (items_of old) → Among x (items_of mid)) → ((x : Item) → Among x (items_of mid) → Among x (items_of new)) → ((k : ℕ) → IsMadeInside t k v → Among (Op k) (items_of new)) → ((k n : ℕ) → definition_of t v ≡ Some (Result k n) → Among (Op k) (items_of mid)) → ((b n : ℕ) → definition_of t v ≡ Some (Definition b n) → Among (Arg v) (items_of mid)) → AreLookedAt t (take (i + 1) values) (items_of new)
+looked_more t v values i old mid new before at more kept round makers arguments = record {
+  makers = λ u k n j d e. ⊎_elim (λ y. all (Op k) (before.makers u k n y d e)) (λ s. kept (Op k) (makers k n (ap (definition_of t) (sym s) ∙ e))) (was u j);
+  arguments = λ u b n j d e. ⊎_elim (λ y. all (Arg u) (before.arguments u b n y d e)) (λ s. subst (λ z. Among (Arg z) (items_of new)) (sym s) (kept (Arg v) (arguments b n (ap (definition_of t) (sym s) ∙ e)))) (was u j);
+  around = λ u k j d m. ⊎_elim (λ y. all (Op k) (before.around u k y d m)) (λ s. round k (subst (IsMadeInside t k) s m)) (was u j);
 }
   where
     all : (x : Item) → Among x (items_of old) → Among x (items_of new)
-    all x y = looks.kept x (more x y)
+    all x y = kept x (more x y)
 
     in_split : (u : ℕ) (xs : List ℕ) → In u (xs ++ v ∷ []) → In u xs ⊎ (u ≡ v)
     in_split u [] (inl e) = inr e
@@ -117,11 +159,11 @@ looked_more t site v values i old mid new before at more looks makers arguments 
     was u j = in_split u (take i values) (subst (In u) (ap (λ n. take n values) (add-one i) ∙ take_more values i v at) j)
 
 -- a value that stands no more needs no look
-pub looked_past : (t : Tree) (site v : ℕ) (values : List ℕ) (i : ℕ) (items : List Item) → AreLookedAt t site (take i values) items → slice_get values i ≡ Some v → (IsDefined t v → ⊥) → AreLookedAt t site (take (i + 1) values) items
-looked_past t site v values i items before at gone = record {
+pub looked_past : (t : Tree) (v : ℕ) (values : List ℕ) (i : ℕ) (items : List Item) → AreLookedAt t (take i values) items → slice_get values i ≡ Some v → (IsDefined t v → ⊥) → AreLookedAt t (take (i + 1) values) items
+looked_past t v values i items before at gone = record {
   makers = λ u k n j d e. ⊎_elim (λ y. before.makers u k n y d e) (λ s. absurd (gone (subst (IsDefined t) s d))) (was u j);
   arguments = λ u b n j d e. ⊎_elim (λ y. before.arguments u b n y d e) (λ s. absurd (gone (subst (IsDefined t) s d))) (was u j);
-  around = λ u k j d m n. ⊎_elim (λ y. before.around u k y d m n) (λ s. absurd (gone (subst (IsDefined t) s d))) (was u j);
+  around = λ u k j d m. ⊎_elim (λ y. before.around u k y d m) (λ s. absurd (gone (subst (IsDefined t) s d))) (was u j);
 }
   where
     in_split : (u : ℕ) (xs : List ℕ) → In u (xs ++ v ∷ []) → In u xs ⊎ (u ≡ v)

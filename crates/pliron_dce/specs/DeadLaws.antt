@@ -22,4 +22,4 @@ pub record GoingLaws (m : Meaning) (shortened : Shape → ℕ → ℕ → Head) 
 
 -- what is ready after a whole rewrite was ready before it, or is looked at
 abbrev pub PendingLaw : Meaning → (Shape → ℕ → ℕ → Head) → (Head → Option Bool) → (Head → ℕ → Bool → Option Bool) → Type 0
-PendingLaw m shortened side_effects removable = (t t' : Tree) (root site : ℕ) (x : Item) (used : List ℕ) (items : List Item) → IsTree t → IsTree t' → IsWellLinked m t root → IsReady m side_effects removable t root x → Goes m shortened t t' x → AreNoted t t' site used → AreLookedAt t' site used items → (y : Item) → IsReady m side_effects removable t' root y → IsReady m side_effects removable t root y ⊎ Among y items
+PendingLaw m shortened side_effects removable = (t t' : Tree) (root : ℕ) (x : Item) (used : List ℕ) (items : List Item) → IsTree t → IsTree t' → IsWellLinked m t root → IsReady m side_effects removable t root x → Goes m shortened t t' x → AreNoted t t' used → AreLookedAt t' used items → (y : Item) → IsReady m side_effects removable t' root y → IsReady m side_effects removable t root y ⊎ Among y items

@@ -34,16 +34,16 @@ HaveNoUse t k = (v user : ℕ) → In v (results_of t k) → In v (operands_of t
 abbrev pub AreOperandsWithin : Tree → ℕ → List ℕ → Type 0
 AreOperandsWithin t k values = (user v : ℕ) → IsWithin t k user → In v (operands_of t user) → In v values
 
--- each value that an operation uses no more is among these, and the site held that operation
-abbrev pub AreNoted : (t t' : Tree) → (site : ℕ) → List ℕ → Type 0
-AreNoted t t' site used = (user v : ℕ) → In v (operands_of t user) → (In v used × IsInside t site user) ⊎ In v (operands_of t' user)
+-- each value that an operation uses no more is among these
+abbrev pub AreNoted : (t t' : Tree) → List ℕ → Type 0
+AreNoted t t' used = (user v : ℕ) → In v (operands_of t user) → In v used ⊎ In v (operands_of t' user)
 
 -- what makes each of these values, where it stands, is among the items, and so is each operation around
--- it that does not hold the site
-pub record AreLookedAt (t : Tree) (site : ℕ) (used : List ℕ) (items : List Item) : Type 0 where
+-- it
+pub record AreLookedAt (t : Tree) (used : List ℕ) (items : List Item) : Type 0 where
   pub makers : (v k i : ℕ) → In v used → IsDefined t v → definition_of t v ≡ Some (Result k i) → Among (Op k) items
   pub arguments : (v b i : ℕ) → In v used → IsDefined t v → definition_of t v ≡ Some (Argument b i) → Among (Arg v) items
-  pub around : (v k : ℕ) → In v used → IsDefined t v → IsMadeInside t k v → (IsWithin t k site → ⊥) → Among (Op k) items
+  pub around : (v k : ℕ) → In v used → IsDefined t v → IsMadeInside t k v → Among (Op k) items
 
 -- the values are as before, and the operands of the operation
 pub record AddsOperands (t : Tree) (k : ℕ) (old new : List ℕ) : Type 0 where

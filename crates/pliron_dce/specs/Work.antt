@@ -1,6 +1,6 @@
 -- What is still to be looked at.
 use Rattle.std.specs.Prelude.{◌≡◌, ◌≢◌, ◌++◌, ℕ, Bool, List, map, Option, Some}
-use Rattle.pliron_core.specs.Tree.{Tree, In, IsInside, IsWithin, HoldsBlock, arguments_of, block_holder_of}
+use Rattle.pliron_core.specs.Tree.{Tree, In, IsLive, IsInside, IsWithin, HoldsBlock, arguments_of, block_holder_of}
 use Rattle.pliron_core.specs.Changes.{IsMadeInside}
 use Rattle.pliron_laws.specs.Datum.{Head, Meaning}
 use Rattle.pliron_dce.specs.declared.work.Candidate.{Candidate}
@@ -16,9 +16,13 @@ item_of (Argument v) = Arg v
 abbrev pub items_of : List Candidate → List Item
 items_of cs = map item_of cs
 
--- what waits: for the next round, and in this one
+-- what waits: once nothing else is ready, for the next round, and in this one
 abbrev pub waiting : Work → List Candidate
-waiting w = w.later.items ++ w.round.items
+waiting w = map (λ k. Operation k) w.around.keys ++ (w.later.items ++ w.round.items)
+
+-- with each of these operations that stands, those around it are among them
+abbrev pub AreClosed : Tree → List ℕ → Type 0
+AreClosed t ks = (k a : ℕ) → In k ks → IsLive t k → IsInside t a k → In a ks
 
 -- each thing that is ready is among these
 abbrev pub HasReady : Meaning → (Head → Option Bool) → (Head → ℕ → Bool → Option Bool) → Tree → ℕ → List Candidate → Type 0
@@ -28,10 +32,10 @@ HasReady m side_effects removable t root work = (x : Item) → IsReady m side_ef
 abbrev pub KeepsReady : Meaning → (Head → Option Bool) → (Head → ℕ → Bool → Option Bool) → Tree → ℕ → (old new : List Candidate) → Type 0
 KeepsReady m side_effects removable t root old new = (x : Item) → IsReady m side_effects removable t root x → Among x (items_of old) → Among x (items_of new)
 
--- what was there is there, and each operation around the value that does not hold the site
-pub record LooksAround (t : Tree) (site v : ℕ) (old new : List Candidate) : Type 0 where
-  pub kept : (x : Item) → Among x (items_of old) → Among x (items_of new)
-  pub around : (k : ℕ) → IsMadeInside t k v → (IsWithin t k site → ⊥) → Among (Op k) (items_of new)
+-- what was there is there, and each operation around the value
+pub record LooksAround (t : Tree) (v : ℕ) (old new : List ℕ) : Type 0 where
+  pub kept : (k : ℕ) → In k old → In k new
+  pub around : (k : ℕ) → IsMadeInside t k v → In k new
 
 -- the operation directly around what makes the value
 abbrev pub IsAroundMaker : Tree → ℕ → Option ℕ → Type 0

@@ -57,10 +57,12 @@ pub fn ready_things_are_seen<D: Dialect>()
 /// Errors: want of memory. The tree is then one after some whole rewrites: dead operations with their
 /// contents, and dead arguments with the operands forwarded to them.
 ///
-/// Cost: one look at each operation and argument inside, and two more for each use that it loses. An
-/// argument that goes asks each edge to its block for the one operand that it forwards there
-/// (`successor_operand`) and takes that one out. The arguments of a block that may go at one time go side by
-/// side, the last one first; so those that stay behind them move once for all of these.
+/// Cost: one look at each operation and argument inside, and two more for each use that it loses. The
+/// operations around what loses a use are looked at once for all that is lost until nothing else is ready;
+/// such a look goes over what is inside, up to the first use outside. An argument that goes asks each edge to
+/// its block for the one operand that it forwards there (`successor_operand`) and takes that one out. The
+/// arguments of a block that may go at one time go side by side, the last one first; so those that stay
+/// behind them move once for all of these.
 pub fn dce<D: Dialect>(
     alloc: Global,
     op: Ptr<Operation>,

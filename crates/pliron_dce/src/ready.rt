@@ -46,13 +46,13 @@ pub(crate) fn is_ready_operation<D: Dialect>(
     if !op.is_live(ctx) {
         return false;
     }
-    if !op.is_inside(root, ctx) {
-        return false;
-    }
     if !is_harmless::<D>(op, ctx) {
         return false;
     }
     if !is_unused(op, ctx) {
+        return false;
+    }
+    if !op.is_inside(root, ctx) {
         return false;
     }
     op.is_self_contained(ctx)

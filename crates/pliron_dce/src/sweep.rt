@@ -7,9 +7,8 @@ ghost use Rattle.pliron_theory.specs.Edges.{KeepsEdges, has_regions as is_with_r
 ghost use Rattle.pliron_dce.specs.Dead.{Item};
 ghost use Rattle.pliron_dce.specs.Steps.{IsReady};
 ghost use Rattle.pliron_dce.specs.Going.{Goes, HasRegions, SomeHasRegions, IsSweptSoFar, LeavesNoDead, TellsGone};
-ghost use Rattle.pliron_dce.specs.Work.{item_of, waiting, HasReady};
+ghost use Rattle.pliron_dce.specs.Work.{item_of, waiting, HasReady, AreClosed};
 
-use crate::ready::holder_of;
 use crate::take::{take_argument, take_operation};
 use crate::work::{Candidate, Work, next_ready, note};
 use pliron_core::{Context, Def, IRStatus, Operation, Ptr};
@@ -41,30 +40,28 @@ fn take_one<D: Dialect>(
     requires linked { IsWellLinked D.meaning ctx.old.tree root }
     requires ready { IsReady D.meaning D.side_effects D.removable ctx.old.tree root (item_of next) }
     requires all { HasReady D.meaning D.side_effects D.removable ctx.old.tree root (waiting work.old ++ next ∷ []) }
+    requires closed { AreClosed ctx.old.tree work.old.around.keys }
     ensures goes { OnOk result (Goes D.meaning D.shortened ctx.old.tree ctx.new.tree (item_of next)) }
     ensures all { OnOk result (HasReady D.meaning D.side_effects D.removable ctx.new.tree root (waiting work.new)) }
+    ensures closed { OnOk result (AreClosed ctx.new.tree work.new.around.keys) }
     ensures regions { IfOk result (λ had. IsTrue had ↔ HasRegions ctx.old.tree (item_of next)) }
     ensures refused { OnErr result ((ctx.new.tree ≡ ctx.old.tree) ⊎ Goes D.meaning D.shortened ctx.old.tree ctx.new.tree (item_of next)) }
     ensures memory { IsOkUnless result OptError.Memory }
 {
     ctx.well_formed();
     match next {
-        Candidate::Operation(op) => match op.get_parent_op(ctx) {
-            Some(site) => {
-                let had = has_regions(op, ctx);
-                let used = take_operation::<D>(alloc, op, root, ctx)?;
-                ctx.well_formed();
-                note(work, site, &used, ctx)?;
-                Ok(had)
-            }
-            None => unreachable!(),
-        },
+        Candidate::Operation(op) => {
+            let had = has_regions(op, ctx);
+            let used = take_operation::<D>(alloc, op, root, ctx)?;
+            ctx.well_formed();
+            note(work, &used, ctx)?;
+            Ok(had)
+        }
         Candidate::Argument(value) => match value.def(ctx) {
             Def::Argument(block, index) => {
-                let site = holder_of(block, ctx);
                 let used = take_argument::<D>(alloc, block, index, root, ctx)?;
                 ctx.well_formed();
-                note(work, site, &used, ctx)?;
+                note(work, &used, ctx)?;
                 Ok(false)
             }
             Def::Result(_, _) => unreachable!(),
@@ -88,10 +85,7 @@ pub(crate) fn sweep<D: Dialect>(
     ensures edges { IfOk result (λ a. (IsTrue a.1 → ⊥) → KeepsEdges ctx.old.tree ctx.new.tree) }
     ensures memory { IsOkUnless result OptError.Memory }
 {
-    let mut work = Work {
-        round: candidates,
-        later: Vec::new(alloc),
-    };
+    let mut work = Work::new(alloc, candidates);
     let mut status = IRStatus::Unchanged;
     let mut regions = false;
     while let Some(next) = next_ready::<D>(&mut work, root, ctx)? {

@@ -1,6 +1,6 @@
 //! Whole rewrites: one dead thing goes.
 ghost use Rattle.std.specs.Prelude.{◌≡◌, ◌↔◌, ◌<◌, length, ℕ, Some, IfOk, OnOk, OnErr, IsTrue, slice_get, IsOkUnless};
-ghost use Rattle.pliron_core.specs.Tree.{In, IsLive, IsBlock, operands_of, arguments_of, holder_of, block_holder_of};
+ghost use Rattle.pliron_core.specs.Tree.{In, IsLive, IsBlock, operands_of, arguments_of};
 ghost use Rattle.pliron_core.specs.Erased.{erased};
 ghost use Rattle.pliron_laws.specs.Linked.{IsWellLinked};
 ghost use Rattle.pliron_dce.specs.Dead.{Item};
@@ -56,7 +56,7 @@ pub(crate) fn take_operation<D: Dialect>(
     requires linked { IsWellLinked D.meaning ctx.old.tree root }
     requires ready { IsReadyOperation D.meaning D.side_effects ctx.old.tree root op }
     ensures gone { IfOk result (λ used. ctx.new.tree ≡ erased ctx.old.tree op) }
-    ensures noted { IfOk result (λ used. (site : ℕ) → holder_of ctx.old.tree op ≡ Some site → AreNoted ctx.old.tree ctx.new.tree site used.items) }
+    ensures noted { IfOk result (λ used. AreNoted ctx.old.tree ctx.new.tree used.items) }
     ensures refused { OnErr result (ctx.new ≡ ctx.old) }
     ensures memory { IsOkUnless result OptError.Memory }
 {
@@ -81,7 +81,7 @@ pub(crate) fn take_argument<D: Dialect>(
     requires index { index < length (arguments_of ctx.old.tree block) }
     ensures gone { IfOk result (λ used. (v : ℕ) → slice_get (arguments_of ctx.old.tree block) index ≡ Some v →
         Removes D.meaning D.shortened ctx.old.tree ctx.new.tree v) }
-    ensures noted { IfOk result (λ used. (site : ℕ) → block_holder_of ctx.old.tree block ≡ Some site → AreNoted ctx.old.tree ctx.new.tree site used.items) }
+    ensures noted { IfOk result (λ used. AreNoted ctx.old.tree ctx.new.tree used.items) }
     ensures refused { OnErr result (ctx.new ≡ ctx.old) }
     ensures memory { IsOkUnless result OptError.Memory }
 {

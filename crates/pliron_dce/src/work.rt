@@ -3,17 +3,22 @@
 //! In each round the arguments go before the operations, the last one first. So those of one block go side
 //! by side, whichever way their uses went, and so do the operands that were forwarded to them; what a block
 //! or a branch loses side by side costs one step each.
-ghost use Rattle.std.specs.Prelude.{◌≡◌, ◌↔◌, ◌++◌, ◌∷◌, [], IfOk, OnOk, IfErr, IfSome, IfNone, IsTrue, IsPermutation};
+//!
+//! The operations around what lost a use are looked at once nothing else is ready, each once for all the uses
+//! that what is inside it lost until then. For a look at one goes over what is inside it.
+ghost use Rattle.std.specs.Prelude.{◌≡◌, ◌↔◌, ◌++◌, ◌∷◌, [], map, IfOk, OnOk, IfErr, IfSome, IfNone, IsTrue, IsPermutation};
 ghost use Rattle.pliron_core.specs.Tree.{IsLive, IsDefined};
 ghost use Rattle.pliron_laws.specs.Linked.{IsWellLinked};
 ghost use Rattle.pliron_dce.specs.Dead.{Item};
 ghost use Rattle.pliron_dce.specs.Steps.{IsReady, Among, AreLookedAt};
-ghost use Rattle.pliron_dce.specs.Work.{item_of, items_of, waiting, HasReady, KeepsReady, LooksAround, IsAroundMaker};
+ghost use Rattle.pliron_dce.specs.declared.work.Candidate.TheVariants.{Operation as AnOperation};
+ghost use Rattle.pliron_dce.specs.Work.{item_of, items_of, waiting, HasReady, KeepsReady, AreClosed, LooksAround, IsAroundMaker};
 
-use crate::ready::{holder_of, is_ready_argument, is_ready_operation, is_within};
+use crate::ready::{holder_of, is_ready_argument, is_ready_operation};
+use indexmap::IndexSet;
 use pliron_core::{Context, Def, Operation, Ptr, Value};
 use pliron_laws::Dialect;
-use std::alloc::AllocError;
+use std::alloc::{AllocError, Global};
 
 // What may be dead.
 #[derive(Clone, Copy, PartialEq, Eq)]
@@ -29,13 +34,29 @@ pub(crate) struct Work {
     pub(crate) round: Vec<Candidate>,
     // in the next one
     pub(crate) later: Vec<Candidate>,
+    // once nothing else is ready: operations around what lost a use, and all that are around them
+    pub(crate) around: IndexSet<Ptr<Operation>>,
 }
 
 impl Work {
+    // All these are looked at in the first round.
+    pub(crate) fn new(alloc: Global, candidates: Vec<Candidate>) -> Work
+        ensures round { result.round.items ≡ candidates.items }
+        ensures later { result.later.items ≡ [] }
+        ensures around { result.around.keys ≡ [] }
+    {
+        Work {
+            round: candidates,
+            later: Vec::new(alloc),
+            around: IndexSet::new(alloc),
+        }
+    }
+
     // The candidate is looked at in the next round.
     fn add(&mut self, candidate: Candidate) -> Result<(), AllocError>
         ensures kept { OnOk result ((x : Item) → Among x (items_of (waiting self.old)) → Among x (items_of (waiting self.new))) }
         ensures added { OnOk result (Among (item_of candidate) (items_of (waiting self.new))) }
+        ensures around { OnOk result (self.new.around.keys ≡ self.old.around.keys) }
     {
         self.later.push(candidate)?;
         Ok(())
@@ -108,7 +129,9 @@ fn begin_round<D: Dialect>(
     ctx: &Context,
 ) -> Result<(), AllocError>
     requires linked { IsWellLinked D.meaning ctx.now.tree root }
-    ensures { OnOk result (KeepsReady D.meaning D.side_effects D.removable ctx.now.tree root (waiting work.old) work.new.round.items) }
+    ensures kept { OnOk result (KeepsReady D.meaning D.side_effects D.removable ctx.now.tree root (waiting work.old) (waiting work.new)) }
+    ensures later { OnOk result (work.new.later.items ≡ []) }
+    ensures around { OnOk result (work.new.around.keys ≡ work.old.around.keys) }
 {
     push_ready::<D>(&mut work.round, &work.later, root, ctx)?;
     work.later.clear();
@@ -116,7 +139,42 @@ fn begin_round<D: Dialect>(
     Ok(())
 }
 
-// The next one that is ready, of this round or of the next one. What is looked at and not ready goes.
+// The next one of this round that is ready.
+fn next_of<D: Dialect>(work: &mut Work, root: Ptr<Operation>, ctx: &Context) -> Option<Candidate>
+    requires linked { IsWellLinked D.meaning ctx.now.tree root }
+    ensures some { IfSome result (λ next. IsReady D.meaning D.side_effects D.removable ctx.now.tree root (item_of next)) }
+    ensures kept { IfSome result (λ next. KeepsReady D.meaning D.side_effects D.removable ctx.now.tree root (waiting work.old) (waiting work.new ++ next ∷ [])) }
+    ensures none { IfNone result (KeepsReady D.meaning D.side_effects D.removable ctx.now.tree root (waiting work.old) (waiting work.new)) }
+    ensures empty { IfNone result (work.new.round.items ≡ []) }
+    ensures later { work.new.later ≡ work.old.later }
+    ensures around { work.new.around ≡ work.old.around }
+{
+    next_in_round::<D>(&mut work.round, root, ctx)
+}
+
+// These operations come into the round.
+fn push_operations(round: &mut Vec<Candidate>, ops: &[Ptr<Operation>]) -> Result<(), AllocError>
+    ensures { OnOk result (round.new.items ≡ round.old.items ++ map (λ k. AnOperation k) ops.now) }
+{
+    for op in ops {
+        round.push(Candidate::Operation(*op))?;
+    }
+    Ok(())
+}
+
+// The operations around what lost uses come into the round.
+fn begin_around(work: &mut Work) -> Result<(), AllocError>
+    ensures kept { OnOk result ((x : Item) → Among x (items_of (waiting work.old)) → Among x (items_of (waiting work.new))) }
+    ensures later { work.new.later ≡ work.old.later }
+    ensures around { OnOk result (work.new.around.keys ≡ []) }
+{
+    push_operations(&mut work.round, work.around.as_slice())?;
+    work.around.clear();
+    Ok(())
+}
+
+// The next one that is ready: of this round, of the next one, or around what lost uses. What is looked at and
+// not ready goes.
 pub(crate) fn next_ready<D: Dialect>(
     work: &mut Work,
     root: Ptr<Operation>,
@@ -124,16 +182,22 @@ pub(crate) fn next_ready<D: Dialect>(
 ) -> Result<Option<Candidate>, AllocError>
     requires linked { IsWellLinked D.meaning ctx.now.tree root }
     requires all { HasReady D.meaning D.side_effects D.removable ctx.now.tree root (waiting work.old) }
+    requires closed { AreClosed ctx.now.tree work.old.around.keys }
     ensures some { IfOk result (λ found. IfSome found (λ next. IsReady D.meaning D.side_effects D.removable ctx.now.tree root (item_of next))) }
     ensures all { IfOk result (λ found. IfSome found (λ next.
         HasReady D.meaning D.side_effects D.removable ctx.now.tree root (waiting work.new ++ next ∷ []))) }
     ensures none { IfOk result (λ found. IfNone found ((x : Item) → IsReady D.meaning D.side_effects D.removable ctx.now.tree root x → ⊥)) }
+    ensures closed { OnOk result (AreClosed ctx.now.tree work.new.around.keys) }
 {
-    if let Some(next) = next_in_round::<D>(&mut work.round, root, ctx) {
+    if let Some(next) = next_of::<D>(work, root, ctx) {
         return Ok(Some(next));
     }
     begin_round::<D>(work, root, ctx)?;
-    Ok(next_in_round::<D>(&mut work.round, root, ctx))
+    if let Some(next) = next_of::<D>(work, root, ctx) {
+        return Ok(Some(next));
+    }
+    begin_around(work)?;
+    Ok(next_of::<D>(work, root, ctx))
 }
 
 // The operation that holds what makes the value.
@@ -149,40 +213,35 @@ fn holder_of_maker(value: Value, ctx: &Context) -> Option<Ptr<Operation>>
     }
 }
 
-// The operations around what makes the value, up to the first that holds the site.
+// The operations around what makes the value, and those around them, are looked at once nothing else is ready.
 fn push_around(
-    work: &mut Work,
+    around: &mut IndexSet<Ptr<Operation>>,
     value: Value,
-    site: Ptr<Operation>,
     ctx: &Context,
 ) -> Result<(), AllocError>
     requires value { IsDefined ctx.now.tree value }
-    requires site { IsLive ctx.now.tree site }
-    ensures { OnOk result (LooksAround ctx.now.tree site value (waiting work.old) (waiting work.new)) }
+    requires closed { AreClosed ctx.now.tree around.old.keys }
+    ensures looks { OnOk result (LooksAround ctx.now.tree value around.old.keys around.new.keys) }
+    ensures closed { OnOk result (AreClosed ctx.now.tree around.new.keys) }
 {
     ctx.well_formed();
-    let mut around = holder_of_maker(value, ctx);
-    while let Some(op) = around {
-        if is_within(site, op, ctx) {
+    let mut holder = holder_of_maker(value, ctx);
+    while let Some(op) = holder {
+        if !around.insert(op)? {
             return Ok(());
         }
-        work.add(Candidate::Operation(op))?;
-        around = op.get_parent_op(ctx);
+        holder = op.get_parent_op(ctx);
     }
     Ok(())
 }
 
-// What may have become ready when these values lost uses by operations that `site` holds: what makes
-// each of them, and the operations around it that do not hold those.
-pub(crate) fn note(
-    work: &mut Work,
-    site: Ptr<Operation>,
-    used: &[Value],
-    ctx: &Context,
-) -> Result<(), AllocError>
-    requires site { IsLive ctx.now.tree site }
+// What may have become ready when these values lost uses: what makes each of them, and the operations
+// around it.
+pub(crate) fn note(work: &mut Work, used: &[Value], ctx: &Context) -> Result<(), AllocError>
+    requires closed { AreClosed ctx.now.tree work.old.around.keys }
     ensures kept { OnOk result ((x : Item) → Among x (items_of (waiting work.old)) → Among x (items_of (waiting work.new))) }
-    ensures looked { OnOk result (AreLookedAt ctx.now.tree site used.now (items_of (waiting work.new))) }
+    ensures looked { OnOk result (AreLookedAt ctx.now.tree used.now (items_of (waiting work.new))) }
+    ensures closed { OnOk result (AreClosed ctx.now.tree work.new.around.keys) }
 {
     for value in used {
         if !value.is_live(ctx) {
@@ -192,7 +251,7 @@ pub(crate) fn note(
             Def::Result(op, _) => work.add(Candidate::Operation(op))?,
             Def::Argument(_, _) => work.add(Candidate::Argument(*value))?,
         }
-        push_around(work, *value, site, ctx)?;
+        push_around(&mut work.around, *value, ctx)?;
     }
     Ok(())
 }

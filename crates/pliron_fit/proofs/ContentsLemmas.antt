@@ -14,7 +14,7 @@ use Rattle.pliron_core.proofs.WalkLemmas.{In-preorder, distinct-preorder, not_in
 use Rattle.pliron_core.proofs.WalkStepLemmas.{walk_step}
 use Rattle.indexmap.specs.IndexSet.{insert_key}
 
-same_key : (x y : ℕ) → nat_eq x y && true ≡ true → x ≡ y
+pub same_key : (x y : ℕ) → nat_eq x y && true ≡ true → x ≡ y
 same_key x y e = grind arith
 
 pub tested_in : (xs : List ℕ) (k : ℕ) → list_any (λ y. nat_eq k y && true) xs ≡ true → In k xs

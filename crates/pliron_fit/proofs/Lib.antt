@@ -1,3 +1,9 @@
 pub mod ContentsLemmas
 pub mod CheckLemmas
 pub mod PlainLemmas
+pub mod WayLemmas
+pub mod NextLemmas
+pub mod StepLemmas
+pub mod OrderLemmas
+pub mod UseLemmas
+pub mod FitLemmas

@@ -1,13 +1,15 @@
-//! What keeps an operation from being fit to run.
-ghost use Rattle.std.specs.Prelude.{◌≡◌, ℕ, [], OnOk, IfOk, IfErr, IsOkUnless, MatchOption};
-ghost use Rattle.pliron_core.specs.Tree.{IsLive, IsWithin, successors_of};
+//! Whether an operation is fit to run.
+ghost use Rattle.std.specs.Prelude.{◌≡◌, ◌↔◌, ◌⊎◌, ℕ, [], None, OnOk, IfOk, IfErr, IfSome, IsOkUnless, IsTrue};
+ghost use Rattle.pliron_core.specs.Tree.{In, IsLive, IsWithin, successors_of};
 ghost use Rattle.pliron_core.specs.Walks.{preorder};
 ghost use Rattle.pliron_laws.specs.Answers.{HeadPasses};
+ghost use Rattle.pliron_theory.specs.Keeps.{IsFit};
 ghost use Rattle.pliron_fit.specs.Misfit.{IsMisfit};
 ghost use Rattle.pliron_fit.specs.Checks.{IsStop, IsSoundAt};
 ghost use Rattle.pliron_fit.specs.Plain.{IsPlainlyFit};
 
 use crate::contents::contents_of;
+use crate::dominated::check_dominance;
 use crate::misfit::{Misfit, Stop};
 use crate::operations::check_operation;
 use indexmap::IndexSet;
@@ -59,28 +61,105 @@ fn check_plainly<D: Dialect>(
     Ok(())
 }
 
-/// One thing that keeps the operation from being fit to run, with its place; `None` only where all is right
-/// but for dominance of uses, at which this doesn't look: runs may begin there, it has no successors, what
-/// stands inside it uses nothing from outside, nothing outside uses what is made inside it, the tree is well linked
-/// there, all regions have dominance, edges forward what their targets take, terminators stand last, and results of what has
-/// successors have no use. Which of several things comes is open.
+// The root is fit to run.
+fn check_fit<D: Dialect>(
+    alloc: Global,
+    root: Ptr<Operation>,
+    contents: &IndexSet<Ptr<Operation>>,
+    ctx: &Context,
+) -> Result<(), Stop>
+    requires live { IsLive ctx.now.tree root }
+    requires contents { contents.now.keys ≡ preorder ctx.now.tree root }
+    ensures ok { OnOk result (IsFit D.meaning ctx.now.tree root) }
+    ensures err { IfErr result (λ e. IsStop D.meaning ctx.now.tree root e) }
+{
+    ctx.well_formed();
+    check_plainly::<D>(alloc, root, contents, ctx)?;
+    let inside = &contents.as_slice()[1..];
+    check_dominance::<D>(alloc, root, inside, contents, ctx)?;
+    Ok(())
+}
+
+/// One thing that keeps the operation from being fit to run, with its place; `None` exactly if it is fit: runs
+/// may begin there, it has no successors, what stands inside it uses nothing from outside, nothing outside uses
+/// what is made inside it, the tree is well linked there, all regions have dominance, definitions dominate uses,
+/// edges forward what their targets take, terminators stand last, and results of what has successors have no
+/// use. Which of several things comes is open.
 ///
-/// Asks that the operation stands. Errors: want of memory. Cost: one step for each operation, block, region,
-/// operand, result, argument and edge inside it, and one table look-up for each operand there and each use of
-/// what is made there.
-pub fn find_plain_misfit<D: Dialect>(
+/// Asks that the operation stands (`is_live` tests it). Errors: want of memory. Cost: one step for each
+/// operation, block, region, operand, result, argument and edge inside it; a few table look-ups for each operand
+/// there and each use of what is made there, however deep they stand; and the dominator tree of each region in
+/// which a value is used in another block than its own, with a question to it for each such use.
+pub fn find_misfit<D: Dialect>(
     alloc: Global,
     root: Ptr<Operation>,
     ctx: &Context,
 ) -> Result<Option<Misfit>, OptError>
     requires { IsLive ctx.now.tree root }
-    ensures found { IfOk result (λ r. MatchOption r (IsPlainlyFit D.meaning ctx.now.tree root) (λ misfit. IsMisfit D.meaning ctx.now.tree root misfit)) }
+    ensures none { IfOk result (λ r. (r ≡ None) ↔ IsFit D.meaning ctx.now.tree root) }
+    ensures some { IfOk result (λ r. IfSome r (λ misfit. IsMisfit D.meaning ctx.now.tree root misfit)) }
     ensures memory { IsOkUnless result OptError.Memory }
 {
+    ctx.well_formed();
     let contents = contents_of(alloc, root, ctx)?;
-    match check_plainly::<D>(alloc, root, &contents, ctx) {
+    match check_fit::<D>(alloc, root, &contents, ctx) {
         Ok(()) => Ok(None),
         Err(Stop::Found(misfit)) => Ok(Some(misfit)),
         Err(Stop::Fault(fault)) => Err(fault),
     }
+}
+
+/// Whether the operation is fit to run: after each pass it does as it did before, where it still stands.
+///
+/// Asks that the operation stands (`is_live` tests it). Errors: want of memory. Cost: that of `find_misfit`.
+pub fn is_fit<D: Dialect>(
+    alloc: Global,
+    root: Ptr<Operation>,
+    ctx: &Context,
+) -> Result<bool, OptError>
+    requires { IsLive ctx.now.tree root }
+    ensures fit { IfOk result (λ r. IsTrue r ↔ IsFit D.meaning ctx.now.tree root) }
+    ensures memory { IsOkUnless result OptError.Memory }
+{
+    let misfit = find_misfit::<D>(alloc, root, ctx)?;
+    Ok(misfit.is_none())
+}
+
+// The operation goes to the end of the list, if it stands and is fit to run.
+fn add_if_fit<D: Dialect>(
+    alloc: Global,
+    root: Ptr<Operation>,
+    found: &mut Vec<Ptr<Operation>>,
+    ctx: &Context,
+) -> Result<(), OptError>
+    ensures added { OnOk result ((k : ℕ) → (In k found.new.items ↔ (In k found.old.items ⊎ ((k ≡ root) × IsFit D.meaning ctx.now.tree root)))) }
+    ensures memory { IsOkUnless result OptError.Memory }
+{
+    if !root.is_live(ctx) {
+        return Ok(());
+    }
+    let fit = is_fit::<D>(alloc, root, ctx)?;
+    if !fit {
+        return Ok(());
+    }
+    found.push(root)?;
+    Ok(())
+}
+
+/// Those of the operations that stand and are fit to run, in their order.
+///
+/// Errors: want of memory. Cost: that of `is_fit` for each.
+pub fn fit_roots<D: Dialect>(
+    alloc: Global,
+    roots: &[Ptr<Operation>],
+    ctx: &Context,
+) -> Result<Vec<Ptr<Operation>>, OptError>
+    ensures fit { IfOk result (λ found. (root : ℕ) → (In root found.items ↔ (In root roots.now × IsFit D.meaning ctx.now.tree root))) }
+    ensures memory { IsOkUnless result OptError.Memory }
+{
+    let mut found = Vec::new(alloc);
+    for root in roots {
+        add_if_fit::<D>(alloc, *root, &mut found, ctx)?;
+    }
+    Ok(found)
 }

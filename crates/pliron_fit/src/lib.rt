@@ -6,11 +6,14 @@
 
 mod blocks;
 mod contents;
+mod definitions;
+mod dominated;
 mod find;
 mod misfit;
 mod operations;
 mod run;
+mod ways;
 
-pub use find::find_plain_misfit;
+pub use find::{find_misfit, fit_roots, is_fit};
 pub use misfit::Misfit;
-pub use run::{RunError, run_checked};
+pub use run::{CheckedRun, RunError, run_checked, run_checked_for};

@@ -1,14 +1,17 @@
 //! Passes on a tree of which nothing is known.
-ghost use Rattle.std.specs.Prelude.{◌≡◌, ◌↔◌, Err};
-ghost use Rattle.pliron_core.specs.Tree.{IsLive};
+ghost use Rattle.std.specs.Prelude.{◌≡◌, ◌↔◌, ℕ, Err, OnOk, IfOk, IfErr};
+ghost use Rattle.pliron_core.specs.Tree.{In, IsLive};
 ghost use Rattle.pliron_core.specs.Changes.{IsInsideChange};
+ghost use Rattle.pliron_laws.specs.Agree.{Agree};
 ghost use Rattle.pliron_laws.specs.Linked.{IsWellLinked};
 ghost use Rattle.pliron_theory.specs.Change.{IsPassChange};
+ghost use Rattle.pliron_theory.specs.Keeps.{IsFit};
 ghost use Rattle.pliron_pass.specs.Headline.{DoAsBefore};
 ghost use Rattle.pliron_fit.specs.declared.run.RunError.TheVariants.{NotLinked, Fault as PassFault};
 
+use crate::find::fit_roots;
 use pliron_core::{Context, IRStatus, Operation, Ptr};
-use pliron_laws::{OptError, is_well_linked};
+use pliron_laws::{Dialect, OptError, is_well_linked};
 use pliron_pass::{AnalysisManager, Pass, run_pipeline};
 use std::alloc::Global;
 use thiserror::Error;
@@ -29,6 +32,19 @@ impl From<OptError> for RunError {
 
     fn from(fault: OptError) -> RunError {
         RunError::Fault(fault)
+    }
+}
+
+// The tree is well linked at the operation.
+fn check_linked<D: Dialect>(op: Ptr<Operation>, ctx: &Context) -> Result<(), RunError>
+    requires { IsLive ctx.now.tree op }
+    ensures linked { OnOk result (IsWellLinked D.meaning ctx.now.tree op) }
+    ensures refused { IfErr result (λ e. (e ≡ NotLinked) × (IsWellLinked D.meaning ctx.now.tree op → ⊥)) }
+{
+    if is_well_linked::<D>(op, ctx) {
+        Ok(())
+    } else {
+        Err(RunError::NotLinked)
     }
 }
 
@@ -55,9 +71,47 @@ pub fn run_checked<P: Pass>(
     ensures untouched { (IsWellLinked P.D.meaning ctx.old.tree op → ⊥) → ctx.new ≡ ctx.old }
     ensures change { IsWellLinked P.D.meaning ctx.old.tree op → IsPassChange P.D.meaning ctx.old.tree ctx.new.tree op }
 {
-    if !is_well_linked::<P::D>(op, ctx) {
-        return Err(RunError::NotLinked);
-    }
+    check_linked::<P::D>(op, ctx)?;
     let status = run_pipeline(pass, alloc, op, ctx, analyses)?;
     Ok(status)
+}
+
+/// What came of a checked run that was to tell which roots were fit.
+#[derive(Drop)]
+pub struct CheckedRun {
+    /// Whether the tree changed.
+    pub status: IRStatus,
+    /// Those of the roots that were fit to run before.
+    pub fit: Vec<Ptr<Operation>>,
+}
+
+/// Runs a pass on the operation, as `run_checked` does, and tells which of these roots were fit to run before:
+/// each of them that still stands does exactly what it did, and is fit to run.
+///
+/// Asks that the operation stands (`is_live` tests it). Errors: `NotLinked` exactly where the tree is not well
+/// linked at the operation, and then nothing changed; want of memory, also before anything was run; else those
+/// of `run_pipeline`. Cost: that of `run_checked`, and of `is_fit` for each of the roots.
+pub fn run_checked_for<P: Pass>(
+    pass: &mut P,
+    alloc: Global,
+    op: Ptr<Operation>,
+    roots: &[Ptr<Operation>],
+    ctx: &mut Context,
+    analyses: &mut AnalysisManager<P::E>,
+) -> Result<CheckedRun, RunError>
+    requires { IsLive ctx.old.tree op }
+    ensures fit { IfOk result (λ run. (root : ℕ) → (In root run.fit.items ↔ (In root roots.now × IsFit P.D.meaning ctx.old.tree root))) }
+    ensures kept { IfOk result (λ run. (root : ℕ) → In root run.fit.items → IsLive ctx.new.tree root →
+        Agree P.D.meaning ctx.old.tree ctx.new.tree root × IsFit P.D.meaning ctx.new.tree root) }
+    ensures same { DoAsBefore P.D.meaning ctx.old.tree ctx.new.tree }
+    ensures stands { IsLive ctx.new.tree op }
+    ensures inside { IsInsideChange ctx.old.tree ctx.new.tree op }
+    ensures refused { (result ≡ Err NotLinked) ↔ (IsWellLinked P.D.meaning ctx.old.tree op → ⊥) }
+    ensures untouched { (IsWellLinked P.D.meaning ctx.old.tree op → ⊥) → ctx.new ≡ ctx.old }
+    ensures change { IsWellLinked P.D.meaning ctx.old.tree op → IsPassChange P.D.meaning ctx.old.tree ctx.new.tree op }
+{
+    check_linked::<P::D>(op, ctx)?;
+    let fit = fit_roots::<P::D>(alloc, roots, ctx)?;
+    let status = run_pipeline(pass, alloc, op, ctx, analyses)?;
+    Ok(CheckedRun { status, fit })
 }

@@ -2,18 +2,18 @@
 use crate::expected::Expected;
 use crate::stop::Stop;
 use crate::tokens::{Name, Token};
-use pliron_bench::BenchKind;
+use crate::words::Word;
 
 /// The tokens that are left.
 #[derive(Drop)]
-pub struct Cursor<'t> {
+pub struct Cursor<'t, K> {
     count: usize,
-    rest: &'t [Token],
+    rest: &'t [Token<K>],
 }
 
-impl<'t> Cursor<'t> {
+impl<'t, K: Word> Cursor<'t, K> {
     /// All these tokens are left. Cost: constant.
-    pub fn new(tokens: &'t [Token]) -> Self {
+    pub fn new(tokens: &'t [Token<K>]) -> Self {
         Cursor {
             count: tokens.len(),
             rest: tokens,
@@ -42,7 +42,7 @@ impl<'t> Cursor<'t> {
     }
 
     /// The next token. Cost: constant.
-    fn peek(&self) -> Option<Token> {
+    fn peek(&self) -> Option<Token<K>> {
         self.rest.first().copied()
     }
 
@@ -54,7 +54,7 @@ impl<'t> Cursor<'t> {
     }
 
     /// Takes the next token if it is the given one. Cost: constant.
-    pub fn accept(&mut self, token: Token) -> bool {
+    pub fn accept(&mut self, token: Token<K>) -> bool {
         match self.rest.split_first() {
             Some((first, rest)) if *first == token => {
                 self.rest = rest;
@@ -65,7 +65,7 @@ impl<'t> Cursor<'t> {
     }
 
     /// Takes the given token. Errors: `Unreadable` where another one or none is left. Cost: constant.
-    pub fn expect(&mut self, token: Token, expected: Expected) -> Result<(), Stop> {
+    pub fn expect(&mut self, token: Token<K>, expected: Expected) -> Result<(), Stop> {
         if self.accept(token) {
             Ok(())
         } else {
@@ -93,7 +93,7 @@ impl<'t> Cursor<'t> {
     }
 
     /// Takes a kind. Errors: `Unreadable` where none comes next. Cost: constant.
-    pub fn kind(&mut self, expected: Expected) -> Result<BenchKind, Stop> {
+    pub fn kind(&mut self, expected: Expected) -> Result<K, Stop> {
         match self.peek() {
             Some(Token::Kind(kind)) => {
                 self.skip();

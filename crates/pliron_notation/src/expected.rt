@@ -66,6 +66,8 @@ pub enum Expected {
     FewerRegions,
     #[error("the end of the text")]
     End,
+    #[error("operations that the dialect admits, with edges at the ends of blocks")]
+    Tree,
 }
 
 /// Where a text leaves the notation, by the number of the token, and what was to stand there.

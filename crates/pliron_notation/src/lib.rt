@@ -4,19 +4,23 @@
 #![tactic(auto)]
 
 mod build;
-mod cursor;
+pub mod cursor;
 mod expected;
-mod labels;
+pub mod labels;
 mod parser;
+pub mod printed;
 mod printer;
 mod reader;
 mod steps;
 mod stop;
 mod syntax;
-mod tokens;
+pub mod tokens;
 mod words;
 
-pub use expected::Expected;
-pub use printer::print_text;
+pub use expected::{Expected, Misread};
+pub use printed::print_text;
+pub use printer::print_as;
 pub use reader::{TextFault, find_text_fault, read_text};
+pub use stop::Stop;
 pub use tokens::Span;
+pub use words::{Word, Words};

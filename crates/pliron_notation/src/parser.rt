@@ -47,7 +47,7 @@ enum Place {
 #[derive(Drop)]
 struct Parser<'t> {
     alloc: Global,
-    cursor: Cursor<'t>,
+    cursor: Cursor<'t, BenchKind>,
     syntax: Syntax,
     values: Labels,
     blocks: Labels,
@@ -57,7 +57,7 @@ struct Parser<'t> {
 
 /// The syntax of a text, by its tokens. Errors: `Unreadable` where the text is outside the notation; want of
 /// memory. Cost: linear in the tokens.
-pub fn parse(alloc: Global, text: &Tokens) -> Result<Syntax, Stop> {
+pub fn parse(alloc: Global, text: &Tokens<BenchKind>) -> Result<Syntax, Stop> {
     let mut cursor = Cursor::new(&text.tokens);
     let root = cursor.kind(Expected::Root)?;
     if !root.is_top() {

@@ -3,9 +3,9 @@ ghost use Rattle.std.specs.Prelude.{◌≡◌, IsOkUnless};
 ghost use Rattle.pliron_core.specs.Tree.{IsLive, IsBlock, IsRegion};
 ghost use Rattle.pliron_notation.specs.Printing.{AllStand, IsStanding};
 
+use crate::printed::{Printed, Tail};
 use crate::steps::{Step, steps_of};
-use pliron_bench::BenchKind;
-use pliron_core::{AttrObj, BasicBlock, Context, Operation, Ptr, Region, Value};
+use pliron_core::{BasicBlock, Context, Operation, Ptr, Region, Value};
 use pliron_laws::OptError;
 use std::alloc::{AllocError, Global};
 use std::collections::HashMap;
@@ -28,10 +28,14 @@ struct Printer {
 }
 
 /// The text of the operation in one line, where blocks are `b0`, `b1`, .. in each region and values are
-/// `v0`, `v1`, .. in each `func`. Of a tree that isn't one of this dialect the text is open.
+/// `v0`, `v1`, .. from each operation on at which names begin anew.
 ///
 /// Asks that the operation stands. Errors: want of memory. Cost: linear in the tree.
-pub fn print_text(alloc: Global, root: Ptr<Operation>, ctx: &Context) -> Result<String, OptError>
+pub fn print_as<P: Printed>(
+    alloc: Global,
+    root: Ptr<Operation>,
+    ctx: &Context,
+) -> Result<String, OptError>
     requires { IsLive ctx.now.tree root }
     ensures { IsOkUnless result OptError.Memory }
 {
@@ -41,56 +45,36 @@ pub fn print_text(alloc: Global, root: Ptr<Operation>, ctx: &Context) -> Result<
         values: HashMap::new(alloc),
         blocks: HashMap::new(alloc),
     };
-    printer.number(ctx, &steps)?;
-    printer.print(ctx, &steps)?;
+    printer.number::<P>(ctx, &steps)?;
+    printer.print::<P>(ctx, &steps)?;
     Ok(printer.text)
-}
-
-/// The kind of an operation, if it is one of this dialect.
-fn kind_of(ctx: &Context, op: Ptr<Operation>) -> Option<BenchKind>
-    requires { IsLive ctx.now.tree op }
-{
-    BenchKind::from_number(op.head(ctx).kind)
-}
-
-/// The number that an operation has as its first attribute, if it has one.
-fn number_of(ctx: &Context, op: Ptr<Operation>) -> Option<i128>
-    requires { IsLive ctx.now.tree op }
-{
-    let head = op.head(ctx);
-    if head.attrs.is_empty() {
-        return None;
-    }
-    match head.attrs.get(0) {
-        AttrObj::Int(number) => Some(*number),
-        AttrObj::Text(_) => None,
-    }
 }
 
 impl Printer {
     /// Gives each value and each block its number.
-    fn number(&mut self, ctx: &Context, steps: &[Step]) -> Result<(), AllocError>
+    fn number<P: Printed>(&mut self, ctx: &Context, steps: &[Step]) -> Result<(), AllocError>
         requires { AllStand ctx.now.tree steps.now }
     {
         let mut next: usize = 0;
         for step in steps {
-            next = self.number_step(ctx, step, next)?;
+            next = self.number_step::<P>(ctx, step, next)?;
         }
         Ok(())
     }
 
     /// Gives what the step makes its numbers, where `next` is the next number of a value, and answers
     /// the number after them.
-    fn number_step(&mut self, ctx: &Context, step: &Step, next: usize) -> Result<usize, AllocError>
+    fn number_step<P: Printed>(
+        &mut self,
+        ctx: &Context,
+        step: &Step,
+        next: usize,
+    ) -> Result<usize, AllocError>
         requires { IsStanding ctx.now.tree step.now }
     {
         match step {
             Step::Operation(op) => {
-                let first = if kind_of(ctx, *op) == Some(BenchKind::Func) {
-                    0
-                } else {
-                    next
-                };
+                let first = if P::begins_names(*op, ctx) { 0 } else { next };
                 self.number_results(ctx, *op, first)
             }
             Step::Region(region) => {
@@ -149,18 +133,23 @@ impl Printer {
         Ok(())
     }
 
-    fn print(&mut self, ctx: &Context, steps: &[Step]) -> Result<(), AllocError>
+    fn print<P: Printed>(&mut self, ctx: &Context, steps: &[Step]) -> Result<(), AllocError>
         requires { AllStand ctx.now.tree steps.now }
     {
         let mut last = Last::Nothing;
         for step in steps {
-            last = self.print_step(ctx, step, &last)?;
+            last = self.print_step::<P>(ctx, step, &last)?;
         }
         Ok(())
     }
 
     /// Prints what the step names, and what parts it from what was printed last.
-    fn print_step(&mut self, ctx: &Context, step: &Step, last: &Last) -> Result<Last, AllocError>
+    fn print_step<P: Printed>(
+        &mut self,
+        ctx: &Context,
+        step: &Step,
+        last: &Last,
+    ) -> Result<Last, AllocError>
         requires { IsStanding ctx.now.tree step.now }
     {
         match step {
@@ -170,7 +159,7 @@ impl Printer {
                     Last::Operation => "; ",
                     Last::Opening | Last::Block => " ",
                 })?;
-                self.operation(ctx, *op)?;
+                self.operation::<P>(ctx, *op)?;
                 Ok(Last::Operation)
             }
             Step::Region(_) => {
@@ -228,25 +217,20 @@ impl Printer {
     }
 
     /// An operation up to its regions.
-    fn operation(&mut self, ctx: &Context, op: Ptr<Operation>) -> Result<(), AllocError>
+    fn operation<P: Printed>(&mut self, ctx: &Context, op: Ptr<Operation>) -> Result<(), AllocError>
         requires { IsLive ctx.now.tree op }
     {
         self.results(ctx, op)?;
-        let kind = kind_of(ctx, op);
-        self.text.push_str(match &kind {
-            Some(kind) => kind.word(),
-            None => "_",
-        })?;
+        self.text.push_str(P::word(op, ctx).unwrap_or("_"))?;
         let count = op.num_operand(ctx);
-        match (kind, number_of(ctx, op)) {
-            (Some(BenchKind::Const), Some(number)) => write!(self.text, " {number}"),
-            (Some(BenchKind::Br), _) => self.edges(ctx, op, 0, count),
-            (Some(BenchKind::Cbr), Some(number)) => {
-                let first = usize::try_from(number).unwrap_or(0).saturating_add(1);
+        match P::tail(op, ctx) {
+            Tail::Number(number) => write!(self.text, " {number}"),
+            Tail::Edge => self.edges(ctx, op, 0, count),
+            Tail::TwoEdges(first) => {
                 self.operands(ctx, op, 1)?;
-                self.edges(ctx, op, 1, first)
+                self.edges(ctx, op, 1, first.saturating_add(1))
             }
-            _ => {
+            Tail::Names => {
                 self.operands(ctx, op, count)?;
                 self.successors(ctx, op)
             }

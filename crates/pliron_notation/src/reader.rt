@@ -13,6 +13,7 @@ use crate::parser::parse;
 use crate::stop::Stop;
 use crate::syntax::Syntax;
 use crate::tokens::{Span, span_of_token, tokenise};
+use pliron_bench::BenchKind;
 use pliron_core::{Context, Operation, Ptr};
 use pliron_laws::OptError;
 use std::alloc::Global;
@@ -70,7 +71,7 @@ pub fn find_text_fault(alloc: Global, text: &[u8]) -> Result<Option<TextFault>, 
 fn read_syntax(alloc: Global, text: &[u8]) -> Result<Syntax, Stop>
     ensures { IfOk result (λ syntax. IsSoundSyntax syntax) }
 {
-    let tokens = tokenise(alloc, text)?;
+    let tokens = tokenise::<BenchKind>(alloc, text)?;
     let parsed = parse(alloc, &tokens);
     match tokens.misread {
         Some(misread) => Err(earlier(parsed, misread)),

@@ -2,8 +2,7 @@
 ghost use Rattle.std.specs.Prelude.{◌≡◌, ◌+◌, ◌<◌, ◌≤◌, length};
 
 use crate::expected::{Expected, Misread};
-use crate::words::Words;
-use pliron_bench::BenchKind;
+use crate::words::{Word, Words};
 use std::alloc::{AllocError, Global};
 
 /// A name, by its number among the names of the text.
@@ -12,11 +11,11 @@ pub struct Name {
     pub number: usize,
 }
 
-/// A token of the notation.
+/// A token of a notation whose operations have these kinds.
 #[derive(Clone, Copy, Debug, PartialEq, Eq)]
-pub enum Token {
+pub enum Token<K> {
     Name(Name),
-    Kind(BenchKind),
+    Kind(K),
     Number(i64),
     OpenBrace,
     CloseBrace,
@@ -73,15 +72,18 @@ fn is_blank(lexeme: &[u8]) -> bool {
 
 /// What a lexeme is.
 #[derive(Clone, Copy)]
-enum Lexeme {
+enum Lexeme<K> {
     Blank,
-    Token(Token),
+    Token(Token<K>),
     /// No token, where this one was to stand.
     Strange(Expected),
 }
 
 /// What a lexeme is. Errors: want of memory.
-fn token_of<'t>(lexeme: &'t [u8], words: &mut Words<'t>) -> Result<Lexeme, AllocError> {
+fn token_of<'t, K: Word>(
+    lexeme: &'t [u8],
+    words: &mut Words<'t, K>,
+) -> Result<Lexeme<K>, AllocError> {
     if is_blank(lexeme) {
         return Ok(Lexeme::Blank);
     }
@@ -108,8 +110,8 @@ fn token_of<'t>(lexeme: &'t [u8], words: &mut Words<'t>) -> Result<Lexeme, Alloc
 
 /// The tokens of a text up to the first place that is no token, and how many names they have.
 #[derive(Drop)]
-pub struct Tokens {
-    pub tokens: Vec<Token>,
+pub struct Tokens<K> {
+    pub tokens: Vec<Token<K>>,
     pub names: usize,
     /// What stands behind them, where the text goes on.
     pub misread: Option<Misread>,
@@ -117,7 +119,7 @@ pub struct Tokens {
 
 /// The tokens of a text, up to the first place that is no token. Errors: want of memory. Cost: linear in the
 /// text, but for look-ups of words.
-pub fn tokenise(alloc: Global, text: &[u8]) -> Result<Tokens, AllocError> {
+pub fn tokenise<K: Word>(alloc: Global, text: &[u8]) -> Result<Tokens<K>, AllocError> {
     let mut words = Words::new(alloc, text.len())?;
     let mut tokens = Vec::new(alloc);
     let mut misread = None;

@@ -4,6 +4,25 @@ use pliron_bench::BenchKind;
 use std::alloc::{AllocError, Global};
 use std::collections::BTreeMap;
 
+/// The words of the kinds of operations, by which texts name them.
+pub trait Word: Copy + Eq {
+    /// The kind that a word names, if it names one.
+    fn from_word(word: &[u8]) -> Option<Self>;
+
+    /// The word that names the kind.
+    fn word(self) -> &'static str;
+}
+
+impl Word for BenchKind {
+    fn from_word(word: &[u8]) -> Option<BenchKind> {
+        BenchKind::from_word(word)
+    }
+
+    fn word(self) -> &'static str {
+        BenchKind::word(self)
+    }
+}
+
 /// The most bytes of a name.
 const MAX_NAME: usize = 64;
 
@@ -12,9 +31,9 @@ const TRIES: usize = 8;
 
 /// Where a word stands.
 #[derive(Clone, Copy)]
-enum Place {
+enum Place<K> {
     /// It was met and is this token.
-    Met(Token),
+    Met(Token<K>),
     /// It wasn't met, and this slot is free.
     Free(usize),
     /// Its slots are taken by other words.
@@ -23,9 +42,9 @@ enum Place {
 
 /// A word that was met.
 #[derive(Clone, Copy)]
-struct Entry<'t> {
+struct Entry<'t, K> {
     word: &'t [u8],
-    token: Token,
+    token: Token<K>,
 }
 
 /// The words of a text that were met so far. Names are numbered in the order of their first mention.
@@ -34,11 +53,11 @@ struct Entry<'t> {
 /// stranger chose for their hashes, it stands in an ordered map: no look-up costs more than the
 /// logarithm of the number of words.
 #[derive(Drop)]
-pub struct Words<'t> {
+pub struct Words<'t, K> {
     /// For each slot the number of an entry and 1 more, or 0.
     slots: Vec<usize>,
-    entries: Vec<Entry<'t>>,
-    others: BTreeMap<&'t [u8], Token>,
+    entries: Vec<Entry<'t, K>>,
+    others: BTreeMap<&'t [u8], Token<K>>,
     names: usize,
 }
 
@@ -51,7 +70,7 @@ fn hash_of(word: &[u8]) -> usize {
     hash ^ hash.wrapping_shr(32)
 }
 
-impl<'t> Words<'t> {
+impl<'t, K: Word> Words<'t, K> {
     /// No words, with room for those of a text of so many bytes. Errors: want of memory. Cost: the number of
     /// bytes.
     pub fn new(alloc: Global, bytes: usize) -> Result<Self, AllocError> {
@@ -71,7 +90,7 @@ impl<'t> Words<'t> {
 
     /// The token of a word, or `None` where the word is too long for a name. Errors: want of memory. Cost: a
     /// few comparisons with words, and a look-up in a tree where these find neither the word nor a free slot.
-    pub fn token(&mut self, word: &'t [u8]) -> Result<Option<Token>, AllocError> {
+    pub fn token(&mut self, word: &'t [u8]) -> Result<Option<Token<K>>, AllocError> {
         match self.place(word) {
             Place::Met(token) => Ok(Some(token)),
             Place::Free(slot) => self.put(slot, word),
@@ -80,7 +99,7 @@ impl<'t> Words<'t> {
     }
 
     /// Where a word stands, or may.
-    fn place(&self, word: &[u8]) -> Place {
+    fn place(&self, word: &[u8]) -> Place<K> {
         let first = hash_of(word) & self.slots.len().saturating_sub(1);
         for slot in first..first.saturating_add(TRIES) {
             let Some(number) = self.slots.get(slot) else {
@@ -98,7 +117,7 @@ impl<'t> Words<'t> {
     }
 
     /// The token of a word that wasn't met, for which this slot is free.
-    fn put(&mut self, slot: usize, word: &'t [u8]) -> Result<Option<Token>, AllocError> {
+    fn put(&mut self, slot: usize, word: &'t [u8]) -> Result<Option<Token<K>>, AllocError> {
         let Some(token) = self.new_token(word) else {
             return Ok(None);
         };
@@ -110,7 +129,7 @@ impl<'t> Words<'t> {
     }
 
     /// The token of a word that no slot has.
-    fn other(&mut self, word: &'t [u8]) -> Result<Option<Token>, AllocError> {
+    fn other(&mut self, word: &'t [u8]) -> Result<Option<Token<K>>, AllocError> {
         if let Some(token) = self.others.get(word) {
             return Ok(Some(*token));
         }
@@ -123,8 +142,8 @@ impl<'t> Words<'t> {
 
     /// The token of a word that wasn't met: a kind, or a name with the next number; `None` where the word is
     /// too long for a name.
-    fn new_token(&mut self, word: &[u8]) -> Option<Token> {
-        if let Some(kind) = BenchKind::from_word(word) {
+    fn new_token(&mut self, word: &[u8]) -> Option<Token<K>> {
+        if let Some(kind) = K::from_word(word) {
             return Some(Token::Kind(kind));
         }
         if word.len() > MAX_NAME {

@@ -120,7 +120,7 @@ only_below t root g f above = record { reaches = above.blocks; fact = λ v. by v
     by v true e = above.facts v (lists_in (values_inside t root) v e)
     by v false e = inr (inl refl)
 
-only_lower : (t : Tree) (root : ℕ) (g : Facts) → AreAtMost (only_inside t root g) g
+pub only_lower : (t : Tree) (root : ℕ) (g : Facts) → AreAtMost (only_inside t root g) g
 only_lower t root g = record { reaches = λ b r. r; fact = λ v. by v (lists (values_inside t root) v) }
   where
     by : (v : ℕ) (b : Bool) → AtMost (if b then g.fact v else NotAConstant) (g.fact v)

@@ -1,28 +1,32 @@
 -- The facts go on standing above every closed set of facts while blocks and values are taken.
-use Rattle.std.proofs.Common.{◌≡◌, ◌≢◌, ◌⊎◌, inl, inr, ⊎_elim, ℕ, Bool, true, false, true≢false, nat_eq, if◌then◌else◌, List, [], ◌∷◌, ◌++◌, append_assoc, Some, None, refl, sym, ap, ◌∙◌, subst, arith, IsTrue}
+use Rattle.std.proofs.Common.{◌≡◌, ◌≢◌, ◌⊎◌, inl, inr, ⊎_elim, ℕ, Bool, true, false, true≢false, nat_eq, if◌then◌else◌, List, [], ◌∷◌, ◌++◌, append_assoc, Some, None, slice_get, refl, sym, ap, ◌∙◌, subst, arith, IsTrue}
 use Rattle.std.proofs.lemmas.List.{append-nil}
 use Rattle.std.proofs.lemmas.Bool.{eqb-true, eq-eqb}
 use Rattle.pliron_core.specs.declared.attrs.AttrObj.{AttrObj}
 use Rattle.pliron_core.specs.Lists.{In, first_of}
-use Rattle.pliron_core.specs.Tree.{Tree, HoldsBlock, results_of, regions_of, parent_of, body_of, layout_of}
+use Rattle.pliron_core.specs.Tree.{Tree, HoldsBlock, IsInside, operands_of, results_of, regions_of, parent_of, body_of, layout_of}
 use Rattle.pliron_core.specs.Joined.{IsTree}
 use Rattle.pliron_core.proofs.ListLemmas.{In-left, In-right, In-cases, split_at}
 use Rattle.pliron_core.proofs.FlatLemmas.{In-flat_map, flat_map-In}
 use Rattle.pliron_core.proofs.NeighbourLemmas.{first_of-In}
-use Rattle.pliron_core.proofs.HoldingLemmas.{some_is}
+use Rattle.pliron_core.proofs.HoldingLemmas.{some_is, in_slice, inside_block}
 use Rattle.pliron_laws.specs.Linked.{IsWellLinked}
 use Rattle.pliron_laws.specs.Folding.{AnswersTrue}
+use Rattle.pliron_laws.specs.Tree.{Operation, op_at, shape_of}
+use Rattle.pliron_laws.proofs.Records.{op_shows}
 use Rattle.pliron_laws.proofs.ShapeLemmas.{live_at}
+use Rattle.pliron_theory.proofs.FactLattice.{at_most_trans, picked_in}
+use Rattle.pliron_sccp.specs.declared.demands.Demand.{Demand}
 use Rattle.pliron_theory.specs.Facts.{Fact, Undetermined, Constant, NotAConstant, AtMost, Facts, Says, AreClosed}
 use Rattle.pliron_theory.specs.Sound.{IsMadeThere}
 use Rattle.pliron_sccp.specs.declared.facts.Tables.{Tables}
-use Rattle.pliron_sccp.specs.Tables.{fact_in, reaches, waits_block, facts_of, TakesBlock}
-use Rattle.pliron_sccp.specs.Falling.{FactsFall}
+use Rattle.pliron_sccp.specs.Tables.{fact_in, known_constants, reaches, waits_block, facts_of, TakesBlock}
+use Rattle.pliron_sccp.specs.Falling.{FactsFall, IsApplied}
 use Rattle.pliron_sccp.specs.Inside.{values_inside}
 use Rattle.pliron_sccp.specs.Precise.{AreMostPrecise, AreOwed}
-use Rattle.pliron_sccp.specs.Demands.{AsksEntries}
+use Rattle.pliron_sccp.specs.Demands.{AsksEntries, MeetsAll}
 use Rattle.pliron_sccp.specs.Visiting.{HasWay, IsGrounded, AreDetermined}
-use Rattle.pliron_sccp.specs.Looking.{LooksAt, LooksThrough, TakesValues, AreUsersOf}
+use Rattle.pliron_sccp.specs.Looking.{AreCalls, Forwarded, IsLookedAt, IsUseOf, LooksAt, LooksThrough, TakesValues}
 use Rattle.pliron_sccp.specs.Looking.LooksThrough.{Nothing, Then}
 use Rattle.pliron_sccp.specs.Starting.{IsStarted}
 use Rattle.pliron_sccp.specs.Searching.{TakesTurn, IsSearchOnTheWay}
@@ -31,9 +35,11 @@ use Rattle.pliron_sccp.specs.Accounts.{NothingWaits}
 use Rattle.pliron_sccp.specs.Best.{is_visited, IsAbove, IsBest}
 use Rattle.pliron_sccp.proofs.Accounting.{below_undetermined}
 use Rattle.pliron_sccp.proofs.DistinctLists.{held_directly}
-use Rattle.pliron_sccp.proofs.InsideLists.{holds_listed, argument_listed, result_listed}
+use Rattle.pliron_sccp.proofs.InsideLists.{holds_listed, argument_listed, made_listed, result_listed}
+use Rattle.pliron_sccp.proofs.Applied.{below_trans, falls_trans}
+use Rattle.pliron_sccp.proofs.Called.{reached_before}
 use Rattle.pliron_sccp.proofs.Stepping.{first_blocks, entries_of, first_in, in_first, through_falls}
-use Rattle.pliron_sccp.proofs.BestLook.{lists, lists_in, in_lists, varying, only_inside, only_below, only_above, IsOn, ForwardsItsOperands, look_on, look_results}
+use Rattle.pliron_sccp.proofs.BestLook.{lists, lists_in, in_lists, varying, only_inside, only_below, only_lower, only_above, IsOn, ForwardsItsOperands, look_on, look_results}
 
 -- blocks that were looked through
 module _ (s : Tables) (b : ℕ) where
@@ -182,24 +188,54 @@ module _ (x : Says) (t : Tree) (root : ℕ) (w : IsTree t) (linked : IsWellLinke
             by true e = inl (eqb-true c b e)
             by false e = inr (make_visited s b (sym (k.reached b) ∙ visited_reached u b y) (sym (waits_then b false e) ∙ visited_rests u b y))
 
-    -- all values that waited were taken, and their users looked at
-    pub values_best : (taken users : List ℕ) (u s' : Tables) → TakesValues taken s u → AreUsersOf t taken users u → LooksThrough x t users u s' → IsBest x t root s'
-    values_best taken users u s' k a d =
-        let r = through_users (facts_of s) (is_visited s) (is_visited s) inside best.grounded best.ready (λ b y. y) users u s' d placed (begin (is_visited s) (λ b y. y) u k.facts k.reached) in
-        let falls = through_falls x t users u s' d in
-        finish (facts_of s) (is_visited s) (is_visited s) inside best.grounded best.ready (λ b y. y) s' r
-        (λ b y. visited_still u s' falls b (make_visited u b (k.reached b ∙ visited_reached s b y) (k.blocks b ∙ visited_rests s b y)))
-        (λ b y. let z = visited_before u s' falls b y in make_visited s b (sym (k.reached b) ∙ visited_reached u b z) (sym (k.blocks b) ∙ visited_rests u b z))
-        (λ b q v y p i. below_undetermined (fact_in s v) (fact_in s' v) (r.below.fact v) (best.ready.results b q v y p i))
-      where
-        placed : (q : ℕ) → In q users → (c : ℕ) × (parent_of t q ≡ Some c) × IsTrue (is_visited s c)
-        placed q i =
-            let y = (a.only q i).0 in
-            (y.block, y.in_block, make_visited s y.block (sym (k.reached y.block) ∙ y.reached) (sym (k.blocks y.block) ∙ y.taken))
+    -- all values that waited were taken, and what they call for was met
+    module _ (taken users : List ℕ) (asked : List Demand) (u m s' : Tables) (k : TakesValues taken s u) (c : AreCalls x t u taken users asked) (a : IsApplied (known_constants u) asked u m) (d : LooksThrough x t users m s') where
+      is_seen : (q : ℕ) → IsLookedAt t u q → (b : ℕ) × (parent_of t q ≡ Some b) × IsTrue (is_visited s b)
+      is_seen q y = (y.block, y.in_block, make_visited s y.block (sym (k.reached y.block) ∙ y.reached) (sym (k.blocks y.block) ∙ y.taken))
+
+      before : IsOn x t root (facts_of s) (is_visited s) (facts_of u)
+      before = begin (is_visited s) (λ b y. y) u k.facts k.reached
+
+      -- every closed set meets what is called for
+      asked_closed : (g : Facts) → AreClosed x t root g → MeetsAll (known_constants u) (only_inside t root g) asked
+      asked_closed g closed = c.owed (only_inside t root g) (λ q place v r o i is l at none f. at_most_trans ((only_inside t root g).fact v) (g.fact v) (fact_in u r) ((only_lower t root g).fact v) (at_most_trans (g.fact v) (g.fact r) (fact_in u r) (edge q place v r o is l at none f) (operand q place r is l)))
+        where
+          within : (q : ℕ) → IsLookedAt t u q → IsInside t root q
+          within q l = inside_block l.block l.in_block (inside l.block (sym (k.reached l.block) ∙ l.reached))
+
+          operand : (q place r : ℕ) → IsUseOf t r q place → IsLookedAt t u q → AtMost (g.fact r) (fact_in u r)
+          operand q place r is l =
+              let j = in_slice (operands_of t q) place r is in
+              (before.above g closed).facts r (made_listed t w root r (owed.defined.own_values q r (within q l) j) (w.joined.operands q r j))
+
+          edge : (q place v r : ℕ) (o : Operation) → IsUseOf t r q place → IsLookedAt t u q → op_at t q ≡ Some o → x.can_fold_branch o.head ≡ false → Forwarded x t o place v → AtMost (g.fact v) (g.fact r)
+          edge q place v r o is l at none f =
+              (closed.branches q f.edge f.block o (l.block, l.in_block, (before.above g closed).blocks l.block l.reached) at f.branch (f.successor, λ folds. absurd (true≢false (sym folds ∙ none)))).1 f.index v r f.is_argument (picked_in (x.meaning.forwarded (shape_of x.meaning t o) f.edge) o.operands f.index place r f.forwards (ap (λ z. slice_get z place) (sym (op_shows t q o at).operands) ∙ is))
+
+      after : IsOn x t root (facts_of s) (is_visited s) (facts_of m)
+      after = record {
+        below = below_trans (facts_of m) (facts_of u) (facts_of s) a.falls.below before.below;
+        above = λ g closed. only_above t root g (facts_of m) (a.least (only_inside t root g) (only_below t root g (facts_of u) (before.above g closed)) (asked_closed g closed));
+        ways = λ b r. before.ways b (back b r);
+        held = λ b q r e. before.held b q (back b r) e;
+        arguments = λ b v r i. below_undetermined (fact_in u v) (fact_in m v) (a.falls.below.fact v) (before.arguments b v (back b r) i);
+      }
+        where
+          back : (b : ℕ) → IsTrue (reaches m b) → IsTrue (reaches u b)
+          back b r = reached_before x t taken users asked s u m k c a b r
+
+      pub values_best : IsBest x t root s'
+      values_best =
+          let r = through_users (facts_of s) (is_visited s) (is_visited s) inside best.grounded best.ready (λ b y. y) users m s' d (λ q i. is_seen q (c.only q i).0) after in
+          let falls = falls_trans u m s' a.falls (through_falls x t users m s' d) in
+          finish (facts_of s) (is_visited s) (is_visited s) inside best.grounded best.ready (λ b y. y) s' r
+          (λ b y. visited_still u s' falls b (make_visited u b (k.reached b ∙ visited_reached s b y) (k.blocks b ∙ visited_rests s b y)))
+          (λ b y. let z = visited_before u s' falls b y in make_visited s b (sym (k.reached b) ∙ visited_reached u b z) (sym (k.blocks b) ∙ visited_rests u b z))
+          (λ b q v y p i. below_undetermined (fact_in s v) (fact_in s' v) (r.below.fact v) (best.ready.results b q v y p i))
 
   pub step_best : (s s' : Tables) (taken : ℕ) → TakesTurn x t s s' taken → IsSearchOnTheWay x t root s → IsBest x t root s → IsBest x t root s'
   step_best s s' taken (Block c u k d e) o best = block_best s best o.started.inside c u s' k (o.waits.blocks c k.waited).1 d
-  step_best s s' taken (Values none v) o best = values_best s best o.started.inside v.takes.values v.users v.between s' v.takes.takes v.takes.are_users v.looks
+  step_best s s' taken (Values none v) o best = values_best s best o.started.inside v.takes.values v.users v.asked v.between v.met s' v.takes.takes v.takes.calls v.applied v.looks
 
   -- where the entries of the root were entered and nothing was looked at
   module _ (s : Tables) (start : IsStarted t root s) where

@@ -211,6 +211,31 @@ module _ (constants : List AttrObj) where
       adds_as (λ now. Meets constants now (Lower v cell)) (λ now. GetsForwarded f values now j v) ds es (adds_one ds es (Lower v cell) e)
       (λ now. (λ m y at. subst (AtMost (now.fact v)) (means_same constants cell m.0 (f.fact y) m.1 (said y at)) m.2, λ g. (f.fact w, said w is, g w is)))
 
+  -- one argument of one successor
+  module _ (arguments : ℕ → List ℕ) (successors : List ℕ) (edge index block : ℕ) (f : Fact) where
+    abbrev pub AsksOne : Facts → Type 0
+    AsksOne now = (b a : ℕ) → slice_get successors edge ≡ Some b → slice_get (arguments b) index ≡ Some a → AtMost (now.fact a) f
+
+  pub one_asked : (arguments : ℕ → List ℕ) (successors : List ℕ) (edge index block v : ℕ) (cell : Cell) (f : Fact) (ds es : List Demand) → slice_get successors edge ≡ Some block → slice_get (arguments block) index ≡ Some v → Means constants cell f → es ≡ ds ++ Lower v cell ∷ [] → Adds constants ds es (AsksOne arguments successors edge index block f)
+  one_asked arguments successors edge index block v cell f ds es goes is said e =
+      adds_as (λ now. Meets constants now (Lower v cell)) (AsksOne arguments successors edge index block f) ds es (adds_one ds es (Lower v cell) e)
+      (λ now. (
+        λ m b a at listed.
+            let same_block : block ≡ b = some_is (sym goes ∙ at) in
+            let same : v ≡ a = some_is (sym is ∙ ap (λ z. slice_get (arguments z) index) same_block ∙ listed) in
+            subst (λ z. AtMost (now.fact z) f) same (subst (AtMost (now.fact v)) (means_same constants cell m.0 f m.1 said) m.2),
+        λ g. (f, said, g block v goes is),
+      ))
+
+  pub none_asked : (arguments : ℕ → List ℕ) (successors : List ℕ) (edge index block : ℕ) (f : Fact) (ds : List Demand) → slice_get successors edge ≡ Some block → length (arguments block) ≤ index → Adds constants ds ds (AsksOne arguments successors edge index block f)
+  none_asked arguments successors edge index block f ds goes beyond now = (
+    λ m. (m, λ b a at listed. absurd (too_few a (ap (λ z. slice_get (arguments z) index) (some_is (sym goes ∙ at)) ∙ listed))),
+    λ m. m.0,
+  )
+    where
+      too_few : (a : ℕ) → slice_get (arguments block) index ≡ Some a → ⊥
+      too_few a e = let l = past (arguments block) index a e in omega (arith, l, beyond)
+
   pub forwarded_asked : (t : Tree) (f : Facts) (values : List ℕ) (block i : ℕ) (a b c : List Demand) → b ≡ a ++ Enter block ∷ [] → ((k : ℕ) → k < length (arguments_of t block) → k < length values → k < i) → Adds constants b c (λ now. EachBefore (arguments_of t block) i (GetsForwarded f values now)) → Adds constants a c (AsksForwarded t f block values)
   forwarded_asked t f values block i a b c e all p =
       adds_then (λ now. IsTrue (now.reaches block)) (λ now. EachBefore (arguments_of t block) i (GetsForwarded f values now)) (AsksForwarded t f block values) a b c

@@ -20,8 +20,10 @@ pub mod FoundChange
 pub mod Going
 pub mod Numbered
 pub mod UserLists
+pub mod Calls
 pub mod InsideLists
 pub mod Stepping
+pub mod Called
 pub mod Accounting
 pub mod OnTheWay
 pub mod BestLook

@@ -15,12 +15,15 @@ use Rattle.pliron_laws.specs.Linked.{IsWellLinked, EdgesLast}
 use Rattle.pliron_laws.specs.Folding.{AnswersTrue}
 use Rattle.pliron_theory.specs.Facts.{Facts, Says, AreClosed, AreHeld}
 use Rattle.pliron_sccp.specs.declared.facts.Tables.{Tables}
-use Rattle.pliron_sccp.specs.Tables.{fact_in, reaches, waits_block, waits_value, facts_of, TakesBlock}
+use Rattle.pliron_sccp.specs.declared.demands.Demand.{Demand}
+use Rattle.pliron_sccp.specs.Falling.{FactsFall, IsApplied}
+use Rattle.pliron_laws.specs.Tree.{Operation}
+use Rattle.pliron_sccp.specs.Tables.{fact_in, known_constants, reaches, facts_of, TakesBlock}
 use Rattle.pliron_sccp.specs.Chain.{blocks_inside}
 use Rattle.pliron_sccp.specs.Inside.{block_values, values_inside}
 use Rattle.pliron_sccp.specs.Demands.{AsksEntries}
-use Rattle.pliron_sccp.specs.Settling.{AreAtMost, AreStarted}
-use Rattle.pliron_sccp.specs.Looking.{AreTargetsNumbered, LooksThrough, TakesValues, AreUsersOf}
+use Rattle.pliron_sccp.specs.Settling.{AreAtMost, AreStarted, IsSettled}
+use Rattle.pliron_sccp.specs.Looking.{AreCalls, AreTargetsNumbered, LooksThrough, TakesValues}
 use Rattle.pliron_sccp.specs.Looking.LooksThrough.{Nothing, Then}
 use Rattle.pliron_sccp.specs.Starting.{IsStarted}
 use Rattle.pliron_sccp.specs.Searched.{IsSearched}
@@ -31,7 +34,9 @@ use Rattle.pliron_sccp.proofs.DistinctLists.{held_directly, below_held, distinct
 use Rattle.pliron_sccp.proofs.DistinctLists.{inside_block as stands_inside}
 use Rattle.pliron_sccp.proofs.InsideLists.{holds_listed}
 use Rattle.pliron_sccp.proofs.Settled.{entered_still, varies_still, closed_when_settled}
-use Rattle.pliron_sccp.proofs.Stepping.{entries_of, others_reached, entry_apart, entry_held, all_but_one, argument_but, below_but, unknown_but, below_same, through_settles, through_falls, block_settles, values_settle, look_starts, look_holds, look_known}
+use Rattle.pliron_sccp.proofs.Stepping.{entries_of, others_reached, entry_apart, entry_held, all_but_one, argument_but, below_but, unknown_but, below_same, IsSettledIn, through_settles, through_falls, block_settles, look_starts, look_holds, look_known}
+use Rattle.pliron_sccp.proofs.Applied.{falls_trans}
+use Rattle.pliron_sccp.proofs.Called.{values_settle, reached_before, called_starts, called_known, nothing_called}
 use Rattle.pliron_sccp.proofs.BestLook.{ForwardsItsOperands}
 use Rattle.pliron_sccp.proofs.BestSteps.{start_best, step_best, best_precise}
 use Rattle.pliron_sccp.proofs.Accounting.{unsearched_accounted, unsearched_inside, falls_accounted, falls_inside, block_accounted, values_accounted, block_inside, values_kept_inside, accounted_bound, accounted_counts}
@@ -169,22 +174,35 @@ module _ (x : Says) (t : Tree) (root : ℕ) (w : IsTree t) (live : IsLive t root
           waits = falls_inside t root u s' (block_inside t root c s u o.waits k) (through_falls x t (body_of t c) u s' d) (reached_listed s' l.started);
         }
 
-    -- all values were taken and their users looked at
-    pub values_on_way : (values users : List ℕ) (s u s' : Tables) → TakesValues values s u → AreUsersOf t values users u → LooksThrough x t users u s' → IsSearchOnTheWay x t root s → IsSearchOnTheWay x t root s'
-    values_on_way values users s u s' k a d o =
-        let l = through_laid users u s' d (λ j i. let y = (a.only j i).0 in (y.block, y.in_block, y.reached)) (laid_same s u k.facts k.reached (laid_of s o)) in
-        record {
-          numbered = λ b i. (through_falls x t users u s' d).numbers b ∙ k.numbers b ∙ o.numbered b i;
-          settled = through_settles x t users u s' d (values_settle x t w values users s u k a o.settled);
-          started = l.started;
-          held = l.held;
-          there = l.there;
-          waits = falls_inside t root u s' (values_kept_inside t root values s u o.waits k) (through_falls x t users u s' d) (reached_listed s' l.started);
-        }
+    -- all values were taken, and what they call for was met
+    module _ (values users : List ℕ) (asked : List Demand) (s u q s' : Tables) (k : TakesValues values s u) (c : AreCalls x t u values users asked) (a : IsApplied (known_constants u) asked u q) (d : LooksThrough x t users q s') where
+      pub called_falls : FactsFall u s'
+      called_falls = falls_trans u q s' a.falls (through_falls x t users q s' d)
+
+      called_laid : IsSearchOnTheWay x t root s → IsLaidOut t root q
+      called_laid o =
+          let l = laid_same s u k.facts k.reached (laid_of s o) in
+          record {
+            started = called_starts x t values users asked s u q k c a root l.started;
+            held = λ b h r e. ⊎_elim (λ y. inl y) (λ y. inr (y.0, y.1, a.falls.below.reaches y.0 y.2)) (l.held b h (reached_before x t values users asked s u q k c a b r) e);
+            there = called_known x t values users asked s u q k c a w root o.settled l.there;
+          }
+
+      pub values_on_way : IsSearchOnTheWay x t root s → IsSearchOnTheWay x t root s'
+      values_on_way o =
+          let l = through_laid users q s' d (λ j i. let y = (c.only j i).0 in (y.block, y.in_block, a.falls.below.reaches y.block y.reached)) (called_laid o) in
+          record {
+            numbered = λ b i. called_falls.numbers b ∙ k.numbers b ∙ o.numbered b i;
+            settled = through_settles x t users q s' d (values_settle x t values users asked s u q k c a o.settled);
+            started = l.started;
+            held = l.held;
+            there = l.there;
+            waits = falls_inside t root u s' (values_kept_inside t root values s u o.waits k) called_falls (reached_listed s' l.started);
+          }
 
     pub step_on_way : (s s' : Tables) (taken : ℕ) → TakesTurn x t s s' taken → IsSearchOnTheWay x t root s → IsSearchOnTheWay x t root s'
     step_on_way s s' taken (Block c u k d e) o = block_on_way c s u s' k d o
-    step_on_way s s' taken (Values none v) o = values_on_way v.takes.values v.users s v.between s' v.takes.takes v.takes.are_users v.looks o
+    step_on_way s s' taken (Values none v) o = values_on_way v.takes.values v.users v.asked s v.between v.met s' v.takes.takes v.takes.calls v.applied v.looks o
 
     pub step_accounted : (s s' : Tables) (pops taken : ℕ) → TakesTurn x t s s' taken → IsSearchOnTheWay x t root s → IsAccounted t root s pops → IsAccounted t root s' (pops + taken)
     step_accounted s s' pops taken (Block c u k d e) o a =
@@ -192,7 +210,7 @@ module _ (x : Says) (t : Tree) (root : ℕ) (w : IsTree t) (live : IsLive t root
         (falls_accounted t root u s' (pops + 1) (block_inside t root c s u o.waits k) (through_falls x t (body_of t c) u s' d) (block_accounted t root w c s u pops o.waits k a))
     step_accounted s s' pops taken (Values none v) o a =
         subst (λ n. IsAccounted t root s' (pops + n)) (sym v.takes.counted)
-        (falls_accounted t root v.between s' (pops + length v.takes.values) (values_kept_inside t root v.takes.values s v.between o.waits v.takes.takes) (through_falls x t v.users v.between s' v.looks) (values_accounted t root w v.takes.values s v.between pops o.waits v.takes.takes a))
+        (falls_accounted t root v.between s' (pops + length v.takes.values) (values_kept_inside t root v.takes.values s v.between o.waits v.takes.takes) (called_falls v.takes.values v.users v.asked s v.between v.met s' v.takes.takes v.takes.calls v.applied v.looks) (values_accounted t root w v.takes.values s v.between pops o.waits v.takes.takes a))
 
   -- the blocks that an operation in a block that is reached may enter have numbers
   pub targets_numbered : EdgesLast t root → (s : Tables) → IsSearchOnTheWay x t root s → AreTargetsNumbered t s
@@ -216,34 +234,35 @@ module _ (x : Says) (t : Tree) (root : ℕ) (w : IsTree t) (live : IsLive t root
     where
       one_is_none : ◌≡◌ {A = ℕ} 1 0 → ⊥
       one_is_none e = omega (arith, e)
-  nothing_waits s s' taken none_taken (Values none v) = same (no_users v.users v.takes.are_users (no_values v.takes.values (sym v.takes.counted ∙ none_taken))) v.looks
+  nothing_waits s s' taken none_taken (Values none v) = same (no_users v.users v.takes.calls) v.looks
     where
       no_values : (vs : List ℕ) → length vs ≡ 0 → vs ≡ []
       no_values [] e = refl
       no_values (y ∷ ys) e = absurd (omega (arith, e))
 
-      no_users : (us : List ℕ) → AreUsersOf t v.takes.values us v.between → v.takes.values ≡ [] → us ≡ []
-      no_users [] a e = refl
-      no_users (k ∷ us) a e = let y = (a.only k (inl refl)).1 in absurd (subst (In y.0) e y.1)
+      are_none : v.takes.values ≡ []
+      are_none = no_values v.takes.values (sym v.takes.counted ∙ none_taken)
 
-      same_tables : (u : Tables) → LooksThrough x t [] v.between u → u ≡ v.between
+      no_users : (us : List ℕ) → AreCalls x t v.between v.takes.values us v.asked → us ≡ []
+      no_users [] c = refl
+      no_users (k ∷ us) c = let y = (c.only k (inl refl)).1 in absurd (subst (In y.0) are_none y.1)
+
+      same_tables : (u : Tables) → LooksThrough x t [] v.met u → u ≡ v.met
       same_tables u Nothing = refl
 
-      same : v.users ≡ [] → LooksThrough x t v.users v.between s' → NothingWaits s'
-      same e d =
-          let is : s' ≡ v.between = same_tables s' (subst (λ us. LooksThrough x t us v.between s') e d) in
-          record {
-            blocks = λ b. ap (λ z. waits_block z b) is ∙ v.takes.takes.blocks b ∙ none b;
-            values = λ y. ap (λ z. waits_value z y) is ∙ v.takes.takes.values y;
-          }
+      same : v.users ≡ [] → LooksThrough x t v.users v.met s' → NothingWaits s'
+      same e d = subst NothingWaits (sym (same_tables s' (subst (λ us. LooksThrough x t us v.met s') e d))) (nothing_called x t v.takes.values v.users v.asked s v.between v.met v.takes.takes v.takes.calls v.applied are_none none)
 
   pub closed_at_end : (s : Tables) → NothingWaits s → IsSearchOnTheWay x t root s → AreClosed x t root (facts_of s)
   closed_at_end s done o = closed_when_settled x t root (facts_of s) o.started
       (λ k b q p r at. ⊎_elim
       (λ y. absurd (true≢false (sym y ∙ done.blocks b)))
-      (λ y. ⊎_elim (λ m. inr (inl m)) (λ z. ⊎_elim (λ h. absurd (true≢false (sym h.2 ∙ done.values h.0))) (λ n. absurd n) z) y)
+      (λ y. ⊎_elim (λ q. inr (inl (rests q))) (λ n. absurd n) y)
       (o.settled k b q p r at))
       w
+    where
+      rests : {k : ℕ} {q : Operation} → IsSettledIn x t s k q → IsSettled x t (facts_of s) (λ v. ⊥) k q
+      rests y = record { seen = y.seen; met = y.met; same = λ v i. ⊎_elim (λ e. inl e) (λ h. absurd (true≢false (sym h ∙ done.values v))) (y.same v i) }
 
   -- there are few blocks and values
   pub few_blocks : HaveFewKeys t → length (blocks_inside t root) < 2 ^ 64

@@ -65,7 +65,10 @@ module _ (x : Says) (t : Tree) where
   }
     where
       met : (k : ℕ) (o : Operation) → IsInReachedBlock t f k → op_at t k ≡ Some o → IsMet x t f f k o
-      met k o (b, p, r) at = ⊎_elim (λ z. absurd z) (λ y. ⊎_elim (λ m. m) (λ z. ⊎_elim (λ q. absurd q.2) (λ q. absurd q) z) y) (settled k b o p r at)
+      met k o (b, p, r) at = ⊎_elim
+          (λ z. absurd z)
+          (λ y. ⊎_elim (λ q. met_same q.seen f f k o (λ v i. ⊎_elim (λ e. e) (λ z. absurd z) (q.same v i)) q.met) (λ z. absurd z) y)
+          (settled k b o p r at)
 
       entries : (k r b : ℕ) → (k ≡ root) ⊎ IsInReachedBlock t f k → In r (regions_of t k) → first_of (layout_of t r) None ≡ Some b → IsEntered t f b
       entries k r b (inl s) i e = started.entries r b (subst (λ z. In r (regions_of t z)) s i) e

@@ -16,15 +16,15 @@ use Rattle.pliron_theory.specs.Facts.{Fact, Undetermined, NotAConstant, Facts, S
 use Rattle.pliron_sccp.specs.declared.facts.Tables.{Tables}
 use Rattle.pliron_sccp.specs.Tables.{known_constants, fact_in, is_numbered, lowest_facts, reaches, waits_block, waits_value, facts_of, TakesBlock}
 use Rattle.pliron_sccp.specs.Inside.{block_values}
-use Rattle.pliron_sccp.specs.Settling.{IsMet, AreAtMost, AreSettledBut, AreStarted}
+use Rattle.pliron_sccp.specs.Settling.{IsMet, AreAtMost, IsSettled, AreSettledBut, AreStarted}
 use Rattle.pliron_sccp.specs.Falling.{FactsFall}
 use Rattle.pliron_sccp.specs.Demands.{Asks, AsksEntries, CanMeet, MeetsAll}
 use Rattle.pliron_sccp.specs.declared.demands.Demand.{Demand}
-use Rattle.pliron_sccp.specs.Looking.{AreTargetsNumbered, HasNumberedTargets, LooksAt, LooksThrough, TakesValues, AreUsersOf}
+use Rattle.pliron_sccp.specs.Looking.{AreTargetsNumbered, HasNumberedTargets, LooksAt, LooksThrough}
 use Rattle.pliron_sccp.specs.Looking.LooksThrough.{Nothing, Then}
 use Rattle.pliron_sccp.specs.Accounts.{AreKnownThere}
 use Rattle.pliron_sccp.proofs.DistinctLists.{held_directly, values_apart}
-use Rattle.pliron_sccp.proofs.Settled.{met_still, met_same, entered_still, varies_still}
+use Rattle.pliron_sccp.proofs.Settled.{met_still, entered_still, varies_still}
 use Rattle.pliron_sccp.proofs.Applied.{falls_refl, falls_trans}
 
 -- what an operation asks can be met where the blocks that it may enter have numbers
@@ -61,20 +61,6 @@ can_start t root s asked n asks = (asks (lowest_facts s)).1 (λ r b i e. (n r b 
 module _ (s u : Tables) (facts : (v : ℕ) → fact_in u v ≡ fact_in s v) (reached : (b : ℕ) → reaches u b ≡ reaches s b) where
   pub below_same : AreAtMost (facts_of u) (facts_of s)
   below_same = record { reaches = λ b r. reached b ∙ r; fact = λ v. inr (inr (facts v)) }
-
-  pub met_there : (x : Says) (t : Tree) (k : ℕ) (o : Operation) → IsMet x t (facts_of s) (facts_of s) k o → IsMet x t (facts_of u) (facts_of u) k o
-  met_there x t k o m = met_same x t (facts_of s) (facts_of u) (facts_of u) k o (λ v i. facts v) (met_still x t (facts_of s) (facts_of s) (facts_of u) k o below_same m)
-
--- facts of these are as before, or one of them waits
-pub same_or_waits : (s u : Tables) → FactsFall s u → (vs : List ℕ) → ((v : ℕ) → In v vs → fact_in u v ≡ fact_in s v) ⊎ ((v : ℕ) × In v vs × (waits_value u v ≡ true))
-same_or_waits s u f [] = inl (λ v i. absurd i)
-same_or_waits s u f (x ∷ vs) = ⊎_elim
-    (λ e. ⊎_elim
-    (λ same. inl (λ v i. ⊎_elim (λ h. subst (λ z. fact_in u z ≡ fact_in s z) (sym h) e) (λ j. same v j) i))
-    (λ w. inr (w.0, inr w.1, w.2))
-    (same_or_waits s u f vs))
-    (λ w. inr (x, inl refl, w))
-    (f.told x)
 
 -- a region's first block, as a list
 abbrev pub first_blocks : List ℕ → List ℕ
@@ -161,33 +147,40 @@ not_yet s u b still none = by (reaches s b) refl
     by false e = e
 
 module _ (x : Says) (t : Tree) where
-  abbrev pub IsSettled : Tables → (ℕ → Type 0) → Type 0
-  IsSettled s todo = AreSettledBut x t (facts_of s) (λ b. waits_block s b ≡ true) (λ v. waits_value s v ≡ true) todo
+  abbrev pub IsSettledIn : Tables → ℕ → Operation → Type 0
+  IsSettledIn s k o = IsSettled x t (facts_of s) (λ v. waits_value s v ≡ true) k o
 
-  -- it is met by the facts now, or an operand fell
-  met_or_waits : (s u : Tables) (k : ℕ) (o : Operation) → FactsFall s u → IsMet x t (facts_of s) (facts_of u) k o → IsMet x t (facts_of u) (facts_of u) k o ⊎ ((v : ℕ) × In v o.operands × (waits_value u v ≡ true))
-  met_or_waits s u k o f m = ⊎_elim (λ same. inl (met_same x t (facts_of s) (facts_of u) (facts_of u) k o same m)) (λ w. inr w) (same_or_waits s u f o.operands)
+  abbrev pub AreSettledIn : Tables → (ℕ → Type 0) → Type 0
+  AreSettledIn s todo = AreSettledBut x t (facts_of s) (λ b. waits_block s b ≡ true) (λ v. waits_value s v ≡ true) todo
 
-  look_settles : (k : ℕ) (ks : List ℕ) (s u : Tables) → LooksAt x t k s u → IsSettled s (λ j. In j (k ∷ ks)) → IsSettled u (λ j. In j ks)
+  -- it stays settled while facts fall
+  pub settled_then : (s u : Tables) (k : ℕ) (o : Operation) → FactsFall s u → IsSettledIn s k o → IsSettledIn u k o
+  settled_then s u k o f y = record {
+    seen = y.seen;
+    met = met_still x t y.seen (facts_of s) (facts_of u) k o f.below y.met;
+    same = λ v i. ⊎_elim (λ e. ⊎_elim (λ d. inl (d ∙ e)) (λ w. inr w) (f.told v)) (λ w. inr (f.values v w)) (y.same v i);
+  }
+
+  -- it is settled where what it asked before is met
+  pub settled_now : (s u : Tables) (k : ℕ) (o : Operation) → FactsFall s u → IsMet x t (facts_of s) (facts_of u) k o → IsSettledIn u k o
+  settled_now s u k o f m = record { seen = facts_of s; met = m; same = λ v i. f.told v }
+
+  look_settles : (k : ℕ) (ks : List ℕ) (s u : Tables) → LooksAt x t k s u → AreSettledIn s (λ j. In j (k ∷ ks)) → AreSettledIn u (λ j. In j ks)
   look_settles k ks s u l settled j b o p r at = ⊎_elim (λ old. before (settled j b o p old at)) (λ new. inl new) (f.entered b r)
     where
       f : FactsFall s u
       f = l.applied.falls
 
-      after_it : IsMet x t (facts_of s) (facts_of u) j o → (waits_block u b ≡ true) ⊎ IsMet x t (facts_of u) (facts_of u) j o ⊎ ((v : ℕ) × In v o.operands × (waits_value u v ≡ true)) ⊎ In j ks
-      after_it m = ⊎_elim (λ y. inr (inl y)) (λ z. inr (inr (inl z))) (met_or_waits s u j o f m)
-
       here : j ≡ k → IsMet x t (facts_of s) (facts_of u) j o
       here e = subst (λ z. IsMet x t (facts_of s) (facts_of u) z o) (sym e) ((l.asks o (subst (λ z. op_at t z ≡ Some o) e at) (facts_of u)).0 l.applied.met)
 
-      before : (waits_block s b ≡ true) ⊎ IsMet x t (facts_of s) (facts_of s) j o ⊎ ((v : ℕ) × In v o.operands × (waits_value s v ≡ true)) ⊎ In j (k ∷ ks) → (waits_block u b ≡ true) ⊎ IsMet x t (facts_of u) (facts_of u) j o ⊎ ((v : ℕ) × In v o.operands × (waits_value u v ≡ true)) ⊎ In j ks
+      before : (waits_block s b ≡ true) ⊎ IsSettledIn s j o ⊎ In j (k ∷ ks) → (waits_block u b ≡ true) ⊎ IsSettledIn u j o ⊎ In j ks
       before (inl waits) = inl (f.blocks b waits)
-      before (inr (inl m)) = after_it (met_still x t (facts_of s) (facts_of s) (facts_of u) j o f.below m)
-      before (inr (inr (inl w))) = inr (inr (inl (w.0, w.1, f.values w.0 w.2)))
-      before (inr (inr (inr (inl e)))) = after_it (here e)
-      before (inr (inr (inr (inr i)))) = inr (inr (inr i))
+      before (inr (inl y)) = inr (inl (settled_then s u j o f y))
+      before (inr (inr (inl e))) = inr (inl (settled_now s u j o f (here e)))
+      before (inr (inr (inr i))) = inr (inr i)
 
-  pub through_settles : (ks : List ℕ) (s u : Tables) → LooksThrough x t ks s u → IsSettled s (λ j. In j ks) → IsSettled u (λ j. ⊥)
+  pub through_settles : (ks : List ℕ) (s u : Tables) → LooksThrough x t ks s u → AreSettledIn s (λ j. In j ks) → AreSettledIn u (λ j. ⊥)
   through_settles [] s u Nothing settled = settled
   through_settles (k ∷ ks) s u (Then _ q l d) settled = through_settles ks q u d (look_settles k ks s q l settled)
 
@@ -197,32 +190,21 @@ module _ (x : Says) (t : Tree) where
 
   module _ (w : IsTree t) where
     -- a block is taken: its operations are still to be looked at
-    pub block_settles : (c : ℕ) (s u : Tables) → TakesBlock c s u → IsSettled s (λ j. ⊥) → IsSettled u (λ j. In j (body_of t c))
+    pub block_settles : (c : ℕ) (s u : Tables) → TakesBlock c s u → AreSettledIn s (λ j. ⊥) → AreSettledIn u (λ j. In j (body_of t c))
     block_settles c s u k settled j b o p r at = before (settled j b o p (sym (k.reached b) ∙ r) at)
       where
-        taken : (q : Bool) → nat_eq c b ≡ q → waits_block s b ≡ true → (waits_block u b ≡ true) ⊎ IsMet x t (facts_of u) (facts_of u) j o ⊎ ((v : ℕ) × In v o.operands × (waits_value u v ≡ true)) ⊎ In j (body_of t c)
-        taken true e waits = inr (inr (inr (subst (λ z. In j (body_of t z)) (sym (eqb-true c b e)) (w.bodies.listed j b p))))
+        taken : (q : Bool) → nat_eq c b ≡ q → waits_block s b ≡ true → (waits_block u b ≡ true) ⊎ IsSettledIn u j o ⊎ In j (body_of t c)
+        taken true e waits = inr (inr (subst (λ z. In j (body_of t z)) (sym (eqb-true c b e)) (w.bodies.listed j b p)))
         taken false e waits = inl (k.blocks b ∙ ap (λ z. if z then false else waits_block s b) e ∙ waits)
 
-        before : (waits_block s b ≡ true) ⊎ IsMet x t (facts_of s) (facts_of s) j o ⊎ ((v : ℕ) × In v o.operands × (waits_value s v ≡ true)) ⊎ ⊥ → (waits_block u b ≡ true) ⊎ IsMet x t (facts_of u) (facts_of u) j o ⊎ ((v : ℕ) × In v o.operands × (waits_value u v ≡ true)) ⊎ In j (body_of t c)
+        before : (waits_block s b ≡ true) ⊎ IsSettledIn s j o ⊎ ⊥ → (waits_block u b ≡ true) ⊎ IsSettledIn u j o ⊎ In j (body_of t c)
         before (inl waits) = taken (nat_eq c b) refl waits
-        before (inr (inl m)) = inr (inl (met_there s u k.facts k.reached x t j o m))
-        before (inr (inr (inl y))) = inr (inr (inl (y.0, y.1, k.values y.0 ∙ y.2)))
-        before (inr (inr (inr z))) = absurd z
-
-    -- all values are taken: their users are still to be looked at
-    pub values_settle : (values users : List ℕ) (s u : Tables) → TakesValues values s u → AreUsersOf t values users u → IsSettled s (λ j. ⊥) → IsSettled u (λ j. In j users)
-    values_settle values users s u k a settled j b o p r at = before (settled j b o p (sym (k.reached b) ∙ r) at)
-      where
-        read : (q : Bool) → waits_block u b ≡ q → (v : ℕ) → In v o.operands → waits_value s v ≡ true → (waits_block u b ≡ true) ⊎ IsMet x t (facts_of u) (facts_of u) j o ⊎ ((v : ℕ) × In v o.operands × (waits_value u v ≡ true)) ⊎ In j users
-        read true e v i waits = inl e
-        read false e v i waits = inr (inr (inr (a.all j v (record { block = b; in_block = p; reached = r; taken = e }) ((k.waited v).0 waits) (subst (In v) (sym (op_shows t j o at).operands) i))))
-
-        before : (waits_block s b ≡ true) ⊎ IsMet x t (facts_of s) (facts_of s) j o ⊎ ((v : ℕ) × In v o.operands × (waits_value s v ≡ true)) ⊎ ⊥ → (waits_block u b ≡ true) ⊎ IsMet x t (facts_of u) (facts_of u) j o ⊎ ((v : ℕ) × In v o.operands × (waits_value u v ≡ true)) ⊎ In j users
-        before (inl waits) = inl (k.blocks b ∙ waits)
-        before (inr (inl m)) = inr (inl (met_there s u k.facts k.reached x t j o m))
-        before (inr (inr (inl y))) = read (waits_block u b) refl y.0 y.1 y.2
-        before (inr (inr (inr z))) = absurd z
+        before (inr (inl y)) = inr (inl (record {
+          seen = y.seen;
+          met = met_still x t y.seen (facts_of s) (facts_of u) j o (below_same s u k.facts k.reached) y.met;
+          same = λ v i. ⊎_elim (λ e. inl (k.facts v ∙ e)) (λ q. inr (k.values v ∙ q)) (y.same v i);
+        }))
+        before (inr (inr z)) = absurd z
 
   -- a block that comes to be reached is an entry of the operation's regions or a successor of it
   module _ (k : ℕ) (o : Operation) (at : op_at t k ≡ Some o) (s u : Tables) (l : LooksAt x t k s u) where

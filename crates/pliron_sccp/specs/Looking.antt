@@ -1,11 +1,15 @@
 -- What was looked at, and what that did to the tables of the search for facts.
-use Rattle.std.specs.Prelude.{◌≡◌, ◌↔◌, ◌⊎◌, ℕ, true, false, List, [], ◌∷◌, Some, None, length}
-use Rattle.pliron_core.specs.Tree.{Tree, In, IsDistinct, first_of, layout_of, operands_of, parent_of, regions_of, successors_of}
-use Rattle.pliron_theory.specs.Facts.{Says}
+use Rattle.std.specs.Prelude.{◌≡◌, ◌<◌, ◌↔◌, ◌⊎◌, ℕ, true, false, List, [], ◌∷◌, Some, None, length, slice_get, IsTrue}
+use Rattle.pliron_core.specs.Tree.{Tree, In, IsDistinct, arguments_of, first_of, layout_of, operands_of, parent_of, regions_of, successors_of}
+use Rattle.pliron_laws.specs.Datum.{Meaning}
+use Rattle.pliron_laws.specs.Tree.{Operation, op_at, shape_of}
+use Rattle.pliron_theory.specs.Facts.{AtMost, Facts, Says}
 use Rattle.pliron_sccp.specs.declared.demands.Demand.{Demand}
 use Rattle.pliron_sccp.specs.declared.facts.Tables.{Tables}
+use Rattle.pliron_sccp.specs.declared.search.Call.{Call}
+use Rattle.pliron_sccp.specs.declared.search.Call.TheVariants.{Pass, Look, Ask}
 use Rattle.pliron_sccp.specs.Tables.{known_constants, is_numbered, fact_in, reaches, waits_block, waits_value, facts_of}
-use Rattle.pliron_sccp.specs.Demands.{Asks}
+use Rattle.pliron_sccp.specs.Demands.{Asks, MeetsAll}
 use Rattle.pliron_sccp.specs.Falling.{IsApplied}
 
 -- one operation was looked at: what it asks of the facts before is met, and nothing else was done
@@ -45,25 +49,62 @@ pub record IsLookedAt (t : Tree) (s : Tables) (k : ℕ) : Type 0 where
   pub reached : reaches s block ≡ true
   pub taken : waits_block s block ≡ false
 
--- the operation reads the value, and stands in such a block
-pub record IsUserOf (t : Tree) (s : Tables) (v k : ℕ) : Type 0 where
-  pub visited : IsLookedAt t s k
-  pub reads : In v (operands_of t k)
-
 -- the list grows by what is so, each once
 pub record AddsEach (old new : List ℕ) (IsSo : ℕ → Type 0) : Type 0 where
   pub distinct : IsDistinct old → IsDistinct new
   pub members : (k : ℕ) → In k new ↔ (In k old ⊎ IsSo k)
 
--- the users of these values that stand where was looked, each once, and no others
-pub record AreUsersOf (t : Tree) (values users : List ℕ) (s : Tables) : Type 0 where
-  pub distinct : IsDistinct users
-  pub only : (k : ℕ) → In k users → IsLookedAt t s k × ((v : ℕ) × In v values × In v (operands_of t k))
-  pub all : (k v : ℕ) → IsLookedAt t s k → In v values → In v (operands_of t k) → In k users
+-- an edge of the branch forwards its operand at this place to the argument
+pub record Forwarded (x : Says) (t : Tree) (o : Operation) (place argument : ℕ) : Type 0 where
+  pub branch : IsTrue (x.meaning.is_branch o.head)
+  pub edge : ℕ
+  pub block : ℕ
+  pub index : ℕ
+  pub successor : slice_get o.successors edge ≡ Some block
+  pub is_argument : slice_get (arguments_of t block) index ≡ Some argument
+  pub forwards : slice_get (x.meaning.forwarded (shape_of x.meaning t o) edge) index ≡ Some place
 
--- all values that waited were taken, so many, and these are their users
-pub record TakesUsers (t : Tree) (users : List ℕ) (s s' : Tables) (taken : ℕ) : Type 0 where
+-- the operand at this place is forwarded there, and nowhere else
+pub record IsForwardedOnce (m : Meaning) (t : Tree) (o : Operation) (place edge index : ℕ) : Type 0 where
+  pub there : slice_get (m.forwarded (shape_of m t o) edge) index ≡ Some place
+  pub alone : (i j : ℕ) → i < length o.successors → slice_get (m.forwarded (shape_of m t o) i) j ≡ Some place → (i ≡ edge) × (j ≡ index)
+
+-- what is to be done where the operand at this place fell: nothing for what does not fold and is no branch; or it goes to
+-- one argument alone, of something that does not fold
+abbrev pub IsCallFor : Says → Tree → (k place : ℕ) → Call → Type 0
+IsCallFor x t k place Pass = (o : Operation) → op_at t k ≡ Some o → (x.can_fold o.head ≡ false) × (x.can_fold_branch o.head ≡ false) × (x.meaning.is_branch o.head ≡ false)
+IsCallFor x t k place Look = Unit {0}
+IsCallFor x t k place (Ask edge index) = (edge < length (successors_of t k)) × ((o : Operation) → op_at t k ≡ Some o → (x.can_fold o.head ≡ false) × (x.can_fold_branch o.head ≡ false) × IsTrue (x.meaning.is_branch o.head) × IsForwardedOnce x.meaning t o place edge index)
+
+-- the operation does not fold, nor as a branch, and where these are met, each argument that gets its operand v from this
+-- place is at or below the fact of v
+pub record IsAskedAt (x : Says) (t : Tree) (s : Tables) (asked : List Demand) (o : Operation) (place v : ℕ) : Type 0 where
+  pub no_fold : x.can_fold o.head ≡ false
+  pub no_jump : x.can_fold_branch o.head ≡ false
+  pub below : (now : Facts) → MeetsAll (known_constants s) now asked → (a : ℕ) → Forwarded x t o place a → AtMost (now.fact a) (fact_in s v)
+
+-- uses of the value are seen to: an operation that was looked at and has it at such a place is to be looked at again, or
+-- asks no more than what is asked; and nothing else is added
+pub record SeesTo (x : Says) (t : Tree) (s : Tables) (v : ℕ) (IsUse : (k place : ℕ) → Type 0) (users : List ℕ) (asked : List Demand) (users' : List ℕ) (asked' : List Demand) : Type 0 where
+  pub kept : (k : ℕ) → In k users → In k users'
+  pub more : (now : Facts) → MeetsAll (known_constants s) now asked' → MeetsAll (known_constants s) now asked
+  pub only : (k : ℕ) → In k users' → In k users ⊎ (IsLookedAt t s k × ((place : ℕ) × IsUse k place))
+  pub seen : (k place : ℕ) (o : Operation) → IsUse k place → IsLookedAt t s k → op_at t k ≡ Some o → In k users' ⊎ IsAskedAt x t s asked' o place v
+  pub owed : (now : Facts) → MeetsAll (known_constants s) now asked → ((k place a : ℕ) (o : Operation) → IsUse k place → IsLookedAt t s k → op_at t k ≡ Some o → x.can_fold_branch o.head ≡ false → Forwarded x t o place a → AtMost (now.fact a) (fact_in s v)) → MeetsAll (known_constants s) now asked'
+
+-- the operation has the value at this place
+abbrev pub IsUseOf : Tree → (v k place : ℕ) → Type 0
+IsUseOf t v k place = slice_get (operands_of t k) place ≡ Some v
+
+-- what these values call for: their uses are seen to, and nothing else is asked
+pub record AreCalls (x : Says) (t : Tree) (s : Tables) (values users : List ℕ) (asked : List Demand) : Type 0 where
+  pub only : (k : ℕ) → In k users → IsLookedAt t s k × ((v : ℕ) × In v values)
+  pub seen : (k place v : ℕ) (o : Operation) → In v values → IsUseOf t v k place → IsLookedAt t s k → op_at t k ≡ Some o → In k users ⊎ IsAskedAt x t s asked o place v
+  pub owed : (now : Facts) → ((k place a v : ℕ) (o : Operation) → In v values → IsUseOf t v k place → IsLookedAt t s k → op_at t k ≡ Some o → x.can_fold_branch o.head ≡ false → Forwarded x t o place a → AtMost (now.fact a) (fact_in s v)) → MeetsAll (known_constants s) now asked
+
+-- all values that waited were taken, so many, and this is what they call for
+pub record TakesUsers (x : Says) (t : Tree) (users : List ℕ) (asked : List Demand) (s s' : Tables) (taken : ℕ) : Type 0 where
   pub values : List ℕ
   pub takes : TakesValues values s s'
-  pub are_users : AreUsersOf t values users s'
+  pub calls : AreCalls x t s' values users asked
   pub counted : taken ≡ length values

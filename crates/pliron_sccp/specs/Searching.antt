@@ -3,7 +3,9 @@ use Rattle.std.specs.Prelude.{◌≡◌, ℕ, true, false, List}
 use Rattle.pliron_core.specs.Tree.{Tree, In, body_of}
 use Rattle.pliron_theory.specs.Facts.{Says, AreHeld}
 use Rattle.pliron_sccp.specs.declared.facts.Tables.{Tables}
-use Rattle.pliron_sccp.specs.Tables.{is_numbered, waits_block, waits_value, facts_of, TakesBlock}
+use Rattle.pliron_sccp.specs.Tables.{is_numbered, known_constants, waits_block, waits_value, facts_of, TakesBlock}
+use Rattle.pliron_sccp.specs.declared.demands.Demand.{Demand}
+use Rattle.pliron_sccp.specs.Falling.{IsApplied}
 use Rattle.pliron_sccp.specs.Chain.{blocks_inside}
 use Rattle.pliron_sccp.specs.Looking.{LooksThrough, TakesUsers}
 use Rattle.pliron_sccp.specs.Settling.{AreSettledBut, AreStarted}
@@ -11,12 +13,15 @@ use Rattle.pliron_sccp.specs.Precise.{AreOwed}
 use Rattle.pliron_sccp.specs.Best.{IsBest}
 use Rattle.pliron_sccp.specs.Accounts.{IsAccounted, WaitsInside, AreKnownThere}
 
--- all values that waited were taken, so many, and their users were looked at
+-- all values that waited were taken, so many; what their uses ask at once was met, and the other users were looked at
 pub record VisitsValues (x : Says) (t : Tree) (s s' : Tables) (taken : ℕ) : Type 0 where
   pub users : List ℕ
+  pub asked : List Demand
   pub between : Tables
-  pub takes : TakesUsers t users s between taken
-  pub looks : LooksThrough x t users between s'
+  pub met : Tables
+  pub takes : TakesUsers x t users asked s between taken
+  pub applied : IsApplied (known_constants between) asked between met
+  pub looks : LooksThrough x t users met s'
 
 -- a block that waited was taken and looked through, or else all values that waited, and their users were looked at;
 -- so many were taken

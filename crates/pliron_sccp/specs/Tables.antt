@@ -102,6 +102,7 @@ pub record TakesValue (value : ℕ) (s s' : Tables) : Type 0 where
   pub reached : (b : ℕ) → reaches s' b ≡ reaches s b
   pub blocks : (b : ℕ) → waits_block s' b ≡ waits_block s b
   pub numbers : (b : ℕ) → is_numbered s' b ≡ is_numbered s b
+  pub constants : known_constants s' ≡ known_constants s
   pub fewer : left_values s ≡ left_values s' + 1
   pub few : left_values s < 2 ^ 64
 
@@ -112,6 +113,7 @@ pub record SaysSame (s s' : Tables) : Type 0 where
   pub blocks : (b : ℕ) → waits_block s' b ≡ waits_block s b
   pub values : (v : ℕ) → waits_value s' v ≡ waits_value s v
   pub numbers : (b : ℕ) → is_numbered s' b ≡ is_numbered s b
+  pub constants : known_constants s' ≡ known_constants s
 
 abbrev pub NoBlockWaits : Tables → Tables → Type 0
 NoBlockWaits s s' = SaysSame s s' × ((b : ℕ) → waits_block s b ≡ false)

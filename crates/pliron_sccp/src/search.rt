@@ -5,21 +5,24 @@
 //!
 //! The order of work: a block that waits is taken before any value, and looked through as a whole, its
 //! operations in order. Where none waits, all values that wait are taken, one by one, and then each of their
-//! users is looked at once. So a branch that forwards many values which fell together is looked at once, and
-//! no region is gone through in rounds: a fact falls at most twice, and only its users are looked at then. In
-//! deep nests of loops an inner loop is thus not gone through again for each round of the outer ones, and
-//! the work stays linear.
-ghost use Rattle.std.specs.Prelude.{◌≡◌, ◌↔◌, ℕ, true, OnOk, IfOk, IsTrue, IsOkUnless};
-ghost use Rattle.pliron_core.specs.Tree.{IsLive, IsBlock, In, body_of};
+//! users is looked at once, but for those that ask the same whatever is known: what neither folds nor is a
+//! branch is looked at with its block alone. So a branch that forwards many values which fell together is
+//! looked at once, and no region is gone through in rounds: a fact falls at most twice, and only its users
+//! are looked at then. In deep nests of loops an inner loop is thus not gone through again for each round of
+//! the outer ones.
+ghost use Rattle.std.specs.Prelude.{◌≡◌, ◌<◌, ◌↔◌, ℕ, true, OnOk, IfOk, IsTrue, IsOkUnless, Some, length, slice_get};
+ghost use Rattle.pliron_core.specs.Tree.{IsLive, IsBlock, In, arguments_of, body_of, successors_of};
 ghost use Rattle.pliron_laws.specs.Linked.{IsWellLinked};
+ghost use Rattle.pliron_theory.specs.Facts.{AtMost};
 ghost use Rattle.pliron_sccp.specs.Accounts.{IsUnsearched};
-ghost use Rattle.pliron_sccp.specs.Looking.{AddsEach, AreTargetsNumbered, HasNumberedTargets, IsLookedAt, IsUserOf, LooksAt, LooksThrough, TakesUsers};
+ghost use Rattle.pliron_sccp.specs.Demands.{Adds};
+ghost use Rattle.pliron_sccp.specs.Looking.{AreTargetsNumbered, HasNumberedTargets, IsCallFor, IsLookedAt, IsUseOf, LooksAt, LooksThrough, SeesTo, TakesUsers};
 ghost use Rattle.pliron_sccp.specs.Searched.{IsSearched};
 ghost use Rattle.pliron_sccp.specs.Searching.{VisitsValues, TakesTurn};
 ghost use Rattle.pliron_sccp.specs.Starting.{IsStarted};
-ghost use Rattle.pliron_sccp.specs.Tables.{waits_block};
+ghost use Rattle.pliron_sccp.specs.Tables.{fact_in, known_constants, waits_block};
 
-use crate::demands::{ask_entries, demands, meet_all};
+use crate::demands::{Demand, ask_entries, demands, meet_all};
 use crate::facts::Tables;
 use crate::inside::{all_blocks, block_numbers, value_numbers};
 use indexmap::IndexSet;
@@ -70,31 +73,95 @@ fn is_visited(op: Ptr<Operation>, ctx: &Context, tables: &Tables) -> bool
     }
 }
 
-/// Adds the operation, if it stands where was looked.
-fn add_user(
+/// What is to be done where an operand of an operation fell.
+pub enum Call {
+    /// The operation asks the same whatever is known of the operand.
+    Pass,
+    /// It is looked at again.
+    Look,
+    /// It asks the same but for one argument: the edge, and the argument's place there.
+    Ask(usize, usize),
+}
+
+/// What is to be done where the operand at this place fell. Cost: that of a few tests of the dialect.
+fn call_for<D: Dialect>(op: Ptr<Operation>, _place: usize, ctx: &Context) -> Call
+    requires { IsLive ctx.now.tree op }
+    ensures { IsCallFor ⟦<D as HasFolding>⟧.folding ctx.now.tree op _place result }
+{
+    if D::folds(op, ctx) {
+        Call::Look
+    } else if D::folds_branch(op, ctx) {
+        Call::Look
+    } else if D::is_branch(op, ctx) {
+        Call::Look
+    } else {
+        Call::Pass
+    }
+}
+
+/// The argument at this place of the edge, if it has one, is at or below the fact of the value.
+fn ask_argument(
     op: Ptr<Operation>,
+    edge: usize,
+    index: usize,
+    value: Value,
     ctx: &Context,
     tables: &Tables,
-    users: &mut IndexSet<Ptr<Operation>>,
+    asked: &mut Vec<Demand>,
 ) -> Result<(), OptError>
-    requires { IsLive ctx.now.tree op }
-    ensures ok { OnOk result (AddsEach users.old.keys users.new.keys (λ k. (op ≡ k) × IsLookedAt ctx.now.tree tables.now k)) }
+    requires live { IsLive ctx.now.tree op }
+    requires edge { edge < length (successors_of ctx.now.tree op) }
+    ensures ok { OnOk result (Adds (known_constants tables.now) asked.old.items asked.new.items (λ now. (b a : ℕ) →
+        slice_get (successors_of ctx.now.tree op) edge ≡ Some b → slice_get (arguments_of ctx.now.tree b) index ≡ Some a →
+        AtMost (now.fact a) (fact_in tables.now value))) }
     ensures memory { IsOkUnless result OptError.Memory }
 {
-    if is_visited(op, ctx, tables) {
-        users.insert(op)?;
+    let block = op.get_successor(ctx, edge);
+    if index < block.num_argument(ctx) {
+        let cell = tables.cell(value);
+        asked.push(Demand::Lower(block.get_argument(ctx, index), cell))?;
     }
     Ok(())
 }
 
-/// Adds the users of the value that stand where was looked.
-fn add_users(
+/// Sees to one use of a value that fell, where was looked.
+fn add_use<D: Dialect>(
+    op: Ptr<Operation>,
+    place: usize,
     value: Value,
     ctx: &Context,
     tables: &Tables,
     users: &mut IndexSet<Ptr<Operation>>,
+    asked: &mut Vec<Demand>,
 ) -> Result<(), OptError>
-    ensures ok { OnOk result (AddsEach users.old.keys users.new.keys (λ k. IsUserOf ctx.now.tree tables.now value k)) }
+    requires { IsLive ctx.now.tree op }
+    ensures ok { OnOk result (SeesTo ⟦<D as HasFolding>⟧.folding ctx.now.tree tables.now value (λ k p. (k ≡ op) × (p ≡ place))
+        users.old.keys asked.old.items users.new.keys asked.new.items) }
+    ensures memory { IsOkUnless result OptError.Memory }
+{
+    if !is_visited(op, ctx, tables) {
+        return Ok(());
+    }
+    match call_for::<D>(op, place, ctx) {
+        Call::Pass => Ok(()),
+        Call::Look => {
+            users.insert(op)?;
+            Ok(())
+        }
+        Call::Ask(edge, index) => ask_argument(op, edge, index, value, ctx, tables, asked),
+    }
+}
+
+/// Sees to the uses of the value that stand where was looked.
+fn add_uses<D: Dialect>(
+    value: Value,
+    ctx: &Context,
+    tables: &Tables,
+    users: &mut IndexSet<Ptr<Operation>>,
+    asked: &mut Vec<Demand>,
+) -> Result<(), OptError>
+    ensures ok { OnOk result (SeesTo ⟦<D as HasFolding>⟧.folding ctx.now.tree tables.now value (IsUseOf ctx.now.tree value)
+        users.old.keys asked.old.items users.new.keys asked.new.items) }
     ensures memory { IsOkUnless result OptError.Memory }
 {
     ctx.well_formed();
@@ -102,35 +169,36 @@ fn add_users(
         return Ok(());
     }
     for i in 0..value.num_use(ctx) {
-        let (user, _) = value.get_use(ctx, i);
-        add_user(user, ctx, tables, users)?;
+        let (user, place) = value.get_use(ctx, i);
+        add_use::<D>(user, place, value, ctx, tables, users, asked)?;
     }
     Ok(())
 }
 
-/// Takes all values that wait, one by one. Their users, each once, but for those that need not be looked at,
-/// and how many values were taken: a block that waits is still to be looked through, and in one that is not
-/// reached nothing is asked.
+/// Takes all values that wait, one by one. The users that are to be looked at again, each once, what others
+/// ask for one argument each, and how many values were taken. Of users in other blocks nothing is asked: a
+/// block that waits is still to be looked through, and in one that is not reached nothing is asked.
 ///
 /// Most precise facts need this rule: an operation that is looked at before its block was could read a
 /// value of which nothing is known yet.
 ///
 /// Errors: want of memory. Cost: one step for each value and for each use of it.
-fn take_users(
+fn take_values<D: Dialect>(
     alloc: Global,
     ctx: &Context,
     tables: &mut Tables,
-) -> Result<(IndexSet<Ptr<Operation>>, u128), OptError>
-    ensures ok { IfOk result (λ r. TakesUsers ctx.now.tree r.0.keys tables.old tables.new r.1) }
+) -> Result<(IndexSet<Ptr<Operation>>, Vec<Demand>, u128), OptError>
+    ensures ok { IfOk result (λ r. TakesUsers ⟦<D as HasFolding>⟧.folding ctx.now.tree r.0.keys r.1.items tables.old tables.new r.2) }
     ensures memory { IsOkUnless result OptError.Memory }
 {
     let mut users = IndexSet::new(alloc);
+    let mut asked = Vec::new(alloc);
     let mut taken: u128 = 0;
     while let Some(value) = tables.next_value() {
         taken += 1;
-        add_users(value, ctx, tables, &mut users)?;
+        add_uses::<D>(value, ctx, tables, &mut users, &mut asked)?;
     }
-    Ok((users, taken))
+    Ok((users, asked, taken))
 }
 
 /// Meets what the operation asks of the facts so far, and does nothing else.
@@ -195,7 +263,8 @@ fn visit_block<D: Dialect>(
     Ok(())
 }
 
-/// Takes all values that wait, and looks at their users; how many values these were.
+/// Takes all values that wait, meets what they call for at once, and looks at their other users; how many
+/// values these were.
 fn visit_values<D: Dialect>(
     alloc: Global,
     ctx: &Context,
@@ -206,7 +275,8 @@ fn visit_values<D: Dialect>(
     ensures memory { IsOkUnless result OptError.Memory }
 {
     ctx.well_formed();
-    let (users, taken) = take_users(alloc, ctx, tables)?;
+    let (users, asked, taken) = take_values::<D>(alloc, ctx, tables)?;
+    meet_all(asked, tables);
     look_through::<D>(alloc, users.as_slice(), ctx, tables)?;
     Ok(taken)
 }

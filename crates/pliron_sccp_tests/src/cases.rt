@@ -26,6 +26,7 @@ U 1 2 1 func { b0(): a = const -9223372036854775808; b = const -1; d = div a b; 
     => func { b0(): v0 = const -9223372036854775808; v1 = const -1; v2 = div v0 v1; ret v2 }
 U 2 2 1 func { b0(): c = const 1; d = const 2; cbr c b1(c) b1(d); b1(p): ret p } \
     => func { b0(): v0 = const 1; v1 = const 2; cbr v0 b1(v0) b1(v1); b1(v2): ret v2 }
+U 2 1 1 func { b0(): a = const 2; scope a { b0(p): print p; ret }; ret a } => func { b0(): v0 = const 2; scope v0 { b0(v1): print v1; ret }; ret v0 }
 C 3 5 0 func { b0(): c = const 1; x = const 5; y = const 6; cbr c b1(x) b2(y); b1(p): br b2(p); b2(q): ret q; b3(): br b2(y) } \
     => func { b0(): v0 = const 1; v1 = const 5; v2 = const 6; cbr v0 b1(v1) b2(v2); b1(v3): v4 = const 5; br b2(v4); b2(v5): v6 = const 5; ret v6; \
         b3(): br b2(v2) }
@@ -701,6 +702,7 @@ C 5 7 4 func { b0(v0, v1): v2 = const 2; cbr v0 b3(v1, v2) b2(v2); b1(v3): v4 = 
         b3(v10, v11): v12 = const 2; box { b0(v13): v14 = const 7; br b0(v14) }; ret v0 }";
 
 pub static HOSTILE: &str = "\
+C func { b0(): c = add a b; a = const 1; b = const 2; ret c } => func { b0(): v0 = const 3; v1 = add v2 v3; v2 = const 1; v3 = const 2; ret v0 }
 U func { b0(): a = add a a; ret a } => func { b0(): v0 = add v0 v0; ret v0 }
 C func { b0(): z = const 0; m = mul m z; ret m } => func { b0(): v0 = const 0; v1 = const 0; v2 = mul v1 v0; ret v1 }
 U func { b0(): br b1(); b1(p): ret p } => func { b0(): br b1(); b1(v0): ret v0 }

@@ -1,6 +1,7 @@
 -- What waits while the search for visited regions goes on.
-use Rattle.std.specs.Prelude.{◌≡◌, ◌⊎◌, ◌+◌, ℕ, List, length}
+use Rattle.std.specs.Prelude.{◌≡◌, ◌⊎◌, ◌+◌, ℕ, List, map, length}
 use Rattle.pliron_core.specs.Lists.{In, IsDistinct}
+use Rattle.pliron_cfg.specs.declared.visits.Postponed.{Postponed}
 
 -- these regions are seen too, and those that are seen for the first time wait
 pub record HasGrown (regions seen waiting seen' waiting' : List ℕ) : Type 0 where
@@ -12,3 +13,7 @@ pub record HasGrown (regions seen waiting seen' waiting' : List ℕ) : Type 0 wh
   pub within : (r : ℕ) → In r waiting' → In r waiting ⊎ In r seen'
   pub count : length waiting' + length seen ≡ length waiting + length seen'
   pub distinct : IsDistinct seen → IsDistinct seen'
+
+-- the blocks that are postponed
+abbrev pub blocks_postponed : List Postponed → List ℕ
+blocks_postponed postponed = map (λ p. p.block) postponed

@@ -2,7 +2,8 @@ use Rattle.std.proofs.Common.{refl, rules, inl, inr, ◌↔◌, IsTrue, ◌++◌
 use Rattle.pliron_dce.specs.Dead.{Item}
 use Rattle.pliron_dce.specs.Going.{IsSweptSoFar, LeavesNoDead, TellsGone, SomeHasRegions}
 use Rattle.pliron_dce.specs.Steps.{IsReady}
-use Rattle.pliron_dce.specs.Work.{item_of, HasReady}
+use Rattle.pliron_dce.specs.Work.{item_of, HasReady, AreClosed}
+use Rattle.pliron_dce.proofs.WorkLemmas.{all_wait}
 use Rattle.pliron_dce.proofs.SweepLemmas.{step_less}
 use Rattle.pliron_dce.proofs.Progress.{on_the_way, one_more, at_the_end, tells_more, edges_more, regions_more}
 use Rattle.pliron_dce.proofs.sweep.sweep.Goals as goal
@@ -11,7 +12,8 @@ pub loop-work-init : goal.loop-work-init
 loop-work-init g c = record {
   way = ([], on_the_way _ _ _ _ g.met.D.Dialect.forwards_operands (λ h h' s. s.branch) g.met.D.Dialect.keeps_counts g.D.SideEffects.side_effects g.met.D.Dialect.gives_at_once g.D.BlockArgRemoval.removable g.met.D.Dialect.acts_without_argument c.args.ctx.now.tree c.args.root c.requires.live, refl, search rules);
   edges = λ n op before after. refl;
-  all = subst (λ z. HasReady g.D.HasMeaning.meaning g.D.SideEffects.side_effects g.D.BlockArgRemoval.removable c.args.ctx.now.tree c.args.root (z ++ c.args.candidates.items)) (sym c.new.ensures.items) c.requires.all;
+  all = subst (λ z. HasReady g.D.HasMeaning.meaning g.D.SideEffects.side_effects g.D.BlockArgRemoval.removable c.args.ctx.now.tree c.args.root z) (sym (all_wait c.new-work.result c.args.candidates.items c.new-work.ensures.round c.new-work.ensures.later c.new-work.ensures.around)) c.requires.all;
+  closed = subst (λ z. AreClosed c.args.ctx.now.tree z) (sym c.new-work.ensures.around) (λ k a i l j. absurd i);
 }
 
 pub loop-work-smaller : goal.loop-work-smaller
@@ -27,6 +29,7 @@ loop-work-preserved g c =
       way = (way.0 ++ item_of c.in-Some.next ∷ [], one_more _ _ _ _ g.met.D.Dialect.forwards_operands (λ h h' s. s.branch) g.met.D.Dialect.keeps_counts g.D.SideEffects.side_effects g.met.D.Dialect.gives_at_once g.D.BlockArgRemoval.removable g.met.D.Dialect.acts_without_argument c.args.ctx.now.tree c.loop-work.ctx.tree c.take_one-taken.new.ctx.tree c.args.root way.0 (item_of c.in-Some.next) c.requires.linked c.well_formed-in-Some.ensures.tree c.well_formed-in-Some-2.ensures.tree way.1 ready c.in_ok-had.ensures.goes, tells_more way.0 (item_of c.in-Some.next), regions_more _ _ _ _ g.met.D.Dialect.forwards_operands (λ h h' s. s.branch) g.met.D.Dialect.keeps_counts g.D.SideEffects.side_effects g.met.D.Dialect.gives_at_once g.D.BlockArgRemoval.removable g.met.D.Dialect.acts_without_argument c.args.ctx.now.tree c.loop-work.ctx.tree c.take_one-taken.new.ctx.tree c.args.root way.0 (item_of c.in-Some.next) c.loop-work.regions c.in_ok-had.had c.either-regions.result way.1 c.in_ok-had.ensures.goes way.3 c.in_ok-had.ensures.regions c.either-regions.ensures);
       edges = λ n. edges_more _ _ _ _ g.met.D.Dialect.forwards_operands (λ h h' s. s.branch) g.met.D.Dialect.keeps_counts g.D.SideEffects.side_effects g.met.D.Dialect.gives_at_once g.D.BlockArgRemoval.removable g.met.D.Dialect.acts_without_argument c.args.ctx.now.tree c.loop-work.ctx.tree c.take_one-taken.new.ctx.tree c.args.root (item_of c.in-Some.next) c.well_formed-in-Some.ensures.tree c.well_formed-in-Some-2.ensures.tree (way.1.linked c.args.root c.requires.linked way.1.stands) ready c.in_ok-had.ensures.goes (c.loop-work.invariant.edges (λ y. n (c.either-regions.ensures.1 (inl y)))) (λ y. n (c.either-regions.ensures.1 (inr (c.in_ok-had.ensures.regions.1 y))));
       all = c.in_ok-had.ensures.all;
+      closed = c.in_ok-had.ensures.closed;
     }
 
 pub returns-clause-gone : goal.returns-clause-gone

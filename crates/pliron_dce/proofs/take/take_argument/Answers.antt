@@ -61,9 +61,9 @@ remove_argument-requires-clause-unused g c =
     (lost_no_uses _ _ _ _ g.met.D.Dialect.forwards_operands (λ h h' s. s.branch) g.D.BlockArgRemoval.removable c.args.ctx.now.tree c.args.ctx.now.block_uses c.args.root c.args.block c.args.index v.0 c.well_formed-2.ensures.tree c.well_formed-2.ensures.uses.block_uses c.requires.linked v.1 (c.requires.ready v.0 v.1) c.lose_forwarded.new.ctx.tree c.lose_forwarded.ensures.lost c.lose_forwarded.new.ctx.value_uses c.well_formed-3.ensures.uses.value_uses)
 
 pub returns-clause-noted : goal.returns-clause-noted
-returns-clause-noted g c site held =
+returns-clause-noted g c =
     let v = argument_at c.args.ctx.now.tree c.args.block c.args.index c.requires.index in
     let all : c.loop-i.i ≡ length (uses_of c.args.ctx.now.block_uses c.args.block) = grind (arith, c.num_use-i-end.ensures, c.loop-i-test.false, c.loop-i.auto.i-end) in
     let tells : TellsSoFar g.D.HasMeaning.meaning c.args.ctx.now.tree c.args.index (uses_of c.args.ctx.now.block_uses c.args.block) (length (uses_of c.args.ctx.now.block_uses c.args.block)) c.loop-i.forwards.items c.loop-i.used.items = subst (λ z. TellsSoFar g.D.HasMeaning.meaning c.args.ctx.now.tree c.args.index (uses_of c.args.ctx.now.block_uses c.args.block) z c.loop-i.forwards.items c.loop-i.used.items) all c.loop-i.invariant in
-    subst (λ z. AreNoted c.args.ctx.now.tree z site c.loop-i.used.items) (sym (ap (λ z. z.tree) c.remove_argument.ensures))
-    (noted _ _ _ _ g.met.D.Dialect.forwards_operands (λ h h' s. s.branch) g.D.BlockArgRemoval.removable c.args.ctx.now.tree c.args.ctx.now.block_uses c.args.root c.args.block c.args.index v.0 c.well_formed-2.ensures.tree c.well_formed-2.ensures.uses.block_uses c.requires.linked v.1 (c.requires.ready v.0 v.1) c.lose_forwarded.new.ctx.tree c.lose_forwarded.ensures.lost c.loop-i.forwards.items c.loop-i.used.items tells site held)
+    subst (λ z. AreNoted c.args.ctx.now.tree z c.loop-i.used.items) (sym (ap (λ z. z.tree) c.remove_argument.ensures))
+    (noted _ _ _ _ g.met.D.Dialect.forwards_operands (λ h h' s. s.branch) g.D.BlockArgRemoval.removable c.args.ctx.now.tree c.args.ctx.now.block_uses c.args.root c.args.block c.args.index v.0 c.well_formed-2.ensures.tree c.well_formed-2.ensures.uses.block_uses c.requires.linked v.1 (c.requires.ready v.0 v.1) c.lose_forwarded.new.ctx.tree c.lose_forwarded.ensures.lost c.loop-i.forwards.items c.loop-i.used.items tells)

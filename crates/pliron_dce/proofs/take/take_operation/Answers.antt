@@ -13,6 +13,6 @@ pub erase_operation-requires-clause-contained : goal.erase_operation-requires-cl
 erase_operation-requires-clause-contained g c = op_contained g.D.HasMeaning.meaning g.D.SideEffects.side_effects c.args.ctx.now.tree c.args.root c.args.op c.well_formed-2.ensures.tree c.requires.linked g.met.D.Dialect.keeps_counts g.D.BlockArgRemoval.removable g.met.D.Dialect.gives_at_once c.requires.ready
 
 pub returns-clause-noted : goal.returns-clause-noted
-returns-clause-noted g c site held =
-    subst (λ z. AreNoted c.args.ctx.now.tree z site c.in_ok-used.used.items) (sym c.erase_operation.ensures.erased)
-    (op_noted g.D.HasMeaning.meaning g.D.SideEffects.side_effects c.args.ctx.now.tree c.args.root c.args.op c.well_formed-2.ensures.tree c.requires.linked g.met.D.Dialect.keeps_counts g.D.BlockArgRemoval.removable g.met.D.Dialect.gives_at_once c.requires.ready c.in_ok-used.used.items c.in_ok-used.ensures site held)
+returns-clause-noted g c =
+    subst (λ z. AreNoted c.args.ctx.now.tree z c.in_ok-used.used.items) (sym c.erase_operation.ensures.erased)
+    (op_noted g.D.HasMeaning.meaning g.D.SideEffects.side_effects c.args.ctx.now.tree c.args.root c.args.op c.well_formed-2.ensures.tree c.requires.linked g.met.D.Dialect.keeps_counts g.D.BlockArgRemoval.removable g.met.D.Dialect.gives_at_once c.requires.ready c.in_ok-used.used.items c.in_ok-used.ensures)

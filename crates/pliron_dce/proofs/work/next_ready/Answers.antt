@@ -1,25 +1,35 @@
-use Rattle.std.proofs.Common.{◌++◌, ◌∷◌, [], ⊎_elim, append_assoc, sym, subst}
-use Rattle.pliron_dce.specs.Steps.{Among}
-use Rattle.pliron_dce.specs.Work.{items_of, HasReady}
-use Rattle.pliron_dce.proofs.WorkLemmas.{among_left, among_right, among_cases, next_of_round, none_of_round}
+use Rattle.std.proofs.Common.{◌≡◌, ◌++◌, [], ◌∙◌, map, ap, sym, subst, IfNone, inl}
+use Rattle.pliron_dce.specs.declared.work.Candidate.TheVariants.{Operation}
+use Rattle.pliron_dce.specs.Work.{waiting, HasReady, AreClosed}
+use Rattle.pliron_dce.proofs.WorkLemmas.{next_of_all, none_of_all, none_waits}
 use Rattle.pliron_dce.proofs.work.next_ready.Goals as goal
 
 pub returns-in-Some-clause-all : goal.returns-in-Some-clause-all
-returns-in-Some-clause-all g c = λ x r.
-    let later = c.args.work.now.later.items in
-    let round = c.next_in_round.new.round.items in
-    let next = c.in-Some.next in
-    subst (λ z. Among x (items_of z)) (sym (append_assoc later round (next ∷ [])))
-    (⊎_elim (λ i. among_left x later (round ++ next ∷ []) i) (λ i. among_right x later (round ++ next ∷ []) (c.in-Some.ensures.kept x r i)) (among_cases x later c.args.work.now.round.items (c.requires.all x r)))
+returns-in-Some-clause-all g c = λ x r. c.in-Some.ensures.kept x r (c.requires.all x r)
+
+pub returns-in-Some-clause-closed : goal.returns-in-Some-clause-closed
+returns-in-Some-clause-closed g c = subst (λ z. AreClosed c.args.ctx.now.tree z.keys) (sym c.next_of.ensures.around) c.requires.closed
+
+pub returns-in-Some-next_of-clause-all : goal.returns-in-Some-next_of-clause-all
+returns-in-Some-next_of-clause-all g c = λ x r. c.in-Some-next_of.ensures.kept x r (c.in_ok-begin_round.ensures.kept x r (c.in_default.ensures.none x r (c.requires.all x r)))
+
+pub returns-in-Some-next_of-clause-closed : goal.returns-in-Some-next_of-clause-closed
+returns-in-Some-next_of-clause-closed g c = subst (λ z. AreClosed c.args.ctx.now.tree z) (sym (ap (λ z. z.keys) c.next_of-2.ensures.around ∙ c.in_ok-begin_round.ensures.around ∙ ap (λ z. z.keys) c.next_of.ensures.around)) c.requires.closed
 
 pub returns-clause-all : goal.returns-clause-all
 returns-clause-all g c =
-    let all : HasReady g.D.HasMeaning.meaning g.D.SideEffects.side_effects g.D.BlockArgRemoval.removable c.args.ctx.now.tree c.args.root c.begin_round.new.work.round.items = λ x r.
-    c.in_ok-begin_round.ensures x r (⊎_elim (λ i. among_left x c.args.work.now.later.items c.next_in_round.new.round.items i) (λ i. absurd (c.in_default.ensures.none x r i)) (among_cases x c.args.work.now.later.items c.args.work.now.round.items (c.requires.all x r))) in
-    next_of_round g.D.HasMeaning.meaning g.D.SideEffects.side_effects g.D.BlockArgRemoval.removable c.args.ctx.now.tree c.args.root c.begin_round.new.work.round.items c.next_in_round-2.new.round.items all c.next_in_round-2.result c.begin_round.new.work.later.items c.next_in_round-2.ensures.kept
+    let all : HasReady g.D.HasMeaning.meaning g.D.SideEffects.side_effects g.D.BlockArgRemoval.removable c.args.ctx.now.tree c.args.root (waiting c.begin_around.new.work) = λ x r.
+    c.in_ok-begin_around.ensures.kept x (c.in_default-next_of.ensures.none x r (c.in_ok-begin_round.ensures.kept x r (c.in_default.ensures.none x r (c.requires.all x r)))) in
+    next_of_all g.D.HasMeaning.meaning g.D.SideEffects.side_effects g.D.BlockArgRemoval.removable c.args.ctx.now.tree c.args.root (waiting c.begin_around.new.work) (waiting c.next_of-3.new.work) all c.next_of-3.result c.next_of-3.ensures.kept
 
 pub returns-clause-none : goal.returns-clause-none
 returns-clause-none g c =
-    let all : HasReady g.D.HasMeaning.meaning g.D.SideEffects.side_effects g.D.BlockArgRemoval.removable c.args.ctx.now.tree c.args.root c.begin_round.new.work.round.items = λ x r.
-    c.in_ok-begin_round.ensures x r (⊎_elim (λ i. among_left x c.args.work.now.later.items c.next_in_round.new.round.items i) (λ i. absurd (c.in_default.ensures.none x r i)) (among_cases x c.args.work.now.later.items c.args.work.now.round.items (c.requires.all x r))) in
-    none_of_round g.D.HasMeaning.meaning g.D.SideEffects.side_effects g.D.BlockArgRemoval.removable c.args.ctx.now.tree c.args.root c.begin_round.new.work.round.items c.next_in_round-2.new.round.items all c.next_in_round-2.result c.next_in_round-2.ensures.none
+    let all : HasReady g.D.HasMeaning.meaning g.D.SideEffects.side_effects g.D.BlockArgRemoval.removable c.args.ctx.now.tree c.args.root (waiting c.begin_around.new.work) = λ x r.
+    c.in_ok-begin_around.ensures.kept x (c.in_default-next_of.ensures.none x r (c.in_ok-begin_round.ensures.kept x r (c.in_default.ensures.none x r (c.requires.all x r)))) in
+    let around : c.next_of-3.new.work.around.keys ≡ [] = ap (λ z. z.keys) c.next_of-3.ensures.around ∙ c.in_ok-begin_around.ensures.around in
+    let later : c.next_of-3.new.work.later.items ≡ [] = ap (λ z. z.items) (c.next_of-3.ensures.later ∙ c.in_ok-begin_around.ensures.later ∙ c.next_of-2.ensures.later) ∙ c.in_ok-begin_round.ensures.later in
+    none_of_all g.D.HasMeaning.meaning g.D.SideEffects.side_effects g.D.BlockArgRemoval.removable c.args.ctx.now.tree c.args.root (waiting c.begin_around.new.work) (waiting c.next_of-3.new.work) all c.next_of-3.result c.next_of-3.ensures.none
+    (none_waits c.next_of-3.result c.next_of-3.new.work around later c.next_of-3.ensures.empty)
+
+pub returns-clause-closed : goal.returns-clause-closed
+returns-clause-closed g c = subst (λ z. AreClosed c.args.ctx.now.tree z) (sym (ap (λ z. z.keys) c.next_of-3.ensures.around ∙ c.in_ok-begin_around.ensures.around)) (λ k a i l j. absurd i)

@@ -1,50 +1,51 @@
-use Rattle.std.proofs.Common.{◌<◌, ◌-◌, ◌∙◌, inl, inr, ⊎_elim, sym, subst, length, suc}
+use Rattle.std.proofs.Common.{◌<◌, ◌-◌, Some, sym, subst, length, suc}
 use Rattle.std.specs.Option.{option_map_or}
-use Rattle.pliron_core.specs.Tree.{IsLive, IsWithin}
+use Rattle.pliron_core.specs.Tree.{In, IsLive}
 use Rattle.pliron_core.specs.Walks.{contents}
-use Rattle.pliron_core.proofs.HoldingLemmas.{some_is}
 use Rattle.pliron_core.proofs.WalkStepLemmas.{up_smaller}
-use Rattle.pliron_dce.specs.Work.{items_of, waiting}
-use Rattle.pliron_dce.specs.Dead.{Op}
-use Rattle.pliron_dce.proofs.WorkLemmas.{within_within, above_within, none_left, some_told}
+use Rattle.pliron_dce.specs.Work.{AreClosed, LooksAround}
+use Rattle.pliron_dce.proofs.AroundSets.{IsRising, put_last, was_in, rising_starts, rising_more, rising_stops, rising_ends}
+use Rattle.pliron_dce.proofs.WorkLemmas.{some_told}
 use Rattle.pliron_dce.proofs.work.push_around.Goals as goal
 
-pub loop-around-init : goal.loop-around-init
-loop-around-init c = record {
-  live = λ k e. some_told (λ z. IsLive c.args.ctx.now.tree z) c.holder_of_maker-around.ensures.live e;
-  kept = λ x i. i;
-  rest = λ k i n. inr (c.holder_of_maker-around.ensures.around k i);
+pub loop-holder-init : goal.loop-holder-init
+loop-holder-init c = record {
+  live = λ k e. some_told (λ z. IsLive c.args.ctx.now.tree z) c.holder_of_maker-holder.ensures.live e;
+  rising = rising_starts c.args.ctx.now.tree c.args.value c.args.around.now.keys c.holder_of_maker-holder.result c.requires.closed c.holder_of_maker-holder.ensures.around;
 }
 
-pub returns-then-is_within : goal.returns-then-is_within
-returns-then-is_within c = record {
-  kept = c.loop-around.invariant.kept;
-  around = λ k i n. ⊎_elim (λ j. j) (λ a. absurd (n (within_within c.args.ctx.now.tree k c.in-Some.op c.args.site (subst (IsWithin c.args.ctx.now.tree k) (some_is (sym a.1 ∙ c.in-Some.is)) a.2) (c.is_within.ensures.0 c.if-is_within.true)))) (c.loop-around.invariant.rest k i n);
-}
-
-pub get_parent_op-around-requires : goal.get_parent_op-around-requires
-get_parent_op-around-requires c = c.loop-around.invariant.live c.in-Some.op c.in-Some.is
-
-pub loop-around-smaller : goal.loop-around-smaller
-loop-around-smaller c =
+stops : (c : goal.Then-not-branch) → LooksAround c.args.ctx.now.tree c.args.value c.args.around.now.keys c.insert.new.self.keys × AreClosed c.args.ctx.now.tree c.insert.new.self.keys
+stops c =
+    let there = was_in c.loop-holder.around.keys c.insert.new.self.keys c.in-Some.op _ c.in_ok-insert.ensures.added c.in_ok-insert.ensures.keys c.if-not-branch.true in
     let t = c.args.ctx.now.tree in
-    subst (λ o. option_map_or (λ z. suc (length t.operations - length (contents t z))) c.get_parent_op-around.result 0 < option_map_or (λ z. suc (length t.operations - length (contents t z))) o 0) (sym c.in-Some.is) (up_smaller t c.well_formed-2.ensures.tree c.in-Some.op c.get_parent_op-around.result c.get_parent_op-around.ensures.holder)
+    let r : IsRising t c.args.value c.args.around.now.keys c.insert.new.self.keys (Some c.in-Some.op) = subst (λ z. IsRising t c.args.value c.args.around.now.keys z (Some c.in-Some.op)) (sym there.1) (subst (λ z. IsRising t c.args.value c.args.around.now.keys c.loop-holder.around.keys z) c.in-Some.is c.loop-holder.invariant.rising) in
+    rising_stops t c.well_formed-2.ensures.tree c.args.value c.args.around.now.keys c.requires.closed c.insert.new.self.keys c.in-Some.op (c.loop-holder.invariant.live c.in-Some.op c.in-Some.is) (subst (In c.in-Some.op) (sym there.1) there.0) r
 
-pub loop-around-preserved : goal.loop-around-preserved
-loop-around-preserved c =
+pub returns-then-not-branch-clause-looks : goal.returns-then-not-branch-clause-looks
+returns-then-not-branch-clause-looks c = (stops c).0
+
+pub returns-then-not-branch-clause-closed : goal.returns-then-not-branch-clause-closed
+returns-then-not-branch-clause-closed c = (stops c).1
+
+pub get_parent_op-holder-requires : goal.get_parent_op-holder-requires
+get_parent_op-holder-requires c = c.loop-holder.invariant.live c.in-Some.op c.in-Some.is
+
+pub loop-holder-smaller : goal.loop-holder-smaller
+loop-holder-smaller c =
     let t = c.args.ctx.now.tree in
-    let added = c.in_ok-add.ensures in
+    subst (λ o. option_map_or (λ z. suc (length t.operations - length (contents t z))) c.get_parent_op-holder.result 0 < option_map_or (λ z. suc (length t.operations - length (contents t z))) o 0) (sym c.in-Some.is) (up_smaller t c.well_formed-2.ensures.tree c.in-Some.op c.get_parent_op-holder.result c.get_parent_op-holder.ensures.holder)
+
+pub loop-holder-preserved : goal.loop-holder-preserved
+loop-holder-preserved c =
+    let t = c.args.ctx.now.tree in
+    let more = put_last c.loop-holder.around.keys c.insert.new.self.keys c.in-Some.op _ c.in_ok-insert.ensures.added c.in_ok-insert.ensures.keys c.if-not-branch.false in
     record {
-      live = λ k e. some_told (λ z. IsLive t z) c.get_parent_op-around.ensures.live e;
-      kept = λ x i. added.kept x (c.loop-around.invariant.kept x i);
-      rest = λ k i n. ⊎_elim
-          (λ j. inl (added.kept (Op k) j))
-          (λ a. above_within t k c.in-Some.op c.get_parent_op-around.result c.get_parent_op-around.ensures.holder (items_of (waiting c.add.new.self)) added.added (subst (IsWithin t k) (some_is (sym a.1 ∙ c.in-Some.is)) a.2))
-          (c.loop-around.invariant.rest k i n);
+      live = λ k e. some_told (λ z. IsLive t z) c.get_parent_op-holder.ensures.live e;
+      rising = rising_more t c.well_formed-2.ensures.tree c.args.value c.args.around.now.keys c.loop-holder.around.keys c.insert.new.self.keys c.in-Some.op c.get_parent_op-holder.result more c.get_parent_op-holder.ensures.holder (subst (λ z. IsRising t c.args.value c.args.around.now.keys c.loop-holder.around.keys z) c.in-Some.is c.loop-holder.invariant.rising);
     }
 
-pub returns : goal.returns
-returns c = record {
-  kept = c.loop-around.invariant.kept;
-  around = λ k i n. ⊎_elim (λ j. j) (λ a. none_left c.in_default.is a.1) (c.loop-around.invariant.rest k i n);
-}
+pub returns-clause-looks : goal.returns-clause-looks
+returns-clause-looks c = (rising_ends c.args.ctx.now.tree c.well_formed-2.ensures.tree c.args.value c.args.around.now.keys c.loop-holder.around.keys c.loop-holder.holder c.in_default.is c.loop-holder.invariant.rising).0
+
+pub returns-clause-closed : goal.returns-clause-closed
+returns-clause-closed c = (rising_ends c.args.ctx.now.tree c.well_formed-2.ensures.tree c.args.value c.args.around.now.keys c.loop-holder.around.keys c.loop-holder.holder c.in_default.is c.loop-holder.invariant.rising).1

@@ -3,4 +3,4 @@ use Rattle.std.proofs.Common.{length}
 use Rattle.pliron_notation.proofs.tokens.tokenise.Given as goal
 
 abbrev pub decreases-loop-rest : goal.decreases-loop-rest
-decreases-loop-rest l = length l.rest
+decreases-loop-rest g l = length l.rest

@@ -1,9 +1,10 @@
 use Rattle.std.proofs.Common.{Result, Ok, Err, refl}
 use Rattle.std.specs.Result.{IfOk}
+use Rattle.pliron_theory.specs.Facts.{Says}
 use Rattle.pliron_sccp.specs.Searching.TakesTurn.{Block, Values}
 use Rattle.pliron_sccp.proofs.Marked.{waits_reached}
 use Rattle.pliron_sccp.proofs.Stepping.{targets_same, targets_kept}
-use Rattle.pliron_sccp.proofs.UserLists.{takes_from}
+use Rattle.pliron_sccp.proofs.Calls.{takes_from}
 use Rattle.pliron_sccp.proofs.Written.{none_of}
 use Rattle.pliron_sccp.proofs.search.step.Goals as goal
 
@@ -28,7 +29,16 @@ returns-in_ok-visit_block-in-Some-clause-ok g c = Block c.in-Some.block c.next_b
 
 pub returns-in-None-clause-ok : goal.returns-in-None-clause-ok
 returns-in-None-clause-ok g c =
+    let x : Says = record { meaning = g.D.HasMeaning.meaning; can_fold = g.D.ConstFoldInterface.can_fold; can_fold_branch = g.D.BranchOpFoldInterface.can_fold_branch; constants = g.D.ConstFoldInterface.constants; feasible = g.D.BranchOpFoldInterface.feasible } in
     let n = none_of c.next_block.result c.in-None.is c.next_block.ensures.none in
     if_ok_then c.visit_values.result
-    (λ taken v. Values n.1 (record { users = v.users; between = v.between; takes = takes_from c.args.ctx.now.tree c.args.tables.now c.next_block.new.self v.between v.users taken n.0 v.takes; looks = v.looks }))
+    (λ taken v. Values n.1 (record {
+      users = v.users;
+      asked = v.asked;
+      between = v.between;
+      met = v.met;
+      takes = takes_from x c.args.ctx.now.tree c.args.tables.now c.next_block.new.self v.between v.users v.asked taken n.0 v.takes;
+      applied = v.applied;
+      looks = v.looks;
+    }))
     c.visit_values.ensures.ok

@@ -60,6 +60,7 @@ returns-clause-taken c =
       reached = λ b. refl;
       blocks = λ b. refl;
       numbers = λ b. refl;
+      constants = refl;
       fewer = ap length items ∙ length_one c.pop.new.self.items n;
       few = omega (arith, s.values_few, s.fallen, most);
     }

@@ -1,0 +1,95 @@
+-- The set of operations that are looked at once nothing else is ready.
+use Rattle.std.proofs.Common.{◌≡◌, ◌⊎◌, inl, inr, ⊎_elim, ℕ, Bool, true, false, not, true≢false, nat_eq, ◌&&◌, if◌then◌else◌, List, [], ◌∷◌, ◌++◌, Option, Some, None, refl, sym, ap, ◌∙◌, subst, arith}
+use Rattle.std.specs.List.{list_any}
+use Rattle.std.proofs.lemmas.Bool.{cases_Bool, eq-eqb, false≢true, or_cases}
+use Rattle.pliron_core.specs.Changes.{IsMadeInside}
+use Rattle.pliron_core.specs.Tree.{Tree, In, IsLive, IsInside, Directly, IsWithin, holder_of}
+use Rattle.pliron_core.specs.Joined.{IsTree}
+use Rattle.pliron_core.proofs.ListLemmas.{In-left, In-right, In-cases}
+use Rattle.pliron_core.proofs.HoldingLemmas.{some_is, inside_up, within_inside, not_itself}
+use Rattle.indexmap.specs.IndexSet.{insert_key}
+use Rattle.pliron_dce.specs.Work.{AreClosed, LooksAround}
+
+tested_in : (xs : List ℕ) (k : ℕ) → list_any (λ y. nat_eq k y && true) xs ≡ true → In k xs
+tested_in [] k e = absurd (false≢true e)
+tested_in (x ∷ xs) k e = elim (or_cases (nat_eq k x && true) (list_any (λ y. nat_eq k y && true) xs) e) [ inl h ↦ inl (same k x h) | inr h ↦ inr (tested_in xs k h) ]
+  where
+    same : (x y : ℕ) → nat_eq x y && true ≡ true → x ≡ y
+    same x y e = grind arith
+
+-- what `insert` did, by its answer
+module _ (ks ks' : List ℕ) (k : ℕ) (r : Bool) (says : r ≡ not (list_any (λ y. nat_eq k y && true) ks)) (keys : ks' ≡ insert_key (λ x y. nat_eq x y && true) ks k) where
+  pub put_last : r ≡ true → ks' ≡ ks ++ k ∷ []
+  put_last e = by (list_any (λ y. nat_eq k y && true) ks) refl
+    where
+      by : (b : Bool) → list_any (λ y. nat_eq k y && true) ks ≡ b → ks' ≡ ks ++ k ∷ []
+      by true h = absurd (true≢false (sym e ∙ says ∙ ap not h))
+      by false h = keys ∙ ap (λ b. if b then ks else ks ++ k ∷ []) h
+
+  pub was_in : r ≡ false → In k ks × (ks' ≡ ks)
+  was_in e = by (list_any (λ y. nat_eq k y && true) ks) refl
+    where
+      by : (b : Bool) → list_any (λ y. nat_eq k y && true) ks ≡ b → In k ks × (ks' ≡ ks)
+      by true h = (tested_in ks k h, keys ∙ ap (λ b. if b then ks else ks ++ k ∷ []) h)
+      by false h = absurd (true≢false (sym (ap not h) ∙ sym says ∙ e))
+
+-- the operation is there, or at the holder or around it
+abbrev pub IsThereOrUp : Tree → List ℕ → Option ℕ → ℕ → Type 0
+IsThereOrUp t ks o k = In k ks ⊎ ((h : ℕ) × (o ≡ Some h) × IsWithin t k h)
+
+-- on the way up from what makes the value: all that is around what is there is there, or is still to come
+pub record IsRising (t : Tree) (v : ℕ) (old ks : List ℕ) (o : Option ℕ) : Type 0 where
+  pub kept : (k : ℕ) → In k old → In k ks
+  pub closed : (k a : ℕ) → In k ks → IsLive t k → IsInside t a k → IsThereOrUp t ks o a
+  pub above : (k h : ℕ) → In k ks → o ≡ Some h → In k old ⊎ IsInside t h k
+  pub rest : (k : ℕ) → IsMadeInside t k v → IsThereOrUp t ks o k
+
+pub rising_starts : (t : Tree) (v : ℕ) (old : List ℕ) (o : Option ℕ) → AreClosed t old → ((k : ℕ) → IsMadeInside t k v → (a : ℕ) × (o ≡ Some a) × IsWithin t k a) → IsRising t v old old o
+rising_starts t v old o closed around = record {
+  kept = λ k i. i;
+  closed = λ k a i l j. inl (closed k a i l j);
+  above = λ k h i e. inl i;
+  rest = λ k i. inr (around k i);
+}
+
+module _ (t : Tree) (w : IsTree t) (v : ℕ) (old : List ℕ) where
+  -- one more, and a step up
+  pub rising_more : (ks ks' : List ℕ) (op : ℕ) (o : Option ℕ) → ks' ≡ ks ++ op ∷ [] → o ≡ holder_of t op → IsRising t v old ks (Some op) → IsRising t v old ks' o
+  rising_more ks ks' op o put up r = subst (λ z. IsRising t v old z o) (sym put) (record {
+    kept = λ k i. In-left k ks (op ∷ []) (r.kept k i);
+    closed = λ k a i l j. ⊎_elim (λ q. there a (r.closed k a q l j)) (λ q. over a (inr (subst (IsInside t a) (first k q) j))) (In-cases k ks (op ∷ []) i);
+    above = λ k h i e. ⊎_elim (λ q. ⊎_elim (λ x. inl x) (λ x. inr (within_inside (Directly (sym up ∙ e)) (inr x))) (r.above k op q refl)) (λ q. inr (subst (IsInside t h) (sym (first k q)) (Directly (sym up ∙ e)))) (In-cases k ks (op ∷ []) i);
+    rest = λ k i. there k (r.rest k i);
+  })
+    where
+      first : (k : ℕ) → In k (op ∷ []) → k ≡ op
+      first k (inl e) = e
+      first k (inr i) = absurd i
+
+      over : (a : ℕ) → IsWithin t a op → IsThereOrUp t (ks ++ op ∷ []) o a
+      over a (inl e) = inl (In-right a ks (op ∷ []) (inl (sym e)))
+      over a (inr j) = let y = inside_up j in inr (y.0, up ∙ y.1, y.2)
+
+      there : (a : ℕ) → IsThereOrUp t ks (Some op) a → IsThereOrUp t (ks ++ op ∷ []) o a
+      there a (inl i) = inl (In-left a ks (op ∷ []) i)
+      there a (inr (h, e, q)) = over a (subst (IsWithin t a) (sym (some_is e)) q)
+
+  -- where the holder is there already, so is all around it
+  module _ (closed : AreClosed t old) (ks : List ℕ) (op : ℕ) (live : IsLive t op) (i : In op ks) (r : IsRising t v old ks (Some op)) where
+    before : In op old
+    before = ⊎_elim (λ x. x) (λ x. absurd (not_itself w.joined.rooted x)) (r.above op op i refl)
+
+    there : (a : ℕ) → IsThereOrUp t ks (Some op) a → In a ks
+    there a (inl x) = x
+    there a (inr (h, e, inl s)) = subst (λ z. In z ks) (some_is e ∙ s) i
+    there a (inr (h, e, inr j)) = r.kept a (closed op a before live (subst (IsInside t a) (sym (some_is e)) j))
+
+    pub rising_stops : LooksAround t v old ks × AreClosed t ks
+    rising_stops = (record { kept = r.kept; around = λ k j. there k (r.rest k j) }, λ k a j l q. there a (r.closed k a j l q))
+
+  pub rising_ends : (ks : List ℕ) (o : Option ℕ) → o ≡ None → IsRising t v old ks o → LooksAround t v old ks × AreClosed t ks
+  rising_ends ks o none r = (record { kept = r.kept; around = λ k j. there k (r.rest k j) }, λ k a j l q. there a (r.closed k a j l q))
+    where
+      there : (a : ℕ) → IsThereOrUp t ks o a → In a ks
+      there a (inl x) = x
+      there a (inr (h, e, q)) = let y : None ≡ Some h = sym none ∙ e in absurd (cc)

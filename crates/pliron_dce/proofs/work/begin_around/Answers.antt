@@ -1,0 +1,13 @@
+use Rattle.std.proofs.Common.{◌≡◌, ◌++◌, sym, subst, map, ap, ◌∙◌}
+use Rattle.pliron_dce.specs.declared.work.Candidate.TheVariants.{Operation}
+use Rattle.pliron_dce.specs.Steps.{Among}
+use Rattle.pliron_dce.specs.Work.{items_of}
+use Rattle.pliron_dce.proofs.WorkLemmas.{around_kept}
+use Rattle.pliron_dce.proofs.work.begin_around.Goals as goal
+
+pub returns-clause-kept : goal.returns-clause-kept
+returns-clause-kept c x i =
+    let ops = map (λ k. Operation k) c.args.work.now.around.keys in
+    let round : c.push_operations.new.round.items ≡ c.args.work.now.round.items ++ ops = c.in_ok-push_operations.ensures ∙ ap (λ z. c.args.work.now.round.items ++ map (λ k. Operation k) z) c.as_slice.ensures.keys in
+    let none = map (λ k. Operation k) c.clear.new.self.keys in
+    subst (λ z. Among x (items_of (none ++ (c.args.work.now.later.items ++ z)))) (sym round) (around_kept ops c.args.work.now.later.items c.args.work.now.round.items none x i)

@@ -1,0 +1,182 @@
+-- All values that wait are taken, and what they call for is met at once: what is known between is kept.
+use Rattle.std.proofs.Common.{◌≡◌, ◌⊎◌, inl, inr, ⊎_elim, ℕ, Bool, true, false, true≢false, List, [], ◌∷◌, Some, slice_get, refl, sym, ap, ◌∙◌, subst, IsTrue}
+use Rattle.pliron_core.specs.Lists.{In}
+use Rattle.pliron_core.specs.Tree.{Tree, arguments_of}
+use Rattle.pliron_core.specs.Joined.{IsTree}
+use Rattle.pliron_core.proofs.ListLemmas.{decide_in}
+use Rattle.pliron_core.proofs.HoldingLemmas.{in_slice, slice_in}
+use Rattle.pliron_laws.specs.Tree.{Operation, op_at, shape_of}
+use Rattle.pliron_laws.proofs.Records.{op_shows}
+use Rattle.pliron_theory.specs.Facts.{AtMost, Facts, NotAConstant, Undetermined, Says, IsFeasibleEdge}
+use Rattle.pliron_theory.proofs.KnownData.{picked_at}
+use Rattle.pliron_sccp.specs.declared.demands.Demand.{Demand}
+use Rattle.pliron_sccp.specs.declared.facts.Tables.{Tables}
+use Rattle.pliron_sccp.specs.Tables.{known_constants, fact_in, lowest_facts, reaches, waits_block, waits_value, facts_of}
+use Rattle.pliron_sccp.specs.Accounts.{AreKnownThere, NothingWaits}
+use Rattle.pliron_sccp.specs.Demands.{CanMeet, MeetsAll}
+use Rattle.pliron_sccp.specs.Falling.{IsApplied}
+use Rattle.pliron_sccp.specs.Looking.{AreCalls, AreTargetsNumbered, Forwarded, HasNumberedTargets, IsAskedAt, IsLookedAt, TakesValues}
+use Rattle.pliron_sccp.specs.Settling.{IsMet, AreAtMost, AreStarted}
+use Rattle.pliron_sccp.proofs.Applied.{at_most_both, below_refl}
+use Rattle.pliron_sccp.proofs.Settled.{met_still, entered_still, varies_still}
+use Rattle.pliron_sccp.proofs.Stepping.{targets_same, targets_kept, all_but_one, argument_but, below_but, unknown_but, not_yet, IsSettledIn, AreSettledIn}
+
+-- all of these are as before, or one of them waited
+same_or : {A B : ℕ → Type 0} (vs : List ℕ) → ((v : ℕ) → In v vs → A v ⊎ B v) → ((v : ℕ) → In v vs → A v) ⊎ ((v : ℕ) × In v vs × B v)
+same_or [] each = inl (λ v i. absurd i)
+same_or {A} {B} (x ∷ vs) each = ⊎_elim
+    (λ a. ⊎_elim
+    (λ all. inl (λ v i. ⊎_elim (λ e. subst A (sym e) a) (λ j. all v j) i))
+    (λ b. inr (b.0, inr b.1, b.2))
+    (same_or vs (λ v i. each v (inr i))))
+    (λ b. inr (x, inl refl, b))
+    (each x (inl refl))
+
+-- what is called for can be met, since no block is asked for
+pub can_call : (x : Says) (t : Tree) (s : Tables) (values users : List ℕ) (asked : List Demand) → AreCalls x t s values users asked → CanMeet s asked
+can_call x t s values users asked c = c.owed (lowest_facts s) (λ k place a v o i is l at none f. inr (inl refl))
+
+module _ (x : Says) (t : Tree) (values users : List ℕ) (asked : List Demand) (s u w : Tables) (k : TakesValues values s u) (c : AreCalls x t u values users asked) (a : IsApplied (known_constants u) asked u w) where
+  -- an operation that was looked at and is not looked at again is settled
+  module _ (j b : ℕ) (o : Operation) (at : op_at t j ≡ Some o) (l : IsLookedAt t u j) (rests : In j users → ⊥) (y : IsSettledIn x t s j o) where
+    reads : (v : ℕ) → In v o.operands → In v values → (place : ℕ) × (slice_get o.operands place ≡ Some v) × IsAskedAt x t u asked o place v
+    reads v i taken =
+        let p = slice_in o.operands v i in
+        (p.0, p.1, asks p.0 v taken p.1)
+      where
+        asks : (place v : ℕ) → In v values → slice_get o.operands place ≡ Some v → IsAskedAt x t u asked o place v
+        asks place v taken is = ⊎_elim (λ i. absurd (rests i)) (λ h. h) (c.seen j place v o taken (ap (λ z. slice_get z place) (op_shows t j o at).operands ∙ is) l at)
+
+    falls_to : AreAtMost (facts_of w) (facts_of s)
+    falls_to = record {
+      reaches = λ d r. a.falls.below.reaches d (k.reached d ∙ r);
+      fact = λ v. subst (AtMost (fact_in w v)) (k.facts v) (a.falls.below.fact v);
+    }
+
+    still : IsMet x t y.seen (facts_of w) j o
+    still = met_still x t y.seen (facts_of s) (facts_of w) j o falls_to y.met
+
+    each : (v : ℕ) → In v o.operands → (fact_in u v ≡ y.seen.fact v) ⊎ In v values
+    each v i = ⊎_elim (λ e. inl (k.facts v ∙ e)) (λ q. inr ((k.waited v).0 q)) (y.same v i)
+
+    by_new : ((v : ℕ) × In v o.operands × In v values) → IsSettledIn x t w j o
+    by_new (v, i, taken) = record { seen = facts_of u; met = met; same = λ q h. a.falls.told q }
+      where
+        first : IsAskedAt x t u asked o (reads v i taken).0 v
+        first = (reads v i taken).2
+
+        any_edge : (e d : ℕ) → IsFeasibleEdge x t (facts_of u) o e d → IsFeasibleEdge x t y.seen o e d
+        any_edge e d go = (go.0, λ folds. absurd (true≢false (sym folds ∙ first.no_jump)))
+
+        met : IsMet x t (facts_of u) (facts_of w) j o
+        met = record {
+          entries = still.entries;
+          branches = λ e d branch go.
+              let m = still.branches e d branch (any_edge e d go) in (
+                m.0,
+                λ index q r listed forwards.
+                    let p = picked_at (x.meaning.forwarded (shape_of x.meaning t o) e) o.operands index (Some r) forwards in
+                    ⊎_elim
+                    (λ same. subst (AtMost (fact_in w q)) (sym same) (m.1 index q r listed forwards))
+                    (λ new. asked_of p.0 r new p.2 e d index q branch go.0 listed p.1)
+                    (each r (in_slice o.operands p.0 r p.2)),
+              );
+          jumps = still.jumps;
+          folded = λ e q answer folds listed said. absurd (true≢false (sym folds ∙ first.no_fold));
+          others = still.others;
+        }
+          where
+            asked_of : (place r : ℕ) → In r values → slice_get o.operands place ≡ Some r → (e d index q : ℕ) → IsTrue (x.meaning.is_branch o.head) → slice_get o.successors e ≡ Some d → slice_get (arguments_of t d) index ≡ Some q → slice_get (x.meaning.forwarded (shape_of x.meaning t o) e) index ≡ Some place → AtMost (fact_in w q) (fact_in u r)
+            asked_of place r new is e d index q branch goes listed forwards = ⊎_elim
+                (λ z. absurd (rests z))
+                (λ h. h.below (facts_of w) a.met q (record { branch = branch; edge = e; block = d; index = index; successor = goes; is_argument = listed; forwards = forwards }))
+                (c.seen j place r o new (ap (λ z. slice_get z place) (op_shows t j o at).operands ∙ is) l at)
+
+    pub rests_settled : IsSettledIn x t w j o
+    rests_settled = ⊎_elim
+        (λ all. record { seen = y.seen; met = still; same = λ v i. ⊎_elim (λ e. inl (e ∙ all v i)) (λ q. inr q) (a.falls.told v) })
+        by_new
+        (same_or o.operands each)
+
+  -- all values are taken: the users that are looked at again are still to be looked at
+  pub values_settle : AreSettledIn x t s (λ j. ⊥) → AreSettledIn x t w (λ j. In j users)
+  values_settle settled j b o p r at = ⊎_elim (λ old. before old (settled j b o p (sym (k.reached b) ∙ old) at)) (λ new. inl new) (a.falls.entered b r)
+    where
+      rest : reaches u b ≡ true → (q : Bool) → waits_block u b ≡ q → IsSettledIn x t s j o → (waits_block w b ≡ true) ⊎ IsSettledIn x t w j o ⊎ In j users
+      rest old true e y = inl (a.falls.blocks b e)
+      rest old false e y = ⊎_elim
+          (λ i. inr (inr i))
+          (λ n. inr (inl (rests_settled j b o at (record { block = b; in_block = p; reached = old; taken = e }) n y)))
+          (decide_in j users)
+
+      before : reaches u b ≡ true → (waits_block s b ≡ true) ⊎ IsSettledIn x t s j o ⊎ ⊥ → (waits_block w b ≡ true) ⊎ IsSettledIn x t w j o ⊎ In j users
+      before old (inl waits) = inl (a.falls.blocks b (k.blocks b ∙ waits))
+      before old (inr (inl y)) = rest old (waits_block u b) refl y
+      before old (inr (inr z)) = absurd z
+
+  -- no block comes to be reached
+  pub reached_before : (b : ℕ) → reaches w b ≡ true → reaches u b ≡ true
+  reached_before b r = (a.least low (record { reaches = λ d q. q; fact = λ v. inr (inl refl) }) (c.owed low (λ q place d v o i is l at none f. inr (inl refl)))).reaches b r
+    where
+      low : Facts
+      low = record { reaches = λ d. reaches u d; fact = λ v. NotAConstant }
+
+  -- an edge that an operation looked at always takes leads to a block that is reached
+  edge_reached : AreSettledIn x t s (λ j. ⊥) → (q place v : ℕ) (o : Operation) → IsLookedAt t u q → op_at t q ≡ Some o → x.can_fold_branch o.head ≡ false → (f : Forwarded x t o place v) → reaches u f.block ≡ true
+  edge_reached settled q place v o l at none f = ⊎_elim
+      (λ waits. absurd (true≢false (sym (k.blocks l.block ∙ waits) ∙ l.taken)))
+      (λ y. ⊎_elim (λ m. k.reached f.block ∙ (m.met.branches f.edge f.block f.branch (f.successor, λ folds. absurd (true≢false (sym folds ∙ none)))).0) (λ z. absurd z) y)
+      (settled q l.block o l.in_block (sym (k.reached l.block) ∙ l.reached) at)
+
+  pub called_starts : (root : ℕ) → AreStarted t root (facts_of u) → AreStarted t root (facts_of w)
+  called_starts root started = record {
+    inside = λ b r. started.inside b (reached_before b r);
+    outside = λ v n. varies_still (fact_in u v) (fact_in w v) (a.falls.below.fact v) (started.outside v n);
+    entries = λ r b i e. entered_still x t (facts_of u) (facts_of w) b a.falls.below (started.entries r b i e);
+  }
+
+  pub called_known : (tree : IsTree t) (root : ℕ) → AreSettledIn x t s (λ j. ⊥) → AreKnownThere t root u → AreKnownThere t root w
+  called_known tree root settled known b v inside listed none =
+      unknown_but t tree u w b v listed none unknown still (a.least g (below_but t tree u w b v listed none unknown still) (c.owed g (λ q place d r o i is l at jumps f. inr (inl (argument d f.block (in_slice (arguments_of t f.block) f.index d f.is_argument) (a.falls.below.reaches f.block (edge_reached settled q place d o l at jumps f)))))))
+    where
+      still : (z : ℕ) → reaches u z ≡ true → reaches w z ≡ true
+      still z r = a.falls.below.reaches z r
+
+      unknown : fact_in u v ≡ Undetermined
+      unknown = known b v inside listed (not_yet u w b still none)
+
+      g : Facts
+      g = all_but_one t tree u w b v listed none unknown still
+
+      argument : (z d : ℕ) → In z (arguments_of t d) → reaches w d ≡ true → g.fact z ≡ NotAConstant
+      argument z d i r = argument_but t tree u w b v listed none unknown still z d i r
+
+  -- where no value was taken nothing is called for
+  pub nothing_called : values ≡ [] → ((b : ℕ) → waits_block s b ≡ false) → NothingWaits w
+  nothing_called none rests = record { blocks = blocks; values = λ v. by v (waits_value w v) refl }
+    where
+      all_met : MeetsAll (known_constants u) (facts_of u) asked
+      all_met = c.owed (facts_of u) (λ q place d v o i is l at jumps f. absurd (subst (In v) none i))
+
+      least : AreAtMost (facts_of u) (facts_of w)
+      least = a.least (facts_of u) (below_refl (facts_of u)) all_met
+
+      same : (v : ℕ) → fact_in w v ≡ fact_in u v
+      same v = at_most_both (fact_in w v) (fact_in u v) (a.falls.below.fact v) (least.fact v)
+
+      by : (v : ℕ) (q : Bool) → waits_value w v ≡ q → waits_value w v ≡ false
+      by v false e = e
+      by v true e = absurd (⊎_elim (λ old. true≢false (sym old ∙ k.values v)) (λ n. n (same v)) (a.falls.fell v e))
+
+      blocks : (b : ℕ) → waits_block w b ≡ false
+      blocks b = of (waits_block w b) refl
+        where
+          of : (q : Bool) → waits_block w b ≡ q → waits_block w b ≡ false
+          of false e = e
+          of true e = absurd (⊎_elim (λ old. true≢false (sym old ∙ k.blocks b ∙ rests b)) (λ n. true≢false (sym (reached_before b n.1) ∙ n.0)) (a.falls.came b e))
+
+-- the blocks that users may enter have numbers
+pub targets_then : (x : Says) (t : Tree) (values users : List ℕ) (asked : List Demand) (s u w : Tables) → TakesValues values s u → AreCalls x t u values users asked → IsApplied (known_constants u) asked u w → AreTargetsNumbered t s → (j : ℕ) → In j users → HasNumberedTargets t w j
+targets_then x t values users asked s u w k c a numbered j i =
+    let y = (c.only j i).0 in
+    targets_same t u w a.falls.numbers j (targets_kept t s u k.numbers k.reached numbered j y.block y.in_block y.reached)

@@ -1,0 +1,332 @@
+-- What values that fell call for, as it is gathered.
+use Rattle.std.proofs.Common.{◌≡◌, ◌⊎◌, ◌↔◌, ⊎_elim, inl, inr, ℕ, zero, suc, ◌+◌, ◌<◌, ◌≤◌, ◌^◌, Bool, true, false, true≢false, nat_eq, if◌then◌else◌, List, [], ◌∷◌, length, slice_get, Option, Some, Result, Ok, Err, refl, sym, ap, ◌∙◌, subst, arith, IsTrue}
+use Rattle.std.specs.Result.{OnOk}
+use Rattle.std.proofs.lemmas.Bool.{eqb-true, eq-eqb}
+use Rattle.std.proofs.lemmas.Option.{slice_get_within}
+use Rattle.pliron_core.specs.declared.uses.Use.{Use}
+use Rattle.pliron_core.specs.Lists.{In, IsDistinct}
+use Rattle.pliron_core.specs.Tree.{Tree, View, IsDefined, IsLive, operands_of, uses_of, successors_of, arguments_of}
+use Rattle.pliron_core.specs.Joined.{IsTree, HaveUses}
+use Rattle.pliron_core.proofs.HoldingLemmas.{some_is, some_of, in_slice}
+use Rattle.pliron_laws.specs.Tree.{Operation, op_at}
+use Rattle.pliron_laws.proofs.Records.{make_op, op_shows}
+use Rattle.pliron_theory.specs.Facts.{AtMost, Facts, Says}
+use Rattle.pliron_sccp.specs.declared.demands.Demand.{Demand}
+use Rattle.pliron_sccp.specs.declared.facts.Tables.{Tables}
+use Rattle.pliron_sccp.specs.Demands.{Adds, MeetsAll}
+use Rattle.pliron_sccp.specs.Looking.{AddsEach, AreCalls, IsAskedAt, IsForwardedOnce, IsLookedAt, IsUseOf, SeesTo, TakesUsers}
+use Rattle.pliron_sccp.specs.Tables.{known_constants, fact_in, is_numbered, left_values, reaches, waits_block, waits_value, NoValueWaits, SaysSame, TakesValue}
+
+-- what is looked at in one table is in another that says the same of blocks
+pub looked_same : (t : Tree) (s u : Tables) → ((b : ℕ) → reaches u b ≡ reaches s b) → ((b : ℕ) → waits_block u b ≡ waits_block s b) → (k : ℕ) → IsLookedAt t u k → IsLookedAt t s k
+looked_same t s u reached blocks k l = record { block = l.block; in_block = l.in_block; reached = sym (reached l.block) ∙ l.reached; taken = sym (blocks l.block) ∙ l.taken }
+
+pub on_ok_then : {X Y : Type 0} {P Q : Type 0} (r : Result X Y) → (P → Q) → OnOk r P → OnOk r Q
+on_ok_then (Ok x) f p = f p
+on_ok_then (Err e) f p = p
+
+module _ (x : Says) (t : Tree) where
+  asked_more : (s : Tables) (asked asked' : List Demand) (o : Operation) (place v : ℕ) → ((now : Facts) → MeetsAll (known_constants s) now asked' → MeetsAll (known_constants s) now asked) → IsAskedAt x t s asked o place v → IsAskedAt x t s asked' o place v
+  asked_more s asked asked' o place v more h = record { no_fold = h.no_fold; no_jump = h.no_jump; below = λ now m a f. h.below now (more now m) a f }
+
+  -- uses are seen to, some and then others
+  module _ (s : Tables) (v : ℕ) where
+    pub sees_none : (IsUse : ℕ → ℕ → Type 0) (users : List ℕ) (asked : List Demand) → ((k place : ℕ) → IsUse k place → ⊥) → SeesTo x t s v IsUse users asked users asked
+    sees_none IsUse users asked none = record {
+      kept = λ k i. i;
+      more = λ now m. m;
+      only = λ k i. inl i;
+      seen = λ k place o u l at. absurd (none k place u);
+      owed = λ now m all. m;
+    }
+
+    pub sees_more : (P Q R : ℕ → ℕ → Type 0) (users : List ℕ) (asked : List Demand) (users1 : List ℕ) (asked1 : List Demand) (users2 : List ℕ) (asked2 : List Demand) → SeesTo x t s v P users asked users1 asked1 → SeesTo x t s v Q users1 asked1 users2 asked2 → ((k place : ℕ) → (P k place ⊎ Q k place) ↔ R k place) → SeesTo x t s v R users asked users2 asked2
+    sees_more P Q R users asked users1 asked1 users2 asked2 p q both = record {
+      kept = λ k i. q.kept k (p.kept k i);
+      more = λ now m. p.more now (q.more now m);
+      only = λ k i. ⊎_elim
+          (λ j. ⊎_elim (λ h. inl h) (λ h. inr (h.0, (h.1.0, (both k h.1.0).0 (inl h.1.1)))) (p.only k j))
+          (λ h. inr (h.0, (h.1.0, (both k h.1.0).0 (inr h.1.1))))
+          (q.only k i);
+      seen = λ k place o u l at. ⊎_elim
+          (λ a. ⊎_elim (λ i. inl (q.kept k i)) (λ h. inr (asked_more s asked1 asked2 o place v q.more h)) (p.seen k place o a l at))
+          (λ b. q.seen k place o b l at)
+          ((both k place).1 u);
+      owed = λ now m all. q.owed now
+          (p.owed now m (λ k place a o u l at none f. all k place a o ((both k place).0 (inl u)) l at none f))
+          (λ k place a o u l at none f. all k place a o ((both k place).0 (inr u)) l at none f);
+    }
+
+    -- one use
+    module _ (op place : ℕ) (users : List ℕ) (asked : List Demand) where
+      abbrev pub IsIt : ℕ → ℕ → Type 0
+      IsIt k p = (k ≡ op) × (p ≡ place)
+
+      pub use_passed : (IsLookedAt t s op → ⊥) → SeesTo x t s v IsIt users asked users asked
+      use_passed none = record {
+        kept = λ k i. i;
+        more = λ now m. m;
+        only = λ k i. inl i;
+        seen = λ k p o u l at. absurd (none (subst (IsLookedAt t s) u.0 l));
+        owed = λ now m all. m;
+      }
+
+      pub use_reads_nothing : ((o : Operation) → op_at t op ≡ Some o → (x.can_fold o.head ≡ false) × (x.can_fold_branch o.head ≡ false) × (x.meaning.is_branch o.head ≡ false)) → SeesTo x t s v IsIt users asked users asked
+      use_reads_nothing nothing = record {
+        kept = λ k i. i;
+        more = λ now m. m;
+        only = λ k i. inl i;
+        seen = λ k p o u l at.
+            let n = nothing o (subst (λ z. op_at t z ≡ Some o) u.0 at) in
+            inr (record { no_fold = n.0; no_jump = n.1; below = λ now m a f. absurd (true≢false (sym f.branch ∙ n.2)) });
+        owed = λ now m all. m;
+      }
+
+      pub use_looked : (more : List ℕ) → IsLookedAt t s op → AddsEach users more (λ k. op ≡ k) → SeesTo x t s v IsIt users asked more asked
+      use_looked more l a = record {
+        kept = λ k i. (a.members k).1 (inl i);
+        more = λ now m. m;
+        only = λ k i. ⊎_elim (λ j. inl j) (λ e. inr (subst (IsLookedAt t s) e l, (place, (sym e, refl)))) ((a.members k).0 i);
+        seen = λ k p o u seen at. inl ((a.members k).1 (inr (sym u.0)));
+        owed = λ now m all. m;
+      }
+
+      -- what is asked for the one argument
+      abbrev pub AsksOne : (edge index : ℕ) → Facts → Type 0
+      AsksOne edge index now = (b a : ℕ) → slice_get (successors_of t op) edge ≡ Some b → slice_get (arguments_of t b) index ≡ Some a → AtMost (now.fact a) (fact_in s v)
+
+      pub use_asked : (asked' : List Demand) (edge index : ℕ) → IsLive t op → IsLookedAt t s op → ((o : Operation) → op_at t op ≡ Some o → (x.can_fold o.head ≡ false) × (x.can_fold_branch o.head ≡ false) × IsTrue (x.meaning.is_branch o.head) × IsForwardedOnce x.meaning t o place edge index) → Adds (known_constants s) asked asked' (λ now. AsksOne edge index now) → SeesTo x t s v IsIt users asked users asked'
+      use_asked asked' edge index live l one adds = record {
+        kept = λ k i. i;
+        more = λ now m. ((adds now).0 m).0;
+        only = λ k i. inl i;
+        seen = λ k p o u seen at. inr (asks o (subst (λ z. op_at t z ≡ Some o) u.0 at) p u.1);
+        owed = λ now m all. (adds now).1 (
+          m,
+          λ b a goes is. all op place a o.0 (refl, refl) l o.1 (one o.0 o.1).1 (record {
+            branch = (one o.0 o.1).2;
+            edge = edge;
+            block = b;
+            index = index;
+            successor = ap (λ z. slice_get z edge) (sym (op_shows t op o.0 o.1).successors) ∙ goes;
+            is_argument = is;
+            forwards = (one o.0 o.1).3.there;
+          }),
+        );
+      }
+        where
+          o : (o : Operation) × (op_at t op ≡ Some o)
+          o = let h = some_of _ live in (_, make_op t op h.0 h.1)
+
+          asks : (o : Operation) → op_at t op ≡ Some o → (p : ℕ) → p ≡ place → IsAskedAt x t s asked' o p v
+          asks o at p e = record {
+            no_fold = (one o at).0;
+            no_jump = (one o at).1;
+            below = λ now m a f.
+                let same = (one o at).3.alone f.edge f.index (slice_get_within o.successors f.edge f.block f.successor) (f.forwards ∙ ap (λ z. Some z) e) in
+                ((adds now).0 m).1 f.block a
+                (ap (λ z. slice_get z edge) (op_shows t op o at).successors ∙ ap (slice_get o.successors) (sym same.0) ∙ f.successor)
+                (ap (slice_get (arguments_of t f.block)) (sym same.1) ∙ f.is_argument);
+          }
+
+  -- the uses before index i
+  abbrev pub IsUseBefore : List Use → ℕ → ℕ → ℕ → Type 0
+  IsUseBefore uses i k place = (j : ℕ) × (j < i) × (slice_get uses j ≡ Some (record { user = k; place = place }))
+
+  use_is : {u k p q : ℕ} → ◌≡◌ {A = Option Use} (Some (record { user = u; place = p })) (Some (record { user = k; place = q })) → (k ≡ u) × (q ≡ p)
+  use_is e = (sym (ap (λ x. x.user) (some_is e)), sym (ap (λ x. x.place) (some_is e)))
+
+  below_or : (j i : ℕ) → j < i + 1 → (j < i) ⊎ (j ≡ i)
+  below_or zero zero l = inr refl
+  below_or zero (suc i) l = inl (omega arith)
+  below_or (suc j) zero l = absurd (omega (arith, l))
+  below_or (suc j) (suc i) l = ⊎_elim (λ a. inl (omega (arith, a))) (λ b. inr (ap (λ n. suc n) b)) (below_or j i (omega (arith, l)))
+
+  pub uses_start : (s : Tables) (v : ℕ) (uses : List Use) (users : List ℕ) (asked : List Demand) → SeesTo x t s v (IsUseBefore uses 0) users asked users asked
+  uses_start s v uses users asked = sees_none s v (IsUseBefore uses 0) users asked (λ k place u. let l = u.1 in absurd (omega (arith, l)))
+
+  pub uses_next : (s : Tables) (v : ℕ) (uses : List Use) (i u p : ℕ) (users : List ℕ) (asked : List Demand) (users1 : List ℕ) (asked1 : List Demand) (users2 : List ℕ) (asked2 : List Demand) → slice_get uses i ≡ Some (record { user = u; place = p }) → SeesTo x t s v (IsUseBefore uses i) users asked users1 asked1 → SeesTo x t s v (λ k place. (k ≡ u) × (place ≡ p)) users1 asked1 users2 asked2 → SeesTo x t s v (IsUseBefore uses (i + 1)) users asked users2 asked2
+  uses_next s v uses i u p users asked users1 asked1 users2 asked2 at before one = sees_more s v (IsUseBefore uses i) (λ k place. (k ≡ u) × (place ≡ p)) (IsUseBefore uses (i + 1)) users asked users1 asked1 users2 asked2 before one
+      (λ k place. (
+        λ h. ⊎_elim
+            (λ b. let l = b.1 in (b.0, omega (arith, l), b.2))
+            (λ q. (i, omega arith, at ∙ ap (λ z. Some (record { user = z; place = p })) (sym q.0) ∙ ap (λ z. Some (record { user = k; place = z })) (sym q.1)))
+            h,
+        λ b. ⊎_elim (λ l. inl (b.0, l, b.2)) (λ e. inr (use_is (sym at ∙ ap (slice_get uses) (sym e) ∙ b.2))) (below_or b.0 i b.1),
+      ))
+
+  -- the same in other tables that say the same
+  module _ (s u : Tables) (facts : (v : ℕ) → fact_in u v ≡ fact_in s v) (reached : (b : ℕ) → reaches u b ≡ reaches s b) (blocks : (b : ℕ) → waits_block u b ≡ waits_block s b) (constants : known_constants u ≡ known_constants s) where
+    seen_then : (k : ℕ) → IsLookedAt t s k → IsLookedAt t u k
+    seen_then k l = looked_same t u s (λ b. sym (reached b)) (λ b. sym (blocks b)) k l
+
+    seen_before : (k : ℕ) → IsLookedAt t u k → IsLookedAt t s k
+    seen_before k l = looked_same t s u reached blocks k l
+
+    asked_then : (asked : List Demand) (o : Operation) (place v : ℕ) → IsAskedAt x t s asked o place v → IsAskedAt x t u asked o place v
+    asked_then asked o place v h = record {
+      no_fold = h.no_fold;
+      no_jump = h.no_jump;
+      below = λ now m a f. subst (AtMost (now.fact a)) (sym (facts v)) (h.below now (subst (λ c. MeetsAll c now asked) constants m) a f);
+    }
+
+    pub calls_then : (values users : List ℕ) (asked : List Demand) → AreCalls x t s values users asked → AreCalls x t u values users asked
+    calls_then values users asked c = record {
+      only = λ k i. let y = c.only k i in (seen_then k y.0, y.1);
+      seen = λ k place v o i is l at. ⊎_elim (λ j. inl j) (λ h. inr (asked_then asked o place v h)) (c.seen k place v o i is (seen_before k l) at);
+      owed = λ now all. subst (λ z. MeetsAll z now asked) (sym constants) (c.owed now (λ k place a v o i is l at none f. subst (AtMost (now.fact a)) (facts v) (all k place a v o i is (seen_then k l) at none f)));
+    }
+
+  -- one value more
+  calls_more : (s : Tables) (v : ℕ) (values users : List ℕ) (asked : List Demand) (users' : List ℕ) (asked' : List Demand) → AreCalls x t s values users asked → SeesTo x t s v (IsUseOf t v) users asked users' asked' → AreCalls x t s (v ∷ values) users' asked'
+  calls_more s v values users asked users' asked' c p = record {
+    only = λ k i. ⊎_elim (λ j. let y = c.only k j in (y.0, (y.1.0, inr y.1.1))) (λ y. (y.0, (v, inl refl))) (p.only k i);
+    seen = λ k place w o i is l at. ⊎_elim
+        (λ e. subst (λ z. In k users' ⊎ IsAskedAt x t s asked' o place z) (sym e) (p.seen k place o (subst (λ z. IsUseOf t z k place) e is) l at))
+        (λ j. ⊎_elim (λ h. inl (p.kept k h)) (λ h. inr (asked_more s asked asked' o place w p.more h)) (c.seen k place w o j is l at))
+        i;
+    owed = λ now all. p.owed now
+        (c.owed now (λ k place a w o i is l at none f. all k place a w o (inr i) is l at none f))
+        (λ k place a o is l at none f. all k place a v o (inl refl) is l at none f);
+  }
+
+  calls_none : (s : Tables) (users : List ℕ) (asked : List Demand) → users ≡ [] → asked ≡ [] → AreCalls x t s [] users asked
+  calls_none s users asked e n = record {
+    only = λ k i. absurd (subst (In k) e i);
+    seen = λ k place v o i is l at. absurd i;
+    owed = λ now all. subst (MeetsAll (known_constants s) now) (sym n) tt;
+  }
+
+  -- some values that waited were taken, and this is what they call for
+  pub record IsTaking (start now : Tables) (users : List ℕ) (asked : List Demand) (taken : ℕ) : Type 0 where
+    pub values : List ℕ
+    pub distinct : IsDistinct values
+    pub waited : (v : ℕ) → waits_value start v ≡ true ↔ (In v values ⊎ (waits_value now v ≡ true))
+    pub gone : (v : ℕ) → In v values → waits_value now v ≡ false
+    pub facts : (v : ℕ) → fact_in now v ≡ fact_in start v
+    pub reached : (b : ℕ) → reaches now b ≡ reaches start b
+    pub blocks : (b : ℕ) → waits_block now b ≡ waits_block start b
+    pub numbers : (b : ℕ) → is_numbered now b ≡ is_numbered start b
+    pub calls : AreCalls x t now values users asked
+    pub counted : taken ≡ length values
+    pub left : taken + left_values now ≡ left_values start
+    pub few : (taken ≡ 0) ⊎ (left_values start < 2 ^ 64)
+
+  pub taking_start : (s : Tables) (users : List ℕ) (asked : List Demand) → users ≡ [] → asked ≡ [] → IsTaking s s users asked 0
+  taking_start s users asked none nothing = record {
+    values = [];
+    distinct = tt;
+    waited = λ v. (λ w. inr w, λ w. ⊎_elim (λ z. absurd z) (λ x. x) w);
+    gone = λ v i. absurd i;
+    facts = λ v. refl;
+    reached = λ b. refl;
+    blocks = λ b. refl;
+    numbers = λ b. refl;
+    calls = calls_none s users asked none nothing;
+    counted = refl;
+    left = omega arith;
+    few = inl refl;
+  }
+
+  -- one value more is taken
+  module _ (start now next : Tables) (users : List ℕ) (asked : List Demand) (users' : List ℕ) (asked' : List Demand) (taken value : ℕ) (a : IsTaking start now users asked taken) (k : TakesValue value now next) where
+    pub small_left : left_values start < 2 ^ 64
+    small_left = ⊎_elim (λ none. let l = a.left in let f = k.few in omega (arith, l, f, none)) (λ f. f) a.few
+
+    pub taken_bound : taken + 1 < 2 ^ 128
+    taken_bound = let l = a.left in let f = small_left in let w = k.fewer in omega (arith, l, f, w)
+
+    or_still : (v : ℕ) → waits_value now v ≡ true → (v ≡ value) ⊎ (waits_value next v ≡ true)
+    or_still v w = by (nat_eq value v) refl
+      where
+        by : (q : Bool) → nat_eq value v ≡ q → (v ≡ value) ⊎ (waits_value next v ≡ true)
+        by true e = inl (sym (eqb-true value v e))
+        by false e = inr (k.values v ∙ ap (λ c. if c then false else waits_value now v) e ∙ w)
+
+    waited_now : (v : ℕ) → waits_value next v ≡ true → waits_value now v ≡ true
+    waited_now v w = by (nat_eq value v) refl
+      where
+        by : (q : Bool) → nat_eq value v ≡ q → waits_value now v ≡ true
+        by true e = absurd (true≢false (sym w ∙ k.values v ∙ ap (λ c. if c then false else waits_value now v) e))
+        by false e = sym (k.values v ∙ ap (λ c. if c then false else waits_value now v) e) ∙ w
+
+    gone_next : (v : ℕ) → waits_value now v ≡ false → waits_value next v ≡ false
+    gone_next v g = by (waits_value next v) refl
+      where
+        by : (q : Bool) → waits_value next v ≡ q → waits_value next v ≡ false
+        by true e = absurd (true≢false (sym (waited_now v e) ∙ g))
+        by false e = e
+
+    it_is_gone : waits_value next value ≡ false
+    it_is_gone = k.values value ∙ ap (λ c. if c then false else waits_value now value) (eq-eqb value value refl)
+
+    pub taking_next : SeesTo x t next value (IsUseOf t value) users asked users' asked' → IsTaking start next users' asked' (taken + 1)
+    taking_next added = record {
+      values = value ∷ a.values;
+      distinct = (λ i. true≢false (sym k.waited ∙ a.gone value i), a.distinct);
+      waited = λ v. (
+        λ w. ⊎_elim (λ i. inl (inr i)) (λ x. ⊎_elim (λ e. inl (inl e)) (λ y. inr y) (or_still v x)) ((a.waited v).0 w),
+        λ w. ⊎_elim (λ i. ⊎_elim (λ e. (a.waited v).1 (inr (subst (λ z. waits_value now z ≡ true) (sym e) k.waited))) (λ j. (a.waited v).1 (inl j)) i) (λ x. (a.waited v).1 (inr (waited_now v x))) w,
+      );
+      gone = λ v i. ⊎_elim (λ e. subst (λ z. waits_value next z ≡ false) (sym e) it_is_gone) (λ j. gone_next v (a.gone v j)) i;
+      facts = λ v. k.facts v ∙ a.facts v;
+      reached = λ b. k.reached b ∙ a.reached b;
+      blocks = λ b. k.blocks b ∙ a.blocks b;
+      numbers = λ b. k.numbers b ∙ a.numbers b;
+      calls = calls_more next value a.values users asked users' asked' (calls_then now next k.facts k.reached k.blocks k.constants a.values users asked a.calls) added;
+      counted = let c = a.counted in omega (arith, c);
+      left = let l = a.left in let f = k.fewer in omega (arith, l, f);
+      few = inr small_left;
+    }
+
+    pub fewer_left : left_values next < left_values now
+    fewer_left = let f = k.fewer in omega (arith, f)
+
+  -- none waits any more
+  pub taking_end : (start now last : Tables) (users : List ℕ) (asked : List Demand) (taken : ℕ) → IsTaking start now users asked taken → NoValueWaits now last → TakesUsers x t users asked start last taken
+  taking_end start now last users asked taken a n = record {
+    values = a.values;
+    takes = record {
+      distinct = a.distinct;
+      waited = λ v. (λ w. ⊎_elim (λ i. i) (λ x. absurd (true≢false (sym x ∙ n.1 v))) ((a.waited v).0 w), λ i. (a.waited v).1 (inl i));
+      values = λ v. n.0.values v ∙ n.1 v;
+      facts = λ v. n.0.facts v ∙ a.facts v;
+      reached = λ b. n.0.reached b ∙ a.reached b;
+      blocks = λ b. n.0.blocks b ∙ a.blocks b;
+      numbers = λ b. n.0.numbers b ∙ a.numbers b;
+    };
+    calls = calls_then now last n.0.facts n.0.reached n.0.blocks n.0.constants a.values users asked a.calls;
+    counted = a.counted;
+  }
+
+  -- what was taken from tables that say the same
+  pub takes_from : (s u s' : Tables) (users : List ℕ) (asked : List Demand) (taken : ℕ) → SaysSame s u → TakesUsers x t users asked u s' taken → TakesUsers x t users asked s s' taken
+  takes_from s u s' users asked taken same k = record {
+    values = k.values;
+    takes = record {
+      distinct = k.takes.distinct;
+      waited = λ v. (λ w. (k.takes.waited v).0 (same.values v ∙ w), λ i. sym (same.values v) ∙ (k.takes.waited v).1 i);
+      values = k.takes.values;
+      facts = λ v. k.takes.facts v ∙ same.facts v;
+      reached = λ b. k.takes.reached b ∙ same.reached b;
+      blocks = λ b. k.takes.blocks b ∙ same.blocks b;
+      numbers = λ b. k.takes.numbers b ∙ same.numbers b;
+    };
+    calls = k.calls;
+    counted = k.counted;
+  }
+
+-- all uses of a value
+pub uses_end : (x : Says) (v : View) (s : Tables) (value i : ℕ) (users : List ℕ) (asked : List Demand) (users' : List ℕ) (asked' : List Demand) → HaveUses v → length (uses_of v.value_uses value) ≤ i → SeesTo x v.tree s value (IsUseBefore x v.tree (uses_of v.value_uses value) i) users asked users' asked' → SeesTo x v.tree s value (IsUseOf v.tree value) users asked users' asked'
+uses_end x v s value i users asked users' asked' h all a = sees_more x v.tree s value (IsUseBefore x v.tree (uses_of v.value_uses value) i) (λ k place. ⊥) (IsUseOf v.tree value) users asked users' asked' users' asked' a (sees_none x v.tree s value (λ k place. ⊥) users' asked' (λ k place z. z))
+    (λ k place. (
+      λ b. ⊎_elim (λ y. h.value_uses.listed value y.0 (record { user = k; place = place }) y.2) (λ z. absurd z) b,
+      λ u.
+          let j = h.value_uses.complete k place value u in
+          let l = slice_get_within (uses_of v.value_uses value) j.0 (record { user = k; place = place }) j.1 in
+          inl (j.0, omega (arith, l, all), j.1),
+    ))
+
+-- what no operation reads has no uses
+pub none_reads : (x : Says) (t : Tree) (s : Tables) (w : IsTree t) (value : ℕ) (users : List ℕ) (asked : List Demand) → (IsDefined t value → ⊥) → SeesTo x t s value (IsUseOf t value) users asked users asked
+none_reads x t s w value users asked none = sees_none x t s value (IsUseOf t value) users asked (λ k place u. none (w.joined.operands k value (in_slice (operands_of t k) place value u)))
