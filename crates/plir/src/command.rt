@@ -133,8 +133,8 @@ fn run<'a>(alloc: Global) -> Result<Command<'a>, AllocError> {
 
 /// What `check` is about.
 static CHECK: &str = "\
-Looks whether a text is well linked and fit to run, but for dominance of uses, or tells the first thing \
-that keeps it from that, on standard error. Statuses: 0 where it is fit; 1 where memory was refused; 2 \
+Looks whether a text is well linked and fit to run, or tells one thing that keeps it from that, on \
+standard error. Statuses: 0 where it is fit; 1 where memory was refused; 2 \
 for words, files and texts that can't be used; 3 where it isn't fit";
 
 fn check<'a>(alloc: Global) -> Result<Command<'a>, AllocError> {

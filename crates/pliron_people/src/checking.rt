@@ -5,7 +5,7 @@ ghost use Rattle.pliron_people.specs.Checked.{IsFitText, IsUnfitText};
 
 use pliron_bench::Bench;
 use pliron_core::{Context, Operation, Ptr};
-use pliron_fit::{Misfit, find_plain_misfit as find_misfit};
+use pliron_fit::{Misfit, find_misfit};
 use pliron_laws::OptError;
 use pliron_notation::read_text;
 use pliron_show::{Mark, Source, marked, operation_places, place_of};
@@ -118,7 +118,7 @@ fn told(
 }
 
 /// What keeps the text's operation from being fit to run: `Some(None)` where nothing does, and `None` of an
-/// unreadable text. Errors: want of memory. Cost: reading, and that of `find_plain_misfit`.
+/// unreadable text. Errors: want of memory. Cost: reading, and that of `find_misfit`.
 pub fn check_text(alloc: Global, source: &Source) -> Result<Option<Option<String>>, OptError>
     ensures { IfOk result (λ found. IfSome found (λ wrong. MatchOption wrong IsFitText (λ told. IsUnfitText))) }
 {

@@ -144,7 +144,7 @@ pub fn compare(
 ///
 /// Statuses: 0 where nothing keeps it; 1 where memory was refused; 2 for an unreadable text; 3 where something does.
 /// With 1 and 2 nothing is to be written to the output. Errors: want of memory for what is told. Cost: reading, and
-/// that of `find_plain_misfit`.
+/// that of `find_misfit`.
 pub fn check(alloc: Global, source: &Source) -> Result<Outcome, AllocError>
     ensures { IfOk result (Ends IsFitText IsUnfitText) }
 {
