@@ -9,10 +9,38 @@ ghost use Rattle.pliron_sccp.specs.Propagated.{IsPropagated, IsPartlyPropagated}
 
 use crate::found::find;
 use crate::rewriting::rewrite;
-use pliron_core::{Context, IRRewriter, IRStatus, Operation, Ptr};
-use pliron_laws::{Dialect, OptError};
+use pliron_core::{Context, IRRewriter, IRStatus, Operation, Ptr, Rewriter};
+use pliron_laws::{Dialect, OptError, Room};
 use pliron_theory::HasFolding;
 use std::alloc::Global;
+
+/// As `sccp_counted`, with changes through this rewriter, after room is asked for each.
+///
+/// Asks that the operation stands and is well linked. Errors: as `sccp`. Cost: as `sccp`.
+#[doc(hidden)]
+pub fn sccp_through<D: Dialect, R: Rewriter + Room>(
+    alloc: Global,
+    op: Ptr<Operation>,
+    ctx: &mut Context,
+    rewriter: &mut R,
+) -> Result<(IRStatus, u128), OptError>
+    requires live { IsLive ctx.old.tree op }
+    requires linked { IsWellLinked D.meaning ctx.old.tree op }
+    ensures propagated { IfOk result (λ a. IsPropagated ⟦<D as HasFolding>⟧.folding D.accepts D.constant_head D.ConstFoldInterface.outcome
+        ctx.old.tree op ctx.new.tree a.1) }
+    ensures partly { OnErr result (IsPartlyPropagated ⟦<D as HasFolding>⟧.folding D.accepts D.constant_head D.ConstFoldInterface.outcome ctx.old.tree
+        op ctx.new.tree) }
+    ensures change { IsPassChange D.meaning ctx.old.tree ctx.new.tree op }
+    ensures tells { IfOk result (λ a. TellsChange (Some a.0) ctx.old.tree ctx.new.tree) }
+    ensures edges { KeepsEdges ctx.old.tree ctx.new.tree }
+    ensures links { (root : ℕ) → IsWellLinked D.meaning ctx.old.tree root → IsWellLinked D.meaning ctx.new.tree root }
+    ensures memory { IsOkUnless result OptError.Memory }
+{
+    ctx.well_formed();
+    let (found, pops) = find::<D>(alloc, op, ctx)?;
+    let status = rewrite::<D, R>(alloc, &found, ctx, rewriter)?;
+    Ok((status, pops))
+}
 
 /// Propagates constants inside the operation, as `sccp` does, and answers too how often its search took
 /// something from a worklist: with r blocks that are reached and, made in these, c constants and n values
@@ -36,11 +64,8 @@ pub fn sccp_counted<D: Dialect>(
     ensures links { (root : ℕ) → IsWellLinked D.meaning ctx.old.tree root → IsWellLinked D.meaning ctx.new.tree root }
     ensures memory { IsOkUnless result OptError.Memory }
 {
-    ctx.well_formed();
-    let (found, pops) = find::<D>(alloc, op, ctx)?;
     let mut rewriter = IRRewriter::new();
-    let status = rewrite::<D, IRRewriter>(alloc, &found, ctx, &mut rewriter)?;
-    Ok((status, pops))
+    sccp_through::<D, IRRewriter>(alloc, op, ctx, &mut rewriter)
 }
 
 /// Propagates constants inside the operation. Facts are searched on the tree as it stands, from no block

@@ -5,9 +5,10 @@ ghost use Rattle.pliron_laws.specs.Linked.{IsWellLinked};
 
 use super::cases::{HOSTILE, MADE, ROWS};
 use pliron_bench::Bench;
+use pliron_cases::listener::Counting;
 use pliron_core::{Context, IRStatus, Operation, Ptr};
 use pliron_notation::{print_text, read_text};
-use pliron_sccp::{sccp, sccp_counted};
+use pliron_sccp::{sccp, sccp_counted, sccp_through};
 use std::alloc::Global;
 use std::process::Abort;
 use std::test::Fail;
@@ -147,6 +148,45 @@ fn hostile(rt: &impl Abort, alloc: Global, line: &str) -> Result<(), Fail> {
 fn hostile_texts(rt: HostRuntime) -> Result<(), Fail> {
     for line in HOSTILE.lines() {
         hostile(&rt, rt.alloc(), line)?;
+    }
+    Ok(())
+}
+
+// All changes come through a rewriter that counts.
+fn room_in(rt: &impl Abort, alloc: Global, ctx: &mut Context, text: &str) -> Result<(), Fail> {
+    let Some(root) = read_text(alloc, text.as_bytes(), ctx)? else {
+        return Err(Fail::from("unreadable"));
+    };
+    let mut rewriter = Counting::new();
+    let (_, _) = sccp_through::<Bench, Counting>(alloc, root, ctx, &mut rewriter)?;
+    assert!(rt; rewriter.had_room(), "{text}");
+    Ok(())
+}
+
+fn has_room(rt: &impl Abort, alloc: Global, text: &str) -> Result<(), Fail> {
+    let mut ctx = Context::new(alloc);
+    room_in(rt, alloc, &mut ctx, text)
+}
+
+fn have_room(rt: &impl Abort, alloc: Global, cases: &str) -> Result<(), Fail> {
+    for line in cases.lines() {
+        has_room(rt, alloc, read_case(line)?.text)?;
+    }
+    Ok(())
+}
+
+#[test]
+fn each_change_has_room(rt: HostRuntime) -> Result<(), Fail> {
+    have_room(&rt, rt.alloc(), ROWS)?;
+    have_room(&rt, rt.alloc(), MADE)?;
+    for line in HOSTILE.lines() {
+        let Some((before, _)) = line.split_once(" => ") else {
+            return Err(Fail::from("no arrow"));
+        };
+        let Some((_, text)) = before.split_once(" ") else {
+            return Err(Fail::from("no answer"));
+        };
+        has_room(&rt, rt.alloc(), text)?;
     }
     Ok(())
 }
