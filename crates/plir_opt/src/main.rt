@@ -13,7 +13,11 @@ use std::process::ExitCode;
 fn words(alloc: Global, rt: &HostRuntime) -> io::Result<Vec<String>> {
     let mut args = env::args(rt)?;
     let _ = args.next();
-    Ok(args.collect(alloc)?)
+    let mut words = Vec::new(alloc);
+    for word in args {
+        words.push(word)?;
+    }
+    Ok(words)
 }
 
 fn main(rt: HostRuntime) -> ExitCode {

@@ -1,4 +1,4 @@
-//! The kinds of operations, their numbers and words.
+//! The kinds of operations.
 
 /// The kind of an operation.
 #[derive(Clone, Copy, Debug, PartialEq, Eq)]

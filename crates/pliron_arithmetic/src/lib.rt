@@ -6,6 +6,7 @@
 mod kind;
 mod moves;
 mod tables;
+mod words;
 
 pub use kind::ArithmeticKind;
 use pliron_dialects::ByKinds;

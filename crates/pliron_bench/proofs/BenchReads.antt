@@ -1,6 +1,6 @@
 -- What the functions of the dialect read of an operation.
-use Rattle.pliron_core.proofs.GrownLemmas.{range_more}
-use Rattle.std.proofs.Common.{◌≡◌, ℕ, zero, suc, ◌+◌, ◌≤◌, Bool, true, false, IsSome, List, [], ◌∷◌, ◌++◌, Option, Some, None, length, map, IsTrue, refl, ap, sym, ◌∙◌, subst, arith}
+use Rattle.pliron_core.proofs.GrownLemmas.{range_at, range_get, range_more}
+use Rattle.std.proofs.Common.{◌≡◌, ℕ, zero, suc, ◌+◌, ◌<◌, ◌≤◌, Bool, true, false, IsSome, List, [], ◌∷◌, ◌++◌, Option, Some, None, length, map, IsTrue, refl, ap, sym, ◌∙◌, subst, arith}
 use Rattle.std.specs.List.{slice_get, range_with_len}
 use Rattle.std.specs.Option.{option_map}
 use Rattle.std.proofs.lemmas.List.{length-map}
@@ -16,7 +16,7 @@ use Rattle.pliron_bench.specs.declared.kind.BenchKind.TheVariants.{Const, Add, M
 use Rattle.pliron_laws.specs.Datum.{Head, Shape}
 use Rattle.pliron_laws.specs.Tree.{Operation, op_at, op_with, shape_of}
 use Rattle.pliron_laws.specs.Acting.{pick}
-use Rattle.pliron_laws.specs.Answers.{AreForwarded, IsForwardedAt, ReadsHead, ReadsShape, ReadsEdges, HeadPasses}
+use Rattle.pliron_laws.specs.Answers.{AreForwarded, IsForwardedAt, IsForwardedOnce, ReadsHead, ReadsShape, ReadsEdges, HeadPasses}
 use Rattle.pliron_bench.specs.Bench.{by_kind, kind_of}
 use Rattle.pliron_bench.specs.BenchNumbers.{known_at}
 use Rattle.pliron_bench.specs.BenchMoves.{bench, places_in, no_places_in, places_of, no_places}
@@ -84,6 +84,26 @@ forwarded_read t op i places values f g = λ o at. g ∙ picked_same t op i plac
 
 pub forwarded_at_read : (t : Tree) (op i j : ℕ) (places : List ℕ) (value : Option ℕ) → ReadsHead (λ h. by_kind no_places_in places_in (kind_of h.kind) h.attrs (length (operands_of t op)) i) t op places → option_map Some value ≡ slice_get (pick places (operands_of t op)) j → IsForwardedAt bench t op i j value
 forwarded_at_read t op i j places value f g = λ o at. g ∙ ap (λ z. slice_get z j) (picked_same t op i places o f at)
+
+places_are : (t : Tree) (op i : ℕ) (places : List ℕ) (o : Operation) → ReadsHead (λ h. by_kind no_places_in places_in (kind_of h.kind) h.attrs (length (operands_of t op)) i) t op places → op_at t op ≡ Some o → places ≡ bench.forwarded (shape_of bench t o) i
+unfolding bench shape_of
+places_are t op i places o f at =
+    f o.head (head_at t op o at) ∙ ap (λ z. by_kind no_places_in places_in (kind_of o.head.kind) o.head.attrs (length z) i) (sym (operands_at t op o at)) ∙ sym (places_same (kind_of o.head.kind) (shape_of bench t o) i)
+
+-- where there is one edge, an operand among its places is forwarded there alone
+pub forwarded_once : (t : Tree) (op place index first count : ℕ) → ReadsHead (λ h. by_kind no_places_in places_in (kind_of h.kind) h.attrs (length (operands_of t op)) 0) t op (range_with_len first count) → length (successors_of t op) ≡ 1 → place ≡ first + index → index < count → IsForwardedOnce bench t op place 0 index
+forwarded_once t op place index first count f one e lt = record {
+  edge = omega (arith, one);
+  there = λ o at. ap (λ z. slice_get z index) (sym (are o at)) ∙ range_get first count index lt ∙ ap Some (sym e);
+  alone = λ o at k l less is.
+      let size : length o.successors ≡ 1 = ap length (successors_with t op o at) ∙ one in
+      let zero_edge : k ≡ 0 = omega (arith, less, size) in
+      let r = range_at first count l place (ap (λ z. slice_get z l) (are o at) ∙ ap (λ z. slice_get (bench.forwarded (shape_of bench t o) z) l) (sym zero_edge) ∙ is) in
+      (zero_edge, omega (arith, r.0, e));
+}
+  where
+    are : (o : Operation) → op_at t op ≡ Some o → range_with_len first count ≡ bench.forwarded (shape_of bench t o) 0
+    are o at = places_are t op 0 (range_with_len first count) o f at
 
 -- past the last of places in a row there is none
 pub picked_past : (xs : List ℕ) (first count j : ℕ) → count ≤ j → slice_get (pick (range_with_len first count) xs) j ≡ None

@@ -13,7 +13,7 @@ ghost use Rattle.pliron_bench.specs.BenchInPlace.{bench_in_place};
 use crate::folds::{answer_of, makes_constant, one_answer};
 use crate::heads::attribute_head;
 use crate::jumps::{
-    all_successors, only_successor, operand_among, operands_at, places_at, shorten,
+    all_successors, only_successor, operand_among, operands_at, place_among, places_at, shorten,
 };
 use crate::kind::BenchKind;
 use crate::numbers::{edge_of, is_number, known_number};
@@ -345,6 +345,15 @@ impl Dialect for Bench {
     ) -> Result<Option<Value>, OptError> {
         let places = places_at(op, ctx, i);
         Ok(operand_among(op, ctx, places, j))
+    }
+
+    /// Of a `br` alone. Cost: constant.
+    fn forwarded_from(op: Ptr<Operation>, ctx: &Context, place: usize) -> Option<(usize, usize)> {
+        if op.num_successor(ctx) != 1 {
+            return None;
+        }
+        let index = place_among(places_at(op, ctx, 0), place)?;
+        Some((0, index))
     }
 
     /// A `cbr` that lost a value of its first edge counts one fewer there. Cost: that of `remove_operand`.

@@ -1,5 +1,5 @@
 //! The edges of branches.
-ghost use Rattle.std.specs.Prelude.{pos, ◌≡◌, ℕ, ◌+◌, ◌-◌, ◌<◌, ◌≤◌, min, map, length, IfOk, Some, slice_get};
+ghost use Rattle.std.specs.Prelude.{pos, ◌≡◌, ℕ, ◌+◌, ◌-◌, ◌<◌, ◌≤◌, min, map, length, IfOk, IfSome, Some, slice_get};
 ghost use Rattle.std.specs.List.{range_with_len};
 ghost use Rattle.std.specs.Option.{option_map};
 ghost use Rattle.pliron_core.specs.declared.attrs.AttrObj.TheVariants.{Int};
@@ -122,6 +122,21 @@ pub fn operand_among(op: Ptr<Operation>, ctx: &Context, places: Places, j: usize
 {
     if j < places.count {
         Some(op.get_operand(ctx, places.first + j))
+    } else {
+        None
+    }
+}
+
+/// Which of these places in a row this one is, if it is one. Cost: constant.
+pub fn place_among(places: Places, place: usize) -> Option<usize>
+    ensures { IfSome result (λ j. (place ≡ places.first + j) × (j < places.count)) }
+{
+    if place < places.first {
+        return None;
+    }
+    let index = place - places.first;
+    if index < places.count {
+        Some(index)
     } else {
         None
     }

@@ -6,7 +6,8 @@
 ghost use Rattle.std.specs.Prelude.{◌≡◌, Some};
 ghost use Rattle.pliron_core.specs.Tree.{IsLive, IsBlock, IsDefined, block_holder_of};
 
-use super::cases::{DEFINED, HOSTILE, ROWS};
+use super::cases::{DEFINED, ROWS};
+use super::hostile::HOSTILE;
 use pliron_bench::Bench;
 use pliron_core::{BasicBlock, Context, Def, Operation, Ptr, Value};
 use pliron_dce::dce;

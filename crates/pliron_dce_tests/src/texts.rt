@@ -3,7 +3,8 @@ ghost use Rattle.pliron_bench.specs.BenchMoves.{bench};
 ghost use Rattle.pliron_core.specs.Tree.{IsLive};
 ghost use Rattle.pliron_laws.specs.Linked.{IsWellLinked};
 
-use super::cases::{DEFINED, HOSTILE, ROWS};
+use super::cases::{DEFINED, ROWS};
+use super::hostile::HOSTILE;
 use pliron_bench::Bench;
 use pliron_cases::cases::operation_at;
 use pliron_core::{Context, IRStatus, Operation, Ptr};

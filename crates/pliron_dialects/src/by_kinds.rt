@@ -15,7 +15,7 @@ use crate::heads::attribute_head;
 use crate::kinds::Kinds;
 use crate::numbers::{edge_of, is_number, known_number};
 use crate::places::{
-    all_successors, only_successor, operand_among, operands_at, places_at, shorten,
+    all_successors, only_successor, operand_among, operands_at, place_among, places_at, shorten,
 };
 use crate::replace::jump_in_place;
 use crate::tables::{begins_region, form_at, kind_at};
@@ -324,6 +324,15 @@ impl<K: Kinds> Dialect for ByKinds<K> {
     ) -> Result<Option<Value>, OptError> {
         let places = places_at::<K>(op, ctx, i);
         Ok(operand_among(op, ctx, places, j))
+    }
+
+    /// Of a jump alone. Cost: constant.
+    fn forwarded_from(op: Ptr<Operation>, ctx: &Context, place: usize) -> Option<(usize, usize)> {
+        if op.num_successor(ctx) != 1 {
+            return None;
+        }
+        let index = place_among(places_at::<K>(op, ctx, 0), place)?;
+        Some((0, index))
     }
 
     /// A branch that lost a value of its first edge counts one fewer there. Cost: that of `remove_operand`.

@@ -1,5 +1,12 @@
-//! Tests of `pliron_dominance`: all small graphs against dominance by removal. It has no function of its own.
+//! Tests of `pliron_dominance`: worked graphs, all small graphs against dominance by removal, shapes and
+//! reverse graphs. It has no function of its own.
 #![tactic(auto)]
 
 #[cfg(test)]
+mod cases;
+#[cfg(test)]
 mod removal;
+#[cfg(test)]
+mod shapes;
+#[cfg(test)]
+mod worked;

@@ -56,6 +56,12 @@ AreForwarded m t op i values = (o : Operation) → op_at t op ≡ Some o → map
 abbrev pub IsForwardedAt : Meaning → Tree → (op i j : ℕ) → Option ℕ → Type 0
 IsForwardedAt m t op i j value = (o : Operation) → op_at t op ≡ Some o → option_map Some value ≡ slice_get (pick (m.forwarded (shape_of m t o) i) o.operands) j
 
+-- the branch forwards its operand at this place at place j of the edge with index i, and nowhere else
+pub record IsForwardedOnce (m : Meaning) (t : Tree) (op place i j : ℕ) : Type 0 where
+  pub edge : i < length (successors_of t op)
+  pub there : (o : Operation) → op_at t op ≡ Some o → slice_get (m.forwarded (shape_of m t o) i) j ≡ Some place
+  pub alone : (o : Operation) → op_at t op ≡ Some o → (k l : ℕ) → k < length o.successors → slice_get (m.forwarded (shape_of m t o) k) l ≡ Some place → (k ≡ i) × (l ≡ j)
+
 -- the edge with index i of the branch has a place j
 abbrev pub HasPlace : Meaning → Tree → (op i j : ℕ) → Type 0
 HasPlace m t op i j = (o : Operation) → op_at t op ≡ Some o → (p : ℕ) × (slice_get (m.forwarded (shape_of m t o) i) j ≡ Some p) × (p < length o.operands)

@@ -15,7 +15,7 @@
 //! and places, and an operation that is still admitted; what the folds in place leave is made of
 //! such operations, put before others, of other operands, and of a branch put in the place of one, with
 //! successors that the old one had.
-ghost use Rattle.std.specs.Prelude.{◌≡◌, ◌<◌, ◌≤◌, ℕ, Bool, List, Option, Some, IfOk, OnErr, IsTrue, IsSome, length, IsOkUnless};
+ghost use Rattle.std.specs.Prelude.{◌≡◌, ◌<◌, ◌≤◌, ℕ, Bool, List, Option, Some, IfOk, IfSome, OnErr, IsTrue, IsSome, length, IsOkUnless};
 ghost use Rattle.pliron_core.specs.declared.attrs.AttrObj.{AttrObj as Attribute};
 ghost use Rattle.pliron_core.specs.declared.rewriter.OpInsertionPoint.TheVariants.{BeforeOperation};
 ghost use Rattle.std.specs.Prelude.{Result as ResultOf};
@@ -25,7 +25,7 @@ ghost use Rattle.pliron_laws.specs.Datum.{Head, Shape, Meaning};
 ghost use Rattle.pliron_laws.specs.Folding.{Constants, Feasible, AnswersTrue, AnswersJumps, MakesConstants};
 ghost use Rattle.pliron_laws.specs.Laws.{KeepsCounts, GivesAtOnce, ForwardsOperands, ActsWithoutArgument};
 ghost use Rattle.pliron_laws.specs.InPlace.{Outcome, FoldsInPlace, PassSameTests, materialising};
-ghost use Rattle.pliron_laws.specs.Answers.{ReadsHead, ReadsCounts, ReadsShape, ReadsEdges, ReadsPlace, HeadPasses, AreForwarded, IsForwardedAt, HasPlace, LosesForwarded, IsMaterialised};
+ghost use Rattle.pliron_laws.specs.Answers.{ReadsHead, ReadsCounts, ReadsShape, ReadsEdges, ReadsPlace, HeadPasses, AreForwarded, IsForwardedAt, IsForwardedOnce, HasPlace, LosesForwarded, IsMaterialised};
 ghost use Rattle.pliron_laws.specs.declared.dialect.Interface.{Interface as InterfaceName};
 
 use crate::fault::OptError;
@@ -376,6 +376,18 @@ pub trait Dialect: SideEffects + BlockArgRemoval + ConstFoldInterface + BranchOp
     {
         let values = Self::successor_operands(alloc, op, ctx, i)?;
         Ok(values.get(j).copied())
+    }
+
+    /// Where the branch forwards its operand at this place: the edge, and the place there. `None` says
+    /// nothing. Asks that it is a branch.
+    ///
+    /// Cost: constant. This body answers `None`; a dialect that can tell in one step writes its own.
+    fn forwarded_from(_op: Ptr<Operation>, _ctx: &Context, _place: usize) -> Option<(usize, usize)>
+        requires live { IsLive _ctx.now.tree _op }
+        requires branch { HeadPasses Self.meaning.is_branch _ctx.now.tree _op }
+        ensures { IfSome result (λ at. IsForwardedOnce Self.meaning _ctx.now.tree _op _place at.0 at.1) }
+    {
+        None
     }
 
     /// Takes out the operand that the branch forwards at place `j` of its edge `i`, and answers it.

@@ -1,7 +1,8 @@
--- What the bench notation reads.
+-- What notations read.
 use Rattle.std.specs.Prelude.{ℕ, List, ⊤}
 use Rattle.pliron_core.specs.Tree.{Tree}
 use Rattle.pliron_core.specs.Writes.{no_tree}
+use Rattle.pliron_laws.specs.Datum.{Meaning}
 use Rattle.pliron_laws.specs.Linked.{IsWellLinked}
 use Rattle.pliron_bench.specs.BenchMoves.{bench}
 use Rattle.pliron_notation.specs.Building.{IsGrown}
@@ -13,3 +14,11 @@ ReadsBench text tree root = IsGrown no_tree tree root × IsWellLinked bench tree
 -- how it is printed is open
 abbrev pub PrintsBench : Tree → ℕ → List ℕ → Type 0
 PrintsBench tree root text = ⊤
+
+-- the tree is well linked at the operation; which one the text says is open
+abbrev pub ReadsKinds : Meaning → List ℕ → Tree → ℕ → Type 0
+ReadsKinds m text tree root = IsWellLinked m tree root
+
+-- how it is printed is open
+abbrev pub PrintsKinds : Tree → ℕ → List ℕ → Type 0
+PrintsKinds tree root text = ⊤

@@ -13,11 +13,13 @@ ghost use Rattle.pliron_opts.specs.Ran.{RunsAlone};
 ghost use Rattle.pliron_opts.specs.Read.{ReadsBench, PrintsBench};
 
 mod graph;
+mod host;
 mod optimise;
 mod program;
 
 use graph::described;
-pub use optimise::{BenchNotation, Notation};
+pub use host::optimise_host;
+pub use optimise::{BenchNotation, KindNotation, Notation};
 use optimise::{Command, asked, optimised};
 use pliron_bench::Bench;
 pub use pliron_cfg::{

@@ -5,4 +5,4 @@ mod notation;
 
 pub use answer::optimised;
 pub use command::{Command, asked};
-pub use notation::{BenchNotation, Notation};
+pub use notation::{BenchNotation, KindNotation, Notation};

@@ -1,5 +1,6 @@
 //! Texts of graphs.
 use crate::texts::{Case, expect_run, with_lines};
+use pliron_opts::plir_run;
 use std::alloc::Global;
 use std::process::Abort;
 
@@ -47,6 +48,75 @@ fn worked_graphs(rt: HostRuntime) {
         let (text, written) = case.split_once(" => ").expect(&rt, "a case");
         expect_graph(&rt, rt.alloc(), text, 0, written, "");
     }
+}
+
+/// The last node of a long chain.
+const LAST: u32 = 65_535;
+
+/// A chain of nodes from 0 on.
+fn chain(rt: &impl Abort, alloc: Global) -> String {
+    let mut text = String::new(alloc);
+    for node in 0..LAST {
+        let next = node.saturating_add(1);
+        write!(text, "{node}: {next}|").expect(rt, "memory");
+    }
+    write!(text, "{LAST}:").expect(rt, "memory");
+    text
+}
+
+/// Adds both orders of the chain, which are one walk and its reverse.
+fn push_orders(rt: &impl Abort, written: &mut String) {
+    write!(written, "post-order: [{LAST}").expect(rt, "memory");
+    for before in 0..LAST {
+        let node = (LAST - 1).saturating_sub(before);
+        write!(written, " {node}").expect(rt, "memory");
+    }
+    write!(written, "]|topological: [0").expect(rt, "memory");
+    for before in 0..LAST {
+        let node = before.saturating_add(1);
+        write!(written, " {node}").expect(rt, "memory");
+    }
+    write!(written, "]|").expect(rt, "memory");
+}
+
+/// Adds the numbers of the search, and the edges.
+fn push_search(rt: &impl Abort, written: &mut String) {
+    write!(written, "numbers:").expect(rt, "memory");
+    for node in 0..65_536u32 {
+        let post = LAST.saturating_sub(node);
+        write!(written, " {node}={node}/{post}").expect(rt, "memory");
+    }
+    write!(written, "|edges:").expect(rt, "memory");
+    for node in 0..LAST {
+        let next = node.saturating_add(1);
+        write!(written, " {node}>{next}:Forward").expect(rt, "memory");
+    }
+}
+
+#[test]
+fn a_long_chain(rt: HostRuntime) {
+    let alloc = rt.alloc();
+    let text = chain(&rt, alloc);
+    let mut written = String::new(alloc);
+    push_orders(&rt, &mut written);
+    push_search(&rt, &mut written);
+    write!(written, "|components:").expect(&rt, "memory");
+    for node in 0..65_536u32 {
+        write!(written, " [{node}]").expect(&rt, "memory");
+    }
+    write!(written, "|pre-sentinels: {LAST}|").expect(&rt, "memory");
+    let bytes = with_lines(&rt, alloc, &text);
+    let mut words = Vec::new(alloc);
+    words
+        .push(String::from_str(alloc, "graph").expect(&rt, "memory"))
+        .expect(&rt, "memory");
+    let mut input = bytes.as_slice();
+    let mut output: Vec<u8> = Vec::new(alloc);
+    let mut errors: Vec<u8> = Vec::new(alloc);
+    let status = plir_run(alloc, &words, &mut input, &mut output, &mut errors);
+    assert_eq!(rt; status, 0);
+    assert!(rt; output == with_lines(&rt, alloc, &written));
+    assert!(rt; errors.is_empty());
 }
 
 /// Texts that cannot be read, one a line.

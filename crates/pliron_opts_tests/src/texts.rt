@@ -366,13 +366,15 @@ fn failing_streams(rt: HostRuntime) {
     let text = b"func { b0(): a = const 1; ret a }";
     let printed = "func { b0(): v0 = const 1; ret v0 }|unchanged|";
     let mut case = propagation(text);
-    for kth in [1u32, 2, 4] {
+    // 33 bytes come by five reads, and a sixth says that none is left.
+    for kth in 1..7u32 {
         case.failing_read = kth;
         expect_run(&rt, rt.alloc(), &case, 2, "", "cannot read standard input|");
     }
-    case.failing_read = 1000;
+    case.failing_read = 7;
     expect_run(&rt, rt.alloc(), &case, 0, printed, "");
-    for (kth, written) in [(1u32, ""), (2, "func { b"), (3, "func { b0(): v0 ")] {
+    // 46 bytes go by six writes, of eight each but the last.
+    for (kth, written) in (1u32..).zip(WRITTEN.lines()) {
         case.failing_write = kth;
         expect_run(
             &rt,
@@ -383,7 +385,17 @@ fn failing_streams(rt: HostRuntime) {
             "cannot write standard output|",
         );
     }
+    case.failing_write = 7;
+    expect_run(&rt, rt.alloc(), &case, 0, printed, "");
 }
+
+/// What was written before each write that fails, one a line. The first is empty.
+static WRITTEN: &str = "
+func { b
+func { b0(): v0\x20
+func { b0(): v0 = const\x20
+func { b0(): v0 = const 1; ret v
+func { b0(): v0 = const 1; ret v0 }|unch";
 
 #[test]
 fn a_failed_report_is_ignored(rt: HostRuntime) {

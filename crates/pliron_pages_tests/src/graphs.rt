@@ -1,10 +1,11 @@
-//! docs/GRAPHS.md: orders, searches, components and the reverse of a graph, and a graph of one's own.
+//! docs/GRAPHS.md: orders, searches, components, the reverse and dominance of a graph, and a graph of one's own.
 ghost use Rattle.std.specs.Prelude.{IfOk, IfSome};
 ghost use Rattle.pliron_search.specs.Adjacency.{AreInverse, graph_of};
 ghost use Rattle.pliron_search.specs.AdjacencyLaws.{adjacency_lawful};
 
+use pliron_dominance::DominatorTree;
 use pliron_graph::{
-    AdjacencyList, ControlFlowGraph, DFSTraversal, ReverseGraph, post_order,
+    AdjacencyList, ControlFlowGraph, DFSTraversal, ReverseGraph, ReverseNode, post_order,
     sccs_in_topological_order, topological_order,
 };
 use pliron_laws::OptError;
@@ -66,6 +67,25 @@ fn reverse(alloc: Global, graph: &AdjacencyList) -> Result<String, OptError>
     let exits: Vec<u32> = reverse.pre_sentinels().collect(alloc)?;
     let order = topological_order(alloc, &(), &reverse)?;
     Ok(format!(in alloc; "{exits:?} {order:?}")?)
+}
+
+fn dominance(alloc: Global, graph: &AdjacencyList) -> Result<String, OptError>
+    requires { AreInverse graph.now }
+{
+    let tree = DominatorTree::new(alloc, &(), graph)?;
+    let said = (tree.dominates(&3, &4), tree.dominates(&1, &3));
+    Ok(format!(in alloc; "{said:?}")?)
+}
+
+fn post_dominance(alloc: Global, graph: &AdjacencyList) -> Result<String, OptError>
+    requires { AreInverse graph.now }
+{
+    let reverse = ReverseGraph::new(alloc, &(), graph)?;
+    let tree = DominatorTree::new(alloc, &(), &reverse)?;
+    let first = ReverseNode::Real(0);
+    let by_three = tree.dominates(&ReverseNode::Real(3), &first);
+    let by_one = tree.dominates(&ReverseNode::Real(1), &first);
+    Ok(format!(in alloc; "{by_three} {by_one}")?)
 }
 
 /// Which function calls which.
@@ -134,6 +154,8 @@ fn answers(rt: HostRuntime) {
     check(&rt, components(alloc, &graph), want);
     let want = "[4] [Sentinel, Real(4), Real(3), Real(2), Real(1), Real(0)]";
     check(&rt, reverse(alloc, &graph), want);
+    check(&rt, dominance(alloc, &graph), "(true, false)");
+    check(&rt, post_dominance(alloc, &graph), "true false");
     let calls = CallGraph { calls: graph };
     let order = callees_first(alloc, &calls).expect(&rt, "memory");
     assert!(rt; order.first() == Some(&4));

@@ -5,6 +5,8 @@
 #[cfg(test)]
 mod graphs;
 #[cfg(test)]
+mod inner;
+#[cfg(test)]
 mod passes;
 #[cfg(test)]
 mod trees;

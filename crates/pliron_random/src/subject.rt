@@ -62,8 +62,13 @@ fn whole(alloc: Global, mut dice: Dice, kind: Kind) -> Result<(Dice, String), Al
     let more = dice.below(3);
     let (mut dice, first) = function(alloc, dice, is_hostile)?;
     text.push_str(&first)?;
+    let mut block: u64 = 0;
     for _ in 0..more {
-        text.push_str(if dice.once_in(4) { "; b1(): " } else { "; " })?;
+        text.push_str("; ")?;
+        if dice.once_in(4) {
+            block = block.saturating_add(1);
+            write!(text, "b{block}(): ").map_err(|_| AllocError)?;
+        }
         let (rest, next) = function(alloc, dice, is_hostile)?;
         text.push_str(&next)?;
         dice = rest;

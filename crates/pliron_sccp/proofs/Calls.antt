@@ -8,13 +8,14 @@ use Rattle.pliron_core.specs.Lists.{In, IsDistinct}
 use Rattle.pliron_core.specs.Tree.{Tree, View, IsDefined, IsLive, operands_of, uses_of, successors_of, arguments_of}
 use Rattle.pliron_core.specs.Joined.{IsTree, HaveUses}
 use Rattle.pliron_core.proofs.HoldingLemmas.{some_is, some_of, in_slice}
+use Rattle.pliron_laws.specs.Answers.{IsForwardedOnce}
 use Rattle.pliron_laws.specs.Tree.{Operation, op_at}
 use Rattle.pliron_laws.proofs.Records.{make_op, op_shows}
 use Rattle.pliron_theory.specs.Facts.{AtMost, Facts, Says}
 use Rattle.pliron_sccp.specs.declared.demands.Demand.{Demand}
 use Rattle.pliron_sccp.specs.declared.facts.Tables.{Tables}
 use Rattle.pliron_sccp.specs.Demands.{Adds, MeetsAll}
-use Rattle.pliron_sccp.specs.Looking.{AddsEach, AreCalls, IsAskedAt, IsForwardedOnce, IsLookedAt, IsUseOf, SeesTo, TakesUsers}
+use Rattle.pliron_sccp.specs.Looking.{AddsEach, AreCalls, IsAskedAt, IsLookedAt, IsUseOf, SeesTo, TakesUsers}
 use Rattle.pliron_sccp.specs.Tables.{known_constants, fact_in, is_numbered, left_values, reaches, waits_block, waits_value, NoValueWaits, SaysSame, TakesValue}
 
 -- what is looked at in one table is in another that says the same of blocks
@@ -95,8 +96,8 @@ module _ (x : Says) (t : Tree) where
       abbrev pub AsksOne : (edge index : ℕ) → Facts → Type 0
       AsksOne edge index now = (b a : ℕ) → slice_get (successors_of t op) edge ≡ Some b → slice_get (arguments_of t b) index ≡ Some a → AtMost (now.fact a) (fact_in s v)
 
-      pub use_asked : (asked' : List Demand) (edge index : ℕ) → IsLive t op → IsLookedAt t s op → ((o : Operation) → op_at t op ≡ Some o → (x.can_fold o.head ≡ false) × (x.can_fold_branch o.head ≡ false) × IsTrue (x.meaning.is_branch o.head) × IsForwardedOnce x.meaning t o place edge index) → Adds (known_constants s) asked asked' (λ now. AsksOne edge index now) → SeesTo x t s v IsIt users asked users asked'
-      use_asked asked' edge index live l one adds = record {
+      pub use_asked : (asked' : List Demand) (edge index : ℕ) → IsLive t op → IsLookedAt t s op → ((o : Operation) → op_at t op ≡ Some o → (x.can_fold o.head ≡ false) × (x.can_fold_branch o.head ≡ false) × IsTrue (x.meaning.is_branch o.head)) → IsForwardedOnce x.meaning t op place edge index → Adds (known_constants s) asked asked' (λ now. AsksOne edge index now) → SeesTo x t s v IsIt users asked users asked'
+      use_asked asked' edge index live l one once adds = record {
         kept = λ k i. i;
         more = λ now m. ((adds now).0 m).0;
         only = λ k i. inl i;
@@ -110,7 +111,7 @@ module _ (x : Says) (t : Tree) where
             index = index;
             successor = ap (λ z. slice_get z edge) (sym (op_shows t op o.0 o.1).successors) ∙ goes;
             is_argument = is;
-            forwards = (one o.0 o.1).3.there;
+            forwards = once.there o.0 o.1;
           }),
         );
       }
@@ -123,7 +124,7 @@ module _ (x : Says) (t : Tree) where
             no_fold = (one o at).0;
             no_jump = (one o at).1;
             below = λ now m a f.
-                let same = (one o at).3.alone f.edge f.index (slice_get_within o.successors f.edge f.block f.successor) (f.forwards ∙ ap (λ z. Some z) e) in
+                let same = once.alone o at f.edge f.index (slice_get_within o.successors f.edge f.block f.successor) (f.forwards ∙ ap (λ z. Some z) e) in
                 ((adds now).0 m).1 f.block a
                 (ap (λ z. slice_get z edge) (op_shows t op o at).successors ∙ ap (slice_get o.successors) (sym same.0) ∙ f.successor)
                 (ap (slice_get (arguments_of t f.block)) (sym same.1) ∙ f.is_argument);

@@ -1,7 +1,7 @@
 -- What was looked at, and what that did to the tables of the search for facts.
-use Rattle.std.specs.Prelude.{◌≡◌, ◌<◌, ◌↔◌, ◌⊎◌, ℕ, true, false, List, [], ◌∷◌, Some, None, length, slice_get, IsTrue}
+use Rattle.std.specs.Prelude.{◌≡◌, ◌↔◌, ◌⊎◌, ℕ, Bool, true, false, List, [], ◌∷◌, Some, None, length, slice_get, IsTrue}
 use Rattle.pliron_core.specs.Tree.{Tree, In, IsDistinct, arguments_of, first_of, layout_of, operands_of, parent_of, regions_of, successors_of}
-use Rattle.pliron_laws.specs.Datum.{Meaning}
+use Rattle.pliron_laws.specs.Answers.{IsForwardedOnce}
 use Rattle.pliron_laws.specs.Tree.{Operation, op_at, shape_of}
 use Rattle.pliron_theory.specs.Facts.{AtMost, Facts, Says}
 use Rattle.pliron_sccp.specs.declared.demands.Demand.{Demand}
@@ -11,6 +11,10 @@ use Rattle.pliron_sccp.specs.declared.search.Call.TheVariants.{Pass, Look, Ask}
 use Rattle.pliron_sccp.specs.Tables.{known_constants, is_numbered, fact_in, reaches, waits_block, waits_value, facts_of}
 use Rattle.pliron_sccp.specs.Demands.{Asks, MeetsAll}
 use Rattle.pliron_sccp.specs.Falling.{IsApplied}
+
+abbrev pub either : Bool → Bool → Bool
+either true b = true
+either false b = b
 
 -- one operation was looked at: what it asks of the facts before is met, and nothing else was done
 pub record LooksAt (x : Says) (t : Tree) (k : ℕ) (s s' : Tables) : Type 0 where
@@ -64,17 +68,12 @@ pub record Forwarded (x : Says) (t : Tree) (o : Operation) (place argument : ℕ
   pub is_argument : slice_get (arguments_of t block) index ≡ Some argument
   pub forwards : slice_get (x.meaning.forwarded (shape_of x.meaning t o) edge) index ≡ Some place
 
--- the operand at this place is forwarded there, and nowhere else
-pub record IsForwardedOnce (m : Meaning) (t : Tree) (o : Operation) (place edge index : ℕ) : Type 0 where
-  pub there : slice_get (m.forwarded (shape_of m t o) edge) index ≡ Some place
-  pub alone : (i j : ℕ) → i < length o.successors → slice_get (m.forwarded (shape_of m t o) i) j ≡ Some place → (i ≡ edge) × (j ≡ index)
-
 -- what is to be done where the operand at this place fell: nothing for what does not fold and is no branch; or it goes to
 -- one argument alone, of something that does not fold
 abbrev pub IsCallFor : Says → Tree → (k place : ℕ) → Call → Type 0
 IsCallFor x t k place Pass = (o : Operation) → op_at t k ≡ Some o → (x.can_fold o.head ≡ false) × (x.can_fold_branch o.head ≡ false) × (x.meaning.is_branch o.head ≡ false)
 IsCallFor x t k place Look = Unit {0}
-IsCallFor x t k place (Ask edge index) = (edge < length (successors_of t k)) × ((o : Operation) → op_at t k ≡ Some o → (x.can_fold o.head ≡ false) × (x.can_fold_branch o.head ≡ false) × IsTrue (x.meaning.is_branch o.head) × IsForwardedOnce x.meaning t o place edge index)
+IsCallFor x t k place (Ask edge index) = ((o : Operation) → op_at t k ≡ Some o → (x.can_fold o.head ≡ false) × (x.can_fold_branch o.head ≡ false) × IsTrue (x.meaning.is_branch o.head)) × IsForwardedOnce x.meaning t k place edge index
 
 -- the operation does not fold, nor as a branch, and where these are met, each argument that gets its operand v from this
 -- place is at or below the fact of v

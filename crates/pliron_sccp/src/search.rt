@@ -12,11 +12,12 @@
 //! the outer ones.
 ghost use Rattle.std.specs.Prelude.{◌≡◌, ◌<◌, ◌↔◌, ℕ, true, OnOk, IfOk, IsTrue, IsOkUnless, Some, length, slice_get};
 ghost use Rattle.pliron_core.specs.Tree.{IsLive, IsBlock, In, arguments_of, body_of, successors_of};
+ghost use Rattle.pliron_laws.specs.Answers.{ReadsHead};
 ghost use Rattle.pliron_laws.specs.Linked.{IsWellLinked};
 ghost use Rattle.pliron_theory.specs.Facts.{AtMost};
 ghost use Rattle.pliron_sccp.specs.Accounts.{IsUnsearched};
 ghost use Rattle.pliron_sccp.specs.Demands.{Adds};
-ghost use Rattle.pliron_sccp.specs.Looking.{AreTargetsNumbered, HasNumberedTargets, IsCallFor, IsLookedAt, IsUseOf, LooksAt, LooksThrough, SeesTo, TakesUsers};
+ghost use Rattle.pliron_sccp.specs.Looking.{either, AreTargetsNumbered, HasNumberedTargets, IsCallFor, IsLookedAt, IsUseOf, LooksAt, LooksThrough, SeesTo, TakesUsers};
 ghost use Rattle.pliron_sccp.specs.Searched.{IsSearched};
 ghost use Rattle.pliron_sccp.specs.Searching.{VisitsValues, TakesTurn};
 ghost use Rattle.pliron_sccp.specs.Starting.{IsStarted};
@@ -83,19 +84,28 @@ pub enum Call {
     Ask(usize, usize),
 }
 
-/// What is to be done where the operand at this place fell. Cost: that of a few tests of the dialect.
-fn call_for<D: Dialect>(op: Ptr<Operation>, _place: usize, ctx: &Context) -> Call
+/// Whether what the operation asks may hang on all its operands: it folds, or folds as a branch.
+fn reads_all<D: Dialect>(op: Ptr<Operation>, ctx: &Context) -> bool
     requires { IsLive ctx.now.tree op }
-    ensures { IsCallFor ⟦<D as HasFolding>⟧.folding ctx.now.tree op _place result }
+    ensures { ReadsHead (λ h. either (D.can_fold h) (D.can_fold_branch h)) ctx.now.tree op result }
 {
-    if D::folds(op, ctx) {
-        Call::Look
-    } else if D::folds_branch(op, ctx) {
-        Call::Look
-    } else if D::is_branch(op, ctx) {
-        Call::Look
-    } else {
-        Call::Pass
+    D::folds(op, ctx) || D::folds_branch(op, ctx)
+}
+
+/// What is to be done where the operand at this place fell. Cost: that of a few tests of the dialect.
+fn call_for<D: Dialect>(op: Ptr<Operation>, place: usize, ctx: &Context) -> Call
+    requires { IsLive ctx.now.tree op }
+    ensures { IsCallFor ⟦<D as HasFolding>⟧.folding ctx.now.tree op place result }
+{
+    if reads_all::<D>(op, ctx) {
+        return Call::Look;
+    }
+    if !D::is_branch(op, ctx) {
+        return Call::Pass;
+    }
+    match D::forwarded_from(op, ctx, place) {
+        Some((edge, index)) => Call::Ask(edge, index),
+        None => Call::Look,
     }
 }
 

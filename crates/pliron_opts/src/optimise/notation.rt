@@ -4,13 +4,17 @@ ghost use Rattle.pliron_core.specs.Tree.{IsLive};
 ghost use Rattle.pliron_core.specs.Writes.{no_tree};
 ghost use Rattle.pliron_laws.specs.Linked.{IsWellLinked};
 ghost use Rattle.pliron_opts.specs.Answered.{Reads, Prints};
-ghost use Rattle.pliron_opts.specs.Read.{ReadsBench, PrintsBench};
+ghost use Rattle.pliron_dialects.specs.Roles.{meaning_by, role_at};
+ghost use Rattle.pliron_opts.specs.Read.{ReadsBench, ReadsKinds, PrintsBench, PrintsKinds};
 
 use pliron_bench::Bench;
 use pliron_core::{Context, Operation, Ptr};
+use pliron_dialects::{ByKinds, Kinds};
 use pliron_laws::{Dialect, OptError};
-use pliron_notation::{print_text, read_text};
+use pliron_notation::{Word, print_text, read_text};
+use pliron_texts as texts;
 use std::alloc::Global;
+use std::marker::PhantomData;
 
 /// Texts of operations of a dialect: how one is read into a context, and how an operation is printed.
 pub trait Notation {
@@ -60,5 +64,28 @@ impl Notation for BenchNotation {
 
     fn print(alloc: Global, root: Ptr<Operation>, ctx: &Context) -> Result<String, OptError> {
         print_text(alloc, root, ctx)
+    }
+}
+
+/// The notation of the dialect of these kinds, by their words.
+pub struct KindNotation<K>(PhantomData<K>);
+
+impl<K: Kinds + Word> Notation for KindNotation<K> {
+    type D = ByKinds<K>;
+
+    ghost reads = { ReadsKinds (meaning_by (role_at K.tables)) };
+
+    ghost prints = { PrintsKinds };
+
+    fn read(
+        alloc: Global,
+        text: &[u8],
+        ctx: &mut Context,
+    ) -> Result<Option<Ptr<Operation>>, OptError> {
+        texts::read_text::<K>(alloc, text, ctx)
+    }
+
+    fn print(alloc: Global, root: Ptr<Operation>, ctx: &Context) -> Result<String, OptError> {
+        texts::print_text::<K>(alloc, root, ctx)
     }
 }

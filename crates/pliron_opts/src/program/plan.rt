@@ -1,5 +1,6 @@
 //! Lists of passes as words.
-ghost use Rattle.std.specs.Prelude.{◌≡◌, ◌≤◌, ◌++◌, ◌↔◌, map, codes, IsTrue, IfOk, IfSome};
+ghost use Rattle.std.specs.Prelude.{◌≡◌, ◌≤◌, ◌==◌, ◌++◌, ◌↔◌, map, codes, IsTrue, IfOk, IfSome};
+ghost use Rattle.std.specs.List.{slice_split};
 ghost use Rattle.std.specs.Fmt.{decimal};
 ghost use Rattle.pliron_opts.specs.Plans.{BeginsWith, IsNameList, IsPlan, nested_prefix};
 
@@ -47,6 +48,17 @@ fn nested_list(word: &str) -> (bool, &str)
     }
 }
 
+/// The names that commas set apart.
+fn names(alloc: Global, list: &str) -> Result<Vec<&str>, AllocError>
+    ensures { IfOk result (λ names. map (λ name. name.now) names.items ≡ slice_split (λ b. b == 44) list.now) }
+{
+    let mut names = Vec::new(alloc);
+    for name in list.split(',') {
+        names.push(name)?;
+    }
+    Ok(names)
+}
+
 /// The number of runs and what follows it, after `repeat:` where there is one.
 fn repeated(alloc: Global, word: &str) -> Result<Option<(usize, &str)>, AllocError>
     ensures { IfOk result (λ found. IfSome found (λ read. (word.now ≡ decimal read.0 ++ (codes ":" ++ read.1.now)) × (1 ≤ read.0) × (read.0 ≤ 64))) }
@@ -67,7 +79,7 @@ impl<'t> Plan<'t> {
         ensures list { IfOk result (λ plan. IsNameList word.now plan.nested (map (λ name. name.now) plan.names.items)) }
     {
         let (nested, list) = nested_list(word);
-        let names: Vec<&str> = list.split(',').collect(alloc)?;
+        let names = names(alloc, list)?;
         Ok(Plan {
             runs,
             nested,

@@ -15,7 +15,7 @@ returns-in-Ask-clause-ok g c =
     let x : Says = record { meaning = g.D.HasMeaning.meaning; can_fold = g.D.ConstFoldInterface.can_fold; can_fold_branch = g.D.BranchOpFoldInterface.can_fold_branch; constants = g.D.ConstFoldInterface.constants; feasible = g.D.BranchOpFoldInterface.feasible } in
     let call = subst (IsCallFor x c.args.ctx.now.tree c.args.op c.args.place) c.in-Ask.is c.call_for.ensures in
     on_ok_then c.ask_argument.result
-    (λ adds. use_asked x c.args.ctx.now.tree c.args.tables.now c.args.value c.args.op c.args.place c.args.users.now.keys c.args.asked.now.items c.ask_argument.new.asked.items c.in-Ask.edge c.in-Ask.index c.requires (c.is_visited.ensures.0 c.if-not-is_visited.false) call.1 adds)
+    (λ adds. use_asked x c.args.ctx.now.tree c.args.tables.now c.args.value c.args.op c.args.place c.args.users.now.keys c.args.asked.now.items c.ask_argument.new.asked.items c.in-Ask.edge c.in-Ask.index c.requires (c.is_visited.ensures.0 c.if-not-is_visited.false) call.0 call.1 adds)
     c.ask_argument.ensures.ok
 
 pub returns-in-Pass-clause-ok : goal.returns-in-Pass-clause-ok
@@ -27,3 +27,9 @@ pub returns-then-not-is_visited-clause-ok : goal.returns-then-not-is_visited-cla
 returns-then-not-is_visited-clause-ok g c =
     let x : Says = record { meaning = g.D.HasMeaning.meaning; can_fold = g.D.ConstFoldInterface.can_fold; can_fold_branch = g.D.BranchOpFoldInterface.can_fold_branch; constants = g.D.ConstFoldInterface.constants; feasible = g.D.BranchOpFoldInterface.feasible } in
     use_passed x c.args.ctx.now.tree c.args.tables.now c.args.value c.args.op c.args.place c.args.users.now.keys c.args.asked.now.items (λ l. true≢false (sym (c.is_visited.ensures.1 l) ∙ c.if-not-is_visited.true))
+
+pub ask_argument-requires-clause-edge : goal.ask_argument-requires-clause-edge
+ask_argument-requires-clause-edge g c =
+    let x : Says = record { meaning = g.D.HasMeaning.meaning; can_fold = g.D.ConstFoldInterface.can_fold; can_fold_branch = g.D.BranchOpFoldInterface.can_fold_branch; constants = g.D.ConstFoldInterface.constants; feasible = g.D.BranchOpFoldInterface.feasible } in
+    let call = subst (IsCallFor x c.args.ctx.now.tree c.args.op c.args.place) c.in-Ask.is c.call_for.ensures in
+    call.1.edge

@@ -1,0 +1,111 @@
+//! The words of the program.
+use clap::{Arg, ArgAction, ArgMatches, Command, Error, value_parser};
+use std::alloc::{AllocError, Global};
+
+fn file<'a>(alloc: Global) -> Arg<'a> {
+    Arg::new(alloc, "file")
+        .value_name("FILE")
+        .help("The text; standard input, where it is `-` or left out")
+}
+
+fn output<'a>(alloc: Global) -> Arg<'a> {
+    Arg::new(alloc, "output")
+        .short('o')
+        .long("output")
+        .value_name("FILE")
+        .help("Where to write; standard output, where it is left out")
+}
+
+fn flag<'a>(alloc: Global, name: &'a str, help: &'a str) -> Arg<'a> {
+    Arg::new(alloc, name)
+        .long(name)
+        .action(ArgAction::SetTrue)
+        .help(help)
+}
+
+fn numbers<'a>(alloc: Global, name: &'a str, help: &'a str) -> Arg<'a> {
+    Arg::new(alloc, name)
+        .long(name)
+        .value_name("N")
+        .action(ArgAction::Append)
+        .allow_negative_numbers(true)
+        .value_parser(value_parser!(i64))
+        .help(help)
+}
+
+fn steps<'a>(alloc: Global) -> Arg<'a> {
+    Arg::new(alloc, "steps")
+        .long("steps")
+        .value_name("N")
+        .value_parser(value_parser!(usize))
+        .default_value("100000")
+        .help("The most moves that the run makes")
+}
+
+/// The statuses of `run`.
+static RUN_STATUSES: &str = "\
+Statuses: 0 where the run ends with values; 1 where memory was refused; 2 for words, files and texts that can't be \
+used; 3 where the run traps or is cut off";
+
+fn run<'a>(alloc: Global) -> Result<Command<'a>, AllocError> {
+    Command::new(alloc, "run")
+        .about("Runs a text, and writes its effects as they come and how it ends")
+        .after_help(RUN_STATUSES)
+        .arg(file(alloc))?
+        .arg(output(alloc))?
+        .arg(numbers(
+            alloc,
+            "input",
+            "A value that the text's operation gets; once for each, in order",
+        ))?
+        .arg(numbers(
+            alloc,
+            "world",
+            "What the world answers to an effect; once for each, in order",
+        ))?
+        .arg(steps(alloc))?
+        .arg(flag(
+            alloc,
+            "trace",
+            "Tell each move with what it takes, on standard error",
+        ))
+}
+
+/// The statuses of `check`.
+static CHECK_STATUSES: &str = "\
+Statuses: 0 where the text is fit to run; 1 where memory was refused; 2 for words, files and texts that can't be \
+used; 3 where it isn't fit";
+
+fn check<'a>(alloc: Global) -> Result<Command<'a>, AllocError> {
+    Command::new(alloc, "check")
+        .about("Looks whether a text is fit to run, or tells one thing that keeps it from that")
+        .after_help(CHECK_STATUSES)
+        .arg(file(alloc))
+}
+
+/// The command with one more under it, if that could be made.
+fn with<'a>(
+    command: Command<'a>,
+    inner: Result<Command<'a>, AllocError>,
+) -> Result<Command<'a>, AllocError> {
+    match inner {
+        Ok(inner) => command.subcommand(inner),
+        Err(error) => Err(error),
+    }
+}
+
+fn command<'a>(alloc: Global) -> Result<Command<'a>, AllocError> {
+    let plir = Command::new(alloc, "plir")
+        .version("0.1.0")
+        .about("Texts of operations: runs, and marks under what is wrong")
+        .subcommand_required(true)
+        .arg_required_else_help(true);
+    let plir = with(plir, run(alloc))?;
+    with(plir, check(alloc))
+}
+
+/// What the words ask for. Errors: words that the program doesn't have, or asking for help; want of memory. Cost:
+/// linear in the words.
+pub fn parsed<'a>(alloc: Global, words: &'a [String]) -> Result<ArgMatches<'a>, Error> {
+    command(alloc)?.try_get_matches_from(words)
+}

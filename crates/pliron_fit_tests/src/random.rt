@@ -1,0 +1,85 @@
+//! Each operation with regions, of texts made at random, is fit to run exactly where the definition says so, and the functions of
+//! texts that are well defined by construction are.
+use super::by_definition::{Use, all_of, all_uses, holders_among, is_fit_by_definition};
+use pliron_bench::Bench;
+use pliron_cases::cases::read;
+use pliron_core::{Context, Operation, Ptr};
+use pliron_fit::is_fit;
+use pliron_laws::is_well_linked;
+use pliron_random::{Kind, Subject};
+use std::alloc::Global;
+use std::process::Abort;
+
+/// A third of those that dead code elimination and constant propagation are tested with.
+const TEXTS: u64 = 160;
+
+/// Whether functions stand directly in it.
+fn is_module(root: Ptr<Operation>, ctx: &Context) -> bool {
+    root.is_live(ctx) && !root.head(ctx).ssa
+}
+
+fn compare(
+    rt: &impl Abort,
+    alloc: Global,
+    all: &[Ptr<Operation>],
+    uses: &[Use],
+    root: Ptr<Operation>,
+    ctx: &Context,
+) -> bool {
+    assert!(rt; root.is_live(ctx));
+    assert!(rt; is_well_linked::<Bench>(root, ctx));
+    let fit = is_fit::<Bench>(alloc, root, ctx).expect(rt, "memory");
+    let key = root.key();
+    assert_eq!(rt;
+        fit,
+        is_fit_by_definition(rt, alloc, all, uses, root, ctx),
+        "operation {key}"
+    );
+    fit
+}
+
+/// Whether the operation is the whole, or stands directly in it where that is a module, and is none itself.
+fn is_function(op: Ptr<Operation>, whole: Ptr<Operation>, ctx: &Context) -> bool {
+    if !op.is_live(ctx) || is_module(op, ctx) {
+        return false;
+    }
+    op == whole || (is_module(whole, ctx) && op.get_parent_op(ctx) == Some(whole))
+}
+
+fn compare_all(rt: &impl Abort, alloc: Global, ctx: &mut Context, subject: &Subject) {
+    let Some(whole) = read(alloc, ctx, &subject.text) else {
+        return;
+    };
+    let all = all_of(rt, alloc, whole, ctx);
+    let uses = all_uses(rt, alloc, &all, ctx);
+    let text = subject.text.as_str();
+    for root in &holders_among(rt, alloc, &all, ctx) {
+        let fit = compare(rt, alloc, &all, &uses, *root, ctx);
+        if subject.kind == Kind::Defined && is_function(*root, whole, ctx) {
+            assert!(rt; fit, "{text}");
+        }
+    }
+}
+
+fn compare_texts(rt: &impl Abort, alloc: Global, first: u64) {
+    for place in 0..TEXTS {
+        let subject = Subject::new(alloc, first.wrapping_add(place)).expect(rt, "memory");
+        let mut ctx = Context::new(alloc);
+        compare_all(rt, alloc, &mut ctx, &subject);
+    }
+}
+
+#[test]
+fn first_texts(rt: HostRuntime) {
+    compare_texts(&rt, rt.alloc(), 0);
+}
+
+#[test]
+fn second_texts(rt: HostRuntime) {
+    compare_texts(&rt, rt.alloc(), 160);
+}
+
+#[test]
+fn third_texts(rt: HostRuntime) {
+    compare_texts(&rt, rt.alloc(), 320);
+}

@@ -1,0 +1,16 @@
+//! The work of each command of `plir`, the program for people, as functions from texts and wishes to texts.
+//!
+//! It knows the bench notation and what people want to see of texts and runs; of words, files and streams it
+//! knows nothing.
+#![tactic(auto)]
+
+mod checking;
+mod failure;
+mod outcome;
+mod running;
+
+pub use checking::check;
+pub use failure::Failure;
+pub use outcome::Outcome;
+pub use pliron_show::{RunWish, Source};
+pub use running::run;
