@@ -6,8 +6,12 @@ mod folds;
 #[cfg(test)]
 mod passes;
 #[cfg(test)]
+mod program;
+#[cfg(test)]
 mod reading;
 #[cfg(test)]
 mod runs;
+#[cfg(test)]
+mod texts;
 #[cfg(test)]
 mod writing;
