@@ -4,14 +4,8 @@
 #[cfg(test)]
 mod folds;
 #[cfg(test)]
-mod passes;
-#[cfg(test)]
 mod program;
-#[cfg(test)]
-mod reading;
 #[cfg(test)]
 mod runs;
 #[cfg(test)]
 mod texts;
-#[cfg(test)]
-mod writing;

@@ -10,6 +10,11 @@ static CASES: &str = "\
 sccp,dce :: function { b0(): a = lit 6; b = lit 7; p = mul a b; n = neg p; return n } => 0 function { b0(): v0 = lit -42; return v0 }|changed|
 sccp :: function { b0(): a = lit 2; b = lit 3; l = less a b; return l } \
     => 0 function { b0(): v0 = lit 2; v1 = lit 3; v2 = lit 1; v3 = less v0 v1; return v2 }|changed|
+sccp,dce :: function { b0(): a = lit 4; jump b1(a); b1(p): return p } => 0 function { b0(): jump b1(); b1(): v0 = lit 4; return v0 }|changed|
+sccp,dce :: function { b0(): z = lit 0; a = lit 8; b = lit 9; branch z t(a) f(b); t(p): return p; f(q): return q } \
+    => 0 function { b0(): v0 = lit 0; v1 = lit 8; branch v0 b1(v1) b2(); b1(v2): return v2; b2(): v3 = lit 9; return v3 }|changed|
+sccp,dce :: function { b0(x): two = lit 2; p = mul x two; l = less p x; return l } \
+    => 0 function { b0(v0): v1 = lit 2; v2 = mul v0 v1; v3 = less v2 v0; return v3 }|unchanged|
 dce :: function { b0(x): a = lit 6; n = neg a; return x } => 0 function { b0(v0): return v0 }|changed|
 sccp,simplify-cfg,dce :: function { b0(x): s = add x x; return s } => 0 function { b0(v0): v1 = add v0 v0; return v1 }|unchanged|
 sccp,dce :: function { b0(): a = lit 9223372036854775807; b = lit 2; s = add a b; p = mul a b; return s p } \

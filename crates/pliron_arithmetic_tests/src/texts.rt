@@ -1,9 +1,15 @@
 //! Texts that are read and printed, and texts outside the notation, by its rules in docs/DIALECTS.md.
 use pliron_arithmetic::ArithmeticKind;
-use pliron_core::Context;
+use pliron_core::{Context, Operation, Ptr};
 use pliron_texts::{print_text, read_text};
 use std::alloc::Global;
 use std::process::Abort;
+
+/// The operation of a text of the notation.
+pub fn read(rt: &impl Abort, alloc: Global, ctx: &mut Context, text: &str) -> Ptr<Operation> {
+    let read = read_text::<ArithmeticKind>(alloc, text.as_bytes(), ctx).expect(rt, "memory");
+    read.expect(rt, "readable")
+}
 
 // What is printed of a text; of one outside the notation it is `none`.
 fn printed_in(rt: &impl Abort, alloc: Global, ctx: &mut Context, text: &str) -> String {
