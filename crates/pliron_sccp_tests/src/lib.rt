@@ -6,6 +6,8 @@ mod cases;
 #[cfg(test)]
 mod marked;
 #[cfg(test)]
+mod room;
+#[cfg(test)]
 mod runs;
 #[cfg(test)]
 mod texts;
