@@ -176,19 +176,21 @@ fn check_one_block(rt: &impl Abort, alloc: Global, text: &str, index: usize, cal
 }
 
 fn check_all_regions(rt: &impl Abort, alloc: Global, text: &str, call: Call) -> usize {
-    let mut count = 0usize;
-    while count < MOST && check_one_region(rt, alloc, text, count, call) {
-        count = count.saturating_add(1);
+    for index in 0..MOST {
+        if !check_one_region(rt, alloc, text, index, call) {
+            return index;
+        }
     }
-    count
+    MOST
 }
 
 fn check_all_blocks(rt: &impl Abort, alloc: Global, text: &str, call: Call) -> usize {
-    let mut count = 0usize;
-    while count < MOST && check_one_block(rt, alloc, text, count, call) {
-        count = count.saturating_add(1);
+    for index in 0..MOST {
+        if !check_one_block(rt, alloc, text, index, call) {
+            return index;
+        }
     }
-    count
+    MOST
 }
 
 #[test]

@@ -130,11 +130,12 @@ fn check(rt: &impl Abort, alloc: Global, text: &str, index: usize, call: Call) -
 
 /// Calls it on each operation with regions, and answers how many these are.
 fn check_all(rt: &impl Abort, alloc: Global, text: &str, call: Call) -> usize {
-    let mut count = 0usize;
-    while count < MOST && check(rt, alloc, text, count, call) {
-        count = count.saturating_add(1);
+    for index in 0..MOST {
+        if !check(rt, alloc, text, index, call) {
+            return index;
+        }
     }
-    count
+    MOST
 }
 
 #[test]
