@@ -48,10 +48,10 @@ def least(command, path):
 
 def counted(program, path):
     """The instructions of the whole process."""
-    command = ["valgrind", "--tool=callgrind", "--callgrind-out-file=/dev/null", *program]
+    command = ["valgrind", "--tool=cachegrind", "--cache-sim=no", "--cachegrind-out-file=/dev/null", *program]
     with open(path, "rb") as text:
         said = subprocess.run(command, stdin=text, capture_output=True, check=True).stderr
-    return int(re.search(rb"Collected : (\d+)", said)[1])
+    return int(re.search(rb"I\s+refs:\s+([\d,]+)", said)[1].replace(b",", b""))
 
 
 def longest(shape, most):
