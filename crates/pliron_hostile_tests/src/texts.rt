@@ -24,7 +24,8 @@ func { b0(x): br b3(x); b1(p): q = add p q; br b2(q, q); b2(r): br b1(r); b3(s):
 func { b0(): l, r = pair; sink l r l; fork r b1 b0; b1(p, q): sink p q l; t = add r q; cbr t b1(l) b1(l, r, t) }
 mod { b0(): mod { b0(): func { b0(x): scope x { b0(y): scope y { b0(z): print x; ret z }; br b1(z); b1(): ret z }; ret } }; func { b0(): ret }; \
     b1(): func { b0(): br b0() } }
-func { b0(): c = const 0; d = div d c; e = mul e c; f = add e e; cbr f b1(f) b1(d); b1(p): g = div p f; br b1(g); b2(h): i = add c c; br b1(i) }
+func { b0(): c = const 0; d = div d c; e = mul e c; f = add e e; cbr f b1(f) b1(d); b1(p): g = div p f; br b1(g); \
+    b2(h): i = add c c; br b1(i) }
 func { b0(): br b1(p, q); b1(p, q): br b2(q, p); b2(r, s): br b3(s, r); b3(t, u): print t; br b4(); b4(v): ret p u v }
 func { b0(x): scope x { b0(): br b2(); b1(v): box { b0(): w = const 3 }; br b2(); b2(): print w; ret v }; cbr w b1() b2(); b1(): br b2(); b2(): ret w }";
 
