@@ -4,7 +4,7 @@
   shapes.py SHAPE N bench|llvm|mlir  a text of about N operations
   shapes.py list                     the names of the shapes, but those that bench alone can write:
                                      boxed, fiftyboxes, boxes, deepboxes, boxargs,
-                                     boxconsts, boxuses, boxuseslast
+                                     boxconsts, boxuses, boxuseslast, shortedges
 
 One program is built and printed in three notations, so that all optimisers see the same control flow: in
 that of this repository, with the shortest names and no blanks; in LLVM's, where an argument of a block is
@@ -493,10 +493,20 @@ def boxuses(n, last):
     return "func{z():" + (f"{chain};{box}" if last else f"{box};{chain}") + ";ret}\n"
 
 
+def shortedges(n):
+    """A block of n/2 arguments to which n/2 edges forward nothing; not well formed in the other notations."""
+    values, blocks = short_names(), short_names()
+    args = ",".join(next(values) for _ in range(max(1, n // 2)))
+    entry, last = next(blocks), next(blocks)
+    edges = ";".join(f"{next(blocks)}():br {last}()" for _ in range(max(1, n // 2)))
+    return f"func{{{entry}():ret;{last}({args}):ret;{edges}}}\n"
+
+
 # in the bench notation alone, since the others have nothing like a box; a text holds 64 levels at most
-BOXES = {"boxed": lambda n: boxed_sums(n, 1), "fiftyboxes": lambda n: boxed_sums(n, 50),
+BENCH_ONLY = {"boxed": lambda n: boxed_sums(n, 1), "fiftyboxes": lambda n: boxed_sums(n, 50),
          "boxes": lambda n: boxes(n, 1), "deepboxes": lambda n: boxes(n, 50), "boxargs": boxargs,
-         "boxconsts": boxconsts, "boxuses": lambda n: boxuses(n, False), "boxuseslast": lambda n: boxuses(n, True)}
+         "boxconsts": boxconsts, "boxuses": lambda n: boxuses(n, False), "boxuseslast": lambda n: boxuses(n, True),
+         "shortedges": shortedges}
 
 
 def bench(fns, w):
@@ -651,8 +661,8 @@ PRINT = {"bench": bench, "llvm": llvm, "mlir": mlir}
 
 
 def text_of(shape, n, notation):
-    if shape in BOXES:
-        return BOXES[shape](n)
+    if shape in BENCH_ONLY:
+        return BENCH_ONLY[shape](n)
     parts = []
     PRINT[notation](SHAPES[shape](n, random.Random(1)), parts.append)
     return "".join(parts)

@@ -8,4 +8,4 @@ returns-then-is_result_of c =
     held_by_result c.args.ctx.now.tree c.args.op c.args.value u.0 (c.is_result_of.ensures c.if-is_result_of.true) u.1
 
 pub returns-then-is_made_inside : goal.returns-then-is_made_inside
-returns-then-is_made_inside c = held_from_inside c.args.ctx.now.tree c.args.op c.args.value (c.is_made_inside.ensures.0 c.if-is_made_inside.true) c.in_some-found.ensures
+returns-then-is_made_inside c = held_from_inside c.args.ctx.now.tree c.args.op c.args.value (c.is_made_inside.ensures.0 c.if-is_made_inside.true) c.in_ok-found.ensures

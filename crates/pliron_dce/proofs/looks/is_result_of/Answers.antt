@@ -1,4 +1,4 @@
-use Rattle.std.proofs.Common.{sym, subst}
+use Rattle.std.proofs.Common.{rules, subst}
 use Rattle.pliron_core.specs.Tree.{In, IsMadeBy, results_of}
 use Rattle.pliron_core.proofs.HoldingLemmas.{in_slice}
 use Rattle.pliron_dce.proofs.looks.is_result_of.Goals as goal
