@@ -1,4 +1,4 @@
-//! `plir`: texts of operations, for people: runs, and marks under what is wrong.
+//! `plir`: texts of operations, for people: runs, passes, and marks under what is wrong.
 //!
 //! It knows words, files, streams and an exit status. What each command does stands in `pliron_people`.
 #![tactic(auto)]
@@ -7,9 +7,11 @@ mod command;
 
 use clap::ArgMatches;
 use command::parsed;
-use pliron_people::{Outcome, RunWish, Source, check, run};
+use pliron_people::{
+    CompareWish, OptWish, Outcome, RunWish, Source, Wish, check, compare, opt, run,
+};
 use std::alloc::Global;
-use std::io::{self, Read, Write};
+use std::io::{self, IsTerminal, Read, Write};
 use std::process::ExitCode;
 use std::{env, fs};
 
@@ -39,7 +41,7 @@ fn numbers(alloc: Global, matches: &ArgMatches, id: &str) -> io::Result<Vec<i64>
     Ok(numbers)
 }
 
-/// Runs the text as the words wish.
+/// Runs the text as the words wish, or before and after passes.
 fn run_wished(alloc: Global, source: &Source, matches: &ArgMatches) -> io::Result<Outcome> {
     let inputs = numbers(alloc, matches, "input")?;
     let world = numbers(alloc, matches, "world")?;
@@ -49,7 +51,50 @@ fn run_wished(alloc: Global, source: &Source, matches: &ArgMatches) -> io::Resul
         steps: matches.get_one::<usize>("steps").unwrap_or(100_000),
         trace: matches.get_flag("trace"),
     };
-    Ok(run(alloc, source, &wish)?)
+    match matches.get_str("compare") {
+        Some(pipeline) => {
+            let wish = CompareWish {
+                run: wish,
+                pipeline,
+            };
+            Ok(compare(alloc, source, &wish)?)
+        }
+        None => Ok(run(alloc, source, &wish)?),
+    }
+}
+
+/// Whether each operation is to stand on a line of its own: where that is wished, and on a terminal.
+fn is_pretty(rt: &HostRuntime, matches: &ArgMatches) -> bool {
+    let on_terminal = rt.stdout().is_terminal() && matches.get_str("output").is_none();
+    matches.get_flag("pretty") || (on_terminal && !matches.get_flag("one-line"))
+}
+
+/// The words that an option was given.
+fn words<'a>(alloc: Global, matches: &ArgMatches<'a>, id: &str) -> io::Result<Vec<&'a str>> {
+    let mut words = Vec::new(alloc);
+    if let Some(given) = matches.get_strs(id) {
+        for word in given {
+            words.push(*word)?;
+        }
+    }
+    Ok(words)
+}
+
+/// Runs the passes that the words ask for on the text.
+fn opt_wished(rt: &HostRuntime, source: &Source, matches: &ArgMatches) -> io::Result<Outcome> {
+    let prints = words(rt.alloc(), matches, "print-after")?;
+    let wish = OptWish {
+        pipeline: matches.get_str("pipeline").unwrap_or(""),
+        is_pretty: is_pretty(rt, matches),
+        watch: Wish {
+            counts: matches.get_flag("stats"),
+            verifies: matches.get_flag("verify-each"),
+            prints_all: matches.get_flag("print-after-all"),
+            prints: &prints,
+        },
+        times: matches.get_flag("time"),
+    };
+    Ok(opt(rt.alloc(), source, &wish, rt)?)
 }
 
 /// What the command makes of its input.
@@ -61,10 +106,10 @@ fn outcome(rt: &HostRuntime, command: &str, matches: &ArgMatches) -> io::Result<
         name: called(name),
         text: &text,
     };
-    if command == "check" {
-        Ok(check(alloc, &source)?)
-    } else {
-        run_wished(alloc, &source, matches)
+    match command {
+        "check" => Ok(check(alloc, &source)?),
+        "opt" => opt_wished(rt, &source, matches),
+        _ => run_wished(alloc, &source, matches),
     }
 }
 
@@ -84,10 +129,10 @@ fn write(rt: &HostRuntime, outcome: &Outcome, file: Option<&str>) -> io::Result<
 /// Does what the command asks for, and answers its status.
 fn act(rt: &HostRuntime, command: &str, matches: &ArgMatches) -> io::Result<u8> {
     let outcome = outcome(rt, command, matches)?;
-    let file = if command == "run" {
-        matches.get_str("output")
-    } else {
+    let file = if command == "check" {
         None
+    } else {
+        matches.get_str("output")
     };
     write(rt, &outcome, file)?;
     Ok(outcome.status)

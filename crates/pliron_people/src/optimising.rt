@@ -1,0 +1,182 @@
+//! What passes make of texts.
+ghost use Rattle.std.specs.Prelude.{◌≡◌, ⊤, IfOk, IfSome, string_bytes};
+ghost use Rattle.pliron_people.specs.Outcomes.{Ends, EndsBadly};
+ghost use Rattle.pliron_people.specs.Optimised.{IsLaidOut, IsOptimisedBy};
+
+use crate::failure::Failure;
+use crate::outcome::{Outcome, failed};
+use crate::report::{Wanted, report_of, write_refused};
+use pliron_laws::OptError;
+use pliron_opts::{BenchNotation, Notation};
+use pliron_show::{Mark, Source, marked, pretty};
+use pliron_watch::{
+    Optimised, Plan, PlanError, Watched, WatchedSchedule, Wish, WordFault, optimise, scheduled,
+    watched_passes,
+};
+use std::alloc::{AllocError, Global};
+use std::time::Clock;
+
+/// What is wished of passes.
+#[derive(Clone, Copy)]
+pub struct OptWish<'w> {
+    /// The passes, as a word.
+    pub pipeline: &'w str,
+    /// Whether each operation is to stand on a line of its own.
+    pub is_pretty: bool,
+    /// What is looked at around each run of a pass.
+    pub watch: Wish<'w>,
+    /// Whether the time of each pass is told.
+    pub times: bool,
+}
+
+/// What is told of a word that plans no passes.
+fn word_told(alloc: Global, word: &str, fault: &WordFault) -> Result<String, AllocError> {
+    let label = format!(in alloc; "expected {}", fault.expected)?;
+    let mark = Mark {
+        message: "no such passes",
+        label: label.as_str(),
+        name: "PIPELINE",
+        start: fault.start,
+        len: fault.len,
+    };
+    marked(alloc, word.as_bytes(), &mark)
+}
+
+/// The outcome for a word that plans no passes.
+pub fn misspelt(alloc: Global, word: &str, fault: &WordFault) -> Result<Outcome, AllocError>
+    ensures { IfOk result EndsBadly }
+{
+    let report = word_told(alloc, word, fault)?;
+    Ok(Outcome {
+        output: Vec::new(alloc),
+        report,
+        status: 2,
+    })
+}
+
+/// The text with each operation on a line of its own, or on one line, and an end of a line.
+fn laid_out(alloc: Global, printed: String, is_pretty: bool) -> Result<Vec<u8>, AllocError>
+    ensures { IfOk result (λ output. IsLaidOut (string_bytes printed) output.items) }
+{
+    let mut output = if is_pretty {
+        pretty(alloc, printed.as_bytes())?
+    } else {
+        printed.into_bytes()
+    };
+    output.push(b'\n')?;
+    Ok(output)
+}
+
+/// Whether something is missing in what was noted.
+fn is_short<N: Notation, C: Clock + Drop>(passes: &[Watched<N, C>]) -> bool {
+    passes.iter().any(|pass| pass.diary().is_short)
+}
+
+/// Whether verifying found something.
+fn has_fault<N: Notation, C: Clock + Drop>(passes: &[Watched<N, C>]) -> bool {
+    passes.iter().any(|pass| pass.diary().notes.iter().any(|note| note.fault.is_some()))
+}
+
+/// What is told beside the answer.
+fn wanted(wish: &OptWish) -> Wanted {
+    Wanted {
+        is_pretty: wish.is_pretty,
+        faults: wish.watch.verifies,
+        counts: wish.watch.counts,
+        times: wish.times,
+    }
+}
+
+/// The outcome where memory or the passes were refused: what was noted, why, and in which pass.
+fn refused<N: Notation, C: Clock + Drop>(
+    alloc: Global,
+    mut report: String,
+    source: &Source,
+    error: OptError,
+    passes: &[Watched<N, C>],
+) -> Result<Outcome, AllocError>
+    ensures { IfOk result EndsBadly }
+{
+    let failure = Failure::Refused(error);
+    report.push_str(failure.told(alloc, source)?.as_str())?;
+    write_refused(&mut report, passes)?;
+    Ok(Outcome {
+        output: Vec::new(alloc),
+        report,
+        status: failure.status(),
+    })
+}
+
+/// The outcome of passes that ran, unless verifying found something.
+fn answered<N: Notation, C: Clock + Drop>(
+    alloc: Global,
+    report: String,
+    made: Optimised,
+    is_pretty: bool,
+    passes: &[Watched<N, C>],
+) -> Result<Outcome, AllocError>
+    ensures { IfOk result (λ outcome. Ends (IsLaidOut (string_bytes made.printed) outcome.output.items) ⊤ outcome) }
+{
+    if has_fault(passes) {
+        return Ok(Outcome {
+            output: Vec::new(alloc),
+            report,
+            status: 3,
+        });
+    }
+    Ok(Outcome {
+        output: laid_out(alloc, made.printed, is_pretty)?,
+        report,
+        status: 0,
+    })
+}
+
+/// What these passes make of the text.
+fn opt_with<C: Clock + Copy + Drop>(
+    alloc: Global,
+    source: &Source,
+    wish: &OptWish,
+    schedule: &mut WatchedSchedule<BenchNotation, C>,
+) -> Result<Outcome, AllocError> {
+    let made = optimise(alloc, schedule, source.text);
+    let passes = watched_passes(schedule);
+    let report = report_of(alloc, passes, &wanted(wish))?;
+    match made {
+        Ok(Some(_)) if is_short(passes) => refused(alloc, report, source, OptError::Memory, passes),
+        Ok(Some(made)) => answered(alloc, report, made, wish.is_pretty, passes),
+        Ok(None) => failed(alloc, Failure::Text, source),
+        Err(error) => refused(alloc, report, source, error, passes),
+    }
+}
+
+/// What the passes that the plan asks for make of the text.
+fn opt_by<C: Clock + Copy + Drop>(
+    alloc: Global,
+    source: &Source,
+    wish: &OptWish,
+    plan: &Plan,
+    clock: C,
+) -> Result<Outcome, AllocError> {
+    match scheduled(alloc, plan, &wish.watch, clock)? {
+        Some(mut schedule) => opt_with(alloc, source, wish, &mut schedule),
+        None => failed(alloc, Failure::Text, source),
+    }
+}
+
+/// Runs the passes that the word asks for on the text, and answers the tree that they leave, printed.
+///
+/// Statuses: 0; 1 where memory or the passes were refused; 2 for a word that asks for no passes or an unreadable text;
+/// 3 where verifying found something. With all but 0 nothing is to be written to the output. Errors: want of memory for
+/// what is told. Cost: reading, the passes, what is looked at, and printing.
+pub fn opt<C: Clock + Copy + Drop>(
+    alloc: Global,
+    source: &Source,
+    wish: &OptWish,
+    clock: C,
+) -> Result<Outcome, AllocError> {
+    match Plan::read(alloc, wish.pipeline) {
+        Ok(plan) => opt_by(alloc, source, wish, &plan, clock),
+        Err(PlanError::Word(fault)) => misspelt(alloc, wish.pipeline, &fault),
+        Err(PlanError::Memory) => failed(alloc, Failure::Refused(OptError::Memory), source),
+    }
+}

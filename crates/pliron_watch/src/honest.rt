@@ -1,0 +1,34 @@
+//! Watched passes tell truly whether they changed the tree, in whatever list and however often it is run.
+ghost use Rattle.pliron_pipeline.specs.Honest.{IsHonest};
+
+use crate::schedule::{WatchedPipeline, WatchedSchedule};
+use crate::watched::Watched;
+use pliron_opts::Notation;
+use pliron_pass::{Pass, Passes};
+use std::time::Clock;
+
+/// Each watched pass is honest.
+fn watched_are_honest<N: Notation, C: Clock + Drop>()
+    ensures { IsHonest ⟦<Watched<N, C> as Pass>⟧.outcome }
+{}
+
+/// So is a list of them.
+fn lists_are_honest<N: Notation, C: Clock + Drop>()
+    ensures { IsHonest ⟦<Passes<Watched<N, C>> as Pass>⟧.outcome }
+{
+    watched_are_honest::<N, C>();
+}
+
+/// So is a list that is run on an operation itself, or on each operation directly inside it.
+fn pipelines_are_honest<N: Notation, C: Clock + Drop>()
+    ensures { IsHonest ⟦<WatchedPipeline<N, C> as Pass>⟧.outcome }
+{
+    lists_are_honest::<N, C>();
+}
+
+/// Each schedule is honest: where it answers `Unchanged`, the tree is the same but for spent keys.
+pub fn schedules_are_honest<N: Notation, C: Clock + Drop>()
+    ensures { IsHonest ⟦<WatchedSchedule<N, C> as Pass>⟧.outcome }
+{
+    pipelines_are_honest::<N, C>();
+}
