@@ -44,9 +44,10 @@ fn steps<'a>(alloc: Global) -> Arg<'a> {
 
 /// The statuses of `run`.
 static RUN_STATUSES: &str = "\
-Statuses: 0 where the run ends with values; 1 where memory was refused; 2 for words, files and texts that can't be \
-used; 3 where the run traps or is cut off. With --compare: 0 where both runs end or trap and the same is seen, 3 where \
-one is cut off or something differs";
+Statuses: 0 where the run ends with values; 1 where memory was refused; 2 for words,
+files and texts that can't be used; 3 where the run traps or is cut off. With
+--compare: 0 where both runs end or trap and the same is seen; 3 where one is cut
+off or something differs.";
 
 fn run<'a>(alloc: Global) -> Result<Command<'a>, AllocError> {
     Command::new(alloc, "run")
@@ -88,12 +89,14 @@ static PASSES: [&str; 3] = ["sccp", "dce", "simplify-cfg"];
 
 /// What `PIPELINE` may be, and the statuses of `opt`.
 static OPT_WORDS: &str = "\
-PIPELINE is a list of passes: `sccp`, `dce` and `simplify-cfg`, joined by commas. `nested(LIST)` runs it on each \
-operation directly inside, and `repeat<N>(..)` again and again until nothing changes, at most N times, from 1 to 64; \
-`nested:LIST` and `repeat:N:..` say the same, as for `plir_opt`.
+PIPELINE is a list of passes joined by commas: `sccp` (constant propagation), `dce`
+(dead code elimination) and `simplify-cfg` (simplification of control flow).
+`nested(LIST)` runs it on each operation directly inside, and `repeat<N>(..)` again
+and again until nothing changes, at most N times, from 1 to 64. `nested:LIST` and
+`repeat:N:..` say the same, as for `plir_opt`.
 
-Statuses: 0 where the answer is written; 1 where memory or the passes were refused; 2 for words, files and texts that \
-can't be used; 3 where verifying found a fault";
+Statuses: 0 where the answer is written; 1 where memory or the passes were refused;
+2 for words, files and texts that can't be used; 3 where verifying found a fault.";
 
 fn pipeline<'a>(alloc: Global) -> Arg<'a> {
     Arg::new(alloc, "pipeline")
@@ -130,7 +133,7 @@ fn with_reports<'a>(command: Command<'a>, alloc: Global) -> Result<Command<'a>, 
         .arg(flag(
             alloc,
             "stats",
-            "Tell operations, blocks, arguments and edges before and after each pass, on standard error",
+            "Tell how many operations, blocks, arguments and edges there are before and after each pass, on standard error",
         ))?
         .arg(flag(
             alloc,
@@ -159,8 +162,8 @@ fn opt<'a>(alloc: Global) -> Result<Command<'a>, AllocError> {
 
 /// The statuses of `check`.
 static CHECK_STATUSES: &str = "\
-Statuses: 0 where the text is fit to run; 1 where memory was refused; 2 for words, files and texts that can't be \
-used; 3 where it isn't fit";
+Statuses: 0 where the text is fit to run; 1 where memory was refused; 2 for words,
+files and texts that can't be used; 3 where it isn't fit.";
 
 fn check<'a>(alloc: Global) -> Result<Command<'a>, AllocError> {
     Command::new(alloc, "check")

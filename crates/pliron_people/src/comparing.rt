@@ -1,7 +1,10 @@
 //! Runs before and after passes.
-ghost use Rattle.std.specs.Prelude.{⊤, IfOk};
+ghost use Rattle.std.specs.Prelude.{◌≡◌, ⊤, map, IfOk, IfSome, IsTrue};
 ghost use Rattle.pliron_core.specs.Writes.{no_tree};
+ghost use Rattle.pliron_laws.specs.Datum.{Number as NumberOf};
+ghost use Rattle.pliron_people.specs.Compared.{AreSeen, AreAlike};
 ghost use Rattle.pliron_people.specs.Outcomes.{Ends};
+ghost use Rattle.pliron_people.specs.declared.comparing.Likeness.TheVariants.{Same};
 
 use crate::failure::Failure;
 use crate::optimising::misspelt;
@@ -62,7 +65,9 @@ fn is_cut_off(sight: &Sight) -> bool {
 }
 
 /// What the runs have to do with one another.
-fn compared(sights: &Sights) -> Likeness {
+fn compared(sights: &Sights) -> Likeness
+    ensures { result ≡ Same → sights.now.before ≡ sights.now.after }
+{
     let (before, after) = (effects(&sights.before), effects(&sights.after));
     match (is_cut_off(&sights.before), is_cut_off(&sights.after)) {
         (false, false) if sights.before == sights.after => Likeness::Same,
@@ -83,6 +88,7 @@ fn sights_of(
     ctx: &mut Context,
 ) -> Result<Option<Sights>, OptError>
     requires { ctx.old.tree ≡ no_tree }
+    ensures { IfOk result (λ found. IfSome found (AreSeen (map NumberOf wish.now.inputs.now) (map NumberOf wish.now.world.now) wish.now.steps)) }
 {
     let Some(root) = read_text(alloc, source.text, ctx)? else {
         return Ok(None);
@@ -107,13 +113,24 @@ fn told(alloc: Global, sights: &Sights, likeness: Likeness) -> Result<String, Al
 }
 
 /// The outcome of these runs.
-fn outcome_of(alloc: Global, sights: &Sights) -> Result<Outcome, AllocError> {
+fn outcome_of(alloc: Global, sights: &Sights) -> Result<Outcome, AllocError>
+    ensures { IfOk result (Ends (sights.now.before ≡ sights.now.after) ⊤) }
+{
     let likeness = compared(sights);
-    Ok(Outcome {
-        output: told(alloc, sights, likeness)?.into_bytes(),
-        report: String::new(alloc),
-        status: if likeness == Likeness::Same { 0 } else { 3 },
-    })
+    let output = told(alloc, sights, likeness)?.into_bytes();
+    let report = String::new(alloc);
+    match likeness {
+        Likeness::Same => Ok(Outcome {
+            output,
+            report,
+            status: 0,
+        }),
+        Likeness::SoFar | Likeness::Different => Ok(Outcome {
+            output,
+            report,
+            status: 3,
+        }),
+    }
 }
 
 /// Compares runs before and after the passes of the schedule.
@@ -125,6 +142,7 @@ fn compare_in(
     ctx: &mut Context,
 ) -> Result<Outcome, AllocError>
     requires { ctx.old.tree ≡ no_tree }
+    ensures { IfOk result (Ends (AreAlike (map NumberOf wish.now.inputs.now) (map NumberOf wish.now.world.now) wish.now.steps) ⊤) }
 {
     match sights_of(alloc, source, wish, schedule, ctx) {
         Ok(Some(sights)) => outcome_of(alloc, &sights),
@@ -139,7 +157,9 @@ fn compare_by(
     source: &Source,
     wish: &RunWish,
     plan: &Plan,
-) -> Result<Outcome, AllocError> {
+) -> Result<Outcome, AllocError>
+    ensures { IfOk result (Ends (AreAlike (map NumberOf wish.now.inputs.now) (map NumberOf wish.now.world.now) wish.now.steps) ⊤) }
+{
     let nothing = Wish {
         counts: false,
         verifies: false,
@@ -161,7 +181,9 @@ fn compare_by(
 /// Statuses: 0 where both runs ended or trapped, and the same is seen of them; 1 where memory or the passes were refused;
 /// 2 for a word that asks for no passes or an unreadable text; 3 where a run was cut off or something differs. Errors:
 /// want of memory for what is told. Cost: reading, two runs by `evaluate_noting`, and the passes.
-pub fn compare(alloc: Global, source: &Source, wish: &CompareWish) -> Result<Outcome, AllocError> {
+pub fn compare(alloc: Global, source: &Source, wish: &CompareWish) -> Result<Outcome, AllocError>
+    ensures { IfOk result (Ends (AreAlike (map NumberOf wish.now.run.inputs.now) (map NumberOf wish.now.run.world.now) wish.now.run.steps) ⊤) }
+{
     match Plan::read(alloc, wish.pipeline) {
         Ok(plan) => compare_by(alloc, source, &wish.run, &plan),
         Err(PlanError::Word(fault)) => misspelt(alloc, wish.pipeline, &fault),

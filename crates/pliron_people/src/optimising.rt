@@ -1,16 +1,20 @@
 //! What passes make of texts.
-ghost use Rattle.std.specs.Prelude.{◌≡◌, ⊤, IfOk, IfSome, string_bytes};
+ghost use Rattle.std.specs.Prelude.{◌≡◌, ⊤, map, IfOk, IfSome, string_bytes};
+ghost use Rattle.pliron_bench.specs.BenchMoves.{bench};
+ghost use Rattle.pliron_opts.specs.Ran.{RunsAlone};
+ghost use Rattle.pliron_opts.specs.Read.{ReadsBench, PrintsBench};
 ghost use Rattle.pliron_people.specs.Outcomes.{Ends, EndsBadly};
-ghost use Rattle.pliron_people.specs.Optimised.{IsLaidOut, IsOptimisedBy};
+ghost use Rattle.pliron_people.specs.Optimised.{IsLaidOut, IsMade, IsPlannedMade, IsMadeBy};
 
 use crate::failure::Failure;
 use crate::outcome::{Outcome, failed};
 use crate::report::{Wanted, report_of, write_refused};
 use pliron_laws::OptError;
 use pliron_opts::{BenchNotation, Notation};
+use pliron_pass::{BenchFactKind, Pass};
 use pliron_show::{Mark, Source, marked, pretty};
 use pliron_watch::{
-    Optimised, Plan, PlanError, Watched, WatchedSchedule, Wish, WordFault, optimise, scheduled,
+    Plan, PlanError, Watched, WatchedSchedule, Wish, WordFault, optimise, scheduled,
     watched_passes,
 };
 use std::alloc::{AllocError, Global};
@@ -107,57 +111,49 @@ fn refused<N: Notation, C: Clock + Drop>(
     })
 }
 
-/// The outcome of passes that ran, unless verifying found something.
-fn answered<N: Notation, C: Clock + Drop>(
-    alloc: Global,
-    report: String,
-    made: Optimised,
-    is_pretty: bool,
-    passes: &[Watched<N, C>],
-) -> Result<Outcome, AllocError>
-    ensures { IfOk result (λ outcome. Ends (IsLaidOut (string_bytes made.printed) outcome.output.items) ⊤ outcome) }
-{
-    if has_fault(passes) {
-        return Ok(Outcome {
-            output: Vec::new(alloc),
-            report,
-            status: 3,
-        });
-    }
-    Ok(Outcome {
-        output: laid_out(alloc, made.printed, is_pretty)?,
-        report,
-        status: 0,
-    })
-}
-
 /// What these passes make of the text.
-fn opt_with<C: Clock + Copy + Drop>(
+fn opt_with<N: Notation, C: Clock + Copy + Drop>(
     alloc: Global,
     source: &Source,
     wish: &OptWish,
-    schedule: &mut WatchedSchedule<BenchNotation, C>,
-) -> Result<Outcome, AllocError> {
+    schedule: &mut WatchedSchedule<N, C>,
+) -> Result<Outcome, AllocError>
+    ensures { IfOk result (λ outcome. Ends (IsMade N.reads N.prints N.D.meaning (RunsAlone ⟦<BenchFactKind as PartialEq>⟧.eq
+        ⟦<WatchedSchedule<N, C> as Pass>⟧.outcome schedule.old) source.now.text.now outcome.output.items) ⊤ outcome) }
+{
     let made = optimise(alloc, schedule, source.text);
     let passes = watched_passes(schedule);
     let report = report_of(alloc, passes, &wanted(wish))?;
     match made {
         Ok(Some(_)) if is_short(passes) => refused(alloc, report, source, OptError::Memory, passes),
-        Ok(Some(made)) => answered(alloc, report, made, wish.is_pretty, passes),
+        Ok(Some(_)) if has_fault(passes) => Ok(Outcome {
+            output: Vec::new(alloc),
+            report,
+            status: 3,
+        }),
+        Ok(Some(made)) => Ok(Outcome {
+            output: laid_out(alloc, made.printed, wish.is_pretty)?,
+            report,
+            status: 0,
+        }),
         Ok(None) => failed(alloc, Failure::Text, source),
         Err(error) => refused(alloc, report, source, error, passes),
     }
 }
 
 /// What the passes that the plan asks for make of the text.
-fn opt_by<C: Clock + Copy + Drop>(
+fn opt_by<N: Notation, C: Clock + Copy + Drop>(
     alloc: Global,
     source: &Source,
     wish: &OptWish,
     plan: &Plan,
     clock: C,
-) -> Result<Outcome, AllocError> {
-    match scheduled(alloc, plan, &wish.watch, clock)? {
+) -> Result<Outcome, AllocError>
+    ensures { IfOk result (λ outcome. Ends (IsPlannedMade N.reads N.prints N.D.meaning ⟦<Watched<N, C> as Pass>⟧.name
+        (RunsAlone ⟦<BenchFactKind as PartialEq>⟧.eq ⟦<WatchedSchedule<N, C> as Pass>⟧.outcome) plan.now.runs plan.now.nested
+        (map (λ name. name.now) plan.now.names.items) source.now.text.now outcome.output.items) ⊤ outcome) }
+{
+    match scheduled::<N, C>(alloc, plan, &wish.watch, clock)? {
         Some(mut schedule) => opt_with(alloc, source, wish, &mut schedule),
         None => failed(alloc, Failure::Text, source),
     }
@@ -173,9 +169,13 @@ pub fn opt<C: Clock + Copy + Drop>(
     source: &Source,
     wish: &OptWish,
     clock: C,
-) -> Result<Outcome, AllocError> {
+) -> Result<Outcome, AllocError>
+    ensures { IfOk result (λ outcome. Ends (IsMadeBy ReadsBench PrintsBench bench ⟦<Watched<BenchNotation, C> as Pass>⟧.name
+        (RunsAlone ⟦<BenchFactKind as PartialEq>⟧.eq ⟦<WatchedSchedule<BenchNotation, C> as Pass>⟧.outcome) wish.now.pipeline.now
+        source.now.text.now outcome.output.items) ⊤ outcome) }
+{
     match Plan::read(alloc, wish.pipeline) {
-        Ok(plan) => opt_by(alloc, source, wish, &plan, clock),
+        Ok(plan) => opt_by::<BenchNotation, C>(alloc, source, wish, &plan, clock),
         Err(PlanError::Word(fault)) => misspelt(alloc, wish.pipeline, &fault),
         Err(PlanError::Memory) => failed(alloc, Failure::Refused(OptError::Memory), source),
     }
