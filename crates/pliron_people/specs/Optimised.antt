@@ -6,7 +6,7 @@ use Rattle.pliron_laws.specs.Datum.{Meaning}
 use Rattle.pliron_show.specs.Layout.{without_blanks}
 use Rattle.pliron_opts.specs.Answered.{Reads, Prints, IsOptimised, status_line}
 use Rattle.pliron_watch.specs.PipelineWords.{Plans}
-use Rattle.pliron_watch.specs.Schedules.{Schedule, IsPlanned}
+use Rattle.pliron_watch.specs.Schedules.{ScheduleOf, IsPlanned}
 
 -- only blanks change
 abbrev pub IsLaidOut : (printed output : List ℕ) → Type 0
@@ -20,10 +20,10 @@ module _ (reads : Reads) (prints : Prints) (m : Meaning) where
     pub made : IsOptimised reads prints m ran text (printed ++ status_line status)
     pub laid : IsLaidOut printed output
 
-  module _ {P D E B K : Type 0} (name : P → List ℕ) (ran : Schedule {P} {D} {E} {B} {K} → ℕ → Tree → Tree → IRStatus → Type 0) where
+  module _ {P D E B K : Type 0} (name : P → List ℕ) (ran : ScheduleOf P D E B K → ℕ → Tree → Tree → IRStatus → Type 0) where
     -- the passes have these names, and are run so
     pub record IsPlannedMade (runs : Option ℕ) (nested : Bool) (names : List (List ℕ)) (text output : List ℕ) : Type 0 where
-      pub schedule : Schedule {P} {D} {E} {B} {K}
+      pub schedule : ScheduleOf P D E B K
       pub planned : IsPlanned name runs nested names schedule
       pub made : IsMade (ran schedule) text output
 

@@ -3,14 +3,23 @@ ghost use Rattle.pliron_pipeline.specs.Honest.{IsHonest};
 
 use crate::schedule::{WatchedPipeline, WatchedSchedule};
 use crate::watched::Watched;
+use pliron_laws::Dialect;
 use pliron_opts::Notation;
-use pliron_pass::{Pass, Passes};
+use pliron_pass::{Analyses, BenchFacts, Pass, Passes};
+use pliron_pipeline::Step;
 use std::time::Clock;
 
-/// Each watched pass is honest.
+/// Each of the three passes is honest.
+fn steps_are_honest<D: Dialect, E: Analyses + Drop>()
+    ensures { IsHonest ⟦<Step<D, E> as Pass>⟧.outcome }
+{}
+
+/// So is each where it is watched.
 fn watched_are_honest<N: Notation, C: Clock + Drop>()
     ensures { IsHonest ⟦<Watched<N, C> as Pass>⟧.outcome }
-{}
+{
+    steps_are_honest::<N::D, BenchFacts>();
+}
 
 /// So is a list of them.
 fn lists_are_honest<N: Notation, C: Clock + Drop>()

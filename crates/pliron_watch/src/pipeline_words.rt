@@ -79,6 +79,13 @@ struct Rest<'w> {
     start: usize,
 }
 
+/// What stands before the bracket that closes the text, if one does.
+fn closed(text: &str) -> Option<&str>
+    ensures { IfSome result (λ inner. text.now ≡ inner.now ++ codes ")") }
+{
+    text.strip_suffix(')')
+}
+
 /// The runs that the rest of a word behind `repeat:` asks for, and what is run. Errors: it asks for none; want of memory.
 fn counted_by_colon<'w>(alloc: Global, rest: &'w str) -> Result<(usize, Rest<'w>), PlanError>
     ensures whole { IfOk result (λ read. rest.now ≡ decimal read.0 ++ (codes ":" ++ read.1.text.now)) }
@@ -102,7 +109,7 @@ fn counted_in_brackets<'w>(alloc: Global, rest: &'w str) -> Result<(usize, Rest<
     };
     let runs = count(alloc, digits, 7)?;
     let start = digits.len().saturating_add(9);
-    match behind.strip_suffix(')') {
+    match closed(behind) {
         Some(text) => Ok((runs, Rest { text, start })),
         None => fault(start.saturating_add(behind.len()), 0, "`)`"),
     }
@@ -129,7 +136,7 @@ fn counted<'w>(alloc: Global, word: &'w str) -> Result<(Option<usize>, Rest<'w>)
 
 /// Whether it is for each operation directly inside, and the list. Errors: a bracket that isn't closed.
 fn nested<'w>(rest: Rest<'w>) -> Result<(bool, Rest<'w>), PlanError>
-    ensures { IfOk result (λ read. Nests rest.text.now read.0 read.1.text.now) }
+    ensures { IfOk result (λ read. Nests rest.entry.text.now read.0 read.1.text.now) }
 {
     let start = rest.start.saturating_add(7);
     if let Some(text) = rest.text.strip_prefix("nested:") {
@@ -138,7 +145,7 @@ fn nested<'w>(rest: Rest<'w>) -> Result<(bool, Rest<'w>), PlanError>
     let Some(behind) = rest.text.strip_prefix("nested(") else {
         return Ok((false, rest));
     };
-    match behind.strip_suffix(')') {
+    match closed(behind) {
         Some(text) => Ok((true, Rest { text, start })),
         None => fault(start.saturating_add(behind.len()), 0, "`)`"),
     }
@@ -151,7 +158,7 @@ fn is_pass(name: &str) -> bool {
 
 /// The names that commas set apart. Errors: one that no pass has; want of memory.
 fn names<'w>(alloc: Global, list: Rest<'w>) -> Result<Vec<&'w str>, PlanError>
-    ensures { IfOk result (λ names. map (λ name. name.now) names.items ≡ slice_split (λ b. b == 44) list.text.now) }
+    ensures { IfOk result (λ names. map (λ name. name.now) names.items ≡ slice_split (λ b. b == 44) list.entry.text.now) }
 {
     let mut names = Vec::new(alloc);
     let mut start = list.start;

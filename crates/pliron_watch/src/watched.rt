@@ -1,5 +1,5 @@
 //! A pass that is watched while it runs.
-ghost use Rattle.std.specs.Prelude.{◌≡◌};
+ghost use Rattle.std.specs.Prelude.{◌≡◌, false};
 ghost use Rattle.pliron_core.specs.Tree.{IsLive};
 ghost use Rattle.pliron_pipeline.specs.Steps.{step_name};
 

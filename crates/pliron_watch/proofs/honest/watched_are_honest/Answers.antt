@@ -1,17 +1,4 @@
-use Rattle.pliron_pipeline.proofs.HonestLemmas.{step_cases, optimisation_same}
 use Rattle.pliron_watch.proofs.honest.watched_are_honest.Goals as goal
 
 pub returns : goal.returns
-returns g c = record {
-  same = λ p q. step_cases _
-      (λ p q op s s' a. optimisation_same _ _ _ op s s' a)
-      (λ p q op s s' a runs e. absurd runs)
-      (λ p q op s s' a runs e. absurd runs)
-      (λ p q op s s' a runs e. absurd runs)
-      (λ p q op s s' a. optimisation_same _ _ _ op s s' a)
-      (λ p q op s s' a runs e. absurd runs)
-      (λ p q op s s' a runs e. absurd runs)
-      (λ p q op s s' a runs e. absurd runs)
-      (λ p q op s s' a. optimisation_same _ _ _ op s s' a)
-      p.step q.step;
-}
+returns g c = record { same = λ p q op s s' a. c.steps_are_honest.ensures.same p.step q.step op s s' a }
