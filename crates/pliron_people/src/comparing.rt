@@ -1,5 +1,5 @@
 //! Runs before and after passes.
-ghost use Rattle.std.specs.Prelude.{◌≡◌, ⊤, map, IfOk, IfSome, IsTrue};
+ghost use Rattle.std.specs.Prelude.{◌≡◌, ⊤, map, true, IfOk, IfSome};
 ghost use Rattle.pliron_core.specs.Writes.{no_tree};
 ghost use Rattle.pliron_laws.specs.Datum.{Number as NumberOf};
 ghost use Rattle.pliron_people.specs.Compared.{AreSeen, AreAlike};
@@ -66,7 +66,7 @@ fn is_cut_off(sight: &Sight) -> bool {
 
 /// What the runs have to do with one another.
 fn compared(sights: &Sights) -> Likeness
-    ensures { result ≡ Same → sights.now.before ≡ sights.now.after }
+    ensures { result ≡ Same → ⟦<Sight as PartialEq>⟧.eq sights.now.before sights.now.after ≡ true }
 {
     let (before, after) = (effects(&sights.before), effects(&sights.after));
     match (is_cut_off(&sights.before), is_cut_off(&sights.after)) {
@@ -80,6 +80,7 @@ fn compared(sights: &Sights) -> Likeness
 }
 
 /// What is seen of the run of a text's operation, and of that after the passes; `None` of an unreadable text.
+#[tactic(auto, using(crate::proofs::PeopleLemmas::are_seen))]
 fn sights_of(
     alloc: Global,
     source: &Source,
@@ -114,7 +115,7 @@ fn told(alloc: Global, sights: &Sights, likeness: Likeness) -> Result<String, Al
 
 /// The outcome of these runs.
 fn outcome_of(alloc: Global, sights: &Sights) -> Result<Outcome, AllocError>
-    ensures { IfOk result (Ends (sights.now.before ≡ sights.now.after) ⊤) }
+    ensures { IfOk result (Ends (⟦<Sight as PartialEq>⟧.eq sights.now.before sights.now.after ≡ true) ⊤) }
 {
     let likeness = compared(sights);
     let output = told(alloc, sights, likeness)?.into_bytes();
@@ -134,6 +135,7 @@ fn outcome_of(alloc: Global, sights: &Sights) -> Result<Outcome, AllocError>
 }
 
 /// Compares runs before and after the passes of the schedule.
+#[tactic(auto, using(crate::proofs::PeopleLemmas::are_alike))]
 fn compare_in(
     alloc: Global,
     source: &Source,
@@ -142,7 +144,7 @@ fn compare_in(
     ctx: &mut Context,
 ) -> Result<Outcome, AllocError>
     requires { ctx.old.tree ≡ no_tree }
-    ensures { IfOk result (Ends (AreAlike (map NumberOf wish.now.inputs.now) (map NumberOf wish.now.world.now) wish.now.steps) ⊤) }
+    ensures { IfOk result (Ends (AreAlike (map NumberOf wish.now.inputs.now) (map NumberOf wish.now.world.now) wish.now.steps ⟦<Sight as PartialEq>⟧.eq) ⊤) }
 {
     match sights_of(alloc, source, wish, schedule, ctx) {
         Ok(Some(sights)) => outcome_of(alloc, &sights),
@@ -158,7 +160,7 @@ fn compare_by(
     wish: &RunWish,
     plan: &Plan,
 ) -> Result<Outcome, AllocError>
-    ensures { IfOk result (Ends (AreAlike (map NumberOf wish.now.inputs.now) (map NumberOf wish.now.world.now) wish.now.steps) ⊤) }
+    ensures { IfOk result (Ends (AreAlike (map NumberOf wish.now.inputs.now) (map NumberOf wish.now.world.now) wish.now.steps ⟦<Sight as PartialEq>⟧.eq) ⊤) }
 {
     let nothing = Wish {
         counts: false,
@@ -182,7 +184,8 @@ fn compare_by(
 /// 2 for a word that asks for no passes or an unreadable text; 3 where a run was cut off or something differs. Errors:
 /// want of memory for what is told. Cost: reading, two runs by `evaluate_noting`, and the passes.
 pub fn compare(alloc: Global, source: &Source, wish: &CompareWish) -> Result<Outcome, AllocError>
-    ensures { IfOk result (Ends (AreAlike (map NumberOf wish.now.run.inputs.now) (map NumberOf wish.now.run.world.now) wish.now.run.steps) ⊤) }
+    ensures { IfOk result (Ends (AreAlike (map NumberOf wish.now.run.inputs.now) (map NumberOf wish.now.run.world.now) wish.now.run.steps
+        ⟦<Sight as PartialEq>⟧.eq) ⊤) }
 {
     match Plan::read(alloc, wish.pipeline) {
         Ok(plan) => compare_by(alloc, source, &wish.run, &plan),

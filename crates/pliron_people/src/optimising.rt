@@ -14,8 +14,7 @@ use pliron_opts::{BenchNotation, Notation};
 use pliron_pass::{BenchFactKind, Pass};
 use pliron_show::{Mark, Source, marked, pretty};
 use pliron_watch::{
-    Plan, PlanError, Watched, WatchedSchedule, Wish, WordFault, optimise, scheduled,
-    watched_passes,
+    Plan, PlanError, Watched, WatchedSchedule, Wish, WordFault, optimise, scheduled, watched_passes,
 };
 use std::alloc::{AllocError, Global};
 use std::time::Clock;
@@ -58,15 +57,23 @@ pub fn misspelt(alloc: Global, word: &str, fault: &WordFault) -> Result<Outcome,
     })
 }
 
-/// The text with each operation on a line of its own, or on one line, and an end of a line.
+/// The text with each operation on a line of its own, or as it is.
+fn over_lines(alloc: Global, printed: String, is_pretty: bool) -> Result<Vec<u8>, AllocError>
+    ensures { IfOk result (λ output. IsLaidOut (string_bytes printed) output.items) }
+{
+    if is_pretty {
+        pretty(alloc, printed.as_bytes())
+    } else {
+        Ok(printed.into_bytes())
+    }
+}
+
+/// The same and an end of a line.
+#[tactic(auto, using(crate::proofs::PeopleLemmas::ended))]
 fn laid_out(alloc: Global, printed: String, is_pretty: bool) -> Result<Vec<u8>, AllocError>
     ensures { IfOk result (λ output. IsLaidOut (string_bytes printed) output.items) }
 {
-    let mut output = if is_pretty {
-        pretty(alloc, printed.as_bytes())?
-    } else {
-        printed.into_bytes()
-    };
+    let mut output = over_lines(alloc, printed, is_pretty)?;
     output.push(b'\n')?;
     Ok(output)
 }
@@ -112,6 +119,7 @@ fn refused<N: Notation, C: Clock + Drop>(
 }
 
 /// What these passes make of the text.
+#[tactic(auto, using(crate::proofs::PeopleLemmas::is_made))]
 fn opt_with<N: Notation, C: Clock + Copy + Drop>(
     alloc: Global,
     source: &Source,
@@ -142,6 +150,7 @@ fn opt_with<N: Notation, C: Clock + Copy + Drop>(
 }
 
 /// What the passes that the plan asks for make of the text.
+#[tactic(auto, using(crate::proofs::PeopleLemmas::is_planned_made))]
 fn opt_by<N: Notation, C: Clock + Copy + Drop>(
     alloc: Global,
     source: &Source,
@@ -164,6 +173,7 @@ fn opt_by<N: Notation, C: Clock + Copy + Drop>(
 /// Statuses: 0; 1 where memory or the passes were refused; 2 for a word that asks for no passes or an unreadable text;
 /// 3 where verifying found something. With all but 0 nothing is to be written to the output. Errors: want of memory for
 /// what is told. Cost: reading, the passes, what is looked at, and printing.
+#[tactic(auto, using(crate::proofs::PeopleLemmas::is_made_by))]
 pub fn opt<C: Clock + Copy + Drop>(
     alloc: Global,
     source: &Source,

@@ -15,7 +15,7 @@ pub struct Counts {
 
 impl Counts {
     /// Nothing. Cost: constant.
-    pub fn none() -> Self {
+    pub(crate) fn none() -> Self {
         Counts {
             operations: 0,
             blocks: 0,
@@ -25,7 +25,7 @@ impl Counts {
     }
 
     /// Adds what the others count. Cost: constant.
-    pub fn add(&mut self, others: &Counts) {
+    pub(crate) fn add(&mut self, others: &Counts) {
         self.operations = self.operations.saturating_add(others.operations);
         self.blocks = self.blocks.saturating_add(others.blocks);
         self.arguments = self.arguments.saturating_add(others.arguments);
@@ -60,7 +60,7 @@ impl Counts {
 
     /// What the operation and all that stands inside it come to. Asks that it stands (`is_live` tests it). Cost: one
     /// step for each operation, region and block.
-    pub fn of(op: Ptr<Operation>, ctx: &Context) -> Self
+    pub(crate) fn of(op: Ptr<Operation>, ctx: &Context) -> Self
         requires { IsLive ctx.now.tree op }
     {
         let mut counts = Counts::none();

@@ -69,7 +69,7 @@ impl Row {
 
 impl Diary {
     /// Nothing was noted. Cost: constant.
-    pub fn new(alloc: Global) -> Self {
+    pub(crate) fn new(alloc: Global) -> Self {
         Diary {
             first: None,
             rows: Vec::new(alloc),
@@ -81,7 +81,7 @@ impl Diary {
 
     /// Adds a run: to the last row, or to a new one where the pass begins with its first operation again. Errors: want
     /// of memory.
-    pub fn add_run(&mut self, run: &Run) -> Result<(), AllocError> {
+    pub(crate) fn add_run(&mut self, run: &Run) -> Result<(), AllocError> {
         if self.first.is_none() {
             self.first = Some(run.op);
         }
