@@ -45,7 +45,8 @@ fn word_told(alloc: Global, word: &str, fault: &WordFault) -> Result<String, All
     marked(alloc, word.as_bytes(), &mark)
 }
 
-/// The outcome for a word that plans no passes.
+/// The outcome for a word that plans no passes: nothing is to be written, and the part that is wrong is told. Errors: want
+/// of memory. Cost: linear in the word.
 pub fn misspelt(alloc: Global, word: &str, fault: &WordFault) -> Result<Outcome, AllocError>
     ensures { IfOk result EndsBadly }
 {

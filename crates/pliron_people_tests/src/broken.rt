@@ -67,7 +67,7 @@ func {|b0():|  scope {|  b0():|    ret|  }|  ret|} => 7:3 `;` or `}`
 func {|b0():|  scope { ret };|  ret|} => 3:11 a block, as each `func` and `scope` has one
 func {|b0():|  ret|}|} => 5:1 the end of the text
 func {|b0():|  ret|}|func {|b0():|  ret|} => 5:1 the end of the text
-func {|b0():|  ret;|} => 4:1 the name of a block
+func {|b0():|  ret;|} => 4:1 a kind of operations
 func {|b0():|  x := const 1;|  ret x|} => 3:5 `,` or `=`
 func {|b0():|  x = const 1; % one|  ret x|} => 3:16 a word, a number or one of `{ } ( ) , : ; =`
 func {|b0():|\tx = const 1 const 2;|  ret x|} => 3:14 `;` or `}`

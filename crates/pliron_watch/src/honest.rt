@@ -35,7 +35,8 @@ fn pipelines_are_honest<N: Notation, C: Clock + Drop>()
     lists_are_honest::<N, C>();
 }
 
-/// Each schedule is honest: where it answers `Unchanged`, the tree is the same but for spent keys.
+/// Each schedule is honest: where it answers `Unchanged`, the tree is the same but for spent keys. A law: it does
+/// nothing. Cost: constant.
 pub fn schedules_are_honest<N: Notation, C: Clock + Drop>()
     ensures { IsHonest ⟦<WatchedSchedule<N, C> as Pass>⟧.outcome }
 {
