@@ -1,5 +1,5 @@
 use Rattle.std.proofs.Common.{◌≤◌, length}
-use Rattle.pliron_opts.proofs.graph.numbered_graph.numbers.Given as goal
+use Rattle.pliron_graph_text.proofs.numbered_graph.numbers.Given as goal
 
 abbrev pub invariant-loop-rest : goal.invariant-loop-rest
 invariant-loop-rest l = length l.rest ≤ length l.text

@@ -1,9 +1,9 @@
-//! Graphs as texts: what `plir_opt graph` reads.
-ghost use Rattle.std.specs.Prelude.{◌<◌, ◌≤◌, IfOk, IfSome, length};
+//! Graphs as texts, and how they are read.
+ghost use Rattle.std.specs.Prelude.{◌≡◌, ◌<◌, ◌≤◌, IfOk, IfSome, length};
 ghost use Rattle.pliron_search.specs.Adjacency.{AreInverse};
 
-use pliron_graph::AdjacencyList;
 use pliron_laws::OptError;
+use pliron_search::AdjacencyList;
 use std::alloc::{AllocError, Global};
 use std::collections::BTreeMap;
 
@@ -135,7 +135,8 @@ fn places_of(
 ///
 /// Errors: want of memory. Cost: linear, but for an ordered map of the numbers, which strangers choose.
 pub fn read_graph(alloc: Global, text: &[u8]) -> Result<Option<NumberedGraph>, OptError>
-    ensures { IfOk result (λ found. IfSome found (λ graph. AreInverse graph.edges)) }
+    ensures lawful { IfOk result (λ found. IfSome found (λ graph. AreInverse graph.edges)) }
+    ensures numbered { IfOk result (λ found. IfSome found (λ graph. length graph.numbers.items ≡ length graph.edges.succ)) }
 {
     let Some(lines) = lines(alloc, text)? else {
         return Ok(None);
