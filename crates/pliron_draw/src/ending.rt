@@ -1,6 +1,6 @@
 //! How the commands that draw end.
-ghost use Rattle.std.specs.Prelude.{◌≡◌, IfOk};
-ghost use Rattle.pliron_people.specs.Outcomes.{Ends, EndsBadly};
+ghost use Rattle.std.specs.Prelude.{◌≡◌, ◌⊎◌, IfOk};
+ghost use Rattle.pliron_people.specs.Outcomes.{EndsBadly};
 
 use pliron_people::{Failure, Outcome, Source};
 use std::alloc::{AllocError, Global};
@@ -21,7 +21,7 @@ pub enum Wrong<'w> {
 impl Wrong<'_> {
     /// The status that it ends with: 1 where something was refused, and else 2.
     fn status(self) -> u8
-        ensures { result ≡ 1 ⊎ result ≡ 2 }
+        ensures { (result ≡ 1) ⊎ (result ≡ 2) }
     {
         match self {
             Wrong::Failed(failure) => failure.status(),
@@ -33,15 +33,22 @@ impl Wrong<'_> {
     fn told(self, alloc: Global, source: &Source) -> Result<String, AllocError> {
         match self {
             Wrong::Failed(failure) => failure.told(alloc, source),
-            Wrong::Graph => format!(in alloc; "error: unreadable graph\nhelp: write a line for each node: its number, a colon, and its successors, each after one blank\n"),
-            Wrong::Region(path) => format!(in alloc; "error: no region `{path}`\nhelp: write numbers with dots between them: a region of the text's operation, an operation in it, a region of that one, and so on\n"),
-            Wrong::Passes(word) => format!(in alloc; "error: no list of passes `{word}`\nhelp: write `sccp`, `dce` and `simplify-cfg` with commas between them, behind `repeat:N:` and `nested:` where these are wished\n"),
+            Wrong::Graph => format!(in alloc;
+                "error: unreadable graph\nhelp: write a line for each node: its number, a colon, and its successors, each after one blank\n"
+            ),
+            Wrong::Region(path) => format!(in alloc;
+                "error: no region `{path}`\nhelp: write numbers with dots: a region of the text, an operation in it, a region of that one ..\n"
+            ),
+            Wrong::Passes(word) => format!(in alloc;
+                "error: no list of passes `{word}`\nhelp: write `sccp`, `dce`, `simplify-cfg` with commas, behind `repeat:N:`, `nested:` if wished\n"
+            ),
         }
     }
 }
 
 /// The outcome of a command without an answer: nothing is to be written, and what went wrong is told. Errors: want
 /// of memory. Cost: that of reading the text.
+#[tactic(auto, using(crate::proofs::DrawLemmas::ends_badly_by))]
 pub fn ended_badly(alloc: Global, wrong: Wrong, source: &Source) -> Result<Outcome, AllocError>
     ensures { IfOk result EndsBadly }
 {
@@ -56,7 +63,7 @@ pub fn ended_badly(alloc: Global, wrong: Wrong, source: &Source) -> Result<Outco
 /// The outcome of a command with this answer. Cost: constant.
 pub fn ended_with(alloc: Global, output: Vec<u8>) -> Outcome
     ensures status { result.status ≡ 0 }
-    ensures output { result.output ≡ output }
+    ensures output { result.output.items ≡ output.items }
 {
     Outcome {
         output,

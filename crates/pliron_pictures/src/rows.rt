@@ -1,13 +1,17 @@
 //! A graph as it is drawn: its nodes in order, and what stands beside each.
-ghost use Rattle.std.specs.Prelude.{◌≡◌, ◌++◌, ◌∷◌, [], IfOk, IsOkUnless, Contains, map};
+ghost use Rattle.std.specs.Prelude.{◌≡◌, ◌↔◌, IfOk, IfSome, IsOkUnless, Contains, None, Some, map};
 ghost use Rattle.std.specs.List.{All};
+ghost use Rattle.pliron_search.specs.Digraph.{Digraph};
+ghost use Rattle.pliron_search.specs.Search.{IsListed};
+ghost use Rattle.pliron_dominance.specs.Dominance.{IsImmediate};
 ghost use Rattle.pliron_dominance.specs.Told.{TellsDominance};
-ghost use Rattle.pliron_draw.specs.GraphRows.{IsRowOf};
+ghost use Rattle.pliron_pictures.specs.GraphRows.{IsRowOf};
 
 use pliron_dominance::DominatorTree;
 use pliron_laws::OptError;
 use pliron_search::ControlFlowGraph;
 use std::alloc::Global;
+use std::hash::Hash;
 
 /// A node with its edges, and its place in the tree of dominators.
 #[derive(Drop)]
@@ -19,6 +23,18 @@ pub struct GraphRow<N> {
     pub successors: Vec<N>,
     /// Its immediate dominator: it has one where the entry reaches it, and isn't it.
     pub dominator: Option<N>,
+}
+
+/// The immediate dominator of a node, if it is reached and has one.
+fn dominator_of<N: Eq + Hash + Copy>(tree: &DominatorTree<N>, node: N) -> Option<N>
+    ensures immediate { (g : Digraph N) → TellsDominance N.eq g tree.now → IfSome result (λ d. IsImmediate g d node) }
+    ensures alone { (g : Digraph N) → TellsDominance N.eq g tree.now → IsListed N.eq tree.now.nodes node → ((result ≡ None) ↔ (g.entry ≡ Some node)) }
+{
+    if tree.is_reached(&node) {
+        tree.immediate_dominator(&node)
+    } else {
+        None
+    }
 }
 
 /// What stands beside a node.
@@ -37,11 +53,7 @@ fn row_of<C, G: ControlFlowGraph<C>>(
     ensures memory { IsOkUnless result OptError.Memory }
 {
     let is_reached = tree.is_reached(&node);
-    let dominator = if is_reached {
-        tree.immediate_dominator(&node)
-    } else {
-        None
-    };
+    let dominator = dominator_of(tree, node);
     let successors = graph.successors(alloc, ctx, &node)?;
     Ok(GraphRow {
         node,

@@ -1,11 +1,10 @@
 //! The picture of a region: its blocks with their operations, and the edges between them.
 ghost use Rattle.std.specs.Prelude.{◌≤◌};
-ghost use Rattle.std.specs.List.{All};
 ghost use Rattle.pliron_core.specs.Tree.{IsBlock, IsLive};
 ghost use Rattle.pliron_search.specs.Regions.{IsLawfulRegion};
 
 use crate::dot::{Attribute, Dot};
-use crate::graph_rows::{GraphRow, graph_rows};
+use crate::rows::{GraphRow, graph_rows};
 use crate::words::{Words, forwarded, push_on_one_line, words_of};
 use pliron_core::{BasicBlock, Context, Operation, Ptr, Region};
 use pliron_laws::OptError;
@@ -99,7 +98,10 @@ impl FlowPicture<'_> {
     ) -> Result<(), AllocError>
         requires { IsLive ctx.now.tree op }
     {
-        push_on_one_line(label, self.words.operation(self.text, op.key()).unwrap_or(b"_"))?;
+        push_on_one_line(
+            label,
+            self.words.operation(self.text, op.key()).unwrap_or(b"_"),
+        )?;
         for i in 0..op.num_region(ctx) {
             write!(label, " {{ {}.{number}.{i} }}", self.path)?;
         }
@@ -134,11 +136,7 @@ impl FlowPicture<'_> {
     }
 
     /// Draws the edges from a block, each with the values that it forwards.
-    fn edges(
-        &mut self,
-        ctx: &Context,
-        row: &GraphRow<Ptr<BasicBlock>>,
-    ) -> Result<(), AllocError>
+    fn edges(&mut self, ctx: &Context, row: &GraphRow<Ptr<BasicBlock>>) -> Result<(), AllocError>
         requires { IsBlock ctx.now.tree row.now.node }
     {
         let branch = match row.node.get_tail(ctx) {
@@ -161,17 +159,19 @@ impl FlowPicture<'_> {
         ctx: &Context,
         rows: &[GraphRow<Ptr<BasicBlock>>],
         dominators: bool,
-    ) -> Result<(), AllocError>
-        requires { All (λ row. IsBlock ctx.now.tree row.node) rows.now }
-    {
+    ) -> Result<(), AllocError> {
         self.dot.all("node", &BOXES)?;
         self.dot.all("edge", &LETTERS)?;
         let mut operations = 0;
         for row in rows {
-            operations = self.block(ctx, row, operations)?;
+            if row.node.is_live(ctx) {
+                operations = self.block(ctx, row, operations)?;
+            }
         }
         for row in rows {
-            self.edges(ctx, row)?;
+            if row.node.is_live(ctx) {
+                self.edges(ctx, row)?;
+            }
         }
         if dominators {
             self.dominators(rows)?;

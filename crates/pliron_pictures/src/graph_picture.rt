@@ -5,10 +5,8 @@ ghost use Rattle.pliron_search.specs.Adjacency.{AreInverse, graph_of};
 ghost use Rattle.pliron_search.specs.Search.{IsListed, IsSearch};
 
 use crate::dot::{Attribute, Dot};
-use pliron_graph::{
-    ControlFlowGraph, DFSEdgeKind, DFSTraversal, Scc, sccs_in_topological_order,
-};
-use pliron_graph_text::NumberedGraph;
+use pliron_graph::{ControlFlowGraph, DFSEdgeKind, DFSTraversal, Scc, sccs_in_topological_order};
+use pliron_graph_text::{NumberedGraph, read_graph};
 use pliron_laws::OptError;
 use std::alloc::{AllocError, Global};
 
@@ -46,7 +44,13 @@ fn colour(kind: DFSEdgeKind) -> &'static str {
 }
 
 /// How a node looks.
-fn look(graph: &NumberedGraph, search: &DFSTraversal<u32>, node: u32) -> &'static [Attribute<'static>] {
+fn look(
+    graph: &NumberedGraph,
+    search: &DFSTraversal<u32>,
+    node: u32,
+) -> &'static [Attribute<'static>]
+    requires { AreInverse graph.now.edges }
+{
     if graph.edges.entry_node(&()) == Some(node) {
         &TWICE
     } else if search.is_reached(&node) {
@@ -100,7 +104,11 @@ fn draw_reached(
             name: "color",
             value: colour(kind),
         };
-        dot.edge(graph.number(node) as u64, graph.number(next) as u64, &[colour])?;
+        dot.edge(
+            graph.number(node) as u64,
+            graph.number(next) as u64,
+            &[colour],
+        )?;
     }
     Ok(())
 }
@@ -119,7 +127,7 @@ fn draw_unreached(graph: &NumberedGraph, node: u32, dot: &mut Dot) -> Result<(),
 
 /// The picture of a graph. Asks that each node is among the predecessors of exactly its successors. Errors: want of
 /// memory. Cost: linear in the nodes and edges, but for sorting each component.
-pub fn graph_picture(alloc: Global, graph: &NumberedGraph) -> Result<Vec<u8>, OptError>
+fn graph_picture(alloc: Global, graph: &NumberedGraph) -> Result<Vec<u8>, OptError>
     requires { AreInverse graph.now.edges }
 {
     let components = sccs_in_topological_order(alloc, &(), &graph.edges)?;
@@ -135,4 +143,17 @@ pub fn graph_picture(alloc: Global, graph: &NumberedGraph) -> Result<Vec<u8>, Op
         }
     }
     Ok(dot.end()?)
+}
+
+/// The picture of a text's graph in the dot language: a line for each node, with its number, a colon, and its successors,
+/// each after one blank. Each cyclic component stands in a frame, and the colour of an edge tells its kind in a
+/// depth-first search: black forward, red back, blue across, and grey where the search doesn't come. `None` of another
+/// text.
+///
+/// Errors: want of memory. Cost: that of `read_graph`, and linear but for sorting each component.
+pub fn text_graph(alloc: Global, text: &[u8]) -> Result<Option<Vec<u8>>, OptError> {
+    match read_graph(alloc, text)? {
+        Some(graph) => Ok(Some(graph_picture(alloc, &graph)?)),
+        None => Ok(None),
+    }
 }

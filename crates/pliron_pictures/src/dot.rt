@@ -1,9 +1,9 @@
 //! The dot language of Graphviz.
 //!
-//! A node is named `n` and its number, and a cluster `cluster` and its number, so no name needs quotes. Each value
-//! of an attribute is quoted: behind a backslash stand each quote, each backslash, and the `l` that ends a line.
+//! A node is named by its number, and a cluster by `cluster` and its number, so no name needs quotes. Each value of an
+//! attribute is quoted: behind a backslash stand each quote, each backslash, and the `l` that ends a line.
 ghost use Rattle.std.specs.Prelude.{◌≡◌, ◌++◌, OnOk};
-ghost use Rattle.pliron_draw.specs.Quoting.{quoted, written_byte};
+ghost use Rattle.pliron_pictures.specs.Quoting.{quoted, written_byte};
 
 use std::alloc::{AllocError, Global};
 
@@ -93,19 +93,14 @@ impl Dot {
 
     /// Writes a node. Errors: want of memory. Cost: linear in what is said of it.
     pub fn node(&mut self, number: u64, attributes: &[Attribute]) -> Result<(), AllocError> {
-        self.push_name("  n", number)?;
+        self.push_name("  ", number)?;
         self.push_attributes(attributes)
     }
 
     /// Writes an edge from a node to another. Errors: want of memory. Cost: linear in what is said of it.
-    pub fn edge(
-        &mut self,
-        from: u64,
-        to: u64,
-        attributes: &[Attribute],
-    ) -> Result<(), AllocError> {
-        self.push_name("  n", from)?;
-        self.push_name(" -> n", to)?;
+    pub fn edge(&mut self, from: u64, to: u64, attributes: &[Attribute]) -> Result<(), AllocError> {
+        self.push_name("  ", from)?;
+        self.push_name(" -> ", to)?;
         self.push_attributes(attributes)
     }
 

@@ -160,10 +160,19 @@ impl Words {
         }
     }
 
+    /// Where the operation with this number stands, if the text has it. Cost: constant.
+    pub fn operation_part(&self, number: u64) -> Option<Part> {
+        self.operations.get(usize::try_from(number).ok()?).copied()
+    }
+
     /// The words of the operation with this number, if the text has it. Cost: constant.
     pub fn operation<'t>(&self, text: &'t [u8], number: u64) -> Option<&'t [u8]> {
-        let part = self.operations.get(usize::try_from(number).ok()?)?;
-        Some(part.of(text))
+        Some(self.operation_part(number)?.of(text))
+    }
+
+    /// The name of the value with this number, if the text has it. Cost: constant.
+    pub fn value(&self, number: u64) -> Option<ValueName> {
+        self.values.get(usize::try_from(number).ok()?).copied()
     }
 
     /// The head of the block with this number, if the text has it. Cost: constant.
@@ -209,24 +218,25 @@ pub fn words_of(alloc: Global, text: &[u8]) -> Result<Words, AllocError> {
     Ok(words)
 }
 
-/// Adds the bytes with each run of blanks as one blank. Errors: want of memory. Cost: linear in them.
+/// Adds the bytes with each run of blanks as one blank, without those around them. Errors: want of memory. Cost: linear
+/// in them.
 pub fn push_on_one_line(line: &mut String, bytes: &[u8]) -> Result<(), AllocError> {
-    let mut is_blank = false;
+    let mut gap = "";
+    let mut next_gap = "";
     for byte in bytes {
-        match *byte {
-            b' ' | b'\n' | b'\t' | b'\r' => is_blank = true,
-            letter @ b'!'..=b'~' => {
-                line.push_str(if is_blank { " " } else { "" })?;
-                is_blank = false;
-                line.push(char::from(letter))?;
-            }
-            _ => line.push('?')?,
+        if byte.is_ascii_graphic() {
+            line.push_str(gap)?;
+            line.push(char::from(*byte))?;
+            gap = "";
+            next_gap = " ";
+        } else {
+            gap = next_gap;
         }
     }
     Ok(())
 }
 
-/// The names in the brackets behind the successor at this index, as an operation writes them.
+/// The names in the brackets behind the successor at this index, as an operation writes them. Cost: linear in it.
 pub fn forwarded(operation: &[u8], index: usize) -> Option<&[u8]> {
     let mut rest = operation;
     for _ in 0..index {

@@ -1,5 +1,5 @@
 -- Strings of the dot language.
-use Rattle.std.specs.Prelude.{◌==◌, ◌++◌, ◌∷◌, [], ℕ, List, Bool}
+use Rattle.std.specs.Prelude.{◌==◌, ◌++◌, ◌∷◌, [], ℕ, List, if◌then◌else◌}
 use Rattle.std.specs.List.{flat_map}
 
 -- a quote and a backslash stand behind a backslash, and for the end of a line an l does
