@@ -44,8 +44,8 @@ fn lines_of(rt: &impl Abort, alloc: Global, lines: &str) -> String {
 /// Paths, behind `!` where dominators are drawn, texts and their pictures.
 static PICTURES: &str = "\
 0 => func { b0(): ret } => 0 [label='b0():/lret/l']
-0 => func { a(x): br  b( x ) ; b(y): ret  y } => 0 [label='a(x):/lbr b( x )/l']|1 [label='b(y):/lret y/l']|0 -> 1 [label='x']
-!0 => func { a(c): cbr c b(c) d(); b(y): br d(); d(): ret } => 0 [label='a(c):/lcbr c b(c) d()/l']|1 [label='b(y):/lbr d()/l']|2 [label='d():/lret/l']|0 -> 1 [label='c']|0 -> 2|1 -> 2|0 -> 1 [style='dotted', color='blue', constraint='false']|0 -> 2 [style='dotted', color='blue', constraint='false']
+0 => func { a(x): br  b( x ) ; b(y): ret  y } => 0 [label='a(x):/lbr b( x )/l']|1 [label='b(y):/lret y/l']|0 -> 1 [label=' x ']
+!0 => func { a(c): cbr c b(c) d(); b(y): br d(); d(): ret } => 0 [label='a(c):/lcbr c b(c) d()/l']|1 [label='b(y):/lbr d()/l']|2 [label='d():/lret/l']|0 -> 1 [label=' c ']|0 -> 2|1 -> 2|0 -> 1 [style='dotted', color='blue', constraint='false']|0 -> 2 [style='dotted', color='blue', constraint='false']
 0 => func { a(): ret; lost(): x = const 1; br a() } => 0 [label='a():/lret/l']|1 [label='lost():/lx = const 1/lbr a()/l', color='grey', fontcolor='grey']|1 -> 0 [color='grey', fontcolor='grey']
 0 => mod { m(): func { f(): ret }; func { g(): ret } } => 0 [label='m():/lfunc { 0.0.0 }/lfunc { 0.1.0 }/l']
 0.1.0 => mod { m(): func { f(): ret }; func { g(): ret } } => 2 [label='g():/lret/l']";

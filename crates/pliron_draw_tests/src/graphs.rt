@@ -8,7 +8,7 @@ use std::process::Abort;
 /// bar parts lines and `'` stands for a quote.
 static PICTURES: &str = "\
 3: => 3 [peripheries='2'];
-1: 2|2: 1 3|3: 1|4: 3 => 4 [color='grey', fontcolor='grey'];|subgraph cluster0 {|3;|2;|1 [peripheries='2'];|}|1 -> 2 [color='black'];|2 -> 1 [color='red'];|2 -> 3 [color='black'];|3 -> 1 [color='red'];|4 -> 3 [color='grey', fontcolor='grey'];
+1: 2|2: 1 3|3: 1|4: 3 => 4 [color='grey', fontcolor='grey'];|subgraph cluster0 {|1 [peripheries='2'];|2;|3;|}|1 -> 2 [color='black'];|2 -> 1 [color='red'];|2 -> 3 [color='black'];|3 -> 1 [color='red'];|4 -> 3 [color='grey', fontcolor='grey'];
 1: 2 3|2: 4|3: 4|4: => 1 [peripheries='2'];|3;|2;|4;|1 -> 2 [color='black'];|1 -> 3 [color='black'];|2 -> 4 [color='black'];|3 -> 4 [color='blue'];
 7: 7 8|8: => subgraph cluster0 {|7 [peripheries='2'];|}|8;|7 -> 7 [color='red'];|7 -> 8 [color='black'];";
 
@@ -55,7 +55,7 @@ fn graphs_are_drawn(rt: HostRuntime) {
 
 #[test]
 fn other_texts_are_no_graphs(rt: HostRuntime) {
-    for text in ["1: 2", "1:\1:\n", "x"] {
+    for text in ["1: 2", "1:\n1:\n", "x"] {
         let source = Source {
             name: "text",
             text: text.as_bytes(),

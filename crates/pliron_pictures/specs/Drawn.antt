@@ -4,8 +4,8 @@ use Rattle.pliron_core.specs.Tree.{Tree}
 use Rattle.pliron_core.specs.Writes.{no_tree}
 use Rattle.pliron_search.specs.Regions.{IsLawfulRegion}
 use Rattle.pliron_notation.specs.Building.{IsGrown}
-use Rattle.pliron_pictures.specs.declared.text_flow.Drawing.{Drawing}
-use Rattle.pliron_pictures.specs.declared.text_flow.Drawing.TheVariants.{Drawn, Unreadable, NoRegion}
+use Rattle.pliron_pictures.specs.declared.flow_text.Drawing.{Drawing}
+use Rattle.pliron_pictures.specs.declared.flow_text.Drawing.TheVariants.{Drawn, Unreadable, NoRegion}
 
 -- a tree was read of it, and has a region whose graph may be read. Which tree a text says is open
 pub record IsFlowText : Type 0 where

@@ -36,6 +36,7 @@ fn push_byte(text: &mut Vec<u8>, byte: u8) -> Result<(), AllocError>
 /// Writes the text in quotes: whoever reads the string gets it back, and nothing of it ends the string.
 ///
 /// Errors: want of memory. Cost: linear in it.
+#[tactic(auto, using(crate::proofs::DotLemmas::quoted_whole))]
 pub fn push_quoted(text: &mut Vec<u8>, value: &[u8]) -> Result<(), AllocError>
     ensures { OnOk result (text.new.items ≡ text.old.items ++ quoted value.now) }
 {

@@ -77,6 +77,16 @@ fn looks<'l>(label: &'l str, is_reached: bool) -> ([Attribute<'l>; 3], usize, us
     (all, start, end)
 }
 
+/// Adds what an edge forwards, with a blank on both sides, which keeps it apart from the line.
+fn push_passed(label: &mut String, names: &[u8]) -> Result<(), AllocError> {
+    if names.is_empty() {
+        return Ok(());
+    }
+    label.push_str(" ")?;
+    push_on_one_line(label, names)?;
+    label.push_str(" ")
+}
+
 /// A region that is drawn.
 #[derive(Drop)]
 struct FlowPicture<'p> {
@@ -145,7 +155,7 @@ impl FlowPicture<'_> {
         };
         for i in 0..row.successors.len() {
             let mut label = String::new(self.alloc);
-            push_on_one_line(&mut label, forwarded(branch, i).unwrap_or(b""))?;
+            push_passed(&mut label, forwarded(branch, i).unwrap_or(b""))?;
             let (all, start, end) = looks(label.as_str(), row.is_reached);
             let to = row.successors[i].key();
             self.dot.edge(row.node.key(), to, &all[start..end])?;

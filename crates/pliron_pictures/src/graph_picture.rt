@@ -60,7 +60,8 @@ fn look(
     }
 }
 
-/// Draws the nodes of the components, those of a cyclic one in a frame.
+/// Draws the nodes of the components, those of a cyclic one in a frame, as the search from the entry comes to them, which
+/// Graphviz takes for the order from top to bottom.
 fn draw_components(
     graph: &NumberedGraph,
     search: &DFSTraversal<u32>,
@@ -75,7 +76,7 @@ fn draw_components(
             dot.open_cluster(frames)?;
             frames = frames.saturating_add(1);
         }
-        for node in &component.nodes {
+        for node in component.nodes.iter().rev() {
             dot.node(graph.number(*node) as u64, look(graph, search, *node))?;
         }
         if component.is_cyclic {

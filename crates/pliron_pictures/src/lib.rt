@@ -8,18 +8,18 @@
 pub mod dot;
 mod explaining;
 mod flow_picture;
+mod flow_text;
 mod graph_picture;
 mod pass_list;
 mod reasons;
 mod region_path;
 mod rows;
-mod text_flow;
 mod tree_state;
 mod words;
 
 pub use explaining::explained;
 pub use flow_picture::FlowWish;
+pub use flow_text::{Drawing, text_flow};
 pub use graph_picture::text_graph;
 pub use pass_list::{PassList, PassName};
 pub use rows::{GraphRow, graph_rows};
-pub use text_flow::{Drawing, text_flow};
