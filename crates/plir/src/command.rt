@@ -98,7 +98,9 @@ fn dot<'a>(alloc: Global) -> Result<Command<'a>, AllocError> {
                 .long("region")
                 .value_name("PATH")
                 .default_value("0")
-                .help("The region: numbers with dots between them, as `0.2.0` for region 0 of operation 2 of region 0"),
+                .help(
+                    "The region: numbers with dots between them, as `0.2.0` for region 0 of operation 2 of region 0",
+                ),
         )?
         .arg(flag(
             alloc,
@@ -129,7 +131,9 @@ fn explain<'a>(alloc: Global) -> Result<Command<'a>, AllocError> {
             Arg::new(alloc, "passes")
                 .value_name("PIPELINE")
                 .required(true)
-                .help("The passes, as `plir_opt` takes them: `sccp,dce`, `repeat:8:nested:sccp,dce,simplify-cfg`"),
+                .help(
+                    "The passes, as `plir_opt` takes them: `sccp,dce`, `repeat:8:nested:sccp,dce,simplify-cfg`",
+                ),
         )?
         .arg(output(alloc))
 }
@@ -148,7 +152,9 @@ fn with<'a>(
 fn command<'a>(alloc: Global) -> Result<Command<'a>, AllocError> {
     let plir = Command::new(alloc, "plir")
         .version("0.1.0")
-        .about("Texts of operations: runs, marks under what is wrong, pictures, and why passes changed what")
+        .about(
+            "Texts of operations: runs, marks under what is wrong, pictures, and why passes changed what",
+        )
         .subcommand_required(true)
         .arg_required_else_help(true);
     let plir = with(plir, run(alloc))?;

@@ -53,12 +53,13 @@ fn run_wished(alloc: Global, source: &Source, matches: &ArgMatches) -> io::Resul
     Ok(run(alloc, source, &wish)?)
 }
 
-/// The picture that the words wish.
-fn flow_wish<'m>(matches: &'m ArgMatches) -> FlowWish<'m> {
-    FlowWish {
+/// Draws the region that the words wish.
+fn draw_wished(alloc: Global, source: &Source, matches: &ArgMatches) -> io::Result<Outcome> {
+    let wish = FlowWish {
         region: matches.get_str("region").unwrap_or("0"),
         dominators: matches.get_flag("dominators"),
-    }
+    };
+    Ok(draw_flow(alloc, source, &wish)?)
 }
 
 /// What the command makes of its input.
@@ -72,7 +73,7 @@ fn outcome(rt: &HostRuntime, command: &str, matches: &ArgMatches) -> io::Result<
     };
     match command {
         "check" => Ok(check(alloc, &source)?),
-        "dot" => Ok(draw_flow(alloc, &source, &flow_wish(matches))?),
+        "dot" => draw_wished(alloc, &source, matches),
         "graph" => Ok(draw_graph(alloc, &source)?),
         "explain" => Ok(explain(alloc, &source, matches.get_str("passes").unwrap_or(""))?),
         _ => run_wished(alloc, &source, matches),
