@@ -29,8 +29,8 @@ ghost use Rattle.pliron_laws.specs.Answers.{ReadsHead, ReadsCounts, ReadsShape, 
 ghost use Rattle.pliron_laws.specs.declared.dialect.Interface.{Interface as InterfaceName};
 
 use crate::fault::OptError;
-use crate::materialise::put_constant;
 use crate::room::Room;
+use crate::stand_ins::{erase_all, hand_over_all, stand_in_for_results};
 use pliron_core::{AttrObj, BasicBlock, Context, IRStatus, Operation, Ptr, Rewriter, Value};
 use std::alloc::Global;
 
@@ -140,7 +140,8 @@ pub trait ConstFoldInterface: HasMeaning {
     /// Folds the operation where it stands, if its operands have these constants. Asks that the
     /// operation folds, for one entry for each operand, and for an insertion point just before it.
     ///
-    /// Errors: want of memory, which leaves an outcome of the dialect too.
+    /// Errors: want of memory, after which the tree is as before, but for spent keys, as the law on folding
+    /// in place says.
     fn fold_in_place<R: Rewriter + Room>(
         alloc: Global,
         op: Ptr<Operation>,
@@ -159,12 +160,12 @@ pub trait ConstFoldInterface: HasMeaning {
         ensures longer { length ctx.old.tree.operations ≤ length ctx.new.tree.operations };
 
     /// Folds the operation by constants: asks `check_fold` for the constants of its results, and puts,
-    /// for each that is known and that `materialize` makes, a new operation just before, which gets all
-    /// uses of the result. Each result is rewritten wholly or not at all. Most dialects fold in place by
-    /// this call.
+    /// for each that is known and that `materialize` makes, a new operation just before, in the order of
+    /// the results. When all stand, each gets all uses of its result. Most dialects fold in place by this
+    /// call.
     ///
-    /// Asks as `fold_in_place` does. Errors: want of memory, after which a first part of the results is
-    /// rewritten. Cost: that of `check_fold`, one `materialize` for each answer, and one step for each
+    /// Asks as `fold_in_place` does. Errors: want of memory, after which the tree is as before, but for
+    /// spent keys. Cost: that of `check_fold`, one `materialize` for each answer, and one step for each
     /// use of a result.
     fn fold_with_materialization<R: Rewriter + Room>(
         alloc: Global,
@@ -186,23 +187,14 @@ pub trait ConstFoldInterface: HasMeaning {
         ensures point { R.point rewriter.new ≡ R.point rewriter.old }
     {
         let answers = Self::check_fold(alloc, op, ctx, operand_attrs)?;
-        let count = op.num_result(ctx).min(answers.len());
-        let mut status = IRStatus::Unchanged;
-        for i in 0..count {
-            let Some(attr) = &answers[i] else {
-                continue;
-            };
-            ctx.well_formed();
-            let old = op.get_result(ctx, i);
-            // an insertion, a replacement, and erasing on the way back
-            rewriter.room(alloc, 3)?;
-            let Some(constant) = Self::materialize(alloc, attr, ctx)? else {
-                continue;
-            };
-            put_constant(ctx, constant, old, rewriter)?;
-            status = IRStatus::Changed;
+        let mut made = Vec::new(alloc);
+        match stand_in_for_results::<Self, R>(alloc, op, ctx, &answers, rewriter, &mut made) {
+            Ok(()) => Ok(hand_over_all(ctx, &made, rewriter)),
+            Err(refusal) => {
+                erase_all(ctx, made, rewriter);
+                Err(refusal)
+            }
         }
-        Ok(status)
     }
 
     /// A new operation that makes this constant, which stands in no block; `None`, with nothing made,
@@ -264,7 +256,8 @@ pub trait BranchOpFoldInterface: HasMeaning {
     /// Folds the branch where it stands, if its operands have these constants. Asks that the operation
     /// folds as a branch, for one entry for each operand, and for an insertion point just before it.
     ///
-    /// Errors: want of memory, which leaves an outcome of the dialect too.
+    /// Errors: want of memory, after which the tree is as before, but for spent keys, as the law on folding
+    /// in place says.
     fn fold_in_place<R: Rewriter + Room>(
         alloc: Global,
         op: Ptr<Operation>,
@@ -419,7 +412,8 @@ pub trait Dialect: SideEffects + BlockArgRemoval + ConstFoldInterface + BranchOp
     // A branch goes to one of the blocks that folding answers.
     ghost answers_jumps: { AnswersJumps Self.meaning Self.can_fold_branch Self.feasible };
 
-    // Folding in place puts constants for results, or another branch in the place of one, or nothing.
+    // Folding in place puts constants for results, or another branch in the place of one, or nothing; where
+    // memory is refused, nothing.
     ghost folds_in_place: { FoldsInPlace Self.meaning Self.constants Self.accepts Self.constant_head Self.ConstFoldInterface.outcome
         Self.BranchOpFoldInterface.outcome };
 

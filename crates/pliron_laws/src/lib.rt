@@ -12,6 +12,7 @@ mod linked;
 pub mod materialise;
 pub mod reads;
 mod room;
+mod stand_ins;
 
 pub use dialect::{
     BlockArgRemoval, BranchOpFoldInterface, ConstFoldInterface, Dialect, HasMeaning, Interface,
