@@ -1,6 +1,6 @@
 -- Trees while a new operation with one result is put before another, and where it is erased again.
-use Rattle.std.proofs.Common.{◌≡◌, ◌≢◌, ◌⊎◌, inl, inr, ℕ, zero, suc, ◌<◌, ◌≤◌, List, [], ◌∷◌, length, get_or, set, nat_eq, Option, Some, None, IsSome, is_some, refl, sym, ap, ◌∙◌, subst, ⊎_elim, arith, slice_get}
-use Rattle.std.proofs.lemmas.List.{get_or_past, get_or-set_same, set-set, set-get_or}
+use Rattle.std.proofs.Common.{◌≡◌, ◌≢◌, ◌⊎◌, inl, inr, ℕ, zero, suc, ◌<◌, ◌≤◌, List, [], ◌∷◌, length, nat_eq, Option, Some, None, IsSome, is_some, refl, sym, ap, ◌∙◌, subst, ⊎_elim, arith, slice_get}
+use Rattle.std.proofs.lemmas.List.{get_or_past}
 use Rattle.std.proofs.lemmas.Option.{same_Some, slice_get_within}
 use Rattle.pliron_core.specs.declared.attrs.Head.{Head}
 use Rattle.pliron_core.specs.declared.context.Def.{Def}
@@ -8,19 +8,17 @@ use Rattle.pliron_core.specs.declared.context.Def.TheVariants.{Result, Argument}
 use Rattle.pliron_core.specs.declared.context.OperationEntry.{OperationEntry}
 use Rattle.pliron_core.specs.declared.rewriter.OpInsertionPoint.{OpInsertionPoint}
 use Rattle.pliron_core.specs.declared.rewriter.OpInsertionPoint.TheVariants.{Unset, BeforeOperation, AtBlockStart}
-use Rattle.pliron_core.specs.Lists.{put_before, without}
-use Rattle.pliron_core.specs.Tree.{Tree, In, IsLive, IsBlock, IsDefined, IsMadeBy, IsMadeWithin, IsInside, HoldsBlock, no_entry, row_of, results_of, regions_of, operands_of, parent_of, body_of, block_holder_of}
+use Rattle.pliron_core.specs.Tree.{Tree, In, IsLive, IsBlock, IsDefined, IsMadeBy, IsMadeWithin, IsInside, HoldsBlock, no_entry, row_of, results_of, regions_of, operands_of, parent_of, block_holder_of}
 use Rattle.pliron_core.specs.Joined.{HaveSameKeys, IsTree}
-use Rattle.pliron_core.specs.Writes.{created, replaced, placed, put_next_to, taken_from}
+use Rattle.pliron_core.specs.Writes.{created, replaced, put_next_to, taken_from}
 use Rattle.pliron_core.specs.Insertion.{IsPointFor, inserted}
 use Rattle.pliron_core.specs.Erased.{IsSelfContained, cleared, erased}
 use Rattle.pliron_core.specs.Changes.{IsSameTree}
 use Rattle.pliron_core.proofs.GrownLemmas.{get_grown, get_last, get_last_same, slice_get_kept}
 use Rattle.pliron_core.proofs.CreatedLemmas.{defined_kept}
-use Rattle.pliron_core.proofs.TreeLemmas.{live-within, block-within, region_owner}
+use Rattle.pliron_core.proofs.TreeLemmas.{live-within, region_owner}
 use Rattle.pliron_core.proofs.HoldingLemmas.{maker_is, block_held, held_block, region_parent_is}
 use Rattle.pliron_core.proofs.WalkLemmas.{inside_first, place_of, place_listed}
-use Rattle.pliron_core.proofs.EditLemmas.{without-cons, without-put_before}
 use Rattle.pliron_core.proofs.BlankLemmas.{length-blanked}
 use Rattle.pliron_core.proofs.DescentLemmas.{taken-operations}
 use Rattle.pliron_core.proofs.BesideLemmas.{same_created_erased}

@@ -1,25 +1,18 @@
 -- Rows and places where a constant was put, and what a dialect answers of one.
-use Rattle.std.proofs.Common.{◌≡◌, ◌≢◌, ◌⊎◌, inl, inr, ℕ, zero, suc, ◌+◌, ◌<◌, ◌≤◌, Bool, true, false, List, [], ◌∷◌, length, drop, Option, Some, None, is_some, Result, Ok, Err, min, refl, sym, ap, ◌∙◌, subst, arith, slice_get, IsTrue}
+use Rattle.std.proofs.Common.{◌≡◌, ◌≢◌, ◌⊎◌, inl, inr, ℕ, ◌+◌, ◌<◌, ◌≤◌, Bool, false, List, [], ◌∷◌, length, Option, Some, None, Result, Ok, Err, min, refl, ap, ◌∙◌, subst, arith, IsTrue}
 use Rattle.std.specs.Result.{OnErr}
-use Rattle.std.proofs.lemmas.List.{get_or_past, get_or-set_other, drop_all, length-append}
-use Rattle.std.proofs.lemmas.Option.{same_Some, slice_get-get_or}
+use Rattle.std.proofs.lemmas.List.{get_or-set_other}
+use Rattle.std.proofs.lemmas.Option.{same_Some}
 use Rattle.pliron_core.specs.declared.attrs.AttrObj.{AttrObj}
-use Rattle.pliron_core.specs.declared.attrs.IRStatus.{IRStatus}
-use Rattle.pliron_core.specs.declared.attrs.IRStatus.TheVariants.{Changed, Unchanged}
-use Rattle.pliron_core.specs.Tree.{Tree, IsLive, IsDefined, no_entry, row_of, head_of, results_of, parent_of}
+use Rattle.pliron_core.specs.Tree.{Tree, no_entry, row_of, head_of, results_of, parent_of}
 use Rattle.pliron_core.specs.Writes.{created, put_next_to}
 use Rattle.pliron_core.specs.Joined.{IsTree}
-use Rattle.pliron_core.specs.Changes.{IsSameTree}
 use Rattle.pliron_core.proofs.GrownLemmas.{get_grown, get_last, get_last_same}
-use Rattle.pliron_core.proofs.SameTreeLemmas.{same_refl}
-use Rattle.pliron_core.proofs.TreeLemmas.{live-within, live_dead}
 use Rattle.pliron_laws.specs.Datum.{Head, Meaning}
 use Rattle.pliron_laws.specs.Tree.{Operation, op_at, op_with, shape_of}
 use Rattle.pliron_laws.specs.Answers.{ReadsShape, IsMaterialised}
 use Rattle.pliron_laws.specs.Folding.{Constants}
-use Rattle.pliron_laws.specs.Outcomes.{Materialises, IsFreshConstant, materialised}
-use Rattle.pliron_laws.specs.Outcomes.Materialises.{Finished, Unanswered, Refused, Unknown, PassedOver, Put}
-use Rattle.pliron_laws.specs.InPlace.{TellsChange}
+use Rattle.pliron_laws.specs.Outcomes.{Materialises, IsMadeConstant, materialised}
 use Rattle.pliron_laws.proofs.ConstantLemmas.{new_row}
 
 -- what holds anyway holds after an error
@@ -43,13 +36,10 @@ none_of (Some x) other = absurd (other x refl)
 pub passed_over : (accepts : AttrObj → Bool) (head : AttrObj → Head) (attr : AttrObj) (t now : Tree) (made : Option ℕ) → IsMaterialised accepts head attr t now made → made ≡ None → (accepts attr ≡ false) × (now ≡ t)
 passed_over accepts head attr t now made is e = subst (λ z. IsMaterialised accepts head attr t now z) e is
 
-pub fresh_made : (accepts : AttrObj → Bool) (head : AttrObj → Head) (attr : AttrObj) (t now : Tree) (c v : ℕ) (made : Option ℕ) → IsTree t → IsDefined t v → IsMaterialised accepts head attr t now made → made ≡ Some c → IsTrue (accepts attr) × IsFreshConstant t now c v (head attr)
-fresh_made accepts head attr t now c v made w value is e =
+pub fresh_made : (accepts : AttrObj → Bool) (head : AttrObj → Head) (attr : AttrObj) (t now : Tree) (c : ℕ) (made : Option ℕ) → IsTree t → IsMaterialised accepts head attr t now made → made ≡ Some c → IsTrue (accepts attr) × IsMadeConstant t now c (head attr)
+fresh_made accepts head attr t now c made w is e =
     let m : IsMaterialised accepts head attr t now (Some c) = subst (λ z. IsMaterialised accepts head attr t now z) e is in
-    (m.0, record { tree = w; made = m.2; key = m.1; value = value })
-
-pub made_long : (t made : Tree) (head : Head) → made ≡ created t head 1 0 → length made.operations ≡ length t.operations + 1
-made_long t made head e = ap (λ z. length z.operations) e ∙ length-append t.operations (new_row t head ∷ [])
+    (m.0, record { tree = w; made = m.2; key = m.1 })
 
 -- rows and places of what stood, after a constant was put
 next_row : (t : Tree) (c at k : ℕ) (o : Option ℕ) → row_of (put_next_to t c at o) k ≡ row_of t k

@@ -17,12 +17,11 @@ use Rattle.pliron_core.proofs.SameTreeLemmas.{same_refl}
 use Rattle.pliron_core.proofs.TreeLemmas.{live-within, live_dead}
 use Rattle.pliron_laws.specs.declared.stand_ins.StandIn.{StandIn}
 use Rattle.pliron_laws.specs.Datum.{Head}
-use Rattle.pliron_laws.specs.Outcomes.{Materialises, materialised}
+use Rattle.pliron_laws.specs.Outcomes.{Materialises, IsMadeConstant, materialised}
 use Rattle.pliron_laws.specs.Outcomes.Materialises.{Finished, Unanswered, Unknown, PassedOver, Put}
 use Rattle.pliron_laws.specs.InPlace.{TellsChange}
-use Rattle.pliron_laws.specs.StandIns.{stand_in, with_constant, AreStanding, IsStoodIn, StandsIn, TellsNew, all_replaced, status_of}
+use Rattle.pliron_laws.specs.StandIns.{stand_in, with_constant, AreStanding, IsStoodIn, TellsNew, all_replaced, status_of}
 use Rattle.pliron_laws.specs.StandIns.AreStanding.{NoneYet, Another}
-use Rattle.pliron_laws.specs.StandIns.StandsIn.{PassedBy, Stood}
 use Rattle.pliron_laws.proofs.FoldLemmas.{put_row, put_row-new}
 use Rattle.pliron_laws.proofs.StandInLemmas.{another_folds, status_more}
 
@@ -89,11 +88,15 @@ module _ (accepts : AttrObj → Bool) (head : AttrObj → Head) (op : ℕ) (answ
         rest = λ u m. f.rest u (subst (λ z. Later z (drop i answers) folded u) (sym (drop_at (results_of t op) i v at)) (subst (λ z. Later (v ∷ drop (i + 1) (results_of t op)) z folded u) (sym (drop_at answers i (Some attr) said)) (Put accepted (subst (λ z. Later (drop (i + 1) (results_of t op)) (drop (i + 1) answers) z u) e m))));
       }
 
-  pub folding_step : (i v : ℕ) (answer : Option AttrObj) (attr : AttrObj) (point : OpInsertionPoint) (made made' : List StandIn) (now next : Tree) → Folding i made now → slice_get (results_of t op) i ≡ Some v → slice_get answers i ≡ Some answer → answer ≡ Some attr → point ≡ BeforeOperation op → IsTree now → IsSome (parent_of now op) → IsDefined now v → StandsIn accepts head attr point v made now made' next → Folding (i + 1) made' next
-  folding_step i v answer attr point made made' now next f at said some before w placed defined (PassedBy over) =
-      one_kept i v (Some attr) _ _ f at (said ∙ ap Some some) (λ vs more u m. PassedOver over m)
-  folding_step i v answer attr point made made' now next f at said some before w placed defined (Stood accepted) =
-      subst (Folding (i + 1) _) (sym (put_there _ op (head attr) point before)) (one_stands i v attr _ _ f at (said ∙ ap Some some) w placed defined accepted)
+  pub folding_over : (i v : ℕ) (answer : Option AttrObj) (attr : AttrObj) (made : List StandIn) (now next : Tree) → Folding i made now → slice_get (results_of t op) i ≡ Some v → slice_get answers i ≡ Some answer → answer ≡ Some attr → (accepts attr ≡ false) × (next ≡ now) → Folding (i + 1) made next
+  folding_over i v answer attr made now next f at said some over =
+      subst (Folding (i + 1) made) (sym over.1) (one_kept i v (Some attr) made now f at (said ∙ ap Some some) (λ vs more u m. PassedOver over.0 m))
+
+  pub folding_put : (i v c : ℕ) (answer : Option AttrObj) (attr : AttrObj) (point : OpInsertionPoint) (made made' : List StandIn) (now between next : Tree) → Folding i made now → slice_get (results_of t op) i ≡ Some v → slice_get answers i ≡ Some answer → answer ≡ Some attr → IsSome (parent_of now op) → IsDefined now v → IsTrue (accepts attr) → IsMadeConstant now between c (head attr) → point ≡ BeforeOperation op → next ≡ inserted between point c → made' ≡ made ++ stand_in now v ∷ [] → Folding (i + 1) made' next
+  folding_put i v c answer attr point made made' now between next f at said some placed defined accepted fresh before is more =
+      let there : next ≡ with_constant now op (head attr) =
+          is ∙ ap (λ z. inserted z point c) fresh.made ∙ ap (λ n. inserted (created now (head attr) 1 0) point n) fresh.key ∙ put_there now op (head attr) point before in
+      subst (λ l. Folding (i + 1) l next) (sym more) (subst (Folding (i + 1) (made ++ stand_in now v ∷ [])) (sym there) (one_stands i v attr made now f at (said ∙ ap Some some) fresh.tree placed defined accepted))
 
   pub folding_end : (i : ℕ) (made : List StandIn) (now : Tree) → Folding i made now → (length (results_of t op) ≤ i) ⊎ (length answers ≤ i) → IsStoodIn accepts head op answers t made now
   folding_end i made now f past = record { standing = f.standing; folds = all past; told = f.told }

@@ -1,6 +1,6 @@
 -- Constants that stand before an operation until all of them are made, or are erased again.
-use Rattle.std.proofs.Common.{◌≡◌, ◌≢◌, ◌⊎◌, inl, inr, ℕ, zero, suc, ◌+◌, ◌<◌, ◌≤◌, List, [], ◌∷◌, ◌++◌, length, map, nat_eq, Option, Some, None, IsSome, is_some, refl, sym, ap, ◌∙◌, subst, arith, slice_get, slice_set, length-append, length-set}
-use Rattle.std.proofs.lemmas.Bool.{cases_eq}
+use Rattle.std.proofs.Common.{◌≡◌, ◌≢◌, ◌⊎◌, inl, inr, ℕ, zero, suc, ◌+◌, ◌<◌, ◌≤◌, List, [], ◌∷◌, ◌++◌, length, map, take, nat_eq, if◌then◌else◌, Option, Some, None, IsSome, is_some, refl, sym, ap, ◌∙◌, subst, arith, slice_get, slice_set, length-append, length-set}
+use Rattle.std.proofs.lemmas.Bool.{cases_eq, eq-eqb, ne_eqb}
 use Rattle.std.proofs.lemmas.List.{get_or-set_other, get_or-set_same, map-append}
 use Rattle.std.proofs.lemmas.Option.{same_Some, slice_get_within}
 use Rattle.pliron_core.specs.declared.attrs.IRStatus.{IRStatus}
@@ -15,10 +15,12 @@ use Rattle.pliron_core.specs.Erased.{IsSelfContained, cleared, erased}
 use Rattle.pliron_core.specs.Changes.{IsSameTree}
 use Rattle.pliron_core.proofs.GrownLemmas.{get_grown, slice_get_added}
 use Rattle.pliron_core.proofs.TreeLemmas.{live-within, block-within}
+use Rattle.pliron_core.proofs.UsedLemmas.{in_map, get_map}
 use Rattle.pliron_core.proofs.HoldingLemmas.{maker_is}
 use Rattle.pliron_core.proofs.EditLemmas.{without-put_before}
 use Rattle.pliron_core.proofs.BlankLemmas.{length-blanked}
 use Rattle.pliron_core.proofs.ClearedLemmas.{blank_set}
+use Rattle.pliron_core.proofs.SameTreeLemmas.{same_refl}
 use Rattle.pliron_core.proofs.BesideLemmas.{IsBeside, created_beside, beside_erased}
 use Rattle.pliron_laws.specs.declared.stand_ins.StandIn.{StandIn}
 use Rattle.pliron_laws.specs.Datum.{Head}
@@ -167,14 +169,62 @@ module _ (op : ℕ) (t : Tree) where
     defined = standing_defined made u s;
   }
 
+-- ---- while each gets the uses of its value
+
+in_replaced : (t : Tree) (a b k x : ℕ) → In x (operands_of (replaced t a b) k) → In x (operands_of t k) ⊎ (x ≡ b)
+in_replaced t a b k x i =
+    let m = in_map (replace_target a b) (operands_of t k) x (subst (In x) (get_map (map (replace_target a b)) refl t.operands k) i) in
+    elim (cases_eq m.0 a) [
+      | inl e ↦ inr (m.2 ∙ ap (λ c. if c then b else m.0) (eq-eqb m.0 a e))
+      | inr ne ↦ inl (subst (λ z. In z (operands_of t k)) (sym (m.2 ∙ ap (λ c. if c then b else m.0) (ne_eqb m.0 a ne))) m.1)
+    ]
+
+-- the results of those that wait have no uses
+pub unused_after : (base : ℕ) (made : List StandIn) (t : Tree) (j : ℕ) → ((k x : ℕ) → In x (operands_of t k) → x < base) → ((i : ℕ) (s : StandIn) → slice_get made i ≡ Some s → s.new ≡ base + i) → (k x : ℕ) → In x (operands_of (all_replaced (take j made) t) k) → x < base + j
+unused_after base made t zero below numbered k x i = let l = below k x i in omega (arith, l)
+unused_after base [] t (suc j) below numbered k x i = let l = below k x i in omega (arith, l)
+unused_after base (s ∷ more) t (suc j) below numbered k x i =
+    let l = unused_after (suc base) more (replaced t s.old s.new) j below_next (λ n r e. let f = numbered (suc n) r e in omega (arith, f)) k x i in omega (arith, l)
+  where
+    below_next : (k x : ℕ) → In x (operands_of (replaced t s.old s.new) k) → x < suc base
+    below_next k x i = elim (in_replaced t s.old s.new k x i) [
+      | inl h ↦ let l = below k x h in omega (arith, l)
+      | inr e ↦ let f = numbered zero s refl in omega (arith, e, f)
+    ]
+
+pub defined_after : (made : List StandIn) (t z : Tree) (v : ℕ) → z ≡ all_replaced made t → IsDefined t v → IsDefined z v
+defined_after made t z v e d = subst (λ x. IsDefined x v) (sym (e ∙ only_operands made t)) d
+
+take_more : (made : List StandIn) (i : ℕ) (s : StandIn) → slice_get made i ≡ Some s → take (i + 1) made ≡ take i made ++ s ∷ []
+take_more [] i s e = absurd (grind arith)
+take_more (r ∷ more) zero s e = ap (λ z. z ∷ []) (same_Some r s e)
+take_more (r ∷ more) (suc i) s e =
+    let one : suc i + 1 ≡ suc (i + 1) = omega arith in ap (λ n. take n (r ∷ more)) one ∙ ap (λ l. r ∷ l) (take_more more i s e)
+
+pub replaced_more : (made : List StandIn) (t now next : Tree) (i : ℕ) (s : StandIn) → slice_get made i ≡ Some s → now ≡ all_replaced (take i made) t → next ≡ replaced now s.old s.new → next ≡ all_replaced (take (i + 1) made) t
+replaced_more made t now next i s at e f =
+    f ∙ ap (λ z. replaced z s.old s.new) e ∙ sym (replaced_last (take i made) s t) ∙ ap (λ l. all_replaced l t) (sym (take_more made i s at))
+
+pub status_after : (made : List StandIn) (i : ℕ) (s : StandIn) → slice_get made i ≡ Some s → Changed ≡ status_of (take (i + 1) made)
+status_after made i s at = sym (ap status_of (take_more made i s at) ∙ status_more (take i made) s)
+
+-- a constant that was just made, as it stands in the list
+pub stand_in_is : (t made : Tree) (c v new : ℕ) (head : Head) → IsMadeConstant t made c head → slice_get (results_of made c) 0 ≡ Some new → (let s : StandIn = record { constant = c; old = v; new = new } in s) ≡ stand_in t v
+stand_in_is t made c v new head f first =
+    let n : new ≡ length t.definitions = sym (same_Some (length t.definitions) new (sym (ap (λ x. slice_get x.results 0) (made_row t made c head f.made f.key)) ∙ first)) in
+    ap (λ k. let s : StandIn = record { constant = k; old = v; new = new } in s) f.key ∙ ap (λ k. let s : StandIn = record { constant = length t.operations; old = v; new = k } in s) n
+
 -- ---- and where they are erased again
+
+pub restored_refl : (t u : Tree) → u ≡ t → IsRestored t u
+restored_refl t u e = subst (IsRestored t) (sym e) (record { same = same_refl t; slots = λ r s f. f; definitions = λ v d f. f; longer = omega arith })
 
 restored : (t d : Tree) (n : ℕ) → IsTree t → IsBeside t d n → length t.operations ≤ length d.operations → IsRestored t (cleared d (nat_eq n))
 restored t d n w s longer = record {
   same = subst (IsSameTree t) (erased_free d n s.loose) (beside_erased t d n w s);
   slots = s.slots;
   definitions = s.definitions;
-  longer = let same = length-blanked _ no_entry d.operations in omega (arith, longer, same);
+  longer = let same : length (cleared d (nat_eq n)).operations ≡ length d.operations = length-blanked _ no_entry d.operations in omega (arith, longer, same);
 }
 
 -- one that was just made
@@ -281,3 +331,9 @@ last_goes op t made u w rest s (Another {made = before} {u = b} v head standing 
       standing = subst (λ l. AreStanding op t l b) same.0 standing;
       restored = subst (λ n. IsRestored b (erased w n)) key (last_restored b w op p.0 head wb ww p.1 there);
     }
+
+-- where none is left, nothing is
+pub none_left : (op : ℕ) (t : Tree) (made : List StandIn) (u w : Tree) → AreStanding op t made u → made ≡ [] → IsRestored u w → IsRestored t w
+none_left op t made u w NoneYet e back = back
+none_left op t made u w (Another {made = before} {u = b} v head standing wb placed d) e back =
+    let n = ap length e in let l = length-append before (stand_in b v ∷ []) in absurd (omega (arith, n, l))

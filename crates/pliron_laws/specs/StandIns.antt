@@ -1,15 +1,13 @@
 -- Constants that stand before an operation for some of its results, until all of them are made.
-use Rattle.std.specs.Prelude.{◌≡◌, ◌+◌, ◌<◌, ◌≤◌, ℕ, Bool, false, List, [], ◌∷◌, ◌++◌, length, Option, Some, None, IsSome, IsTrue, slice_get}
+use Rattle.std.specs.Prelude.{◌≡◌, ◌+◌, ◌<◌, ◌≤◌, ℕ, Bool, List, [], ◌∷◌, ◌++◌, length, Option, Some, None, IsSome, slice_get}
 use Rattle.pliron_core.specs.declared.attrs.AttrObj.{AttrObj}
 use Rattle.pliron_core.specs.declared.attrs.IRStatus.{IRStatus}
 use Rattle.pliron_core.specs.declared.attrs.IRStatus.TheVariants.{Changed, Unchanged}
 use Rattle.pliron_core.specs.declared.context.Def.{Def}
 use Rattle.pliron_core.specs.declared.context.RegionSlot.{RegionSlot}
-use Rattle.pliron_core.specs.declared.rewriter.OpInsertionPoint.{OpInsertionPoint}
 use Rattle.pliron_core.specs.Tree.{Tree, In, IsDefined, operands_of, results_of, head_of, IsLive, parent_of, slot_of, definition_of}
 use Rattle.pliron_core.specs.Joined.{IsTree}
 use Rattle.pliron_core.specs.Writes.{created, replaced, put_next_to}
-use Rattle.pliron_core.specs.Insertion.{inserted}
 use Rattle.pliron_core.specs.Changes.{IsSameTree}
 use Rattle.pliron_laws.specs.declared.stand_ins.StandIn.{StandIn}
 use Rattle.pliron_laws.specs.Datum.{Head}
@@ -51,11 +49,6 @@ pub record IsRestored (t u : Tree) : Type 0 where
   pub slots : (r : ℕ) (s : RegionSlot) → slot_of t r ≡ Some s → slot_of u r ≡ Some s
   pub definitions : (v : ℕ) (d : Def) → definition_of t v ≡ Some d → definition_of u v ≡ Some d
   pub longer : length t.operations ≤ length u.operations
-
--- one more stands where a rewriter inserts, for the value v, if the dialect accepts the attribute
-pub data StandsIn (accepts : AttrObj → Bool) (head : AttrObj → Head) (attr : AttrObj) (point : OpInsertionPoint) (v : ℕ) (made : List StandIn) (t : Tree) : List StandIn → Tree → Type 0 where
-  PassedBy : accepts attr ≡ false → StandsIn accepts head attr point v made t made t
-  Stood : IsTrue (accepts attr) → StandsIn accepts head attr point v made t (made ++ stand_in t v ∷ []) (inserted (created t (head attr) 1 0) point (next_op t))
 
 -- whether something stands that did not
 abbrev pub TellsNew : IRStatus → Tree → Tree → Type 0

@@ -15,7 +15,7 @@
 //! and places, and an operation that is still admitted; what the folds in place leave is made of
 //! such operations, put before others, of other operands, and of a branch put in the place of one, with
 //! successors that the old one had.
-ghost use Rattle.std.specs.Prelude.{◌≡◌, ◌<◌, ◌≤◌, ℕ, Bool, List, Option, Some, IfOk, IfSome, OnErr, IsTrue, IsSome, length, IsOkUnless};
+ghost use Rattle.std.specs.Prelude.{◌≡◌, ◌<◌, ◌≤◌, ℕ, Bool, List, [], Option, Some, IfOk, IfSome, OnOk, OnErr, IsTrue, IsSome, length, IsOkUnless};
 ghost use Rattle.pliron_core.specs.declared.attrs.AttrObj.{AttrObj as Attribute};
 ghost use Rattle.pliron_core.specs.declared.rewriter.OpInsertionPoint.TheVariants.{BeforeOperation};
 ghost use Rattle.std.specs.Prelude.{Result as ResultOf};
@@ -24,13 +24,14 @@ ghost use Rattle.pliron_core.specs.Tree.{Tree, IsLive, block_holder_of, operands
 ghost use Rattle.pliron_laws.specs.Datum.{Head, Shape, Meaning};
 ghost use Rattle.pliron_laws.specs.Folding.{Constants, Feasible, AnswersTrue, AnswersJumps, MakesConstants};
 ghost use Rattle.pliron_laws.specs.Laws.{KeepsCounts, GivesAtOnce, ForwardsOperands, ActsWithoutArgument};
+ghost use Rattle.pliron_laws.specs.StandIns.{AreStanding, IsRestored, IsStoodIn};
 ghost use Rattle.pliron_laws.specs.InPlace.{Outcome, FoldsInPlace, PassSameTests, materialising};
 ghost use Rattle.pliron_laws.specs.Answers.{ReadsHead, ReadsCounts, ReadsShape, ReadsEdges, ReadsPlace, HeadPasses, AreForwarded, IsForwardedAt, IsForwardedOnce, HasPlace, LosesForwarded, IsMaterialised};
 ghost use Rattle.pliron_laws.specs.declared.dialect.Interface.{Interface as InterfaceName};
 
 use crate::fault::OptError;
 use crate::room::Room;
-use crate::stand_ins::{erase_all, hand_over_all, stand_in_for_results};
+use crate::stand_ins::{StandIn, erase_all, hand_over_all, stand_in, take_room};
 use pliron_core::{AttrObj, BasicBlock, Context, IRStatus, Operation, Ptr, Rewriter, Value};
 use std::alloc::Global;
 
@@ -186,15 +187,55 @@ pub trait ConstFoldInterface: HasMeaning {
         ensures longer { length ctx.old.tree.operations ≤ length ctx.new.tree.operations }
         ensures point { R.point rewriter.new ≡ R.point rewriter.old }
     {
+        ctx.well_formed();
         let answers = Self::check_fold(alloc, op, ctx, operand_attrs)?;
         let mut made = Vec::new(alloc);
-        match stand_in_for_results::<Self, R>(alloc, op, ctx, &answers, rewriter, &mut made) {
+        match Self::make_stand_ins(alloc, op, ctx, &answers, rewriter, &mut made) {
             Ok(()) => Ok(hand_over_all(ctx, &made, rewriter)),
             Err(refusal) => {
                 erase_all(ctx, made, rewriter);
                 Err(refusal)
             }
         }
+    }
+
+    /// The first half of `fold_with_materialization`: for each answered result for which `materialize` makes
+    /// a constant, that constant just before the operation, with no use yet.
+    ///
+    /// Asks that the operation stands in a block, for an insertion point just before it, and for an empty list
+    /// of constants. Errors: want of memory, after which the list has those that stand. Cost: one
+    /// `materialize` for each answer.
+    fn make_stand_ins<R: Rewriter + Room>(
+        alloc: Global,
+        op: Ptr<Operation>,
+        ctx: &mut Context,
+        answers: &[Option<AttrObj>],
+        rewriter: &mut R,
+        made: &mut Vec<StandIn>,
+    ) -> Result<(), OptError>
+        requires live { IsLive ctx.old.tree op }
+        requires placed { IsSome (parent_of ctx.old.tree op) }
+        requires point { R.point rewriter.old ≡ BeforeOperation op }
+        requires none { made.old.items ≡ [] }
+        ensures ok { OnOk result (IsStoodIn accepts constant_head op answers.now ctx.old.tree made.new.items ctx.new.tree) }
+        ensures refused { OnErr result ((u : Tree) × AreStanding op ctx.old.tree made.new.items u × IsRestored u ctx.new.tree) }
+        ensures memory { IsOkUnless result OptError.Memory }
+        ensures point { R.point rewriter.new ≡ R.point rewriter.old }
+    {
+        let count = op.num_result(ctx).min(answers.len());
+        for i in 0..count {
+            let Some(attr) = &answers[i] else {
+                continue;
+            };
+            ctx.well_formed();
+            let old = op.get_result(ctx, i);
+            take_room(alloc, rewriter, made)?;
+            let Some(constant) = Self::materialize(alloc, attr, ctx)? else {
+                continue;
+            };
+            stand_in(ctx, constant, old, rewriter, made)?;
+        }
+        Ok(())
     }
 
     /// A new operation that makes this constant, which stands in no block; `None`, with nothing made,

@@ -22,3 +22,4 @@ pub use edges::edges_last;
 pub use fault::OptError;
 pub use linked::{is_admitted, is_well_linked};
 pub use room::Room;
+pub use stand_ins::StandIn;

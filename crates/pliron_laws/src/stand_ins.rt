@@ -1,21 +1,22 @@
-//! Constants for all answered results of an operation, or for none.
+//! Constants that stand before an operation for some of its results.
 //!
-//! They are made first, each just before the operation, and get the uses of the results only when all stand:
-//! until then they can be erased again, and then nothing more takes memory.
-ghost use Rattle.std.specs.Prelude.{◌≡◌, ◌×◌, ℕ, Option, Some, [], IsSome, OnOk, OnErr, IsOkUnless};
-ghost use Rattle.pliron_core.specs.declared.rewriter.OpInsertionPoint.TheVariants.{BeforeOperation};
-ghost use Rattle.pliron_core.specs.Tree.{Tree, IsLive, IsDefined, parent_of, results_of};
-ghost use Rattle.pliron_laws.specs.Outcomes.{Materialises};
-ghost use Rattle.pliron_laws.specs.StandIns.{AreStanding, AreUnused, IsRestored, IsStoodIn, StandsIn, all_replaced, status_of};
+//! All are made before the first gets the uses of its result: until then they can be erased again, and from
+//! then on nothing takes memory.
+ghost use Rattle.std.specs.Prelude.{◌≡◌, ◌++◌, ◌∷◌, ◌<◌, ℕ, [], OnOk, OnErr, IsOkUnless, vec_len, vec_capacity};
+ghost use Rattle.pliron_core.specs.Tree.{Tree};
+ghost use Rattle.pliron_core.specs.Insertion.{IsPointFor, inserted};
+ghost use Rattle.pliron_core.specs.Erased.{erased};
+ghost use Rattle.pliron_laws.specs.Datum.{Head};
+ghost use Rattle.pliron_laws.specs.Outcomes.{IsMadeConstant};
+ghost use Rattle.pliron_laws.specs.StandIns.{AreStanding, AreUnused, IsRestored, all_replaced, stand_in as stand_in_for, status_of};
 
-use crate::dialect::ConstFoldInterface;
 use crate::fault::OptError;
 use crate::materialise::{hand_over, insert_or_erase};
 use crate::room::Room;
-use pliron_core::{AttrObj, Context, IRStatus, Operation, Ptr, Rewriter, Value};
+use pliron_core::{Context, IRStatus, NoMemory, Operation, Ptr, Rewriter, Value};
 use std::alloc::Global;
 
-/// A constant that stands before an operation for one of its results, and that result and its own.
+/// A constant that stands before an operation for one of its results, with that result and its own.
 #[derive(Clone, Copy)]
 pub struct StandIn {
     constant: Ptr<Operation>,
@@ -23,67 +24,50 @@ pub struct StandIn {
     new: Value,
 }
 
-// One more constant for the value, if the dialect makes one of the attribute.
-fn stand_in<D: ConstFoldInterface, R: Rewriter + Room>(
+// Room for one more, in the list and in the listener of the rewriter.
+pub(crate) fn take_room<R: Rewriter + Room>(
     alloc: Global,
-    ctx: &mut Context,
-    old: Value,
-    attr: &AttrObj,
     rewriter: &mut R,
     made: &mut Vec<StandIn>,
 ) -> Result<(), OptError>
-    requires op { (op : ℕ) × (R.point rewriter.old ≡ BeforeOperation op) × IsLive ctx.old.tree op × IsSome (parent_of ctx.old.tree op) }
-    requires old { IsDefined ctx.old.tree old }
-    ensures ok { OnOk result (StandsIn D.accepts D.constant_head attr.now (R.point rewriter.old) old made.old.items ctx.old.tree made.new.items ctx.new.tree) }
-    ensures refused { OnErr result ((made.new.items ≡ made.old.items) × IsRestored ctx.old.tree ctx.new.tree) }
+    ensures room { OnOk result (vec_len made.new < vec_capacity made.new) }
+    ensures kept { made.new.items ≡ made.old.items }
     ensures memory { IsOkUnless result OptError.Memory }
     ensures point { R.point rewriter.new ≡ R.point rewriter.old }
 {
-    ctx.well_formed();
     made.reserve(1)?;
     // an insertion, and for each constant a replacement, or erasing on the way back
-    rewriter.room(alloc, made.len().saturating_add(2))?;
-    let Some(constant) = D::materialize(alloc, attr, ctx)? else {
-        return Ok(());
-    };
+    rewriter.room(alloc, made.len().saturating_add(2))
+}
+
+// The new operation goes where the rewriter inserts, and stands for the value. Where that is refused it is
+// erased again.
+pub(crate) fn stand_in<R: Rewriter>(
+    ctx: &mut Context,
+    constant: Ptr<Operation>,
+    old: Value,
+    rewriter: &mut R,
+    made: &mut Vec<StandIn>,
+) -> Result<(), NoMemory>
+    requires fresh { (t : Tree) × (head : Head) × IsMadeConstant t ctx.old.tree constant head }
+    requires point { IsPointFor ctx.old.tree (R.point rewriter.old) constant }
+    requires room { vec_len made.old < vec_capacity made.old }
+    ensures ok { OnOk result (ctx.new.tree ≡ inserted ctx.old.tree (R.point rewriter.old) constant) }
+    ensures made { OnOk result ((t : Tree) (head : Head) → IsMadeConstant t ctx.old.tree constant head → made.new.items ≡ made.old.items ++
+        stand_in_for t old ∷ []) }
+    ensures err { OnErr result (ctx.new.tree ≡ erased ctx.old.tree constant) }
+    ensures kept { OnErr result (made.new.items ≡ made.old.items) }
+    ensures point { R.point rewriter.new ≡ R.point rewriter.old }
+{
+    ctx.well_formed();
     let new = constant.get_result(ctx, 0);
     insert_or_erase(ctx, constant, rewriter)?;
     made.push_reserved(StandIn { constant, old, new });
     Ok(())
 }
 
-// A constant before the operation for each answered result for which the dialect makes one. After a
-// refusal those that were made stand.
-pub(crate) fn stand_in_for_results<D: ConstFoldInterface, R: Rewriter + Room>(
-    alloc: Global,
-    op: Ptr<Operation>,
-    ctx: &mut Context,
-    answers: &[Option<AttrObj>],
-    rewriter: &mut R,
-    made: &mut Vec<StandIn>,
-) -> Result<(), OptError>
-    requires live { IsLive ctx.old.tree op }
-    requires placed { IsSome (parent_of ctx.old.tree op) }
-    requires point { R.point rewriter.old ≡ BeforeOperation op }
-    requires none { made.old.items ≡ [] }
-    ensures ok { OnOk result (IsStoodIn D.accepts D.constant_head op answers.now ctx.old.tree made.new.items ctx.new.tree) }
-    ensures refused { OnErr result ((u : Tree) × AreStanding op ctx.old.tree made.new.items u × IsRestored u ctx.new.tree) }
-    ensures memory { IsOkUnless result OptError.Memory }
-    ensures point { R.point rewriter.new ≡ R.point rewriter.old }
-{
-    let count = op.num_result(ctx).min(answers.len());
-    for i in 0..count {
-        let Some(attr) = &answers[i] else {
-            continue;
-        };
-        ctx.well_formed();
-        let old = op.get_result(ctx, i);
-        stand_in::<D, R>(alloc, ctx, old, attr, rewriter, made)?;
-    }
-    Ok(())
-}
-
-// Each constant gets the uses of the result for which it stands. Answers whether there are any.
+// Each constant gets the uses of the result for which it stands. Answers whether there are any. Takes no
+// memory.
 pub(crate) fn hand_over_all<R: Rewriter>(
     ctx: &mut Context,
     made: &[StandIn],
@@ -95,19 +79,15 @@ pub(crate) fn hand_over_all<R: Rewriter>(
     ensures point { R.point rewriter.new ≡ R.point rewriter.old }
 {
     let mut status = IRStatus::Unchanged;
-    for stand_in in made {
-        hand_over(ctx, stand_in.old, stand_in.new, rewriter);
+    for i in 0..made.len() {
+        hand_over(ctx, made[i].old, made[i].new, rewriter);
         status = IRStatus::Changed;
     }
     status
 }
 
 // The constants go again, the last one first. Takes no memory.
-pub(crate) fn erase_all<R: Rewriter>(
-    ctx: &mut Context,
-    mut made: Vec<StandIn>,
-    rewriter: &mut R,
-)
+pub(crate) fn erase_all<R: Rewriter>(ctx: &mut Context, mut made: Vec<StandIn>, rewriter: &mut R)
     requires { (op : ℕ) × (t : Tree) × (u : Tree) × AreStanding op t made.items u × IsRestored u ctx.old.tree }
     ensures restored { (op : ℕ) (t u : Tree) → AreStanding op t made.items u → IsRestored u ctx.old.tree → IsRestored t ctx.new.tree }
     ensures point { R.point rewriter.new ≡ R.point rewriter.old }
