@@ -16,13 +16,15 @@ use Rattle.pliron_core.proofs.GrownLemmas.{get_grown}
 use Rattle.pliron_core.proofs.SameTreeLemmas.{same_refl}
 use Rattle.pliron_core.proofs.TreeLemmas.{live-within, live_dead}
 use Rattle.pliron_laws.specs.declared.stand_ins.StandIn.{StandIn}
-use Rattle.pliron_laws.specs.Datum.{Head}
+use Rattle.pliron_laws.specs.Datum.{Head, Meaning}
+use Rattle.pliron_laws.specs.Answers.{ReadsShape}
+use Rattle.pliron_laws.specs.Folding.{Constants}
 use Rattle.pliron_laws.specs.Outcomes.{Materialises, IsMadeConstant, materialised}
 use Rattle.pliron_laws.specs.Outcomes.Materialises.{Finished, Unanswered, Unknown, PassedOver, Put}
-use Rattle.pliron_laws.specs.InPlace.{TellsChange}
+use Rattle.pliron_laws.specs.InPlace.{TellsChange, materialising}
 use Rattle.pliron_laws.specs.StandIns.{stand_in, with_constant, AreStanding, IsStoodIn, TellsNew, all_replaced, status_of}
 use Rattle.pliron_laws.specs.StandIns.AreStanding.{NoneYet, Another}
-use Rattle.pliron_laws.proofs.FoldLemmas.{put_row, put_row-new}
+use Rattle.pliron_laws.proofs.FoldLemmas.{put_row, put_row-new, outcome_of}
 use Rattle.pliron_laws.proofs.StandInLemmas.{another_folds, status_more}
 
 told_put : (status : IRStatus) (t now : Tree) (op v : ℕ) (head : Head) → TellsNew status t now → TellsNew Changed t (materialised now op v head)
@@ -104,3 +106,12 @@ module _ (accepts : AttrObj → Bool) (head : AttrObj → Head) (op : ℕ) (answ
       all : (length (results_of t op) ≤ i) ⊎ (length answers ≤ i) → Later (results_of t op) answers t (all_replaced made now)
       all (inl le) = f.rest (all_replaced made now) (subst (λ z. Later z (drop i answers) (all_replaced made now) (all_replaced made now)) (sym (drop_all i (results_of t op) le)) Finished)
       all (inr le) = f.rest (all_replaced made now) (subst (λ z. Later (drop i (results_of t op)) z (all_replaced made now) (all_replaced made now)) (sym (drop_all i answers le)) Unanswered)
+
+-- all constants stand, and each got the uses of its result
+pub finished : (m : Meaning) (constants : Constants) (accepts : AttrObj → Bool) (head : AttrObj → Head) (op : ℕ) (known answers listed_answers : List (Option AttrObj)) (t u z : Tree) (made listed : List StandIn) (status : IRStatus) → ReadsShape m (λ s. constants s known) t op answers → listed_answers ≡ answers → IsStoodIn accepts head op listed_answers t made u → listed ≡ made → z ≡ all_replaced listed u → status ≡ status_of listed → materialising m constants accepts head t z op known (Some status)
+finished m constants accepts head op known answers listed_answers t u z made listed status reads same_answers stood same is answer =
+    let folded : z ≡ all_replaced made u = is ∙ ap (λ l. all_replaced l u) same in
+    let told : status ≡ status_of made = answer ∙ ap status_of same in
+    let all : Materialises accepts head op (results_of t op) answers t (all_replaced made u) = subst (λ l. Materialises accepts head op (results_of t op) l t (all_replaced made u)) same_answers stood.folds in
+    let outcome : materialising m constants accepts head t (all_replaced made u) op known (Some (status_of made)) = (outcome_of m constants accepts head op known answers t (all_replaced made u) reads all, told_change (status_of made) t (all_replaced made u) stood.told) in
+    subst (λ a. materialising m constants accepts head t z op known (Some a)) (sym told) (subst (λ x. materialising m constants accepts head t x op known (Some (status_of made))) (sym folded) outcome)

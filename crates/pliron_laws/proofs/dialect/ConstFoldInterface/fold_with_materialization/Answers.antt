@@ -1,26 +1,31 @@
-use Rattle.std.proofs.Common.{◌≡◌, ◌∙◌, length, refl, sym, ap, subst, arith, Some}
-use Rattle.pliron_core.specs.Tree.{results_of}
+use Rattle.std.proofs.Common.{◌≡◌, ◌≤◌, length, sym, ap, subst, arith}
 use Rattle.pliron_core.proofs.SameTreeLemmas.{same_refl}
+use Rattle.pliron_laws.specs.StandIns.{AreUnused}
 use Rattle.pliron_laws.proofs.StandInLemmas.{standing_unused, standing_long, replaced_long}
-use Rattle.pliron_laws.proofs.FoldLemmas.{outcome_of, on_err}
-use Rattle.pliron_laws.proofs.FoldSteps.{told_change}
+use Rattle.pliron_laws.proofs.FoldLemmas.{on_err}
+use Rattle.pliron_laws.proofs.FoldSteps.{finished}
 use Rattle.pliron_laws.proofs.dialect.ConstFoldInterface.fold_with_materialization.Goals as goal
 
 pub returns-in_err-answers-clause-refused : goal.returns-in_err-answers-clause-refused
-returns-in_err-answers-clause-refused g c = on_err _ c.from_residual.result (same_refl c.args.ctx.now.tree)
+returns-in_err-answers-clause-refused g c = on_err _ _ (same_refl c.args.ctx.now.tree)
 
 pub hand_over_all-requires : goal.hand_over_all-requires
 hand_over_all-requires g c =
     let t = c.args.ctx.now.tree in
-    standing_unused c.args.op t _ c.make_stand_ins.new.ctx.tree c.well_formed-2.ensures.tree c.in-Ok.ensures.ok.standing
+    subst (λ l. AreUnused l c.make_stand_ins.new.ctx.tree) (sym c.deref-in-Ok.ensures.value) (standing_unused c.args.op t c.make_stand_ins.new.made.items c.make_stand_ins.new.ctx.tree c.well_formed-2.ensures.tree c.in-Ok.ensures.ok.standing)
 
 pub returns-in-Ok-clause-ok : goal.returns-in-Ok-clause-ok
 returns-in-Ok-clause-ok g c =
-    let t = c.args.ctx.now.tree in
     let d = g.Self.ConstFoldInterface in
-    let items = c.in_ok-answers.answers.items in
-    let s = c.in-Ok.ensures.ok in
-    (outcome_of g.Self.HasMeaning.meaning d.constants d.accepts d.constant_head c.args.op c.args.operand_attrs.now items t _ c.in_ok-answers.ensures.ok s.folds, told_change _ t _ s.told)
+    finished g.Self.HasMeaning.meaning d.constants d.accepts d.constant_head c.args.op c.args.operand_attrs.now c.in_ok-answers.answers.items c.deref.result.now c.args.ctx.now.tree c.make_stand_ins.new.ctx.tree c.hand_over_all.new.ctx.tree c.make_stand_ins.new.made.items c.deref-in-Ok.result.now c.hand_over_all.result c.in_ok-answers.ensures.ok c.deref.ensures.value c.in-Ok.ensures.ok c.deref-in-Ok.ensures.value c.hand_over_all.ensures.replaced c.hand_over_all.ensures.status
+
+pub returns-in-Ok-clause-longer : goal.returns-in-Ok-clause-longer
+returns-in-Ok-clause-longer g c =
+    let t = c.args.ctx.now.tree in
+    let l = standing_long c.args.op t c.make_stand_ins.new.made.items c.make_stand_ins.new.ctx.tree c.in-Ok.ensures.ok.standing in
+    let r = replaced_long c.deref-in-Ok.result.now c.make_stand_ins.new.ctx.tree in
+    let e = ap (λ z. length z.operations) c.hand_over_all.ensures.replaced in
+    omega (arith, l, r, e)
 
 pub erase_all-requires : goal.erase_all-requires
 erase_all-requires g c =
