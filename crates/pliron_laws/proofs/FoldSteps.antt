@@ -97,7 +97,7 @@ module _ (accepts : AttrObj → Bool) (head : AttrObj → Head) (op : ℕ) (answ
   pub folding_put : (i v c : ℕ) (answer : Option AttrObj) (attr : AttrObj) (point : OpInsertionPoint) (made made' : List StandIn) (now between next : Tree) → Folding i made now → slice_get (results_of t op) i ≡ Some v → slice_get answers i ≡ Some answer → answer ≡ Some attr → IsSome (parent_of now op) → IsDefined now v → IsTrue (accepts attr) → IsMadeConstant now between c (head attr) → point ≡ BeforeOperation op → next ≡ inserted between point c → made' ≡ made ++ stand_in now v ∷ [] → Folding (i + 1) made' next
   folding_put i v c answer attr point made made' now between next f at said some placed defined accepted fresh before is more =
       let there : next ≡ with_constant now op (head attr) =
-          is ∙ ap (λ z. inserted z point c) fresh.made ∙ ap (λ n. inserted (created now (head attr) 1 0) point n) fresh.key ∙ put_there now op (head attr) point before in
+      is ∙ ap (λ z. inserted z point c) fresh.made ∙ ap (λ n. inserted (created now (head attr) 1 0) point n) fresh.key ∙ put_there now op (head attr) point before in
       subst (λ l. Folding (i + 1) l next) (sym more) (subst (Folding (i + 1) (made ++ stand_in now v ∷ [])) (sym there) (one_stands i v attr made now f at (said ∙ ap Some some) fresh.tree placed defined accepted))
 
   pub folding_end : (i : ℕ) (made : List StandIn) (now : Tree) → Folding i made now → (length (results_of t op) ≤ i) ⊎ (length answers ≤ i) → IsStoodIn accepts head op answers t made now

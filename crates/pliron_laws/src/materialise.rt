@@ -32,12 +32,7 @@ pub(crate) fn insert_or_erase<R: Rewriter>(
 }
 
 // The value `new`, which has no uses, gets those of `old`.
-pub(crate) fn hand_over<R: Rewriter>(
-    ctx: &mut Context,
-    old: Value,
-    new: Value,
-    rewriter: &mut R,
-)
+pub(crate) fn hand_over<R: Rewriter>(ctx: &mut Context, old: Value, new: Value, rewriter: &mut R)
     requires old { IsDefined ctx.old.tree old }
     requires new { IsDefined ctx.old.tree new }
     requires unused { (k : ℕ) → In new (operands_of ctx.old.tree k) → ⊥ }

@@ -75,7 +75,9 @@ impl ConstFoldInterface for Pairs {
 
 /// A function with a pair whose results have several uses, and the same after the fold of the pair.
 static BEFORE: &str = "func { b0(): v0, v1 = pair; sink v0 v1 v0 v1 v1; print v0; ret v1 v0 }";
-static AFTER: &str = "func { b0(): v0 = const 1; v1 = const 2; v2, v3 = pair; sink v0 v1 v0 v1 v1; print v0; ret v1 v0 }";
+
+static AFTER: &str =
+    "func { b0(): v0 = const 1; v1 = const 2; v2, v3 = pair; sink v0 v1 v0 v1 v1; print v0; ret v1 v0 }";
 
 /// Folds the first operation inside the root, if it is a pair in a block.
 fn fold_first(
