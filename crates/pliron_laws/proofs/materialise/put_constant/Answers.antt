@@ -24,7 +24,7 @@ pub hand_over-requires-clause-unused : goal.hand_over-requires-clause-unused
 hand_over-requires-clause-unused g c = λ k i. let f = c.requires.fresh in put_unused f.0 c.args.ctx.now.tree c.insert_or_erase.new.ctx.tree c.args.constant c.get_result-new.result k f.1 _ f.2.tree f.2.made f.2.key c.get_result-new.ensures.value c.in_ok-insert_or_erase.ensures.ok i
 
 pub returns-in_err-insert_or_erase-clause-err : goal.returns-in_err-insert_or_erase-clause-err
-returns-in_err-insert_or_erase-clause-err g c = on_err _ _ (λ t head f. subst (IsSameTree t) (sym c.in_err-insert_or_erase.ensures.err) (erased_made t c.args.ctx.now.tree c.args.constant head f.tree f.made f.key))
+returns-in_err-insert_or_erase-clause-err g c = on_err _ c.from_residual.result (λ t head f. subst (IsSameTree t) (sym c.in_err-insert_or_erase.ensures.err) (erased_made t c.args.ctx.now.tree c.args.constant head f.tree f.made f.key))
 
 pub returns-in_err-insert_or_erase-clause-longer : goal.returns-in_err-insert_or_erase-clause-longer
 returns-in_err-insert_or_erase-clause-longer g c = erased_long c.args.ctx.now.tree c.insert_or_erase.new.ctx.tree c.args.constant c.in_err-insert_or_erase.ensures.err

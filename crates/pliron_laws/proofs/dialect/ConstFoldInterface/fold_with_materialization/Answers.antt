@@ -7,7 +7,7 @@ use Rattle.pliron_laws.proofs.FoldSteps.{finished}
 use Rattle.pliron_laws.proofs.dialect.ConstFoldInterface.fold_with_materialization.Goals as goal
 
 pub returns-in_err-answers-clause-refused : goal.returns-in_err-answers-clause-refused
-returns-in_err-answers-clause-refused g c = on_err _ _ (same_refl c.args.ctx.now.tree)
+returns-in_err-answers-clause-refused g c = on_err _ c.from_residual.result (same_refl c.args.ctx.now.tree)
 
 pub hand_over_all-requires : goal.hand_over_all-requires
 hand_over_all-requires g c =

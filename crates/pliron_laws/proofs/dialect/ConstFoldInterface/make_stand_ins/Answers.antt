@@ -39,7 +39,7 @@ loop-i-preserved-in_default g c =
 pub returns-in_err-take_room-clause-refused : goal.returns-in_err-take_room-clause-refused
 returns-in_err-take_room-clause-refused g c =
     let now = c.loop-i.ctx.tree in
-    on_err _ _ (now, subst (λ l. AreStanding c.args.op c.args.ctx.now.tree l now) (sym c.take_room.ensures.kept) c.loop-i.invariant.folding.standing, restored_refl now now refl)
+    on_err _ c.from_residual.result (now, subst (λ l. AreStanding c.args.op c.args.ctx.now.tree l now) (sym c.take_room.ensures.kept) c.loop-i.invariant.folding.standing, restored_refl now now refl)
 
 pub loop-i-preserved-in_default-2 : goal.loop-i-preserved-in_default-2
 loop-i-preserved-in_default-2 g c =
@@ -64,7 +64,7 @@ pub returns-in_err-constant-clause-refused : goal.returns-in_err-constant-clause
 returns-in_err-constant-clause-refused g c =
     let now = c.loop-i.ctx.tree in
     let next = c.materialize.new.ctx.tree in
-    on_err _ _ (now, subst (λ l. AreStanding c.args.op c.args.ctx.now.tree l now) (sym c.take_room.ensures.kept) c.loop-i.invariant.folding.standing, restored_refl now next (ap (λ v. v.tree) c.in_err-constant.ensures.refused))
+    on_err _ c.from_residual-in_err-constant.result (now, subst (λ l. AreStanding c.args.op c.args.ctx.now.tree l now) (sym c.take_room.ensures.kept) c.loop-i.invariant.folding.standing, restored_refl now next (ap (λ v. v.tree) c.in_err-constant.ensures.refused))
 
 pub stand_in-requires-clause-fresh : goal.stand_in-requires-clause-fresh
 stand_in-requires-clause-fresh g c =
@@ -87,7 +87,7 @@ returns-in_err-stand_in-clause-refused g c =
     let d = g.Self.ConstFoldInterface in
     let now = c.loop-i.ctx.tree in
     let made = fresh_made d.accepts d.constant_head _ now c.materialize.new.ctx.tree c.in-Some-2.constant c.in_ok-constant.field-0 c.well_formed-in-loop-i.ensures.tree c.in_ok-constant.ensures.ok c.in-Some-2.is in
-    on_err _ _ (now, subst (λ l. AreStanding c.args.op c.args.ctx.now.tree l now) (sym (c.in_err-stand_in.ensures.kept ∙ c.take_room.ensures.kept)) c.loop-i.invariant.folding.standing, restored_made now c.materialize.new.ctx.tree c.stand_in.new.ctx.tree c.in-Some-2.constant _ made.1 c.in_err-stand_in.ensures.err)
+    on_err _ c.from_residual-in_err-stand_in.result (now, subst (λ l. AreStanding c.args.op c.args.ctx.now.tree l now) (sym (c.in_err-stand_in.ensures.kept ∙ c.take_room.ensures.kept)) c.loop-i.invariant.folding.standing, restored_made now c.materialize.new.ctx.tree c.stand_in.new.ctx.tree c.in-Some-2.constant _ made.1 c.in_err-stand_in.ensures.err)
 
 pub loop-i-preserved : goal.loop-i-preserved
 loop-i-preserved g c =
