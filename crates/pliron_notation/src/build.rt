@@ -71,7 +71,11 @@ fn reserve_all(syntax: &Syntax, ctx: &mut Context) -> Result<(), NoMemory>
 }
 
 /// Builds the operation of a text, for which room is reserved.
-fn build_reserved(alloc: Global, syntax: &Syntax, ctx: &mut Context) -> Result<Ptr<Operation>, NoMemory>
+fn build_reserved(
+    alloc: Global,
+    syntax: &Syntax,
+    ctx: &mut Context,
+) -> Result<Ptr<Operation>, NoMemory>
     requires { IsSoundSyntax syntax.now }
     ensures built { IfOk result (λ root. IsGrown ctx.old.tree ctx.new.tree root) }
     ensures linked { IfOk result (λ root. IsWellLinked bench ctx.new.tree root) }
