@@ -108,7 +108,8 @@ impl Context {
         }
     }
 
-    /// Makes room for so many more operations, blocks and values, which then grow no table as they are made.
+    /// Makes room for so many more operations, blocks and values. Making these then grows no table but those
+    /// of regions.
     ///
     /// Errors: want of memory. The tree stays as it was, with an error too. Cost: linear in the tables'
     /// length, which grow so that room asked for one by one is constant each, amortised.
