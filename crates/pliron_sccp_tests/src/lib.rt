@@ -4,6 +4,8 @@
 #[cfg(test)]
 mod cases;
 #[cfg(test)]
+mod counts;
+#[cfg(test)]
 mod marked;
 #[cfg(test)]
 mod runs;
