@@ -3,7 +3,7 @@
 
   shapes.py SHAPE N bench|llvm|mlir  a text of about N operations
   shapes.py list                     the names of the shapes, but those that bench alone can write:
-                                     boxed, fiftyboxes
+                                     boxed, fiftyboxes; and those on which a pass costs a square: sumcbr
 
 One program is built and printed in three notations, so that all optimisers see the same control flow: in
 that of this repository, with the shortest names and no blanks; in LLVM's, where an argument of a block is
@@ -375,6 +375,17 @@ def sumbr(n, rng):
     return [f]
 
 
+def sumcbr(n, rng):
+    """as sumbr, but the branch behind the loop is conditional: `sccp` costs a square."""
+    f = Fn()
+    loop, end, sums = sum_loop(f, max(2, n - 6))
+    last, other = f.block(len(sums)), f.block(0)
+    f.cbr(end, f.read(end), last, sums, other, [])
+    f.ret(last)
+    f.ret(other)
+    return [f]
+
+
 def shiftbr(n, rng):
     """a loop without an end whose n arguments move on by one place each time, and a number is read for the first."""
     f = Fn()
@@ -440,6 +451,9 @@ SHAPES = {"chain": chain, "diamonds": diamonds, "merges": merges, "loops": loops
           "manyargs": manyargs, "liveargs": liveargs,
           "lateargs": lateargs, "shiftargs": shiftargs, "alternating": alternating,
           "sumsink": sumsink, "sumbr": sumbr, "shiftbr": shiftbr, "funcs": funcs, "mixed": mixed}
+
+# shapes on which a pass costs a square, which no table has
+SQUARES = {"sumcbr": sumcbr}
 
 
 def boxes(n, depth):
@@ -612,7 +626,8 @@ def text_of(shape, n, notation):
     if shape in BOXES:
         return BOXES[shape](n)
     parts = []
-    PRINT[notation](SHAPES[shape](n, random.Random(1)), parts.append)
+    make = SHAPES.get(shape) or SQUARES[shape]
+    PRINT[notation](make(n, random.Random(1)), parts.append)
     return "".join(parts)
 
 

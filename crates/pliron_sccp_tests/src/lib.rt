@@ -8,6 +8,8 @@ mod counts;
 #[cfg(test)]
 mod marked;
 #[cfg(test)]
+mod room;
+#[cfg(test)]
 mod runs;
 #[cfg(test)]
 mod texts;

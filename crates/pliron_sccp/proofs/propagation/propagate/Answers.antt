@@ -1,7 +1,7 @@
 use Rattle.pliron_laws.proofs.FoldLemmas.{on_err}
 use Rattle.pliron_theory.specs.Facts.{Says}
 use Rattle.pliron_sccp.proofs.FoundChange.{found_change, found_partly}
-use Rattle.pliron_sccp.proofs.propagation.sccp_counted.Goals as goal
+use Rattle.pliron_sccp.proofs.propagation.propagate.Goals as goal
 
 pub returns-in_err-status-clause-partly : goal.returns-in_err-status-clause-partly
 returns-in_err-status-clause-partly g c =
