@@ -4,7 +4,7 @@ use Rattle.pliron_notation.specs.Building.{IsGrown}
 use Rattle.pliron_core.specs.Writes.{created}
 use Rattle.pliron_notation.proofs.LinkedText.{linked-text}
 use Rattle.pliron_notation.proofs.UndoneLemmas.{contained, undone}
-use Rattle.pliron_notation.proofs.build.build.Goals as goal
+use Rattle.pliron_notation.proofs.build.build_reserved.Goals as goal
 
 pub erase_operation-requires-clause-contained : goal.erase_operation-requires-clause-contained
 erase_operation-requires-clause-contained c =
