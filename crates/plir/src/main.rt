@@ -97,11 +97,24 @@ fn opt_wished(rt: &HostRuntime, source: &Source, matches: &ArgMatches) -> io::Re
     Ok(opt(rt.alloc(), source, &wish, rt)?)
 }
 
+/// The outcome of a command whose input can't be read: its name is told, and why.
+fn unread(alloc: Global, name: &str, error: &io::Error) -> io::Result<Outcome> {
+    let report = format!(in alloc; "error: cannot read {name}: {error}\n")?;
+    Ok(Outcome {
+        output: Vec::new(alloc),
+        report,
+        status: 2,
+    })
+}
+
 /// What the command makes of its input.
 fn outcome(rt: &HostRuntime, command: &str, matches: &ArgMatches) -> io::Result<Outcome> {
     let alloc = rt.alloc();
     let name = matches.get_str("file").unwrap_or("-");
-    let text = text_of(rt, name)?;
+    let text = match text_of(rt, name) {
+        Ok(text) => text,
+        Err(error) => return unread(alloc, called(name), &error),
+    };
     let source = Source {
         name: called(name),
         text: &text,
