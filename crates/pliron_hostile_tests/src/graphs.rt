@@ -1,5 +1,4 @@
 //! The graph of each region, and its reverse: orders, components, searches and dominators.
-ghost use Rattle.pliron_core.specs.Tree.{IsRegion};
 ghost use Rattle.pliron_search.specs.Regions.{IsLawfulRegion};
 
 use super::texts::TEXTS;
@@ -102,22 +101,21 @@ fn check_graph<C, G: ControlFlowGraph<C>>(
     check_dominators(rt, alloc, ctx, graph, nodes);
 }
 
-/// The region, which may be read as a graph.
-fn region_of(rt: &impl Abort, holder: Ptr<Operation>, ctx: &Context) -> Ptr<Region>
-    ensures { IsLawfulRegion ctx.now.tree result }
+/// The region may be read as a graph.
+fn check_lawful(rt: &impl Abort, ctx: &Context, region: Ptr<Region>)
+    ensures { IsLawfulRegion ctx.now.tree region }
 {
     ctx.well_formed();
-    assert!(rt; holder.is_live(ctx));
-    assert!(rt; holder.num_region(ctx) == 1);
-    let region = holder.get_region(ctx, 0);
     assert!(rt; region.is_live(ctx));
     assert!(rt; edges_last(region.get_parent_op(ctx), ctx));
-    region
 }
 
 fn check_region(rt: &impl Abort, alloc: Global, holder: Ptr<Operation>, ctx: &Context) {
     let nodes = blocks_of(rt, alloc, holder, ctx).len();
-    let region = region_of(rt, holder, ctx);
+    assert!(rt; holder.is_live(ctx));
+    assert!(rt; holder.num_region(ctx) == 1);
+    let region = holder.get_region(ctx, 0);
+    check_lawful(rt, ctx, region);
     check_graph(rt, alloc, ctx, &region, nodes);
     let reverse = ReverseGraph::new(alloc, ctx, &region).expect(rt, "memory");
     check_graph(rt, alloc, ctx, &reverse, nodes.saturating_add(1));

@@ -96,6 +96,22 @@ fn answer(
     given(rt, told)
 }
 
+/// What the call answers, whose answer and whole are looked at.
+fn check_once(
+    rt: &impl Abort,
+    alloc: Global,
+    whole: Ptr<Operation>,
+    holder: Ptr<Operation>,
+    block: Option<Ptr<BasicBlock>>,
+    ctx: &mut Context,
+    call: Call,
+) -> Option<IRStatus> {
+    let before = shown(rt, alloc, whole, ctx);
+    let told = answer(rt, alloc, holder, block, ctx, call);
+    check_left(rt, alloc, whole, ctx, &before, told);
+    told
+}
+
 /// Calls it twice, where a second one finds nothing more to do.
 fn check_at(
     rt: &impl Abort,
@@ -106,12 +122,10 @@ fn check_at(
     ctx: &mut Context,
     call: Call,
 ) {
-    let before = shown(rt, alloc, whole, ctx);
-    let told = answer(rt, alloc, holder, block, ctx, call);
-    check_left(rt, alloc, whole, ctx, &before, told);
+    let told = check_once(rt, alloc, whole, holder, block, ctx, call);
     if told.is_some() {
         let again = answer(rt, alloc, holder, block, ctx, call);
-        assert!(rt; again == Some(IRStatus::Unchanged), "{call:?} {before}");
+        assert!(rt; again == Some(IRStatus::Unchanged), "{call:?}");
     }
 }
 
