@@ -1,4 +1,6 @@
 //! Calls on rows of no, one, two, three and ten items.
+ghost use Rattle.std.specs.Prelude.{◌<◌, length};
+
 use pliron_core::Row;
 use std::alloc::Global;
 use std::process::Abort;
@@ -52,7 +54,9 @@ fn number(rt: &impl Abort, word: &str) -> u32 {
     word.parse::<u32>().ok().expect(rt, "a number")
 }
 
-fn index(rt: &impl Abort, row: &Row<u32>, word: &str) -> usize {
+fn index(rt: &impl Abort, row: &Row<u32>, word: &str) -> usize
+    ensures { result < length row.now }
+{
     let i = number(rt, word) as usize;
     assert!(rt; i < row.len());
     i
