@@ -1,4 +1,6 @@
 //! The graph of each region, and its reverse: orders, components, searches and dominators.
+ghost use Rattle.std.specs.Prelude.{IsTrue};
+ghost use Rattle.pliron_core.specs.Tree.{IsRegion};
 ghost use Rattle.pliron_search.specs.Regions.{IsLawfulRegion};
 
 use super::texts::TEXTS;
@@ -101,13 +103,13 @@ fn check_graph<C, G: ControlFlowGraph<C>>(
     check_dominators(rt, alloc, ctx, graph, nodes);
 }
 
-/// The region may be read as a graph.
-fn check_lawful(rt: &impl Abort, ctx: &Context, region: Ptr<Region>)
-    ensures { IsLawfulRegion ctx.now.tree region }
+/// Whether the graph of the region may be read.
+fn may_be_read(ctx: &Context, region: Ptr<Region>) -> bool
+    requires { IsRegion ctx.now.tree region }
+    ensures { IsTrue result → IsLawfulRegion ctx.now.tree region }
 {
     ctx.well_formed();
-    assert!(rt; region.is_live(ctx));
-    assert!(rt; edges_last(region.get_parent_op(ctx), ctx));
+    edges_last(region.get_parent_op(ctx), ctx)
 }
 
 fn check_region(rt: &impl Abort, alloc: Global, holder: Ptr<Operation>, ctx: &Context) {
@@ -115,7 +117,7 @@ fn check_region(rt: &impl Abort, alloc: Global, holder: Ptr<Operation>, ctx: &Co
     assert!(rt; holder.is_live(ctx));
     assert!(rt; holder.num_region(ctx) == 1);
     let region = holder.get_region(ctx, 0);
-    check_lawful(rt, ctx, region);
+    assert!(rt; may_be_read(ctx, region));
     check_graph(rt, alloc, ctx, &region, nodes);
     let reverse = ReverseGraph::new(alloc, ctx, &region).expect(rt, "memory");
     check_graph(rt, alloc, ctx, &reverse, nodes.saturating_add(1));

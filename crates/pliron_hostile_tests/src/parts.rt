@@ -125,7 +125,7 @@ fn check_at(
     let told = check_once(rt, alloc, whole, holder, block, ctx, call);
     if told.is_some() {
         let again = answer(rt, alloc, holder, block, ctx, call);
-        assert!(rt; again == Some(IRStatus::Unchanged), "{call:?}");
+        assert!(rt; again == Some(IRStatus::Unchanged));
     }
 }
 

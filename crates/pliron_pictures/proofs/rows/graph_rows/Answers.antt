@@ -1,6 +1,7 @@
 use Rattle.pliron_pictures.specs.GraphRows.{IsRowOf}
 use Rattle.pliron_pictures.proofs.RowLemmas.{drawn_more, each_more}
 use Rattle.pliron_pictures.proofs.rows.graph_rows.Goals as goal
+use Rattle.std.proofs.Common.{rules}
 
 pub loop-node-preserved : goal.loop-node-preserved
 loop-node-preserved g c =
@@ -13,3 +14,6 @@ loop-node-preserved g c =
       drawn = drawn_more (λ row. row.node) c.loop-node.rows.items c.push.new.self.items row c.deref-node-items.result.now graph.nodes c.loop-node.node-index c.node-item.result pushed c.in_ok-row_of.ensures.node before.nodes c.loop-node-test.true c.node-item.is before.drawn;
       each = each_more (IsRowOf graph) c.loop-node.rows.items c.push.new.self.items row pushed before.each c.in_ok-row_of.ensures.row;
     }
+
+pub returns-in_err-push-clause-memory : goal.returns-in_err-push-clause-memory
+returns-in_err-push-clause-memory g c = search rules
