@@ -16,4 +16,4 @@ loop-node-preserved g c =
     }
 
 pub returns-in_err-push-clause-memory : goal.returns-in_err-push-clause-memory
-returns-in_err-push-clause-memory g c = search rules
+returns-in_err-push-clause-memory g c = search (rules, c.from_residual-in_err-push.ensures)
