@@ -24,7 +24,10 @@ fn check_in(rt: &impl Abort, alloc: Global, ctx: &mut Context, text: &str, after
     let printed = line(alloc, ctx, root).expect(rt, "memory");
     assert_eq!(rt; printed.as_str(), after, "{text}");
     assert!(rt; rewriter.had_room(), "{text}");
-    assert!(rt; (status == IRStatus::Changed) == (rewriter.changes() != 0), "{text}");
+    assert!(rt;
+        (status == IRStatus::Changed) == (rewriter.changes() != 0),
+        "{text}"
+    );
 }
 
 fn check(rt: &impl Abort, alloc: Global, case: &str, words: usize) {
