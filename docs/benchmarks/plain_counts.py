@@ -6,8 +6,8 @@
 
 Facts stand in a dictionary by name, and the worklists are lists: nothing is shared with the crate but the
 order of work that its page names, last in, first out. Each count is held against the numbers that stand with
-its text, of blocks that are reached, constants and values that are not constant. The counts are the test's
-`COUNTS`.
+its text, of blocks that are reached, constants and values that are not constant. The counts are those
+of `counts` there.
 """
 import re
 import sys

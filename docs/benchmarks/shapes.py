@@ -3,7 +3,9 @@
 
   shapes.py SHAPE N bench|llvm|mlir  a text of about N operations
   shapes.py list                     the names of the shapes, but those that bench alone can write:
-                                     boxed, fiftyboxes
+                                     boxed, fiftyboxes, boxes, deepboxes, boxargs,
+                                     boxconsts, boxuses, boxuseslast, shortedges; and
+                                     the one on which a pass costs a square: sumcbr
 
 One program is built and printed in three notations, so that all optimisers see the same control flow: in
 that of this repository, with the shortest names and no blanks; in LLVM's, where an argument of a block is
@@ -375,6 +377,17 @@ def sumbr(n, rng):
     return [f]
 
 
+def sumcbr(n, rng):
+    """as sumbr, but the branch behind the loop is conditional: `sccp` costs a square."""
+    f = Fn()
+    loop, end, sums = sum_loop(f, max(2, n - 6))
+    last, other = f.block(len(sums)), f.block(0)
+    f.cbr(end, f.read(end), last, sums, other, [])
+    f.ret(last)
+    f.ret(other)
+    return [f]
+
+
 def shiftbr(n, rng):
     """a loop without an end whose n arguments move on by one place each time, and a number is read for the first."""
     f = Fn()
@@ -441,8 +454,11 @@ SHAPES = {"chain": chain, "diamonds": diamonds, "merges": merges, "loops": loops
           "lateargs": lateargs, "shiftargs": shiftargs, "alternating": alternating,
           "sumsink": sumsink, "sumbr": sumbr, "shiftbr": shiftbr, "funcs": funcs, "mixed": mixed}
 
+# shapes on which a pass costs a square, which no table has
+SQUARES = {"sumcbr": sumcbr}
 
-def boxes(n, depth):
+
+def boxed_sums(n, depth):
     """n/2 values inside boxes that hold one another, used outside by a chain of n/2 sums, the first sum free."""
     names = short_names()
     count = max(1, n // 2)
@@ -453,8 +469,59 @@ def boxes(n, depth):
     return "func{z():" + "box{z():" * depth + inside + "}" * depth + ";" + sums + ";ret}\n"
 
 
-# in the bench notation alone, since the others have nothing like a box: a box, and fifty; a text holds 64 levels at most
-BOXES = {"boxed": lambda n: boxes(n, 1), "fiftyboxes": lambda n: boxes(n, 50)}
+def box_chain(names, used):
+    """Boxes, each of which uses one of these values and the value of the next box; so each is free once the one before has gone."""
+    own = [next(names) for _ in used]
+    return ";".join(f"box{{z():{own[i]}=read;print {used[i]};print {own[min(i + 1, len(own) - 1)]}}}" for i in range(len(own)))
+
+
+def boxes(n, depth):
+    """n/5 values inside boxes that hold one another, used outside by a chain of n/5 boxes."""
+    names = short_names()
+    read = [next(names) for _ in range(max(2, n // 5))]
+    inside = ";".join(f"{r}=read" for r in read)
+    return "func{z():" + "box{z():" * depth + inside + "}" * depth + ";" + box_chain(names, read) + ";ret}\n"
+
+
+def boxargs(n):
+    """As boxes, with the arguments of the box's block for values."""
+    names = short_names()
+    args = [next(names) for _ in range(max(2, n // 4))]
+    return "func{z():box{z(" + ",".join(args) + "):ret};" + box_chain(names, args) + ";ret}\n"
+
+
+def boxconsts(n):
+    """As boxes, with constants behind as many reads that nothing uses; so what the last look found goes itself."""
+    names = short_names()
+    count = max(2, n // 6)
+    reads = ";".join(f"{next(names)}=read" for _ in range(count))
+    known = [next(names) for _ in range(count)]
+    return "func{z():box{z():" + reads + ";" + ";".join(f"{k}=const 1" for k in known) + "};" + box_chain(names, known) + ";ret}\n"
+
+
+def boxuses(n, last):
+    """One value inside a box, used there by n/2 operands and outside by a chain of n/8 boxes before the box, or behind it."""
+    names = short_names()
+    x = next(names)
+    box = f"box{{z():{x}=read;ret" + f" {x}" * max(2, n // 2) + "}"
+    chain = box_chain(names, [x] * max(2, n // 8))
+    return "func{z():" + (f"{chain};{box}" if last else f"{box};{chain}") + ";ret}\n"
+
+
+def shortedges(n):
+    """A block of n/2 arguments to which n/2 edges forward nothing; not well formed in the other notations."""
+    values, blocks = short_names(), short_names()
+    args = ",".join(next(values) for _ in range(max(1, n // 2)))
+    entry, last = next(blocks), next(blocks)
+    edges = ";".join(f"{next(blocks)}():br {last}()" for _ in range(max(1, n // 2)))
+    return f"func{{{entry}():ret;{last}({args}):ret;{edges}}}\n"
+
+
+# in the bench notation alone, since the others have nothing like a box; a text holds 64 levels at most
+BENCH_ONLY = {"boxed": lambda n: boxed_sums(n, 1), "fiftyboxes": lambda n: boxed_sums(n, 50),
+         "boxes": lambda n: boxes(n, 1), "deepboxes": lambda n: boxes(n, 50), "boxargs": boxargs,
+         "boxconsts": boxconsts, "boxuses": lambda n: boxuses(n, False), "boxuseslast": lambda n: boxuses(n, True),
+         "shortedges": shortedges}
 
 
 def bench(fns, w):
@@ -609,10 +676,11 @@ PRINT = {"bench": bench, "llvm": llvm, "mlir": mlir}
 
 
 def text_of(shape, n, notation):
-    if shape in BOXES:
-        return BOXES[shape](n)
+    if shape in BENCH_ONLY:
+        return BENCH_ONLY[shape](n)
     parts = []
-    PRINT[notation](SHAPES[shape](n, random.Random(1)), parts.append)
+    make = SHAPES.get(shape) or SQUARES[shape]
+    PRINT[notation](make(n, random.Random(1)), parts.append)
     return "".join(parts)
 
 

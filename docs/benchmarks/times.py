@@ -5,6 +5,7 @@
   times.py PLIR_OPT LIST count OPT_PASSES..   counted instructions (needs valgrind)
   times.py table TIMES COUNTS                 both as a table of Markdown
   times.py growth COUNTS..                    the counts of several lists as one table of Markdown
+  times.py exponents PLIR_OPT LIST..          counted instructions at 1 MiB and how they grow to it, as a table of Markdown
 
 LIST is what `plir_opt` is given, as `sccp,dce,simplify-cfg`, and each of OPT_PASSES what `opt -passes=`
 is, or behind `mlir:` what `mlir-opt` is, as `mlir:sccp,canonicalize`. The first two write one line for each shape, which `table` reads from files:
@@ -16,6 +17,8 @@ is, or behind `mlir:` what `mlir-opt` is, as `mlir:sccp,canonicalize`. The first
 Times are user and system time, the least of several runs (RUNS), with the output to /dev/null, at each of
 the numbers of operations in SIZES, and of `opt` at the last. Instructions are those of the whole process
 at the first and the last, and growth is the exponent between the two. SHAPES names the shapes, if not all.
+Of `exponents` the texts are the longest of a shape that have at most a quarter, a half and all of 1 MiB, and the
+exponent is the greater one of the two steps, by the lengths of the texts.
 """
 import math
 import os
@@ -45,10 +48,49 @@ def least(command, path):
 
 def counted(program, path):
     """The instructions of the whole process."""
-    command = ["valgrind", "--tool=callgrind", "--callgrind-out-file=/dev/null", *program]
+    command = ["valgrind", "--tool=cachegrind", "--cache-sim=no", "--cachegrind-out-file=/dev/null", *program]
     with open(path, "rb") as text:
         said = subprocess.run(command, stdin=text, capture_output=True, check=True).stderr
-    return int(re.search(rb"Collected : (\d+)", said)[1])
+    return int(re.search(rb"I\s+refs:\s+([\d,]+)", said)[1].replace(b",", b""))
+
+
+def longest(shape, most):
+    """The longest text of a shape that has at most so many bytes, but for a thousandth."""
+    n, text = 1000, shapes.text_of(shape, 1000, "bench")
+    while not 0.999 * most <= len(text) <= most:
+        n = max(1, int(n * 0.9995 * most / len(text)))
+        text = shapes.text_of(shape, n, "bench")
+    return text
+
+
+def exponents(program, lists):
+    titles = (title for name in lists for title in (f"`{name}`", "Exponent"))
+    head = ["Shape", *titles]
+    print("| " + " | ".join(head) + " |\n" + "|---" * len(head) + "|")
+    with tempfile.TemporaryDirectory() as folder:
+        for shape in os.environ.get("SHAPES", "").split() or [*shapes.SHAPES, *shapes.BOXES]:
+            print("| " + " | ".join([shape, *grown_to(program, lists, shape, folder)]) + " |", flush=True)
+
+
+def grown_to(program, lists, shape, folder):
+    """The cells of a shape: for each list millions of instructions at 1 MiB, and the exponent."""
+    texts = [longest(shape, 2 ** power) for power in (18, 19, 20)]
+    cells = []
+    for name in lists:
+        counts = []
+        for text in texts:
+            path = os.path.join(folder, "text")
+            with open(path, "w") as out:
+                out.write(text)
+            counts.append(counted([program, name], path))
+        cells += [f"{counts[-1] / 1e6:,.0f}", f"{steepest([len(text) for text in texts], counts):.2f}"]
+    return cells
+
+
+def steepest(sizes, counts):
+    """The greatest exponent from one size to the next."""
+    steps = zip(zip(sizes, counts), zip(sizes[1:], counts[1:]))
+    return max(math.log(more / count) / math.log(larger / size) for (size, count), (larger, more) in steps)
 
 
 def theirs(passes):
@@ -143,6 +185,8 @@ def table(times, counts):
 
 
 def main():
+    if sys.argv[1] == "exponents":
+        return exponents(os.path.abspath(sys.argv[2]), sys.argv[3:])
     if sys.argv[1] in ("table", "growth"):
         return table(*sys.argv[2:]) if sys.argv[1] == "table" else growth(sys.argv[2:])
     program, passes = [os.path.abspath(sys.argv[1]), sys.argv[2]], sys.argv[3:]

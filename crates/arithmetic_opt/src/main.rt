@@ -6,5 +6,5 @@ use pliron_opts::{KindNotation, optimise_host};
 use std::process::ExitCode;
 
 fn main(rt: HostRuntime) -> ExitCode {
-    optimise_host::<KindNotation<ArithmeticKind>>(&rt)
+    optimise_host::<KindNotation<ArithmeticKind>>(&rt, "arithmetic_opt")
 }

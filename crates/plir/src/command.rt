@@ -83,6 +83,61 @@ fn check<'a>(alloc: Global) -> Result<Command<'a>, AllocError> {
         .arg(file(alloc))
 }
 
+/// The statuses of the commands that answer whatever the text does.
+static STATUSES: &str = "\
+Statuses: 0; 1 where memory was refused; 2 for words, files and texts that can't be used";
+
+fn dot<'a>(alloc: Global) -> Result<Command<'a>, AllocError> {
+    Command::new(alloc, "dot")
+        .about("Draws the control flow of a text, as `dot` of Graphviz reads it")
+        .after_help(STATUSES)
+        .arg(file(alloc))?
+        .arg(output(alloc))?
+        .arg(
+            Arg::new(alloc, "region")
+                .long("region")
+                .value_name("PATH")
+                .default_value("0")
+                .help(
+                    "The region: numbers with dots between them, as `0.2.0` for region 0 of operation 2 of region 0",
+                ),
+        )?
+        .arg(flag(
+            alloc,
+            "dominators",
+            "Draw the immediate dominator of each block, with a dotted edge",
+        ))
+}
+
+fn graph<'a>(alloc: Global) -> Result<Command<'a>, AllocError> {
+    Command::new(alloc, "graph")
+        .about("Draws a graph with a line for each node, as `plir_opt graph` reads it")
+        .after_help(STATUSES)
+        .arg(file(alloc))?
+        .arg(output(alloc))
+}
+
+fn explain<'a>(alloc: Global) -> Result<Command<'a>, AllocError> {
+    Command::new(alloc, "explain")
+        .about("Tells of each operation and argument why passes changed it or took it out")
+        .after_help(STATUSES)
+        .arg(
+            Arg::new(alloc, "file")
+                .value_name("FILE")
+                .required(true)
+                .help("The text; standard input, where it is `-`"),
+        )?
+        .arg(
+            Arg::new(alloc, "passes")
+                .value_name("PIPELINE")
+                .required(true)
+                .help(
+                    "The passes, as `plir_opt` takes them: `sccp,dce`, `repeat:8:nested:sccp,dce,simplify-cfg`",
+                ),
+        )?
+        .arg(output(alloc))
+}
+
 /// The command with one more under it, if that could be made.
 fn with<'a>(
     command: Command<'a>,
@@ -97,11 +152,16 @@ fn with<'a>(
 fn command<'a>(alloc: Global) -> Result<Command<'a>, AllocError> {
     let plir = Command::new(alloc, "plir")
         .version("0.1.0")
-        .about("Texts of operations: runs, and marks under what is wrong")
+        .about(
+            "Texts of operations: runs, marks under what is wrong, pictures, and why passes changed what",
+        )
         .subcommand_required(true)
         .arg_required_else_help(true);
     let plir = with(plir, run(alloc))?;
-    with(plir, check(alloc))
+    let plir = with(plir, check(alloc))?;
+    let plir = with(plir, dot(alloc))?;
+    let plir = with(plir, graph(alloc))?;
+    with(plir, explain(alloc))
 }
 
 /// What the words ask for. Errors: words that the program doesn't have, or asking for help; want of memory. Cost:

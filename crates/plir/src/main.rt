@@ -1,12 +1,13 @@
-//! `plir`: texts of operations, for people: runs, and marks under what is wrong.
+//! `plir`: texts of operations, for people: runs, marks under what is wrong, pictures, and why passes changed what.
 //!
-//! It knows words, files, streams and an exit status. What each command does stands in `pliron_people`.
+//! It knows words, files, streams and an exit status. What each command does stands in `pliron_people` and `pliron_draw`.
 #![tactic(auto)]
 
 mod command;
 
 use clap::ArgMatches;
 use command::parsed;
+use pliron_draw::{FlowWish, draw_flow, draw_graph, explain};
 use pliron_people::{Outcome, RunWish, Source, check, run};
 use std::alloc::Global;
 use std::io::{self, Read, Write};
@@ -52,6 +53,15 @@ fn run_wished(alloc: Global, source: &Source, matches: &ArgMatches) -> io::Resul
     Ok(run(alloc, source, &wish)?)
 }
 
+/// Draws the region that the words wish.
+fn draw_wished(alloc: Global, source: &Source, matches: &ArgMatches) -> io::Result<Outcome> {
+    let wish = FlowWish {
+        region: matches.get_str("region").unwrap_or("0"),
+        dominators: matches.get_flag("dominators"),
+    };
+    Ok(draw_flow(alloc, source, &wish)?)
+}
+
 /// What the command makes of its input.
 fn outcome(rt: &HostRuntime, command: &str, matches: &ArgMatches) -> io::Result<Outcome> {
     let alloc = rt.alloc();
@@ -61,10 +71,12 @@ fn outcome(rt: &HostRuntime, command: &str, matches: &ArgMatches) -> io::Result<
         name: called(name),
         text: &text,
     };
-    if command == "check" {
-        Ok(check(alloc, &source)?)
-    } else {
-        run_wished(alloc, &source, matches)
+    match command {
+        "check" => Ok(check(alloc, &source)?),
+        "dot" => draw_wished(alloc, &source, matches),
+        "graph" => Ok(draw_graph(alloc, &source)?),
+        "explain" => Ok(explain(alloc, &source, matches.get_str("passes").unwrap_or(""))?),
+        _ => run_wished(alloc, &source, matches),
     }
 }
 
@@ -84,10 +96,10 @@ fn write(rt: &HostRuntime, outcome: &Outcome, file: Option<&str>) -> io::Result<
 /// Does what the command asks for, and answers its status.
 fn act(rt: &HostRuntime, command: &str, matches: &ArgMatches) -> io::Result<u8> {
     let outcome = outcome(rt, command, matches)?;
-    let file = if command == "run" {
-        matches.get_str("output")
-    } else {
+    let file = if command == "check" {
         None
+    } else {
+        matches.get_str("output")
     };
     write(rt, &outcome, file)?;
     Ok(outcome.status)

@@ -3,36 +3,16 @@
 //! It knows arguments, streams and an exit status. What the program does stands in `pliron_opts`.
 #![tactic(auto)]
 
-use pliron_opts::{OptError, plir_run};
-use std::alloc::Global;
-use std::env;
-use std::io::{self, ErrorKind};
+use pliron_opts::{host_words, plir_run};
 use std::process::ExitCode;
 
-/// The words after the program's name.
-fn words(alloc: Global, rt: &HostRuntime) -> io::Result<Vec<String>> {
-    let mut args = env::args(rt)?;
-    let _ = args.next();
-    let mut words = Vec::new(alloc);
-    for word in args {
-        words.push(word)?;
-    }
-    Ok(words)
-}
-
 fn main(rt: HostRuntime) -> ExitCode {
-    let alloc = rt.alloc();
-    let args = match words(alloc, &rt) {
+    let args = match host_words(&rt) {
         Ok(args) => args,
-        Err(error) if error.kind() == ErrorKind::OutOfMemory => {
-            let _ = eprintln!(rt; "refused: {}", OptError::Memory);
-            return ExitCode::from(1);
-        }
-        // A word that is no text is none that the program knows.
-        Err(_) => Vec::new(alloc),
+        Err(status) => return status,
     };
     let status = plir_run(
-        alloc,
+        rt.alloc(),
         &args,
         &mut rt.stdin(),
         &mut rt.stdout(),

@@ -1,28 +1,35 @@
 //! Functions before and after one of their operations was folded where it stands, worked by hand.
 ghost use Rattle.pliron_core.specs.Tree.{IsLive};
 
-use super::reading::read;
-use super::writing::written;
-use pliron_arithmetic::Arithmetic;
+use super::texts::read;
+use pliron_arithmetic::{Arithmetic, ArithmeticKind};
 use pliron_core::{AttrObj, Context, IRRewriter, Operation, Ptr, Rewriter};
 use pliron_laws::reads::all_operations;
 use pliron_laws::{BranchOpFoldInterface, ConstFoldInterface, is_well_linked};
+use pliron_texts::print_text;
 use std::alloc::Global;
 use std::process::Abort;
 use std::test::Fail;
 
 // The number of an operation of the first block, what is known of its operands, the function, what it becomes.
 static CASES: &str = "\
-0 | | block 0; lit 6; return v0 => block 0; lit 6; return v0
-2 | 6 7 | block 0; lit 6; lit 7; mul v0 v1; return v2 => block 0; lit 6; lit 7; lit 42; mul v0 v1; return v2
-2 | 6 ? | block 0; lit 6; lit 7; mul v0 v1; return v2 => block 0; lit 6; lit 7; mul v0 v1; return v2
-1 | 5 | block 0; lit 5; neg v0; return v1 => block 0; lit 5; lit -5; neg v0; return v1
-2 | 3 4 | block 0; lit 3; lit 4; less v0 v1; return v2 => block 0; lit 3; lit 4; lit 1; less v0 v1; return v2
-2 | 4 3 | block 0; lit 4; lit 3; less v0 v1; return v2 => block 0; lit 4; lit 3; lit 0; less v0 v1; return v2
-0 | 9223372036854775807 1 | block 2; add v0 v1; return v2 => block 2; lit -9223372036854775808; add v0 v1; return v2
-0 | 0 ? ? | block 3; branch v0 b1 b2 1 v1 v2; block 1; return v3; block 1; return v4 => block 3; jump v2 b2; block 1; return v3; block 1; return v4
-0 | 5 ? ? | block 3; branch v0 b1 b2 1 v1 v2; block 1; return v3; block 1; return v4 => block 3; jump v1 b1; block 1; return v3; block 1; return v4
-0 | ? ? ? | block 3; branch v0 b1 b2 1 v1 v2; block 1; return v3; block 1; return v4 => block 3; branch v0 v1 v2 b1 b2 1; block 1; return v3; block 1; return v4";
+0 | | function { b0(): a = lit 6; return a } => function { b0(): v0 = lit 6; return v0 }
+2 | 6 7 | function { b0(): a = lit 6; b = lit 7; p = mul a b; return p } \
+    => function { b0(): v0 = lit 6; v1 = lit 7; v2 = lit 42; v3 = mul v0 v1; return v2 }
+2 | 6 ? | function { b0(): a = lit 6; b = lit 7; p = mul a b; return p } => function { b0(): v0 = lit 6; v1 = lit 7; v2 = mul v0 v1; return v2 }
+1 | 5 | function { b0(): a = lit 5; n = neg a; return n } => function { b0(): v0 = lit 5; v1 = lit -5; v2 = neg v0; return v1 }
+2 | 3 4 | function { b0(): a = lit 3; b = lit 4; l = less a b; return l } \
+    => function { b0(): v0 = lit 3; v1 = lit 4; v2 = lit 1; v3 = less v0 v1; return v2 }
+2 | 4 3 | function { b0(): a = lit 4; b = lit 3; l = less a b; return l } \
+    => function { b0(): v0 = lit 4; v1 = lit 3; v2 = lit 0; v3 = less v0 v1; return v2 }
+0 | 9223372036854775807 1 | function { b0(x, y): s = add x y; return s } \
+    => function { b0(v0, v1): v2 = lit -9223372036854775808; v3 = add v0 v1; return v2 }
+0 | 0 ? ? | function { b0(c, x, y): branch c t(x) f(y); t(p): return p; f(q): return q } \
+    => function { b0(v0, v1, v2): jump b2(v2); b1(v3): return v3; b2(v4): return v4 }
+0 | 5 ? ? | function { b0(c, x, y): branch c t(x) f(y); t(p): return p; f(q): return q } \
+    => function { b0(v0, v1, v2): jump b1(v1); b1(v3): return v3; b2(v4): return v4 }
+0 | ? ? ? | function { b0(c, x, y): branch c t(x) f(y); t(p): return p; f(q): return q } \
+    => function { b0(v0, v1, v2): branch v0 b1(v1) b2(v2); b1(v3): return v3; b2(v4): return v4 }";
 
 fn known(rt: &impl Abort, alloc: Global, words: &str) -> Vec<Option<AttrObj>> {
     let mut attrs = Vec::new(alloc);
@@ -109,7 +116,7 @@ fn folded_in(rt: &impl Abort, alloc: Global, ctx: &mut Context, case: &str) -> S
     fold(rt, alloc, ctx, op, &attrs);
     assert!(rt; root.is_live(ctx));
     assert!(rt; is_well_linked::<Arithmetic>(root, ctx));
-    written(rt, alloc, ctx, root)
+    print_text::<ArithmeticKind>(alloc, root, ctx).expect(rt, "memory")
 }
 
 fn check(rt: &impl Abort, alloc: Global, line: &str) {

@@ -4,10 +4,8 @@
 #[cfg(test)]
 mod folds;
 #[cfg(test)]
-mod passes;
-#[cfg(test)]
-mod reading;
+mod program;
 #[cfg(test)]
 mod runs;
 #[cfg(test)]
-mod writing;
+mod texts;

@@ -1,5 +1,5 @@
 //! Runs of functions, worked by hand, before and after constant propagation and dead code elimination.
-use super::reading::read;
+use super::texts::read;
 use pliron_arithmetic::Arithmetic;
 use pliron_core::{Context, Operation, Ptr};
 use pliron_dce::dce;
@@ -11,17 +11,22 @@ use std::process::Abort;
 
 // Inputs, a function, and the values that its run ends with.
 static CASES: &str = "\
-| block 0; lit 6; lit 7; mul v0 v1; return v2 => 42
-| block 0; lit 2; lit 3; add v0 v1; neg v2; return v3 => -5
-5 | block 1; lit 2; mul v0 v1; less v2 v0; return v3 v2 => 0 10
--3 | block 1; lit 2; mul v0 v1; less v2 v0; return v3 v2 => 1 -6
-| block 0; lit 4; jump b1 v1; block 1; return v0 => 4
-0 8 9 | block 3; branch v0 b1 b2 1 v1 v2; block 1; return v3; block 1; neg v4; return v5 => -9
-7 8 9 | block 3; branch v0 b1 b2 1 v1 v2; block 1; return v3; block 1; neg v4; return v5 => 8
-| block 0; lit 0; lit 8; lit 9; branch v2 b1 b2 1 v3 v4; block 1; return v0; block 1; return v1 => 9
-4 | block 1; lit 0; lit -1; jump b1 v0 v4; block 2; add v2 v1; add v1 v5; branch v7 b1 b2 2 v7 v6 v6; block 1; return v3 => 10
-1 2 3 | block 1; return v0 => 1
-| block 2; add v0 v1; return v2 => 0";
+| function { b0(): a = lit 6; b = lit 7; p = mul a b; return p } => 42
+| function { b0(): a = lit 2; b = lit 3; s = add a b; n = neg s; return n } => -5
+5 | function { b0(x): two = lit 2; p = mul x two; l = less p x; return l p } => 0 10
+-3 | function { b0(x): two = lit 2; p = mul x two; l = less p x; return l p } => 1 -6
+| function { b0(): a = lit 4; jump b1(a); b1(p): return p } => 4
+0 8 9 | function { b0(c, x, y): branch c t(x) f(y); t(p): return p; f(q): n = neg q; return n } => -9
+7 8 9 | function { b0(c, x, y): branch c t(x) f(y); t(p): return p; f(q): n = neg q; return n } => 8
+| function { b0(): z = lit 0; a = lit 8; b = lit 9; branch z t(a) f(b); t(p): return p; f(q): return q } => 9
+4 | function { b0(n): z = lit 0; m = lit -1; jump b1(n, z); b1(i, s): t = add s i; j = add i m; branch j b1(j, t) b2(t); b2(r): return r } => 10
+1 2 3 | function { b0(x): return x } => 1
+| function { b0(x, y): s = add x y; return s } => 0
+1 7 | function { b0(c, x): r = if c x { t(y): return y } { f(z): n = neg z; return n }; return r } => 7
+0 7 | function { b0(c, x): r = if c x { t(y): return y } { f(z): n = neg z; return n }; return r } => -7
+5 | function { b0(n): one = lit 1; m = lit -1; z, f = while n one { w(i, a): p = mul a i; j = add i m; return j j p }; return f } => 120
+1 | function { b0(n): one = lit 1; m = lit -1; z, f = while n one { w(i, a): p = mul a i; j = add i m; return j j p }; return f } => 1
+3 | function { b0(n): k = lit 2; r = while n { w(i): z = lit 0; q = add k k; return z q i }; return r } => 4";
 
 /// The numbers of a text as data.
 fn data(rt: &impl Abort, alloc: Global, words: &str) -> Vec<Datum> {

@@ -14,6 +14,8 @@ pub struct Counting {
     room: usize,
     // So many came where there was no room.
     missing: usize,
+    // So many came.
+    changes: usize,
 }
 
 impl Counting {
@@ -23,12 +25,18 @@ impl Counting {
             rewriter: IRRewriter::new(),
             room: 0,
             missing: 0,
+            changes: 0,
         }
     }
 
     /// There was room for each change that came. Cost: constant.
     pub fn had_room(&self) -> bool {
         self.missing == 0
+    }
+
+    /// How many changes came. Cost: constant.
+    pub fn changes(&self) -> usize {
+        self.changes
     }
 
     fn count(&mut self)
@@ -38,6 +46,7 @@ impl Counting {
             self.missing = self.missing.saturating_add(1);
         }
         self.room = self.room.saturating_sub(1);
+        self.changes = self.changes.saturating_add(1);
     }
 }
 

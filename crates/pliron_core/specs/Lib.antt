@@ -1,5 +1,6 @@
 pub mod Lists
 pub mod Nodes
+pub mod Rows
 pub mod Uses
 pub mod Places
 pub mod Rising

@@ -116,6 +116,17 @@ impl Arguments {
         Some(Def::Argument(Ptr::new(user), place))
     }
 
+    /// Makes room for so many more blocks and so many more values.
+    ///
+    /// Errors: want of memory. Blocks and values stay as they were. Cost: linear in the tables' length,
+    /// which grow so that room asked for one by one is constant each, amortised.
+    pub fn reserve(&mut self, blocks: usize, values: usize) -> Result<(), AllocError>
+        ensures { self.new ≡ self.old }
+    {
+        self.written.reserve(values)?;
+        self.lists.reserve(blocks, values)
+    }
+
     /// So many new values, results of the operation, by rising key.
     ///
     /// Errors: want of memory, which changes nothing. Cost: one step for each, amortised.

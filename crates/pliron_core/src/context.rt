@@ -108,6 +108,27 @@ impl Context {
         }
     }
 
+    /// Makes room for so many more operations, blocks and values, which then grow no table as they are made.
+    ///
+    /// Errors: want of memory. The tree stays as it was, with an error too. Cost: linear in the tables'
+    /// length, which grow so that room asked for one by one is constant each, amortised.
+    pub fn reserve(
+        &mut self,
+        operations: usize,
+        blocks: usize,
+        values: usize,
+    ) -> Result<(), NoMemory>
+        ensures { self.new ≡ self.old }
+    {
+        self.operations.reserve(operations)?;
+        self.operands.reserve(operations, values)?;
+        self.successors.reserve(operations, blocks)?;
+        self.order.reserve(operations, blocks)?;
+        self.layout.reserve(blocks, 0)?;
+        self.arguments.reserve(blocks, values)?;
+        Ok(())
+    }
+
     /// The law of every context: its tables are those of a tree, its lists of uses have each use once, and
     /// there are fewer than 2^64 keys of each kind. It changes nothing. Cost: constant.
     pub fn well_formed(&self)

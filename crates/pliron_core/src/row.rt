@@ -4,11 +4,22 @@ ghost use Rattle.pliron_core.specs.Places.{at, put, cut};
 
 use std::alloc::{AllocError, Global};
 use std::marker::Model;
+use std::mem;
 
-/// A list that contracts see as one.
+// Up to two items stand here, and more in an allocation. What went there stays there.
+#[derive(Drop)]
+enum Items<T> {
+    Empty,
+    One(T),
+    Two(T, T),
+    Many(Vec<T>),
+}
+
+/// A list that contracts see as one. Up to two items stand in the list itself and take no memory.
 #[derive(Drop)]
 pub struct Row<T> {
-    items: Vec<T>,
+    alloc: Global,
+    items: Items<T>,
 }
 
 impl<T> Model for Row<T> {
@@ -19,7 +30,9 @@ impl<T> Model for Row<T> {
 
     ghost coded = { coded_list T.code };
 
-    ghost view = { λ r. r.items.items };
+    ghost use Rattle.pliron_core.specs.Rows.{list_of};
+
+    ghost view = { λ r. list_of r.items };
 }
 
 impl<T> Row<T> {
@@ -28,7 +41,8 @@ impl<T> Row<T> {
         ensures { result ≡ [] }
     {
         Row {
-            items: Vec::new(alloc),
+            alloc,
+            items: Items::Empty,
         }
     }
 
@@ -36,14 +50,19 @@ impl<T> Row<T> {
     pub fn len(&self) -> usize
         ensures { result ≡ length self.now }
     {
-        self.items.len()
+        match &self.items {
+            Items::Empty => 0,
+            Items::One(_) => 1,
+            Items::Two(_, _) => 2,
+            Items::Many(items) => items.len(),
+        }
     }
 
     /// Whether there are no items. Cost: constant.
     pub fn is_empty(&self) -> bool
         ensures { result ≡ (length self.now == 0) }
     {
-        self.items.is_empty()
+        self.len() == 0
     }
 
     /// The item at the end, if there is one. Cost: constant.
@@ -52,7 +71,12 @@ impl<T> Row<T> {
         T: Copy,
         ensures { result ≡ slice_get self.now (length self.now - 1) }
     {
-        self.items.last().copied()
+        match &self.items {
+            Items::Empty => None,
+            Items::One(first) => Some(*first),
+            Items::Two(_, second) => Some(*second),
+            Items::Many(items) => items.last().copied(),
+        }
     }
 
     /// One more at the end. Errors: want of memory, which leaves the list as it was.
@@ -63,7 +87,27 @@ impl<T> Row<T> {
         ensures ok { OnOk result (self.new ≡ self.old ++ item ∷ []) }
         ensures err { OnErr result (self.new ≡ self.old) }
     {
-        self.items.push(item)?;
+        match mem::replace(&mut self.items, Items::Empty) {
+            Items::Empty => self.items = Items::One(item),
+            Items::One(first) => self.items = Items::Two(first, item),
+            Items::Two(first, second) => match Vec::with_capacity(self.alloc, 4) {
+                Ok(mut items) => {
+                    items.push_reserved(first);
+                    items.push_reserved(second);
+                    items.push_reserved(item);
+                    self.items = Items::Many(items);
+                }
+                Err(error) => {
+                    self.items = Items::Two(first, second);
+                    return Err(error);
+                }
+            },
+            Items::Many(mut items) => {
+                let pushed = items.push(item);
+                self.items = Items::Many(items);
+                pushed?;
+            }
+        }
         Ok(())
     }
 
@@ -75,7 +119,14 @@ impl<T> Row<T> {
         ensures ok { OnOk result (self.new ≡ self.old ++ other.now) }
         ensures err { OnErr result (self.new ≡ self.old) }
     {
-        self.items.extend_from_slice(other.items.as_slice())
+        let before = self.len();
+        for i in 0..other.len() {
+            if let Err(error) = self.push(other.get(i)) {
+                self.truncate(before);
+                return Err(error);
+            }
+        }
+        Ok(())
     }
 
     /// The item at the end goes, if there is one. Cost: constant.
@@ -84,7 +135,15 @@ impl<T> Row<T> {
         T: Drop,
         ensures { self.new ≡ take (length self.old - 1) self.old }
     {
-        self.items.pop();
+        match mem::replace(&mut self.items, Items::Empty) {
+            Items::Empty => {}
+            Items::One(_) => {}
+            Items::Two(first, _) => self.items = Items::One(first),
+            Items::Many(mut items) => {
+                items.pop();
+                self.items = Items::Many(items);
+            }
+        }
     }
 
     // Only the first `count` items stay.
@@ -93,7 +152,23 @@ impl<T> Row<T> {
         T: Drop,
         ensures { self.new ≡ take count self.old }
     {
-        self.items.truncate(count);
+        match mem::replace(&mut self.items, Items::Empty) {
+            Items::Empty => {}
+            Items::One(first) => {
+                if count > 0 {
+                    self.items = Items::One(first);
+                }
+            }
+            Items::Two(first, second) => match count {
+                0 => {}
+                1 => self.items = Items::One(first),
+                _ => self.items = Items::Two(first, second),
+            },
+            Items::Many(mut items) => {
+                items.truncate(count);
+                self.items = Items::Many(items);
+            }
+        }
     }
 
     /// The item at an index. Asks that there is one. Cost: constant.
@@ -103,7 +178,12 @@ impl<T> Row<T> {
         requires { i < length self.now }
         ensures { slice_get self.now i ≡ Some result }
     {
-        self.items[i]
+        match &self.items {
+            Items::Empty => unreachable!(),
+            Items::One(first) => *first,
+            Items::Two(first, second) => if i == 0 { *first } else { *second },
+            Items::Many(items) => items[i],
+        }
     }
 
     /// The item at an index goes. The later ones move down by one place. Asks that there is one. Cost: the
@@ -114,7 +194,19 @@ impl<T> Row<T> {
         requires { i < length self.old }
         ensures { self.new ≡ remove self.old i }
     {
-        self.items.remove(i);
+        match mem::replace(&mut self.items, Items::Empty) {
+            Items::Empty => unreachable!(),
+            Items::One(_) => {}
+            Items::Two(first, second) => self.items = Items::One(if i == 0 {
+                second
+            } else {
+                first
+            }),
+            Items::Many(mut items) => {
+                items.remove(i);
+                self.items = Items::Many(items);
+            }
+        }
     }
 
     /// Writes the item at an index. Asks that there is one. Cost: constant.
@@ -124,7 +216,16 @@ impl<T> Row<T> {
         requires { i < length self.old }
         ensures { self.new ≡ slice_set self.old i item }
     {
-        self.items[i] = item;
+        match &mut self.items {
+            Items::Empty => unreachable!(),
+            Items::One(first) => *first = item,
+            Items::Two(first, second) => if i == 0 {
+                *first = item
+            } else {
+                *second = item
+            },
+            Items::Many(items) => items[i] = item,
+        }
     }
 }
 

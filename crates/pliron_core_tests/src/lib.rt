@@ -17,6 +17,10 @@ mod reads;
 #[cfg(test)]
 mod removals;
 #[cfg(test)]
+mod room;
+#[cfg(test)]
+mod rows;
+#[cfg(test)]
 mod steps;
 #[cfg(test)]
 mod straight;

@@ -6,7 +6,7 @@ use Rattle.pliron_core.specs.declared.uses.Use.{Use as Edge}
 use Rattle.pliron_core.specs.declared.context.Def.{Def}
 use Rattle.pliron_core.specs.declared.context.Def.TheVariants.{Result, Argument}
 use Rattle.pliron_core.specs.Uses.{AreAgreed}
-use Rattle.pliron_core.specs.Tree.{Tree, In, IsLive, IsDefined, IsMadeBy, IsMadeWithin, IsInside, IsWithin, head_of, operands_of, successors_of, block_holder_of, definition_of, uses_of}
+use Rattle.pliron_core.specs.Tree.{Tree, In, IsLive, IsDefined, IsMadeBy, IsMadeWithin, IsInside, IsWithin, head_of, operands_of, successors_of, results_of, block_holder_of, definition_of, uses_of}
 use Rattle.pliron_core.specs.Changes.{IsMadeInside, IsMakerInside}
 use Rattle.pliron_core.specs.Joined.{IsTree}
 use Rattle.pliron_core.specs.Erased.{IsSelfContained}
@@ -15,7 +15,7 @@ use Rattle.pliron_core.proofs.TreeLemmas.{cases_lt}
 use Rattle.pliron_laws.specs.Datum.{Head, Meaning}
 use Rattle.pliron_laws.specs.Answers.{ReadsHead, ReadsPlace, HeadPasses}
 use Rattle.pliron_dce.specs.Dead.{IsHarmless, MayLose, Holds, OfResult, OfInside}
-use Rattle.pliron_dce.specs.Steps.{IsReadyOperation, IsReadyArgument, HaveNoUse}
+use Rattle.pliron_dce.specs.Steps.{IsReadyOperation, IsReadyArgument, HaveNoUse, IsHeld, IsUsedOutside}
 use Rattle.pliron_core.proofs.WithinLemmas.{block_holder_live}
 use Rattle.pliron_theory.proofs.SweptParts.{block_place_of}
 
@@ -61,9 +61,19 @@ ready_told m side_effects t root k w i h n c = record {
     none user place (OfResult v e j) = n v user j (in_slice (operands_of t user) place v e)
     none user place (OfInside v e j out) = out (within (definition_of t v) v user refl (in_slice (operands_of t user) place v e) j)
 
+-- a use of a result holds the operation, and so does one outside it of what is made inside
+pub held_by_result : (t : Tree) (k v user : ℕ) → In v (results_of t k) → In v (operands_of t user) → IsHeld t k
+held_by_result t k v user i j = let p = slice_in (operands_of t user) v j in (user, p.0, OfResult v p.1 i)
+
+pub held_from_inside : (t : Tree) (k v : ℕ) → IsMadeInside t k v → IsUsedOutside t k v → IsHeld t k
+held_from_inside t k v i u = let p = slice_in (operands_of t u.0) v u.1 in (u.0, p.0, OfInside v p.1 i u.2)
+
 -- and one that is ready passes them
 pub ready_unused : (m : Meaning) (side_effects : Head → Option Bool) (t : Tree) (root k : ℕ) → IsReadyOperation m side_effects t root k → HaveNoUse t k
 ready_unused m side_effects t root k r v user i j = let p = slice_in (operands_of t user) v j in r.none user p.0 (OfResult v p.1 i)
+
+pub ready_unheld : (m : Meaning) (side_effects : Head → Option Bool) (t : Tree) (root k : ℕ) → IsReadyOperation m side_effects t root k → IsHeld t k → ⊥
+ready_unheld m side_effects t root k r h = r.none h.0 h.1 h.2
 
 pub ready_harmless : (m : Meaning) (side_effects : Head → Option Bool) (t : Tree) (root k : ℕ) → IsReadyOperation m side_effects t root k → IsHarmless m side_effects t k
 ready_harmless m side_effects t root k r = record { harmless = r.may.harmless; plain = r.may.plain }

@@ -49,3 +49,11 @@ pub record AreLookedAt (t : Tree) (used : List ℕ) (items : List Item) : Type 0
 pub record AddsOperands (t : Tree) (k : ℕ) (old new : List ℕ) : Type 0 where
   pub kept : (v : ℕ) → In v old → In v new
   pub added : (v : ℕ) → In v (operands_of t k) → In v new
+
+-- some use holds the operation
+abbrev pub IsHeld : Tree → ℕ → Type 0
+IsHeld t k = (user : ℕ) × (place : ℕ) × Holds t k user place
+
+-- an operation that is not within this one uses the value
+abbrev pub IsUsedOutside : Tree → ℕ → ℕ → Type 0
+IsUsedOutside t k v = (user : ℕ) × In v (operands_of t user) × (IsWithin t k user → ⊥)

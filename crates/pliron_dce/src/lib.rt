@@ -18,12 +18,14 @@ ghost use Rattle.pliron_dce.specs.Dead.{Item};
 ghost use Rattle.pliron_dce.specs.Going.{GoInTurn, AreDeadThings, LeavesNoDead, TellsDead, SomeHasRegions};
 
 mod candidates;
+mod looks;
 mod ready;
 mod sweep;
 mod take;
 mod work;
 
 use crate::candidates::all_candidates;
+use crate::looks::Looks;
 use crate::sweep::sweep;
 use pliron_core::{Context, IRStatus, Operation, Ptr};
 use pliron_laws::{Dialect, OptError};
@@ -58,8 +60,9 @@ pub fn ready_things_are_seen<D: Dialect>()
 /// contents, and dead arguments with the operands forwarded to them.
 ///
 /// Cost: one look at each operation and argument inside, and two more for each use that it loses. The
-/// operations around what loses a use are looked at once for all that is lost until nothing else is ready;
-/// such a look goes over what is inside, up to the first use outside. An argument that goes asks each edge to
+/// operations around what loses a use are looked at once for all that is lost until nothing else is ready.
+/// Looks at an operation go over what it makes and holds, up to the first use that holds it, and each goes on
+/// from where the last one ended; what goes is gone over once more. An argument that goes asks each edge to
 /// its block for the one operand that it forwards there (`successor_operand`) and takes that one out. The
 /// arguments of a block that may go at one time go side by side, the last one first; so those that stay
 /// behind them move once for all of these.
@@ -106,5 +109,6 @@ pub fn dce_with_regions<D: Dialect>(
     ensures memory { IsOkUnless result OptError.Memory }
 {
     let work = all_candidates(alloc, op, ctx)?;
-    sweep::<D>(alloc, op, work, ctx)
+    let looks = Looks::new(alloc, &work, ctx)?;
+    sweep::<D>(alloc, op, work, looks, ctx)
 }

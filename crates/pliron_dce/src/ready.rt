@@ -5,6 +5,7 @@ ghost use Rattle.pliron_laws.specs.Linked.{IsWellLinked};
 ghost use Rattle.pliron_dce.specs.Dead.{IsHarmless, MayLose};
 ghost use Rattle.pliron_dce.specs.Steps.{IsReadyOperation, IsReadyArgument, HaveNoUse};
 
+use crate::looks::Looks;
 use pliron_core::{BasicBlock, Context, Def, Operation, Ptr, Value};
 use pliron_laws::Dialect;
 
@@ -36,6 +37,7 @@ fn is_unused(op: Ptr<Operation>, ctx: &Context) -> bool
 // Whether the operation may go at once.
 pub(crate) fn is_ready_operation<D: Dialect>(
     op: Ptr<Operation>,
+    looks: &mut Looks,
     root: Ptr<Operation>,
     ctx: &Context,
 ) -> bool
@@ -47,6 +49,9 @@ pub(crate) fn is_ready_operation<D: Dialect>(
         return false;
     }
     if !is_harmless::<D>(op, ctx) {
+        return false;
+    }
+    if looks.is_found_held(op, ctx) {
         return false;
     }
     if !is_unused(op, ctx) {

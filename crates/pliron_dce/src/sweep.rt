@@ -9,6 +9,7 @@ ghost use Rattle.pliron_dce.specs.Steps.{IsReady};
 ghost use Rattle.pliron_dce.specs.Going.{Goes, HasRegions, SomeHasRegions, IsSweptSoFar, LeavesNoDead, TellsGone};
 ghost use Rattle.pliron_dce.specs.Work.{item_of, waiting, HasReady, AreClosed};
 
+use crate::looks::Looks;
 use crate::take::{take_argument, take_operation};
 use crate::work::{Candidate, Work, next_ready, note};
 use pliron_core::{Context, Def, IRStatus, Operation, Ptr};
@@ -74,6 +75,7 @@ pub(crate) fn sweep<D: Dialect>(
     alloc: Global,
     root: Ptr<Operation>,
     candidates: Vec<Candidate>,
+    looks: Looks,
     ctx: &mut Context,
 ) -> Result<(IRStatus, bool), OptError>
     requires live { IsLive ctx.old.tree root }
@@ -85,7 +87,7 @@ pub(crate) fn sweep<D: Dialect>(
     ensures edges { IfOk result (λ a. (IsTrue a.1 → ⊥) → KeepsEdges ctx.old.tree ctx.new.tree) }
     ensures memory { IsOkUnless result OptError.Memory }
 {
-    let mut work = Work::new(alloc, candidates);
+    let mut work = Work::new(alloc, candidates, looks);
     let mut status = IRStatus::Unchanged;
     let mut regions = false;
     while let Some(next) = next_ready::<D>(&mut work, root, ctx)? {

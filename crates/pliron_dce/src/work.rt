@@ -14,6 +14,7 @@ ghost use Rattle.pliron_dce.specs.Steps.{IsReady, Among, AreLookedAt};
 ghost use Rattle.pliron_dce.specs.declared.work.Candidate.TheVariants.{Operation as AnOperation};
 ghost use Rattle.pliron_dce.specs.Work.{item_of, items_of, waiting, HasReady, KeepsReady, AreClosed, LooksAround, IsAroundMaker};
 
+use crate::looks::Looks;
 use crate::ready::{holder_of, is_ready_argument, is_ready_operation};
 use indexmap::IndexSet;
 use pliron_core::{Context, Def, Operation, Ptr, Value};
@@ -36,11 +37,13 @@ pub(crate) struct Work {
     pub(crate) later: Vec<Candidate>,
     // once nothing else is ready: operations around what lost a use, and all that are around them
     pub(crate) around: IndexSet<Ptr<Operation>>,
+    // where looks at operations go on
+    pub(crate) looks: Looks,
 }
 
 impl Work {
     // All these are looked at in the first round.
-    pub(crate) fn new(alloc: Global, candidates: Vec<Candidate>) -> Work
+    pub(crate) fn new(alloc: Global, candidates: Vec<Candidate>, looks: Looks) -> Work
         ensures round { result.round.items ≡ candidates.items }
         ensures later { result.later.items ≡ [] }
         ensures around { result.around.keys ≡ [] }
@@ -49,6 +52,7 @@ impl Work {
             round: candidates,
             later: Vec::new(alloc),
             around: IndexSet::new(alloc),
+            looks,
         }
     }
 
@@ -64,12 +68,17 @@ impl Work {
 }
 
 // Whether the candidate may go at once.
-fn is_ready<D: Dialect>(candidate: &Candidate, root: Ptr<Operation>, ctx: &Context) -> bool
+fn is_ready<D: Dialect>(
+    candidate: &Candidate,
+    looks: &mut Looks,
+    root: Ptr<Operation>,
+    ctx: &Context,
+) -> bool
     requires linked { IsWellLinked D.meaning ctx.now.tree root }
     ensures { IsTrue result ↔ IsReady D.meaning D.side_effects D.removable ctx.now.tree root (item_of candidate.now) }
 {
     match *candidate {
-        Candidate::Operation(op) => is_ready_operation::<D>(op, root, ctx),
+        Candidate::Operation(op) => is_ready_operation::<D>(op, looks, root, ctx),
         Candidate::Argument(value) => is_ready_argument::<D>(value, root, ctx),
     }
 }
@@ -77,6 +86,7 @@ fn is_ready<D: Dialect>(candidate: &Candidate, root: Ptr<Operation>, ctx: &Conte
 // The last one of this round that is ready; those after it are not, and go.
 fn next_in_round<D: Dialect>(
     round: &mut Vec<Candidate>,
+    looks: &mut Looks,
     root: Ptr<Operation>,
     ctx: &Context,
 ) -> Option<Candidate>
@@ -87,7 +97,7 @@ fn next_in_round<D: Dialect>(
     ensures empty { IfNone result (round.new.items ≡ []) }
 {
     while let Some(next) = round.pop() {
-        if is_ready::<D>(&next, root, ctx) {
+        if is_ready::<D>(&next, looks, root, ctx) {
             return Some(next);
         }
     }
@@ -108,6 +118,7 @@ fn put_arguments_last(candidates: &mut Vec<Candidate>) -> Result<(), AllocError>
 fn push_ready<D: Dialect>(
     round: &mut Vec<Candidate>,
     candidates: &[Candidate],
+    looks: &mut Looks,
     root: Ptr<Operation>,
     ctx: &Context,
 ) -> Result<(), AllocError>
@@ -115,7 +126,7 @@ fn push_ready<D: Dialect>(
     ensures { OnOk result (KeepsReady D.meaning D.side_effects D.removable ctx.now.tree root (candidates.now ++ round.old.items) round.new.items) }
 {
     for candidate in candidates {
-        if is_ready::<D>(candidate, root, ctx) {
+        if is_ready::<D>(candidate, looks, root, ctx) {
             round.push(*candidate)?;
         }
     }
@@ -133,7 +144,7 @@ fn begin_round<D: Dialect>(
     ensures later { OnOk result (work.new.later.items ≡ []) }
     ensures around { OnOk result (work.new.around.keys ≡ work.old.around.keys) }
 {
-    push_ready::<D>(&mut work.round, &work.later, root, ctx)?;
+    push_ready::<D>(&mut work.round, &work.later, &mut work.looks, root, ctx)?;
     work.later.clear();
     put_arguments_last(&mut work.round)?;
     Ok(())
@@ -149,7 +160,7 @@ fn next_of<D: Dialect>(work: &mut Work, root: Ptr<Operation>, ctx: &Context) -> 
     ensures later { work.new.later ≡ work.old.later }
     ensures around { work.new.around ≡ work.old.around }
 {
-    next_in_round::<D>(&mut work.round, root, ctx)
+    next_in_round::<D>(&mut work.round, &mut work.looks, root, ctx)
 }
 
 // These operations come into the round.

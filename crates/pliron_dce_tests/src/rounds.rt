@@ -6,6 +6,7 @@
 ghost use Rattle.std.specs.Prelude.{◌≡◌, Some};
 ghost use Rattle.pliron_core.specs.Tree.{IsLive, IsBlock, IsDefined, block_holder_of};
 
+use super::boxes::BOXES;
 use super::cases::{DEFINED, ROWS};
 use super::hostile::HOSTILE;
 use pliron_bench::Bench;
@@ -408,4 +409,9 @@ fn rounds_of_hostile_texts(rt: HostRuntime) -> Result<(), Fail> {
 #[test]
 fn rounds_of_defined_texts(rt: HostRuntime) -> Result<(), Fail> {
     compare_all(&rt, rt.alloc(), DEFINED)
+}
+
+#[test]
+fn rounds_of_boxes(rt: HostRuntime) -> Result<(), Fail> {
+    compare_all(&rt, rt.alloc(), BOXES)
 }

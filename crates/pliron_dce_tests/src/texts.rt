@@ -3,6 +3,7 @@ ghost use Rattle.pliron_bench.specs.BenchMoves.{bench};
 ghost use Rattle.pliron_core.specs.Tree.{IsLive};
 ghost use Rattle.pliron_laws.specs.Linked.{IsWellLinked};
 
+use super::boxes::BOXES;
 use super::cases::{DEFINED, ROWS};
 use super::hostile::HOSTILE;
 use pliron_bench::Bench;
@@ -94,6 +95,11 @@ fn hostile_texts(rt: HostRuntime) -> Result<(), Fail> {
 #[test]
 fn defined_texts(rt: HostRuntime) -> Result<(), Fail> {
     check_all(&rt, rt.alloc(), DEFINED)
+}
+
+#[test]
+fn boxes_that_go_one_by_one(rt: HostRuntime) -> Result<(), Fail> {
+    check_all(&rt, rt.alloc(), BOXES)
 }
 
 // What is left of the whole where the root stands inside it.

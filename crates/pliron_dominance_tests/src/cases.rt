@@ -1,7 +1,8 @@
-//! How graphs are read: the successors of the nodes 0, 1, 2, .., each list closed by a semicolon.
+//! How graphs are read: the successors of the nodes 0, 1, 2, .., each list closed by a semicolon; and how answers are
+//! written.
 ghost use Rattle.pliron_search.specs.Adjacency.{AreInverse};
 
-use pliron_search::AdjacencyList;
+use pliron_search::{AdjacencyList, HasLabel};
 use std::alloc::Global;
 use std::process::Abort;
 
@@ -31,4 +32,20 @@ pub fn graph_of(rt: &impl Abort, alloc: Global, rows: Vec<Vec<u32>>) -> Adjacenc
 {
     let graph = AdjacencyList::new(alloc, rows).expect(rt, "memory");
     graph.expect(rt, "a row for each successor")
+}
+
+/// Adds the piece to the text.
+pub fn push(rt: &impl Abort, text: &mut String, piece: &str) {
+    text.push_str(piece).expect(rt, "memory");
+}
+
+/// Adds the label of the node to the text.
+pub fn push_label<C, N: HasLabel<C>>(
+    rt: &impl Abort,
+    alloc: Global,
+    ctx: &C,
+    node: &N,
+    text: &mut String,
+) {
+    push(rt, text, &node.label(alloc, ctx).expect(rt, "memory"));
 }

@@ -5,6 +5,8 @@
 #[cfg(test)]
 mod cases;
 #[cfg(test)]
+mod lists;
+#[cfg(test)]
 mod removal;
 #[cfg(test)]
 mod shapes;

@@ -41,39 +41,72 @@ fn shape_of(rt: &impl Abort, alloc: Global, shape: &str) -> DominatorTree<u32> {
     tree_of(rt, alloc, rows)
 }
 
-// The immediate dominator of node 10,000, and that of the last.
-fn check_shape(rt: &impl Abort, alloc: Global, shape: &str, middle: u32, last: u32) {
+fn child_count(tree: &DominatorTree<u32>, node: u32) -> u32 {
+    let mut count = 0_u32;
+    if tree.is_reached(&node) {
+        for _ in tree.children(&node) {
+            count = count.saturating_add(1);
+        }
+    }
+    count
+}
+
+fn dominator_count(tree: &DominatorTree<u32>, node: u32) -> u32 {
+    let mut count = 0_u32;
+    if tree.is_reached(&node) {
+        for _ in tree.dominators(&node) {
+            count = count.saturating_add(1);
+        }
+    }
+    count
+}
+
+// What is said of node 10,000 and of the last: their immediate dominators, their nearest common one, how many
+// children the entry has, and how many dominators the last.
+fn check_shape(rt: &impl Abort, alloc: Global, shape: &str, want: &str) {
     let tree = shape_of(rt, alloc, shape);
+    let (middle, last) = (10_000_u32, COUNT - 1);
     assert!(rt;
-        tree.is_reached(&10_000) && tree.is_reached(&(COUNT - 1)),
+        tree.is_reached(&0) && tree.is_reached(&middle) && tree.is_reached(&last),
         "{shape}"
     );
-    assert!(rt;
-        tree.immediate_dominator(&10_000) == Some(middle),
-        "{shape}"
-    );
-    assert!(rt;
-        tree.immediate_dominator(&(COUNT - 1)) == Some(last),
-        "{shape}"
-    );
+    let above = tree.immediate_dominator(&middle);
+    let above_last = tree.immediate_dominator(&last);
+    let common = tree.nearest_common_dominator(&middle, &last);
+    let children = child_count(&tree, 0);
+    let dominators = dominator_count(&tree, last);
+    let said = format!(in alloc;
+        "{above:?} {above_last:?} {common} {children} {dominators}"
+    ).expect(rt, "memory");
+    assert_eq!(rt; said.trim(), want, "{shape}");
 }
 
 #[test]
 fn chain(rt: HostRuntime) {
-    check_shape(&rt, rt.alloc(), "chain", 9_999, COUNT - 2);
+    check_shape(
+        &rt,
+        rt.alloc(),
+        "chain",
+        "Some(9999) Some(19998) 10000 1 20000",
+    );
 }
 
 #[test]
 fn chain_with_exits(rt: HostRuntime) {
-    check_shape(&rt, rt.alloc(), "exits", 9_999, 0);
+    check_shape(&rt, rt.alloc(), "exits", "Some(9999) Some(0) 0 2 2");
 }
 
 #[test]
 fn ladder_of_back_edges(rt: HostRuntime) {
-    check_shape(&rt, rt.alloc(), "backs", 9_999, COUNT - 2);
+    check_shape(
+        &rt,
+        rt.alloc(),
+        "backs",
+        "Some(9999) Some(19998) 10000 1 20000",
+    );
 }
 
 #[test]
 fn edges_over_the_next(rt: HostRuntime) {
-    check_shape(&rt, rt.alloc(), "skips", 0, 0);
+    check_shape(&rt, rt.alloc(), "skips", "Some(0) Some(0) 0 19999 2");
 }

@@ -1,7 +1,7 @@
 //! Worked graphs: of each node its immediate dominator, `-` for the entry and `?` where it isn't reached.
 ghost use Rattle.std.specs.Prelude.{Contains};
 
-use crate::cases::{graph_of, rows_of};
+use crate::cases::{graph_of, push, push_label, rows_of};
 use pliron_dominance::DominatorTree;
 use pliron_graph::ReverseGraph;
 use pliron_search::{ControlFlowGraph, HasLabel};
@@ -25,20 +25,6 @@ static BACKWARDS: &str = "1 2;3;3;; => sentinel=- 0=3 1=3 2=3 3=sentinel
 1 2;3;;; => sentinel=- 0=sentinel 1=3 2=sentinel 3=sentinel
 1;2;1 3;; => sentinel=- 0=1 1=2 2=3 3=sentinel
 1;0; => sentinel=- 0=1 1=sentinel";
-
-fn push(rt: &impl Abort, text: &mut String, piece: &str) {
-    text.push_str(piece).expect(rt, "memory");
-}
-
-fn push_label<C, N: HasLabel<C>>(
-    rt: &impl Abort,
-    alloc: Global,
-    ctx: &C,
-    node: &N,
-    text: &mut String,
-) {
-    push(rt, text, &node.label(alloc, ctx).expect(rt, "memory"));
-}
 
 fn push_immediate<C, N: HasLabel<C> + Eq + Hash + Copy>(
     rt: &impl Abort,

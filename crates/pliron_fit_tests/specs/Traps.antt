@@ -13,6 +13,10 @@ use Rattle.pliron_laws.specs.InPlace.{FoldsInPlace, PassSameTests}
 abbrev pub never : Head → Bool
 never h = false
 
+-- the same, of folding
+unfoldable pub no_fold : Head → Bool
+no_fold h = false
+
 abbrev pub always : Head → Bool
 always h = true
 
@@ -69,7 +73,7 @@ unsaid e = cc
 pub traps_effects : GivesAtOnce traps no_side_effects
 traps_effects = λ s h e. absurd (unsaid e)
 
-pub traps_forwards : ForwardsOperands traps never (PassSameTests traps never never no_kind no_interface) same_head
+pub traps_forwards : ForwardsOperands traps no_fold (PassSameTests traps no_fold no_fold no_kind no_interface) same_head
 unfolding traps
 traps_forwards = record {
   alone = λ s h br. absurd (no br);
@@ -84,10 +88,12 @@ traps_forwards = record {
 pub traps_arguments : ActsWithoutArgument traps no_removal
 traps_arguments = λ s h i n j e. absurd (unsaid e)
 
-pub traps_answers : AnswersTrue traps never no_constants
+pub traps_answers : AnswersTrue traps no_fold no_constants
+unfolding no_fold
 traps_answers = record { counts = λ s h f. absurd (no f); gives = λ s h f. absurd (no f) }
 
-pub traps_jumps : AnswersJumps traps never no_blocks
+pub traps_jumps : AnswersJumps traps no_fold no_blocks
+unfolding no_fold
 traps_jumps = record { branches = λ s h f. absurd (no f); successors = λ s targets h f. absurd (no f); goes = λ s targets h f. absurd (no f) }
 
 pub traps_in_place : FoldsInPlace traps no_constants no_attribute no_constant_head no_outcome no_outcome
@@ -99,10 +105,14 @@ traps_in_place = record {
 pub traps_makes : MakesConstants traps no_attribute no_constant_head
 traps_makes = λ attr h. absurd (no h)
 
--- what stands does not fold, and is no branch
-pub nothing_folds : (t : Tree) (op : ℕ) → IsLive t op → HeadPasses never t op → ⊥
-nothing_folds t op live passes = by (head_of t op) live passes
+-- what stands is no branch, and does not fold
+pub no_branch : (t : Tree) (op : ℕ) → IsLive t op → HeadPasses never t op → ⊥
+no_branch t op live passes = by (head_of t op) live passes
   where
     by : (o : Option Head) → IsSome o → ((h : Head) → o ≡ Some h → IsTrue false) → ⊥
     by None l p = no l
     by (Some h) l p = no (p h refl)
+
+pub nothing_folds : (t : Tree) (op : ℕ) → IsLive t op → HeadPasses no_fold t op → ⊥
+unfolding no_fold
+nothing_folds t op live passes = no_branch t op live passes

@@ -1,7 +1,7 @@
 //! A lawful dialect of which little is known: each operation traps, ends its block, and may have whatever counts,
 //! results beside successors among them. Runs may not begin at kind 9.
 ghost use Rattle.std.specs.Prelude.{◌≡◌, Ok};
-ghost use Rattle.pliron_fit_tests.specs.Traps.{traps, never, no_kind, no_interface, no_side_effects, no_removal, no_constants, no_blocks, no_attribute, no_constant_head, no_outcome, same_head};
+ghost use Rattle.pliron_fit_tests.specs.Traps.{traps, no_fold, no_kind, no_interface, no_side_effects, no_removal, no_constants, no_blocks, no_attribute, no_constant_head, no_outcome, same_head};
 ghost use Rattle.pliron_fit_tests.specs.Traps.{traps_counts, traps_effects, traps_forwards, traps_arguments, traps_answers, traps_jumps, traps_in_place, traps_makes};
 
 use pliron_core::{AttrObj, BasicBlock, Context, IRStatus, Operation, Ptr, Rewriter, Value};
@@ -52,7 +52,7 @@ impl BlockArgRemoval for Traps {
 impl ConstFoldInterface for Traps {
     ghost verdict = { λ t op r. r ≡ Ok tt };
 
-    ghost can_fold = { never };
+    ghost can_fold = { no_fold };
 
     ghost constants = { no_constants };
 
@@ -62,6 +62,7 @@ impl ConstFoldInterface for Traps {
 
     ghost outcome = { no_outcome };
 
+    #[tactic(auto, unfolding(crate::specs::Traps::no_fold))]
     fn folds(_op: Ptr<Operation>, _ctx: &Context) -> bool {
         false
     }
@@ -102,12 +103,13 @@ impl ConstFoldInterface for Traps {
 impl BranchOpFoldInterface for Traps {
     ghost verdict = { λ t op r. r ≡ Ok tt };
 
-    ghost can_fold_branch = { never };
+    ghost can_fold_branch = { no_fold };
 
     ghost feasible = { no_blocks };
 
     ghost outcome = { no_outcome };
 
+    #[tactic(auto, unfolding(crate::specs::Traps::no_fold))]
     fn folds_branch(_op: Ptr<Operation>, _ctx: &Context) -> bool {
         false
     }
@@ -184,7 +186,7 @@ impl Dialect for Traps {
         Ok(Vec::new(alloc))
     }
 
-    #[tactic(auto, unfolding(crate::specs::Traps::traps), using(crate::specs::Traps::nothing_folds))]
+    #[tactic(auto, unfolding(crate::specs::Traps::traps), using(crate::specs::Traps::no_branch))]
     fn remove_successor_operand(
         op: Ptr<Operation>,
         ctx: &mut Context,

@@ -58,6 +58,29 @@ pub fn build(alloc: Global, syntax: &Syntax, ctx: &mut Context) -> Result<Ptr<Op
     ensures linked { IfOk result (λ root. IsWellLinked bench ctx.new.tree root) }
     ensures refused { OnErr result (IsSameTree ctx.old.tree ctx.new.tree) }
 {
+    reserve_all(syntax, ctx)?;
+    build_reserved(alloc, syntax, ctx)
+}
+
+/// Makes room for all operations, blocks and values of a text. Errors: want of memory.
+fn reserve_all(syntax: &Syntax, ctx: &mut Context) -> Result<(), NoMemory>
+    ensures { ctx.new ≡ ctx.old }
+{
+    let operations = syntax.operations.len().saturating_add(1);
+    ctx.reserve(operations, syntax.blocks.len(), syntax.values)
+}
+
+/// Builds the operation of a text, for which room is reserved.
+fn build_reserved(
+    alloc: Global,
+    syntax: &Syntax,
+    ctx: &mut Context,
+) -> Result<Ptr<Operation>, NoMemory>
+    requires { IsSoundSyntax syntax.now }
+    ensures built { IfOk result (λ root. IsGrown ctx.old.tree ctx.new.tree root) }
+    ensures linked { IfOk result (λ root. IsWellLinked bench ctx.new.tree root) }
+    ensures refused { OnErr result (IsSameTree ctx.old.tree ctx.new.tree) }
+{
     ctx.well_formed();
     let head = plain_head(alloc, syntax.root);
     let root = Operation::create(ctx, head, 0, 1)?;

@@ -1,7 +1,7 @@
 //! The description of a graph, which is read from a text of its own and has no tree.
 mod graph_lines;
-mod numbered_graph;
 
+use pliron_graph_text::read_graph;
 use pliron_laws::OptError;
 use std::alloc::Global;
 
@@ -9,7 +9,7 @@ use std::alloc::Global;
 ///
 /// Errors: want of memory. Cost: that of reading and printing it.
 pub fn described(alloc: Global, text: &[u8]) -> Result<Option<String>, OptError> {
-    match numbered_graph::read_graph(alloc, text)? {
+    match read_graph(alloc, text)? {
         Some(graph) => Ok(Some(graph_lines::print_graph(alloc, &graph)?)),
         None => Ok(None),
     }

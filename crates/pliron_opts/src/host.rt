@@ -1,35 +1,50 @@
-//! The program over the arguments and streams of its process.
+//! A program over the arguments and streams of its process.
 use crate::optimise::Notation;
 use crate::run_optimiser;
 use pliron_laws::OptError;
-use std::alloc::Global;
 use std::env;
 use std::io::{self, ErrorKind};
 use std::process::ExitCode;
 
-/// The words after the program's name.
-fn words(alloc: Global, rt: &HostRuntime) -> io::Result<Vec<String>> {
+/// The words after the program's name, made by pushes, so that a refused request is always want of memory.
+fn words(rt: &HostRuntime) -> io::Result<Vec<String>> {
     let mut args = env::args(rt)?;
     let _ = args.next();
-    Ok(args.collect(alloc)?)
+    let mut words = Vec::new(rt.alloc());
+    for word in args {
+        words.push(word)?;
+    }
+    Ok(words)
+}
+
+/// The words after the program's name. A word that is no text is none that a program knows: there are no
+/// words then, which asks for nothing.
+///
+/// Errors: for want of memory the status of a program that memory was refused, once standard error says so.
+/// Cost: linear in the words.
+pub fn host_words(rt: &HostRuntime) -> Result<Vec<String>, ExitCode> {
+    match words(rt) {
+        Ok(words) => Ok(words),
+        Err(error) if error.kind() == ErrorKind::OutOfMemory => {
+            let _ = eprintln!(rt; "refused: {}", OptError::Memory);
+            Err(ExitCode::from(1))
+        }
+        Err(_) => Ok(Vec::new(rt.alloc())),
+    }
 }
 
 /// Runs `run_optimiser` over the texts of a notation on the words after the program's name and the standard
-/// streams, and answers its status. A word that is no text is none that the program knows.
+/// streams, and answers its status. `program` is the name in the line on how it is used.
 ///
 /// Cost: that of `run_optimiser`.
-pub fn optimise_host<N: Notation>(rt: &HostRuntime) -> ExitCode {
-    let alloc = rt.alloc();
-    let args = match words(alloc, rt) {
+pub fn optimise_host<N: Notation>(rt: &HostRuntime, program: &str) -> ExitCode {
+    let args = match host_words(rt) {
         Ok(args) => args,
-        Err(error) if error.kind() == ErrorKind::OutOfMemory => {
-            let _ = eprintln!(rt; "refused: {}", OptError::Memory);
-            return ExitCode::from(1);
-        }
-        Err(_) => Vec::new(alloc),
+        Err(status) => return status,
     };
     let status = run_optimiser::<N, _, _, _>(
-        alloc,
+        rt.alloc(),
+        program,
         &args,
         &mut rt.stdin(),
         &mut rt.stdout(),

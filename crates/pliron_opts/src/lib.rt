@@ -18,7 +18,7 @@ mod optimise;
 mod program;
 
 use graph::described;
-pub use host::optimise_host;
+pub use host::{host_words, optimise_host};
 pub use optimise::{BenchNotation, KindNotation, Notation};
 use optimise::{Command, asked, optimised};
 use pliron_bench::Bench;
@@ -76,7 +76,7 @@ fn answered<N: Notation, R: Read>(
 }
 
 /// Runs the program over the texts of a notation, on the words after its name and these streams, and
-/// answers its status.
+/// answers its status. `program` is its name in the line on how it is used.
 ///
 /// For every dialect that keeps its laws and every notation of it: an answer to a schedule of passes is a
 /// tree printed, and a line that says truly whether it changed. The tree is what these passes, run once as
@@ -89,6 +89,7 @@ fn answered<N: Notation, R: Read>(
 /// `errors` is ignored. Cost: reading and printing, and that of the passes.
 pub fn run_optimiser<N: Notation, R: Read, W: Write, E: Write>(
     alloc: Global,
+    program: &str,
     args: &[String],
     input: &mut R,
     output: &mut W,
@@ -101,9 +102,9 @@ pub fn run_optimiser<N: Notation, R: Read, W: Write, E: Write>(
     match answered::<N, R>(alloc, args, input) {
         Ok(answer) => match write_answer(answer.as_bytes(), output) {
             Ok(()) => 0,
-            Err(failure) => failure.report(errors),
+            Err(failure) => failure.report(program, errors),
         },
-        Err(failure) => failure.report(errors),
+        Err(failure) => failure.report(program, errors),
     }
 }
 
@@ -122,5 +123,5 @@ pub fn plir_run<R: Read, W: Write, E: Write>(
         (RunsAlone ⟦<BenchFactKind as PartialEq>⟧.eq ⟦<Schedule<Bench, BenchFacts> as Pass>⟧.outcome)) (map string_bytes args.now)
         (R.remaining input.old)) (W.contents output.old) (W.contents output.new) result }
 {
-    run_optimiser::<BenchNotation, R, W, E>(alloc, args, input, output, errors)
+    run_optimiser::<BenchNotation, R, W, E>(alloc, "plir_opt", args, input, output, errors)
 }

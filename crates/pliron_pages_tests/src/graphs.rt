@@ -77,6 +77,30 @@ fn dominance(alloc: Global, graph: &AdjacencyList) -> Result<String, OptError>
     Ok(format!(in alloc; "{said:?}")?)
 }
 
+fn list_tree(tree: &DominatorTree<u32>, text: &mut String) -> Result<(), OptError> {
+    if !tree.is_reached(&0) || !tree.is_reached(&2) || !tree.is_reached(&4) {
+        return Ok(());
+    }
+    for child in tree.children(&0) {
+        write!(text, "{child} ")?;
+    }
+    for above in tree.dominators(&4) {
+        write!(text, "<{above} ")?;
+    }
+    write!(text, "{}", tree.nearest_common_dominator(&2, &4))?;
+    Ok(())
+}
+
+// What it lists of the graph.
+fn listed(alloc: Global, graph: &AdjacencyList) -> Result<String, OptError>
+    requires { AreInverse graph.now }
+{
+    let tree = DominatorTree::new(alloc, &(), graph)?;
+    let mut text = String::new(alloc);
+    list_tree(&tree, &mut text)?;
+    Ok(text)
+}
+
 fn post_dominance(alloc: Global, graph: &AdjacencyList) -> Result<String, OptError>
     requires { AreInverse graph.now }
 {
@@ -155,6 +179,7 @@ fn answers(rt: HostRuntime) {
     let want = "[4] [Sentinel, Real(4), Real(3), Real(2), Real(1), Real(0)]";
     check(&rt, reverse(alloc, &graph), want);
     check(&rt, dominance(alloc, &graph), "(true, false)");
+    check(&rt, listed(alloc, &graph), "1 3 2 <4 <3 <0 0");
     check(&rt, post_dominance(alloc, &graph), "true false");
     let calls = CallGraph { calls: graph };
     let order = callees_first(alloc, &calls).expect(&rt, "memory");

@@ -15,4 +15,4 @@ mod propagation;
 mod rewriting;
 mod search;
 
-pub use propagation::{sccp, sccp_counted};
+pub use propagation::{sccp, sccp_counted, sccp_through};

@@ -9,10 +9,35 @@ ghost use Rattle.pliron_sccp.specs.Propagated.{IsPropagated, IsPartlyPropagated}
 
 use crate::found::find;
 use crate::rewriting::rewrite;
-use pliron_core::{Context, IRRewriter, IRStatus, Operation, Ptr};
-use pliron_laws::{Dialect, OptError};
+use pliron_core::{Context, IRRewriter, IRStatus, Operation, Ptr, Rewriter};
+use pliron_laws::{Dialect, OptError, Room};
 use pliron_theory::HasFolding;
 use std::alloc::Global;
+
+// Propagates constants through a rewriter, and counts what the search took from its worklists.
+fn propagate<D: Dialect, R: Rewriter + Room>(
+    alloc: Global,
+    op: Ptr<Operation>,
+    ctx: &mut Context,
+    rewriter: &mut R,
+) -> Result<(IRStatus, u128), OptError>
+    requires live { IsLive ctx.old.tree op }
+    requires linked { IsWellLinked D.meaning ctx.old.tree op }
+    ensures propagated { IfOk result (λ a. IsPropagated ⟦<D as HasFolding>⟧.folding D.accepts D.constant_head D.ConstFoldInterface.outcome
+        ctx.old.tree op ctx.new.tree a.1) }
+    ensures partly { OnErr result (IsPartlyPropagated ⟦<D as HasFolding>⟧.folding D.accepts D.constant_head D.ConstFoldInterface.outcome ctx.old.tree
+        op ctx.new.tree) }
+    ensures change { IsPassChange D.meaning ctx.old.tree ctx.new.tree op }
+    ensures tells { IfOk result (λ a. TellsChange (Some a.0) ctx.old.tree ctx.new.tree) }
+    ensures edges { KeepsEdges ctx.old.tree ctx.new.tree }
+    ensures links { (root : ℕ) → IsWellLinked D.meaning ctx.old.tree root → IsWellLinked D.meaning ctx.new.tree root }
+    ensures memory { IsOkUnless result OptError.Memory }
+{
+    ctx.well_formed();
+    let (found, pops) = find::<D>(alloc, op, ctx)?;
+    let status = rewrite::<D, R>(alloc, &found, ctx, rewriter)?;
+    Ok((status, pops))
+}
 
 /// Propagates constants inside the operation, as `sccp` does, and answers too how often its search took
 /// something from a worklist: with r blocks that are reached and, made in these, c constants and n values
@@ -36,11 +61,35 @@ pub fn sccp_counted<D: Dialect>(
     ensures links { (root : ℕ) → IsWellLinked D.meaning ctx.old.tree root → IsWellLinked D.meaning ctx.new.tree root }
     ensures memory { IsOkUnless result OptError.Memory }
 {
-    ctx.well_formed();
-    let (found, pops) = find::<D>(alloc, op, ctx)?;
     let mut rewriter = IRRewriter::new();
-    let status = rewrite::<D, IRRewriter>(alloc, &found, ctx, &mut rewriter)?;
-    Ok((status, pops))
+    propagate::<D, IRRewriter>(alloc, op, ctx, &mut rewriter)
+}
+
+/// Propagates constants inside the operation, as `sccp` does, and makes each change through this rewriter,
+/// whose listener hears of it: the room for a whole rewrite is asked of it before the first change of that.
+///
+/// Asks that the operation stands and is well linked. Errors: as `sccp`, and where the rewriter has no room.
+/// Cost: as `sccp`, and what the rewriter does at each change.
+pub fn sccp_through<D: Dialect, R: Rewriter + Room>(
+    alloc: Global,
+    op: Ptr<Operation>,
+    ctx: &mut Context,
+    rewriter: &mut R,
+) -> Result<IRStatus, OptError>
+    requires live { IsLive ctx.old.tree op }
+    requires linked { IsWellLinked D.meaning ctx.old.tree op }
+    ensures propagated { OnOk result ((pops : ℕ) × IsPropagated ⟦<D as HasFolding>⟧.folding D.accepts D.constant_head D.ConstFoldInterface.outcome
+        ctx.old.tree op ctx.new.tree pops) }
+    ensures partly { OnErr result (IsPartlyPropagated ⟦<D as HasFolding>⟧.folding D.accepts D.constant_head D.ConstFoldInterface.outcome ctx.old.tree
+        op ctx.new.tree) }
+    ensures change { IsPassChange D.meaning ctx.old.tree ctx.new.tree op }
+    ensures tells { IfOk result (λ a. TellsChange (Some a) ctx.old.tree ctx.new.tree) }
+    ensures edges { KeepsEdges ctx.old.tree ctx.new.tree }
+    ensures links { (root : ℕ) → IsWellLinked D.meaning ctx.old.tree root → IsWellLinked D.meaning ctx.new.tree root }
+    ensures memory { IsOkUnless result OptError.Memory }
+{
+    let (status, _) = propagate::<D, R>(alloc, op, ctx, rewriter)?;
+    Ok(status)
 }
 
 /// Propagates constants inside the operation. Facts are searched on the tree as it stands, from no block
@@ -78,6 +127,6 @@ pub fn sccp<D: Dialect>(
     ensures links { (root : ℕ) → IsWellLinked D.meaning ctx.old.tree root → IsWellLinked D.meaning ctx.new.tree root }
     ensures memory { IsOkUnless result OptError.Memory }
 {
-    let (status, _) = sccp_counted::<D>(alloc, op, ctx)?;
-    Ok(status)
+    let mut rewriter = IRRewriter::new();
+    sccp_through::<D, IRRewriter>(alloc, op, ctx, &mut rewriter)
 }

@@ -4,7 +4,11 @@
 #[cfg(test)]
 mod cases;
 #[cfg(test)]
+mod counts;
+#[cfg(test)]
 mod marked;
+#[cfg(test)]
+mod room;
 #[cfg(test)]
 mod runs;
 #[cfg(test)]

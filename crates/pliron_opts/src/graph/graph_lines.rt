@@ -4,11 +4,11 @@ ghost use Rattle.std.specs.Option.{option_to_list};
 ghost use Rattle.pliron_search.specs.Adjacency.{AreInverse, graph_of};
 ghost use Rattle.pliron_search.specs.Search.{IsSearch, IsListed};
 
-use super::numbered_graph::NumberedGraph;
 use pliron_graph::{
     ControlFlowGraph, DFSTraversal, ReverseGraph, post_order_by_component,
     sccs_in_topological_order, topological_order_by_component,
 };
+use pliron_graph_text::NumberedGraph;
 use pliron_laws::OptError;
 use std::alloc::Global;
 

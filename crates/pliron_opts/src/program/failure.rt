@@ -10,7 +10,7 @@ use thiserror::Error;
 /// Why the program ends without an answer.
 #[derive(Clone, Copy, Debug, Drop, PartialEq, Eq, Error)]
 pub enum Failure {
-    #[error("usage: plir_opt LIST, or plir_opt graph")]
+    #[error("words that ask for nothing")]
     Arguments,
     #[error("cannot read standard input")]
     Reading,
@@ -35,12 +35,15 @@ impl From<AllocError> for Failure {
 }
 
 impl Failure {
-    /// Writes a line that says why, and answers the status. A failed write is ignored. Cost: writing the
-    /// line.
-    pub fn report<E: Write>(self, errors: &mut E) -> u8
+    /// Writes a line that says why, and answers the status; of words that ask for nothing it says how
+    /// `program` is used. A failed write is ignored. Cost: writing the line.
+    pub fn report<E: Write>(self, program: &str, errors: &mut E) -> u8
         ensures { result ≡ status_of self }
     {
-        let _ = writeln!(errors, "{self}");
+        let _ = match self {
+            Failure::Arguments => writeln!(errors, "usage: {program} LIST, or {program} graph"),
+            _ => writeln!(errors, "{self}"),
+        };
         match self {
             Failure::Refused(_) => 1,
             _ => 2,

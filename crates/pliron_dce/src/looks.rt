@@ -1,0 +1,249 @@
+//! Where looks at operations go on.
+//!
+//! A look at an operation goes over the values that it makes and those that are made inside it, in the order
+//! of a text, up to the first one with a use that holds the operation. Uses only go, so what was passed holds
+//! it no more, and the next look begins where the last one ended: all looks at an operation together go over
+//! its values once.
+//!
+//! The places are hints. That something holds the operation is seen where it is found; where nothing is
+//! found, the operation is asked as a whole.
+ghost use Rattle.std.specs.Prelude.{◌↔◌, ◌≤◌, length, IfSome, IsTrue};
+ghost use Rattle.pliron_core.specs.Tree.{In, IsLive, IsDefined, results_of, uses_of};
+ghost use Rattle.pliron_core.specs.Changes.{IsMadeInside};
+ghost use Rattle.pliron_dce.specs.Steps.{IsHeld, IsUsedOutside};
+
+use crate::ready::{holder_of, is_within};
+use crate::work::Candidate;
+use indexmap::IndexMap;
+use pliron_core::{Context, Def, Operation, Ptr, Value};
+use std::alloc::{AllocError, Global};
+
+// The part of the list of values that no look at the operation has passed.
+#[derive(Clone, Copy)]
+struct Rest {
+    start: usize,
+    // where the last look at the first of these values found the use that held the operation
+    first_use: usize,
+    end: usize,
+}
+
+// What is still to be looked at of each operation that has regions or several results.
+#[derive(Drop)]
+pub(crate) struct Looks {
+    // all values that are made inside the root, in the order of a text
+    values: Vec<Value>,
+    rests: IndexMap<Ptr<Operation>, Rest>,
+}
+
+// Whether a look at the operation may be long.
+fn is_long(op: Ptr<Operation>, ctx: &Context) -> bool
+    requires { IsLive ctx.now.tree op }
+{
+    op.num_region(ctx) != 0 || op.num_result(ctx) > 1
+}
+
+impl Looks {
+    // Nothing has been looked at of these candidates, which stand in the order of a text, each operation
+    // behind the arguments of the blocks that it holds.
+    pub(crate) fn new(
+        alloc: Global,
+        candidates: &[Candidate],
+        ctx: &Context,
+    ) -> Result<Looks, AllocError> {
+        let mut looks = Looks {
+            values: Vec::new(alloc),
+            rests: IndexMap::new(alloc),
+        };
+        let mut open = Vec::new(alloc);
+        looks.add_all(&mut open, candidates, ctx)?;
+        let end = looks.values.len();
+        looks.close(&mut open, None, end);
+        Ok(looks)
+    }
+
+    // The values of all candidates are put last. The open operations are those around the last one.
+    fn add_all(
+        &mut self,
+        open: &mut Vec<Ptr<Operation>>,
+        candidates: &[Candidate],
+        ctx: &Context,
+    ) -> Result<(), AllocError> {
+        let mut start = 0;
+        for candidate in candidates {
+            match *candidate {
+                Candidate::Argument(value) => self.values.push(value)?,
+                Candidate::Operation(op) => {
+                    if op.is_live(ctx) {
+                        self.close(open, op.get_parent_op(ctx), start);
+                        self.add(open, op, start, ctx)?;
+                    }
+                    start = self.values.len();
+                }
+            }
+        }
+        Ok(())
+    }
+
+    // The results of the operation are put last, behind the arguments of its blocks, which start there.
+    fn add(
+        &mut self,
+        open: &mut Vec<Ptr<Operation>>,
+        op: Ptr<Operation>,
+        start: usize,
+        ctx: &Context,
+    ) -> Result<(), AllocError>
+        requires { IsLive ctx.now.tree op }
+    {
+        for i in 0..op.num_result(ctx) {
+            self.values.push(op.get_result(ctx, i))?;
+        }
+        if is_long(op, ctx) {
+            let rest = Rest {
+                start,
+                first_use: 0,
+                end: start,
+            };
+            self.rests.insert(op, rest)?;
+            open.push(op)?;
+        }
+        Ok(())
+    }
+
+    // The values of the open operations end here, up to the holder of what comes next.
+    fn close(
+        &mut self,
+        open: &mut Vec<Ptr<Operation>>,
+        holder: Option<Ptr<Operation>>,
+        end: usize,
+    ) {
+        while let Some(last) = open.last().copied() {
+            if holder == Some(last) {
+                return;
+            }
+            if let Some(rest) = self.rests.get_mut(&last) {
+                rest.end = end;
+            }
+            open.pop();
+        }
+    }
+
+    // Whether something is found that holds the operation, from where the last look at it ended.
+    pub(crate) fn is_found_held(&mut self, op: Ptr<Operation>, ctx: &Context) -> bool
+        requires { IsLive ctx.now.tree op }
+        ensures { IsTrue result → IsHeld ctx.now.tree op }
+    {
+        match self.rests.get_mut(&op) {
+            Some(rest) => look_on(&self.values, rest, op, ctx),
+            None => false,
+        }
+    }
+}
+
+// Whether one of these values that no look has passed holds the operation; those before it are passed.
+fn look_on(values: &[Value], rest: &mut Rest, op: Ptr<Operation>, ctx: &Context) -> bool
+    requires { IsLive ctx.now.tree op }
+    ensures { IsTrue result → IsHeld ctx.now.tree op }
+{
+    for i in rest.start..rest.end {
+        if let Some(value) = values.get(i) {
+            if let Some(found) = find_holding(op, *value, rest.first_use, ctx) {
+                rest.start = i;
+                rest.first_use = found;
+                return true;
+            }
+        }
+        rest.first_use = 0;
+    }
+    rest.start = rest.end;
+    false
+}
+
+// A use of the value that holds the operation, the first one from an index on and around the end.
+fn find_holding(op: Ptr<Operation>, value: Value, first: usize, ctx: &Context) -> Option<usize>
+    requires { IsLive ctx.now.tree op }
+    ensures { IfSome result (λ i. IsHeld ctx.now.tree op) }
+{
+    ctx.well_formed();
+    if !value.is_live(ctx) {
+        return None;
+    }
+    let count = value.num_use(ctx);
+    if count == 0 {
+        return None;
+    }
+    if is_result_of(value, op, ctx) {
+        return Some(0);
+    }
+    let found = find_outside(value, op, first.min(count), ctx)?;
+    if is_made_inside(value, op, ctx) {
+        return Some(found);
+    }
+    None
+}
+
+// Whether the value is a result of the operation.
+fn is_result_of(value: Value, op: Ptr<Operation>, ctx: &Context) -> bool
+    requires { IsDefined ctx.now.tree value }
+    ensures { IsTrue result → In value (results_of ctx.now.tree op) }
+{
+    match value.def(ctx) {
+        Def::Result(maker, _) => maker == op,
+        Def::Argument(_, _) => false,
+    }
+}
+
+// Whether the value is made inside the operation.
+fn is_made_inside(value: Value, op: Ptr<Operation>, ctx: &Context) -> bool
+    requires { IsDefined ctx.now.tree value }
+    ensures { IsTrue result ↔ IsMadeInside ctx.now.tree op value }
+{
+    match value.def(ctx) {
+        Def::Result(maker, _) => maker.is_inside(op, ctx),
+        Def::Argument(block, _) => is_within(holder_of(block, ctx), op, ctx),
+    }
+}
+
+// The index of a use that stands outside the operation, the first one from this one on and around the end.
+// Uses that go leave their places to the last ones, so the next one outside is mostly found there.
+fn find_outside(value: Value, op: Ptr<Operation>, first: usize, ctx: &Context) -> Option<usize>
+    requires value { IsDefined ctx.now.tree value }
+    requires first { first ≤ length (uses_of ctx.now.value_uses value) }
+    ensures { IfSome result (λ i. IsUsedOutside ctx.now.tree op value) }
+{
+    let behind = find_outside_among(value, op, first, value.num_use(ctx), ctx);
+    if behind.is_some() {
+        return behind;
+    }
+    find_outside_among(value, op, 0, first, ctx)
+}
+
+// The index of a use that stands outside the operation, the first one of those from `start` to `end`. What
+// stands side by side in one operation is asked once.
+fn find_outside_among(
+    value: Value,
+    op: Ptr<Operation>,
+    start: usize,
+    end: usize,
+    ctx: &Context,
+) -> Option<usize>
+    requires value { IsDefined ctx.now.tree value }
+    requires end { end ≤ length (uses_of ctx.now.value_uses value) }
+    ensures { IfSome result (λ i. IsUsedOutside ctx.now.tree op value) }
+{
+    ctx.well_formed();
+    let mut known = op;
+    for i in start..end {
+        let (user, _) = value.get_use(ctx, i);
+        let holder = user.get_parent_op(ctx);
+        if holder == Some(known) {
+            continue;
+        }
+        if !is_within(user, op, ctx) {
+            return Some(i);
+        }
+        if user != op {
+            known = holder.unwrap_or(op);
+        }
+    }
+    None
+}

@@ -1,0 +1,2 @@
+pub mod DotLemmas
+pub mod RowLemmas

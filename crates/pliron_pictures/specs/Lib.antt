@@ -1,0 +1,3 @@
+pub mod Drawn
+pub mod GraphRows
+pub mod Quoting

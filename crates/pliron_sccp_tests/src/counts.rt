@@ -1,0 +1,68 @@
+//! How often propagation takes something from a worklist, on the made texts.
+//!
+//! The counts were found by a plain program over facts by name, `docs/benchmarks/plain_counts.py`, which
+//! shares with the crate only the order of work: last in, first out, blocks before values.
+use super::cases::MADE;
+use pliron_bench::Bench;
+use pliron_core::Context;
+use pliron_notation::read_text;
+use pliron_sccp::sccp_counted;
+use std::alloc::Global;
+use std::process::Abort;
+use std::test::Fail;
+
+static COUNTS: &str = "\
+1 11 7 15 9 9 7 18 10 8 1 6 10 11 9 8 10 8 11 9 \
+10 6 19 12 18 11 10 17 7 12 10 18 10 12 10 4 13 13 6 20 \
+17 13 8 10 15 9 12 13 16 8 10 19 12 15 8 3 10 20 11 11 \
+8 11 8 9 11 2 8 7 9 7 18 16 27 9 21 14 13 8 13 22 \
+1 11 14 14 16 2 13 19 9 8 7 10 17 16 11 3 14 12 12 11 \
+1 15 16 11 7 11 8 8 13 9 1 10 15 9 6 10 8 11 7 12 \
+12 9 6 8 9 8 13 11 10 8 9 8 7 8 12 16 11 14 13 17 \
+16 7 17 15 18 12 6 12 8 7 13 12 8 11 12 15 5 17 7 16";
+
+// The text of a line: behind the answer and three numbers, before the arrow.
+fn text_of(line: &str) -> Option<&str> {
+    let (before, _) = line.split_once(" => ")?;
+    let (_, rest) = before.split_once(" ")?;
+    let (_, rest) = rest.split_once(" ")?;
+    let (_, rest) = rest.split_once(" ")?;
+    let (_, text) = rest.split_once(" ")?;
+    Some(text)
+}
+
+fn count_in(
+    rt: &impl Abort,
+    alloc: Global,
+    ctx: &mut Context,
+    text: &str,
+    count: u64,
+) -> Result<(), Fail> {
+    let Some(root) = read_text(alloc, text.as_bytes(), ctx)? else {
+        return Err(Fail::from("unreadable"));
+    };
+    let (_, pops) = sccp_counted::<Bench>(alloc, root, ctx)?;
+    assert_eq!(rt; pops, count as u128, "{text}");
+    Ok(())
+}
+
+fn count(rt: &impl Abort, alloc: Global, text: &str, count: u64) -> Result<(), Fail> {
+    let mut ctx = Context::new(alloc);
+    count_in(rt, alloc, &mut ctx, text, count)
+}
+
+#[test]
+fn made_texts_are_counted(rt: HostRuntime) -> Result<(), Fail> {
+    let mut counts = COUNTS.split(" ");
+    for line in MADE.lines() {
+        let (Some(text), Some(word)) = (text_of(line), counts.next()) else {
+            return Err(Fail::from("no text or no count"));
+        };
+        match word.parse::<u64>() {
+            Ok(wanted) => count(&rt, rt.alloc(), text, wanted)?,
+            Err(_) => return Err(Fail::from("no number")),
+        }
+    }
+    assert!(&rt; counts.next().is_none());
+    Ok(())
+}
