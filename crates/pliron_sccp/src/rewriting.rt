@@ -1,5 +1,5 @@
 //! Rewriting a tree by facts about it.
-ghost use Rattle.std.specs.Prelude.{◌≡◌, ◌≤◌, ◌<◌, ℕ, List, Some, None, IsSome, IfOk, OnErr, OnOk, length, map, slice_get, IsOkUnless};
+ghost use Rattle.std.specs.Prelude.{◌≡◌, ◌≤◌, ◌<◌, ℕ, List, Some, IsSome, IfOk, OnErr, OnOk, length, map, slice_get, IsOkUnless};
 ghost use Rattle.pliron_core.specs.Tree.{Tree, IsLive};
 ghost use Rattle.pliron_core.specs.Changes.{IsSameTree};
 ghost use Rattle.pliron_theory.specs.Facts.{Facts};
@@ -25,7 +25,7 @@ pub struct Fold {
 /// Folds one operation in place by facts about the first tree.
 ///
 /// Asks that the tree came from the first one by such steps, so that the facts still hold of the operation.
-/// Errors: want of memory, after which the tree is one that the facts still follow. Cost: that of the
+/// Errors: want of memory, which leaves the tree as it was but for spent keys. Cost: that of the
 /// dialect's `fold_in_place`.
 pub fn fold_one<D: Dialect, R: Rewriter + Room>(
     alloc: Global,
@@ -35,7 +35,7 @@ pub fn fold_one<D: Dialect, R: Rewriter + Room>(
 ) -> Result<IRStatus, OptError>
     requires step { (t₀ : Tree) × (root : ℕ) × (f₀ : Facts) × IsFoldStep ⟦<D as HasFolding>⟧.folding t₀ root f₀ ctx.old.tree fold.now.op fold.now.known.items }
     ensures ok { IfOk result (λ status. D.ConstFoldInterface.outcome ctx.old.tree ctx.new.tree fold.now.op fold.now.known.items (Some status)) }
-    ensures refused { OnErr result (D.ConstFoldInterface.outcome ctx.old.tree ctx.new.tree fold.now.op fold.now.known.items None) }
+    ensures refused { OnErr result (IsSameTree ctx.old.tree ctx.new.tree) }
     ensures told { IfOk result (λ status. TellsCreated status ctx.old.tree ctx.new.tree) }
     ensures stays { (k : ℕ) → IsLive ctx.old.tree k → IsLive ctx.new.tree k }
     ensures memory { IsOkUnless result OptError.Memory }
@@ -52,7 +52,7 @@ pub fn fold_one<D: Dialect, R: Rewriter + Room>(
 /// Folds these operations in place, one after the other.
 ///
 /// Asks that the tree came from the first one by such steps, so that the facts still hold of the operations.
-/// Errors: want of memory, after some of the folds. Cost: that of the dialect's `fold_in_place` for each.
+/// Errors: want of memory, after some of the folds, each of them whole. Cost: that of the dialect's `fold_in_place` for each.
 pub fn fold_all<D: Dialect, R: Rewriter + Room>(
     alloc: Global,
     folds: &[Fold],

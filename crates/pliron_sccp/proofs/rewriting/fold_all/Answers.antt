@@ -45,6 +45,4 @@ returns-clause-follows g c = c.loop-i.invariant.follows
 
 pub returns-in_err-fold_one-clause-refused : goal.returns-in_err-fold_one-clause-refused
 returns-in_err-fold_one-clause-refused g c =
-    let folds = c.args.folds.now in
-    let at : slice_get folds c.loop-i.i ≡ Some c.index-folds-i.result = slice_get_read folds (length folds) c.loop-i.i c.index-folds-i.result refl c.loop-i-test.true c.index-folds-i.is in
-    on_err _ c.from_residual.result (λ t₀ root f₀ s. folding_broken _ g.D.ConstFoldInterface.outcome c.args.ctx.now.tree folds c.loop-i.i c.loop-i.status c.loop-i.ctx.tree c.loop-i.invariant c.index-folds-i.result at c.fold_one.new.ctx.tree c.in_err-fold_one.ensures.refused t₀ root f₀ s)
+    on_err _ c.from_residual.result (λ t₀ root f₀ s. folding_broken _ g.D.ConstFoldInterface.outcome c.args.ctx.now.tree c.args.folds.now c.loop-i.i c.loop-i.status c.loop-i.ctx.tree c.loop-i.invariant c.fold_one.new.ctx.tree c.in_err-fold_one.ensures.refused t₀ root f₀ s)

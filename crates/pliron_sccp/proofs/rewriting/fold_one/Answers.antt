@@ -1,8 +1,7 @@
 use Rattle.std.proofs.Common.{◌∙◌, ap, subst, length, Some, None}
-use Rattle.std.specs.Result.{OnErr}
-use Rattle.std.proofs.lemmas.Result.{IfOk-weaker}
+use Rattle.std.proofs.lemmas.Result.{IfOk-weaker, on_err_weaker}
 use Rattle.pliron_theory.proofs.FollowedFacts.{constants_plain}
-use Rattle.pliron_sccp.proofs.StepLemmas.{step_live, step_placed, step_folds, step_entries, step_told, step_stays, step_follows, either}
+use Rattle.pliron_sccp.proofs.StepLemmas.{step_live, step_placed, step_folds, step_entries, step_told, step_refused, step_stays, step_follows, either}
 use Rattle.pliron_sccp.proofs.rewriting.fold_one.Goals as goal
 
 pub fold_in_place-done-requires-clause-live : goal.fold_in_place-done-requires-clause-live
@@ -48,7 +47,9 @@ returns-clause-stays g c =
 
 pub returns-clause-refused : goal.returns-clause-refused
 returns-clause-refused g c =
+    let s = c.requires.step in
+    let d = g.met.D.Dialect in
     let t = c.args.ctx.now.tree in
     let u = c.fold_in_place-done.new.ctx.tree in
     let outcome = g.D.ConstFoldInterface.outcome in
-    subst (λ z. OnErr c.fold_in_place-done.result (outcome t u c.args.fold.now.op z None)) c.deref.ensures.value c.fold_in_place-done.ensures.refused
+    on_err_weaker c.fold_in_place-done.result (λ is. step_refused _ s.0 s.1 s.2 t c.args.fold.now.op _ s.3 _ _ outcome _ d.folds_in_place u (subst (λ z. outcome t u c.args.fold.now.op z None) c.deref.ensures.value is)) c.fold_in_place-done.ensures.refused
