@@ -1,9 +1,17 @@
-use Rattle.std.proofs.Common.{◌-◌, ◌<◌, length, map, ap, ◌∙◌, sym, arith}
+use Rattle.std.proofs.Common.{◌-◌, ◌<◌, length, map, ap, ◌∙◌, sym, subst, arith}
 use Rattle.std.specs.List.{slice_get}
 use Rattle.std.proofs.lemmas.List.{length-map}
-use Rattle.pliron_core.specs.Places.{ranked_use}
+use Rattle.pliron_core.specs.Places.{ranked_use, AreLinked}
 use Rattle.pliron_core.proofs.MoveLemmas.{reads, put_back, linked-moved, gaps-moved, targets-moved, reword}
 use Rattle.pliron_core.proofs.uses.Uses.replace.Goals as goal
+
+pub invariant_of-self : goal.invariant_of-self
+invariant_of-self c =
+    let r = rw (← c.self.view_is) at c.requires in
+    let long = length-map c.self.inside.uses.items (map (ranked_use c.self.inside.places.items)) in
+    let ho : c.args.old < length c.self.inside.uses.items = omega (arith, r.old, long) in
+    let hn : c.args.new < length c.self.inside.uses.items = omega (arith, r.new, long) in
+    subst (AreLinked c.self.inside.places.items c.self.inside.gaps.items) (sym (put_back _ _ _ _ _ _ _ _ ho hn r.differ c.index_mut.ensures.value c.replace-moved.ensures.value c.index_mut-2.ensures.value c.in-Err.ensures.err)) c.self.invariant
 
 pub returns-in-Err-clause-err : goal.returns-in-Err-clause-err
 returns-in-Err-clause-err c =
@@ -12,6 +20,18 @@ returns-in-Err-clause-err c =
     let ho : c.args.old < length c.self.inside.uses.items = omega (arith, r.old, long) in
     let hn : c.args.new < length c.self.inside.uses.items = omega (arith, r.new, long) in
     rw (put_back _ _ _ _ _ _ _ _ ho hn r.differ c.index_mut.ensures.value c.replace-moved.ensures.value c.index_mut-2.ensures.value c.in-Err.ensures.err) c.self.view_is
+
+pub overflow_sub-first : goal.overflow_sub-first
+overflow_sub-first c =
+    let r = rw (← c.self.view_is) at c.requires in
+    let long = length-map c.self.inside.uses.items (map (ranked_use c.self.inside.places.items)) in
+    let ho : c.args.old < length c.self.inside.uses.items = omega (arith, r.old, long) in
+    let hn : c.args.new < length c.self.inside.uses.items = omega (arith, r.new, long) in
+    let q = reads _ _ _ _ _ _ _ _ _ ho hn r.differ c.index_mut.ensures.value c.replace-moved.ensures.value (c.replace-moved.ensures.after ∙ c.new.ensures) c.index_mut-2.ensures.value c.in_default.ensures.ok c.index-2.ensures in
+    let fits = q.fits in
+    let end = c.len-end.ensures in
+    let len = c.len.ensures in
+    omega (arith, fits, end, len)
 
 pub retarget-requires-clause-listed : goal.retarget-requires-clause-listed
 retarget-requires-clause-listed c k u e =
