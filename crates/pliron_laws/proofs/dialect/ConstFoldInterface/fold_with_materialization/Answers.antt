@@ -31,13 +31,3 @@ pub erase_all-requires : goal.erase_all-requires
 erase_all-requires g c =
     let r = c.in-Err.ensures.refused in
     (c.args.op, c.args.ctx.now.tree, r.0, r.1, r.2)
-
-pub returns-in-Err-clause-refused : goal.returns-in-Err-clause-refused
-returns-in-Err-clause-refused g c =
-    let r = c.in-Err.ensures.refused in
-    (c.erase_all.ensures.restored c.args.op c.args.ctx.now.tree r.0 r.1 r.2).same
-
-pub returns-in-Err-clause-longer : goal.returns-in-Err-clause-longer
-returns-in-Err-clause-longer g c =
-    let r = c.in-Err.ensures.refused in
-    (c.erase_all.ensures.restored c.args.op c.args.ctx.now.tree r.0 r.1 r.2).longer
