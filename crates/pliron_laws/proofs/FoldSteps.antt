@@ -7,7 +7,7 @@ use Rattle.pliron_core.specs.declared.attrs.IRStatus.{IRStatus}
 use Rattle.pliron_core.specs.declared.attrs.IRStatus.TheVariants.{Changed, Unchanged}
 use Rattle.pliron_core.specs.declared.rewriter.OpInsertionPoint.{OpInsertionPoint}
 use Rattle.pliron_core.specs.declared.rewriter.OpInsertionPoint.TheVariants.{BeforeOperation}
-use Rattle.pliron_core.specs.Tree.{Tree, IsLive, IsDefined, no_entry, head_of, results_of, parent_of}
+use Rattle.pliron_core.specs.Tree.{Tree, IsDefined, no_entry, head_of, results_of, parent_of}
 use Rattle.pliron_core.specs.Writes.{created, put_next_to}
 use Rattle.pliron_core.specs.Insertion.{inserted}
 use Rattle.pliron_core.specs.Joined.{IsTree}

@@ -1,4 +1,4 @@
-use Rattle.std.proofs.Common.{◌≡◌, ◌++◌, ◌∷◌, [], ap, ◌∙◌}
+use Rattle.std.proofs.Common.{◌++◌, ◌∷◌, [], ap, ◌∙◌}
 use Rattle.pliron_laws.proofs.ConstantLemmas.{made_live, made_result}
 use Rattle.pliron_laws.proofs.StandInLemmas.{stand_in_is}
 use Rattle.pliron_laws.proofs.stand_ins.stand_in.Goals as goal

@@ -1,4 +1,4 @@
-use Rattle.std.proofs.Common.{◌<◌, length, map, ap, ◌∙◌, sym, subst, arith}
+use Rattle.std.proofs.Common.{◌<◌, length, map, ap, ◌∙◌, sym, arith}
 use Rattle.std.specs.List.{slice_get}
 use Rattle.std.proofs.lemmas.List.{length-map}
 use Rattle.pliron_core.specs.Places.{ranked_use}

@@ -1,4 +1,4 @@
-use Rattle.std.proofs.Common.{◌≡◌, ◌≤◌, length, sym, ap, subst, arith}
+use Rattle.std.proofs.Common.{length, sym, ap, subst, arith}
 use Rattle.pliron_core.proofs.SameTreeLemmas.{same_refl}
 use Rattle.pliron_laws.specs.StandIns.{AreUnused}
 use Rattle.pliron_laws.proofs.StandInLemmas.{standing_unused, standing_long, replaced_long}
