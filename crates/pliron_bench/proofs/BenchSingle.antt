@@ -23,7 +23,7 @@ use Rattle.pliron_bench.specs.BenchOutcomes.{kind_in, fold_of, bench_outcome, ed
 -- ---- constants
 
 -- the tree with a constant put for each result that is answered by an attribute which is accepted
-put_all : (accepts : AttrObj → Bool) (head : AttrObj → Head) (op : ℕ) → List ℕ → List (Option AttrObj) → Tree → Tree
+pub put_all : (accepts : AttrObj → Bool) (head : AttrObj → Head) (op : ℕ) → List ℕ → List (Option AttrObj) → Tree → Tree
 put_all accepts head op [] answers t = t
 put_all accepts head op (v ∷ vs) [] t = t
 put_all accepts head op (v ∷ vs) (None ∷ answers) t = put_all accepts head op vs answers t
@@ -35,7 +35,7 @@ module _ (accepts : AttrObj → Bool) (head : AttrObj → Head) (op : ℕ) where
   put_none [] t = refl
   put_none (v ∷ vs) t = refl
 
-  put_is : (vs : List ℕ) (answers : List (Option AttrObj)) (t u : Tree) → Materialises accepts head op vs answers t u → u ≡ put_all accepts head op vs answers t
+  pub put_is : (vs : List ℕ) (answers : List (Option AttrObj)) (t u : Tree) → Materialises accepts head op vs answers t u → u ≡ put_all accepts head op vs answers t
   unfolding put_all
   put_is vs answers t u Finished = refl
   put_is vs answers t u Unanswered = put_none _ _

@@ -1,11 +1,14 @@
 //! An operation with two answered results, and what is left of its fold where memory is refused.
-ghost use Rattle.std.specs.Prelude.{◌≡◌, ◌∷◌, [], Some, Ok, pos};
-ghost use Rattle.pliron_core.specs.Tree.{IsLive};
+ghost use Rattle.std.specs.Prelude.{◌≡◌, ◌∷◌, [], ℕ, Some, Ok, OnOk, OnErr, IsOkUnless, IsSome, length, pos};
+ghost use Rattle.pliron_core.specs.Tree.{IsLive, operands_of, results_of, parent_of};
+ghost use Rattle.pliron_core.specs.Changes.{IsSameTree};
 ghost use Rattle.pliron_core.specs.declared.attrs.AttrObj.TheVariants.{Int};
 ghost use Rattle.pliron_bench.specs.declared.kind.BenchKind.TheVariants.{Pair};
 ghost use Rattle.pliron_bench.specs.BenchMoves.{bench};
 ghost use Rattle.pliron_bench.specs.BenchAnswers.{bench_accepts, bench_constant_head, is_of_bench_kind};
+ghost use Rattle.pliron_laws.specs.Answers.{HeadPasses};
 ghost use Rattle.pliron_laws.specs.InPlace.{materialising};
+ghost use Rattle.pliron_refusals.specs.Pairs.{both_put};
 
 use crate::seen::Seen;
 use pliron_bench::{Bench, BenchKind};
@@ -79,6 +82,30 @@ static BEFORE: &str = "func { b0(): v0, v1 = pair; sink v0 v1 v0 v1 v1; print v0
 static AFTER: &str =
     "func { b0(): v0 = const 1; v1 = const 2; v2, v3 = pair; sink v0 v1 v0 v1 v1; print v0; ret v1 v0 }";
 
+/// Folds a pair where it stands: constants are put for both results or, where memory is refused, for none.
+///
+/// Asks that it stands in a block, is a pair, and has no operands and two results. Errors: want of memory,
+/// after which the tree is as before, but for spent keys. Cost: the number of uses of its results.
+fn fold_pair(
+    alloc: Global,
+    pair: Ptr<Operation>,
+    ctx: &mut Context,
+) -> Result<IRStatus, OptError>
+    requires live { IsLive ctx.old.tree pair }
+    requires placed { IsSome (parent_of ctx.old.tree pair) }
+    requires folds { HeadPasses (λ h. is_of_bench_kind h Pair) ctx.old.tree pair }
+    requires operands { length (operands_of ctx.old.tree pair) ≡ 0 }
+    requires results { length (results_of ctx.old.tree pair) ≡ 2 }
+    ensures both { OnOk result ((first : ℕ) × (second : ℕ) × (results_of ctx.old.tree pair ≡ first ∷ second ∷ []) × (ctx.new.tree ≡
+        both_put ctx.old.tree pair first second)) }
+    ensures none { OnErr result (IsSameTree ctx.old.tree ctx.new.tree) }
+    ensures memory { IsOkUnless result OptError.Memory }
+{
+    let mut rewriter = IRRewriter::new();
+    rewriter.set_insertion_point_before_operation(pair);
+    Pairs::fold_in_place(alloc, pair, ctx, &[], &mut rewriter)
+}
+
 /// Folds the first operation inside the root, if it is a pair in a block.
 fn fold_first(
     alloc: Global,
@@ -88,13 +115,11 @@ fn fold_first(
     requires { IsLive ctx.old.tree root }
 {
     let pair = root.next_in_preorder(root, ctx)?;
-    if !Pairs::folds(pair, ctx) || pair.num_operand(ctx) != 0 {
+    if !Pairs::folds(pair, ctx) || pair.num_operand(ctx) != 0 || pair.num_result(ctx) != 2 {
         return None;
     }
     pair.get_parent_block(ctx)?;
-    let mut rewriter = IRRewriter::new();
-    rewriter.set_insertion_point_before_operation(pair);
-    Some(Pairs::fold_in_place(alloc, pair, ctx, &[], &mut rewriter))
+    Some(fold_pair(alloc, pair, ctx))
 }
 
 fn checked_in(alloc: Global, ctx: &mut Context) -> Result<Seen, OptError> {
