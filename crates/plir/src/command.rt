@@ -79,7 +79,7 @@ fn compare<'a>(alloc: Global) -> Result<Arg<'a>, AllocError> {
         .long("compare")
         .value_name("PIPELINE")
         .help(
-            "Run it again after these passes, as `plir opt` takes them, and say whether the same is seen",
+            "Run it again after these passes, written as for `plir opt`, and say whether the same is seen",
         )
         .conflicts_with("trace")
 }
@@ -87,22 +87,24 @@ fn compare<'a>(alloc: Global) -> Result<Arg<'a>, AllocError> {
 /// The names of the passes.
 static PASSES: [&str; 3] = ["sccp", "dce", "simplify-cfg"];
 
-/// What `PIPELINE` may be, and the statuses of `opt`.
-static OPT_WORDS: &str = "\
-PIPELINE is a list of passes joined by commas: `sccp` (constant propagation), `dce`
-(dead code elimination) and `simplify-cfg` (simplification of control flow).
-`nested(LIST)` runs it on each operation directly inside, and `repeat<N>(..)` again
-and again until nothing changes, at most N times, from 1 to 64. `nested:LIST` and
-`repeat:N:..` say the same, as for `plir_opt`.
-
+/// The statuses of `opt`.
+static OPT_STATUSES: &str = "\
 Statuses: 0 where the answer is written; 1 where memory or the passes were refused;
 2 for words, files and texts that can't be used; 3 where verifying found a fault.";
+
+/// What `PIPELINE` may be.
+static PIPELINE: &str = "\
+The passes, joined by commas: `sccp` (constant propagation), `dce` (dead code
+elimination) and `simplify-cfg` (simplification of control flow). `nested(LIST)` runs
+them on each operation directly inside, and `repeat<N>(..)` again and again until
+nothing changes, at most N times, from 1 to 64: `repeat<8>(nested(sccp,dce))`.
+`nested:LIST` and `repeat:N:..` say the same, as for `plir_opt`";
 
 fn pipeline<'a>(alloc: Global) -> Arg<'a> {
     Arg::new(alloc, "pipeline")
         .value_name("PIPELINE")
         .required(true)
-        .help("The passes, as `sccp,dce` or `repeat<8>(nested(sccp,simplify-cfg))`")
+        .help(PIPELINE)
 }
 
 fn print_after<'a>(alloc: Global) -> Arg<'a> {
@@ -145,7 +147,7 @@ fn with_reports<'a>(command: Command<'a>, alloc: Global) -> Result<Command<'a>, 
 fn opt<'a>(alloc: Global) -> Result<Command<'a>, AllocError> {
     let opt = Command::new(alloc, "opt")
         .about("Runs passes on a text, and writes the text that they leave")
-        .after_help(OPT_WORDS)
+        .after_help(OPT_STATUSES)
         .arg(pipeline(alloc))?
         .arg(file(alloc))?
         .arg(output(alloc))?
@@ -216,14 +218,7 @@ fn explain<'a>(alloc: Global) -> Result<Command<'a>, AllocError> {
                 .required(true)
                 .help("The text; standard input, where it is `-`"),
         )?
-        .arg(
-            Arg::new(alloc, "passes")
-                .value_name("PIPELINE")
-                .required(true)
-                .help(
-                    "The passes, as `plir_opt` takes them: `sccp,dce`, `repeat:8:nested:sccp,dce,simplify-cfg`",
-                ),
-        )?
+        .arg(pipeline(alloc))?
         .arg(output(alloc))
 }
 

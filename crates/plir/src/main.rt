@@ -134,7 +134,7 @@ fn outcome(rt: &HostRuntime, command: &str, matches: &ArgMatches) -> io::Result<
         "opt" => opt_wished(rt, &source, matches),
         "dot" => draw_wished(alloc, &source, matches),
         "graph" => Ok(draw_graph(alloc, &source)?),
-        "explain" => Ok(explain(alloc, &source, matches.get_str("passes").unwrap_or(""))?),
+        "explain" => Ok(explain(alloc, &source, matches.get_str("pipeline").unwrap_or(""))?),
         _ => run_wished(alloc, &source, matches),
     }
 }

@@ -15,7 +15,7 @@ mod running;
 pub use checking::check;
 pub use comparing::{CompareWish, compare};
 pub use failure::Failure;
-pub use optimising::{OptWish, opt};
+pub use optimising::{OptWish, misspelt, opt};
 pub use outcome::Outcome;
 pub use pliron_show::{RunWish, Source};
 pub use pliron_watch::Wish;

@@ -48,7 +48,7 @@ impl Notes {
         ctx: &Context,
         state: &State,
     ) -> Result<(), AllocError> {
-        self.last = state.rest.first().copied();
+        self.last = state.rest.front().copied();
         match self.last {
             Some(op) if self.keeps_moves && op.is_live(ctx) => {
                 let input = input_of(alloc, ctx, state, op)?;
