@@ -9,11 +9,12 @@ use clap::ArgMatches;
 use command::parsed;
 use pliron_draw::{FlowWish, draw_flow, draw_graph, explain};
 use pliron_people::{
-    CompareWish, OptWish, Outcome, RunWish, Source, Wish, check, compare, opt, run,
+    CompareWish, OptWish, Outcome, Progress, RunWish, Source, Wish, check, compare, opt, run,
 };
 use std::alloc::Global;
 use std::io::{self, IsTerminal, Read, Write};
 use std::process::ExitCode;
+use std::time::{Clock, Duration};
 use std::{env, fs};
 
 /// The text of the file, or of standard input where it is called `-`.
@@ -81,6 +82,38 @@ fn words<'a>(alloc: Global, matches: &ArgMatches<'a>, id: &str) -> io::Result<Ve
     Ok(words)
 }
 
+/// The clock of the process, which shows on standard error what ended, once a command takes more than a second.
+#[derive(Clone, Copy, Drop)]
+struct Terminal<'r> {
+    rt: &'r HostRuntime,
+    /// When the command began.
+    start: Duration,
+}
+
+impl Clock for Terminal<'_> {
+    fn monotonic(&self) -> io::Result<Duration> {
+        self.rt.monotonic()
+    }
+
+    fn since_1970(&self) -> io::Result<Duration> {
+        self.rt.since_1970()
+    }
+}
+
+impl Progress for Terminal<'_> {
+    fn pass_ended(&self, number: usize, name: &str) {
+        let Ok(now) = self.rt.monotonic() else {
+            return;
+        };
+        let spent = now.saturating_sub(self.start);
+        if spent >= Duration::from_secs(1) {
+            let run = number.saturating_add(1);
+            let seconds = spent.as_secs();
+            let _ = eprintln!(self.rt; "after {seconds} s: run {run}, {name}");
+        }
+    }
+}
+
 /// Runs the passes that the words ask for on the text.
 fn opt_wished(rt: &HostRuntime, source: &Source, matches: &ArgMatches) -> io::Result<Outcome> {
     let prints = words(rt.alloc(), matches, "print-after")?;
@@ -95,7 +128,9 @@ fn opt_wished(rt: &HostRuntime, source: &Source, matches: &ArgMatches) -> io::Re
         },
         times: matches.get_flag("time"),
     };
-    Ok(opt(rt.alloc(), source, &wish, rt)?)
+    let start = rt.monotonic().unwrap_or(Duration::ZERO);
+    let terminal = Terminal { rt, start };
+    Ok(opt(rt.alloc(), source, &wish, terminal)?)
 }
 
 /// The outcome of a command whose input can't be read: its name is told, and why.

@@ -18,5 +18,5 @@ pub use failure::Failure;
 pub use optimising::{OptWish, misspelt, opt};
 pub use outcome::Outcome;
 pub use pliron_show::{RunWish, Source};
-pub use pliron_watch::Wish;
+pub use pliron_watch::{Progress, Wish};
 pub use running::run;

@@ -14,10 +14,9 @@ use pliron_opts::{BenchNotation, Notation};
 use pliron_pass::{BenchFactKind, Pass};
 use pliron_show::{Mark, Source, marked, pretty};
 use pliron_watch::{
-    Plan, PlanError, Watched, WatchedSchedule, Wish, WordFault, optimise, scheduled, watched_passes,
+    Plan, PlanError, Progress, Watched, WatchedSchedule, Wish, WordFault, optimise, scheduled, watched_passes,
 };
 use std::alloc::{AllocError, Global};
-use std::time::Clock;
 
 /// What is wished of passes.
 #[derive(Clone, Copy)]
@@ -80,12 +79,12 @@ fn laid_out(alloc: Global, printed: String, is_pretty: bool) -> Result<Vec<u8>, 
 }
 
 /// Whether something is missing in what was noted.
-fn is_short<N: Notation, C: Clock + Drop>(passes: &[Watched<N, C>]) -> bool {
+fn is_short<N: Notation, C: Progress + Drop>(passes: &[Watched<N, C>]) -> bool {
     passes.iter().any(|pass| pass.diary().is_short)
 }
 
 /// Whether verifying found something.
-fn has_fault<N: Notation, C: Clock + Drop>(passes: &[Watched<N, C>]) -> bool {
+fn has_fault<N: Notation, C: Progress + Drop>(passes: &[Watched<N, C>]) -> bool {
     passes.iter().any(|pass| pass.diary().notes.iter().any(|note| note.fault.is_some()))
 }
 
@@ -100,7 +99,7 @@ fn wanted(wish: &OptWish) -> Wanted {
 }
 
 /// The outcome where memory or the passes were refused: what was noted, why, and in which pass.
-fn refused<N: Notation, C: Clock + Drop>(
+fn refused<N: Notation, C: Progress + Drop>(
     alloc: Global,
     mut report: String,
     source: &Source,
@@ -121,7 +120,7 @@ fn refused<N: Notation, C: Clock + Drop>(
 
 /// What these passes make of the text.
 #[tactic(auto, using(crate::proofs::PeopleLemmas::is_made))]
-fn opt_with<N: Notation, C: Clock + Copy + Drop>(
+fn opt_with<N: Notation, C: Progress + Copy + Drop>(
     alloc: Global,
     source: &Source,
     wish: &OptWish,
@@ -152,7 +151,7 @@ fn opt_with<N: Notation, C: Clock + Copy + Drop>(
 
 /// What the passes that the plan asks for make of the text.
 #[tactic(auto, using(crate::proofs::PeopleLemmas::is_planned_made))]
-fn opt_by<N: Notation, C: Clock + Copy + Drop>(
+fn opt_by<N: Notation, C: Progress + Copy + Drop>(
     alloc: Global,
     source: &Source,
     wish: &OptWish,
@@ -175,7 +174,7 @@ fn opt_by<N: Notation, C: Clock + Copy + Drop>(
 /// 3 where verifying found something. With all but 0 nothing is to be written to the output. Errors: want of memory for
 /// what is told. Cost: reading, the passes, what is looked at, and printing.
 #[tactic(auto, using(crate::proofs::PeopleLemmas::is_made_by))]
-pub fn opt<C: Clock + Copy + Drop>(
+pub fn opt<C: Progress + Copy + Drop>(
     alloc: Global,
     source: &Source,
     wish: &OptWish,

@@ -2,9 +2,8 @@
 use pliron_core::IRStatus;
 use pliron_opts::Notation;
 use pliron_show::pretty;
-use pliron_watch::{Note, Row, Watched};
+use pliron_watch::{Note, Progress, Row, Watched};
 use std::alloc::{AllocError, Global};
-use std::time::Clock;
 
 /// What is told of the runs of passes.
 #[derive(Clone, Copy)]
@@ -26,7 +25,7 @@ struct Named<'n> {
 }
 
 /// The notes of all passes, in the order of the runs.
-fn notes_in_order<'s, N: Notation, C: Clock + Drop>(
+fn notes_in_order<'s, N: Notation, C: Progress + Drop>(
     alloc: Global,
     passes: &'s [Watched<N, C>],
 ) -> Result<Vec<Named<'s>>, AllocError> {
@@ -144,7 +143,7 @@ round  pass           runs changed         operations             blocks        
 ";
 
 /// How often the passes went over their operations.
-fn rounds<N: Notation, C: Clock + Drop>(passes: &[Watched<N, C>]) -> usize {
+fn rounds<N: Notation, C: Progress + Drop>(passes: &[Watched<N, C>]) -> usize {
     match passes.first() {
         Some(pass) => pass.diary().rows.len(),
         None => 0,
@@ -152,7 +151,7 @@ fn rounds<N: Notation, C: Clock + Drop>(passes: &[Watched<N, C>]) -> usize {
 }
 
 /// Writes the counts before and after each pass, round by round.
-fn write_counts<N: Notation, C: Clock + Drop>(
+fn write_counts<N: Notation, C: Progress + Drop>(
     alloc: Global,
     report: &mut String,
     passes: &[Watched<N, C>],
@@ -201,7 +200,7 @@ fn write_time(
 }
 
 /// Writes the time of each pass, with its share of the time of all.
-fn write_times<N: Notation, C: Clock + Drop>(
+fn write_times<N: Notation, C: Progress + Drop>(
     report: &mut String,
     passes: &[Watched<N, C>],
 ) -> Result<(), AllocError> {
@@ -224,7 +223,7 @@ fn write_times<N: Notation, C: Clock + Drop>(
 }
 
 /// Writes which pass was refused, if one was. Errors: want of memory. Cost: linear in the passes.
-pub fn write_refused<N: Notation, C: Clock + Drop>(
+pub fn write_refused<N: Notation, C: Progress + Drop>(
     report: &mut String,
     passes: &[Watched<N, C>],
 ) -> Result<(), AllocError> {
@@ -239,7 +238,7 @@ pub fn write_refused<N: Notation, C: Clock + Drop>(
 /// What is told of the runs of the passes: trees as they were printed, what verifying found, counts and times.
 ///
 /// Errors: want of memory. Cost: n log n for n runs of which something is noted, and linear in what is told.
-pub fn report_of<N: Notation, C: Clock + Drop>(
+pub fn report_of<N: Notation, C: Progress + Drop>(
     alloc: Global,
     passes: &[Watched<N, C>],
     wanted: &Wanted,

@@ -1,7 +1,7 @@
 //! What `plir opt` tells beside its answer, worked by hand. `|` stands for the end of a line.
 use crate::lines::in_one_line;
 use crate::optimised::{plain, watched};
-use pliron_people::{OptWish, Outcome, Source, opt};
+use pliron_people::{OptWish, Outcome, Progress, Source, opt};
 use std::alloc::Global;
 use std::io;
 use std::process::Abort;
@@ -19,6 +19,10 @@ impl Clock for Broken {
     fn since_1970(&self) -> io::Result<Duration> {
         Err(io::Error::from(io::ErrorKind::Other))
     }
+}
+
+impl Progress for Broken {
+    fn pass_ended(&self, _: usize, _: &str) {}
 }
 
 /// What is told of the passes on the text.

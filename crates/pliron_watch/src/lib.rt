@@ -8,14 +8,14 @@ mod diary;
 mod honest;
 mod optimised;
 mod pipeline_words;
+mod progress;
 mod schedule;
-mod timeless;
 mod watched;
 
 pub use counts::Counts;
 pub use diary::{Diary, Note, Row};
 pub use optimised::{Optimised, optimise, run_watched};
 pub use pipeline_words::{Plan, PlanError, WordFault};
+pub use progress::{Progress, Timeless};
 pub use schedule::{WatchedPipeline, WatchedSchedule, Wish, scheduled, watched_passes};
-pub use timeless::Timeless;
 pub use watched::{Watch, Watched};

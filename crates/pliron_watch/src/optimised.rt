@@ -10,6 +10,7 @@ ghost use Rattle.pliron_opts.specs.Answered.{IsOptimised, status_line};
 ghost use Rattle.pliron_opts.specs.Ran.{RunsAlone};
 
 use crate::honest::schedules_are_honest;
+use crate::progress::Progress;
 use crate::schedule::WatchedSchedule;
 use pliron_core::{Context, IRStatus, Operation, Ptr};
 use pliron_laws::OptError;
@@ -17,7 +18,6 @@ use pliron_opts::Notation;
 use pliron_pass::{AnalysisManager, BenchFactKind, Pass};
 use pliron_pipeline::run_pipeline;
 use std::alloc::Global;
-use std::time::Clock;
 
 /// What passes made of a text: their tree printed, and whether it changed.
 #[derive(Drop)]
@@ -30,7 +30,7 @@ pub struct Optimised {
 ///
 /// Asks that the operation stands and is well linked. Errors: those of the passes; want of memory, after some whole
 /// rewrites. Cost: that of the passes, and of what is looked at.
-pub fn run_watched<N: Notation, C: Clock + Drop>(
+pub fn run_watched<N: Notation, C: Progress + Drop>(
     alloc: Global,
     schedule: &mut WatchedSchedule<N, C>,
     root: Ptr<Operation>,
@@ -54,7 +54,7 @@ pub fn run_watched<N: Notation, C: Clock + Drop>(
 /// What the passes make of the text, printed, and whether it changed; `None` for a text outside the notation.
 ///
 /// Errors: those of the passes and of the notation. Cost: reading, the passes, what is looked at, and printing.
-pub fn optimise<N: Notation, C: Clock + Drop>(
+pub fn optimise<N: Notation, C: Progress + Drop>(
     alloc: Global,
     schedule: &mut WatchedSchedule<N, C>,
     text: &[u8],
@@ -68,7 +68,7 @@ pub fn optimise<N: Notation, C: Clock + Drop>(
 }
 
 /// The same in this context, which is empty.
-fn optimise_in<N: Notation, C: Clock + Drop>(
+fn optimise_in<N: Notation, C: Progress + Drop>(
     alloc: Global,
     schedule: &mut WatchedSchedule<N, C>,
     text: &[u8],

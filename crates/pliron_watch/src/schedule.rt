@@ -3,12 +3,12 @@ ghost use Rattle.std.specs.Prelude.{◌≡◌, map, IfOk, IfSome};
 ghost use Rattle.pliron_watch.specs.Schedules.{IsPlanned, is_for_each, listed, passes_of, pipeline_of, runs_of};
 
 use crate::pipeline_words::Plan;
+use crate::progress::Progress;
 use crate::watched::{Watch, Watched};
 use pliron_opts::Notation;
 use pliron_pass::{Either, NestedOpsPass, Pass, Passes, Repeat};
 use pliron_pipeline::Step;
 use std::alloc::{AllocError, Global};
-use std::time::Clock;
 
 /// A list of watched passes that is run on an operation itself (`Left`), or on each operation directly inside it.
 pub type WatchedPipeline<N, C> = Either<
@@ -44,7 +44,7 @@ impl<'w> Wish<'w> {
 }
 
 /// The watched passes of these names in turn, if each is the name of one.
-fn passes<N: Notation, C: Clock + Copy + Drop>(
+fn passes<N: Notation, C: Progress + Copy + Drop>(
     alloc: Global,
     names: &[&str],
     wish: &Wish,
@@ -66,7 +66,7 @@ fn passes<N: Notation, C: Clock + Copy + Drop>(
 }
 
 /// The same on the operation itself or on each operation directly inside it.
-fn pipeline<N: Notation, C: Clock + Copy + Drop>(
+fn pipeline<N: Notation, C: Progress + Copy + Drop>(
     nested: bool,
     passes: Passes<Watched<N, C>>,
 ) -> WatchedPipeline<N, C>
@@ -81,7 +81,7 @@ fn pipeline<N: Notation, C: Clock + Copy + Drop>(
 }
 
 /// The pipeline once, or at most so many times where a number of runs is given.
-fn schedule<N: Notation, C: Clock + Copy + Drop>(
+fn schedule<N: Notation, C: Progress + Copy + Drop>(
     runs: Option<usize>,
     pipeline: WatchedPipeline<N, C>,
 ) -> WatchedSchedule<N, C>
@@ -97,7 +97,7 @@ fn schedule<N: Notation, C: Clock + Copy + Drop>(
 /// The watched passes that the plan asks for, if each of its names is that of a pass.
 ///
 /// Errors: want of memory. Cost: linear in the plan.
-pub fn scheduled<N: Notation, C: Clock + Copy + Drop>(
+pub fn scheduled<N: Notation, C: Progress + Copy + Drop>(
     alloc: Global,
     plan: &Plan,
     wish: &Wish,
@@ -113,7 +113,7 @@ pub fn scheduled<N: Notation, C: Clock + Copy + Drop>(
 }
 
 /// The passes of the schedule in turn, as they are now. Cost: constant.
-pub fn watched_passes<N: Notation, C: Clock + Drop>(
+pub fn watched_passes<N: Notation, C: Progress + Drop>(
     schedule: &WatchedSchedule<N, C>,
 ) -> &[Watched<N, C>]
     ensures { result.now ≡ passes_of schedule.now }

@@ -5,6 +5,7 @@ ghost use Rattle.pliron_pipeline.specs.Steps.{step_name};
 
 use crate::counts::Counts;
 use crate::diary::{Diary, Note, Run};
+use crate::progress::Progress;
 use pliron_core::{Context, IRStatus, Operation, Ptr};
 use pliron_laws::OptError;
 use pliron_opts::Notation;
@@ -26,7 +27,7 @@ pub struct Watch {
 
 /// One of the passes, which notes what is seen of its runs. It does to trees and caches what the pass does.
 #[derive(Drop)]
-pub struct Watched<N: Notation, C: Clock + Drop> {
+pub struct Watched<N: Notation, C: Progress + Drop> {
     step: Step<N::D, BenchFacts>,
     watch: Watch,
     clock: C,
@@ -52,7 +53,7 @@ fn nanos<C: Clock>(clock: &C) -> u128 {
     }
 }
 
-impl<N: Notation, C: Clock + Drop> Watched<N, C> {
+impl<N: Notation, C: Progress + Drop> Watched<N, C> {
     /// The pass, of which nothing was noted. Cost: constant.
     pub fn new(alloc: Global, step: Step<N::D, BenchFacts>, watch: Watch, clock: C) -> Self
         ensures { result.step ≡ step }
@@ -126,7 +127,7 @@ impl<N: Notation, C: Clock + Drop> Watched<N, C> {
     }
 }
 
-impl<N: Notation, C: Clock + Drop> Pass for Watched<N, C> {
+impl<N: Notation, C: Progress + Drop> Pass for Watched<N, C> {
     type D = N::D;
 
     type E = BenchFacts;
@@ -168,6 +169,7 @@ impl<N: Notation, C: Clock + Drop> Pass for Watched<N, C> {
             }
             Err(error) => self.diary.refused = Some(*error),
         }
+        self.clock.pass_ended(number, self.step.name());
         answer
     }
 

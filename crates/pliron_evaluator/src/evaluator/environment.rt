@@ -1,11 +1,11 @@
 //! The data of values, and lists of which the first item is put and taken.
-ghost use Rattle.std.specs.Prelude.{◌≡◌, [], ◌∷◌, map, Some, None, if◌then◌else◌, IfOk, OnOk, MatchOption};
+ghost use Rattle.std.specs.Prelude.{◌≡◌, [], ◌∷◌, drop, map, Some, None, if◌then◌else◌, IfOk, OnOk, MatchOption};
 ghost use Rattle.std.specs.Option.{option_map};
 ghost use Rattle.pliron_laws.specs.States.{bind, bound, data_of};
 ghost use Rattle.pliron_evaluator.specs.Evaluator.{datum_of_value, environment_of, answer_of_values};
 
 use crate::evaluator::values::Datum;
-use pliron_core::Value;
+use pliron_core::{Operation, Ptr, Value};
 use std::alloc::{AllocError, Global};
 use std::collections::{HashMap, VecDeque};
 
@@ -24,6 +24,23 @@ pub(super) fn take_first<T>(items: &mut VecDeque<T>) -> Option<T>
     items.pop_front()
 }
 
+/// The first item, if there is one.
+pub(super) fn first<T>(items: &VecDeque<T>) -> Option<&T>
+    ensures { MatchOption result (items.now.items ≡ []) (λ item. items.now.items ≡ item.now ∷ drop 1 items.now.items) }
+{
+    items.front()
+}
+
+/// The first of the operations, if there is one.
+pub(super) fn first_operation(rest: &VecDeque<Ptr<Operation>>) -> Option<Ptr<Operation>>
+    ensures { MatchOption result (rest.now.items ≡ []) (λ op. rest.now.items ≡ op ∷ drop 1 rest.now.items) }
+{
+    match first(rest) {
+        Some(op) => Some(*op),
+        None => None,
+    }
+}
+
 /// Binds the value to a copy of the datum.
 fn bind_one(
     alloc: Global,
@@ -33,7 +50,8 @@ fn bind_one(
 ) -> Result<(), AllocError>
     ensures { OnOk result (environment_of environment.new ≡ bound (environment_of environment.old) value (datum_of_value datum.now)) }
 {
-    environment.insert(value, datum.copy(alloc)?)?;
+    let copy = datum.copy(alloc)?;
+    environment.insert(value, copy)?;
     Ok(())
 }
 

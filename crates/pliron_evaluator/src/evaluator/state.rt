@@ -7,7 +7,9 @@ ghost use Rattle.pliron_laws.specs.Tree.{Operation as OperationRecord, op_at, an
 ghost use Rattle.pliron_laws.specs.Machine.{start, trap, at_rest, bind, leave, given, enter, go_to, emit, entry_in, input_of, perform, turn, step};
 ghost use Rattle.pliron_evaluator.specs.Evaluator.{datum_of_value, move_of, environment_of, answer_of_values, waiting_of, state_of, next_of_value};
 
-use crate::evaluator::environment::{all_data, bind, put_first, take_first};
+use crate::evaluator::environment::{
+    all_data, bind, first, first_operation, put_first, take_first,
+};
 use crate::evaluator::values::{Datum, Evaluate, Move, Sight, all_copies, one};
 use pliron_core::{BasicBlock, Context, Operation, Ptr, Value};
 use pliron_laws::reads::{all_arguments, all_operands, all_operations, all_results};
@@ -95,7 +97,7 @@ fn give(
     )? {
         return Ok(trap(state));
     }
-    if state.waiting.is_empty() {
+    if first(&state.waiting).is_none() {
         return Ok(Next::Over(Sight::Ended(values, Vec::from(state.effects))));
     }
     state.rest.pop_front();
@@ -188,7 +190,7 @@ fn go_to(
     ensures { IfOk result (λ next. next_of_value next ≡ go_to ctx.now.tree (state_of state) (slice_get (successors_of ctx.now.tree op) i)
         (map datum_of_value values.items) (map waiting_of state.waiting.items)) }
 {
-    if state.waiting.is_empty() {
+    if first(&state.waiting).is_none() {
         return Ok(trap(state));
     }
     enter(alloc, ctx, state, successor(ctx, op, i), values)
@@ -283,7 +285,7 @@ pub(super) fn step<D: Evaluate>(
 ) -> Result<Next, AllocError>
     ensures { IfOk result (λ after. next_of_value after ≡ step D.meaning ctx.now.tree (state_of state)) }
 {
-    match state.rest.front().copied() {
+    match first_operation(&state.rest) {
         Some(op) => turn::<D>(alloc, ctx, state, op),
         None => Ok(leave(state, Vec::new(alloc))),
     }
