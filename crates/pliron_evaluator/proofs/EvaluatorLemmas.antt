@@ -1,5 +1,5 @@
 -- What the lists of the evaluator stand for.
-use Rattle.std.proofs.Common.{◌≡◌, ◌≢◌, ℕ, suc, ◌<◌, ◌≤◌, ◌+◌, ◌-◌, if◌then◌else◌, cond, Bool, true, false, ◌&&◌, nat_eq, List, [], ◌∷◌, ◌++◌, length, get_or, take, drop, map, Option, Some, None, refl, sym, ap, ◌∙◌, arith, append_assoc}
+use Rattle.std.proofs.Common.{◌≡◌, ◌≢◌, ℕ, suc, ◌<◌, ◌≤◌, ◌+◌, ◌-◌, if◌then◌else◌, cond, Bool, true, false, nat_eq, List, [], ◌∷◌, ◌++◌, length, get_or, take, drop, map, Option, Some, None, refl, sym, ap, ◌∙◌, arith, append_assoc}
 use Rattle.std.proofs.lemmas.List.{drop_more, take_more, map-append, length-map, drop_all, drop-drop, append-nil}
 use Rattle.std.specs.HashMap.{HashMap, get, Updates}
 use Rattle.std.specs.Map.{lookup}
@@ -8,7 +8,7 @@ use Rattle.pliron_laws.specs.Datum.{Datum, Empty}
 use Rattle.pliron_laws.specs.States.{Environment, bound, bind, prepended, data_of}
 use Rattle.pliron_evaluator.specs.declared.evaluator.values.Datum.{Datum as DatumValue}
 use Rattle.pliron_evaluator.specs.Tiny.{first_datum, fitted_or_empty}
-use Rattle.pliron_evaluator.specs.Evaluator.{datum_of_value, environment_of, is_one_value}
+use Rattle.pliron_evaluator.specs.Evaluator.{datum_of_value, environment_of}
 
 -- at a place of a list
 pub drop_at : {X : Type 0} (xs : List X) (i : ℕ) (x : X) → i < length xs → x ≡ get_or xs i x → drop i xs ≡ x ∷ drop (i + 1) xs
@@ -20,19 +20,19 @@ take_at xs i x lt e = take_more xs i x lt ∙ ap (λ z. take i xs ++ z ∷ []) (
 same_question : (v w : ℕ) → nat_eq v w ≡ nat_eq w v
 same_question v w = grind arith
 
-chosen : (b c : Bool) (d : DatumValue) (o : Option DatumValue) → b ≡ c → option_map datum_of_value (cond (b && true) (Some d) o) ≡ (if c then Some (datum_of_value d) else option_map datum_of_value o)
+chosen : (b c : Bool) (d : DatumValue) (o : Option DatumValue) → b ≡ c → option_map datum_of_value (cond b (Some d) o) ≡ (if c then Some (datum_of_value d) else option_map datum_of_value o)
 chosen true c d o e = ap (λ z. if z then Some (datum_of_value d) else option_map datum_of_value o) e
 chosen false c d o e = ap (λ z. if z then Some (datum_of_value d) else option_map datum_of_value o) e
 
 -- what is put into the map is bound
-pub bound_so : {S : Type 0} (m n : HashMap ℕ DatumValue S) (v : ℕ) (d x : DatumValue) → datum_of_value d ≡ datum_of_value x → Updates is_one_value m n v (Some d) → environment_of n ≡ bound (environment_of m) v (datum_of_value x)
+pub bound_so : {S : Type 0} (m n : HashMap ℕ DatumValue S) (v : ℕ) (d x : DatumValue) → datum_of_value d ≡ datum_of_value x → Updates nat_eq m n v (Some d) → environment_of n ≡ bound (environment_of m) v (datum_of_value x)
 unfolding bound
 bound_so m n v d x copied updates =
-    let each : (w : ℕ) → environment_of n w ≡ bound (environment_of m) v (datum_of_value d) w = λ w. ap (option_map datum_of_value) (updates.0 w) ∙ chosen (nat_eq v w) (nat_eq w v) d (get is_one_value m w) (same_question v w) in
+    let each : (w : ℕ) → environment_of n w ≡ bound (environment_of m) v (datum_of_value d) w = λ w. ap (option_map datum_of_value) (updates.0 w) ∙ chosen (nat_eq v w) (nat_eq w v) d (get nat_eq m w) (same_question v w) in
     (λ i w. each w i) ∙ ap (bound (environment_of m) v) copied
 
 pub nothing_bound : {S : Type 0} (m : HashMap ℕ DatumValue S) → m.entries ≡ [] → environment_of m ≡ (λ v. None)
-nothing_bound m e = λ i v. option_map datum_of_value (lookup (is_one_value v) (e i))
+nothing_bound m e = λ i v. option_map datum_of_value (lookup (nat_eq v) (e i))
 
 -- one binding more
 module _ {S : Type 0} where

@@ -1,5 +1,5 @@
 -- What the values of the evaluator stand for.
-use Rattle.std.specs.Prelude.{ℕ, Bool, true, ◌&&◌, nat_eq, List, Option, Some, None, map}
+use Rattle.std.specs.Prelude.{ℕ, nat_eq, List, Option, Some, None, map}
 use Rattle.std.specs.HashMap.{HashMap, get}
 use Rattle.std.specs.Option.{option_map}
 use Rattle.std.specs.Global.{Vec}
@@ -36,12 +36,9 @@ sight_of (EndedValue ds effects) = Ended (map datum_of_value ds.items) (map datu
 sight_of (TrappedValue effects) = Trapped (map datum_of_value effects.items)
 sight_of (ReachedValue effects) = Reached (map datum_of_value effects.items)
 
-abbrev pub is_one_value : ℕ → ℕ → Bool
-is_one_value v w = nat_eq v w && true
-
 -- a value has the datum that the map has for it
 abbrev pub environment_of : {S : Type 0} → HashMap ℕ DatumValue S → Environment
-environment_of m = λ v. option_map datum_of_value (get is_one_value m v)
+environment_of m = λ v. option_map datum_of_value (get nat_eq m v)
 
 abbrev pub answer_of_values : Option (Vec DatumValue) → Option (List Datum)
 answer_of_values None = None
