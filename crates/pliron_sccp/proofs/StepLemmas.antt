@@ -26,7 +26,7 @@ use Rattle.pliron_laws.proofs.Records.{ShowsOperation, op_shows}
 use Rattle.pliron_theory.specs.Facts.{Facts, Says, known, handed, answers_of}
 use Rattle.pliron_theory.specs.Following.{StandsAsBefore, Follows}
 use Rattle.pliron_sccp.specs.Steps.{IsFoldStep, AreFoldSteps, IsFoldingOn, TellsCreated}
-use Rattle.pliron_sccp.specs.declared.rewriting.Fold.{Fold}
+use Rattle.pliron_sccp.specs.declared.rewrite.Fold.{Fold}
 use Rattle.pliron_sccp.specs.Chain.{FoldsInTurn, FoldsPartly}
 use Rattle.pliron_sccp.specs.Chain.FoldsPartly.{Stopped, After}
 use Rattle.pliron_sccp.specs.Chain.FoldsInTurn.{NoMore, Next}

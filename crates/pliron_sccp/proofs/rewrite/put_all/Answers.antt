@@ -4,7 +4,7 @@ use Rattle.pliron_theory.specs.Facts.{Says}
 use Rattle.pliron_sccp.specs.Steps.{IsPuttingOn}
 use Rattle.pliron_sccp.proofs.ArgumentStep.{putting_start, putting_can, putting_next, putting_end, putting_broken}
 use Rattle.pliron_laws.proofs.FoldLemmas.{on_err}
-use Rattle.pliron_sccp.proofs.rewriting.put_all.Goals as goal
+use Rattle.pliron_sccp.proofs.rewrite.put_all.Goals as goal
 
 pub loop-i-init : goal.loop-i-init
 loop-i-init g c = putting_start _ _ _ _ _

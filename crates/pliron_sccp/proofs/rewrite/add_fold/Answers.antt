@@ -3,7 +3,7 @@ use Rattle.pliron_theory.specs.Facts.{Says}
 use Rattle.pliron_sccp.specs.Tables.{facts_of}
 use Rattle.pliron_sccp.specs.Listed.{IsFoldOf}
 use Rattle.pliron_sccp.proofs.ListedFolds.{adds_fold}
-use Rattle.pliron_sccp.proofs.found.add_fold.Goals as goal
+use Rattle.pliron_sccp.proofs.rewrite.add_fold.Goals as goal
 
 pub returns-in_ok-push-in-Some-clause-ok : goal.returns-in_ok-push-in-Some-clause-ok
 returns-in_ok-push-in-Some-clause-ok g c =

@@ -4,7 +4,7 @@ use Rattle.pliron_core.proofs.HoldingLemmas.{some_of}
 use Rattle.pliron_theory.specs.Facts.{Says}
 use Rattle.pliron_sccp.specs.Tables.{facts_of}
 use Rattle.pliron_sccp.proofs.ListedFolds.{fold_found}
-use Rattle.pliron_sccp.proofs.found.fold_of.Goals as goal
+use Rattle.pliron_sccp.proofs.rewrite.fold_of.Goals as goal
 
 pub returns-clause-ok : goal.returns-clause-ok
 returns-clause-ok g c =

@@ -2,8 +2,8 @@ use Rattle.std.proofs.Common.{◌≤◌, ◌+◌, length, sym, ◌∙◌, subst,
 use Rattle.pliron_core.specs.Tree.{arguments_of}
 use Rattle.pliron_sccp.specs.Tables.{facts_of}
 use Rattle.pliron_sccp.proofs.ListedArguments.{AreAdded, added_start, added_known, added_nothing, added_all}
-use Rattle.pliron_sccp.proofs.found.add_arguments.Goals.{in-Some+in_ok-push-in-Some, in-None}
-use Rattle.pliron_sccp.proofs.found.add_arguments.Goals as goal
+use Rattle.pliron_sccp.proofs.rewrite.add_arguments.Goals.{in-Some+in_ok-push-in-Some, in-None}
+use Rattle.pliron_sccp.proofs.rewrite.add_arguments.Goals as goal
 
 pub loop-index-init : goal.loop-index-init
 loop-index-init c = added_start c.args.ctx.now.tree (facts_of c.args.tables.now) c.args.block c.args.arguments.now.items

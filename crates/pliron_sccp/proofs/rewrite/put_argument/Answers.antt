@@ -2,7 +2,7 @@ use Rattle.std.proofs.lemmas.Result.{IfOk-weaker}
 use Rattle.pliron_theory.proofs.FollowedFacts.{constants_plain}
 use Rattle.pliron_sccp.proofs.StepLemmas.{either}
 use Rattle.pliron_sccp.proofs.ArgumentStep.{Becomes, becomes_stays, becomes_told, argument_listed, step_constant, argument_follows}
-use Rattle.pliron_sccp.proofs.rewriting.put_argument.Goals as goal
+use Rattle.pliron_sccp.proofs.rewrite.put_argument.Goals as goal
 
 pub replace_argument_by_constant-done-requires-clause-constant : goal.replace_argument_by_constant-done-requires-clause-constant
 replace_argument_by_constant-done-requires-clause-constant g c =

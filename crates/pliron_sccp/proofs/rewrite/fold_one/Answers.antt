@@ -2,7 +2,7 @@ use Rattle.std.proofs.Common.{◌∙◌, ap, subst, length, Some, None}
 use Rattle.std.proofs.lemmas.Result.{IfOk-weaker, on_err_weaker}
 use Rattle.pliron_theory.proofs.FollowedFacts.{constants_plain}
 use Rattle.pliron_sccp.proofs.StepLemmas.{step_live, step_placed, step_folds, step_entries, step_told, step_refused, step_stays, step_follows, either}
-use Rattle.pliron_sccp.proofs.rewriting.fold_one.Goals as goal
+use Rattle.pliron_sccp.proofs.rewrite.fold_one.Goals as goal
 
 pub fold_in_place-done-requires-clause-live : goal.fold_in_place-done-requires-clause-live
 fold_in_place-done-requires-clause-live g c = let s = c.requires.step in step_live _ s.0 s.1 s.2 _ _ _ s.3

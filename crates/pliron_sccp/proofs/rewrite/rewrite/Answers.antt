@@ -3,7 +3,7 @@ use Rattle.pliron_laws.proofs.FoldLemmas.{on_err}
 use Rattle.pliron_sccp.specs.Steps.{TellsCreated}
 use Rattle.pliron_sccp.proofs.StepLemmas.{told_then}
 use Rattle.pliron_sccp.proofs.WholeRewrite.{told_change, found_folds, found_arguments, broken_folding, broken_putting, all_rewritten}
-use Rattle.pliron_sccp.proofs.rewriting.rewrite.Goals as goal
+use Rattle.pliron_sccp.proofs.rewrite.rewrite.Goals as goal
 
 pub fold_all-requires : goal.fold_all-requires
 fold_all-requires g c =

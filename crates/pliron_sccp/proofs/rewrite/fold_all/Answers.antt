@@ -5,7 +5,7 @@ use Rattle.pliron_theory.specs.Facts.{Says}
 use Rattle.pliron_sccp.specs.Steps.{IsFoldingOn}
 use Rattle.pliron_sccp.proofs.StepLemmas.{folding_start, folding_can, folding_next, folding_end, folding_broken}
 use Rattle.pliron_laws.proofs.FoldLemmas.{on_err}
-use Rattle.pliron_sccp.proofs.rewriting.fold_all.Goals as goal
+use Rattle.pliron_sccp.proofs.rewrite.fold_all.Goals as goal
 
 pub loop-i-init : goal.loop-i-init
 loop-i-init g c = folding_start _ _ _ _

@@ -5,7 +5,7 @@ use Rattle.pliron_core.proofs.FlatLemmas.{In-slice_get}
 use Rattle.pliron_sccp.specs.Tables.{facts_of}
 use Rattle.pliron_sccp.proofs.DistinctLists.{inside_block}
 use Rattle.pliron_sccp.proofs.ListedArguments.{no_arguments, collected_next, collected_all}
-use Rattle.pliron_sccp.proofs.found.all_arguments.Goals as goal
+use Rattle.pliron_sccp.proofs.rewrite.all_arguments.Goals as goal
 
 pub loop-i-init : goal.loop-i-init
 loop-i-init c = no_arguments c.args.ctx.now.tree (facts_of c.args.tables.now) c.new-arguments.result.items c.new-arguments.ensures.items

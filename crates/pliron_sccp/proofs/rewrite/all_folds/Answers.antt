@@ -3,7 +3,7 @@ use Rattle.pliron_core.proofs.WalkLemmas.{inside_live}
 use Rattle.pliron_theory.specs.Facts.{Says}
 use Rattle.pliron_sccp.specs.Tables.{facts_of}
 use Rattle.pliron_sccp.proofs.ListedFolds.{folds_start, folds_inside, folds_step, folds_smaller, folds_end}
-use Rattle.pliron_sccp.proofs.found.all_folds.Goals as goal
+use Rattle.pliron_sccp.proofs.rewrite.all_folds.Goals as goal
 
 pub loop-at-init : goal.loop-at-init
 loop-at-init g c =
