@@ -166,6 +166,24 @@ impl BenchKind {
         matches!(self, BenchKind::Cbr)
     }
 
+    // Whether an operation of the kind visits its region with its operands.
+    pub(super) fn passes_operands(self) -> bool
+        ensures { result ≡ is_passing self }
+    {
+        matches!(self, BenchKind::Scope)
+    }
+
+    // The operand, of so many, that every visit passes as the argument with this index.
+    pub(super) fn entry_operand(self, operands: usize, arg: usize) -> Option<usize>
+        ensures { result ≡ entry_operand_of self operands arg }
+    {
+        if self.passes_operands() && arg < operands {
+            Some(arg)
+        } else {
+            None
+        }
+    }
+
     // Whether an operation of the kind implements the interface.
     pub(super) fn implements(self, interface: Interface) -> bool
         ensures { result ≡ interface_of interface self }
@@ -177,6 +195,7 @@ impl BenchKind {
             Interface::BranchFold => self.folds_branch(),
             Interface::Branch => self.branches(),
             Interface::Terminator => self.ends_block(),
+            Interface::RegionBranch => self.passes_operands(),
         }
     }
 }

@@ -15,7 +15,7 @@ mod room;
 
 pub use dialect::{
     BlockArgRemoval, BranchOpFoldInterface, ConstFoldInterface, Dialect, HasMeaning, Interface,
-    SideEffects,
+    RegionBranchOpInterface, SideEffects,
 };
 pub use edges::edges_last;
 pub use fault::OptError;
