@@ -3,8 +3,8 @@ ghost use Rattle.std.specs.Prelude.{◌≡◌, ℕ, Some};
 ghost use Rattle.pliron_core.specs.Tree.{IsLive, IsBlock, block_parent_of};
 ghost use Rattle.pliron_laws.specs.Answers.{ReadsHead, is_entry};
 ghost use Rattle.pliron_bench.specs.Bench.{kind_of, takes_operands as operands_taken, takes_attributes as attributes_taken, has_none, has_number as is_one_number, has_count as is_one_count, is_count, takes as takes_all};
-ghost use Rattle.pliron_bench.specs.BenchMoves.{ends_block as is_ending, branches as is_branching};
-ghost use Rattle.pliron_bench.specs.BenchAnswers.{effects_of, removable_of, folds_of, folds_branch_of, interface_of};
+ghost use Rattle.pliron_bench.specs.BenchMoves.{ends_block as is_ending, branches as is_branching, passes_operands as is_passing};
+ghost use Rattle.pliron_bench.specs.BenchAnswers.{effects_of, removable_of, folds_of, folds_branch_of, interface_of, entry_operand_of};
 
 use crate::kind::BenchKind;
 use crate::numbers::is_number;
