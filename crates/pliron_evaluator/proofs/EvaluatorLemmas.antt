@@ -2,7 +2,6 @@
 use Rattle.std.proofs.Common.{◌≡◌, ◌≢◌, ℕ, suc, ◌<◌, ◌≤◌, ◌+◌, ◌-◌, if◌then◌else◌, cond, Bool, true, false, nat_eq, List, [], ◌∷◌, ◌++◌, length, get_or, take, drop, map, Option, Some, None, refl, sym, ap, ◌∙◌, arith, append_assoc}
 use Rattle.std.proofs.lemmas.List.{drop_more, take_more, map-append, length-map, drop_all, drop-drop, append-nil}
 use Rattle.std.specs.HashMap.{HashMap, get, Updates}
-use Rattle.std.specs.Map.{lookup}
 use Rattle.std.specs.Option.{option_map}
 use Rattle.pliron_laws.specs.Datum.{Datum, Empty}
 use Rattle.pliron_laws.specs.States.{Environment, bound, bind, prepended, data_of}
@@ -30,9 +29,6 @@ unfolding bound
 bound_so m n v d x copied updates =
     let each : (w : ℕ) → environment_of n w ≡ bound (environment_of m) v (datum_of_value d) w = λ w. ap (option_map datum_of_value) (updates.0 w) ∙ chosen (nat_eq v w) (nat_eq w v) d (get nat_eq m w) (same_question v w) in
     (λ i w. each w i) ∙ ap (bound (environment_of m) v) copied
-
-pub nothing_bound : {S : Type 0} (m : HashMap ℕ DatumValue S) → m.entries ≡ [] → environment_of m ≡ (λ v. None)
-nothing_bound m e = λ i v. option_map datum_of_value (lookup (nat_eq v) (e i))
 
 -- one binding more
 module _ {S : Type 0} where

@@ -1,6 +1,6 @@
 -- How commands end.
 use Rattle.std.specs.Prelude.{⊤}
-use Rattle.std.proofs.Common.{◌≡◌, ◌⊎◌, inl, inr, ℕ, Bool, true, List, [], ◌∷◌, ◌++◌, Option, Result, Ok, Err, IfOk, ◌∙◌}
+use Rattle.std.proofs.Common.{◌≡◌, ◌⊎◌, inl, inr, ℕ, Bool, true, List, [], ◌∷◌, ◌++◌, Option, Some, IfSome, Result, Ok, Err, IfOk, subst, ◌∙◌}
 use Rattle.pliron_core.specs.Tree.{Tree}
 use Rattle.pliron_core.specs.Writes.{no_tree}
 use Rattle.pliron_core.specs.declared.attrs.IRStatus.{IRStatus}
@@ -49,9 +49,9 @@ module _ (reads : Reads) (prints : Prints) (m : Meaning) where
   is_made ran text printed status o made laid e = Says (record { printed = printed; status = status; made = made; laid = laid }) e
 
   module _ {P D E B K X : Type 0} (name : P → List ℕ) (ran : ScheduleOf P D E B K → ℕ → Tree → Tree → IRStatus → Type 0) where
-    pub is_planned_made : (runs : Option ℕ) (nested : Bool) (names : List (List ℕ)) (schedule : ScheduleOf P D E B K) (text : List ℕ) (r : Result Outcome X) → IsPlanned name runs nested names schedule → IfOk r (λ o. Ends (IsMade reads prints m (ran schedule) text o.output.items) ⊤ o) → IfOk r (λ o. Ends (IsPlannedMade reads prints m name ran runs nested names text o.output.items) ⊤ o)
-    is_planned_made runs nested names schedule text (Ok o) planned ends = ends_so o (λ made. record { schedule = schedule; planned = planned; made = made }) ends
-    is_planned_made runs nested names schedule text (Err e) planned ends = tt
+    pub is_planned_made : (runs : Option ℕ) (nested : Bool) (names : List (List ℕ)) (schedule : ScheduleOf P D E B K) (found : Option (ScheduleOf P D E B K)) (text : List ℕ) (r : Result Outcome X) → found ≡ Some schedule → IfSome found (IsPlanned name runs nested names) → IfOk r (λ o. Ends (IsMade reads prints m (ran schedule) text o.output.items) ⊤ o) → IfOk r (λ o. Ends (IsPlannedMade reads prints m name ran runs nested names text o.output.items) ⊤ o)
+    is_planned_made runs nested names schedule found text (Ok o) is planned ends = ends_so o (λ made. record { schedule = schedule; planned = subst (λ f. IfSome f (IsPlanned name runs nested names)) is planned; made = made }) ends
+    is_planned_made runs nested names schedule found text (Err e) is planned ends = tt
 
     pub is_made_by : (word : List ℕ) (runs : Option ℕ) (nested : Bool) (names : List (List ℕ)) (text : List ℕ) (r : Result Outcome X) → Plans word runs nested names → IfOk r (λ o. Ends (IsPlannedMade reads prints m name ran runs nested names text o.output.items) ⊤ o) → IfOk r (λ o. Ends (IsMadeBy reads prints m name ran word text o.output.items) ⊤ o)
     is_made_by word runs nested names text (Ok o) plan ends = ends_so o (λ made. record { runs = runs; nested = nested; names = names; plan = plan; made = made }) ends
