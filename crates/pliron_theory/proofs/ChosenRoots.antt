@@ -12,6 +12,8 @@ use Rattle.pliron_theory.specs.Keeps.{with_roots}
 use Rattle.pliron_theory.specs.ChosenRoots.{ChosenRootsLaw}
 use Rattle.pliron_theory.proofs.JumpsNow.{jumps_now}
 use Rattle.pliron_theory.proofs.KnownRuns.{facts_read}
+use Rattle.pliron_laws.specs.Entries.{names_none}
+use Rattle.pliron_theory.proofs.SoundRuns.{none_well}
 use Rattle.pliron_theory.proofs.SoundEverywhere.{sound_facts}
 use Rattle.pliron_theory.proofs.Answered.{answered}
 use Rattle.pliron_theory.proofs.RemovedKeeps.{removed_keeps}
@@ -68,7 +70,7 @@ chosen_roots m can_fold can_fold_branch constants feasible accepts head shortene
     let p = folds_in_place m chosen constants accepts head fold branch_fold in_place in
     record {
       facts = facts_read (with_roots m chosen) can_fold can_fold_branch constants feasible a j f.passes;
-      sound = sound_facts (record { meaning = with_roots m chosen; can_fold = can_fold; can_fold_branch = can_fold_branch; constants = constants; feasible = feasible }) a j f.passes;
+      sound = sound_facts (record { meaning = with_roots m chosen; can_fold = can_fold; can_fold_branch = can_fold_branch; constants = constants; feasible = feasible; entry_operands = names_none }) a j f.passes (none_well (with_roots m chosen) can_fold can_fold_branch constants feasible);
       answered = answered (with_roots m chosen) can_fold can_fold_branch constants feasible a j f.passes;
       one_edge = jumps_now (with_roots m chosen) can_fold SameTests shortened f;
       removing = λ t u block index v edges w w' argument to branches answer lose unused. removed_keeps (with_roots m chosen) can_fold SameTests shortened f same_branch (counts m chosen keeps) removable without t u block index v edges w w' argument to branches answer lose unused;
