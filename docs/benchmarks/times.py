@@ -16,8 +16,7 @@ is, or behind `mlir:` what `mlir-opt` is, as `mlir:sccp,canonicalize`. The first
 
 Times are user and system time, the least of several runs (RUNS), with the output to /dev/null, at each of
 the numbers of operations in SIZES, and of `opt` at the last. Instructions are those of the whole process
-at the first and the last, and growth is the exponent between the two. SHAPES names the shapes, if not all; OPT and
-MLIR_OPT name the programs, if not `opt` and `mlir-opt`.
+at the first and the last, and growth is the exponent between the two. SHAPES names the shapes, if not all.
 Of `exponents` the texts are the longest of a shape that have at most a quarter, a half and all of 1 MiB, and the
 exponent is the greater one of the two steps, by the lengths of the texts.
 """
@@ -99,7 +98,7 @@ def theirs(passes):
     if passes.startswith("mlir:"):
         words = [f"--{name}" for name in passes[len("mlir:"):].split(",")]
         return [os.environ.get("MLIR_OPT", "mlir-opt"), "--mlir-disable-threading", *words, "-o", "/dev/null"], "mlir"
-    return [os.environ.get("OPT", "opt"), f"-passes={passes}", "-S", "-o", "/dev/null"], "llvm"
+    return ["opt", f"-passes={passes}", "-S", "-o", "/dev/null"], "llvm"
 
 
 def write(shape, n, notation, folder):
