@@ -80,7 +80,7 @@ module _ (x : Says) (t : Tree) (root v : ℕ) (c : AttrObj) (w : IsTree t) (h : 
   kept_answered = record {
     finer = λ y. inr (inl refl);
     root_visits = λ r b i e. (tt, λ y j. argument b y j);
-    visits = λ k i r b o may at there e. (tt, λ j y a. unknown_below read o.operands (x.entry_operands (shape_of x.meaning t o) i j) y (argument b y (in_slice (arguments_of t b) j y a)));
+    visits = λ k i r b o may at there e. (tt, λ j y a. unknown_below read read o.operands (x.entry_operands (shape_of x.meaning t o) i j) y (argument b y (in_slice (arguments_of t b) j y a)));
     jumps = λ k i b o may e go. (tt, λ j y at. inl (argument b y (in_slice (arguments_of t b) j y at)));
     results = λ k i y o may e at. result k i y o e at;
   }

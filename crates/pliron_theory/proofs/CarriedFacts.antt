@@ -201,31 +201,31 @@ module _ (x : Says) (t t' : Tree) (root : ℕ) (f f' : Facts) (read read' : ℕ 
       (c.reaches b ∙ y.0, λ v j. let u = subst (In v) (c.arguments b) j in c.listed_arguments b v u ∙ y.1 v u))
       (c.told root)
 
-  entries : (k i r b : ℕ) (o : Operation) → IsInReachedBlock t' f' k → op_at t' k ≡ Some o → slice_get o.regions i ≡ Some r → first_of (layout_of t' r) None ≡ Some b → IsTrue (f'.reaches b) × AreBelowNamed x t' read' o i b
+  entries : (k i r b : ℕ) (o : Operation) → IsInReachedBlock t' f' k → op_at t' k ≡ Some o → slice_get o.regions i ≡ Some r → first_of (layout_of t' r) None ≡ Some b → IsTrue (f'.reaches b) × AreBelowNamed x t' read' read' o i b
   entries k i r b o' stands at there e = by (c.told k)
     where
-      by : New k ⊎ (New k → ⊥) → IsTrue (f'.reaches b) × AreBelowNamed x t' read' o' i b
+      by : New k ⊎ (New k → ⊥) → IsTrue (f'.reaches b) × AreBelowNamed x t' read' read' o' i b
       by (inl n) = absurd (no_item i r o'.regions (sym (op_shows t' k o' at).regions ∙ c.childless k n) there)
       by (inr n) = (c.reaches b ∙ old.0, arguments)
         where
           b4 : WasBefore k o'
           b4 = before k n o' at
 
-          old : IsTrue (f.reaches b) × AreBelowNamed x t read b4.operation i b
+          old : IsTrue (f.reaches b) × AreBelowNamed x t read read b4.operation i b
           old = sound.entries k i r b b4.operation (stands_back k n stands) b4.stands (ap (λ z. slice_get z i) (sym b4.regions) ∙ there) (ap (λ z. first_of z None) (sym (c.layouts r)) ∙ e)
 
-          below : (v : ℕ) → read' v ≡ read v → (a : Option ℕ) → IsBelowNamed read b4.operation.operands a v → IsBelowNamed read' o'.operands a v
+          below : (v : ℕ) → read' v ≡ read v → (a : Option ℕ) → IsBelowNamed read read b4.operation.operands a v → IsBelowNamed read' read' o'.operands a v
           below v same None q = same ∙ q
           below v same (Some p) q = λ u g.
               let was = mapped rename b4.operation.operands p u (ap (λ z. slice_get z p) (sym b4.operands) ∙ g) in
               let still : read' u ≡ read was.0 = ap read' was.2 ∙ (c.used k was.0 (subst (In was.0) b4.was (in_slice b4.operation.operands p was.0 was.1))).1 in
               subst (λ z. AtMost z (read' u)) (sym same) (subst (AtMost (read v)) (sym still) (q was.0 was.1))
 
-          arguments : AreBelowNamed x t' read' o' i b
+          arguments : AreBelowNamed x t' read' read' o' i b
           arguments j v a =
               let at_old : slice_get (arguments_of t b) j ≡ Some v = ap (λ z. slice_get z j) (sym (c.arguments b)) ∙ a in
               let same = c.listed_arguments b v (in_slice (arguments_of t b) j v at_old) in
-              subst (λ s. IsBelowNamed read' o'.operands (x.entry_operands s i j) v) (sym b4.shape)
+              subst (λ s. IsBelowNamed read' read' o'.operands (x.entry_operands s i j) v) (sym b4.shape)
               (below v same (x.entry_operands (shape_of x.meaning t b4.operation) i j) (old.1 j v at_old))
 
   jumps : (k i b : ℕ) (o : Operation) → IsInReachedBlock t' f' k → op_at t' k ≡ Some o → IsFeasibleEdge x t' f' o i b → IsTrue (f'.reaches b) × ((j v : ℕ) → slice_get (arguments_of t' b) j ≡ Some v → (read' v ≡ NotAConstant) ⊎ (IsTrue (x.meaning.is_branch o.head) × ((y : ℕ) → Forwards x t' o i j y → AtMost (read' v) (read' y))))

@@ -112,12 +112,12 @@ module _ (x : Says) (t : Tree) (root : ℕ) (f : Facts) (w : IsTree t) (closed :
   root_entries : (r b : ℕ) → In r (regions_of t root) → first_of (layout_of t r) None ≡ Some b → IsTrue (f.reaches b) × ((v : ℕ) → In v (arguments_of t b) → read_of x t f v ≡ NotAConstant)
   root_entries r b i e = let y = closed.root_entries r b i e in (y.0, λ v j. read_argument b v j ∙ y.1 v j)
 
-  entries : (k i r b : ℕ) (o : Operation) → IsInReachedBlock t f k → op_at t k ≡ Some o → slice_get o.regions i ≡ Some r → first_of (layout_of t r) None ≡ Some b → IsTrue (f.reaches b) × AreBelowNamed x t (read_of x t f) o i b
+  entries : (k i r b : ℕ) (o : Operation) → IsInReachedBlock t f k → op_at t k ≡ Some o → slice_get o.regions i ≡ Some r → first_of (layout_of t r) None ≡ Some b → IsTrue (f.reaches b) × AreBelowNamed x t (read_of x t f) (read_of x t f) o i b
   entries k i r b o stands at there e =
       let y = closed.entries k i r b o stands at there e in
       (y.0, λ j v a. below v (in_slice (arguments_of t b) j v a) (x.entry_operands (shape_of x.meaning t o) i j) (y.1 j v a))
     where
-      below : (v : ℕ) → In v (arguments_of t b) → (a : Option ℕ) → IsBelowNamed f.fact o.operands a v → IsBelowNamed (read_of x t f) o.operands a v
+      below : (v : ℕ) → In v (arguments_of t b) → (a : Option ℕ) → IsBelowNamed f.fact f.fact o.operands a v → IsBelowNamed (read_of x t f) (read_of x t f) o.operands a v
       below v i None q = read_argument b v i ∙ q
       below v i (Some p) q = λ u g. subst (λ z. AtMost z (read_of x t f u)) (sym (read_argument b v i)) (at_most_trans (f.fact v) (f.fact u) (read_of x t f u) (q u g) (finer u))
 

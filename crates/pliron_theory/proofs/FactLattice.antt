@@ -81,9 +81,9 @@ module _ (read : ℕ → Fact) where
       subst (Known (known (fact v) ∷ map (λ v. known (fact v)) vs)) q.4 (known_fits (fact v) (read v) q.0 (known (fact v)) (finer v) (so v q.0 q.2) refl (map (λ v. known (fact v)) vs) q.1 (read_known fact finer env so vs q.1 q.3))
 
 -- what is no constant is below every operand
-pub unknown_below : (fact : ℕ → Fact) (operands : List ℕ) (a : Option ℕ) (v : ℕ) → fact v ≡ NotAConstant → IsBelowNamed fact operands a v
-unknown_below fact operands None v e = e
-unknown_below fact operands (Some p) v e = λ w at. inr (inl e)
+pub unknown_below : (fact seen : ℕ → Fact) (operands : List ℕ) (a : Option ℕ) (v : ℕ) → fact v ≡ NotAConstant → IsBelowNamed fact seen operands a v
+unknown_below fact seen operands None v e = e
+unknown_below fact seen operands (Some p) v e = λ w at. inr (inl e)
 
 -- what stands at an index of a list of the same length
 pub same_index : {A B : Type 0} (xs : List A) (ys : List B) → length xs ≡ length ys → (i : ℕ) (x : A) → slice_get xs i ≡ Some x → (y : B) × (slice_get ys i ≡ Some y)

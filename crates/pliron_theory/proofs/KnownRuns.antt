@@ -77,7 +77,7 @@ module _ (x : Says) (t : Tree) (root : ℕ) (facts : ℕ → Option AttrObj) (w 
   kept_everywhere = record {
     finer = λ v. at_most_refl (read v);
     root_visits = λ r b i e. (tt, λ v j. ap answered (closed.arguments b v (entry_held t w root root r b (inl refl) i e) j));
-    visits = λ k i r b o may at there e. (tt, λ j v a. unknown_below read o.operands (x.entry_operands (shape_of x.meaning t o) i j) v (ap answered (closed.arguments b v (entry_held t w root k r b (inr may.0) (subst (In r) (sym (op_shows t k o at).regions) (in_slice o.regions i r there)) e) (in_slice (arguments_of t b) j v a))));
+    visits = λ k i r b o may at there e. (tt, λ j v a. unknown_below read read o.operands (x.entry_operands (shape_of x.meaning t o) i j) v (ap answered (closed.arguments b v (entry_held t w root k r b (inr may.0) (subst (In r) (sym (op_shows t k o at).regions) (in_slice o.regions i r there)) e) (in_slice (arguments_of t b) j v a))));
     jumps = λ k i b o may e go. (tt, λ j v at. inl (ap answered (closed.arguments b v (target_held t w root x.meaning f k i b o may.0 e go.0) (in_slice (arguments_of t b) j v at))));
     results = results;
   }

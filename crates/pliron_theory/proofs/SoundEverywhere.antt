@@ -71,7 +71,7 @@ module _ (says : Says) (t : Tree) (root : ℕ) (f : Facts) (read : ℕ → Fact)
             let place = slice_in o.regions r (subst (In r) (op_shows t other o at).regions i) in
             let y = sound.entries other place.0 r b o stands at place.1 e in
             let may : IsTrue (says.meaning.may_be_root (shape_of says.meaning t o).head) = ap says.meaning.may_be_root (shape_head says.meaning t o) ∙ fit.chosen o.head (head_at t other o at) in
-            (y.0, λ v j. let p = slice_in (arguments_of t b) v j in subst (λ z. IsBelowNamed read o.operands z v) (names.roots (shape_of says.meaning t o) may place.0 p.0) (y.1 p.0 v p.1))
+            (y.0, λ v j. let p = slice_in (arguments_of t b) v j in subst (λ z. IsBelowNamed read read o.operands z v) (names.roots (shape_of says.meaning t o) may place.0 p.0) (y.1 p.0 v p.1))
 
         entered : (other ≡ root) ⊎ IsInReachedBlock t f other → IsTrue (f.reaches b) × ((v : ℕ) → In v (arguments_of t b) → read v ≡ NotAConstant)
         entered (inl s) = sound.root_entries r b (subst (λ z. In r (regions_of t z)) s i) e
@@ -84,7 +84,7 @@ module _ (says : Says) (t : Tree) (root : ℕ) (f : Facts) (read : ℕ → Fact)
         arguments (inl within) v j = (entered (counts within)).1 v j
         arguments (inr never) v j = sound.no_arguments b v (λ h. never (subst (IsWithin t root) (some_is (sym h.1 ∙ held)) h.2)) j
 
-    visits : (k i r b : ℕ) (o : Operation) → MayMove t other Comes_to k → op_at t k ≡ Some o → slice_get o.regions i ≡ Some r → first_of (layout_of t r) None ≡ Some b → Comes_to b × AreBelowNamed says t read o i b
+    visits : (k i r b : ℕ) (o : Operation) → MayMove t other Comes_to k → op_at t k ≡ Some o → slice_get o.regions i ≡ Some r → first_of (layout_of t r) None ≡ Some b → Comes_to b × AreBelowNamed says t read read o i b
     visits k i r b o may at place e = (comes, arguments (within_or k))
       where
         listed : In r (regions_of t k)
@@ -93,17 +93,17 @@ module _ (says : Says) (t : Tree) (root : ℕ) (f : Facts) (read : ℕ → Fact)
         held : block_holder_of t b ≡ Some k
         held = entry_holder t w k r b listed e
 
-        unknown : ((v : ℕ) → In v (arguments_of t b) → read v ≡ NotAConstant) → AreBelowNamed says t read o i b
-        unknown none j v a = unknown_below read o.operands (says.entry_operands (shape_of says.meaning t o) i j) v (none v (in_slice (arguments_of t b) j v a))
+        unknown : ((v : ℕ) → In v (arguments_of t b) → read v ≡ NotAConstant) → AreBelowNamed says t read read o i b
+        unknown none j v a = unknown_below read read o.operands (says.entry_operands (shape_of says.meaning t o) i j) v (none v (in_slice (arguments_of t b) j v a))
 
-        entered : IsWithin t root k → IsTrue (f.reaches b) × AreBelowNamed says t read o i b
+        entered : IsWithin t root k → IsTrue (f.reaches b) × AreBelowNamed says t read read o i b
         entered (inl s) = let y = sound.root_entries r b (subst (λ z. In r (regions_of t z)) s listed) e in (y.0, unknown y.1)
         entered (inr inside) = sound.entries k i r b o (stands k may inside) at place e
 
         comes : Comes_to b
         comes (h, is, within) = (entered (subst (IsWithin t root) (some_is (sym is ∙ held)) within)).0
 
-        arguments : IsWithin t root k ⊎ (IsWithin t root k → ⊥) → AreBelowNamed says t read o i b
+        arguments : IsWithin t root k ⊎ (IsWithin t root k → ⊥) → AreBelowNamed says t read read o i b
         arguments (inl within) = (entered within).1
         arguments (inr never) = unknown (λ v j. sound.no_arguments b v (λ h. never (subst (IsWithin t root) (some_is (sym h.1 ∙ held)) h.2)) j)
 

@@ -60,7 +60,7 @@ MayMove t root Comes_to k = IsInside t root k × ((b : ℕ) × (parent_of t k �
 pub record AreKept (x : Says) (t : Tree) (root : ℕ) (Comes_to : ℕ → Type 0) (f : Facts) (read : ℕ → Fact) : Type 0 where
   pub finer : (v : ℕ) → AtMost (f.fact v) (read v)
   pub root_visits : (r b : ℕ) → In r (regions_of t root) → first_of (layout_of t r) None ≡ Some b → Comes_to b × ((v : ℕ) → In v (arguments_of t b) → read v ≡ NotAConstant)
-  pub visits : (k i r b : ℕ) (o : Operation) → MayMove t root Comes_to k → op_at t k ≡ Some o → slice_get o.regions i ≡ Some r → first_of (layout_of t r) None ≡ Some b → Comes_to b × AreBelowNamed x t read o i b
+  pub visits : (k i r b : ℕ) (o : Operation) → MayMove t root Comes_to k → op_at t k ≡ Some o → slice_get o.regions i ≡ Some r → first_of (layout_of t r) None ≡ Some b → Comes_to b × AreBelowNamed x t read read o i b
   pub jumps : (k i b : ℕ) (o : Operation) → MayMove t root Comes_to k → op_at t k ≡ Some o → IsFeasibleEdge x t f o i b → Comes_to b × ((j v : ℕ) → slice_get (arguments_of t b) j ≡ Some v → (read v ≡ NotAConstant) ⊎ (IsTrue (x.meaning.is_branch o.head) × ((w : ℕ) → Forwards x t o i j w → AtMost (read v) (read w))))
   pub results : (k i v : ℕ) (o : Operation) → MayMove t root Comes_to k → op_at t k ≡ Some o → slice_get o.results i ≡ Some v → IsRightResult x t f read k i v o
 
@@ -229,13 +229,13 @@ module _ (says : Says) (answers : AnswersTrue says.meaning says.can_fold says.co
   unfolding shape_of
   visit_found env env1 so k i r memo o b input ds next may e x acts re y be = (visit.0, bind_agrees read b.arguments ds env env1 told be so)
     where
-      visit : Comes_to y.key × AreBelowNamed says t read o i y.key
+      visit : Comes_to y.key × AreBelowNamed says t read read o i y.key
       visit = kept.visits k i r y.key o may e re y.entry
 
       told : (j v : ℕ) (d : Datum) → slice_get b.arguments j ≡ Some v → slice_get ds j ≡ Some d → Fits (read v) d
       told j v d at is = by (says.entry_operands (shape_of m t o) i j) refl (visit.1 j v (ap (λ l. slice_get l j) (block_shows t y.key b y.stands).arguments ∙ at))
         where
-          by : (a : Option ℕ) → says.entry_operands (shape_of m t o) i j ≡ a → IsBelowNamed read o.operands a v → Fits (read v) d
+          by : (a : Option ℕ) → says.entry_operands (shape_of m t o) i j ≡ a → IsBelowNamed read read o.operands a v → Fits (read v) d
           by None q below = subst (λ z. Fits z d) (sym below) tt
           by (Some p) q below =
               let there = names.passes (shape_of m t o) (admitted k o (inr may.0) e) i j p q x.first x.counted x.later memo input ds next x.comes acts d is in

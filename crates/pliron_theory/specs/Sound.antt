@@ -26,7 +26,7 @@ pub record AreSound (x : Says) (t : Tree) (root : ℕ) (f : Facts) (read : ℕ �
   pub no_arguments : (b v : ℕ) → (HoldsBlock t root b → ⊥) → In v (arguments_of t b) → read v ≡ NotAConstant
   -- each move from where runs may come to leads to where they may come to, and binds what is read
   pub root_entries : (r b : ℕ) → In r (regions_of t root) → first_of (layout_of t r) None ≡ Some b → IsTrue (f.reaches b) × ((v : ℕ) → In v (arguments_of t b) → read v ≡ NotAConstant)
-  pub entries : (k i r b : ℕ) (o : Operation) → IsInReachedBlock t f k → op_at t k ≡ Some o → slice_get o.regions i ≡ Some r → first_of (layout_of t r) None ≡ Some b → IsTrue (f.reaches b) × AreBelowNamed x t read o i b
+  pub entries : (k i r b : ℕ) (o : Operation) → IsInReachedBlock t f k → op_at t k ≡ Some o → slice_get o.regions i ≡ Some r → first_of (layout_of t r) None ≡ Some b → IsTrue (f.reaches b) × AreBelowNamed x t read read o i b
   pub jumps : (k i b : ℕ) (o : Operation) → IsInReachedBlock t f k → op_at t k ≡ Some o → IsFeasibleEdge x t f o i b → IsTrue (f.reaches b) × ((j v : ℕ) → slice_get (arguments_of t b) j ≡ Some v → (read v ≡ NotAConstant) ⊎ (IsTrue (x.meaning.is_branch o.head) × ((w : ℕ) → Forwards x t o i j w → AtMost (read v) (read w))))
   pub results : (k i v : ℕ) (o : Operation) → IsInReachedBlock t f k → op_at t k ≡ Some o → slice_get o.results i ≡ Some v → IsRightResult x t f read k i v o
 

@@ -26,11 +26,11 @@ look_at-requires-clause-targets g c =
 pub loop-i-preserved : goal.loop-i-preserved
 loop-i-preserved g c =
     let ops = c.args.ops.now in
-    let x : Says = record { meaning = g.D.HasMeaning.meaning; can_fold = g.D.ConstFoldInterface.can_fold; can_fold_branch = g.D.BranchOpFoldInterface.can_fold_branch; constants = g.D.ConstFoldInterface.constants; feasible = g.D.BranchOpFoldInterface.feasible } in
+    let x : Says = record { meaning = g.D.HasMeaning.meaning; can_fold = g.D.ConstFoldInterface.can_fold; can_fold_branch = g.D.BranchOpFoldInterface.can_fold_branch; constants = g.D.ConstFoldInterface.constants; feasible = g.D.BranchOpFoldInterface.feasible; entry_operands = g.D.RegionBranchOpInterface.entry_operands } in
     let at : slice_get ops c.loop-i.i ≡ Some c.index-ops-i.result = slice_get_read ops (length ops) c.loop-i.i c.index-ops-i.result refl c.loop-i-test.true c.index-ops-i.is in
     (counted_next (LooksThrough x c.args.ctx.now.tree) ops c.loop-i.i c.index-ops-i.result c.args.tables.now c.loop-i.tables c.look_at.new.tables at (λ rest u d. Then c.index-ops-i.result c.look_at.new.tables c.in_ok-look_at.ensures.ok d) c.loop-i.invariant.0, λ b. c.in_ok-look_at.ensures.ok.applied.falls.numbers b ∙ c.loop-i.invariant.1 b)
 
 pub returns-clause-ok : goal.returns-clause-ok
 returns-clause-ok g c =
-    let x : Says = record { meaning = g.D.HasMeaning.meaning; can_fold = g.D.ConstFoldInterface.can_fold; can_fold_branch = g.D.BranchOpFoldInterface.can_fold_branch; constants = g.D.ConstFoldInterface.constants; feasible = g.D.BranchOpFoldInterface.feasible } in
+    let x : Says = record { meaning = g.D.HasMeaning.meaning; can_fold = g.D.ConstFoldInterface.can_fold; can_fold_branch = g.D.BranchOpFoldInterface.can_fold_branch; constants = g.D.ConstFoldInterface.constants; feasible = g.D.BranchOpFoldInterface.feasible; entry_operands = g.D.RegionBranchOpInterface.entry_operands } in
     counted_end (LooksThrough x c.args.ctx.now.tree) c.args.ops.now c.loop-i.i c.args.tables.now c.loop-i.tables (omega arith) Nothing c.loop-i.invariant.0
