@@ -22,6 +22,7 @@ pub mod Numbered
 pub mod UserLists
 pub mod Calls
 pub mod InsideLists
+pub mod PutAside
 pub mod Stepping
 pub mod Called
 pub mod Accounting

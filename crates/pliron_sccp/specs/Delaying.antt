@@ -21,16 +21,16 @@ pub record HasFirst (d : Delays) (i : ℕ) : Type 0 where
   pub some : 0 < length keys
 
 -- one more is put aside, if it was not
-pub record PutsAside (op : ℕ) (d d' : Delays) : Type 0 where
-  pub members : (k : ℕ) → In k (delayed d') ↔ (In k (delayed d) ⊎ (op ≡ k))
-  pub grows : length (delayed d') ≤ length (delayed d) + 1
+pub record PutsAside (op : ℕ) (old new : List ℕ) : Type 0 where
+  pub members : (k : ℕ) → In k new ↔ (In k old ⊎ (k ≡ op))
+  pub grows : length new ≤ length old + 1
 
 -- one that was put aside is taken, and no other
-pub record TakesAside (op : ℕ) (d d' : Delays) : Type 0 where
-  pub was : In op (delayed d)
-  pub members : (k : ℕ) → In k (delayed d) → (k ≡ op) ⊎ In k (delayed d')
-  pub only : (k : ℕ) → In k (delayed d') → In k (delayed d)
-  pub fewer : length (delayed d) ≡ length (delayed d') + 1
+pub record TakesAside (op : ℕ) (old new : List ℕ) : Type 0 where
+  pub was : In op old
+  pub others : (k : ℕ) → In k old → In k new ⊎ (k ≡ op)
+  pub only : (k : ℕ) → In k new → In k old
+  pub fewer : length old ≡ length new + 1
 
 -- what is put aside stands in a block that was looked through, and what it asked when it was looked at is met still
 pub record IsAside (x : Says) (t : Tree) (s : Tables) (k : ℕ) : Type 0 where

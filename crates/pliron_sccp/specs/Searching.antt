@@ -17,7 +17,7 @@ use Rattle.pliron_sccp.specs.Accounts.{IsAccounted, WaitsInside, AreKnownThere}
 
 -- the operation was looked at, or put aside
 abbrev pub IsSeenTo : Says → Tree → ℕ → (s s' : Tables) → (d d' : Delays) → Type 0
-IsSeenTo x t k s s' d d' = (LooksAt x t k s s' × (d' ≡ d)) ⊎ (PutsAside k d d' × (s' ≡ s))
+IsSeenTo x t k s s' d d' = (LooksAt x t k s s' × (d' ≡ d)) ⊎ (PutsAside k (delayed d) (delayed d') × (s' ≡ s))
 
 -- each of these operations was looked at, one after the other, or put aside
 pub record SeesToAll (x : Says) (t : Tree) (ks : List ℕ) (s s' : Tables) (d d' : Delays) : Type 0 where
@@ -49,7 +49,7 @@ pub data TakesTurn (x : Says) (t : Tree) (s s' : Tables) (d d' : Delays) (taken 
 
 -- one operation that was put aside was looked at; or nothing was put aside, and nothing was done
 abbrev pub LooksAside : Says → Tree → (s s' : Tables) → (d d' : Delays) → Bool → Type 0
-LooksAside x t s s' d d' true = (k : ℕ) × TakesAside k d d' × LooksAt x t k s s'
+LooksAside x t s s' d d' true = (k : ℕ) × TakesAside k (delayed d) (delayed d') × LooksAt x t k s s'
 LooksAside x t s s' d d' false = (delayed d ≡ []) × (s' ≡ s)
 
 -- each operation where runs may come is settled, or what settles it waits, or it is put aside; the rest of what closed

@@ -34,7 +34,7 @@ impl Delays {
         operands: usize,
     ) -> Result<(), OptError>
         requires { 0 < operands }
-        ensures ok { OnOk result (PutsAside op self.old self.new) }
+        ensures ok { OnOk result (PutsAside op (delayed self.old) (delayed self.new)) }
         ensures memory { IsOkUnless result OptError.Memory }
     {
         let i = operands.ilog2() as usize;
@@ -48,7 +48,7 @@ impl Delays {
     /// Takes one of those with the fewest operands, to within a factor of two; `None` where nothing is put
     /// aside. Cost: constant, since there are at most 64 sets.
     pub fn take(&mut self) -> Option<Ptr<Operation>>
-        ensures some { IfSome result (λ op. TakesAside op self.old self.new) }
+        ensures some { IfSome result (λ op. TakesAside op (delayed self.old) (delayed self.new)) }
         ensures none { IfNone result (delayed self.old ≡ []) }
     {
         let i = self.first()?;
