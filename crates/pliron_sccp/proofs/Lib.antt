@@ -24,6 +24,7 @@ pub mod Calls
 pub mod InsideLists
 pub mod PutAside
 pub mod Stepping
+pub mod Aside
 pub mod Called
 pub mod Accounting
 pub mod OnTheWay
