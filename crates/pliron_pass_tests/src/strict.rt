@@ -1,5 +1,6 @@
 //! A dialect with the operations of `Bench`, whose checks find more faults.
 ghost use Rattle.std.specs.Prelude.{◌≡◌, MatchResult, ⊤};
+ghost use Rattle.pliron_core.specs.Tree.{IsLive};
 ghost use Rattle.pliron_laws.specs.declared.fault.OptError.TheVariants.{Pass as Code};
 ghost use Rattle.pliron_bench.specs.BenchMoves.{bench, bench_shortened};
 ghost use Rattle.pliron_bench.specs.BenchAnswers.{bench_side_effects, bench_removable, bench_folds, bench_constants, bench_accepts};
@@ -19,10 +20,17 @@ use pliron_laws::{
 };
 use std::alloc::Global;
 
-/// The operations of `Bench`, with their meaning. Its checks answer code 2 for what has side effects,
-/// code 3 for a product or a quotient, code 1 for a branch with an edge that does not fit, and code 4 for a
-/// scope of more than one operand, whose side effects are found first.
+/// The operations of `Bench`, with their meaning. Its checks answer code 2 for what has side effects
+/// but for a scope with operands, code 3 for a product or a quotient, code 1 for a branch with an edge that does
+/// not fit, and code 4 for a scope of more than one operand.
 pub struct Strict;
+
+// Whether it is a scope with operands.
+fn passes_operands(op: Ptr<Operation>, ctx: &Context) -> bool
+    requires { IsLive ctx.now.tree op }
+{
+    Bench::is_kind(op, ctx, BenchKind::Scope) && op.num_operand(ctx) > 0
+}
 
 impl HasMeaning for Strict {
     ghost meaning = { bench };
@@ -39,7 +47,7 @@ impl SideEffects for Strict {
 
     fn verify(_alloc: Global, op: Ptr<Operation>, ctx: &Context) -> Result<(), OptError> {
         match <Bench as SideEffects>::has_side_effects(op, ctx) {
-            Some(true) => Err(OptError::Pass(2)),
+            Some(true) if !passes_operands(op, ctx) => Err(OptError::Pass(2)),
             _ => Ok(()),
         }
     }

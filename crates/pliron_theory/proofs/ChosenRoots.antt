@@ -51,14 +51,14 @@ module _ (m : Meaning) (chosen : Head → Bool) where
     removal = λ s a br i j p lt e. loses SameTests s i j p (shortened s i j) (f.removal s a br i j p lt e);
   }
 
+  edge_loses : (shortened : Shape → ℕ → ℕ → Head) (j : ℕ) (e : Use) (t t' : Tree) → EdgeLoses m shortened j e t t' → EdgeLoses (with_roots m chosen) shortened j e t t'
+  unfolding shape_of
+  edge_loses shortened j e t t' (Loses v place loses) = Loses v place loses
+  edge_loses shortened j e t t' (Lacks none same) = Lacks none same
+
   pub edges_lose : (shortened : Shape → ℕ → ℕ → Head) (j : ℕ) (edges : List Use) (t t' : Tree) → EdgesLose m shortened j edges t t' → EdgesLose (with_roots m chosen) shortened j edges t t'
   edges_lose shortened j [] t t' same = same
-  edges_lose shortened j (e ∷ es) t t' q = (q.0, edge_loses j e t q.0 q.1, edges_lose shortened j es q.0 t' q.2)
-    where
-      edge_loses : (j : ℕ) (e : Use) (t t' : Tree) → EdgeLoses m shortened j e t t' → EdgeLoses (with_roots m chosen) shortened j e t t'
-      unfolding shape_of
-      edge_loses j e t t' (Loses v place loses) = Loses v place loses
-      edge_loses j e t t' (Lacks none same) = Lacks none same
+  edges_lose shortened j (e ∷ es) t t' q = (q.0, edge_loses shortened j e t q.0 q.1, edges_lose shortened j es q.0 t' q.2)
 
   folds_branch : (op : ℕ) (known : List (Option AttrObj)) (t t' : Tree) → FoldsBranch m op known t t' → FoldsBranch (with_roots m chosen) op known t t'
   unfolding shape_of
