@@ -322,9 +322,11 @@ pub trait RegionBranchOpInterface: HasMeaning {
 }
 
 /// A dialect: its operations, what each means, and the laws that passes rest on.
-pub trait Dialect:
-    SideEffects + BlockArgRemoval + ConstFoldInterface + BranchOpFoldInterface + RegionBranchOpInterface
-{
+pub trait Dialect: SideEffects
+    + BlockArgRemoval
+    + ConstFoldInterface
+    + BranchOpFoldInterface
+    + RegionBranchOpInterface {
     /// What tells its operations apart.
     type Kind: Copy + Eq;
 

@@ -91,9 +91,7 @@ fn reads_all<D: Dialect>(op: Ptr<Operation>, ctx: &Context) -> bool
     requires { IsLive ctx.now.tree op }
     ensures { ReadsHead (λ h. either (D.can_fold h) (either (D.can_fold_branch h) (D.has_interface h RegionBranch))) ctx.now.tree op result }
 {
-    D::folds(op, ctx)
-        || D::folds_branch(op, ctx)
-        || D::implements(op, ctx, Interface::RegionBranch)
+    D::folds(op, ctx) || D::folds_branch(op, ctx) || D::implements(op, ctx, Interface::RegionBranch)
 }
 
 /// What is to be done where the operand at this place fell. Cost: that of a few tests of the dialect.
