@@ -1,5 +1,5 @@
 -- What the search for facts knows holds at its start and after each step, and at its end the facts are closed.
-use Rattle.std.proofs.Common.{◌≡◌, inl, inr, ⊎_elim, ℕ, zero, suc, ◌+◌, ◌*◌, ◌-◌, ◌≤◌, ◌<◌, ◌^◌, true, false, true≢false, not, List, [], ◌∷◌, length, Option, Some, None, slice_index_or, refl, sym, ap, ◌∙◌, subst, arith, IsTrue}
+use Rattle.std.proofs.Common.{◌≡◌, ◌⊎◌, inl, inr, ⊎_elim, ℕ, zero, suc, ◌+◌, ◌*◌, ◌-◌, ◌≤◌, ◌<◌, ◌^◌, true, false, true≢false, not, List, [], ◌∷◌, length, Option, Some, None, slice_index_or, refl, sym, ap, ◌∙◌, subst, arith, IsTrue}
 use Rattle.std.specs.List.{flat_map}
 use Rattle.std.proofs.lemmas.Bool.{eq-eqb}
 use Rattle.std.proofs.lemmas.Option.{slice_get_within}
@@ -65,6 +65,9 @@ listed_inside t w root v i =
 -- what was taken counts more than what is put aside
 pub fewer : (all pops taken old new : ℕ) → pops + taken ≤ all → 0 < taken → new < old + 2 ^ 64 → (all - (pops + taken)) * 2 ^ 64 + new < (all - pops) * 2 ^ 64 + old
 fewer all pops taken old new l some few = omega (arith, l, some, few)
+
+pub more_by : (most old new : ℕ) → old < new → most + old < most + new
+more_by most old new l = omega (arith, l)
 
 -- what is reached is laid out as closed facts owe
 pub record IsLaidOut (t : Tree) (root : ℕ) (s : Tables) : Type 0 where
