@@ -212,9 +212,9 @@ module _ (x : Says) (t : Tree) (root : ℕ) (w : IsTree t) (live : IsLive t root
             numbered = λ b i. called_falls.numbers b ∙ k.numbers b ∙ o.numbered b i;
             settled = users_settle o;
             aside = λ j i. aside_then x t u s' j called_falls (⊎_elim
-            (λ old. aside_values x t values s u j k (o.aside j old))
-            (λ new. called_aside x t values users asked s u q k c a (λ j. In j (delayed z)) o.settled o.aside j new)
-            (v.only j i));
+                (λ old. aside_values x t values s u j k (o.aside j old))
+                (λ new. called_aside x t values users asked s u q k c a (λ j. In j (delayed z)) o.settled o.aside j new)
+                (v.only j i));
             started = l.started;
             held = l.held;
             there = l.there;

@@ -64,9 +64,9 @@ module _ {X : Type 0} (f : X → List ℕ) where
     members = λ k. (
       λ j. changed_after (λ k. k ≡ op) xs i x y at (λ k h. ⊎_elim (λ q. inl q) (λ e. inr (sym e)) ((adds.members k).0 h)) k j,
       λ j. ⊎_elim
-      (λ h. ⊎_elim (λ q. q) (λ z. absurd z) (changed_before (λ k. ⊥) xs i x y at (λ k h. inl ((adds.members k).1 (inl h))) k h))
-      (λ e. in_changed xs i x y k at ((adds.members k).1 (inr (sym e))))
-      j,
+          (λ h. ⊎_elim (λ q. q) (λ z. absurd z) (changed_before (λ k. ⊥) xs i x y at (λ k h. inl ((adds.members k).1 (inl h))) k h))
+          (λ e. in_changed xs i x y k at ((adds.members k).1 (inr (sym e))))
+          j,
     );
     grows = let e = changed_length xs i x y at in omega (arith, e, grows);
   }

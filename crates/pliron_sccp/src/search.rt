@@ -10,6 +10,13 @@
 //! looked at once, and no region is gone through in rounds: a fact falls at most twice, and only its users
 //! are looked at then. In deep nests of loops an inner loop is thus not gone through again for each round of
 //! the outer ones.
+//!
+//! A user with more than a few operands is put aside, once, and looked at where neither a block nor a value
+//! waits: one at a time, those with the fewest operands first, and what that look made fall is taken before
+//! the next one. So a branch that folds, and forwards many values which fall one after the other, is looked
+//! at when all of them fell, and not after each. Before it is looked at again, its own look or one at something
+//! about as long or longer made something fall: where its own look makes its next operand fall, as in a loop
+//! that moves its arguments on by one place, it is still looked at for each. The order decides no fact.
 ghost use Rattle.std.specs.Prelude.{◌≡◌, ◌<◌, ◌↔◌, ℕ, true, OnOk, IfOk, IsTrue, IsOkUnless, Some, length, slice_get};
 ghost use Rattle.pliron_core.specs.Tree.{IsLive, IsBlock, In, arguments_of, body_of, successors_of};
 ghost use Rattle.pliron_laws.specs.Answers.{ReadsHead};

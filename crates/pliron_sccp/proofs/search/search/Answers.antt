@@ -1,11 +1,11 @@
-use Rattle.std.proofs.Common.{◌≡◌, ◌+◌, ◌*◌, ◌-◌, ◌^◌, true, false, length, subst, arith}
+use Rattle.std.proofs.Common.{◌≡◌, ◌+◌, ◌*◌, ◌-◌, ◌^◌, length, subst, arith}
 use Rattle.pliron_theory.specs.Facts.{Says}
 use Rattle.pliron_sccp.specs.Chain.{blocks_inside}
 use Rattle.pliron_sccp.specs.Delaying.{delayed}
 use Rattle.pliron_sccp.specs.Inside.{values_inside}
 use Rattle.pliron_sccp.specs.Searching.{LooksAside, TakesTurn}
 use Rattle.pliron_sccp.proofs.DistinctLists.{inside_block}
-use Rattle.pliron_sccp.proofs.OnTheWay.{targets_numbered, few_to_take, started_search, next_search, same_search, search_bound, aside_search, end_search, fewer_left, fewer_aside, more_by}
+use Rattle.pliron_sccp.proofs.OnTheWay.{targets_numbered, few_to_take, started_search, next_search, search_bound, aside_search, end_search, fewer_left, fewer_aside, more_by}
 use Rattle.pliron_sccp.proofs.search.search.Goals as goal
 
 pub loop-delays-init : goal.loop-delays-init

@@ -1,7 +1,7 @@
-use Rattle.std.proofs.Common.{◌≡◌, ◌+◌, ◌≤◌, length, Some, slice_get, slice_set, refl, sym, ap, ◌∙◌, subst, nat_eq, arith}
+use Rattle.std.proofs.Common.{◌≡◌, length, Some, slice_get, slice_set, refl, subst, nat_eq, arith}
 use Rattle.std.specs.List.{flat_map}
 use Rattle.std.proofs.lemmas.Option.{slice_get_read}
-use Rattle.pliron_sccp.specs.Delaying.{PutsAside, delayed}
+use Rattle.pliron_sccp.specs.Delaying.{PutsAside}
 use Rattle.pliron_sccp.proofs.PutAside.{key_grows, put_aside}
 use Rattle.pliron_sccp.proofs.UserLists.{key_added, and_true}
 use Rattle.pliron_sccp.proofs.delays.Delays.put.Goals as goal

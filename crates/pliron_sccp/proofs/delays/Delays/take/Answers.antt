@@ -1,4 +1,4 @@
-use Rattle.std.proofs.Common.{◌≡◌, [], length, Some, slice_get, refl, sym, ap, ◌∙◌, subst, arith}
+use Rattle.std.proofs.Common.{◌≡◌, [], length, Some, slice_get, refl, ap, arith}
 use Rattle.std.proofs.lemmas.Option.{slice_get_read}
 use Rattle.pliron_sccp.specs.Delaying.{delayed}
 use Rattle.pliron_sccp.proofs.PutAside.{first_keys, first_within, none_only_if_empty, take_aside}
