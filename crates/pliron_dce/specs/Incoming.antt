@@ -1,5 +1,6 @@
 -- The edges to a block, in the order of how much they forward.
-use Rattle.std.specs.Prelude.{◌≡◌, ◌<◌, ◌≤◌, ◌^◌, ℕ, Bool, true, nat_eq, ◌&&◌, List, map, length, Option, Some, None, slice_get}
+use Rattle.std.specs.Prelude.{◌≡◌, ◌-◌, ◌<◌, ◌≤◌, ◌^◌, ℕ, Bool, true, nat_eq, ◌&&◌, List, map, length, Option, Some, None, slice_get}
+use Rattle.std.specs.List.Sorted.{IsNonDecreasingBy}
 use Rattle.std.specs.Option.{option_map}
 use Rattle.indexmap.specs.IndexMap.{get}
 use Rattle.pliron_core.specs.declared.uses.Use.{Use as Edge}
@@ -51,9 +52,9 @@ AreKnown m t root find = (block : ℕ) (edges : List IncomingEdge) → find bloc
 abbrev pub AreCounted : Meaning → Tree → List IncomingEdge → Type 0
 AreCounted m t edges = (i : ℕ) (e : IncomingEdge) → slice_get edges i ≡ Some e → (width m t (edge_of e) ≡ e.count) × (e.count < 2 ^ 64)
 
--- each one's count is at most that of those before it
+-- those that forwarded most come first
 abbrev pub AreFalling : List IncomingEdge → Type 0
-AreFalling edges = (i j : ℕ) (e f : IncomingEdge) → i < j → slice_get edges i ≡ Some e → slice_get edges j ≡ Some f → f.count ≤ e.count
+AreFalling edges = IsNonDecreasingBy (λ e. 2 ^ 64 - 1 - e.count) edges
 
 -- these are the operands that the first edges forward at this place; the others have no such place
 pub record AreForwardedTo (m : Meaning) (t : Tree) (index : ℕ) (edges : List Edge) (used : List ℕ) : Type 0 where

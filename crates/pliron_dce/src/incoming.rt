@@ -61,7 +61,8 @@ fn put_widest_first(edges: &mut Vec<IncomingEdge>) -> Result<(), AllocError>
     ensures kept { IsPermutation edges.old.items edges.new.items }
     ensures falling { OnOk result (AreFalling edges.new.items) }
 {
-    edges.sort_by_key(|edge| usize::MAX - edge.count)
+    edges.sort_by_key(|edge| usize::MAX - edge.count)?;
+    Ok(())
 }
 
 // The edges to the block, those first that forward most.
