@@ -16,8 +16,8 @@ use Rattle.pliron_laws.specs.Laws.{Admitted, KeepsCounts, GivesAtOnce, ForwardsO
 use Rattle.pliron_laws.specs.Linked.{IsWellLinked}
 use Rattle.pliron_theory.specs.Dropping.{AreEdgesTo, EdgeLoses, Lacks, EdgesLose, AreOfBranches}
 use Rattle.pliron_theory.proofs.SweptKeeps.{admitted_shape}
-use Rattle.pliron_theory.proofs.EdgesLost.{place_still, lack_still, turn_next}
-use Rattle.pliron_theory.proofs.ShortenedBranches.{Among, AreListed, SameFrame, user_live}
+use Rattle.pliron_theory.proofs.EdgesLost.{framed, place_still, lack_still, turn_next}
+use Rattle.pliron_theory.proofs.ShortenedBranches.{Among, AreListed, SameFrame, same_frame, user_live}
 use Rattle.pliron_dce.specs.Going.{Removes}
 use Rattle.pliron_dce.specs.Incoming.{count_along, width, AreIncoming, AreForwardedTo, HavePlaces}
 use Rattle.pliron_dce.specs.Steps.{IsReadyArgument, IsReadyOperation, AreNoted, AreOperandsWithin}
@@ -269,6 +269,9 @@ module _ (m : Meaning) (can_fold : Head → Bool) (SameTests : Head → Head →
 
     width_is : width m t e ≡ length (m.forwarded (shape_of m t o) e.place)
     width_is = ap (count_along m t e.place) oe
+
+    pub lost_live : IsLive x e.user
+    lost_live = (framed m can_fold SameTests shortened law tests t w block index (take n edges) t x listed before (same_frame m can_fold SameTests shortened law tests t w block index)).live e.user (user_live m can_fold SameTests shortened law tests t w block index e.user e.place (to.listed n e at))
 
     pub place_there : n < count → HasPlace m x e.user e.place index
     place_there l = place_still m can_fold SameTests shortened law tests t w block index (take n edges) x listed before e.user e.place o oe admitted ((branches n e at).1 head.0 head.1) not_yet (subst (λ z. index < z) width_is (places.first n e l at))
