@@ -1,11 +1,12 @@
 -- The edges to a block in another order.
-use Rattle.std.proofs.Common.{◌≡◌, ◌⊎◌, inl, inr, ⊎_elim, ℕ, zero, suc, ◌+◌, ◌-◌, ◌^◌, get_or, ◌<◌, ◌≤◌, Bool, true, false, true≢false, nat_eq, ◌&&◌, List, [], ◌∷◌, ◌++◌, length, map, take, Option, Some, None, slice_get, remove, refl, sym, ap, ap₂, ◌∙◌, subst, arith, Contains}
+use Rattle.std.proofs.Common.{◌≡◌, ◌⊎◌, inl, inr, ⊎_elim, ℕ, zero, suc, ◌+◌, ◌-◌, ◌^◌, get_or, ◌<◌, ◌≤◌, Bool, true, false, true≢false, nat_eq, ◌&&◌, cond, List, [], ◌∷◌, ◌++◌, length, map, take, Option, Some, None, slice_get, remove, refl, sym, ap, ap₂, ◌∙◌, subst, arith, Contains}
 use Rattle.std.specs.List.{IsDistinct, AllByRecursion}
 use Rattle.std.specs.List.Sorted.{IsPermutation, IsNonDecreasingBy}
 use Rattle.std.proofs.lemmas.Option.{slice_get_within, slice_get_past, slice_get-map, slice_get-get_or, get_or_from_slice_get}
 use Rattle.std.proofs.lemmas.List.Sorted.{IsPermutation-sym, IsPermutation-map, Contains-permutation}
 use Rattle.std.proofs.lemmas.List.Edits.{length-remove}
 use Rattle.std.proofs.lemmas.Map.Keys.{IsDistinct-IsPermutation}
+use Rattle.std.proofs.lemmas.Bool.{cases_Bool}
 use Rattle.std.specs.Option.{option_map}
 use Rattle.std.proofs.lemmas.List.{take_more, map-append}
 use Rattle.pliron_core.specs.declared.uses.Use.{Use as Edge}
@@ -19,7 +20,7 @@ use Rattle.pliron_laws.proofs.Records.{operation_of, make_op}
 use Rattle.pliron_theory.proofs.ShortenedBranches.{length_picked}
 use Rattle.pliron_theory.specs.Dropping.{AreEdgesTo}
 use Rattle.pliron_dce.specs.declared.incoming.IncomingEdge.{IncomingEdge}
-use Rattle.pliron_dce.specs.Incoming.{edge_of, edges_of, count_along, width, BranchesLead, AreCounted, AreFalling, AreIncoming}
+use Rattle.pliron_dce.specs.Incoming.{edge_of, edges_of, count_along, width, BranchesLead, AreCounted, AreFalling, AreIncoming, AreKnown, is_one_key}
 use Rattle.pliron_dce.proofs.PlaceLists.{remove_none}
 
 -- an item of a list of edges
@@ -157,3 +158,15 @@ width_counted m t e values l fw =
     let o = operation_of t e.user h.0 in
     let oe = make_op t e.user h.0 h.1 in
     ap (count_along m t e.place) oe ∙ sym (length_picked values (m.forwarded (shape_of m t o) e.place) o.operands (fw o oe))
+
+-- one list more
+pub known_more : {V : Type 0} (items : V → List IncomingEdge) (m : Meaning) (t : Tree) (root : ℕ) (find more : ℕ → Option V) (block : ℕ) (list : V) → ((q : ℕ) → more q ≡ cond (is_one_key block q) (Some list) (find q)) → AreIncoming m t block (edges_of (items list)) → AreKnown m t root (λ b. option_map items (find b)) → AreKnown m t root (λ b. option_map items (more b))
+known_more items m t root find more block list at new old b es e held = elim (cases_Bool (is_one_key block b)) [
+  | inl same ↦
+      let one : items list ≡ es = some_is (sym (ap (option_map items) (at b ∙ ap (λ z. cond z (Some list) (find b)) same)) ∙ e) in
+      subst (λ z. AreIncoming m t z (edges_of es)) (one_key block b same) (subst (λ z. AreIncoming m t block (edges_of z)) one new)
+  | inr other ↦ old b es (sym (ap (option_map items) (at b ∙ ap (λ z. cond z (Some list) (find b)) other)) ∙ e) held
+]
+  where
+    one_key : (x y : ℕ) → is_one_key x y ≡ true → x ≡ y
+    one_key x y q = grind arith

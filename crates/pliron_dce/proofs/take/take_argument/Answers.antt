@@ -22,7 +22,8 @@ lose_operands-requires-clause-count g c =
 pub lose_operands-requires-clause-places : goal.lose_operands-requires-clause-places
 lose_operands-requires-clause-places g c =
     let v = argument_at c.args.ctx.now.tree c.args.block c.args.index c.requires.index in
-    subst (HavePlaces g.D.HasMeaning.meaning c.args.ctx.now.tree c.args.index (edges_of c.args.edges.now)) (sym c.len.ensures)
+    let many : length c.in_ok-used.used.items ≡ c.len.result = (let n = c.len.ensures in omega (arith, n)) in
+    subst (HavePlaces g.D.HasMeaning.meaning c.args.ctx.now.tree c.args.index (edges_of c.args.edges.now)) many
     (have_places g.D.HasMeaning.meaning c.args.ctx.now.tree c.args.index (edges_of c.args.edges.now) c.in_ok-used.used.items (λ i e q. edge_live _ _ _ _ g.met.D.Dialect.forwards_operands (λ h h' s. s.branch) g.D.BlockArgRemoval.removable c.args.ctx.now.tree (edges_of c.args.edges.now) c.args.root c.args.block c.args.index v.0 c.well_formed-2.ensures.tree c.requires.edges.complete c.requires.linked v.1 (c.requires.ready v.0 v.1) i e q) c.in_ok-used.ensures.used)
 
 pub remove_argument-requires-clause-block : goal.remove_argument-requires-clause-block
