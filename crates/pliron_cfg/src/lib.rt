@@ -11,7 +11,7 @@
 ghost use Rattle.std.specs.Prelude.{◌≡◌, ℕ, IfOk, IfErr};
 ghost use Rattle.pliron_core.specs.Tree.{IsLive};
 ghost use Rattle.pliron_laws.specs.Linked.{IsWellLinked};
-ghost use Rattle.pliron_theory.specs.Change.{IsPassChange};
+ghost use Rattle.pliron_theory.specs.Change.{IsWholeChange};
 ghost use Rattle.pliron_cfg.specs.Simplified.{Simplifies, SimplifyFails};
 
 mod folding;
@@ -51,7 +51,7 @@ pub fn simplify_cfg<D: Dialect>(
         ctx.new.tree status) }
     ensures err { IfErr result (λ e. SimplifyFails D.meaning D.can_fold D.can_fold_branch D.constants D.BranchOpFoldInterface.outcome op ctx.old.tree
         ctx.new.tree e) }
-    ensures change { IsPassChange D.meaning ctx.old.tree ctx.new.tree op }
+    ensures change { IsWholeChange D.meaning ctx.old.tree ctx.new.tree op }
 {
     ctx.well_formed();
     let mut rewriter = IRRewriter::new();
