@@ -1,5 +1,5 @@
 -- The edges to a block keep their order while things go.
-use Rattle.std.proofs.Common.{◌≡◌, ◌≢◌, ◌⊎◌, inl, inr, ⊎_elim, ℕ, ◌+◌, ◌<◌, ◌≤◌, Bool, true, false, List, length, Option, Some, None, IsTrue, slice_get, slice_index_or, remove, refl, sym, ap, ◌∙◌, subst, arith}
+use Rattle.std.proofs.Common.{◌≡◌, ◌≢◌, ◌⊎◌, inl, inr, ⊎_elim, ℕ, ◌+◌, ◌<◌, ◌≤◌, Bool, true, false, List, [], length, Option, Some, None, IsTrue, slice_get, slice_index_or, remove, refl, sym, ap, ◌∙◌, subst, arith}
 use Rattle.std.proofs.lemmas.Bool.{cases_eq}
 use Rattle.pliron_core.specs.declared.uses.Use.{Use as Edge}
 use Rattle.pliron_core.specs.declared.context.Def.TheVariants.{Argument}
@@ -188,9 +188,9 @@ module _ (m : Meaning) (side_effects : Head → Option Bool) (removable : Head �
 -- a ready thing goes
 module _ (m : Meaning) (can_fold : Head → Bool) (SameTests : Head → Head → Type 0) (shortened : Shape → ℕ → ℕ → Head) (law : ForwardsOperands m can_fold SameTests shortened) (tests : (h h' : Head) → SameTests h h' → m.is_branch h' ≡ m.is_branch h) (counts : KeepsCounts m) (side_effects : Head → Option Bool) (free : GivesAtOnce m side_effects) (removable : Head → ℕ → Bool → Option Bool) where
   pub known_after : (t t' : Tree) (root : ℕ) (x : Item) (find : ℕ → Option (List IncomingEdge)) → IsTree t → IsTree t' → IsWellLinked m t root → IsReady m side_effects removable t root x → Goes m shortened t t' x → AreKnown m t root find → AreKnown m t' root find
-  known_after t t' root (Op k) find w w' linked r g known = subst (λ z. AreKnown m z root find) (sym g.1) (known_erased m side_effects removable counts free t root w linked k r.may r.none (subst IsTree g.1 w') find known)
-  known_after t t' root (Arg v) find w w' linked r g known = subst (λ z. AreKnown m z root find) (sym g.removed) (known_removed m can_fold SameTests shortened law tests t g.between root g.block g.index g.edges w linked g.complete g.lose find known)
-  known_after t t' root (Use user place) find w w' linked r g known = absurd g
+  known_after t u root (Op k) find w w' linked r g known = subst (λ z. AreKnown m z root find) (sym g.1) (known_erased m side_effects removable counts free t root w linked k r.may r.none (subst IsTree g.1 w') find known)
+  known_after t u root (Arg v) find w w' linked r g known = subst (λ z. AreKnown m z root find) (sym g.removed) (known_removed m can_fold SameTests shortened law tests t g.between root g.block g.index g.edges w linked g.complete g.lose find known)
+  known_after t u root (Use user place) find w w' linked r g known = absurd g
 
 -- branches alone lead to the block of a ready argument, which stands inside the root
 pub ready_branches : (m : Meaning) (removable : Head → ℕ → Bool → Option Bool) (t : Tree) (root v block index : ℕ) → IsTree t → IsReadyArgument m removable t root v → slice_get (arguments_of t block) index ≡ Some v → HoldsBlock t root block × BranchesLead m t block
