@@ -170,3 +170,6 @@ known_more items m t root find more block list at new old b es e held = elim (ca
   where
     one_key : (x y : ℕ) → is_one_key x y ≡ true → x ≡ y
     one_key x y q = grind arith
+
+pub none_known : (m : Meaning) (t : Tree) (root : ℕ) (find : ℕ → Option (List IncomingEdge)) → ((b : ℕ) → find b ≡ None) → AreKnown m t root find
+none_known m t root find none b es e held = let f : None ≡ Some es = sym (none b) ∙ e in absurd (cc)

@@ -9,9 +9,11 @@ use Rattle.pliron_dce.proofs.TakeLemmas.{place_there, all_lose, lost_live}
 use Rattle.pliron_dce.proofs.take.lose_operands.Goals as goal
 
 pub returns : goal.returns
-returns g c = record { lost = all_lose _ _ _ _ g.met.D.Dialect.forwards_operands (λ h h' s. s.branch) c.args.ctx.now.tree c.well_formed-2.ensures.tree c.args.block c.args.index (edges_of c.args.edges.now) c.requires.edges c.requires.branches c.args.count c.requires.places c.loop-i.ctx.tree
-    (let long = length-map c.args.edges.now (λ e. edge_of e) in let l = c.requires.count in omega (arith, l, long))
-    (subst (λ z. EdgesLose g.D.HasMeaning.meaning g.D.Dialect.shortened c.args.index (take z (edges_of c.args.edges.now)) c.args.ctx.now.tree c.loop-i.ctx.tree) (let a = c.loop-i-test.false in let b = c.loop-i.auto.i-end in omega (arith, a, b)) c.loop-i.invariant) }
+returns g c = record {
+  lost = all_lose _ _ _ _ g.met.D.Dialect.forwards_operands (λ h h' s. s.branch) c.args.ctx.now.tree c.well_formed-2.ensures.tree c.args.block c.args.index (edges_of c.args.edges.now) c.requires.edges c.requires.branches c.args.count c.requires.places c.loop-i.ctx.tree
+      (let long = length-map c.args.edges.now (λ e. edge_of e) in let l = c.requires.count in omega (arith, l, long))
+      (subst (λ z. EdgesLose g.D.HasMeaning.meaning g.D.Dialect.shortened c.args.index (take z (edges_of c.args.edges.now)) c.args.ctx.now.tree c.loop-i.ctx.tree) (let a = c.loop-i-test.false in let b = c.loop-i.auto.i-end in omega (arith, a, b)) c.loop-i.invariant);
+}
 
 pub remove_successor_operand-requires-clause-live : goal.remove_successor_operand-requires-clause-live
 remove_successor_operand-requires-clause-live g c =
