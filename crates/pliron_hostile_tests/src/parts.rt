@@ -96,7 +96,7 @@ fn answer(
     given(rt, told)
 }
 
-/// What the call answers, whose answer and whole are looked at.
+/// Calls it once, looks at its answer and at the whole, and says whether it answered.
 fn check_once(
     rt: &impl Abort,
     alloc: Global,
@@ -105,27 +105,52 @@ fn check_once(
     block: Option<Ptr<BasicBlock>>,
     ctx: &mut Context,
     call: Call,
-) -> Option<IRStatus> {
+) -> bool {
     let before = shown(rt, alloc, whole, ctx);
     let told = answer(rt, alloc, holder, block, ctx, call);
     check_left(rt, alloc, whole, ctx, &before, told);
-    told
+    told.is_some()
 }
 
-/// Calls it twice, where a second one finds nothing more to do.
-fn check_at(
+/// A further call finds nothing more to do.
+fn check_settled(
     rt: &impl Abort,
     alloc: Global,
-    whole: Ptr<Operation>,
     holder: Ptr<Operation>,
     block: Option<Ptr<BasicBlock>>,
     ctx: &mut Context,
     call: Call,
 ) {
-    let told = check_once(rt, alloc, whole, holder, block, ctx, call);
-    if told.is_some() {
-        let again = answer(rt, alloc, holder, block, ctx, call);
-        assert!(rt; again == Some(IRStatus::Unchanged));
+    let again = answer(rt, alloc, holder, block, ctx, call);
+    assert!(rt; again == Some(IRStatus::Unchanged));
+}
+
+/// Calls it twice on the region of the holder.
+fn check_region_twice(
+    rt: &impl Abort,
+    alloc: Global,
+    whole: Ptr<Operation>,
+    holder: Ptr<Operation>,
+    ctx: &mut Context,
+    call: Call,
+) {
+    if check_once(rt, alloc, whole, holder, None, ctx, call) {
+        check_settled(rt, alloc, holder, None, ctx, call);
+    }
+}
+
+/// Calls it twice on the block.
+fn check_block_twice(
+    rt: &impl Abort,
+    alloc: Global,
+    whole: Ptr<Operation>,
+    holder: Ptr<Operation>,
+    block: Ptr<BasicBlock>,
+    ctx: &mut Context,
+    call: Call,
+) {
+    if check_once(rt, alloc, whole, holder, Some(block), ctx, call) {
+        check_settled(rt, alloc, holder, Some(block), ctx, call);
     }
 }
 
@@ -141,7 +166,7 @@ fn check_region(
     let Some(holder) = holders_of(rt, alloc, whole, ctx).get(index).copied() else {
         return false;
     };
-    check_at(rt, alloc, whole, holder, None, ctx, call);
+    check_region_twice(rt, alloc, whole, holder, ctx, call);
     true
 }
 
@@ -173,7 +198,7 @@ fn check_block(
     let Some((holder, block)) = all_blocks(rt, alloc, whole, ctx).get(index).copied() else {
         return false;
     };
-    check_at(rt, alloc, whole, holder, Some(block), ctx, call);
+    check_block_twice(rt, alloc, whole, holder, block, ctx, call);
     true
 }
 
