@@ -9,8 +9,8 @@
 
 One program is built and printed in three notations, so that all optimisers see the same control flow: in
 that of this repository, with the shortest names and no blanks; in LLVM's, where an argument of a block is
-a phi and a constant stands where it is used, so that there are fewer operations; and in that of MLIR 14
-(dialects `builtin`, `std` and `arith`), which compares a condition with zero before it branches.
+a phi and a constant stands where it is used, so that there are fewer operations; and in that of MLIR 22
+(dialects `builtin`, `func`, `cf` and `arith`), which compares a condition with zero before it branches.
 """
 import random
 import sys
@@ -626,7 +626,7 @@ def llvm_fn(n, f, w):
 
 
 def mlir(fns, w):
-    w("module {\nfunc private @read() -> i64\nfunc private @print(i64)\n")
+    w("module {\nfunc.func private @read() -> i64\nfunc.func private @print(i64)\n")
     for n, f in enumerate(fns):
         mlir_fn(n, f, w)
     w("}\n")
@@ -646,7 +646,7 @@ def mlir_fn(n, f, w):
         return f"^b{e[0].id}" + typed(list(e[1]))
 
     nret = max(len(b.term[1]) for b in f.blocks if b.term[0] == "ret")
-    w(f"func @f{n}(" + ", ".join(f"%v{x}: i64" for x in f.entry.args) + f") -> ({types(nret)}) {{\n")
+    w(f"func.func @f{n}(" + ", ".join(f"%v{x}: i64" for x in f.entry.args) + f") -> ({types(nret)}) {{\n")
     w("  %zero = arith.constant 0 : i64\n")
     for b in f.blocks:
         if b is not f.entry:
@@ -655,20 +655,20 @@ def mlir_fn(n, f, w):
             if kind == "const":
                 w(f"  %v{r} = arith.constant {a} : i64\n")
             elif kind == "read":
-                w(f"  %v{r} = call @read() : () -> i64\n")
+                w(f"  %v{r} = func.call @read() : () -> i64\n")
             elif kind == "print":
-                w(f"  call @print(%v{a[0]}) : (i64) -> ()\n")
+                w(f"  func.call @print(%v{a[0]}) : (i64) -> ()\n")
             else:
                 name = {"add": "addi", "mul": "muli", "div": "divsi"}[kind]
                 w(f"  %v{r} = arith.{name} {values(a)} : i64\n")
         t = b.term
         if t[0] == "br":
-            w(f"  br {edge(t[1])}\n")
+            w(f"  cf.br {edge(t[1])}\n")
         elif t[0] == "cbr":
             w(f"  %c{b.id} = arith.cmpi ne, %v{t[1]}, %zero : i64\n")
-            w(f"  cond_br %c{b.id}, {edge(t[2])}, {edge(t[3])}\n")
+            w(f"  cf.cond_br %c{b.id}, {edge(t[2])}, {edge(t[3])}\n")
         else:
-            w("  return" + (f" {values(t[1])} : {types(len(t[1]))}" if t[1] else "") + "\n")
+            w("  func.return" + (f" {values(t[1])} : {types(len(t[1]))}" if t[1] else "") + "\n")
     w("}\n")
 
 

@@ -98,7 +98,7 @@ def theirs(passes):
     if passes.startswith("mlir:"):
         words = [f"--{name}" for name in passes[len("mlir:"):].split(",")]
         return [os.environ.get("MLIR_OPT", "mlir-opt"), "--mlir-disable-threading", *words, "-o", "/dev/null"], "mlir"
-    return ["opt", f"-passes={passes}", "-S", "-o", "/dev/null"], "llvm"
+    return [os.environ.get("OPT", "opt"), f"-passes={passes}", "-S", "-o", "/dev/null"], "llvm"
 
 
 def write(shape, n, notation, folder):
