@@ -23,7 +23,7 @@ use Rattle.pliron_bench.specs.BenchOutcomes.{kind_in, fold_of, bench_outcome, ed
 -- ---- constants
 
 -- the tree with a constant put for each result that is answered by an attribute which is accepted
-pub put_all : (accepts : AttrObj → Bool) (head : AttrObj → Head) (op : ℕ) → List ℕ → List (Option AttrObj) → Tree → Tree
+unfoldable pub put_all : (accepts : AttrObj → Bool) (head : AttrObj → Head) (op : ℕ) → List ℕ → List (Option AttrObj) → Tree → Tree
 put_all accepts head op [] answers t = t
 put_all accepts head op (v ∷ vs) [] t = t
 put_all accepts head op (v ∷ vs) (None ∷ answers) t = put_all accepts head op vs answers t

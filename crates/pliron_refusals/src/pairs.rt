@@ -86,11 +86,7 @@ static AFTER: &str =
 ///
 /// Asks that it stands in a block, is a pair, and has no operands and two results. Errors: want of memory,
 /// after which the tree is as before, but for spent keys. Cost: the number of uses of its results.
-fn fold_pair(
-    alloc: Global,
-    pair: Ptr<Operation>,
-    ctx: &mut Context,
-) -> Result<IRStatus, OptError>
+fn fold_pair(alloc: Global, pair: Ptr<Operation>, ctx: &mut Context) -> Result<IRStatus, OptError>
     requires live { IsLive ctx.old.tree pair }
     requires placed { IsSome (parent_of ctx.old.tree pair) }
     requires folds { HeadPasses (λ h. is_of_bench_kind h Pair) ctx.old.tree pair }
