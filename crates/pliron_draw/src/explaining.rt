@@ -77,7 +77,11 @@ pub fn explain(alloc: Global, source: &Source, pipeline: &str) -> Result<Outcome
         Ok(plan) => explain_by(alloc, source, &plan),
         Err(PlanError::Word(fault)) => misspelt(alloc, pipeline, &fault),
         Err(PlanError::Memory) => {
-            ended_badly(alloc, Wrong::Failed(Failure::Refused(OptError::Memory)), source)
+            ended_badly(
+                alloc,
+                Wrong::Failed(Failure::Refused(OptError::Memory)),
+                source,
+            )
         }
     }
 }

@@ -11,7 +11,6 @@ use Rattle.pliron_notation.specs.Building.{IsGrown}
 use Rattle.pliron_pass.specs.Headline.{DoAsBefore}
 use Rattle.pliron_evaluator.specs.Evaluator.{sight_of}
 use Rattle.pliron_evaluator.specs.declared.evaluator.values.Sight.{Sight}
-use Rattle.pliron_show.specs.Layout.{without_blanks}
 use Rattle.pliron_show.proofs.LayoutLemmas.{break_added}
 use Rattle.pliron_opts.specs.Answered.{Reads, Prints, IsOptimised, status_line}
 use Rattle.pliron_watch.specs.PipelineWords.{Plans}

@@ -14,7 +14,8 @@ use pliron_opts::{BenchNotation, Notation};
 use pliron_pass::{BenchFactKind, Pass};
 use pliron_show::{Mark, Source, marked, pretty};
 use pliron_watch::{
-    Plan, PlanError, Progress, Watched, WatchedSchedule, Wish, WordFault, optimise, scheduled, watched_passes,
+    Plan, PlanError, Progress, Watched, WatchedSchedule, Wish, WordFault, optimise, scheduled,
+    watched_passes,
 };
 use std::alloc::{AllocError, Global};
 
