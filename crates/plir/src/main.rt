@@ -43,6 +43,17 @@ fn numbers(alloc: Global, matches: &ArgMatches, id: &str) -> io::Result<Vec<i64>
     Ok(numbers)
 }
 
+/// Runs the text so, before and after these passes.
+fn compare_wished<'w>(
+    alloc: Global,
+    source: &Source,
+    run: RunWish<'w>,
+    pipeline: &'w str,
+) -> io::Result<Outcome> {
+    let wish = CompareWish { run, pipeline };
+    Ok(compare(alloc, source, &wish)?)
+}
+
 /// Runs the text as the words wish, or before and after passes.
 fn run_wished(alloc: Global, source: &Source, matches: &ArgMatches) -> io::Result<Outcome> {
     let inputs = numbers(alloc, matches, "input")?;
@@ -54,13 +65,7 @@ fn run_wished(alloc: Global, source: &Source, matches: &ArgMatches) -> io::Resul
         trace: matches.get_flag("trace"),
     };
     match matches.get_str("compare") {
-        Some(pipeline) => {
-            let wish = CompareWish {
-                run: wish,
-                pipeline,
-            };
-            Ok(compare(alloc, source, &wish)?)
-        }
+        Some(pipeline) => compare_wished(alloc, source, wish, pipeline),
         None => Ok(run(alloc, source, &wish)?),
     }
 }
@@ -114,23 +119,36 @@ impl Progress for Terminal<'_> {
     }
 }
 
-/// Runs the passes that the words ask for on the text.
-fn opt_wished(rt: &HostRuntime, source: &Source, matches: &ArgMatches) -> io::Result<Outcome> {
-    let prints = words(rt.alloc(), matches, "print-after")?;
+/// Runs these passes on the text, and looks so at what they do.
+fn opt_watched<'w>(
+    rt: &HostRuntime,
+    source: &Source,
+    matches: &ArgMatches,
+    watch: Wish<'w>,
+    pipeline: &'w str,
+) -> io::Result<Outcome> {
     let wish = OptWish {
-        pipeline: matches.get_str("pipeline").unwrap_or(""),
+        pipeline,
         is_pretty: is_pretty(rt, matches),
-        watch: Wish {
-            counts: matches.get_flag("stats"),
-            verifies: matches.get_flag("verify-each"),
-            prints_all: matches.get_flag("print-after-all"),
-            prints: &prints,
-        },
+        watch,
         times: matches.get_flag("time"),
     };
     let start = rt.monotonic().unwrap_or(Duration::ZERO);
     let terminal = Terminal { rt, start };
     Ok(opt(rt.alloc(), source, &wish, terminal)?)
+}
+
+/// Runs the passes that the words ask for on the text.
+fn opt_wished(rt: &HostRuntime, source: &Source, matches: &ArgMatches) -> io::Result<Outcome> {
+    let prints = words(rt.alloc(), matches, "print-after")?;
+    let watch = Wish {
+        counts: matches.get_flag("stats"),
+        verifies: matches.get_flag("verify-each"),
+        prints_all: matches.get_flag("print-after-all"),
+        prints: &prints,
+    };
+    let pipeline = matches.get_str("pipeline").unwrap_or("");
+    opt_watched(rt, source, matches, watch, pipeline)
 }
 
 /// The outcome of a command whose input can't be read: its name is told, and why.
