@@ -32,6 +32,10 @@ pub trait Rewriter {
     /// Where it inserts.
     ghost point: { Self → OpInsertionPoint };
 
+    /// Where it inserts. Takes no memory. Cost: constant.
+    fn insertion_point(&self) -> OpInsertionPoint
+        ensures { result ≡ point self.now };
+
     /// From now on inserts directly before this operation.
     fn set_insertion_point_before_operation(&mut self, op: Ptr<Operation>)
         ensures { point self.new ≡ OpInsertionPoint.BeforeOperation op };
@@ -139,6 +143,11 @@ impl Default for IRRewriter {
 
 impl Rewriter for IRRewriter {
     ghost point = { λ r. point_of r };
+
+    fn insertion_point(&self) -> OpInsertionPoint {
+        let IRRewriter { point } = self;
+        *point
+    }
 
     fn set_insertion_point_before_operation(&mut self, op: Ptr<Operation>) {
         self.point = OpInsertionPoint::BeforeOperation(op);
