@@ -6,6 +6,7 @@
 //! It stands on the theory of runs and knows nothing of the other optimisations, of passes and of the program.
 #![tactic(auto)]
 
+mod delays;
 mod demands;
 mod facts;
 mod inside;
