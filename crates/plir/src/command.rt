@@ -58,7 +58,7 @@ fn run<'a>(alloc: Global) -> Result<Command<'a>, AllocError> {
         .arg(numbers(
             alloc,
             "input",
-            "A value that the text's operation gets; once for each, in order",
+            "A value for the text's operation; once for each, in order",
         ))?
         .arg(numbers(
             alloc,
@@ -79,7 +79,7 @@ fn compare<'a>(alloc: Global) -> Result<Arg<'a>, AllocError> {
         .long("compare")
         .value_name("PIPELINE")
         .help(
-            "Run it again after these passes, written as for `plir opt`, and say whether the same is seen",
+            "Run it again after these passes, written as for\n`plir opt`, and say whether the same is seen",
         )
         .conflicts_with("trace")
 }
@@ -94,11 +94,12 @@ Statuses: 0 where the answer is written; 1 where memory or the passes were refus
 
 /// What `PIPELINE` may be.
 static PIPELINE: &str = "\
-The passes, joined by commas: `sccp` (constant propagation), `dce` (dead code
-elimination) and `simplify-cfg` (simplification of control flow). `nested(LIST)` runs
-them on each operation directly inside, and `repeat<N>(..)` again and again until
-nothing changes, at most N times, from 1 to 64: `repeat<8>(nested(sccp,dce))`.
-`nested:LIST` and `repeat:N:..` say the same, as for `plir_opt`";
+The passes, joined by commas: `sccp` (constant propagation), `dce`
+(dead code elimination), `simplify-cfg` (simplification of control
+flow). `nested(LIST)` runs them on each operation directly inside,
+`repeat<N>(..)` until nothing changes, at most N times, from 1 to
+64: `repeat<8>(nested(sccp,dce))`. `nested:LIST` and `repeat:N:..`
+say the same, as for `plir_opt`";
 
 fn pipeline<'a>(alloc: Global) -> Arg<'a> {
     Arg::new(alloc, "pipeline")
@@ -114,7 +115,7 @@ fn print_after<'a>(alloc: Global) -> Arg<'a> {
         .action(ArgAction::Append)
         .value_parser(PASSES.as_slice())
         .help(
-            "Tell the operation after each run of this pass, on standard error; once for each pass",
+            "Tell the operation after each run of this pass, on\nstandard error; once for each pass",
         )
 }
 
@@ -124,23 +125,23 @@ fn with_reports<'a>(command: Command<'a>, alloc: Global) -> Result<Command<'a>, 
         .arg(flag(
             alloc,
             "print-after-all",
-            "Tell the operation after each run of a pass, on standard error",
+            "Tell the operation after each run of a pass, on\nstandard error",
         ))?
         .arg(print_after(alloc))?
         .arg(flag(
             alloc,
             "verify-each",
-            "Verify the operation after each run of a pass; a fault is told, and nothing written",
+            "Verify the operation after each run of a pass; a\nfault is told, and nothing written",
         ))?
         .arg(flag(
             alloc,
             "stats",
-            "Tell how many operations, blocks, arguments and edges there are before and after each pass, on standard error",
+            "Tell how many operations, blocks, arguments and\nedges there are before and after each pass, on\nstandard error",
         ))?
         .arg(flag(
             alloc,
             "time",
-            "Tell the time of each pass and its share, on standard error",
+            "Tell the time of each pass and its share, on\nstandard error",
         ))
 }
 
@@ -190,7 +191,7 @@ fn dot<'a>(alloc: Global) -> Result<Command<'a>, AllocError> {
                 .value_name("PATH")
                 .default_value("0")
                 .help(
-                    "The region: numbers with dots between them, as `0.2.0` for region 0 of operation 2 of region 0",
+                    "The region: numbers with dots between them, as `0.2.0` for\nregion 0 of operation 2 of region 0",
                 ),
         )?
         .arg(flag(
@@ -236,9 +237,7 @@ fn with<'a>(
 fn command<'a>(alloc: Global) -> Result<Command<'a>, AllocError> {
     let plir = Command::new(alloc, "plir")
         .version("0.1.0")
-        .about(
-            "Texts of operations: runs, passes, marks under what is wrong, pictures, and why passes changed what",
-        )
+        .about("Texts of operations: runs, passes, marks under what is wrong, pictures, reasons")
         .subcommand_required(true)
         .arg_required_else_help(true);
     let plir = with(plir, run(alloc))?;
