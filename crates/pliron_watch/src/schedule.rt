@@ -1,5 +1,5 @@
 //! The watched passes that a plan asks for.
-ghost use Rattle.std.specs.Prelude.{◌≡◌, map, IfOk, IfSome};
+ghost use Rattle.std.specs.Prelude.{◌≡◌, ◌++◌, ◌∷◌, [], map, IfOk, IfSome, OnOk};
 ghost use Rattle.pliron_watch.specs.Schedules.{IsPlanned, is_for_each, listed, passes_of, pipeline_of, runs_of};
 
 use crate::pipeline_words::Plan;
@@ -43,6 +43,19 @@ impl<'w> Wish<'w> {
     }
 }
 
+/// The watched pass comes last.
+fn add<N: Notation, C: Progress + Copy + Drop>(
+    passes: &mut Passes<Watched<N, C>>,
+    watched: Watched<N, C>,
+) -> Result<(), AllocError>
+    ensures { OnOk result (passes.new.passes.items ≡ passes.old.passes.items ++ watched ∷ []) }
+{
+    if passes.add_pass(watched).is_err() {
+        return Err(AllocError);
+    }
+    Ok(())
+}
+
 /// The watched passes of these names in turn, if each is the name of one.
 fn passes<N: Notation, C: Progress + Copy + Drop>(
     alloc: Global,
@@ -57,10 +70,10 @@ fn passes<N: Notation, C: Progress + Copy + Drop>(
         let Some(step) = Step::from_name(name) else {
             return Ok(None);
         };
-        let watched = Watched::new(alloc, step, wish.watch(name), clock);
-        if passes.add_pass(watched).is_err() {
-            return Err(AllocError);
-        }
+        add(
+            &mut passes,
+            Watched::new(alloc, step, wish.watch(name), clock),
+        )?;
     }
     Ok(Some(passes))
 }
