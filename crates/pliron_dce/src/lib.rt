@@ -18,6 +18,7 @@ ghost use Rattle.pliron_dce.specs.Dead.{Item};
 ghost use Rattle.pliron_dce.specs.Going.{GoInTurn, AreDeadThings, LeavesNoDead, TellsDead, SomeHasRegions};
 
 mod candidates;
+mod incoming;
 mod looks;
 mod ready;
 mod sweep;
