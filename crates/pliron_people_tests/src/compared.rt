@@ -4,20 +4,23 @@ use pliron_people::{CompareWish, RunWish, Source, compare};
 use std::alloc::Global;
 use std::process::Abort;
 
+/// Runs before and after these passes.
+fn before_and_after<'w>(run: RunWish<'w>, pipeline: &'w str) -> CompareWish<'w> {
+    CompareWish { run, pipeline }
+}
+
 fn expect_compared(rt: &impl Abort, alloc: Global, pipeline: &str, text: &str, wanted: &str) {
     let source = Source {
         name: "in.plir",
         text: text.as_bytes(),
     };
-    let wish = CompareWish {
-        run: RunWish {
-            inputs: &[3],
-            world: &[7, 8],
-            steps: 20,
-            trace: false,
-        },
-        pipeline,
+    let run = RunWish {
+        inputs: &[3],
+        world: &[7, 8],
+        steps: 20,
+        trace: false,
     };
+    let wish = before_and_after(run, pipeline);
     let outcome = compare(alloc, &source, &wish).expect(rt, "memory");
     let (status, output) = wanted.split_once(' ').expect(rt, "a status");
     let found = in_one_line(alloc, &outcome.output).expect(rt, "memory");

@@ -6,34 +6,38 @@ use pliron_watch::Timeless;
 use std::alloc::Global;
 use std::process::Abort;
 
-/// Passes alone.
-pub fn plain(pipeline: &str) -> OptWish<'_> {
+/// Passes that are watched so.
+pub fn with_watch<'w>(pipeline: &'w str, watch: Wish<'w>) -> OptWish<'w> {
     OptWish {
         pipeline,
         is_pretty: false,
-        watch: Wish {
-            counts: false,
-            verifies: false,
-            prints_all: false,
-            prints: &[],
-        },
+        watch,
         times: false,
     }
 }
 
+/// Passes alone.
+pub fn plain(pipeline: &str) -> OptWish<'_> {
+    let watch = Wish {
+        counts: false,
+        verifies: false,
+        prints_all: false,
+        prints: &[],
+    };
+    with_watch(pipeline, watch)
+}
+
 /// The same with all that can be told.
 pub fn watched(pipeline: &str) -> OptWish<'_> {
-    OptWish {
-        pipeline,
-        is_pretty: false,
-        watch: Wish {
-            counts: true,
-            verifies: true,
-            prints_all: true,
-            prints: &[],
-        },
-        times: true,
-    }
+    let watch = Wish {
+        counts: true,
+        verifies: true,
+        prints_all: true,
+        prints: &[],
+    };
+    let mut wish = with_watch(pipeline, watch);
+    wish.times = true;
+    wish
 }
 
 /// Words that say the same, `plir_opt`'s first.

@@ -1,7 +1,7 @@
 //! What `plir opt` tells beside its answer, worked by hand. `|` stands for the end of a line.
 use crate::lines::in_one_line;
-use crate::optimised::{plain, watched};
-use pliron_people::{OptWish, Outcome, Progress, Source, opt};
+use crate::optimised::{plain, watched, with_watch};
+use pliron_people::{OptWish, Outcome, Progress, Source, Wish, opt};
 use std::alloc::Global;
 use std::io;
 use std::process::Abort;
@@ -51,8 +51,13 @@ static TREES: &str = "\
 
 #[test]
 fn trees_after_a_pass(rt: HostRuntime) {
-    let mut wish = plain("nested(sccp,dce)");
-    wish.watch.prints = &["dce"];
+    let watch = Wish {
+        counts: false,
+        verifies: false,
+        prints_all: false,
+        prints: &["dce"],
+    };
+    let wish = with_watch("nested(sccp,dce)", watch);
     expect_report(&rt, rt.alloc(), TWO, &wish, TREES);
 }
 
