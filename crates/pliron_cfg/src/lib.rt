@@ -33,7 +33,8 @@ use std::alloc::Global;
 /// [`remove_blocks_inside_op`], then merges blocks, as [`merge_inside_op`].
 ///
 /// Asks that the operation stands and is well linked. `Changed` exactly if the tree changed. No unreachable
-/// block and no mergeable pair is left where it looks.
+/// block and no mergeable pair is left where it looks. Runs are kept of every root that is otherwise fit to
+/// run, also of one whose head may not be a root's; so it is for the six calls on regions.
 ///
 /// Errors: want of memory; `LiveUse` where a value of an unreachable block is used outside the unreachable
 /// blocks of its region. The tree is then one after some whole rewrites: some folds; all of them, and some
