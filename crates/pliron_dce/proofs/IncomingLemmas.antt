@@ -1,13 +1,13 @@
 -- The edges to a block keep their order while things go.
-use Rattle.std.proofs.Common.{◌≡◌, ◌≢◌, ◌⊎◌, inl, inr, ⊎_elim, ℕ, ◌+◌, ◌<◌, ◌≤◌, Bool, true, false, List, [], length, Option, Some, None, IsTrue, slice_get, slice_index_or, remove, refl, sym, ap, ◌∙◌, subst, arith}
+use Rattle.std.proofs.Common.{◌≡◌, ◌≢◌, inr, ⊎_elim, ℕ, ◌<◌, ◌≤◌, Bool, false, List, [], length, Option, Some, None, IsTrue, slice_get, slice_index_or, remove, refl, sym, ap, ◌∙◌, subst}
 use Rattle.std.proofs.lemmas.Bool.{cases_eq}
 use Rattle.pliron_core.specs.declared.uses.Use.{Use as Edge}
 use Rattle.pliron_core.specs.declared.context.Def.TheVariants.{Argument}
-use Rattle.pliron_core.specs.Tree.{Tree, In, IsLive, IsInside, IsWithin, HoldsBlock, head_of, successors_of, holder_of, block_holder_of, op_of_slot, region_parent_of, block_parent_of, arguments_of, parent_of, up_from}
+use Rattle.pliron_core.specs.Tree.{Tree, In, IsLive, IsInside, HoldsBlock, head_of, successors_of, holder_of, block_holder_of, op_of_slot, region_parent_of, block_parent_of, arguments_of, parent_of, up_from}
 use Rattle.pliron_core.specs.Joined.{IsTree}
 use Rattle.pliron_core.specs.Writes.{argument_removed}
 use Rattle.pliron_core.specs.Erased.{erased}
-use Rattle.pliron_core.proofs.HoldingLemmas.{some_is, some_of, in_slice, slice_in, within_alike, inside_block}
+use Rattle.pliron_core.proofs.HoldingLemmas.{some_is, some_of, in_slice, within_alike, inside_block}
 use Rattle.pliron_laws.specs.Datum.{Head, Shape, Meaning}
 use Rattle.pliron_laws.specs.Tree.{Operation, op_at, shape_of}
 use Rattle.pliron_laws.specs.Laws.{KeepsCounts, GivesAtOnce, ForwardsOperands}
@@ -18,13 +18,13 @@ use Rattle.pliron_laws.proofs.ShapeLemmas.{shape_head}
 use Rattle.pliron_theory.specs.Dropping.{AreEdgesTo, EdgesLose}
 use Rattle.pliron_theory.specs.Sweeping.{IsSwept, AreAway}
 use Rattle.pliron_theory.proofs.SweptKeeps.{admitted_shape}
-use Rattle.pliron_theory.proofs.ShortenedBranches.{SameFrame, childless, user_live, op_kept}
+use Rattle.pliron_theory.proofs.ShortenedBranches.{SameFrame, childless, op_kept}
 use Rattle.pliron_theory.proofs.ErasedKeeps.{op_erased, block_erased_with, erased_swept, erased_gone}
 use Rattle.pliron_theory.proofs.SweptParts.{gone_away, block_place_back, within_back, jumper_lives}
 use Rattle.pliron_theory.proofs.SweptRecords.{op_same, shape_swept}
 use Rattle.pliron_dce.specs.Dead.{Item, Op, Arg, Use, MayGo, Holds}
 use Rattle.pliron_dce.specs.Steps.{IsReady, IsReadyArgument}
-use Rattle.pliron_dce.specs.Going.{Goes, Removes}
+use Rattle.pliron_dce.specs.Going.{Goes}
 use Rattle.pliron_dce.specs.declared.incoming.IncomingEdge.{IncomingEdge}
 use Rattle.pliron_dce.specs.Incoming.{edges_of, count_along, width, BranchesLead, AreIncoming, AreKnown}
 use Rattle.pliron_dce.proofs.Places.{IsBranchAt, PlacesStill, Placed, placed_end, all_lost}

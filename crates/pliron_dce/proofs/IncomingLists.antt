@@ -1,7 +1,7 @@
 -- The edges to a block in another order.
-use Rattle.std.proofs.Common.{◌≡◌, ◌⊎◌, inl, inr, ⊎_elim, ℕ, zero, suc, ◌+◌, ◌-◌, ◌^◌, get_or, ◌<◌, ◌≤◌, Bool, true, false, true≢false, nat_eq, ◌&&◌, cond, List, [], ◌∷◌, ◌++◌, length, map, take, Option, Some, None, slice_get, remove, refl, sym, ap, ap₂, ◌∙◌, subst, arith, Contains}
+use Rattle.std.proofs.Common.{◌≡◌, ◌⊎◌, inl, inr, ⊎_elim, ℕ, zero, suc, ◌+◌, ◌-◌, ◌^◌, get_or, ◌<◌, ◌≤◌, Bool, true, false, true≢false, nat_eq, ◌&&◌, cond, List, [], ◌∷◌, ◌++◌, length, take, Option, Some, None, slice_get, remove, refl, sym, ap, ap₂, ◌∙◌, subst, arith}
 use Rattle.std.specs.List.{IsDistinct, AllByRecursion}
-use Rattle.std.specs.List.Sorted.{IsPermutation, IsNonDecreasingBy}
+use Rattle.std.specs.List.Sorted.{IsPermutation}
 use Rattle.std.proofs.lemmas.Option.{slice_get_within, slice_get_past, slice_get-map, slice_get-get_or, get_or_from_slice_get}
 use Rattle.std.proofs.lemmas.List.Sorted.{IsPermutation-sym, IsPermutation-map, Contains-permutation}
 use Rattle.std.proofs.lemmas.List.Edits.{length-remove}
@@ -10,11 +10,11 @@ use Rattle.std.proofs.lemmas.Bool.{cases_Bool}
 use Rattle.std.specs.Option.{option_map}
 use Rattle.std.proofs.lemmas.List.{take_more, map-append}
 use Rattle.pliron_core.specs.declared.uses.Use.{Use as Edge}
-use Rattle.pliron_core.specs.Tree.{Tree, IsLive, head_of, successors_of}
+use Rattle.pliron_core.specs.Tree.{Tree, IsLive, head_of}
 use Rattle.pliron_core.proofs.HoldingLemmas.{some_is, some_of}
 use Rattle.pliron_core.proofs.TreeLemmas.{cases_lt}
 use Rattle.pliron_laws.specs.Datum.{Meaning}
-use Rattle.pliron_laws.specs.Tree.{Operation, op_at, shape_of}
+use Rattle.pliron_laws.specs.Tree.{shape_of}
 use Rattle.pliron_laws.specs.Answers.{AreForwarded}
 use Rattle.pliron_laws.proofs.Records.{operation_of, make_op}
 use Rattle.pliron_theory.proofs.ShortenedBranches.{length_picked}

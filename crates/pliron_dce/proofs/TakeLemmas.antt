@@ -1,5 +1,5 @@
 -- What is known of the edges to a block before they lose an operand.
-use Rattle.std.proofs.Common.{◌≡◌, ◌⊎◌, inl, inr, ⊎_elim, ℕ, zero, suc, ◌+◌, ◌-◌, ◌<◌, ◌≤◌, Bool, true, false, true≢false, take, List, [], ◌∷◌, ◌++◌, length, Option, Some, None, IsSome, is_some, IfSome, IsTrue, slice_get, slice_index_or, refl, sym, ap, ◌∙◌, subst, arith}
+use Rattle.std.proofs.Common.{◌≡◌, ◌⊎◌, inl, inr, ⊎_elim, ℕ, zero, suc, ◌+◌, ◌-◌, ◌<◌, ◌≤◌, Bool, true, false, take, List, [], ◌∷◌, ◌++◌, length, Option, Some, None, IsSome, is_some, IfSome, slice_get, slice_index_or, refl, sym, ap, ◌∙◌, subst, arith}
 use Rattle.std.proofs.lemmas.Option.{slice_get_within}
 use Rattle.std.proofs.lemmas.List.{length-append, take_all}
 use Rattle.pliron_core.specs.declared.uses.Use.{Use as Edge}
@@ -7,9 +7,9 @@ use Rattle.pliron_core.specs.declared.context.Def.TheVariants.{Argument}
 use Rattle.pliron_core.specs.Uses.{AreAgreed}
 use Rattle.pliron_core.specs.Joined.{IsTree}
 use Rattle.pliron_core.specs.Writes.{argument_removed}
-use Rattle.pliron_core.specs.Tree.{Tree, In, IsLive, IsBlock, IsInside, Directly, HoldsBlock, head_of, operands_of, successors_of, arguments_of, holder_of, block_holder_of, region_parent_of, up_from, uses_of}
+use Rattle.pliron_core.specs.Tree.{Tree, In, IsLive, IsBlock, IsInside, HoldsBlock, head_of, operands_of, successors_of, arguments_of, holder_of, block_holder_of, region_parent_of, up_from, uses_of}
 use Rattle.pliron_core.proofs.ListLemmas.{decide_in}
-use Rattle.pliron_core.proofs.HoldingLemmas.{some_is, some_of, in_slice, slice_in, inside_by, holder_by, within_inside}
+use Rattle.pliron_core.proofs.HoldingLemmas.{some_is, some_of, in_slice, slice_in, inside_by, holder_by}
 use Rattle.pliron_core.proofs.TreeLemmas.{cases_lt}
 use Rattle.pliron_laws.specs.Datum.{Head, Shape, Meaning}
 use Rattle.pliron_laws.specs.Laws.{Admitted, KeepsCounts, GivesAtOnce, ForwardsOperands}

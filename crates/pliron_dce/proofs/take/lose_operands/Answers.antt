@@ -1,4 +1,4 @@
-use Rattle.std.proofs.Common.{◌≡◌, ◌<◌, ◌≤◌, ◌+◌, length, Some, slice_get, sym, ap, ◌∙◌, subst, arith, take}
+use Rattle.std.proofs.Common.{Some, sym, ap, ◌∙◌, subst, arith, take}
 use Rattle.std.proofs.lemmas.List.{length-map}
 use Rattle.std.proofs.lemmas.Option.{slice_get-get_or}
 use Rattle.pliron_theory.specs.Dropping.{EdgesLose, Loses}

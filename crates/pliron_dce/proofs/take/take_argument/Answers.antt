@@ -1,10 +1,9 @@
-use Rattle.std.proofs.Common.{◌≡◌, ◌<◌, ◌≤◌, ◌∷◌, [], length, Some, slice_get, sym, ap, ◌∙◌, subst, arith}
+use Rattle.std.proofs.Common.{◌≡◌, ◌<◌, [], length, slice_get, sym, ap, ◌∙◌, subst, arith}
 use Rattle.std.proofs.lemmas.List.{length-map}
-use Rattle.pliron_core.specs.Tree.{arguments_of, uses_of}
+use Rattle.pliron_core.specs.Tree.{uses_of}
 use Rattle.pliron_dce.specs.Steps.{AreNoted}
-use Rattle.pliron_dce.specs.Going.{Removes}
 use Rattle.pliron_dce.specs.Incoming.{edge_of, edges_of, HavePlaces}
-use Rattle.pliron_dce.proofs.TakeLemmas.{edge_live, are_of_branches, lost_block, lost_arguments, lost_no_uses, removes, noted, have_places, argument_at, told_if_some}
+use Rattle.pliron_dce.proofs.TakeLemmas.{edge_live, are_of_branches, lost_block, lost_arguments, lost_no_uses, noted, have_places, argument_at, told_if_some}
 use Rattle.pliron_dce.proofs.take.take_argument.Goals as goal
 
 pub lose_operands-requires-clause-branches : goal.lose_operands-requires-clause-branches
