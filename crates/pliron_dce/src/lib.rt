@@ -67,7 +67,8 @@ pub fn ready_things_are_seen<D: Dialect>()
 /// asks each edge to the block for all that it forwards (`successor_operands`) and sorts the edges by how much
 /// that is. Each one then asks only the edges that forward to it, and one more, for the one operand that they
 /// forward there (`successor_operand`), and takes that one out. The arguments of a block that may go at one
-/// time go side by side, the last one first; so those that stay behind them move once for all of these.
+/// time go side by side, the last one first; so those that stay behind them move once for all of these. A look
+/// at an argument that nothing uses asks each edge to its block whether it is a branch's.
 pub fn dce<D: Dialect>(
     alloc: Global,
     op: Ptr<Operation>,
