@@ -15,7 +15,7 @@ pub struct Delays {
 }
 
 impl Delays {
-    /// Nothing is put aside. Takes no memory.
+    /// Nothing is put aside. Takes no memory. Cost: constant.
     pub fn new(alloc: Global) -> Self
         ensures { delayed result ≡ [] }
     {
@@ -26,7 +26,7 @@ impl Delays {
 
     /// Puts an operation with so many operands aside, once.
     ///
-    /// Errors: want of memory. Cost: constant.
+    /// Asks that it has an operand. Errors: want of memory. Cost: constant.
     pub fn put(
         &mut self,
         alloc: Global,
