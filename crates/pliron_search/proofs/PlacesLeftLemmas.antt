@@ -1,5 +1,5 @@
 -- The places in one order of what stands in two, by its places in the other.
-use Rattle.std.proofs.Common.{◌≡◌, ℕ, ◌+◌, ◌<◌, ◌⊎◌, Bool, true, List, [], ◌∷◌, length, get_or, set, refl, sym, ◌∙◌, ap, subst, arith, inl, inr}
+use Rattle.std.proofs.Common.{◌≡◌, ℕ, ◌+◌, ◌<◌, ◌⊎◌, Bool, true, List, length, get_or, set, sym, ◌∙◌, ap, subst, arith, inl, inr}
 use Rattle.std.specs.Cmp.{IsEquivalence}
 use Rattle.std.specs.List.{All, IsDistinct}
 use Rattle.std.proofs.lemmas.List.{get_or-set_same, get_or-set_other, get_or_default}
@@ -21,10 +21,10 @@ module _ {N : Type 0} (eq : N → N → Bool) (laws : IsEquivalence eq) (same : 
   one_more listed places k v counted low at told j d l = elim (order j k l) [
     | inl less ↦
         let apart : number_in eq pre v ≡ number_in eq pre (get_or post j d) → ⊥ = λ e.
-            let one : v ≡ get_or post j d = same v (get_or post j d) (equal_at_place eq laws pre v (get_or post j d) within e) in
-            let here : number_in eq post v ≡ k = ap (number_in eq post) at ∙ place_at eq laws post k v distinct low in
-            let there : number_in eq post v ≡ j = ap (number_in eq post) one ∙ place_at eq laws post j d distinct (omega (arith, less, low)) in
-            omega (arith, here, there, less) in
+        let one : v ≡ get_or post j d = same v (get_or post j d) (equal_at_place eq laws pre v (get_or post j d) within e) in
+        let here : number_in eq post v ≡ k = ap (number_in eq post) at ∙ place_at eq laws post k v distinct low in
+        let there : number_in eq post v ≡ j = ap (number_in eq post) one ∙ place_at eq laws post j d distinct (omega (arith, less, low)) in
+        omega (arith, here, there, less) in
         get_or-set_other places (number_in eq pre v) (number_in eq pre (get_or post j d)) k 0 (λ e. apart (sym e)) ∙ told j d less
     | inr equal ↦
         let one : get_or post j d ≡ v = ap (λ i. get_or post i d) equal ∙ sym (at ∙ get_or_default post k v d low) in

@@ -1,7 +1,6 @@
-use Rattle.std.proofs.Common.{◌≡◌, ◌<◌, ◌≤◌, length, get_or, sym, ◌∙◌, subst, arith}
-use Rattle.std.specs.List.{IsDistinct}
+use Rattle.std.proofs.Common.{◌≤◌, length, sym, ◌∙◌, subst, arith}
 use Rattle.std.proofs.lemmas.List.{length-set}
-use Rattle.pliron_search.specs.Search.{IsListed, number_in}
+use Rattle.pliron_search.specs.Search.{IsListed}
 use Rattle.pliron_search.proofs.PlaceLemmas.{listed_within}
 use Rattle.pliron_search.proofs.PlacesLeftLemmas.{one_more, all_told}
 use Rattle.pliron_search.proofs.traversal.places_left.Goals as goal
