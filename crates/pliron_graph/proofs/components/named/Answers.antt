@@ -1,4 +1,4 @@
-use Rattle.std.proofs.Common.{◌≡◌, ◌+◌, ◌∷◌, [], ◌++◌, Some, length, map, slice_get, refl, ap, sym, ◌∙◌, subst, arith}
+use Rattle.std.proofs.Common.{◌≡◌, ◌+◌, Some, length, map, slice_get, refl, ap, sym, ◌∙◌, subst}
 use Rattle.std.proofs.lemmas.List.{length_push}
 use Rattle.std.proofs.lemmas.Option.{slice_get_read}
 use Rattle.std.proofs.lemmas.Iterator.Adapters.{YieldsList-from_vec}
@@ -22,4 +22,4 @@ loop-component-preserved g c =
 pub returns-clause-named : goal.returns-clause-named
 returns-clause-named g c =
     let t = YieldsList-end (YieldsList-from_vec c.args.components.items (cc) (cc)) c.loop-component.yielded c.loop-component.component-iterator c.loop-component.yielded_by c.next.result c.next.new.self c.in-None.is c.next.ensures.steps in
-    record { same_count = c.loop-component.invariant.count ∙ t.1; each = c.loop-component.invariant.each; }
+    record { same_count = c.loop-component.invariant.count ∙ t.1; each = c.loop-component.invariant.each }
