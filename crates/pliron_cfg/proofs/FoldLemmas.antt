@@ -1,5 +1,5 @@
 -- One fold of a branch, and the folds of all.
-use Rattle.std.proofs.Common.{◌≡◌, ◌≢◌, ◌⊎◌, inl, inr, ⊎_elim, ℕ, zero, suc, ◌+◌, ◌≤◌, Bool, List, [], ◌∷◌, length, drop, Option, Some, None, is_some, Result, Ok, Err, slice_get, refl, sym, ap, ◌∙◌, subst, arith, IsSome}
+use Rattle.std.proofs.Common.{◌≡◌, ◌≢◌, ◌⊎◌, inl, inr, ⊎_elim, ℕ, zero, suc, ◌+◌, ◌≤◌, Bool, true, false, List, [], ◌∷◌, length, map, drop, Option, Some, None, is_some, Result, Ok, Err, slice_get, refl, sym, ap, ◌∙◌, subst, arith, IsSome}
 use Rattle.std.specs.Result.{IfOk, OnErr}
 use Rattle.pliron_core.specs.declared.attrs.IRStatus.{IRStatus}
 use Rattle.pliron_core.specs.declared.attrs.IRStatus.TheVariants.{Changed, Unchanged}
@@ -23,7 +23,11 @@ use Rattle.pliron_laws.specs.Datum.{Head, Meaning}
 use Rattle.pliron_laws.specs.Folding.{Constants}
 use Rattle.pliron_laws.specs.InPlace.{Outcome, TellsChange}
 use Rattle.pliron_laws.specs.Linked.{IsWellLinked}
-use Rattle.pliron_laws.specs.Tree.{shape_of}
+use Rattle.pliron_laws.specs.Tree.{Operation, op_at, shape_of}
+use Rattle.pliron_core.specs.declared.context.Def.{Def}
+use Rattle.pliron_core.specs.declared.context.Def.TheVariants.{Result as Made, Argument}
+use Rattle.pliron_theory.specs.Refolded.{AreReadAs}
+use Rattle.pliron_theory.proofs.Alike.{map_same}
 use Rattle.pliron_theory.specs.Keeps.{with_roots}
 use Rattle.pliron_theory.specs.Answered.{AnsweredLaw}
 use Rattle.pliron_theory.specs.Change.{IsWholeChange}
@@ -32,7 +36,7 @@ use Rattle.pliron_theory.specs.Rebranching.{IsRebranched}
 use Rattle.pliron_theory.proofs.ChangeLemmas.{links_stay}
 use Rattle.pliron_theory.proofs.WholeChanges.{whole_refl, whole_trans}
 use Rattle.pliron_block_laws.proofs.RebranchedInside.{rebranched_inside, inside_stays}
-use Rattle.pliron_cfg.specs.Folded.{has_passing_head, branches_of, known_of, known_operands, FoldsAll, FoldsAll.NoMore, FoldsAll.Next, FoldsSome, FoldsSome.Stopped, FoldsSome.Broken, FoldsSome.After}
+use Rattle.pliron_cfg.specs.Folded.{has_passing_head, branches_of, answered_if, known_of, known_operands, FoldsAll, FoldsAll.NoMore, FoldsAll.Next, FoldsSome, FoldsSome.Stopped, FoldsSome.Broken, FoldsSome.After}
 use Rattle.pliron_cfg.specs.FoldSteps.{TellsErased, IsBranchInside, IsBranchFoldStep, IsFoldingBranches}
 use Rattle.pliron_cfg.proofs.KnownLemmas.{known_read}
 
@@ -44,6 +48,22 @@ stands_in_block t root op inside = let up = inside_step t root op inside in let 
 pub either : (P : Option IRStatus → Type 0) (r : Result IRStatus OptError) → IfOk r (λ status. P (Some status)) → OnErr r (P None) → (a : Option IRStatus) × P a
 either P (Ok status) ok err = (Some status, ok)
 either P (Err e) ok err = (None, err)
+
+-- what is known of values doesn't hang on which heads may be those of roots
+module _ (m : Meaning) (can_fold : Head → Bool) (constants : Constants) (chosen : Head → Bool) (t : Tree) where
+  answered_same : (b : Bool) (o : Option Operation) (i : ℕ) → answered_if b (with_roots m chosen) constants t o i ≡ answered_if b m constants t o i
+  unfolding shape_of
+  answered_same false o i = refl
+  answered_same true None i = refl
+  answered_same true (Some o) i = refl
+
+  one_same : (d : Option Def) → known_of (with_roots m chosen) can_fold constants t d ≡ known_of m can_fold constants t d
+  one_same None = refl
+  one_same (Some (Argument block i)) = refl
+  one_same (Some (Made k i)) = answered_same (has_passing_head can_fold (head_of t k)) (op_at t k) i
+
+  pub known_same : (vs : List ℕ) → map (λ v. known_of (with_roots m chosen) can_fold constants t (definition_of t v)) vs ≡ map (λ v. known_of m can_fold constants t (definition_of t v)) vs
+  known_same vs = map_same (λ v. known_of (with_roots m chosen) can_fold constants t (definition_of t v)) (λ v. known_of m can_fold constants t (definition_of t v)) vs (λ v i. one_same (definition_of t v))
 
 module _ (m : Meaning) (can_fold can_fold_branch : Head → Bool) (constants : Constants) (outcome : Outcome) where
   -- what stands in the same tree, or where another branch took the place of one
@@ -82,7 +102,6 @@ module _ (m : Meaning) (can_fold can_fold_branch : Head → Bool) (constants : C
     told (inr (a, new, front, h)) Changed is = (op, inside_live t w root op branch.0, h.gone)
 
     pub step : ((chosen : Head → Bool) → BranchFoldsLaw (with_roots m chosen) can_fold_branch outcome) → BranchLinksLaw m can_fold_branch outcome → BranchOutcomesLaw m can_fold_branch outcome → ((chosen : Head → Bool) → AnsweredLaw (with_roots m chosen) can_fold constants) → length t.operations ≤ length u.operations → (answer : Option IRStatus) → outcome t u op (known_operands m can_fold constants t op) answer → IsBranchFoldStep m can_fold_branch t u root op
-    unfolding shape_of
     step folds links outcomes answered longer answer is =
         let known = known_operands m can_fold constants t op in
         let s = outcomes t u root op known answer w wu linked branch.0 branch.1 is in
@@ -92,7 +111,7 @@ module _ (m : Meaning) (can_fold can_fold_branch : Head → Bool) (constants : C
             stands = root_stands s;
             linked = links t u root root op known answer w wu linked branch.0 branch.1 is linked root_live (root_stands s);
             inside = ⊎_elim (λ same. same_change t u root w.joined wu.joined same) (λ r. rebranched_inside t u root r.0 op r.1 r.2 w wu branch.0 r.3) s;
-            runs = λ chosen. folds chosen t u root op known answer w wu longer (record { edges = linked.edges; admitted = linked.admitted }) branch.0 branch.1 (length_map (λ v. known_of m can_fold constants t (definition_of t v)) (operands_of t op)) (known_read (with_roots m chosen) can_fold constants t (answered chosen) w op) is;
+            runs = λ chosen. folds chosen t u root op known answer w wu longer (record { edges = linked.edges; admitted = linked.admitted }) branch.0 branch.1 (length_map (λ v. known_of m can_fold constants t (definition_of t v)) (operands_of t op)) (subst (AreReadAs (with_roots m chosen) t op) (known_same m can_fold constants chosen t (operands_of t op)) (known_read (with_roots m chosen) can_fold constants t (answered chosen) w op)) is;
           };
           blocks = ⊎_elim (λ same b. same.block_parents b) (λ r b. r.3.block_parents b) s;
           others = others s;

@@ -53,7 +53,7 @@ returns-clause-step g c = λ root linked branch.
     let u = c.fold_in_place-done.new.ctx.tree in
     let m = g.D.HasMeaning.meaning in
     let outcome = g.D.BranchOpFoldInterface.outcome in
-    let laws = chosen_roots _ _ _ _ _ _ _ _ _ _ _ _ (λ h h' s. s.branch) d.keeps_counts d.forwards_operands d.acts_without_argument d.answers_true d.answers_jumps d.folds_in_place d.makes_constants in
+    let laws = chosen_roots _ _ _ _ _ _ _ _ g.D.BlockArgRemoval.removable _ _ _ (λ h h' s. s.branch) d.keeps_counts d.forwards_operands d.acts_without_argument d.answers_true d.answers_jumps d.folds_in_place d.makes_constants in
     let done = either (λ a. outcome t u c.args.op c.args.known.now a) c.fold_in_place-done.result c.fold_in_place-done.ensures.ok c.fold_in_place-done.ensures.refused in
     step m g.D.ConstFoldInterface.can_fold g.D.BranchOpFoldInterface.can_fold_branch g.D.ConstFoldInterface.constants outcome t u root c.args.op c.well_formed-2.ensures.tree c.well_formed-3.ensures.tree linked branch
     (λ chosen. (laws chosen).branch_folds)
