@@ -5,7 +5,7 @@
   shapes.py list                     the names of the shapes, but those that bench alone can write:
                                      boxed, fiftyboxes, boxes, deepboxes, boxargs,
                                      boxconsts, boxuses, boxuseslast, shortedges; and
-                                     the one on which a pass costs a square: sumcbr
+                                     the one on which a pass costs a square: shiftcbr
 
 One program is built and printed in three notations, so that all optimisers see the same control flow: in
 that of this repository, with the shortest names and no blanks; in LLVM's, where an argument of a block is
@@ -378,7 +378,7 @@ def sumbr(n, rng):
 
 
 def sumcbr(n, rng):
-    """as sumbr, but the branch behind the loop is conditional: `sccp` costs a square."""
+    """as sumbr, but the branch behind the loop is conditional."""
     f = Fn()
     loop, end, sums = sum_loop(f, max(2, n - 6))
     last, other = f.block(len(sums)), f.block(0)
@@ -396,6 +396,18 @@ def shiftbr(n, rng):
     f.br(f.entry, loop, *[one] * len(loop.args))
     r = f.read(loop)
     f.br(loop, loop, r, *loop.args[:-1])
+    return [f]
+
+
+def shiftcbr(n, rng):
+    """as shiftbr, but the branch of the loop is conditional: `sccp` costs a square."""
+    f = Fn()
+    one = f.const(f.entry, 1)
+    loop, end = f.block(max(2, n)), f.block(0)
+    f.br(f.entry, loop, *[one] * len(loop.args))
+    r = f.read(loop)
+    f.cbr(loop, f.read(loop), loop, [r, *loop.args[:-1]], end, [])
+    f.ret(end)
     return [f]
 
 
@@ -452,10 +464,10 @@ SHAPES = {"chain": chain, "diamonds": diamonds, "merges": merges, "loops": loops
           "unreach": unreach, "dead": dead, "deadring": deadring, "fan": fan,
           "manyargs": manyargs, "liveargs": liveargs,
           "lateargs": lateargs, "shiftargs": shiftargs, "alternating": alternating,
-          "sumsink": sumsink, "sumbr": sumbr, "shiftbr": shiftbr, "funcs": funcs, "mixed": mixed}
+          "sumsink": sumsink, "sumbr": sumbr, "sumcbr": sumcbr, "shiftbr": shiftbr, "funcs": funcs, "mixed": mixed}
 
 # shapes on which a pass costs a square, which no table has
-SQUARES = {"sumcbr": sumcbr}
+SQUARES = {"shiftcbr": shiftcbr}
 
 
 def boxed_sums(n, depth):

@@ -7,6 +7,7 @@
 #![tactic(auto)]
 
 mod cells;
+mod delays;
 mod demands;
 mod facts;
 mod found;
