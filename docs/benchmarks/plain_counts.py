@@ -1,8 +1,10 @@
 #!/usr/bin/env python3
 """How often propagation takes something from a worklist, by a plain program over the bench notation.
 
-  plain_counts.py TEXTS            the counts of the made texts of crates/pliron_sccp_tests/src/cases.rt, in order
+  plain_counts.py TEXTS            the counts of the made texts of crates/pliron_sccp_tests/src/cases.rt, in order, and
+                                   in a second line those of the texts of what is put aside
   plain_counts.py TEXTS whole      the same where each user of a value that fell is looked at as a whole
+  plain_counts.py TEXTS at-once    the same where nothing is put aside
 
 Facts stand in a dictionary by name, and the worklists are lists: nothing is shared with the crate but the
 order of work that its page names, last in, first out. Each count is held against the numbers that stand with
@@ -17,6 +19,7 @@ NAME = re.compile(r"[A-Za-z_]")
 FOLDS = ("const", "add", "mul", "div")
 UNKNOWN, VARYING = "unknown", "varying"
 SPAN = 1 << 64
+FEW_OPERANDS = 8
 
 
 class Op:
@@ -150,8 +153,10 @@ def fold(op, known):
 
 
 class Search:
-    def __init__(self, root, whole):
+    def __init__(self, root, whole, at_once):
         self.whole = whole
+        self.few = SPAN if at_once else FEW_OPERANDS
+        self.aside = []
         self.facts, self.uses = {}, {}
         self.marks, self.blocks, self.values = {}, [], []
         self.pops = 0
@@ -249,7 +254,7 @@ class Search:
                 self.look(op)
             return True
         if not self.values:
-            return False
+            return self.turn_aside()
         again, asked = [], []
         while self.values:
             name = self.values.pop()
@@ -258,15 +263,29 @@ class Search:
                 self.call_for(op, place, name, again, asked)
         self.meet(asked)
         for op in again:
-            self.look(op)
+            if len(op.operands) <= self.few:
+                self.look(op)
+            elif op not in self.aside:
+                self.aside.append(op)
+        return True
+
+    def turn_aside(self):
+        """Where nothing waits one that was put aside is looked at, the last one of those with the fewest operands, which
+        are counted to within a factor of two."""
+        if not self.aside:
+            return False
+        least = min(len(op.operands).bit_length() for op in self.aside)
+        op = [op for op in self.aside if len(op.operands).bit_length() == least][-1]
+        self.aside.remove(op)
+        self.look(op)
         return True
 
 
-def made_texts(path):
-    """Each made text with its numbers of blocks that are reached, constants and others."""
+def texts_of(path, name):
+    """Each text of this list with its numbers of blocks that are reached, constants and others."""
     with open(path) as source:
         text = source.read()
-    text = text[text.index("pub static MADE"):]
+    text = text[text.index(f"pub static {name}"):]
     text = text[text.index('"\\\n') + 3:text.index('";')]
     for line in re.sub(r"\\\n\s*", "", text).split("\n"):
         if line.strip():
@@ -275,14 +294,15 @@ def made_texts(path):
 
 
 def main():
-    counts = []
-    for blocks, constants, others, text in made_texts(sys.argv[1]):
-        search = Search(Parser(text).operation(), "whole" in sys.argv[2:])
-        assert len(search.marks) == blocks, text
-        least = blocks + constants + others
-        assert least <= search.pops <= least + others, text
-        counts.append(search.pops)
-    print(" ".join(map(str, counts)))
+    for name in "MADE", "ASIDE":
+        counts = []
+        for blocks, constants, others, text in texts_of(sys.argv[1], name):
+            search = Search(Parser(text).operation(), "whole" in sys.argv[2:], "at-once" in sys.argv[2:])
+            assert len(search.marks) == blocks, text
+            least = blocks + constants + others
+            assert least <= search.pops <= least + others, text
+            counts.append(search.pops)
+        print(" ".join(map(str, counts)))
 
 
 if __name__ == "__main__":

@@ -5,12 +5,12 @@
   shapes.py list                     the names of the shapes, but those that bench alone can write:
                                      boxed, fiftyboxes, boxes, deepboxes, boxargs,
                                      boxconsts, boxuses, boxuseslast, shortedges; and
-                                     the one on which a pass costs a square: sumcbr
+                                     the one on which a pass costs a square: shiftcbr
 
 One program is built and printed in three notations, so that all optimisers see the same control flow: in
 that of this repository, with the shortest names and no blanks; in LLVM's, where an argument of a block is
-a phi and a constant stands where it is used, so that there are fewer operations; and in that of MLIR 14
-(dialects `builtin`, `std` and `arith`), which compares a condition with zero before it branches.
+a phi and a constant stands where it is used, so that there are fewer operations; and in that of MLIR 22
+(dialects `builtin`, `func`, `cf` and `arith`), which compares a condition with zero before it branches.
 """
 import random
 import sys
@@ -378,7 +378,7 @@ def sumbr(n, rng):
 
 
 def sumcbr(n, rng):
-    """as sumbr, but the branch behind the loop is conditional: `sccp` costs a square."""
+    """as sumbr, but the branch behind the loop is conditional."""
     f = Fn()
     loop, end, sums = sum_loop(f, max(2, n - 6))
     last, other = f.block(len(sums)), f.block(0)
@@ -396,6 +396,18 @@ def shiftbr(n, rng):
     f.br(f.entry, loop, *[one] * len(loop.args))
     r = f.read(loop)
     f.br(loop, loop, r, *loop.args[:-1])
+    return [f]
+
+
+def shiftcbr(n, rng):
+    """as shiftbr, but the branch of the loop is conditional: `sccp` costs a square."""
+    f = Fn()
+    one = f.const(f.entry, 1)
+    loop, end = f.block(max(2, n)), f.block(0)
+    f.br(f.entry, loop, *[one] * len(loop.args))
+    r = f.read(loop)
+    f.cbr(loop, f.read(loop), loop, [r, *loop.args[:-1]], end, [])
+    f.ret(end)
     return [f]
 
 
@@ -452,10 +464,10 @@ SHAPES = {"chain": chain, "diamonds": diamonds, "merges": merges, "loops": loops
           "unreach": unreach, "dead": dead, "deadring": deadring, "fan": fan,
           "manyargs": manyargs, "liveargs": liveargs,
           "lateargs": lateargs, "shiftargs": shiftargs, "alternating": alternating,
-          "sumsink": sumsink, "sumbr": sumbr, "shiftbr": shiftbr, "funcs": funcs, "mixed": mixed}
+          "sumsink": sumsink, "sumbr": sumbr, "sumcbr": sumcbr, "shiftbr": shiftbr, "funcs": funcs, "mixed": mixed}
 
 # shapes on which a pass costs a square, which no table has
-SQUARES = {"sumcbr": sumcbr}
+SQUARES = {"shiftcbr": shiftcbr}
 
 
 def boxed_sums(n, depth):
@@ -626,7 +638,7 @@ def llvm_fn(n, f, w):
 
 
 def mlir(fns, w):
-    w("module {\nfunc private @read() -> i64\nfunc private @print(i64)\n")
+    w("module {\nfunc.func private @read() -> i64\nfunc.func private @print(i64)\n")
     for n, f in enumerate(fns):
         mlir_fn(n, f, w)
     w("}\n")
@@ -646,7 +658,7 @@ def mlir_fn(n, f, w):
         return f"^b{e[0].id}" + typed(list(e[1]))
 
     nret = max(len(b.term[1]) for b in f.blocks if b.term[0] == "ret")
-    w(f"func @f{n}(" + ", ".join(f"%v{x}: i64" for x in f.entry.args) + f") -> ({types(nret)}) {{\n")
+    w(f"func.func @f{n}(" + ", ".join(f"%v{x}: i64" for x in f.entry.args) + f") -> ({types(nret)}) {{\n")
     w("  %zero = arith.constant 0 : i64\n")
     for b in f.blocks:
         if b is not f.entry:
@@ -655,20 +667,20 @@ def mlir_fn(n, f, w):
             if kind == "const":
                 w(f"  %v{r} = arith.constant {a} : i64\n")
             elif kind == "read":
-                w(f"  %v{r} = call @read() : () -> i64\n")
+                w(f"  %v{r} = func.call @read() : () -> i64\n")
             elif kind == "print":
-                w(f"  call @print(%v{a[0]}) : (i64) -> ()\n")
+                w(f"  func.call @print(%v{a[0]}) : (i64) -> ()\n")
             else:
                 name = {"add": "addi", "mul": "muli", "div": "divsi"}[kind]
                 w(f"  %v{r} = arith.{name} {values(a)} : i64\n")
         t = b.term
         if t[0] == "br":
-            w(f"  br {edge(t[1])}\n")
+            w(f"  cf.br {edge(t[1])}\n")
         elif t[0] == "cbr":
             w(f"  %c{b.id} = arith.cmpi ne, %v{t[1]}, %zero : i64\n")
-            w(f"  cond_br %c{b.id}, {edge(t[2])}, {edge(t[3])}\n")
+            w(f"  cf.cond_br %c{b.id}, {edge(t[2])}, {edge(t[3])}\n")
         else:
-            w("  return" + (f" {values(t[1])} : {types(len(t[1]))}" if t[1] else "") + "\n")
+            w("  func.return" + (f" {values(t[1])} : {types(len(t[1]))}" if t[1] else "") + "\n")
     w("}\n")
 
 

@@ -14,6 +14,8 @@ is, or behind `mlir:` what `mlir-opt` is, as `mlir:sccp,canonicalize`. The first
   times.py ../../crates/plir_opt/out/plir_opt dce count > dce.counts
   times.py table dce.times dce.counts
 
+LLVM's programs are OPT and MLIR_OPT, and one that hasn't ended after LIMIT seconds has no count.
+
 Times are user and system time, the least of several runs (RUNS), with the output to /dev/null, at each of
 the numbers of operations in SIZES, and of `opt` at the last. Instructions are those of the whole process
 at the first and the last, and growth is the exponent between the two. SHAPES names the shapes, if not all.
@@ -31,6 +33,7 @@ import shapes
 
 SIZES = tuple(map(int, os.environ.get("SIZES", "1000 10000 50000").split()))
 RUNS = int(os.environ.get("RUNS", "5"))
+LIMIT = int(os.environ.get("LIMIT", "600"))
 
 
 def once(command, path):
@@ -50,7 +53,7 @@ def counted(program, path):
     """The instructions of the whole process."""
     command = ["valgrind", "--tool=cachegrind", "--cache-sim=no", "--cachegrind-out-file=/dev/null", *program]
     with open(path, "rb") as text:
-        said = subprocess.run(command, stdin=text, capture_output=True, check=True).stderr
+        said = subprocess.run(command, stdin=text, capture_output=True, check=True, timeout=LIMIT).stderr
     return int(re.search(rb"I\s+refs:\s+([\d,]+)", said)[1].replace(b",", b""))
 
 
@@ -98,7 +101,7 @@ def theirs(passes):
     if passes.startswith("mlir:"):
         words = [f"--{name}" for name in passes[len("mlir:"):].split(",")]
         return [os.environ.get("MLIR_OPT", "mlir-opt"), "--mlir-disable-threading", *words, "-o", "/dev/null"], "mlir"
-    return ["opt", f"-passes={passes}", "-S", "-o", "/dev/null"], "llvm"
+    return [os.environ.get("OPT", "opt"), f"-passes={passes}", "-S", "-o", "/dev/null"], "llvm"
 
 
 def write(shape, n, notation, folder):
@@ -128,7 +131,10 @@ def counts_of_opt(shape, passes, folder):
     cells = []
     for name in passes:
         command, notation = theirs(name)
-        cells.append(f"{name}={counted(command, write(shape, SIZES[-1], notation, folder))}")
+        try:
+            cells.append(f"{name}={counted(command, write(shape, SIZES[-1], notation, folder))}")
+        except subprocess.TimeoutExpired:
+            pass
     return cells
 
 

@@ -44,8 +44,10 @@ fn steps<'a>(alloc: Global) -> Arg<'a> {
 
 /// The statuses of `run`.
 static RUN_STATUSES: &str = "\
-Statuses: 0 where the run ends with values; 1 where memory was refused; 2 for words, files and texts that can't be \
-used; 3 where the run traps or is cut off";
+Statuses: 0 where the run ends with values; 1 where memory was refused; 2 for words,
+files and texts that can't be used; 3 where the run traps or is cut off. With
+--compare: 0 where both runs end or trap and the same is seen; 3 where one is cut
+off or something differs.";
 
 fn run<'a>(alloc: Global) -> Result<Command<'a>, AllocError> {
     Command::new(alloc, "run")
@@ -56,7 +58,7 @@ fn run<'a>(alloc: Global) -> Result<Command<'a>, AllocError> {
         .arg(numbers(
             alloc,
             "input",
-            "A value that the text's operation gets; once for each, in order",
+            "A value for the text's operation; once for each, in order",
         ))?
         .arg(numbers(
             alloc,
@@ -68,13 +70,103 @@ fn run<'a>(alloc: Global) -> Result<Command<'a>, AllocError> {
             alloc,
             "trace",
             "Tell each move with what it takes, on standard error",
+        ))?
+        .arg(compare(alloc)?)
+}
+
+fn compare<'a>(alloc: Global) -> Result<Arg<'a>, AllocError> {
+    Arg::new(alloc, "compare")
+        .long("compare")
+        .value_name("PIPELINE")
+        .help(
+            "Run it again after these passes, written as for\n`plir opt`, and say whether the same is seen",
+        )
+        .conflicts_with("trace")
+}
+
+/// The names of the passes.
+static PASSES: [&str; 3] = ["sccp", "dce", "simplify-cfg"];
+
+/// The statuses of `opt`.
+static OPT_STATUSES: &str = "\
+Statuses: 0 where the answer is written; 1 where memory or the passes were refused;
+2 for words, files and texts that can't be used; 3 where verifying found a fault.";
+
+/// What `PIPELINE` may be.
+static PIPELINE: &str = "\
+The passes, joined by commas: `sccp` (constant propagation), `dce`
+(dead code elimination), `simplify-cfg` (simplification of control
+flow). `nested(LIST)` runs them on each operation directly inside,
+`repeat<N>(..)` until nothing changes, at most N times, from 1 to
+64: `repeat<8>(nested(sccp,dce))`. `nested:LIST` and `repeat:N:..`
+say the same, as for `plir_opt`";
+
+fn pipeline<'a>(alloc: Global) -> Arg<'a> {
+    Arg::new(alloc, "pipeline")
+        .value_name("PIPELINE")
+        .required(true)
+        .help(PIPELINE)
+}
+
+fn print_after<'a>(alloc: Global) -> Arg<'a> {
+    Arg::new(alloc, "print-after")
+        .long("print-after")
+        .value_name("NAME")
+        .action(ArgAction::Append)
+        .value_parser(PASSES.as_slice())
+        .help(
+            "Tell the operation after each run of this pass, on\nstandard error; once for each pass",
+        )
+}
+
+/// The flags of what `opt` tells on standard error.
+fn with_reports<'a>(command: Command<'a>, alloc: Global) -> Result<Command<'a>, AllocError> {
+    command
+        .arg(flag(
+            alloc,
+            "print-after-all",
+            "Tell the operation after each run of a pass, on\nstandard error",
+        ))?
+        .arg(print_after(alloc))?
+        .arg(flag(
+            alloc,
+            "verify-each",
+            "Verify the operation after each run of a pass; a\nfault is told, and nothing written",
+        ))?
+        .arg(flag(
+            alloc,
+            "stats",
+            "Tell how many operations, blocks, arguments and\nedges there are before and after each pass, on\nstandard error",
+        ))?
+        .arg(flag(
+            alloc,
+            "time",
+            "Tell the time of each pass and its share, on\nstandard error",
         ))
+}
+
+fn opt<'a>(alloc: Global) -> Result<Command<'a>, AllocError> {
+    let opt = Command::new(alloc, "opt")
+        .about("Runs passes on a text, and writes the text that they leave")
+        .after_help(OPT_STATUSES)
+        .arg(pipeline(alloc))?
+        .arg(file(alloc))?
+        .arg(output(alloc))?
+        .arg(flag(
+            alloc,
+            "pretty",
+            "Write each operation on a line of its own, as on a terminal",
+        ))?
+        .arg(flag(alloc, "one-line", "Write one line, as to a file or a pipe").conflicts_with(
+            "pretty",
+        )?)?;
+    with_reports(opt, alloc)
 }
 
 /// The statuses of `check`.
 static CHECK_STATUSES: &str = "\
-Statuses: 0 where the text is fit to run; 1 where memory was refused; 2 for words, files and texts that can't be \
-used; 3 where it isn't fit";
+Statuses: 0 where the text is fit to run; 1 where memory was refused; 2 for words,
+files and texts that can't be used; 3 where it isn't fit.";
 
 fn check<'a>(alloc: Global) -> Result<Command<'a>, AllocError> {
     Command::new(alloc, "check")
@@ -99,7 +191,7 @@ fn dot<'a>(alloc: Global) -> Result<Command<'a>, AllocError> {
                 .value_name("PATH")
                 .default_value("0")
                 .help(
-                    "The region: numbers with dots between them, as `0.2.0` for region 0 of operation 2 of region 0",
+                    "The region: numbers with dots between them, as `0.2.0` for\nregion 0 of operation 2 of region 0",
                 ),
         )?
         .arg(flag(
@@ -127,14 +219,7 @@ fn explain<'a>(alloc: Global) -> Result<Command<'a>, AllocError> {
                 .required(true)
                 .help("The text; standard input, where it is `-`"),
         )?
-        .arg(
-            Arg::new(alloc, "passes")
-                .value_name("PIPELINE")
-                .required(true)
-                .help(
-                    "The passes, as `plir_opt` takes them: `sccp,dce`, `repeat:8:nested:sccp,dce,simplify-cfg`",
-                ),
-        )?
+        .arg(pipeline(alloc))?
         .arg(output(alloc))
 }
 
@@ -152,13 +237,12 @@ fn with<'a>(
 fn command<'a>(alloc: Global) -> Result<Command<'a>, AllocError> {
     let plir = Command::new(alloc, "plir")
         .version("0.1.0")
-        .about(
-            "Texts of operations: runs, marks under what is wrong, pictures, and why passes changed what",
-        )
+        .about("Texts of operations: runs, passes, marks under what is wrong, pictures, reasons")
         .subcommand_required(true)
         .arg_required_else_help(true);
     let plir = with(plir, run(alloc))?;
     let plir = with(plir, check(alloc))?;
+    let plir = with(plir, opt(alloc))?;
     let plir = with(plir, dot(alloc))?;
     let plir = with(plir, graph(alloc))?;
     with(plir, explain(alloc))

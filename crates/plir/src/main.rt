@@ -1,4 +1,4 @@
-//! `plir`: texts of operations, for people: runs, marks under what is wrong, pictures, and why passes changed what.
+//! `plir`: texts of operations, for people: runs, passes, marks under what is wrong, pictures, and why passes changed what.
 //!
 //! It knows words, files, streams and an exit status. What each command does stands in `pliron_people` and `pliron_draw`.
 #![tactic(auto)]
@@ -8,10 +8,13 @@ mod command;
 use clap::ArgMatches;
 use command::parsed;
 use pliron_draw::{FlowWish, draw_flow, draw_graph, explain};
-use pliron_people::{Outcome, RunWish, Source, check, run};
+use pliron_people::{
+    CompareWish, OptWish, Outcome, Progress, RunWish, Source, Wish, check, compare, opt, run,
+};
 use std::alloc::Global;
-use std::io::{self, Read, Write};
+use std::io::{self, IsTerminal, Read, Write};
 use std::process::ExitCode;
+use std::time::{Clock, Duration};
 use std::{env, fs};
 
 /// The text of the file, or of standard input where it is called `-`.
@@ -40,7 +43,18 @@ fn numbers(alloc: Global, matches: &ArgMatches, id: &str) -> io::Result<Vec<i64>
     Ok(numbers)
 }
 
-/// Runs the text as the words wish.
+/// Runs the text so, before and after these passes.
+fn compare_wished<'w>(
+    alloc: Global,
+    source: &Source,
+    run: RunWish<'w>,
+    pipeline: &'w str,
+) -> io::Result<Outcome> {
+    let wish = CompareWish { run, pipeline };
+    Ok(compare(alloc, source, &wish)?)
+}
+
+/// Runs the text as the words wish, or before and after passes.
 fn run_wished(alloc: Global, source: &Source, matches: &ArgMatches) -> io::Result<Outcome> {
     let inputs = numbers(alloc, matches, "input")?;
     let world = numbers(alloc, matches, "world")?;
@@ -50,7 +64,101 @@ fn run_wished(alloc: Global, source: &Source, matches: &ArgMatches) -> io::Resul
         steps: matches.get_one::<usize>("steps").unwrap_or(100_000),
         trace: matches.get_flag("trace"),
     };
-    Ok(run(alloc, source, &wish)?)
+    match matches.get_str("compare") {
+        Some(pipeline) => compare_wished(alloc, source, wish, pipeline),
+        None => Ok(run(alloc, source, &wish)?),
+    }
+}
+
+/// Whether each operation is to stand on a line of its own: where that is wished, and on a terminal.
+fn is_pretty(rt: &HostRuntime, matches: &ArgMatches) -> bool {
+    let on_terminal = rt.stdout().is_terminal() && matches.get_str("output").is_none();
+    matches.get_flag("pretty") || (on_terminal && !matches.get_flag("one-line"))
+}
+
+/// The words that an option was given.
+fn words<'a>(alloc: Global, matches: &ArgMatches<'a>, id: &str) -> io::Result<Vec<&'a str>> {
+    let mut words = Vec::new(alloc);
+    if let Some(given) = matches.get_strs(id) {
+        for word in given {
+            words.push(*word)?;
+        }
+    }
+    Ok(words)
+}
+
+/// The clock of the process, which shows on standard error what ended, once a command takes more than a second.
+#[derive(Clone, Copy, Drop)]
+struct Terminal<'r> {
+    rt: &'r HostRuntime,
+    /// When the command began.
+    start: Duration,
+}
+
+impl Clock for Terminal<'_> {
+    fn monotonic(&self) -> io::Result<Duration> {
+        self.rt.monotonic()
+    }
+
+    fn since_1970(&self) -> io::Result<Duration> {
+        self.rt.since_1970()
+    }
+}
+
+impl Progress for Terminal<'_> {
+    fn pass_ended(&self, number: usize, name: &str) {
+        let Ok(now) = self.rt.monotonic() else {
+            return;
+        };
+        let spent = now.saturating_sub(self.start);
+        if spent >= Duration::from_secs(1) {
+            let run = number.saturating_add(1);
+            let seconds = spent.as_secs();
+            let _ = eprintln!(self.rt; "after {seconds} s: run {run}, {name}");
+        }
+    }
+}
+
+/// Runs these passes on the text, and looks so at what they do.
+fn opt_watched<'w>(
+    rt: &HostRuntime,
+    source: &Source,
+    matches: &ArgMatches,
+    watch: Wish<'w>,
+    pipeline: &'w str,
+) -> io::Result<Outcome> {
+    let wish = OptWish {
+        pipeline,
+        is_pretty: is_pretty(rt, matches),
+        watch,
+        times: matches.get_flag("time"),
+    };
+    let start = rt.monotonic().unwrap_or(Duration::ZERO);
+    let terminal = Terminal { rt, start };
+    Ok(opt(rt.alloc(), source, &wish, terminal)?)
+}
+
+/// Runs the passes that the words ask for on the text.
+fn opt_wished(rt: &HostRuntime, source: &Source, matches: &ArgMatches) -> io::Result<Outcome> {
+    let prints = words(rt.alloc(), matches, "print-after")?;
+    let watch = Wish {
+        counts: matches.get_flag("stats"),
+        verifies: matches.get_flag("verify-each"),
+        prints_all: matches.get_flag("print-after-all"),
+        prints: &prints,
+    };
+    let pipeline = matches.get_str("pipeline").unwrap_or("");
+    opt_watched(rt, source, matches, watch, pipeline)
+}
+
+/// The outcome of a command whose input can't be read: its name is told, and why.
+fn unread(alloc: Global, name: &str, error: &io::Error) -> io::Result<Outcome> {
+    let report = format!(in alloc; "error: cannot read {name}: {error}\n")?;
+    Ok(Outcome {
+        output: Vec::new(alloc),
+        report,
+        status: 2,
+    })
 }
 
 /// Draws the region that the words wish.
@@ -66,16 +174,20 @@ fn draw_wished(alloc: Global, source: &Source, matches: &ArgMatches) -> io::Resu
 fn outcome(rt: &HostRuntime, command: &str, matches: &ArgMatches) -> io::Result<Outcome> {
     let alloc = rt.alloc();
     let name = matches.get_str("file").unwrap_or("-");
-    let text = text_of(rt, name)?;
+    let text = match text_of(rt, name) {
+        Ok(text) => text,
+        Err(error) => return unread(alloc, called(name), &error),
+    };
     let source = Source {
         name: called(name),
         text: &text,
     };
     match command {
         "check" => Ok(check(alloc, &source)?),
+        "opt" => opt_wished(rt, &source, matches),
         "dot" => draw_wished(alloc, &source, matches),
         "graph" => Ok(draw_graph(alloc, &source)?),
-        "explain" => Ok(explain(alloc, &source, matches.get_str("passes").unwrap_or(""))?),
+        "explain" => Ok(explain(alloc, &source, matches.get_str("pipeline").unwrap_or(""))?),
         _ => run_wished(alloc, &source, matches),
     }
 }

@@ -11,7 +11,7 @@ use Rattle.pliron_laws.specs.Datum.{Head, Meaning}
 use Rattle.pliron_laws.specs.Tree.{Operation, shape_of}
 use Rattle.pliron_laws.specs.Folding.{Constants}
 use Rattle.pliron_laws.specs.Outcomes.{materialised, Materialises}
-use Rattle.pliron_laws.specs.Outcomes.Materialises.{Finished, Unanswered, Refused, Unknown, PassedOver, Put}
+use Rattle.pliron_laws.specs.Outcomes.Materialises.{Finished, Unanswered, Unknown, PassedOver, Put}
 use Rattle.pliron_laws.specs.Replacing.{branch_replaced}
 use Rattle.pliron_laws.specs.InPlace.{IsSingle, TellsChange, materialising}
 use Rattle.pliron_bench.specs.Bench.{plain_head}
@@ -23,7 +23,7 @@ use Rattle.pliron_bench.specs.BenchOutcomes.{kind_in, fold_of, bench_outcome, ed
 -- ---- constants
 
 -- the tree with a constant put for each result that is answered by an attribute which is accepted
-put_all : (accepts : AttrObj → Bool) (head : AttrObj → Head) (op : ℕ) → List ℕ → List (Option AttrObj) → Tree → Tree
+unfoldable pub put_all : (accepts : AttrObj → Bool) (head : AttrObj → Head) (op : ℕ) → List ℕ → List (Option AttrObj) → Tree → Tree
 put_all accepts head op [] answers t = t
 put_all accepts head op (v ∷ vs) [] t = t
 put_all accepts head op (v ∷ vs) (None ∷ answers) t = put_all accepts head op vs answers t
@@ -35,16 +35,15 @@ module _ (accepts : AttrObj → Bool) (head : AttrObj → Head) (op : ℕ) where
   put_none [] t = refl
   put_none (v ∷ vs) t = refl
 
-  put_is : (c : Bool) (vs : List ℕ) (answers : List (Option AttrObj)) (t u : Tree) → c ≡ true → Materialises accepts head op c vs answers t u → u ≡ put_all accepts head op vs answers t
+  pub put_is : (vs : List ℕ) (answers : List (Option AttrObj)) (t u : Tree) → Materialises accepts head op vs answers t u → u ≡ put_all accepts head op vs answers t
   unfolding put_all
-  put_is c vs answers t u e Finished = refl
-  put_is c vs answers t u e Unanswered = put_none _ _
-  put_is c vs answers t u e (Refused same) = grind arith
-  put_is c vs answers t u e (Unknown m) = put_is _ _ _ _ _ e m
-  put_is c vs answers t u e (PassedOver {v = v} {vs = ws} {attr = attr} {answers = more} {t = now} over m) =
-      put_is _ _ _ _ _ e m ∙ sym (ap (λ b. if b then put_all accepts head op ws more (materialised now op v (head attr)) else put_all accepts head op ws more now) over)
-  put_is c vs answers t u e (Put {v = v} {vs = ws} {attr = attr} {answers = more} {t = now} accepted m) =
-      put_is _ _ _ _ _ e m ∙ sym (ap (λ b. if b then put_all accepts head op ws more (materialised now op v (head attr)) else put_all accepts head op ws more now) accepted)
+  put_is vs answers t u Finished = refl
+  put_is vs answers t u Unanswered = put_none _ _
+  put_is vs answers t u (Unknown m) = put_is _ _ _ _ m
+  put_is vs answers t u (PassedOver {v = v} {vs = ws} {attr = attr} {answers = more} {t = now} over m) =
+      put_is _ _ _ _ m ∙ sym (ap (λ b. if b then put_all accepts head op ws more (materialised now op v (head attr)) else put_all accepts head op ws more now) over)
+  put_is vs answers t u (Put {v = v} {vs = ws} {attr = attr} {answers = more} {t = now} accepted m) =
+      put_is _ _ _ _ m ∙ sym (ap (λ b. if b then put_all accepts head op ws more (materialised now op v (head attr)) else put_all accepts head op ws more now) accepted)
 
 -- the answer tells of the tree
 one_answer : (a b : IRStatus) (t u : Tree) → TellsChange (Some a) t u → TellsChange (Some b) t u → a ≡ b
@@ -56,7 +55,7 @@ one_answer Unchanged Unchanged t u x y = refl
 put_single : (m : Meaning) (constants : Constants) (accepts : AttrObj → Bool) (head : AttrObj → Head) → IsSingle (materialising m constants accepts head)
 put_single m constants accepts head t u u' op known o a b at x y =
     let all = constants (shape_of m t o) known in
-    let same : u ≡ u' = put_is accepts head op true o.results all t u refl (x.0 o at) ∙ sym (put_is accepts head op true o.results all t u' refl (y.0 o at)) in
+    let same : u ≡ u' = put_is accepts head op o.results all t u (x.0 o at) ∙ sym (put_is accepts head op o.results all t u' (y.0 o at)) in
     (same, one_answer a b t u x.1 (subst (TellsChange (Some b) t) (sym same) y.1))
 
 kind_single : (k : Option BenchKind) → IsSingle (fold_of k)

@@ -2,7 +2,9 @@
 ghost use Rattle.std.specs.Prelude.{◌≡◌};
 ghost use Rattle.pliron_core.specs.Insertion.{point_of};
 
-use pliron_core::{BasicBlock, Context, IRRewriter, NoMemory, Operation, Ptr, Rewriter, Value};
+use pliron_core::{
+    BasicBlock, Context, IRRewriter, NoMemory, OpInsertionPoint, Operation, Ptr, Rewriter, Value,
+};
 use pliron_meaning::{OptError, Room};
 use std::alloc::Global;
 
@@ -52,6 +54,10 @@ impl Counting {
 
 impl Rewriter for Counting {
     ghost point = { λ c. point_of c.rewriter };
+
+    fn insertion_point(&self) -> OpInsertionPoint {
+        self.rewriter.insertion_point()
+    }
 
     fn set_insertion_point_before_operation(&mut self, op: Ptr<Operation>) {
         self.rewriter.set_insertion_point_before_operation(op);

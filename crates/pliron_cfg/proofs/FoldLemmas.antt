@@ -29,7 +29,7 @@ use Rattle.pliron_theory.specs.Folded.{BranchFoldsLaw, BranchLinksLaw, BranchOut
 use Rattle.pliron_theory.specs.Rebranching.{IsRebranched}
 use Rattle.pliron_theory.proofs.ChangeLemmas.{change_refl, change_trans, links_stay}
 use Rattle.pliron_block_laws.proofs.RebranchedInside.{rebranched_inside, inside_stays}
-use Rattle.pliron_cfg.specs.Folded.{has_passing_head, branches_of, known_of, known_operands, FoldsAll, FoldsAll.NoMore, FoldsAll.Next, FoldsSome, FoldsSome.Stopped, FoldsSome.Broken, FoldsSome.After}
+use Rattle.pliron_cfg.specs.Folded.{has_passing_head, branches_of, known_of, known_operands, FoldsAll, FoldsAll.NoMore, FoldsAll.Next, FoldsSome, FoldsSome.Stopped, FoldsSome.After}
 use Rattle.pliron_cfg.specs.FoldSteps.{TellsErased, IsBranchInside, IsBranchFoldStep, IsFoldingBranches}
 use Rattle.pliron_cfg.proofs.KnownLemmas.{known_read}
 
@@ -169,12 +169,11 @@ module _ (m : Meaning) (can_fold can_fold_branch : Head → Bool) (constants : C
         told = told_then start now next w on.tree (gone_stays m start now next root w on.change step.change) status one on.told told;
       }
 
-      pub folding_broken : (next : Tree) → (next ≡ now) ⊎ outcome now next op (known_operands m can_fold constants now op) None → FoldsSome m can_fold constants outcome branches start next
-      folding_broken next (inl e) = on.some next (subst (λ z. FoldsSome m can_fold constants outcome (drop i branches) now z) (sym e) Stopped)
-      folding_broken next (inr is) = on.some next (subst (λ l. FoldsSome m can_fold constants outcome l now next) (sym (drop_at branches i op at)) (Broken op is))
-
       pub folding_change : (next : Tree) → IsBranchFoldStep m can_fold_branch now next root op → IsPassChange m start next root
       folding_change next step = change_trans m start now next root on.change step.change
+
+    pub folding_broken : (next : Tree) → IsSameTree now next → FoldsSome m can_fold constants outcome branches start next
+    folding_broken next same = on.some next (Stopped same)
 
     pub folding_end : drop i branches ≡ [] → FoldsAll m can_fold constants outcome branches start now status
     folding_end none = subst (FoldsAll m can_fold constants outcome branches start now) (either_unchanged status) (on.all now Unchanged (subst (λ l. FoldsAll m can_fold constants outcome l now now Unchanged) (sym none) NoMore))

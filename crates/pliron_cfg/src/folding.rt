@@ -2,8 +2,9 @@
 //!
 //! It knows what every run reads of constants, and no dialect. Of the regions that are looked at, of blocks
 //! that go or are joined and of passes it knows nothing.
-ghost use Rattle.std.specs.Prelude.{◌≡◌, ◌++◌, ◌⊎◌, ℕ, Some, None, OnOk, OnErr, IfOk, IsOkUnless};
+ghost use Rattle.std.specs.Prelude.{◌≡◌, ◌++◌, ℕ, Some, OnOk, OnErr, IfOk, IsOkUnless};
 ghost use Rattle.pliron_core.specs.Tree.{IsLive, block_parent_of};
+ghost use Rattle.pliron_core.specs.Changes.{IsSameTree};
 ghost use Rattle.pliron_laws.specs.InPlace.{TellsChange};
 ghost use Rattle.pliron_laws.specs.Linked.{IsWellLinked};
 ghost use Rattle.pliron_theory.specs.Change.{IsPassChange};
@@ -65,8 +66,7 @@ fn fold_known<D: Dialect, R: Rewriter + Room>(
     requires branch { (root : ℕ) × IsWellLinked D.meaning ctx.old.tree root × IsBranchInside D.can_fold_branch ctx.old.tree root op }
     ensures ok { IfOk result (λ status. D.BranchOpFoldInterface.outcome ctx.old.tree ctx.new.tree op
         (constants_of D.meaning D.can_fold D.constants ctx.old.tree op) (Some status)) }
-    ensures refused { OnErr result (D.BranchOpFoldInterface.outcome ctx.old.tree ctx.new.tree op
-        (constants_of D.meaning D.can_fold D.constants ctx.old.tree op) None) }
+    ensures refused { OnErr result (IsSameTree ctx.old.tree ctx.new.tree) }
     ensures memory { IsOkUnless result OptError.Memory }
     ensures told { IfOk result (λ status. TellsErased status ctx.old.tree ctx.new.tree) }
     ensures step { (root : ℕ) → IsWellLinked D.meaning ctx.old.tree root → IsBranchInside D.can_fold_branch ctx.old.tree root op →
@@ -89,8 +89,7 @@ fn fold_one<D: Dialect, R: Rewriter + Room>(
     requires branch { (root : ℕ) × IsWellLinked D.meaning ctx.old.tree root × IsBranchInside D.can_fold_branch ctx.old.tree root op }
     ensures ok { IfOk result (λ status. D.BranchOpFoldInterface.outcome ctx.old.tree ctx.new.tree op
         (constants_of D.meaning D.can_fold D.constants ctx.old.tree op) (Some status)) }
-    ensures refused { OnErr result ((ctx.new.tree ≡ ctx.old.tree) ⊎ D.BranchOpFoldInterface.outcome ctx.old.tree ctx.new.tree op
-        (constants_of D.meaning D.can_fold D.constants ctx.old.tree op) None) }
+    ensures refused { OnErr result (IsSameTree ctx.old.tree ctx.new.tree) }
     ensures memory { IsOkUnless result OptError.Memory }
     ensures told { IfOk result (λ status. TellsErased status ctx.old.tree ctx.new.tree) }
     ensures step { (root : ℕ) → IsWellLinked D.meaning ctx.old.tree root → IsBranchInside D.can_fold_branch ctx.old.tree root op →
@@ -108,7 +107,7 @@ fn fold_one<D: Dialect, R: Rewriter + Room>(
 /// Asks that the operation stands and is well linked. `Changed` exactly if the tree changed: a branch went
 /// then. Blocks stay.
 ///
-/// Errors: want of memory, after some of the folds.
+/// Errors: want of memory, after some of the folds, each of them whole.
 ///
 /// Cost: one step for each operation, block and region inside; for each branch that folds what the
 /// dialect's fold costs and, for each of its operands, what the dialect's answer for its maker costs.

@@ -1,6 +1,7 @@
 -- Lemmas on uses that move to another target.
 use Rattle.std.proofs.Common.{◌≡◌, ◌≢◌, ◌⊎◌, ℕ, zero, suc, ◌+◌, ◌-◌, ◌<◌, ◌≤◌, nat_lt, List, [], ◌∷◌, ◌++◌, length, map, get_or, set, Option, Some, None, refl, sym, ap, ◌∙◌, subst, inl, inr, arith, zero-add, length-append}
-use Rattle.std.specs.List.{slice_get}
+use Rattle.std.specs.List.{slice_get, swap}
+use Rattle.std.proofs.lemmas.List.Edits.{swap_is}
 use Rattle.std.specs.Option.{option_map}
 use Rattle.std.proofs.lemmas.Bool.{cases_eq, eq-eqb, ne_eqb}
 use Rattle.std.proofs.lemmas.Bool.Decides.{nat_tests}
@@ -11,7 +12,7 @@ use Rattle.pliron_core.specs.declared.places.Place.{Place}
 use Rattle.std.proofs.Math.ListN.{get_or-map}
 use Rattle.pliron_core.specs.Uses.{replace_target}
 use Rattle.pliron_core.specs.declared.places.Gap.{Gap}
-use Rattle.pliron_core.specs.Places.{at, held, no_target, shifted, gap_of, HasGap, HaveGaps, IsLinked, targets_in}
+use Rattle.pliron_core.specs.Places.{at, held, no_target, shifted, gap_of, HasGap, HaveGaps, IsLinked, targets_in, ranked_use, uses_in}
 use Rattle.pliron_core.proofs.PlaceLemmas.{at-map}
 use Rattle.pliron_core.proofs.GapLemmas.{held-free, held-taken}
 use Rattle.pliron_core.proofs.TableLemmas.{set-same, set-other, at-within, at-same, at-other}
@@ -290,3 +291,28 @@ put_back lists old new moved was dest row before ho hn differ r0 r1 r2 same =
 
 pub reword : (rows after : List (List Place)) (old new a b m n : ℕ) → a ≡ m → b ≡ n → ((u p : ℕ) → at after u p ≡ option_map (shifted old new a b) (at rows u p)) → (u p : ℕ) → at after u p ≡ option_map (shifted old new m n) (at rows u p)
 reword rows after old new a b m n e f each u p = each u p ∙ ap (λ z. option_map (shifted old new z b) (at rows u p)) e ∙ ap (λ z. option_map (shifted old new m z) (at rows u p)) f
+
+no_items : {A B : Type 0} (f : A → B) (xs : List A) → map f xs ≡ [] → xs ≡ []
+no_items f [] e = refl
+no_items f (x ∷ xs) e = absurd (cc)
+
+-- a target without uses, by what a contract sees
+pub unused_is : (rows : List (List Place)) (lists : List (List Use)) (target : ℕ) → get_or (uses_in rows lists) target [] ≡ [] → get_or lists target [] ≡ []
+unused_is rows lists target none = no_items (ranked_use rows) (get_or lists target []) (sym (get_or-map (map (ranked_use rows)) lists target []) ∙ none)
+
+-- what exchanging two lists of uses made of the lists, where `new` had none
+pub record Handed (lists next : List (List Use)) (old new : ℕ) (index : List Use) : Type 0 where
+  pub lists_is : next ≡ set (set lists old []) new (get_or lists new [] ++ get_or lists old [])
+  pub index_is : index ≡ get_or lists old []
+  pub none : 0 ≡ length (get_or lists new [])
+
+pub handed : (lists next : List (List Use)) (old new : ℕ) (index : List Use) → old < length lists → new < length lists → get_or lists new [] ≡ []
+    → next ≡ swap lists old new → index ≡ get_or next new index → Handed lists next old new index
+handed lists next old new index ho hn empty swapped read =
+    let all : next ≡ set (set lists old []) new (get_or lists old []) = swapped ∙ sym (swap_is lists old new [] ho hn) ∙ ap (λ l. set (set lists old l) new (get_or lists old [])) empty in
+    let long : new < length (set lists old []) = omega (arith, hn, length-set lists old []) in
+    record {
+      lists_is = all ∙ ap (λ l. set (set lists old []) new (l ++ get_or lists old [])) (sym empty);
+      index_is = read ∙ ap (λ l. get_or l new index) all ∙ get_or-set_same (set lists old []) new (get_or lists old []) index long;
+      none = sym (ap length empty);
+    }

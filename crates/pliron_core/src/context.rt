@@ -8,6 +8,7 @@ mod contained;
 mod create;
 mod edge_reads;
 pub(crate) mod edit;
+mod empty;
 pub(crate) mod erase;
 mod operation_reads;
 pub(crate) mod place;

@@ -1,6 +1,6 @@
 //! Rewriting a tree through a value that knows where to insert.
-ghost use Rattle.std.specs.Prelude.{◌≡◌, Some, None, IsSome, OnOk, OnErr};
-ghost use Rattle.pliron_core.specs.Tree.{IsLive, IsBlock, IsDefined, HoldsBlock, parent_of};
+ghost use Rattle.std.specs.Prelude.{◌≡◌, [], Some, None, IsSome, IsOk, OnOk, OnErr};
+ghost use Rattle.pliron_core.specs.Tree.{IsLive, IsBlock, IsDefined, HoldsBlock, parent_of, uses_of};
 ghost use Rattle.pliron_core.specs.Writes.{replaced, moved_last};
 ghost use Rattle.pliron_core.specs.Erased.{IsSelfContained, IsSelfContainedBlock, erased, block_erased};
 ghost use Rattle.pliron_core.specs.Insertion.{IsPointFor, inserted, point_of};
@@ -24,12 +24,17 @@ pub enum OpInsertionPoint {
 
 /// What changes a tree in whole steps, and may tell a listener of each.
 ///
-/// What has no `Result` takes no memory in the tree, but may take some in a listener.
+/// What has no `Result`, and a replacement by a value without uses, takes no memory in the tree, but may
+/// take some in a listener.
 pub trait Rewriter {
     ghost use Rattle.pliron_core.specs.declared.rewriter.OpInsertionPoint.{OpInsertionPoint};
 
     /// Where it inserts.
     ghost point: { Self → OpInsertionPoint };
+
+    /// Where it inserts. Takes no memory. Cost: constant.
+    fn insertion_point(&self) -> OpInsertionPoint
+        ensures { result ≡ point self.now };
 
     /// From now on inserts directly before this operation.
     fn set_insertion_point_before_operation(&mut self, op: Ptr<Operation>)
@@ -55,7 +60,8 @@ pub trait Rewriter {
 
     /// Every use of `old` becomes one of `new`.
     ///
-    /// Asks that both values stand. Errors: want of memory, which changes nothing.
+    /// Asks that both values stand. Errors: want of memory, which changes nothing, and never where `new`
+    /// has no use yet: it takes over the room that the uses of `old` have.
     /// Cost: the number of uses of `old`.
     fn replace_value_uses_with(
         &mut self,
@@ -67,6 +73,7 @@ pub trait Rewriter {
         requires new { IsDefined ctx.old.tree new }
         ensures ok { OnOk result (ctx.new.tree ≡ replaced ctx.old.tree old new) }
         ensures block_uses { ctx.new.block_uses ≡ ctx.old.block_uses }
+        ensures unused { uses_of ctx.old.value_uses new ≡ [] → IsOk result }
         ensures err { OnErr result (ctx.new ≡ ctx.old) }
         ensures point { point self.new ≡ point self.old };
 
@@ -136,6 +143,11 @@ impl Default for IRRewriter {
 
 impl Rewriter for IRRewriter {
     ghost point = { λ r. point_of r };
+
+    fn insertion_point(&self) -> OpInsertionPoint {
+        let IRRewriter { point } = self;
+        *point
+    }
 
     fn set_insertion_point_before_operation(&mut self, op: Ptr<Operation>) {
         self.point = OpInsertionPoint::BeforeOperation(op);

@@ -1,6 +1,6 @@
 //! Which targets each user names, in order, and where each target is used.
 
-ghost use Rattle.std.specs.Prelude.{◌≡◌, ◌≢◌, ℕ, ◌+◌, ◌-◌, ◌^◌, ◌<◌, ◌≤◌, [], ◌∷◌, ◌++◌, length, map, slice_set, vec_capacity, vec_len, slice_get, slice_index_or, Some, take, IfOk, OnOk, OnErr, remove, replicate};
+ghost use Rattle.std.specs.Prelude.{◌≡◌, ◌≢◌, ℕ, ◌+◌, ◌-◌, ◌^◌, ◌<◌, ◌≤◌, [], ◌∷◌, ◌++◌, length, map, slice_set, vec_capacity, vec_len, slice_get, slice_index_or, Some, take, IfOk, OnOk, OnErr, IsOk, remove, replicate};
 ghost use Rattle.std.specs.List.{range_with_len};
 ghost use Rattle.pliron_core.specs.Uses.{Table, targets_of, table_uses, AreAgreed, replace_target};
 ghost use Rattle.pliron_core.specs.declared.uses.Use.{Use};
@@ -217,7 +217,8 @@ impl Uses {
     /// Every use of `old` becomes one of `new`.
     ///
     /// Asks that there are both targets and that they are two. Errors: want of memory, which leaves all as it
-    /// was. Cost: the number of uses of `old`, amortised.
+    /// was. A target without uses takes over the room of `old` too, so then nothing is refused.
+    /// Cost: the number of uses of `old`, amortised.
     pub fn replace(&mut self, alloc: Global, old: usize, new: usize) -> Result<(), AllocError>
         requires old { old < length self.old.uses }
         requires new { new < length self.old.uses }
@@ -225,8 +226,13 @@ impl Uses {
         ensures targets { OnOk result (self.new.targets ≡ map (map (replace_target old new)) self.old.targets) }
         ensures count { length self.new.uses ≡ length self.old.uses }
         ensures rooms { (self.new.user_room ≡ self.old.user_room) × (self.new.target_room ≡ self.old.target_room) }
+        ensures unused { table_uses self.old new ≡ [] → IsOk result }
         ensures err { OnErr result (self.new ≡ self.old) }
     {
+        if self.uses[new].is_empty() {
+            self.hand_over(old, new);
+            return Ok(());
+        }
         let moved = mem::replace(&mut self.uses[old], Row::new(alloc));
         if let Err(error) = self.uses[new].extend(&moved) {
             self.uses[old] = moved;
@@ -236,6 +242,21 @@ impl Uses {
         let first = end - moved.len();
         retarget(&mut self.places, &moved, old, new, first);
         Ok(())
+    }
+
+    // Every use of `old` becomes one of `new`, which has none. Takes no memory.
+    fn hand_over(&mut self, old: usize, new: usize)
+        requires old { old < length self.old.uses }
+        requires new { new < length self.old.uses }
+        requires differ { old ≢ new }
+        requires unused { table_uses self.old new ≡ [] }
+        ensures targets { self.new.targets ≡ map (map (replace_target old new)) self.old.targets }
+        ensures count { length self.new.uses ≡ length self.old.uses }
+        ensures rooms { (self.new.user_room ≡ self.old.user_room) × (self.new.target_room ≡ self.old.target_room) }
+    {
+        self.uses.swap(old, new);
+        let _ = self.uses[new].len();
+        retarget(&mut self.places, &self.uses[new], old, new, 0);
     }
 
     /// The target at a place goes, and is the answer. The later ones move down by one place.

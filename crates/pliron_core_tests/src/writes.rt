@@ -5,7 +5,9 @@ use crate::steps::{
     operand_of, operation, result_of,
 };
 use crate::straight::{Sum, build_sum};
-use pliron_core::{BasicBlock, Context, IRRewriter, Operation, Ptr, Rewriter, Value};
+use pliron_core::{
+    BasicBlock, Context, IRRewriter, OpInsertionPoint, Operation, Ptr, Rewriter, Value,
+};
 use std::alloc::Global;
 use std::process::Abort;
 use std::test::Fail;
@@ -68,6 +70,39 @@ fn insert_both(rt: &impl Abort, alloc: Global, ctx: &mut Context) -> Result<(), 
 #[test]
 fn inserts(rt: HostRuntime) -> Result<(), Fail> {
     in_new_context(&rt, rt.alloc(), insert_both)
+}
+
+// The point is the one that was set last.
+fn set_points(rt: &impl Abort, alloc: Global, ctx: &mut Context) -> Result<(), Fail> {
+    let sum = build_sum(rt, alloc, ctx)?;
+    let mut rewriter = IRRewriter::new();
+    assert!(rt; rewriter.insertion_point() == OpInsertionPoint::Unset);
+    rewriter.set_insertion_point_to_block_start(sum.block);
+    assert!(rt; rewriter.insertion_point() == OpInsertionPoint::AtBlockStart(sum.block));
+    rewriter.set_insertion_point_before_operation(sum.add);
+    assert!(rt; rewriter.insertion_point() == OpInsertionPoint::BeforeOperation(sum.add));
+    assert!(rt; rewriter.insertion_point() != OpInsertionPoint::BeforeOperation(sum.ret));
+    Ok(())
+}
+
+#[test]
+fn tells_where_it_inserts(rt: HostRuntime) -> Result<(), Fail> {
+    in_new_context(&rt, rt.alloc(), set_points)
+}
+
+// What was erased again leaves its key behind.
+fn make_and_erase(rt: &impl Abort, alloc: Global, ctx: &mut Context) -> Result<(), Fail> {
+    assert!(rt; ctx.is_empty());
+    let three = operation(rt, ctx, head(alloc, CONST, Some(3))?, 1, 0)?;
+    assert!(rt; !ctx.is_empty());
+    erase(rt, ctx, three);
+    assert!(rt; !ctx.is_empty());
+    Ok(())
+}
+
+#[test]
+fn tells_an_empty_context(rt: HostRuntime) -> Result<(), Fail> {
+    in_new_context(&rt, rt.alloc(), make_and_erase)
 }
 
 fn replace_sum(rt: &impl Abort, alloc: Global, ctx: &mut Context) -> Result<(), Fail> {

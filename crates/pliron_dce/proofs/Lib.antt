@@ -16,3 +16,5 @@ pub mod SweepLemmas
 pub mod StepMeasure
 pub mod CandidateLemmas
 pub mod ErasedEdges
+pub mod IncomingLists
+pub mod IncomingLemmas

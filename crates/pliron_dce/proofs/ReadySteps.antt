@@ -109,6 +109,19 @@ module _ (m : Meaning) (side_effects : Head → Option Bool) (removable : Head �
       not_met true n = absurd (n refl)
       not_met false n = refl
 
+      -- what leads to a block that stays stays
+      pub jumpers : (x b : ℕ) → HoldsBlock t root b → In b (successors_of t x) → block_erased_with t k b ≡ false → op_erased t k x ≡ false
+      jumpers x b g i l = not_met _ (λ d. other (within_is t k x d))
+        where
+          other : IsWithin t k x → ⊥
+          other (inl e) = leads_nowhere k b may (subst (λ z. In b (successors_of t z)) e i)
+          other (inr y) =
+              let ends = linked.edges x b i (inr g) in
+              let same : block_holder_of t ends.block ≡ block_holder_of t b = ap (λ o. up_from o (λ r. region_parent_of t r)) (sym (ends.own_region b i)) in
+              let q : HoldsBlock t k ends.block = block_inside ends.block ends.in_block y in
+              let e : block_holder_of t b ≡ Some q.0 = sym same ∙ q.1 in
+              true≢false (sym (is_within t k q.0 w.joined live q.2) ∙ ap (is_met_above t (nat_eq k)) (sym e) ∙ l)
+
       pub erased_thins : IsThinned m side_effects removable t t' root
       erased_thins =
           swept_thins m t t' (λ x. op_erased t k x) (λ b. block_erased_with t k b) w w' (erased_swept t k w live ready_contained) (gone_away t' (λ x. op_erased t k x) (λ b. block_erased_with t k b) w' (erased_gone t k w live ready_contained)) (erased_gone t k w live ready_contained).operations side_effects removable root
@@ -126,18 +139,6 @@ module _ (m : Meaning) (side_effects : Head → Option Bool) (removable : Head �
 
           apart : (p v user : ℕ) → op_erased t k p ≡ false → IsMadeInside t p v → is_maker_dead (λ x. op_erased t k x) (λ b. block_erased_with t k b) (definition_of t v) ≡ true → op_erased t k user ≡ true → IsWithin t p user
           apart p v user l i e d = ⊎_elim (λ y. absurd (true≢false (sym (is_within t k p w.joined live y) ∙ l))) (λ y. inr (within_inside y (within_is t k user d))) (made_in (definition_of t v) e p i).3
-
-          jumpers : (x b : ℕ) → HoldsBlock t root b → In b (successors_of t x) → block_erased_with t k b ≡ false → op_erased t k x ≡ false
-          jumpers x b g i l = not_met _ (λ d. other (within_is t k x d))
-            where
-              other : IsWithin t k x → ⊥
-              other (inl e) = leads_nowhere k b may (subst (λ z. In b (successors_of t z)) e i)
-              other (inr y) =
-                  let ends = linked.edges x b i (inr g) in
-                  let same : block_holder_of t ends.block ≡ block_holder_of t b = ap (λ o. up_from o (λ r. region_parent_of t r)) (sym (ends.own_region b i)) in
-                  let q : HoldsBlock t k ends.block = block_inside ends.block ends.in_block y in
-                  let e : block_holder_of t b ≡ Some q.0 = sym same ∙ q.1 in
-                  true≢false (sym (is_within t k q.0 w.joined live q.2) ∙ ap (is_met_above t (nat_eq k)) (sym e) ∙ l)
 
       -- for each root that stands
       pub erased_linked : (r : ℕ) → IsWellLinked m t r → IsLive t' r → IsWellLinked m t' r

@@ -68,7 +68,7 @@ get_orig xs i j = go (cases_lt j i)
     go (inr l) = slice_get-remove_above xs i j l ∙ ap (slice_get xs) (sym (above l))
 
 -- a branch without regions has one shape in all trees
-shape_closed : (m : Meaning) (x x' : Tree) (o : Operation) → o.regions ≡ [] → IsTrue (m.is_branch o.head) → shape_of m x o ≡ shape_of m x' o
+pub shape_closed : (m : Meaning) (x x' : Tree) (o : Operation) → o.regions ≡ [] → IsTrue (m.is_branch o.head) → shape_of m x o ≡ shape_of m x' o
 unfolding shape_of
 shape_closed m x x' o none b =
     ap₂ (λ rs z. record { head = o.head; operands = length o.operands; results = length o.results; successors = length o.successors; entry_arguments = map (λ r. count_arguments (entry_block x r)) rs; target_arguments = z }) none (aimless (m.is_branch o.head) _ b ∙ sym (aimless (m.is_branch o.head) _ b))

@@ -1,23 +1,25 @@
 -- What is known of the edges to a block before they lose an operand.
-use Rattle.std.proofs.Common.{◌≡◌, ◌⊎◌, inl, inr, ⊎_elim, ℕ, zero, suc, ◌+◌, ◌<◌, ◌↔◌, Bool, true, false, true≢false, List, [], ◌∷◌, ◌++◌, length, Option, Some, None, IsSome, IfSome, IsTrue, slice_get, slice_index_or, refl, sym, ap, ◌∙◌, subst, arith}
+use Rattle.std.proofs.Common.{◌≡◌, ◌⊎◌, inl, inr, ⊎_elim, ℕ, zero, suc, ◌+◌, ◌-◌, ◌<◌, ◌≤◌, Bool, true, false, take, List, [], ◌∷◌, ◌++◌, length, Option, Some, None, IsSome, is_some, IfSome, slice_get, slice_index_or, refl, sym, ap, ◌∙◌, subst, arith}
 use Rattle.std.proofs.lemmas.Option.{slice_get_within}
+use Rattle.std.proofs.lemmas.List.{length-append, take_all}
 use Rattle.pliron_core.specs.declared.uses.Use.{Use as Edge}
 use Rattle.pliron_core.specs.declared.context.Def.TheVariants.{Argument}
 use Rattle.pliron_core.specs.Uses.{AreAgreed}
 use Rattle.pliron_core.specs.Joined.{IsTree}
 use Rattle.pliron_core.specs.Writes.{argument_removed}
-use Rattle.pliron_core.specs.Tree.{Tree, In, IsLive, IsBlock, IsInside, Directly, HoldsBlock, head_of, operands_of, successors_of, arguments_of, holder_of, block_holder_of, region_parent_of, up_from, uses_of}
+use Rattle.pliron_core.specs.Tree.{Tree, In, IsLive, IsBlock, IsInside, HoldsBlock, head_of, operands_of, successors_of, arguments_of, holder_of, block_holder_of, region_parent_of, up_from, uses_of}
 use Rattle.pliron_core.proofs.ListLemmas.{decide_in}
-use Rattle.pliron_core.proofs.HoldingLemmas.{some_is, some_of, in_slice, slice_in, inside_by, holder_by, within_inside}
+use Rattle.pliron_core.proofs.HoldingLemmas.{some_is, some_of, in_slice, slice_in, inside_by, holder_by}
 use Rattle.pliron_core.proofs.TreeLemmas.{cases_lt}
 use Rattle.pliron_laws.specs.Datum.{Head, Shape, Meaning}
-use Rattle.pliron_laws.specs.Laws.{KeepsCounts, GivesAtOnce, ForwardsOperands}
+use Rattle.pliron_laws.specs.Laws.{Admitted, KeepsCounts, GivesAtOnce, ForwardsOperands}
 use Rattle.pliron_laws.specs.Linked.{IsWellLinked}
-use Rattle.pliron_theory.specs.Dropping.{AreEdgesTo, EdgesLose, AreOfBranches}
+use Rattle.pliron_theory.specs.Dropping.{AreEdgesTo, EdgeLoses, Lacks, EdgesLose, AreOfBranches}
 use Rattle.pliron_theory.proofs.SweptKeeps.{admitted_shape}
-use Rattle.pliron_theory.proofs.EdgesLost.{uses_are_edges}
-use Rattle.pliron_theory.proofs.ShortenedBranches.{SameFrame, user_live}
+use Rattle.pliron_theory.proofs.EdgesLost.{framed, place_still, lack_still, turn_next}
+use Rattle.pliron_theory.proofs.ShortenedBranches.{Among, AreListed, SameFrame, same_frame, user_live}
 use Rattle.pliron_dce.specs.Going.{Removes}
+use Rattle.pliron_dce.specs.Incoming.{count_along, width, AreIncoming, AreForwardedTo, HavePlaces}
 use Rattle.pliron_dce.specs.Steps.{IsReadyArgument, IsReadyOperation, AreNoted, AreOperandsWithin}
 use Rattle.pliron_core.specs.Erased.{erased, IsSelfContained}
 use Rattle.pliron_core.proofs.WithinLemmas.{within_is}
@@ -27,15 +29,9 @@ use Rattle.pliron_dce.proofs.RemovedThins.{inside_live}
 use Rattle.pliron_dce.proofs.ReadySteps.{ready_contained}
 use Rattle.pliron_dce.proofs.Places.{IsBranchAt, Placed, placed_end, none_lost}
 use Rattle.pliron_laws.specs.Tree.{Operation, op_at, shape_of}
-use Rattle.pliron_laws.specs.Answers.{IsForwardedAt, HeadPasses}
+use Rattle.pliron_laws.specs.Answers.{HasPlace, IsForwardedAt, HeadPasses}
 use Rattle.pliron_laws.proofs.Records.{op_shows, operation_of, make_op}
 use Rattle.pliron_dce.proofs.PlaceLists.{picked_at, picked_from, picked_some, picked_past}
-
--- for the first n edges: whether each forwards an operand at this place, and these operands are used
-pub record TellsSoFar (m : Meaning) (t : Tree) (index : ℕ) (edges : List Edge) (n : ℕ) (forwards : List Bool) (used : List ℕ) : Type 0 where
-  pub count : length forwards ≡ n
-  pub told : (i : ℕ) (e : Edge) (b : Bool) (o : Operation) → slice_get edges i ≡ Some e → slice_get forwards i ≡ Some b → op_at t e.user ≡ Some o → IsTrue b ↔ (index < length (m.forwarded (shape_of m t o) e.place))
-  pub values : (i p v : ℕ) (e : Edge) (o : Operation) → i < n → slice_get edges i ≡ Some e → op_at t e.user ≡ Some o → slice_get (m.forwarded (shape_of m t o) e.place) index ≡ Some p → slice_get (operands_of t e.user) p ≡ Some v → In v used
 
 -- a list and one more item
 at_end : {A : Type 0} (xs : List A) (x y : A) (i n : ℕ) → length xs ≡ n → slice_get (xs ++ x ∷ []) i ≡ Some y → ((i < n) × (slice_get xs i ≡ Some y)) ⊎ ((i ≡ n) × (x ≡ y))
@@ -53,63 +49,59 @@ pub in_last : (y : ℕ) (xs : List ℕ) → In y (xs ++ y ∷ [])
 in_last y [] = inl refl
 in_last y (z ∷ xs) = inr (in_last y xs)
 
-length_more : {A : Type 0} (xs : List A) (x : A) → length (xs ++ x ∷ []) ≡ length xs + 1
-length_more [] x = refl
-length_more (y ∷ ys) x = let z = length_more ys x in omega (arith, z)
+at_place : (xs : List ℕ) (i : ℕ) → i < length xs → (v : ℕ) × (slice_get xs i ≡ Some v)
+at_place [] i l = absurd (omega (arith, l))
+at_place (x ∷ xs) zero l = (x, refl)
+at_place (x ∷ xs) (suc i) l = at_place xs i (omega (arith, l))
 
-before_or_last : (i n : ℕ) → i < n + 1 → (i < n) ⊎ (i ≡ n)
-before_or_last i n l = ⊎_elim (λ y. inl y) (λ y. inr (omega (arith, l, y))) (cases_lt i n)
+-- the first operands that edges forward, one by one
+pub record AreForwardedSoFar (m : Meaning) (t : Tree) (index : ℕ) (edges : List Edge) (n : ℕ) (used : List ℕ) : Type 0 where
+  pub count : length used ≡ n
+  pub first : (i v : ℕ) (e : Edge) → slice_get used i ≡ Some v → slice_get edges i ≡ Some e → IsForwardedAt m t e.user e.place index (Some v)
 
--- one more edge e
-module _ (m : Meaning) (t : Tree) (index : ℕ) (edges : List Edge) (n : ℕ) (forwards : List Bool) (used : List ℕ) (r : TellsSoFar m t index edges n forwards used) (e : Edge) (here : slice_get edges n ≡ Some e) where
-  same_edge : (i : ℕ) (f : Edge) → i ≡ n → slice_get edges i ≡ Some f → e ≡ f
-  same_edge i f q ef = some_is (sym here ∙ ap (slice_get edges) (sym q) ∙ ef)
+pub forwarded_more : (m : Meaning) (t : Tree) (index : ℕ) (edges : List Edge) (n : ℕ) (used : List ℕ) (e : Edge) (v : ℕ) → AreForwardedSoFar m t index edges n used → slice_get edges n ≡ Some e → IsForwardedAt m t e.user e.place index (Some v) → AreForwardedSoFar m t index edges (n + 1) (used ++ v ∷ [])
+forwarded_more m t index edges n used e v r here is = record {
+  count = length-append used (v ∷ []) ∙ ap (λ z. z + 1) r.count;
+  first = λ i x f q p. ⊎_elim (λ a. r.first i x f a.1 p) (λ a. subst (λ z. IsForwardedAt m t f.user f.place index (Some z)) a.1 (subst (λ z. IsForwardedAt m t z.user z.place index (Some v)) (some_is (sym here ∙ ap (slice_get edges) (sym a.0) ∙ p)) is)) (at_end used v x i n r.count q);
+}
 
-  told_more : (b : Bool) → ((o : Operation) → op_at t e.user ≡ Some o → IsTrue b ↔ (index < length (m.forwarded (shape_of m t o) e.place))) → (i : ℕ) (f : Edge) (c : Bool) (o : Operation) → slice_get edges i ≡ Some f → slice_get (forwards ++ b ∷ []) i ≡ Some c → op_at t f.user ≡ Some o → IsTrue c ↔ (index < length (m.forwarded (shape_of m t o) f.place))
-  told_more b tell i f c o ef ec oe = ⊎_elim
-      (λ q. r.told i f c o ef q.1 oe)
-      (λ q.
-      let same : e ≡ f = same_edge i f q.0 ef in
-      let at : op_at t e.user ≡ Some o = ap (λ z. op_at t z.user) same ∙ oe in
-      subst (λ z. IsTrue z ↔ (index < length (m.forwarded (shape_of m t o) f.place))) q.1 (subst (λ z. IsTrue b ↔ (index < length (m.forwarded (shape_of m t o) z.place))) same (tell o at)))
-      (at_end forwards b c i n r.count ec)
+-- an edge behind all that were asked, or one that forwards nothing there and those behind it
+pub forwarded_all : (m : Meaning) (t : Tree) (index : ℕ) (edges : List Edge) (n : ℕ) (used : List ℕ) → AreForwardedSoFar m t index edges n used → length edges ≤ n → n ≤ length edges → AreForwardedTo m t index edges used
+forwarded_all m t index edges n used r l l2 = record {
+  within = let c = r.count in omega (arith, c, l2);
+  first = r.first;
+  none = λ i e a q. let b = slice_get_within edges i e q in let c = r.count in absurd (omega (arith, a, b, c, l));
+}
 
-  pub tells_place : (v : ℕ) → IsForwardedAt m t e.user e.place index (Some v) → TellsSoFar m t index edges (n + 1) (forwards ++ true ∷ []) (used ++ v ∷ [])
-  tells_place v is = record {
-    count = length_more forwards true ∙ ap (λ z. z + 1) r.count;
-    told = told_more true (λ o oe. let y = picked_some (m.forwarded (shape_of m t o) e.place) o.operands index v (is o oe) in ((λ x. slice_get_within (m.forwarded (shape_of m t o) e.place) index y.0 y.1), (λ x. refl)));
-    values = λ i p x f o l ef oe fw op. ⊎_elim (λ y. in_more x v used (r.values i p x f o y ef oe fw op)) (λ y. last i p x f o y ef oe fw op) (before_or_last i n l);
-  }
-    where
-      last : (i p x : ℕ) (f : Edge) (o : Operation) → i ≡ n → slice_get edges i ≡ Some f → op_at t f.user ≡ Some o → slice_get (m.forwarded (shape_of m t o) f.place) index ≡ Some p → slice_get (operands_of t f.user) p ≡ Some x → In x (used ++ v ∷ [])
-      last i p x f o q ef oe fw op =
-          let same : e ≡ f = same_edge i f q ef in
-          let at : op_at t e.user ≡ Some o = ap (λ z. op_at t z.user) same ∙ oe in
-          let y = picked_some (m.forwarded (shape_of m t o) e.place) o.operands index v (is o at) in
-          let place : p ≡ y.0 = some_is (sym fw ∙ ap (λ z. slice_get (m.forwarded (shape_of m t o) z.place) index) (sym same) ∙ y.1) in
-          let sv : x ≡ v = some_is (sym op ∙ ap (slice_get (operands_of t f.user)) place ∙ ap (λ z. slice_get z y.0) (op_shows t f.user o oe).operands ∙ y.2) in
-          subst (λ z. In z (used ++ v ∷ [])) (sym sv) (in_last v used)
+pub forwarded_here : (m : Meaning) (t : Tree) (block index : ℕ) (edges : List Edge) (n : ℕ) (used : List ℕ) (e : Edge) → AreIncoming m t block edges → AreForwardedSoFar m t index edges n used → slice_get edges n ≡ Some e → IsForwardedAt m t e.user e.place index None → IsLive t e.user → AreForwardedTo m t index edges used
+forwarded_here m t block index edges n used e x r here is l = record {
+  within = let b = slice_get_within edges n e here in let c = r.count in omega (arith, b, c);
+  first = r.first;
+  none = λ i f a q. let c = r.count in ⊎_elim (λ lt. let z = x.falling n i e f lt here q in omega (arith, z, few)) (λ le. let same : i ≡ n = omega (arith, le, a, c) in subst (λ z. width m t z ≤ index) (some_is (sym here ∙ ap (slice_get edges) (sym same) ∙ q)) few) (cases_lt n i);
+}
+  where
+    few : width m t e ≤ index
+    few =
+        let h = some_of (head_of t e.user) l in
+        let o = operation_of t e.user h.0 in
+        let oe = make_op t e.user h.0 h.1 in
+        subst (λ z. z ≤ index) (ap (count_along m t e.place) (sym oe)) (picked_past (m.forwarded (shape_of m t o) e.place) o.operands index (is o oe))
 
-  pub tells_none : IsForwardedAt m t e.user e.place index None → TellsSoFar m t index edges (n + 1) (forwards ++ false ∷ []) used
-  tells_none is = record {
-    count = length_more forwards false ∙ ap (λ z. z + 1) r.count;
-    told = told_more false (λ o oe. ((λ x. absurd (true≢false (sym x))), (λ x. absurd (beyond o oe x))));
-    values = λ i p x f o l ef oe fw op. ⊎_elim (λ y. r.values i p x f o y ef oe fw op) (λ y. absurd (none i p f o y ef oe fw)) (before_or_last i n l);
-  }
-    where
-      beyond : (o : Operation) → op_at t e.user ≡ Some o → index < length (m.forwarded (shape_of m t o) e.place) → ⊥
-      beyond o oe x = let y = picked_past (m.forwarded (shape_of m t o) e.place) o.operands index (is o oe) in omega (arith, x, y)
-
-      none : (i p : ℕ) (f : Edge) (o : Operation) → i ≡ n → slice_get edges i ≡ Some f → op_at t f.user ≡ Some o → slice_get (m.forwarded (shape_of m t o) f.place) index ≡ Some p → ⊥
-      none i p f o q ef oe fw =
-          let same : e ≡ f = same_edge i f q ef in
-          beyond o (ap (λ z. op_at t z.user) same ∙ oe) (slice_get_within (m.forwarded (shape_of m t o) e.place) index p (ap (λ z. slice_get (m.forwarded (shape_of m t o) z.place) index) same ∙ fw))
+-- which edges have the place
+pub have_places : (m : Meaning) (t : Tree) (index : ℕ) (edges : List Edge) (used : List ℕ) → ((i : ℕ) (e : Edge) → slice_get edges i ≡ Some e → IsLive t e.user) → AreForwardedTo m t index edges used → HavePlaces m t index edges (length used)
+have_places m t index edges used live r = record {
+  first = λ i e l q.
+      let v = at_place used i l in
+      let h = some_of (head_of t e.user) (live i e q) in
+      let o = operation_of t e.user h.0 in
+      let oe = make_op t e.user h.0 h.1 in
+      let y = picked_some (m.forwarded (shape_of m t o) e.place) o.operands index v.0 (r.first i v.0 e v.1 q o oe) in
+      subst (λ z. index < z) (ap (count_along m t e.place) (sym oe)) (slice_get_within (m.forwarded (shape_of m t o) e.place) index y.0 y.1);
+  none = r.none;
+}
 
 -- a ready argument of a block: what its removal asks and leaves
-module _ (m : Meaning) (can_fold : Head → Bool) (SameTests : Head → Head → Type 0) (shortened : Shape → ℕ → ℕ → Head) (law : ForwardsOperands m can_fold SameTests shortened) (tests : (h h' : Head) → SameTests h h' → m.is_branch h' ≡ m.is_branch h) (removable : Head → ℕ → Bool → Option Bool) (t : Tree) (uses : List (List Edge)) (root block index v : ℕ) (w : IsTree t) (agreed : AreAgreed t.successors uses) (linked : IsWellLinked m t root) (argument : slice_get (arguments_of t block) index ≡ Some v) (r : IsReadyArgument m removable t root v) where
-  abbrev edges : List Edge
-  edges = uses_of uses block
-
+module _ (m : Meaning) (can_fold : Head → Bool) (SameTests : Head → Head → Type 0) (shortened : Shape → ℕ → ℕ → Head) (law : ForwardsOperands m can_fold SameTests shortened) (tests : (h h' : Head) → SameTests h h' → m.is_branch h' ≡ m.is_branch h) (removable : Head → ℕ → Bool → Option Bool) (t : Tree) (edges : List Edge) (root block index v : ℕ) (w : IsTree t) (to : AreEdgesTo t block edges) (linked : IsWellLinked m t root) (argument : slice_get (arguments_of t block) index ≡ Some v) (r : IsReadyArgument m removable t root v) where
   one_block : r.may.block ≡ block
   one_block = let s : Some (Argument r.may.block r.may.index) ≡ Some (Argument block index) = sym (w.joined.arguments r.may.block r.may.index v r.may.argument) ∙ w.joined.arguments block index v argument in cc
 
@@ -120,7 +112,7 @@ module _ (m : Meaning) (can_fold : Head → Bool) (SameTests : Head → Head →
   branches = subst (λ z. (k : ℕ) → In z (successors_of t k) → HeadPasses m.is_branch t k) one_block r.may.branches
 
   leads : (i : ℕ) (e : Edge) → slice_get edges i ≡ Some e → In block (successors_of t e.user)
-  leads i e s = in_slice (successors_of t e.user) e.place block (agreed.listed block i e s)
+  leads i e s = in_slice (successors_of t e.user) e.place block (to.listed i e s)
 
   -- who leads to the block stands where the block stands
   beside : (k p : ℕ) → In block (successors_of t k) → block_holder_of t block ≡ Some p → holder_of t k ≡ Some p
@@ -131,17 +123,17 @@ module _ (m : Meaning) (can_fold : Head → Bool) (SameTests : Head → Head →
   inside : (k : ℕ) → In block (successors_of t k) → IsInside t root k
   inside k i = inside_by held.0 (beside k held.0 i held.1) held.2
 
+  pub edge_live : (i : ℕ) (e : Edge) → slice_get edges i ≡ Some e → IsLive t e.user
+  edge_live i e s = (inside_live t w.joined (inside e.user (leads i e s))).1
+
   pub edge_branch : (i : ℕ) (e : Edge) → slice_get edges i ≡ Some e → HeadPasses m.is_branch t e.user
   edge_branch i e s = branches e.user (leads i e s)
 
   pub edge_place : (i : ℕ) (e : Edge) → slice_get edges i ≡ Some e → e.place < length (successors_of t e.user)
-  edge_place i e s = slice_get_within (successors_of t e.user) e.place block (agreed.listed block i e s)
+  edge_place i e s = slice_get_within (successors_of t e.user) e.place block (to.listed i e s)
 
   pub are_of_branches : AreOfBranches m t edges
   are_of_branches n e s = (linked.admitted e.user (inr (inside e.user (leads n e s))), edge_branch n e s)
-
-  to : AreEdgesTo t block edges
-  to = uses_are_edges t uses block agreed
 
   module _ (u : Tree) (lose : EdgesLose m shortened index edges t u) where
     abbrev f : SameFrame m can_fold SameTests shortened law tests t w block index u
@@ -172,8 +164,22 @@ module _ (m : Meaning) (can_fold : Head → Bool) (SameTests : Head → Head →
     pub removes : Removes m shortened t (argument_removed u block index) v
     removes = record { block = block; index = index; argument = argument; edges = edges; complete = to; between = u; lose = lose; removed = refl }
 
-    pub noted : (forwards : List Bool) (used : List ℕ) → TellsSoFar m t index edges (length edges) forwards used → AreNoted t (argument_removed u block index) used
-    noted forwards used tells user x i = elim (decide_in block (successors_of t user)) [
+    used_at : (used : List ℕ) → AreForwardedTo m t index edges used → (i p x : ℕ) (e : Edge) (o : Operation) → slice_get edges i ≡ Some e → op_at t e.user ≡ Some o → slice_get (m.forwarded (shape_of m t o) e.place) index ≡ Some p → slice_get (operands_of t e.user) p ≡ Some x → In x used
+    used_at used tells i p x e o q oe fw op = ⊎_elim
+        (λ l.
+        let v = at_place used i l in
+        let y = picked_some (m.forwarded (shape_of m t o) e.place) o.operands index v.0 (tells.first i v.0 e v.1 q o oe) in
+        let place : p ≡ y.0 = some_is (sym fw ∙ y.1) in
+        let same : x ≡ v.0 = some_is (sym op ∙ ap (slice_get (operands_of t e.user)) place ∙ ap (λ z. slice_get z y.0) (op_shows t e.user o oe).operands ∙ y.2) in
+        subst (λ z. In z used) (sym same) (in_slice used i v.0 v.1))
+        (λ l.
+        let few : length (m.forwarded (shape_of m t o) e.place) ≤ index = subst (λ z. z ≤ index) (ap (count_along m t e.place) oe) (tells.none i e l q) in
+        let many = slice_get_within (m.forwarded (shape_of m t o) e.place) index p fw in
+        absurd (omega (arith, few, many)))
+        (cases_lt i (length used))
+
+    pub noted : (used : List ℕ) → AreForwardedTo m t index edges used → AreNoted t (argument_removed u block index) used
+    noted used tells user x i = elim (decide_in block (successors_of t user)) [
       | inl j ↦ own j
       | inr n ↦ inr (subst (In x) (sym ((placed user).same (none_lost m can_fold SameTests shortened law tests t w block index edges to u lose user n)).1) i)
     ]
@@ -192,17 +198,12 @@ module _ (m : Meaning) (can_fold : Head → Bool) (SameTests : Head → Head →
             let z = picked_at (placed user).places (operands_of t user) (operands_of u user) y.0 p.0 (sym (placed user).left) y.1 in
             inr (in_slice (operands_of u user) y.0 x (z.1 ∙ sym z.2 ∙ p.1)))
             (λ q.
-            let n = agreed.complete user q.0 block ((placed user).sound q.0 q.1) in
-            inl (tells.values n.0 p.0 x (record { user = user; place = q.0 }) o (slice_get_within edges n.0 (record { user = user; place = q.0 }) n.1) n.1 oe q.2 p.1))
+            let n = to.complete user q.0 ((placed user).sound q.0 q.1) in
+            inl (used_at used tells n.0 p.0 x (record { user = user; place = q.0 }) o n.1 oe q.2 p.1))
             (a.1.there p.0 (slice_get_within (operands_of t user) p.0 x p.1))
 
 pub argument_at : (t : Tree) (block index : ℕ) → index < length (arguments_of t block) → (v : ℕ) × (slice_get (arguments_of t block) index ≡ Some v)
-argument_at t block index l = go (arguments_of t block) index l
-  where
-    go : (xs : List ℕ) (i : ℕ) → i < length xs → (v : ℕ) × (slice_get xs i ≡ Some v)
-    go [] i l = absurd (omega (arith, l))
-    go (x ∷ xs) zero l = (x, refl)
-    go (x ∷ xs) (suc i) l = go xs i (omega (arith, l))
+argument_at t block index l = at_place (arguments_of t block) index l
 
 pub told_if_some : {A : Type 0} {o : Option A} {x : A} (P : A → Type 0) → o ≡ Some x → P x → IfSome o P
 told_if_some P e p = subst (λ z. IfSome z P) (sym e) p
@@ -237,3 +238,68 @@ module _ (m : Meaning) (side_effects : Head → Option Bool) (t : Tree) (root op
       go : (b : Bool) → op_erased t op user ≡ b → In x used ⊎ In x (operands_of (erased t op) user)
       go true d = inl (all user x (within_is t op user d) i)
       go false l = inr (subst (In x) (sym ((erased_swept t op w op_live op_contained).operands user l)) i)
+
+take_at : {A : Type 0} (xs : List A) (i n : ℕ) (x : A) → slice_get (take i xs) n ≡ Some x → (n < i) × (slice_get xs n ≡ Some x)
+take_at xs zero n x e = grind arith
+take_at [] (suc i) n x e = grind arith
+take_at (y ∷ ys) (suc i) zero x e = (omega arith, e)
+take_at (y ∷ ys) (suc i) (suc n) x e = let r = take_at ys i n x e in (omega (arith, r.0), r.1)
+
+-- the edges behind the first ones have nothing to lose
+module _ (m : Meaning) (can_fold : Head → Bool) (SameTests : Head → Head → Type 0) (shortened : Shape → ℕ → ℕ → Head) (law : ForwardsOperands m can_fold SameTests shortened) (tests : (h h' : Head) → SameTests h h' → m.is_branch h' ≡ m.is_branch h) (t : Tree) (w : IsTree t) (block index : ℕ) (edges : List Edge) (to : AreEdgesTo t block edges) (branches : AreOfBranches m t edges) (count : ℕ) (places : HavePlaces m t index edges count) where
+  -- what is known of the edge at n, when those before it have lost
+  module _ (x : Tree) (n : ℕ) (before : EdgesLose m shortened index (take n edges) t x) (e : Edge) (at : slice_get edges n ≡ Some e) where
+    listed : AreListed m can_fold SameTests shortened law tests t w block index (take n edges)
+    listed i f q = to.listed i f (take_at edges n i f q).1
+
+    not_yet : Among e.user e.place (take n edges) → ⊥
+    not_yet a = let r = take_at edges n a.0 e a.1 in let q = to.once a.0 n e r.1 at in absurd (omega (arith, q, r.0))
+
+    head : (h : Head) × (head_of t e.user ≡ Some h)
+    head = some_of (head_of t e.user) (user_live m can_fold SameTests shortened law tests t w block index e.user e.place (to.listed n e at))
+
+    abbrev o : Operation
+    o = operation_of t e.user head.0
+
+    oe : op_at t e.user ≡ Some o
+    oe = make_op t e.user head.0 head.1
+
+    admitted : Admitted m (shape_of m t o)
+    admitted = admitted_shape m t e.user o oe (branches n e at).0
+
+    width_is : width m t e ≡ length (m.forwarded (shape_of m t o) e.place)
+    width_is = ap (count_along m t e.place) oe
+
+    pub lost_live : IsLive x e.user
+    lost_live = (framed m can_fold SameTests shortened law tests t w block index (take n edges) t x listed before (same_frame m can_fold SameTests shortened law tests t w block index)).live e.user (user_live m can_fold SameTests shortened law tests t w block index e.user e.place (to.listed n e at))
+
+    pub place_there : n < count → HasPlace m x e.user e.place index
+    place_there l = place_still m can_fold SameTests shortened law tests t w block index (take n edges) x listed before e.user e.place o oe admitted ((branches n e at).1 head.0 head.1) not_yet (subst (λ z. index < z) width_is (places.first n e l at))
+
+    pub lacks_there : count ≤ n → EdgeLoses m shortened index e x x
+    lacks_there l = Lacks (λ y ye b. lack_still m can_fold SameTests shortened law tests t w block index (take n edges) x listed before e.user e.place o oe admitted ((branches n e at).1 head.0 head.1) not_yet (subst (λ z. z ≤ index) width_is (places.none n e l at)) y ye b) refl
+
+  rest_lacks : (x : Tree) (d : ℕ) → count + d ≤ length edges → EdgesLose m shortened index (take count edges) t x → EdgesLose m shortened index (take (count + d) edges) t x
+  rest_lacks x zero l q = subst (λ z. EdgesLose m shortened index (take z edges) t x) (omega arith) q
+  rest_lacks x (suc d) l q =
+      let inner = rest_lacks x d (omega (arith, l)) q in
+      let e = edge_at_place edges (count + d) (omega (arith, l)) in
+      subst (λ z. EdgesLose m shortened index (take z edges) t x) (omega arith) (turn_next m can_fold SameTests shortened law tests t w block index edges to x (count + d) inner e.0 e.1 x (lacks_there x (count + d) inner e.0 e.1 (omega arith)))
+    where
+      edge_at_place : (xs : List Edge) (i : ℕ) → i < length xs → (e : Edge) × (slice_get xs i ≡ Some e)
+      edge_at_place [] i l = absurd (omega (arith, l))
+      edge_at_place (y ∷ ys) zero l = (y, refl)
+      edge_at_place (y ∷ ys) (suc i) l = edge_at_place ys i (omega (arith, l))
+
+  pub all_lose : (x : Tree) → count ≤ length edges → EdgesLose m shortened index (take count edges) t x → EdgesLose m shortened index edges t x
+  all_lose x l q =
+      let whole : count + (length edges - count) ≡ length edges = omega (arith, l) in
+      subst (λ z. EdgesLose m shortened index z t x) (ap (λ n. take n edges) whole ∙ take_all (length edges) edges (omega arith)) (rest_lacks x (length edges - count) (omega (arith, l)) q)
+
+-- what leads to a block stands
+pub leads_live : (t : Tree) (w : IsTree t) (k i b : ℕ) → slice_get (successors_of t k) i ≡ Some b → IsLive t k
+leads_live t w k i b s = go (head_of t k) refl
+  where
+    go : (h : Option Head) → head_of t k ≡ h → IsLive t k
+    go None e = absurd (subst (In b) (w.joined.erased k e).1 (in_slice (successors_of t k) i b s))
+    go (Some h) e = ap is_some e

@@ -18,6 +18,7 @@ ghost use Rattle.pliron_dce.specs.Dead.{Item};
 ghost use Rattle.pliron_dce.specs.Going.{GoInTurn, AreDeadThings, LeavesNoDead, TellsDead, SomeHasRegions};
 
 mod candidates;
+mod incoming;
 mod looks;
 mod ready;
 mod sweep;
@@ -62,10 +63,12 @@ pub fn ready_things_are_seen<D: Dialect>()
 /// Cost: one look at each operation and argument inside, and two more for each use that it loses. The
 /// operations around what loses a use are looked at once for all that is lost until nothing else is ready.
 /// Looks at an operation go over what it makes and holds, up to the first use that holds it, and each goes on
-/// from where the last one ended; what goes is gone over once more. An argument that goes asks each edge to
-/// its block for the one operand that it forwards there (`successor_operand`) and takes that one out. The
-/// arguments of a block that may go at one time go side by side, the last one first; so those that stay
-/// behind them move once for all of these.
+/// from where the last one ended; what goes is gone over once more. The first argument of a block that goes
+/// asks each edge to the block for all that it forwards (`successor_operands`) and sorts the edges by how much
+/// that is. Each one then asks only the edges that forward to it, and one more, for the one operand that they
+/// forward there (`successor_operand`), and takes that one out. The arguments of a block that may go at one
+/// time go side by side, the last one first; so those that stay behind them move once for all of these. A look
+/// at an argument that nothing uses asks each edge to its block whether it is a branch's.
 pub fn dce<D: Dialect>(
     alloc: Global,
     op: Ptr<Operation>,

@@ -6,9 +6,11 @@ ghost use Rattle.pliron_laws.specs.Linked.{IsWellLinked};
 ghost use Rattle.pliron_theory.specs.Edges.{KeepsEdges, has_regions as is_with_regions};
 ghost use Rattle.pliron_dce.specs.Dead.{Item};
 ghost use Rattle.pliron_dce.specs.Steps.{IsReady};
+ghost use Rattle.pliron_dce.specs.Incoming.{list_of, AreKnown};
 ghost use Rattle.pliron_dce.specs.Going.{Goes, HasRegions, SomeHasRegions, IsSweptSoFar, LeavesNoDead, TellsGone};
 ghost use Rattle.pliron_dce.specs.Work.{item_of, waiting, HasReady, AreClosed};
 
+use crate::incoming::Incoming;
 use crate::looks::Looks;
 use crate::take::{take_argument, take_operation};
 use crate::work::{Candidate, Work, next_ready, note};
@@ -36,15 +38,18 @@ fn take_one<D: Dialect>(
     next: Candidate,
     root: Ptr<Operation>,
     work: &mut Work,
+    incoming: &mut Incoming,
     ctx: &mut Context,
 ) -> Result<bool, OptError>
     requires linked { IsWellLinked D.meaning ctx.old.tree root }
     requires ready { IsReady D.meaning D.side_effects D.removable ctx.old.tree root (item_of next) }
     requires all { HasReady D.meaning D.side_effects D.removable ctx.old.tree root (waiting work.old ++ next ∷ []) }
     requires closed { AreClosed ctx.old.tree work.old.around.keys }
+    requires known { AreKnown D.meaning ctx.old.tree root (λ b. list_of incoming.old b) }
     ensures goes { OnOk result (Goes D.meaning D.shortened ctx.old.tree ctx.new.tree (item_of next)) }
     ensures all { OnOk result (HasReady D.meaning D.side_effects D.removable ctx.new.tree root (waiting work.new)) }
     ensures closed { OnOk result (AreClosed ctx.new.tree work.new.around.keys) }
+    ensures known { OnOk result (AreKnown D.meaning ctx.new.tree root (λ b. list_of incoming.new b)) }
     ensures regions { IfOk result (λ had. IsTrue had ↔ HasRegions ctx.old.tree (item_of next)) }
     ensures refused { OnErr result ((ctx.new.tree ≡ ctx.old.tree) ⊎ Goes D.meaning D.shortened ctx.old.tree ctx.new.tree (item_of next)) }
     ensures memory { IsOkUnless result OptError.Memory }
@@ -60,7 +65,9 @@ fn take_one<D: Dialect>(
         }
         Candidate::Argument(value) => match value.def(ctx) {
             Def::Argument(block, index) => {
-                let used = take_argument::<D>(alloc, block, index, root, ctx)?;
+                incoming.add::<D>(alloc, block, root, ctx)?;
+                let edges = incoming.edges_to(block);
+                let used = take_argument::<D>(alloc, block, index, edges, root, ctx)?;
                 ctx.well_formed();
                 note(work, &used, ctx)?;
                 Ok(false)
@@ -88,11 +95,12 @@ pub(crate) fn sweep<D: Dialect>(
     ensures memory { IsOkUnless result OptError.Memory }
 {
     let mut work = Work::new(alloc, candidates, looks);
+    let mut incoming = Incoming::new(alloc);
     let mut status = IRStatus::Unchanged;
     let mut regions = false;
     while let Some(next) = next_ready::<D>(&mut work, root, ctx)? {
         ctx.well_formed();
-        let taken = take_one::<D>(alloc, next, root, &mut work, ctx);
+        let taken = take_one::<D>(alloc, next, root, &mut work, &mut incoming, ctx);
         ctx.well_formed();
         let had = taken?;
         regions = either(regions, had);

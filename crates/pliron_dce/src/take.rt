@@ -1,15 +1,17 @@
 //! Whole rewrites: one dead thing goes.
-ghost use Rattle.std.specs.Prelude.{◌≡◌, ◌↔◌, ◌<◌, length, ℕ, Some, IfOk, OnOk, OnErr, IsTrue, slice_get, IsOkUnless};
+ghost use Rattle.std.specs.Prelude.{◌≡◌, ◌↔◌, ◌<◌, ◌≤◌, length, ℕ, Some, IfOk, OnOk, OnErr, IsTrue, slice_get, IsOkUnless};
 ghost use Rattle.pliron_core.specs.Tree.{In, IsLive, IsBlock, operands_of, arguments_of};
 ghost use Rattle.pliron_core.specs.Erased.{erased};
 ghost use Rattle.pliron_laws.specs.Linked.{IsWellLinked};
+ghost use Rattle.pliron_theory.specs.Dropping.{AreEdgesTo, AreOfBranches, EdgesLose};
 ghost use Rattle.pliron_dce.specs.Dead.{Item};
 ghost use Rattle.pliron_dce.specs.Going.{Removes};
+ghost use Rattle.pliron_dce.specs.Incoming.{edges_of, AreIncoming, AreForwardedTo, HavePlaces};
 ghost use Rattle.pliron_dce.specs.Steps.{IsReadyOperation, IsReadyArgument, AreNoted, AreOperandsWithin, AddsOperands};
 
+use crate::incoming::IncomingEdge;
 use pliron_core::{BasicBlock, Context, IRRewriter, Operation, Ptr, Rewriter, Value};
 use pliron_laws::{Dialect, OptError};
-use pliron_theory::lose_forwarded;
 use std::alloc::{AllocError, Global};
 
 // The operands of this operation go to the end of the list.
@@ -66,12 +68,59 @@ pub(crate) fn take_operation<D: Dialect>(
     Ok(used)
 }
 
+// The operands that edges forward to the argument with this index. Of edges in the order of how much they
+// forward, the first ones do.
+fn operands_to<D: Dialect>(
+    alloc: Global,
+    block: Ptr<BasicBlock>,
+    index: usize,
+    edges: &[IncomingEdge],
+    ctx: &Context,
+) -> Result<Vec<Value>, OptError>
+    requires edges { AreIncoming D.meaning ctx.now.tree block (edges_of edges.now) }
+    ensures used { IfOk result (λ used. AreForwardedTo D.meaning ctx.now.tree index (edges_of edges.now) used.items) }
+    ensures memory { IsOkUnless result OptError.Memory }
+{
+    ctx.well_formed();
+    let mut used = Vec::new(alloc);
+    for edge in edges {
+        match D::successor_operand(alloc, edge.branch, ctx, edge.place, index)? {
+            Some(value) => used.push(value)?,
+            None => return Ok(used),
+        }
+    }
+    Ok(used)
+}
+
+// The first edges lose the operand that they forward to the argument with this index; the others have none.
+fn lose_operands<D: Dialect>(
+    block: Ptr<BasicBlock>,
+    index: usize,
+    edges: &[IncomingEdge],
+    count: usize,
+    ctx: &mut Context,
+)
+    requires edges { AreEdgesTo ctx.old.tree block (edges_of edges.now) }
+    requires branches { AreOfBranches D.meaning ctx.old.tree (edges_of edges.now) }
+    requires count { count ≤ length edges.now }
+    requires places { HavePlaces D.meaning ctx.old.tree index (edges_of edges.now) count }
+    ensures lost { EdgesLose D.meaning D.shortened index (edges_of edges.now) ctx.old.tree ctx.new.tree }
+{
+    ctx.well_formed();
+    for i in 0..count {
+        ctx.well_formed();
+        let edge = edges[i];
+        D::remove_successor_operand(edge.branch, ctx, edge.place, index);
+    }
+}
+
 // A ready argument goes, after each edge to its block lost the operand that it forwarded to it. Answers
 // the values that these operands were.
 pub(crate) fn take_argument<D: Dialect>(
     alloc: Global,
     block: Ptr<BasicBlock>,
     index: usize,
+    edges: &[IncomingEdge],
     root: Ptr<Operation>,
     ctx: &mut Context,
 ) -> Result<Vec<Value>, OptError>
@@ -79,6 +128,7 @@ pub(crate) fn take_argument<D: Dialect>(
     requires ready { (v : ℕ) → slice_get (arguments_of ctx.old.tree block) index ≡ Some v → IsReadyArgument D.meaning D.removable ctx.old.tree root v }
     requires block { IsBlock ctx.old.tree block }
     requires index { index < length (arguments_of ctx.old.tree block) }
+    requires edges { AreIncoming D.meaning ctx.old.tree block (edges_of edges.now) }
     ensures gone { IfOk result (λ used. (v : ℕ) → slice_get (arguments_of ctx.old.tree block) index ≡ Some v →
         Removes D.meaning D.shortened ctx.old.tree ctx.new.tree v) }
     ensures noted { IfOk result (λ used. AreNoted ctx.old.tree ctx.new.tree used.items) }
@@ -86,17 +136,8 @@ pub(crate) fn take_argument<D: Dialect>(
     ensures memory { IsOkUnless result OptError.Memory }
 {
     ctx.well_formed();
-    let mut forwards = Vec::new(alloc);
-    let mut used = Vec::new(alloc);
-    for i in 0..block.num_use(ctx) {
-        let (branch, edge) = block.get_use(ctx, i);
-        let forwarded = D::successor_operand(alloc, branch, ctx, edge, index)?;
-        if let Some(value) = forwarded {
-            used.push(value)?;
-        }
-        forwards.push(forwarded.is_some())?;
-    }
-    lose_forwarded::<D>(ctx, block, index, &forwards);
+    let used = operands_to::<D>(alloc, block, index, edges, ctx)?;
+    lose_operands::<D>(block, index, edges, used.len(), ctx);
     ctx.well_formed();
     BasicBlock::remove_argument(ctx, block, index);
     Ok(used)

@@ -12,4 +12,6 @@ mod rounds;
 #[cfg(test)]
 mod runs;
 #[cfg(test)]
+mod short;
+#[cfg(test)]
 mod texts;

@@ -9,6 +9,7 @@ ghost use Rattle.pliron_core.specs.Tree.{IsLive, IsBlock, IsDefined, block_holde
 use super::boxes::BOXES;
 use super::cases::{DEFINED, ROWS};
 use super::hostile::HOSTILE;
+use super::short::SHORT;
 use pliron_bench::Bench;
 use pliron_core::{BasicBlock, Context, Def, Operation, Ptr, Value};
 use pliron_dce::dce;
@@ -414,4 +415,9 @@ fn rounds_of_defined_texts(rt: HostRuntime) -> Result<(), Fail> {
 #[test]
 fn rounds_of_boxes(rt: HostRuntime) -> Result<(), Fail> {
     compare_all(&rt, rt.alloc(), BOXES)
+}
+
+#[test]
+fn rounds_of_short_edges(rt: HostRuntime) -> Result<(), Fail> {
+    compare_all(&rt, rt.alloc(), SHORT)
 }

@@ -6,6 +6,7 @@ ghost use Rattle.pliron_laws.specs.Linked.{IsWellLinked};
 use super::boxes::BOXES;
 use super::cases::{DEFINED, ROWS};
 use super::hostile::HOSTILE;
+use super::short::SHORT;
 use pliron_bench::Bench;
 use pliron_cases::cases::operation_at;
 use pliron_core::{Context, IRStatus, Operation, Ptr};
@@ -100,6 +101,11 @@ fn defined_texts(rt: HostRuntime) -> Result<(), Fail> {
 #[test]
 fn boxes_that_go_one_by_one(rt: HostRuntime) -> Result<(), Fail> {
     check_all(&rt, rt.alloc(), BOXES)
+}
+
+#[test]
+fn edges_that_forward_too_few(rt: HostRuntime) -> Result<(), Fail> {
+    check_all(&rt, rt.alloc(), SHORT)
 }
 
 // What is left of the whole where the root stands inside it.

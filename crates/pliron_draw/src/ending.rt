@@ -14,8 +14,6 @@ pub enum Wrong<'w> {
     Graph,
     /// No region has this path.
     Region(&'w str),
-    /// No list of passes is written so.
-    Passes(&'w str),
 }
 
 impl Wrong<'_> {
@@ -25,7 +23,7 @@ impl Wrong<'_> {
     {
         match self {
             Wrong::Failed(failure) => failure.status(),
-            Wrong::Graph | Wrong::Region(_) | Wrong::Passes(_) => 2,
+            Wrong::Graph | Wrong::Region(_) => 2,
         }
     }
 
@@ -38,9 +36,6 @@ impl Wrong<'_> {
             ),
             Wrong::Region(path) => format!(in alloc;
                 "error: no region `{path}`\nhelp: write numbers with dots: a region of the text, an operation in it, a region of that one ..\n"
-            ),
-            Wrong::Passes(word) => format!(in alloc;
-                "error: no list of passes `{word}`\nhelp: write `sccp`, `dce`, `simplify-cfg` with commas, behind `repeat:N:`, `nested:` if wished\n"
             ),
         }
     }

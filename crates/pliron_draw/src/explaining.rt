@@ -1,10 +1,12 @@
 //! The command that tells what passes did.
-ghost use Rattle.std.specs.Prelude.{◌≡◌, ⊤, IfOk};
+ghost use Rattle.std.specs.Prelude.{◌≡◌, ⊤, length, IfOk, IfSome};
 ghost use Rattle.pliron_people.specs.Outcomes.{Ends};
 
 use crate::ending::{Wrong, ended_badly, ended_with};
-use pliron_people::{Failure, Outcome, Source};
-use pliron_pictures::{PassList, explained};
+use pliron_laws::OptError;
+use pliron_people::{Failure, Outcome, Source, misspelt};
+use pliron_pictures::{PassList, PassName, explained};
+use pliron_watch::{Plan, PlanError};
 use std::alloc::{AllocError, Global};
 
 /// The outcome for these lines.
@@ -19,20 +21,67 @@ fn ended_with_lines(alloc: Global, lines: String) -> Result<Outcome, AllocError>
     }
 }
 
-/// Tells, for each operation and argument of the text that changed or went when these passes were run, where it stands,
-/// and why. The list is written as for `plir_opt`.
-///
-/// Statuses: 0; 1 where memory or the passes were refused; 2 for an unreadable text, or another list. With 1 and 2
-/// nothing is to be written to the output. Errors: want of memory for what is told. Cost: that of `explained`.
-pub fn explain(alloc: Global, source: &Source, passes: &str) -> Result<Outcome, AllocError>
+/// The passes of these names, if each is the name of one.
+fn passes_of(alloc: Global, names: &[&str]) -> Result<Option<Vec<PassName>>, AllocError>
+    ensures { IfOk result (λ found. IfSome found (λ passes. length passes.items ≡ length names.now)) }
+{
+    let mut passes = Vec::new(alloc);
+    for name in names {
+        let Some(pass) = PassName::from_name(name) else {
+            return Ok(None);
+        };
+        passes.push(pass)?;
+    }
+    Ok(Some(passes))
+}
+
+/// The passes that the plan asks for, if each of its names is that of one.
+fn list_of(alloc: Global, plan: &Plan) -> Result<Option<PassList>, AllocError>
+    ensures nested { IfOk result (λ found. IfSome found (λ list. list.is_nested ≡ plan.now.nested)) }
+    ensures passes { IfOk result (λ found. IfSome found (λ list. length list.passes.items ≡ length plan.now.names.items)) }
+{
+    match passes_of(alloc, &plan.names)? {
+        Some(passes) => Ok(Some(PassList {
+            runs: plan.runs.unwrap_or(1),
+            is_nested: plan.nested,
+            passes,
+        })),
+        None => Ok(None),
+    }
+}
+
+/// Tells what the passes that the plan asks for did.
+fn explain_by(alloc: Global, source: &Source, plan: &Plan) -> Result<Outcome, AllocError>
     ensures { IfOk result (Ends ⊤ ⊥) }
 {
-    let Some(list) = PassList::read(alloc, passes)? else {
-        return ended_badly(alloc, Wrong::Passes(passes), source);
+    let Some(list) = list_of(alloc, plan)? else {
+        return ended_badly(alloc, Wrong::Failed(Failure::Text), source);
     };
     match explained(alloc, source.text, &list) {
         Ok(Some(lines)) => ended_with_lines(alloc, lines),
         Ok(None) => ended_badly(alloc, Wrong::Failed(Failure::Text), source),
         Err(error) => ended_badly(alloc, Wrong::Failed(Failure::Refused(error)), source),
+    }
+}
+
+/// Tells, for each operation and argument of the text that changed or went when the passes were run that the word asks
+/// for, where it stands, and why.
+///
+/// Statuses: 0; 1 where memory or the passes were refused; 2 for an unreadable text, or a word that asks for no passes.
+/// With 1 and 2 nothing is to be written to the output. Errors: want of memory for what is told. Cost: that of
+/// `explained`.
+pub fn explain(alloc: Global, source: &Source, pipeline: &str) -> Result<Outcome, AllocError>
+    ensures { IfOk result (Ends ⊤ ⊥) }
+{
+    match Plan::read(alloc, pipeline) {
+        Ok(plan) => explain_by(alloc, source, &plan),
+        Err(PlanError::Word(fault)) => misspelt(alloc, pipeline, &fault),
+        Err(PlanError::Memory) => {
+            ended_badly(
+                alloc,
+                Wrong::Failed(Failure::Refused(OptError::Memory)),
+                source,
+            )
+        }
     }
 }

@@ -1,6 +1,8 @@
 -- What the lists of the evaluator stand for.
-use Rattle.std.proofs.Common.{◌≡◌, ◌≢◌, ℕ, suc, ◌<◌, ◌≤◌, ◌+◌, ◌-◌, if◌then◌else◌, Bool, true, false, nat_eq, List, [], ◌∷◌, ◌++◌, length, get_or, take, drop, map, Option, Some, None, refl, sym, ap, ◌∙◌, arith, append_assoc}
+use Rattle.std.proofs.Common.{◌≡◌, ◌≢◌, ℕ, suc, ◌<◌, ◌≤◌, ◌+◌, ◌-◌, if◌then◌else◌, cond, Bool, true, false, nat_eq, List, [], ◌∷◌, ◌++◌, length, get_or, take, drop, map, Option, Some, None, refl, sym, ap, ◌∙◌, arith, append_assoc}
 use Rattle.std.proofs.lemmas.List.{drop_more, take_more, map-append, length-map, drop_all, drop-drop, append-nil}
+use Rattle.std.specs.HashMap.{HashMap, get, Updates}
+use Rattle.std.specs.Option.{option_map}
 use Rattle.pliron_laws.specs.Datum.{Datum, Empty}
 use Rattle.pliron_laws.specs.States.{Environment, bound, bind, prepended, data_of}
 use Rattle.pliron_evaluator.specs.declared.evaluator.values.Datum.{Datum as DatumValue}
@@ -14,31 +16,31 @@ drop_at xs i x lt e = drop_more xs i x lt ∙ ap (λ z. z ∷ drop (i + 1) xs) (
 pub take_at : {X : Type 0} (xs : List X) (i : ℕ) (x : X) → i < length xs → x ≡ get_or xs i x → take (i + 1) xs ≡ take i xs ++ x ∷ []
 take_at xs i x lt e = take_more xs i x lt ∙ ap (λ z. take i xs ++ z ∷ []) (sym e)
 
--- a value's datum is that of the binding here, or what the later ones say
-pub datum_here : (bs : List (ℕ × DatumValue)) (i v : ℕ) (b : ℕ × DatumValue) → i < length bs → b ≡ get_or bs i b → environment_of (drop i bs) v ≡ (if nat_eq v b.0 then Some (datum_of_value b.1) else environment_of (drop (i + 1) bs) v)
+same_question : (v w : ℕ) → nat_eq v w ≡ nat_eq w v
+same_question v w = grind arith
+
+chosen : (b c : Bool) (d : DatumValue) (o : Option DatumValue) → b ≡ c → option_map datum_of_value (cond b (Some d) o) ≡ (if c then Some (datum_of_value d) else option_map datum_of_value o)
+chosen true c d o e = ap (λ z. if z then Some (datum_of_value d) else option_map datum_of_value o) e
+chosen false c d o e = ap (λ z. if z then Some (datum_of_value d) else option_map datum_of_value o) e
+
+-- what is put into the map is bound
+pub bound_so : {S : Type 0} (m n : HashMap ℕ DatumValue S) (v : ℕ) (d x : DatumValue) → datum_of_value d ≡ datum_of_value x → Updates nat_eq m n v (Some d) → environment_of n ≡ bound (environment_of m) v (datum_of_value x)
 unfolding bound
-datum_here bs i v b lt e = ap (λ z. environment_of z v) (drop_at bs i b lt e)
-
-choice : {A : Type 0} (b c : Bool) (x y : A) → b ≡ c → (if b then x else y) ≡ (if c then x else y)
-choice b c x y e = ap (λ z. if z then x else y) e
-
-pub datum_found : (bs : List (ℕ × DatumValue)) (i v : ℕ) (b : ℕ × DatumValue) (d : DatumValue) → i < length bs → b ≡ get_or bs i b → nat_eq v b.0 ≡ true → datum_of_value d ≡ datum_of_value b.1 → environment_of bs v ≡ environment_of (drop i bs) v → Some (datum_of_value d) ≡ environment_of bs v
-datum_found bs i v b d lt e same copied so_far = sym (so_far ∙ datum_here bs i v b lt e ∙ choice _ true _ _ same ∙ ap Some (sym copied))
-
-pub datum_passed : (bs : List (ℕ × DatumValue)) (i v : ℕ) (b : ℕ × DatumValue) → i < length bs → b ≡ get_or bs i b → nat_eq v b.0 ≡ false → environment_of bs v ≡ environment_of (drop i bs) v → environment_of bs v ≡ environment_of (drop (i + 1) bs) v
-datum_passed bs i v b lt e other so_far = so_far ∙ datum_here bs i v b lt e ∙ choice _ false _ _ other
+bound_so m n v d x copied updates =
+    let each : (w : ℕ) → environment_of n w ≡ bound (environment_of m) v (datum_of_value d) w = λ w. ap (option_map datum_of_value) (updates.0 w) ∙ chosen (nat_eq v w) (nat_eq w v) d (get nat_eq m w) (same_question v w) in
+    (λ i w. each w i) ∙ ap (bound (environment_of m) v) copied
 
 -- one binding more
-pub bind_more : (bs after : List (ℕ × DatumValue)) (vs : List ℕ) (ds : List DatumValue) (i v : ℕ) (x d : DatumValue) → i < length vs → i < length ds → v ≡ get_or vs i v → x ≡ get_or ds i x → datum_of_value d ≡ datum_of_value x → after ≡ (v, d) ∷ bs → bind (environment_of bs) (drop i vs) (map datum_of_value (drop i ds)) ≡ bind (environment_of after) (drop (i + 1) vs) (map datum_of_value (drop (i + 1) ds))
-bind_more bs after vs ds i v x d lt lt' e f copied g =
-    ap (λ z. bind (environment_of bs) z (map datum_of_value (drop i ds))) (drop_at vs i v lt e)
-    ∙ ap (λ z. bind (environment_of bs) (v ∷ drop (i + 1) vs) (map datum_of_value z)) (drop_at ds i x lt' f)
-    ∙ ap (λ z. bind (bound (environment_of bs) v z) (drop (i + 1) vs) (map datum_of_value (drop (i + 1) ds))) (sym copied)
-    ∙ ap (λ z. bind (environment_of z) (drop (i + 1) vs) (map datum_of_value (drop (i + 1) ds))) (sym g)
+module _ {S : Type 0} where
+  pub bind_more : (m n : HashMap ℕ DatumValue S) (vs : List ℕ) (ds : List DatumValue) (i v : ℕ) (x : DatumValue) → i < length vs → i < length ds → v ≡ get_or vs i v → x ≡ get_or ds i x → environment_of n ≡ bound (environment_of m) v (datum_of_value x) → bind (environment_of m) (drop i vs) (map datum_of_value (drop i ds)) ≡ bind (environment_of n) (drop (i + 1) vs) (map datum_of_value (drop (i + 1) ds))
+  bind_more m n vs ds i v x lt lt' e f g =
+      ap (λ z. bind (environment_of m) z (map datum_of_value (drop i ds))) (drop_at vs i v lt e)
+      ∙ ap (λ z. bind (environment_of m) (v ∷ drop (i + 1) vs) (map datum_of_value z)) (drop_at ds i x lt' f)
+      ∙ ap (λ z. bind z (drop (i + 1) vs) (map datum_of_value (drop (i + 1) ds))) (sym g)
 
-pub bind_done : (bs : List (ℕ × DatumValue)) (vs : List ℕ) (ds : List DatumValue) (i : ℕ) → length vs ≤ i → length ds ≤ i → bind (environment_of bs) (drop i vs) (map datum_of_value (drop i ds)) ≡ Some (environment_of bs)
-bind_done bs vs ds i le le' =
-    ap (λ z. bind (environment_of bs) z (map datum_of_value (drop i ds))) (drop_all i vs le) ∙ ap (λ z. bind (environment_of bs) [] (map datum_of_value z)) (drop_all i ds le')
+pub bind_done : (env : Environment) (vs : List ℕ) (ds : List DatumValue) (i : ℕ) → length vs ≤ i → length ds ≤ i → bind env (drop i vs) (map datum_of_value (drop i ds)) ≡ Some env
+bind_done env vs ds i le le' =
+    ap (λ z. bind env z (map datum_of_value (drop i ds))) (drop_all i vs le) ∙ ap (λ z. bind env [] (map datum_of_value z)) (drop_all i ds le')
 
 bind_unequal : (env : Environment) (vs : List ℕ) (ds : List Datum) → length vs ≢ length ds → bind env vs ds ≡ None
 bind_unequal env [] [] n = absurd (n refl)

@@ -1,8 +1,10 @@
 -- What the values of the evaluator stand for.
-use Rattle.std.specs.Prelude.{ℕ, List, [], ◌∷◌, Option, Some, None, map}
+use Rattle.std.specs.Prelude.{ℕ, nat_eq, List, Option, Some, None, map}
+use Rattle.std.specs.HashMap.{HashMap, get}
+use Rattle.std.specs.Option.{option_map}
 use Rattle.std.specs.Global.{Vec}
 use Rattle.pliron_laws.specs.Datum.{Datum, Empty, Number, Text, Join, Move, Give, Visit, Goto, Leave, Emit, Trap}
-use Rattle.pliron_laws.specs.States.{Environment, bound, Waiting, State, Sight, Ended, Trapped, Reached, Next, Goes, Over}
+use Rattle.pliron_laws.specs.States.{Environment, Waiting, State, Sight, Ended, Trapped, Reached, Next, Goes, Over}
 use Rattle.pliron_evaluator.specs.declared.evaluator.values.Datum.{Datum as DatumValue}
 use Rattle.pliron_evaluator.specs.declared.evaluator.values.Datum.TheVariants.{Empty as EmptyValue, Number as NumberValue, Text as TextValue, Join' as JoinValue'}
 use Rattle.pliron_evaluator.specs.declared.evaluator.values.Move.{Move as MoveValue}
@@ -34,10 +36,9 @@ sight_of (EndedValue ds effects) = Ended (map datum_of_value ds.items) (map datu
 sight_of (TrappedValue effects) = Trapped (map datum_of_value effects.items)
 sight_of (ReachedValue effects) = Reached (map datum_of_value effects.items)
 
--- a value has the first datum that the list binds to it
-abbrev pub environment_of : List (ℕ × DatumValue) → Environment
-environment_of [] = λ v. None
-environment_of (b ∷ bs) = bound (environment_of bs) b.0 (datum_of_value b.1)
+-- a value has the datum that the map has for it
+abbrev pub environment_of : {S : Type 0} → HashMap ℕ DatumValue S → Environment
+environment_of m = λ v. option_map datum_of_value (get nat_eq m v)
 
 abbrev pub answer_of_values : Option (Vec DatumValue) → Option (List Datum)
 answer_of_values None = None
@@ -48,7 +49,7 @@ waiting_of w = record { rest = w.rest.items; memo = datum_of_value w.memo }
 
 abbrev pub state_of : StateValue → State
 state_of s = record {
-  environment = environment_of s.environment.items;
+  environment = environment_of s.environment;
   rest = s.rest.items;
   memo = datum_of_value s.memo;
   answer = answer_of_values s.answer;

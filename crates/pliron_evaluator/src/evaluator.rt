@@ -1,7 +1,7 @@
 //! A plain evaluator of trees, to test dialects and texts by: what it answers is what is seen of the
 //! run, by the definition itself. No optimisation runs a program.
 //!
-//! It is slow: a step costs as much as the state and the block are large.
+//! A step costs what its operation reads and makes, and one that enters a block as much as that block has operations.
 ghost use Rattle.std.specs.Prelude.{◌≡◌, map, IfOk};
 ghost use Rattle.pliron_laws.specs.Machine.{run, seen};
 ghost use Rattle.pliron_evaluator.specs.Evaluator.{datum_of_value, sight_of};
@@ -26,7 +26,7 @@ pub use values::{Datum, Evaluate, Move, Sight};
 /// after at most `fuel` steps. A root that doesn't stand traps.
 ///
 /// Errors: want of memory. Cost: a step copies what the operation reads and the operations of the
-/// block that it enters, and moves all that the state has.
+/// block that it enters, and looks up each value once.
 pub fn evaluate<D: Evaluate>(
     alloc: Global,
     ctx: &Context,
@@ -64,5 +64,5 @@ pub fn evaluate_noting<D: Evaluate>(
             Next::Over(sight) => return Ok(sight),
         }
     }
-    Ok(Sight::Reached(state.effects))
+    Ok(Sight::Reached(Vec::from(state.effects)))
 }

@@ -49,7 +49,7 @@ pub fn sccs_in_topological_order<C, G: ControlFlowGraph<C>>(
     };
     let nodes = graph.nodes(alloc, ctx)?;
     let found = find_components::<(), AdjacencyList, NumberSet>(alloc, &(), lists)?;
-    named(alloc, &nodes, &found)
+    named(alloc, &nodes, found)
 }
 
 // The components, by sets of this kind.
@@ -66,14 +66,14 @@ fn find_components<C, G: ControlFlowGraph<C>, S: ListedSet<G::Node>>(
     take_components(alloc, ctx, graph, &pre, post)
 }
 
-// The components of nodes, by those of their numbers.
+// The components of nodes, by those of their numbers. Each list of numbers goes as its nodes are listed, so that the next takes its memory.
 fn named<N: Copy>(
     alloc: Global,
     nodes: &[N],
-    components: &[Scc<u32>],
+    components: Vec<Scc<u32>>,
 ) -> Result<Vec<Scc<N>>, OptError>
-    requires { All (λ c. All (λ k. k < length nodes.now) c.nodes.items) components.now }
-    ensures named { IfOk result (λ r. AreNamed nodes.now components.now r.items) }
+    requires { All (λ c. All (λ k. k < length nodes.now) c.nodes.items) components.items }
+    ensures named { IfOk result (λ r. AreNamed nodes.now components.items r.items) }
     ensures memory { IsOkUnless result OptError.Memory }
 {
     let mut all = Vec::with_capacity(alloc, components.len())?;

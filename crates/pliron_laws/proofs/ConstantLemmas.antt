@@ -1,6 +1,6 @@
 -- Trees while a new operation with one result is put before another, and where it is erased again.
-use Rattle.std.proofs.Common.{◌≡◌, ◌≢◌, ◌⊎◌, inl, inr, ℕ, zero, suc, ◌<◌, ◌≤◌, List, [], ◌∷◌, length, get_or, set, nat_eq, Option, Some, None, IsSome, is_some, refl, sym, ap, ◌∙◌, subst, ⊎_elim, arith, slice_get}
-use Rattle.std.proofs.lemmas.List.{get_or_past, get_or-set_same, set-set, set-get_or}
+use Rattle.std.proofs.Common.{◌≡◌, ◌≢◌, inl, inr, ℕ, zero, suc, ◌<◌, ◌≤◌, List, [], ◌∷◌, length, nat_eq, Option, Some, None, IsSome, is_some, refl, sym, ap, ◌∙◌, subst, ⊎_elim, arith, slice_get}
+use Rattle.std.proofs.lemmas.List.{get_or_past}
 use Rattle.std.proofs.lemmas.Option.{same_Some, slice_get_within}
 use Rattle.pliron_core.specs.declared.attrs.Head.{Head}
 use Rattle.pliron_core.specs.declared.context.Def.{Def}
@@ -8,19 +8,17 @@ use Rattle.pliron_core.specs.declared.context.Def.TheVariants.{Result, Argument}
 use Rattle.pliron_core.specs.declared.context.OperationEntry.{OperationEntry}
 use Rattle.pliron_core.specs.declared.rewriter.OpInsertionPoint.{OpInsertionPoint}
 use Rattle.pliron_core.specs.declared.rewriter.OpInsertionPoint.TheVariants.{Unset, BeforeOperation, AtBlockStart}
-use Rattle.pliron_core.specs.Lists.{put_before, without}
-use Rattle.pliron_core.specs.Tree.{Tree, In, IsLive, IsBlock, IsDefined, IsMadeBy, IsMadeWithin, IsInside, HoldsBlock, no_entry, row_of, results_of, regions_of, operands_of, parent_of, body_of, block_holder_of}
+use Rattle.pliron_core.specs.Tree.{Tree, In, IsLive, IsBlock, IsDefined, IsMadeBy, IsMadeWithin, IsInside, HoldsBlock, no_entry, row_of, results_of, regions_of, operands_of, parent_of, block_holder_of}
 use Rattle.pliron_core.specs.Joined.{HaveSameKeys, IsTree}
-use Rattle.pliron_core.specs.Writes.{created, replaced, placed, put_next_to, taken_from}
+use Rattle.pliron_core.specs.Writes.{created, replaced, put_next_to, taken_from}
 use Rattle.pliron_core.specs.Insertion.{IsPointFor, inserted}
 use Rattle.pliron_core.specs.Erased.{IsSelfContained, cleared, erased}
 use Rattle.pliron_core.specs.Changes.{IsSameTree}
 use Rattle.pliron_core.proofs.GrownLemmas.{get_grown, get_last, get_last_same, slice_get_kept}
 use Rattle.pliron_core.proofs.CreatedLemmas.{defined_kept}
-use Rattle.pliron_core.proofs.TreeLemmas.{live-within, block-within, region_owner}
+use Rattle.pliron_core.proofs.TreeLemmas.{live-within, region_owner}
 use Rattle.pliron_core.proofs.HoldingLemmas.{maker_is, block_held, held_block, region_parent_is}
 use Rattle.pliron_core.proofs.WalkLemmas.{inside_first, place_of, place_listed}
-use Rattle.pliron_core.proofs.EditLemmas.{without-cons, without-put_before}
 use Rattle.pliron_core.proofs.BlankLemmas.{length-blanked}
 use Rattle.pliron_core.proofs.DescentLemmas.{taken-operations}
 use Rattle.pliron_core.proofs.BesideLemmas.{same_created_erased}
@@ -87,6 +85,10 @@ made_free t made c head w e k = made_parent t made c head e ∙ ap (parent_of t)
 old_value : (t : Tree) (v : ℕ) → IsDefined t v → v ≢ length t.definitions
 old_value t v d e = let p = maker_is t v d in let lt = slice_get_within t.definitions v p.0 p.1 in omega (arith, lt, e)
 
+-- what is used in the tree with the new operation stood before
+old_operand : (t made : Tree) (x u : ℕ) (head : Head) → IsTree t → made ≡ created t head 1 0 → In u (operands_of made x) → IsDefined t u
+old_operand t made x u head w e i = w.joined.operands x u (subst (In u) (ap (λ y. operands_of y x) e ∙ get_grown t.operands [] x) i)
+
 pub made_point : (t made : Tree) (op c : ℕ) (head : Head) (p : OpInsertionPoint) → IsTree made → made ≡ created t head 1 0 → c ≡ length t.operations → p ≡ BeforeOperation op → IsLive t op → IsSome (parent_of t op) → IsPointFor made p c
 made_point t made op c head p w e k at live is =
     let none : regions_of made c ≡ [] = ap (λ z. z.regions) (made_row t made c head e k) in
@@ -108,89 +110,61 @@ made_defined t made v head e d =
         (λ s. absurd (no_member (results_of t k) i v (ap (λ z. z.results) s.1) g))
         (get_last t.operations (new_row t head) no_entry k)
 
--- putting it somewhere keeps the rows
-next_rows : (t : Tree) (c at : ℕ) (o : Option ℕ) → ((put_next_to t c at o).operations ≡ t.operations) × ((put_next_to t c at o).operands ≡ t.operands)
-next_rows t c at None = (refl, refl)
-next_rows t c at (Some b) = (refl, refl)
-
-put_rows : (t : Tree) (p : OpInsertionPoint) (c : ℕ) → ((inserted t p c).operations ≡ t.operations) × ((inserted t p c).operands ≡ t.operands)
-put_rows t Unset c = (refl, refl)
-put_rows t (BeforeOperation at) c = next_rows t c at (parent_of t at)
-put_rows t (AtBlockStart b) c = (refl, refl)
-
--- the tree where memory was refused: the new operation stands in no block, or where it was put
-abbrev pub IsUndone : Tree → Tree → OpInsertionPoint → ℕ → Type 0
-IsUndone made z p c = (z ≡ made) ⊎ (z ≡ inserted made p c)
-
-undone_rows : (made z : Tree) (p : OpInsertionPoint) (c : ℕ) → IsUndone made z p c → (z.operations ≡ made.operations) × (z.operands ≡ made.operands)
-undone_rows made z p c (inl e) = (ap (λ x. x.operations) e, ap (λ x. x.operands) e)
-undone_rows made z p c (inr e) = let r = put_rows made p c in (ap (λ x. x.operations) e ∙ r.0, ap (λ x. x.operands) e ∙ r.1)
-
-pub undone_live : (t made z : Tree) (c : ℕ) (head : Head) (p : OpInsertionPoint) → made ≡ created t head 1 0 → c ≡ length t.operations → IsUndone made z p c → IsLive z c
-undone_live t made z c head p e k undone =
-    let rows = undone_rows made z p c undone in
-    ap (λ x. is_some (get_or x c no_entry).head) rows.0 ∙ ap (λ x. is_some x.head) (made_row t made c head e k)
+pub made_live : (t made : Tree) (c : ℕ) (head : Head) → made ≡ created t head 1 0 → c ≡ length t.operations → IsLive made c
+made_live t made c head e k = ap (λ x. is_some x.head) (made_row t made c head e k)
 
 pub made_result : (t made : Tree) (c : ℕ) (head : Head) → made ≡ created t head 1 0 → c ≡ length t.operations → 0 < length (results_of made c)
 made_result t made c head e k = let one = ap (λ x. length x.results) (made_row t made c head e k) in omega (arith, one)
 
-pub undone_contained : (t made z : Tree) (c : ℕ) (head : Head) (p : OpInsertionPoint) → IsTree t → IsTree z → made ≡ created t head 1 0 → c ≡ length t.operations → IsUndone made z p c → IsSelfContained z c
-undone_contained t made z c head p wt wz e k undone =
-    let rows = undone_rows made z p c undone in
-    let row : row_of z c ≡ new_row t head = ap (λ x. get_or x c no_entry) rows.0 ∙ made_row t made c head e k in
-    contained z wz c (length t.definitions) (ap (λ x. x.regions) row) (ap (λ x. x.results) row) (λ x u i.
-    let same : operands_of z x ≡ operands_of t x = ap (λ y. get_or y x []) rows.1 ∙ ap (λ y. operands_of y x) e ∙ get_grown t.operands [] x in
-    old_value t u (wt.joined.operands x u (subst (In u) same i)))
+pub made_contained : (t made : Tree) (c : ℕ) (head : Head) → IsTree t → IsTree made → made ≡ created t head 1 0 → c ≡ length t.operations → IsSelfContained made c
+made_contained t made c head w wm e k =
+    let row = made_row t made c head e k in
+    contained made wm c (length t.definitions) (ap (λ x. x.regions) row) (ap (λ x. x.results) row) (λ x u i. old_value t u (old_operand t made x u head w e i))
 
--- what was put into a block is taken out again
-taken_put : (m : Tree) (c b : ℕ) (put : List ℕ) → without c put ≡ body_of m b → b < length m.bodies → parent_of m c ≡ None → taken_from (placed m c b put) c (Some b) ≡ m
-taken_put m c b put out lt free =
-    let bodies : set (set m.bodies b put) b (without c (get_or (set m.bodies b put) b [])) ≡ m.bodies =
-    ap (λ ys. set (set m.bodies b put) b (without c ys)) (get_or-set_same m.bodies b put [] lt)
-    ∙ ap (set (set m.bodies b put) b) out ∙ set-set m.bodies b put (body_of m b) ∙ set-get_or m.bodies b [] in
-    let parents : set (set m.parents c (Some b)) c None ≡ m.parents = set-set m.parents c (Some b) None ∙ ap (set m.parents c) (sym free) ∙ set-get_or m.parents c None in
-    ap (λ x. let y : Tree = record m { bodies = x; parents = set (set m.parents c (Some b)) c None } in y) bodies ∙ ap (λ x. let y : Tree = record m { parents = x } in y) parents
+-- putting it somewhere keeps operands, and what stands
+put_operands : (t : Tree) (p : OpInsertionPoint) (c k : ℕ) → operands_of (inserted t p c) k ≡ operands_of t k
+put_operands t Unset c k = refl
+put_operands t (BeforeOperation at) c k = go (parent_of t at)
+  where
+    go : (o : Option ℕ) → operands_of (put_next_to t c at o) k ≡ operands_of t k
+    go None = refl
+    go (Some b) = refl
+put_operands t (AtBlockStart b) c k = refl
+
+pub put_defined : (t z : Tree) (p : OpInsertionPoint) (c v : ℕ) → z ≡ inserted t p c → IsDefined t v → IsDefined z v
+put_defined t z p c v e d = subst (λ x. IsDefined x v) (sym e) (by p)
+  where
+    next : (at : ℕ) (o : Option ℕ) → IsDefined (put_next_to t c at o) v
+    next at None = d
+    next at (Some b) = d
+
+    by : (p : OpInsertionPoint) → IsDefined (inserted t p c) v
+    by Unset = d
+    by (BeforeOperation at) = next at (parent_of t at)
+    by (AtBlockStart b) = d
+
+-- its result has no uses
+pub put_unused : (t made z : Tree) (c new k : ℕ) (head : Head) (p : OpInsertionPoint) → IsTree t → made ≡ created t head 1 0 → c ≡ length t.operations → slice_get (results_of made c) 0 ≡ Some new → z ≡ inserted made p c → In new (operands_of z k) → ⊥
+put_unused t made z c new k head p w e key first is i =
+    let n : length t.definitions ≡ new = same_Some (length t.definitions) new (sym (ap (λ x. slice_get x.results 0) (made_row t made c head e key)) ∙ first) in
+    old_value t new (old_operand t made k new head w e (subst (In new) (ap (λ x. operands_of x k) is ∙ put_operands made p c k) i)) (sym n)
 
 -- erasing it leaves the tree as it was, but for spent keys
-erased_made : (t made : Tree) (c : ℕ) (head : Head) → IsTree t → made ≡ created t head 1 0 → c ≡ length t.operations → IsSameTree t (erased made c)
+pub erased_made : (t made : Tree) (c : ℕ) (head : Head) → IsTree t → made ≡ created t head 1 0 → c ≡ length t.operations → IsSameTree t (erased made c)
 erased_made t made c head w e k =
     subst (λ z. IsSameTree t z) (sym (ap (λ z. erased z c) e ∙ ap (erased (created t head 1 0)) k)) (same_created_erased t head 1 0 w)
 
-erased_free : (m : Tree) (c : ℕ) → parent_of m c ≡ None → erased m c ≡ cleared m (nat_eq c)
+pub erased_free : (m : Tree) (c : ℕ) → parent_of m c ≡ None → erased m c ≡ cleared m (nat_eq c)
 erased_free m c free = ap (λ o. cleared (taken_from m c o) (nat_eq c)) free
 
-erased_placed : (m : Tree) (c b : ℕ) (put : List ℕ) → IsTree m → IsLive m c → parent_of m c ≡ None → IsBlock m b → without c put ≡ body_of m b → erased (placed m c b put) c ≡ erased m c
-erased_placed m c b put w live free standing out =
-    let p : Tree = placed m c b put in
-    let lt = live-within m c live in
-    let here : parent_of p c ≡ Some b = get_or-set_same m.parents c (Some b) None (omega (arith, lt, w.keys.parents)) in
-    ap (λ o. cleared (taken_from p c o) (nat_eq c)) here ∙ ap (λ x. cleared x (nat_eq c)) (taken_put m c b put out (block-within m b w.keys standing) free) ∙ sym (erased_free m c free)
-
-some_block : (o : Option ℕ) → IsSome o → (b : ℕ) × (o ≡ Some b)
+pub some_block : (o : Option ℕ) → IsSome o → (b : ℕ) × (o ≡ Some b)
 some_block None is = absurd (grind arith)
 some_block (Some b) is = (b, refl)
 
-erased_put : (m : Tree) (c : ℕ) (p : OpInsertionPoint) → IsTree m → IsLive m c → parent_of m c ≡ None → IsPointFor m p c → erased (inserted m p c) c ≡ erased m c
-erased_put m c Unset w live free at = absurd at
-erased_put m c (BeforeOperation op) w live free at =
-    let b = some_block (parent_of m op) at.0 in
-    let out : In c (body_of m b.0) → ⊥ = λ i. let f : None ≡ Some b.0 = sym free ∙ w.bodies.owned c b.0 i in grind arith in
-    ap (λ o. erased (put_next_to m c op o) c) b.1 ∙ erased_placed m c b.0 (put_before op c (body_of m b.0)) w live free (w.joined.standing op b.0 b.1).1 (without-put_before op c (body_of m b.0) out)
-erased_put m c (AtBlockStart b) w live free at = erased_placed m c b (c ∷ body_of m b) w live free at.0 (without-cons c (body_of m b))
-
-pub undone_same : (t made z z' : Tree) (c : ℕ) (head : Head) (p : OpInsertionPoint) → IsTree t → IsTree made → made ≡ created t head 1 0 → c ≡ length t.operations → IsPointFor made p c → IsUndone made z p c → z' ≡ erased z c → IsSameTree t z'
-undone_same t made z z' c head p wt wm e k at (inl f) g =
-    subst (λ x. IsSameTree t x) (sym (g ∙ ap (λ x. erased x c) f)) (erased_made t made c head wt e k)
-undone_same t made z z' c head p wt wm e k at (inr f) g =
-    let live : IsLive made c = ap (λ x. is_some x.head) (made_row t made c head e k) in
-    let put = erased_put made c p wm live (made_free t made c head wt e k) at in
-    subst (λ x. IsSameTree t x) (sym (g ∙ ap (λ x. erased x c) f ∙ put)) (erased_made t made c head wt e k)
-
 -- no key is given back
-pub undone_long : (made z z' : Tree) (c : ℕ) (p : OpInsertionPoint) → IsUndone made z p c → z' ≡ erased z c → length made.operations ≤ length z'.operations
-undone_long made z z' c p undone g =
-    let rows = undone_rows made z p c undone in
-    let same : length z'.operations ≡ length made.operations = ap (λ x. length x.operations) g ∙ length-blanked _ no_entry (taken_from z c (parent_of z c)).operations ∙ ap length (taken-operations z c (parent_of z c)) ∙ ap length rows.0 in
+pub erased_long : (made z : Tree) (c : ℕ) → z ≡ erased made c → length made.operations ≤ length z.operations
+erased_long made z c g =
+    let same : length z.operations ≡ length made.operations = ap (λ x. length x.operations) g ∙ length-blanked _ no_entry (taken_from made c (parent_of made c)).operations ∙ ap length (taken-operations made c (parent_of made c)) in
     omega (arith, same)
 
 -- the tree where all went well

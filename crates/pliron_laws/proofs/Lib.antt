@@ -4,6 +4,8 @@ pub mod PassedLemmas
 pub mod EdgeLastLemmas
 pub mod ConstantLemmas
 pub mod FoldLemmas
+pub mod StandInLemmas
+pub mod FoldSteps
 pub mod Records
 pub mod PutLinks
 pub mod LinkedLemmas

@@ -7,23 +7,20 @@ use Rattle.pliron_core.specs.declared.attrs.AttrObj.{AttrObj}
 use Rattle.pliron_core.specs.declared.context.Def.TheVariants.{Result}
 use Rattle.pliron_core.specs.Lists.{In, IsDistinct, AreOwned, put_before, last_of}
 use Rattle.pliron_core.specs.Uses.{replace_target}
-use Rattle.pliron_core.specs.Tree.{Tree, IsLive, IsDefined, IsMadeBy, IsInside, IsWithin, HoldsBlock, no_entry, row_of, results_of, regions_of, operands_of, successors_of, parent_of, body_of, block_parent_of, region_parent_of, block_holder_of, holder_of, definition_of, up_from, op_of_slot}
-use Rattle.pliron_core.specs.Tree.IsInside.{Directly, Deeper}
+use Rattle.pliron_core.specs.Tree.{Tree, IsLive, IsDefined, IsMadeBy, row_of, results_of, regions_of, operands_of, successors_of, parent_of, body_of, definition_of}
 use Rattle.pliron_core.specs.Joined.{HaveSameKeys, IsTree}
 use Rattle.pliron_core.specs.Writes.{created, replaced, placed, put_next_to}
 use Rattle.pliron_core.specs.Changes.{IsSameTree}
 use Rattle.pliron_core.proofs.EditLemmas.{put_before-first, put_before-other, In-put_before, In-put_before_old, In-put_before_new, distinct-put_before}
-use Rattle.pliron_core.proofs.GrownLemmas.{get_grown, get_padded, get_last, slice_get_added}
+use Rattle.pliron_core.proofs.GrownLemmas.{get_grown, get_padded, slice_get_added}
 use Rattle.pliron_core.proofs.CreatedLemmas.{kept_created}
 use Rattle.pliron_core.proofs.PlacedLemmas.{kept_put}
-use Rattle.pliron_core.proofs.UsedLemmas.{kept_replace, get_map, length_map}
+use Rattle.pliron_core.proofs.UsedLemmas.{kept_replace, length_map}
 use Rattle.pliron_core.proofs.TreeLemmas.{live-within}
-use Rattle.pliron_core.proofs.HoldingLemmas.{block_held}
-use Rattle.pliron_core.proofs.WalkLemmas.{holder_live}
 use Rattle.pliron_core.proofs.SameTreeLemmas.{same_inside, same_within, same_holds}
 use Rattle.pliron_laws.specs.Datum.{Head, Meaning}
 use Rattle.pliron_laws.specs.Folding.{MakesConstants, MakesConstant}
-use Rattle.pliron_laws.specs.Linked.{EdgesLast, IsAdmitted, IsWellLinked}
+use Rattle.pliron_laws.specs.Linked.{IsWellLinked}
 use Rattle.pliron_laws.specs.Outcomes.{materialised, MaterialisesSome}
 use Rattle.pliron_laws.specs.Outcomes.MaterialisesSome.{Rest, Then}
 use Rattle.pliron_laws.proofs.ConstantLemmas.{new_row, made_row, blockless}

@@ -10,6 +10,7 @@ pub mod Acting
 pub mod Laws
 pub mod Folding
 pub mod Outcomes
+pub mod StandIns
 pub mod Replacing
 pub mod InPlace
 pub mod Answers

@@ -1,5 +1,5 @@
 -- Folding by constants is an outcome that the law on folding in place allows.
-use Rattle.std.proofs.Common.{◌≡◌, ℕ, suc, ◌+◌, Bool, List, ◌∷◌, Option, Some, refl, sym, ap, ◌∙◌, arith, slice_get}
+use Rattle.std.proofs.Common.{◌≡◌, ℕ, suc, ◌+◌, Bool, List, ◌∷◌, Option, Some, None, refl, sym, ap, ◌∙◌, arith, slice_get}
 use Rattle.pliron_core.specs.declared.attrs.AttrObj.{AttrObj}
 use Rattle.pliron_core.specs.declared.attrs.IRStatus.{IRStatus}
 use Rattle.pliron_core.specs.Tree.{Tree}
@@ -8,9 +8,9 @@ use Rattle.pliron_laws.specs.Datum.{Head, Meaning}
 use Rattle.pliron_laws.specs.Tree.{Operation, op_at, shape_of}
 use Rattle.pliron_laws.specs.Folding.{Constants}
 use Rattle.pliron_laws.specs.Outcomes.{Materialises, MaterialisesSome}
-use Rattle.pliron_laws.specs.Outcomes.Materialises.{Finished, Unanswered, Refused, Unknown, PassedOver, Put}
+use Rattle.pliron_laws.specs.Outcomes.Materialises.{Finished, Unanswered, Unknown, PassedOver, Put}
 use Rattle.pliron_laws.specs.Outcomes.MaterialisesSome.{Rest, Then}
-use Rattle.pliron_laws.specs.InPlace.{TellsChange, is_complete, materialising}
+use Rattle.pliron_laws.specs.InPlace.{TellsChange, materialising}
 
 -- the list has the part from index n on
 abbrev IsPart : {A : Type 0} → ℕ → List A → List A → Type 0
@@ -27,17 +27,17 @@ part_all : {A : Type 0} (whole : List A) → IsPart 0 whole whole
 part_all whole i x e = let none : 0 + i ≡ i = omega arith in ap (slice_get whole) none ∙ e
 
 module _ (accepts : AttrObj → Bool) (head : AttrObj → Head) (op : ℕ) (results : List ℕ) (answers : List (Option AttrObj)) where
-  some_of : (n : ℕ) (c : Bool) (vs : List ℕ) (more : List (Option AttrObj)) (t u : Tree) → IsPart n results vs → IsPart n answers more → Materialises accepts head op c vs more t u → MaterialisesSome accepts head op results answers t u
-  some_of n c vs more t u at said Finished = Rest (same_refl _)
-  some_of n c vs more t u at said Unanswered = Rest (same_refl _)
-  some_of n c vs more t u at said (Refused same) = Rest same
-  some_of n c vs more t u at said (Unknown m) =
-      some_of (n + 1) _ _ _ _ _ (part_rest n results _ _ at) (part_rest n answers _ _ said) m
-  some_of n c vs more t u at said (PassedOver over m) =
-      some_of (n + 1) _ _ _ _ _ (part_rest n results _ _ at) (part_rest n answers _ _ said) m
-  some_of n c vs more t u at said (Put accepted m) =
-      Then n _ _ (part_first n results _ _ at) (part_first n answers _ _ said) accepted (some_of (n + 1) _ _ _ _ _ (part_rest n results _ _ at) (part_rest n answers _ _ said) m)
+  some_of : (n : ℕ) (vs : List ℕ) (more : List (Option AttrObj)) (t u : Tree) → IsPart n results vs → IsPart n answers more → Materialises accepts head op vs more t u → MaterialisesSome accepts head op results answers t u
+  some_of n vs more t u at said Finished = Rest (same_refl _)
+  some_of n vs more t u at said Unanswered = Rest (same_refl _)
+  some_of n vs more t u at said (Unknown m) =
+      some_of (n + 1) _ _ _ _ (part_rest n results _ _ at) (part_rest n answers _ _ said) m
+  some_of n vs more t u at said (PassedOver over m) =
+      some_of (n + 1) _ _ _ _ (part_rest n results _ _ at) (part_rest n answers _ _ said) m
+  some_of n vs more t u at said (Put accepted m) =
+      Then n _ _ (part_first n results _ _ at) (part_first n answers _ _ said) accepted (some_of (n + 1) _ _ _ _ (part_rest n results _ _ at) (part_rest n answers _ _ said) m)
 
 pub folds_by_constants : (m : Meaning) (constants : Constants) (accepts : AttrObj → Bool) (head : AttrObj → Head) (t u : Tree) (op : ℕ) (known : List (Option AttrObj)) (answer : Option IRStatus) (o : Operation) → op_at t op ≡ Some o → materialising m constants accepts head t u op known answer → MaterialisesSome accepts head op o.results (constants (shape_of m t o) known) t u × TellsChange answer t u
-folds_by_constants m constants accepts head t u op known answer o at is =
-    (some_of accepts head op o.results (constants (shape_of m t o) known) 0 (is_complete answer) o.results (constants (shape_of m t o) known) t u (part_all _) (part_all _) (is.0 o at), is.1)
+folds_by_constants m constants accepts head t u op known None o at same = (Rest same, same)
+folds_by_constants m constants accepts head t u op known (Some status) o at is =
+    (some_of accepts head op o.results (constants (shape_of m t o) known) 0 o.results (constants (shape_of m t o) known) t u (part_all _) (part_all _) (is.0 o at), is.1)

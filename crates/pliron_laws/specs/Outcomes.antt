@@ -1,5 +1,5 @@
 -- What folding an operation in place as a constant makes of a tree.
-use Rattle.std.specs.Prelude.{◌≡◌, ℕ, Bool, true, false, List, [], ◌∷◌, Option, Some, None, length, slice_get, IsTrue}
+use Rattle.std.specs.Prelude.{◌≡◌, ℕ, Bool, false, List, [], ◌∷◌, Option, Some, None, length, slice_get, IsTrue}
 use Rattle.pliron_core.specs.declared.attrs.AttrObj.{AttrObj}
 use Rattle.pliron_core.specs.declared.rewriter.OpInsertionPoint.{OpInsertionPoint}
 use Rattle.pliron_core.specs.Tree.{Tree, IsDefined, parent_of}
@@ -27,20 +27,24 @@ pub data MaterialisesSome (accepts : AttrObj → Bool) (head : AttrObj → Head)
   Then : {t t' : Tree} (i v : ℕ) (attr : AttrObj) → slice_get results i ≡ Some v → slice_get answers i ≡ Some (Some attr) → IsTrue (accepts attr) → MaterialisesSome accepts head op results answers (materialised t op v (head attr)) t' → MaterialisesSome accepts head op results answers t t'
 
 -- constants are put just before op for these results in order, for each that is answered by an
--- attribute which the dialect accepts, until there is no result left or no answer; for a first part of
--- them where memory was refused, which may have spent keys
-pub data Materialises (accepts : AttrObj → Bool) (head : AttrObj → Head) (op : ℕ) : (complete : Bool) → List ℕ → List (Option AttrObj) → Tree → Tree → Type 0 where
-  Finished : {answers : List (Option AttrObj)} {t : Tree} → Materialises accepts head op true [] answers t t
-  Unanswered : {vs : List ℕ} {t : Tree} → Materialises accepts head op true vs [] t t
-  Refused : {vs : List ℕ} {answers : List (Option AttrObj)} {t t' : Tree} → IsSameTree t t' → Materialises accepts head op false vs answers t t'
-  Unknown : {c : Bool} {v : ℕ} {vs : List ℕ} {answers : List (Option AttrObj)} {t t' : Tree} → Materialises accepts head op c vs answers t t' → Materialises accepts head op c (v ∷ vs) (None ∷ answers) t t'
-  PassedOver : {c : Bool} {v : ℕ} {vs : List ℕ} {attr : AttrObj} {answers : List (Option AttrObj)} {t t' : Tree} → accepts attr ≡ false → Materialises accepts head op c vs answers t t' → Materialises accepts head op c (v ∷ vs) (Some attr ∷ answers) t t'
-  Put : {c : Bool} {v : ℕ} {vs : List ℕ} {attr : AttrObj} {answers : List (Option AttrObj)} {t t' : Tree} → IsTrue (accepts attr) → Materialises accepts head op c vs answers (materialised t op v (head attr)) t' → Materialises accepts head op c (v ∷ vs) (Some attr ∷ answers) t t'
+-- attribute which the dialect accepts, until there is no result left or no answer
+pub data Materialises (accepts : AttrObj → Bool) (head : AttrObj → Head) (op : ℕ) : List ℕ → List (Option AttrObj) → Tree → Tree → Type 0 where
+  Finished : {answers : List (Option AttrObj)} {t : Tree} → Materialises accepts head op [] answers t t
+  Unanswered : {vs : List ℕ} {t : Tree} → Materialises accepts head op vs [] t t
+  Unknown : {v : ℕ} {vs : List ℕ} {answers : List (Option AttrObj)} {t t' : Tree} → Materialises accepts head op vs answers t t' → Materialises accepts head op (v ∷ vs) (None ∷ answers) t t'
+  PassedOver : {v : ℕ} {vs : List ℕ} {attr : AttrObj} {answers : List (Option AttrObj)} {t t' : Tree} → accepts attr ≡ false → Materialises accepts head op vs answers t t' → Materialises accepts head op (v ∷ vs) (Some attr ∷ answers) t t'
+  Put : {v : ℕ} {vs : List ℕ} {attr : AttrObj} {answers : List (Option AttrObj)} {t t' : Tree} → IsTrue (accepts attr) → Materialises accepts head op vs answers (materialised t op v (head attr)) t' → Materialises accepts head op (v ∷ vs) (Some attr ∷ answers) t t'
 
 -- a new operation with this head and one result stands where a rewriter inserts, and has all uses of
 -- the value
 abbrev pub materialised_at : Tree → OpInsertionPoint → ℕ → Head → Tree
 materialised_at t point v head = replaced (inserted (created t head 1 0) point (next_op t)) v (next_value t)
+
+-- c was just made in t for a constant
+pub record IsMadeConstant (t now : Tree) (c : ℕ) (head : Head) : Type 0 where
+  pub tree : IsTree t
+  pub made : now ≡ created t head 1 0
+  pub key : c ≡ length t.operations
 
 -- c was just made in t for a constant, and the value stands there
 pub record IsFreshConstant (t now : Tree) (c v : ℕ) (head : Head) : Type 0 where

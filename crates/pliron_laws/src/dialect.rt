@@ -15,7 +15,7 @@
 //! and places, and an operation that is still admitted; what the folds in place leave is made of
 //! such operations, put before others, of other operands, and of a branch put in the place of one, with
 //! successors that the old one had.
-ghost use Rattle.std.specs.Prelude.{◌≡◌, ◌<◌, ◌≤◌, ℕ, Bool, List, Option, Some, IfOk, IfSome, OnErr, IsTrue, IsSome, length, IsOkUnless};
+ghost use Rattle.std.specs.Prelude.{◌≡◌, ◌<◌, ◌≤◌, ℕ, Bool, List, [], Option, Some, IfOk, IfSome, OnOk, OnErr, IsTrue, IsSome, length, IsOkUnless};
 ghost use Rattle.pliron_core.specs.declared.attrs.AttrObj.{AttrObj as Attribute};
 ghost use Rattle.pliron_core.specs.declared.rewriter.OpInsertionPoint.TheVariants.{BeforeOperation};
 ghost use Rattle.std.specs.Prelude.{Result as ResultOf};
@@ -24,13 +24,14 @@ ghost use Rattle.pliron_core.specs.Tree.{Tree, IsLive, block_holder_of, operands
 ghost use Rattle.pliron_laws.specs.Datum.{Head, Shape, Meaning};
 ghost use Rattle.pliron_laws.specs.Folding.{Constants, Feasible, AnswersTrue, AnswersJumps, MakesConstants};
 ghost use Rattle.pliron_laws.specs.Laws.{KeepsCounts, GivesAtOnce, ForwardsOperands, ActsWithoutArgument};
+ghost use Rattle.pliron_laws.specs.StandIns.{AreStanding, IsRestored, IsStoodIn};
 ghost use Rattle.pliron_laws.specs.InPlace.{Outcome, FoldsInPlace, PassSameTests, materialising};
 ghost use Rattle.pliron_laws.specs.Answers.{ReadsHead, ReadsCounts, ReadsShape, ReadsEdges, ReadsPlace, HeadPasses, AreForwarded, IsForwardedAt, IsForwardedOnce, HasPlace, LosesForwarded, IsMaterialised};
 ghost use Rattle.pliron_laws.specs.declared.dialect.Interface.{Interface as InterfaceName};
 
 use crate::fault::OptError;
-use crate::materialise::put_constant;
 use crate::room::Room;
+use crate::stand_ins::{StandIn, erase_all, hand_over_all, stand_in, take_room};
 use pliron_core::{AttrObj, BasicBlock, Context, IRStatus, Operation, Ptr, Rewriter, Value};
 use std::alloc::Global;
 
@@ -140,7 +141,8 @@ pub trait ConstFoldInterface: HasMeaning {
     /// Folds the operation where it stands, if its operands have these constants. Asks that the
     /// operation folds, for one entry for each operand, and for an insertion point just before it.
     ///
-    /// Errors: want of memory, which leaves an outcome of the dialect too.
+    /// Errors: want of memory, after which the tree is as before, but for spent keys, as the law on folding
+    /// in place says.
     fn fold_in_place<R: Rewriter + Room>(
         alloc: Global,
         op: Ptr<Operation>,
@@ -159,12 +161,12 @@ pub trait ConstFoldInterface: HasMeaning {
         ensures longer { length ctx.old.tree.operations ≤ length ctx.new.tree.operations };
 
     /// Folds the operation by constants: asks `check_fold` for the constants of its results, and puts,
-    /// for each that is known and that `materialize` makes, a new operation just before, which gets all
-    /// uses of the result. Each result is rewritten wholly or not at all. Most dialects fold in place by
-    /// this call.
+    /// for each that is known and that `materialize` makes, a new operation just before, in the order of
+    /// the results. When all stand, each gets all uses of its result. Most dialects fold in place by this
+    /// call.
     ///
-    /// Asks as `fold_in_place` does. Errors: want of memory, after which a first part of the results is
-    /// rewritten. Cost: that of `check_fold`, one `materialize` for each answer, and one step for each
+    /// Asks as `fold_in_place` does. Errors: want of memory, after which the tree is as before, but for
+    /// spent keys. Cost: that of `check_fold`, one `materialize` for each answer, and one step for each
     /// use of a result.
     fn fold_with_materialization<R: Rewriter + Room>(
         alloc: Global,
@@ -185,24 +187,55 @@ pub trait ConstFoldInterface: HasMeaning {
         ensures longer { length ctx.old.tree.operations ≤ length ctx.new.tree.operations }
         ensures point { R.point rewriter.new ≡ R.point rewriter.old }
     {
+        ctx.well_formed();
         let answers = Self::check_fold(alloc, op, ctx, operand_attrs)?;
+        let mut made = Vec::new(alloc);
+        match Self::make_stand_ins(alloc, op, ctx, &answers, rewriter, &mut made) {
+            Ok(()) => Ok(hand_over_all(ctx, &made, rewriter)),
+            Err(refusal) => {
+                erase_all(ctx, made, rewriter);
+                Err(refusal)
+            }
+        }
+    }
+
+    /// The first half of `fold_with_materialization`: for each answered result for which `materialize` makes
+    /// a constant, that constant just before the operation, with no use yet.
+    ///
+    /// Asks that the operation stands in a block, for an insertion point just before it, and for an empty list
+    /// of constants. Errors: want of memory, after which the list has those that stand. Cost: one
+    /// `materialize` for each answer.
+    fn make_stand_ins<R: Rewriter + Room>(
+        alloc: Global,
+        op: Ptr<Operation>,
+        ctx: &mut Context,
+        answers: &[Option<AttrObj>],
+        rewriter: &mut R,
+        made: &mut Vec<StandIn>,
+    ) -> Result<(), OptError>
+        requires live { IsLive ctx.old.tree op }
+        requires placed { IsSome (parent_of ctx.old.tree op) }
+        requires point { R.point rewriter.old ≡ BeforeOperation op }
+        requires none { made.old.items ≡ [] }
+        ensures ok { OnOk result (IsStoodIn accepts constant_head op answers.now ctx.old.tree made.new.items ctx.new.tree) }
+        ensures refused { OnErr result ((u : Tree) × AreStanding op ctx.old.tree made.new.items u × IsRestored u ctx.new.tree) }
+        ensures memory { IsOkUnless result OptError.Memory }
+        ensures point { R.point rewriter.new ≡ R.point rewriter.old }
+    {
         let count = op.num_result(ctx).min(answers.len());
-        let mut status = IRStatus::Unchanged;
         for i in 0..count {
             let Some(attr) = &answers[i] else {
                 continue;
             };
             ctx.well_formed();
             let old = op.get_result(ctx, i);
-            // an insertion, a replacement, and erasing on the way back
-            rewriter.room(alloc, 3)?;
+            take_room(alloc, rewriter, made)?;
             let Some(constant) = Self::materialize(alloc, attr, ctx)? else {
                 continue;
             };
-            put_constant(ctx, constant, old, rewriter)?;
-            status = IRStatus::Changed;
+            stand_in(ctx, constant, old, rewriter, made)?;
         }
-        Ok(status)
+        Ok(())
     }
 
     /// A new operation that makes this constant, which stands in no block; `None`, with nothing made,
@@ -264,7 +297,8 @@ pub trait BranchOpFoldInterface: HasMeaning {
     /// Folds the branch where it stands, if its operands have these constants. Asks that the operation
     /// folds as a branch, for one entry for each operand, and for an insertion point just before it.
     ///
-    /// Errors: want of memory, which leaves an outcome of the dialect too.
+    /// Errors: want of memory, after which the tree is as before, but for spent keys, as the law on folding
+    /// in place says.
     fn fold_in_place<R: Rewriter + Room>(
         alloc: Global,
         op: Ptr<Operation>,
@@ -419,7 +453,8 @@ pub trait Dialect: SideEffects + BlockArgRemoval + ConstFoldInterface + BranchOp
     // A branch goes to one of the blocks that folding answers.
     ghost answers_jumps: { AnswersJumps Self.meaning Self.can_fold_branch Self.feasible };
 
-    // Folding in place puts constants for results, or another branch in the place of one, or nothing.
+    // Folding in place puts constants for results, or another branch in the place of one, or nothing; where
+    // memory is refused, nothing.
     ghost folds_in_place: { FoldsInPlace Self.meaning Self.constants Self.accepts Self.constant_head Self.ConstFoldInterface.outcome
         Self.BranchOpFoldInterface.outcome };
 

@@ -12,6 +12,7 @@ mod linked;
 pub mod materialise;
 pub mod reads;
 mod room;
+mod stand_ins;
 
 pub use dialect::{
     BlockArgRemoval, BranchOpFoldInterface, ConstFoldInterface, Dialect, HasMeaning, Interface,
@@ -21,3 +22,4 @@ pub use edges::edges_last;
 pub use fault::OptError;
 pub use linked::{is_admitted, is_well_linked};
 pub use room::Room;
+pub use stand_ins::StandIn;

@@ -1,38 +1,49 @@
 //! Putting a constant for a value.
-ghost use Rattle.std.specs.Prelude.{◌≡◌, ◌<◌, ◌≤◌, ◌⊎◌, ℕ, Some, None, OnOk, OnErr, length, slice_get};
+ghost use Rattle.std.specs.Prelude.{◌≡◌, ◌≤◌, ℕ, None, OnOk, OnErr, length};
 ghost use Rattle.pliron_core.specs.declared.attrs.Head.{Head};
-ghost use Rattle.pliron_core.specs.Tree.{Tree, IsLive, IsDefined, results_of, parent_of};
+ghost use Rattle.pliron_core.specs.Tree.{Tree, In, IsDefined, operands_of};
 ghost use Rattle.pliron_core.specs.Joined.{IsTree};
 ghost use Rattle.pliron_core.specs.Writes.{replaced};
+ghost use Rattle.pliron_core.specs.Erased.{erased};
 ghost use Rattle.pliron_core.specs.Insertion.{IsPointFor, inserted};
 ghost use Rattle.pliron_core.specs.Changes.{IsSameTree};
-ghost use Rattle.pliron_laws.specs.Outcomes.{IsFreshConstant, materialised_at};
+ghost use Rattle.pliron_laws.specs.Outcomes.{IsMadeConstant, IsFreshConstant, materialised_at};
 
 use pliron_core::{Context, NoMemory, Operation, Ptr, Rewriter, Value};
 
-// The operation goes where the rewriter inserts, and its first result gets the uses of the value.
-// Where memory is refused it may stand there, and no use has changed.
-fn insert_for<R: Rewriter>(
+// The new operation goes where the rewriter inserts. Where that is refused it is erased again.
+pub(crate) fn insert_or_erase<R: Rewriter>(
     ctx: &mut Context,
     constant: Ptr<Operation>,
-    old: Value,
     rewriter: &mut R,
 ) -> Result<(), NoMemory>
-    requires live { IsLive ctx.old.tree constant }
-    requires free { parent_of ctx.old.tree constant ≡ None }
+    requires fresh { (t : Tree) × (head : Head) × IsMadeConstant t ctx.old.tree constant head }
     requires point { IsPointFor ctx.old.tree (R.point rewriter.old) constant }
-    requires result { 0 < length (results_of ctx.old.tree constant) }
-    requires old { IsDefined ctx.old.tree old }
-    ensures ok { OnOk result ((new : ℕ) × (slice_get (results_of ctx.old.tree constant) 0 ≡ Some new) × (ctx.new.tree ≡
-        replaced (inserted ctx.old.tree (R.point rewriter.old) constant) old new)) }
-    ensures tree { OnOk result (IsTree (inserted ctx.old.tree (R.point rewriter.old) constant)) }
-    ensures err { OnErr result ((ctx.new.tree ≡ ctx.old.tree) ⊎ (ctx.new.tree ≡ inserted ctx.old.tree (R.point rewriter.old) constant)) }
+    ensures ok { OnOk result (ctx.new.tree ≡ inserted ctx.old.tree (R.point rewriter.old) constant) }
+    ensures err { OnErr result (ctx.new.tree ≡ erased ctx.old.tree constant) }
     ensures point { R.point rewriter.new ≡ R.point rewriter.old }
 {
-    rewriter.insert_operation(ctx, constant)?;
     ctx.well_formed();
-    let new = constant.get_result(ctx, 0);
-    rewriter.replace_value_uses_with(ctx, old, new)
+    if let Err(refusal) = rewriter.insert_operation(ctx, constant) {
+        rewriter.erase_operation(ctx, constant);
+        return Err(refusal);
+    }
+    Ok(())
+}
+
+// The value `new`, which has no uses, gets those of `old`.
+pub(crate) fn hand_over<R: Rewriter>(ctx: &mut Context, old: Value, new: Value, rewriter: &mut R)
+    requires old { IsDefined ctx.old.tree old }
+    requires new { IsDefined ctx.old.tree new }
+    requires unused { (k : ℕ) → In new (operands_of ctx.old.tree k) → ⊥ }
+    ensures replaced { ctx.new.tree ≡ replaced ctx.old.tree old new }
+    ensures point { R.point rewriter.new ≡ R.point rewriter.old }
+{
+    ctx.well_formed();
+    match rewriter.replace_value_uses_with(ctx, old, new) {
+        Ok(()) => {}
+        Err(_) => unreachable!(),
+    }
 }
 
 /// The new operation goes where the rewriter inserts, and its result gets the uses of the value.
@@ -56,12 +67,9 @@ pub fn put_constant<R: Rewriter>(
     ensures point { R.point rewriter.new ≡ R.point rewriter.old }
 {
     ctx.well_formed();
-    match insert_for(ctx, constant, old, rewriter) {
-        Ok(()) => Ok(()),
-        Err(refusal) => {
-            ctx.well_formed();
-            rewriter.erase_operation(ctx, constant);
-            Err(refusal)
-        }
-    }
+    let new = constant.get_result(ctx, 0);
+    insert_or_erase(ctx, constant, rewriter)?;
+    ctx.well_formed();
+    hand_over(ctx, old, new, rewriter);
+    Ok(())
 }

@@ -1,2 +1,4 @@
 pub mod Checked
+pub mod Compared
+pub mod Optimised
 pub mod Outcomes

@@ -1,5 +1,5 @@
 -- How a command ends.
-use Rattle.std.specs.Prelude.{◌≡◌, ℕ, List, []}
+use Rattle.std.specs.Prelude.{◌≡◌, ℕ, []}
 use Rattle.pliron_people.specs.declared.outcome.Outcome.{Outcome}
 use Rattle.pliron_people.specs.declared.failure.Failure.{Failure}
 use Rattle.pliron_people.specs.declared.failure.Failure.TheVariants.{Text, Refused}

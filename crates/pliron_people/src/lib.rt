@@ -5,12 +5,18 @@
 #![tactic(auto)]
 
 mod checking;
+mod comparing;
 mod failure;
+mod optimising;
 mod outcome;
+mod report;
 mod running;
 
 pub use checking::check;
+pub use comparing::{CompareWish, compare};
 pub use failure::Failure;
+pub use optimising::{OptWish, misspelt, opt};
 pub use outcome::Outcome;
 pub use pliron_show::{RunWish, Source};
+pub use pliron_watch::{Progress, Wish};
 pub use running::run;

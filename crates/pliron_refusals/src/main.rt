@@ -1,5 +1,5 @@
-//! What a refused request of memory leaves: optimisations, combinators and the cache, one call after the
-//! other. Where the Nth request is refused, all calls but one have ample memory.
+//! What a refused request of memory leaves: optimisations, combinators, the cache and a fold with two answered
+//! results, one call after the other. Where the Nth request is refused, all calls but one have ample memory.
 //!
 //! Run it with each request refused in turn: `tools/refuse_memory --tests`. A line is written for each call
 //! that leaves what it shouldn't. The status is 3 where a call was refused and left what it should, else 0.
@@ -8,6 +8,7 @@
 mod cache;
 mod combinators;
 mod optimisations;
+mod pairs;
 mod seen;
 
 use pliron_laws::OptError;
@@ -31,6 +32,7 @@ fn main(rt: HostRuntime) -> ExitCode {
     let mut refused = is_refused(&rt, "computing", 0, cache::computing(alloc));
     refused |= is_refused(&rt, "preserving", 0, cache::preserving(alloc));
     refused |= is_refused(&rt, "adding", 0, cache::adding(alloc));
+    refused |= is_refused(&rt, "pair", 0, pairs::folding(alloc));
     for number in 0..CASES {
         if let Some(found) = optimisations::nth_check(alloc, number) {
             refused |= is_refused(&rt, "optimisation", number, found);

@@ -6,7 +6,7 @@ use Rattle.pliron_theory.specs.Facts.{Fact, Undetermined, Constant, NotAConstant
 use Rattle.pliron_theory.proofs.FactLattice.{at_most_refl, at_most_trans}
 use Rattle.pliron_sccp.specs.declared.facts.Tables.{Tables}
 use Rattle.pliron_core.specs.declared.attrs.AttrObj.{AttrObj}
-use Rattle.pliron_sccp.specs.declared.cells.Cell.{Cell}
+use Rattle.pliron_sccp.specs.declared.facts.Cell.{Cell}
 use Rattle.pliron_sccp.specs.declared.demands.Demand.{Demand}
 use Rattle.pliron_sccp.specs.declared.demands.Demand.TheVariants.{Enter, Lower, Answer}
 use Rattle.pliron_sccp.specs.Tables.{known_constants, fact_in, lowest_facts, reaches, waits_block, waits_value, facts_of, Enters, Lowers}

@@ -17,7 +17,7 @@ use Rattle.pliron_theory.specs.Keeps.{KeepsRuns}
 use Rattle.pliron_theory.specs.Rewrites.{materialised_first, BecomesIfAccepted, ReplacesArgument, IsConstant}
 use Rattle.pliron_laws.proofs.ConstantLemmas.{new_row}
 use Rattle.pliron_theory.proofs.SoundRuns.{PassesForwarded}
-use Rattle.pliron_sccp.specs.declared.rewriting.ConstantArgument.{ConstantArgument}
+use Rattle.pliron_sccp.specs.declared.rewrite.ConstantArgument.{ConstantArgument}
 use Rattle.pliron_theory.specs.Facts.{Facts, Says}
 use Rattle.pliron_theory.specs.Following.{Follows}
 use Rattle.pliron_sccp.specs.Steps.{IsArgumentStep, TellsCreated, AreArgumentSteps, IsPuttingOn, stands_for, StandForEach}

@@ -16,6 +16,7 @@ use Rattle.pliron_laws.specs.Tree.{Operation, op_at, shape_of}
 use Rattle.pliron_laws.proofs.Records.{op_shows}
 use Rattle.pliron_laws.proofs.ShapeLemmas.{live_at}
 use Rattle.pliron_theory.proofs.FactLattice.{at_most_trans, picked_in}
+use Rattle.pliron_sccp.specs.declared.delays.Delays.{Delays}
 use Rattle.pliron_sccp.specs.declared.demands.Demand.{Demand}
 use Rattle.pliron_theory.specs.Facts.{Fact, Undetermined, Constant, NotAConstant, AtMost, Facts, Says, AreClosed}
 use Rattle.pliron_theory.specs.Sound.{IsMadeThere}
@@ -189,7 +190,7 @@ module _ (x : Says) (t : Tree) (root : ℕ) (w : IsTree t) (linked : IsWellLinke
             by false e = inr (make_visited s b (sym (k.reached b) ∙ visited_reached u b y) (sym (waits_then b false e) ∙ visited_rests u b y))
 
     -- all values that waited were taken, and what they call for was met
-    module _ (taken users : List ℕ) (asked : List Demand) (u m s' : Tables) (k : TakesValues taken s u) (c : AreCalls x t u taken users asked) (a : IsApplied (known_constants u) asked u m) (d : LooksThrough x t users m s') where
+    module _ (taken users short : List ℕ) (asked : List Demand) (u m s' : Tables) (k : TakesValues taken s u) (c : AreCalls x t u taken users asked) (a : IsApplied (known_constants u) asked u m) (among : (q : ℕ) → In q short → In q users) (d : LooksThrough x t short m s') where
       is_seen : (q : ℕ) → IsLookedAt t u q → (b : ℕ) × (parent_of t q ≡ Some b) × IsTrue (is_visited s b)
       is_seen q y = (y.block, y.in_block, make_visited s y.block (sym (k.reached y.block) ∙ y.reached) (sym (k.blocks y.block) ∙ y.taken))
 
@@ -226,16 +227,24 @@ module _ (x : Says) (t : Tree) (root : ℕ) (w : IsTree t) (linked : IsWellLinke
 
       pub values_best : IsBest x t root s'
       values_best =
-          let r = through_users (facts_of s) (is_visited s) (is_visited s) inside best.grounded best.ready (λ b y. y) users m s' d (λ q i. is_seen q (c.only q i).0) after in
-          let falls = falls_trans u m s' a.falls (through_falls x t users m s' d) in
+          let r = through_users (facts_of s) (is_visited s) (is_visited s) inside best.grounded best.ready (λ b y. y) short m s' d (λ q i. is_seen q (c.only q (among q i)).0) after in
+          let falls = falls_trans u m s' a.falls (through_falls x t short m s' d) in
           finish (facts_of s) (is_visited s) (is_visited s) inside best.grounded best.ready (λ b y. y) s' r
           (λ b y. visited_still u s' falls b (make_visited u b (k.reached b ∙ visited_reached s b y) (k.blocks b ∙ visited_rests s b y)))
           (λ b y. let z = visited_before u s' falls b y in make_visited s b (sym (k.reached b) ∙ visited_reached u b z) (sym (k.blocks b) ∙ visited_rests u b z))
           (λ b q v y p i. below_undetermined (fact_in s v) (fact_in s' v) (r.below.fact v) (best.ready.results b q v y p i))
 
-  pub step_best : (s s' : Tables) (taken : ℕ) → TakesTurn x t s s' taken → IsSearchOnTheWay x t root s → IsBest x t root s → IsBest x t root s'
-  step_best s s' taken (Block c u k d e) o best = block_best s best o.started.inside c u s' k (o.waits.blocks c k.waited).1 d
-  step_best s s' taken (Values none v) o best = values_best s best o.started.inside v.takes.values v.users v.asked v.between v.met s' v.takes.takes v.takes.calls v.applied v.looks
+    -- one that was put aside was looked at
+    pub aside_best : (k : ℕ) (s' : Tables) → IsLookedAt t s k → LooksAt x t k s s' → IsBest x t root s'
+    aside_best k s' l looks =
+        let here : (b : ℕ) × (parent_of t k ≡ Some b) × IsTrue (is_visited s b) = (l.block, l.in_block, make_visited s l.block l.reached l.taken) in
+        let r = through_users (facts_of s) (is_visited s) (is_visited s) inside best.grounded best.ready (λ b y. y) (k ∷ []) s s' (Then k s' looks Nothing) (λ q i. ⊎_elim (λ e. subst (λ z. (b : ℕ) × (parent_of t z ≡ Some b) × IsTrue (is_visited s b)) (sym e) here) (λ n. absurd n) i) (begin (is_visited s) (λ b y. y) s (λ v. refl) (λ b. refl)) in
+        finish (facts_of s) (is_visited s) (is_visited s) inside best.grounded best.ready (λ b y. y) s' r (visited_still s s' looks.applied.falls) (visited_before s s' looks.applied.falls)
+        (λ b q v y p i. below_undetermined (fact_in s v) (fact_in s' v) (r.below.fact v) (best.ready.results b q v y p i))
+
+  pub step_best : (s s' : Tables) (z z' : Delays) (taken : ℕ) → TakesTurn x t s s' z z' taken → IsSearchOnTheWay x t root s z → IsBest x t root s → IsBest x t root s'
+  step_best s s' z z' taken (Block c u k d same e) o best = block_best s best o.started.inside c u s' k (o.waits.blocks c k.waited).1 d
+  step_best s s' z z' taken (Values none v) o best = values_best s best o.started.inside v.takes.values v.users v.sees.short v.asked v.between v.met s' v.takes.takes v.takes.calls v.applied v.sees.among v.sees.looks
 
   -- where the entries of the root were entered and nothing was looked at
   module _ (s : Tables) (start : IsStarted t root s) where

@@ -13,13 +13,14 @@ use Rattle.pliron_sccp.specs.declared.demands.Demand.{Demand}
 use Rattle.pliron_sccp.specs.declared.facts.Tables.{Tables}
 use Rattle.pliron_sccp.specs.Tables.{known_constants, fact_in, lowest_facts, reaches, waits_block, waits_value, facts_of}
 use Rattle.pliron_sccp.specs.Accounts.{AreKnownThere, NothingWaits}
+use Rattle.pliron_sccp.specs.Delaying.{IsAside}
 use Rattle.pliron_sccp.specs.Demands.{CanMeet, MeetsAll}
 use Rattle.pliron_sccp.specs.Falling.{IsApplied}
 use Rattle.pliron_sccp.specs.Looking.{AreCalls, AreTargetsNumbered, Forwarded, HasNumberedTargets, IsAskedAt, IsLookedAt, TakesValues}
 use Rattle.pliron_sccp.specs.Settling.{IsMet, AreAtMost, AreStarted}
 use Rattle.pliron_sccp.proofs.Applied.{at_most_both, below_refl}
 use Rattle.pliron_sccp.proofs.Settled.{met_still, entered_still, varies_still}
-use Rattle.pliron_sccp.proofs.Stepping.{targets_same, targets_kept, all_but_one, argument_but, below_but, unknown_but, not_yet, IsSettledIn, AreSettledIn}
+use Rattle.pliron_sccp.proofs.Stepping.{below_same, targets_same, targets_kept, all_but_one, argument_but, below_but, unknown_but, not_yet, IsSettledIn, AreSettledIn}
 
 -- all of these are as before, or one of them waited
 same_or : {A B : ℕ → Type 0} (vs : List ℕ) → ((v : ℕ) → In v vs → A v ⊎ B v) → ((v : ℕ) → In v vs → A v) ⊎ ((v : ℕ) × In v vs × B v)
@@ -98,21 +99,21 @@ module _ (x : Says) (t : Tree) (values users : List ℕ) (asked : List Demand) (
         by_new
         (same_or o.operands each)
 
-  -- all values are taken: the users that are looked at again are still to be looked at
-  pub values_settle : AreSettledIn x t s (λ j. ⊥) → AreSettledIn x t w (λ j. In j users)
-  values_settle settled j b o p r at = ⊎_elim (λ old. before old (settled j b o p (sym (k.reached b) ∙ old) at)) (λ new. inl new) (a.falls.entered b r)
+  -- all values are taken: the users that are looked at again are still to be looked at, beside what was before
+  pub values_settle : (rest : ℕ → Type 0) → AreSettledIn x t s rest → AreSettledIn x t w (λ j. In j users ⊎ rest j)
+  values_settle rest settled j b o p r at = ⊎_elim (λ old. before old (settled j b o p (sym (k.reached b) ∙ old) at)) (λ new. inl new) (a.falls.entered b r)
     where
-      rest : reaches u b ≡ true → (q : Bool) → waits_block u b ≡ q → IsSettledIn x t s j o → (waits_block w b ≡ true) ⊎ IsSettledIn x t w j o ⊎ In j users
-      rest old true e y = inl (a.falls.blocks b e)
-      rest old false e y = ⊎_elim
-          (λ i. inr (inr i))
+      settles : reaches u b ≡ true → (q : Bool) → waits_block u b ≡ q → IsSettledIn x t s j o → (waits_block w b ≡ true) ⊎ IsSettledIn x t w j o ⊎ In j users ⊎ rest j
+      settles old true e y = inl (a.falls.blocks b e)
+      settles old false e y = ⊎_elim
+          (λ i. inr (inr (inl i)))
           (λ n. inr (inl (rests_settled j b o at (record { block = b; in_block = p; reached = old; taken = e }) n y)))
           (decide_in j users)
 
-      before : reaches u b ≡ true → (waits_block s b ≡ true) ⊎ IsSettledIn x t s j o ⊎ ⊥ → (waits_block w b ≡ true) ⊎ IsSettledIn x t w j o ⊎ In j users
+      before : reaches u b ≡ true → (waits_block s b ≡ true) ⊎ IsSettledIn x t s j o ⊎ rest j → (waits_block w b ≡ true) ⊎ IsSettledIn x t w j o ⊎ In j users ⊎ rest j
       before old (inl waits) = inl (a.falls.blocks b (k.blocks b ∙ waits))
-      before old (inr (inl y)) = rest old (waits_block u b) refl y
-      before old (inr (inr z)) = absurd z
+      before old (inr (inl y)) = settles old (waits_block u b) refl y
+      before old (inr (inr h)) = inr (inr (inr h))
 
   -- no block comes to be reached
   pub reached_before : (b : ℕ) → reaches w b ≡ true → reaches u b ≡ true
@@ -121,12 +122,40 @@ module _ (x : Says) (t : Tree) (values users : List ℕ) (asked : List Demand) (
       low : Facts
       low = record { reaches = λ d. reaches u d; fact = λ v. NotAConstant }
 
-  -- an edge that an operation looked at always takes leads to a block that is reached
-  edge_reached : AreSettledIn x t s (λ j. ⊥) → (q place v : ℕ) (o : Operation) → IsLookedAt t u q → op_at t q ≡ Some o → x.can_fold_branch o.head ≡ false → (f : Forwarded x t o place v) → reaches u f.block ≡ true
-  edge_reached settled q place v o l at none f = ⊎_elim
-      (λ waits. absurd (true≢false (sym (k.blocks l.block ∙ waits) ∙ l.taken)))
-      (λ y. ⊎_elim (λ m. k.reached f.block ∙ (m.met.branches f.edge f.block f.branch (f.successor, λ folds. absurd (true≢false (sym folds ∙ none)))).0) (λ z. absurd z) y)
-      (settled q l.block o l.in_block (sym (k.reached l.block) ∙ l.reached) at)
+  -- an operation that was looked at asked something that is met, settled or put aside
+  module _ (rest : ℕ → Type 0) (settled : AreSettledIn x t s rest) (aside : (j : ℕ) → rest j → IsAside x t s j) where
+    met_before : (q : ℕ) (o : Operation) → IsLookedAt t u q → op_at t q ≡ Some o → (f : Facts) × IsMet x t f (facts_of s) q o
+    met_before q o l at = ⊎_elim
+        (λ waits. absurd (true≢false (sym (k.blocks l.block ∙ waits) ∙ l.taken)))
+        (λ y. ⊎_elim (λ m. (m.seen, m.met)) (λ h. (aside q h).met o at) y)
+        (settled q l.block o l.in_block (sym (k.reached l.block) ∙ l.reached) at)
+
+    -- so it may be put aside
+    pub called_aside : (q : ℕ) → In q users → IsAside x t u q
+    called_aside q i =
+        let l = (c.only q i).0 in
+        record { looked = l; met = λ o at. let m = met_before q o l at in (m.0, met_still x t m.0 (facts_of s) (facts_of u) q o (below_same s u k.facts k.reached) m.1) }
+
+    -- an edge that an operation looked at always takes leads to a block that is reached
+    edge_reached : (q place v : ℕ) (o : Operation) → IsLookedAt t u q → op_at t q ≡ Some o → x.can_fold_branch o.head ≡ false → (f : Forwarded x t o place v) → reaches u f.block ≡ true
+    edge_reached q place v o l at none f =
+        k.reached f.block ∙ ((met_before q o l at).1.branches f.edge f.block f.branch (f.successor, λ folds. absurd (true≢false (sym folds ∙ none)))).0
+
+    pub called_known : (tree : IsTree t) (root : ℕ) → AreKnownThere t root u → AreKnownThere t root w
+    called_known tree root known b v inside listed none =
+        unknown_but t tree u w b v listed none unknown still (a.least g (below_but t tree u w b v listed none unknown still) (c.owed g (λ q place d r o i is l at jumps f. inr (inl (argument d f.block (in_slice (arguments_of t f.block) f.index d f.is_argument) (a.falls.below.reaches f.block (edge_reached q place d o l at jumps f)))))))
+      where
+        still : (z : ℕ) → reaches u z ≡ true → reaches w z ≡ true
+        still z r = a.falls.below.reaches z r
+
+        unknown : fact_in u v ≡ Undetermined
+        unknown = known b v inside listed (not_yet u w b still none)
+
+        g : Facts
+        g = all_but_one t tree u w b v listed none unknown still
+
+        argument : (z d : ℕ) → In z (arguments_of t d) → reaches w d ≡ true → g.fact z ≡ NotAConstant
+        argument z d i r = argument_but t tree u w b v listed none unknown still z d i r
 
   pub called_starts : (root : ℕ) → AreStarted t root (facts_of u) → AreStarted t root (facts_of w)
   called_starts root started = record {
@@ -134,22 +163,6 @@ module _ (x : Says) (t : Tree) (values users : List ℕ) (asked : List Demand) (
     outside = λ v n. varies_still (fact_in u v) (fact_in w v) (a.falls.below.fact v) (started.outside v n);
     entries = λ r b i e. entered_still x t (facts_of u) (facts_of w) b a.falls.below (started.entries r b i e);
   }
-
-  pub called_known : (tree : IsTree t) (root : ℕ) → AreSettledIn x t s (λ j. ⊥) → AreKnownThere t root u → AreKnownThere t root w
-  called_known tree root settled known b v inside listed none =
-      unknown_but t tree u w b v listed none unknown still (a.least g (below_but t tree u w b v listed none unknown still) (c.owed g (λ q place d r o i is l at jumps f. inr (inl (argument d f.block (in_slice (arguments_of t f.block) f.index d f.is_argument) (a.falls.below.reaches f.block (edge_reached settled q place d o l at jumps f)))))))
-    where
-      still : (z : ℕ) → reaches u z ≡ true → reaches w z ≡ true
-      still z r = a.falls.below.reaches z r
-
-      unknown : fact_in u v ≡ Undetermined
-      unknown = known b v inside listed (not_yet u w b still none)
-
-      g : Facts
-      g = all_but_one t tree u w b v listed none unknown still
-
-      argument : (z d : ℕ) → In z (arguments_of t d) → reaches w d ≡ true → g.fact z ≡ NotAConstant
-      argument z d i r = argument_but t tree u w b v listed none unknown still z d i r
 
   -- where no value was taken nothing is called for
   pub nothing_called : values ≡ [] → ((b : ℕ) → waits_block s b ≡ false) → NothingWaits w

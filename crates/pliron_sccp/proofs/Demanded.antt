@@ -10,8 +10,8 @@ use Rattle.pliron_laws.specs.Tree.{Operation}
 use Rattle.pliron_theory.specs.Facts.{Fact, Undetermined, Constant, NotAConstant, AtMost, Facts, known, handed, answered, IsEntered}
 use Rattle.pliron_sccp.specs.declared.demands.Demand.{Demand}
 use Rattle.pliron_sccp.specs.declared.demands.Demand.TheVariants.{Enter, Lower, Answer}
-use Rattle.pliron_sccp.specs.declared.cells.Cell.{Cell}
-use Rattle.pliron_sccp.specs.declared.cells.Cell.TheVariants.{NotAConstant as Varying}
+use Rattle.pliron_sccp.specs.declared.facts.Cell.{Cell}
+use Rattle.pliron_sccp.specs.declared.facts.Cell.TheVariants.{NotAConstant as Varying}
 use Rattle.pliron_sccp.specs.Cells.{Means}
 use Rattle.pliron_sccp.proofs.Written.{means_same}
 use Rattle.pliron_sccp.specs.Demands.{Meets, MeetsAll, Adds, EachBefore, IsNotConstant, EntryEntered, GetsForwarded, AsksAnswers, AsksResults, AsksForwarded}

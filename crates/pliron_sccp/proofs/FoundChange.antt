@@ -8,7 +8,7 @@ use Rattle.pliron_laws.specs.Linked.{IsWellLinked}
 use Rattle.pliron_theory.specs.Change.{IsPassChange}
 use Rattle.pliron_theory.specs.Facts.{Says}
 use Rattle.pliron_theory.specs.Following.{Follows}
-use Rattle.pliron_sccp.specs.declared.rewriting.Found.{Found}
+use Rattle.pliron_sccp.specs.declared.rewrite.Found.{Found}
 use Rattle.pliron_sccp.specs.Chain.{IsPartlyRewritten}
 use Rattle.pliron_sccp.specs.Found.{HasFound}
 use Rattle.pliron_sccp.specs.Propagated.{IsPartlyPropagated}

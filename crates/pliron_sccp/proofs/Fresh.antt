@@ -10,8 +10,8 @@ use Rattle.pliron_core.specs.declared.attrs.AttrObj.{AttrObj}
 use Rattle.pliron_core.specs.Lists.{In, IsDistinct}
 use Rattle.pliron_core.proofs.HoldingLemmas.{some_is, in_slice, slice_in}
 use Rattle.pliron_theory.specs.Facts.{Undetermined, NotAConstant}
-use Rattle.pliron_sccp.specs.declared.cells.Cell.{Cell}
-use Rattle.pliron_sccp.specs.declared.cells.Cell.TheVariants.{Undetermined as Unknown, Constant as Known, NotAConstant as Varying}
+use Rattle.pliron_sccp.specs.declared.facts.Cell.{Cell}
+use Rattle.pliron_sccp.specs.declared.facts.Cell.TheVariants.{Undetermined as Unknown, Constant as Known, NotAConstant as Varying}
 use Rattle.pliron_sccp.specs.Cells.{cell_at, is_unknown, said, table_at, unknown_count}
 use Rattle.pliron_sccp.proofs.Worklists.{any_in, in_any, once_from}
 

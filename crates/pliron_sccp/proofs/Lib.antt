@@ -22,7 +22,9 @@ pub mod Numbered
 pub mod UserLists
 pub mod Calls
 pub mod InsideLists
+pub mod PutAside
 pub mod Stepping
+pub mod Aside
 pub mod Called
 pub mod Accounting
 pub mod OnTheWay

@@ -8,7 +8,7 @@ use Rattle.pliron_core.specs.Tree.{Tree, arguments_of}
 use Rattle.pliron_core.proofs.ArgumentLemmas.{take_more}
 use Rattle.pliron_core.proofs.HoldingLemmas.{some_is, not_none}
 use Rattle.pliron_theory.specs.Facts.{Fact, Undetermined, Constant, NotAConstant, Facts, known}
-use Rattle.pliron_sccp.specs.declared.rewriting.ConstantArgument.{ConstantArgument}
+use Rattle.pliron_sccp.specs.declared.rewrite.ConstantArgument.{ConstantArgument}
 use Rattle.pliron_sccp.specs.Chain.{KnownArgument, known_with, known_in_block, known_arguments, blocks_inside}
 use Rattle.pliron_sccp.specs.Listed.{AreArguments, known_there, AddsKnown}
 use Rattle.pliron_sccp.specs.Steps.{IsKnown, stands_for, StandForEach}

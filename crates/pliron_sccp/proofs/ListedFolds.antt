@@ -12,7 +12,7 @@ use Rattle.pliron_core.proofs.WalkLemmas.{contents-inside, distinct-contents, no
 use Rattle.pliron_laws.specs.Datum.{Head}
 use Rattle.pliron_laws.proofs.Records.{operation_of, make_op}
 use Rattle.pliron_theory.specs.Facts.{Facts, Says, handed}
-use Rattle.pliron_sccp.specs.declared.rewriting.Fold.{Fold}
+use Rattle.pliron_sccp.specs.declared.rewrite.Fold.{Fold}
 use Rattle.pliron_sccp.specs.Chain.{is_reached, has_passing_head, both}
 use Rattle.pliron_sccp.specs.Listed.{is_folding, IsFold, IsFoldOf, Each, alone_if, AddsFold, AreFolds}
 use Rattle.pliron_theory.proofs.Listing.{IsListing, listing_start, listing_step, listing_smaller, listing_end}

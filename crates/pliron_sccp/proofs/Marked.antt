@@ -1,8 +1,8 @@
 -- What marks say once one of them is written.
 use Rattle.std.proofs.Common.{◌≡◌, ℕ, ◌<◌, Bool, true, false, nat_eq, if◌then◌else◌, List, length, Some, refl, ap, ◌∙◌, sym}
 use Rattle.std.specs.List.{position, slice_index_or, slice_set}
-use Rattle.pliron_sccp.specs.declared.cells.Mark.{Mark}
-use Rattle.pliron_sccp.specs.declared.cells.Mark.TheVariants.{Unreached, Waiting, Visited}
+use Rattle.pliron_sccp.specs.declared.facts.Mark.{Mark}
+use Rattle.pliron_sccp.specs.declared.facts.Mark.TheVariants.{Unreached, Waiting, Visited}
 use Rattle.pliron_sccp.specs.Cells.{table_at, was_reached, is_waiting}
 use Rattle.pliron_sccp.proofs.Worklists.{read_set}
 use Rattle.std.proofs.lemmas.Bool.{eqb-true}

@@ -1,5 +1,5 @@
 -- What the search for facts knows holds at its start and after each step, and at its end the facts are closed.
-use Rattle.std.proofs.Common.{◌≡◌, inl, inr, ⊎_elim, ℕ, zero, suc, ◌+◌, ◌*◌, ◌-◌, ◌≤◌, ◌<◌, ◌^◌, true, false, true≢false, not, List, [], ◌∷◌, length, Option, Some, None, slice_index_or, refl, sym, ap, ◌∙◌, subst, arith, IsTrue}
+use Rattle.std.proofs.Common.{◌≡◌, ◌⊎◌, inl, inr, ⊎_elim, ℕ, zero, suc, ◌+◌, ◌*◌, ◌-◌, ◌≤◌, ◌<◌, ◌^◌, true, false, true≢false, not, List, [], ◌∷◌, length, Option, Some, None, slice_index_or, refl, sym, ap, ◌∙◌, subst, arith, IsTrue}
 use Rattle.std.specs.List.{flat_map}
 use Rattle.std.proofs.lemmas.Bool.{eq-eqb}
 use Rattle.std.proofs.lemmas.Option.{slice_get_within}
@@ -15,6 +15,7 @@ use Rattle.pliron_laws.specs.Linked.{IsWellLinked, EdgesLast}
 use Rattle.pliron_laws.specs.Folding.{AnswersTrue}
 use Rattle.pliron_theory.specs.Facts.{Facts, Says, AreClosed, AreHeld}
 use Rattle.pliron_sccp.specs.declared.facts.Tables.{Tables}
+use Rattle.pliron_sccp.specs.declared.delays.Delays.{Delays}
 use Rattle.pliron_sccp.specs.declared.demands.Demand.{Demand}
 use Rattle.pliron_sccp.specs.Falling.{FactsFall, IsApplied}
 use Rattle.pliron_laws.specs.Tree.{Operation}
@@ -23,22 +24,24 @@ use Rattle.pliron_sccp.specs.Chain.{blocks_inside}
 use Rattle.pliron_sccp.specs.Inside.{block_values, values_inside}
 use Rattle.pliron_sccp.specs.Demands.{AsksEntries}
 use Rattle.pliron_sccp.specs.Settling.{AreAtMost, AreStarted, IsSettled}
-use Rattle.pliron_sccp.specs.Looking.{AreCalls, AreTargetsNumbered, LooksThrough, TakesValues}
+use Rattle.pliron_sccp.specs.Delaying.{delayed, TakesAside}
+use Rattle.pliron_sccp.specs.Looking.{AreCalls, AreTargetsNumbered, LooksAt, LooksThrough, TakesValues}
 use Rattle.pliron_sccp.specs.Looking.LooksThrough.{Nothing, Then}
 use Rattle.pliron_sccp.specs.Starting.{IsStarted}
 use Rattle.pliron_sccp.specs.Searched.{IsSearched}
-use Rattle.pliron_sccp.specs.Searching.{TakesTurn, IsSearchOnTheWay, IsSearching}
+use Rattle.pliron_sccp.specs.Searching.{LooksAside, SeesToAll, TakesTurn, VisitsValues, IsSearchOnTheWay, IsSearching}
 use Rattle.pliron_sccp.specs.Searching.TakesTurn.{Block, Values}
 use Rattle.pliron_sccp.specs.Accounts.{IsAccounted, AreKnownThere, NothingWaits}
 use Rattle.pliron_sccp.proofs.DistinctLists.{held_directly, below_held, distinct-blocks, distinct-values}
 use Rattle.pliron_sccp.proofs.DistinctLists.{inside_block as stands_inside}
 use Rattle.pliron_sccp.proofs.InsideLists.{holds_listed}
 use Rattle.pliron_sccp.proofs.Settled.{entered_still, varies_still, closed_when_settled}
-use Rattle.pliron_sccp.proofs.Stepping.{entries_of, others_reached, entry_apart, entry_held, all_but_one, argument_but, below_but, unknown_but, below_same, IsSettledIn, through_settles, through_falls, block_settles, look_starts, look_holds, look_known}
+use Rattle.pliron_sccp.proofs.Stepping.{entries_of, others_reached, entry_apart, entry_held, all_but_one, argument_but, below_but, unknown_but, below_same, IsSettledIn, AreSettledIn, settled_wider, through_settles, through_falls, block_settles, look_starts, look_holds, look_known}
 use Rattle.pliron_sccp.proofs.Applied.{falls_trans}
-use Rattle.pliron_sccp.proofs.Called.{values_settle, reached_before, called_starts, called_known, nothing_called}
+use Rattle.pliron_sccp.proofs.Aside.{aside_block, aside_then, aside_values}
+use Rattle.pliron_sccp.proofs.Called.{values_settle, reached_before, called_aside, called_starts, called_known, nothing_called}
 use Rattle.pliron_sccp.proofs.BestLook.{ForwardsItsOperands}
-use Rattle.pliron_sccp.proofs.BestSteps.{start_best, step_best, best_precise}
+use Rattle.pliron_sccp.proofs.BestSteps.{start_best, step_best, aside_best, best_precise}
 use Rattle.pliron_sccp.proofs.Accounting.{unsearched_accounted, unsearched_inside, falls_accounted, falls_inside, block_accounted, values_accounted, block_inside, values_kept_inside, accounted_bound, accounted_counts}
 
 -- a value that a block inside the root lists is made inside it
@@ -59,9 +62,12 @@ listed_inside t w root v i =
         let s = slice_get-In v (results_of t k.0) k.2 in
         subst (IsMakerInside t root) (sym (w.joined.results k.0 s.0 v s.1)) (inside_block b (w.bodies.owned k.0 b k.1) h)
 
-pub fewer : (all pops taken : ℕ) → pops + taken ≤ all → (taken ≡ 0 → ⊥) → all - (pops + taken) < all - pops
-fewer all pops zero l none = absurd (none refl)
-fewer all pops (suc taken) l none = omega (arith, l)
+-- what was taken counts more than what is put aside
+pub fewer : (all pops taken old new : ℕ) → pops + taken ≤ all → 0 < taken → new < old + 2 ^ 64 → (all - (pops + taken)) * 2 ^ 64 + new < (all - pops) * 2 ^ 64 + old
+fewer all pops taken old new l some few = omega (arith, l, some, few)
+
+pub more_by : (most old new : ℕ) → old < new → most + old < most + new
+more_by most old new l = omega (arith, l)
 
 -- what is reached is laid out as closed facts owe
 pub record IsLaidOut (t : Tree) (root : ℕ) (s : Tables) : Type 0 where
@@ -120,8 +126,9 @@ module _ (x : Says) (t : Tree) (root : ℕ) (w : IsTree t) (live : IsLive t root
             in_values : (b v : ℕ) → In b (blocks_inside t root) → In v (block_values t b) → In v (values_inside t root)
             in_values b v i j = In-flat_map (λ b. block_values t b) (blocks_inside t root) b v i j
 
-    pub start_on_way : IsSearchOnTheWay x t root s
-    start_on_way = record {
+    pub start_on_way : (z : Delays) → delayed z ≡ [] → IsSearchOnTheWay x t root s z
+    start_on_way z none = record {
+      aside = λ k i. absurd (subst (In k) none i);
       numbered = λ b i. start.applied.falls.numbers b ∙ start.unsearched.numbered b i;
       settled = λ k b o p r at. ⊎_elim (λ old. absurd (true≢false (sym old ∙ start.unsearched.reached b))) (λ waits. inl waits) (start.applied.falls.entered b r);
       started = start_laid.started;
@@ -158,63 +165,96 @@ module _ (x : Says) (t : Tree) (root : ℕ) (w : IsTree t) (live : IsLive t root
           there = look_known x t root w edges k p.0 s q a p.1 p.2 l.started l.there;
         })
 
-    laid_of : (s : Tables) → IsSearchOnTheWay x t root s → IsLaidOut t root s
-    laid_of s o = record { started = o.started; held = o.held; there = o.there }
+    laid_of : (s : Tables) (z : Delays) → IsSearchOnTheWay x t root s z → IsLaidOut t root s
+    laid_of s z o = record { started = o.started; held = o.held; there = o.there }
 
     -- a block was taken and looked through
-    pub block_on_way : (c : ℕ) (s u s' : Tables) → TakesBlock c s u → LooksThrough x t (body_of t c) u s' → IsSearchOnTheWay x t root s → IsSearchOnTheWay x t root s'
-    block_on_way c s u s' k d o =
-        let l = through_laid (body_of t c) u s' d (λ j i. (c, w.bodies.owned j c i, k.reached c ∙ (o.waits.blocks c k.waited).1)) (laid_same s u k.facts k.reached (laid_of s o)) in
+    pub block_on_way : (c : ℕ) (s u s' : Tables) (z : Delays) → TakesBlock c s u → LooksThrough x t (body_of t c) u s' → IsSearchOnTheWay x t root s z → IsSearchOnTheWay x t root s' z
+    block_on_way c s u s' z k d o =
+        let l = through_laid (body_of t c) u s' d (λ j i. (c, w.bodies.owned j c i, k.reached c ∙ (o.waits.blocks c k.waited).1)) (laid_same s u k.facts k.reached (laid_of s z o)) in
+        let falls = through_falls x t (body_of t c) u s' d in
         record {
-          numbered = λ b i. (through_falls x t (body_of t c) u s' d).numbers b ∙ k.numbers b ∙ o.numbered b i;
-          settled = through_settles x t (body_of t c) u s' d (block_settles x t w c s u k o.settled);
+          numbered = λ b i. falls.numbers b ∙ k.numbers b ∙ o.numbered b i;
+          settled = through_settles x t (λ j. In j (delayed z)) (body_of t c) u s' d (block_settles x t w (λ j. In j (delayed z)) c s u k o.settled);
+          aside = λ j i. aside_then x t u s' j falls (aside_block x t c s u j k (o.aside j i));
           started = l.started;
           held = l.held;
           there = l.there;
-          waits = falls_inside t root u s' (block_inside t root c s u o.waits k) (through_falls x t (body_of t c) u s' d) (reached_listed s' l.started);
+          waits = falls_inside t root u s' (block_inside t root c s u o.waits k) falls (reached_listed s' l.started);
         }
 
     -- all values were taken, and what they call for was met
-    module _ (values users : List ℕ) (asked : List Demand) (s u q s' : Tables) (k : TakesValues values s u) (c : AreCalls x t u values users asked) (a : IsApplied (known_constants u) asked u q) (d : LooksThrough x t users q s') where
+    module _ (values users : List ℕ) (asked : List Demand) (s u q s' : Tables) (z z' : Delays) (k : TakesValues values s u) (c : AreCalls x t u values users asked) (a : IsApplied (known_constants u) asked u q) (v : SeesToAll x t users q s' z z') where
       pub called_falls : FactsFall u s'
-      called_falls = falls_trans u q s' a.falls (through_falls x t users q s' d)
+      called_falls = falls_trans u q s' a.falls (through_falls x t v.short q s' v.looks)
 
-      called_laid : IsSearchOnTheWay x t root s → IsLaidOut t root q
+      called_laid : IsSearchOnTheWay x t root s z → IsLaidOut t root q
       called_laid o =
-          let l = laid_same s u k.facts k.reached (laid_of s o) in
+          let l = laid_same s u k.facts k.reached (laid_of s z o) in
           record {
             started = called_starts x t values users asked s u q k c a root l.started;
             held = λ b h r e. ⊎_elim (λ y. inl y) (λ y. inr (y.0, y.1, a.falls.below.reaches y.0 y.2)) (l.held b h (reached_before x t values users asked s u q k c a b r) e);
-            there = called_known x t values users asked s u q k c a w root o.settled l.there;
+            there = called_known x t values users asked s u q k c a (λ j. In j (delayed z)) o.settled o.aside w root l.there;
           }
 
-      pub values_on_way : IsSearchOnTheWay x t root s → IsSearchOnTheWay x t root s'
+      -- users are looked at or put aside
+      users_settle : IsSearchOnTheWay x t root s z → AreSettledIn x t s' (λ j. In j (delayed z'))
+      users_settle o =
+          through_settles x t (λ j. In j (delayed z')) v.short q s' v.looks
+          (settled_wider x t (λ j. In j users ⊎ In j (delayed z)) (λ j. In j v.short ⊎ In j (delayed z')) q
+          (λ j y. ⊎_elim (λ i. v.seen j i) (λ i. inr (v.kept j i)) y)
+          (values_settle x t values users asked s u q k c a (λ j. In j (delayed z)) o.settled))
+
+      pub values_on_way : IsSearchOnTheWay x t root s z → IsSearchOnTheWay x t root s' z'
       values_on_way o =
-          let l = through_laid users q s' d (λ j i. let y = (c.only j i).0 in (y.block, y.in_block, a.falls.below.reaches y.block y.reached)) (called_laid o) in
+          let l = through_laid v.short q s' v.looks (λ j i. let y = (c.only j (v.among j i)).0 in (y.block, y.in_block, a.falls.below.reaches y.block y.reached)) (called_laid o) in
           record {
             numbered = λ b i. called_falls.numbers b ∙ k.numbers b ∙ o.numbered b i;
-            settled = through_settles x t users q s' d (values_settle x t values users asked s u q k c a o.settled);
+            settled = users_settle o;
+            aside = λ j i. aside_then x t u s' j called_falls (⊎_elim
+                (λ old. aside_values x t values s u j k (o.aside j old))
+                (λ new. called_aside x t values users asked s u q k c a (λ j. In j (delayed z)) o.settled o.aside j new)
+                (v.only j i));
             started = l.started;
             held = l.held;
             there = l.there;
             waits = falls_inside t root u s' (values_kept_inside t root values s u o.waits k) called_falls (reached_listed s' l.started);
           }
 
-    pub step_on_way : (s s' : Tables) (taken : ℕ) → TakesTurn x t s s' taken → IsSearchOnTheWay x t root s → IsSearchOnTheWay x t root s'
-    step_on_way s s' taken (Block c u k d e) o = block_on_way c s u s' k d o
-    step_on_way s s' taken (Values none v) o = values_on_way v.takes.values v.users v.asked s v.between v.met s' v.takes.takes v.takes.calls v.applied v.looks o
+    pub step_on_way : (s s' : Tables) (z z' : Delays) (taken : ℕ) → TakesTurn x t s s' z z' taken → IsSearchOnTheWay x t root s z → IsSearchOnTheWay x t root s' z'
+    step_on_way s s' z z' taken (Block c u k d same e) o = subst (IsSearchOnTheWay x t root s') (sym same) (block_on_way c s u s' z k d o)
+    step_on_way s s' z z' taken (Values none v) o = values_on_way v.takes.values v.users v.asked s v.between v.met s' z z' v.takes.takes v.takes.calls v.applied v.sees o
 
-    pub step_accounted : (s s' : Tables) (pops taken : ℕ) → TakesTurn x t s s' taken → IsSearchOnTheWay x t root s → IsAccounted t root s pops → IsAccounted t root s' (pops + taken)
-    step_accounted s s' pops taken (Block c u k d e) o a =
+    pub step_accounted : (s s' : Tables) (z z' : Delays) (pops taken : ℕ) → TakesTurn x t s s' z z' taken → IsSearchOnTheWay x t root s z → IsAccounted t root s pops → IsAccounted t root s' (pops + taken)
+    step_accounted s s' z z' pops taken (Block c u k d same e) o a =
         subst (λ n. IsAccounted t root s' (pops + n)) (sym e)
         (falls_accounted t root u s' (pops + 1) (block_inside t root c s u o.waits k) (through_falls x t (body_of t c) u s' d) (block_accounted t root w c s u pops o.waits k a))
-    step_accounted s s' pops taken (Values none v) o a =
+    step_accounted s s' z z' pops taken (Values none v) o a =
         subst (λ n. IsAccounted t root s' (pops + n)) (sym v.takes.counted)
-        (falls_accounted t root v.between s' (pops + length v.takes.values) (values_kept_inside t root v.takes.values s v.between o.waits v.takes.takes) (called_falls v.takes.values v.users v.asked s v.between v.met s' v.takes.takes v.takes.calls v.applied v.looks) (values_accounted t root w v.takes.values s v.between pops o.waits v.takes.takes a))
+        (falls_accounted t root v.between s' (pops + length v.takes.values) (values_kept_inside t root v.takes.values s v.between o.waits v.takes.takes) (called_falls v.takes.values v.users v.asked s v.between v.met s' z z' v.takes.takes v.takes.calls v.applied v.sees) (values_accounted t root w v.takes.values s v.between pops o.waits v.takes.takes a))
+
+    -- one that was put aside was looked at
+    pub aside_on_way : (k : ℕ) (s s' : Tables) (z z' : Delays) → TakesAside k (delayed z) (delayed z') → LooksAt x t k s s' → IsSearchOnTheWay x t root s z → IsSearchOnTheWay x t root s' z'
+    aside_on_way k s s' z z' taken looks o =
+        let p = (o.aside k taken.was).looked in
+        let here : (c : ℕ) × (parent_of t k ≡ Some c) × (reaches s c ≡ true) = (p.block, p.in_block, p.reached) in
+        let falls = looks.applied.falls in
+        let l = through_laid (k ∷ []) s s' (Then k s' looks Nothing) (λ j i. ⊎_elim (λ e. subst (λ q. (c : ℕ) × (parent_of t q ≡ Some c) × (reaches s c ≡ true)) (sym e) here) (λ n. absurd n) i) (laid_of s z o) in
+        record {
+          numbered = λ b i. falls.numbers b ∙ o.numbered b i;
+          settled =
+              through_settles x t (λ j. In j (delayed z')) (k ∷ []) s s' (Then k s' looks Nothing)
+              (settled_wider x t (λ j. In j (delayed z)) (λ j. In j (k ∷ []) ⊎ In j (delayed z')) s (λ j i. ⊎_elim (λ q. inr q) (λ e. inl (inl e)) (taken.others j i)) o.settled);
+          aside = λ j i. aside_then x t s s' j falls (o.aside j (taken.only j i));
+          started = l.started;
+          held = l.held;
+          there = l.there;
+          waits = falls_inside t root s s' o.waits falls (reached_listed s' l.started);
+        }
 
   -- the blocks that an operation in a block that is reached may enter have numbers
-  pub targets_numbered : EdgesLast t root → (s : Tables) → IsSearchOnTheWay x t root s → AreTargetsNumbered t s
-  targets_numbered edges s o k b placed reached = record {
+  pub targets_numbered : EdgesLast t root → (s : Tables) (z : Delays) → IsSearchOnTheWay x t root s z → AreTargetsNumbered t s
+  targets_numbered edges s z o k b placed reached = record {
     entries = λ r e i first. o.numbered e (holds_listed t w root e (k, held_directly t w k r e i (first_of-In e (layout_of t r) first), inr within));
     successors = λ e i. let h = holds in o.numbered e (holds_listed t w root e (h.0, beside e i ∙ h.1, h.2));
   }
@@ -228,36 +268,52 @@ module _ (x : Says) (t : Tree) (root : ℕ) (w : IsTree t) (live : IsLive t root
       beside : (e : ℕ) → In e (successors_of t k) → block_holder_of t e ≡ block_holder_of t b
       beside e i = ap (λ q. up_from q (λ r. region_parent_of t r)) ((edges k e i (inl within)).own_region e i ∙ ap (block_parent_of t) (some_is (sym (edges k e i (inl within)).in_block ∙ placed)))
 
-  -- where nothing was taken nothing waits
-  pub nothing_waits : (s s' : Tables) (taken : ℕ) → taken ≡ 0 → TakesTurn x t s s' taken → NothingWaits s'
-  nothing_waits s s' taken none_taken (Block c u k d e) = absurd (one_is_none (sym e ∙ none_taken))
-    where
-      one_is_none : ◌≡◌ {A = ℕ} 1 0 → ⊥
-      one_is_none e = omega (arith, e)
-  nothing_waits s s' taken none_taken (Values none v) = same (no_users v.users v.takes.calls) v.looks
+  one_is_none : ◌≡◌ {A = ℕ} 1 0 → ⊥
+  one_is_none e = omega (arith, e)
+
+  -- where no value was taken no user is seen to
+  no_users : (s s' : Tables) (z z' : Delays) → (v : VisitsValues x t s s' z z' 0) → (v.takes.values ≡ []) × (v.users ≡ [])
+  no_users s s' z z' v = (are_none, none_of v.users v.takes.calls)
     where
       no_values : (vs : List ℕ) → length vs ≡ 0 → vs ≡ []
       no_values [] e = refl
       no_values (y ∷ ys) e = absurd (omega (arith, e))
 
       are_none : v.takes.values ≡ []
-      are_none = no_values v.takes.values (sym v.takes.counted ∙ none_taken)
+      are_none = no_values v.takes.values (sym v.takes.counted)
 
-      no_users : (us : List ℕ) → AreCalls x t v.between v.takes.values us v.asked → us ≡ []
-      no_users [] c = refl
-      no_users (k ∷ us) c = let y = (c.only k (inl refl)).1 in absurd (subst (In y.0) are_none y.1)
+      none_of : (us : List ℕ) → AreCalls x t v.between v.takes.values us v.asked → us ≡ []
+      none_of [] c = refl
+      none_of (k ∷ us) c = let y = (c.only k (inl refl)).1 in absurd (subst (In y.0) are_none y.1)
 
-      same_tables : (u : Tables) → LooksThrough x t [] v.met u → u ≡ v.met
-      same_tables u Nothing = refl
+  -- where nothing was taken nothing waits
+  pub nothing_waits : (s s' : Tables) (z z' : Delays) → TakesTurn x t s s' z z' 0 → NothingWaits s'
+  nothing_waits s s' z z' (Block c u k d same e) = absurd (one_is_none (sym e))
+  nothing_waits s s' z z' (Values none v) =
+      let n = no_users s s' z z' v in
+      subst NothingWaits (sym (same_tables v.sees.short s' v.sees.looks (λ k i. subst (In k) n.1 (v.sees.among k i)))) (nothing_called x t v.takes.values v.users v.asked s v.between v.met v.takes.takes v.takes.calls v.applied n.0 none)
+    where
+      same_tables : (ks : List ℕ) (u : Tables) → LooksThrough x t ks v.met u → ((k : ℕ) → In k ks → ⊥) → u ≡ v.met
+      same_tables [] u Nothing empty = refl
+      same_tables (k ∷ ks) u d empty = absurd (empty k (inl refl))
 
-      same : v.users ≡ [] → LooksThrough x t v.users v.met s' → NothingWaits s'
-      same e d = subst NothingWaits (sym (same_tables s' (subst (λ us. LooksThrough x t us v.met s') e d))) (nothing_called x t v.takes.values v.users v.asked s v.between v.met v.takes.takes v.takes.calls v.applied are_none none)
+  -- and no more is put aside
+  pub none_put : (s s' : Tables) (z z' : Delays) → TakesTurn x t s s' z z' 0 → length (delayed z') ≤ length (delayed z)
+  none_put s s' z z' (Block c u k d same e) = absurd (one_is_none (sym e))
+  none_put s s' z z' (Values none v) =
+      let n = ap length (no_users s s' z z' v).1 in
+      let g = v.sees.grows in
+      omega (arith, n, g)
 
-  pub closed_at_end : (s : Tables) → NothingWaits s → IsSearchOnTheWay x t root s → AreClosed x t root (facts_of s)
-  closed_at_end s done o = closed_when_settled x t root (facts_of s) o.started
+  pub few_put : (s s' : Tables) (z z' : Delays) (taken : ℕ) → TakesTurn x t s s' z z' taken → length (delayed z') < length (delayed z) + 2 ^ 64
+  few_put s s' z z' taken (Block c u k d same e) = let n = ap (λ q. length (delayed q)) same in omega (arith, n)
+  few_put s s' z z' taken (Values none v) = let g = v.sees.grows in let f = v.sees.few in omega (arith, g, f)
+
+  pub closed_at_end : (s : Tables) (z : Delays) → NothingWaits s → delayed z ≡ [] → IsSearchOnTheWay x t root s z → AreClosed x t root (facts_of s)
+  closed_at_end s z done none o = closed_when_settled x t root (facts_of s) o.started
       (λ k b q p r at. ⊎_elim
       (λ y. absurd (true≢false (sym y ∙ done.blocks b)))
-      (λ y. ⊎_elim (λ q. inr (inl (rests q))) (λ n. absurd n) y)
+      (λ y. ⊎_elim (λ q. inr (inl (rests q))) (λ n. absurd (subst (In k) none n)) y)
       (o.settled k b q p r at))
       w
     where
@@ -298,29 +354,54 @@ module _ (x : Says) (t : Tree) (root : ℕ) (w : IsTree t) (live : IsLive t root
   few_to_take few = let b = few_blocks few in let v = few_values few in omega (arith, b, v)
 
   module _ (linked : IsWellLinked x.meaning t root) (answers : AnswersTrue x.meaning x.can_fold x.constants) (places : ForwardsItsOperands x) where
-    pub started_search : (s : Tables) → IsStarted t root s → IsSearching x t root s 0
-    started_search s start = record { way = start_on_way s start; accounted = start_accounted s start; best = λ owed. start_best x t root w linked answers places owed s start }
+    pub started_search : (s : Tables) (z : Delays) → delayed z ≡ [] → IsStarted t root s → IsSearching x t root s z 0
+    started_search s z none start = record { way = start_on_way s start z none; accounted = start_accounted s start; best = λ owed. start_best x t root w linked answers places owed s start }
 
-    module _ (s s' : Tables) (pops taken : ℕ) (step : TakesTurn x t s s' taken) (so_far : IsSearching x t root s pops) where
-      pub next_search : IsSearching x t root s' (pops + taken)
+    module _ (s s' : Tables) (z z' : Delays) (pops taken : ℕ) (step : TakesTurn x t s s' z z' taken) (so_far : IsSearching x t root s z pops) where
+      pub next_search : IsSearching x t root s' z' (pops + taken)
       next_search = record {
-        way = step_on_way linked.edges s s' taken step so_far.way;
-        accounted = step_accounted linked.edges s s' pops taken step so_far.way so_far.accounted;
-        best = λ owed. step_best x t root w linked answers places owed s s' taken step so_far.way (so_far.best owed);
+        way = step_on_way linked.edges s s' z z' taken step so_far.way;
+        accounted = step_accounted linked.edges s s' z z' pops taken step so_far.way so_far.accounted;
+        best = λ owed. step_best x t root w linked answers places owed s s' z z' taken step so_far.way (so_far.best owed);
       }
 
       pub search_bound : pops + taken ≤ length (blocks_inside t root) + 2 * length (values_inside t root)
       search_bound = accounted_bound t root s' (pops + taken) next_search.accounted
 
-      pub end_search : taken ≡ 0 → IsSearched x t root s' pops
-      end_search none =
-          let done = nothing_waits s s' taken none step in
-          let same : pops + taken ≡ pops = omega (arith, none) in
-          let last : IsSearching x t root s' pops = subst (IsSearching x t root s') same next_search in
-          let closed = closed_at_end s' done last.way in
-          record {
+      pub fewer_left : 0 < taken → (length (blocks_inside t root) + 2 * length (values_inside t root) - (pops + taken)) * 2 ^ 64 + length (delayed z') < (length (blocks_inside t root) + 2 * length (values_inside t root) - pops) * 2 ^ 64 + length (delayed z)
+      fewer_left some = fewer (length (blocks_inside t root) + 2 * length (values_inside t root)) pops taken (length (delayed z)) (length (delayed z')) search_bound some (few_put s s' z z' taken step)
+
+    -- where nothing was taken
+    module _ (s s' : Tables) (z z' : Delays) (pops : ℕ) (step : TakesTurn x t s s' z z' 0) (so_far : IsSearching x t root s z pops) where
+      pub same_search : IsSearching x t root s' z' pops
+      same_search = let e : pops + 0 ≡ pops = omega arith in subst (IsSearching x t root s' z') e (next_search s s' z z' pops 0 step so_far)
+
+      -- one that was put aside is looked at
+      module _ (u : Tables) (y : Delays) (looks : LooksAside x t s' u z' y true) where
+        pub aside_search : IsSearching x t root u y pops
+        aside_search = record {
+          way = aside_on_way linked.edges looks.0 s' u z' y looks.1 looks.2 same_search.way;
+          accounted = falls_accounted t root s' u pops same_search.way.waits looks.2.applied.falls same_search.accounted;
+          best = λ owed. aside_best x t root w linked answers places owed s' (same_search.best owed) same_search.way.started.inside looks.0 u (same_search.way.aside looks.0 looks.1.was).looked looks.2;
+        }
+
+        pub fewer_aside : length (delayed y) < length (delayed z)
+        fewer_aside = let p = none_put s s' z z' step in let f = looks.1.fewer in omega (arith, p, f)
+
+      -- nothing is put aside
+      pub end_search : (u : Tables) (y : Delays) → LooksAside x t s' u z' y false → IsSearched x t root u pops
+      end_search u y (none, same) = subst (λ q. IsSearched x t root q pops) (sym same) ended
+        where
+          done : NothingWaits s'
+          done = nothing_waits s s' z z' step
+
+          closed : AreClosed x t root (facts_of s')
+          closed = closed_at_end s' z' done none same_search.way
+
+          ended : IsSearched x t root s' pops
+          ended = record {
             closed = closed;
-            held = last.way.held;
-            precise = λ owed. best_precise x t root w linked answers places owed s' done closed (last.best owed);
-            count = accounted_counts t root s' pops done last.way.there last.accounted;
+            held = same_search.way.held;
+            precise = λ owed. best_precise x t root w linked answers places owed s' done closed (same_search.best owed);
+            count = accounted_counts t root s' pops done same_search.way.there same_search.accounted;
           }

@@ -165,24 +165,31 @@ module _ (x : Says) (t : Tree) where
   pub settled_now : (s u : Tables) (k : ℕ) (o : Operation) → FactsFall s u → IsMet x t (facts_of s) (facts_of u) k o → IsSettledIn u k o
   settled_now s u k o f m = record { seen = facts_of s; met = m; same = λ v i. f.told v }
 
-  look_settles : (k : ℕ) (ks : List ℕ) (s u : Tables) → LooksAt x t k s u → AreSettledIn s (λ j. In j (k ∷ ks)) → AreSettledIn u (λ j. In j ks)
-  look_settles k ks s u l settled j b o p r at = ⊎_elim (λ old. before (settled j b o p old at)) (λ new. inl new) (f.entered b r)
-    where
-      f : FactsFall s u
-      f = l.applied.falls
+  -- more may be still to be looked at
+  pub settled_wider : (P Q : ℕ → Type 0) (s : Tables) → ((j : ℕ) → P j → Q j) → AreSettledIn s P → AreSettledIn s Q
+  settled_wider P Q s wider settled j b o p r at = ⊎_elim (λ waits. inl waits) (λ y. inr (⊎_elim (λ q. inl q) (λ h. inr (wider j h)) y)) (settled j b o p r at)
 
-      here : j ≡ k → IsMet x t (facts_of s) (facts_of u) j o
-      here e = subst (λ z. IsMet x t (facts_of s) (facts_of u) z o) (sym e) ((l.asks o (subst (λ z. op_at t z ≡ Some o) e at) (facts_of u)).0 l.applied.met)
+  -- beside what else is still to be looked at
+  module _ (rest : ℕ → Type 0) where
+    look_settles : (k : ℕ) (ks : List ℕ) (s u : Tables) → LooksAt x t k s u → AreSettledIn s (λ j. In j (k ∷ ks) ⊎ rest j) → AreSettledIn u (λ j. In j ks ⊎ rest j)
+    look_settles k ks s u l settled j b o p r at = ⊎_elim (λ old. before (settled j b o p old at)) (λ new. inl new) (f.entered b r)
+      where
+        f : FactsFall s u
+        f = l.applied.falls
 
-      before : (waits_block s b ≡ true) ⊎ IsSettledIn s j o ⊎ In j (k ∷ ks) → (waits_block u b ≡ true) ⊎ IsSettledIn u j o ⊎ In j ks
-      before (inl waits) = inl (f.blocks b waits)
-      before (inr (inl y)) = inr (inl (settled_then s u j o f y))
-      before (inr (inr (inl e))) = inr (inl (settled_now s u j o f (here e)))
-      before (inr (inr (inr i))) = inr (inr i)
+        here : j ≡ k → IsMet x t (facts_of s) (facts_of u) j o
+        here e = subst (λ z. IsMet x t (facts_of s) (facts_of u) z o) (sym e) ((l.asks o (subst (λ z. op_at t z ≡ Some o) e at) (facts_of u)).0 l.applied.met)
 
-  pub through_settles : (ks : List ℕ) (s u : Tables) → LooksThrough x t ks s u → AreSettledIn s (λ j. In j ks) → AreSettledIn u (λ j. ⊥)
-  through_settles [] s u Nothing settled = settled
-  through_settles (k ∷ ks) s u (Then _ q l d) settled = through_settles ks q u d (look_settles k ks s q l settled)
+        before : (waits_block s b ≡ true) ⊎ IsSettledIn s j o ⊎ In j (k ∷ ks) ⊎ rest j → (waits_block u b ≡ true) ⊎ IsSettledIn u j o ⊎ In j ks ⊎ rest j
+        before (inl waits) = inl (f.blocks b waits)
+        before (inr (inl y)) = inr (inl (settled_then s u j o f y))
+        before (inr (inr (inl (inl e)))) = inr (inl (settled_now s u j o f (here e)))
+        before (inr (inr (inl (inr i)))) = inr (inr (inl i))
+        before (inr (inr (inr h))) = inr (inr (inr h))
+
+    pub through_settles : (ks : List ℕ) (s u : Tables) → LooksThrough x t ks s u → AreSettledIn s (λ j. In j ks ⊎ rest j) → AreSettledIn u rest
+    through_settles [] s u Nothing settled = settled_wider (λ j. In j [] ⊎ rest j) rest s (λ j y. ⊎_elim (λ z. absurd z) (λ h. h) y) settled
+    through_settles (k ∷ ks) s u (Then _ q l d) settled = through_settles ks q u d (look_settles k ks s q l settled)
 
   pub through_falls : (ks : List ℕ) (s u : Tables) → LooksThrough x t ks s u → FactsFall s u
   through_falls [] s u Nothing = falls_refl s
@@ -190,21 +197,21 @@ module _ (x : Says) (t : Tree) where
 
   module _ (w : IsTree t) where
     -- a block is taken: its operations are still to be looked at
-    pub block_settles : (c : ℕ) (s u : Tables) → TakesBlock c s u → AreSettledIn s (λ j. ⊥) → AreSettledIn u (λ j. In j (body_of t c))
-    block_settles c s u k settled j b o p r at = before (settled j b o p (sym (k.reached b) ∙ r) at)
+    pub block_settles : (rest : ℕ → Type 0) (c : ℕ) (s u : Tables) → TakesBlock c s u → AreSettledIn s rest → AreSettledIn u (λ j. In j (body_of t c) ⊎ rest j)
+    block_settles rest c s u k settled j b o p r at = before (settled j b o p (sym (k.reached b) ∙ r) at)
       where
-        taken : (q : Bool) → nat_eq c b ≡ q → waits_block s b ≡ true → (waits_block u b ≡ true) ⊎ IsSettledIn u j o ⊎ In j (body_of t c)
-        taken true e waits = inr (inr (subst (λ z. In j (body_of t z)) (sym (eqb-true c b e)) (w.bodies.listed j b p)))
+        taken : (q : Bool) → nat_eq c b ≡ q → waits_block s b ≡ true → (waits_block u b ≡ true) ⊎ IsSettledIn u j o ⊎ In j (body_of t c) ⊎ rest j
+        taken true e waits = inr (inr (inl (subst (λ z. In j (body_of t z)) (sym (eqb-true c b e)) (w.bodies.listed j b p))))
         taken false e waits = inl (k.blocks b ∙ ap (λ z. if z then false else waits_block s b) e ∙ waits)
 
-        before : (waits_block s b ≡ true) ⊎ IsSettledIn s j o ⊎ ⊥ → (waits_block u b ≡ true) ⊎ IsSettledIn u j o ⊎ In j (body_of t c)
+        before : (waits_block s b ≡ true) ⊎ IsSettledIn s j o ⊎ rest j → (waits_block u b ≡ true) ⊎ IsSettledIn u j o ⊎ In j (body_of t c) ⊎ rest j
         before (inl waits) = taken (nat_eq c b) refl waits
         before (inr (inl y)) = inr (inl (record {
           seen = y.seen;
           met = met_still x t y.seen (facts_of s) (facts_of u) j o (below_same s u k.facts k.reached) y.met;
           same = λ v i. ⊎_elim (λ e. inl (k.facts v ∙ e)) (λ q. inr (k.values v ∙ q)) (y.same v i);
         }))
-        before (inr (inr z)) = absurd z
+        before (inr (inr h)) = inr (inr (inr h))
 
   -- a block that comes to be reached is an entry of the operation's regions or a successor of it
   module _ (k : ℕ) (o : Operation) (at : op_at t k ≡ Some o) (s u : Tables) (l : LooksAt x t k s u) where

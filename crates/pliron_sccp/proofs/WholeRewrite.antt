@@ -8,9 +8,9 @@ use Rattle.pliron_core.specs.Joined.{IsTree}
 use Rattle.pliron_core.proofs.TreeLemmas.{live_dead}
 use Rattle.pliron_laws.specs.Datum.{Head}
 use Rattle.pliron_laws.specs.InPlace.{Outcome, TellsChange}
-use Rattle.pliron_sccp.specs.declared.rewriting.Fold.{Fold}
-use Rattle.pliron_sccp.specs.declared.rewriting.ConstantArgument.{ConstantArgument}
-use Rattle.pliron_sccp.specs.declared.rewriting.Found.{Found}
+use Rattle.pliron_sccp.specs.declared.rewrite.Fold.{Fold}
+use Rattle.pliron_sccp.specs.declared.rewrite.ConstantArgument.{ConstantArgument}
+use Rattle.pliron_sccp.specs.declared.rewrite.Found.{Found}
 use Rattle.pliron_theory.specs.Facts.{Facts, Says}
 use Rattle.pliron_theory.specs.Following.{Follows}
 use Rattle.pliron_sccp.specs.Steps.{AreFoldSteps, AreArgumentSteps, IsFound, TellsCreated, StandForEach}

@@ -4,8 +4,8 @@ use Rattle.std.specs.List.{position, slice_index_or, slice_set}
 use Rattle.pliron_core.specs.declared.attrs.AttrObj.{AttrObj}
 use Rattle.pliron_theory.specs.Facts.{Fact, Undetermined, Constant, NotAConstant, AtMost}
 use Rattle.pliron_theory.proofs.FactLattice.{at_most_refl}
-use Rattle.pliron_sccp.specs.declared.cells.Cell.{Cell}
-use Rattle.pliron_sccp.specs.declared.cells.Cell.TheVariants.{Undetermined as Unknown, Constant as Known, NotAConstant as Varying}
+use Rattle.pliron_sccp.specs.declared.facts.Cell.{Cell}
+use Rattle.pliron_sccp.specs.declared.facts.Cell.TheVariants.{Undetermined as Unknown, Constant as Known, NotAConstant as Varying}
 use Rattle.pliron_sccp.specs.declared.facts.Tables.{Tables}
 use Rattle.pliron_sccp.specs.Cells.{cell_at, constant_or, is_unknown, said, unknown_count, KeepsConstants, Means}
 use Rattle.pliron_sccp.specs.Tables.{known_constants, fact_in, is_numbered, reaches, waits_block, waits_value, FallsTo, IsMeet, Lowers, NowWaits}

@@ -2,10 +2,10 @@
 use Rattle.std.specs.Prelude.{◌≡◌, ℕ, Bool, true, false, List, Option, Some, None, slice_get, slice_index_or, length, filter}
 use Rattle.pliron_core.specs.declared.attrs.AttrObj.{AttrObj}
 use Rattle.pliron_theory.specs.Facts.{Fact, Undetermined, Constant, NotAConstant}
-use Rattle.pliron_sccp.specs.declared.cells.Mark.{Mark}
-use Rattle.pliron_sccp.specs.declared.cells.Mark.TheVariants.{Unreached, Waiting, Visited}
-use Rattle.pliron_sccp.specs.declared.cells.Cell.{Cell}
-use Rattle.pliron_sccp.specs.declared.cells.Cell.TheVariants.{Undetermined as Unknown, Constant as Known, NotAConstant as Varying}
+use Rattle.pliron_sccp.specs.declared.facts.Mark.{Mark}
+use Rattle.pliron_sccp.specs.declared.facts.Mark.TheVariants.{Unreached, Waiting, Visited}
+use Rattle.pliron_sccp.specs.declared.facts.Cell.{Cell}
+use Rattle.pliron_sccp.specs.declared.facts.Cell.TheVariants.{Undetermined as Unknown, Constant as Known, NotAConstant as Varying}
 
 abbrev pub was_reached : Mark → Bool
 was_reached Unreached = false

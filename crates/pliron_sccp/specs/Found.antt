@@ -2,7 +2,7 @@
 use Rattle.std.specs.Prelude.{ℕ, Bool}
 use Rattle.pliron_core.specs.Tree.{Tree}
 use Rattle.pliron_laws.specs.Datum.{Head}
-use Rattle.pliron_sccp.specs.declared.rewriting.Found.{Found}
+use Rattle.pliron_sccp.specs.declared.rewrite.Found.{Found}
 use Rattle.pliron_theory.specs.Facts.{Facts, Says}
 use Rattle.pliron_sccp.specs.Precise.{AreMostPrecise, AreOwed}
 use Rattle.pliron_sccp.specs.Propagated.{CountsPops}

@@ -14,6 +14,7 @@ pub mod Searched
 pub mod Listed
 pub mod Looking
 pub mod Starting
+pub mod Delaying
 pub mod Searching
 pub mod Accounts
 pub mod Best

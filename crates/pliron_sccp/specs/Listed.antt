@@ -4,8 +4,8 @@ use Rattle.pliron_core.specs.Tree.{Tree, head_of, parent_of, arguments_of}
 use Rattle.pliron_laws.specs.Datum.{Head}
 use Rattle.pliron_laws.specs.Tree.{Operation, op_at}
 use Rattle.pliron_theory.specs.Facts.{Facts, Says, IsInReachedBlock, handed}
-use Rattle.pliron_sccp.specs.declared.rewriting.ConstantArgument.{ConstantArgument}
-use Rattle.pliron_sccp.specs.declared.rewriting.Fold.{Fold}
+use Rattle.pliron_sccp.specs.declared.rewrite.ConstantArgument.{ConstantArgument}
+use Rattle.pliron_sccp.specs.declared.rewrite.Fold.{Fold}
 use Rattle.pliron_sccp.specs.Chain.{is_reached, has_passing_head, both, folding, KnownArgument, known_in_block}
 use Rattle.pliron_sccp.specs.Steps.{IsKnown, StandForEach}
 

@@ -6,9 +6,9 @@ use Rattle.pliron_sccp.specs.Chain.{FoldsInTurn, FoldsPartly, KnownArgument, all
 use Rattle.pliron_core.specs.declared.attrs.IRStatus.{IRStatus}
 use Rattle.pliron_core.specs.declared.attrs.IRStatus.TheVariants.{Changed, Unchanged}
 use Rattle.pliron_core.specs.Changes.{IsSameTree}
-use Rattle.pliron_sccp.specs.declared.rewriting.Fold.{Fold}
-use Rattle.pliron_sccp.specs.declared.rewriting.ConstantArgument.{ConstantArgument}
-use Rattle.pliron_sccp.specs.declared.rewriting.Found.{Found}
+use Rattle.pliron_sccp.specs.declared.rewrite.Fold.{Fold}
+use Rattle.pliron_sccp.specs.declared.rewrite.ConstantArgument.{ConstantArgument}
+use Rattle.pliron_sccp.specs.declared.rewrite.Found.{Found}
 use Rattle.pliron_core.specs.declared.attrs.AttrObj.{AttrObj}
 use Rattle.pliron_core.specs.Tree.{Tree, IsLive, head_of, arguments_of}
 use Rattle.pliron_core.specs.Joined.{IsTree}

@@ -12,8 +12,7 @@ ghost use Rattle.pliron_sccp.specs.Cells.{Means};
 ghost use Rattle.pliron_sccp.specs.Falling.{IsApplied};
 ghost use Rattle.pliron_sccp.specs.Demands.{Adds, AlwaysAdds, CanMeet, Asks, AsksEntries, AsksEdges, AsksJumps, AsksAnswers, AsksResults, AsksForwarded, AsksBranches, FollowsEdge, AreFeasible, MayLead, EntryEntered};
 
-use crate::cells::Cell;
-use crate::facts::Tables;
+use crate::facts::{Cell, Tables};
 use pliron_core::{AttrObj, BasicBlock, Context, Operation, Ptr, Region, Value};
 use pliron_laws::{BranchOpFoldInterface, ConstFoldInterface, Dialect, OptError};
 use pliron_theory::HasFolding;

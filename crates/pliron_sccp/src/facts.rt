@@ -6,14 +6,29 @@
 ghost use Rattle.std.specs.Prelude.{◌≡◌, ◌≤◌, ◌+◌, ◌<◌, ◌^◌, ℕ, nat_eq, Some, length, slice_get, vec_capacity, IsOkUnless};
 ghost use Rattle.std.specs.List.{list_any};
 ghost use Rattle.indexmap.specs.IndexSet.{index_of};
-ghost use Rattle.pliron_sccp.specs.declared.cells.Cell.TheVariants.{Constant as Known};
+ghost use Rattle.pliron_sccp.specs.declared.facts.Cell.TheVariants.{Constant as Known};
 ghost use Rattle.pliron_sccp.specs.Cells.{AreOnce, fall_at, is_waiting, mark_at, unknown_count};
 
-use crate::cells::{Cell, Mark};
 use indexmap::IndexSet;
 use pliron_core::{AttrObj, BasicBlock, Ptr, Value};
 use pliron_laws::OptError;
 use std::alloc::Global;
+
+/// What is known of a block.
+#[derive(Copy, Clone)]
+pub enum Mark {
+    Unreached,
+    Waiting,
+    Visited,
+}
+
+/// What is known of a value: a constant is the number of an attribute.
+#[derive(Copy, Clone)]
+pub enum Cell {
+    Undetermined,
+    Constant(usize),
+    NotAConstant,
+}
 
 /// The facts that were found so far, and what waits. A value without a number is not a constant.
 ///

@@ -6,13 +6,12 @@
 //! It stands on the theory of runs and knows nothing of the other optimisations, of passes and of the program.
 #![tactic(auto)]
 
-mod cells;
+mod delays;
 mod demands;
 mod facts;
-mod found;
 mod inside;
 mod propagation;
-mod rewriting;
+mod rewrite;
 mod search;
 
 pub use propagation::{sccp, sccp_counted, sccp_through};

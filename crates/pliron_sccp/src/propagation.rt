@@ -7,8 +7,7 @@ ghost use Rattle.pliron_theory.specs.Change.{IsPassChange};
 ghost use Rattle.pliron_theory.specs.Edges.{KeepsEdges};
 ghost use Rattle.pliron_sccp.specs.Propagated.{IsPropagated, IsPartlyPropagated};
 
-use crate::found::find;
-use crate::rewriting::rewrite;
+use crate::rewrite::{find, rewrite};
 use pliron_core::{Context, IRRewriter, IRStatus, Operation, Ptr, Rewriter};
 use pliron_laws::{Dialect, OptError, Room};
 use pliron_theory::HasFolding;
@@ -109,7 +108,8 @@ pub fn sccp_through<D: Dialect, R: Rewriter + Room>(
 /// Errors: want of memory. The tree is then as before, or one after a first part of these rewrites.
 ///
 /// Cost: one look at each operation in a block that is reached, and one more for each time that a fact
-/// about an operand falls, which it does twice at most; then one step for each use of what is replaced.
+/// about an operand falls, which it does twice at most, but where it has more than a few operands one for
+/// all that fall before nothing shorter is left to do; then one step for each use of what is replaced.
 pub fn sccp<D: Dialect>(
     alloc: Global,
     op: Ptr<Operation>,

@@ -10,19 +10,28 @@
 //! looked at once, and no region is gone through in rounds: a fact falls at most twice, and only its users
 //! are looked at then. In deep nests of loops an inner loop is thus not gone through again for each round of
 //! the outer ones.
+//!
+//! A user with more than a few operands is put aside, once, and looked at where neither a block nor a value
+//! waits: one at a time, those with the fewest operands first, and what that look made fall is taken before
+//! the next one. So a branch that folds, and forwards many values which fall one after the other, is looked
+//! at when all of them fell, and not after each. Before it is looked at again, its own look or one at something
+//! about as long or longer made something fall: where its own look makes its next operand fall, as in a loop
+//! that moves its arguments on by one place, it is still looked at for each. The order decides no fact.
 ghost use Rattle.std.specs.Prelude.{◌≡◌, ◌<◌, ◌↔◌, ℕ, true, OnOk, IfOk, IsTrue, IsOkUnless, Some, length, slice_get};
 ghost use Rattle.pliron_core.specs.Tree.{IsLive, IsBlock, In, arguments_of, body_of, successors_of};
 ghost use Rattle.pliron_laws.specs.Answers.{ReadsHead};
 ghost use Rattle.pliron_laws.specs.Linked.{IsWellLinked};
 ghost use Rattle.pliron_theory.specs.Facts.{AtMost};
 ghost use Rattle.pliron_sccp.specs.Accounts.{IsUnsearched};
+ghost use Rattle.pliron_sccp.specs.Delaying.{delayed};
 ghost use Rattle.pliron_sccp.specs.Demands.{Adds};
 ghost use Rattle.pliron_sccp.specs.Looking.{either, AreTargetsNumbered, HasNumberedTargets, IsCallFor, IsLookedAt, IsUseOf, LooksAt, LooksThrough, SeesTo, TakesUsers};
 ghost use Rattle.pliron_sccp.specs.Searched.{IsSearched};
-ghost use Rattle.pliron_sccp.specs.Searching.{VisitsValues, TakesTurn};
+ghost use Rattle.pliron_sccp.specs.Searching.{IsSeenTo, LooksAside, SeesToAll, TakesTurn, VisitsValues};
 ghost use Rattle.pliron_sccp.specs.Starting.{IsStarted};
 ghost use Rattle.pliron_sccp.specs.Tables.{fact_in, known_constants, waits_block};
 
+use crate::delays::Delays;
 use crate::demands::{Demand, ask_entries, demands, meet_all};
 use crate::facts::Tables;
 use crate::inside::{all_blocks, block_numbers, value_numbers};
@@ -230,22 +239,49 @@ fn look_at<D: Dialect>(
     Ok(())
 }
 
-/// Looks at these operations, one after the other.
+/// How many operands are few. What has more is put aside, and looked at where nothing else waits.
+const FEW_OPERANDS: usize = 8;
+
+/// Looks at the operation, or puts it aside where it has more than a few operands.
 ///
-/// Asks the same of each. Errors: want of memory. Cost: that of what they ask.
-fn look_through<D: Dialect>(
+/// Asks what `look_at` asks. Errors: want of memory. Cost: that of what it asks, or constant.
+fn see_to<D: Dialect>(
+    alloc: Global,
+    op: Ptr<Operation>,
+    ctx: &Context,
+    tables: &mut Tables,
+    delays: &mut Delays,
+) -> Result<(), OptError>
+    requires live { IsLive ctx.now.tree op }
+    requires targets { HasNumberedTargets ctx.now.tree tables.old op }
+    ensures ok { OnOk result (IsSeenTo ⟦<D as HasFolding>⟧.folding ctx.now.tree op tables.old tables.new delays.old delays.new) }
+    ensures memory { IsOkUnless result OptError.Memory }
+{
+    let operands = op.num_operand(ctx);
+    if operands > FEW_OPERANDS {
+        delays.put(alloc, op, operands)
+    } else {
+        look_at::<D>(alloc, op, ctx, tables)
+    }
+}
+
+/// Looks at these operations, one after the other, but puts aside what has more than a few operands.
+///
+/// Asks what `look_at` asks, of each. Errors: want of memory. Cost: that of what they ask.
+fn see_to_all<D: Dialect>(
     alloc: Global,
     ops: &[Ptr<Operation>],
     ctx: &Context,
     tables: &mut Tables,
+    delays: &mut Delays,
 ) -> Result<(), OptError>
     requires live { (k : ℕ) → In k ops.now → IsLive ctx.now.tree k }
     requires targets { (k : ℕ) → In k ops.now → HasNumberedTargets ctx.now.tree tables.old k }
-    ensures ok { OnOk result (LooksThrough ⟦<D as HasFolding>⟧.folding ctx.now.tree ops.now tables.old tables.new) }
+    ensures ok { OnOk result (SeesToAll ⟦<D as HasFolding>⟧.folding ctx.now.tree ops.now tables.old tables.new delays.old delays.new) }
     ensures memory { IsOkUnless result OptError.Memory }
 {
     for i in 0..ops.len() {
-        look_at::<D>(alloc, ops[i], ctx, tables)?;
+        see_to::<D>(alloc, ops[i], ctx, tables, delays)?;
     }
     Ok(())
 }
@@ -273,30 +309,36 @@ fn visit_block<D: Dialect>(
     Ok(())
 }
 
-/// Takes all values that wait, meets what they call for at once, and looks at their other users; how many
-/// values these were.
+/// Takes all values that wait, meets what they call for at once, and looks at their other users or puts them
+/// aside; how many values these were.
 fn visit_values<D: Dialect>(
     alloc: Global,
     ctx: &Context,
     tables: &mut Tables,
+    delays: &mut Delays,
 ) -> Result<u128, OptError>
     requires { AreTargetsNumbered ctx.now.tree tables.old }
-    ensures ok { IfOk result (λ taken. VisitsValues ⟦<D as HasFolding>⟧.folding ctx.now.tree tables.old tables.new taken) }
+    ensures ok { IfOk result (λ taken. VisitsValues ⟦<D as HasFolding>⟧.folding ctx.now.tree tables.old tables.new delays.old delays.new taken) }
     ensures memory { IsOkUnless result OptError.Memory }
 {
     ctx.well_formed();
     let (users, asked, taken) = take_values::<D>(alloc, ctx, tables)?;
     meet_all(asked, tables);
-    look_through::<D>(alloc, users.as_slice(), ctx, tables)?;
+    see_to_all::<D>(alloc, users.as_slice(), ctx, tables, delays)?;
     Ok(taken)
 }
 
 /// Takes a block that waits, and looks through it, or else all values that wait, and looks at their
-/// users; how many were taken, none where nothing waited.
-fn step<D: Dialect>(alloc: Global, ctx: &Context, tables: &mut Tables) -> Result<u128, OptError>
+/// users or puts them aside; how many were taken, none where nothing waited.
+fn step<D: Dialect>(
+    alloc: Global,
+    ctx: &Context,
+    tables: &mut Tables,
+    delays: &mut Delays,
+) -> Result<u128, OptError>
     requires blocks { (b : ℕ) → waits_block tables.old b ≡ true → IsBlock ctx.now.tree b }
     requires targets { AreTargetsNumbered ctx.now.tree tables.old }
-    ensures ok { IfOk result (λ taken. TakesTurn ⟦<D as HasFolding>⟧.folding ctx.now.tree tables.old tables.new taken) }
+    ensures ok { IfOk result (λ taken. TakesTurn ⟦<D as HasFolding>⟧.folding ctx.now.tree tables.old tables.new delays.old delays.new taken) }
     ensures memory { IsOkUnless result OptError.Memory }
 {
     ctx.well_formed();
@@ -305,7 +347,31 @@ fn step<D: Dialect>(alloc: Global, ctx: &Context, tables: &mut Tables) -> Result
             visit_block::<D>(alloc, block, ctx, tables)?;
             Ok(1)
         }
-        None => visit_values::<D>(alloc, ctx, tables),
+        None => visit_values::<D>(alloc, ctx, tables, delays),
+    }
+}
+
+/// Looks at one operation that was put aside, of those with the fewest operands; whether there was one.
+///
+/// Errors: want of memory. Cost: that of what it asks.
+fn look_aside<D: Dialect>(
+    alloc: Global,
+    ctx: &Context,
+    tables: &mut Tables,
+    delays: &mut Delays,
+) -> Result<bool, OptError>
+    requires placed { (k : ℕ) → In k (delayed delays.old) → IsLookedAt ctx.now.tree tables.old k }
+    requires targets { AreTargetsNumbered ctx.now.tree tables.old }
+    ensures ok { IfOk result (λ looked. LooksAside ⟦<D as HasFolding>⟧.folding ctx.now.tree tables.old tables.new delays.old delays.new looked) }
+    ensures memory { IsOkUnless result OptError.Memory }
+{
+    ctx.well_formed();
+    match delays.take() {
+        Some(op) => {
+            look_at::<D>(alloc, op, ctx, tables)?;
+            Ok(true)
+        }
+        None => Ok(false),
     }
 }
 
@@ -334,12 +400,14 @@ pub fn search<D: Dialect>(
 {
     ctx.well_formed();
     let mut tables = start(alloc, root, ctx)?;
+    let mut delays = Delays::new(alloc);
     let mut pops: u128 = 0;
     loop {
-        let taken = step::<D>(alloc, ctx, &mut tables)?;
-        if taken == 0 {
+        let taken = step::<D>(alloc, ctx, &mut tables, &mut delays)?;
+        if taken > 0 {
+            pops += taken;
+        } else if !look_aside::<D>(alloc, ctx, &mut tables, &mut delays)? {
             return Ok(Searched { tables, pops });
         }
-        pops += taken;
     }
 }

@@ -9,6 +9,10 @@
 //! operations whose operands are determined, until a round changes nothing. The lines of `HOSTILE` have no
 //! counts: uses stand before definitions or use themselves, edges forward too few values or too many, and
 //! blocks end without a terminator. They were worked out by hand, where the order of work decides nothing.
+//! In `ASIDE`, worked out by hand too, an operation has more operands than what is looked at at once: sums of a loop
+//! that fall one after the other and that a branch behind it forwards; branches that come to be feasible only when
+//! their condition falls, one by itself, one after what it forwards fell too, and two of which the shorter one is looked
+//! at first; and a loop in which such a branch makes its own operands fall.
 
 pub static ROWS: &str = "\
 C 1 3 0 func { b0(): a = const 1; b = const 2; c = add a b; ret c } => func { b0(): v0 = const 1; v1 = const 2; v2 = const 3; v3 = add v0 v1; ret v2 }
@@ -42,6 +46,33 @@ C 1 3 0 func { b0(): a = const 7; b = const -2; d = div a b; ret d } => func { b
 U 1 2 1 func { b0(): a = const 1; z = const 0; d = div a z; ret a } => func { b0(): v0 = const 1; v1 = const 0; v2 = div v0 v1; ret v0 }
 U 1 0 0 func { b0(): ret } => func { b0(): ret }
 U 1 0 2 func { b0(x): r = read; ret r } => func { b0(v0): v1 = read; ret v1 }";
+
+pub static ASIDE: &str = "\
+U 5 2 19 func { b0(): z = const 0; o = const 1; br b1(z); b1(i): a = add i o; b = add a o; c = add b o; d = add c o; e = add d o; f = add e o; \
+    g = add f o; h = add g o; r = read; cbr r b1(h) b2(); b2(): q = read; cbr q b3(a, b, c, d, e, f, g, h) b4(); \
+    b3(j, k, l, m, n, p, s, t): ret t; b4(): ret } \
+    => func { b0(): v0 = const 0; v1 = const 1; br b1(v0); b1(v2): v3 = add v2 v1; v4 = add v3 v1; v5 = add v4 v1; v6 = add v5 v1; v7 = add v6 v1; \
+        v8 = add v7 v1; v9 = add v8 v1; v10 = add v9 v1; v11 = read; cbr v11 b1(v10) b2(); \
+        b2(): v12 = read; cbr v12 b3(v3, v4, v5, v6, v7, v8, v9, v10) b4(); b3(v13, v14, v15, v16, v17, v18, v19, v20): ret v20; b4(): ret }
+C 4 4 9 func { b0(): z = const 0; o = const 1; br b1(z); b1(p): cbr p b3(p, p, p, p, p, p, p, p) b2(); b2(): br b1(o); \
+    b3(a, b, c, d, e, f, g, h): k = const 5; m = mul k k; ret m } \
+    => func { b0(): v0 = const 0; v1 = const 1; br b1(v0); b1(v2): cbr v2 b3(v2, v2, v2, v2, v2, v2, v2, v2) b2(); b2(): br b1(v1); \
+        b3(v3, v4, v5, v6, v7, v8, v9, v10): v11 = const 5; v12 = const 25; v13 = mul v11 v11; ret v12 }
+U 4 2 17 func { b0(): z = const 0; o = const 1; br b1(z); b1(p): a = add p o; b = add a o; c = add b o; d = add c o; e = add d o; f = add e o; \
+    g = add f o; h = add g o; cbr p b3(a, b, c, d, e, f, g, h) b2(); b2(): br b1(o); b3(i, j, k, l, m, n, q, r): ret r } \
+    => func { b0(): v0 = const 0; v1 = const 1; br b1(v0); b1(v2): v3 = add v2 v1; v4 = add v3 v1; v5 = add v4 v1; v6 = add v5 v1; v7 = add v6 v1; \
+        v8 = add v7 v1; v9 = add v8 v1; v10 = add v9 v1; cbr v2 b3(v3, v4, v5, v6, v7, v8, v9, v10) b2(); b2(): br b1(v1); \
+        b3(v11, v12, v13, v14, v15, v16, v17, v18): ret v18 }
+U 6 2 25 func { b0(): z = const 0; o = const 1; br b1(z); b1(p): cbr p b2(p, p, p, p, p, p, p, p) b3(); \
+    b2(a, b, c, d, e, f, g, h): ret h; b3(): cbr p b4(p, p, p, p, p, p, p, p, p, p, p, p, p, p, p, p) b5(); \
+    b4(i, j, k, l, m, n, q, r, s, t, u, v, w, x, y, A): ret A; b5(): br b1(o) } \
+    => func { b0(): v0 = const 0; v1 = const 1; br b1(v0); b1(v2): cbr v2 b2(v2, v2, v2, v2, v2, v2, v2, v2) b3(); \
+        b2(v3, v4, v5, v6, v7, v8, v9, v10): ret v10; b3(): cbr v2 b4(v2, v2, v2, v2, v2, v2, v2, v2, v2, v2, v2, v2, v2, v2, v2, v2) b5(); \
+        b4(v11, v12, v13, v14, v15, v16, v17, v18, v19, v20, v21, v22, v23, v24, v25, v26): ret v26; b5(): br b1(v1) }
+U 3 1 10 func { b0(): o = const 1; br b1(o, o, o, o, o, o, o, o); b1(a, b, c, d, e, f, g, h): r = read; q = read; \
+    cbr q b1(r, a, b, c, d, e, f, g) b2(); b2(): ret } \
+    => func { b0(): v0 = const 1; br b1(v0, v0, v0, v0, v0, v0, v0, v0); b1(v1, v2, v3, v4, v5, v6, v7, v8): v9 = read; v10 = read; \
+        cbr v10 b1(v9, v1, v2, v3, v4, v5, v6, v7) b2(); b2(): ret }";
 
 pub static MADE: &str = "\
 U 1 0 0 func { b0(): sink; ret; b1(): v0 = read; v1 = div v0 v0; cbr v1 b1() b2(); b2(): sink; ret } \

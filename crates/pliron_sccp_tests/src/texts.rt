@@ -3,7 +3,7 @@ ghost use Rattle.pliron_bench.specs.BenchMoves.{bench};
 ghost use Rattle.pliron_core.specs.Tree.{IsLive};
 ghost use Rattle.pliron_laws.specs.Linked.{IsWellLinked};
 
-use super::cases::{HOSTILE, MADE, ROWS};
+use super::cases::{ASIDE, HOSTILE, MADE, ROWS};
 use pliron_bench::Bench;
 use pliron_core::{Context, IRStatus, Operation, Ptr};
 use pliron_notation::{print_text, read_text};
@@ -97,6 +97,15 @@ fn rows(rt: HostRuntime) -> Result<(), Fail> {
 #[test]
 fn made_texts(rt: HostRuntime) -> Result<(), Fail> {
     for line in MADE.lines() {
+        check(&rt, rt.alloc(), &read_case(line)?)?;
+    }
+    Ok(())
+}
+
+// Operations with more operands than what is looked at at once.
+#[test]
+fn what_is_put_aside(rt: HostRuntime) -> Result<(), Fail> {
+    for line in ASIDE.lines() {
         check(&rt, rt.alloc(), &read_case(line)?)?;
     }
     Ok(())

@@ -6,6 +6,7 @@ pub mod GrowthLemmas
 pub mod NumberingLemmas
 pub mod WalkLemmas
 pub mod PlaceLemmas
+pub mod PlacesLeftLemmas
 pub mod ItemLemmas
 pub mod NumberedLemmas
 pub mod MarkLemmas

@@ -1,5 +1,5 @@
 -- The place of a node in an order, which is its first.
-use Rattle.std.proofs.Common.{◌≡◌, ℕ, zero, suc, ◌<◌, ◌≤◌, ◌⊎◌, Bool, true, false, true≢false, not, cond, ltb, Option, Some, None, ap, position, List, [], ◌∷◌, length, take, get_or, refl, sym, ◌∙◌, subst, arith, inl, inr}
+use Rattle.std.proofs.Common.{◌≡◌, ℕ, zero, suc, ◌+◌, ◌<◌, ◌≤◌, ◌⊎◌, ◌||◌, Bool, true, false, true≢false, not, cond, ltb, Option, Some, None, ap, position, List, [], ◌∷◌, length, take, get_or, refl, sym, ◌∙◌, subst, arith, inl, inr}
 use Rattle.std.specs.Cmp.{IsEquivalence}
 use Rattle.std.specs.List.{list_any, position_or_len, IsDistinct, AllByRecursion}
 use Rattle.std.specs.Option.{unwrap_or}
@@ -72,3 +72,28 @@ place_or_end p xs found n r is at_end says = by (ltb (position_or_len p xs) (len
           | inl l ↦ absurd (inside l)
           | inr l ↦ omega (arith, l, past, at_end, most)
         ]
+
+-- what is listed stands within
+module _ {X : Type 0} (p : X → Bool) where
+  pub listed_within : (xs : List X) → list_any p xs ≡ true → position_or_len p xs < length xs
+  listed_within [] e = absurd (true≢false (sym e))
+  listed_within (x ∷ xs) e = by (p x) e (listed_within xs)
+    where
+      by : (b : Bool) → (b || list_any p xs) ≡ true → (list_any p xs ≡ true → position_or_len p xs < length xs) → cond (not b) (1 + position_or_len p xs) 0 < suc (length xs)
+      by true e rest = omega arith
+      by false e rest = omega (arith, rest e)
+
+module _ {N : Type 0} (eq : N → N → Bool) (laws : IsEquivalence eq) where
+  -- what stands at a place of distinct nodes has this place
+  pub place_at : (xs : List N) (k : ℕ) (d : N) → IsDistinct eq xs → k < length xs → number_in eq xs (get_or xs k d) ≡ k
+  unfolding IsDistinct
+  place_at [] k d h l = absurd (omega (arith, l))
+  place_at (x ∷ xs) zero d h l = ap (λ b. cond (not b) (1 + number_in eq xs x) 0) (laws.refl x)
+  place_at (x ∷ xs) (suc k) d h l =
+      let here : eq (get_or xs k d) x ≡ false = laws.symm (get_or xs k d) x ∙ apart xs k h.0 (omega (arith, l)) in
+      ap (λ b. cond (not b) (1 + number_in eq xs (get_or xs k d)) 0) here ∙ omega (arith, place_at xs k d h.1 (omega (arith, l)))
+    where
+      apart : (ys : List N) (k : ℕ) → AllByRecursion (λ y. eq x y ≡ false) ys → k < length ys → eq x (get_or ys k d) ≡ false
+      apart [] k a m = absurd (omega (arith, m))
+      apart (y ∷ ys) zero a m = a.0
+      apart (y ∷ ys) (suc k) a m = apart ys k a.1 (omega (arith, m))

@@ -1,5 +1,5 @@
 //! Operands, successors, attributes and arguments.
-ghost use Rattle.std.specs.Prelude.{◌≡◌, ◌+◌, ◌<◌, ◌≤◌, [], length, slice_get, OnOk, OnErr, IfSome};
+ghost use Rattle.std.specs.Prelude.{◌≡◌, ◌+◌, ◌<◌, ◌≤◌, [], length, slice_get, OnOk, OnErr, IfSome, IsOk};
 ghost use Rattle.pliron_core.specs.Tree.{IsLive, IsBlock, IsDefined, In, operands_of, head_of, arguments_of, uses_of};
 ghost use Rattle.pliron_core.specs.Writes.{operand_pushed, successor_pushed, operand_removed, attribute_set, with_attribute, argument_removed, replaced};
 
@@ -84,6 +84,7 @@ pub(crate) fn replace_uses(ctx: &mut Context, old: Value, new: Value) -> Result<
     requires new { IsDefined ctx.old.tree new }
     ensures ok { OnOk result (ctx.new.tree ≡ replaced ctx.old.tree old new) }
     ensures block_uses { ctx.new.block_uses ≡ ctx.old.block_uses }
+    ensures unused { uses_of ctx.old.value_uses new ≡ [] → IsOk result }
     ensures err { OnErr result (ctx.new ≡ ctx.old) }
 {
     if old.index() == new.index() {

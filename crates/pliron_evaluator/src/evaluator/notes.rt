@@ -1,4 +1,5 @@
 //! What is noted of the moves of a run.
+use crate::evaluator::environment::first_operation;
 use crate::evaluator::state::{State, input_of};
 use crate::evaluator::values::Datum;
 use pliron_core::{Context, Operation, Ptr};
@@ -48,7 +49,7 @@ impl Notes {
         ctx: &Context,
         state: &State,
     ) -> Result<(), AllocError> {
-        self.last = state.rest.first().copied();
+        self.last = first_operation(&state.rest);
         match self.last {
             Some(op) if self.keeps_moves && op.is_live(ctx) => {
                 let input = input_of(alloc, ctx, state, op)?;

@@ -7,30 +7,33 @@ ghost use Rattle.pliron_laws.specs.Tree.{Operation as OperationRecord, op_at, an
 ghost use Rattle.pliron_laws.specs.Machine.{start, trap, at_rest, bind, leave, given, enter, go_to, emit, entry_in, input_of, perform, turn, step};
 ghost use Rattle.pliron_evaluator.specs.Evaluator.{datum_of_value, move_of, environment_of, answer_of_values, waiting_of, state_of, next_of_value};
 
-use crate::evaluator::environment::{all_data, bind, put_first, take_first};
+use crate::evaluator::environment::{
+    all_data, bind, first, first_operation, put_first, take_first,
+};
 use crate::evaluator::values::{Datum, Evaluate, Move, Sight, all_copies, one};
 use pliron_core::{BasicBlock, Context, Operation, Ptr, Value};
 use pliron_laws::reads::{all_arguments, all_operands, all_operations, all_results};
 use std::alloc::{AllocError, Global};
+use std::collections::{HashMap, VecDeque};
 use std::mem;
 
 /// An operation that waits for the end of a visit, with those after it in its block.
 #[derive(Drop)]
 pub(super) struct Waiting {
-    pub(super) rest: Vec<Ptr<Operation>>,
+    pub(super) rest: VecDeque<Ptr<Operation>>,
     pub(super) memo: Datum,
 }
 
-/// The state of a run: the newest binding, waiting operation and effect come first.
+/// The state of a run: the newest waiting operation and effect come first.
 #[derive(Drop)]
 pub(super) struct State {
-    pub(super) environment: Vec<(Value, Datum)>,
-    pub(super) rest: Vec<Ptr<Operation>>,
+    pub(super) environment: HashMap<Value, Datum>,
+    pub(super) rest: VecDeque<Ptr<Operation>>,
     pub(super) memo: Datum,
     pub(super) answer: Option<Vec<Datum>>,
-    pub(super) waiting: Vec<Waiting>,
-    pub(super) world: Vec<Datum>,
-    pub(super) effects: Vec<Datum>,
+    pub(super) waiting: VecDeque<Waiting>,
+    pub(super) world: VecDeque<Datum>,
+    pub(super) effects: VecDeque<Datum>,
 }
 
 /// What a step comes to.
@@ -43,12 +46,12 @@ pub(super) enum Next {
 fn trap(state: State) -> Next
     ensures { next_of_value result ≡ trap (state_of state) }
 {
-    Next::Over(Sight::Trapped(state.effects))
+    Next::Over(Sight::Trapped(Vec::from(state.effects)))
 }
 
 // The next operation begins, at its first move.
 fn at_rest(state: State) -> State
-    ensures { state_of result ≡ at_rest (state_of state) (environment_of state.environment.items) state.rest.items (map waiting_of state.waiting.items) }
+    ensures { state_of result ≡ at_rest (state_of state) (environment_of state.environment) state.rest.items (map waiting_of state.waiting.items) }
 {
     State {
         memo: Datum::Empty,
@@ -68,7 +71,7 @@ fn leave(mut state: State, values: Vec<Datum>) -> Next
             answer: Some(values),
             ..state
         }),
-        None => Next::Over(Sight::Ended(values, state.effects)),
+        None => Next::Over(Sight::Ended(values, Vec::from(state.effects))),
     }
 }
 
@@ -83,7 +86,7 @@ fn give(
     requires live { IsLive ctx.now.tree op }
     requires first { slice_get state.rest.items 0 ≡ Some op }
     ensures { IfOk result (λ next. next_of_value next ≡ given (state_of state) (drop 1 state.rest.items) (map waiting_of state.waiting.items)
-        (map datum_of_value values.items) (bind (environment_of state.environment.items) (results_of ctx.now.tree op) (map datum_of_value values.items))) }
+        (map datum_of_value values.items) (bind (environment_of state.environment) (results_of ctx.now.tree op) (map datum_of_value values.items))) }
 {
     let results = all_results(alloc, op, ctx)?;
     if !bind(
@@ -94,10 +97,10 @@ fn give(
     )? {
         return Ok(trap(state));
     }
-    if state.waiting.is_empty() {
-        return Ok(Next::Over(Sight::Ended(values, state.effects)));
+    if first(&state.waiting).is_none() {
+        return Ok(Next::Over(Sight::Ended(values, Vec::from(state.effects))));
     }
-    state.rest.remove(0);
+    state.rest.pop_front();
     Ok(Next::Goes(at_rest(state)))
 }
 
@@ -125,7 +128,7 @@ fn enter(
     )? {
         return Ok(trap(state));
     }
-    state.rest = all_operations(alloc, block, ctx)?;
+    state.rest = VecDeque::from(all_operations(alloc, block, ctx)?);
     Ok(Next::Goes(at_rest(state)))
 }
 
@@ -169,7 +172,7 @@ fn visit(
     ensures { IfOk result (λ next. next_of_value next ≡ enter (state_of state) (entry_in ctx.now.tree (slice_get (regions_of ctx.now.tree op) i))
         (map datum_of_value values.items) (record { rest = state.rest.items; memo = datum_of_value memo } ∷ map waiting_of state.waiting.items)) }
 {
-    let rest = mem::replace(&mut state.rest, Vec::new(alloc));
+    let rest = mem::replace(&mut state.rest, VecDeque::new(alloc));
     put_first(&mut state.waiting, Waiting { rest, memo })?;
     enter(alloc, ctx, state, entry(ctx, op, i), values)
 }
@@ -187,7 +190,7 @@ fn go_to(
     ensures { IfOk result (λ next. next_of_value next ≡ go_to ctx.now.tree (state_of state) (slice_get (successors_of ctx.now.tree op) i)
         (map datum_of_value values.items) (map waiting_of state.waiting.items)) }
 {
-    if state.waiting.is_empty() {
+    if first(&state.waiting).is_none() {
         return Ok(trap(state));
     }
     enter(alloc, ctx, state, successor(ctx, op, i), values)
@@ -207,7 +210,7 @@ fn emit(alloc: Global, mut state: State, effect: Datum, memo: Datum) -> Result<N
                 ..state
             }))
         }
-        None => Ok(Next::Over(Sight::Reached(state.effects))),
+        None => Ok(Next::Over(Sight::Reached(Vec::from(state.effects)))),
     }
 }
 
@@ -242,14 +245,14 @@ pub(super) fn input_of(
     op: Ptr<Operation>,
 ) -> Result<Option<Vec<Datum>>, AllocError>
     requires { IsLive ctx.now.tree op }
-    ensures { IfOk result (λ input. answer_of_values input ≡ input_of (environment_of state.now.environment.items) (operands_of ctx.now.tree op)
+    ensures { IfOk result (λ input. answer_of_values input ≡ input_of (environment_of state.now.environment) (operands_of ctx.now.tree op)
         (answer_of_values state.now.answer)) }
 {
     match &state.answer {
         Some(answer) => Ok(Some(all_copies(alloc, answer.as_slice())?)),
         None => {
             let operands = all_operands(alloc, op, ctx)?;
-            all_data(alloc, state.environment.as_slice(), operands.as_slice())
+            all_data(alloc, &state.environment, operands.as_slice())
         }
     }
 }
@@ -282,11 +285,10 @@ pub(super) fn step<D: Evaluate>(
 ) -> Result<Next, AllocError>
     ensures { IfOk result (λ after. next_of_value after ≡ step D.meaning ctx.now.tree (state_of state)) }
 {
-    if state.rest.is_empty() {
-        return Ok(leave(state, Vec::new(alloc)));
+    match first_operation(&state.rest) {
+        Some(op) => turn::<D>(alloc, ctx, state, op),
+        None => Ok(leave(state, Vec::new(alloc))),
     }
-    let op = state.rest[0];
-    turn::<D>(alloc, ctx, state, op)
 }
 
 /// The run of a root, before its first step.
@@ -298,15 +300,15 @@ pub(super) fn start(
 ) -> Result<State, AllocError>
     ensures { IfOk result (λ state. state_of state ≡ start root (map datum_of_value inputs.items) (map datum_of_value world.items)) }
 {
-    let mut rest = Vec::new(alloc);
-    rest.push(root)?;
+    let mut rest = VecDeque::new(alloc);
+    rest.push_back(root)?;
     Ok(State {
-        environment: Vec::new(alloc),
+        environment: HashMap::new(alloc),
         rest,
         memo: Datum::Empty,
         answer: Some(inputs),
-        waiting: Vec::new(alloc),
-        world,
-        effects: Vec::new(alloc),
+        waiting: VecDeque::new(alloc),
+        world: VecDeque::from(world),
+        effects: VecDeque::new(alloc),
     })
 }

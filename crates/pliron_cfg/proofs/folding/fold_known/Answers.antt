@@ -1,6 +1,5 @@
 use Rattle.std.proofs.Common.{◌∙◌, ap, subst, length, Some, None}
-use Rattle.std.specs.Result.{OnErr}
-use Rattle.std.proofs.lemmas.Result.{IfOk-weaker}
+use Rattle.std.proofs.lemmas.Result.{IfOk-weaker, on_err_weaker}
 use Rattle.pliron_core.specs.Tree.{operands_of, definition_of}
 use Rattle.pliron_core.proofs.WalkLemmas.{inside_live}
 use Rattle.pliron_core.proofs.UsedLemmas.{length_map}
@@ -31,8 +30,8 @@ returns-clause-ok g c =
 
 pub returns-clause-refused : goal.returns-clause-refused
 returns-clause-refused g c =
-    let t = c.args.ctx.now.tree in
-    subst (λ z. OnErr c.fold_in_place-done.result (g.D.BranchOpFoldInterface.outcome t c.fold_in_place-done.new.ctx.tree c.args.op z None)) c.requires.known c.fold_in_place-done.ensures.refused
+    let d = g.met.D.Dialect in
+    on_err_weaker c.fold_in_place-done.result (λ is. (d.folds_in_place.branch c.args.ctx.now.tree c.fold_in_place-done.new.ctx.tree c.args.op c.args.known.now None is).1) c.fold_in_place-done.ensures.refused
 
 pub returns-clause-told : goal.returns-clause-told
 returns-clause-told g c =

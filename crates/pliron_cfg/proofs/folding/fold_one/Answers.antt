@@ -1,3 +1,5 @@
+use Rattle.pliron_core.proofs.SameTreeLemmas.{same_refl}
+use Rattle.pliron_laws.proofs.FoldLemmas.{on_err}
 use Rattle.pliron_core.proofs.WalkLemmas.{inside_live}
 use Rattle.pliron_cfg.proofs.FoldLemmas.{no_step}
 use Rattle.pliron_cfg.proofs.folding.fold_one.Goals as goal
@@ -7,3 +9,6 @@ known_operands-requires g c = inside_live c.args.ctx.now.tree c.well_formed-2.en
 
 pub returns-in_err-known-clause-step : goal.returns-in_err-known-clause-step
 returns-in_err-known-clause-step g c = λ root linked branch. no_step g.D.HasMeaning.meaning g.D.ConstFoldInterface.can_fold g.D.BranchOpFoldInterface.can_fold_branch g.D.ConstFoldInterface.constants g.D.BranchOpFoldInterface.outcome c.args.ctx.now.tree root c.args.op c.well_formed-2.ensures.tree linked branch
+
+pub returns-in_err-known-clause-refused : goal.returns-in_err-known-clause-refused
+returns-in_err-known-clause-refused g c = on_err _ c.from_residual.result (same_refl c.args.ctx.now.tree)

@@ -2,17 +2,19 @@ use Rattle.std.proofs.Common.{◌↔◌, List, IsTrue}
 use Rattle.pliron_theory.specs.Edges.{KeepsEdges}
 use Rattle.pliron_dce.specs.Dead.{Item}
 use Rattle.pliron_dce.specs.Going.{IsSweptSoFar, TellsGone, SomeHasRegions}
+use Rattle.pliron_dce.specs.Incoming.{list_of, AreKnown}
 use Rattle.pliron_dce.specs.Measures.{things}
 use Rattle.pliron_dce.specs.Work.{waiting, HasReady, AreClosed}
 use Rattle.pliron_dce.proofs.sweep.sweep.Given as goal
 
-abbrev pub invariant-loop-work : goal.invariant-loop-work
-invariant-loop-work g l = record {
+abbrev pub invariant-loop-incoming : goal.invariant-loop-incoming
+invariant-loop-incoming g l = record {
   way : (gone : List Item) × IsSweptSoFar g.D.HasMeaning.meaning g.D.Dialect.shortened g.D.SideEffects.side_effects g.D.BlockArgRemoval.removable l.fn.ctx.tree l.ctx.tree l.root gone × TellsGone gone l.status × (IsTrue l.regions ↔ SomeHasRegions l.fn.ctx.tree gone);
   edges : (IsTrue l.regions → ⊥) → KeepsEdges l.fn.ctx.tree l.ctx.tree;
   all : HasReady g.D.HasMeaning.meaning g.D.SideEffects.side_effects g.D.BlockArgRemoval.removable l.ctx.tree l.root (waiting l.work);
   closed : AreClosed l.ctx.tree l.work.around.keys;
+  known : AreKnown g.D.HasMeaning.meaning l.ctx.tree l.root (λ b. list_of l.incoming b);
 }
 
-abbrev pub decreases-loop-work : goal.decreases-loop-work
-decreases-loop-work g l = things l.ctx.tree
+abbrev pub decreases-loop-incoming : goal.decreases-loop-incoming
+decreases-loop-incoming g l = things l.ctx.tree

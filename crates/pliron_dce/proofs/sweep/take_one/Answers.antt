@@ -5,6 +5,8 @@ use Rattle.pliron_dce.specs.declared.work.Candidate.TheVariants.{Operation, Argu
 use Rattle.pliron_dce.specs.Dead.{Op, Arg}
 use Rattle.pliron_dce.specs.Steps.{IsReady}
 use Rattle.pliron_dce.specs.Going.{Goes}
+use Rattle.pliron_dce.specs.Incoming.{list_of}
+use Rattle.pliron_dce.proofs.IncomingLemmas.{known_after, ready_branches}
 use Rattle.pliron_dce.specs.Work.{item_of, waiting, HasReady}
 use Rattle.pliron_laws.proofs.FoldLemmas.{on_err}
 use Rattle.pliron_dce.proofs.TakeLemmas.{op_live}
@@ -57,3 +59,26 @@ returns-in_err-note-in-Operation-clause-refused g c =
     let r = subst (λ z. IsReady g.D.HasMeaning.meaning g.D.SideEffects.side_effects g.D.BlockArgRemoval.removable c.args.ctx.now.tree c.args.root (item_of z)) c.in-Operation.is c.requires.ready in
     on_err _ c.from_residual-in_err-note-in-Operation.result (inr (subst (λ z. Goes g.D.HasMeaning.meaning g.D.Dialect.shortened c.args.ctx.now.tree c.take_operation.new.ctx.tree (item_of z)) (sym c.in-Operation.is)
     (op_live g.D.HasMeaning.meaning g.D.SideEffects.side_effects c.args.ctx.now.tree c.args.root c.in-Operation.op c.well_formed-2.ensures.tree c.requires.linked g.met.D.Dialect.keeps_counts g.D.BlockArgRemoval.removable g.met.D.Dialect.gives_at_once r, c.in_ok-used-in-Operation.ensures.gone)))
+
+pub add-requires-clause-branches : goal.add-requires-clause-branches
+add-requires-clause-branches g c =
+    let r = subst (λ z. IsReady g.D.HasMeaning.meaning g.D.SideEffects.side_effects g.D.BlockArgRemoval.removable c.args.ctx.now.tree c.args.root (item_of z)) c.in-Argument.is c.requires.ready in
+    let at = argument_listed g.D.HasMeaning.meaning g.D.BlockArgRemoval.removable c.args.ctx.now.tree c.args.root c.in-Argument.value c.in-Argument-def.block c.in-Argument-def.index c.well_formed-2.ensures.tree r c.in-Argument-def.ensures.definition in
+    (ready_branches g.D.HasMeaning.meaning g.D.BlockArgRemoval.removable c.args.ctx.now.tree c.args.root c.in-Argument.value c.in-Argument-def.block c.in-Argument-def.index c.well_formed-2.ensures.tree r at).1
+
+pub take_argument-requires-clause-edges : goal.take_argument-requires-clause-edges
+take_argument-requires-clause-edges g c =
+    let r = subst (λ z. IsReady g.D.HasMeaning.meaning g.D.SideEffects.side_effects g.D.BlockArgRemoval.removable c.args.ctx.now.tree c.args.root (item_of z)) c.in-Argument.is c.requires.ready in
+    let at = argument_listed g.D.HasMeaning.meaning g.D.BlockArgRemoval.removable c.args.ctx.now.tree c.args.root c.in-Argument.value c.in-Argument-def.block c.in-Argument-def.index c.well_formed-2.ensures.tree r c.in-Argument-def.ensures.definition in
+    c.in_ok-add-in-Argument-def.ensures.known c.in-Argument-def.block c.edges_to-edges.result.now c.edges_to-edges.ensures (ready_branches g.D.HasMeaning.meaning g.D.BlockArgRemoval.removable c.args.ctx.now.tree c.args.root c.in-Argument.value c.in-Argument-def.block c.in-Argument-def.index c.well_formed-2.ensures.tree r at).0
+
+pub returns-in_ok-note-in-Argument-def-clause-known : goal.returns-in_ok-note-in-Argument-def-clause-known
+returns-in_ok-note-in-Argument-def-clause-known g c =
+    let r = subst (λ z. IsReady g.D.HasMeaning.meaning g.D.SideEffects.side_effects g.D.BlockArgRemoval.removable c.args.ctx.now.tree c.args.root (item_of z)) c.in-Argument.is c.requires.ready in
+    let at = argument_listed g.D.HasMeaning.meaning g.D.BlockArgRemoval.removable c.args.ctx.now.tree c.args.root c.in-Argument.value c.in-Argument-def.block c.in-Argument-def.index c.well_formed-2.ensures.tree r c.in-Argument-def.ensures.definition in
+    known_after _ _ _ _ g.met.D.Dialect.forwards_operands (λ h h' s. s.branch) g.met.D.Dialect.keeps_counts g.D.SideEffects.side_effects g.met.D.Dialect.gives_at_once g.D.BlockArgRemoval.removable c.args.ctx.now.tree c.take_argument.new.ctx.tree c.args.root (Arg c.in-Argument.value) (λ b. list_of c.add.new.self b) c.well_formed-2.ensures.tree c.well_formed-in-Argument-def.ensures.tree c.requires.linked r (c.in_ok-used-in-Argument-def.ensures.gone c.in-Argument.value at) c.in_ok-add-in-Argument-def.ensures.known
+
+pub returns-in_ok-note-in-Operation-clause-known : goal.returns-in_ok-note-in-Operation-clause-known
+returns-in_ok-note-in-Operation-clause-known g c =
+    let r = subst (λ z. IsReady g.D.HasMeaning.meaning g.D.SideEffects.side_effects g.D.BlockArgRemoval.removable c.args.ctx.now.tree c.args.root (item_of z)) c.in-Operation.is c.requires.ready in
+    known_after _ _ _ _ g.met.D.Dialect.forwards_operands (λ h h' s. s.branch) g.met.D.Dialect.keeps_counts g.D.SideEffects.side_effects g.met.D.Dialect.gives_at_once g.D.BlockArgRemoval.removable c.args.ctx.now.tree c.take_operation.new.ctx.tree c.args.root (Op c.in-Operation.op) (λ b. list_of c.args.incoming.now b) c.well_formed-2.ensures.tree c.well_formed-in-Operation.ensures.tree c.requires.linked r (op_live g.D.HasMeaning.meaning g.D.SideEffects.side_effects c.args.ctx.now.tree c.args.root c.in-Operation.op c.well_formed-2.ensures.tree c.requires.linked g.met.D.Dialect.keeps_counts g.D.BlockArgRemoval.removable g.met.D.Dialect.gives_at_once r, c.in_ok-used-in-Operation.ensures.gone) c.requires.known

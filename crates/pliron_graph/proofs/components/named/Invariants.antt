@@ -6,6 +6,6 @@ use Rattle.pliron_graph.proofs.components.named.Given as goal
 abbrev pub invariant-loop-component : goal.invariant-loop-component
 invariant-loop-component g l =
     record {
-      count : length l.all.items ≡ l.component-index;
-      each : (k : ℕ) (a : Scc ℕ) (b : Scc g.row.N.Denot) → slice_get l.components k ≡ Some a → slice_get l.all.items k ≡ Some b → IsNamed l.nodes a b;
+      count : length l.all.items ≡ length l.yielded;
+      each : (k : ℕ) (a : Scc ℕ) (b : Scc g.row.N.Denot) → slice_get l.fn.components.items k ≡ Some a → slice_get l.all.items k ≡ Some b → IsNamed l.nodes a b;
     }

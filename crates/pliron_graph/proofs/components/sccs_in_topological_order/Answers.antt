@@ -9,7 +9,7 @@ pub named-requires : goal.named-requires
 named-requires g c =
     let count : length c.deref.result.now ≡ length c.in-Some.lists.now.succ =
     ap length (c.deref.ensures.value ∙ c.in_ok-nodes.ensures.list) ∙ sym c.in-Some.ensures.same_count in
-    rw c.deref-2.ensures.value (numbers_below (length c.deref.result.now) c.in-Some.lists.now c.in_ok-found.found.items count c.in_ok-found.ensures.found)
+    (numbers_below (length c.deref.result.now) c.in-Some.lists.now c.in_ok-found.found.items count c.in_ok-found.ensures.found)
 
 pub returns-clause-components : goal.returns-clause-components
 returns-clause-components g c =
@@ -17,7 +17,7 @@ returns-clause-components g c =
     let graph = g.G.ControlFlowGraph.graph c.args.graph.now c.args.ctx.now in
     let lawful = g.met.G.ControlFlowGraph.laws c.args.graph.now c.args.ctx.now c.requires in
     let nodes : c.deref.result.now ≡ graph.nodes = c.deref.ensures.value ∙ c.in_ok-nodes.ensures.list in
-    IfOk-weaker c.named.result (λ r. AreNamed c.deref.result.now c.deref-2.result.now r.items) (λ r. AreComponents eq graph r.items)
+    IfOk-weaker c.named.result (λ r. AreNamed c.deref.result.now c.in_ok-found.found.items r.items) (λ r. AreComponents eq graph r.items)
     (λ r h. components_named eq g.met.G.Node.Eq.laws graph c.in-Some.lists.now lawful c.in-Some.ensures c.in_ok-found.found.items r.items c.in_ok-found.ensures.found
-    (subst (λ ns. AreNamed ns c.in_ok-found.found.items r.items) nodes (subst (λ cs. AreNamed c.deref.result.now cs r.items) c.deref-2.ensures.value h)))
+    (subst (λ ns. AreNamed ns c.in_ok-found.found.items r.items) nodes h))
     c.named.ensures.named

@@ -25,7 +25,7 @@ visit_values-requires g c =
     targets_kept c.args.ctx.now.tree c.args.tables.now c.next_block.new.self n.0.numbers n.0.reached c.requires.targets
 
 pub returns-in_ok-visit_block-in-Some-clause-ok : goal.returns-in_ok-visit_block-in-Some-clause-ok
-returns-in_ok-visit_block-in-Some-clause-ok g c = Block c.in-Some.block c.next_block.new.self c.in-Some.ensures.taken c.in_ok-visit_block-in-Some.ensures.ok refl
+returns-in_ok-visit_block-in-Some-clause-ok g c = Block c.in-Some.block c.next_block.new.self c.in-Some.ensures.taken c.in_ok-visit_block-in-Some.ensures.ok refl refl
 
 pub returns-in-None-clause-ok : goal.returns-in-None-clause-ok
 returns-in-None-clause-ok g c =
@@ -39,6 +39,6 @@ returns-in-None-clause-ok g c =
       met = v.met;
       takes = takes_from x c.args.ctx.now.tree c.args.tables.now c.next_block.new.self v.between v.users v.asked taken n.0 v.takes;
       applied = v.applied;
-      looks = v.looks;
+      sees = v.sees;
     }))
     c.visit_values.ensures.ok

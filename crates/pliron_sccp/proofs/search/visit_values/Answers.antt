@@ -1,7 +1,7 @@
 use Rattle.std.proofs.Common.{subst}
 use Rattle.pliron_core.specs.Lists.{In}
 use Rattle.pliron_theory.specs.Facts.{Says}
-use Rattle.pliron_sccp.specs.Looking.{LooksThrough}
+use Rattle.pliron_sccp.specs.Searching.{SeesToAll}
 use Rattle.pliron_sccp.proofs.Called.{can_call, targets_then}
 use Rattle.pliron_sccp.proofs.search.visit_values.Goals as goal
 
@@ -11,13 +11,13 @@ meet_all-requires g c =
     let taken = c.in_ok-users.ensures.ok in
     can_call x c.args.ctx.now.tree c.take_values.new.tables taken.values c.in_ok-users.users.keys c.in_ok-users.asked.items taken.calls
 
-pub look_through-requires-clause-live : goal.look_through-requires-clause-live
-look_through-requires-clause-live g c = λ k i.
+pub see_to_all-requires-clause-live : goal.see_to_all-requires-clause-live
+see_to_all-requires-clause-live g c = λ k i.
     let v = (c.in_ok-users.ensures.ok.calls.only k (subst (In k) c.as_slice.ensures.keys i)).0 in
     (c.well_formed-2.ensures.tree.joined.standing k v.block v.in_block).0
 
-pub look_through-requires-clause-targets : goal.look_through-requires-clause-targets
-look_through-requires-clause-targets g c = λ k i.
+pub see_to_all-requires-clause-targets : goal.see_to_all-requires-clause-targets
+see_to_all-requires-clause-targets g c = λ k i.
     let x : Says = record { meaning = g.D.HasMeaning.meaning; can_fold = g.D.ConstFoldInterface.can_fold; can_fold_branch = g.D.BranchOpFoldInterface.can_fold_branch; constants = g.D.ConstFoldInterface.constants; feasible = g.D.BranchOpFoldInterface.feasible } in
     let taken = c.in_ok-users.ensures.ok in
     targets_then x c.args.ctx.now.tree taken.values c.in_ok-users.users.keys c.in_ok-users.asked.items c.args.tables.now c.take_values.new.tables c.meet_all.new.tables taken.takes taken.calls c.meet_all.ensures c.requires k (subst (In k) c.as_slice.ensures.keys i)
@@ -32,5 +32,5 @@ returns-clause-ok g c =
       met = c.meet_all.new.tables;
       takes = c.in_ok-users.ensures.ok;
       applied = c.meet_all.ensures;
-      looks = subst (λ ks. LooksThrough x c.args.ctx.now.tree ks c.meet_all.new.tables c.look_through.new.tables) c.as_slice.ensures.keys c.in_ok-look_through.ensures.ok;
+      sees = subst (λ ks. SeesToAll x c.args.ctx.now.tree ks c.meet_all.new.tables c.see_to_all.new.tables c.args.delays.now c.see_to_all.new.delays) c.as_slice.ensures.keys c.in_ok-see_to_all.ensures.ok;
     }

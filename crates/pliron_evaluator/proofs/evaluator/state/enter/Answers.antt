@@ -9,8 +9,8 @@ use Rattle.pliron_evaluator.proofs.evaluator.state.enter.Goals as goal
 pub returns-then-not-branch : goal.returns-then-not-branch
 returns-then-not-branch c =
     let t = c.args.ctx.now.tree in
-    let env = environment_of c.args.state.environment.items in
-    let after = environment_of c.bind.new.environment.items in
+    let env = environment_of c.args.state.environment in
+    let after = environment_of c.bind.new.environment in
     let stands = c.requires c.in-Some.block c.in-Some.is in
     let arguments = c.as_slice.ensures.value ∙ c.in_ok-arguments.ensures in
     let bound = not_bound env after c.as_slice.result.now (arguments_of t c.in-Some.block) c.as_slice-2.result.now c.args.values.items c.in_ok-bind.field-0 arguments c.as_slice-2.ensures.value c.if-not-branch.true c.in_ok-bind.ensures in
@@ -19,9 +19,9 @@ returns-then-not-branch c =
 pub returns : goal.returns
 returns c =
     let t = c.args.ctx.now.tree in
-    let env = environment_of c.args.state.environment.items in
-    let after = environment_of c.bind.new.environment.items in
+    let env = environment_of c.args.state.environment in
+    let after = environment_of c.bind.new.environment in
     let stands = c.requires c.in-Some.block c.in-Some.is in
     let arguments = c.as_slice.ensures.value ∙ c.in_ok-arguments.ensures in
     let bound = all_bound env after c.as_slice.result.now (arguments_of t c.in-Some.block) c.as_slice-2.result.now c.args.values.items c.in_ok-bind.field-0 arguments c.as_slice-2.ensures.value c.if-not-branch.false c.in_ok-bind.ensures in
-    ap Goes c.at_rest.ensures ∙ sym (enter_goes t (state_of c.args.state) (map datum_of_value c.args.values.items) c.args.block c.in-Some.block after c.in_ok-state.field-0.items c.in-Some.is stands bound c.in_ok-state.ensures)
+    ap Goes c.at_rest.ensures ∙ sym (enter_goes t (state_of c.args.state) (map datum_of_value c.args.values.items) c.args.block c.in-Some.block after c.from.result.items c.in-Some.is stands bound (c.from.ensures.0 ∙ c.in_ok-all_operations.ensures))

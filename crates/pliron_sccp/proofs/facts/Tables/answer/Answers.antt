@@ -3,8 +3,8 @@ use Rattle.std.proofs.lemmas.Grind.{common_steps}
 use Rattle.std.specs.List.{position}
 use Rattle.std.proofs.lemmas.List.{length-set}
 use Rattle.pliron_theory.specs.Facts.{Constant, NotAConstant}
-use Rattle.pliron_sccp.specs.declared.cells.Cell.{Cell}
-use Rattle.pliron_sccp.specs.declared.cells.Cell.TheVariants.{Undetermined as Unknown, Constant as Known, NotAConstant as Varying}
+use Rattle.pliron_sccp.specs.declared.facts.Cell.{Cell}
+use Rattle.pliron_sccp.specs.declared.facts.Cell.TheVariants.{Undetermined as Unknown, Constant as Known, NotAConstant as Varying}
 use Rattle.pliron_sccp.specs.Cells.{cell_at, constant_or, said, KeepsConstants}
 use Rattle.pliron_sccp.specs.Tables.{fact_in}
 use Rattle.pliron_sccp.proofs.Worklists.{get_at, length_one}

@@ -2,7 +2,7 @@ use Rattle.std.proofs.Common.{◌≡◌, ◌<◌, ◌≤◌, nat_eq, Some, lengt
 use Rattle.std.proofs.lemmas.Grind.{common_steps}
 use Rattle.std.specs.List.{list_any, position}
 use Rattle.std.proofs.lemmas.List.{length-set}
-use Rattle.pliron_sccp.specs.declared.cells.Mark.TheVariants.{Unreached, Waiting}
+use Rattle.pliron_sccp.specs.declared.facts.Mark.TheVariants.{Unreached, Waiting}
 use Rattle.pliron_sccp.specs.Cells.{AreOnce, is_waiting}
 use Rattle.pliron_sccp.proofs.Worklists.{within, room_left, pushed_waits, once_added}
 use Rattle.pliron_sccp.proofs.Marked.{reached_entered, waits_entered}

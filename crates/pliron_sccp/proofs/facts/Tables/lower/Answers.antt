@@ -2,7 +2,7 @@ use Rattle.std.proofs.Common.{◌≡◌, ◌<◌, nat_eq, Some, length, refl, sy
 use Rattle.std.proofs.lemmas.Grind.{common_steps}
 use Rattle.std.specs.List.{position}
 use Rattle.std.proofs.lemmas.List.{length-set}
-use Rattle.pliron_sccp.specs.declared.cells.Cell.TheVariants.{NotAConstant as Varying}
+use Rattle.pliron_sccp.specs.declared.facts.Cell.TheVariants.{NotAConstant as Varying}
 use Rattle.pliron_sccp.specs.Cells.{cell_at, said, Means}
 use Rattle.pliron_sccp.specs.Tables.{fact_in, FallsTo}
 use Rattle.pliron_sccp.proofs.Worklists.{get_at}

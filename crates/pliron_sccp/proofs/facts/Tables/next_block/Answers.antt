@@ -2,7 +2,7 @@ use Rattle.std.proofs.Common.{◌≡◌, ◌<◌, ◌≤◌, ◌∷◌, ◌++◌
 use Rattle.std.proofs.lemmas.Grind.{common_steps}
 use Rattle.std.specs.List.{list_any, position}
 use Rattle.std.proofs.lemmas.List.{length-set}
-use Rattle.pliron_sccp.specs.declared.cells.Mark.TheVariants.{Unreached, Visited}
+use Rattle.pliron_sccp.specs.declared.facts.Mark.TheVariants.{Unreached, Visited}
 use Rattle.pliron_sccp.specs.Cells.{AreOnce, is_waiting, mark_at}
 use Rattle.pliron_sccp.proofs.Worklists.{within, last_in, get_at, popped_waits, once_popped}
 use Rattle.pliron_sccp.proofs.Marked.{waits_taken, reached_taken, waits_reached}

@@ -1,8 +1,8 @@
 use Rattle.std.proofs.Common.{◌≡◌, [], nat_eq, replicate, length, refl, sym, ap, ◌∙◌, subst, false, arith}
 use Rattle.std.proofs.lemmas.Grind.{common_steps}
 use Rattle.std.specs.List.{list_any, position}
-use Rattle.pliron_sccp.specs.declared.cells.Mark.TheVariants.{Unreached}
-use Rattle.pliron_sccp.specs.declared.cells.Cell.TheVariants.{Undetermined as Unknown}
+use Rattle.pliron_sccp.specs.declared.facts.Mark.TheVariants.{Unreached}
+use Rattle.pliron_sccp.specs.declared.facts.Cell.TheVariants.{Undetermined as Unknown}
 use Rattle.pliron_sccp.specs.Cells.{AreOnce, was_reached, is_waiting}
 use Rattle.pliron_sccp.proofs.Worklists.{once_from}
 use Rattle.pliron_sccp.proofs.Fresh.{numbered_at, fresh_at, fresh_read, fresh_fact, count_most, none_known}

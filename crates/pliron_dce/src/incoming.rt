@@ -1,0 +1,128 @@
+//! The edges to each block, those first that forward most.
+//!
+//! An edge forwards operands to the first arguments of its block, as many as it has. So those that reach an
+//! argument stand in front, and an argument that goes asks them and the first one behind them alone.
+//!
+//! When it goes, each of them forwards one operand less, and still no less than those behind. So a list is made
+//! once, when the first argument of its block goes, and is right until the block goes.
+ghost use Rattle.std.specs.Prelude.{◌≡◌, ℕ, None, Some, IfOk, OnOk, IsSome, IsOkUnless, IsPermutation};
+ghost use Rattle.pliron_core.specs.Tree.{IsBlock, HoldsBlock, uses_of};
+ghost use Rattle.pliron_laws.specs.Linked.{IsWellLinked};
+ghost use Rattle.pliron_dce.specs.Incoming.{edges_of, list_of, AreCounted, AreIncoming, AreKnown, BranchesLead, AreFalling};
+
+use indexmap::IndexMap;
+use pliron_core::{BasicBlock, Context, Operation, Ptr};
+use pliron_laws::{Dialect, OptError};
+use std::alloc::{AllocError, Global};
+
+// An edge of a branch.
+#[derive(Clone, Copy)]
+pub(crate) struct IncomingEdge {
+    pub(crate) branch: Ptr<Operation>,
+    pub(crate) place: usize,
+    // how many operands it forwarded when the list was made
+    count: usize,
+}
+
+// The edges to each block that lost an argument.
+#[derive(Drop)]
+pub(crate) struct Incoming {
+    lists: IndexMap<Ptr<BasicBlock>, Vec<IncomingEdge>>,
+}
+
+// The edges to the block, in the order of its uses.
+fn count_edges<D: Dialect>(
+    alloc: Global,
+    block: Ptr<BasicBlock>,
+    ctx: &Context,
+) -> Result<Vec<IncomingEdge>, OptError>
+    requires block { IsBlock ctx.now.tree block }
+    requires branches { BranchesLead D.meaning ctx.now.tree block }
+    ensures edges { IfOk result (λ edges. edges_of edges.items ≡ uses_of ctx.now.block_uses block) }
+    ensures counted { IfOk result (λ edges. AreCounted D.meaning ctx.now.tree edges.items) }
+    ensures memory { IsOkUnless result OptError.Memory }
+{
+    ctx.well_formed();
+    let mut edges = Vec::new(alloc);
+    for i in 0..block.num_use(ctx) {
+        let (branch, place) = block.get_use(ctx, i);
+        let count = D::successor_operands(alloc, branch, ctx, place)?.len();
+        edges.push(IncomingEdge {
+            branch,
+            place,
+            count,
+        })?;
+    }
+    Ok(edges)
+}
+
+// Those that forward most come first.
+fn put_widest_first(edges: &mut Vec<IncomingEdge>) -> Result<(), AllocError>
+    ensures kept { IsPermutation edges.old.items edges.new.items }
+    ensures falling { OnOk result (AreFalling edges.new.items) }
+{
+    edges.sort_by_key(|edge| usize::MAX - edge.count)?;
+    Ok(())
+}
+
+// The edges to the block, those first that forward most.
+fn make_list<D: Dialect>(
+    alloc: Global,
+    block: Ptr<BasicBlock>,
+    ctx: &Context,
+) -> Result<Vec<IncomingEdge>, OptError>
+    requires block { IsBlock ctx.now.tree block }
+    requires branches { BranchesLead D.meaning ctx.now.tree block }
+    ensures edges { IfOk result (λ edges. AreIncoming D.meaning ctx.now.tree block (edges_of edges.items)) }
+    ensures memory { IsOkUnless result OptError.Memory }
+{
+    ctx.well_formed();
+    let mut edges = count_edges::<D>(alloc, block, ctx)?;
+    put_widest_first(&mut edges)?;
+    Ok(edges)
+}
+
+impl Incoming {
+    // No block has a list.
+    pub(crate) fn new(alloc: Global) -> Incoming
+        ensures { (block : ℕ) → list_of result block ≡ None }
+    {
+        Incoming {
+            lists: IndexMap::new(alloc),
+        }
+    }
+
+    // Makes the list of the block, unless there is one.
+    pub(crate) fn add<D: Dialect>(
+        &mut self,
+        alloc: Global,
+        block: Ptr<BasicBlock>,
+        root: Ptr<Operation>,
+        ctx: &Context,
+    ) -> Result<(), OptError>
+        requires block { IsBlock ctx.now.tree block }
+        requires branches { BranchesLead D.meaning ctx.now.tree block }
+        requires known { AreKnown D.meaning ctx.now.tree root (λ b. list_of self.old b) }
+        ensures known { OnOk result (AreKnown D.meaning ctx.now.tree root (λ b. list_of self.new b)) }
+        ensures there { OnOk result (IsSome (list_of self.new block)) }
+        ensures memory { IsOkUnless result OptError.Memory }
+    {
+        if self.lists.contains_key(&block) {
+            return Ok(());
+        }
+        let list = make_list::<D>(alloc, block, ctx)?;
+        self.lists.insert(block, list)?;
+        Ok(())
+    }
+
+    // The list of the block.
+    pub(crate) fn edges_to(&self, block: Ptr<BasicBlock>) -> &[IncomingEdge]
+        requires { IsSome (list_of self.now block) }
+        ensures { list_of self.now block ≡ Some result.now }
+    {
+        match self.lists.get(&block) {
+            Some(list) => list,
+            None => unreachable!(),
+        }
+    }
+}

@@ -1,0 +1,16 @@
+//! Texts whose edges to one block forward different numbers of values, some none and some too many, with what
+//! is left of each, as in `cases`. What is left was worked out by hand.
+
+pub static SHORT: &str = "\
+C func { b0(): ret; b1(v0, v1, v2): ret v1; b2(): br b1(); b3(): br b1() } => func { b0(): ret; b1(v0): ret v0; b2(): br b1(); b3(): br b1() }
+C func { b0(): v0 = read; v1 = read; v2 = read; br b1(v0); b1(v3, v4, v5): ret v4; b2(): br b1(v0, v1, v2); b3(): br b1(); b4(): br b1(v1, v2) } \
+    => func { b0(): v0 = read; v1 = read; v2 = read; br b1(); b1(v3): ret v3; b2(): br b1(v1); b3(): br b1(); b4(): br b1(v2) }
+C func { b0(v0): br b1(v0, v0, v0); b1(v1, v2, v3): cbr v0 b1(v0, v1, v2) b2(); b2(): ret; b3(): br b1(); b4(): br b1(v0) } \
+    => func { b0(v0): br b1(); b1(): cbr v0 b1() b2(); b2(): ret; b3(): br b1(); b4(): br b1() }
+C func { b0(v0): v1 = read; v2 = read; cbr v0 b1(v1) b1(v1, v2, v0); b1(v3, v4): print v4; ret } \
+    => func { b0(v0): v1 = read; v2 = read; cbr v0 b1() b1(v2, v0); b1(v3): print v3; ret }
+C func { b0(v0): br b1(v0, v0); b1(v1, v2): v3 = add v1 v1; ret; b2(): br b1(); b3(): br b1(v0) } \
+    => func { b0(v0): br b1(); b1(): ret; b2(): br b1(); b3(): br b1() }
+C func { b0(v0): br b1(v0, v0); b1(v1, v2): cbr v2 b2(v1) b2(v1, v2); b2(v3, v4): print v4; br b1(); b3(): br b2(); b4(): br b1(v0, v0, v0) } \
+    => func { b0(v0): br b1(v0); b1(v1): cbr v1 b2() b2(v1); b2(v2): print v2; br b1(); b3(): br b2(); b4(): br b1(v0, v0) }
+";

@@ -1,0 +1,15 @@
+//! Tests of what the commands of the program for people do. It has no function of its own.
+#![tactic(auto)]
+
+#[cfg(test)]
+mod broken;
+#[cfg(test)]
+mod compared;
+#[cfg(test)]
+mod lines;
+#[cfg(test)]
+mod optimised;
+#[cfg(test)]
+mod reports;
+#[cfg(test)]
+mod words;

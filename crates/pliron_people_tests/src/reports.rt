@@ -1,0 +1,121 @@
+//! What `plir opt` tells beside its answer, worked by hand. `|` stands for the end of a line.
+use crate::lines::in_one_line;
+use crate::optimised::{plain, watched, with_watch};
+use pliron_people::{OptWish, Outcome, Progress, Source, Wish, opt};
+use std::alloc::Global;
+use std::io;
+use std::process::Abort;
+use std::time::{Clock, Duration};
+
+/// A clock that can't be read.
+#[derive(Clone, Copy, Drop)]
+struct Broken;
+
+impl Clock for Broken {
+    fn monotonic(&self) -> io::Result<Duration> {
+        Err(io::Error::from(io::ErrorKind::Other))
+    }
+
+    fn since_1970(&self) -> io::Result<Duration> {
+        Err(io::Error::from(io::ErrorKind::Other))
+    }
+}
+
+impl Progress for Broken {
+    fn pass_ended(&self, _: usize, _: &str) {}
+}
+
+/// What is told of the passes on the text.
+fn report_on(rt: &impl Abort, alloc: Global, text: &str, wish: &OptWish) -> Outcome {
+    let source = Source {
+        name: "in.plir",
+        text: text.as_bytes(),
+    };
+    opt(alloc, &source, wish, Broken).expect(rt, "memory")
+}
+
+fn expect_report(rt: &impl Abort, alloc: Global, text: &str, wish: &OptWish, wanted: &str) {
+    let outcome = report_on(rt, alloc, text, wish);
+    let found = in_one_line(alloc, outcome.report.as_bytes()).expect(rt, "memory");
+    assert!(rt; found.as_str() == wanted, "{text} => {found}");
+}
+
+/// Two functions, of which the first has a sum of constants that nothing uses.
+static TWO: &str =
+    "mod { b0(): func { b0(): a = const 2; b = mul a a; ret a }; func { b0(x): br b1(x); b1(y): ret y } }";
+
+/// The trees after `dce` of the list.
+static TREES: &str = "\
+--- run 2, after dce: changed|func { b0(): v0 = const 2; ret v0 }|\
+--- run 4, after dce: unchanged|func { b0(v0): br b1(v0); b1(v1): ret v1 }|";
+
+#[test]
+fn trees_after_a_pass(rt: HostRuntime) {
+    let watch = Wish {
+        counts: false,
+        verifies: false,
+        prints_all: false,
+        prints: &["dce"],
+    };
+    let wish = with_watch("nested(sccp,dce)", watch);
+    expect_report(&rt, rt.alloc(), TWO, &wish, TREES);
+}
+
+/// Counts over both functions, with 4 and 3 operations, 3 blocks, 2 arguments and one edge: propagation makes a constant
+/// beside the product, and then both are dead.
+static COUNTS: &str = "\
+round  pass           runs changed         operations             blocks          arguments              edges\
+|    1  sccp              2       1             7 -> 8             3 -> 3             2 -> 2             1 -> 1\
+|    1  dce               2       1             8 -> 6             3 -> 3             2 -> 2             1 -> 1|";
+
+#[test]
+fn counts_over_functions(rt: HostRuntime) {
+    let mut wish = plain("nested(sccp,dce)");
+    wish.watch.counts = true;
+    expect_report(&rt, rt.alloc(), TWO, &wish, COUNTS);
+}
+
+/// Rounds until nothing changes.
+static ROUNDS: &str = "\
+round  pass           runs changed         operations             blocks          arguments              edges\
+|    1  dce               1       1             4 -> 2             1 -> 1             0 -> 0             0 -> 0\
+|    2  dce               1       0             2 -> 2             1 -> 1             0 -> 0             0 -> 0|";
+
+#[test]
+fn rounds_of_a_repetition(rt: HostRuntime) {
+    let mut wish = plain("repeat<5>(dce)");
+    wish.watch.counts = true;
+    let text = "func { b0(): a = const 2; b = mul a a; ret }";
+    expect_report(&rt, rt.alloc(), text, &wish, ROUNDS);
+}
+
+#[test]
+fn verifying_and_times(rt: HostRuntime) {
+    let alloc = rt.alloc();
+    let mut wish = plain("sccp,dce");
+    wish.watch.verifies = true;
+    let wanted = "verified after each of 2 runs of passes: 2 without a fault|";
+    expect_report(&rt, alloc, "func { b0(): ret }", &wish, wanted);
+    let mut wish = plain("dce,simplify-cfg");
+    wish.times = true;
+    let wanted =
+        "pass             runs milliseconds  percent|dce                 1        0.000    0.0|simplify-cfg        1        0.000    0.0|all                 2        0.000    0.0|";
+    expect_report(&rt, alloc, "func { b0(): ret }", &wish, wanted);
+}
+
+/// What is told where a pass is refused.
+static REFUSED: &str = "\
+error: refused: a value of an unreachable block is used|note: it was the pass simplify-cfg|";
+
+#[test]
+fn refusals_name_the_pass(rt: HostRuntime) {
+    let alloc = rt.alloc();
+    let text =
+        "func { b0(): c = const 0; cbr c b1() b2(); b1(): v = const 1; br b2(); b2(): print v; ret }";
+    let outcome = report_on(&rt, alloc, text, &plain("dce,simplify-cfg"));
+    let found = in_one_line(alloc, outcome.report.as_bytes()).expect(&rt, "memory");
+    assert!(rt; found.as_str() == REFUSED, "{found}");
+    assert!(rt; outcome.status == 1 && outcome.output.is_empty());
+    let watched = report_on(&rt, alloc, text, &watched("dce,simplify-cfg"));
+    assert!(rt; watched.status == 1 && watched.report.as_str().contains("--- run 1, after dce"));
+}

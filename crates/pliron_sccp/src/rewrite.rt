@@ -1,0 +1,322 @@
+//! What facts say is to be rewritten, the operations that fold and the constant arguments; and the tree
+//! rewritten by it.
+ghost use Rattle.std.specs.Prelude.{◌≡◌, ◌≤◌, ◌<◌, ℕ, List, Some, IsSome, IfOk, OnErr, OnOk, length, map, slice_get, IsOkUnless};
+ghost use Rattle.pliron_core.specs.Tree.{Tree, IsLive, IsBlock};
+ghost use Rattle.pliron_core.specs.Changes.{IsSameTree};
+ghost use Rattle.pliron_laws.specs.InPlace.{TellsChange};
+ghost use Rattle.pliron_laws.specs.Linked.{IsWellLinked};
+ghost use Rattle.pliron_theory.specs.Facts.{Facts};
+ghost use Rattle.pliron_theory.specs.Following.{Follows};
+ghost use Rattle.pliron_theory.specs.Rewrites.{ReplacesArgument};
+ghost use Rattle.pliron_sccp.specs.Tables.{facts_of};
+ghost use Rattle.pliron_sccp.specs.Listed.{IsFoldOf, AddsFold, AreFolds, AddsKnown, AreArguments};
+ghost use Rattle.pliron_sccp.specs.Steps.{IsFoldStep, AreFoldSteps, TellsCreated, IsArgumentStep, AreArgumentSteps, StandForEach, IsFound};
+ghost use Rattle.pliron_sccp.specs.Chain.{FoldsInTurn, FoldsPartly, KnownArgument, all_put, IsPartlyPut, IsRewritten, IsPartlyRewritten, known_arguments};
+ghost use Rattle.pliron_sccp.specs.Found.{HasFound};
+
+use crate::demands::{known, known_operands};
+use crate::facts::Tables;
+use crate::inside::all_blocks;
+use crate::search::search;
+use pliron_core::{AttrObj, BasicBlock, Context, IRStatus, Operation, Ptr, Rewriter};
+use pliron_laws::{ConstFoldInterface, Dialect, OptError, Room};
+use pliron_theory::HasFolding;
+use pliron_theory::rewrites::replace_argument_by_constant;
+use std::alloc::Global;
+
+/// An operation that folds, with the constants that are known of its operands.
+#[derive(Drop)]
+pub struct Fold {
+    pub(crate) op: Ptr<Operation>,
+    pub(crate) known: Vec<Option<AttrObj>>,
+}
+
+/// An argument of a block that is a constant.
+#[derive(Drop)]
+pub struct ConstantArgument {
+    pub(crate) block: Ptr<BasicBlock>,
+    pub(crate) index: usize,
+    pub(crate) attr: AttrObj,
+}
+
+/// What was found of a tree: the operations that fold and the constant arguments, both where runs may
+/// come, in pre-order.
+#[derive(Drop)]
+pub struct Found {
+    pub(crate) folds: Vec<Fold>,
+    pub(crate) arguments: Vec<ConstantArgument>,
+}
+
+/// The fold of the operation by what is known of its operands, if it folds and its block is reached.
+fn fold_of<D: Dialect>(
+    alloc: Global,
+    op: Ptr<Operation>,
+    ctx: &Context,
+    tables: &Tables,
+) -> Result<Option<Fold>, OptError>
+    requires { IsLive ctx.now.tree op }
+    ensures ok { IfOk result (λ fold. IsFoldOf ⟦<D as HasFolding>⟧.folding ctx.now.tree (facts_of tables.now) op fold) }
+    ensures memory { IsOkUnless result OptError.Memory }
+{
+    ctx.well_formed();
+    let Some(block) = op.get_parent_block(ctx) else {
+        return Ok(None);
+    };
+    if !tables.reaches(block) {
+        return Ok(None);
+    }
+    if !D::folds(op, ctx) {
+        return Ok(None);
+    }
+    let known = known_operands(alloc, op, ctx, tables)?;
+    Ok(Some(Fold { op, known }))
+}
+
+/// Adds the fold of the operation, if it has one.
+fn add_fold<D: Dialect>(
+    alloc: Global,
+    op: Ptr<Operation>,
+    ctx: &Context,
+    tables: &Tables,
+    folds: &mut Vec<Fold>,
+) -> Result<(), OptError>
+    requires { IsLive ctx.now.tree op }
+    ensures ok { OnOk result (AddsFold ⟦<D as HasFolding>⟧.folding ctx.now.tree (facts_of tables.now) op folds.old.items folds.new.items) }
+    ensures memory { IsOkUnless result OptError.Memory }
+{
+    match fold_of::<D>(alloc, op, ctx, tables)? {
+        Some(fold) => folds.push(fold)?,
+        None => {}
+    }
+    Ok(())
+}
+
+/// The folds of the operations inside the root, in pre-order.
+fn all_folds<D: Dialect>(
+    alloc: Global,
+    root: Ptr<Operation>,
+    ctx: &Context,
+    tables: &Tables,
+) -> Result<Vec<Fold>, OptError>
+    requires { IsLive ctx.now.tree root }
+    ensures ok { IfOk result (λ folds. AreFolds ⟦<D as HasFolding>⟧.folding ctx.now.tree root (facts_of tables.now) folds.items) }
+    ensures memory { IsOkUnless result OptError.Memory }
+{
+    ctx.well_formed();
+    let mut folds = Vec::new(alloc);
+    let mut at = root.next_in_preorder(root, ctx);
+    while let Some(op) = at {
+        add_fold::<D>(alloc, op, ctx, tables, &mut folds)?;
+        at = op.next_in_preorder(root, ctx);
+    }
+    Ok(folds)
+}
+
+/// Adds the constant arguments of a block that is reached, in the order of their indices.
+fn add_arguments(
+    alloc: Global,
+    block: Ptr<BasicBlock>,
+    ctx: &Context,
+    tables: &Tables,
+    arguments: &mut Vec<ConstantArgument>,
+) -> Result<(), OptError>
+    requires { IsBlock ctx.now.tree block }
+    ensures ok { OnOk result (AddsKnown ctx.now.tree (facts_of tables.now) block arguments.old.items arguments.new.items) }
+    ensures memory { IsOkUnless result OptError.Memory }
+{
+    if !tables.reaches(block) {
+        return Ok(());
+    }
+    for index in 0..block.num_argument(ctx) {
+        match known(alloc, block.get_argument(ctx, index), tables)? {
+            Some(attr) => arguments.push(ConstantArgument { block, index, attr })?,
+            None => {}
+        }
+    }
+    Ok(())
+}
+
+/// The constant arguments of the blocks inside the root that are reached, in pre-order.
+fn all_arguments(
+    alloc: Global,
+    root: Ptr<Operation>,
+    ctx: &Context,
+    tables: &Tables,
+) -> Result<Vec<ConstantArgument>, OptError>
+    requires { IsLive ctx.now.tree root }
+    ensures ok { IfOk result (λ arguments. AreArguments ctx.now.tree (facts_of tables.now) arguments.items (known_arguments ctx.now.tree root
+        (facts_of tables.now))) }
+    ensures memory { IsOkUnless result OptError.Memory }
+{
+    ctx.well_formed();
+    let blocks = all_blocks(alloc, root, ctx)?;
+    let mut arguments = Vec::new(alloc);
+    for i in 0..blocks.len() {
+        add_arguments(alloc, blocks[i], ctx, tables, &mut arguments)?;
+    }
+    Ok(arguments)
+}
+
+/// Finds facts about what is inside the root, and what they say is to be rewritten. Answers also how
+/// often the search took something from a worklist.
+///
+/// Errors: want of memory.
+pub(crate) fn find<D: Dialect>(
+    alloc: Global,
+    root: Ptr<Operation>,
+    ctx: &Context,
+) -> Result<(Found, u128), OptError>
+    requires live { IsLive ctx.now.tree root }
+    requires linked { IsWellLinked D.meaning ctx.now.tree root }
+    ensures ok { IfOk result (λ r. HasFound ⟦<D as HasFolding>⟧.folding D.can_fold ctx.now.tree root r.0 r.1) }
+    ensures memory { IsOkUnless result OptError.Memory }
+{
+    let searched = search::<D>(alloc, root, ctx)?;
+    let folds = all_folds::<D>(alloc, root, ctx, &searched.tables)?;
+    let arguments = all_arguments(alloc, root, ctx, &searched.tables)?;
+    Ok((Found { folds, arguments }, searched.pops))
+}
+
+/// Folds one operation in place by facts about the first tree.
+///
+/// Asks that the tree came from the first one by such steps, so that the facts still hold of the operation.
+/// Errors: want of memory, which leaves the tree as it was but for spent keys. Cost: that of the
+/// dialect's `fold_in_place`.
+pub fn fold_one<D: Dialect, R: Rewriter + Room>(
+    alloc: Global,
+    fold: &Fold,
+    ctx: &mut Context,
+    rewriter: &mut R,
+) -> Result<IRStatus, OptError>
+    requires step { (t₀ : Tree) × (root : ℕ) × (f₀ : Facts) × IsFoldStep ⟦<D as HasFolding>⟧.folding t₀ root f₀ ctx.old.tree fold.now.op fold.now.known.items }
+    ensures ok { IfOk result (λ status. D.ConstFoldInterface.outcome ctx.old.tree ctx.new.tree fold.now.op fold.now.known.items (Some status)) }
+    ensures refused { OnErr result (IsSameTree ctx.old.tree ctx.new.tree) }
+    ensures told { IfOk result (λ status. TellsCreated status ctx.old.tree ctx.new.tree) }
+    ensures stays { (k : ℕ) → IsLive ctx.old.tree k → IsLive ctx.new.tree k }
+    ensures memory { IsOkUnless result OptError.Memory }
+    ensures follows { (t₀ : Tree) (root : ℕ) (f₀ : Facts) → IsFoldStep ⟦<D as HasFolding>⟧.folding t₀ root f₀ ctx.old.tree fold.now.op
+        fold.now.known.items → Follows ⟦<D as HasFolding>⟧.folding t₀ root f₀ ctx.new.tree }
+{
+    ctx.well_formed();
+    rewriter.set_insertion_point_before_operation(fold.op);
+    let done = <D as ConstFoldInterface>::fold_in_place(alloc, fold.op, ctx, &fold.known, rewriter);
+    ctx.well_formed();
+    done
+}
+
+/// Folds these operations in place, one after the other.
+///
+/// Asks that the tree came from the first one by such steps, so that the facts still hold of the operations.
+/// Errors: want of memory, after some of the folds, each of them whole. Cost: that of the dialect's `fold_in_place` for each.
+pub fn fold_all<D: Dialect, R: Rewriter + Room>(
+    alloc: Global,
+    folds: &[Fold],
+    ctx: &mut Context,
+    rewriter: &mut R,
+) -> Result<IRStatus, OptError>
+    requires steps { (t₀ : Tree) × (root : ℕ) × (f₀ : Facts) × AreFoldSteps ⟦<D as HasFolding>⟧.folding t₀ root f₀ ctx.old.tree folds.now }
+    ensures folded { OnOk result ((t₀ : Tree) (root : ℕ) (f₀ : Facts) → AreFoldSteps ⟦<D as HasFolding>⟧.folding t₀ root f₀ ctx.old.tree folds.now →
+        FoldsInTurn D.ConstFoldInterface.outcome t₀ f₀ (map (λ fold. fold.op) folds.now) ctx.old.tree ctx.new.tree) }
+    ensures refused { OnErr result ((t₀ : Tree) (root : ℕ) (f₀ : Facts) → AreFoldSteps ⟦<D as HasFolding>⟧.folding t₀ root f₀ ctx.old.tree folds.now →
+        FoldsPartly D.ConstFoldInterface.outcome t₀ f₀ (map (λ fold. fold.op) folds.now) ctx.old.tree ctx.new.tree) }
+    ensures told { IfOk result (λ status. TellsCreated status ctx.old.tree ctx.new.tree) }
+    ensures stays { (k : ℕ) → IsLive ctx.old.tree k → IsLive ctx.new.tree k }
+    ensures memory { IsOkUnless result OptError.Memory }
+    ensures follows { (t₀ : Tree) (root : ℕ) (f₀ : Facts) → AreFoldSteps ⟦<D as HasFolding>⟧.folding t₀ root f₀ ctx.old.tree folds.now →
+        Follows ⟦<D as HasFolding>⟧.folding t₀ root f₀ ctx.new.tree }
+{
+    let mut status = IRStatus::Unchanged;
+    for i in 0..folds.len() {
+        status |= fold_one::<D, R>(alloc, &folds[i], ctx, rewriter)?;
+    }
+    Ok(status)
+}
+
+/// Puts a constant first in its block for an argument, by facts about the first tree.
+///
+/// Asks that the tree came from the first one by such steps, so that the facts still hold of the argument.
+/// Errors: want of memory, which leaves the tree as it was but for spent keys. Cost: that of
+/// `replace_argument_by_constant`.
+pub fn put_argument<D: Dialect, R: Rewriter + Room>(
+    alloc: Global,
+    argument: &ConstantArgument,
+    ctx: &mut Context,
+    rewriter: &mut R,
+) -> Result<IRStatus, OptError>
+    requires step { (t₀ : Tree) × (root : ℕ) × (f₀ : Facts) × IsArgumentStep ⟦<D as HasFolding>⟧.folding t₀ root f₀ ctx.old.tree argument.now }
+    ensures ok { IfOk result (λ status. ReplacesArgument D.accepts D.constant_head argument.now.attr argument.now.block argument.now.index
+        ctx.old.tree ctx.new.tree status) }
+    ensures refused { OnErr result (IsSameTree ctx.old.tree ctx.new.tree) }
+    ensures told { IfOk result (λ status. TellsCreated status ctx.old.tree ctx.new.tree) }
+    ensures stays { (k : ℕ) → IsLive ctx.old.tree k → IsLive ctx.new.tree k }
+    ensures memory { IsOkUnless result OptError.Memory }
+    ensures follows { (t₀ : Tree) (root : ℕ) (f₀ : Facts) → IsArgumentStep ⟦<D as HasFolding>⟧.folding t₀ root f₀ ctx.old.tree argument.now →
+        Follows ⟦<D as HasFolding>⟧.folding t₀ root f₀ ctx.new.tree }
+{
+    let done = replace_argument_by_constant::<D, R>(
+        alloc,
+        argument.block,
+        argument.index,
+        &argument.attr,
+        ctx,
+        rewriter,
+    );
+    ctx.well_formed();
+    done
+}
+
+/// Puts constants for these arguments, one after the other.
+///
+/// Asks that the tree came from the first one by such steps, so that the facts still hold of the arguments.
+/// Errors: want of memory, after some of them. Cost: that of `replace_argument_by_constant` for each.
+pub fn put_all<D: Dialect, R: Rewriter + Room>(
+    alloc: Global,
+    arguments: &[ConstantArgument],
+    ctx: &mut Context,
+    rewriter: &mut R,
+) -> Result<IRStatus, OptError>
+    requires steps { (t₀ : Tree) × (root : ℕ) × (f₀ : Facts) × AreArgumentSteps ⟦<D as HasFolding>⟧.folding t₀ root f₀ ctx.old.tree arguments.now }
+    ensures puts { OnOk result ((t₀ : Tree) (root : ℕ) (f₀ : Facts) → AreArgumentSteps ⟦<D as HasFolding>⟧.folding t₀ root f₀ ctx.old.tree
+        arguments.now → (known : List KnownArgument) → StandForEach t₀ arguments.now known → ctx.new.tree ≡
+        all_put D.accepts D.constant_head known ctx.old.tree) }
+    ensures refused { OnErr result ((t₀ : Tree) (root : ℕ) (f₀ : Facts) →
+        AreArgumentSteps ⟦<D as HasFolding>⟧.folding t₀ root f₀ ctx.old.tree arguments.now → (known : List KnownArgument) →
+        StandForEach t₀ arguments.now known → IsPartlyPut D.accepts D.constant_head known ctx.old.tree ctx.new.tree) }
+    ensures told { IfOk result (λ status. TellsCreated status ctx.old.tree ctx.new.tree) }
+    ensures stays { (k : ℕ) → IsLive ctx.old.tree k → IsLive ctx.new.tree k }
+    ensures memory { IsOkUnless result OptError.Memory }
+    ensures follows { (t₀ : Tree) (root : ℕ) (f₀ : Facts) → AreArgumentSteps ⟦<D as HasFolding>⟧.folding t₀ root f₀ ctx.old.tree arguments.now →
+        Follows ⟦<D as HasFolding>⟧.folding t₀ root f₀ ctx.new.tree }
+{
+    let mut status = IRStatus::Unchanged;
+    for i in 0..arguments.len() {
+        status |= put_argument::<D, R>(alloc, &arguments[i], ctx, rewriter)?;
+    }
+    Ok(status)
+}
+
+/// Rewrites a tree by what was found of it: first the folds, then the arguments.
+///
+/// Asks that what was found is of this tree. Errors: want of memory, after some whole rewrites. Cost: that of
+/// `fold_in_place` for each fold, and of `replace_argument_by_constant` for each argument.
+pub fn rewrite<D: Dialect, R: Rewriter + Room>(
+    alloc: Global,
+    found: &Found,
+    ctx: &mut Context,
+    rewriter: &mut R,
+) -> Result<IRStatus, OptError>
+    requires found { (root : ℕ) × (f : Facts) × IsFound ⟦<D as HasFolding>⟧.folding D.can_fold ctx.old.tree root f found.now }
+    ensures rewritten { OnOk result ((root : ℕ) (f : Facts) → IsFound ⟦<D as HasFolding>⟧.folding D.can_fold ctx.old.tree root f found.now →
+        IsRewritten D.can_fold D.accepts D.constant_head D.ConstFoldInterface.outcome ctx.old.tree root f ctx.new.tree) }
+    ensures refused { OnErr result ((root : ℕ) (f : Facts) → IsFound ⟦<D as HasFolding>⟧.folding D.can_fold ctx.old.tree root f found.now →
+        IsPartlyRewritten D.can_fold D.accepts D.constant_head D.ConstFoldInterface.outcome ctx.old.tree root f ctx.new.tree) }
+    ensures told { IfOk result (λ status. TellsChange (Some status) ctx.old.tree ctx.new.tree) }
+    ensures memory { IsOkUnless result OptError.Memory }
+    ensures follows { (root : ℕ) (f : Facts) → IsFound ⟦<D as HasFolding>⟧.folding D.can_fold ctx.old.tree root f found.now →
+        Follows ⟦<D as HasFolding>⟧.folding ctx.old.tree root f ctx.new.tree }
+{
+    ctx.well_formed();
+    let mut status = fold_all::<D, R>(alloc, &found.folds, ctx, rewriter)?;
+    status |= put_all::<D, R>(alloc, &found.arguments, ctx, rewriter)?;
+    Ok(status)
+}

@@ -1,0 +1,2 @@
+pub mod PipelineWords
+pub mod Schedules
