@@ -206,7 +206,20 @@ class Search:
         return [(self.enter, block)] + [(self.lower, name, VARYING) for name in block.args]
 
     def entries(self, op):
+        """Of the root: nothing is known of the arguments."""
         return [asked for blocks in op.regions if blocks for asked in self.entered(blocks[0])]
+
+    def visits(self, op):
+        """A scope passes its operands, all else nothing that is known."""
+        if op.kind != "scope":
+            return self.entries(op)
+        asked = []
+        for blocks in op.regions:
+            asked.append((self.enter, blocks[0]))
+            passed = [self.fact(name) for name in op.operands]
+            passed += [VARYING] * len(blocks[0].args)
+            asked += [(self.lower, name, fact) for name, fact in zip(blocks[0].args, passed)]
+        return asked
 
     def edges(self, op):
         targets = [op.labels[name] for name in op.successors]
@@ -230,7 +243,7 @@ class Search:
         return [(self.lower, name, VARYING if found is None else found) for name in op.results]
 
     def look(self, op):
-        self.meet(self.entries(op) + self.edges(op) + self.results(op))
+        self.meet(self.visits(op) + self.edges(op) + self.results(op))
 
     def call_for(self, op, place, name, again, asked):
         """What is done where the operand at this place fell."""
@@ -241,7 +254,7 @@ class Search:
             arguments = op.labels[op.successors[0]].args
             if place < len(arguments):
                 asked.append((self.lower, arguments[place], self.fact(name)))
-        elif op.kind in FOLDS + ("br", "cbr") and op not in again:
+        elif op.kind in FOLDS + ("br", "cbr", "scope") and op not in again:
             again.append(op)
 
     def turn(self):

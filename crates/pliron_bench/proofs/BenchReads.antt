@@ -20,7 +20,7 @@ use Rattle.pliron_laws.specs.Answers.{AreForwarded, IsForwardedAt, IsForwardedOn
 use Rattle.pliron_bench.specs.Bench.{by_kind, kind_of}
 use Rattle.pliron_bench.specs.BenchNumbers.{known_at}
 use Rattle.pliron_bench.specs.BenchMoves.{bench, places_in, no_places_in, places_of, no_places}
-use Rattle.pliron_bench.specs.BenchAnswers.{bench_folds, bench_constants, bench_accepts, bench_constant_head, is_const_kind, bench_folds_branch, bench_feasible, folds_of, folds_branch_of, answer_of, constants_of, no_constants, feasible_of, no_jump, taken}
+use Rattle.pliron_bench.specs.BenchAnswers.{bench_folds, bench_constants, bench_accepts, bench_constant_head, is_const_kind, bench_folds_branch, bench_feasible, folds_of, folds_branch_of, answer_of, constants_of, no_constants, feasible_of, no_jump, taken, entry_operand_of, no_operand, bench_entry_operands}
 use Rattle.pliron_laws.proofs.ShapeLemmas.{head_at, operands_at}
 
 same_head : (t : Tree) (op : ℕ) (h : Head) (o : Operation) → head_of t op ≡ Some h → op_at t op ≡ Some o → h ≡ o.head
@@ -143,3 +143,13 @@ constant_stays t op known b live r e = kind_stays (kind_in (head_of t op)) t op 
 pub others_fold : (t u : Tree) (op : ℕ) (known : List (Option AttrObj)) (b : Bool) (answer : Option IRStatus) → IsLive t op → ReadsHead (λ h. is_const_kind (kind_of h.kind)) t op b → b ≡ false → materialising bench bench_constants bench_accepts bench_constant_head t u op known answer → bench_outcome t u op known answer
 unfolding bench_outcome
 others_fold t u op known b answer live r e m = kind_folds (kind_in (head_of t op)) t u op known answer (sym (head_kind t op b (head_of t op) live refl r) ∙ e) m
+
+-- ---- operands of visits
+
+pub entry_read : (t : Tree) (op i j : ℕ) (kind : BenchKind) (answer : Option ℕ) → ReadsHead (λ h. kind_of h.kind) t op (Some kind) → answer ≡ entry_operand_of kind (length (operands_of t op)) j → ReadsShape bench (λ s. bench_entry_operands s i j) t op answer
+unfolding bench_entry_operands shape_of
+entry_read t op i j kind answer r e = λ o at. e ∙ ap (λ z. by_kind no_operand entry_operand_of z (length (operands_of t op)) j) (r o.head (head_at t op o at)) ∙ ap (λ z. by_kind no_operand entry_operand_of (kind_of o.head.kind) (length z) j) (sym (operands_at t op o at))
+
+pub no_entry_read : (t : Tree) (op i j : ℕ) → ReadsHead (λ h. kind_of h.kind) t op None → ReadsShape bench (λ s. bench_entry_operands s i j) t op None
+unfolding bench_entry_operands shape_of
+no_entry_read t op i j r = λ o at. ap (λ z. by_kind no_operand entry_operand_of z (length o.operands) j) (r o.head (head_at t op o at))

@@ -23,6 +23,7 @@ pub fn interfaces<D: Dialect>(alloc: Global, ctx: &Context, op: Ptr<Operation>) 
         Interface::BranchFold,
         Interface::Branch,
         Interface::Terminator,
+        Interface::RegionBranch,
     ];
     if !op.is_live(ctx) {
         return None;

@@ -10,7 +10,7 @@
 ghost use Rattle.std.specs.Prelude.{◌≡◌, ◌↔◌, ℕ, List, IfOk, OnErr, IsTrue, IsOkUnless};
 ghost use Rattle.pliron_core.specs.Tree.{IsLive};
 ghost use Rattle.pliron_core.specs.declared.attrs.IRStatus.TheVariants.{Unchanged};
-ghost use Rattle.pliron_theory.specs.Change.{IsPassChange};
+ghost use Rattle.pliron_theory.specs.Change.{IsWholeChange};
 ghost use Rattle.pliron_theory.specs.Edges.{KeepsEdges};
 ghost use Rattle.pliron_laws.specs.Linked.{IsWellLinked};
 ghost use Rattle.pliron_dce.specs.DeadLaws.{ReadyLaws, GoingLaws, PendingLaw};
@@ -54,6 +54,8 @@ pub fn ready_things_are_seen<D: Dialect>()
 ///
 /// What is dead is a least set: a ring of arguments that feed each other stays.
 ///
+/// Runs are kept of every root that is otherwise fit to run, also of one whose head may not be a root's.
+///
 /// Asks that the operation stands and is well linked. Answers `Changed` exactly if something was dead;
 /// nothing is dead then, so a second call answers `Unchanged`.
 ///
@@ -76,7 +78,7 @@ pub fn dce<D: Dialect>(
 ) -> Result<IRStatus, OptError>
     requires live { IsLive ctx.old.tree op }
     requires linked { IsWellLinked D.meaning ctx.old.tree op }
-    ensures change { IsPassChange D.meaning ctx.old.tree ctx.new.tree op }
+    ensures change { IsWholeChange D.meaning ctx.old.tree ctx.new.tree op }
     ensures gone { (gone : List Item) × GoInTurn D.meaning D.shortened gone ctx.old.tree ctx.new.tree ×
         AreDeadThings D.meaning D.side_effects D.removable ctx.old.tree op gone }
     ensures none { IfOk result (λ a. LeavesNoDead D.meaning D.side_effects D.removable ctx.old.tree ctx.new.tree op) }
@@ -101,7 +103,7 @@ pub fn dce_with_regions<D: Dialect>(
 ) -> Result<(IRStatus, bool), OptError>
     requires live { IsLive ctx.old.tree op }
     requires linked { IsWellLinked D.meaning ctx.old.tree op }
-    ensures change { IsPassChange D.meaning ctx.old.tree ctx.new.tree op }
+    ensures change { IsWholeChange D.meaning ctx.old.tree ctx.new.tree op }
     ensures gone { (gone : List Item) × GoInTurn D.meaning D.shortened gone ctx.old.tree ctx.new.tree ×
         AreDeadThings D.meaning D.side_effects D.removable ctx.old.tree op gone × IfOk result (λ a. IsTrue a.1 ↔ SomeHasRegions ctx.old.tree gone) }
     ensures none { IfOk result (λ a. LeavesNoDead D.meaning D.side_effects D.removable ctx.old.tree ctx.new.tree op) }

@@ -8,7 +8,7 @@ use Rattle.pliron_core.specs.declared.attrs.IRStatus.{IRStatus}
 use Rattle.pliron_core.specs.declared.attrs.IRStatus.TheVariants.{Unchanged}
 use Rattle.pliron_core.specs.Tree.{Tree}
 use Rattle.pliron_laws.specs.declared.dialect.Interface.{Interface}
-use Rattle.pliron_laws.specs.declared.dialect.Interface.TheVariants.{SideEffects, BlockArgRemoval, ConstFold, BranchFold, Branch, Terminator}
+use Rattle.pliron_laws.specs.declared.dialect.Interface.TheVariants.{SideEffects, BlockArgRemoval, ConstFold, BranchFold, Branch, Terminator, RegionBranch}
 use Rattle.pliron_evaluator.specs.declared.tiny.TinyKind.{TinyKind}
 use Rattle.pliron_evaluator.specs.declared.tiny.TinyKind.TheVariants.{Const, Ask, Scope, Br}
 use Rattle.pliron_laws.specs.Datum.{Datum, Empty, Number, datum_of, Head, Shape, Move, Give, Visit, Goto, Emit, Trap, Meaning}
@@ -162,6 +162,7 @@ tiny_interface_of ConstFold k = is_const k
 tiny_interface_of BranchFold k = false
 tiny_interface_of Branch k = is_br k
 tiny_interface_of Terminator k = is_br k
+tiny_interface_of RegionBranch k = false
 
 unfoldable pub has_tiny_interface : Head → Interface → Bool
 has_tiny_interface h interface = tiny_interface_of interface (kind_of h.kind)

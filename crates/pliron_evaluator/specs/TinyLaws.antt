@@ -13,6 +13,8 @@ use Rattle.pliron_laws.specs.Datum.{Datum, Empty, datum_of, Head, Shape, Move, G
 use Rattle.pliron_laws.specs.Acting.{Act, Comes, MovesAlike, PassesSame, DropsAt, pick, Known}
 use Rattle.pliron_laws.specs.Acting.Comes.{Begins, Answered, Told}
 use Rattle.pliron_laws.specs.Laws.{Admitted, CountsFit, KeepsCounts, IsGive, GivesAtOnce, ForwardsOperands, LosesOperand, ActsWithoutArgument, fewer_operands, moved_up}
+use Rattle.pliron_laws.specs.Entries.{NamesOperands, RootsNameNone, names_none, none_are_named}
+use Rattle.pliron_laws.specs.declared.dialect.Interface.TheVariants.{RegionBranch}
 use Rattle.pliron_laws.specs.Folding.{AnswersTrue, AnswersJumps, MakesConstants}
 use Rattle.pliron_laws.specs.Outcomes.MaterialisesSome.{Rest}
 use Rattle.pliron_laws.specs.Replacing.FoldsBranch.{Kept}
@@ -271,3 +273,10 @@ tiny_in_place = record {
 pub tiny_makes : MakesConstants tiny tiny_accepts tiny_constant
 unfolding tiny tiny_constant
 tiny_makes = λ attr h. record { admitted = refl; no_terminator = refl; gives = refl }
+
+pub tiny_names : NamesOperands tiny names_none (λ h. has_tiny_interface h RegionBranch)
+tiny_names = none_are_named tiny (λ h. has_tiny_interface h RegionBranch)
+
+pub tiny_roots : RootsNameNone tiny (λ h. has_tiny_interface h RegionBranch)
+unfolding tiny has_tiny_interface
+tiny_roots = λ h. refl

@@ -8,9 +8,10 @@
 ghost use Rattle.std.specs.Prelude.{◌≡◌, Ok, ℕ, Some, IfOk, slice_get};
 ghost use Rattle.pliron_core.specs.Tree.{IsLive, IsBlock, block_parent_of, operands_of};
 ghost use Rattle.pliron_laws.specs.Answers.{ReadsHead, is_entry};
+ghost use Rattle.pliron_laws.specs.Entries.{names_none};
 ghost use Rattle.pliron_evaluator.specs.Tiny.{tiny_number_of, kind_of, is_br, is_const, first_attribute, tiny, tiny_side_effects, tiny_removable, tiny_folds};
 ghost use Rattle.pliron_evaluator.specs.Tiny.{tiny_constants, tiny_accepts, tiny_constant, tiny_folds_branch, tiny_feasible, tiny_outcome, has_tiny_kind, has_tiny_interface, tiny_shortened};
-ghost use Rattle.pliron_evaluator.specs.TinyLaws.{tiny_counts, tiny_effects, tiny_forwards, tiny_arguments, tiny_answers, tiny_jumps, tiny_in_place, tiny_makes};
+ghost use Rattle.pliron_evaluator.specs.TinyLaws.{tiny_counts, tiny_effects, tiny_forwards, tiny_arguments, tiny_answers, tiny_jumps, tiny_in_place, tiny_makes, tiny_names, tiny_roots};
 
 use pliron_core::{
     AttrObj, Attrs, BasicBlock, Context, Head, IRStatus, NoMemory, Operation, Ptr, Rewriter, Value,
@@ -18,7 +19,7 @@ use pliron_core::{
 use pliron_laws::reads::all_operands;
 use pliron_laws::{
     BlockArgRemoval, BranchOpFoldInterface, ConstFoldInterface, Dialect, HasMeaning, Interface,
-    OptError, Room, SideEffects,
+    OptError, RegionBranchOpInterface, Room, SideEffects,
 };
 use std::alloc::Global;
 
@@ -268,6 +269,25 @@ impl BranchOpFoldInterface for Tiny {
     }
 }
 
+impl RegionBranchOpInterface for Tiny {
+    ghost verdict = { λ t op r. r ≡ Ok tt };
+
+    ghost entry_operands = { names_none };
+
+    fn entry_operand(
+        _op: Ptr<Operation>,
+        _ctx: &Context,
+        _region: usize,
+        _arg: usize,
+    ) -> Option<usize> {
+        None
+    }
+
+    fn verify(_alloc: Global, _op: Ptr<Operation>, _ctx: &Context) -> Result<(), OptError> {
+        Ok(())
+    }
+}
+
 impl Dialect for Tiny {
     type Kind = TinyKind;
 
@@ -297,6 +317,7 @@ impl Dialect for Tiny {
             Interface::BranchFold => false,
             Interface::Branch => is_jump(kind),
             Interface::Terminator => is_jump(kind),
+            Interface::RegionBranch => false,
         }
     }
 
@@ -386,4 +407,8 @@ impl Dialect for Tiny {
     ghost folds_in_place = { tiny_in_place };
 
     ghost makes_constants = { tiny_makes };
+
+    ghost names_operands = { tiny_names };
+
+    ghost roots = { tiny_roots };
 }

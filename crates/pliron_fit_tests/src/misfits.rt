@@ -47,6 +47,8 @@ static TRAPS: &str = "0 / kind 8 => fit
 static TEXTS: &str = "root / func { b0(x): ret x } => fit
 root / mod { b0(): func { b0(): ret } } => region 0 has no dominance
 0 / mod { b0(): func { b0(): ret } } => fit
+0 / func { b0(): scope { c0(): ret }; ret } => runs may not begin at the operation
+root / func { b0(): scope { c0(): ret }; ret } => fit
 root / func { b0(): ret; a = const 1 } => terminator 1 is not the last of its block
 root / func { b0(x): cbr x b1() b2(); b1(): a = const 1; br b3(); b2(): br b3(); b3(): ret a } => the definition of operand 0 does not dominate operation 5
 root / func { b0(x): cbr x b1() b2(); b1(): br b3(); b2(): br b3(); b3(): ret x } => fit

@@ -148,6 +148,8 @@ repeat:3:sccp :: func { b0(): a = const 1; b = const 2; c = add a b; ret c } \
     => func { b0(): v0 = const 1; v1 = const 2; v2 = const 3; v3 = const 3; v4 = const 3; v5 = add v0 v1; ret v2 }|changed|
 repeat:8:sccp,dce :: func { b0(): a = const 1; b = const 2; c = add a b; ret c } => func { b0(): v0 = const 3; ret v0 }|changed|
 repeat:64:dce :: func { b0(): ret } => func { b0(): ret }|unchanged|
+repeat:8:sccp,dce :: func { b0(): a = const 7; scope a { b0(p): scope p { b0(q): print q; ret }; ret }; ret } \
+    => func { b0(): v0 = const 7; scope v0 { b0(v1): v2 = const 7; scope v2 { b0(v3): v4 = const 7; print v4; ret }; ret }; ret }|changed|
 simplify-cfg :: func { b0(): a = const 1; b = const 2; c = add a b; ret c } => func { b0(): v0 = const 1; v1 = const 2; v2 = add v0 v1; ret v2 }|unchanged|
 sccp :: func { b0(): c = const 1; x = const 5; cbr c b1(x) b2(); b1(p): br b3(p); b2(): y = const 6; br b3(y); b3(q): ret q } \
     => func { b0(): v0 = const 1; v1 = const 5; cbr v0 b1(v1) b2(); b1(v2): v3 = const 5; br b3(v3); b2(): v4 = const 6; br b3(v4); \

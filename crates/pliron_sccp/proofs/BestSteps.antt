@@ -40,7 +40,7 @@ use Rattle.pliron_sccp.proofs.InsideLists.{holds_listed, argument_listed, made_l
 use Rattle.pliron_sccp.proofs.Applied.{below_trans, falls_trans}
 use Rattle.pliron_sccp.proofs.Called.{reached_before}
 use Rattle.pliron_sccp.proofs.Stepping.{first_blocks, entries_of, first_in, in_first, through_falls}
-use Rattle.pliron_sccp.proofs.BestLook.{lists, lists_in, in_lists, varying, only_inside, only_below, only_lower, only_above, IsOn, ForwardsItsOperands, look_on, look_results}
+use Rattle.pliron_sccp.proofs.BestLook.{lists, lists_in, in_lists, varying, only_inside, only_below, only_lower, only_above, IsOn, PassesItsOperands, look_on, look_results}
 
 -- blocks that were looked through
 module _ (s : Tables) (b : ℕ) where
@@ -88,7 +88,7 @@ wider_way t seen more wider b way = record {
   all_visited = λ d i. wider d (way.all_visited d i);
 }
 
-module _ (x : Says) (t : Tree) (root : ℕ) (w : IsTree t) (linked : IsWellLinked x.meaning t root) (answers : AnswersTrue x.meaning x.can_fold x.constants) (places : ForwardsItsOperands x) (owed : AreOwed x t root) where
+module _ (x : Says) (t : Tree) (root : ℕ) (w : IsTree t) (linked : IsWellLinked x.meaning t root) (answers : AnswersTrue x.meaning x.can_fold x.constants) (places : PassesItsOperands x) (owed : AreOwed x t root) where
   -- f and visited are those from before, and the blocks seen are those that are looked through after
   module _ (f : Facts) (visited seen : ℕ → Bool) (inside : (b : ℕ) → IsTrue (f.reaches b) → HoldsBlock t root b) (grounded : IsGrounded t root f visited) (ready : AreDetermined t f visited) (more : (b : ℕ) → IsTrue (visited b) → IsTrue (seen b)) where
     -- what is said of an operation before it is looked at
@@ -255,7 +255,7 @@ module _ (x : Says) (t : Tree) (root : ℕ) (w : IsTree t) (linked : IsWellLinke
     above_start g closed =
         only_above t root g (facts_of s) (start.applied.least (only_inside t root g)
         (only_below t root g (facts_of start.before) (record { blocks = λ b r. absurd (true≢false (sym r ∙ start.unsearched.reached b)); facts = λ v i. inl (start.unsearched.inside v i) }))
-        ((start.asks (only_inside t root g)).1 (λ r b i e. let y = closed.entries root r b (inl refl) i e in (y.0, λ v j. by v (lists (values_inside t root) v) (y.1 v j)))))
+        ((start.asks (only_inside t root g)).1 (λ r b i e. let y = closed.root_entries r b i e in (y.0, λ v j. by v (lists (values_inside t root) v) (y.1 v j)))))
       where
         by : (v : ℕ) (z : Bool) → g.fact v ≡ NotAConstant → (if z then g.fact v else NotAConstant) ≡ NotAConstant
         by v true e = e

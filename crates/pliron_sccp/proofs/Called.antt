@@ -1,5 +1,5 @@
 -- All values that wait are taken, and what they call for is met at once: what is known between is kept.
-use Rattle.std.proofs.Common.{◌≡◌, ◌⊎◌, inl, inr, ⊎_elim, ℕ, Bool, true, false, true≢false, List, [], ◌∷◌, Some, slice_get, refl, sym, ap, ◌∙◌, subst, IsTrue}
+use Rattle.std.proofs.Common.{◌≡◌, ◌⊎◌, inl, inr, ⊎_elim, ℕ, Bool, true, false, true≢false, List, [], ◌∷◌, Option, Some, None, slice_get, refl, sym, ap, ◌∙◌, subst, IsTrue}
 use Rattle.pliron_core.specs.Lists.{In}
 use Rattle.pliron_core.specs.Tree.{Tree, arguments_of}
 use Rattle.pliron_core.specs.Joined.{IsTree}
@@ -7,7 +7,7 @@ use Rattle.pliron_core.proofs.ListLemmas.{decide_in}
 use Rattle.pliron_core.proofs.HoldingLemmas.{in_slice, slice_in}
 use Rattle.pliron_laws.specs.Tree.{Operation, op_at, shape_of}
 use Rattle.pliron_laws.proofs.Records.{op_shows}
-use Rattle.pliron_theory.specs.Facts.{AtMost, Facts, NotAConstant, Undetermined, Says, IsFeasibleEdge}
+use Rattle.pliron_theory.specs.Facts.{AtMost, Facts, NotAConstant, Undetermined, Says, IsFeasibleEdge, IsBelowNamed}
 use Rattle.pliron_theory.proofs.KnownData.{picked_at}
 use Rattle.pliron_sccp.specs.declared.demands.Demand.{Demand}
 use Rattle.pliron_sccp.specs.declared.facts.Tables.{Tables}
@@ -66,12 +66,15 @@ module _ (x : Says) (t : Tree) (values users : List ℕ) (asked : List Demand) (
         first : IsAskedAt x t u asked o (reads v i taken).0 v
         first = (reads v i taken).2
 
+        nothing_named : {a : Option ℕ} → a ≡ None → (q : ℕ) → IsBelowNamed (fact_in w) y.seen.fact o.operands a q → IsBelowNamed (fact_in w) (fact_in u) o.operands a q
+        nothing_named none q m = subst (λ z. IsBelowNamed (fact_in w) (fact_in u) o.operands z q) (sym none) (subst (λ z. IsBelowNamed (fact_in w) y.seen.fact o.operands z q) none m)
+
         any_edge : (e d : ℕ) → IsFeasibleEdge x t (facts_of u) o e d → IsFeasibleEdge x t y.seen o e d
         any_edge e d go = (go.0, λ folds. absurd (true≢false (sym folds ∙ first.no_jump)))
 
         met : IsMet x t (facts_of u) (facts_of w) j o
         met = record {
-          entries = still.entries;
+          entries = λ i r b at e. let m = still.entries i r b at e in (m.0, λ index q listed. nothing_named (first.names_none i index) q (m.1 index q listed));
           branches = λ e d branch go.
               let m = still.branches e d branch (any_edge e d go) in (
                 m.0,

@@ -15,7 +15,7 @@ use Rattle.pliron_theory.specs.Facts.{AtMost, Facts, Says}
 use Rattle.pliron_sccp.specs.declared.demands.Demand.{Demand}
 use Rattle.pliron_sccp.specs.declared.facts.Tables.{Tables}
 use Rattle.pliron_sccp.specs.Demands.{Adds, MeetsAll}
-use Rattle.pliron_sccp.specs.Looking.{AddsEach, AreCalls, IsAskedAt, IsLookedAt, IsUseOf, SeesTo, TakesUsers}
+use Rattle.pliron_sccp.specs.Looking.{AddsEach, AreCalls, IsAskedAt, IsLookedAt, IsUseOf, NamesNone, SeesTo, TakesUsers}
 use Rattle.pliron_sccp.specs.Tables.{known_constants, fact_in, is_numbered, left_values, reaches, waits_block, waits_value, NoValueWaits, SaysSame, TakesValue}
 
 -- what is looked at in one table is in another that says the same of blocks
@@ -28,7 +28,7 @@ on_ok_then (Err e) f p = p
 
 module _ (x : Says) (t : Tree) where
   asked_more : (s : Tables) (asked asked' : List Demand) (o : Operation) (place v : ℕ) → ((now : Facts) → MeetsAll (known_constants s) now asked' → MeetsAll (known_constants s) now asked) → IsAskedAt x t s asked o place v → IsAskedAt x t s asked' o place v
-  asked_more s asked asked' o place v more h = record { no_fold = h.no_fold; no_jump = h.no_jump; below = λ now m a f. h.below now (more now m) a f }
+  asked_more s asked asked' o place v more h = record { no_fold = h.no_fold; no_jump = h.no_jump; names_none = h.names_none; below = λ now m a f. h.below now (more now m) a f }
 
   -- uses are seen to, some and then others
   module _ (s : Tables) (v : ℕ) where
@@ -72,14 +72,14 @@ module _ (x : Says) (t : Tree) where
         owed = λ now m all. m;
       }
 
-      pub use_reads_nothing : ((o : Operation) → op_at t op ≡ Some o → (x.can_fold o.head ≡ false) × (x.can_fold_branch o.head ≡ false) × (x.meaning.is_branch o.head ≡ false)) → SeesTo x t s v IsIt users asked users asked
+      pub use_reads_nothing : ((o : Operation) → op_at t op ≡ Some o → (x.can_fold o.head ≡ false) × (x.can_fold_branch o.head ≡ false) × NamesNone x t o × (x.meaning.is_branch o.head ≡ false)) → SeesTo x t s v IsIt users asked users asked
       use_reads_nothing nothing = record {
         kept = λ k i. i;
         more = λ now m. m;
         only = λ k i. inl i;
         seen = λ k p o u l at.
             let n = nothing o (subst (λ z. op_at t z ≡ Some o) u.0 at) in
-            inr (record { no_fold = n.0; no_jump = n.1; below = λ now m a f. absurd (true≢false (sym f.branch ∙ n.2)) });
+            inr (record { no_fold = n.0; no_jump = n.1; names_none = n.2; below = λ now m a f. absurd (true≢false (sym f.branch ∙ n.3)) });
         owed = λ now m all. m;
       }
 
@@ -96,7 +96,7 @@ module _ (x : Says) (t : Tree) where
       abbrev pub AsksOne : (edge index : ℕ) → Facts → Type 0
       AsksOne edge index now = (b a : ℕ) → slice_get (successors_of t op) edge ≡ Some b → slice_get (arguments_of t b) index ≡ Some a → AtMost (now.fact a) (fact_in s v)
 
-      pub use_asked : (asked' : List Demand) (edge index : ℕ) → IsLive t op → IsLookedAt t s op → ((o : Operation) → op_at t op ≡ Some o → (x.can_fold o.head ≡ false) × (x.can_fold_branch o.head ≡ false) × IsTrue (x.meaning.is_branch o.head)) → IsForwardedOnce x.meaning t op place edge index → Adds (known_constants s) asked asked' (λ now. AsksOne edge index now) → SeesTo x t s v IsIt users asked users asked'
+      pub use_asked : (asked' : List Demand) (edge index : ℕ) → IsLive t op → IsLookedAt t s op → ((o : Operation) → op_at t op ≡ Some o → (x.can_fold o.head ≡ false) × (x.can_fold_branch o.head ≡ false) × NamesNone x t o × IsTrue (x.meaning.is_branch o.head)) → IsForwardedOnce x.meaning t op place edge index → Adds (known_constants s) asked asked' (λ now. AsksOne edge index now) → SeesTo x t s v IsIt users asked users asked'
       use_asked asked' edge index live l one once adds = record {
         kept = λ k i. i;
         more = λ now m. ((adds now).0 m).0;
@@ -105,7 +105,7 @@ module _ (x : Says) (t : Tree) where
         owed = λ now m all. (adds now).1 (
           m,
           λ b a goes is. all op place a o.0 (refl, refl) l o.1 (one o.0 o.1).1 (record {
-            branch = (one o.0 o.1).2;
+            branch = (one o.0 o.1).3;
             edge = edge;
             block = b;
             index = index;
@@ -123,6 +123,7 @@ module _ (x : Says) (t : Tree) where
           asks o at p e = record {
             no_fold = (one o at).0;
             no_jump = (one o at).1;
+            names_none = (one o at).2;
             below = λ now m a f.
                 let same = once.alone o at f.edge f.index (slice_get_within o.successors f.edge f.block f.successor) (f.forwards ∙ ap (λ z. Some z) e) in
                 ((adds now).0 m).1 f.block a
@@ -168,6 +169,7 @@ module _ (x : Says) (t : Tree) where
     asked_then asked o place v h = record {
       no_fold = h.no_fold;
       no_jump = h.no_jump;
+      names_none = h.names_none;
       below = λ now m a f. subst (AtMost (now.fact a)) (sym (facts v)) (h.below now (subst (λ c. MeetsAll c now asked) constants m) a f);
     }
 

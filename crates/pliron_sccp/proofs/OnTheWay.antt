@@ -40,7 +40,7 @@ use Rattle.pliron_sccp.proofs.Stepping.{entries_of, others_reached, entry_apart,
 use Rattle.pliron_sccp.proofs.Applied.{falls_trans}
 use Rattle.pliron_sccp.proofs.Aside.{aside_block, aside_then, aside_values}
 use Rattle.pliron_sccp.proofs.Called.{values_settle, reached_before, called_aside, called_starts, called_known, nothing_called}
-use Rattle.pliron_sccp.proofs.BestLook.{ForwardsItsOperands}
+use Rattle.pliron_sccp.proofs.BestLook.{PassesItsOperands}
 use Rattle.pliron_sccp.proofs.BestSteps.{start_best, step_best, aside_best, best_precise}
 use Rattle.pliron_sccp.proofs.Accounting.{unsearched_accounted, unsearched_inside, falls_accounted, falls_inside, block_accounted, values_accounted, block_inside, values_kept_inside, accounted_bound, accounted_counts}
 
@@ -353,7 +353,7 @@ module _ (x : Says) (t : Tree) (root : ℕ) (w : IsTree t) (live : IsLive t root
   pub few_to_take : HaveFewKeys t → length (blocks_inside t root) + 2 * length (values_inside t root) < 2 ^ 128
   few_to_take few = let b = few_blocks few in let v = few_values few in omega (arith, b, v)
 
-  module _ (linked : IsWellLinked x.meaning t root) (answers : AnswersTrue x.meaning x.can_fold x.constants) (places : ForwardsItsOperands x) where
+  module _ (linked : IsWellLinked x.meaning t root) (answers : AnswersTrue x.meaning x.can_fold x.constants) (places : PassesItsOperands x) where
     pub started_search : (s : Tables) (z : Delays) → delayed z ≡ [] → IsStarted t root s → IsSearching x t root s z 0
     started_search s z none start = record { way = start_on_way s start z none; accounted = start_accounted s start; best = λ owed. start_best x t root w linked answers places owed s start }
 

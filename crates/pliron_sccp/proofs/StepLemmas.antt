@@ -21,7 +21,7 @@ use Rattle.pliron_core.specs.Changes.{IsSameTree}
 use Rattle.pliron_core.specs.Status.{changed_by_either}
 use Rattle.pliron_core.specs.declared.attrs.IRStatus.TheVariants.{Changed, Unchanged}
 use Rattle.std.proofs.lemmas.List.{get_or_past}
-use Rattle.pliron_theory.proofs.SoundRuns.{PassesForwarded}
+use Rattle.pliron_theory.proofs.SoundRuns.{PassesForwarded, NamesWell}
 use Rattle.pliron_laws.proofs.Records.{ShowsOperation, op_shows}
 use Rattle.pliron_theory.specs.Facts.{Facts, Says, known, handed, answers_of}
 use Rattle.pliron_theory.specs.Following.{StandsAsBefore, Follows}
@@ -96,9 +96,9 @@ module _ (x : Says) (t₀ : Tree) (root : ℕ) (f₀ : Facts) (t : Tree) (op : �
         subst (λ z. MaterialisesSome accepts head op s.operation.results z t u) (ap₂ (λ p q. x.constants p q) now.shape s.known_is)
         (subst (λ z. MaterialisesSome accepts head op z (x.constants (shape_of x.meaning t now.operation) ks) t u) now.results (law.constant t u op ks answer now.operation now.stands is).0)
 
-    pub step_follows : AnswersTrue x.meaning x.can_fold x.constants → AnswersJumps x.meaning x.can_fold_branch x.feasible → PassesForwarded x.meaning → MakesConstants x.meaning accepts head → ((attr : AttrObj) → IsTrue (accepts attr) → x.meaning.is_branch (head attr) ≡ false) → (u : Tree) (answer : Option IRStatus) → outcome t u op ks answer → IsTree u → length t.operations ≤ length u.operations → Follows x t₀ root f₀ u
-    step_follows answers jumps passes makes plain u answer is w longer =
-        fold_on x t₀ root f₀ s.first answers jumps passes accepts head makes plain op s.operation s.stands s.at s.folds t u s.follows w (step_some u answer is) longer
+    pub step_follows : AnswersTrue x.meaning x.can_fold x.constants → AnswersJumps x.meaning x.can_fold_branch x.feasible → PassesForwarded x.meaning → NamesWell x → MakesConstants x.meaning accepts head → ((attr : AttrObj) → IsTrue (accepts attr) → x.meaning.is_branch (head attr) ≡ false) → (u : Tree) (answer : Option IRStatus) → outcome t u op ks answer → IsTree u → length t.operations ≤ length u.operations → Follows x t₀ root f₀ u
+    step_follows answers jumps passes names makes plain u answer is w longer =
+        fold_on x t₀ root f₀ s.first answers jumps passes names accepts head makes plain op s.operation s.stands s.at s.folds t u s.follows w (step_some u answer is) longer
 
 -- the outcome, whatever was answered
 pub either : (P : Option IRStatus → Type 0) (r : Result IRStatus OptError) → IfOk r (λ status. P (Some status)) → OnErr r (P None) → (a : Option IRStatus) × P a

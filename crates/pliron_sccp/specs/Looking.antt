@@ -68,18 +68,23 @@ pub record Forwarded (x : Says) (t : Tree) (o : Operation) (place argument : ℕ
   pub is_argument : slice_get (arguments_of t block) index ≡ Some argument
   pub forwards : slice_get (x.meaning.forwarded (shape_of x.meaning t o) edge) index ≡ Some place
 
--- what is to be done where the operand at this place fell: nothing for what does not fold and is no branch; or it goes to
--- one argument alone, of something that does not fold
-abbrev pub IsCallFor : Says → Tree → (k place : ℕ) → Call → Type 0
-IsCallFor x t k place Pass = (o : Operation) → op_at t k ≡ Some o → (x.can_fold o.head ≡ false) × (x.can_fold_branch o.head ≡ false) × (x.meaning.is_branch o.head ≡ false)
-IsCallFor x t k place Look = Unit {0}
-IsCallFor x t k place (Ask edge index) = ((o : Operation) → op_at t k ≡ Some o → (x.can_fold o.head ≡ false) × (x.can_fold_branch o.head ≡ false) × IsTrue (x.meaning.is_branch o.head)) × IsForwardedOnce x.meaning t k place edge index
+-- the operation names no operand for an argument of an entry
+abbrev pub NamesNone : Says → Tree → Operation → Type 0
+NamesNone x t o = (i j : ℕ) → x.entry_operands (shape_of x.meaning t o) i j ≡ None
 
--- the operation does not fold, nor as a branch, and where these are met, each argument that gets its operand v from this
+-- what is to be done where the operand at this place fell: nothing for what does not fold, names no operand and is no
+-- branch; or it goes to one argument alone, of something that does not fold and names none
+abbrev pub IsCallFor : Says → Tree → (k place : ℕ) → Call → Type 0
+IsCallFor x t k place Pass = (o : Operation) → op_at t k ≡ Some o → (x.can_fold o.head ≡ false) × (x.can_fold_branch o.head ≡ false) × NamesNone x t o × (x.meaning.is_branch o.head ≡ false)
+IsCallFor x t k place Look = Unit {0}
+IsCallFor x t k place (Ask edge index) = ((o : Operation) → op_at t k ≡ Some o → (x.can_fold o.head ≡ false) × (x.can_fold_branch o.head ≡ false) × NamesNone x t o × IsTrue (x.meaning.is_branch o.head)) × IsForwardedOnce x.meaning t k place edge index
+
+-- the operation does not fold, nor as a branch, and names no operand, and where these are met, each argument that gets its operand v from this
 -- place is at or below the fact of v
 pub record IsAskedAt (x : Says) (t : Tree) (s : Tables) (asked : List Demand) (o : Operation) (place v : ℕ) : Type 0 where
   pub no_fold : x.can_fold o.head ≡ false
   pub no_jump : x.can_fold_branch o.head ≡ false
+  pub names_none : NamesNone x t o
   pub below : (now : Facts) → MeetsAll (known_constants s) now asked → (a : ℕ) → Forwarded x t o place a → AtMost (now.fact a) (fact_in s v)
 
 -- uses of the value are seen to: an operation that was looked at and has it at such a place is to be looked at again, or

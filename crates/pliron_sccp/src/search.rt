@@ -5,8 +5,8 @@
 //!
 //! The order of work: a block that waits is taken before any value, and looked through as a whole, its
 //! operations in order. Where none waits, all values that wait are taken, one by one, and then each of their
-//! users is looked at once, but for those that ask the same whatever is known: what neither folds nor is a
-//! branch is looked at with its block alone. So a branch that forwards many values which fell together is
+//! users is looked at once, but for those that ask the same whatever is known: what neither folds, nor is a
+//! branch, nor names operands for its regions is looked at with its block alone. So a branch that forwards many values which fell together is
 //! looked at once, and no region is gone through in rounds: a fact falls at most twice, and only its users
 //! are looked at then. In deep nests of loops an inner loop is thus not gone through again for each round of
 //! the outer ones.
@@ -21,6 +21,7 @@ ghost use Rattle.std.specs.Prelude.{◌≡◌, ◌<◌, ◌↔◌, ℕ, true, On
 ghost use Rattle.pliron_core.specs.Tree.{IsLive, IsBlock, In, arguments_of, body_of, successors_of};
 ghost use Rattle.pliron_laws.specs.Answers.{ReadsHead};
 ghost use Rattle.pliron_laws.specs.Linked.{IsWellLinked};
+ghost use Rattle.pliron_laws.specs.declared.dialect.Interface.TheVariants.{RegionBranch};
 ghost use Rattle.pliron_theory.specs.Facts.{AtMost};
 ghost use Rattle.pliron_sccp.specs.Accounts.{IsUnsearched};
 ghost use Rattle.pliron_sccp.specs.Delaying.{delayed};
@@ -37,7 +38,7 @@ use crate::facts::Tables;
 use crate::inside::{all_blocks, block_numbers, value_numbers};
 use indexmap::IndexSet;
 use pliron_core::{BasicBlock, Context, Operation, Ptr, Value};
-use pliron_laws::{Dialect, OptError};
+use pliron_laws::{Dialect, Interface, OptError};
 use pliron_theory::HasFolding;
 use std::alloc::Global;
 
@@ -93,12 +94,13 @@ pub enum Call {
     Ask(usize, usize),
 }
 
-/// Whether what the operation asks may hang on all its operands: it folds, or folds as a branch.
+/// Whether what the operation asks may hang on all its operands: it folds, or folds as a branch, or names
+/// operands for the entries of its regions.
 fn reads_all<D: Dialect>(op: Ptr<Operation>, ctx: &Context) -> bool
     requires { IsLive ctx.now.tree op }
-    ensures { ReadsHead (λ h. either (D.can_fold h) (D.can_fold_branch h)) ctx.now.tree op result }
+    ensures { ReadsHead (λ h. either (D.can_fold h) (either (D.can_fold_branch h) (D.has_interface h RegionBranch))) ctx.now.tree op result }
 {
-    D::folds(op, ctx) || D::folds_branch(op, ctx)
+    D::folds(op, ctx) || D::folds_branch(op, ctx) || D::implements(op, ctx, Interface::RegionBranch)
 }
 
 /// What is to be done where the operand at this place fell. Cost: that of a few tests of the dialect.

@@ -3,8 +3,9 @@
 ghost use Rattle.std.specs.Prelude.{◌≡◌, Ok};
 ghost use Rattle.pliron_core.specs.Tree.{IsLive};
 ghost use Rattle.pliron_laws.specs.Answers.{ReadsHead};
+ghost use Rattle.pliron_laws.specs.Entries.{names_none};
 ghost use Rattle.pliron_evaluator.specs.Tiny.{tiny, tiny_side_effects, tiny_removable, tiny_constants, tiny_accepts, tiny_constant, tiny_folds_branch, tiny_feasible, tiny_outcome, has_tiny_kind, has_tiny_interface, tiny_shortened};
-ghost use Rattle.pliron_evaluator.specs.TinyLaws.{tiny_counts, tiny_effects, tiny_arguments, tiny_jumps, tiny_in_place, tiny_makes};
+ghost use Rattle.pliron_evaluator.specs.TinyLaws.{tiny_counts, tiny_effects, tiny_arguments, tiny_jumps, tiny_in_place, tiny_makes, tiny_names, tiny_roots};
 ghost use Rattle.pliron_sccp_tests.specs.Marked.{marked_folds, marked_answers, marked_forwards};
 
 use super::tiny::{
@@ -14,7 +15,7 @@ use pliron_core::{AttrObj, BasicBlock, Context, IRStatus, Operation, Ptr, Rewrit
 use pliron_evaluator::{Tiny, TinyKind};
 use pliron_laws::{
     BlockArgRemoval, BranchOpFoldInterface, ConstFoldInterface, Dialect, HasMeaning, Interface,
-    OptError, Room, SideEffects, edges_last,
+    OptError, RegionBranchOpInterface, Room, SideEffects, edges_last,
 };
 use pliron_sccp::sccp_counted;
 use std::alloc::Global;
@@ -148,6 +149,25 @@ impl BranchOpFoldInterface for Marked {
     }
 }
 
+impl RegionBranchOpInterface for Marked {
+    ghost verdict = { λ t op r. r ≡ Ok tt };
+
+    ghost entry_operands = { names_none };
+
+    fn entry_operand(
+        _op: Ptr<Operation>,
+        _ctx: &Context,
+        _region: usize,
+        _arg: usize,
+    ) -> Option<usize> {
+        None
+    }
+
+    fn verify(_alloc: Global, _op: Ptr<Operation>, _ctx: &Context) -> Result<(), OptError> {
+        Ok(())
+    }
+}
+
 impl Dialect for Marked {
     type Kind = TinyKind;
 
@@ -214,6 +234,10 @@ impl Dialect for Marked {
     ghost folds_in_place = { tiny_in_place };
 
     ghost makes_constants = { tiny_makes };
+
+    ghost names_operands = { tiny_names };
+
+    ghost roots = { tiny_roots };
 }
 
 // A constant with a mark.

@@ -27,7 +27,7 @@ pub loop-i-preserved : goal.loop-i-preserved
 loop-i-preserved g c =
     let folds = c.args.folds.now in
     let at : slice_get folds c.loop-i.i ≡ Some c.index-folds-i.result = slice_get_read folds (length folds) c.loop-i.i c.index-folds-i.result refl c.loop-i-test.true c.index-folds-i.is in
-    let x : Says = record { meaning = g.D.HasMeaning.meaning; can_fold = g.D.ConstFoldInterface.can_fold; can_fold_branch = g.D.BranchOpFoldInterface.can_fold_branch; constants = g.D.ConstFoldInterface.constants; feasible = g.D.BranchOpFoldInterface.feasible } in
+    let x : Says = record { meaning = g.D.HasMeaning.meaning; can_fold = g.D.ConstFoldInterface.can_fold; can_fold_branch = g.D.BranchOpFoldInterface.can_fold_branch; constants = g.D.ConstFoldInterface.constants; feasible = g.D.BranchOpFoldInterface.feasible; entry_operands = g.D.RegionBranchOpInterface.entry_operands } in
     let outcome = g.D.ConstFoldInterface.outcome in
     let done = folding_next x outcome c.args.ctx.now.tree folds c.loop-i.i c.loop-i.status c.loop-i.ctx.tree c.loop-i.invariant c.index-folds-i.result at c.fold_one.new.ctx.tree c.in_ok-fold_one.field-0 c.in_ok-fold_one.ensures.ok c.in_ok-fold_one.ensures.told c.fold_one.ensures.stays c.fold_one.ensures.follows in
     subst (λ z. IsFoldingOn x outcome c.args.ctx.now.tree folds (c.loop-i.i + 1) z c.fold_one.new.ctx.tree) (sym c.bitor_assign.ensures.after) done

@@ -1,6 +1,7 @@
 use Rattle.std.proofs.Common.{◌∙◌, ap, subst, length, Some, None}
 use Rattle.std.proofs.lemmas.Result.{IfOk-weaker, on_err_weaker}
 use Rattle.pliron_theory.proofs.FollowedFacts.{constants_plain}
+use Rattle.pliron_theory.proofs.SoundRuns.{names_well}
 use Rattle.pliron_sccp.proofs.StepLemmas.{step_live, step_placed, step_folds, step_entries, step_told, step_refused, step_stays, step_follows, either}
 use Rattle.pliron_sccp.proofs.rewrite.fold_one.Goals as goal
 
@@ -33,7 +34,7 @@ returns-clause-follows g c = λ t₀ root f₀ s.
     let u = c.fold_in_place-done.new.ctx.tree in
     let outcome = g.D.ConstFoldInterface.outcome in
     let done = either (λ a. outcome t u c.args.fold.now.op c.deref.result.now a) c.fold_in_place-done.result c.fold_in_place-done.ensures.ok c.fold_in_place-done.ensures.refused in
-    step_follows _ t₀ root f₀ t c.args.fold.now.op _ s _ _ outcome _ d.folds_in_place d.answers_true d.answers_jumps d.forwards_operands.passes d.makes_constants (constants_plain _ _ _ _ _ _ d.forwards_operands d.makes_constants) u done.0 (subst (λ z. outcome t u c.args.fold.now.op z done.0) c.deref.ensures.value done.1) c.well_formed-3.ensures.tree c.fold_in_place-done.ensures.longer
+    step_follows _ t₀ root f₀ t c.args.fold.now.op _ s _ _ outcome _ d.folds_in_place d.answers_true d.answers_jumps d.forwards_operands.passes (names_well _ _ d.names_operands d.roots) d.makes_constants (constants_plain _ _ _ _ _ _ d.forwards_operands d.makes_constants) u done.0 (subst (λ z. outcome t u c.args.fold.now.op z done.0) c.deref.ensures.value done.1) c.well_formed-3.ensures.tree c.fold_in_place-done.ensures.longer
 
 pub returns-clause-stays : goal.returns-clause-stays
 returns-clause-stays g c =
