@@ -156,7 +156,7 @@ twice_passes first lt (Text w) counts input ds next d h e at = absurd (no_visit 
 
 -- ---- the laws
 
-at_first : (i j : ℕ) → IsTrue (nat_eq i 0 && nat_eq j 0) → (i ≡ 0) × (j ≡ 0)
+pub at_first : (i j : ℕ) → IsTrue (nat_eq i 0 && nat_eq j 0) → (i ≡ 0) × (j ≡ 0)
 at_first i j h = let p = parts true (nat_eq i 0) (nat_eq j 0) h in (same i 0 p.1, same j 0 p.2)
 
 module _ (s : Shape) (first : List Datum) where

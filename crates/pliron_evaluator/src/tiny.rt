@@ -316,6 +316,7 @@ impl RegionBranchOpInterface for Tiny {
 
     /// For the first argument of the first region: of a `Both` operand 1, where there is one, and of a
     /// `Twice` operand 0. Cost: constant.
+    #[tactic(auto, using(crate::proofs::TinyLemmas::entry_named, crate::proofs::TinyLemmas::other_region, crate::proofs::TinyLemmas::other_argument))]
     fn entry_operand(
         op: Ptr<Operation>,
         ctx: &Context,
