@@ -93,13 +93,13 @@ entry_named t op i j kind n k reads e first begin f = λ o at.
     ∙ ap (λ z. if nat_eq i 0 && nat_eq z 0 then first_entry_operand (kind_of o.head.kind) (length o.operands) else None) (sym begin)
 
 nowhere_else : (b : Bool) (k : Option ℕ) → (IsTrue b → ⊥) → None ≡ (if b then k else None)
-nowhere_else true k no = absurd (no refl)
-nowhere_else false k no = refl
+nowhere_else true k fails = absurd (fails refl)
+nowhere_else false k fails = refl
 
 pub other_region : (t : Tree) (op i j : ℕ) → (i ≡ 0 → ⊥) → ReadsShape tiny (λ s. tiny_entry_operands s i j) t op None
 unfolding tiny tiny_entry_operands shape_of
-other_region t op i j no = λ o at. nowhere_else (nat_eq i 0 && nat_eq j 0) _ (λ h. no (at_first i j h).0)
+other_region t op i j apart = λ o at. nowhere_else (nat_eq i 0 && nat_eq j 0) _ (λ h. apart (at_first i j h).0)
 
 pub other_argument : (t : Tree) (op i j : ℕ) → (j ≡ 0 → ⊥) → ReadsShape tiny (λ s. tiny_entry_operands s i j) t op None
 unfolding tiny tiny_entry_operands shape_of
-other_argument t op i j no = λ o at. nowhere_else (nat_eq i 0 && nat_eq j 0) _ (λ h. no (at_first i j h).1)
+other_argument t op i j apart = λ o at. nowhere_else (nat_eq i 0 && nat_eq j 0) _ (λ h. apart (at_first i j h).1)

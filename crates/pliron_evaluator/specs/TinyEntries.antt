@@ -133,14 +133,14 @@ twice_holds first (Join kept z) counts input i ds next answer h e = after_second
 twice_holds first (Number n) counts input i ds next answer h e = absurd (no_visit e)
 twice_holds first (Text w) counts input i ds next answer h e = absurd (no_visit e)
 
-apart : 1 ≡ 0 → ⊥
-apart e = grind arith
+apart : (i : ℕ) → i ≡ 1 → i ≡ 0 → ⊥
+apart i e f = omega (arith, e, f)
 
 both_passes : (first : List Datum) → 1 < length first → (memo : Datum) (counts : List ℕ) (input ds : List Datum) (next d : Datum) → Holds nothing first memo input → both_move memo counts input ≡ Visit 0 ds next → slice_get ds 0 ≡ Some d → slice_get first 1 ≡ Some d
 both_passes first lt Empty counts input ds next d h e at =
     let read = alone_read _ _ d (ap (λ z. slice_get z 0) (values_of e) ∙ at) in
     first_read 1 first lt ∙ ap (λ z. Some (first_datum (drop 1 z))) (sym h) ∙ ap Some read
-both_passes first lt (Join kept z) counts input ds next d h e at = absurd (apart (region_of e))
+both_passes first lt (Join kept z) counts input ds next d h e at = absurd (apart 1 refl (region_of e))
 both_passes first lt (Number n) counts input ds next d h e at = absurd (no_visit e)
 both_passes first lt (Text w) counts input ds next d h e at = absurd (no_visit e)
 

@@ -21,7 +21,7 @@ use Rattle.pliron_laws.specs.PlaceLaws.{pick_all, in_places, moved_places}
 use Rattle.pliron_evaluator.specs.Tiny.{first_attribute, first_count, fitted_or_empty, ask_move, scope_move, both_move, twice_move, has_begun, tiny_act_of, admits_of, is_br, is_const, forwarded_along, kind_of, tiny, tiny_effects_of, tiny_side_effects, tiny_removable_of, tiny_removable, tiny_folds, tiny_constants, tiny_accepts, tiny_constant, tiny_folds_branch, tiny_feasible, tiny_outcome, has_tiny_kind, has_tiny_interface, tiny_shortened}
 
 -- the parts of a test of counts
-parts : (x y z : Bool) → IsTrue (x && y && z) → IsTrue x × IsTrue y × IsTrue z
+pub parts : (x y z : Bool) → IsTrue (x && y && z) → IsTrue x × IsTrue y × IsTrue z
 parts true true true h = (refl, refl, refl)
 parts true true false h = grind arith
 parts true false z h = grind arith

@@ -17,7 +17,8 @@ use std::process::Abort;
 const ENOUGH: usize = 200;
 
 /// Constants that fall into regions.
-static REGIONS: &str = "0 / scope; block 0; const 7 @0; const 5 @0; both @0 v0 v1; block 3 1; block 3 1 1; ask @1 v2; ask @2 v3 => 5 ? / - 5
+static REGIONS: &str =
+    "0 / scope; block 0; const 7 @0; const 5 @0; both @0 v0 v1; block 3 1; block 3 1 1; ask @1 v2; ask @2 v3 => 5 ? / - 5
 0 / scope; block 0; const 7 @0; both @0 v0; block 2 1; block 2 1 1; ask @1 v1; ask @2 v2 => ? ? / - -
 0 / scope; block 0; const 7 @0; ask @0 v0; both @0 v0 v1; block 3 1; ask @1 v2; block 3 0 1 => 7 ? / 1 7
 0 / scope; block 0; const 7 @0; const 5 @0; both @0 v0 v1; block 3 2; ask @1 v3; block 3 0 1 => ? / -
@@ -28,7 +29,8 @@ static REGIONS: &str = "0 / scope; block 0; const 7 @0; const 5 @0; both @0 v0 v
 0 / scope; block 0; const 7 @0; scope @0 v0; block 2 1; ask @1 v1 => ? / 7";
 
 /// Entry blocks that are also successors: the world's answers are used up.
-static SUCCESSORS: &str = "0 / scope; block 0; const 7 @0; twice @0 v0; block 2 1; const 9 @1; ask @1 v1; br @1 b1 v2 => ? / 9 9 9 9 7
+static SUCCESSORS: &str =
+    "0 / scope; block 0; const 7 @0; twice @0 v0; block 2 1; const 9 @1; ask @1 v1; br @1 b1 v2 => ? / 9 9 9 9 7
 0 / scope; block 0; const 7 @0; twice @0 v0; block 2 1; const 7 @1; ask @1 v1; br @1 b1 v2 => 7 / 7 7 7 7 7
 0 / scope; block 0; const 7 @0; twice @0 v0; block 2 1; ask @1 v1; br @1 b1 v1 => 7 / 7 7 7 7 7
 0 / scope; block 0; const 7 @0; twice @0 v0; block 2 1; ask @1 v1; br @1 b1 v2 => ? / 4 3 2 1 7
@@ -36,7 +38,8 @@ static SUCCESSORS: &str = "0 / scope; block 0; const 7 @0; twice @0 v0; block 2 
 0 / scope; block 0; const 7 @0; both @0 v0 v0; block 2 1; const 7 @1; ask @1 v1; br @1 b1 v2; block 2 0 1 => 7 / 7 7 7 7 7";
 
 /// Calls on what names operands itself: whatever may come in at its own entries.
-static CALLED: &str = "3 / scope; block 0; const 7 @0; const 5 @0; both @0 v0 v1; block 3 1; block 3 1 1; ask @1 v2; ask @2 v3 => ? ? / - 5
+static CALLED: &str =
+    "3 / scope; block 0; const 7 @0; const 5 @0; both @0 v0 v1; block 3 1; block 3 1 1; ask @1 v2; ask @2 v3 => ? ? / - 5
 2 / scope; block 0; const 7 @0; twice @0 v0; block 2 1; ask @1 v1 => ? / 7 7
 2 / scope; block 0; const 7 @0; twice @0 v0; block 2 1; const 3 @1; twice @1 v2; block 4 1; ask @2 v3; ask @1 v1 => 3 ? / 3 3 7 3 3";
 

@@ -29,9 +29,7 @@ fn admits(
         Some(TinyKind::Scope) => results == 0 && successors == 0 && regions == 1,
         Some(TinyKind::Br) => results == 0 && successors == 1 && regions == 0,
         Some(TinyKind::Both) => results == 0 && successors == 0 && regions == 2,
-        Some(TinyKind::Twice) => {
-            operands > 0 && results == 0 && successors == 0 && regions == 1
-        }
+        Some(TinyKind::Twice) => { operands > 0 && results == 0 && successors == 0 && regions == 1 }
         None => false,
     }
 }
