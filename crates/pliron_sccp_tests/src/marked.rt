@@ -3,9 +3,9 @@
 ghost use Rattle.std.specs.Prelude.{◌≡◌, Ok};
 ghost use Rattle.pliron_core.specs.Tree.{IsLive};
 ghost use Rattle.pliron_laws.specs.Answers.{ReadsHead};
-ghost use Rattle.pliron_laws.specs.Entries.{names_none};
-ghost use Rattle.pliron_evaluator.specs.Tiny.{tiny, tiny_side_effects, tiny_removable, tiny_constants, tiny_accepts, tiny_constant, tiny_folds_branch, tiny_feasible, tiny_outcome, has_tiny_kind, has_tiny_interface, tiny_shortened};
-ghost use Rattle.pliron_evaluator.specs.TinyLaws.{tiny_counts, tiny_effects, tiny_arguments, tiny_jumps, tiny_in_place, tiny_makes, tiny_names, tiny_roots};
+ghost use Rattle.pliron_evaluator.specs.Tiny.{tiny, tiny_side_effects, tiny_removable, tiny_constants, tiny_accepts, tiny_constant, tiny_folds_branch, tiny_feasible, tiny_outcome, has_tiny_kind, has_tiny_interface, tiny_shortened, tiny_entry_operands};
+ghost use Rattle.pliron_evaluator.specs.TinyLaws.{tiny_counts, tiny_effects, tiny_arguments, tiny_jumps, tiny_in_place, tiny_makes};
+ghost use Rattle.pliron_evaluator.specs.TinyEntries.{tiny_names, tiny_roots};
 ghost use Rattle.pliron_sccp_tests.specs.Marked.{marked_folds, marked_answers, marked_forwards};
 
 use super::tiny::{
@@ -152,15 +152,15 @@ impl BranchOpFoldInterface for Marked {
 impl RegionBranchOpInterface for Marked {
     ghost verdict = { λ t op r. r ≡ Ok tt };
 
-    ghost entry_operands = { names_none };
+    ghost entry_operands = { tiny_entry_operands };
 
     fn entry_operand(
-        _op: Ptr<Operation>,
-        _ctx: &Context,
-        _region: usize,
-        _arg: usize,
+        op: Ptr<Operation>,
+        ctx: &Context,
+        region: usize,
+        arg: usize,
     ) -> Option<usize> {
-        None
+        <Tiny as RegionBranchOpInterface>::entry_operand(op, ctx, region, arg)
     }
 
     fn verify(_alloc: Global, _op: Ptr<Operation>, _ctx: &Context) -> Result<(), OptError> {

@@ -12,7 +12,6 @@ use pliron_laws::edges_last;
 use pliron_sccp::sccp_counted;
 use std::alloc::Global;
 use std::process::Abort;
-use std::test::Fail;
 
 // Whether an operation of this kind may have so many operands, results, successors and regions.
 fn admits(
@@ -29,6 +28,8 @@ fn admits(
         Some(TinyKind::Ask) => operands == 1 && results == 1 && successors == 0 && regions == 0,
         Some(TinyKind::Scope) => results == 0 && successors == 0 && regions == 1,
         Some(TinyKind::Br) => results == 0 && successors == 1 && regions == 0,
+        Some(TinyKind::Both) => results == 0 && successors == 0 && regions == 2,
+        Some(TinyKind::Twice) => { operands > 0 && results == 0 && successors == 0 && regions == 1 }
         None => false,
     }
 }
@@ -173,34 +174,35 @@ fn tree(
     (root, second, question)
 }
 
-fn propagates_in(rt: &impl Abort, alloc: Global, ctx: &mut Context) -> Result<(), Fail> {
+// What propagation answers for the operation.
+pub(crate) fn answered(
+    rt: &impl Abort,
+    alloc: Global,
+    ctx: &mut Context,
+    root: Ptr<Operation>,
+) -> (IRStatus, u128) {
+    assert!(rt; root.is_live(ctx));
+    assert!(rt; edges_last(root, ctx), "edges stand elsewhere");
+    assert!(rt; are_admitted(root, ctx), "not admitted");
+    sccp_counted::<Tiny>(alloc, root, ctx).expect(rt, "memory")
+}
+
+fn propagates_in(rt: &impl Abort, alloc: Global, ctx: &mut Context) {
     let (root, second, question) = tree(rt, alloc, ctx);
-    if !root.is_live(ctx) {
-        return Err(Fail::from("no root"));
-    }
-    if !edges_last(root, ctx) {
-        return Err(Fail::from("edges stand elsewhere"));
-    }
-    if !are_admitted(root, ctx) {
-        return Err(Fail::from("not admitted"));
-    }
-    let (status, pops) = sccp_counted::<Tiny>(alloc, root, ctx)?;
+    let (status, pops) = answered(rt, alloc, ctx, root);
     assert_eq!(rt; status, IRStatus::Changed);
     // two blocks, two constants, an answer
     assert!(rt; 5 <= pops && pops <= 6);
     assert!(rt; second.is_live(ctx));
     assert!(rt; question.is_live(ctx));
-    let Some(constant) = second.get_head(ctx) else {
-        return Err(Fail::from("no operation"));
-    };
+    let constant = second.get_head(ctx).expect(rt, "an operation");
     assert!(rt; constant.head(ctx).kind == TinyKind::Const.number());
     assert!(rt; constant.num_result(ctx) == 1 && question.num_operand(ctx) == 1);
     assert!(rt; question.get_operand(ctx, 0) == constant.get_result(ctx, 0));
-    Ok(())
 }
 
 #[test]
-fn the_tiny_dialect(rt: HostRuntime) -> Result<(), Fail> {
+fn the_tiny_dialect(rt: HostRuntime) {
     let alloc = rt.alloc();
     let mut ctx = Context::new(alloc);
     propagates_in(&rt, alloc, &mut ctx)

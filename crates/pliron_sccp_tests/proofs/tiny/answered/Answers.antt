@@ -1,4 +1,4 @@
-use Rattle.pliron_sccp_tests.proofs.tiny.propagates_in.Goals as goal
+use Rattle.pliron_sccp_tests.proofs.tiny.answered.Goals as goal
 
 pub sccp_counted-requires-clause-linked : goal.sccp_counted-requires-clause-linked
 sccp_counted-requires-clause-linked g c = record {
