@@ -64,18 +64,26 @@ fn number_of(ctx: &Context, value: Value) -> Option<i128> {
     }
 }
 
-fn is_question(ctx: &Context, op: Ptr<Operation>) -> bool {
-    op.is_live(ctx) && TinyKind::of(op.head(ctx).kind) == Some(TinyKind::Ask)
+// The operand of a question.
+fn question_operand(ctx: &Context, op: Ptr<Operation>) -> Option<Value> {
+    if !op.is_live(ctx) || op.num_operand(ctx) == 0 {
+        return None;
+    }
+    if TinyKind::of(op.head(ctx).kind) == Some(TinyKind::Ask) {
+        Some(op.get_operand(ctx, 0))
+    } else {
+        None
+    }
 }
 
 // What each question reads.
 fn asked(rt: &impl Abort, alloc: Global, ctx: &Context, operations: &[Ptr<Operation>]) -> String {
     let mut all = String::new(alloc);
     for op in operations {
-        if !is_question(ctx, *op) || op.num_operand(ctx) == 0 {
+        let Some(value) = question_operand(ctx, *op) else {
             continue;
-        }
-        match number_of(ctx, op.get_operand(ctx, 0)) {
+        };
+        match number_of(ctx, value) {
             Some(number) => write!(all, "{number} ").expect(rt, "memory"),
             None => write!(all, "? ").expect(rt, "memory"),
         }
@@ -85,10 +93,16 @@ fn asked(rt: &impl Abort, alloc: Global, ctx: &Context, operations: &[Ptr<Operat
 
 // What is seen of the root's run.
 fn seen(rt: &impl Abort, alloc: Global, ctx: &Context, root: Ptr<Operation>) -> Sight {
-    let mut world = Vec::new(alloc);
-    for number in 1..5 {
-        world.push(Datum::Number(number)).expect(rt, "memory");
-    }
+    let world = Vec::from_array(
+        alloc,
+        [
+            Datum::Number(1),
+            Datum::Number(2),
+            Datum::Number(3),
+            Datum::Number(4),
+        ],
+    )
+    .expect(rt, "memory");
     evaluate::<Tiny>(alloc, ctx, root, Vec::new(alloc), world, ENOUGH).expect(rt, "memory")
 }
 

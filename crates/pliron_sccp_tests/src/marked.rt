@@ -8,14 +8,12 @@ ghost use Rattle.pliron_evaluator.specs.TinyLaws.{tiny_counts, tiny_effects, tin
 ghost use Rattle.pliron_evaluator.specs.TinyEntries.{tiny_names, tiny_roots};
 ghost use Rattle.pliron_sccp_tests.specs.Marked.{marked_folds, marked_answers, marked_forwards};
 
-use super::tiny::{
-    are_admitted, block, leads_to, made, made_with, put, reads_argument, reads_result,
-};
+use super::tiny::{block, leads_to, made, made_with, put, reads_argument, reads_result};
 use pliron_core::{AttrObj, BasicBlock, Context, IRStatus, Operation, Ptr, Rewriter, Value};
 use pliron_evaluator::{Tiny, TinyKind};
 use pliron_laws::{
     BlockArgRemoval, BranchOpFoldInterface, ConstFoldInterface, Dialect, HasMeaning, Interface,
-    OptError, RegionBranchOpInterface, Room, SideEffects, edges_last,
+    OptError, RegionBranchOpInterface, Room, SideEffects, is_well_linked,
 };
 use pliron_sccp::sccp_counted;
 use std::alloc::Global;
@@ -292,11 +290,8 @@ fn answered(
     if !root.is_live(ctx) {
         return Err(Fail::from("no root"));
     }
-    if !edges_last(root, ctx) {
-        return Err(Fail::from("edges stand elsewhere"));
-    }
-    if !are_admitted(root, ctx) {
-        return Err(Fail::from("not admitted"));
+    if !is_well_linked::<Marked>(root, ctx) {
+        return Err(Fail::from("not well linked"));
     }
     Ok(sccp_counted::<Marked>(alloc, root, ctx)?)
 }
