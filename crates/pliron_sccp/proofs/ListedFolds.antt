@@ -1,5 +1,5 @@
 -- The folds inside an operation, listed one after the other.
-use Rattle.std.proofs.Common.{◌≡◌, ◌⊎◌, inl, inr, ℕ, zero, suc, ◌+◌, ◌-◌, ◌≤◌, ◌<◌, Bool, true, false, cond, List, [], ◌∷◌, ◌++◌, length, map, filter, take, drop, Option, Some, None, slice_get, slice_range, refl, sym, ap, ap₂, ◌∙◌, subst, arith, IsTrue, append-nil, append_assoc, length-append, length-drop, take_all}
+use Rattle.std.proofs.Common.{◌≡◌, ◌⊎◌, inl, inr, ℕ, zero, suc, ◌+◌, ◌-◌, ◌≤◌, ◌<◌, Bool, true, false, cond, List, [], ◌∷◌, ◌++◌, length, map, filter, take, drop, Option, Some, None, slice_get, slice_range, refl, sym, ap, ap₂, ◌∙◌, subst, arith, IsTrue, true≢false, append-nil, append_assoc, length-append, length-drop, take_all}
 use Rattle.std.proofs.lemmas.List.{take-append-le, drop-append-le}
 use Rattle.std.proofs.Math.Seq.{drop-append_seam}
 use Rattle.std.specs.List.{flat_map}
@@ -44,9 +44,17 @@ filter_alone p (x ∷ xs) = go (filter_alone p xs) (p x)
     go rest true = ap (λ ys. x ∷ ys) rest
     go rest false = rest
 
-both_true : (b : Bool) → both b true ≡ b
-both_true true = refl
-both_true false = refl
+both_parts : (a b : Bool) → IsTrue (both a b) → IsTrue a × IsTrue b
+both_parts true b e = (refl, e)
+both_parts false b e = absurd (true≢false (sym e))
+
+passing_head : (can_fold : Head → Bool) (o : Option Head) → IsTrue (has_passing_head can_fold o) → (h : Head) × (o ≡ Some h) × IsTrue (can_fold h)
+passing_head can_fold None e = absurd (true≢false (sym e))
+passing_head can_fold (Some h) e = (h, refl, e)
+
+reached_parent : (f : Facts) (o : Option ℕ) → IsTrue (is_reached f o) → (b : ℕ) × (o ≡ Some b) × IsTrue (f.reaches b)
+reached_parent f None e = absurd (true≢false (sym e))
+reached_parent f (Some b) e = (b, refl, e)
 
 both_false : (b : Bool) → both b false ≡ false
 both_false true = refl
@@ -75,10 +83,6 @@ module _ (x : Says) (t : Tree) (f : Facts) (k : ℕ) where
   pub not_foldable : (h : Head) → head_of t k ≡ Some h → x.can_fold h ≡ false → is_folding x.can_fold t f k ≡ false
   not_foldable h e no_fold = ap (λ o. both (has_passing_head x.can_fold o) (is_reached f (parent_of t k))) e ∙ ap (λ c. both c (is_reached f (parent_of t k))) no_fold
 
-  pub folds_if_head : (h : Head) (b : ℕ) → head_of t k ≡ Some h → parent_of t k ≡ Some b → IsTrue (f.reaches b) → is_folding x.can_fold t f k ≡ x.can_fold h
-  folds_if_head h b e p reached =
-      ap₂ (λ o q. both (has_passing_head x.can_fold o) (is_reached f q)) e p ∙ ap (both (x.can_fold h)) reached ∙ both_true (x.can_fold h)
-
   module _ (old new : Folds) (fold : Fold) (more : List (Option AttrObj)) (longer : new.known.items ≡ old.known.items ++ more) (e : new.rows.items ≡ old.rows.items ++ fold ∷ []) where
     fold_stays : (one : Fold) → IsFold x t f old.known.items one → IsFold x t f new.known.items one
     fold_stays one is = record {
@@ -91,26 +95,35 @@ module _ (x : Says) (t : Tree) (f : Facts) (k : ℕ) where
       known_is = ap (λ z. slice_range z one.start one.end) longer ∙ range_stays old.known.items more one.start one.end is.rising is.within ∙ is.known_is;
     }
 
-    pub adds_fold : IsTrue (is_folding x.can_fold t f k) → (h : Head) (b : ℕ) → head_of t k ≡ Some h → IsTrue (x.can_fold h) → parent_of t k ≡ Some b → IsTrue (f.reaches b) → fold.op ≡ k → fold.start ≡ length old.known.items → fold.end ≡ length new.known.items → more ≡ handed f (operands_of t k) → AddsFold x t f k old new
-    adds_fold folding h b head folds p reached same start end known = record {
+    pub adds_fold : IsTrue (is_folding x.can_fold t f k) → fold.op ≡ k → fold.start ≡ length old.known.items → fold.end ≡ length new.known.items → more ≡ handed f (operands_of t k) → AddsFold x t f k old new
+    adds_fold folding same start end known = record {
       operations = ap (map (λ fold. fold.op)) e ∙ map_last old.rows.items ∙ ap (λ z. map (λ fold. fold.op) old.rows.items ++ z ∷ []) same ∙ ap (λ b. map (λ fold. fold.op) old.rows.items ++ alone_if b k) (sym folding);
-      each = λ all. each_more (IsFold x t f new.known.items) old.rows.items new.rows.items fold e (λ i one at. fold_stays one (all i one at)) added;
+      each = λ all. each_more (IsFold x t f new.known.items) old.rows.items new.rows.items fold e (λ i one at. fold_stays one (all i one at)) (subst (IsFold x t f new.known.items) fold_is added);
     }
       where
         map_last : (xs : List Fold) → map (λ z. z.op) (xs ++ fold ∷ []) ≡ map (λ z. z.op) xs ++ fold.op ∷ []
         map_last [] = refl
         map_last (y ∷ ys) = ap (λ zs. y.op ∷ zs) (map_last ys)
 
-        added : IsFold x t f new.known.items fold
-        added = subst (λ z. IsFold x t f new.known.items z) (ap₂ (λ p q. record { op = k; start = p; end = q }) (sym start) (sym end) ∙ ap (λ z. record { op = z; start = fold.start; end = fold.end }) (sym same)) (record {
-          operation = operation_of t k h;
-          at = make_op t k h head;
-          stands = (b, p, reached);
-          folds = folds;
-          rising = grows old.known.items more new.known.items longer;
-          within = refl;
-          known_is = range_added old.known.items more new.known.items longer ∙ known;
-        })
+        parts : IsTrue (has_passing_head x.can_fold (head_of t k)) × IsTrue (is_reached f (parent_of t k))
+        parts = both_parts (has_passing_head x.can_fold (head_of t k)) (is_reached f (parent_of t k)) folding
+
+        fold_is : (record { op = k; start = length old.known.items; end = length new.known.items } : Fold) ≡ fold
+        fold_is =
+            ap (λ z. record { op = z; start = length old.known.items; end = length new.known.items }) (sym same) ∙ ap (λ z. record { op = fold.op; start = z; end = length new.known.items }) (sym start) ∙ ap (λ z. record { op = fold.op; start = fold.start; end = z }) (sym end)
+
+        added : IsFold x t f new.known.items (record { op = k; start = length old.known.items; end = length new.known.items })
+        added =
+            let h = passing_head x.can_fold (head_of t k) parts.0 in
+            record {
+              operation = operation_of t k h.0;
+              at = make_op t k h.0 h.1;
+              stands = reached_parent f (parent_of t k) parts.1;
+              folds = h.2;
+              rising = grows old.known.items more new.known.items longer;
+              within = refl;
+              known_is = range_added old.known.items more new.known.items longer ∙ known;
+            }
 
   pub adds_none : (old : Folds) → is_folding x.can_fold t f k ≡ false → AddsFold x t f k old old
   adds_none old e = record {

@@ -1,6 +1,6 @@
 //! What facts say is to be rewritten, the operations that fold and the constant arguments; and the tree
 //! rewritten by it.
-ghost use Rattle.std.specs.Prelude.{◌≡◌, ◌≤◌, ◌<◌, ◌++◌, ℕ, List, Some, IsSome, IfOk, OnErr, OnOk, length, map, slice_get, IsOkUnless};
+ghost use Rattle.std.specs.Prelude.{◌≡◌, ◌≤◌, ◌<◌, ◌++◌, ℕ, List, [], Some, IsSome, IfOk, OnErr, OnOk, length, map, slice_get, slice_range, IsOkUnless};
 ghost use Rattle.pliron_core.specs.Tree.{Tree, IsLive, IsBlock, operands_of};
 ghost use Rattle.pliron_core.specs.Changes.{IsSameTree};
 ghost use Rattle.pliron_laws.specs.InPlace.{TellsChange};
@@ -37,6 +37,27 @@ pub struct Fold {
 pub struct Folds {
     pub(crate) rows: Vec<Fold>,
     pub(crate) known: Vec<Option<AttrObj>>,
+}
+
+impl Folds {
+    /// No folds. Takes no memory.
+    fn new(alloc: Global) -> Folds
+        ensures none { result.rows.items ≡ [] }
+    {
+        Folds {
+            rows: Vec::new(alloc),
+            known: Vec::new(alloc),
+        }
+    }
+
+    /// What is known of the operands of one of the folds. Asks that its part lies within the list.
+    fn known_of(&self, fold: Fold) -> &[Option<AttrObj>]
+        requires rising { fold.start ≤ fold.end }
+        requires within { fold.end ≤ length self.now.known.items }
+        ensures { result.now ≡ slice_range self.now.known.items fold.start fold.end }
+    {
+        &self.known[fold.start..fold.end]
+    }
 }
 
 /// An argument of a block that is a constant.
@@ -121,10 +142,7 @@ fn all_folds<D: Dialect>(
     ensures memory { IsOkUnless result OptError.Memory }
 {
     ctx.well_formed();
-    let mut folds = Folds {
-        rows: Vec::new(alloc),
-        known: Vec::new(alloc),
-    };
+    let mut folds = Folds::new(alloc);
     let mut at = root.next_in_preorder(root, ctx);
     while let Some(op) = at {
         add_fold::<D>(alloc, op, ctx, tables, &mut folds)?;
@@ -249,8 +267,9 @@ pub fn fold_all<D: Dialect, R: Rewriter + Room>(
 {
     let mut status = IRStatus::Unchanged;
     for i in 0..folds.rows.len() {
-        let Fold { op, start, end } = folds.rows[i];
-        status |= fold_one::<D, R>(alloc, op, ctx, &folds.known[start..end], rewriter)?;
+        let fold = folds.rows[i];
+        let known = folds.known_of(fold);
+        status |= fold_one::<D, R>(alloc, fold.op, ctx, known, rewriter)?;
     }
     Ok(status)
 }
