@@ -1,5 +1,5 @@
 -- The folds inside an operation, listed one after the other.
-use Rattle.std.proofs.Common.{◌≡◌, ◌⊎◌, inl, inr, ℕ, zero, suc, ◌+◌, ◌-◌, ◌≤◌, ◌<◌, Bool, true, false, cond, List, [], ◌∷◌, ◌++◌, length, map, filter, take, drop, Option, Some, None, slice_get, slice_range, refl, sym, ap, ap₂, ◌∙◌, subst, arith, IsTrue, true≢false, append-nil, append_assoc, length-append, length-drop, take_all}
+use Rattle.std.proofs.Common.{◌≡◌, ◌⊎◌, inl, inr, ℕ, zero, suc, ◌+◌, ◌-◌, ◌≤◌, ◌<◌, Bool, true, false, cond, List, [], ◌∷◌, ◌++◌, length, map, filter, take, drop, Option, Some, None, slice_get, slice_range, refl, sym, ap, ◌∙◌, subst, arith, IsTrue, true≢false, append-nil, append_assoc, length-append, length-drop, take_all}
 use Rattle.std.proofs.lemmas.List.{take-append-le, drop-append-le}
 use Rattle.std.proofs.Math.Seq.{drop-append_seam}
 use Rattle.std.specs.List.{flat_map}
@@ -96,7 +96,7 @@ module _ (x : Says) (t : Tree) (f : Facts) (k : ℕ) where
     }
 
     pub adds_fold : IsTrue (is_folding x.can_fold t f k) → fold.op ≡ k → fold.start ≡ length old.known.items → fold.end ≡ length new.known.items → more ≡ handed f (operands_of t k) → AddsFold x t f k old new
-    adds_fold folding same start end known = record {
+    adds_fold folding same start end is = record {
       operations = ap (map (λ fold. fold.op)) e ∙ map_last old.rows.items ∙ ap (λ z. map (λ fold. fold.op) old.rows.items ++ z ∷ []) same ∙ ap (λ b. map (λ fold. fold.op) old.rows.items ++ alone_if b k) (sym folding);
       each = λ all. each_more (IsFold x t f new.known.items) old.rows.items new.rows.items fold e (λ i one at. fold_stays one (all i one at)) (subst (IsFold x t f new.known.items) fold_is added);
     }
@@ -108,11 +108,14 @@ module _ (x : Says) (t : Tree) (f : Facts) (k : ℕ) where
         parts : IsTrue (has_passing_head x.can_fold (head_of t k)) × IsTrue (is_reached f (parent_of t k))
         parts = both_parts (has_passing_head x.can_fold (head_of t k)) (is_reached f (parent_of t k)) folding
 
-        fold_is : (record { op = k; start = length old.known.items; end = length new.known.items } : Fold) ≡ fold
+        there : Fold
+        there = record { op = k; start = length old.known.items; end = length new.known.items }
+
+        fold_is : there ≡ fold
         fold_is =
             ap (λ z. record { op = z; start = length old.known.items; end = length new.known.items }) (sym same) ∙ ap (λ z. record { op = fold.op; start = z; end = length new.known.items }) (sym start) ∙ ap (λ z. record { op = fold.op; start = fold.start; end = z }) (sym end)
 
-        added : IsFold x t f new.known.items (record { op = k; start = length old.known.items; end = length new.known.items })
+        added : IsFold x t f new.known.items there
         added =
             let h = passing_head x.can_fold (head_of t k) parts.0 in
             record {
@@ -121,8 +124,8 @@ module _ (x : Says) (t : Tree) (f : Facts) (k : ℕ) where
               stands = reached_parent f (parent_of t k) parts.1;
               folds = h.2;
               rising = grows old.known.items more new.known.items longer;
-              within = refl;
-              known_is = range_added old.known.items more new.known.items longer ∙ known;
+              within = omega arith;
+              known_is = range_added old.known.items more new.known.items longer ∙ is;
             }
 
   pub adds_none : (old : Folds) → is_folding x.can_fold t f k ≡ false → AddsFold x t f k old old
