@@ -146,9 +146,6 @@ pub known_step : (f : Facts) (xs : List ℕ) (old : List (Option AttrObj)) (i x 
 known_step f xs old i x before after a at so_far is grown =
     grown ∙ ap (λ z. z ++ a ∷ []) so_far ∙ append_assoc old (handed f (take i xs)) (a ∷ []) ∙ ap (λ z. old ++ z) (handed_more f xs i x (handed f (take i xs)) (handed f (take i xs) ++ a ∷ []) a at refl is refl)
 
-pub known_end : (f : Facts) (xs : List ℕ) (old now : List (Option AttrObj)) (i : ℕ) → length xs ≤ i → now ≡ old ++ handed f (take i xs) → now ≡ old ++ handed f xs
-known_end f xs old now i past e = e ∙ ap (λ z. old ++ handed f z) (take_all i xs past)
-
 abbrev lists : Says → Tree → Facts → ℕ → List ℕ
 lists x t f k = alone_if (is_folding x.can_fold t f k) k
 

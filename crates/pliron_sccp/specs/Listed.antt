@@ -1,5 +1,5 @@
 -- What facts say is to be rewritten, as it is listed.
-use Rattle.std.specs.Prelude.{◌≡◌, ℕ, Bool, false, List, [], ◌∷◌, ◌++◌, Option, Some, None, if◌then◌else◌, map, slice_get, IsTrue}
+use Rattle.std.specs.Prelude.{◌≡◌, ℕ, Bool, List, [], ◌∷◌, ◌++◌, Some, if◌then◌else◌, map, slice_get}
 use Rattle.pliron_core.specs.Tree.{Tree, head_of, parent_of, arguments_of}
 use Rattle.pliron_laws.specs.Datum.{Head}
 use Rattle.pliron_theory.specs.Facts.{Facts, Says}

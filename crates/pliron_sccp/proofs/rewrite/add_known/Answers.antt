@@ -1,6 +1,6 @@
 use Rattle.pliron_core.specs.Tree.{operands_of}
 use Rattle.pliron_sccp.specs.Tables.{facts_of}
-use Rattle.pliron_sccp.proofs.ListedFolds.{known_start, known_step, known_end}
+use Rattle.pliron_sccp.proofs.ListedFolds.{known_start, known_step}
 use Rattle.pliron_sccp.proofs.rewrite.add_known.Goals as goal
 
 pub loop-i-init : goal.loop-i-init
