@@ -9,6 +9,7 @@
 mod delays;
 mod demands;
 mod facts;
+mod guesses;
 mod inside;
 mod propagation;
 mod rewrite;
