@@ -54,7 +54,7 @@ impl<'a, G: ControlFlowGraph<C>, C> ReverseGraph<'a, G, C> {
     {
         let listed = graph.nodes(alloc, ctx)?;
         let nodes = numbered(alloc, &listed)?;
-        let pre_sentinels = find_pre_sentinels(alloc, ctx, graph, &nodes)?;
+        let pre_sentinels = find_pre_sentinels(alloc, ctx, graph)?;
         let predecessors = predecessor_lists(alloc, ctx, graph, &listed, &pre_sentinels)?;
         Ok(ReverseGraph {
             original: graph,
