@@ -1,5 +1,5 @@
 -- The pre-sentinels of a graph, by those of the same graph by numbers.
-use Rattle.std.proofs.Common.{◌≡◌, ℕ, suc, ◌<◌, ◌≤◌, Bool, List, [], ◌∷◌, length, map, get_or, slice_get, Some, refl, sym, ◌∙◌, ap, subst, arith, inl, inr, ◌↔◌, Contains, nat_eq, true}
+use Rattle.std.proofs.Common.{◌≡◌, ℕ, suc, ◌<◌, ◌≤◌, Bool, List, [], ◌∷◌, length, map, get_or, slice_get, Some, refl, sym, ◌∙◌, ap, subst, arith, inl, inr, Contains, nat_eq, true}
 use Rattle.std.specs.Cmp.{IsEquivalence}
 use Rattle.std.specs.List.{All, IsDistinct}
 use Rattle.std.proofs.lemmas.List.{length-map}
@@ -16,9 +16,8 @@ use Rattle.pliron_search.proofs.ItemLemmas.{item_from_in}
 use Rattle.pliron_search.proofs.PlaceLemmas.{is_distinct}
 use Rattle.pliron_search.proofs.NumberedLemmas.{in_map, of_map, named_items, one_number, row_below, succ_named, nodes_from, place_named}
 use Rattle.pliron_graph.specs.Components.{AreComponents}
-use Rattle.pliron_graph.specs.Reverse.{IsSink, IsLastListed, IsInEarlier, AreLastOfSinks, ArePreSentinels}
+use Rattle.pliron_graph.specs.Reverse.{IsSink, IsLastListed, IsInEarlier, ArePreSentinels}
 use Rattle.pliron_graph.specs.declared.components.Scc.{Scc}
-use Rattle.pliron_graph.specs.Internal.Collecting.{AreNumberedComponents}
 use Rattle.pliron_graph.specs.Internal.Named.{AreNamed}
 use Rattle.pliron_graph.specs.Internal.Sinks.{AreFoundSinks}
 use Rattle.pliron_graph.proofs.ReverseLemmas.{mapped_at}

@@ -32,12 +32,7 @@ pub(crate) fn find_owners<N: Eq + Copy, S: ListedSet<N>>(
 }
 
 // Writes this owner at the places of these nodes.
-fn own<N: Eq + Copy, S: ListedSet<N>>(
-    owners: &mut [usize],
-    places: &S,
-    members: &[N],
-    owner: usize,
-)
+fn own<N: Eq + Copy, S: ListedSet<N>>(owners: &mut [usize], places: &S, members: &[N], owner: usize)
     requires same { (x y : N) → IsTrue (N.eq x y) → x ≡ y }
     requires counted { length owners.old ≡ length (S.listed places.now) }
     requires listed { All (IsListed N.eq (S.listed places.now)) members.now }

@@ -44,7 +44,8 @@ impl<'a, G: ControlFlowGraph<C>, C> ReverseGraph<'a, G, C> {
     /// The reverse of the graph.
     ///
     /// Asks that the graph may be read in the context. Errors: want of memory. Cost: that of the components,
-    /// and some table look-ups for each node and each edge.
+    /// two look-ups in a hashed table for each node, and a few reads for each node and each edge of a graph
+    /// that has numbers, as many more look-ups of any other.
     pub fn new(alloc: Global, ctx: &C, graph: &'a G) -> Result<Self, OptError>
         requires { G.is_lawful graph.now ctx.now }
         ensures lawful { IfOk result (λ r. ⟦<ReverseGraph<'a, G, C> as ControlFlowGraph<C>>⟧.is_lawful r ctx.now) }

@@ -1,4 +1,4 @@
-use Rattle.std.proofs.Common.{◌≡◌, length, sym, ◌∙◌, subst, arith, Contains}
+use Rattle.std.proofs.Common.{◌≡◌, sym, ◌∙◌, subst, arith, Contains}
 use Rattle.std.proofs.lemmas.List.{length-set}
 use Rattle.pliron_search.specs.Search.{IsListed}
 use Rattle.pliron_search.proofs.PlaceLemmas.{listed_within}

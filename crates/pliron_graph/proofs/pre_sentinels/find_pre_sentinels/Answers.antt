@@ -42,5 +42,5 @@ returns-clause-found g c =
     let named = subst (λ ns. map Some found ≡ map (λ k. slice_get ns k) starts) nodes (subst (λ ks. map Some found ≡ map (λ k. slice_get c.deref-2.result.now k) ks) c.deref-3.ensures.value c.in_ok-found.ensures.named) in
     IfOk-weaker c.numbered-2.result (λ r. r.keys ≡ c.deref-4.result.now) (λ r. ArePreSentinels eq graph r.keys)
     (λ r h. subst (ArePreSentinels eq graph) (sym (h ∙ c.deref-4.ensures.value))
-        (starts_named eq g.met.G.Node.Eq.laws graph c.in-Some.lists.now lawful c.in-Some.ensures starts c.in_ok-last.ensures.found found named))
+    (starts_named eq g.met.G.Node.Eq.laws graph c.in-Some.lists.now lawful c.in-Some.ensures starts c.in_ok-last.ensures.found found named))
     c.numbered-2.ensures.keys

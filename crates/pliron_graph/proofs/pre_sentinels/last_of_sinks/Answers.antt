@@ -1,8 +1,5 @@
-use Rattle.std.proofs.Common.{◌≡◌, sym, ◌∙◌, subst}
-use Rattle.std.specs.List.{All}
+use Rattle.std.proofs.Common.{◌∙◌, subst}
 use Rattle.std.proofs.lemmas.Result.{IfOk-weaker}
-use Rattle.pliron_search.specs.Search.{IsListed}
-use Rattle.pliron_graph.specs.Internal.Owners.{AreApart}
 use Rattle.pliron_graph.specs.Internal.Sinks.{AreFoundSinks}
 use Rattle.pliron_graph.specs.Reverse.{AreLastOfSinks}
 use Rattle.pliron_graph.proofs.OwnerLemmas.{all_listed}

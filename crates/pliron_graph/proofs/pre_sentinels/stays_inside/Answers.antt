@@ -1,4 +1,4 @@
-use Rattle.std.proofs.Common.{◌≡◌, sym, ◌∙◌, refl, arith}
+use Rattle.std.proofs.Common.{◌≡◌, sym, refl, arith}
 use Rattle.std.proofs.lemmas.Option.{slice_get_within, get_or_from_slice_get}
 use Rattle.pliron_graph.specs.Internal.Owners.{owner_in}
 use Rattle.pliron_graph.proofs.PreSentinelLemmas.{all_more, all_end}
