@@ -2,6 +2,8 @@
 """Programs of known shapes, to measure optimisations.
 
   shapes.py SHAPE N bench|llvm|mlir  a text of about N operations
+  shapes.py SHAPE N graph            a graph of N nodes for `plir_opt graph`: chain, random, dense, nest,
+                                     loops, star, isolated
   shapes.py list                     the names of the shapes, but those that bench alone can write:
                                      boxed, fiftyboxes, boxes, deepboxes, boxargs,
                                      boxconsts, boxuses, boxuseslast, shortedges; and
@@ -687,7 +689,27 @@ def mlir_fn(n, f, w):
 PRINT = {"bench": bench, "llvm": llvm, "mlir": mlir}
 
 
+# The nodes that follow node i in a graph of n nodes.
+GRAPHS = {
+    "chain": lambda i, n, r: [i + 1],
+    "random": lambda i, n, r: dict.fromkeys(r.randrange(n) for _ in range(4)),
+    "dense": lambda i, n, r: [j for j in range(n) if j != i],
+    "nest": lambda i, n, r: [i + 1] if i < n // 2 else [min(n - 1 - i, n // 2 - 1), i + 1],
+    "loops": lambda i, n, r: [i + 1] + ([i - 3] if i % 4 == 3 else []),
+    "star": lambda i, n, r: [0] if i else range(1, n),
+    "isolated": lambda i, n, r: [],
+}
+
+
+def graph_text(shape, n):
+    """A line for each node: its name, and the names of those that follow it."""
+    r = random.Random(1)
+    return "".join(f"{i}:" + "".join(f" {j}" for j in GRAPHS[shape](i, n, r) if j < n) + "\n" for i in range(n))
+
+
 def text_of(shape, n, notation):
+    if notation == "graph":
+        return graph_text(shape, n)
     if shape in BENCH_ONLY:
         return BENCH_ONLY[shape](n)
     parts = []
