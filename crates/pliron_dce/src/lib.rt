@@ -20,6 +20,7 @@ ghost use Rattle.pliron_dce.specs.Going.{GoInTurn, AreDeadThings, LeavesNoDead, 
 mod candidates;
 mod incoming;
 mod looks;
+mod predecessors;
 mod ready;
 mod sweep;
 mod take;
@@ -27,6 +28,7 @@ mod work;
 
 use crate::candidates::all_candidates;
 use crate::looks::Looks;
+use crate::predecessors::Predecessors;
 use crate::sweep::sweep;
 use pliron_core::{Context, IRStatus, Operation, Ptr};
 use pliron_laws::{Dialect, OptError};
@@ -69,8 +71,9 @@ pub fn ready_things_are_seen<D: Dialect>()
 /// asks each edge to the block for all that it forwards (`successor_operands`) and sorts the edges by how much
 /// that is. Each one then asks only the edges that forward to it, and one more, for the one operand that they
 /// forward there (`successor_operand`), and takes that one out. The arguments of a block that may go at one
-/// time go side by side, the last one first; so those that stay behind them move once for all of these. A look
-/// at an argument that nothing uses asks each edge to its block whether it is a branch's.
+/// time go side by side, the last one first; so those that stay behind them move once for all of these. Whether
+/// branches alone lead to a block is asked of each edge to it once, at the start, where there are many, and else at
+/// each look at an argument of it that nothing uses.
 pub fn dce<D: Dialect>(
     alloc: Global,
     op: Ptr<Operation>,
@@ -115,5 +118,6 @@ pub fn dce_with_regions<D: Dialect>(
 {
     let work = all_candidates(alloc, op, ctx)?;
     let looks = Looks::new(alloc, &work, ctx)?;
-    sweep::<D>(alloc, op, work, looks, ctx)
+    let predecessors = Predecessors::new::<D>(alloc, &work, op, ctx)?;
+    sweep::<D>(alloc, op, work, looks, &predecessors, ctx)
 }
