@@ -116,8 +116,9 @@ pub fn dce_with_regions<D: Dialect>(
     ensures links { (root : ℕ) → IsWellLinked D.meaning ctx.old.tree root → IsLive ctx.new.tree root → IsWellLinked D.meaning ctx.new.tree root }
     ensures memory { IsOkUnless result OptError.Memory }
 {
-    let work = all_candidates(alloc, op, ctx)?;
+    let mut wide = Vec::new(alloc);
+    let work = all_candidates(alloc, &mut wide, op, ctx)?;
     let looks = Looks::new(alloc, &work, ctx)?;
-    let predecessors = Predecessors::new::<D>(alloc, &work, op, ctx)?;
+    let predecessors = Predecessors::new::<D>(alloc, &wide, op, ctx)?;
     sweep::<D>(alloc, op, work, looks, &predecessors, ctx)
 }

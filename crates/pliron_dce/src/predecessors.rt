@@ -8,14 +8,17 @@ ghost use Rattle.pliron_core.specs.Tree.{IsBlock, HoldsBlock};
 ghost use Rattle.pliron_dce.specs.Incoming.{BranchesLead};
 ghost use Rattle.pliron_dce.specs.Predecessors.{mark_of, AreMarked};
 
-use crate::work::Candidate;
 use indexmap::IndexMap;
-use pliron_core::{BasicBlock, Context, Def, Operation, Ptr, Value};
+use pliron_core::{BasicBlock, Context, Operation, Ptr};
 use pliron_laws::Dialect;
 use std::alloc::{AllocError, Global};
 
-// The most edges that are asked again at each look.
-const FEW: usize = 8;
+// Whether more edges lead to the block than are asked again at each look.
+pub(crate) fn has_many(block: Ptr<BasicBlock>, ctx: &Context) -> bool
+    requires { IsBlock ctx.now.tree block }
+{
+    block.num_use(ctx) > 8
+}
 
 // Whether branches alone lead to each block to which many edges lead.
 #[derive(Drop)]
@@ -39,10 +42,10 @@ fn are_branches<D: Dialect>(block: Ptr<BasicBlock>, ctx: &Context) -> bool
 }
 
 impl Predecessors {
-    // Marks the blocks of all arguments among the candidates.
+    // Marks these blocks.
     pub(crate) fn new<D: Dialect>(
         alloc: Global,
-        candidates: &[Candidate],
+        blocks: &[Ptr<BasicBlock>],
         root: Ptr<Operation>,
         ctx: &Context,
     ) -> Result<Predecessors, AllocError>
@@ -51,32 +54,23 @@ impl Predecessors {
         let mut known = Predecessors {
             marks: IndexMap::new(alloc),
         };
-        for candidate in candidates {
-            if let Candidate::Argument(value) = *candidate {
-                known.add::<D>(value, root, ctx)?;
-            }
+        for block in blocks {
+            known.add::<D>(*block, root, ctx)?;
         }
         Ok(known)
     }
 
-    // Marks the block of which this is the first argument, if many edges lead to it.
+    // Marks the block, if it stands.
     fn add<D: Dialect>(
         &mut self,
-        value: Value,
+        block: Ptr<BasicBlock>,
         root: Ptr<Operation>,
         ctx: &Context,
     ) -> Result<(), AllocError>
         requires { AreMarked D.meaning ctx.now.tree root (λ b. mark_of self.old b) }
         ensures { OnOk result (AreMarked D.meaning ctx.now.tree root (λ b. mark_of self.new b)) }
     {
-        ctx.well_formed();
-        if !value.is_live(ctx) {
-            return Ok(());
-        }
-        let Def::Argument(block, 0) = value.def(ctx) else {
-            return Ok(());
-        };
-        if block.num_use(ctx) <= FEW {
+        if !block.is_live(ctx) {
             return Ok(());
         }
         let mark = are_branches::<D>(block, ctx);
@@ -84,8 +78,7 @@ impl Predecessors {
         Ok(())
     }
 
-    // Whether branches alone lead to the block. Asks a few edges at most, if the block had an argument when the
-    // marks were made.
+    // Whether branches alone lead to the block. Asks a few edges at most, if each block with many is marked.
     pub(crate) fn are_branches_of<D: Dialect>(
         &self,
         block: Ptr<BasicBlock>,
@@ -97,7 +90,7 @@ impl Predecessors {
         requires marked { AreMarked D.meaning ctx.now.tree root (λ b. mark_of self.now b) }
         ensures { IsTrue result ↔ BranchesLead D.meaning ctx.now.tree block }
     {
-        if block.num_use(ctx) > FEW {
+        if has_many(block, ctx) {
             if let Some(mark) = self.marks.get(&block) {
                 return *mark;
             }
