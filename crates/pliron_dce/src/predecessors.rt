@@ -3,7 +3,7 @@
 //! What leads to a block ends its own block, so while the block stands none of it goes, and what is a branch, or
 //! none, stays so. So a block to which many edges lead is asked once, at the start, and marked; the mark is right
 //! until the block goes. Where few edges lead, they are sooner asked again than looked up.
-ghost use Rattle.std.specs.Prelude.{◌↔◌, IfOk, OnOk, IsTrue};
+ghost use Rattle.std.specs.Prelude.{◌≡◌, ◌↔◌, ℕ, None, IfOk, OnOk, IsTrue};
 ghost use Rattle.pliron_core.specs.Tree.{IsBlock, HoldsBlock};
 ghost use Rattle.pliron_dce.specs.Incoming.{BranchesLead};
 ghost use Rattle.pliron_dce.specs.Predecessors.{mark_of, AreMarked};
@@ -42,6 +42,15 @@ fn are_branches<D: Dialect>(block: Ptr<BasicBlock>, ctx: &Context) -> bool
 }
 
 impl Predecessors {
+    // No block is marked.
+    fn empty(alloc: Global) -> Predecessors
+        ensures { (block : ℕ) → mark_of result block ≡ None }
+    {
+        Predecessors {
+            marks: IndexMap::new(alloc),
+        }
+    }
+
     // Marks these blocks.
     pub(crate) fn new<D: Dialect>(
         alloc: Global,
@@ -51,9 +60,7 @@ impl Predecessors {
     ) -> Result<Predecessors, AllocError>
         ensures { IfOk result (λ known. AreMarked D.meaning ctx.now.tree root (λ b. mark_of known b)) }
     {
-        let mut known = Predecessors {
-            marks: IndexMap::new(alloc),
-        };
+        let mut known = Predecessors::empty(alloc);
         for block in blocks {
             known.add::<D>(*block, root, ctx)?;
         }
@@ -90,7 +97,7 @@ impl Predecessors {
         requires marked { AreMarked D.meaning ctx.now.tree root (λ b. mark_of self.now b) }
         ensures { IsTrue result ↔ BranchesLead D.meaning ctx.now.tree block }
     {
-        if has_many(block, ctx) {
+        if !self.marks.is_empty() && has_many(block, ctx) {
             if let Some(mark) = self.marks.get(&block) {
                 return *mark;
             }

@@ -154,7 +154,14 @@ fn begin_round<D: Dialect>(
     ensures later { OnOk result (work.new.later.items ≡ []) }
     ensures around { OnOk result (work.new.around.keys ≡ work.old.around.keys) }
 {
-    push_ready::<D>(&mut work.round, &work.later, &mut work.looks, predecessors, root, ctx)?;
+    push_ready::<D>(
+        &mut work.round,
+        &work.later,
+        &mut work.looks,
+        predecessors,
+        root,
+        ctx,
+    )?;
     work.later.clear();
     put_arguments_last(&mut work.round)?;
     Ok(())

@@ -17,6 +17,6 @@ pub returns : goal.returns
 returns g c =
     let t = c.args.ctx.now.tree in
     yes (BranchesLead g.D.HasMeaning.meaning t c.args.block) (λ k i.
-        let p = slice_in (successors_of t k) c.args.block i in
-        let u = c.well_formed-2.ensures.uses.block_uses.complete k p.0 c.args.block p.1 in
-        c.loop-i.invariant u.0 _ (let lt = slice_get_within (uses_of c.args.ctx.now.block_uses c.args.block) u.0 _ u.1 in let e2 = c.num_use-i-end.ensures in let e3 = c.loop-i-test.false in omega (arith, lt, e2, e3)) u.1)
+    let p = slice_in (successors_of t k) c.args.block i in
+    let u = c.well_formed-2.ensures.uses.block_uses.complete k p.0 c.args.block p.1 in
+    c.loop-i.invariant u.0 _ (let lt = slice_get_within (uses_of c.args.ctx.now.block_uses c.args.block) u.0 _ u.1 in let e2 = c.num_use-i-end.ensures in let e3 = c.loop-i-test.false in omega (arith, lt, e2, e3)) u.1)
