@@ -20,6 +20,7 @@ ghost use Rattle.pliron_dce.specs.Going.{GoInTurn, AreDeadThings, LeavesNoDead, 
 mod candidates;
 mod incoming;
 mod looks;
+mod predecessors;
 mod ready;
 mod sweep;
 mod take;
@@ -27,6 +28,7 @@ mod work;
 
 use crate::candidates::all_candidates;
 use crate::looks::Looks;
+use crate::predecessors::Predecessors;
 use crate::sweep::sweep;
 use pliron_core::{Context, IRStatus, Operation, Ptr};
 use pliron_laws::{Dialect, OptError};
@@ -69,8 +71,9 @@ pub fn ready_things_are_seen<D: Dialect>()
 /// asks each edge to the block for all that it forwards (`successor_operands`) and sorts the edges by how much
 /// that is. Each one then asks only the edges that forward to it, and one more, for the one operand that they
 /// forward there (`successor_operand`), and takes that one out. The arguments of a block that may go at one
-/// time go side by side, the last one first; so those that stay behind them move once for all of these. A look
-/// at an argument that nothing uses asks each edge to its block whether it is a branch's.
+/// time go side by side, the last one first; so those that stay behind them move once for all of these. Whether
+/// branches alone lead to a block is asked of each edge to it once, at the start, where there are many, and else at
+/// each look at an argument of it that nothing uses.
 pub fn dce<D: Dialect>(
     alloc: Global,
     op: Ptr<Operation>,
@@ -113,7 +116,9 @@ pub fn dce_with_regions<D: Dialect>(
     ensures links { (root : ℕ) → IsWellLinked D.meaning ctx.old.tree root → IsLive ctx.new.tree root → IsWellLinked D.meaning ctx.new.tree root }
     ensures memory { IsOkUnless result OptError.Memory }
 {
-    let work = all_candidates(alloc, op, ctx)?;
+    let mut wide = Vec::new(alloc);
+    let work = all_candidates(alloc, &mut wide, op, ctx)?;
     let looks = Looks::new(alloc, &work, ctx)?;
-    sweep::<D>(alloc, op, work, looks, ctx)
+    let predecessors = Predecessors::new::<D>(alloc, &wide, op, ctx)?;
+    sweep::<D>(alloc, op, work, looks, &predecessors, ctx)
 }
