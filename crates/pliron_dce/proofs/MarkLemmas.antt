@@ -1,7 +1,7 @@
 -- Marks of blocks.
 use Rattle.std.proofs.Common.{◌≡◌, ◌↔◌, inl, inr, ℕ, Bool, true, cond, Option, Some, None, IsTrue, sym, ap, ◌∙◌, subst, arith}
 use Rattle.std.proofs.lemmas.Bool.{cases_Bool}
-use Rattle.pliron_core.specs.Tree.{Tree, HoldsBlock}
+use Rattle.pliron_core.specs.Tree.{Tree}
 use Rattle.pliron_core.proofs.HoldingLemmas.{some_is}
 use Rattle.pliron_laws.specs.Datum.{Meaning}
 use Rattle.pliron_dce.specs.Incoming.{is_one_key, BranchesLead}
