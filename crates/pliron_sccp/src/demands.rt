@@ -9,6 +9,7 @@ ghost use Rattle.pliron_laws.specs.Answers.{HeadPasses};
 ghost use Rattle.pliron_theory.specs.Facts.{answered, handed, AtMost, AreBelowNamed, IsEntered, known as known_of, NotAConstant as Varies};
 ghost use Rattle.pliron_sccp.specs.Tables.{known_constants, facts_of, fact_in};
 ghost use Rattle.pliron_sccp.specs.Cells.{Means};
+ghost use Rattle.pliron_sccp.specs.Feasible.{AreFound};
 ghost use Rattle.pliron_sccp.specs.Falling.{IsApplied};
 ghost use Rattle.pliron_sccp.specs.Demands.{Adds, AlwaysAdds, CanMeet, Asks, AsksEntries, AsksEdges, AsksJumps, AsksAnswers, AsksResults, AsksForwarded, AsksBranches, AsksVisits, FollowsEdge, GetsForwarded, GetsNamed, AreFeasible, IsEntryOf, MayLead, EntryEntered, VisitEntered};
 
@@ -390,7 +391,8 @@ fn ask_each_edge<D: Dialect>(
     Ok(())
 }
 
-/// Each block that the branch may go to is reached, with the values that its edges forward.
+/// Each block that the branch may go to is reached, with the values that its edges forward; these blocks, where
+/// it folds.
 fn ask_branches<D: Dialect>(
     alloc: Global,
     op: Ptr<Operation>,
@@ -398,16 +400,18 @@ fn ask_branches<D: Dialect>(
     tables: &Tables,
     known: &[Option<AttrObj>],
     asked: &mut Vec<Demand>,
-) -> Result<(), OptError>
+) -> Result<Option<HashSet<u64>>, OptError>
     requires live { IsLive ctx.now.tree op }
     requires branch { HeadPasses D.meaning.is_branch ctx.now.tree op }
     requires known { known.now ≡ handed (facts_of tables.now) (operands_of ctx.now.tree op) }
     ensures ok { OnOk result ((o : OperationOf) → op_at ctx.now.tree op ≡ Some o →
         Adds (known_constants tables.now) asked.old.items asked.new.items (λ now. AsksBranches ⟦<D as HasFolding>⟧.folding ctx.now.tree (facts_of tables.now) o now)) }
+    ensures feasible { IfOk result (λ blocks. AreFound ⟦<D as HasFolding>⟧.folding ctx.now.tree (facts_of tables.now) op blocks) }
     ensures memory { IsOkUnless result OptError.Memory }
 {
     let feasible = feasible_blocks::<D>(alloc, op, ctx, known)?;
-    ask_each_edge::<D>(alloc, op, ctx, tables, known, &feasible, asked)
+    ask_each_edge::<D>(alloc, op, ctx, tables, known, &feasible, asked)?;
+    Ok(feasible)
 }
 
 /// The result at this index, if there is one, is at or below the answer.
@@ -474,7 +478,7 @@ fn ask_results<D: Dialect>(
     }
 }
 
-/// What the edges of the operation ask.
+/// What the edges of the operation ask; the blocks that it may go to, where it folds as a branch.
 fn ask_edges<D: Dialect>(
     alloc: Global,
     op: Ptr<Operation>,
@@ -482,18 +486,28 @@ fn ask_edges<D: Dialect>(
     tables: &Tables,
     known: &[Option<AttrObj>],
     asked: &mut Vec<Demand>,
-) -> Result<(), OptError>
+) -> Result<Option<HashSet<u64>>, OptError>
     requires live { IsLive ctx.now.tree op }
     requires known { known.now ≡ handed (facts_of tables.now) (operands_of ctx.now.tree op) }
     ensures ok { OnOk result ((o : OperationOf) → op_at ctx.now.tree op ≡ Some o →
         Adds (known_constants tables.now) asked.old.items asked.new.items (λ now. AsksEdges ⟦<D as HasFolding>⟧.folding ctx.now.tree (facts_of tables.now) op o now)) }
+    ensures feasible { IfOk result (λ blocks. AreFound ⟦<D as HasFolding>⟧.folding ctx.now.tree (facts_of tables.now) op blocks) }
     ensures memory { IsOkUnless result OptError.Memory }
 {
     if D::is_branch(op, ctx) {
         ask_branches::<D>(alloc, op, ctx, tables, known, asked)
     } else {
-        ask_jumps(op, ctx, asked)
+        ask_jumps(op, ctx, asked)?;
+        Ok(None)
     }
+}
+
+/// What an operation demands of the facts, and the blocks that it may go to by these facts, where it folds as
+/// a branch.
+#[derive(Drop)]
+pub struct Asked {
+    pub demands: Vec<Demand>,
+    pub feasible: Option<HashSet<u64>>,
 }
 
 /// What the operation demands of the facts: the entries of its regions are reached, their arguments are at
@@ -508,17 +522,18 @@ pub fn demands<D: Dialect>(
     op: Ptr<Operation>,
     ctx: &Context,
     tables: &Tables,
-) -> Result<Vec<Demand>, OptError>
+) -> Result<Asked, OptError>
     requires { IsLive ctx.now.tree op }
-    ensures ok { IfOk result (λ asked. Asks (known_constants tables.now) ⟦<D as HasFolding>⟧.folding ctx.now.tree (facts_of tables.now) op asked.items) }
+    ensures ok { IfOk result (λ asked. Asks (known_constants tables.now) ⟦<D as HasFolding>⟧.folding ctx.now.tree (facts_of tables.now) op asked.demands.items) }
+    ensures feasible { IfOk result (λ asked. AreFound ⟦<D as HasFolding>⟧.folding ctx.now.tree (facts_of tables.now) op asked.feasible) }
     ensures memory { IsOkUnless result OptError.Memory }
 {
     let known = known_operands(alloc, op, ctx, tables)?;
-    let mut asked = Vec::new(alloc);
-    ask_visits::<D>(op, ctx, tables, &mut asked)?;
-    ask_edges::<D>(alloc, op, ctx, tables, &known, &mut asked)?;
-    ask_results::<D>(alloc, op, ctx, &known, &mut asked)?;
-    Ok(asked)
+    let mut demands = Vec::new(alloc);
+    ask_visits::<D>(op, ctx, tables, &mut demands)?;
+    let feasible = ask_edges::<D>(alloc, op, ctx, tables, &known, &mut demands)?;
+    ask_results::<D>(alloc, op, ctx, &known, &mut demands)?;
+    Ok(Asked { demands, feasible })
 }
 
 /// Meets one thing that is asked, and does nothing else. Takes no memory.
