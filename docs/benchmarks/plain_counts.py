@@ -21,6 +21,7 @@ FOLDS = ("const", "add", "mul", "div")
 UNKNOWN, VARYING = "unknown", "varying"
 SPAN = 1 << 64
 FEW_OPERANDS = 8
+FEW_LOOKS = 4
 
 
 class Op:
@@ -156,7 +157,7 @@ def fold(op, known):
 class Search:
     def __init__(self, root, whole, at_once, late):
         self.whole, self.late = whole, late
-        self.feasible = {}
+        self.looks, self.feasible = {}, {}
         self.few = SPAN if at_once else FEW_OPERANDS
         self.aside = []
         self.facts, self.uses = {}, {}
@@ -229,7 +230,9 @@ class Search:
             return [asked for block in targets for asked in self.entered(block)]
         condition = self.known(op)[0] if op.kind == "cbr" else None
         taken = targets if condition is None else [targets[0 if condition != 0 else 1]]
-        self.feasible[op] = taken
+        self.looks[op] = self.looks.get(op, 0) + 1
+        if self.looks[op] > FEW_LOOKS:
+            self.feasible[op] = taken
         asked, at = [], 0 if op.kind == "br" else 1
         for block, count in zip(targets, op.counts):
             values = op.operands[at:at + count]
@@ -264,13 +267,14 @@ class Search:
                 asked += self.ahead(op, place, name)
 
     def ahead(self, op, place, name):
-        """The argument that gets this operand of a cbr, where the edge was found feasible."""
+        """The argument that gets this operand of a cbr that was looked at more than a few times, where the edge was found
+        feasible."""
         if place == 0:
             return []
         edge = 0 if place <= op.counts[0] else 1
         index = place - 1 - edge * op.counts[0]
         block = op.labels[op.successors[edge]]
-        if block not in self.feasible[op] or index >= len(block.args):
+        if block not in self.feasible.get(op, []) or index >= len(block.args):
             return []
         return [(self.lower, block.args[index], self.fact(name))]
 

@@ -225,7 +225,7 @@ module _ (x : Says) (t : Tree) (root : ℕ) (w : IsTree t) (linked : IsWellLinke
 
       -- every closed set meets what is called for
       asked_closed : (g : Facts) → AreClosed x t root g → MeetsAll (known_constants u) (only_inside t root g) asked
-      asked_closed g closed = c.owed (only_inside t root g) (λ q place v r o i is l at f open. at_most_trans ((only_inside t root g).fact v) (g.fact v) (fact_in u r) ((only_lower t root g).fact v) (at_most_trans (g.fact v) (g.fact r) (fact_in u r) (edge q place v r o is l at f open) (operand q place r is l)))
+      asked_closed g closed = c.owed (only_inside t root g) (λ q place v r o i is l at f clear. at_most_trans ((only_inside t root g).fact v) (g.fact v) (fact_in u r) ((only_lower t root g).fact v) (at_most_trans (g.fact v) (g.fact r) (fact_in u r) (edge q place v r o is l at f clear) (operand q place r is l)))
         where
           within : (q : ℕ) → IsLookedAt t u q → IsInside t root q
           within q l = inside_block l.block l.in_block (inside l.block (sym (k.reached l.block) ∙ l.reached))
@@ -236,8 +236,8 @@ module _ (x : Says) (t : Tree) (root : ℕ) (w : IsTree t) (linked : IsWellLinke
               (before.above g closed).facts r (made_listed t w root r (owed.defined.own_values q r (within q l) j) (w.joined.operands q r j))
 
           edge : (q place v r : ℕ) (o : Operation) → IsUseOf t r q place → IsLookedAt t u q → op_at t q ≡ Some o → (f : Forwarded x t o place v) → IsOpenEdge x u edges o q f.block → AtMost (g.fact v) (g.fact r)
-          edge q place v r o is l at f open =
-              (closed.branches q f.edge f.block o (l.block, l.in_block, (before.above g closed).blocks l.block l.reached) at f.branch (⊎_elim (λ none. (f.successor, λ folds. absurd (true≢false (sym folds ∙ none)))) (λ y. sure q f.block y.1 g closed f.edge o at f.successor) open)).1 f.index v r f.is_argument (picked_in (x.meaning.forwarded (shape_of x.meaning t o) f.edge) o.operands f.index place r f.forwards (ap (λ z. slice_get z place) (sym (op_shows t q o at).operands) ∙ is))
+          edge q place v r o is l at f clear =
+              (closed.branches q f.edge f.block o (l.block, l.in_block, (before.above g closed).blocks l.block l.reached) at f.branch (⊎_elim (λ none. (f.successor, λ folds. absurd (true≢false (sym folds ∙ none)))) (λ y. sure q f.block y.1 g closed f.edge o at f.successor) clear)).1 f.index v r f.is_argument (picked_in (x.meaning.forwarded (shape_of x.meaning t o) f.edge) o.operands f.index place r f.forwards (ap (λ z. slice_get z place) (sym (op_shows t q o at).operands) ∙ is))
 
       after : IsOn x t root (facts_of s) (is_visited s) (facts_of m)
       after = record {

@@ -36,7 +36,7 @@ same_or {A} {B} (x ∷ vs) each = ⊎_elim
 
 -- what is called for can be met, since no block is asked for
 pub can_call : (x : Says) (t : Tree) (edges : FeasibleEdges) (s : Tables) (values users : List ℕ) (asked : List Demand) → AreCalls x t s edges values users asked → CanMeet s asked
-can_call x t edges s values users asked c = c.owed (lowest_facts s) (λ k place a v o i is l at f open. inr (inl refl))
+can_call x t edges s values users asked c = c.owed (lowest_facts s) (λ k place a v o i is l at f clear. inr (inl refl))
 
 module _ (x : Says) (t : Tree) (edges : FeasibleEdges) (values users : List ℕ) (asked : List Demand) (s u w : Tables) (k : TakesValues values s u) (c : AreCalls x t u edges values users asked) (a : IsApplied (known_constants u) asked u w) where
   -- an operation that was looked at and is not looked at again is settled
@@ -121,7 +121,7 @@ module _ (x : Says) (t : Tree) (edges : FeasibleEdges) (values users : List ℕ)
 
   -- no block comes to be reached
   pub reached_before : (b : ℕ) → reaches w b ≡ true → reaches u b ≡ true
-  reached_before b r = (a.least low (record { reaches = λ d q. q; fact = λ v. inr (inl refl) }) (c.owed low (λ q place d v o i is l at f open. inr (inl refl)))).reaches b r
+  reached_before b r = (a.least low (record { reaches = λ d q. q; fact = λ v. inr (inl refl) }) (c.owed low (λ q place d v o i is l at f clear. inr (inl refl)))).reaches b r
     where
       low : Facts
       low = record { reaches = λ d. reaches u d; fact = λ v. NotAConstant }
@@ -142,14 +142,14 @@ module _ (x : Says) (t : Tree) (edges : FeasibleEdges) (values users : List ℕ)
 
     -- an edge of it that is feasible for sure leads to a block that is reached
     edge_reached : (q place v : ℕ) (o : Operation) → IsLookedAt t u q → op_at t q ≡ Some o → (f : Forwarded x t o place v) → IsOpenEdge x u edges o q f.block → reaches u f.block ≡ true
-    edge_reached q place v o l at f open = ⊎_elim
+    edge_reached q place v o l at f clear = ⊎_elim
         (λ none. k.reached f.block ∙ ((met_before q o l at).1.branches f.edge f.block f.branch (f.successor, λ folds. absurd (true≢false (sym folds ∙ none)))).0)
         (λ y. y.0)
-        open
+        clear
 
     pub called_known : (tree : IsTree t) (root : ℕ) → AreKnownThere t root u → AreKnownThere t root w
     called_known tree root known b v inside listed none =
-        unknown_but t tree u w b v listed none unknown still (a.least g (below_but t tree u w b v listed none unknown still) (c.owed g (λ q place d r o i is l at f open. inr (inl (argument d f.block (in_slice (arguments_of t f.block) f.index d f.is_argument) (a.falls.below.reaches f.block (edge_reached q place d o l at f open)))))))
+        unknown_but t tree u w b v listed none unknown still (a.least g (below_but t tree u w b v listed none unknown still) (c.owed g (λ q place d r o i is l at f clear. inr (inl (argument d f.block (in_slice (arguments_of t f.block) f.index d f.is_argument) (a.falls.below.reaches f.block (edge_reached q place d o l at f clear)))))))
       where
         still : (z : ℕ) → reaches u z ≡ true → reaches w z ≡ true
         still z r = a.falls.below.reaches z r
@@ -175,7 +175,7 @@ module _ (x : Says) (t : Tree) (edges : FeasibleEdges) (values users : List ℕ)
   nothing_called none rests = record { blocks = blocks; values = λ v. by v (waits_value w v) refl }
     where
       all_met : MeetsAll (known_constants u) (facts_of u) asked
-      all_met = c.owed (facts_of u) (λ q place d v o i is l at f open. absurd (subst (In v) none i))
+      all_met = c.owed (facts_of u) (λ q place d v o i is l at f clear. absurd (subst (In v) none i))
 
       least : AreAtMost (facts_of u) (facts_of w)
       least = a.least (facts_of u) (below_refl (facts_of u)) all_met

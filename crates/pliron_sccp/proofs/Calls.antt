@@ -55,8 +55,8 @@ module _ (x : Says) (t : Tree) (edges : FeasibleEdges) where
           (λ b. q.seen k place o b l at)
           ((both k place).1 u);
       owed = λ now m all. q.owed now
-          (p.owed now m (λ k place a o u l at f open. all k place a o ((both k place).0 (inl u)) l at f open))
-          (λ k place a o u l at f open. all k place a o ((both k place).0 (inr u)) l at f open);
+          (p.owed now m (λ k place a o u l at f clear. all k place a o ((both k place).0 (inl u)) l at f clear))
+          (λ k place a o u l at f clear. all k place a o ((both k place).0 (inr u)) l at f clear);
     }
 
     -- one use
@@ -105,12 +105,12 @@ module _ (x : Says) (t : Tree) (edges : FeasibleEdges) where
       none_ahead = record { more = λ now m. m; owed = λ now m all. m }
 
       pub one_ahead : (asked' : List Demand) (edge index block : ℕ) → IsLive t op → ((o : Operation) → op_at t op ≡ Some o → IsTrue (x.meaning.is_branch o.head)) → IsForwardedOnce x.meaning t op place edge index → slice_get (successors_of t op) edge ≡ Some block → ((o : Operation) → op_at t op ≡ Some o → IsOpenEdge x s edges o op block) → Adds (known_constants s) asked asked' (λ now. AsksOne edge index now) → AsksAhead x t s edges op place v asked asked'
-      one_ahead asked' edge index block live branch once goes open adds = record {
+      one_ahead asked' edge index block live branch once goes clear adds = record {
         more = λ now m. ((adds now).0 m).0;
         owed = λ now m all. (adds now).1 (
           m,
           λ b a here is. all a o.0 o.1 (forwarded_there edge index o.0 o.1 (branch o.0 o.1) once b a here is)
-              (subst (IsOpenEdge x s edges o.0 op) (some_is (sym goes ∙ here)) (open o.0 o.1)),
+              (subst (IsOpenEdge x s edges o.0 op) (some_is (sym goes ∙ here)) (clear o.0 o.1)),
         );
       }
         where
@@ -124,7 +124,7 @@ module _ (x : Says) (t : Tree) (edges : FeasibleEdges) where
         more = ahead.more;
         only = λ k i. ⊎_elim (λ j. inl j) (λ e. inr (subst (IsLookedAt t s) e l, (place, (sym e, refl)))) ((a.members k).0 i);
         seen = λ k p o u seen at. inl ((a.members k).1 (inr (sym u.0)));
-        owed = λ now m all. ahead.owed now m (λ b o at f open. all op place b o (refl, refl) l at f open);
+        owed = λ now m all. ahead.owed now m (λ b o at f clear. all op place b o (refl, refl) l at f clear);
       }
 
       pub use_asked : (asked' : List Demand) (edge index : ℕ) → IsLive t op → IsLookedAt t s op → ((o : Operation) → op_at t op ≡ Some o → (x.can_fold o.head ≡ false) × (x.can_fold_branch o.head ≡ false) × NamesNone x t o × IsTrue (x.meaning.is_branch o.head)) → IsForwardedOnce x.meaning t op place edge index → Adds (known_constants s) asked asked' (λ now. AsksOne edge index now) → SeesTo x t s edges v IsIt users asked users asked'
@@ -188,8 +188,8 @@ module _ (x : Says) (t : Tree) (edges : FeasibleEdges) where
     seen_before : (k : ℕ) → IsLookedAt t u k → IsLookedAt t s k
     seen_before k l = looked_same t s u reached blocks k l
 
-    open_then : (k : ℕ) (o : Operation) (b : ℕ) → IsOpenEdge x s edges o k b → IsOpenEdge x u edges o k b
-    open_then k o b open = ⊎_elim (λ none. inl none) (λ y. inr (reached b ∙ y.0, y.1)) open
+    clear_then : (k : ℕ) (o : Operation) (b : ℕ) → IsOpenEdge x s edges o k b → IsOpenEdge x u edges o k b
+    clear_then k o b clear = ⊎_elim (λ none. inl none) (λ y. inr (reached b ∙ y.0, y.1)) clear
 
     asked_then : (asked : List Demand) (o : Operation) (place v : ℕ) → IsAskedAt x t s asked o place v → IsAskedAt x t u asked o place v
     asked_then asked o place v h = record {
@@ -203,7 +203,7 @@ module _ (x : Says) (t : Tree) (edges : FeasibleEdges) where
     calls_then values users asked c = record {
       only = λ k i. let y = c.only k i in (seen_then k y.0, y.1);
       seen = λ k place v o i is l at. ⊎_elim (λ j. inl j) (λ h. inr (asked_then asked o place v h)) (c.seen k place v o i is (seen_before k l) at);
-      owed = λ now all. subst (λ z. MeetsAll z now asked) (sym constants) (c.owed now (λ k place a v o i is l at f open. subst (AtMost (now.fact a)) (facts v) (all k place a v o i is (seen_then k l) at f (open_then k o f.block open))));
+      owed = λ now all. subst (λ z. MeetsAll z now asked) (sym constants) (c.owed now (λ k place a v o i is l at f clear. subst (AtMost (now.fact a)) (facts v) (all k place a v o i is (seen_then k l) at f (clear_then k o f.block clear))));
     }
 
   -- one value more
@@ -215,8 +215,8 @@ module _ (x : Says) (t : Tree) (edges : FeasibleEdges) where
         (λ j. ⊎_elim (λ h. inl (p.kept k h)) (λ h. inr (asked_more s asked asked' o place w p.more h)) (c.seen k place w o j is l at))
         i;
     owed = λ now all. p.owed now
-        (c.owed now (λ k place a w o i is l at f open. all k place a w o (inr i) is l at f open))
-        (λ k place a o is l at f open. all k place a v o (inl refl) is l at f open);
+        (c.owed now (λ k place a w o i is l at f clear. all k place a w o (inr i) is l at f clear))
+        (λ k place a o is l at f clear. all k place a v o (inl refl) is l at f clear);
   }
 
   calls_none : (s : Tables) (users : List ℕ) (asked : List Demand) → users ≡ [] → asked ≡ [] → AreCalls x t s edges [] users asked

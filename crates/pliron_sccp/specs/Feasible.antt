@@ -1,5 +1,5 @@
 -- Edges that are feasible under some facts, and those that are kept.
-use Rattle.std.specs.Prelude.{◌≡◌, ◌⊎◌, ℕ, Bool, true, false, nat_eq, Option, Some, None, slice_get, IsTrue}
+use Rattle.std.specs.Prelude.{◌≡◌, ◌⊎◌, ℕ, Bool, true, false, nat_eq, ◌&&◌, Option, Some, None, slice_get, IsTrue}
 use Rattle.std.specs.HashSet.{HashSet, contains}
 use Rattle.indexmap.specs.IndexMap.{get}
 use Rattle.pliron_core.specs.Tree.{Tree}
@@ -11,9 +11,17 @@ abbrev pub holds : {S : Type 0} → Option (HashSet ℕ S) → ℕ → Bool
 holds None b = false
 holds (Some blocks) b = contains nat_eq blocks b
 
+-- whether they are the same key
+abbrev pub is_one_key : ℕ → ℕ → Bool
+is_one_key x y = nat_eq x y && true
+
 -- whether the block is kept as one that the operation may go to
 abbrev pub leads : FeasibleEdges → (k b : ℕ) → Bool
-leads edges k b = holds (get nat_eq edges.blocks k) b
+leads edges k b = holds (get is_one_key edges.blocks k) b
+
+-- of one operation some of these blocks are kept, and no other is new
+abbrev pub KeepsAmong : {S : Type 0} → ℕ → Option (HashSet ℕ S) → (edges edges' : FeasibleEdges) → Type 0
+KeepsAmong k blocks edges edges' = (j b : ℕ) → leads edges' j b ≡ true → (leads edges j b ≡ true) ⊎ ((j ≡ k) × (holds blocks b ≡ true))
 
 -- under these facts each edge of the operation to the block is feasible
 abbrev pub MayGo : Says → Tree → Facts → (k b : ℕ) → Type 0

@@ -1,7 +1,6 @@
 //! Edges that were found feasible, kept for operations with many operands.
-ghost use Rattle.std.specs.Prelude.{◌≡◌, false, if◌then◌else◌, nat_eq, ℕ, OnOk, IsOkUnless};
-ghost use Rattle.std.specs.HashSet.{contains};
-ghost use Rattle.pliron_sccp.specs.Feasible.{leads};
+ghost use Rattle.std.specs.Prelude.{◌≡◌, true, false, ℕ, Some, OnOk, IsOkUnless, IsTrue};
+ghost use Rattle.pliron_sccp.specs.Feasible.{leads, KeepsAmong};
 
 use indexmap::IndexMap;
 use pliron_core::{BasicBlock, Operation, Ptr};
@@ -9,32 +8,62 @@ use pliron_laws::OptError;
 use std::alloc::Global;
 use std::collections::HashSet;
 
-/// Of operations that fold as branches, the blocks that they may go to by the facts of their last look. Facts
-/// only fall, and where folds are monotone such a block stays one.
+/// How many looks are few. What was looked at more often has its edges kept.
+const FEW_LOOKS: usize = 4;
+
+/// Of operations that fold as branches and were looked at more than a few times, the blocks that they may go to by
+/// the facts of their last look. Facts only fall, and where folds are monotone such a block stays one.
 #[derive(Drop)]
 pub struct FeasibleEdges {
+    looks: IndexMap<Ptr<Operation>, usize>,
     blocks: IndexMap<Ptr<Operation>, HashSet<u64>>,
 }
 
 impl FeasibleEdges {
-    /// Nothing is kept. Takes no memory. Cost: constant.
+    /// Nothing was looked at. Takes no memory. Cost: constant.
     pub fn new(alloc: Global) -> Self
         ensures { (k b : ℕ) → leads result k b ≡ false }
     {
         FeasibleEdges {
+            looks: IndexMap::new(alloc),
             blocks: IndexMap::new(alloc),
         }
     }
 
-    /// Keeps the blocks that the operation may go to, in place of those from before.
+    /// Counts a look at the operation; how often it was looked at.
+    fn count(&mut self, op: Ptr<Operation>) -> Result<usize, OptError>
+        ensures ok { OnOk result (self.new.blocks ≡ self.old.blocks) }
+        ensures memory { IsOkUnless result OptError.Memory }
+    {
+        let before = match self.looks.get(&op) {
+            Some(looks) => *looks,
+            None => 0,
+        };
+        let looks = before.saturating_add(1);
+        self.looks.insert(op, looks)?;
+        Ok(looks)
+    }
+
+    /// The operation was looked at once more, and may go to these blocks: where that was more than a few times they
+    /// are kept, in place of those from before.
     ///
     /// Errors: want of memory. Cost: constant.
     pub fn keep(&mut self, op: Ptr<Operation>, blocks: HashSet<u64>) -> Result<(), OptError>
-        ensures ok { OnOk result ((k b : ℕ) → leads self.new k b ≡ (if nat_eq op k then contains nat_eq blocks b else leads self.old k b)) }
+        ensures ok { OnOk result (KeepsAmong op (Some blocks) self.old self.new) }
         ensures memory { IsOkUnless result OptError.Memory }
     {
+        if self.count(op)? <= FEW_LOOKS {
+            return Ok(());
+        }
         self.blocks.insert(op, blocks)?;
         Ok(())
+    }
+
+    /// Whether edges of the operation are kept. Cost: one look-up.
+    pub fn keeps(&self, op: Ptr<Operation>) -> bool
+        ensures { (b : ℕ) → leads self.now op b ≡ true → IsTrue result }
+    {
+        self.blocks.contains_key(&op)
     }
 
     /// Whether the block is kept as one that the operation may go to. Cost: two look-ups.

@@ -14,25 +14,25 @@
 //! A user with more than a few operands is put aside, once, and looked at where neither a block nor a value
 //! waits: one at a time, those with the fewest operands first, and what that look made fall is taken before
 //! the next one. So a branch that folds, and forwards many values which fall one after the other, is looked
-//! at when all of them fell, and not after each. What it forwards along an edge that its last look found
-//! feasible is asked at once, one argument for each operand that fell: so it is where it makes its own next
-//! operand fall, as in a loop that moves its arguments on by one place. The order decides no fact.
+//! at when all of them fell, and not after each. Where it makes its own next operand fall, as in a loop that
+//! moves its arguments on by one place, that would be no help: so what was looked at more than a few times is
+//! asked at once for what it forwards along an edge that its last look found feasible, one argument for each
+//! operand that fell. The order decides no fact.
 ghost use Rattle.std.specs.Prelude.{◌≡◌, ◌<◌, ◌↔◌, ℕ, true, OnOk, IfOk, IsTrue, IsOkUnless, Some, length, slice_get};
 ghost use Rattle.pliron_core.specs.Tree.{IsLive, IsBlock, In, arguments_of, body_of, successors_of};
 ghost use Rattle.pliron_laws.specs.Answers.{ReadsHead};
 ghost use Rattle.pliron_laws.specs.Linked.{IsWellLinked};
-ghost use Rattle.pliron_laws.specs.Tree.{Operation as OperationOf, op_at};
 ghost use Rattle.pliron_laws.specs.declared.dialect.Interface.TheVariants.{RegionBranch};
 ghost use Rattle.pliron_theory.specs.Facts.{AtMost};
 ghost use Rattle.pliron_sccp.specs.Accounts.{IsUnsearched};
 ghost use Rattle.pliron_sccp.specs.Delaying.{delayed};
 ghost use Rattle.pliron_sccp.specs.Demands.{Adds};
-ghost use Rattle.pliron_sccp.specs.Feasible.{KeepsFeasible, leads};
-ghost use Rattle.pliron_sccp.specs.Looking.{either, AreTargetsNumbered, AsksAhead, GoesThrough, HasNumberedTargets, IsCallFor, IsLookedAt, IsOpenEdge, IsUseOf, LooksAt, SeesTo, TakesUsers};
+ghost use Rattle.pliron_sccp.specs.Feasible.{leads, KeepsAmong, KeepsFeasible};
+ghost use Rattle.pliron_sccp.specs.Looking.{either, AreTargetsNumbered, AsksAhead, GoesThrough, HasNumberedTargets, IsCallFor, IsLookedAt, IsUseOf, LooksAt, SeesTo, TakesUsers};
 ghost use Rattle.pliron_sccp.specs.Searched.{IsSearched};
 ghost use Rattle.pliron_sccp.specs.Searching.{IsSeenTo, LooksAside, SeesToAll, TakesTurn, VisitsValues};
 ghost use Rattle.pliron_sccp.specs.Starting.{IsStarted};
-ghost use Rattle.pliron_sccp.specs.Tables.{fact_in, facts_of, known_constants, waits_block};
+ghost use Rattle.pliron_sccp.specs.Tables.{fact_in, facts_of, known_constants, reaches, waits_block};
 
 use crate::delays::Delays;
 use crate::demands::{Demand, ask_entries, demands, meet_all};
@@ -44,6 +44,7 @@ use pliron_core::{BasicBlock, Context, Operation, Ptr, Value};
 use pliron_laws::{Dialect, Interface, OptError};
 use pliron_theory::HasFolding;
 use std::alloc::Global;
+use std::collections::HashSet;
 
 /// Nothing is known yet of the values inside the root, no block is reached, and nothing waits.
 fn unsearched(alloc: Global, root: Ptr<Operation>, ctx: &Context) -> Result<Tables, OptError>
@@ -151,27 +152,20 @@ fn ask_argument(
 /// How many operands are few. What has more is put aside, and looked at where nothing else waits.
 const FEW_OPERANDS: usize = 8;
 
-/// Whether the edges of the branch to this block are feasible for sure: it doesn't fold as a branch, or they were
-/// found to be.
-fn is_open<D: Dialect>(
+/// Whether the block is reached, and kept as one that the operation may go to.
+fn is_open(
     op: Ptr<Operation>,
     block: Ptr<BasicBlock>,
-    ctx: &Context,
     tables: &Tables,
     edges: &FeasibleEdges,
 ) -> bool
-    requires { IsLive ctx.now.tree op }
-    ensures { IsTrue result → (o : OperationOf) → op_at ctx.now.tree op ≡ Some o → IsOpenEdge ⟦<D as HasFolding>⟧.folding tables.now edges.now o op block }
+    ensures { IsTrue result → (reaches tables.now block ≡ true) × (leads edges.now op block ≡ true) }
 {
-    if D::folds_branch(op, ctx) {
-        tables.reaches(block) && edges.leads(op, block)
-    } else {
-        true
-    }
+    tables.reaches(block) && edges.leads(op, block)
 }
 
-/// Asks the one argument to which a branch with many operands forwards the value from this place, if the edge
-/// is feasible for sure: so a look at its other operands may wait until all of them fell.
+/// Asks the one argument to which a branch with many operands forwards the value from this place, if the edge was
+/// found feasible: so a look at its other operands may wait until all of them fell.
 fn ask_ahead<D: Dialect>(
     op: Ptr<Operation>,
     place: usize,
@@ -185,13 +179,13 @@ fn ask_ahead<D: Dialect>(
     ensures ok { OnOk result (AsksAhead ⟦<D as HasFolding>⟧.folding ctx.now.tree tables.now edges.now op place value asked.old.items asked.new.items) }
     ensures memory { IsOkUnless result OptError.Memory }
 {
-    if op.num_operand(ctx) <= FEW_OPERANDS || !D::is_branch(op, ctx) {
+    if op.num_operand(ctx) <= FEW_OPERANDS || !edges.keeps(op) || !D::is_branch(op, ctx) {
         return Ok(());
     }
     let Some((edge, index)) = D::forwarded_from(op, ctx, place) else {
         return Ok(());
     };
-    if is_open::<D>(op, op.get_successor(ctx, edge), ctx, tables, edges) {
+    if is_open(op, op.get_successor(ctx, edge), tables, edges) {
         ask_argument(op, edge, index, value, ctx, tables, asked)
     } else {
         Ok(())
@@ -297,6 +291,26 @@ fn look_at<D: Dialect>(
     Ok(())
 }
 
+/// Keeps these blocks, if the operation has many operands.
+fn keep_feasible(
+    op: Ptr<Operation>,
+    feasible: Option<HashSet<u64>>,
+    ctx: &Context,
+    edges: &mut FeasibleEdges,
+) -> Result<(), OptError>
+    requires { IsLive ctx.now.tree op }
+    ensures ok { OnOk result (KeepsAmong op feasible edges.old edges.new) }
+    ensures memory { IsOkUnless result OptError.Memory }
+{
+    if op.num_operand(ctx) <= FEW_OPERANDS {
+        return Ok(());
+    }
+    match feasible {
+        Some(blocks) => edges.keep(op, blocks),
+        None => Ok(()),
+    }
+}
+
 /// Looks at the operation, and if it has many operands and folds as a branch, keeps the blocks that it may go to.
 ///
 /// Asks what `look_at` asks. Errors: want of memory. Cost: that of what it asks.
@@ -315,15 +329,7 @@ fn look_and_keep<D: Dialect>(
 {
     let answer = demands::<D>(alloc, op, ctx, tables)?;
     meet_all(answer.demands, tables);
-    match answer.feasible {
-        Some(blocks) => {
-            if op.num_operand(ctx) > FEW_OPERANDS {
-                edges.keep(op, blocks)?;
-            }
-            Ok(())
-        }
-        None => Ok(()),
-    }
+    keep_feasible(op, answer.feasible, ctx, edges)
 }
 
 /// Looks at the operation, or puts it aside where it has more than a few operands.

@@ -13,7 +13,8 @@
 //! that fall one after the other and that a branch behind it forwards; branches that come to be feasible only when
 //! their condition falls, one by itself, one after what it forwards fell too, and two of which the shorter one is looked
 //! at first; a loop in which such a branch makes its own operands fall, and one in which two make each other's fall in
-//! turn; and one whose operand falls that it forwards along an edge which isn't feasible, to a block that is reached.
+//! turn; and one of which the last operand falls that it forwards along an edge which isn't feasible, to a block that is
+//! reached.
 
 pub static ROWS: &str = "\
 C 1 3 0 func { b0(): a = const 1; b = const 2; c = add a b; ret c } => func { b0(): v0 = const 1; v1 = const 2; v2 = const 3; v3 = add v0 v1; ret v2 }
@@ -106,11 +107,10 @@ U 4 1 19 func { b0(): o = const 1; br b1(o, o, o, o, o, o, o, o); b1(a, b, c, d,
     => func { b0(): v0 = const 1; br b1(v0, v0, v0, v0, v0, v0, v0, v0); b1(v1, v2, v3, v4, v5, v6, v7, v8): v9 = read; v10 = read; \
         cbr v10 b2(v9, v1, v2, v3, v4, v5, v6, v7) b3(); \
         b2(v11, v12, v13, v14, v15, v16, v17, v18): v19 = read; cbr v19 b1(v11, v12, v13, v14, v15, v16, v17, v18) b3(); b3(): ret }
-C 5 7 7 func { b0(): z = const 0; o = const 1; br b1(z); b1(i): a = add i o; cbr o b2(a, a, a, a) b3(i, i, i, i, i); \
-    b2(p, q, s, t): r = read; cbr r b1(p) b4(); b4(): br b3(z, z, z, z, z); b3(u, v, w, x, y): ret y } \
-    => func { b0(): v0 = const 0; v1 = const 1; br b1(v0); b1(v2): v3 = add v2 v1; cbr v1 b2(v3, v3, v3, v3) b3(v2, v2, v2, v2, v2); \
-        b2(v4, v5, v6, v7): v8 = read; cbr v8 b1(v4) b4(); b4(): br b3(v0, v0, v0, v0, v0); \
-        b3(v9, v10, v11, v12, v13): v14 = const 0; v15 = const 0; v16 = const 0; v17 = const 0; v18 = const 0; ret v14 }";
+C 3 2 10 func { b0(x): o = const 1; cbr x b1(o, o, o, o, o, o, o, o) b2(o); \
+    b1(a, b, c, d, e, f, g, h): r = read; cbr o b1(r, a, b, c, d, e, f, g) b2(h); b2(u): ret u } \
+    => func { b0(v0): v1 = const 1; cbr v0 b1(v1, v1, v1, v1, v1, v1, v1, v1) b2(v1); \
+        b1(v2, v3, v4, v5, v6, v7, v8, v9): v10 = read; cbr v1 b1(v10, v2, v3, v4, v5, v6, v7, v8) b2(v9); b2(v11): v12 = const 1; ret v12 }";
 
 pub static MADE: &str = "\
 U 1 0 0 func { b0(): sink; ret; b1(): v0 = read; v1 = div v0 v0; cbr v1 b1() b2(); b2(): sink; ret } \

@@ -14,10 +14,8 @@ returns-then-is_branch-clause-ok g c =
     (λ p o e. branching_edges x t (facts_of c.args.tables.now) c.args.op o e (known_constants c.args.tables.now) c.args.asked.now.items c.ask_branches.new.asked.items (sym (c.is_branch.ensures o.head (op_shows t c.args.op o e).head) ∙ c.if-is_branch.true) (p o e))
     c.ask_branches.ensures.ok
 
-pub returns-else-is_branch-clause-ok : goal.returns-else-is_branch-clause-ok
-returns-else-is_branch-clause-ok g c =
+pub returns-in_ok-ask_jumps-clause-ok : goal.returns-in_ok-ask_jumps-clause-ok
+returns-in_ok-ask_jumps-clause-ok g c = λ o e.
     let x : Says = (record { meaning = g.D.HasMeaning.meaning; can_fold = g.D.ConstFoldInterface.can_fold; can_fold_branch = g.D.BranchOpFoldInterface.can_fold_branch; constants = g.D.ConstFoldInterface.constants; feasible = g.D.BranchOpFoldInterface.feasible; entry_operands = g.D.RegionBranchOpInterface.entry_operands }) in
     let t = c.args.ctx.now.tree in
-    on_ok_weaker c.ask_jumps.result
-    (λ p o e. jumping_edges x t (facts_of c.args.tables.now) c.args.op o e (known_constants c.args.tables.now) c.args.asked.now.items c.ask_jumps.new.asked.items (sym (c.is_branch.ensures o.head (op_shows t c.args.op o e).head) ∙ c.if-is_branch.false) (p (known_constants c.args.tables.now)))
-    c.ask_jumps.ensures.ok
+    jumping_edges x t (facts_of c.args.tables.now) c.args.op o e (known_constants c.args.tables.now) c.args.asked.now.items c.ask_jumps.new.asked.items (sym (c.is_branch.ensures o.head (op_shows t c.args.op o e).head) ∙ c.if-is_branch.false) (c.in_ok-ask_jumps.ensures.ok (known_constants c.args.tables.now))
