@@ -1,5 +1,6 @@
 //! Edges that were found feasible, kept for operations with many operands.
-ghost use Rattle.std.specs.Prelude.{◌≡◌, true, false, ℕ, Some, OnOk, IsOkUnless, IsTrue};
+ghost use Rattle.std.specs.Prelude.{◌≡◌, ◌↔◌, false, ℕ, Some, OnOk, IsOkUnless, IsTrue};
+ghost use Rattle.indexmap.specs.IndexMap.{index_map_len};
 ghost use Rattle.pliron_sccp.specs.Feasible.{leads, KeepsAmong};
 
 use indexmap::IndexMap;
@@ -59,11 +60,11 @@ impl FeasibleEdges {
         Ok(())
     }
 
-    /// Whether edges of the operation are kept. Cost: one look-up.
-    pub fn keeps(&self, op: Ptr<Operation>) -> bool
-        ensures { (b : ℕ) → leads self.now op b ≡ true → IsTrue result }
+    /// Whether nothing is kept. Cost: constant.
+    pub fn is_empty(&self) -> bool
+        ensures { IsTrue result ↔ (index_map_len self.now.blocks ≡ 0) }
     {
-        self.blocks.contains_key(&op)
+        self.blocks.is_empty()
     }
 
     /// Whether the block is kept as one that the operation may go to. Cost: two look-ups.

@@ -179,7 +179,7 @@ fn ask_ahead<D: Dialect>(
     ensures ok { OnOk result (AsksAhead ⟦<D as HasFolding>⟧.folding ctx.now.tree tables.now edges.now op place value asked.old.items asked.new.items) }
     ensures memory { IsOkUnless result OptError.Memory }
 {
-    if op.num_operand(ctx) <= FEW_OPERANDS || !edges.keeps(op) || !D::is_branch(op, ctx) {
+    if edges.is_empty() || op.num_operand(ctx) <= FEW_OPERANDS || !D::is_branch(op, ctx) {
         return Ok(());
     }
     let Some((edge, index)) = D::forwarded_from(op, ctx, place) else {
@@ -286,8 +286,9 @@ fn look_at<D: Dialect>(
     ensures ok { OnOk result (LooksAt ⟦<D as HasFolding>⟧.folding ctx.now.tree op tables.old tables.new) }
     ensures memory { IsOkUnless result OptError.Memory }
 {
-    let asked = demands::<D>(alloc, op, ctx, tables)?;
-    meet_all(asked.demands, tables);
+    let mut feasible = None;
+    let asked = demands::<D>(alloc, op, ctx, tables, &mut feasible)?;
+    meet_all(asked, tables);
     Ok(())
 }
 
@@ -302,12 +303,13 @@ fn keep_feasible(
     ensures ok { OnOk result (KeepsAmong op feasible edges.old edges.new) }
     ensures memory { IsOkUnless result OptError.Memory }
 {
-    if op.num_operand(ctx) <= FEW_OPERANDS {
+    let Some(blocks) = feasible else {
         return Ok(());
-    }
-    match feasible {
-        Some(blocks) => edges.keep(op, blocks),
-        None => Ok(()),
+    };
+    if op.num_operand(ctx) > FEW_OPERANDS {
+        edges.keep(op, blocks)
+    } else {
+        Ok(())
     }
 }
 
@@ -327,9 +329,10 @@ fn look_and_keep<D: Dialect>(
     ensures keeps { OnOk result (KeepsFeasible ⟦<D as HasFolding>⟧.folding ctx.now.tree (facts_of tables.old) op edges.old edges.new) }
     ensures memory { IsOkUnless result OptError.Memory }
 {
-    let answer = demands::<D>(alloc, op, ctx, tables)?;
-    meet_all(answer.demands, tables);
-    keep_feasible(op, answer.feasible, ctx, edges)
+    let mut feasible = None;
+    let demanded = demands::<D>(alloc, op, ctx, tables, &mut feasible)?;
+    meet_all(demanded, tables);
+    keep_feasible(op, feasible, ctx, edges)
 }
 
 /// Looks at the operation, or puts it aside where it has more than a few operands.

@@ -11,4 +11,4 @@ returns-clause-ok g c = λ o e now.
     let t = c.args.ctx.now.tree in
     let f = facts_of c.args.tables.now in
     let known = c.deref-2.ensures.value ∙ c.in_ok-known.ensures.ok ∙ ap (handed f) (op_shows t c.args.op o e).operands in
-    all_asked x t f c.args.op o e (known_constants c.args.tables.now) c.deref-2.result.now known c.new-demands.result.items c.ask_visits.new.asked.items c.ask_edges.new.asked.items c.ask_results.new.asked.items c.new-demands.ensures.items (c.in_ok-ask_visits.ensures.ok o e) (c.in_ok-feasible.ensures.ok o e) (c.in_ok-ask_results.ensures.ok o e (known_constants c.args.tables.now)) now
+    all_asked x t f c.args.op o e (known_constants c.args.tables.now) c.deref-2.result.now known c.new-asked.result.items c.ask_visits.new.asked.items c.ask_edges.new.asked.items c.ask_results.new.asked.items c.new-asked.ensures.items (c.in_ok-ask_visits.ensures.ok o e) (c.in_ok-ask_edges.ensures.ok o e) (c.in_ok-ask_results.ensures.ok o e (known_constants c.args.tables.now)) now
