@@ -89,7 +89,7 @@ module _ (x : Says) (t : Tree) (edges : FeasibleEdges) where
       AsksOne edge index now = (b a : ℕ) → slice_get (successors_of t op) edge ≡ Some b → slice_get (arguments_of t b) index ≡ Some a → AtMost (now.fact a) (fact_in s v)
 
       -- the edge and the place there forward it
-      forwarded_there : (edge index : ℕ) (o : Operation) → op_at t op ≡ Some o → IsTrue (x.meaning.is_branch o.head) → IsForwardedOnce x.meaning t op place edge index → (b a : ℕ) → slice_get (successors_of t op) edge ≡ Some b → slice_get (arguments_of t b) index ≡ Some a → Forwarded x t o place a
+      abbrev forwarded_there : (edge index : ℕ) (o : Operation) → op_at t op ≡ Some o → IsTrue (x.meaning.is_branch o.head) → IsForwardedOnce x.meaning t op place edge index → (b a : ℕ) → slice_get (successors_of t op) edge ≡ Some b → slice_get (arguments_of t b) index ≡ Some a → Forwarded x t o place a
       forwarded_there edge index o at branch once b a goes is = record {
         branch = branch;
         edge = edge;
