@@ -188,10 +188,10 @@ module _ (x : Says) (t : Tree) (root : ℕ) (w : IsTree t) (linked : IsWellLinke
         let r = through_block (facts_of s) (is_visited s) (is_visited u) inside best.grounded best.ready more c reached came (body_of t c) u s' edges edges' d [] refl (begin (is_visited u) more u k.facts k.reached) (λ q v i. absurd i) sure in
         let falls = through_falls x t (body_of t c) u s' (looks_only x t (body_of t c) u s' edges edges' d) in (
           finish (facts_of s) (is_visited s) (is_visited u) inside best.grounded best.ready more s' r.on (visited_still u s' falls) (visited_before u s' falls)
-          (λ b q v y p i. ⊎_elim
-          (λ same. r.results q v (w.bodies.listed q c (p ∙ ap Some (sym same))) i)
-          (λ old. below_undetermined (fact_in s v) (fact_in s' v) (r.on.below.fact v) (best.ready.results b q v old p i))
-          (before b y)),
+              (λ b q v y p i. ⊎_elim
+              (λ same. r.results q v (w.bodies.listed q c (p ∙ ap Some (sym same))) i)
+              (λ old. below_undetermined (fact_in s v) (fact_in s' v) (r.on.below.fact v) (best.ready.results b q v old p i))
+              (before b y)),
           r.sure,
         )
       where

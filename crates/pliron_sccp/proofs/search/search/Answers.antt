@@ -1,4 +1,6 @@
-use Rattle.std.proofs.Common.{◌≡◌, ◌+◌, ◌*◌, ◌-◌, ◌^◌, length, subst, arith}
+use Rattle.std.proofs.Common.{◌≡◌, ◌+◌, ◌*◌, ◌-◌, ◌^◌, length, Result, Ok, Err, ◌∙◌, subst, arith}
+use Rattle.std.specs.Prelude.{IfErr, IsErrAnd}
+use Rattle.pliron_laws.specs.declared.fault.OptError.TheVariants.{Memory}
 use Rattle.pliron_theory.specs.Facts.{Says}
 use Rattle.pliron_sccp.specs.Chain.{blocks_inside}
 use Rattle.pliron_sccp.specs.Delaying.{delayed}
@@ -83,3 +85,13 @@ loop-edges-preserved g c =
     let turn = subst (TakesTurn x c.args.ctx.now.tree c.loop-edges.tables c.step.new.tables c.loop-edges.delays c.step.new.delays c.loop-edges.edges c.step.new.edges) none c.in_ok-taken.ensures.ok in
     let looks = subst (LooksAside x c.args.ctx.now.tree c.step.new.tables c.look_aside.new.tables c.step.new.delays c.look_aside.new.delays c.step.new.edges c.look_aside.new.edges) c.if-not-branch.false c.in_ok-look_aside.ensures.ok in
     aside_search x c.args.ctx.now.tree c.args.root c.well_formed-2.ensures.tree c.requires.live c.requires.linked d.answers_true (record { forwarded = d.forwards_operands.places; named = d.names_operands.there }) c.loop-edges.tables c.step.new.tables c.loop-edges.delays c.step.new.delays c.loop-edges.edges c.step.new.edges c.loop-edges.pops turn c.loop-edges.invariant c.look_aside.new.tables c.look_aside.new.delays c.look_aside.new.edges looks
+
+err_same : {X Y : Type 0} (r : Result X Y) (e m : Y) → IsErrAnd r (λ x. x ≡ e) → e ≡ m → IfErr r (λ x. x ≡ m)
+err_same (Ok x) e m given same = tt
+err_same (Err x) e m given same = given ∙ same
+
+pub returns-in_err-taken-clause-memory : goal.returns-in_err-taken-clause-memory
+returns-in_err-taken-clause-memory g c = err_same c.from_residual-in_err-taken.result c.in_err-taken.field-0.0 Memory c.from_residual-in_err-taken.ensures.1 c.in_err-taken.ensures.memory
+
+pub returns-in_err-look_aside-clause-memory : goal.returns-in_err-look_aside-clause-memory
+returns-in_err-look_aside-clause-memory g c = err_same c.from_residual-in_err-look_aside.result c.in_err-look_aside.field-0.0 Memory c.from_residual-in_err-look_aside.ensures.1 c.in_err-look_aside.ensures.memory
