@@ -17,7 +17,7 @@ use Rattle.pliron_laws.specs.Laws.{Admitted}
 use Rattle.pliron_laws.specs.Linked.{IsWellLinked}
 use Rattle.pliron_laws.specs.Folding.{AnswersTrue}
 use Rattle.pliron_laws.proofs.Records.{ShowsOperation, op_shows}
-use Rattle.pliron_theory.specs.Facts.{Fact, Undetermined, Constant, NotAConstant, AtMost, known, answered, Facts, Says, handed, answers_of, IsInReachedBlock, Forwards, IsEntered, IsBelowNamed, AreBelowNamed, AreClosed}
+use Rattle.pliron_theory.specs.Facts.{Fact, Undetermined, Constant, NotAConstant, AtMost, known, answered, Facts, Says, handed, answers_of, IsInReachedBlock, IsFeasibleEdge, Forwards, IsEntered, IsBelowNamed, AreBelowNamed, AreClosed}
 use Rattle.pliron_theory.proofs.FactLattice.{at_most_refl, at_most_trans, same_index, picked_in}
 use Rattle.pliron_theory.proofs.SweptKeeps.{admitted_shape}
 use Rattle.pliron_sccp.specs.declared.facts.Tables.{Tables}
@@ -168,26 +168,31 @@ module _ (x : Says) (t : Tree) (root : ℕ) (w : IsTree t) (linked : IsWellLinke
         let made = owed.defined.own_values k v k_inside j in
         operand_determined t root w f now visited grounded ready (λ y d. below_undetermined (f.fact y) (now.fact y) (on.below.fact y) d) k v c done rest p reached body (λ q m y. front q v m y) j made (owed.defined.dominated k v j made)
 
-    -- every closed set meets what is asked under these facts
-    meets_closed : (g : Facts) → AreClosed x t root g → IsMet x t now g k o
-    meets_closed g closed = record {
-      entries = λ i r b there e. let y = closed.entries k i r b o stands at there e in (y.0, λ j v a. named_above g.fact now.fact o.operands below (x.entry_operands (shape_of x.meaning t o) i j) v (y.1 j v a));
-      branches = λ i b branch go. (
-        (closed.branches k i b o stands at branch (above_jump x owed.monotone t root g now closed k o stands at admitted below some i b go)).0,
-        λ j v u listed fw. above_argument x owed.monotone t root g now closed k o stands at admitted below some i b j v u branch go listed fw,
-      );
-      jumps = λ i b no_branch e. closed.jumps k i b o stands at no_branch e;
-      folded = λ i v a folds listed said. above_result x owed.monotone t root g now closed k o stands at admitted below some i v a folds listed said;
-      others = λ v none i. closed.others k v o stands at none i;
-    }
-      where
-        stands : IsInReachedBlock t g k
-        stands = (c, p, (on.above g closed).blocks c (on.below.reaches c reached))
+    module _ (g : Facts) (closed : AreClosed x t root g) where
+      stands : IsInReachedBlock t g k
+      stands = (c, p, (on.above g closed).blocks c (on.below.reaches c reached))
 
-        below : (v : ℕ) → In v o.operands → AtMost (g.fact v) (now.fact v)
-        below v i =
-            let j = operand_in v i in
-            (on.above g closed).facts v (made_listed t w root v (owed.defined.own_values k v k_inside j) (w.joined.operands k v j))
+      below : (v : ℕ) → In v o.operands → AtMost (g.fact v) (now.fact v)
+      below v i =
+          let j = operand_in v i in
+          (on.above g closed).facts v (made_listed t w root v (owed.defined.own_values k v k_inside j) (w.joined.operands k v j))
+
+      -- an edge that is feasible under these facts is so under every closed set
+      pub feasible_closed : (i b : ℕ) → IsFeasibleEdge x t now o i b → IsFeasibleEdge x t g o i b
+      feasible_closed i b go = above_jump x owed.monotone t root g now closed k o stands at admitted below some i b go
+
+      -- every closed set meets what is asked under these facts
+      meets_closed : IsMet x t now g k o
+      meets_closed = record {
+        entries = λ i r b there e. let y = closed.entries k i r b o stands at there e in (y.0, λ j v a. named_above g.fact now.fact o.operands below (x.entry_operands (shape_of x.meaning t o) i j) v (y.1 j v a));
+        branches = λ i b branch go. (
+          (closed.branches k i b o stands at branch (feasible_closed i b go)).0,
+          λ j v u listed fw. above_argument x owed.monotone t root g now closed k o stands at admitted below some i b j v u branch go listed fw,
+        );
+        jumps = λ i b no_branch e. closed.jumps k i b o stands at no_branch e;
+        folded = λ i v a folds listed said. above_result x owed.monotone t root g now closed k o stands at admitted below some i v a folds listed said;
+        others = λ v none i. closed.others k v o stands at none i;
+      }
 
     module _ (s s' : Tables) (same : now ≡ facts_of s) (looks : LooksAt x t k s s') where
       abbrev pub new : Facts

@@ -21,8 +21,10 @@ use Rattle.pliron_sccp.specs.Settling.{IsMet, AreAtMost, IsSettled, AreSettledBu
 use Rattle.pliron_sccp.specs.Falling.{FactsFall}
 use Rattle.pliron_sccp.specs.Demands.{Asks, AsksEntries, CanMeet, MeetsAll}
 use Rattle.pliron_sccp.specs.declared.demands.Demand.{Demand}
-use Rattle.pliron_sccp.specs.Looking.{AreTargetsNumbered, HasNumberedTargets, LooksAt, LooksThrough}
+use Rattle.pliron_sccp.specs.declared.edges.FeasibleEdges.{FeasibleEdges}
+use Rattle.pliron_sccp.specs.Looking.{AreTargetsNumbered, GoesThrough, HasNumberedTargets, LooksAt, LooksThrough}
 use Rattle.pliron_sccp.specs.Looking.LooksThrough.{Nothing, Then}
+use Rattle.pliron_sccp.specs.Looking.GoesThrough.{Nowhere, Onward}
 use Rattle.pliron_sccp.specs.Accounts.{AreKnownThere}
 use Rattle.pliron_sccp.proofs.DistinctLists.{held_directly, values_apart}
 use Rattle.pliron_sccp.proofs.Settled.{met_still, entered_still, varies_still}
@@ -195,6 +197,11 @@ module _ (x : Says) (t : Tree) where
   pub through_falls : (ks : List ℕ) (s u : Tables) → LooksThrough x t ks s u → FactsFall s u
   through_falls [] s u Nothing = falls_refl s
   through_falls (k ∷ ks) s u (Then _ q l d) = falls_trans s q u l.applied.falls (through_falls ks q u d)
+
+  -- whatever was kept
+  pub looks_only : (ks : List ℕ) (s u : Tables) (edges edges' : FeasibleEdges) → GoesThrough x t ks s u edges edges' → LooksThrough x t ks s u
+  looks_only [] s u edges edges' Nowhere = Nothing
+  looks_only (k ∷ ks) s u edges edges' (Onward _ q kept a keeps d) = Then k q a (looks_only ks q u kept edges' d)
 
   module _ (w : IsTree t) where
     -- a block is taken: its operations are still to be looked at

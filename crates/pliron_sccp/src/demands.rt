@@ -1,7 +1,7 @@
 //! What an operation asks of the facts, read under the facts so far; and facts fall until they meet it.
 //!
 //! What is asked names a constant by its number in the tables, so that none is copied to hand it on.
-ghost use Rattle.std.specs.Prelude.{◌≡◌, ◌≤◌, ◌<◌, ◌↔◌, ◌∷◌, [], ℕ, List, nat_eq, true, if◌then◌else◌, Some, OnOk, IfOk, IsTrue, length, slice_get, IsOkUnless};
+ghost use Rattle.std.specs.Prelude.{◌≡◌, ◌≤◌, ◌<◌, ◌↔◌, ◌∷◌, [], ℕ, List, nat_eq, true, if◌then◌else◌, Some, None, OnOk, IfOk, IsTrue, length, slice_get, IsOkUnless};
 ghost use Rattle.std.specs.HashSet.{contains};
 ghost use Rattle.pliron_core.specs.Tree.{IsLive, IsBlock, IsRegion, In, arguments_of, operands_of, regions_of, results_of, successors_of};
 ghost use Rattle.pliron_laws.specs.Tree.{Operation as OperationOf, op_at, shape_of};
@@ -9,6 +9,7 @@ ghost use Rattle.pliron_laws.specs.Answers.{HeadPasses};
 ghost use Rattle.pliron_theory.specs.Facts.{answered, handed, AtMost, AreBelowNamed, IsEntered, known as known_of, NotAConstant as Varies};
 ghost use Rattle.pliron_sccp.specs.Tables.{known_constants, facts_of, fact_in};
 ghost use Rattle.pliron_sccp.specs.Cells.{Means};
+ghost use Rattle.pliron_sccp.specs.Feasible.{AreFound};
 ghost use Rattle.pliron_sccp.specs.Falling.{IsApplied};
 ghost use Rattle.pliron_sccp.specs.Demands.{Adds, AlwaysAdds, CanMeet, Asks, AsksEntries, AsksEdges, AsksJumps, AsksAnswers, AsksResults, AsksForwarded, AsksBranches, AsksVisits, FollowsEdge, GetsForwarded, GetsNamed, AreFeasible, IsEntryOf, MayLead, EntryEntered, VisitEntered};
 
@@ -390,13 +391,15 @@ fn ask_each_edge<D: Dialect>(
     Ok(())
 }
 
-/// Each block that the branch may go to is reached, with the values that its edges forward.
+/// Each block that the branch may go to is reached, with the values that its edges forward. These blocks are told,
+/// where it folds.
 fn ask_branches<D: Dialect>(
     alloc: Global,
     op: Ptr<Operation>,
     ctx: &Context,
     tables: &Tables,
     known: &[Option<AttrObj>],
+    feasible: &mut Option<HashSet<u64>>,
     asked: &mut Vec<Demand>,
 ) -> Result<(), OptError>
     requires live { IsLive ctx.now.tree op }
@@ -404,10 +407,13 @@ fn ask_branches<D: Dialect>(
     requires known { known.now ≡ handed (facts_of tables.now) (operands_of ctx.now.tree op) }
     ensures ok { OnOk result ((o : OperationOf) → op_at ctx.now.tree op ≡ Some o →
         Adds (known_constants tables.now) asked.old.items asked.new.items (λ now. AsksBranches ⟦<D as HasFolding>⟧.folding ctx.now.tree (facts_of tables.now) o now)) }
+    ensures feasible { OnOk result (AreFound ⟦<D as HasFolding>⟧.folding ctx.now.tree (facts_of tables.now) op feasible.new) }
     ensures memory { IsOkUnless result OptError.Memory }
 {
-    let feasible = feasible_blocks::<D>(alloc, op, ctx, known)?;
-    ask_each_edge::<D>(alloc, op, ctx, tables, known, &feasible, asked)
+    let found = feasible_blocks::<D>(alloc, op, ctx, known)?;
+    ask_each_edge::<D>(alloc, op, ctx, tables, known, &found, asked)?;
+    *feasible = found;
+    Ok(())
 }
 
 /// The result at this index, if there is one, is at or below the answer.
@@ -474,23 +480,26 @@ fn ask_results<D: Dialect>(
     }
 }
 
-/// What the edges of the operation ask.
+/// What the edges of the operation ask. The blocks that it may go to are told, where it folds as a branch.
 fn ask_edges<D: Dialect>(
     alloc: Global,
     op: Ptr<Operation>,
     ctx: &Context,
     tables: &Tables,
     known: &[Option<AttrObj>],
+    feasible: &mut Option<HashSet<u64>>,
     asked: &mut Vec<Demand>,
 ) -> Result<(), OptError>
     requires live { IsLive ctx.now.tree op }
     requires known { known.now ≡ handed (facts_of tables.now) (operands_of ctx.now.tree op) }
+    requires none { feasible.old ≡ None }
     ensures ok { OnOk result ((o : OperationOf) → op_at ctx.now.tree op ≡ Some o →
         Adds (known_constants tables.now) asked.old.items asked.new.items (λ now. AsksEdges ⟦<D as HasFolding>⟧.folding ctx.now.tree (facts_of tables.now) op o now)) }
+    ensures feasible { OnOk result (AreFound ⟦<D as HasFolding>⟧.folding ctx.now.tree (facts_of tables.now) op feasible.new) }
     ensures memory { IsOkUnless result OptError.Memory }
 {
     if D::is_branch(op, ctx) {
-        ask_branches::<D>(alloc, op, ctx, tables, known, asked)
+        ask_branches::<D>(alloc, op, ctx, tables, known, feasible, asked)
     } else {
         ask_jumps(op, ctx, asked)
     }
@@ -499,24 +508,27 @@ fn ask_edges<D: Dialect>(
 /// What the operation demands of the facts: the entries of its regions are reached, their arguments are at
 /// or below what it names for them, blocks that it may go to
 /// are reached with what is forwarded to them, and its results are at or below what it answers. Reads the
-/// facts and changes nothing.
+/// facts and changes nothing. Where the operation folds as a branch, tells the blocks that it may go to.
 ///
-/// Asks that the operation stands (`is_live` tests it). Errors: want of memory. Cost: one step for each
-/// operand, result, region, successor and argument of these, and what the dialect's answers cost.
+/// Asks that the operation stands (`is_live` tests it), and for a place that is empty. Errors: want of memory. Cost:
+/// one step for each operand, result, region, successor and argument of these, and what the dialect's answers cost.
 pub fn demands<D: Dialect>(
     alloc: Global,
     op: Ptr<Operation>,
     ctx: &Context,
     tables: &Tables,
+    feasible: &mut Option<HashSet<u64>>,
 ) -> Result<Vec<Demand>, OptError>
-    requires { IsLive ctx.now.tree op }
+    requires live { IsLive ctx.now.tree op }
+    requires none { feasible.old ≡ None }
     ensures ok { IfOk result (λ asked. Asks (known_constants tables.now) ⟦<D as HasFolding>⟧.folding ctx.now.tree (facts_of tables.now) op asked.items) }
+    ensures feasible { OnOk result (AreFound ⟦<D as HasFolding>⟧.folding ctx.now.tree (facts_of tables.now) op feasible.new) }
     ensures memory { IsOkUnless result OptError.Memory }
 {
     let known = known_operands(alloc, op, ctx, tables)?;
     let mut asked = Vec::new(alloc);
     ask_visits::<D>(op, ctx, tables, &mut asked)?;
-    ask_edges::<D>(alloc, op, ctx, tables, &known, &mut asked)?;
+    ask_edges::<D>(alloc, op, ctx, tables, &known, feasible, &mut asked)?;
     ask_results::<D>(alloc, op, ctx, &known, &mut asked)?;
     Ok(asked)
 }

@@ -8,6 +8,7 @@
 
 mod delays;
 mod demands;
+mod edges;
 mod facts;
 mod guesses;
 mod inside;

@@ -12,7 +12,9 @@
 //! In `ASIDE`, worked out by hand too, an operation has more operands than what is looked at at once: sums of a loop
 //! that fall one after the other and that a branch behind it forwards; branches that come to be feasible only when
 //! their condition falls, one by itself, one after what it forwards fell too, and two of which the shorter one is looked
-//! at first; and a loop in which such a branch makes its own operands fall.
+//! at first; a loop in which such a branch makes its own operands fall, and one in which two make each other's fall in
+//! turn; and one of which the last operand falls that it forwards along an edge which isn't feasible, to a block that is
+//! reached.
 
 pub static ROWS: &str = "\
 C 1 3 0 func { b0(): a = const 1; b = const 2; c = add a b; ret c } => func { b0(): v0 = const 1; v1 = const 2; v2 = const 3; v3 = add v0 v1; ret v2 }
@@ -99,7 +101,16 @@ U 6 2 25 func { b0(): z = const 0; o = const 1; br b1(z); b1(p): cbr p b2(p, p, 
 U 3 1 10 func { b0(): o = const 1; br b1(o, o, o, o, o, o, o, o); b1(a, b, c, d, e, f, g, h): r = read; q = read; \
     cbr q b1(r, a, b, c, d, e, f, g) b2(); b2(): ret } \
     => func { b0(): v0 = const 1; br b1(v0, v0, v0, v0, v0, v0, v0, v0); b1(v1, v2, v3, v4, v5, v6, v7, v8): v9 = read; v10 = read; \
-        cbr v10 b1(v9, v1, v2, v3, v4, v5, v6, v7) b2(); b2(): ret }";
+        cbr v10 b1(v9, v1, v2, v3, v4, v5, v6, v7) b2(); b2(): ret }
+U 4 1 19 func { b0(): o = const 1; br b1(o, o, o, o, o, o, o, o); b1(a, b, c, d, e, f, g, h): r = read; q = read; \
+    cbr q b2(r, a, b, c, d, e, f, g) b3(); b2(i, j, k, l, m, n, p, s): t = read; cbr t b1(i, j, k, l, m, n, p, s) b3(); b3(): ret } \
+    => func { b0(): v0 = const 1; br b1(v0, v0, v0, v0, v0, v0, v0, v0); b1(v1, v2, v3, v4, v5, v6, v7, v8): v9 = read; v10 = read; \
+        cbr v10 b2(v9, v1, v2, v3, v4, v5, v6, v7) b3(); \
+        b2(v11, v12, v13, v14, v15, v16, v17, v18): v19 = read; cbr v19 b1(v11, v12, v13, v14, v15, v16, v17, v18) b3(); b3(): ret }
+C 3 2 10 func { b0(x): o = const 1; cbr x b1(o, o, o, o, o, o, o, o) b2(o); \
+    b1(a, b, c, d, e, f, g, h): r = read; cbr o b1(r, a, b, c, d, e, f, g) b2(h); b2(u): ret u } \
+    => func { b0(v0): v1 = const 1; cbr v0 b1(v1, v1, v1, v1, v1, v1, v1, v1) b2(v1); \
+        b1(v2, v3, v4, v5, v6, v7, v8, v9): v10 = read; cbr v1 b1(v10, v2, v3, v4, v5, v6, v7, v8) b2(v9); b2(v11): v12 = const 1; ret v12 }";
 
 pub static MADE: &str = "\
 U 1 0 0 func { b0(): sink; ret; b1(): v0 = read; v1 = div v0 v0; cbr v1 b1() b2(); b2(): sink; ret } \

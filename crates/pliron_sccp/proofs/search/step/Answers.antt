@@ -37,8 +37,8 @@ returns-in-None-clause-ok g c =
       asked = v.asked;
       between = v.between;
       met = v.met;
-      takes = takes_from x c.args.ctx.now.tree c.args.tables.now c.next_block.new.self v.between v.users v.asked taken n.0 v.takes;
+      takes = takes_from x c.args.ctx.now.tree c.args.edges.now c.args.tables.now c.next_block.new.self v.between v.users v.asked taken n.0 v.takes;
       applied = v.applied;
       sees = v.sees;
-    }))
+    }) refl)
     c.visit_values.ensures.ok
