@@ -207,7 +207,7 @@ fn dot<'a>(alloc: Global) -> Result<Command<'a>, AllocError> {
                 .value_name("PATH")
                 .default_value("0")
                 .help(
-                    "The region: numbers with dots between them, as\n`0.2.0` for region 0 of operation 2 of region 0",
+                    "The region: numbers with dots between them, as `0.2.0`\nfor region 0 of operation 2 of region 0",
                 ),
         )?
         .arg(flag(
