@@ -348,13 +348,14 @@ impl<K: Kinds> Dialect for ByKinds<K> {
         Ok(operand_among(op, ctx, places, j))
     }
 
-    /// Of a jump alone. Cost: constant.
+    /// Of a jump or a branch, which has two edges at most. Cost: constant.
     fn forwarded_from(op: Ptr<Operation>, ctx: &Context, place: usize) -> Option<(usize, usize)> {
-        if op.num_successor(ctx) != 1 {
-            return None;
+        for edge in 0..op.num_successor(ctx) {
+            if let Some(index) = place_among(places_at::<K>(op, ctx, edge), place) {
+                return Some((edge, index));
+            }
         }
-        let index = place_among(places_at::<K>(op, ctx, 0), place)?;
-        Some((0, index))
+        None
     }
 
     /// A branch that lost a value of its first edge counts one fewer there. Cost: that of `remove_operand`.
