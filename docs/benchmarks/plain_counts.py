@@ -5,6 +5,7 @@
                                    in a second line those of the texts of what is put aside
   plain_counts.py TEXTS whole      the same where each user of a value that fell is looked at as a whole
   plain_counts.py TEXTS at-once    the same where nothing is put aside
+  plain_counts.py TEXTS late       the same where a long branch that folds is asked for no argument ahead
 
 Facts stand in a dictionary by name, and the worklists are lists: nothing is shared with the crate but the
 order of work that its page names, last in, first out. Each count is held against the numbers that stand with
@@ -20,6 +21,7 @@ FOLDS = ("const", "add", "mul", "div")
 UNKNOWN, VARYING = "unknown", "varying"
 SPAN = 1 << 64
 FEW_OPERANDS = 8
+FEW_LOOKS = 4
 
 
 class Op:
@@ -153,8 +155,9 @@ def fold(op, known):
 
 
 class Search:
-    def __init__(self, root, whole, at_once):
-        self.whole = whole
+    def __init__(self, root, whole, at_once, late):
+        self.whole, self.late = whole, late
+        self.looks, self.feasible = {}, {}
         self.few = SPAN if at_once else FEW_OPERANDS
         self.aside = []
         self.facts, self.uses = {}, {}
@@ -206,7 +209,20 @@ class Search:
         return [(self.enter, block)] + [(self.lower, name, VARYING) for name in block.args]
 
     def entries(self, op):
+        """Of the root: nothing is known of the arguments."""
         return [asked for blocks in op.regions if blocks for asked in self.entered(blocks[0])]
+
+    def visits(self, op):
+        """A scope passes its operands, all else nothing that is known."""
+        if op.kind != "scope":
+            return self.entries(op)
+        asked = []
+        for blocks in op.regions:
+            asked.append((self.enter, blocks[0]))
+            passed = [self.fact(name) for name in op.operands]
+            passed += [VARYING] * len(blocks[0].args)
+            asked += [(self.lower, name, fact) for name, fact in zip(blocks[0].args, passed)]
+        return asked
 
     def edges(self, op):
         targets = [op.labels[name] for name in op.successors]
@@ -214,6 +230,9 @@ class Search:
             return [asked for block in targets for asked in self.entered(block)]
         condition = self.known(op)[0] if op.kind == "cbr" else None
         taken = targets if condition is None else [targets[0 if condition != 0 else 1]]
+        self.looks[op] = self.looks.get(op, 0) + 1
+        if self.looks[op] > FEW_LOOKS:
+            self.feasible[op] = taken
         asked, at = [], 0 if op.kind == "br" else 1
         for block, count in zip(targets, op.counts):
             values = op.operands[at:at + count]
@@ -230,7 +249,7 @@ class Search:
         return [(self.lower, name, VARYING if found is None else found) for name in op.results]
 
     def look(self, op):
-        self.meet(self.entries(op) + self.edges(op) + self.results(op))
+        self.meet(self.visits(op) + self.edges(op) + self.results(op))
 
     def call_for(self, op, place, name, again, asked):
         """What is done where the operand at this place fell."""
@@ -241,8 +260,23 @@ class Search:
             arguments = op.labels[op.successors[0]].args
             if place < len(arguments):
                 asked.append((self.lower, arguments[place], self.fact(name)))
-        elif op.kind in FOLDS + ("br", "cbr") and op not in again:
-            again.append(op)
+        elif op.kind in FOLDS + ("br", "cbr", "scope"):
+            if op not in again:
+                again.append(op)
+            if op.kind == "cbr" and len(op.operands) > self.few and not self.late:
+                asked += self.ahead(op, place, name)
+
+    def ahead(self, op, place, name):
+        """The argument that gets this operand of a cbr that was looked at more than a few times, where the edge was found
+        feasible."""
+        if place == 0:
+            return []
+        edge = 0 if place <= op.counts[0] else 1
+        index = place - 1 - edge * op.counts[0]
+        block = op.labels[op.successors[edge]]
+        if block not in self.feasible.get(op, []) or index >= len(block.args):
+            return []
+        return [(self.lower, block.args[index], self.fact(name))]
 
     def turn(self):
         """A block is taken before any value; where none waits, all values are taken."""
@@ -297,7 +331,7 @@ def main():
     for name in "MADE", "ASIDE":
         counts = []
         for blocks, constants, others, text in texts_of(sys.argv[1], name):
-            search = Search(Parser(text).operation(), "whole" in sys.argv[2:], "at-once" in sys.argv[2:])
+            search = Search(Parser(text).operation(), "whole" in sys.argv[2:], "at-once" in sys.argv[2:], "late" in sys.argv[2:])
             assert len(search.marks) == blocks, text
             least = blocks + constants + others
             assert least <= search.pops <= least + others, text

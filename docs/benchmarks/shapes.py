@@ -2,10 +2,11 @@
 """Programs of known shapes, to measure optimisations.
 
   shapes.py SHAPE N bench|llvm|mlir  a text of about N operations
+  shapes.py SHAPE N graph            a graph of N nodes for `plir_opt graph`: chain, random, dense, nest,
+                                     loops, star, isolated
   shapes.py list                     the names of the shapes, but those that bench alone can write:
                                      boxed, fiftyboxes, boxes, deepboxes, boxargs,
-                                     boxconsts, boxuses, boxuseslast, shortedges; and
-                                     the one on which a pass costs a square: shiftcbr
+                                     boxconsts, boxuses, boxuseslast, shortedges
 
 One program is built and printed in three notations, so that all optimisers see the same control flow: in
 that of this repository, with the shortest names and no blanks; in LLVM's, where an argument of a block is
@@ -400,13 +401,27 @@ def shiftbr(n, rng):
 
 
 def shiftcbr(n, rng):
-    """as shiftbr, but the branch of the loop is conditional: `sccp` costs a square."""
+    """as shiftbr, but the branch of the loop is conditional."""
     f = Fn()
     one = f.const(f.entry, 1)
     loop, end = f.block(max(2, n)), f.block(0)
     f.br(f.entry, loop, *[one] * len(loop.args))
     r = f.read(loop)
     f.cbr(loop, f.read(loop), loop, [r, *loop.args[:-1]], end, [])
+    f.ret(end)
+    return [f]
+
+
+def turncbr(n, rng):
+    """as shiftcbr, but the loop has two such branches, which make each other's operands fall in turn."""
+    f = Fn()
+    one = f.const(f.entry, 1)
+    count = max(2, n // 2)
+    loop, back, end = f.block(count), f.block(count), f.block(0)
+    f.br(f.entry, loop, *[one] * count)
+    r = f.read(loop)
+    f.cbr(loop, f.read(loop), back, [r, *loop.args[:-1]], end, [])
+    f.cbr(back, f.read(back), loop, back.args, end, [])
     f.ret(end)
     return [f]
 
@@ -464,10 +479,8 @@ SHAPES = {"chain": chain, "diamonds": diamonds, "merges": merges, "loops": loops
           "unreach": unreach, "dead": dead, "deadring": deadring, "fan": fan,
           "manyargs": manyargs, "liveargs": liveargs,
           "lateargs": lateargs, "shiftargs": shiftargs, "alternating": alternating,
-          "sumsink": sumsink, "sumbr": sumbr, "sumcbr": sumcbr, "shiftbr": shiftbr, "funcs": funcs, "mixed": mixed}
-
-# shapes on which a pass costs a square, which no table has
-SQUARES = {"shiftcbr": shiftcbr}
+          "sumsink": sumsink, "sumbr": sumbr, "sumcbr": sumcbr, "shiftbr": shiftbr, "shiftcbr": shiftcbr, "turncbr": turncbr,
+          "funcs": funcs, "mixed": mixed}
 
 
 def boxed_sums(n, depth):
@@ -687,12 +700,31 @@ def mlir_fn(n, f, w):
 PRINT = {"bench": bench, "llvm": llvm, "mlir": mlir}
 
 
+# The nodes that follow node i in a graph of n nodes.
+GRAPHS = {
+    "chain": lambda i, n, r: [i + 1],
+    "random": lambda i, n, r: dict.fromkeys(r.randrange(n) for _ in range(4)),
+    "dense": lambda i, n, r: [j for j in range(n) if j != i],
+    "nest": lambda i, n, r: [i + 1] if i < n // 2 else [min(n - 1 - i, n // 2 - 1), i + 1],
+    "loops": lambda i, n, r: [i + 1] + ([i - 3] if i % 4 == 3 else []),
+    "star": lambda i, n, r: [0] if i else range(1, n),
+    "isolated": lambda i, n, r: [],
+}
+
+
+def graph_text(shape, n):
+    """A line for each node: its name, and the names of those that follow it."""
+    r = random.Random(1)
+    return "".join(f"{i}:" + "".join(f" {j}" for j in GRAPHS[shape](i, n, r) if j < n) + "\n" for i in range(n))
+
+
 def text_of(shape, n, notation):
+    if notation == "graph":
+        return graph_text(shape, n)
     if shape in BENCH_ONLY:
         return BENCH_ONLY[shape](n)
     parts = []
-    make = SHAPES.get(shape) or SQUARES[shape]
-    PRINT[notation](make(n, random.Random(1)), parts.append)
+    PRINT[notation](SHAPES[shape](n, random.Random(1)), parts.append)
     return "".join(parts)
 
 

@@ -5,7 +5,7 @@ use std::alloc::{AllocError, Global};
 fn file<'a>(alloc: Global) -> Arg<'a> {
     Arg::new(alloc, "file")
         .value_name("FILE")
-        .help("The text; standard input, where it is `-` or left out")
+        .help("The text; standard input, if it is `-` or left out")
 }
 
 fn output<'a>(alloc: Global) -> Arg<'a> {
@@ -13,7 +13,7 @@ fn output<'a>(alloc: Global) -> Arg<'a> {
         .short('o')
         .long("output")
         .value_name("FILE")
-        .help("Where to write; standard output, where it is left out")
+        .help("Where to write; standard output, if left out")
 }
 
 fn flag<'a>(alloc: Global, name: &'a str, help: &'a str) -> Arg<'a> {
@@ -44,10 +44,10 @@ fn steps<'a>(alloc: Global) -> Arg<'a> {
 
 /// The statuses of `run`.
 static RUN_STATUSES: &str = "\
-Statuses: 0 where the run ends with values; 1 where memory was refused; 2 for words,
-files and texts that can't be used; 3 where the run traps or is cut off. With
---compare: 0 where both runs end or trap and the same is seen; 3 where one is cut
-off or something differs.";
+Statuses: 0 where the run ends with values; 1 where memory was refused; 2 for
+words, files and texts that can't be used; 3 where the run traps or is cut off.
+With --compare: 0 where both runs end or trap and the same is seen; 3 where one
+is cut off or something differs.";
 
 fn run<'a>(alloc: Global) -> Result<Command<'a>, AllocError> {
     Command::new(alloc, "run")
@@ -58,18 +58,18 @@ fn run<'a>(alloc: Global) -> Result<Command<'a>, AllocError> {
         .arg(numbers(
             alloc,
             "input",
-            "A value for the text's operation; once for each, in order",
+            "A value for the text's operation; once for each,\nin order",
         ))?
         .arg(numbers(
             alloc,
             "world",
-            "What the world answers to an effect; once for each, in order",
+            "What the world answers to an effect; once for each,\nin order",
         ))?
         .arg(steps(alloc))?
         .arg(flag(
             alloc,
             "trace",
-            "Tell each move with what it takes, on standard error",
+            "Tell each move with what it takes, on standard\nerror",
         ))?
         .arg(compare(alloc)?)
 }
@@ -89,8 +89,9 @@ static PASSES: [&str; 3] = ["sccp", "dce", "simplify-cfg"];
 
 /// The statuses of `opt`.
 static OPT_STATUSES: &str = "\
-Statuses: 0 where the answer is written; 1 where memory or the passes were refused;
-2 for words, files and texts that can't be used; 3 where verifying found a fault.";
+Statuses: 0 where the answer is written; 1 where memory or the passes were
+refused; 2 for words, files and texts that can't be used; 3 where verifying
+found a fault.";
 
 /// What `PIPELINE` may be.
 static PIPELINE: &str = "\
@@ -114,10 +115,23 @@ fn print_after<'a>(alloc: Global) -> Arg<'a> {
         .value_name("NAME")
         .action(ArgAction::Append)
         .value_parser(PASSES.as_slice())
+        .hide_possible_values(true)
         .help(
-            "Tell the operation after each run of this pass, on\nstandard error; once for each pass",
+            "Tell the operation after each run of this pass, on\nstandard error: `sccp`, `dce` or `simplify-cfg`;\nonce for each pass",
         )
 }
+
+/// What `--stats` tells.
+static STATS: &str = "\
+Tell, on standard error, how many operations,
+blocks, arguments and edges stand before and after
+each pass, and what it rewrote. This is found by
+comparing the two: operations that only stand after
+it were made, those that only stood before it
+erased, those in another block moved; of operations
+that stay, operands that are another value or were
+taken out count as changed; blocks and arguments
+that only stood before it were erased";
 
 /// The flags of what `opt` tells on standard error.
 fn with_reports<'a>(command: Command<'a>, alloc: Global) -> Result<Command<'a>, AllocError> {
@@ -133,11 +147,7 @@ fn with_reports<'a>(command: Command<'a>, alloc: Global) -> Result<Command<'a>, 
             "verify-each",
             "Verify the operation after each run of a pass; a\nfault is told, and nothing written",
         ))?
-        .arg(flag(
-            alloc,
-            "stats",
-            "Tell how many operations, blocks, arguments and\nedges there are before and after each pass, on\nstandard error",
-        ))?
+        .arg(flag(alloc, "stats", STATS))?
         .arg(flag(
             alloc,
             "time",
@@ -155,7 +165,7 @@ fn opt<'a>(alloc: Global) -> Result<Command<'a>, AllocError> {
         .arg(flag(
             alloc,
             "pretty",
-            "Write each operation on a line of its own, as on a terminal",
+            "Write each operation on a line of its own, as on a\nterminal",
         ))?
         .arg(flag(alloc, "one-line", "Write one line, as to a file or a pipe").conflicts_with(
             "pretty",
@@ -165,19 +175,25 @@ fn opt<'a>(alloc: Global) -> Result<Command<'a>, AllocError> {
 
 /// The statuses of `check`.
 static CHECK_STATUSES: &str = "\
-Statuses: 0 where the text is fit to run; 1 where memory was refused; 2 for words,
-files and texts that can't be used; 3 where it isn't fit.";
+Statuses: 0 where the text is fit to run; 1 where memory was refused; 2 for
+words, files and texts that can't be used; 3 where it isn't fit.";
 
 fn check<'a>(alloc: Global) -> Result<Command<'a>, AllocError> {
     Command::new(alloc, "check")
-        .about("Looks whether a text is fit to run, or tells one thing that keeps it from that")
+        .about("Tells whether a text is fit to run, or one thing that is wrong")
         .after_help(CHECK_STATUSES)
         .arg(file(alloc))
 }
 
-/// The statuses of the commands that answer whatever the text does.
+/// The statuses of the commands that draw.
 static STATUSES: &str = "\
-Statuses: 0; 1 where memory was refused; 2 for words, files and texts that can't be used";
+Statuses: 0 where the answer is written; 1 where memory was refused; 2 for
+words, files and texts that can't be used.";
+
+/// The statuses of `explain`.
+static EXPLAIN_STATUSES: &str = "\
+Statuses: 0 where the answer is written; 1 where memory or the passes were
+refused; 2 for words, files and texts that can't be used.";
 
 fn dot<'a>(alloc: Global) -> Result<Command<'a>, AllocError> {
     Command::new(alloc, "dot")
@@ -191,13 +207,13 @@ fn dot<'a>(alloc: Global) -> Result<Command<'a>, AllocError> {
                 .value_name("PATH")
                 .default_value("0")
                 .help(
-                    "The region: numbers with dots between them, as `0.2.0` for\nregion 0 of operation 2 of region 0",
+                    "The region: numbers with dots between them, as `0.2.0`\nfor region 0 of operation 2 of region 0",
                 ),
         )?
         .arg(flag(
             alloc,
             "dominators",
-            "Draw the immediate dominator of each block, with a dotted edge",
+            "Draw a dotted edge from the immediate dominator of\neach block",
         ))
 }
 
@@ -211,8 +227,8 @@ fn graph<'a>(alloc: Global) -> Result<Command<'a>, AllocError> {
 
 fn explain<'a>(alloc: Global) -> Result<Command<'a>, AllocError> {
     Command::new(alloc, "explain")
-        .about("Tells of each operation and argument why passes changed it or took it out")
-        .after_help(STATUSES)
+        .about("Tells why passes changed or took out operations and arguments")
+        .after_help(EXPLAIN_STATUSES)
         .arg(
             Arg::new(alloc, "file")
                 .value_name("FILE")
@@ -237,7 +253,7 @@ fn with<'a>(
 fn command<'a>(alloc: Global) -> Result<Command<'a>, AllocError> {
     let plir = Command::new(alloc, "plir")
         .version("0.1.0")
-        .about("Texts of operations: runs, passes, marks under what is wrong, pictures, reasons")
+        .about("Texts of operations: runs, passes, what is wrong and where, pictures, reasons")
         .subcommand_required(true)
         .arg_required_else_help(true);
     let plir = with(plir, run(alloc))?;

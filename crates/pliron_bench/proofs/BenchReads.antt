@@ -1,5 +1,5 @@
 -- What the functions of the dialect read of an operation.
-use Rattle.pliron_core.proofs.GrownLemmas.{range_at, range_get, range_more}
+use Rattle.pliron_core.proofs.GrownLemmas.{range_get, range_more}
 use Rattle.std.proofs.Common.{◌≡◌, ℕ, zero, suc, ◌+◌, ◌<◌, ◌≤◌, Bool, true, false, IsSome, List, [], ◌∷◌, ◌++◌, Option, Some, None, length, map, IsTrue, refl, ap, sym, ◌∙◌, subst, arith}
 use Rattle.std.specs.List.{slice_get, range_with_len}
 use Rattle.std.specs.Option.{option_map}
@@ -18,9 +18,10 @@ use Rattle.pliron_laws.specs.Tree.{Operation, op_at, op_with, shape_of}
 use Rattle.pliron_laws.specs.Acting.{pick}
 use Rattle.pliron_laws.specs.Answers.{AreForwarded, IsForwardedAt, IsForwardedOnce, ReadsHead, ReadsShape, ReadsEdges, HeadPasses}
 use Rattle.pliron_bench.specs.Bench.{by_kind, kind_of}
+use Rattle.pliron_bench.specs.BenchBranches.{distinct}
 use Rattle.pliron_bench.specs.BenchNumbers.{known_at}
 use Rattle.pliron_bench.specs.BenchMoves.{bench, places_in, no_places_in, places_of, no_places}
-use Rattle.pliron_bench.specs.BenchAnswers.{bench_folds, bench_constants, bench_accepts, bench_constant_head, is_const_kind, bench_folds_branch, bench_feasible, folds_of, folds_branch_of, answer_of, constants_of, no_constants, feasible_of, no_jump, taken}
+use Rattle.pliron_bench.specs.BenchAnswers.{bench_folds, bench_constants, bench_accepts, bench_constant_head, is_const_kind, bench_folds_branch, bench_feasible, folds_of, folds_branch_of, answer_of, constants_of, no_constants, feasible_of, no_jump, taken, entry_operand_of, no_operand, bench_entry_operands}
 use Rattle.pliron_laws.proofs.ShapeLemmas.{head_at, operands_at}
 
 same_head : (t : Tree) (op : ℕ) (h : Head) (o : Operation) → head_of t op ≡ Some h → op_at t op ≡ Some o → h ≡ o.head
@@ -90,20 +91,17 @@ unfolding bench shape_of
 places_are t op i places o f at =
     f o.head (head_at t op o at) ∙ ap (λ z. by_kind no_places_in places_in (kind_of o.head.kind) o.head.attrs (length z) i) (sym (operands_at t op o at)) ∙ sym (places_same (kind_of o.head.kind) (shape_of bench t o) i)
 
--- where there is one edge, an operand among its places is forwarded there alone
-pub forwarded_once : (t : Tree) (op place index first count : ℕ) → ReadsHead (λ h. by_kind no_places_in places_in (kind_of h.kind) h.attrs (length (operands_of t op)) 0) t op (range_with_len first count) → length (successors_of t op) ≡ 1 → place ≡ first + index → index < count → IsForwardedOnce bench t op place 0 index
-forwarded_once t op place index first count f one e lt = record {
-  edge = omega (arith, one);
-  there = λ o at. ap (λ z. slice_get z index) (sym (are o at)) ∙ range_get first count index lt ∙ ap Some (sym e);
-  alone = λ o at k l less is.
-      let size : length o.successors ≡ 1 = ap length (successors_with t op o at) ∙ one in
-      let zero_edge : k ≡ 0 = omega (arith, less, size) in
-      let r = range_at first count l place (ap (λ z. slice_get z l) (are o at) ∙ ap (λ z. slice_get (bench.forwarded (shape_of bench t o) z) l) (sym zero_edge) ∙ is) in
-      (zero_edge, omega (arith, r.0, e));
+-- an operand among the places of an edge of a branch is forwarded there alone
+pub forwarded_once : (t : Tree) (op place edge index first count : ℕ) → ReadsHead (λ h. by_kind no_places_in places_in (kind_of h.kind) h.attrs (length (operands_of t op)) edge) t op (range_with_len first count) → HeadPasses bench.is_branch t op → edge < length (successors_of t op) → place ≡ first + index → index < count → IsForwardedOnce bench t op place edge index
+unfolding bench shape_of
+forwarded_once t op place edge index first count f branch within e lt = record {
+  edge = within;
+  there = there;
+  alone = λ o at k l less is. distinct (kind_of o.head.kind) (shape_of bench t o) k edge l index place (branch o.head (head_at t op o at)) is (there o at);
 }
   where
-    are : (o : Operation) → op_at t op ≡ Some o → range_with_len first count ≡ bench.forwarded (shape_of bench t o) 0
-    are o at = places_are t op 0 (range_with_len first count) o f at
+    there : (o : Operation) → op_at t op ≡ Some o → slice_get (bench.forwarded (shape_of bench t o) edge) index ≡ Some place
+    there o at = ap (λ z. slice_get z index) (sym (places_are t op edge (range_with_len first count) o f at)) ∙ range_get first count index lt ∙ ap Some (sym e)
 
 -- past the last of places in a row there is none
 pub picked_past : (xs : List ℕ) (first count j : ℕ) → count ≤ j → slice_get (pick (range_with_len first count) xs) j ≡ None
@@ -143,3 +141,13 @@ constant_stays t op known b live r e = kind_stays (kind_in (head_of t op)) t op 
 pub others_fold : (t u : Tree) (op : ℕ) (known : List (Option AttrObj)) (b : Bool) (answer : Option IRStatus) → IsLive t op → ReadsHead (λ h. is_const_kind (kind_of h.kind)) t op b → b ≡ false → materialising bench bench_constants bench_accepts bench_constant_head t u op known answer → bench_outcome t u op known answer
 unfolding bench_outcome
 others_fold t u op known b answer live r e m = kind_folds (kind_in (head_of t op)) t u op known answer (sym (head_kind t op b (head_of t op) live refl r) ∙ e) m
+
+-- ---- operands of visits
+
+pub entry_read : (t : Tree) (op i j : ℕ) (kind : BenchKind) (answer : Option ℕ) → ReadsHead (λ h. kind_of h.kind) t op (Some kind) → answer ≡ entry_operand_of kind (length (operands_of t op)) j → ReadsShape bench (λ s. bench_entry_operands s i j) t op answer
+unfolding bench_entry_operands shape_of
+entry_read t op i j kind answer r e = λ o at. e ∙ ap (λ z. by_kind no_operand entry_operand_of z (length (operands_of t op)) j) (r o.head (head_at t op o at)) ∙ ap (λ z. by_kind no_operand entry_operand_of (kind_of o.head.kind) (length z) j) (sym (operands_at t op o at))
+
+pub no_entry_read : (t : Tree) (op i j : ℕ) → ReadsHead (λ h. kind_of h.kind) t op None → ReadsShape bench (λ s. bench_entry_operands s i j) t op None
+unfolding bench_entry_operands shape_of
+no_entry_read t op i j r = λ o at. ap (λ z. by_kind no_operand entry_operand_of z (length o.operands) j) (r o.head (head_at t op o at))

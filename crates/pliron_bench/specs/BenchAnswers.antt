@@ -1,15 +1,16 @@
 -- What the dialect answers of its operations: side effects, removal, folding, kinds and interfaces.
-use Rattle.std.specs.Prelude.{ℕ, nat_eq, is_some, Bool, true, false, not, List, [], ◌∷◌, Option, Some, None, slice_get, option_map, ℤ}
+use Rattle.std.specs.Prelude.{ℕ, nat_eq, nat_lt, if◌then◌else◌, is_some, Bool, true, false, not, List, [], ◌∷◌, Option, Some, None, slice_get, option_map, ℤ}
 use Rattle.pliron_core.specs.declared.attrs.AttrObj.{AttrObj}
 use Rattle.pliron_core.specs.declared.attrs.AttrObj.TheVariants.{Int}
 use Rattle.pliron_bench.specs.declared.kind.BenchKind.{BenchKind}
 use Rattle.pliron_bench.specs.declared.kind.BenchKind.TheVariants.{Func, Const, Add, Mul, Div, Read, Print, Pair, Sink, Scope, Box, Cbr}
 use Rattle.pliron_laws.specs.declared.dialect.Interface.{Interface}
-use Rattle.pliron_laws.specs.declared.dialect.Interface.TheVariants.{SideEffects, BlockArgRemoval, ConstFold, BranchFold, Branch, Terminator}
+use Rattle.pliron_laws.specs.declared.dialect.Interface.TheVariants.{SideEffects, BlockArgRemoval, ConstFold, BranchFold, Branch, Terminator, RegionBranch}
 use Rattle.pliron_laws.specs.Datum.{Head, Shape}
+use Rattle.pliron_laws.specs.Entries.{EntryOperands}
 use Rattle.pliron_bench.specs.Bench.{by_kind, kind_of, number_of, is_number, attribute_head, first_attribute}
 use Rattle.pliron_bench.specs.BenchNumbers.{known_at, known_sum, known_product, known_quotient}
-use Rattle.pliron_bench.specs.BenchMoves.{ends_block, branches, edge_of}
+use Rattle.pliron_bench.specs.BenchMoves.{ends_block, branches, passes_operands, edge_of}
 
 -- whether an operation of the kind has side effects, where it says so
 abbrev pub effects_of : BenchKind → Option Bool
@@ -116,6 +117,17 @@ no_jump targets known = targets
 unfoldable pub bench_feasible : Shape → List ℕ → List (Option AttrObj) → List ℕ
 bench_feasible s targets known = by_kind no_jump feasible_of (kind_of s.head.kind) targets known
 
+-- a visit passes as each argument the operand of its index, where there is one among so many
+abbrev pub entry_operand_of : BenchKind → ℕ → ℕ → Option ℕ
+entry_operand_of Scope operands j = if nat_lt j operands then Some j else None
+entry_operand_of _ operands j = None
+
+abbrev pub no_operand : ℕ → ℕ → Option ℕ
+no_operand operands j = None
+
+unfoldable pub bench_entry_operands : EntryOperands
+bench_entry_operands s i j = by_kind no_operand entry_operand_of (kind_of s.head.kind) s.operands j
+
 unfoldable pub is_of_bench_kind : Head → BenchKind → Bool
 is_of_bench_kind h kind = nat_eq h.kind (number_of kind)
 
@@ -127,6 +139,7 @@ interface_of ConstFold k = folds_of k
 interface_of BranchFold k = folds_branch_of k
 interface_of Branch k = branches k
 interface_of Terminator k = ends_block k
+interface_of RegionBranch k = passes_operands k
 
 unfoldable pub has_bench_interface : Head → Interface → Bool
 has_bench_interface h interface = by_kind false (interface_of interface) (kind_of h.kind)

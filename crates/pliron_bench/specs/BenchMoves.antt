@@ -1,5 +1,5 @@
 -- What the operations of each kind do when they run, and the edges of branches.
-use Rattle.std.specs.Prelude.{ℕ, zero, suc, ◌-◌, min, if◌then◌else◌, Bool, true, false, List, [], ◌∷◌, Option, Some, None, slice_index_or, slice_set, replicate, take, drop, ℤ, pos}
+use Rattle.std.specs.Prelude.{ℕ, zero, suc, ◌-◌, min, if◌then◌else◌, Bool, true, false, not, List, [], ◌∷◌, Option, Some, None, slice_index_or, slice_set, replicate, take, drop, ℤ, pos}
 use Rattle.std.specs.List.{range_with_len}
 use Rattle.pliron_core.specs.declared.attrs.AttrObj.{AttrObj}
 use Rattle.pliron_core.specs.declared.attrs.AttrObj.TheVariants.{Int}
@@ -91,6 +91,11 @@ branches Br = true
 branches Cbr = true
 branches _ = false
 
+-- what visits its region with its operands
+abbrev pub passes_operands : BenchKind → Bool
+passes_operands Scope = true
+passes_operands _ = false
+
 -- the places of the operands that an edge forwards: a `br` all of them; of those of a `cbr` behind the
 -- condition, the first edge the first n, as far as there are so many, and the second one the others
 abbrev pub br_places : ℕ → ℕ → List ℕ
@@ -124,7 +129,7 @@ unfoldable pub bench : Meaning
 bench = record {
   act = λ s memo input. by_kind no_act act_of (kind_of s.head.kind) s memo input;
   admits = λ h a b c d. by_kind false (takes h a b c d) (kind_of h.kind);
-  may_be_root = λ h. true;
+  may_be_root = λ h. not (by_kind false passes_operands (kind_of h.kind));
   is_terminator = λ h. by_kind false ends_block (kind_of h.kind);
   is_branch = λ h. by_kind false branches (kind_of h.kind);
   forwarded = λ s i. by_kind no_places places_of (kind_of s.head.kind) s i;

@@ -6,6 +6,7 @@ pub mod BenchOutcomes
 pub mod BenchLists
 pub mod BenchParts
 pub mod BenchLaws
+pub mod BenchEntries
 pub mod BenchFolds
 pub mod BenchBranches
 pub mod BenchRemoval

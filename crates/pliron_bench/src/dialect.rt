@@ -3,9 +3,10 @@ ghost use Rattle.std.specs.Prelude.{◌≡◌, MatchResult, Ok, ℕ, ◌∷◌, 
 ghost use Rattle.pliron_core.specs.Tree.{IsLive, operands_of};
 ghost use Rattle.pliron_laws.specs.declared.fault.OptError.TheVariants.{Pass};
 ghost use Rattle.pliron_bench.specs.BenchMoves.{bench, bench_shortened};
-ghost use Rattle.pliron_bench.specs.BenchAnswers.{bench_side_effects, bench_removable, bench_folds, bench_constants, bench_accepts, bench_constant_head, bench_folds_branch, bench_feasible, is_of_bench_kind, has_bench_interface};
+ghost use Rattle.pliron_bench.specs.BenchAnswers.{bench_side_effects, bench_removable, bench_folds, bench_constants, bench_accepts, bench_constant_head, bench_folds_branch, bench_feasible, bench_entry_operands, is_of_bench_kind, has_bench_interface};
 ghost use Rattle.pliron_bench.specs.BenchOutcomes.{bench_outcome, bench_branch_outcome, EdgesFit};
 ghost use Rattle.pliron_bench.specs.BenchLaws.{bench_counts, bench_effects, bench_arguments, bench_makes};
+ghost use Rattle.pliron_bench.specs.BenchEntries.{bench_names, bench_roots};
 ghost use Rattle.pliron_bench.specs.BenchFolds.{bench_answers, bench_jumps};
 ghost use Rattle.pliron_bench.specs.BenchRemoval.{bench_forwards};
 ghost use Rattle.pliron_bench.specs.BenchInPlace.{bench_in_place};
@@ -23,7 +24,7 @@ use crate::verify::edges_fit;
 use pliron_core::{AttrObj, BasicBlock, Context, IRStatus, Operation, Ptr, Rewriter, Value};
 use pliron_laws::{
     BlockArgRemoval, BranchOpFoldInterface, ConstFoldInterface, Dialect, HasMeaning, Interface,
-    OptError, Room, SideEffects,
+    OptError, RegionBranchOpInterface, Room, SideEffects,
 };
 use std::alloc::Global;
 
@@ -254,6 +255,29 @@ impl BranchOpFoldInterface for Bench {
     }
 }
 
+impl RegionBranchOpInterface for Bench {
+    ghost verdict = { λ t op r. r ≡ Ok tt };
+
+    ghost entry_operands = { bench_entry_operands };
+
+    /// Of a `scope` the operand with the index of the argument, where there is one. Cost: constant.
+    fn entry_operand(
+        op: Ptr<Operation>,
+        ctx: &Context,
+        _region: usize,
+        arg: usize,
+    ) -> Option<usize> {
+        match kind_at(op, ctx) {
+            Some(kind) => kind.entry_operand(op.num_operand(ctx), arg),
+            None => None,
+        }
+    }
+
+    fn verify(_alloc: Global, _op: Ptr<Operation>, _ctx: &Context) -> Result<(), OptError> {
+        Ok(())
+    }
+}
+
 impl Dialect for Bench {
     type Kind = BenchKind;
 
@@ -271,7 +295,8 @@ impl Dialect for Bench {
 
     /// `SideEffects` for the kinds that answer whether they have some, `BlockArgRemoval` for `func`,
     /// `scope` and `box`, `ConstFold` for `const`, `add`, `mul` and `div`, `BranchFold` for `cbr`, `Branch`
-    /// for `br` and `cbr`, `Terminator` for `br`, `cbr`, `ret` and `fork`. Cost: constant.
+    /// for `br` and `cbr`, `Terminator` for `br`, `cbr`, `ret` and `fork`, `RegionBranch` for `scope`. Cost:
+    /// constant.
     #[tactic(auto, unfolding(crate::specs::BenchAnswers::has_bench_interface))]
     fn implements(op: Ptr<Operation>, ctx: &Context, interface: Interface) -> bool {
         match kind_at(op, ctx) {
@@ -305,10 +330,13 @@ impl Dialect for Bench {
         }
     }
 
-    /// Of every operation. Cost: constant.
+    /// Of every operation but a `scope`. Cost: constant.
     #[tactic(auto, unfolding(crate::specs::BenchMoves::bench))]
-    fn may_be_root(_op: Ptr<Operation>, _ctx: &Context) -> bool {
-        true
+    fn may_be_root(op: Ptr<Operation>, ctx: &Context) -> bool {
+        match kind_at(op, ctx) {
+            Some(kind) => !kind.passes_operands(),
+            None => true,
+        }
     }
 
     /// Whether it is a `br` or `cbr`. Cost: constant.
@@ -347,13 +375,14 @@ impl Dialect for Bench {
         Ok(operand_among(op, ctx, places, j))
     }
 
-    /// Of a `br` alone. Cost: constant.
+    /// Of a `br` or a `cbr`, which has two edges at most. Cost: constant.
     fn forwarded_from(op: Ptr<Operation>, ctx: &Context, place: usize) -> Option<(usize, usize)> {
-        if op.num_successor(ctx) != 1 {
-            return None;
+        for edge in 0..op.num_successor(ctx) {
+            if let Some(index) = place_among(places_at(op, ctx, edge), place) {
+                return Some((edge, index));
+            }
         }
-        let index = place_among(places_at(op, ctx, 0), place)?;
-        Some((0, index))
+        None
     }
 
     /// A `cbr` that lost a value of its first edge counts one fewer there. Cost: that of `remove_operand`.
@@ -384,4 +413,8 @@ impl Dialect for Bench {
     ghost folds_in_place = { bench_in_place };
 
     ghost makes_constants = { bench_makes };
+
+    ghost names_operands = { bench_names };
+
+    ghost roots = { bench_roots };
 }

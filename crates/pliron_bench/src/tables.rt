@@ -3,8 +3,8 @@ ghost use Rattle.std.specs.Prelude.{◌≡◌, ℕ, Some};
 ghost use Rattle.pliron_core.specs.Tree.{IsLive, IsBlock, block_parent_of};
 ghost use Rattle.pliron_laws.specs.Answers.{ReadsHead, is_entry};
 ghost use Rattle.pliron_bench.specs.Bench.{kind_of, takes_operands as operands_taken, takes_attributes as attributes_taken, has_none, has_number as is_one_number, has_count as is_one_count, is_count, takes as takes_all};
-ghost use Rattle.pliron_bench.specs.BenchMoves.{ends_block as is_ending, branches as is_branching};
-ghost use Rattle.pliron_bench.specs.BenchAnswers.{effects_of, removable_of, folds_of, folds_branch_of, interface_of};
+ghost use Rattle.pliron_bench.specs.BenchMoves.{ends_block as is_ending, branches as is_branching, passes_operands as is_passing};
+ghost use Rattle.pliron_bench.specs.BenchAnswers.{effects_of, removable_of, folds_of, folds_branch_of, interface_of, entry_operand_of};
 
 use crate::kind::BenchKind;
 use crate::numbers::is_number;
@@ -166,6 +166,24 @@ impl BenchKind {
         matches!(self, BenchKind::Cbr)
     }
 
+    // Whether an operation of the kind visits its region with its operands.
+    pub(super) fn passes_operands(self) -> bool
+        ensures { result ≡ is_passing self }
+    {
+        matches!(self, BenchKind::Scope)
+    }
+
+    // The operand, of so many, that every visit passes as the argument with this index.
+    pub(super) fn entry_operand(self, operands: usize, arg: usize) -> Option<usize>
+        ensures { result ≡ entry_operand_of self operands arg }
+    {
+        if self.passes_operands() && arg < operands {
+            Some(arg)
+        } else {
+            None
+        }
+    }
+
     // Whether an operation of the kind implements the interface.
     pub(super) fn implements(self, interface: Interface) -> bool
         ensures { result ≡ interface_of interface self }
@@ -177,6 +195,7 @@ impl BenchKind {
             Interface::BranchFold => self.folds_branch(),
             Interface::Branch => self.branches(),
             Interface::Terminator => self.ends_block(),
+            Interface::RegionBranch => self.passes_operands(),
         }
     }
 }

@@ -9,7 +9,8 @@ use Rattle.pliron_laws.specs.Tree.{Operation, op_at, shape_of}
 use Rattle.pliron_laws.specs.Acting.{Begins, pick}
 use Rattle.pliron_laws.specs.Laws.{ForwardsOperands}
 use Rattle.pliron_laws.specs.Answers.{HeadPasses, AreForwarded}
-use Rattle.pliron_theory.specs.Keeps.{IsFit, KeepsRuns}
+use Rattle.pliron_theory.specs.Keeps.{IsFit, KeepsRuns, with_roots}
+use Rattle.pliron_theory.proofs.ChosenRoots.{forwards_operands as chosen_forwards}
 use Rattle.pliron_laws.proofs.Records.{op_shows, make_op, operation_of}
 use Rattle.pliron_theory.proofs.Alike.{data_long}
 use Rattle.pliron_theory.proofs.KnownData.{picked_at}
@@ -76,4 +77,6 @@ module _ (m : Meaning) (can_fold : Head → Bool) (SameTests : Head → Head →
       same_datum m t w a b jump front h i p v at used out root f inside (jumps_now m can_fold SameTests shortened law t root jump b f inside branch h.goes) (hands root f inside) entry.0 entry.1 s r k rest e none uses)
 
 pub forwarding : (m : Meaning) (can_fold : Head → Bool) (SameTests : Head → Head → Type 0) (shortened : Shape → ℕ → ℕ → Head) → ForwardsOperands m can_fold SameTests shortened → ForwardingLaw m
-forwarding m can_fold SameTests shortened law t a b jump i p v front values w h branch forwarded at there out = forwarded_keeps m can_fold SameTests shortened law t a b jump i p v front values w h branch forwarded at there out
+unfolding shape_of
+forwarding m can_fold SameTests shortened law t a b jump i p v front values w h branch forwarded at there out = λ chosen.
+    forwarded_keeps (with_roots m chosen) can_fold SameTests shortened (chosen_forwards m chosen can_fold SameTests shortened law) t a b jump i p v front values w h branch forwarded at there out

@@ -19,6 +19,8 @@ use Rattle.pliron_core.proofs.HoldingLemmas.{some_is, not_none, some_of, slot_is
 use Rattle.pliron_laws.specs.Datum.{Head, Shape, Meaning}
 use Rattle.pliron_laws.specs.Laws.{ForwardsOperands}
 use Rattle.pliron_laws.specs.Linked.{EdgesLast}
+use Rattle.pliron_theory.specs.Keeps.{with_roots}
+use Rattle.pliron_theory.proofs.ChosenRoots.{forwards_operands as chosen_forwards}
 use Rattle.pliron_theory.specs.Sweeping.{swept, IsSwept}
 use Rattle.pliron_theory.specs.Splicing.{IsSpliced}
 use Rattle.pliron_theory.proofs.SweptLists.{swept_all}
@@ -210,7 +212,7 @@ module _ (m : Meaning) (can_fold : Head → Bool) (SameTests : Head → Head →
   joins_well = record {
     front = leads.0;
     spliced = spliced;
-    runs = spliced_keeps m t t3 a b jump leads.0 w w3 spliced (let n = same_length in omega (arith, n)) (λ root f inside. jumps_now m can_fold SameTests shortened law t root jump b f inside h.branch leads.1.goes);
+    runs = λ chosen. spliced_keeps (with_roots m chosen) t t3 a b jump leads.0 w w3 spliced (let n = same_length in omega (arith, n)) (λ root f inside. jumps_now (with_roots m chosen) can_fold SameTests shortened (chosen_forwards m chosen can_fold SameTests shortened law) t root jump b f inside h.branch leads.1.goes);
   }
 
 pub joining : (m : Meaning) (can_fold : Head → Bool) (SameTests : Head → Head → Type 0) (shortened : Shape → ℕ → ℕ → Head) → ForwardsOperands m can_fold SameTests shortened → JoiningLaw m

@@ -12,6 +12,7 @@ use Rattle.pliron_core.proofs.WithinLemmas.{holder_from, within_met, met_within,
 use Rattle.pliron_core.proofs.HoldingLemmas.{some_is, not_none, slice_in, inside_up, within_inside, holder_by}
 use Rattle.pliron_laws.specs.Datum.{Meaning}
 use Rattle.pliron_laws.specs.Linked.{EdgesLast}
+use Rattle.pliron_theory.specs.Keeps.{with_roots}
 use Rattle.pliron_theory.specs.Sweeping.{swept, IsSwept}
 use Rattle.pliron_theory.proofs.SweptLists.{swept_all, in_swept, from_swept}
 use Rattle.pliron_theory.proofs.SweptKeeps.{swept_keeps}
@@ -170,7 +171,7 @@ module _ (m : Meaning) (t u v : Tree) (holder region : ℕ) (bs : List ℕ) (w :
   pub goes_well : GoesWell m t v region bs
   goes_well = record {
     cut = cut;
-    runs = swept_keeps m t v dead dead_block w wv is_swept (record { operations = cut.gone; blocks = cut.gone_blocks }) (let n = cut.count in omega (arith, n)) (λ root f k b inside d e l. absurd (true≢false (sym (parent_dead k b e d) ∙ l)));
+    runs = λ chosen. swept_keeps (with_roots m chosen) t v dead dead_block w wv is_swept (record { operations = cut.gone; blocks = cut.gone_blocks }) (let n = cut.count in omega (arith, n)) (λ root f k b inside d e l. absurd (true≢false (sym (parent_dead k b e d) ∙ l)));
   }
 
 pub leaving : LeavingLaw

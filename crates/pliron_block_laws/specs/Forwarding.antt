@@ -5,7 +5,7 @@ use Rattle.pliron_core.specs.Joined.{IsTree}
 use Rattle.pliron_core.specs.Writes.{replaced}
 use Rattle.pliron_laws.specs.Datum.{Meaning}
 use Rattle.pliron_laws.specs.Answers.{HeadPasses, AreForwarded}
-use Rattle.pliron_theory.specs.Keeps.{KeepsRuns}
+use Rattle.pliron_theory.specs.Keeps.{KeepsAllRuns}
 
 -- the operation `jump` ends the block a and leads to b alone, as nothing else does; b is beside a, and is
 -- no entry
@@ -19,4 +19,4 @@ pub record LeadsAlone (t : Tree) (a b jump : ℕ) (front : List ℕ) : Type 0 wh
 -- each use of an argument of the block may name the value that the branch forwards to it, which is no
 -- argument of the block
 abbrev pub ForwardingLaw : Meaning → Type 0
-ForwardingLaw m = (t : Tree) (a b jump i p v : ℕ) (front values : List ℕ) → IsTree t → LeadsAlone t a b jump front → HeadPasses m.is_branch t jump → AreForwarded m t jump 0 values → slice_get (arguments_of t b) i ≡ Some p → slice_get values i ≡ Some v → (In v (arguments_of t b) → ⊥) → KeepsRuns m t (replaced t p v)
+ForwardingLaw m = (t : Tree) (a b jump i p v : ℕ) (front values : List ℕ) → IsTree t → LeadsAlone t a b jump front → HeadPasses m.is_branch t jump → AreForwarded m t jump 0 values → slice_get (arguments_of t b) i ≡ Some p → slice_get values i ≡ Some v → (In v (arguments_of t b) → ⊥) → KeepsAllRuns m t (replaced t p v)

@@ -6,7 +6,7 @@ use Rattle.pliron_core.specs.Edges.{succs_of}
 use Rattle.pliron_core.specs.Erased.{uses_dropped}
 use Rattle.pliron_laws.specs.Datum.{Meaning}
 use Rattle.pliron_laws.specs.Linked.{EdgesLast}
-use Rattle.pliron_theory.specs.Keeps.{KeepsRuns}
+use Rattle.pliron_theory.specs.Keeps.{KeepsAllRuns}
 use Rattle.pliron_theory.specs.Sweeping.{is_maker_dead}
 use Rattle.pliron_block_laws.specs.Cutting.{cut_op, cut_block, ErasesAll, AreCut}
 
@@ -26,7 +26,7 @@ pub record BlocksMayGo (t : Tree) (region : ℕ) (bs : List ℕ) : Type 0 where
 -- where edges stand last in what holds the region, they are gone with their contents, and runs are kept
 pub record GoesWell (m : Meaning) (t v : Tree) (region : ℕ) (bs : List ℕ) : Type 0 where
   pub cut : AreCut t v region bs
-  pub runs : KeepsRuns m t v
+  pub runs : KeepsAllRuns m t v
 
 abbrev pub LeavingLaw : Type 0
 LeavingLaw = (m : Meaning) (t u v : Tree) (holder region : ℕ) (bs : List ℕ) → IsTree t → IsTree u → IsTree v → EdgesLast t holder → region_parent_of t region ≡ Some holder → BlocksMayGo t region bs → DropsAll bs t u → ErasesAll bs u v → GoesWell m t v region bs

@@ -5,7 +5,7 @@ use Rattle.pliron_core.specs.Joined.{IsTree}
 use Rattle.pliron_core.specs.Writes.{replaced}
 use Rattle.pliron_laws.specs.Datum.{Meaning}
 use Rattle.pliron_laws.specs.Linked.{EdgesLast}
-use Rattle.pliron_theory.specs.Keeps.{KeepsRuns}
+use Rattle.pliron_theory.specs.Keeps.{KeepsAllRuns}
 use Rattle.pliron_block_laws.specs.Forwarding.{LeadsAlone}
 use Rattle.pliron_theory.specs.Splicing.{IsSpliced}
 use Rattle.pliron_block_laws.specs.Pairs.{IsMergeable}
@@ -17,7 +17,7 @@ PairLeads = (m : Meaning) (t : Tree) (holder a b jump : ℕ) (values : List ℕ)
 -- the uses of an argument may go to the value that is forwarded to it; the pair stays one, the argument has no
 -- use then, and another argument has no new one
 pub record ReplacesOne (m : Meaning) (t : Tree) (a b jump p v : ℕ) (values : List ℕ) : Type 0 where
-  pub runs : KeepsRuns m t (replaced t p v)
+  pub runs : KeepsAllRuns m t (replaced t p v)
   pub pair : IsMergeable m (replaced t p v) a b jump values
   pub unused : (k : ℕ) → In p (operands_of (replaced t p v) k) → ⊥
   pub no_new : (k q : ℕ) → In q (arguments_of t b) → In q (operands_of (replaced t p v) k) → In q (operands_of t k)

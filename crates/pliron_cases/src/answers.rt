@@ -23,6 +23,7 @@ pub fn interfaces<D: Dialect>(alloc: Global, ctx: &Context, op: Ptr<Operation>) 
         Interface::BranchFold,
         Interface::Branch,
         Interface::Terminator,
+        Interface::RegionBranch,
     ];
     if !op.is_live(ctx) {
         return None;
@@ -34,6 +35,25 @@ pub fn interfaces<D: Dialect>(alloc: Global, ctx: &Context, op: Ptr<Operation>) 
         }
     }
     Some(names)
+}
+
+/// The operand that is named for this argument of the entry of the operation's region with this index; none
+/// where there is no such argument. Cost: the dialect's answer.
+pub fn named<D: Dialect>(
+    alloc: Global,
+    ctx: &Context,
+    op: Ptr<Operation>,
+    region: usize,
+    argument: usize,
+) -> Option<String> {
+    if !op.is_live(ctx) || region >= op.num_region(ctx) {
+        return None;
+    }
+    let entry = op.get_region(ctx, region).get_head(ctx)?;
+    if argument >= entry.num_argument(ctx) {
+        return None;
+    }
+    format!(in alloc; "{:?}", D::entry_operand(op, ctx, region, argument)).ok()
 }
 
 /// Whether arguments of the block with this index in the operation may be removed. Cost: the index, and the

@@ -3,10 +3,11 @@
 //!
 //! | Step | What it does |
 //! |---|---|
-//! | `const 3`, `ask`, `scope`, `br`, `kind 9` | makes an operation of this kind, in no block |
+//! | `const 3`, `ask`, `scope`, `br`, `both`, `twice`, `kind 9` | makes an operation of this kind, in no block |
 //! | `.. @0` | puts it at the end of block 0 |
 //! | `.. v0`, `.. b0` | value 0 is its next operand, block 0 its next successor |
 //! | `block 0 1` | makes a last block of operation 0, with one argument |
+//! | `block 0 1 1` | the same in its region 1, and not in region 0 |
 //! | `on 0 b0` | operation 0 gets what stands behind it |
 use crate::cases::{fields, number};
 use pliron_core::{
@@ -62,6 +63,8 @@ fn operation(
         "ask" => (TinyKind::Ask.number(), 1, 0),
         "scope" => (TinyKind::Scope.number(), 0, 1),
         "br" => (TinyKind::Br.number(), 0, 0),
+        "both" => (TinyKind::Both.number(), 0, 2),
+        "twice" => (TinyKind::Twice.number(), 0, 1),
         _ => (u32::try_from(number).unwrap_or(u32::MAX), 1, 0),
     };
     let mut attrs = Vec::new(alloc);
@@ -79,17 +82,18 @@ fn operation(
     Some(op)
 }
 
-/// A new last block of the operation's region.
+/// A new last block of the operation's region with this index.
 fn block(
     ctx: &mut Context,
     made: &mut Made,
     op: Ptr<Operation>,
+    region: usize,
     arguments: usize,
 ) -> Option<Ptr<BasicBlock>> {
-    if !op.is_live(ctx) || op.num_region(ctx) != 1 {
+    if !op.is_live(ctx) || region >= op.num_region(ctx) {
         return None;
     }
-    let block = BasicBlock::create(ctx, op.get_region(ctx, 0), arguments).ok()?;
+    let block = BasicBlock::create(ctx, op.get_region(ctx, region), arguments).ok()?;
     made.blocks.push(block).ok()?;
     if !block.is_live(ctx) {
         return None;
@@ -131,14 +135,22 @@ fn give(ctx: &mut Context, made: &Made, op: Ptr<Operation>, word: &str) -> Optio
     Some(())
 }
 
+/// The block that the words ask for: an operation, how many arguments, and the index of a region, each of the
+/// two 0 where it is missing.
+fn block_of_words(ctx: &mut Context, made: &mut Made, words: &str) -> Option<()> {
+    let mut words = words.split_ascii_whitespace();
+    let op = made.operation(words.next()?)?;
+    let arguments = number(words.next().unwrap_or("0"))?;
+    let region = number(words.next().unwrap_or("0"))?;
+    block(ctx, made, op, region, arguments)?;
+    Some(())
+}
+
 /// Does a step.
 fn step(alloc: Global, ctx: &mut Context, made: &mut Made, text: &str) -> Option<()> {
     let (name, rest) = text.split_once(' ').unwrap_or((text, ""));
     if name == "block" {
-        let (op, arguments) = rest.split_once(' ').unwrap_or((rest, "0"));
-        let op = made.operation(op)?;
-        block(ctx, made, op, number(arguments)?)?;
-        return Some(());
+        return block_of_words(ctx, made, rest);
     }
     let (first, _) = rest.split_once(' ').unwrap_or((rest, ""));
     let op = if name == "on" {

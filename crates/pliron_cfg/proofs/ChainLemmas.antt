@@ -11,8 +11,8 @@ use Rattle.pliron_core.proofs.HoldingLemmas.{some_is, not_none}
 use Rattle.pliron_laws.specs.Datum.{Head, Shape, Meaning}
 use Rattle.pliron_laws.specs.Laws.{ForwardsOperands}
 use Rattle.pliron_laws.specs.Linked.{IsWellLinked}
-use Rattle.pliron_theory.specs.Keeps.{KeepsRuns}
-use Rattle.pliron_theory.proofs.Keeping.{keeps_refl, keeps_trans}
+use Rattle.pliron_theory.specs.Keeps.{KeepsAllRuns}
+use Rattle.pliron_theory.proofs.WholeChanges.{all_refl, all_trans}
 use Rattle.pliron_block_laws.specs.Links.{KeepsLinks}
 use Rattle.pliron_block_laws.specs.Joining.{JoinsWell}
 use Rattle.pliron_block_laws.specs.Pairs.{IsMergeable, forwarded_uses, merged}
@@ -26,7 +26,7 @@ AreLinked m blocks t = (c holder : ℕ) → In c blocks → block_holder_of t c 
 
 pub record ChainKeeps (m : Meaning) (t u : Tree) : Type 0 where
   pub tree : IsTree u
-  pub runs : KeepsRuns m t u
+  pub runs : KeepsAllRuns m t u
   pub links : KeepsLinks m t u
   pub blocks : (c k : ℕ) → block_holder_of u c ≡ Some k → block_holder_of t c ≡ Some k
 
@@ -44,13 +44,13 @@ module _ (m : Meaning) (can_fold : Head → Bool) (SameTests : Head → Head →
       merges m can_fold SameTests shortened law a b jump values u k.tree pair (λ holder e. linked_still m t u blocks k linked a holder listed e) well tree
 
   pub chain : (t u : Tree) → IsTree t → AreLinked m blocks t → MergesAmong m blocks t u → ChainKeeps m t u
-  chain t u w linked Nothing = record { tree = w; runs = keeps_refl m t; links = λ root l. l; blocks = λ c k e. e }
+  chain t u w linked Nothing = record { tree = w; runs = all_refl m t; links = λ root l. l; blocks = λ c k e. e }
   chain t u w linked (Then {u = x} a b jump values before listed pair tree well) =
       let k = chain t x w linked before in
       let o = one_merge t x linked k a b jump values listed pair tree well in
       record {
         tree = tree;
-        runs = keeps_trans m t x (merged x a b jump values) k.runs o.runs;
+        runs = all_trans m t x (merged x a b jump values) k.runs o.runs;
         links = λ root l. o.links root (k.links root l);
         blocks = λ c j e. k.blocks c j (o.blocks c j e);
       }

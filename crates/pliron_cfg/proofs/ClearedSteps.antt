@@ -11,7 +11,8 @@ use Rattle.pliron_core.proofs.ListLemmas.{In-cases, In-left, In-right, decide_in
 use Rattle.pliron_core.proofs.HoldingLemmas.{some_is, not_none}
 use Rattle.pliron_laws.specs.Datum.{Meaning}
 use Rattle.pliron_laws.specs.Linked.{IsWellLinked}
-use Rattle.pliron_theory.specs.Change.{IsPassChange, PassLaws}
+use Rattle.pliron_theory.specs.Change.{IsWholeChange}
+use Rattle.pliron_theory.specs.Whole.{WholeLaws}
 use Rattle.pliron_search.specs.Regions.{IsLawfulRegion}
 use Rattle.pliron_block_laws.specs.Links.{KeepsLinks, CutLinksLaw}
 use Rattle.pliron_block_laws.specs.Inside.{CutInsideLaw}
@@ -30,7 +31,7 @@ use Rattle.pliron_cfg.proofs.Without.{is_without}
 use Rattle.pliron_cfg.proofs.Composed.{none_go, gone_alike, gone_in_turn}
 use Rattle.pliron_cfg.proofs.Stability.{visits_still, cut_off_was, cut_off_still, none_left}
 
-module _ (m : Meaning) (t u v : Tree) (scope : Scope) (root r : ℕ) (rs ks rest : List ℕ) (laws : PassLaws) (cut_links : CutLinksLaw) (cut_inside : CutInsideLaw) (inside_laws : InsideChangeLaws) (w : IsTree u) (wv : IsTree v) where
+module _ (m : Meaning) (t u v : Tree) (scope : Scope) (root r : ℕ) (rs ks rest : List ℕ) (laws : WholeLaws) (cut_links : CutLinksLaw) (cut_inside : CutInsideLaw) (inside_laws : InsideChangeLaws) (w : IsTree u) (wv : IsTree v) where
   left_cases : (q : ℕ) → In q (rest ++ r ∷ []) → In q rest ⊎ (q ≡ r)
   left_cases q i = ⊎_elim (λ a. inl a) (λ a. ⊎_elim (λ s. inr s) (λ z. absurd z) a) (In-cases q rest (r ∷ []) i)
 
@@ -103,7 +104,7 @@ module _ (m : Meaning) (t u v : Tree) (scope : Scope) (root r : ℕ) (rs ks rest
           let held = cut_inside u v r x.holder l.blocks w wv x.held own l.cut in
           ⊎_elim (λ s. subst (IsInsideChange u v) s held) (λ i. inside_laws.wider u v root x.holder w i held) (within_root u w scope root h.stands h.holder h.change.linked.edges r searched.0 x.holder x.held)
 
-      change_next : IsPassChange m u v root
+      change_next : IsWholeChange m u v root
       change_next = record {
         stands = subst (λ z. is_some z.head ≡ true) (sym (root_row u v w wv root r l.blocks own l.cut scope h.stands h.holder h.change.linked.edges searched.0)) h.change.stands;
         linked = links_next root h.change.linked;
@@ -173,7 +174,7 @@ module _ (m : Meaning) (t u v : Tree) (scope : Scope) (root r : ℕ) (rs ks rest
     next Changed l = less_next l
     next Unchanged e = subst (λ z. AreCleared m t z scope root rs ks rest status) (sym e.1) (same_next e.0)
 
-pub none_cleared : (m : Meaning) (t : Tree) (scope : Scope) (root : ℕ) (rs ks : List ℕ) → PassLaws → IsTree t → ScopeStands t scope → IsHolder t scope root → IsLive t root → IsWellLinked m t root → AreVisits t (start_of scope t) rs ks → AreCleared m t t scope root rs ks rs Unchanged
+pub none_cleared : (m : Meaning) (t : Tree) (scope : Scope) (root : ℕ) (rs ks : List ℕ) → WholeLaws → IsTree t → ScopeStands t scope → IsHolder t scope root → IsLive t root → IsWellLinked m t root → AreVisits t (start_of scope t) rs ks → AreCleared m t t scope root rs ks rs Unchanged
 none_cleared m t scope root rs ks laws w stands holder live linked visits = record {
   stands = stands;
   holder = holder;

@@ -1,5 +1,5 @@
 -- One fold of a branch, and the folds of all.
-use Rattle.std.proofs.Common.{◌≡◌, ◌≢◌, ◌⊎◌, inl, inr, ⊎_elim, ℕ, zero, suc, ◌+◌, ◌≤◌, Bool, List, [], ◌∷◌, length, drop, Option, Some, None, is_some, Result, Ok, Err, slice_get, refl, sym, ap, ◌∙◌, subst, arith, IsSome}
+use Rattle.std.proofs.Common.{◌≡◌, ◌≢◌, ◌⊎◌, inl, inr, ⊎_elim, ℕ, zero, suc, ◌+◌, ◌≤◌, Bool, true, false, List, [], ◌∷◌, length, map, drop, Option, Some, None, is_some, Result, Ok, Err, slice_get, refl, sym, ap, ◌∙◌, subst, arith, IsSome}
 use Rattle.std.specs.Result.{IfOk, OnErr}
 use Rattle.pliron_core.specs.declared.attrs.IRStatus.{IRStatus}
 use Rattle.pliron_core.specs.declared.attrs.IRStatus.TheVariants.{Changed, Unchanged}
@@ -23,13 +23,20 @@ use Rattle.pliron_laws.specs.Datum.{Head, Meaning}
 use Rattle.pliron_laws.specs.Folding.{Constants}
 use Rattle.pliron_laws.specs.InPlace.{Outcome, TellsChange}
 use Rattle.pliron_laws.specs.Linked.{IsWellLinked}
+use Rattle.pliron_laws.specs.Tree.{Operation, op_at, shape_of}
+use Rattle.pliron_core.specs.declared.context.Def.{Def}
+use Rattle.pliron_core.specs.declared.context.Def.TheVariants.{Result as Made, Argument}
+use Rattle.pliron_theory.specs.Refolded.{AreReadAs}
+use Rattle.pliron_theory.proofs.Alike.{map_same}
+use Rattle.pliron_theory.specs.Keeps.{with_roots}
 use Rattle.pliron_theory.specs.Answered.{AnsweredLaw}
-use Rattle.pliron_theory.specs.Change.{IsPassChange}
+use Rattle.pliron_theory.specs.Change.{IsWholeChange}
 use Rattle.pliron_theory.specs.Folded.{BranchFoldsLaw, BranchLinksLaw, BranchOutcomesLaw}
 use Rattle.pliron_theory.specs.Rebranching.{IsRebranched}
-use Rattle.pliron_theory.proofs.ChangeLemmas.{change_refl, change_trans, links_stay}
+use Rattle.pliron_theory.proofs.ChangeLemmas.{links_stay}
+use Rattle.pliron_theory.proofs.WholeChanges.{whole_refl, whole_trans}
 use Rattle.pliron_block_laws.proofs.RebranchedInside.{rebranched_inside, inside_stays}
-use Rattle.pliron_cfg.specs.Folded.{has_passing_head, branches_of, known_of, known_operands, FoldsAll, FoldsAll.NoMore, FoldsAll.Next, FoldsSome, FoldsSome.Stopped, FoldsSome.After}
+use Rattle.pliron_cfg.specs.Folded.{has_passing_head, branches_of, answered_if, known_of, known_operands, FoldsAll, FoldsAll.NoMore, FoldsAll.Next, FoldsSome, FoldsSome.Stopped, FoldsSome.After}
 use Rattle.pliron_cfg.specs.FoldSteps.{TellsErased, IsBranchInside, IsBranchFoldStep, IsFoldingBranches}
 use Rattle.pliron_cfg.proofs.KnownLemmas.{known_read}
 
@@ -41,6 +48,22 @@ stands_in_block t root op inside = let up = inside_step t root op inside in let 
 pub either : (P : Option IRStatus → Type 0) (r : Result IRStatus OptError) → IfOk r (λ status. P (Some status)) → OnErr r (P None) → (a : Option IRStatus) × P a
 either P (Ok status) ok err = (Some status, ok)
 either P (Err e) ok err = (None, err)
+
+-- what is known of values doesn't hang on which heads may be those of roots
+module _ (m : Meaning) (can_fold : Head → Bool) (constants : Constants) (chosen : Head → Bool) (t : Tree) where
+  answered_same : (b : Bool) (o : Option Operation) (i : ℕ) → answered_if b (with_roots m chosen) constants t o i ≡ answered_if b m constants t o i
+  unfolding shape_of
+  answered_same false o i = refl
+  answered_same true None i = refl
+  answered_same true (Some o) i = refl
+
+  one_same : (d : Option Def) → known_of (with_roots m chosen) can_fold constants t d ≡ known_of m can_fold constants t d
+  one_same None = refl
+  one_same (Some (Argument block i)) = refl
+  one_same (Some (Made k i)) = answered_same (has_passing_head can_fold (head_of t k)) (op_at t k) i
+
+  pub known_same : (vs : List ℕ) → map (λ v. known_of (with_roots m chosen) can_fold constants t (definition_of t v)) vs ≡ map (λ v. known_of m can_fold constants t (definition_of t v)) vs
+  known_same vs = map_same (λ v. known_of (with_roots m chosen) can_fold constants t (definition_of t v)) (λ v. known_of m can_fold constants t (definition_of t v)) vs (λ v i. one_same (definition_of t v))
 
 module _ (m : Meaning) (can_fold can_fold_branch : Head → Bool) (constants : Constants) (outcome : Outcome) where
   -- what stands in the same tree, or where another branch took the place of one
@@ -78,7 +101,7 @@ module _ (m : Meaning) (can_fold can_fold_branch : Head → Bool) (constants : C
     told (inl s) Changed is = absurd (is s)
     told (inr (a, new, front, h)) Changed is = (op, inside_live t w root op branch.0, h.gone)
 
-    pub step : BranchFoldsLaw m can_fold_branch outcome → BranchLinksLaw m can_fold_branch outcome → BranchOutcomesLaw m can_fold_branch outcome → AnsweredLaw m can_fold constants → length t.operations ≤ length u.operations → (answer : Option IRStatus) → outcome t u op (known_operands m can_fold constants t op) answer → IsBranchFoldStep m can_fold_branch t u root op
+    pub step : ((chosen : Head → Bool) → BranchFoldsLaw (with_roots m chosen) can_fold_branch outcome) → BranchLinksLaw m can_fold_branch outcome → BranchOutcomesLaw m can_fold_branch outcome → ((chosen : Head → Bool) → AnsweredLaw (with_roots m chosen) can_fold constants) → length t.operations ≤ length u.operations → (answer : Option IRStatus) → outcome t u op (known_operands m can_fold constants t op) answer → IsBranchFoldStep m can_fold_branch t u root op
     step folds links outcomes answered longer answer is =
         let known = known_operands m can_fold constants t op in
         let s = outcomes t u root op known answer w wu linked branch.0 branch.1 is in
@@ -88,7 +111,7 @@ module _ (m : Meaning) (can_fold can_fold_branch : Head → Bool) (constants : C
             stands = root_stands s;
             linked = links t u root root op known answer w wu linked branch.0 branch.1 is linked root_live (root_stands s);
             inside = ⊎_elim (λ same. same_change t u root w.joined wu.joined same) (λ r. rebranched_inside t u root r.0 op r.1 r.2 w wu branch.0 r.3) s;
-            runs = folds t u root op known answer w wu longer linked branch.0 branch.1 (length_map (λ v. known_of m can_fold constants t (definition_of t v)) (operands_of t op)) (known_read m can_fold constants t answered w op) is;
+            runs = λ chosen. folds chosen t u root op known answer w wu longer (record { edges = linked.edges; admitted = linked.admitted }) branch.0 branch.1 (length_map (λ v. known_of m can_fold constants t (definition_of t v)) (operands_of t op)) (subst (AreReadAs (with_roots m chosen) t op) (known_same m can_fold constants chosen t (operands_of t op)) (known_read (with_roots m chosen) can_fold constants t (answered chosen) w op)) is;
           };
           blocks = ⊎_elim (λ same b. same.block_parents b) (λ r b. r.3.block_parents b) s;
           others = others s;
@@ -96,7 +119,7 @@ module _ (m : Meaning) (can_fold can_fold_branch : Head → Bool) (constants : C
 
   -- where memory was refused before anything was done
   pub no_step : (t : Tree) (root op : ℕ) → IsTree t → IsWellLinked m t root → IsBranchInside can_fold_branch t root op → IsBranchFoldStep m can_fold_branch t t root op
-  no_step t root op w linked branch = record { tree = w; change = change_refl m t root (inside_live-outer t w root op branch.0) linked; blocks = λ b. refl; others = λ k ne b. b }
+  no_step t root op w linked branch = record { tree = w; change = whole_refl m t root (inside_live-outer t w root op branch.0) linked; blocks = λ b. refl; others = λ k ne b. b }
 
 -- one answer after the other
 module _ (t u v : Tree) (w : IsTree t) (wu : IsTree u) (gone : (k : ℕ) → IsLive t k → head_of u k ≡ None → head_of v k ≡ None) where
@@ -107,13 +130,13 @@ module _ (t u v : Tree) (w : IsTree t) (wu : IsTree u) (gone : (k : ℕ) → IsL
   told_then Changed Changed (k, live, none) q = (k, live, gone k live none)
 
 -- what went does not come back
-gone_stays : (m : Meaning) (t u v : Tree) (root : ℕ) → IsTree t → IsPassChange m t u root → IsPassChange m u v root → (k : ℕ) → IsLive t k → head_of u k ≡ None → head_of v k ≡ None
+gone_stays : (m : Meaning) (t u v : Tree) (root : ℕ) → IsTree t → IsWholeChange m t u root → IsWholeChange m u v root → (k : ℕ) → IsLive t k → head_of u k ≡ None → head_of v k ≡ None
 gone_stays m t u v root w first second k live none = go (head_of v k) refl
   where
     go : (o : Option Head) → head_of v k ≡ o → head_of v k ≡ None
     go None e = e
     go (Some h) e =
-        let back = second.runs.fewer k (omega (arith, live-within t k live, first.runs.grows)) (ap is_some e) in
+        let back = (second.runs m.may_be_root).fewer k (omega (arith, live-within t k live, (first.runs m.may_be_root).grows)) (ap is_some e) in
         let y = some_of (head_of u k) back in
         absurd (not_none (sym none ∙ y.1))
 
@@ -138,7 +161,7 @@ module _ (m : Meaning) (can_fold can_fold_branch : Head → Bool) (constants : C
   pub folding_start : IsLive start root → IsWellLinked m start root → IsOn (branches_of can_fold_branch start root) 0 Unchanged start
   folding_start live linked = record {
     tree = w;
-    change = change_refl m start root live linked;
+    change = whole_refl m start root live linked;
     blocks = λ b. refl;
     waiting = λ k i.
         let found = In-filter (λ z. has_passing_head can_fold_branch (head_of start z)) (contents start root) k i in
@@ -160,7 +183,7 @@ module _ (m : Meaning) (can_fold can_fold_branch : Head → Bool) (constants : C
       pub folding_next : (next : Tree) (one : IRStatus) → outcome now next op (known_operands m can_fold constants now op) (Some one) → TellsErased one now next → IsBranchFoldStep m can_fold_branch now next root op → IsOn branches (i + 1) (changed_by_either status one) next
       folding_next next one is told step = record {
         tree = step.tree;
-        change = change_trans m start now next root on.change step.change;
+        change = whole_trans m start now next root on.change step.change;
         blocks = λ b. step.blocks b ∙ on.blocks b;
         waiting = λ k j. step.others k (λ e. apart.0 (subst (λ z. In z (drop (i + 1) branches)) e j)) (on.waiting k (subst (In k) (sym (drop_at branches i op at)) (inr j)));
         distinct = apart.1;
@@ -169,8 +192,8 @@ module _ (m : Meaning) (can_fold can_fold_branch : Head → Bool) (constants : C
         told = told_then start now next w on.tree (gone_stays m start now next root w on.change step.change) status one on.told told;
       }
 
-      pub folding_change : (next : Tree) → IsBranchFoldStep m can_fold_branch now next root op → IsPassChange m start next root
-      folding_change next step = change_trans m start now next root on.change step.change
+      pub folding_change : (next : Tree) → IsBranchFoldStep m can_fold_branch now next root op → IsWholeChange m start next root
+      folding_change next step = whole_trans m start now next root on.change step.change
 
     pub folding_broken : (next : Tree) → IsSameTree now next → FoldsSome m can_fold constants outcome branches start next
     folding_broken next same = on.some next (Stopped same)
@@ -184,5 +207,5 @@ told_honestly t u Unchanged told = told
 told_honestly t u Changed (k, live, none) = λ same. let y = some_of (head_of t k) live in not_none (sym none ∙ ap (λ z. z.head) (same.operations k) ∙ y.1)
 
 -- each operation that was well linked and still stands is so
-pub linked_still : (m : Meaning) (t u : Tree) (root : ℕ) → IsTree t → IsTree u → IsPassChange m t u root → (r : ℕ) → IsLive t r → IsWellLinked m t r → IsLive u r → IsWellLinked m u r
+pub linked_still : (m : Meaning) (t u : Tree) (root : ℕ) → IsTree t → IsTree u → IsWholeChange m t u root → (r : ℕ) → IsLive t r → IsWellLinked m t r → IsLive u r → IsWellLinked m u r
 linked_still m t u root w wu change r live linked left = links_stay m t u root w wu change.inside r live left linked change.linked

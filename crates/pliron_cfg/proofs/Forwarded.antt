@@ -11,8 +11,8 @@ use Rattle.pliron_core.proofs.InsideLemmas.{inside_refl, inside_trans}
 use Rattle.pliron_laws.specs.Datum.{Head, Shape, Meaning}
 use Rattle.pliron_laws.specs.Laws.{ForwardsOperands}
 use Rattle.pliron_laws.specs.Linked.{IsWellLinked}
-use Rattle.pliron_theory.specs.Keeps.{KeepsRuns}
-use Rattle.pliron_theory.proofs.Keeping.{keeps_refl, keeps_trans}
+use Rattle.pliron_theory.specs.Keeps.{KeepsAllRuns}
+use Rattle.pliron_theory.proofs.WholeChanges.{all_refl, all_trans}
 use Rattle.pliron_block_laws.specs.Links.{KeepsLinks}
 use Rattle.pliron_block_laws.specs.Pairs.{IsMergeable, forwarded_uses}
 use Rattle.pliron_block_laws.proofs.PairEdges.{beside, replacing}
@@ -33,7 +33,7 @@ tree_replaced t old new w d = record {
 -- what stands after the uses of these arguments of b went to the values forwarded to them
 pub record IsForwarded (m : Meaning) (t u : Tree) (holder a b jump : ℕ) (values ps : List ℕ) : Type 0 where
   pub tree : IsTree u
-  pub runs : KeepsRuns m t u
+  pub runs : KeepsAllRuns m t u
   pub links : KeepsLinks m t u
   pub inside : IsInsideChange t u holder
   pub held : block_holder_of u a ≡ Some holder
@@ -46,7 +46,7 @@ module _ (m : Meaning) (can_fold : Head → Bool) (SameTests : Head → Head →
   pub forwarded : (t : Tree) (ps vs : List ℕ) → IsTree t → IsWellLinked m t holder → block_holder_of t a ≡ Some holder → IsMergeable m t a b jump values → length ps ≤ length vs → ((i p v : ℕ) → slice_get ps i ≡ Some p → slice_get vs i ≡ Some v → (n : ℕ) × (slice_get (arguments_of t b) n ≡ Some p) × (slice_get values n ≡ Some v)) → IsForwarded m t (forwarded_uses t ps vs) holder a b jump values ps
   forwarded t [] vs w linked held h le all = record {
     tree = w;
-    runs = keeps_refl m t;
+    runs = all_refl m t;
     links = λ root l. l;
     inside = inside_refl t holder;
     held = held;
@@ -64,7 +64,7 @@ module _ (m : Meaning) (can_fold : Head → Bool) (SameTests : Head → Head →
       let rest = forwarded (replaced t p v) ps vs (tree_replaced t p v w stands) (replaced_links m t p v holder linked) held one.pair (omega (arith, le)) (λ i x y e f. all (suc i) x y e f) in
       record {
         tree = rest.tree;
-        runs = keeps_trans m t (replaced t p v) (forwarded_uses (replaced t p v) ps vs) one.runs rest.runs;
+        runs = all_trans m t (replaced t p v) (forwarded_uses (replaced t p v) ps vs) one.runs rest.runs;
         links = λ root l. rest.links root (replaced_links m t p v root l);
         inside = inside_trans t (replaced t p v) (forwarded_uses (replaced t p v) ps vs) holder (replaced_argument t holder b n.0 p v w holds n.1) rest.inside;
         held = rest.held;

@@ -10,8 +10,8 @@ use Rattle.pliron_core.specs.Changes.{IsInsideChange}
 use Rattle.pliron_laws.specs.Datum.{Head, Shape, Meaning}
 use Rattle.pliron_laws.specs.Laws.{ForwardsOperands}
 use Rattle.pliron_laws.specs.Linked.{IsWellLinked}
-use Rattle.pliron_theory.specs.Keeps.{KeepsRuns}
-use Rattle.pliron_theory.proofs.Keeping.{keeps_trans}
+use Rattle.pliron_theory.specs.Keeps.{KeepsAllRuns}
+use Rattle.pliron_theory.proofs.WholeChanges.{all_trans}
 use Rattle.pliron_block_laws.specs.Links.{KeepsLinks}
 use Rattle.pliron_block_laws.specs.Joining.{JoinsWell}
 use Rattle.pliron_block_laws.specs.Pairs.{IsMergeable, forwarded_uses, merged}
@@ -29,7 +29,7 @@ first_held m t w a b jump values h = block_held t a w.joined (w.joined.standing 
 -- what merging b into a leaves
 pub record IsMerge (m : Meaning) (t v : Tree) (a b : ℕ) : Type 0 where
   pub tree : IsTree v
-  pub runs : KeepsRuns m t v
+  pub runs : KeepsAllRuns m t v
   pub links : KeepsLinks m t v
   pub inside : (holder : ℕ) → block_holder_of t a ≡ Some holder → IsInsideChange t v holder
   pub blocks : (c k : ℕ) → block_holder_of v c ≡ Some k → block_holder_of t c ≡ Some k
@@ -95,7 +95,7 @@ module _ (m : Meaning) (can_fold : Head → Bool) (SameTests : Head → Head →
     pub merges : IsMerge m t v a b
     merges = record {
       tree = wv;
-      runs = keeps_trans m t u v f.runs well.runs;
+      runs = all_trans m t u v f.runs well.runs;
       links = λ root l. joined_links m u v a b jump well.front f.tree wv well.spliced root (f.links root l);
       inside = λ holder e. subst (IsInsideChange t v) (some_is (sym held.5 ∙ e)) (inside_trans t u v held.1 f.inside (joined_inside u v held.1 a b jump well.front f.tree wv f.held well.spliced));
       blocks = block_was_there;

@@ -10,7 +10,7 @@ use Rattle.pliron_core.proofs.InsideLemmas.{widen}
 use Rattle.pliron_laws.specs.Datum.{Head, Shape, Meaning}
 use Rattle.pliron_laws.specs.Laws.{ForwardsOperands}
 use Rattle.pliron_laws.specs.Linked.{EdgesLast, IsWellLinked}
-use Rattle.pliron_theory.specs.Change.{IsPassChange}
+use Rattle.pliron_theory.specs.Change.{IsWholeChange}
 use Rattle.pliron_theory.specs.Splicing.{IsSpliced}
 use Rattle.pliron_theory.proofs.ChangeLemmas.{linked_inside}
 use Rattle.pliron_cfg.specs.Visited.{Start, IsReachedIn, IsVisited, IsVisitedSsaRegion, IsUnreachable}
@@ -55,7 +55,7 @@ pub record IsKept (m : Meaning) (start : Start) (t v : Tree) (root : ℕ) : Type
   pub were : (c : ℕ) → IsBlock v c → IsBlock t c
   pub cut : (c : ℕ) → IsUnreachable start v c → IsUnreachable start t c
   pub lives : (k : ℕ) → IsLive v k → IsLive t k
-  pub change : IsPassChange m t v root
+  pub change : IsWholeChange m t v root
 
 module _ (m : Meaning) (can_fold : Head → Bool) (SameTests : Head → Head → Type 0) (shortened : Shape → ℕ → ℕ → Head) (law : ForwardsOperands m can_fold SameTests shortened) (start : Start) (root : ℕ) (lasting : IsLasting start root) where
   module _ (t : Tree) (a b jump : ℕ) (values : List ℕ) (w : IsTree t) (live : IsLive t root) (linked : IsWellLinked m t root) (starts : (r : ℕ) → start t r → IsHeld t root r) (opened : IsOpen start t a) (h : IsMergeable m t a b jump values) (well : JoinsWell m (forwarded_uses t (arguments_of t b) values) a b jump) (wv : IsTree (merged t a b jump values)) where

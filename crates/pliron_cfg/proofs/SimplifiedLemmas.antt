@@ -10,8 +10,8 @@ use Rattle.pliron_core.proofs.TreeLemmas.{live-within}
 use Rattle.pliron_laws.specs.Datum.{Head, Meaning}
 use Rattle.pliron_laws.specs.Folding.{Constants}
 use Rattle.pliron_laws.specs.InPlace.{Outcome, TellsChange}
-use Rattle.pliron_theory.specs.Change.{IsPassChange}
-use Rattle.pliron_theory.proofs.ChangeLemmas.{change_trans}
+use Rattle.pliron_theory.specs.Change.{IsWholeChange}
+use Rattle.pliron_theory.proofs.WholeChanges.{whole_trans}
 use Rattle.pliron_cfg.specs.Visited.{Start, OfOperation, IsUnreachable, IsCutOff}
 use Rattle.pliron_cfg.specs.Folded.{branches_of, FoldsAll}
 use Rattle.pliron_cfg.specs.FoldSteps.{TellsErased}
@@ -40,13 +40,13 @@ block_went start t u Nothing = inl refl
 block_went start t u (Then {u = x} r b before searched cut without) = inr (b, removed_were start t x before b (ap is_some cut.0), without.gone_blocks b (b, cut, inl refl))
 
 -- what went does not come back
-gone_stays : (m : Meaning) (t u v : Tree) (op : ℕ) → IsPassChange m t u op → IsPassChange m u v op → (k : ℕ) → IsLive t k → head_of u k ≡ None → head_of v k ≡ None
+gone_stays : (m : Meaning) (t u v : Tree) (op : ℕ) → IsWholeChange m t u op → IsWholeChange m u v op → (k : ℕ) → IsLive t k → head_of u k ≡ None → head_of v k ≡ None
 gone_stays m t u v op first second k live none = go (head_of v k) refl
   where
     go : (o : Option Head) → head_of v k ≡ o → head_of v k ≡ None
     go None e = e
     go (Some h) e =
-        let back = second.runs.fewer k (omega (arith, live-within t k live, first.runs.grows)) (ap is_some e) in
+        let back = (second.runs m.may_be_root).fewer k (omega (arith, live-within t k live, (first.runs m.may_be_root).grows)) (ap is_some e) in
         let y = some_of (head_of u k) back in
         absurd (not_none (sym none ∙ y.1))
 
@@ -57,7 +57,7 @@ operation_tells t u k live none same = let y = some_of (head_of t k) live in not
 block_tells : (t u : Tree) (b : ℕ) → IsBlock t b → block_parent_of u b ≡ None → IsSameTree t u → ⊥
 block_tells t u b is none same = let y = some_of (block_parent_of t b) is in not_none (sym none ∙ same.block_parents b ∙ y.1)
 
-module _ (m : Meaning) (op : ℕ) (t u v w : Tree) (first : IsPassChange m t u op) (second : IsPassChange m u v op) (third : IsPassChange m v w op) (blocks : (b : ℕ) → block_parent_of u b ≡ block_parent_of t b) (no_block : (b : ℕ) → IsBlock w b → IsBlock v b) (unreachable : (b : ℕ) → IsUnreachable (OfOperation op) w b → IsUnreachable (OfOperation op) v b) where
+module _ (m : Meaning) (op : ℕ) (t u v w : Tree) (first : IsWholeChange m t u op) (second : IsWholeChange m u v op) (third : IsWholeChange m v w op) (blocks : (b : ℕ) → block_parent_of u b ≡ block_parent_of t b) (no_block : (b : ℕ) → IsBlock w b → IsBlock v b) (unreachable : (b : ℕ) → IsUnreachable (OfOperation op) w b → IsUnreachable (OfOperation op) v b) where
   none_there : (s : IRStatus) → RemovesAll (OfOperation op) u v s → (b : ℕ) → IsUnreachable (OfOperation op) v b → ⊥
   none_there Changed removes b i = removes.3 b i
   none_there Unchanged (none, same) b i = none b (subst (λ (z : Tree). IsUnreachable (OfOperation op) z b) same i)
@@ -77,7 +77,7 @@ module _ (m : Meaning) (op : ℕ) (t u v w : Tree) (first : IsPassChange m t u o
       go (Some r) e = let y = some_of (block_parent_of v b) (no_block b (ap is_some e)) in absurd (not_none (sym none ∙ y.1))
 
   pub honest : (a b c : IRStatus) → TellsErased a t u → RemovesAll (OfOperation op) u v b → MergesAll (OfOperation op) m v w c → LosesOperation c v w → TellsChange (Some (changed_by_either (changed_by_either a b) c)) t w
-  honest Changed b c (k, live, none) removes merges told = operation_tells t w k live (gone_stays m t u w op first (change_trans m u v w op second third) k live none)
+  honest Changed b c (k, live, none) removes merges told = operation_tells t w k live (gone_stays m t u w op first (whole_trans m u v w op second third) k live none)
   honest Unchanged Changed c same removes merges told = ⊎_elim
       (λ e. absurd (none_there Changed removes removes.0.0 (subst (λ (z : Tree). IsUnreachable (OfOperation op) z removes.0.0) (sym e) removes.0.1)))
       (λ x. block_tells t w x.0 (subst (λ z. is_some z ≡ true) (blocks x.0) x.1) (gone_block x.0 x.2))

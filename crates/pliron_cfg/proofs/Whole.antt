@@ -11,8 +11,9 @@ use Rattle.pliron_core.proofs.InsideLemmas.{widen}
 use Rattle.pliron_laws.specs.Datum.{Head, Shape, Meaning}
 use Rattle.pliron_laws.specs.Laws.{ForwardsOperands}
 use Rattle.pliron_laws.specs.Linked.{IsWellLinked}
-use Rattle.pliron_theory.specs.Change.{IsPassChange}
-use Rattle.pliron_theory.proofs.ChangeLemmas.{linked_inside, change_trans, change_refl}
+use Rattle.pliron_theory.specs.Change.{IsWholeChange}
+use Rattle.pliron_theory.proofs.ChangeLemmas.{linked_inside}
+use Rattle.pliron_theory.proofs.WholeChanges.{whole_trans, whole_refl}
 use Rattle.pliron_cfg.specs.Visited.{Start, OfOperation, OfRegion, IsVisited, IsUnreachable}
 use Rattle.pliron_cfg.specs.Visits.{AreVisits}
 use Rattle.pliron_block_laws.specs.Links.{KeepsLinks}
@@ -78,10 +79,10 @@ module _ (m : Meaning) (can_fold : Head → Bool) (SameTests : Head → Head →
     were : (c : ℕ) → IsBlock u c → IsBlock t c
     lives : (k : ℕ) → IsLive u k → IsLive t k
     went : (u ≡ t) ⊎ ((k : ℕ) × IsLive t k × (head_of u k ≡ None))
-    change : IsPassChange m t u root
+    change : IsWholeChange m t u root
 
   whole : (u : Tree) → MergesAmong m blocks t u → IsWhole u
-  whole u Nothing = record { tree = w; some = NoneMerged; begins = starts; forth = λ c i is. open_of c i; back = listed_of; cut = λ c x. x; were = λ c is. is; lives = λ k l. l; went = inl refl; change = change_refl m t root live linked }
+  whole u Nothing = record { tree = w; some = NoneMerged; begins = starts; forth = λ c i is. open_of c i; back = listed_of; cut = λ c x. x; were = λ c is. is; lives = λ k l. l; went = inl refl; change = whole_refl m t root live linked }
   whole u (Then {u = x} a b jump values before listed pair tree well) =
       let r = whole x before in
       let opened = r.forth a listed (ap is_some (first_held m x r.tree a b jump values pair).2) in
@@ -96,7 +97,7 @@ module _ (m : Meaning) (can_fold : Head → Bool) (SameTests : Head → Head →
         were = λ c is. r.were c (k.were c is);
         lives = λ j l. r.lives j (k.lives j l);
         went = inr (jump, r.lives jump (jump_live m can_fold SameTests shortened law start root lasting x a b jump values r.tree r.change.stands r.change.linked r.begins opened pair well tree), jump_gone m can_fold SameTests shortened law start root lasting x a b jump values r.tree r.change.stands r.change.linked r.begins opened pair well tree);
-        change = change_trans m t x (merged x a b jump values) root r.change k.change;
+        change = whole_trans m t x (merged x a b jump values) root r.change k.change;
       }
 
   -- no unreachable block and no block is new
@@ -112,7 +113,7 @@ module _ (m : Meaning) (can_fold : Head → Bool) (SameTests : Head → Head →
   branch_went u Changed (way, none, tells) = ⊎_elim (λ same. absurd (none tells.0 tells.1 tells.2 tells.3 tells.4 (subst (λ (z : Tree). IsMergeable m z tells.0 tells.1 tells.2 tells.3) (sym same) tells.5))) (λ y. y) (whole u way).went
 
   -- one pair more, in part
-  half : (u v : Tree) → MergesAmong m blocks t u → IsHalfMergedAmong m blocks u v → IsHalfMerged start m u v × IsPassChange m t v root × KeepsLinks m u v
+  half : (u v : Tree) → MergesAmong m blocks t u → IsHalfMergedAmong m blocks u v → IsHalfMerged start m u v × IsWholeChange m t v root × KeepsLinks m u v
   half u v way x =
       let r = whole u way in
       let opened = r.forth x.a x.listed (ap is_some (first_held m u r.tree x.a x.b x.jump x.values x.pair).2) in
@@ -121,14 +122,14 @@ module _ (m : Meaning) (can_fold : Head → Bool) (SameTests : Head → Head →
       let close : IsWellLinked m u h.holder = elim h.within [ inl e ↦ subst (IsWellLinked m u) (sym e) r.change.linked | inr i ↦ linked_inside m u root h.holder i r.change.linked ] in
       let f = forwarded_first m can_fold SameTests shortened law h.holder x.a x.b x.jump x.values u x.n r.tree close there x.pair in
       let wide : IsInsideChange u (forwarded_uses u (take x.n (arguments_of u x.b)) x.values) root = elim h.within [ inl e ↦ subst (IsInsideChange u (forwarded_uses u (take x.n (arguments_of u x.b)) x.values)) e f.inside | inr i ↦ widen u (forwarded_uses u (take x.n (arguments_of u x.b)) x.values) root h.holder r.tree.joined i f.inside ] in
-      let change : IsPassChange m u (forwarded_uses u (take x.n (arguments_of u x.b)) x.values) root = record { stands = (wide.operations root (outside_itself r.tree.joined.rooted r.change.stands)).0.0; linked = f.links root r.change.linked; inside = wide; runs = f.runs } in
-      (record { a = x.a; b = x.b; jump = x.jump; values = x.values; due = due_of start m u x.a x.b x.jump x.values opened x.pair; n = x.n; forwarded = x.forwarded }, change_trans m t u v root r.change (subst (λ (z : Tree). IsPassChange m u z root) (sym x.forwarded) change), subst (λ (z : Tree). KeepsLinks m u z) (sym x.forwarded) f.links)
+      let change : IsWholeChange m u (forwarded_uses u (take x.n (arguments_of u x.b)) x.values) root = record { stands = (wide.operations root (outside_itself r.tree.joined.rooted r.change.stands)).0.0; linked = f.links root r.change.linked; inside = wide; runs = f.runs } in
+      (record { a = x.a; b = x.b; jump = x.jump; values = x.values; due = due_of start m u x.a x.b x.jump x.values opened x.pair; n = x.n; forwarded = x.forwarded }, whole_trans m t u v root r.change (subst (λ (z : Tree). IsWholeChange m u z root) (sym x.forwarded) change), subst (λ (z : Tree). KeepsLinks m u z) (sym x.forwarded) f.links)
 
   pub partly : (v : Tree) → MergesAmongPartly m blocks t v → MergesPartly start m t v
   partly v (inl way) = inl (whole v way).some
   partly v (inr (u, way, x)) = inr (u, (whole u way).some, (half u v way x).0)
 
-  pub partly_change : (v : Tree) → MergesAmongPartly m blocks t v → IsPassChange m t v root
+  pub partly_change : (v : Tree) → MergesAmongPartly m blocks t v → IsWholeChange m t v root
   partly_change v (inl way) = (whole v way).change
   partly_change v (inr (u, way, x)) = (half u v way x).1
 

@@ -11,7 +11,7 @@ use Rattle.pliron_laws.specs.Datum.{Head, Meaning}
 use Rattle.pliron_laws.specs.Folding.{Constants}
 use Rattle.pliron_laws.specs.InPlace.{Outcome}
 use Rattle.pliron_laws.specs.Answers.{HeadPasses}
-use Rattle.pliron_theory.specs.Change.{IsPassChange}
+use Rattle.pliron_theory.specs.Change.{IsWholeChange}
 use Rattle.pliron_cfg.specs.Folded.{FoldsAll, FoldsSome}
 
 -- `Unchanged` says that the tree is the same but for spent keys, `Changed` that an operation went
@@ -26,14 +26,14 @@ IsBranchInside can_fold_branch t root k = IsInside t root k × HeadPasses can_fo
 -- what one fold, or a part of it, does: a pass would do no more, blocks stay, and other branches that fold
 pub record IsBranchFoldStep (m : Meaning) (can_fold_branch : Head → Bool) (t u : Tree) (root op : ℕ) : Type 0 where
   pub tree : IsTree u
-  pub change : IsPassChange m t u root
+  pub change : IsWholeChange m t u root
   pub blocks : (b : ℕ) → block_parent_of u b ≡ block_parent_of t b
   pub others : (k : ℕ) → k ≢ op → IsBranchInside can_fold_branch t root k → IsBranchInside can_fold_branch u root k
 
 -- the branches before index i are folded, and the others still stand: what folds these from here folds all from the start
 pub record IsFoldingBranches (m : Meaning) (can_fold can_fold_branch : Head → Bool) (constants : Constants) (outcome : Outcome) (root : ℕ) (start : Tree) (branches : List ℕ) (i : ℕ) (status : IRStatus) (now : Tree) : Type 0 where
   pub tree : IsTree now
-  pub change : IsPassChange m start now root
+  pub change : IsWholeChange m start now root
   pub blocks : (b : ℕ) → block_parent_of now b ≡ block_parent_of start b
   pub waiting : (k : ℕ) → In k (drop i branches) → IsBranchInside can_fold_branch now root k
   pub distinct : IsDistinct (drop i branches)

@@ -7,7 +7,7 @@ ghost use Rattle.pliron_core.specs.Tree.{IsLive, block_parent_of};
 ghost use Rattle.pliron_core.specs.Changes.{IsSameTree};
 ghost use Rattle.pliron_laws.specs.InPlace.{TellsChange};
 ghost use Rattle.pliron_laws.specs.Linked.{IsWellLinked};
-ghost use Rattle.pliron_theory.specs.Change.{IsPassChange};
+ghost use Rattle.pliron_theory.specs.Change.{IsWholeChange};
 ghost use Rattle.pliron_cfg.specs.Folded.{branch_at, branches_of, known_operands as constants_of, FoldsAll, FoldsSome};
 ghost use Rattle.pliron_cfg.specs.FoldSteps.{IsBranchInside, IsBranchFoldStep, TellsErased};
 
@@ -127,7 +127,7 @@ pub fn fold_branches<D: Dialect, R: Rewriter + Room>(
     ensures refused { OnErr result (FoldsSome D.meaning D.can_fold D.constants D.BranchOpFoldInterface.outcome
         (branches_of D.can_fold_branch ctx.old.tree root) ctx.old.tree ctx.new.tree) }
     ensures memory { IsOkUnless result OptError.Memory }
-    ensures change { IsPassChange D.meaning ctx.old.tree ctx.new.tree root }
+    ensures change { IsWholeChange D.meaning ctx.old.tree ctx.new.tree root }
     ensures links { (r : ℕ) → IsLive ctx.old.tree r → IsWellLinked D.meaning ctx.old.tree r → IsLive ctx.new.tree r → IsWellLinked D.meaning ctx.new.tree r }
 {
     ctx.well_formed();

@@ -11,7 +11,7 @@
 ghost use Rattle.std.specs.Prelude.{◌≡◌, ℕ, IfOk, IfErr};
 ghost use Rattle.pliron_core.specs.Tree.{IsLive};
 ghost use Rattle.pliron_laws.specs.Linked.{IsWellLinked};
-ghost use Rattle.pliron_theory.specs.Change.{IsPassChange};
+ghost use Rattle.pliron_theory.specs.Change.{IsWholeChange};
 ghost use Rattle.pliron_cfg.specs.Simplified.{Simplifies, SimplifyFails};
 
 mod folding;
@@ -33,7 +33,8 @@ use std::alloc::Global;
 /// [`remove_blocks_inside_op`], then merges blocks, as [`merge_inside_op`].
 ///
 /// Asks that the operation stands and is well linked. `Changed` exactly if the tree changed. No unreachable
-/// block and no mergeable pair is left where it looks.
+/// block and no mergeable pair is left where it looks. Runs are kept of every root that is otherwise fit to
+/// run, also of one whose head may not be a root's; so it is for the six calls on regions.
 ///
 /// Errors: want of memory; `LiveUse` where a value of an unreachable block is used outside the unreachable
 /// blocks of its region. The tree is then one after some whole rewrites: some folds; all of them, and some
@@ -51,7 +52,7 @@ pub fn simplify_cfg<D: Dialect>(
         ctx.new.tree status) }
     ensures err { IfErr result (λ e. SimplifyFails D.meaning D.can_fold D.can_fold_branch D.constants D.BranchOpFoldInterface.outcome op ctx.old.tree
         ctx.new.tree e) }
-    ensures change { IsPassChange D.meaning ctx.old.tree ctx.new.tree op }
+    ensures change { IsWholeChange D.meaning ctx.old.tree ctx.new.tree op }
 {
     ctx.well_formed();
     let mut rewriter = IRRewriter::new();

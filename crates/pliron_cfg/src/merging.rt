@@ -9,7 +9,7 @@
 ghost use Rattle.std.specs.Prelude.{◌≡◌, ◌∷◌, [], ℕ, Some, IfOk, OnOk, OnErr, IsOkUnless};
 ghost use Rattle.pliron_core.specs.Tree.{In, IsBlock, IsLive, IsRegion, IsWithin, block_holder_of, region_parent_of};
 ghost use Rattle.pliron_laws.specs.Linked.{IsWellLinked};
-ghost use Rattle.pliron_theory.specs.Change.{IsPassChange};
+ghost use Rattle.pliron_theory.specs.Change.{IsWholeChange};
 ghost use Rattle.pliron_block_laws.specs.Links.{KeepsLinks};
 ghost use Rattle.pliron_cfg.specs.Visited.{IsUnreachable, OfBlock, OfOperation, OfRegion};
 ghost use Rattle.pliron_cfg.specs.Merged.{LosesOperation, MergesAll, MergesPartly};
@@ -107,7 +107,7 @@ pub fn merge_inside_op<D: Dialect, R: Rewriter + Room>(
     ensures blocks { OnOk result ((b : ℕ) → IsBlock ctx.new.tree b → IsBlock ctx.old.tree b) }
     ensures refused { OnErr result (MergesPartly (OfOperation op) D.meaning ctx.old.tree ctx.new.tree) }
     ensures memory { IsOkUnless result OptError.Memory }
-    ensures change { IsPassChange D.meaning ctx.old.tree ctx.new.tree op }
+    ensures change { IsWholeChange D.meaning ctx.old.tree ctx.new.tree op }
     ensures links { KeepsLinks D.meaning ctx.old.tree ctx.new.tree }
 {
     ctx.well_formed();
@@ -133,7 +133,7 @@ pub fn merge_inside_block<D: Dialect, R: Rewriter + Room>(
     ensures blocks { OnOk result ((b : ℕ) → IsBlock ctx.new.tree b → IsBlock ctx.old.tree b) }
     ensures refused { OnErr result (MergesPartly (OfBlock block) D.meaning ctx.old.tree ctx.new.tree) }
     ensures memory { IsOkUnless result OptError.Memory }
-    ensures change { (holder : ℕ) → block_holder_of ctx.old.tree block ≡ Some holder → IsPassChange D.meaning ctx.old.tree ctx.new.tree holder }
+    ensures change { (holder : ℕ) → block_holder_of ctx.old.tree block ≡ Some holder → IsWholeChange D.meaning ctx.old.tree ctx.new.tree holder }
     ensures links { KeepsLinks D.meaning ctx.old.tree ctx.new.tree }
 {
     ctx.well_formed();
@@ -160,7 +160,7 @@ pub fn merge_inside_region<D: Dialect, R: Rewriter + Room>(
     ensures blocks { OnOk result ((b : ℕ) → IsBlock ctx.new.tree b → IsBlock ctx.old.tree b) }
     ensures refused { OnErr result (MergesPartly (OfRegion region) D.meaning ctx.old.tree ctx.new.tree) }
     ensures memory { IsOkUnless result OptError.Memory }
-    ensures change { (holder : ℕ) → region_parent_of ctx.old.tree region ≡ Some holder → IsPassChange D.meaning ctx.old.tree ctx.new.tree holder }
+    ensures change { (holder : ℕ) → region_parent_of ctx.old.tree region ≡ Some holder → IsWholeChange D.meaning ctx.old.tree ctx.new.tree holder }
     ensures links { KeepsLinks D.meaning ctx.old.tree ctx.new.tree }
 {
     ctx.well_formed();

@@ -6,7 +6,7 @@ ghost use Rattle.std.specs.Prelude.{◌≡◌, ◌↔◌, ◌⊎◌, ℕ, Some, 
 ghost use Rattle.pliron_core.specs.declared.attrs.IRStatus.TheVariants.{Unchanged};
 ghost use Rattle.pliron_core.specs.Tree.{IsLive, IsBlock, IsRegion, block_holder_of, region_parent_of};
 ghost use Rattle.pliron_laws.specs.Linked.{IsWellLinked};
-ghost use Rattle.pliron_theory.specs.Change.{IsPassChange};
+ghost use Rattle.pliron_theory.specs.Change.{IsWholeChange};
 ghost use Rattle.pliron_block_laws.specs.Links.{KeepsLinks};
 ghost use Rattle.pliron_cfg.specs.Visited.{OfBlock, OfOperation, OfRegion};
 ghost use Rattle.pliron_cfg.specs.Visits.{AreVisits};
@@ -29,7 +29,7 @@ use pliron_block_laws::inside::removing_changes_inside;
 use pliron_block_laws::links::removing_keeps_links;
 use pliron_core::{BasicBlock, Context, IRStatus, Operation, Ptr, Region, Rewriter, change_laws};
 use pliron_laws::{Dialect, OptError, Room};
-use pliron_theory::theory::passes_compose;
+use pliron_theory::theory::whole_passes_compose;
 use std::alloc::Global;
 
 // The status after one more part of the work.
@@ -56,10 +56,10 @@ fn clear_regions<D: Dialect, R: Rewriter + Room>(
     requires visits { AreVisits ctx.old.tree (start_of scope.now ctx.old.tree) regions.items reached.now.keys }
     ensures ok { IfOk result (λ status. RemovesAll (start_of scope.now) ctx.old.tree ctx.new.tree status) }
     ensures err { IfErr result (λ e. RemovalFails (start_of scope.now) ctx.old.tree ctx.new.tree e) }
-    ensures change { (holder : ℕ) → IsHolder ctx.old.tree scope.now holder → IsPassChange D.meaning ctx.old.tree ctx.new.tree holder }
+    ensures change { (holder : ℕ) → IsHolder ctx.old.tree scope.now holder → IsWholeChange D.meaning ctx.old.tree ctx.new.tree holder }
     ensures links { KeepsLinks D.meaning ctx.old.tree ctx.new.tree }
 {
-    passes_compose();
+    whole_passes_compose();
     removing_keeps_links();
     removing_changes_inside();
     change_laws();
@@ -86,10 +86,10 @@ fn remove_blocks_in<D: Dialect, R: Rewriter + Room>(
     ensures ok { IfOk result (λ status. RemovesAll (start_of scope.now) ctx.old.tree ctx.new.tree status) }
     ensures err { IfErr result (λ e. RemovalFails (start_of scope.now) ctx.old.tree ctx.new.tree e) }
     ensures tells { IfOk result (λ a. (a ≡ Unchanged) ↔ (ctx.new.tree ≡ ctx.old.tree)) }
-    ensures change { (holder : ℕ) → IsHolder ctx.old.tree scope.now holder → IsPassChange D.meaning ctx.old.tree ctx.new.tree holder }
+    ensures change { (holder : ℕ) → IsHolder ctx.old.tree scope.now holder → IsWholeChange D.meaning ctx.old.tree ctx.new.tree holder }
     ensures links { KeepsLinks D.meaning ctx.old.tree ctx.new.tree }
 {
-    passes_compose();
+    whole_passes_compose();
     ctx.well_formed();
     let Visits { regions, blocks } = scope.visits(alloc, ctx)?;
     let reached = set_of_blocks(alloc, &blocks)?;
@@ -120,7 +120,7 @@ pub fn remove_blocks_inside_op<D: Dialect, R: Rewriter + Room>(
     ensures ok { IfOk result (λ status. RemovesAll (OfOperation op) ctx.old.tree ctx.new.tree status) }
     ensures err { IfErr result (λ e. RemovalFails (OfOperation op) ctx.old.tree ctx.new.tree e) }
     ensures tells { IfOk result (λ a. (a ≡ Unchanged) ↔ (ctx.new.tree ≡ ctx.old.tree)) }
-    ensures change { IsPassChange D.meaning ctx.old.tree ctx.new.tree op }
+    ensures change { IsWholeChange D.meaning ctx.old.tree ctx.new.tree op }
     ensures links { KeepsLinks D.meaning ctx.old.tree ctx.new.tree }
 {
     remove_blocks_in::<D, R>(alloc, &Scope::Operation(op), ctx, rewriter)
@@ -141,7 +141,7 @@ pub fn remove_blocks_inside_block<D: Dialect, R: Rewriter + Room>(
     ensures ok { IfOk result (λ status. RemovesAll (OfBlock block) ctx.old.tree ctx.new.tree status) }
     ensures err { IfErr result (λ e. RemovalFails (OfBlock block) ctx.old.tree ctx.new.tree e) }
     ensures tells { IfOk result (λ a. (a ≡ Unchanged) ↔ (ctx.new.tree ≡ ctx.old.tree)) }
-    ensures change { (holder : ℕ) → block_holder_of ctx.old.tree block ≡ Some holder → IsPassChange D.meaning ctx.old.tree ctx.new.tree holder }
+    ensures change { (holder : ℕ) → block_holder_of ctx.old.tree block ≡ Some holder → IsWholeChange D.meaning ctx.old.tree ctx.new.tree holder }
     ensures links { KeepsLinks D.meaning ctx.old.tree ctx.new.tree }
 {
     remove_blocks_in::<D, R>(alloc, &Scope::Block(block), ctx, rewriter)
@@ -163,7 +163,7 @@ pub fn remove_blocks_inside_region<D: Dialect, R: Rewriter + Room>(
     ensures ok { IfOk result (λ status. RemovesAll (OfRegion region) ctx.old.tree ctx.new.tree status) }
     ensures err { IfErr result (λ e. RemovalFails (OfRegion region) ctx.old.tree ctx.new.tree e) }
     ensures tells { IfOk result (λ a. (a ≡ Unchanged) ↔ (ctx.new.tree ≡ ctx.old.tree)) }
-    ensures change { (holder : ℕ) → region_parent_of ctx.old.tree region ≡ Some holder → IsPassChange D.meaning ctx.old.tree ctx.new.tree holder }
+    ensures change { (holder : ℕ) → region_parent_of ctx.old.tree region ≡ Some holder → IsWholeChange D.meaning ctx.old.tree ctx.new.tree holder }
     ensures links { KeepsLinks D.meaning ctx.old.tree ctx.new.tree }
 {
     remove_blocks_in::<D, R>(alloc, &Scope::Region(region), ctx, rewriter)

@@ -1,5 +1,5 @@
--- The edges to a block keep their order while things go.
-use Rattle.std.proofs.Common.{◌≡◌, ◌≢◌, inr, ⊎_elim, ℕ, ◌<◌, ◌≤◌, Bool, false, List, [], length, Option, Some, None, IsTrue, slice_get, slice_index_or, remove, refl, sym, ap, ◌∙◌, subst}
+-- While things go, the edges to a block keep their order, and what leads to it stays.
+use Rattle.std.proofs.Common.{◌≡◌, ◌≢◌, inl, inr, ⊎_elim, ℕ, ◌<◌, ◌≤◌, Bool, false, List, [], length, Option, Some, None, IsTrue, slice_get, slice_index_or, remove, refl, sym, ap, ◌∙◌, subst}
 use Rattle.std.proofs.lemmas.Bool.{cases_eq}
 use Rattle.pliron_core.specs.declared.uses.Use.{Use as Edge}
 use Rattle.pliron_core.specs.declared.context.Def.TheVariants.{Argument}
@@ -7,6 +7,7 @@ use Rattle.pliron_core.specs.Tree.{Tree, In, IsLive, IsInside, HoldsBlock, head_
 use Rattle.pliron_core.specs.Joined.{IsTree}
 use Rattle.pliron_core.specs.Writes.{argument_removed}
 use Rattle.pliron_core.specs.Erased.{erased}
+use Rattle.pliron_core.proofs.ListLemmas.{decide_in}
 use Rattle.pliron_core.proofs.HoldingLemmas.{some_is, some_of, in_slice, within_alike, inside_block}
 use Rattle.pliron_laws.specs.Datum.{Head, Shape, Meaning}
 use Rattle.pliron_laws.specs.Tree.{Operation, op_at, shape_of}
@@ -27,14 +28,22 @@ use Rattle.pliron_dce.specs.Steps.{IsReady, IsReadyArgument}
 use Rattle.pliron_dce.specs.Going.{Goes}
 use Rattle.pliron_dce.specs.declared.incoming.IncomingEdge.{IncomingEdge}
 use Rattle.pliron_dce.specs.Incoming.{edges_of, count_along, width, BranchesLead, AreIncoming, AreKnown}
-use Rattle.pliron_dce.proofs.Places.{IsBranchAt, PlacesStill, Placed, placed_end, all_lost}
+use Rattle.pliron_dce.specs.Predecessors.{AreMarked}
+use Rattle.pliron_dce.proofs.Places.{IsBranchAt, PlacesStill, Placed, placed_end, all_lost, none_lost}
 use Rattle.pliron_dce.proofs.PlaceLists.{picked_length}
 use Rattle.pliron_dce.proofs.RemovedThins.{inside_live, shape_closed}
 use Rattle.pliron_dce.proofs.ReadySteps.{ready_contained, jumpers}
 use Rattle.pliron_dce.proofs.IncomingLists.{Loses, length_loses, loses_alike}
 
+-- branches alone lead to the block of a ready argument, which stands inside the root
+pub ready_branches : (m : Meaning) (removable : Head → ℕ → Bool → Option Bool) (t : Tree) (root v block index : ℕ) → IsTree t → IsReadyArgument m removable t root v → slice_get (arguments_of t block) index ≡ Some v → HoldsBlock t root block × BranchesLead m t block
+ready_branches m removable t root v block index w r at = (subst (HoldsBlock t root) one r.may.inside, subst (λ z. (k : ℕ) → In z (successors_of t k) → HeadPasses m.is_branch t k) one r.may.branches)
+  where
+    one : r.may.block ≡ block
+    one = let s : Some (Argument r.may.block r.may.index) ≡ Some (Argument block index) = sym (w.joined.arguments r.may.block r.may.index v r.may.argument) ∙ w.joined.arguments block index v at in cc
+
 -- an argument goes
-module _ (m : Meaning) (can_fold : Head → Bool) (SameTests : Head → Head → Type 0) (shortened : Shape → ℕ → ℕ → Head) (law : ForwardsOperands m can_fold SameTests shortened) (tests : (h h' : Head) → SameTests h h' → m.is_branch h' ≡ m.is_branch h) (t u : Tree) (root block index : ℕ) (edges : List Edge) (w : IsTree t) (linked : IsWellLinked m t root) (to : AreEdgesTo t block edges) (lose : EdgesLose m shortened index edges t u) where
+module _ (m : Meaning) (can_fold : Head → Bool) (SameTests : Head → Head → Type 0) (shortened : Shape → ℕ → ℕ → Head) (law : ForwardsOperands m can_fold SameTests shortened) (tests : (h h' : Head) → SameTests h h' → m.is_branch h' ≡ m.is_branch h) (t u : Tree) (root block index : ℕ) (edges : List Edge) (w : IsTree t) (linked : IsWellLinked m t root) (to : AreEdgesTo t block edges) (lose : EdgesLose m shortened index edges t u) (branches : BranchesLead m t block) where
   abbrev t' : Tree
   t' = argument_removed u block index
 
@@ -107,6 +116,16 @@ module _ (m : Meaning) (can_fold : Head → Bool) (SameTests : Head → Head →
       let h = some_of (head_of t k) (inside_live t w.joined s).1 in
       record { operation = operation_of t k h.0; stands = make_op t k h.0 h.1; admitted = admitted_shape m t k (operation_of t k h.0) (make_op t k h.0 h.1) (linked.admitted k (inr s)); branch = passes h.0 h.1 }
 
+  -- what is a branch stays one, and what is none stays none
+  led_after : (b : ℕ) → HoldsBlock t root b → BranchesLead m t b → BranchesLead m t' b
+  led_after b held l k i = let j = subst (In b) (same_successors k) i in branch_now (record { user = k; place = 0 }) (branch_at k b j held (l k j))
+
+  led_before : (b : ℕ) → BranchesLead m t' b → BranchesLead m t b
+  led_before b l k i = elim (decide_in block (successors_of t k)) [
+    | inl j ↦ branches k j
+    | inr n ↦ λ h e. l k (subst (In b) (sym (same_successors k)) i) h (ap (λ z. z.head) ((placed k).same (none_lost m can_fold SameTests shortened law tests t w block index edges to u lose k n)).0 ∙ e)
+  ]
+
   incoming_removed : (b : ℕ) (es : List Edge) → HoldsBlock t root b → AreIncoming m t b es → AreIncoming m t' b es
   incoming_removed b es held x = record {
     complete = record {
@@ -114,7 +133,7 @@ module _ (m : Meaning) (can_fold : Head → Bool) (SameTests : Head → Head →
       once = x.complete.once;
       complete = λ k i s. x.complete.complete k i (ap (λ z. slice_get z i) (sym (same_successors k)) ∙ s);
     };
-    branches = λ k i. let j = subst (In b) (same_successors k) i in branch_now (record { user = k; place = 0 }) (branch_at k b j held (x.branches k j));
+    branches = led_after b held x.branches;
     falling = λ i j e g l a c. ⊎_elim (λ same. both i j e g l a c same) (λ ne. neither i j e g l a c ne) (cases_eq b block);
   }
     where
@@ -134,6 +153,9 @@ module _ (m : Meaning) (can_fold : Head → Bool) (SameTests : Head → Head →
 
   pub known_removed : (find : ℕ → Option (List IncomingEdge)) → AreKnown m t root find → AreKnown m t' root find
   known_removed find known b es q held = incoming_removed b (edges_of es) (held_back b held) (known b es q (held_back b held))
+
+  pub marked_removed : (mark : ℕ → Option Bool) → AreMarked m t root mark → AreMarked m t' root mark
+  marked_removed mark marked b x q held = let h = held_back b held in let y = marked b x q h in ((λ e. led_after b h (y.0 e)), (λ l. y.1 (led_before b l)))
 
 -- an operation goes
 module _ (m : Meaning) (side_effects : Head → Option Bool) (removable : Head → ℕ → Bool → Option Bool) (counts : KeepsCounts m) (free : GivesAtOnce m side_effects) (t : Tree) (root : ℕ) (w : IsTree t) (linked : IsWellLinked m t root) (k : ℕ) (may : MayGo m side_effects t root k) (none : (user place : ℕ) → Holds t k user place → ⊥) (w' : IsTree (erased t k)) where
@@ -158,6 +180,17 @@ module _ (m : Meaning) (side_effects : Head → Option Bool) (removable : Head �
   held_before : (b : ℕ) → HoldsBlock x' root b → HoldsBlock t root b × (dead_block b ≡ false)
   held_before b x = let y = block_place_back t x' dead dead_block w w' swept away b x.0 x.1 in ((x.0, y.0, within_back t x' dead dead_block w w' swept away root x.0 x.2), y.1)
 
+  -- what leads to a block that stays stays
+  led_forth : (b : ℕ) → BranchesLead m t b → BranchesLead m x' b
+  led_forth b l j i h e =
+      let lives = jumper_lives t x' dead dead_block w w' swept away j b i in
+      l j (subst (In b) (swept.successors j lives) i) h (ap (λ z. z.head) (sym (swept.rows j lives)) ∙ e)
+
+  led_back : (b : ℕ) → HoldsBlock t root b → dead_block b ≡ false → BranchesLead m x' b → BranchesLead m t b
+  led_back b held stays l j i h e =
+      let lives = jumpers m side_effects removable counts free t root w linked k may none w' j b held i stays in
+      l j (subst (In b) (sym (swept.successors j lives)) i) h (ap (λ z. z.head) (swept.rows j lives) ∙ e)
+
   incoming_erased : (b : ℕ) (es : List Edge) → HoldsBlock t root b → dead_block b ≡ false → AreIncoming m t b es → AreIncoming m x' b es
   incoming_erased b es held stays x = record {
     complete = record {
@@ -165,9 +198,7 @@ module _ (m : Meaning) (side_effects : Head → Option Bool) (removable : Head �
       once = x.complete.once;
       complete = λ j i s. x.complete.complete j i (ap (λ z. slice_get z i) (sym (swept.successors j (jumper_lives t x' dead dead_block w w' swept away j b (in_slice (successors_of x' j) i b s)))) ∙ s);
     };
-    branches = λ j i h e.
-        let lives = jumper_lives t x' dead dead_block w w' swept away j b i in
-        x.branches j (subst (In b) (swept.successors j lives) i) h (ap (λ z. z.head) (sym (swept.rows j lives)) ∙ e);
+    branches = led_forth b x.branches;
     falling = λ i j e g l a c.
         subst (λ n. n ≤ width m x' e) (sym (same_width g (left j g c))) (subst (λ n. width m t g ≤ n) (sym (same_width e (left i e a))) (x.falling i j e g l a c));
   }
@@ -185,16 +216,17 @@ module _ (m : Meaning) (side_effects : Head → Option Bool) (removable : Head �
   pub known_erased : (find : ℕ → Option (List IncomingEdge)) → AreKnown m t root find → AreKnown m x' root find
   known_erased find known b es q held = let y = held_before b held in incoming_erased b (edges_of es) y.0 y.1 (known b es q y.0)
 
+  pub marked_erased : (mark : ℕ → Option Bool) → AreMarked m t root mark → AreMarked m x' root mark
+  marked_erased mark marked b x q held = let h = held_before b held in let y = marked b x q h.0 in ((λ e. led_forth b (y.0 e)), (λ l. y.1 (led_back b h.0 h.1 l)))
+
 -- a ready thing goes
 module _ (m : Meaning) (can_fold : Head → Bool) (SameTests : Head → Head → Type 0) (shortened : Shape → ℕ → ℕ → Head) (law : ForwardsOperands m can_fold SameTests shortened) (tests : (h h' : Head) → SameTests h h' → m.is_branch h' ≡ m.is_branch h) (counts : KeepsCounts m) (side_effects : Head → Option Bool) (free : GivesAtOnce m side_effects) (removable : Head → ℕ → Bool → Option Bool) where
   pub known_after : (t t' : Tree) (root : ℕ) (x : Item) (find : ℕ → Option (List IncomingEdge)) → IsTree t → IsTree t' → IsWellLinked m t root → IsReady m side_effects removable t root x → Goes m shortened t t' x → AreKnown m t root find → AreKnown m t' root find
   known_after t u root (Op k) find w w' linked r g known = subst (λ z. AreKnown m z root find) (sym g.1) (known_erased m side_effects removable counts free t root w linked k r.may r.none (subst IsTree g.1 w') find known)
-  known_after t u root (Arg v) find w w' linked r g known = subst (λ z. AreKnown m z root find) (sym g.removed) (known_removed m can_fold SameTests shortened law tests t g.between root g.block g.index g.edges w linked g.complete g.lose find known)
+  known_after t u root (Arg v) find w w' linked r g known = subst (λ z. AreKnown m z root find) (sym g.removed) (known_removed m can_fold SameTests shortened law tests t g.between root g.block g.index g.edges w linked g.complete g.lose (ready_branches m removable t root v g.block g.index w r g.argument).1 find known)
   known_after t u root (Use user place) find w w' linked r g known = absurd g
 
--- branches alone lead to the block of a ready argument, which stands inside the root
-pub ready_branches : (m : Meaning) (removable : Head → ℕ → Bool → Option Bool) (t : Tree) (root v block index : ℕ) → IsTree t → IsReadyArgument m removable t root v → slice_get (arguments_of t block) index ≡ Some v → HoldsBlock t root block × BranchesLead m t block
-ready_branches m removable t root v block index w r at = (subst (HoldsBlock t root) one r.may.inside, subst (λ z. (k : ℕ) → In z (successors_of t k) → HeadPasses m.is_branch t k) one r.may.branches)
-  where
-    one : r.may.block ≡ block
-    one = let s : Some (Argument r.may.block r.may.index) ≡ Some (Argument block index) = sym (w.joined.arguments r.may.block r.may.index v r.may.argument) ∙ w.joined.arguments block index v at in cc
+  pub marked_after : (t t' : Tree) (root : ℕ) (x : Item) (mark : ℕ → Option Bool) → IsTree t → IsTree t' → IsWellLinked m t root → IsReady m side_effects removable t root x → Goes m shortened t t' x → AreMarked m t root mark → AreMarked m t' root mark
+  marked_after t u root (Op k) mark w w' linked r g marked = subst (λ z. AreMarked m z root mark) (sym g.1) (marked_erased m side_effects removable counts free t root w linked k r.may r.none (subst IsTree g.1 w') mark marked)
+  marked_after t u root (Arg v) mark w w' linked r g marked = subst (λ z. AreMarked m z root mark) (sym g.removed) (marked_removed m can_fold SameTests shortened law tests t g.between root g.block g.index g.edges w linked g.complete g.lose (ready_branches m removable t root v g.block g.index w r g.argument).1 mark marked)
+  marked_after t u root (Use user place) mark w w' linked r g marked = absurd g

@@ -17,4 +17,5 @@ pub mod StepMeasure
 pub mod CandidateLemmas
 pub mod ErasedEdges
 pub mod IncomingLists
+pub mod MarkLemmas
 pub mod IncomingLemmas

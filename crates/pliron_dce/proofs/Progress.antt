@@ -10,7 +10,8 @@ use Rattle.pliron_core.specs.Writes.{argument_removed}
 use Rattle.pliron_laws.specs.Datum.{Head, Shape, Meaning}
 use Rattle.pliron_laws.specs.Laws.{KeepsCounts, GivesAtOnce, ForwardsOperands, ActsWithoutArgument}
 use Rattle.pliron_laws.specs.Linked.{IsWellLinked}
-use Rattle.pliron_theory.specs.Keeps.{KeepsRuns}
+use Rattle.pliron_theory.specs.Keeps.{KeepsAllRuns, with_roots}
+use Rattle.pliron_theory.proofs.ChosenRoots.{counts as chosen_counts, forwards_operands as chosen_forwards, edges_lose}
 use Rattle.pliron_theory.specs.Edges.{KeepsEdges, has_entries}
 use Rattle.pliron_theory.proofs.EdgeLemmas.{edges_alike, edges_transitive}
 use Rattle.pliron_theory.proofs.Keeping.{keeps_refl, keeps_trans}
@@ -32,7 +33,7 @@ use Rattle.pliron_theory.proofs.ErasedKeeps.{erased_gone}
 
 -- one ready thing went
 pub record IsStep (m : Meaning) (side_effects : Head → Option Bool) (removable : Head → ℕ → Bool → Option Bool) (t t' : Tree) (root : ℕ) (x : Item) : Type 0 where
-  pub keeps : KeepsRuns m t t'
+  pub keeps : KeepsAllRuns m t t'
   pub inside : IsInsideChange t t' root
   pub regions : (k : ℕ) → IsLive t' k → regions_of t' k ≡ regions_of t k
   pub edges : (HasRegions t x → ⊥) → KeepsEdges t t'
@@ -65,7 +66,7 @@ module _ (m : Meaning) (can_fold : Head → Bool) (SameTests : Head → Head →
   -- the block of an argument is the one that it may be removed from
   remove_step : (t t' : Tree) (root v : ℕ) → IsTree t → IsTree t' → IsWellLinked m t root → IsReady m side_effects removable t root (Arg v) → Removes m shortened t t' v → IsStep m side_effects removable t t' root (Arg v)
   remove_step t t' root v w w' linked r g = subst (λ z. IsStep m side_effects removable t z root (Arg v)) (sym g.removed) (record {
-    keeps = removed_keeps m can_fold SameTests shortened law tests counts removable without t g.between g.block g.index v g.edges w at g.argument g.complete branches allowed g.lose (removed_unused m can_fold SameTests shortened law tests counts side_effects removable t g.between root g.block g.index v g.edges w at linked g.argument held branches g.complete g.lose dead r.none);
+    keeps = λ chosen. removed_keeps (with_roots m chosen) can_fold SameTests shortened (chosen_forwards m chosen can_fold SameTests shortened law) tests (chosen_counts m chosen counts) removable without t g.between g.block g.index v g.edges w at g.argument g.complete branches allowed (edges_lose m chosen shortened g.index g.edges t g.between g.lose) (removed_unused m can_fold SameTests shortened law tests counts side_effects removable t g.between root g.block g.index v g.edges w at linked g.argument held branches g.complete g.lose dead r.none);
     regions = λ k l. removed_regions m can_fold SameTests shortened law tests counts side_effects removable t g.between root g.block g.index v g.edges w at linked g.argument held branches g.complete g.lose dead k;
     edges = λ n. edges_alike t (argument_removed g.between g.block g.index) w at (removed_alike m can_fold SameTests shortened law tests counts side_effects removable t g.between root g.block g.index v g.edges w at linked g.argument held branches g.complete g.lose dead);
     inside = removed_inside m can_fold SameTests shortened law tests counts side_effects removable t g.between root g.block g.index v g.edges w at linked g.argument held branches g.complete g.lose dead;
@@ -104,7 +105,7 @@ module _ (m : Meaning) (can_fold : Head → Bool) (SameTests : Head → Head →
   on_the_way t root l = record {
     went = refl;
     dead = λ x i. absurd i;
-    keeps = keeps_refl m t;
+    keeps = λ chosen. keeps_refl (with_roots m chosen) t;
     inside = inside_refl t root;
     linked = λ r y s. y;
     stands = l;
@@ -134,7 +135,7 @@ module _ (m : Meaning) (can_fold : Head → Bool) (SameTests : Head → Head →
   one_more t0 t t' root gone x linked w w' h r g = record {
     went = turn_more gone x t0 t t' h.went g;
     dead = λ y i. ⊎_elim (λ j. h.dead y j) (λ e. subst (D t0 root) (sym e) (back_to t0 t root gone h x r)) (among_more gone x y i);
-    keeps = keeps_trans m t0 t t' h.keeps s.keeps;
+    keeps = λ chosen. keeps_trans (with_roots m chosen) t0 t t' (h.keeps chosen) (s.keeps chosen);
     inside = inside_trans t0 t t' root h.inside s.inside;
     linked = λ q y l. s.linked q (h.linked q y (s.thins.live_before q l)) l;
     stands = s.root_stands h.stands;

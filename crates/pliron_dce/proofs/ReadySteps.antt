@@ -15,7 +15,8 @@ use Rattle.pliron_laws.specs.Datum.{Head, Meaning}
 use Rattle.pliron_laws.specs.Tree.{shape_of}
 use Rattle.pliron_laws.specs.Laws.{KeepsCounts, GivesAtOnce}
 use Rattle.pliron_laws.specs.Linked.{IsWellLinked}
-use Rattle.pliron_theory.specs.Keeps.{KeepsRuns}
+use Rattle.pliron_theory.specs.Keeps.{KeepsAllRuns, with_roots}
+use Rattle.pliron_theory.proofs.ChosenRoots.{counts as chosen_counts}
 use Rattle.pliron_theory.specs.Sweeping.{is_maker_dead}
 use Rattle.pliron_laws.proofs.Records.{op_shows, operation_of, make_op}
 use Rattle.pliron_laws.proofs.ShapeLemmas.{shape_head}
@@ -153,8 +154,8 @@ module _ (m : Meaning) (side_effects : Head → Option Bool) (removable : Head �
       pub erased_edges : regions_of t k ≡ [] → KeepsEdges t t'
       erased_edges bare = edges_alike t t' w w' (erased_alike t k w bare live ready_contained w' root linked.edges may.inside (λ b i. leads_nowhere k b may i))
 
-      pub ready_keeps : KeepsRuns m t t'
-      ready_keeps = erased_keeps t k w live ready_contained m w' (λ r f i. gives_now m side_effects counts free t k (f.linked.admitted k (inr i)) (λ o e. may.harmless o.head (op_shows t k o e).head))
+      pub ready_keeps : KeepsAllRuns m t t'
+      ready_keeps chosen = erased_keeps t k w live ready_contained (with_roots m chosen) w' (λ r f i. gives_now (with_roots m chosen) side_effects (chosen_counts m chosen counts) free t k (f.linked.admitted k (inr i)) (λ o e. may.harmless o.head (op_shows t k o e).head))
 
       -- the root stands
       pub root_stands : IsLive t root → IsLive t' root

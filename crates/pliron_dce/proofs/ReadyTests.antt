@@ -6,7 +6,7 @@ use Rattle.pliron_core.specs.declared.uses.Use.{Use as Edge}
 use Rattle.pliron_core.specs.declared.context.Def.{Def}
 use Rattle.pliron_core.specs.declared.context.Def.TheVariants.{Result, Argument}
 use Rattle.pliron_core.specs.Uses.{AreAgreed}
-use Rattle.pliron_core.specs.Tree.{Tree, In, IsLive, IsDefined, IsMadeBy, IsMadeWithin, IsInside, IsWithin, head_of, operands_of, successors_of, results_of, block_holder_of, definition_of, uses_of}
+use Rattle.pliron_core.specs.Tree.{Tree, In, IsLive, IsDefined, IsMadeBy, IsMadeWithin, IsInside, IsWithin, head_of, operands_of, results_of, block_holder_of, definition_of, uses_of}
 use Rattle.pliron_core.specs.Changes.{IsMadeInside, IsMakerInside}
 use Rattle.pliron_core.specs.Joined.{IsTree}
 use Rattle.pliron_core.specs.Erased.{IsSelfContained}
@@ -15,6 +15,7 @@ use Rattle.pliron_core.proofs.TreeLemmas.{cases_lt}
 use Rattle.pliron_laws.specs.Datum.{Head, Meaning}
 use Rattle.pliron_laws.specs.Answers.{ReadsHead, ReadsPlace, HeadPasses}
 use Rattle.pliron_dce.specs.Dead.{IsHarmless, MayLose, Holds, OfResult, OfInside}
+use Rattle.pliron_dce.specs.Incoming.{BranchesLead}
 use Rattle.pliron_dce.specs.Steps.{IsReadyOperation, IsReadyArgument, HaveNoUse, IsHeld, IsUsedOutside}
 use Rattle.pliron_core.proofs.WithinLemmas.{block_holder_live}
 use Rattle.pliron_theory.proofs.SweptParts.{block_place_of}
@@ -100,21 +101,21 @@ module _ (m : Meaning) (removable : Head → ℕ → Bool → Option Bool) (t : 
     pub holder_within : IsReadyArgument m removable t root v → IsWithin t root holder
     holder_within r = let i = r.may.inside in subst (IsWithin t root) (some_is (sym i.1 ∙ ap (block_holder_of t) (same r) ∙ h)) i.2
 
-    pub ready_loses : IsReadyArgument m removable t root v → MayLose m removable t block
-    ready_loses r = record {
-      allowed = subst (λ z. (k : ℕ) → block_holder_of t z ≡ Some k → ReadsPlace removable t k z (Some true)) (same r) r.may.allowed;
-      branches = subst (λ z. (k : ℕ) → In z (successors_of t k) → HeadPasses m.is_branch t k) (same r) r.may.branches;
-    }
+    pub ready_loses : IsReadyArgument m removable t root v → MayLose removable t block
+    ready_loses r = subst (λ z. MayLose removable t z) (same r) r.may.allowed
 
-    pub argument_told : IsDefined t v → ((user : ℕ) → In v (operands_of t user) → ⊥) → IsWithin t root holder → MayLose m removable t block → IsReadyArgument m removable t root v
-    argument_told d none i l = record {
+    pub ready_led : IsReadyArgument m removable t root v → BranchesLead m t block
+    ready_led r = subst (λ z. BranchesLead m t z) (same r) r.may.branches
+
+    pub argument_told : IsDefined t v → ((user : ℕ) → In v (operands_of t user) → ⊥) → IsWithin t root holder → MayLose removable t block → BranchesLead m t block → IsReadyArgument m removable t root v
+    argument_told d none i allowed branches = record {
       may = record {
         block = block;
         index = index;
         argument = subst (IsMadeBy t v) e d;
         inside = (holder, h, i);
-        allowed = l.allowed;
-        branches = l.branches;
+        allowed = allowed;
+        branches = branches;
       };
       none = none;
     }

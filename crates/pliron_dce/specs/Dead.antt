@@ -25,11 +25,9 @@ pub record MayGo (m : Meaning) (side_effects : Head → Option Bool) (t : Tree) 
   pub harmless : HasNoSideEffects side_effects t k
   pub plain : (h : Head) → head_of t k ≡ Some h → m.is_terminator h ≡ false
 
--- the operation that holds the block answers that its arguments may be removed, and branches alone lead to
--- it
-pub record MayLose (m : Meaning) (removable : Head → ℕ → Bool → Option Bool) (t : Tree) (block : ℕ) : Type 0 where
-  pub allowed : (k : ℕ) → block_holder_of t block ≡ Some k → ReadsPlace removable t k block (Some true)
-  pub branches : (k : ℕ) → In block (successors_of t k) → HeadPasses m.is_branch t k
+-- the operation that holds the block answers that its arguments may be removed
+abbrev pub MayLose : (Head → ℕ → Bool → Option Bool) → Tree → ℕ → Type 0
+MayLose removable t block = (k : ℕ) → block_holder_of t block ≡ Some k → ReadsPlace removable t k block (Some true)
 
 -- the value is an argument of a block inside the root, the operation that holds the block answers that its
 -- arguments may be removed, and branches alone lead to the block

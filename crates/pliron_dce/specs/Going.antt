@@ -9,7 +9,7 @@ use Rattle.pliron_core.specs.Erased.{erased}
 use Rattle.pliron_core.specs.Changes.{IsInsideChange}
 use Rattle.pliron_laws.specs.Datum.{Head, Shape, Meaning}
 use Rattle.pliron_theory.specs.Dropping.{AreEdgesTo, EdgesLose}
-use Rattle.pliron_theory.specs.Keeps.{KeepsRuns}
+use Rattle.pliron_theory.specs.Keeps.{KeepsAllRuns}
 use Rattle.pliron_theory.specs.Edges.{has_regions}
 use Rattle.pliron_laws.specs.Linked.{IsWellLinked}
 use Rattle.pliron_dce.specs.Dead.{Item, Op, Arg, Use, IsDead}
@@ -70,12 +70,12 @@ HasRegions t (Use user place) = ⊥
 abbrev pub SomeHasRegions : Tree → List Item → Type 0
 SomeHasRegions t gone = (x : Item) × Among x gone × HasRegions t x
 
--- what holds on the way from the tree t0: dead things of t0 went in turn, all runs are kept, links stay,
+-- what holds on the way from the tree t0: dead things of t0 went in turn, the runs of all roots are kept, links stay,
 -- only what is inside the root changed, and what is dead is what was dead in t0 and still stands
 pub record IsSweptSoFar (m : Meaning) (shortened : Shape → ℕ → ℕ → Head) (side_effects : Head → Option Bool) (removable : Head → ℕ → Bool → Option Bool) (t0 t : Tree) (root : ℕ) (gone : List Item) : Type 0 where
   pub went : GoInTurn m shortened gone t0 t
   pub dead : (x : Item) → Among x gone → IsDead m side_effects removable t0 root x
-  pub keeps : KeepsRuns m t0 t
+  pub keeps : KeepsAllRuns m t0 t
   pub inside : IsInsideChange t0 t root
   pub linked : (r : ℕ) → IsWellLinked m t0 r → IsLive t r → IsWellLinked m t r
   pub stands : IsLive t root

@@ -10,7 +10,7 @@
 ghost use Rattle.std.specs.Prelude.{◌≡◌, ◌↔◌, ℕ, List, IfOk, OnErr, IsTrue, IsOkUnless};
 ghost use Rattle.pliron_core.specs.Tree.{IsLive};
 ghost use Rattle.pliron_core.specs.declared.attrs.IRStatus.TheVariants.{Unchanged};
-ghost use Rattle.pliron_theory.specs.Change.{IsPassChange};
+ghost use Rattle.pliron_theory.specs.Change.{IsWholeChange};
 ghost use Rattle.pliron_theory.specs.Edges.{KeepsEdges};
 ghost use Rattle.pliron_laws.specs.Linked.{IsWellLinked};
 ghost use Rattle.pliron_dce.specs.DeadLaws.{ReadyLaws, GoingLaws, PendingLaw};
@@ -20,6 +20,7 @@ ghost use Rattle.pliron_dce.specs.Going.{GoInTurn, AreDeadThings, LeavesNoDead, 
 mod candidates;
 mod incoming;
 mod looks;
+mod predecessors;
 mod ready;
 mod sweep;
 mod take;
@@ -27,6 +28,7 @@ mod work;
 
 use crate::candidates::all_candidates;
 use crate::looks::Looks;
+use crate::predecessors::Predecessors;
 use crate::sweep::sweep;
 use pliron_core::{Context, IRStatus, Operation, Ptr};
 use pliron_laws::{Dialect, OptError};
@@ -54,6 +56,8 @@ pub fn ready_things_are_seen<D: Dialect>()
 ///
 /// What is dead is a least set: a ring of arguments that feed each other stays.
 ///
+/// Runs are kept of every root that is otherwise fit to run, also of one whose head may not be a root's.
+///
 /// Asks that the operation stands and is well linked. Answers `Changed` exactly if something was dead;
 /// nothing is dead then, so a second call answers `Unchanged`.
 ///
@@ -67,8 +71,9 @@ pub fn ready_things_are_seen<D: Dialect>()
 /// asks each edge to the block for all that it forwards (`successor_operands`) and sorts the edges by how much
 /// that is. Each one then asks only the edges that forward to it, and one more, for the one operand that they
 /// forward there (`successor_operand`), and takes that one out. The arguments of a block that may go at one
-/// time go side by side, the last one first; so those that stay behind them move once for all of these. A look
-/// at an argument that nothing uses asks each edge to its block whether it is a branch's.
+/// time go side by side, the last one first; so those that stay behind them move once for all of these. Whether
+/// branches alone lead to a block is asked of each edge to it once, at the start, where there are many, and else at
+/// each look at an argument of it that nothing uses.
 pub fn dce<D: Dialect>(
     alloc: Global,
     op: Ptr<Operation>,
@@ -76,7 +81,7 @@ pub fn dce<D: Dialect>(
 ) -> Result<IRStatus, OptError>
     requires live { IsLive ctx.old.tree op }
     requires linked { IsWellLinked D.meaning ctx.old.tree op }
-    ensures change { IsPassChange D.meaning ctx.old.tree ctx.new.tree op }
+    ensures change { IsWholeChange D.meaning ctx.old.tree ctx.new.tree op }
     ensures gone { (gone : List Item) × GoInTurn D.meaning D.shortened gone ctx.old.tree ctx.new.tree ×
         AreDeadThings D.meaning D.side_effects D.removable ctx.old.tree op gone }
     ensures none { IfOk result (λ a. LeavesNoDead D.meaning D.side_effects D.removable ctx.old.tree ctx.new.tree op) }
@@ -101,7 +106,7 @@ pub fn dce_with_regions<D: Dialect>(
 ) -> Result<(IRStatus, bool), OptError>
     requires live { IsLive ctx.old.tree op }
     requires linked { IsWellLinked D.meaning ctx.old.tree op }
-    ensures change { IsPassChange D.meaning ctx.old.tree ctx.new.tree op }
+    ensures change { IsWholeChange D.meaning ctx.old.tree ctx.new.tree op }
     ensures gone { (gone : List Item) × GoInTurn D.meaning D.shortened gone ctx.old.tree ctx.new.tree ×
         AreDeadThings D.meaning D.side_effects D.removable ctx.old.tree op gone × IfOk result (λ a. IsTrue a.1 ↔ SomeHasRegions ctx.old.tree gone) }
     ensures none { IfOk result (λ a. LeavesNoDead D.meaning D.side_effects D.removable ctx.old.tree ctx.new.tree op) }
@@ -111,7 +116,9 @@ pub fn dce_with_regions<D: Dialect>(
     ensures links { (root : ℕ) → IsWellLinked D.meaning ctx.old.tree root → IsLive ctx.new.tree root → IsWellLinked D.meaning ctx.new.tree root }
     ensures memory { IsOkUnless result OptError.Memory }
 {
-    let work = all_candidates(alloc, op, ctx)?;
+    let mut wide = Vec::new(alloc);
+    let work = all_candidates(alloc, &mut wide, op, ctx)?;
     let looks = Looks::new(alloc, &work, ctx)?;
-    sweep::<D>(alloc, op, work, looks, ctx)
+    let predecessors = Predecessors::new::<D>(alloc, &wide, op, ctx)?;
+    sweep::<D>(alloc, op, work, looks, &predecessors, ctx)
 }

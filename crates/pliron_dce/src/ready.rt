@@ -1,11 +1,13 @@
 //! What may go at once.
-ghost use Rattle.std.specs.Prelude.{◌≡◌, ◌↔◌, ℕ, Some, IsTrue, slice_get};
-ghost use Rattle.pliron_core.specs.Tree.{In, IsLive, IsBlock, IsWithin, operands_of, results_of, block_holder_of};
+ghost use Rattle.std.specs.Prelude.{◌≡◌, ◌↔◌, Some, IsTrue};
+ghost use Rattle.pliron_core.specs.Tree.{IsLive, IsBlock, IsWithin, block_holder_of};
 ghost use Rattle.pliron_laws.specs.Linked.{IsWellLinked};
 ghost use Rattle.pliron_dce.specs.Dead.{IsHarmless, MayLose};
+ghost use Rattle.pliron_dce.specs.Predecessors.{mark_of, AreMarked};
 ghost use Rattle.pliron_dce.specs.Steps.{IsReadyOperation, IsReadyArgument, HaveNoUse};
 
 use crate::looks::Looks;
+use crate::predecessors::Predecessors;
 use pliron_core::{BasicBlock, Context, Def, Operation, Ptr, Value};
 use pliron_laws::Dialect;
 
@@ -63,22 +65,16 @@ pub(crate) fn is_ready_operation<D: Dialect>(
     op.is_self_contained(ctx)
 }
 
-// Whether the operation that holds the block lets its arguments go, and branches alone lead to it.
+// Whether the operation that holds the block lets its arguments go.
 fn may_lose<D: Dialect>(block: Ptr<BasicBlock>, holder: Ptr<Operation>, ctx: &Context) -> bool
     requires block { IsBlock ctx.now.tree block }
     requires holder { block_holder_of ctx.now.tree block ≡ Some holder }
-    ensures { IsTrue result ↔ MayLose D.meaning D.removable ctx.now.tree block }
+    ensures { IsTrue result ↔ MayLose D.removable ctx.now.tree block }
 {
     ctx.well_formed();
     let Some(true) = D::can_remove_block_args(holder, ctx, block) else {
         return false;
     };
-    for i in 0..block.num_use(ctx) {
-        let (user, _) = block.get_use(ctx, i);
-        if !D::is_branch(user, ctx) {
-            return false;
-        }
-    }
     true
 }
 
@@ -93,9 +89,11 @@ pub(crate) fn is_within(op: Ptr<Operation>, root: Ptr<Operation>, ctx: &Context)
 // Whether the value is an argument that may go at once.
 pub(crate) fn is_ready_argument<D: Dialect>(
     value: Value,
+    predecessors: &Predecessors,
     root: Ptr<Operation>,
     ctx: &Context,
 ) -> bool
+    requires marked { AreMarked D.meaning ctx.now.tree root (λ b. mark_of predecessors.now b) }
     ensures { IsTrue result ↔ IsReadyArgument D.meaning D.removable ctx.now.tree root value }
 {
     ctx.well_formed();
@@ -112,7 +110,10 @@ pub(crate) fn is_ready_argument<D: Dialect>(
     if !is_within(holder, root, ctx) {
         return false;
     }
-    may_lose::<D>(block, holder, ctx)
+    if !may_lose::<D>(block, holder, ctx) {
+        return false;
+    }
+    predecessors.are_branches_of::<D>(block, root, ctx)
 }
 
 // The operation that holds the block directly.

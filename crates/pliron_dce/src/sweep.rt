@@ -7,11 +7,13 @@ ghost use Rattle.pliron_theory.specs.Edges.{KeepsEdges, has_regions as is_with_r
 ghost use Rattle.pliron_dce.specs.Dead.{Item};
 ghost use Rattle.pliron_dce.specs.Steps.{IsReady};
 ghost use Rattle.pliron_dce.specs.Incoming.{list_of, AreKnown};
+ghost use Rattle.pliron_dce.specs.Predecessors.{mark_of, AreMarked};
 ghost use Rattle.pliron_dce.specs.Going.{Goes, HasRegions, SomeHasRegions, IsSweptSoFar, LeavesNoDead, TellsGone};
 ghost use Rattle.pliron_dce.specs.Work.{item_of, waiting, HasReady, AreClosed};
 
 use crate::incoming::Incoming;
 use crate::looks::Looks;
+use crate::predecessors::Predecessors;
 use crate::take::{take_argument, take_operation};
 use crate::work::{Candidate, Work, next_ready, note};
 use pliron_core::{Context, Def, IRStatus, Operation, Ptr};
@@ -83,11 +85,13 @@ pub(crate) fn sweep<D: Dialect>(
     root: Ptr<Operation>,
     candidates: Vec<Candidate>,
     looks: Looks,
+    predecessors: &Predecessors,
     ctx: &mut Context,
 ) -> Result<(IRStatus, bool), OptError>
     requires live { IsLive ctx.old.tree root }
     requires linked { IsWellLinked D.meaning ctx.old.tree root }
     requires all { HasReady D.meaning D.side_effects D.removable ctx.old.tree root candidates.items }
+    requires marked { AreMarked D.meaning ctx.old.tree root (λ b. mark_of predecessors.now b) }
     ensures gone { (gone : List Item) × IsSweptSoFar D.meaning D.shortened D.side_effects D.removable ctx.old.tree ctx.new.tree root gone ×
         IfOk result (λ a. LeavesNoDead D.meaning D.side_effects D.removable ctx.old.tree ctx.new.tree root × TellsGone gone a.0 × (IsTrue a.1 ↔
         SomeHasRegions ctx.old.tree gone)) }
@@ -98,7 +102,7 @@ pub(crate) fn sweep<D: Dialect>(
     let mut incoming = Incoming::new(alloc);
     let mut status = IRStatus::Unchanged;
     let mut regions = false;
-    while let Some(next) = next_ready::<D>(&mut work, root, ctx)? {
+    while let Some(next) = next_ready::<D>(&mut work, predecessors, root, ctx)? {
         ctx.well_formed();
         let taken = take_one::<D>(alloc, next, root, &mut work, &mut incoming, ctx);
         ctx.well_formed();

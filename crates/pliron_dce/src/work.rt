@@ -11,10 +11,12 @@ ghost use Rattle.pliron_core.specs.Tree.{IsLive, IsDefined};
 ghost use Rattle.pliron_laws.specs.Linked.{IsWellLinked};
 ghost use Rattle.pliron_dce.specs.Dead.{Item};
 ghost use Rattle.pliron_dce.specs.Steps.{IsReady, Among, AreLookedAt};
+ghost use Rattle.pliron_dce.specs.Predecessors.{mark_of, AreMarked};
 ghost use Rattle.pliron_dce.specs.declared.work.Candidate.TheVariants.{Operation as AnOperation};
 ghost use Rattle.pliron_dce.specs.Work.{item_of, items_of, waiting, HasReady, KeepsReady, AreClosed, LooksAround, IsAroundMaker};
 
 use crate::looks::Looks;
+use crate::predecessors::Predecessors;
 use crate::ready::{holder_of, is_ready_argument, is_ready_operation};
 use indexmap::IndexSet;
 use pliron_core::{Context, Def, Operation, Ptr, Value};
@@ -71,15 +73,17 @@ impl Work {
 fn is_ready<D: Dialect>(
     candidate: &Candidate,
     looks: &mut Looks,
+    predecessors: &Predecessors,
     root: Ptr<Operation>,
     ctx: &Context,
 ) -> bool
     requires linked { IsWellLinked D.meaning ctx.now.tree root }
+    requires marked { AreMarked D.meaning ctx.now.tree root (λ b. mark_of predecessors.now b) }
     ensures { IsTrue result ↔ IsReady D.meaning D.side_effects D.removable ctx.now.tree root (item_of candidate.now) }
 {
     match *candidate {
         Candidate::Operation(op) => is_ready_operation::<D>(op, looks, root, ctx),
-        Candidate::Argument(value) => is_ready_argument::<D>(value, root, ctx),
+        Candidate::Argument(value) => is_ready_argument::<D>(value, predecessors, root, ctx),
     }
 }
 
@@ -87,17 +91,19 @@ fn is_ready<D: Dialect>(
 fn next_in_round<D: Dialect>(
     round: &mut Vec<Candidate>,
     looks: &mut Looks,
+    predecessors: &Predecessors,
     root: Ptr<Operation>,
     ctx: &Context,
 ) -> Option<Candidate>
     requires linked { IsWellLinked D.meaning ctx.now.tree root }
+    requires marked { AreMarked D.meaning ctx.now.tree root (λ b. mark_of predecessors.now b) }
     ensures some { IfSome result (λ next. IsReady D.meaning D.side_effects D.removable ctx.now.tree root (item_of next)) }
     ensures kept { IfSome result (λ next. KeepsReady D.meaning D.side_effects D.removable ctx.now.tree root round.old.items (round.new.items ++ next ∷ [])) }
     ensures none { IfNone result (KeepsReady D.meaning D.side_effects D.removable ctx.now.tree root round.old.items []) }
     ensures empty { IfNone result (round.new.items ≡ []) }
 {
     while let Some(next) = round.pop() {
-        if is_ready::<D>(&next, looks, root, ctx) {
+        if is_ready::<D>(&next, looks, predecessors, root, ctx) {
             return Some(next);
         }
     }
@@ -119,14 +125,16 @@ fn push_ready<D: Dialect>(
     round: &mut Vec<Candidate>,
     candidates: &[Candidate],
     looks: &mut Looks,
+    predecessors: &Predecessors,
     root: Ptr<Operation>,
     ctx: &Context,
 ) -> Result<(), AllocError>
     requires linked { IsWellLinked D.meaning ctx.now.tree root }
+    requires marked { AreMarked D.meaning ctx.now.tree root (λ b. mark_of predecessors.now b) }
     ensures { OnOk result (KeepsReady D.meaning D.side_effects D.removable ctx.now.tree root (candidates.now ++ round.old.items) round.new.items) }
 {
     for candidate in candidates {
-        if is_ready::<D>(candidate, looks, root, ctx) {
+        if is_ready::<D>(candidate, looks, predecessors, root, ctx) {
             round.push(*candidate)?;
         }
     }
@@ -136,23 +144,38 @@ fn push_ready<D: Dialect>(
 // What waits for the next round and is ready comes into this one.
 fn begin_round<D: Dialect>(
     work: &mut Work,
+    predecessors: &Predecessors,
     root: Ptr<Operation>,
     ctx: &Context,
 ) -> Result<(), AllocError>
     requires linked { IsWellLinked D.meaning ctx.now.tree root }
+    requires marked { AreMarked D.meaning ctx.now.tree root (λ b. mark_of predecessors.now b) }
     ensures kept { OnOk result (KeepsReady D.meaning D.side_effects D.removable ctx.now.tree root (waiting work.old) (waiting work.new)) }
     ensures later { OnOk result (work.new.later.items ≡ []) }
     ensures around { OnOk result (work.new.around.keys ≡ work.old.around.keys) }
 {
-    push_ready::<D>(&mut work.round, &work.later, &mut work.looks, root, ctx)?;
+    push_ready::<D>(
+        &mut work.round,
+        &work.later,
+        &mut work.looks,
+        predecessors,
+        root,
+        ctx,
+    )?;
     work.later.clear();
     put_arguments_last(&mut work.round)?;
     Ok(())
 }
 
 // The next one of this round that is ready.
-fn next_of<D: Dialect>(work: &mut Work, root: Ptr<Operation>, ctx: &Context) -> Option<Candidate>
+fn next_of<D: Dialect>(
+    work: &mut Work,
+    predecessors: &Predecessors,
+    root: Ptr<Operation>,
+    ctx: &Context,
+) -> Option<Candidate>
     requires linked { IsWellLinked D.meaning ctx.now.tree root }
+    requires marked { AreMarked D.meaning ctx.now.tree root (λ b. mark_of predecessors.now b) }
     ensures some { IfSome result (λ next. IsReady D.meaning D.side_effects D.removable ctx.now.tree root (item_of next)) }
     ensures kept { IfSome result (λ next. KeepsReady D.meaning D.side_effects D.removable ctx.now.tree root (waiting work.old) (waiting work.new ++ next ∷ [])) }
     ensures none { IfNone result (KeepsReady D.meaning D.side_effects D.removable ctx.now.tree root (waiting work.old) (waiting work.new)) }
@@ -160,7 +183,7 @@ fn next_of<D: Dialect>(work: &mut Work, root: Ptr<Operation>, ctx: &Context) -> 
     ensures later { work.new.later ≡ work.old.later }
     ensures around { work.new.around ≡ work.old.around }
 {
-    next_in_round::<D>(&mut work.round, &mut work.looks, root, ctx)
+    next_in_round::<D>(&mut work.round, &mut work.looks, predecessors, root, ctx)
 }
 
 // These operations come into the round.
@@ -188,10 +211,12 @@ fn begin_around(work: &mut Work) -> Result<(), AllocError>
 // not ready goes.
 pub(crate) fn next_ready<D: Dialect>(
     work: &mut Work,
+    predecessors: &Predecessors,
     root: Ptr<Operation>,
     ctx: &Context,
 ) -> Result<Option<Candidate>, AllocError>
     requires linked { IsWellLinked D.meaning ctx.now.tree root }
+    requires marked { AreMarked D.meaning ctx.now.tree root (λ b. mark_of predecessors.now b) }
     requires all { HasReady D.meaning D.side_effects D.removable ctx.now.tree root (waiting work.old) }
     requires closed { AreClosed ctx.now.tree work.old.around.keys }
     ensures some { IfOk result (λ found. IfSome found (λ next. IsReady D.meaning D.side_effects D.removable ctx.now.tree root (item_of next))) }
@@ -200,15 +225,15 @@ pub(crate) fn next_ready<D: Dialect>(
     ensures none { IfOk result (λ found. IfNone found ((x : Item) → IsReady D.meaning D.side_effects D.removable ctx.now.tree root x → ⊥)) }
     ensures closed { OnOk result (AreClosed ctx.now.tree work.new.around.keys) }
 {
-    if let Some(next) = next_of::<D>(work, root, ctx) {
+    if let Some(next) = next_of::<D>(work, predecessors, root, ctx) {
         return Ok(Some(next));
     }
-    begin_round::<D>(work, root, ctx)?;
-    if let Some(next) = next_of::<D>(work, root, ctx) {
+    begin_round::<D>(work, predecessors, root, ctx)?;
+    if let Some(next) = next_of::<D>(work, predecessors, root, ctx) {
         return Ok(Some(next));
     }
     begin_around(work)?;
-    Ok(next_of::<D>(work, root, ctx))
+    Ok(next_of::<D>(work, predecessors, root, ctx))
 }
 
 // The operation that holds what makes the value.

@@ -1,5 +1,5 @@
 -- What the functions of a dialect of roles read of an operation.
-use Rattle.pliron_core.proofs.GrownLemmas.{range_at, range_get, range_more}
+use Rattle.pliron_core.proofs.GrownLemmas.{range_get, range_more}
 use Rattle.std.proofs.Common.{◌≡◌, ℕ, zero, suc, ◌+◌, ◌<◌, ◌≤◌, Bool, true, false, IsSome, List, [], ◌∷◌, ◌++◌, Option, Some, None, length, map, IsTrue, refl, ap, sym, ◌∙◌, subst, arith}
 use Rattle.std.specs.List.{slice_get, range_with_len}
 use Rattle.std.specs.Option.{option_map}
@@ -17,6 +17,7 @@ use Rattle.pliron_laws.specs.Answers.{AreForwarded, IsForwardedAt, IsForwardedOn
 use Rattle.pliron_laws.proofs.ShapeLemmas.{head_at, operands_at}
 use Rattle.pliron_dialects.specs.declared.form.Form.{Form}
 use Rattle.pliron_dialects.specs.declared.form.Form.TheVariants.{Constant, Computes, Jumps, Branches, Leaves, Acts}
+use Rattle.pliron_dialects.specs.BranchLaws.{distinct}
 use Rattle.pliron_dialects.specs.Numbers.{known_number_at}
 use Rattle.pliron_dialects.specs.Forms.{by_form, places_by_form, forwards_nothing, is_constant, folds_branch_of, answer_of, answers_of, feasible_of, no_jump, taken}
 use Rattle.pliron_dialects.specs.Roles.{Role, Tables, by_role, role_at, form_at, form_of, value_of, meaning_by}
@@ -84,20 +85,17 @@ unfolding meaning_by shape_of
 places_are roles t op i places o f at =
     f o.head (head_at t op o at) ∙ ap (λ z. by_form forwards_nothing places_by_form (form_at roles o.head.kind) o.head.attrs (length z) i) (sym (operands_at t op o at))
 
--- where there is one edge, an operand among its places is forwarded there alone
-pub forwarded_once : (roles : ℕ → Option Role) (t : Tree) (op place index first count : ℕ) → ReadsPlaces roles t op 0 (range_with_len first count) → length (successors_of t op) ≡ 1 → place ≡ first + index → index < count → IsForwardedOnce (meaning_by roles) t op place 0 index
-forwarded_once roles t op place index first count f one e lt = record {
-  edge = omega (arith, one);
-  there = λ o at. ap (λ z. slice_get z index) (sym (are o at)) ∙ range_get first count index lt ∙ ap Some (sym e);
-  alone = λ o at k l less is.
-      let size : length o.successors ≡ 1 = ap length (successors_with t op o at) ∙ one in
-      let zero_edge : k ≡ 0 = omega (arith, less, size) in
-      let r = range_at first count l place (ap (λ z. slice_get z l) (are o at) ∙ ap (λ z. slice_get ((meaning_by roles).forwarded (shape_of (meaning_by roles) t o) z) l) (sym zero_edge) ∙ is) in
-      (zero_edge, omega (arith, r.0, e));
+-- an operand among the places of an edge of a branch is forwarded there alone
+pub forwarded_once : (roles : ℕ → Option Role) (t : Tree) (op place edge index first count : ℕ) → ReadsPlaces roles t op edge (range_with_len first count) → HeadPasses (meaning_by roles).is_branch t op → edge < length (successors_of t op) → place ≡ first + index → index < count → IsForwardedOnce (meaning_by roles) t op place edge index
+unfolding meaning_by shape_of
+forwarded_once roles t op place edge index first count f branch within e lt = record {
+  edge = within;
+  there = there;
+  alone = λ o at k l less is. distinct (roles o.head.kind) (shape_of (meaning_by roles) t o) k edge l index place (branch o.head (head_at t op o at)) is (there o at);
 }
   where
-    are : (o : Operation) → op_at t op ≡ Some o → range_with_len first count ≡ (meaning_by roles).forwarded (shape_of (meaning_by roles) t o) 0
-    are o at = places_are roles t op 0 (range_with_len first count) o f at
+    there : (o : Operation) → op_at t op ≡ Some o → slice_get ((meaning_by roles).forwarded (shape_of (meaning_by roles) t o) edge) index ≡ Some place
+    there o at = ap (λ z. slice_get z index) (sym (places_are roles t op edge (range_with_len first count) o f at)) ∙ range_get first count index lt ∙ ap Some (sym e)
 
 -- past the last of places in a row there is none
 pub picked_past : (xs : List ℕ) (first count j : ℕ) → count ≤ j → slice_get (pick (range_with_len first count) xs) j ≡ None

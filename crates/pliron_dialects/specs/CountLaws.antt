@@ -1,5 +1,5 @@
 -- A dialect of roles keeps the laws on counts, side effects and arguments, and makes true constants.
-use Rattle.std.proofs.Common.{◌≡◌, ℕ, zero, suc, ◌<◌, Bool, true, false, ◌&&◌, List, [], ◌∷◌, Option, Some, None, length, slice_get, slice_set, IsTrue, refl, sym, subst, arith}
+use Rattle.std.proofs.Common.{◌≡◌, ℕ, zero, suc, ◌<◌, Bool, true, false, not, ◌&&◌, List, [], ◌∷◌, Option, Some, None, length, slice_get, slice_set, IsTrue, refl, sym, subst, arith}
 use Rattle.std.specs.Option.{option_map}
 use Rattle.pliron_core.specs.declared.attrs.AttrObj.{AttrObj}
 use Rattle.pliron_core.specs.declared.attrs.AttrObj.TheVariants.{Int, Text as Words}
@@ -7,10 +7,13 @@ use Rattle.pliron_laws.specs.Datum.{Datum, Empty, Shape, Move, Give, Meaning}
 use Rattle.pliron_laws.specs.Acting.{MovesAlike, DropsAt, JumpsSame}
 use Rattle.pliron_laws.specs.Laws.{CountsFit, KeepsCounts, IsGive, GivesAtOnce, ActsWithoutArgument}
 use Rattle.pliron_laws.specs.Folding.{MakesConstant, MakesConstants, constant_shape}
+use Rattle.pliron_laws.specs.Entries.{NamesOperands, RootsNameNone, names_none, none_are_named}
+use Rattle.pliron_laws.specs.declared.dialect.Interface.TheVariants.{RegionBranch}
+use Rattle.pliron_dialects.specs.declared.form.Form.{Form}
 use Rattle.pliron_dialects.specs.Numbers.{fits, is_whole_number}
-use Rattle.pliron_dialects.specs.Forms.{by_form, successors_of_form, ends_block, branches, effects_of, removable_of, no_removal, head_with_attribute}
-use Rattle.pliron_dialects.specs.Roles.{Role, Constant, Computes, Jumps, Branches, Leaves, Acts, ActsFit, by_role, form_of, act_of, no_act, takes_by, meaning_by}
-use Rattle.pliron_dialects.specs.RoleTables.{effects_by, removable_by, accepts_numbers, constant_head_of}
+use Rattle.pliron_dialects.specs.Forms.{by_form, successors_of_form, ends_block, branches, effects_of, removable_of, no_removal, interface_of, head_with_attribute}
+use Rattle.pliron_dialects.specs.Roles.{Role, Constant, Computes, Jumps, Branches, Leaves, Acts, ActsFit, by_role, form_of, form_at, act_of, no_act, takes_by, meaning_by}
+use Rattle.pliron_dialects.specs.RoleTables.{effects_by, removable_by, interfaces_by, accepts_numbers, constant_head_of}
 use Rattle.pliron_dialects.specs.RoleParts.{Admits, OwnMovesFit, of_role, one_result, no_result}
 
 -- ---- counts
@@ -102,3 +105,16 @@ makes_constants roles n e = λ attr h. record {
   no_terminator = subst (λ z. by_form false ends_block (option_map form_of z) ≡ false) (sym e) refl;
   gives = subst (λ z. by_role no_act act_of z (constant_shape (head_with_attribute n attr)) Empty [] ≡ act_of Constant (constant_shape (head_with_attribute n attr)) Empty []) (sym e) refl;
 }
+
+-- ---- operands of visits, and roots
+
+pub names_operands : (roles : ℕ → Option Role) → NamesOperands (meaning_by roles) names_none (λ h. interfaces_by roles h RegionBranch)
+names_operands roles = none_are_named (meaning_by roles) (λ h. interfaces_by roles h RegionBranch)
+
+by_no_form : (o : Option Form) → true ≡ not (by_form false (interface_of RegionBranch) o)
+by_no_form None = refl
+by_no_form (Some f) = refl
+
+pub roots : (roles : ℕ → Option Role) → RootsNameNone (meaning_by roles) (λ h. interfaces_by roles h RegionBranch)
+unfolding meaning_by interfaces_by
+roots roles = λ h. by_no_form (form_at roles h.kind)

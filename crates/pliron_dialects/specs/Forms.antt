@@ -5,7 +5,7 @@ use Rattle.pliron_core.specs.declared.attrs.Head.{Head}
 use Rattle.pliron_core.specs.declared.attrs.AttrObj.{AttrObj}
 use Rattle.pliron_core.specs.declared.attrs.AttrObj.TheVariants.{Int, Text as Words}
 use Rattle.pliron_laws.specs.declared.dialect.Interface.{Interface}
-use Rattle.pliron_laws.specs.declared.dialect.Interface.TheVariants.{SideEffects, BlockArgRemoval, ConstFold, BranchFold, Branch, Terminator}
+use Rattle.pliron_laws.specs.declared.dialect.Interface.TheVariants.{SideEffects, BlockArgRemoval, ConstFold, BranchFold, Branch, Terminator, RegionBranch}
 use Rattle.pliron_dialects.specs.declared.form.Form.{Form}
 use Rattle.pliron_dialects.specs.declared.form.Form.TheVariants.{Constant, Computes, Jumps, Branches, Leaves, Acts}
 use Rattle.pliron_dialects.specs.Numbers.{is_zero, is_whole_number, known_number_at, all_known}
@@ -203,3 +203,4 @@ interface_of ConstFold f = folds_of f
 interface_of BranchFold f = folds_branch_of f
 interface_of Branch f = branches f
 interface_of Terminator f = ends_block f
+interface_of RegionBranch f = false

@@ -1,11 +1,12 @@
 //! The dialect of some kinds.
 ghost use Rattle.std.specs.Prelude.{◌≡◌, Ok, ◌∷◌, [], Some, IfOk, IfErr, OnOk, OnErr, IsSome, length};
 ghost use Rattle.pliron_core.specs.Tree.{IsLive, operands_of};
+ghost use Rattle.pliron_laws.specs.Entries.{names_none};
 ghost use Rattle.pliron_dialects.specs.Roles.{role_at, meaning_by};
 ghost use Rattle.pliron_dialects.specs.RoleTables.{effects_by, removable_by, folds_by, constants_by, accepts_numbers, constant_head_of, branch_folds_by, feasible_by, is_of_number, interfaces_by, shortened_by};
 ghost use Rattle.pliron_dialects.specs.RoleOutcomes.{outcome_by, branch_outcome_by};
 ghost use Rattle.pliron_dialects.specs.RoleParts.{own_moves_fit, constant_named, jump_named};
-ghost use Rattle.pliron_dialects.specs.CountLaws.{keeps_counts, gives_at_once, acts_without_argument, makes_constants};
+ghost use Rattle.pliron_dialects.specs.CountLaws.{keeps_counts, gives_at_once, acts_without_argument, makes_constants, names_operands, roots};
 ghost use Rattle.pliron_dialects.specs.FoldLaws.{answers_true, answers_jumps};
 ghost use Rattle.pliron_dialects.specs.RemovalLaws.{forwards_operands};
 ghost use Rattle.pliron_dialects.specs.PlaceFolds.{folds_in_place};
@@ -22,7 +23,7 @@ use crate::tables::{begins_region, form_at, kind_at};
 use pliron_core::{AttrObj, BasicBlock, Context, IRStatus, Operation, Ptr, Rewriter, Value};
 use pliron_laws::{
     BlockArgRemoval, BranchOpFoldInterface, ConstFoldInterface, Dialect, HasMeaning, Interface,
-    OptError, Room, SideEffects,
+    OptError, RegionBranchOpInterface, Room, SideEffects,
 };
 use std::alloc::Global;
 use std::marker::PhantomData;
@@ -37,7 +38,8 @@ use std::marker::PhantomData;
 /// | `Branches` | no answer | as a branch, where its condition is known | |
 /// | `Acts` | yes | no | those of all blocks but an entry |
 ///
-/// Its four `verify` find no fault.
+/// It names no operand for arguments of entries, so runs may begin at all its operations, and its five
+/// `verify` find no fault.
 pub struct ByKinds<K>(PhantomData<K>);
 
 impl<K: Kinds> HasMeaning for ByKinds<K> {
@@ -231,6 +233,26 @@ impl<K: Kinds> BranchOpFoldInterface for ByKinds<K> {
     }
 }
 
+impl<K: Kinds> RegionBranchOpInterface for ByKinds<K> {
+    ghost verdict = { λ t op r. r ≡ Ok tt };
+
+    ghost entry_operands = { names_none };
+
+    /// `None`. Cost: constant.
+    fn entry_operand(
+        _op: Ptr<Operation>,
+        _ctx: &Context,
+        _region: usize,
+        _arg: usize,
+    ) -> Option<usize> {
+        None
+    }
+
+    fn verify(_alloc: Global, _op: Ptr<Operation>, _ctx: &Context) -> Result<(), OptError> {
+        Ok(())
+    }
+}
+
 impl<K: Kinds> Dialect for ByKinds<K> {
     type Kind = K;
 
@@ -326,13 +348,14 @@ impl<K: Kinds> Dialect for ByKinds<K> {
         Ok(operand_among(op, ctx, places, j))
     }
 
-    /// Of a jump alone. Cost: constant.
+    /// Of a jump or a branch, which has two edges at most. Cost: constant.
     fn forwarded_from(op: Ptr<Operation>, ctx: &Context, place: usize) -> Option<(usize, usize)> {
-        if op.num_successor(ctx) != 1 {
-            return None;
+        for edge in 0..op.num_successor(ctx) {
+            if let Some(index) = place_among(places_at::<K>(op, ctx, edge), place) {
+                return Some((edge, index));
+            }
         }
-        let index = place_among(places_at::<K>(op, ctx, 0), place)?;
-        Some((0, index))
+        None
     }
 
     /// A branch that lost a value of its first edge counts one fewer there. Cost: that of `remove_operand`.
@@ -363,4 +386,8 @@ impl<K: Kinds> Dialect for ByKinds<K> {
     ghost folds_in_place = { folds_in_place (role_at K.tables) (K.tables.number_of K.tables.constant) (K.tables.number_of K.tables.jump) (jump_named K.tables K.keeps_tables) };
 
     ghost makes_constants = { makes_constants (role_at K.tables) (K.tables.number_of K.tables.constant) (constant_named K.tables K.keeps_tables) };
+
+    ghost names_operands = { names_operands (role_at K.tables) };
+
+    ghost roots = { roots (role_at K.tables) };
 }

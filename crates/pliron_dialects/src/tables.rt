@@ -184,6 +184,7 @@ impl Form {
             Interface::BranchFold => self.folds_branch(),
             Interface::Branch => self.branches(),
             Interface::Terminator => self.ends_block(),
+            Interface::RegionBranch => false,
         }
     }
 }

@@ -32,10 +32,10 @@ impl Wrong<'_> {
         match self {
             Wrong::Failed(failure) => failure.told(alloc, source),
             Wrong::Graph => format!(in alloc;
-                "error: unreadable graph\nhelp: write a line for each node: its number, a colon, and its successors, each after one blank\n"
+                "error: unreadable graph\nhelp: write a line for each node, as `0: 1 2`: its number and its successors\n"
             ),
             Wrong::Region(path) => format!(in alloc;
-                "error: no region `{path}`\nhelp: write numbers with dots: a region of the text, an operation in it, a region of that one ..\n"
+                "error: no region `{path}`\nhelp: `0.2.0` is region 0 of operation 2 of region 0 of the text's operation\n"
             ),
         }
     }

@@ -4,10 +4,10 @@ use Rattle.std.specs.Prelude.{slice_index_or}
 use Rattle.std.specs.Result.{IfOk}
 use Rattle.pliron_core.specs.Tree.{Tree, head_of, regions_of}
 use Rattle.pliron_evaluator.specs.declared.tiny.TinyKind.{TinyKind}
-use Rattle.pliron_evaluator.specs.declared.tiny.TinyKind.TheVariants.{Const, Ask, Scope, Br}
+use Rattle.pliron_evaluator.specs.declared.tiny.TinyKind.TheVariants.{Const, Ask, Scope, Br, Both, Twice}
 use Rattle.pliron_laws.specs.Datum.{Datum, Head, Give, Goto, Trap, datum_of as content_of}
 use Rattle.pliron_laws.specs.Tree.{Operation, op_at, shape_of, entry_block, count_arguments}
-use Rattle.pliron_evaluator.specs.Tiny.{tiny, kind_of, tiny_act_of, ask_move, scope_move, has_begun, first_attribute, first_count}
+use Rattle.pliron_evaluator.specs.Tiny.{tiny, kind_of, tiny_act_of, ask_move, scope_move, both_move, twice_move, has_begun, first_attribute, first_count}
 use Rattle.pliron_evaluator.specs.declared.evaluator.values.Datum.{Datum as DatumValue}
 use Rattle.pliron_evaluator.specs.declared.evaluator.values.Move.{Move as MoveValue}
 use Rattle.pliron_evaluator.specs.Evaluator.{datum_of_value, move_of}
@@ -42,6 +42,14 @@ module _ (t : Tree) (op : ℕ) (h : Head) (stands : head_of t op ≡ Some h) (me
   pub scope_moves : {E : Type 0} (r : Result MoveValue E) (count : ℕ) → kind_of h.kind ≡ Some Scope → count ≡ slice_index_or (map (λ r. count_arguments (entry_block t r)) (regions_of t op)) 0 0 → IfOk r (λ n. move_of n ≡ scope_move (has_begun memo) count input) → IfOk r (λ n. (o : Operation) → op_at t op ≡ Some o → move_of n ≡ tiny.act (shape_of tiny t o) memo input)
   scope_moves (Ok n) count e f g = λ o at. g ∙ ap (λ z. scope_move (has_begun memo) z input) (f ∙ ap (λ z. slice_index_or z 0 0) (entries o at) ∙ first_index (shape_of tiny t o).entry_arguments) ∙ acts (Some Scope) e o at
   scope_moves (Err z) count e f g = g
+
+  pub both_moves : {E : Type 0} (r : Result MoveValue E) → kind_of h.kind ≡ Some Both → IfOk r (λ n. move_of n ≡ both_move memo (map (λ r. count_arguments (entry_block t r)) (regions_of t op)) input) → IfOk r (λ n. (o : Operation) → op_at t op ≡ Some o → move_of n ≡ tiny.act (shape_of tiny t o) memo input)
+  both_moves (Ok n) e g = λ o at. g ∙ ap (λ z. both_move memo z input) (entries o at) ∙ acts (Some Both) e o at
+  both_moves (Err z) e g = g
+
+  pub twice_moves : {E : Type 0} (r : Result MoveValue E) → kind_of h.kind ≡ Some Twice → IfOk r (λ n. move_of n ≡ twice_move memo (map (λ r. count_arguments (entry_block t r)) (regions_of t op)) input) → IfOk r (λ n. (o : Operation) → op_at t op ≡ Some o → move_of n ≡ tiny.act (shape_of tiny t o) memo input)
+  twice_moves (Ok n) e g = λ o at. g ∙ ap (λ z. twice_move memo z input) (entries o at) ∙ acts (Some Twice) e o at
+  twice_moves (Err z) e g = g
 
   pub br_moves : kind_of h.kind ≡ Some Br → (o : Operation) → op_at t op ≡ Some o → Goto 0 input ≡ tiny.act (shape_of tiny t o) memo input
   br_moves e o at = acts (Some Br) e o at

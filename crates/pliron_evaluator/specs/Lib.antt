@@ -1,4 +1,5 @@
 pub mod Tiny
 pub mod Evaluator
 pub mod TinyLaws
+pub mod TinyEntries
 pub mod OwnMoves

@@ -1,5 +1,5 @@
 -- The small dialect keeps the laws.
-use Rattle.std.proofs.Common.{◌≡◌, inl, ℕ, zero, suc, ◌+◌, ◌-◌, ◌<◌, Bool, true, false, ◌&&◌, nat_eq, if◌then◌else◌, List, [], ◌∷◌, Option, Some, None, length, slice_get, map, IsTrue, refl, ap, sym, ◌∙◌, subst, arith, rules}
+use Rattle.std.proofs.Common.{◌≡◌, inl, ℕ, zero, suc, ◌+◌, ◌-◌, ◌<◌, Bool, true, false, ◌&&◌, nat_eq, nat_lt, slice_index_or, if◌then◌else◌, List, [], ◌∷◌, Option, Some, None, length, slice_get, map, IsTrue, refl, ap, sym, ◌∙◌, subst, arith, rules}
 use Rattle.std.specs.List.{range_with_len, remove}
 use Rattle.std.proofs.lemmas.Option.{same_Some}
 use Rattle.pliron_core.specs.declared.attrs.IRStatus.{IRStatus}
@@ -8,8 +8,8 @@ use Rattle.pliron_core.specs.Tree.{Tree, In}
 use Rattle.pliron_core.specs.Changes.{IsSameTree}
 use Rattle.pliron_core.proofs.GrownLemmas.{range_at}
 use Rattle.pliron_evaluator.specs.declared.tiny.TinyKind.{TinyKind}
-use Rattle.pliron_evaluator.specs.declared.tiny.TinyKind.TheVariants.{Const, Ask, Scope, Br}
-use Rattle.pliron_laws.specs.Datum.{Datum, Empty, datum_of, Head, Shape, Move, Give, Visit, Goto, Leave, Emit, Trap}
+use Rattle.pliron_evaluator.specs.declared.tiny.TinyKind.TheVariants.{Const, Ask, Scope, Br, Both, Twice}
+use Rattle.pliron_laws.specs.Datum.{Datum, Empty, Number, Text, Join, datum_of, Head, Shape, Move, Give, Visit, Goto, Leave, Emit, Trap}
 use Rattle.pliron_laws.specs.Acting.{Act, Comes, MovesAlike, PassesSame, DropsAt, pick, Known}
 use Rattle.pliron_laws.specs.Acting.Comes.{Begins, Answered, Told}
 use Rattle.pliron_laws.specs.Laws.{Admitted, CountsFit, KeepsCounts, IsGive, GivesAtOnce, ForwardsOperands, LosesOperand, ActsWithoutArgument, fewer_operands, moved_up}
@@ -18,17 +18,20 @@ use Rattle.pliron_laws.specs.Outcomes.MaterialisesSome.{Rest}
 use Rattle.pliron_laws.specs.Replacing.FoldsBranch.{Kept}
 use Rattle.pliron_laws.specs.InPlace.{FoldsInPlace, TellsChange, PassSameTests}
 use Rattle.pliron_laws.specs.PlaceLaws.{pick_all, in_places, moved_places}
-use Rattle.pliron_evaluator.specs.Tiny.{first_attribute, first_count, fitted_or_empty, ask_move, scope_move, has_begun, tiny_act_of, admits_of, is_br, is_const, forwarded_along, kind_of, tiny, tiny_effects_of, tiny_side_effects, tiny_removable_of, tiny_removable, tiny_folds, tiny_constants, tiny_accepts, tiny_constant, tiny_folds_branch, tiny_feasible, tiny_outcome, has_tiny_kind, has_tiny_interface, tiny_shortened}
+use Rattle.pliron_evaluator.specs.Tiny.{first_attribute, first_count, fitted_or_empty, ask_move, scope_move, both_move, twice_move, has_begun, tiny_act_of, admits_of, is_br, is_const, forwarded_along, kind_of, tiny, tiny_effects_of, tiny_side_effects, tiny_removable_of, tiny_removable, tiny_folds, tiny_constants, tiny_accepts, tiny_constant, tiny_folds_branch, tiny_feasible, tiny_outcome, has_tiny_kind, has_tiny_interface, tiny_shortened}
 
 -- the parts of a test of counts
-parts : (x y z : Bool) → IsTrue (x && y && z) → IsTrue x × IsTrue y × IsTrue z
+pub parts : (x y z : Bool) → IsTrue (x && y && z) → IsTrue x × IsTrue y × IsTrue z
 parts true true true h = (refl, refl, refl)
 parts true true false h = grind arith
 parts true false z h = grind arith
 parts false y z h = grind arith
 
-same : (a b : ℕ) → IsTrue (nat_eq a b) → a ≡ b
+pub same : (a b : ℕ) → IsTrue (nat_eq a b) → a ≡ b
 same a b h = search (rules, arith)
+
+pub below : (a b : ℕ) → IsTrue (nat_lt a b) → a < b
+below a b h = search (rules, arith)
 
 -- one of the counts that the dialect asks of an operation
 constant_counts : (a b c d : ℕ) → IsTrue (admits_of (Some Const) a b c d) → (a ≡ 0) × (b ≡ 1) × (c ≡ 0) × (d ≡ 0)
@@ -39,6 +42,12 @@ ask_counts a b c d h = let p = parts (nat_eq a 1 && nat_eq b 1) (nat_eq c 0) (na
 
 scope_counts : (a b c d : ℕ) → IsTrue (admits_of (Some Scope) a b c d) → (b ≡ 0) × (c ≡ 0)
 scope_counts a b c d h = let p = parts (nat_eq b 0) (nat_eq c 0) (nat_eq d 1) h in (same b 0 p.0, same c 0 p.1)
+
+both_counts : (a b c d : ℕ) → IsTrue (admits_of (Some Both) a b c d) → (b ≡ 0) × (c ≡ 0)
+both_counts a b c d h = let p = parts (nat_eq b 0) (nat_eq c 0) (nat_eq d 2) h in (same b 0 p.0, same c 0 p.1)
+
+pub twice_counts : (a b c d : ℕ) → IsTrue (admits_of (Some Twice) a b c d) → (0 < a) × (b ≡ 0) × (c ≡ 0)
+twice_counts a b c d h = let p = parts (nat_lt 0 a && nat_eq b 0) (nat_eq c 0) (nat_eq d 1) h in let q = parts true (nat_lt 0 a) (nat_eq b 0) p.0 in (below 0 a q.1, same b 0 q.2, same c 0 p.1)
 
 branch_counts : (a b c d : ℕ) → IsTrue (admits_of (Some Br) a b c d) → (b ≡ 0) × (c ≡ 1) × (d ≡ 0)
 branch_counts a b c d h = let p = parts (nat_eq b 0) (nat_eq c 1) (nat_eq d 0) h in (same b 0 p.0, same c 1 p.1, same d 0 p.2)
@@ -52,6 +61,8 @@ ends (Some Const) a b c d h lt = absurd (none_above c (constant_counts a b c d h
 ends (Some Ask) a b c d h lt = absurd (none_above c (ask_counts a b c d h).1 lt)
 ends (Some Scope) a b c d h lt = absurd (none_above c (scope_counts a b c d h).1 lt)
 ends (Some Br) a b c d h lt = refl
+ends (Some Both) a b c d h lt = absurd (none_above c (both_counts a b c d h).1 lt)
+ends (Some Twice) a b c d h lt = absurd (none_above c (twice_counts a b c d h).2 lt)
 
 length-fitted : (n : ℕ) (ds : List Datum) → length (fitted_or_empty n ds) ≡ n
 length-fitted zero ds = refl
@@ -70,12 +81,34 @@ scope_fits : (b begun : Bool) (s : Shape) (input : List Datum) → s.results ≡
 scope_fits b false s input e = λ n at. visit_fits s.entry_arguments input n at
 scope_fits b true s input e = sym e
 
+counted : (cs : List ℕ) (i n : ℕ) → slice_get cs i ≡ Some n → slice_index_or cs i 0 ≡ n
+counted [] i n e = grind arith
+counted (c ∷ cs) zero n e = same_Some c n e
+counted (c ∷ cs) (suc i) n e = counted cs i n e
+
+passed_fits : (cs : List ℕ) (i n : ℕ) (ds : List Datum) → slice_get cs i ≡ Some n → length (fitted_or_empty (slice_index_or cs i 0) ds) ≡ n
+passed_fits cs i n ds e = length-fitted (slice_index_or cs i 0) ds ∙ counted cs i n e
+
+both_fits : (b : Bool) (s : Shape) (memo : Datum) (input : List Datum) → s.results ≡ 0 → CountsFit b s (both_move memo s.entry_arguments input)
+both_fits b s Empty input e = λ n at. passed_fits s.entry_arguments 0 n _ at
+both_fits b s (Join kept z) input e = λ n at. passed_fits s.entry_arguments 1 n _ at
+both_fits b s (Number n) input e = sym e
+both_fits b s (Text w) input e = sym e
+
+twice_fits : (b : Bool) (s : Shape) (memo : Datum) (input : List Datum) → s.results ≡ 0 → CountsFit b s (twice_move memo s.entry_arguments input)
+twice_fits b s Empty input e = λ n at. passed_fits s.entry_arguments 0 n _ at
+twice_fits b s (Join kept z) input e = λ n at. passed_fits s.entry_arguments 0 n _ at
+twice_fits b s (Number n) input e = sym e
+twice_fits b s (Text w) input e = sym e
+
 fits : (k : Option TinyKind) (s : Shape) (memo : Datum) (input : List Datum) → IsTrue (admits_of k s.operands s.results s.successors (length s.entry_arguments)) → CountsFit (is_br k) s (tiny_act_of k s memo input)
 fits None s memo input h = tt
 fits (Some Const) s memo input h = sym (constant_counts _ _ _ _ h).1
 fits (Some Ask) s memo input h = ask_fits false (has_begun memo) s input (ask_counts s.operands s.results s.successors (length s.entry_arguments) h).0
 fits (Some Scope) s memo input h = scope_fits false (has_begun memo) s input (scope_counts s.operands s.results s.successors (length s.entry_arguments) h).0
 fits (Some Br) s memo input h = λ cs n e f g. grind arith
+fits (Some Both) s memo input h = both_fits false s memo input (both_counts s.operands s.results s.successors (length s.entry_arguments) h).0
+fits (Some Twice) s memo input h = twice_fits false s memo input (twice_counts s.operands s.results s.successors (length s.entry_arguments) h).1
 
 pub tiny_counts : KeepsCounts tiny
 unfolding tiny
@@ -90,6 +123,8 @@ gives (Some Const) s input e = tt
 gives (Some Ask) s input e = grind arith
 gives (Some Scope) s input e = grind arith
 gives (Some Br) s input e = grind arith
+gives (Some Both) s input e = grind arith
+gives (Some Twice) s input e = grind arith
 
 pub tiny_effects : GivesAtOnce tiny tiny_side_effects
 unfolding tiny tiny_side_effects
@@ -102,6 +137,8 @@ br_alone (Some Const) h = grind arith
 br_alone (Some Ask) h = grind arith
 br_alone (Some Scope) h = grind arith
 br_alone (Some Br) h = refl
+br_alone (Some Both) h = grind arith
+br_alone (Some Twice) h = grind arith
 
 no_length : (xs : List ℕ) → length xs ≡ 0 → xs ≡ []
 no_length [] e = refl
@@ -209,6 +246,8 @@ entry_kept (Some Const) e = grind arith
 entry_kept (Some Ask) e = grind arith
 entry_kept (Some Scope) e = grind arith
 entry_kept (Some Br) e = grind arith
+entry_kept (Some Both) e = grind arith
+entry_kept (Some Twice) e = grind arith
 
 pub tiny_arguments : ActsWithoutArgument tiny tiny_removable
 unfolding tiny_removable
@@ -229,6 +268,8 @@ constant_given (Some Const) s memo input ds c e = subst (Known (Some (first_attr
 constant_given (Some Ask) s memo input ds c e = grind arith
 constant_given (Some Scope) s memo input ds c e = grind arith
 constant_given (Some Br) s memo input ds c e = grind arith
+constant_given (Some Both) s memo input ds c e = grind arith
+constant_given (Some Twice) s memo input ds c e = grind arith
 
 one_result : (k : Option TinyKind) (a b c d : ℕ) → IsTrue (is_const k) → IsTrue (admits_of k a b c d) → 1 ≡ b
 one_result None a b c d f h = grind arith
@@ -236,6 +277,8 @@ one_result (Some Const) a b c d f h = sym (constant_counts a b c d h).1
 one_result (Some Ask) a b c d f h = grind arith
 one_result (Some Scope) a b c d f h = grind arith
 one_result (Some Br) a b c d f h = grind arith
+one_result (Some Both) a b c d f h = grind arith
+one_result (Some Twice) a b c d f h = grind arith
 
 pub tiny_answers : AnswersTrue tiny tiny_folds tiny_constants
 unfolding tiny tiny_folds tiny_constants

@@ -1,16 +1,27 @@
 //! A small lawful dialect, as a pattern: a constant, a question to the outside world, a scope whose
-//! region is visited once, and a branch that forwards its operands.
+//! region is visited once, a branch that forwards its operands, and two kinds that visit their regions
+//! with operands that they name.
 //!
 //! A constant has one attribute and gives its datum. A question has one operand, tells it to the
 //! outside world and gives the answer. A scope visits its region once with its operands, cut or filled
 //! to the arguments of the entry block, and gives nothing. A branch goes to its one successor with all
 //! its operands.
+//!
+//! A `Both` visits its first region with its operand 1 for the first argument of the entry block, then its
+//! second region with nothing of its operands, and gives nothing. A `Twice` visits its region with its
+//! operand 0 for that argument, then once more with the same, and gives nothing. What has no datum of its
+//! own to get is `Empty`.
+//!
+//! Both keep their stage in the memo: it is `Empty` at first, a `Join` between the two visits, and a number
+//! after them. The `Join` of a `Twice` has the datum of operand 0 as its first part, so each datum can be
+//! kept there, an `Empty` or a `Join` too.
 ghost use Rattle.std.specs.Prelude.{◌≡◌, Ok, ℕ, Some, IfOk, slice_get};
 ghost use Rattle.pliron_core.specs.Tree.{IsLive, IsBlock, block_parent_of, operands_of};
 ghost use Rattle.pliron_laws.specs.Answers.{ReadsHead, is_entry};
 ghost use Rattle.pliron_evaluator.specs.Tiny.{tiny_number_of, kind_of, is_br, is_const, first_attribute, tiny, tiny_side_effects, tiny_removable, tiny_folds};
-ghost use Rattle.pliron_evaluator.specs.Tiny.{tiny_constants, tiny_accepts, tiny_constant, tiny_folds_branch, tiny_feasible, tiny_outcome, has_tiny_kind, has_tiny_interface, tiny_shortened};
+ghost use Rattle.pliron_evaluator.specs.Tiny.{tiny_constants, tiny_accepts, tiny_constant, tiny_folds_branch, tiny_feasible, tiny_outcome, has_tiny_kind, has_tiny_interface, tiny_shortened, is_naming, first_entry_operand, tiny_entry_operands};
 ghost use Rattle.pliron_evaluator.specs.TinyLaws.{tiny_counts, tiny_effects, tiny_forwards, tiny_arguments, tiny_answers, tiny_jumps, tiny_in_place, tiny_makes};
+ghost use Rattle.pliron_evaluator.specs.TinyEntries.{tiny_names, tiny_roots};
 
 use pliron_core::{
     AttrObj, Attrs, BasicBlock, Context, Head, IRStatus, NoMemory, Operation, Ptr, Rewriter, Value,
@@ -18,7 +29,7 @@ use pliron_core::{
 use pliron_laws::reads::all_operands;
 use pliron_laws::{
     BlockArgRemoval, BranchOpFoldInterface, ConstFoldInterface, Dialect, HasMeaning, Interface,
-    OptError, Room, SideEffects,
+    OptError, RegionBranchOpInterface, Room, SideEffects,
 };
 use std::alloc::Global;
 
@@ -32,6 +43,10 @@ pub enum TinyKind {
     Ask,
     Scope,
     Br,
+    /// Two regions, any operands; names operand 1, where it is there, for the first argument of the first.
+    Both,
+    /// One region, at least one operand; names operand 0 for the first argument.
+    Twice,
 }
 
 impl TinyKind {
@@ -44,6 +59,8 @@ impl TinyKind {
             TinyKind::Ask => 1,
             TinyKind::Scope => 2,
             TinyKind::Br => 3,
+            TinyKind::Both => 4,
+            TinyKind::Twice => 5,
         }
     }
 
@@ -56,6 +73,8 @@ impl TinyKind {
             1 => Some(TinyKind::Ask),
             2 => Some(TinyKind::Scope),
             3 => Some(TinyKind::Br),
+            4 => Some(TinyKind::Both),
+            5 => Some(TinyKind::Twice),
             _ => None,
         }
     }
@@ -82,6 +101,13 @@ fn is_jump(kind: Option<TinyKind>) -> bool
     matches!(kind, Some(TinyKind::Br))
 }
 
+// Whether operations of the kind name operands for their regions.
+fn is_naming(kind: Option<TinyKind>) -> bool
+    ensures { result ≡ is_naming kind }
+{
+    matches!(kind, Some(TinyKind::Both | TinyKind::Twice))
+}
+
 // Whether the block is the entry of its region.
 fn begins_region(ctx: &Context, block: Ptr<BasicBlock>) -> bool
     requires { IsBlock ctx.now.tree block }
@@ -104,6 +130,17 @@ fn first_of_attrs(alloc: Global, attrs: &Attrs) -> Result<AttrObj, NoMemory>
         Ok(AttrObj::Int(0))
     } else {
         attrs.get(0).copy(alloc)
+    }
+}
+
+// The operand, of so many, that every visit passes for the first argument of the first region's entry.
+fn first_entry_operand(kind: Option<TinyKind>, operands: usize) -> Option<usize>
+    ensures { result ≡ first_entry_operand kind operands }
+{
+    match kind? {
+        TinyKind::Both if operands > 1 => Some(1),
+        TinyKind::Twice => Some(0),
+        _ => None,
     }
 }
 
@@ -135,6 +172,8 @@ impl SideEffects for Tiny {
             TinyKind::Ask => Some(true),
             TinyKind::Scope => Some(true),
             TinyKind::Br => None,
+            TinyKind::Both => Some(true),
+            TinyKind::Twice => Some(true),
         }
     }
 
@@ -155,7 +194,9 @@ impl BlockArgRemoval for Tiny {
         block: Ptr<BasicBlock>,
     ) -> Option<bool> {
         match kind_at(op, ctx)? {
-            TinyKind::Scope => Some(!begins_region(ctx, block)),
+            TinyKind::Scope | TinyKind::Both | TinyKind::Twice => {
+                Some(!begins_region(ctx, block))
+            }
             _ => None,
         }
     }
@@ -268,6 +309,32 @@ impl BranchOpFoldInterface for Tiny {
     }
 }
 
+impl RegionBranchOpInterface for Tiny {
+    ghost verdict = { λ t op r. r ≡ Ok tt };
+
+    ghost entry_operands = { tiny_entry_operands };
+
+    /// For the first argument of the first region: of a `Both` operand 1, where there is one, and of a
+    /// `Twice` operand 0. Cost: constant.
+    #[tactic(auto, using(crate::proofs::TinyLemmas::entry_named, crate::proofs::TinyLemmas::other_region, crate::proofs::TinyLemmas::other_argument))]
+    fn entry_operand(
+        op: Ptr<Operation>,
+        ctx: &Context,
+        region: usize,
+        arg: usize,
+    ) -> Option<usize> {
+        if region == 0 && arg == 0 {
+            first_entry_operand(kind_at(op, ctx), op.num_operand(ctx))
+        } else {
+            None
+        }
+    }
+
+    fn verify(_alloc: Global, _op: Ptr<Operation>, _ctx: &Context) -> Result<(), OptError> {
+        Ok(())
+    }
+}
+
 impl Dialect for Tiny {
     type Kind = TinyKind;
 
@@ -289,14 +356,20 @@ impl Dialect for Tiny {
             Interface::SideEffects => match kind {
                 Some(TinyKind::Const) => true,
                 Some(TinyKind::Ask) => true,
-                Some(TinyKind::Scope) => true,
+                Some(TinyKind::Scope | TinyKind::Both | TinyKind::Twice) => true,
                 _ => false,
             },
-            Interface::BlockArgRemoval => matches!(kind, Some(TinyKind::Scope)),
+            Interface::BlockArgRemoval => {
+                matches!(
+                    kind,
+                    Some(TinyKind::Scope | TinyKind::Both | TinyKind::Twice)
+                )
+            }
             Interface::ConstFold => is_constant(kind),
             Interface::BranchFold => false,
             Interface::Branch => is_jump(kind),
             Interface::Terminator => is_jump(kind),
+            Interface::RegionBranch => is_naming(kind),
         }
     }
 
@@ -315,6 +388,10 @@ impl Dialect for Tiny {
             }
             Some(TinyKind::Scope) => results == 0 && successors == 0 && regions == 1,
             Some(TinyKind::Br) => results == 0 && successors == 1 && regions == 0,
+            Some(TinyKind::Both) => results == 0 && successors == 0 && regions == 2,
+            Some(TinyKind::Twice) => {
+                operands > 0 && results == 0 && successors == 0 && regions == 1
+            }
             None => false,
         }
     }
@@ -325,8 +402,8 @@ impl Dialect for Tiny {
     }
 
     #[tactic(auto, unfolding(crate::specs::Tiny::tiny))]
-    fn may_be_root(_op: Ptr<Operation>, _ctx: &Context) -> bool {
-        true
+    fn may_be_root(op: Ptr<Operation>, ctx: &Context) -> bool {
+        !is_naming(kind_at(op, ctx))
     }
 
     #[tactic(auto, unfolding(crate::specs::Tiny::tiny))]
@@ -386,4 +463,8 @@ impl Dialect for Tiny {
     ghost folds_in_place = { tiny_in_place };
 
     ghost makes_constants = { tiny_makes };
+
+    ghost names_operands = { tiny_names };
+
+    ghost roots = { tiny_roots };
 }

@@ -125,7 +125,7 @@ admitted (suc (suc (suc (suc k)))) w h e = absurd (not_none e)
 
 any_root : HeadPasses tiny.may_be_root worked 0
 unfolding tiny
-any_root h e = refl
+any_root h e = subst (λ z. IsTrue (tiny.may_be_root z)) (some_is e) refl
 
 well_defined : WellDefined tiny worked 0
 well_defined = record {

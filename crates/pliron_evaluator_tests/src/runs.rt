@@ -2,7 +2,7 @@
 //! from the table of moves and the definition of a run.
 //!
 //! A case is a program, its inputs and the world's answers, and after ` => ` how the run ends, with which
-//! values, and with which effects, the latest first. Data are numbers and texts; `a:b` joins two.
+//! values, and with which effects, the latest first. Data are numbers and texts; `a:b` joins two, and `-` is `Empty`.
 use pliron_cases::cases::{number, read, sides};
 use pliron_cases::trees::build;
 use pliron_core::{AttrObj, Attrs, Context, Head, IRRewriter, Operation, Ptr, Rewriter, Text};
@@ -65,7 +65,16 @@ static TREES: &str =
 0 / scope; block 0; block 0 1; ask @0 v0 / 4 / 2 => trapped / /
 1 / scope; block 0; block 0 1; br @0 b1 / 4 / 2 => trapped / /
 0 / scope; block 0; block 0 1; br @0 b1 / 4 / 2 => trapped / /
-0 / scope / 4 / 2 => trapped / /";
+0 / scope / 4 / 2 => trapped / /
+0 / scope; block 0 2; both @0 v0 v1; block 1 2; block 1 1 1; ask @1 v2; ask @1 v3; ask @2 v4 / 4 5 / 1 2 3 => ended / / - - 5
+0 / scope; block 0 1; both @0 v0; block 1 1; block 1 2 1; ask @1 v1; ask @2 v3 / 4 / 1 2 => ended / / - -
+0 / both; block 0 1; block 0 0 1; ask @0 v0 / 4 5 / 1 => ended / / 5
+0 / both; block 0 1; ask @0 v0 / 4 5 / 1 => trapped / / 5
+0 / scope; block 0 1; twice @0 v0; block 1 2; ask @1 v1; ask @1 v2 / 4 / 1 2 3 4 => ended / / - 4 - 4
+0 / scope; block 0 1; twice @0 v0; block 1 1; ask @1 v1 / a:b / 1 2 => ended / / a:b a:b
+0 / scope; block 0 1; twice @0 v0; block 1 1; ask @1 v1 / - / 1 2 => ended / / - -
+0 / scope; block 0 1; twice @0 v0; block 1; ask @1 v0 / 4 / 1 => reached / / 4 4
+0 / twice / 4 / => trapped / /";
 
 /// Steps before the bound, and what is reached then of the loop: a visit, a constant, a jump, a question,
 /// its answer, a jump, a question.
@@ -79,6 +88,7 @@ static LOOP: &str =
 fn simple(rt: &impl Abort, alloc: Global, word: &str) -> Datum {
     match word.parse::<i128>() {
         Ok(number) => Datum::Number(number),
+        Err(_) if word == "-" => Datum::Empty,
         Err(_) => Datum::Text(Text::new(String::from_str(alloc, word).expect(rt, "memory"))),
     }
 }

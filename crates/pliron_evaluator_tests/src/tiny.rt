@@ -1,6 +1,6 @@
 //! What the tiny dialect answers, asked through the traits, and folding by constants that are put for
 //! results.
-use pliron_cases::answers::{effects, interfaces, removable};
+use pliron_cases::answers::{effects, interfaces, named, removable};
 use pliron_cases::cases::{number, sides};
 use pliron_cases::listener::Counting;
 use pliron_cases::losses::lose;
@@ -16,11 +16,24 @@ use std::process::Abort;
 /// fold as branches, and their interfaces.
 static HEADS: &str = "1 / scope; block 0; const 0 @0 => Some(false) true false SideEffects ConstFold
 0 / scope; block 0; block 0 1 => Some(true) false false SideEffects BlockArgRemoval
-2 / scope; block 0; block 0 1; const 1 @0; br @0 b1 v1 v1 => None false false Branch Terminator";
+2 / scope; block 0; block 0 1; const 1 @0; br @0 b1 v1 v1 => None false false Branch Terminator
+0 / both => Some(true) false false SideEffects BlockArgRemoval RegionBranch
+2 / scope; block 0; const 1 @0; twice @0 v0 => Some(true) false false SideEffects BlockArgRemoval RegionBranch";
 
-/// Blocks of a scope, and whether their arguments may be removed.
-static REMOVALS: &str = "0 => Some(false)
-1 => Some(true)";
+/// Operations of trees, blocks of them, and whether their arguments may be removed.
+static REMOVALS: &str = "0 / scope; block 0; block 0 1 / 0 => Some(false)
+0 / scope; block 0; block 0 1 / 1 => Some(true)
+0 / twice; block 0; block 0 1 / 0 => Some(false)
+0 / twice; block 0; block 0 1 / 1 => Some(true)";
+
+/// Operations of trees, regions of them and arguments there, and the operands that are named for these.
+static NAMED: &str = "1 / scope; block 0 2; both @0 v0 v1; block 1 2; block 1 1 1 / 0 0 => Some(1)
+1 / scope; block 0 2; both @0 v0 v1; block 1 2; block 1 1 1 / 0 1 => None
+1 / scope; block 0 2; both @0 v0 v1; block 1 2; block 1 1 1 / 1 0 => None
+1 / scope; block 0 2; both @0 v0; block 1 2; block 1 1 1 / 0 0 => None
+1 / scope; block 0 2; twice @0 v0 v1; block 1 2 / 0 0 => Some(0)
+1 / scope; block 0 2; twice @0 v0 v1; block 1 2 / 0 1 => None
+1 / scope; block 0 2; scope @0 v0 v1; block 1 2 / 0 0 => None";
 
 fn head(rt: &impl Abort, alloc: Global, ctx: &mut Context, case: &str) -> String {
     let op = build(alloc, ctx, case).expect(rt, "a tree");
@@ -39,13 +52,28 @@ fn heads_in(rt: &impl Abort, alloc: Global, ctx: &mut Context) {
         let (asked, want) = sides(case).expect(rt, "a case");
         assert_eq!(rt; head(rt, alloc, ctx, asked).as_str(), want, "{case}");
     }
-    let scope = build(alloc, ctx, "0 / scope; block 0; block 0 1").expect(rt, "a tree");
+}
+
+fn removals_in(rt: &impl Abort, alloc: Global, ctx: &mut Context) {
     for case in REMOVALS.lines() {
-        let (index, want) = sides(case).expect(rt, "a case");
-        let got = removable::<Tiny>(alloc, ctx, scope, number(index).expect(rt, "a number")).expect(
-            rt,
-            "an answer",
-        );
+        let (asked, want) = sides(case).expect(rt, "a case");
+        let (steps, index) = asked.rsplit_once(" / ").expect(rt, "a block");
+        let op = build(alloc, ctx, steps).expect(rt, "a tree");
+        let index = number(index).expect(rt, "a number");
+        let got = removable::<Tiny>(alloc, ctx, op, index).expect(rt, "an answer");
+        assert_eq!(rt; got.as_str(), want, "{case}");
+    }
+}
+
+fn named_in(rt: &impl Abort, alloc: Global, ctx: &mut Context) {
+    for case in NAMED.lines() {
+        let (asked, want) = sides(case).expect(rt, "a case");
+        let (steps, place) = asked.rsplit_once(" / ").expect(rt, "a place");
+        let (region, argument) = place.split_once(' ').expect(rt, "an argument");
+        let op = build(alloc, ctx, steps).expect(rt, "a tree");
+        let region = number(region).expect(rt, "a number");
+        let argument = number(argument).expect(rt, "a number");
+        let got = named::<Tiny>(alloc, ctx, op, region, argument).expect(rt, "an answer");
         assert_eq!(rt; got.as_str(), want, "{case}");
     }
 }
@@ -208,14 +236,18 @@ fn kinds_and_their_numbers(rt: HostRuntime) {
         TinyKind::Ask,
         TinyKind::Scope,
         TinyKind::Br,
+        TinyKind::Both,
+        TinyKind::Twice,
     ] {
         assert_eq!(rt; TinyKind::of(kind.number()), Some(*kind));
     }
-    assert!(rt; TinyKind::of(4).is_none());
+    assert!(rt; TinyKind::of(6).is_none());
 }
 
 fn all_in(rt: &impl Abort, alloc: Global, ctx: &mut Context) {
     heads_in(rt, alloc, ctx);
+    removals_in(rt, alloc, ctx);
+    named_in(rt, alloc, ctx);
     edges_in(rt, alloc, ctx);
     constant_in(rt, alloc, ctx);
     folding_in(rt, alloc, ctx);

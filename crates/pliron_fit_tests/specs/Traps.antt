@@ -4,7 +4,9 @@ use Rattle.pliron_core.specs.declared.attrs.AttrObj.{AttrObj}
 use Rattle.pliron_core.specs.declared.attrs.IRStatus.{IRStatus}
 use Rattle.pliron_core.specs.Tree.{Tree, IsLive, head_of}
 use Rattle.pliron_laws.specs.declared.dialect.Interface.{Interface}
+use Rattle.pliron_laws.specs.declared.dialect.Interface.TheVariants.{RegionBranch}
 use Rattle.pliron_laws.specs.Datum.{Head, Shape, Trap, Meaning}
+use Rattle.pliron_laws.specs.Entries.{NamesOperands, RootsNameNone, names_none, none_are_named}
 use Rattle.pliron_laws.specs.Answers.{HeadPasses}
 use Rattle.pliron_laws.specs.Laws.{KeepsCounts, GivesAtOnce, ForwardsOperands, ActsWithoutArgument}
 use Rattle.pliron_laws.specs.Folding.{AnswersTrue, AnswersJumps, MakesConstants}
@@ -23,8 +25,10 @@ always h = true
 abbrev pub no_kind : Head → ℕ → Bool
 no_kind h kind = nat_eq h.kind kind
 
-abbrev pub no_interface : Head → Interface → Bool
-no_interface h interface = false
+-- kind 9 implements the interface for operands that visits pass, and names none
+abbrev pub nine_interface : Head → Interface → Bool
+nine_interface h RegionBranch = nat_eq h.kind 9
+nine_interface h _ = false
 
 abbrev pub no_side_effects : Head → Option Bool
 no_side_effects h = None
@@ -73,7 +77,7 @@ unsaid e = cc
 pub traps_effects : GivesAtOnce traps no_side_effects
 traps_effects = λ s h e. absurd (unsaid e)
 
-pub traps_forwards : ForwardsOperands traps no_fold (PassSameTests traps no_fold no_fold no_kind no_interface) same_head
+pub traps_forwards : ForwardsOperands traps no_fold (PassSameTests traps no_fold no_fold no_kind nine_interface) same_head
 unfolding traps
 traps_forwards = record {
   alone = λ s h br. absurd (no br);
@@ -104,6 +108,13 @@ traps_in_place = record {
 
 pub traps_makes : MakesConstants traps no_attribute no_constant_head
 traps_makes = λ attr h. absurd (no h)
+
+pub traps_names : NamesOperands traps names_none (λ h. nine_interface h RegionBranch)
+traps_names = none_are_named traps (λ h. nine_interface h RegionBranch)
+
+pub traps_roots : RootsNameNone traps (λ h. nine_interface h RegionBranch)
+unfolding traps
+traps_roots = λ h. refl
 
 -- what stands is no branch, and does not fold
 pub no_branch : (t : Tree) (op : ℕ) → IsLive t op → HeadPasses never t op → ⊥

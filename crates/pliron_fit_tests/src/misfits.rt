@@ -35,7 +35,10 @@ static TREES: &str = "0 / scope; block 0; const 0 @0 => fit
 0 / scope; block 0; block 0 1; block 0; br @0 b2; br @1 b2; ask @2 v0 => the definition of operand 0 does not dominate operation 3
 0 / scope; block 0; block 0; const 0 @1; ask @1 v0 => fit
 0 / scope; block 0; block 0; const 0; ask @1 v0; on 1 @1 => fit
-0 / scope; block 0; block 0; br @0 b1; const 0; ask @1 v0; on 2 @1 => the definition of operand 0 does not dominate operation 3";
+0 / scope; block 0; block 0; br @0 b1; const 0; ask @1 v0; on 2 @1 => the definition of operand 0 does not dominate operation 3
+0 / scope; block 0; const 0 @0; twice @0 v0; block 2 1; both @1 v1 v1; block 3 1; block 3 0 1 => fit
+0 / scope; block 0; twice @0; block 1 => the dialect does not admit operation 1
+1 / scope; block 0; both @0; block 1; block 1 0 1 => runs may not begin at the operation";
 
 /// Trees of a dialect in which runs may not begin at kind 9, and what has successors may have results.
 static TRAPS: &str = "0 / kind 8 => fit
@@ -47,6 +50,8 @@ static TRAPS: &str = "0 / kind 8 => fit
 static TEXTS: &str = "root / func { b0(x): ret x } => fit
 root / mod { b0(): func { b0(): ret } } => region 0 has no dominance
 0 / mod { b0(): func { b0(): ret } } => fit
+0 / func { b0(): scope { c0(): ret }; ret } => runs may not begin at the operation
+root / func { b0(): scope { c0(): ret }; ret } => fit
 root / func { b0(): ret; a = const 1 } => terminator 1 is not the last of its block
 root / func { b0(x): cbr x b1() b2(); b1(): a = const 1; br b3(); b2(): br b3(); b3(): ret a } => the definition of operand 0 does not dominate operation 5
 root / func { b0(x): cbr x b1() b2(); b1(): br b3(); b2(): br b3(); b3(): ret x } => fit

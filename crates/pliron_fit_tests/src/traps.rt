@@ -1,13 +1,15 @@
 //! A lawful dialect of which little is known: each operation traps, ends its block, and may have whatever counts,
-//! results beside successors among them. Runs may not begin at kind 9.
+//! results beside successors among them. Kind 9 implements `RegionBranch` and names nothing, so runs may not begin
+//! there.
 ghost use Rattle.std.specs.Prelude.{◌≡◌, Ok};
-ghost use Rattle.pliron_fit_tests.specs.Traps.{traps, no_fold, no_kind, no_interface, no_side_effects, no_removal, no_constants, no_blocks, no_attribute, no_constant_head, no_outcome, same_head};
-ghost use Rattle.pliron_fit_tests.specs.Traps.{traps_counts, traps_effects, traps_forwards, traps_arguments, traps_answers, traps_jumps, traps_in_place, traps_makes};
+ghost use Rattle.pliron_laws.specs.Entries.{names_none};
+ghost use Rattle.pliron_fit_tests.specs.Traps.{traps, no_fold, no_kind, nine_interface, no_side_effects, no_removal, no_constants, no_blocks, no_attribute, no_constant_head, no_outcome, same_head};
+ghost use Rattle.pliron_fit_tests.specs.Traps.{traps_counts, traps_effects, traps_forwards, traps_arguments, traps_answers, traps_jumps, traps_in_place, traps_makes, traps_names, traps_roots};
 
 use pliron_core::{AttrObj, BasicBlock, Context, IRStatus, Operation, Ptr, Rewriter, Value};
 use pliron_laws::{
     BlockArgRemoval, BranchOpFoldInterface, ConstFoldInterface, Dialect, HasMeaning, Interface,
-    OptError, Room, SideEffects,
+    OptError, RegionBranchOpInterface, Room, SideEffects,
 };
 use std::alloc::Global;
 
@@ -139,12 +141,31 @@ impl BranchOpFoldInterface for Traps {
     }
 }
 
+impl RegionBranchOpInterface for Traps {
+    ghost verdict = { λ t op r. r ≡ Ok tt };
+
+    ghost entry_operands = { names_none };
+
+    fn entry_operand(
+        _op: Ptr<Operation>,
+        _ctx: &Context,
+        _region: usize,
+        _arg: usize,
+    ) -> Option<usize> {
+        None
+    }
+
+    fn verify(_alloc: Global, _op: Ptr<Operation>, _ctx: &Context) -> Result<(), OptError> {
+        Ok(())
+    }
+}
+
 impl Dialect for Traps {
     type Kind = u32;
 
     ghost is_of_kind = { no_kind };
 
-    ghost has_interface = { no_interface };
+    ghost has_interface = { nine_interface };
 
     ghost shortened = { same_head };
 
@@ -152,8 +173,11 @@ impl Dialect for Traps {
         op.head(ctx).kind == kind
     }
 
-    fn implements(_op: Ptr<Operation>, _ctx: &Context, _interface: Interface) -> bool {
-        false
+    fn implements(op: Ptr<Operation>, ctx: &Context, interface: Interface) -> bool {
+        match interface {
+            Interface::RegionBranch => op.head(ctx).kind == 9,
+            _ => false,
+        }
     }
 
     #[tactic(auto, unfolding(crate::specs::Traps::traps))]
@@ -211,4 +235,8 @@ impl Dialect for Traps {
     ghost folds_in_place = { traps_in_place };
 
     ghost makes_constants = { traps_makes };
+
+    ghost names_operands = { traps_names };
+
+    ghost roots = { traps_roots };
 }

@@ -16,6 +16,8 @@ pub mod TakingLemmas
 pub mod PartLemmas
 pub mod ReverseLemmas
 pub mod PreSentinelLemmas
+pub mod OwnerLemmas
+pub mod SinkLemmas
 pub mod ReverseLawLemmas
 pub mod AncestorLemmas
 pub mod PrecedesLemmas

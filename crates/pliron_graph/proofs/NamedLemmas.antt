@@ -27,7 +27,7 @@ item_within [] i l = absurd (omega (arith, l))
 item_within (x ∷ xs) zero l = (x, refl)
 item_within (x ∷ xs) (suc i) l = item_within xs i (omega (arith, l))
 
-item_of_map : {X Y : Type 0} (f : X → Y) (xs : List X) (i : ℕ) (y : Y) → slice_get (map f xs) i ≡ Some y → (x : X) × (slice_get xs i ≡ Some x) × (f x ≡ y)
+pub item_of_map : {X Y : Type 0} (f : X → Y) (xs : List X) (i : ℕ) (y : Y) → slice_get (map f xs) i ≡ Some y → (x : X) × (slice_get xs i ≡ Some x) × (f x ≡ y)
 item_of_map f [] i y e = absurd (cc e)
 item_of_map f (x ∷ xs) zero y e = let here : f x ≡ y = cc e in (x, refl, here)
 item_of_map f (x ∷ xs) (suc i) y e = item_of_map f xs i y e

@@ -52,8 +52,8 @@ pub fn sccs_in_topological_order<C, G: ControlFlowGraph<C>>(
     named(alloc, &nodes, found)
 }
 
-// The components, by sets of this kind.
-fn find_components<C, G: ControlFlowGraph<C>, S: ListedSet<G::Node>>(
+/// The components, by sets of this kind. Errors and cost: as [`sccs_in_topological_order`].
+pub(crate) fn find_components<C, G: ControlFlowGraph<C>, S: ListedSet<G::Node>>(
     alloc: Global,
     ctx: &C,
     graph: &G,

@@ -22,6 +22,7 @@
 mod ancestors;
 mod components;
 pub mod laws;
+mod owners;
 mod pre_sentinels;
 mod reverse_graph;
 mod reverse_node;

@@ -1,93 +1,159 @@
 //! The nodes that the sentinel of a reverse graph stands in front of.
 ghost use Rattle.std.specs.Prelude.{◌≡◌, ◌↔◌, ◌<◌, ◌≤◌, IsTrue, Some, Contains, IfOk, IsOkUnless, length};
 ghost use Rattle.std.specs.List.{All, IsDistinct};
-ghost use Rattle.pliron_search.specs.Search.{IsListed, number_in};
-ghost use Rattle.pliron_graph.specs.Reverse.{ArePreSentinels, IsLastListed, IsSink};
+ghost use Rattle.pliron_search.specs.Search.{number_in};
+ghost use Rattle.pliron_graph.specs.Components.{AreComponents};
+ghost use Rattle.pliron_graph.specs.Reverse.{ArePreSentinels, AreLastOfSinks, IsLastListed, IsSink};
+ghost use Rattle.pliron_graph.specs.Internal.Owners.{owner_in, AreOwners};
+ghost use Rattle.pliron_graph.specs.Internal.Sinks.{AreFoundSinks};
 
-use crate::sccs_in_topological_order;
+use crate::Scc;
+use crate::components::find_components;
+use crate::owners::{find_owners, owner_of};
 use indexmap::IndexSet;
 use pliron_laws::OptError;
-use pliron_search::ControlFlowGraph;
-use pliron_search::traversal::numbered;
+use pliron_search::traversal::{named, numbered};
+use pliron_search::{AdjacencyList, ControlFlowGraph, ListedSet, NumberSet};
 use std::alloc::Global;
-use std::hash::Hash;
 
 /// The last listed node of each component without an edge to another one, in the order of the components.
 ///
-/// Errors: want of memory. Cost: that of the components, and some table look-ups for each node and each edge.
+/// Errors: want of memory. Cost: that of the components, a few reads for each node and each edge of a graph that has
+/// numbers, as many look-ups in a hashed table of any other, and one more for each node that is found.
 pub(crate) fn find_pre_sentinels<C, G: ControlFlowGraph<C>>(
     alloc: Global,
     ctx: &C,
     graph: &G,
-    nodes: &IndexSet<G::Node>,
 ) -> Result<IndexSet<G::Node>, OptError>
-    requires lawful { G.is_lawful graph.now ctx.now }
-    requires listed { nodes.now.keys ≡ (G.graph graph.now ctx.now).nodes }
+    requires { G.is_lawful graph.now ctx.now }
     ensures found { IfOk result (λ r. ArePreSentinels G.Node.eq (G.graph graph.now ctx.now) r.keys) }
     ensures memory { IsOkUnless result OptError.Memory }
 {
-    let components = sccs_in_topological_order(alloc, ctx, graph)?;
-    let mut found = IndexSet::new(alloc);
-    for component in &components {
-        let Some(node) = pre_sentinel_of(alloc, ctx, graph, nodes, &component.nodes)? else {
+    let Some(lists) = graph.by_number(ctx) else {
+        let sinks = last_of_sinks::<C, G, IndexSet<G::Node>>(alloc, ctx, graph)?;
+        return numbered(alloc, &sinks);
+    };
+    let nodes = graph.nodes(alloc, ctx)?;
+    let last = last_of_sinks::<(), AdjacencyList, NumberSet>(alloc, &(), lists)?;
+    let found = named(alloc, &nodes, &last)?;
+    numbered(alloc, &found)
+}
+
+// The same nodes, by sets of this kind.
+fn last_of_sinks<C, G: ControlFlowGraph<C>, S: ListedSet<G::Node>>(
+    alloc: Global,
+    ctx: &C,
+    graph: &G,
+) -> Result<Vec<G::Node>, OptError>
+    requires { G.is_lawful graph.now ctx.now }
+    ensures found { IfOk result (λ r. AreFoundSinks G.Node.eq (G.graph graph.now ctx.now) r.items) }
+    ensures memory { IsOkUnless result OptError.Memory }
+{
+    let components = find_components::<C, G, S>(alloc, ctx, graph)?;
+    let nodes = graph.nodes(alloc, ctx)?;
+    let places = listed_set::<G::Node, S>(alloc, &nodes)?;
+    let owners = find_owners(alloc, &places, &components)?;
+    last_of_each(alloc, ctx, graph, &places, &owners, &components)
+}
+
+// The last listed node of each of the components that is a sink.
+fn last_of_each<C, G: ControlFlowGraph<C>, S: ListedSet<G::Node>>(
+    alloc: Global,
+    ctx: &C,
+    graph: &G,
+    places: &S,
+    owners: &[usize],
+    components: &[Scc<G::Node>],
+) -> Result<Vec<G::Node>, OptError>
+    requires lawful { G.is_lawful graph.now ctx.now }
+    requires places { S.listed places.now ≡ (G.graph graph.now ctx.now).nodes }
+    requires owners { AreOwners G.Node.eq (S.listed places.now) components.now owners.now }
+    requires components { AreComponents G.Node.eq (G.graph graph.now ctx.now) components.now }
+    ensures last { IfOk result (λ r. AreLastOfSinks G.Node.eq (G.graph graph.now ctx.now) components.now r.items) }
+    ensures memory { IsOkUnless result OptError.Memory }
+{
+    let mut found = Vec::new(alloc);
+    for i in 0..components.len() {
+        let Some(node) = last_of_sink(ctx, graph, places, owners, i, &components[i].nodes) else {
             continue;
         };
-        found.insert(node)?;
+        found.push(node)?;
     }
     Ok(found)
 }
 
-// The last listed of the nodes of a component, if it has no edge to another one.
-fn pre_sentinel_of<C, G: ControlFlowGraph<C>>(
-    alloc: Global,
+// The last listed of the nodes of a component, which have this owner, if it has no edge to another one.
+fn last_of_sink<C, G: ControlFlowGraph<C>, S: ListedSet<G::Node>>(
     ctx: &C,
     graph: &G,
-    nodes: &IndexSet<G::Node>,
-    component: &[G::Node],
-) -> Result<Option<G::Node>, OptError>
+    places: &S,
+    owners: &[usize],
+    owner: usize,
+    members: &[G::Node],
+) -> Option<G::Node>
     requires lawful { G.is_lawful graph.now ctx.now }
-    requires listed { nodes.now.keys ≡ (G.graph graph.now ctx.now).nodes }
-    requires not_empty { 0 < length component.now }
-    requires distinct { IsDistinct G.Node.eq component.now }
-    requires nodes { All (λ v. Contains (G.graph graph.now ctx.now).nodes v) component.now }
-    ensures last { IfOk result (λ r. (v : G.Node) → ((r ≡ Some v) ↔ (IsSink (G.graph graph.now ctx.now) component.now ×
-        IsLastListed G.Node.eq (G.graph graph.now ctx.now) component.now v))) }
-    ensures memory { IsOkUnless result OptError.Memory }
+    requires places { S.listed places.now ≡ (G.graph graph.now ctx.now).nodes }
+    requires owned { (v : G.Node) → Contains (G.graph graph.now ctx.now).nodes v → ((owner_in G.Node.eq (S.listed places.now) owners.now v ≡ owner) ↔ Contains members.now v) }
+    requires not_empty { 0 < length members.now }
+    requires nodes { All (λ v. Contains (G.graph graph.now ctx.now).nodes v) members.now }
+    ensures { (v : G.Node) → ((result ≡ Some v) ↔ (IsSink (G.graph graph.now ctx.now) members.now ×
+        IsLastListed G.Node.eq (G.graph graph.now ctx.now) members.now v)) }
 {
-    let members = numbered(alloc, component)?;
-    if !is_sink(ctx, graph, &members) {
-        return Ok(None);
+    if !is_sink(ctx, graph, places, owners, owner, members) {
+        return None;
     }
-    Ok(Some(last_listed(nodes, component)))
+    Some(last_listed(places, members))
 }
 
-// Whether each successor of these nodes is one of them.
-fn is_sink<C, G: ControlFlowGraph<C>>(ctx: &C, graph: &G, members: &IndexSet<G::Node>) -> bool
-    requires lawful { G.is_lawful graph.now ctx.now }
-    requires nodes { All (λ v. Contains (G.graph graph.now ctx.now).nodes v) members.now.keys }
-    ensures { IsTrue result ↔ IsSink (G.graph graph.now ctx.now) members.now.keys }
+// The nodes as a set.
+fn listed_set<N: Eq + Copy, S: ListedSet<N>>(alloc: Global, nodes: &[N]) -> Result<S, OptError>
+    requires { IsDistinct N.eq nodes.now }
+    ensures listed { IfOk result (λ s. S.listed s ≡ nodes.now) }
+    ensures memory { IsOkUnless result OptError.Memory }
 {
-    for node in members.as_slice() {
-        if !stays_inside(ctx, graph, node, members) {
+    let mut set = S::empty(alloc);
+    for node in nodes {
+        set.insert(*node)?;
+    }
+    Ok(set)
+}
+
+// Whether each successor of these nodes has this owner.
+fn is_sink<C, G: ControlFlowGraph<C>, S: ListedSet<G::Node>>(
+    ctx: &C,
+    graph: &G,
+    places: &S,
+    owners: &[usize],
+    owner: usize,
+    members: &[G::Node],
+) -> bool
+    requires lawful { G.is_lawful graph.now ctx.now }
+    requires nodes { All (λ v. Contains (G.graph graph.now ctx.now).nodes v) members.now }
+    ensures { IsTrue result ↔ All (λ u. All (λ v. owner_in G.Node.eq (S.listed places.now) owners.now v ≡ owner) ((G.graph graph.now ctx.now).succ u)) members.now }
+{
+    for node in members {
+        if !stays_inside(ctx, graph, places, owners, owner, node) {
             return false;
         }
     }
     true
 }
 
-// Whether each successor of a node is one of these nodes.
-fn stays_inside<C, G: ControlFlowGraph<C>>(
+// Whether each successor of a node has this owner.
+fn stays_inside<C, G: ControlFlowGraph<C>, S: ListedSet<G::Node>>(
     ctx: &C,
     graph: &G,
+    places: &S,
+    owners: &[usize],
+    owner: usize,
     node: &G::Node,
-    members: &IndexSet<G::Node>,
 ) -> bool
     requires lawful { G.is_lawful graph.now ctx.now }
     requires member { Contains (G.graph graph.now ctx.now).nodes node.now }
-    ensures { IsTrue result ↔ All (λ v. Contains members.now.keys v) ((G.graph graph.now ctx.now).succ node.now) }
+    ensures { IsTrue result ↔ All (λ v. owner_in G.Node.eq (S.listed places.now) owners.now v ≡ owner) ((G.graph graph.now ctx.now).succ node.now) }
 {
     for i in 0..graph.num_successors(ctx, node) {
-        if !members.contains(&graph.get_successor(ctx, node, i)) {
+        if owner_of(places, owners, &graph.get_successor(ctx, node, i)) != owner {
             return false;
         }
     }
@@ -95,26 +161,17 @@ fn stays_inside<C, G: ControlFlowGraph<C>>(
 }
 
 // That of the members which stands last among the nodes.
-fn last_listed<N: Eq + Hash + Copy>(nodes: &IndexSet<N>, members: &[N]) -> N
+fn last_listed<N: Eq + Copy, S: ListedSet<N>>(places: &S, members: &[N]) -> N
     requires not_empty { 0 < length members.now }
-    requires listed { All (IsListed N.eq nodes.now.keys) members.now }
     ensures among { Contains members.now result }
-    ensures last { All (λ v. number_in N.eq nodes.now.keys v ≤ number_in N.eq nodes.now.keys result) members.now }
+    ensures last { All (λ v. number_in N.eq (S.listed places.now) v ≤ number_in N.eq (S.listed places.now) result) members.now }
 {
     let mut last = members[0];
     for node in members {
-        if place_of(nodes, node) <= place_of(nodes, &last) {
+        if places.place_of(node) <= places.place_of(&last) {
             continue;
         }
         last = *node;
     }
     last
-}
-
-// The place of a node among the nodes.
-fn place_of<N: Eq + Hash + Copy>(nodes: &IndexSet<N>, node: &N) -> usize
-    requires { IsListed N.eq nodes.now.keys node.now }
-    ensures { result ≡ number_in N.eq nodes.now.keys node.now }
-{
-    nodes.get_index_of(node).unwrap()
 }

@@ -44,7 +44,8 @@ impl<'a, G: ControlFlowGraph<C>, C> ReverseGraph<'a, G, C> {
     /// The reverse of the graph.
     ///
     /// Asks that the graph may be read in the context. Errors: want of memory. Cost: that of the components,
-    /// and some table look-ups for each node and each edge.
+    /// two look-ups in a hashed table for each node, and a few reads for each node and each edge of a graph
+    /// that has numbers, as many more look-ups of any other.
     pub fn new(alloc: Global, ctx: &C, graph: &'a G) -> Result<Self, OptError>
         requires { G.is_lawful graph.now ctx.now }
         ensures lawful { IfOk result (λ r. ⟦<ReverseGraph<'a, G, C> as ControlFlowGraph<C>>⟧.is_lawful r ctx.now) }
@@ -54,7 +55,7 @@ impl<'a, G: ControlFlowGraph<C>, C> ReverseGraph<'a, G, C> {
     {
         let listed = graph.nodes(alloc, ctx)?;
         let nodes = numbered(alloc, &listed)?;
-        let pre_sentinels = find_pre_sentinels(alloc, ctx, graph, &nodes)?;
+        let pre_sentinels = find_pre_sentinels(alloc, ctx, graph)?;
         let predecessors = predecessor_lists(alloc, ctx, graph, &listed, &pre_sentinels)?;
         Ok(ReverseGraph {
             original: graph,

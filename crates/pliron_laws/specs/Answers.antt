@@ -2,7 +2,7 @@
 use Rattle.std.specs.Prelude.{◌≡◌, ◌<◌, ℕ, Bool, nat_eq, false, List, Option, Some, None, slice_get, slice_set, length, map, IsTrue}
 use Rattle.std.specs.Option.{option_map}
 use Rattle.pliron_core.specs.declared.attrs.AttrObj.{AttrObj}
-use Rattle.pliron_core.specs.Tree.{Tree, head_of, row_of, operands_of, results_of, successors_of, regions_of, block_parent_of, slot_of, layout_of, first_of}
+use Rattle.pliron_core.specs.Tree.{Tree, head_of, row_of, operands_of, results_of, successors_of, regions_of, arguments_of, block_parent_of, slot_of, layout_of, first_of}
 use Rattle.pliron_core.specs.Writes.{operand_removed, created}
 use Rattle.pliron_laws.specs.Datum.{Head, Shape, Meaning}
 use Rattle.pliron_laws.specs.Tree.{Operation, op_at, shape_of}
@@ -37,6 +37,14 @@ is_entry t region block = is_first block (first_of (layout_of t region) None)
 -- whether the block is the entry of that region
 abbrev pub ReadsPlace : {A : Type 0} → (Head → ℕ → Bool → A) → Tree → (op block : ℕ) → A → Type 0
 ReadsPlace f t op block a = (h : Head) (r i : ℕ) → head_of t op ≡ Some h → block_parent_of t block ≡ Some r → slot_of t r ≡ Some (record { op = op; index = i }) → a ≡ f h i (is_entry t r block)
+
+-- the operation has a region with this index, whose entry has an argument with that one
+pub record HasEntryArgument (t : Tree) (op region argument : ℕ) : Type 0 where
+  pub key : ℕ
+  pub entry : ℕ
+  pub in_place : slice_get (regions_of t op) region ≡ Some key
+  pub first : first_of (layout_of t key) None ≡ Some entry
+  pub there : argument < length (arguments_of t entry)
 
 -- whether there is a head and it passes the test
 abbrev pub has_passing_head : (Head → Bool) → Option Head → Bool

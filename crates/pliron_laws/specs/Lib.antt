@@ -8,6 +8,7 @@ pub mod Root
 pub mod Linked
 pub mod Acting
 pub mod Laws
+pub mod Entries
 pub mod Folding
 pub mod Outcomes
 pub mod StandIns

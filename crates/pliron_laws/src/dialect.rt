@@ -26,8 +26,10 @@ ghost use Rattle.pliron_laws.specs.Folding.{Constants, Feasible, AnswersTrue, An
 ghost use Rattle.pliron_laws.specs.Laws.{KeepsCounts, GivesAtOnce, ForwardsOperands, ActsWithoutArgument};
 ghost use Rattle.pliron_laws.specs.StandIns.{AreStanding, IsRestored, IsStoodIn};
 ghost use Rattle.pliron_laws.specs.InPlace.{Outcome, FoldsInPlace, PassSameTests, materialising};
-ghost use Rattle.pliron_laws.specs.Answers.{ReadsHead, ReadsCounts, ReadsShape, ReadsEdges, ReadsPlace, HeadPasses, AreForwarded, IsForwardedAt, IsForwardedOnce, HasPlace, LosesForwarded, IsMaterialised};
+ghost use Rattle.pliron_laws.specs.Answers.{ReadsHead, ReadsCounts, ReadsShape, ReadsEdges, ReadsPlace, HasEntryArgument, HeadPasses, AreForwarded, IsForwardedAt, IsForwardedOnce, HasPlace, LosesForwarded, IsMaterialised};
+ghost use Rattle.pliron_laws.specs.Entries.{EntryOperands, NamesOperands, RootsNameNone};
 ghost use Rattle.pliron_laws.specs.declared.dialect.Interface.{Interface as InterfaceName};
+ghost use Rattle.pliron_laws.specs.declared.dialect.Interface.TheVariants.{RegionBranch};
 
 use crate::fault::OptError;
 use crate::room::Room;
@@ -44,6 +46,7 @@ pub enum Interface {
     BranchFold,
     Branch,
     Terminator,
+    RegionBranch,
 }
 
 /// What the operations of a dialect mean. Contracts alone speak of it.
@@ -326,8 +329,38 @@ pub trait BranchOpFoldInterface: HasMeaning {
         ensures { verdict ctx.now.tree op result };
 }
 
+/// Operations that name, for arguments of the entries of their regions, the operands that every visit passes
+/// there, as structured loops and branches do.
+pub trait RegionBranchOpInterface: HasMeaning {
+    // the operand for a region's index and an argument's, where one is named
+    ghost entry_operands: { EntryOperands };
+
+    /// The operand, by its index, that every visit of the region passes as this argument of its entry; `None`
+    /// says nothing. Reads the counts and the head of the operation, and the two indices. Takes no memory.
+    ///
+    /// Asks that the operation stands (`is_live` tests it) and has the region, and that the region's entry has
+    /// the argument.
+    fn entry_operand(op: Ptr<Operation>, ctx: &Context, region: usize, arg: usize) -> Option<usize>
+        requires live { IsLive ctx.now.tree op }
+        requires argument { HasEntryArgument ctx.now.tree op region arg }
+        ensures { ReadsShape Self.meaning (λ s. entry_operands s region arg) ctx.now.tree op result };
+
+    // what the check may answer for an operation
+    ghost verdict: { Tree → ℕ → ResultOf (Unit {0}) FaultName → Type 0 };
+
+    /// Looks for a fault in the operation. Asks that the operation stands (`is_live` tests it). Errors: the
+    /// first fault that the dialect finds, or want of memory.
+    fn verify(alloc: Global, op: Ptr<Operation>, ctx: &Context) -> Result<(), OptError>
+        requires { IsLive ctx.now.tree op }
+        ensures { verdict ctx.now.tree op result };
+}
+
 /// A dialect: its operations, what each means, and the laws that passes rest on.
-pub trait Dialect: SideEffects + BlockArgRemoval + ConstFoldInterface + BranchOpFoldInterface {
+pub trait Dialect: SideEffects
+    + BlockArgRemoval
+    + ConstFoldInterface
+    + BranchOpFoldInterface
+    + RegionBranchOpInterface {
     /// What tells its operations apart.
     type Kind: Copy + Eq;
 
@@ -363,8 +396,9 @@ pub trait Dialect: SideEffects + BlockArgRemoval + ConstFoldInterface + BranchOp
         requires { IsLive ctx.now.tree op }
         ensures { ReadsHead Self.meaning.is_terminator ctx.now.tree op result };
 
-    /// Whether runs may begin at the operation: for such roots alone runs are promised. Reads the head
-    /// alone. Asks that the operation stands (`is_live` tests it).
+    /// Whether runs may begin at the operation: for such roots alone runs are promised. So it is of each that
+    /// does not implement `RegionBranch`: the regions of one that does may be rewritten by what its place
+    /// passes, and run by itself it may be handed anything. Reads the head alone. Asks that the operation stands (`is_live` tests it).
     fn may_be_root(op: Ptr<Operation>, ctx: &Context) -> bool
         requires { IsLive ctx.now.tree op }
         ensures { ReadsHead Self.meaning.may_be_root ctx.now.tree op result };
@@ -460,4 +494,10 @@ pub trait Dialect: SideEffects + BlockArgRemoval + ConstFoldInterface + BranchOp
 
     // What is made for an attribute is a constant that gives its datum.
     ghost makes_constants: { MakesConstants Self.meaning Self.accepts Self.constant_head };
+
+    // Each visit of a region passes the operands that are named for the arguments of its entry.
+    ghost names_operands: { NamesOperands Self.meaning Self.entry_operands (λ h. has_interface h RegionBranch) };
+
+    // Runs may begin at each operation that names no operands, and at no other.
+    ghost roots: { RootsNameNone Self.meaning (λ h. has_interface h RegionBranch) };
 }

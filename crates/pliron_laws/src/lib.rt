@@ -16,7 +16,7 @@ mod stand_ins;
 
 pub use dialect::{
     BlockArgRemoval, BranchOpFoldInterface, ConstFoldInterface, Dialect, HasMeaning, Interface,
-    SideEffects,
+    RegionBranchOpInterface, SideEffects,
 };
 pub use edges::edges_last;
 pub use fault::OptError;

@@ -12,6 +12,6 @@ pub mod bench;
 pub use pliron_evaluator::{Tiny, TinyKind, evaluator};
 pub use pliron_laws::{
     BlockArgRemoval, BranchOpFoldInterface, ConstFoldInterface, Dialect, HasMeaning, Interface,
-    OptError, Room, SideEffects, edges_last,
+    OptError, RegionBranchOpInterface, Room, SideEffects, edges_last,
 };
 pub use pliron_theory::{lose_forwarded, rewrites, theory};

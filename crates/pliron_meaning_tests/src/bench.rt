@@ -37,7 +37,7 @@ mod { b0(): mod { } } =>
 mod { b0(): func { b0(): } } => BlockArgRemoval
 func { b0(): a = const 1 } => SideEffects ConstFold
 func { b0(): a = read } => SideEffects
-func { b0(): scope { b0(): } } => SideEffects BlockArgRemoval
+func { b0(): scope { b0(): } } => SideEffects BlockArgRemoval RegionBranch
 func { b0(): box { } } => SideEffects BlockArgRemoval";
 
 /// Three operations with two blocks each.

@@ -17,7 +17,7 @@ use pliron_meaning::theory::{
 };
 use pliron_meaning::{
     BlockArgRemoval, BranchOpFoldInterface, ConstFoldInterface, Dialect, HasMeaning, Interface,
-    OptError, Room, SideEffects, Tiny, TinyKind, edges_last,
+    OptError, RegionBranchOpInterface, Room, SideEffects, Tiny, TinyKind, edges_last,
 };
 use std::alloc::Global;
 use std::process::Abort;
@@ -26,7 +26,7 @@ use std::process::Abort;
 fn is_dialect<D>()
 where
     D: HasMeaning + SideEffects + BlockArgRemoval + ConstFoldInterface + BranchOpFoldInterface,
-    D: Dialect + Evaluate,
+    D: RegionBranchOpInterface + Dialect + Evaluate,
 {}
 
 fn has_room<R: Room>() {}

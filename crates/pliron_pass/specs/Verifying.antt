@@ -4,26 +4,27 @@ use Rattle.pliron_core.specs.Tree.{Tree, In, head_of}
 use Rattle.pliron_core.specs.Walks.{preorder}
 use Rattle.pliron_laws.specs.Datum.{Head}
 use Rattle.pliron_laws.specs.declared.dialect.Interface.{Interface}
-use Rattle.pliron_laws.specs.declared.dialect.Interface.TheVariants.{SideEffects, BlockArgRemoval, ConstFold, BranchFold, Branch, Terminator}
+use Rattle.pliron_laws.specs.declared.dialect.Interface.TheVariants.{SideEffects, BlockArgRemoval, ConstFold, BranchFold, Branch, Terminator, RegionBranch}
 use Rattle.pliron_laws.specs.declared.fault.OptError.{OptError}
 use Rattle.pliron_laws.specs.declared.fault.OptError.TheVariants.{Memory}
 
 -- the interfaces whose checks are called, in their order
 abbrev pub verified_interfaces : List Interface
-verified_interfaces = SideEffects ∷ BlockArgRemoval ∷ ConstFold ∷ BranchFold ∷ []
+verified_interfaces = SideEffects ∷ BlockArgRemoval ∷ ConstFold ∷ BranchFold ∷ RegionBranch ∷ []
 
 -- what the dialect's check of an interface may answer for an operation
 abbrev pub Verdict : Type 1
 Verdict = Interface → Tree → ℕ → Result (Unit {0}) OptError → Type 0
 
--- what the checks of a dialect may answer, by interface; the last two have none
-abbrev pub verdict_by : (a b c d : Tree → ℕ → Result (Unit {0}) OptError → Type 0) → Verdict
-verdict_by a b c d SideEffects = a
-verdict_by a b c d BlockArgRemoval = b
-verdict_by a b c d ConstFold = c
-verdict_by a b c d BranchFold = d
-verdict_by a b c d Branch = λ t op r. r ≡ Ok tt
-verdict_by a b c d Terminator = λ t op r. r ≡ Ok tt
+-- what the checks of a dialect may answer, by interface; those of branches and terminators have none
+abbrev pub verdict_by : (a b c d e : Tree → ℕ → Result (Unit {0}) OptError → Type 0) → Verdict
+verdict_by a b c d e SideEffects = a
+verdict_by a b c d e BlockArgRemoval = b
+verdict_by a b c d e ConstFold = c
+verdict_by a b c d e BranchFold = d
+verdict_by a b c d e Branch = λ t op r. r ≡ Ok tt
+verdict_by a b c d e Terminator = λ t op r. r ≡ Ok tt
+verdict_by a b c d e RegionBranch = e
 
 module _ (has : Head → Interface → Bool) (verdict : Verdict) (t : Tree) where
   -- the operation passes the check of the interface, which is not called where it lacks the interface

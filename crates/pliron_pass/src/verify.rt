@@ -7,13 +7,13 @@ ghost use Rattle.pliron_pass.specs.Verifying.{Verdict, PassesOne, FailsOne, Pass
 use pliron_core::{Context, Operation, Ptr};
 use pliron_laws::{
     BlockArgRemoval, BranchOpFoldInterface, ConstFoldInterface, Dialect, Interface, OptError,
-    SideEffects,
+    RegionBranchOpInterface, SideEffects,
 };
 use std::alloc::Global;
 
 /// What verifying operations of a dialect may answer. Each dialect has it; contracts alone speak of it.
 pub trait Verified {
-    // what the check of an interface may answer for an operation; the last two have none
+    // what the check of an interface may answer for an operation; those of branches and terminators have none
     ghost verdict: { Verdict };
 
     // what verifying an operation and all inside it answers
@@ -21,13 +21,14 @@ pub trait Verified {
 }
 
 impl<D: Dialect> Verified for D {
-    ghost verdict = { verdict_by D.SideEffects.verdict D.BlockArgRemoval.verdict D.ConstFoldInterface.verdict D.BranchOpFoldInterface.verdict };
+    ghost verdict = { verdict_by D.SideEffects.verdict D.BlockArgRemoval.verdict D.ConstFoldInterface.verdict D.BranchOpFoldInterface.verdict
+        D.RegionBranchOpInterface.verdict };
 
     ghost verifies = { IsFirstFault D.has_interface (verdict_by D.SideEffects.verdict D.BlockArgRemoval.verdict D.ConstFoldInterface.verdict
-        D.BranchOpFoldInterface.verdict) };
+        D.BranchOpFoldInterface.verdict D.RegionBranchOpInterface.verdict) };
 }
 
-// The check of an interface. The last two have none.
+// The check of an interface. Those of branches and terminators have none.
 fn check<D: Dialect>(
     interface: Interface,
     alloc: Global,
@@ -42,6 +43,7 @@ fn check<D: Dialect>(
         Interface::BlockArgRemoval => <D as BlockArgRemoval>::verify(alloc, op, ctx),
         Interface::ConstFold => <D as ConstFoldInterface>::verify(alloc, op, ctx),
         Interface::BranchFold => <D as BranchOpFoldInterface>::verify(alloc, op, ctx),
+        Interface::RegionBranch => <D as RegionBranchOpInterface>::verify(alloc, op, ctx),
         Interface::Branch | Interface::Terminator => Ok(()),
     }
 }
@@ -73,12 +75,13 @@ fn verify_each<D: Dialect>(alloc: Global, op: Ptr<Operation>, ctx: &Context) -> 
     verify_one::<D>(Interface::SideEffects, alloc, op, ctx)?;
     verify_one::<D>(Interface::BlockArgRemoval, alloc, op, ctx)?;
     verify_one::<D>(Interface::ConstFold, alloc, op, ctx)?;
-    verify_one::<D>(Interface::BranchFold, alloc, op, ctx)
+    verify_one::<D>(Interface::BranchFold, alloc, op, ctx)?;
+    verify_one::<D>(Interface::RegionBranch, alloc, op, ctx)
 }
 
 /// Checks `op` and then each operation inside it, in pre-order; of each one those of the interfaces that it
-/// implements are called, side effects first, then removal of block arguments, folding by constants and
-/// folding of branches. Only reads.
+/// implements are called, side effects first, then removal of block arguments, folding by constants, folding
+/// of branches and regions that name operands. Only reads.
 ///
 /// Asks that the operation stands (`is_live` tests it). Errors: the first fault that a check finds, or want
 /// of memory. Cost: one step for each operation, block and region, and what the checks cost.

@@ -1,4 +1,4 @@
-//! The first fault of a walk, by a dialect that finds faults of three interfaces.
+//! The first fault of a walk, by a dialect that finds faults of four interfaces.
 use super::lines::read;
 use super::strict::Strict;
 use pliron_core::Context;
@@ -14,6 +14,9 @@ func { b0(): a = const 1; print a; m = mul a a; d = div a a; ret a } => code 2
 func { b0(): a = const 1; box { b0(): b = const 2; m = mul b b; ret }; print a; d = div a a; ret a } => code 3
 func { b0(): a = const 1; box { b0(): b = const 2; ret }; print a; m = mul a a; ret a } => code 2
 func { b0(): a = const 1; scope { b0(): b = const 2; m = mul b b; ret }; ret a } => code 2
+func { b0(): a = const 1; scope a { b0(p): ret p }; ret a } => fit
+func { b0(): a = const 1; scope a a { b0(p): m = mul p p; ret m }; ret a } => code 4
+func { b0(): a = const 1; scope a { b0(p): scope p a { b0(q, r): ret q }; ret p }; print a; ret a } => code 4
 func { b0(): a = const 1; cbr a b1() b1(); b1(p): m = mul p p; print m; ret m } => code 1
 mod { b0(): func { b0(): a = const 1; ret a }; func { b0(): m = mul c c; c = const 1; print c; ret m } } => code 3";
 
@@ -25,6 +28,7 @@ fn check_in(rt: &impl Abort, alloc: Global, case: &str, ctx: &mut Context) {
         Err(OptError::Pass(1)) => "code 1",
         Err(OptError::Pass(2)) => "code 2",
         Err(OptError::Pass(3)) => "code 3",
+        Err(OptError::Pass(4)) => "code 4",
         Err(_) => "another fault",
     };
     assert_eq!(rt; said, want, "{text}");

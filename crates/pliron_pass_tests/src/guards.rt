@@ -56,6 +56,7 @@ fn check_guard(rt: &impl Abort, alloc: Global, interface: Interface, want: usize
 fn guards_of_interfaces(rt: HostRuntime) {
     check_guard(&rt, rt.alloc(), Interface::BlockArgRemoval, 2);
     check_guard(&rt, rt.alloc(), Interface::Terminator, 1);
+    check_guard(&rt, rt.alloc(), Interface::RegionBranch, 1);
 }
 
 fn default_in(

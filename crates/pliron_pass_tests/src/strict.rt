@@ -1,11 +1,13 @@
 //! A dialect with the operations of `Bench`, whose checks find more faults.
 ghost use Rattle.std.specs.Prelude.{◌≡◌, MatchResult, ⊤};
+ghost use Rattle.pliron_core.specs.Tree.{IsLive};
 ghost use Rattle.pliron_laws.specs.declared.fault.OptError.TheVariants.{Pass as Code};
 ghost use Rattle.pliron_bench.specs.BenchMoves.{bench, bench_shortened};
 ghost use Rattle.pliron_bench.specs.BenchAnswers.{bench_side_effects, bench_removable, bench_folds, bench_constants, bench_accepts};
-ghost use Rattle.pliron_bench.specs.BenchAnswers.{bench_constant_head, bench_folds_branch, bench_feasible, is_of_bench_kind, has_bench_interface};
+ghost use Rattle.pliron_bench.specs.BenchAnswers.{bench_constant_head, bench_folds_branch, bench_feasible, bench_entry_operands, is_of_bench_kind, has_bench_interface};
 ghost use Rattle.pliron_bench.specs.BenchOutcomes.{bench_outcome, bench_branch_outcome};
 ghost use Rattle.pliron_bench.specs.BenchLaws.{bench_counts, bench_effects, bench_arguments, bench_makes};
+ghost use Rattle.pliron_bench.specs.BenchEntries.{bench_names, bench_roots};
 ghost use Rattle.pliron_bench.specs.BenchFolds.{bench_answers, bench_jumps};
 ghost use Rattle.pliron_bench.specs.BenchRemoval.{bench_forwards};
 ghost use Rattle.pliron_bench.specs.BenchInPlace.{bench_in_place};
@@ -14,13 +16,21 @@ use pliron_bench::{Bench, BenchKind};
 use pliron_core::{AttrObj, BasicBlock, Context, IRStatus, Operation, Ptr, Rewriter, Value};
 use pliron_laws::{
     BlockArgRemoval, BranchOpFoldInterface, ConstFoldInterface, Dialect, HasMeaning, Interface,
-    OptError, Room, SideEffects,
+    OptError, RegionBranchOpInterface, Room, SideEffects,
 };
 use std::alloc::Global;
 
-/// The operations of `Bench`, with their meaning. Its checks answer code 2 for what has side effects,
-/// code 3 for a product or a quotient, and code 1 for a branch with an edge that does not fit.
+/// The operations of `Bench`, with their meaning. Its checks answer code 2 for what has side effects
+/// but for a scope with operands, code 3 for a product or a quotient, code 1 for a branch with an edge that does
+/// not fit, and code 4 for a scope of more than one operand.
 pub struct Strict;
+
+// Whether it is a scope with operands.
+fn passes_operands(op: Ptr<Operation>, ctx: &Context) -> bool
+    requires { IsLive ctx.now.tree op }
+{
+    Bench::is_kind(op, ctx, BenchKind::Scope) && op.num_operand(ctx) > 0
+}
 
 impl HasMeaning for Strict {
     ghost meaning = { bench };
@@ -37,7 +47,7 @@ impl SideEffects for Strict {
 
     fn verify(_alloc: Global, op: Ptr<Operation>, ctx: &Context) -> Result<(), OptError> {
         match <Bench as SideEffects>::has_side_effects(op, ctx) {
-            Some(true) => Err(OptError::Pass(2)),
+            Some(true) if !passes_operands(op, ctx) => Err(OptError::Pass(2)),
             _ => Ok(()),
         }
     }
@@ -151,6 +161,29 @@ impl BranchOpFoldInterface for Strict {
     }
 }
 
+impl RegionBranchOpInterface for Strict {
+    ghost verdict = { λ t op r. MatchResult r (λ _. ⊤) (λ e. e ≡ Code 4) };
+
+    ghost entry_operands = { bench_entry_operands };
+
+    fn entry_operand(
+        op: Ptr<Operation>,
+        ctx: &Context,
+        region: usize,
+        arg: usize,
+    ) -> Option<usize> {
+        Bench::entry_operand(op, ctx, region, arg)
+    }
+
+    fn verify(_alloc: Global, op: Ptr<Operation>, ctx: &Context) -> Result<(), OptError> {
+        if op.num_operand(ctx) > 1 {
+            Err(OptError::Pass(4))
+        } else {
+            Ok(())
+        }
+    }
+}
+
 impl Dialect for Strict {
     type Kind = BenchKind;
 
@@ -217,4 +250,8 @@ impl Dialect for Strict {
     ghost folds_in_place = { bench_in_place };
 
     ghost makes_constants = { bench_makes };
+
+    ghost names_operands = { bench_names };
+
+    ghost roots = { bench_roots };
 }

@@ -53,7 +53,7 @@ fn words_of(misfit: &Misfit) -> Words {
         Misfit::NoDominance(_) => Words {
             message: "a region in which definitions need not come before uses",
             label: "this operation has such a region",
-            help: "only the first block of a `mod` is entered: run one of its `func`s as a text of its own",
+            help: "only the first block of a `mod` is entered: run one of its `func`s alone",
         },
         Misfit::UnequalEdge(_, _) => Words {
             message: "an edge passes another number of values than its block takes",

@@ -11,6 +11,8 @@ mod optimising;
 mod outcome;
 mod report;
 mod running;
+mod statistics;
+mod table;
 
 pub use checking::check;
 pub use comparing::{CompareWish, compare};

@@ -1,4 +1,5 @@
 //! What is told of the runs of passes: trees and what verifying finds after each, counts, and times.
+use crate::statistics::write_statistics;
 use pliron_core::IRStatus;
 use pliron_opts::Notation;
 use pliron_show::pretty;
@@ -108,71 +109,6 @@ fn write_faults(report: &mut String, notes: &[Named]) -> Result<(), AllocError> 
     )
 }
 
-/// Writes what a count was and is.
-fn write_count(
-    alloc: Global,
-    report: &mut String,
-    before: usize,
-    after: usize,
-) -> Result<(), AllocError> {
-    let count = format!(in alloc; "{before} -> {after}")?;
-    write!(report, " {:>18}", count.as_str())
-}
-
-/// Writes a row of counts.
-fn write_row(
-    alloc: Global,
-    report: &mut String,
-    round: usize,
-    name: &str,
-    row: &Row,
-) -> Result<(), AllocError> {
-    let (runs, changed) = (row.runs, row.changed);
-    write!(report, "{round:>5}  {name:<12} {runs:>6} {changed:>7}")?;
-    let (before, after) = (&row.before, &row.after);
-    write_count(alloc, report, before.operations, after.operations)?;
-    write_count(alloc, report, before.blocks, after.blocks)?;
-    write_count(alloc, report, before.arguments, after.arguments)?;
-    write_count(alloc, report, before.edges, after.edges)?;
-    report.push_str("\n")
-}
-
-/// The heads of the rows of counts.
-static COUNTED: &str = "\
-round  pass           runs changed         operations             blocks          arguments              edges
-";
-
-/// How often the passes went over their operations.
-fn rounds<N: Notation, C: Progress + Drop>(passes: &[Watched<N, C>]) -> usize {
-    match passes.first() {
-        Some(pass) => pass.diary().rows.len(),
-        None => 0,
-    }
-}
-
-/// Writes the counts before and after each pass, round by round.
-fn write_counts<N: Notation, C: Progress + Drop>(
-    alloc: Global,
-    report: &mut String,
-    passes: &[Watched<N, C>],
-) -> Result<(), AllocError> {
-    report.push_str(COUNTED)?;
-    for round in 0..rounds(passes) {
-        for pass in passes {
-            if let Some(row) = pass.diary().rows.get(round) {
-                write_row(
-                    alloc,
-                    report,
-                    round.saturating_add(1),
-                    pass.pass_name(),
-                    row,
-                )?;
-            }
-        }
-    }
-    Ok(())
-}
-
 /// How many nanoseconds the runs of a pass took.
 fn nanos_of(rows: &[Row]) -> u128 {
     let mut nanos: u128 = 0;
@@ -250,7 +186,7 @@ pub fn report_of<N: Notation, C: Progress + Drop>(
         write_faults(&mut report, &notes)?;
     }
     if wanted.counts {
-        write_counts(alloc, &mut report, passes)?;
+        write_statistics(alloc, &mut report, passes)?;
     }
     if wanted.times {
         write_times(&mut report, passes)?;

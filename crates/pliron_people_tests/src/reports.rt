@@ -64,9 +64,13 @@ fn trees_after_a_pass(rt: HostRuntime) {
 /// Counts over both functions, with 4 and 3 operations, 3 blocks, 2 arguments and one edge: propagation makes a constant
 /// beside the product, and then both are dead.
 static COUNTS: &str = "\
-round  pass           runs changed         operations             blocks          arguments              edges\
-|    1  sccp              2       1             7 -> 8             3 -> 3             2 -> 2             1 -> 1\
-|    1  dce               2       1             8 -> 6             3 -> 3             2 -> 2             1 -> 1|";
+round  pass          runs  changed  operations  blocks  arguments   edges\
+|    1  sccp             2        1      7 -> 8  3 -> 3     2 -> 2  1 -> 1\
+|    1  dce              2        1      8 -> 6  3 -> 3     2 -> 2  1 -> 1\
+|operations made, erased and moved; operands changed; blocks, arguments erased\
+|round  pass          made  erased  moved  operands  blocks  arguments\
+|    1  sccp             1       0      0         0       0          0\
+|    1  dce              0       2      0         0       0          0|";
 
 #[test]
 fn counts_over_functions(rt: HostRuntime) {
@@ -77,9 +81,13 @@ fn counts_over_functions(rt: HostRuntime) {
 
 /// Rounds until nothing changes.
 static ROUNDS: &str = "\
-round  pass           runs changed         operations             blocks          arguments              edges\
-|    1  dce               1       1             4 -> 2             1 -> 1             0 -> 0             0 -> 0\
-|    2  dce               1       0             2 -> 2             1 -> 1             0 -> 0             0 -> 0|";
+round  pass          runs  changed  operations  blocks  arguments   edges\
+|    1  dce              1        1      4 -> 2  1 -> 1     0 -> 0  0 -> 0\
+|    2  dce              1        0      2 -> 2  1 -> 1     0 -> 0  0 -> 0\
+|operations made, erased and moved; operands changed; blocks, arguments erased\
+|round  pass          made  erased  moved  operands  blocks  arguments\
+|    1  dce              0       2      0         0       0          0\
+|    2  dce              0       0      0         0       0          0|";
 
 #[test]
 fn rounds_of_a_repetition(rt: HostRuntime) {
@@ -87,6 +95,48 @@ fn rounds_of_a_repetition(rt: HostRuntime) {
     wish.watch.counts = true;
     let text = "func { b0(): a = const 2; b = mul a a; ret }";
     expect_report(&rt, rt.alloc(), text, &wish, ROUNDS);
+}
+
+/// The rows of what was rewritten, without rounds.
+fn rewritten_rows(rt: &impl Abort, alloc: Global, report: &str) -> String {
+    let mut found = String::new(alloc);
+    let (_, table) = report
+        .split_once("blocks, arguments erased\n")
+        .expect(rt, "a table");
+    for line in table.lines().skip(1) {
+        for word in line.split_ascii_whitespace().skip(1) {
+            found.push_str(word).expect(rt, "memory");
+            found.push_str(" ").expect(rt, "memory");
+        }
+    }
+    found
+}
+
+/// Passes, texts, and the operations that each pass made, erased and moved, the operands that it changed, and the blocks and
+/// arguments that it erased. In the first, propagation puts 5 for `p` and for `q`, each used once. Then `x`, `y` and the 5 in
+/// `b1` have no use, once the arguments went and the three branches pass nothing. At last the condition and the two branches
+/// left go, with three blocks, and a constant and `ret` move to the first. In the second a branch is made in the place of a
+/// condition. In the third it goes again as its block is joined, `print` and `ret` take `x`, and the last branches go.
+static REWRITTEN: &str = "\
+sccp,dce,simplify-cfg | func { b0(): c = const 1; x = const 5; cbr c b1(x) b2(); b1(p): br b3(p); b2(): y = const 6; br b3(y); b3(q): ret q } => sccp 2 0 0 2 0 0 dce 0 3 0 3 0 2 simplify-cfg 0 3 2 0 3 0
+simplify-cfg | func { b0(x): c = const 1; cbr c b1(x) b2(); b1(p): cbr p b1(p) b2(); b2(): ret } => simplify-cfg 1 1 0 0 0 0
+simplify-cfg | func { b0(x): c = const 1; cbr c b1(x) b2(x); b1(p): print p; br b3(p); b2(q): print q; br b3(q); b3(r): ret r } => simplify-cfg 0 4 2 2 3 3
+dce | func { b0(x, y): br b1(x, y, x); b1(p, q, r): print q; ret } => dce 0 0 0 2 0 2
+simplify-cfg | func { b0(): ret; b1(x): scope x { b2(y): z = add y y; ret z }; ret } => simplify-cfg 0 4 0 0 2 2
+nested(sccp) | mod { b0(): func { b0(): a = const 2; b = mul a a; ret b }; func { b0(): a = const 3; b = add a a; print b; ret b } } => sccp 2 0 0 3 0 0";
+
+#[test]
+fn what_was_rewritten(rt: HostRuntime) {
+    let alloc = rt.alloc();
+    for case in REWRITTEN.lines() {
+        let (pipeline, rest) = case.split_once(" | ").expect(&rt, "passes");
+        let (text, wanted) = rest.split_once(" => ").expect(&rt, "a case");
+        let mut wish = plain(pipeline);
+        wish.watch.counts = true;
+        let outcome = report_on(&rt, alloc, text, &wish);
+        let found = rewritten_rows(&rt, alloc, outcome.report.as_str());
+        assert!(rt; found.as_str().trim_end() == wanted, "{text} => {found}");
+    }
 }
 
 #[test]

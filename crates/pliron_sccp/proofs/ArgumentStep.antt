@@ -16,7 +16,7 @@ use Rattle.pliron_laws.specs.Folding.{AnswersTrue, AnswersJumps, MakesConstants}
 use Rattle.pliron_theory.specs.Keeps.{KeepsRuns}
 use Rattle.pliron_theory.specs.Rewrites.{materialised_first, BecomesIfAccepted, ReplacesArgument, IsConstant}
 use Rattle.pliron_laws.proofs.ConstantLemmas.{new_row}
-use Rattle.pliron_theory.proofs.SoundRuns.{PassesForwarded}
+use Rattle.pliron_theory.proofs.SoundRuns.{PassesForwarded, NamesWell}
 use Rattle.pliron_sccp.specs.declared.rewrite.ConstantArgument.{ConstantArgument}
 use Rattle.pliron_theory.specs.Facts.{Facts, Says}
 use Rattle.pliron_theory.specs.Following.{Follows}
@@ -54,18 +54,18 @@ module _ (x : Says) (t₀ : Tree) (root : ℕ) (f₀ : Facts) (t : Tree) (argume
   pub argument_listed : slice_get (arguments_of t argument.block) argument.index ≡ Some s.known.value
   argument_listed = ap (λ z. slice_get z argument.index) (s.follows.arguments argument.block) ∙ s.known.listed
 
-  module _ (answers : AnswersTrue x.meaning x.can_fold x.constants) (jumps : AnswersJumps x.meaning x.can_fold_branch x.feasible) (passes : PassesForwarded x.meaning) (accepts : AttrObj → Bool) (head : AttrObj → Head) (makes : MakesConstants x.meaning accepts head) (plain : (attr : AttrObj) → IsTrue (accepts attr) → x.meaning.is_branch (head attr) ≡ false) where
+  module _ (answers : AnswersTrue x.meaning x.can_fold x.constants) (jumps : AnswersJumps x.meaning x.can_fold_branch x.feasible) (passes : PassesForwarded x.meaning) (names : NamesWell x) (accepts : AttrObj → Bool) (head : AttrObj → Head) (makes : MakesConstants x.meaning accepts head) (plain : (attr : AttrObj) → IsTrue (accepts attr) → x.meaning.is_branch (head attr) ≡ false) where
     pub step_constant : (v : ℕ) → slice_get (arguments_of t argument.block) argument.index ≡ Some v → IsConstant x.meaning t v argument.attr
     step_constant v e =
         subst (λ z. IsConstant x.meaning t z argument.attr) (some_is (sym argument_listed ∙ e))
-        (argument_constant x t₀ root f₀ s.first answers jumps passes accepts head makes plain t s.follows argument.block s.known.value argument.attr s.known.reached (in_slice (arguments_of t₀ argument.block) argument.index s.known.value s.known.listed) s.known.constant)
+        (argument_constant x t₀ root f₀ s.first answers jumps passes names accepts head makes plain t s.follows argument.block s.known.value argument.attr s.known.reached (in_slice (arguments_of t₀ argument.block) argument.index s.known.value s.known.listed) s.known.constant)
 
     pub argument_follows : (u : Tree) (a : Option IRStatus) → Becomes accepts head argument.attr t u argument.block s.known.value a → IsTree u → KeepsRuns x.meaning t u → Follows x t₀ root f₀ u
     argument_follows u None same w keeps = same_on x t₀ root f₀ s.first t u s.follows w same keeps.grows
     argument_follows u (Some Unchanged) (over, e) w keeps = subst (Follows x t₀ root f₀) (sym e) s.follows
     argument_follows u (Some Changed) (accepted, e) w keeps =
         subst (Follows x t₀ root f₀) (sym e)
-        (argument_on x t₀ root f₀ s.first answers jumps passes accepts head makes plain t s.follows argument.block s.known.value argument.attr s.known.reached (in_slice (arguments_of t₀ argument.block) argument.index s.known.value s.known.listed) s.known.constant accepted (subst IsTree e w) (subst (KeepsRuns x.meaning t) e keeps))
+        (argument_on x t₀ root f₀ s.first answers jumps passes names accepts head makes plain t s.follows argument.block s.known.value argument.attr s.known.reached (in_slice (arguments_of t₀ argument.block) argument.index s.known.value s.known.listed) s.known.constant accepted (subst IsTree e w) (subst (KeepsRuns x.meaning t) e keeps))
 
 drop_known : (t₀ : Tree) (xs : List ConstantArgument) (ks : List KnownArgument) → StandForEach t₀ xs ks → (i : ℕ) (a : ConstantArgument) → slice_get xs i ≡ Some a → (k : KnownArgument) × stands_for t₀ a k × (drop i ks ≡ k ∷ drop (i + 1) ks)
 drop_known t₀ [] [] s i a e = absurd (grind arith)

@@ -17,8 +17,8 @@ use Rattle.pliron_laws.specs.Laws.{Admitted}
 use Rattle.pliron_laws.specs.Linked.{IsWellLinked}
 use Rattle.pliron_laws.specs.Folding.{AnswersTrue}
 use Rattle.pliron_laws.proofs.Records.{ShowsOperation, op_shows}
-use Rattle.pliron_theory.specs.Facts.{Fact, Undetermined, Constant, NotAConstant, AtMost, known, answered, Facts, Says, handed, answers_of, IsInReachedBlock, Forwards, IsEntered, AreClosed}
-use Rattle.pliron_theory.proofs.FactLattice.{at_most_refl, same_index, picked_in}
+use Rattle.pliron_theory.specs.Facts.{Fact, Undetermined, Constant, NotAConstant, AtMost, known, answered, Facts, Says, handed, answers_of, IsInReachedBlock, IsFeasibleEdge, Forwards, IsEntered, IsBelowNamed, AreBelowNamed, AreClosed}
+use Rattle.pliron_theory.proofs.FactLattice.{at_most_refl, at_most_trans, same_index, picked_in}
 use Rattle.pliron_theory.proofs.SweptKeeps.{admitted_shape}
 use Rattle.pliron_sccp.specs.declared.facts.Tables.{Tables}
 use Rattle.pliron_sccp.specs.Tables.{known_constants, facts_of}
@@ -139,11 +139,16 @@ pub record IsOn (x : Says) (t : Tree) (root : ℕ) (f : Facts) (seen : ℕ → B
   pub held : (b k : ℕ) → IsTrue (now.reaches b) → block_holder_of t b ≡ Some k → (k ≡ root) ⊎ ((c : ℕ) × (parent_of t k ≡ Some c) × IsTrue (seen c))
   pub arguments : (b v : ℕ) → IsTrue (now.reaches b) → In v (arguments_of t b) → now.fact v ≢ Undetermined
 
--- each value that a branch forwards is one of its operands
-abbrev pub ForwardsItsOperands : Says → Type 0
-ForwardsItsOperands x = (s : Shape) → Admitted x.meaning s → IsTrue (x.meaning.is_branch s.head) → (i p : ℕ) → In p (x.meaning.forwarded s i) → p < s.operands
+-- each value that a branch forwards is one of its operands, and so is each that is named for an entry
+pub record PassesItsOperands (x : Says) : Type 0 where
+  pub forwarded : (s : Shape) → Admitted x.meaning s → IsTrue (x.meaning.is_branch s.head) → (i p : ℕ) → In p (x.meaning.forwarded s i) → p < s.operands
+  pub named : (s : Shape) → Admitted x.meaning s → (i j p : ℕ) → x.entry_operands s i j ≡ Some p → p < s.operands
 
-module _ (x : Says) (t : Tree) (root : ℕ) (w : IsTree t) (linked : IsWellLinked x.meaning t root) (answers : AnswersTrue x.meaning x.can_fold x.constants) (places : ForwardsItsOperands x) (owed : AreOwed x t root) (f : Facts) (visited seen : ℕ → Bool) (inside : (b : ℕ) → IsTrue (f.reaches b) → HoldsBlock t root b) (grounded : IsGrounded t root f visited) (ready : AreDetermined t f visited) (more : (b : ℕ) → IsTrue (visited b) → IsTrue (seen b)) (k c : ℕ) (o : Operation) (p : parent_of t k ≡ Some c) (at : op_at t k ≡ Some o) (reached : IsTrue (f.reaches c)) (came : IsTrue (seen c)) (done rest : List ℕ) (body : body_of t c ≡ done ++ k ∷ rest) where
+named_above : (g now : ℕ → Fact) (operands : List ℕ) → ((v : ℕ) → In v operands → AtMost (g v) (now v)) → (a : Option ℕ) (v : ℕ) → IsBelowNamed g g operands a v → IsBelowNamed g now operands a v
+named_above g now operands below None v q = q
+named_above g now operands below (Some p) v q = λ w at. at_most_trans (g v) (g w) (now w) (q w at) (below w (in_slice operands p w at))
+
+module _ (x : Says) (t : Tree) (root : ℕ) (w : IsTree t) (linked : IsWellLinked x.meaning t root) (answers : AnswersTrue x.meaning x.can_fold x.constants) (places : PassesItsOperands x) (owed : AreOwed x t root) (f : Facts) (visited seen : ℕ → Bool) (inside : (b : ℕ) → IsTrue (f.reaches b) → HoldsBlock t root b) (grounded : IsGrounded t root f visited) (ready : AreDetermined t f visited) (more : (b : ℕ) → IsTrue (visited b) → IsTrue (seen b)) (k c : ℕ) (o : Operation) (p : parent_of t k ≡ Some c) (at : op_at t k ≡ Some o) (reached : IsTrue (f.reaches c)) (came : IsTrue (seen c)) (done rest : List ℕ) (body : body_of t c ≡ done ++ k ∷ rest) where
   shows : ShowsOperation t k o
   shows = op_shows t k o at
 
@@ -163,26 +168,31 @@ module _ (x : Says) (t : Tree) (root : ℕ) (w : IsTree t) (linked : IsWellLinke
         let made = owed.defined.own_values k v k_inside j in
         operand_determined t root w f now visited grounded ready (λ y d. below_undetermined (f.fact y) (now.fact y) (on.below.fact y) d) k v c done rest p reached body (λ q m y. front q v m y) j made (owed.defined.dominated k v j made)
 
-    -- every closed set meets what is asked under these facts
-    meets_closed : (g : Facts) → AreClosed x t root g → IsMet x t now g k o
-    meets_closed g closed = record {
-      entries = λ r b i e. closed.entries k r b (inr stands) i e;
-      branches = λ i b branch go. (
-        (closed.branches k i b o stands at branch (above_jump x owed.monotone t root g now closed k o stands at admitted below some i b go)).0,
-        λ j v u listed fw. above_argument x owed.monotone t root g now closed k o stands at admitted below some i b j v u branch go listed fw,
-      );
-      jumps = λ i b no_branch e. closed.jumps k i b o stands at no_branch e;
-      folded = λ i v a folds listed said. above_result x owed.monotone t root g now closed k o stands at admitted below some i v a folds listed said;
-      others = λ v none i. closed.others k v o stands at none i;
-    }
-      where
-        stands : IsInReachedBlock t g k
-        stands = (c, p, (on.above g closed).blocks c (on.below.reaches c reached))
+    module _ (g : Facts) (closed : AreClosed x t root g) where
+      stands : IsInReachedBlock t g k
+      stands = (c, p, (on.above g closed).blocks c (on.below.reaches c reached))
 
-        below : (v : ℕ) → In v o.operands → AtMost (g.fact v) (now.fact v)
-        below v i =
-            let j = operand_in v i in
-            (on.above g closed).facts v (made_listed t w root v (owed.defined.own_values k v k_inside j) (w.joined.operands k v j))
+      below : (v : ℕ) → In v o.operands → AtMost (g.fact v) (now.fact v)
+      below v i =
+          let j = operand_in v i in
+          (on.above g closed).facts v (made_listed t w root v (owed.defined.own_values k v k_inside j) (w.joined.operands k v j))
+
+      -- an edge that is feasible under these facts is so under every closed set
+      pub feasible_closed : (i b : ℕ) → IsFeasibleEdge x t now o i b → IsFeasibleEdge x t g o i b
+      feasible_closed i b go = above_jump x owed.monotone t root g now closed k o stands at admitted below some i b go
+
+      -- every closed set meets what is asked under these facts
+      meets_closed : IsMet x t now g k o
+      meets_closed = record {
+        entries = λ i r b there e. let y = closed.entries k i r b o stands at there e in (y.0, λ j v a. named_above g.fact now.fact o.operands below (x.entry_operands (shape_of x.meaning t o) i j) v (y.1 j v a));
+        branches = λ i b branch go. (
+          (closed.branches k i b o stands at branch (feasible_closed i b go)).0,
+          λ j v u listed fw. above_argument x owed.monotone t root g now closed k o stands at admitted below some i b j v u branch go listed fw,
+        );
+        jumps = λ i b no_branch e. closed.jumps k i b o stands at no_branch e;
+        folded = λ i v a folds listed said. above_result x owed.monotone t root g now closed k o stands at admitted below some i v a folds listed said;
+        others = λ v none i. closed.others k v o stands at none i;
+      }
 
     module _ (s s' : Tables) (same : now ≡ facts_of s) (looks : LooksAt x t k s s') where
       abbrev pub new : Facts
@@ -242,12 +252,29 @@ module _ (x : Says) (t : Tree) (root : ℕ) (w : IsTree t) (linked : IsWellLinke
           let j = slice_in (arguments_of t b) v m in
           let full = owed.defined.forwards k i b o k_inside at branch goes in
           let q = same_index (arguments_of t b) (x.meaning.forwarded (shape_of x.meaning t o) i) (sym full) j.0 v j.1 in
-          let u = within o.operands q.0 (places (shape_of x.meaning t o) admitted branch i q.0 (in_slice (x.meaning.forwarded (shape_of x.meaning t o) i) j.0 q.0 q.1)) in
+          let u = within o.operands q.0 (places.forwarded (shape_of x.meaning t o) admitted branch i q.0 (in_slice (x.meaning.forwarded (shape_of x.meaning t o) i) j.0 q.0 q.1)) in
           below_undetermined (now.fact u.0) (new.fact v) (lowered j.0 v u.0 j.1 (picked_in (x.meaning.forwarded (shape_of x.meaning t o) i) o.operands j.0 q.0 u.0 q.1 u.1)) (some u.0 (in_slice o.operands q.0 u.0 u.1))
+
+      -- and so does each argument of an entry
+      named_determined : (i b : ℕ) → AreBelowNamed x t new.fact now.fact o i b → (v : ℕ) → In v (arguments_of t b) → new.fact v ≢ Undetermined
+      unfolding shape_of
+      named_determined i b below v m = by (x.entry_operands (shape_of x.meaning t o) i j.0) refl (below j.0 v j.1)
+        where
+          j : (n : ℕ) × (slice_get (arguments_of t b) n ≡ Some v)
+          j = slice_in (arguments_of t b) v m
+
+          by : (a : Option ℕ) → x.entry_operands (shape_of x.meaning t o) i j.0 ≡ a → IsBelowNamed new.fact now.fact o.operands a v → new.fact v ≢ Undetermined
+          by None e q = varying (new.fact v) q
+          by (Some p) e q =
+              let u = within o.operands p (places.named (shape_of x.meaning t o) admitted i j.0 p e) in
+              below_undetermined (now.fact u.0) (new.fact v) (q u.0 u.1) (some u.0 (in_slice o.operands p u.0 u.1))
 
       trial_met : IsMet x t now trial k o
       trial_met = record {
-        entries = λ r b i e. entry_target b (In-right b (successors_of t k) (entries_of t k) (In-flat_map (λ r. first_blocks (layout_of t r)) (regions_of t k) r b i (first_in (layout_of t r) b e))) (met.entries r b i e);
+        entries = λ i r b there e.
+            let m = met.entries i r b there e in
+            let listed = subst (In r) (sym shows.regions) (in_slice o.regions i r there) in
+            (try_target b (In-right b (successors_of t k) (entries_of t k) (In-flat_map (λ r. first_blocks (layout_of t r)) (regions_of t k) r b listed (first_in (layout_of t r) b e)), named_determined i b m.1), m.1);
         branches = λ i b branch go.
             let m = met.branches i b branch go in
             (try_target b (successor_in i b go.0, forwarded_determined i b branch go.0 m.1), m.1);

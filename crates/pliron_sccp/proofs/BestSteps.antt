@@ -27,7 +27,10 @@ use Rattle.pliron_sccp.specs.Inside.{values_inside}
 use Rattle.pliron_sccp.specs.Precise.{AreMostPrecise, AreOwed}
 use Rattle.pliron_sccp.specs.Demands.{AsksEntries, MeetsAll}
 use Rattle.pliron_sccp.specs.Visiting.{HasWay, IsGrounded, AreDetermined}
-use Rattle.pliron_sccp.specs.Looking.{AreCalls, Forwarded, IsLookedAt, IsUseOf, LooksAt, LooksThrough, TakesValues}
+use Rattle.pliron_sccp.specs.declared.edges.FeasibleEdges.{FeasibleEdges}
+use Rattle.pliron_sccp.specs.Feasible.{AreSurelyFeasible, KeepsFeasible}
+use Rattle.pliron_sccp.specs.Looking.{AreCalls, Forwarded, GoesThrough, IsLookedAt, IsOpenEdge, IsUseOf, LooksAt, LooksThrough, TakesValues}
+use Rattle.pliron_sccp.specs.Looking.GoesThrough.{Nowhere, Onward}
 use Rattle.pliron_sccp.specs.Looking.LooksThrough.{Nothing, Then}
 use Rattle.pliron_sccp.specs.Starting.{IsStarted}
 use Rattle.pliron_sccp.specs.Searching.{TakesTurn, IsSearchOnTheWay}
@@ -39,8 +42,8 @@ use Rattle.pliron_sccp.proofs.DistinctLists.{held_directly}
 use Rattle.pliron_sccp.proofs.InsideLists.{holds_listed, argument_listed, made_listed, result_listed}
 use Rattle.pliron_sccp.proofs.Applied.{below_trans, falls_trans}
 use Rattle.pliron_sccp.proofs.Called.{reached_before}
-use Rattle.pliron_sccp.proofs.Stepping.{first_blocks, entries_of, first_in, in_first, through_falls}
-use Rattle.pliron_sccp.proofs.BestLook.{lists, lists_in, in_lists, varying, only_inside, only_below, only_lower, only_above, IsOn, ForwardsItsOperands, look_on, look_results}
+use Rattle.pliron_sccp.proofs.Stepping.{first_blocks, entries_of, first_in, in_first, through_falls, looks_only}
+use Rattle.pliron_sccp.proofs.BestLook.{lists, lists_in, in_lists, varying, only_inside, only_below, only_lower, only_above, IsOn, PassesItsOperands, feasible_closed, look_on, look_results}
 
 -- blocks that were looked through
 module _ (s : Tables) (b : ℕ) where
@@ -88,7 +91,7 @@ wider_way t seen more wider b way = record {
   all_visited = λ d i. wider d (way.all_visited d i);
 }
 
-module _ (x : Says) (t : Tree) (root : ℕ) (w : IsTree t) (linked : IsWellLinked x.meaning t root) (answers : AnswersTrue x.meaning x.can_fold x.constants) (places : ForwardsItsOperands x) (owed : AreOwed x t root) where
+module _ (x : Says) (t : Tree) (root : ℕ) (w : IsTree t) (linked : IsWellLinked x.meaning t root) (answers : AnswersTrue x.meaning x.can_fold x.constants) (places : PassesItsOperands x) (owed : AreOwed x t root) where
   -- f and visited are those from before, and the blocks seen are those that are looked through after
   module _ (f : Facts) (visited seen : ℕ → Bool) (inside : (b : ℕ) → IsTrue (f.reaches b) → HoldsBlock t root b) (grounded : IsGrounded t root f visited) (ready : AreDetermined t f visited) (more : (b : ℕ) → IsTrue (visited b) → IsTrue (seen b)) where
     -- what is said of an operation before it is looked at
@@ -110,29 +113,50 @@ module _ (x : Says) (t : Tree) (root : ℕ) (w : IsTree t) (linked : IsWellLinke
         let o = live_at t k (w.joined.standing k c n.placed).0 in
         look_results x t root w linked answers places owed f visited seen inside grounded ready more k c o.0 n.placed o.1 n.reached n.came done rest n.body (facts_of s) n.on n.front s u refl looks
 
-    through_block : (c : ℕ) → IsTrue (f.reaches c) → IsTrue (seen c) → (ks : List ℕ) (s u : Tables) → LooksThrough x t ks s u → (done : List ℕ) → body_of t c ≡ done ++ ks → IsOn x t root f seen (facts_of s) → ((q v : ℕ) → In q done → In v (results_of t q) → fact_in s v ≢ Undetermined) → IsOn x t root f seen (facts_of u) × ((q v : ℕ) → In q (body_of t c) → In v (results_of t q) → fact_in u v ≢ Undetermined)
-    through_block c reached came [] s u Nothing done body on front = (on, λ q v i j. front q v (subst (In q) (body ∙ append-nil done) i) j)
-    through_block c reached came (k ∷ ks) s u (Then _ q a d) done body on front =
+    one_kept : (k c : ℕ) (done rest : List ℕ) (s : Tables) (edges edges' : FeasibleEdges) → KeepsFeasible x t (facts_of s) k edges edges' → IsNext k c done rest s → AreSurelyFeasible x t root edges → AreSurelyFeasible x t root edges'
+    one_kept k c done rest s edges edges' keeps n sure j b led = ⊎_elim
+        (λ before. sure j b before)
+        (λ new g closed i o at goes.
+        let here : op_at t k ≡ Some o = subst (λ z. op_at t z ≡ Some o) new.0 at in
+        feasible_closed x t root w linked answers places owed f visited seen inside grounded ready more k c o n.placed here n.reached n.came done rest n.body (facts_of s) n.on n.front g closed i b (new.1 i o here goes))
+        (keeps j b led)
+
+    -- a block is looked through from its operation k on
+    record IsThrough (c : ℕ) (u : Tables) (edges : FeasibleEdges) : Type 0 where
+      on : IsOn x t root f seen (facts_of u)
+      results : (q v : ℕ) → In q (body_of t c) → In v (results_of t q) → fact_in u v ≢ Undetermined
+      sure : AreSurelyFeasible x t root edges
+
+    through_block : (c : ℕ) → IsTrue (f.reaches c) → IsTrue (seen c) → (ks : List ℕ) (s u : Tables) (edges edges' : FeasibleEdges) → GoesThrough x t ks s u edges edges' → (done : List ℕ) → body_of t c ≡ done ++ ks → IsOn x t root f seen (facts_of s) → ((q v : ℕ) → In q done → In v (results_of t q) → fact_in s v ≢ Undetermined) → AreSurelyFeasible x t root edges → IsThrough c u edges'
+    through_block c reached came [] s u edges edges' Nowhere done body on front sure = record { on = on; results = λ q v i j. front q v (subst (In q) (body ∙ append-nil done) i) j; sure = sure }
+    through_block c reached came (k ∷ ks) s u edges edges' (Onward _ q kept a keeps d) done body on front sure =
         let n : IsNext k c done ks s = record { placed = w.bodies.owned k c (subst (In k) (sym body) (In-right k done (k ∷ ks) (inl refl))); reached = reached; came = came; body = body; on = on; front = front } in
-        through_block c reached came ks q u d (done ++ k ∷ []) (body ∙ sym (append_assoc done (k ∷ []) ks)) (one_on k c done ks s q a n)
+        through_block c reached came ks q u kept edges' d (done ++ k ∷ []) (body ∙ sym (append_assoc done (k ∷ []) ks)) (one_on k c done ks s q a n)
         (λ y v i j. ⊎_elim
         (λ old. below_undetermined (fact_in s v) (fact_in q v) (a.applied.falls.below.fact v) (front y v old j))
         (λ last. ⊎_elim (λ e. one_results k c done ks s q a n v (subst (λ z. In v (results_of t z)) e j)) (λ none. absurd none) last)
         (In-cases y done (k ∷ []) i))
+        (one_kept k c done ks s edges kept keeps n sure)
+
+    -- an operation in a block that was looked through
+    user_next : (k c : ℕ) (s : Tables) (placed : parent_of t k ≡ Some c) → IsTrue (visited c) → IsOn x t root f seen (facts_of s) → IsNext k c (split_at k (body_of t c) (w.bodies.listed k c placed)).0 (split_at k (body_of t c) (w.bodies.listed k c placed)).1 s
+    user_next k c s placed came on =
+        let split = split_at k (body_of t c) (w.bodies.listed k c placed) in
+        record {
+          placed = placed;
+          reached = grounded.reached c came;
+          came = more c came;
+          body = split.2;
+          on = on;
+          front = λ y v i j. below_undetermined (f.fact v) (fact_in s v) (on.below.fact v) (ready.results c y v came (w.bodies.owned y c (subst (In y) (sym split.2) (In-left y split.0 (k ∷ split.1) i))) j);
+        }
 
     through_users : (ks : List ℕ) (s u : Tables) → LooksThrough x t ks s u → ((k : ℕ) → In k ks → (c : ℕ) × (parent_of t k ≡ Some c) × IsTrue (visited c)) → IsOn x t root f seen (facts_of s) → IsOn x t root f seen (facts_of u)
     through_users [] s u Nothing placed on = on
     through_users (k ∷ ks) s u (Then _ q a d) placed on =
         let p = placed k (inl refl) in
         let split = split_at k (body_of t p.0) (w.bodies.listed k p.0 p.1) in
-        through_users ks q u d (λ j i. placed j (inr i)) (one_on k p.0 split.0 split.1 s q a (record {
-          placed = p.1;
-          reached = grounded.reached p.0 p.2;
-          came = more p.0 p.2;
-          body = split.2;
-          on = on;
-          front = λ y v i j. below_undetermined (f.fact v) (fact_in s v) (on.below.fact v) (ready.results p.0 y v p.2 (w.bodies.owned y p.0 (subst (In y) (sym split.2) (In-left y split.0 (k ∷ split.1) i))) j);
-        }))
+        through_users ks q u d (λ j i. placed j (inr i)) (one_on k p.0 split.0 split.1 s q a (user_next k p.0 s p.1 p.2 on))
 
     finish : (u : Tables) → IsOn x t root f seen (facts_of u) → ((b : ℕ) → IsTrue (seen b) → IsTrue (is_visited u b)) → ((b : ℕ) → IsTrue (is_visited u b) → IsTrue (seen b)) → ((b k v : ℕ) → IsTrue (seen b) → parent_of t k ≡ Some b → In v (results_of t k) → fact_in u v ≢ Undetermined) → IsBest x t root u
     finish u on there back results = record {
@@ -159,15 +183,17 @@ module _ (x : Says) (t : Tree) (root : ℕ) (w : IsTree t) (linked : IsWellLinke
     }
 
     -- a block was taken and looked through
-    pub block_best : (c : ℕ) (u s' : Tables) → TakesBlock c s u → IsTrue (reaches s c) → LooksThrough x t (body_of t c) u s' → IsBest x t root s'
-    block_best c u s' k reached d =
-        let r = through_block (facts_of s) (is_visited s) (is_visited u) inside best.grounded best.ready more c reached came (body_of t c) u s' d [] refl (begin (is_visited u) more u k.facts k.reached) (λ q v i. absurd i) in
-        let falls = through_falls x t (body_of t c) u s' d in
-        finish (facts_of s) (is_visited s) (is_visited u) inside best.grounded best.ready more s' r.0 (visited_still u s' falls) (visited_before u s' falls)
-        (λ b q v y p i. ⊎_elim
-        (λ same. r.1 q v (w.bodies.listed q c (p ∙ ap Some (sym same))) i)
-        (λ old. below_undetermined (fact_in s v) (fact_in s' v) (r.0.below.fact v) (best.ready.results b q v old p i))
-        (before b y))
+    pub block_best : (c : ℕ) (u s' : Tables) (edges edges' : FeasibleEdges) → TakesBlock c s u → IsTrue (reaches s c) → GoesThrough x t (body_of t c) u s' edges edges' → AreSurelyFeasible x t root edges → IsBest x t root s' × AreSurelyFeasible x t root edges'
+    block_best c u s' edges edges' k reached d sure =
+        let r = through_block (facts_of s) (is_visited s) (is_visited u) inside best.grounded best.ready more c reached came (body_of t c) u s' edges edges' d [] refl (begin (is_visited u) more u k.facts k.reached) (λ q v i. absurd i) sure in
+        let falls = through_falls x t (body_of t c) u s' (looks_only x t (body_of t c) u s' edges edges' d) in (
+          finish (facts_of s) (is_visited s) (is_visited u) inside best.grounded best.ready more s' r.on (visited_still u s' falls) (visited_before u s' falls)
+              (λ b q v y p i. ⊎_elim
+              (λ same. r.results q v (w.bodies.listed q c (p ∙ ap Some (sym same))) i)
+              (λ old. below_undetermined (fact_in s v) (fact_in s' v) (r.on.below.fact v) (best.ready.results b q v old p i))
+              (before b y)),
+          r.sure,
+        )
       where
         waits_then : (b : ℕ) (z : Bool) → nat_eq c b ≡ z → waits_block u b ≡ (if z then false else waits_block s b)
         waits_then b z e = k.blocks b ∙ ap (λ z. if z then false else waits_block s b) e
@@ -190,7 +216,7 @@ module _ (x : Says) (t : Tree) (root : ℕ) (w : IsTree t) (linked : IsWellLinke
             by false e = inr (make_visited s b (sym (k.reached b) ∙ visited_reached u b y) (sym (waits_then b false e) ∙ visited_rests u b y))
 
     -- all values that waited were taken, and what they call for was met
-    module _ (taken users short : List ℕ) (asked : List Demand) (u m s' : Tables) (k : TakesValues taken s u) (c : AreCalls x t u taken users asked) (a : IsApplied (known_constants u) asked u m) (among : (q : ℕ) → In q short → In q users) (d : LooksThrough x t short m s') where
+    module _ (taken users short : List ℕ) (asked : List Demand) (u m s' : Tables) (k : TakesValues taken s u) (edges : FeasibleEdges) (sure : AreSurelyFeasible x t root edges) (c : AreCalls x t u edges taken users asked) (a : IsApplied (known_constants u) asked u m) (among : (q : ℕ) → In q short → In q users) (d : LooksThrough x t short m s') where
       is_seen : (q : ℕ) → IsLookedAt t u q → (b : ℕ) × (parent_of t q ≡ Some b) × IsTrue (is_visited s b)
       is_seen q y = (y.block, y.in_block, make_visited s y.block (sym (k.reached y.block) ∙ y.reached) (sym (k.blocks y.block) ∙ y.taken))
 
@@ -199,7 +225,7 @@ module _ (x : Says) (t : Tree) (root : ℕ) (w : IsTree t) (linked : IsWellLinke
 
       -- every closed set meets what is called for
       asked_closed : (g : Facts) → AreClosed x t root g → MeetsAll (known_constants u) (only_inside t root g) asked
-      asked_closed g closed = c.owed (only_inside t root g) (λ q place v r o i is l at none f. at_most_trans ((only_inside t root g).fact v) (g.fact v) (fact_in u r) ((only_lower t root g).fact v) (at_most_trans (g.fact v) (g.fact r) (fact_in u r) (edge q place v r o is l at none f) (operand q place r is l)))
+      asked_closed g closed = c.owed (only_inside t root g) (λ q place v r o i is l at f clear. at_most_trans ((only_inside t root g).fact v) (g.fact v) (fact_in u r) ((only_lower t root g).fact v) (at_most_trans (g.fact v) (g.fact r) (fact_in u r) (edge q place v r o is l at f clear) (operand q place r is l)))
         where
           within : (q : ℕ) → IsLookedAt t u q → IsInside t root q
           within q l = inside_block l.block l.in_block (inside l.block (sym (k.reached l.block) ∙ l.reached))
@@ -209,9 +235,9 @@ module _ (x : Says) (t : Tree) (root : ℕ) (w : IsTree t) (linked : IsWellLinke
               let j = in_slice (operands_of t q) place r is in
               (before.above g closed).facts r (made_listed t w root r (owed.defined.own_values q r (within q l) j) (w.joined.operands q r j))
 
-          edge : (q place v r : ℕ) (o : Operation) → IsUseOf t r q place → IsLookedAt t u q → op_at t q ≡ Some o → x.can_fold_branch o.head ≡ false → Forwarded x t o place v → AtMost (g.fact v) (g.fact r)
-          edge q place v r o is l at none f =
-              (closed.branches q f.edge f.block o (l.block, l.in_block, (before.above g closed).blocks l.block l.reached) at f.branch (f.successor, λ folds. absurd (true≢false (sym folds ∙ none)))).1 f.index v r f.is_argument (picked_in (x.meaning.forwarded (shape_of x.meaning t o) f.edge) o.operands f.index place r f.forwards (ap (λ z. slice_get z place) (sym (op_shows t q o at).operands) ∙ is))
+          edge : (q place v r : ℕ) (o : Operation) → IsUseOf t r q place → IsLookedAt t u q → op_at t q ≡ Some o → (f : Forwarded x t o place v) → IsOpenEdge x u edges o q f.block → AtMost (g.fact v) (g.fact r)
+          edge q place v r o is l at f clear =
+              (closed.branches q f.edge f.block o (l.block, l.in_block, (before.above g closed).blocks l.block l.reached) at f.branch (⊎_elim (λ none. (f.successor, λ folds. absurd (true≢false (sym folds ∙ none)))) (λ y. sure q f.block y.1 g closed f.edge o at f.successor) clear)).1 f.index v r f.is_argument (picked_in (x.meaning.forwarded (shape_of x.meaning t o) f.edge) o.operands f.index place r f.forwards (ap (λ z. slice_get z place) (sym (op_shows t q o at).operands) ∙ is))
 
       after : IsOn x t root (facts_of s) (is_visited s) (facts_of m)
       after = record {
@@ -223,7 +249,7 @@ module _ (x : Says) (t : Tree) (root : ℕ) (w : IsTree t) (linked : IsWellLinke
       }
         where
           back : (b : ℕ) → IsTrue (reaches m b) → IsTrue (reaches u b)
-          back b r = reached_before x t taken users asked s u m k c a b r
+          back b r = reached_before x t edges taken users asked s u m k c a b r
 
       pub values_best : IsBest x t root s'
       values_best =
@@ -235,6 +261,14 @@ module _ (x : Says) (t : Tree) (root : ℕ) (w : IsTree t) (linked : IsWellLinke
           (λ b q v y p i. below_undetermined (fact_in s v) (fact_in s' v) (r.below.fact v) (best.ready.results b q v y p i))
 
     -- one that was put aside was looked at
+    pub aside_kept : (k : ℕ) (edges edges' : FeasibleEdges) → IsLookedAt t s k → KeepsFeasible x t (facts_of s) k edges edges' → AreSurelyFeasible x t root edges → AreSurelyFeasible x t root edges'
+    aside_kept k edges edges' l keeps sure =
+        let came = make_visited s l.block l.reached l.taken in
+        let split = split_at k (body_of t l.block) (w.bodies.listed k l.block l.in_block) in
+        one_kept (facts_of s) (is_visited s) (is_visited s) inside best.grounded best.ready (λ b y. y) k l.block split.0 split.1 s edges edges' keeps
+        (user_next (facts_of s) (is_visited s) (is_visited s) inside best.grounded best.ready (λ b y. y) k l.block s l.in_block came (begin (is_visited s) (λ b y. y) s (λ v. refl) (λ b. refl)))
+        sure
+
     pub aside_best : (k : ℕ) (s' : Tables) → IsLookedAt t s k → LooksAt x t k s s' → IsBest x t root s'
     aside_best k s' l looks =
         let here : (b : ℕ) × (parent_of t k ≡ Some b) × IsTrue (is_visited s b) = (l.block, l.in_block, make_visited s l.block l.reached l.taken) in
@@ -242,9 +276,12 @@ module _ (x : Says) (t : Tree) (root : ℕ) (w : IsTree t) (linked : IsWellLinke
         finish (facts_of s) (is_visited s) (is_visited s) inside best.grounded best.ready (λ b y. y) s' r (visited_still s s' looks.applied.falls) (visited_before s s' looks.applied.falls)
         (λ b q v y p i. below_undetermined (fact_in s v) (fact_in s' v) (r.below.fact v) (best.ready.results b q v y p i))
 
-  pub step_best : (s s' : Tables) (z z' : Delays) (taken : ℕ) → TakesTurn x t s s' z z' taken → IsSearchOnTheWay x t root s z → IsBest x t root s → IsBest x t root s'
-  step_best s s' z z' taken (Block c u k d same e) o best = block_best s best o.started.inside c u s' k (o.waits.blocks c k.waited).1 d
-  step_best s s' z z' taken (Values none v) o best = values_best s best o.started.inside v.takes.values v.users v.sees.short v.asked v.between v.met s' v.takes.takes v.takes.calls v.applied v.sees.among v.sees.looks
+  pub step_best : (s s' : Tables) (z z' : Delays) (edges edges' : FeasibleEdges) (taken : ℕ) → TakesTurn x t s s' z z' edges edges' taken → IsSearchOnTheWay x t root s z → IsBest x t root s → AreSurelyFeasible x t root edges → IsBest x t root s' × AreSurelyFeasible x t root edges'
+  step_best s s' z z' edges edges' taken (Block c u k d same e) o best sure = block_best s best o.started.inside c u s' edges edges' k (o.waits.blocks c k.waited).1 d sure
+  step_best s s' z z' edges edges' taken (Values none v kept) o best sure = (
+    values_best s best o.started.inside v.takes.values v.users v.sees.short v.asked v.between v.met s' v.takes.takes edges sure v.takes.calls v.applied v.sees.among v.sees.looks,
+    subst (AreSurelyFeasible x t root) (sym kept) sure,
+  )
 
   -- where the entries of the root were entered and nothing was looked at
   module _ (s : Tables) (start : IsStarted t root s) where
@@ -255,7 +292,7 @@ module _ (x : Says) (t : Tree) (root : ℕ) (w : IsTree t) (linked : IsWellLinke
     above_start g closed =
         only_above t root g (facts_of s) (start.applied.least (only_inside t root g)
         (only_below t root g (facts_of start.before) (record { blocks = λ b r. absurd (true≢false (sym r ∙ start.unsearched.reached b)); facts = λ v i. inl (start.unsearched.inside v i) }))
-        ((start.asks (only_inside t root g)).1 (λ r b i e. let y = closed.entries root r b (inl refl) i e in (y.0, λ v j. by v (lists (values_inside t root) v) (y.1 v j)))))
+        ((start.asks (only_inside t root g)).1 (λ r b i e. let y = closed.root_entries r b i e in (y.0, λ v j. by v (lists (values_inside t root) v) (y.1 v j)))))
       where
         by : (v : ℕ) (z : Bool) → g.fact v ≡ NotAConstant → (if z then g.fact v else NotAConstant) ≡ NotAConstant
         by v true e = e

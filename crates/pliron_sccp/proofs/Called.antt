@@ -1,5 +1,5 @@
 -- All values that wait are taken, and what they call for is met at once: what is known between is kept.
-use Rattle.std.proofs.Common.{◌≡◌, ◌⊎◌, inl, inr, ⊎_elim, ℕ, Bool, true, false, true≢false, List, [], ◌∷◌, Some, slice_get, refl, sym, ap, ◌∙◌, subst, IsTrue}
+use Rattle.std.proofs.Common.{◌≡◌, ◌⊎◌, inl, inr, ⊎_elim, ℕ, Bool, true, false, true≢false, List, [], ◌∷◌, Option, Some, None, slice_get, refl, sym, ap, ◌∙◌, subst, IsTrue}
 use Rattle.pliron_core.specs.Lists.{In}
 use Rattle.pliron_core.specs.Tree.{Tree, arguments_of}
 use Rattle.pliron_core.specs.Joined.{IsTree}
@@ -7,16 +7,17 @@ use Rattle.pliron_core.proofs.ListLemmas.{decide_in}
 use Rattle.pliron_core.proofs.HoldingLemmas.{in_slice, slice_in}
 use Rattle.pliron_laws.specs.Tree.{Operation, op_at, shape_of}
 use Rattle.pliron_laws.proofs.Records.{op_shows}
-use Rattle.pliron_theory.specs.Facts.{AtMost, Facts, NotAConstant, Undetermined, Says, IsFeasibleEdge}
+use Rattle.pliron_theory.specs.Facts.{AtMost, Facts, NotAConstant, Undetermined, Says, IsFeasibleEdge, IsBelowNamed}
 use Rattle.pliron_theory.proofs.KnownData.{picked_at}
 use Rattle.pliron_sccp.specs.declared.demands.Demand.{Demand}
 use Rattle.pliron_sccp.specs.declared.facts.Tables.{Tables}
+use Rattle.pliron_sccp.specs.declared.edges.FeasibleEdges.{FeasibleEdges}
 use Rattle.pliron_sccp.specs.Tables.{known_constants, fact_in, lowest_facts, reaches, waits_block, waits_value, facts_of}
 use Rattle.pliron_sccp.specs.Accounts.{AreKnownThere, NothingWaits}
 use Rattle.pliron_sccp.specs.Delaying.{IsAside}
 use Rattle.pliron_sccp.specs.Demands.{CanMeet, MeetsAll}
 use Rattle.pliron_sccp.specs.Falling.{IsApplied}
-use Rattle.pliron_sccp.specs.Looking.{AreCalls, AreTargetsNumbered, Forwarded, HasNumberedTargets, IsAskedAt, IsLookedAt, TakesValues}
+use Rattle.pliron_sccp.specs.Looking.{AreCalls, AreTargetsNumbered, Forwarded, HasNumberedTargets, IsAskedAt, IsLookedAt, IsOpenEdge, TakesValues}
 use Rattle.pliron_sccp.specs.Settling.{IsMet, AreAtMost, AreStarted}
 use Rattle.pliron_sccp.proofs.Applied.{at_most_both, below_refl}
 use Rattle.pliron_sccp.proofs.Settled.{met_still, entered_still, varies_still}
@@ -34,10 +35,10 @@ same_or {A} {B} (x ∷ vs) each = ⊎_elim
     (each x (inl refl))
 
 -- what is called for can be met, since no block is asked for
-pub can_call : (x : Says) (t : Tree) (s : Tables) (values users : List ℕ) (asked : List Demand) → AreCalls x t s values users asked → CanMeet s asked
-can_call x t s values users asked c = c.owed (lowest_facts s) (λ k place a v o i is l at none f. inr (inl refl))
+pub can_call : (x : Says) (t : Tree) (edges : FeasibleEdges) (s : Tables) (values users : List ℕ) (asked : List Demand) → AreCalls x t s edges values users asked → CanMeet s asked
+can_call x t edges s values users asked c = c.owed (lowest_facts s) (λ k place a v o i is l at f clear. inr (inl refl))
 
-module _ (x : Says) (t : Tree) (values users : List ℕ) (asked : List Demand) (s u w : Tables) (k : TakesValues values s u) (c : AreCalls x t u values users asked) (a : IsApplied (known_constants u) asked u w) where
+module _ (x : Says) (t : Tree) (edges : FeasibleEdges) (values users : List ℕ) (asked : List Demand) (s u w : Tables) (k : TakesValues values s u) (c : AreCalls x t u edges values users asked) (a : IsApplied (known_constants u) asked u w) where
   -- an operation that was looked at and is not looked at again is settled
   module _ (j b : ℕ) (o : Operation) (at : op_at t j ≡ Some o) (l : IsLookedAt t u j) (rests : In j users → ⊥) (y : IsSettledIn x t s j o) where
     reads : (v : ℕ) → In v o.operands → In v values → (place : ℕ) × (slice_get o.operands place ≡ Some v) × IsAskedAt x t u asked o place v
@@ -66,12 +67,15 @@ module _ (x : Says) (t : Tree) (values users : List ℕ) (asked : List Demand) (
         first : IsAskedAt x t u asked o (reads v i taken).0 v
         first = (reads v i taken).2
 
+        nothing_named : {a : Option ℕ} → a ≡ None → (q : ℕ) → IsBelowNamed (fact_in w) y.seen.fact o.operands a q → IsBelowNamed (fact_in w) (fact_in u) o.operands a q
+        nothing_named none q m = subst (λ z. IsBelowNamed (fact_in w) (fact_in u) o.operands z q) (sym none) (subst (λ z. IsBelowNamed (fact_in w) y.seen.fact o.operands z q) none m)
+
         any_edge : (e d : ℕ) → IsFeasibleEdge x t (facts_of u) o e d → IsFeasibleEdge x t y.seen o e d
         any_edge e d go = (go.0, λ folds. absurd (true≢false (sym folds ∙ first.no_jump)))
 
         met : IsMet x t (facts_of u) (facts_of w) j o
         met = record {
-          entries = still.entries;
+          entries = λ i r b at e. let m = still.entries i r b at e in (m.0, λ index q listed. nothing_named (first.names_none i index) q (m.1 index q listed));
           branches = λ e d branch go.
               let m = still.branches e d branch (any_edge e d go) in (
                 m.0,
@@ -117,7 +121,7 @@ module _ (x : Says) (t : Tree) (values users : List ℕ) (asked : List Demand) (
 
   -- no block comes to be reached
   pub reached_before : (b : ℕ) → reaches w b ≡ true → reaches u b ≡ true
-  reached_before b r = (a.least low (record { reaches = λ d q. q; fact = λ v. inr (inl refl) }) (c.owed low (λ q place d v o i is l at none f. inr (inl refl)))).reaches b r
+  reached_before b r = (a.least low (record { reaches = λ d q. q; fact = λ v. inr (inl refl) }) (c.owed low (λ q place d v o i is l at f clear. inr (inl refl)))).reaches b r
     where
       low : Facts
       low = record { reaches = λ d. reaches u d; fact = λ v. NotAConstant }
@@ -136,14 +140,16 @@ module _ (x : Says) (t : Tree) (values users : List ℕ) (asked : List Demand) (
         let l = (c.only q i).0 in
         record { looked = l; met = λ o at. let m = met_before q o l at in (m.0, met_still x t m.0 (facts_of s) (facts_of u) q o (below_same s u k.facts k.reached) m.1) }
 
-    -- an edge that an operation looked at always takes leads to a block that is reached
-    edge_reached : (q place v : ℕ) (o : Operation) → IsLookedAt t u q → op_at t q ≡ Some o → x.can_fold_branch o.head ≡ false → (f : Forwarded x t o place v) → reaches u f.block ≡ true
-    edge_reached q place v o l at none f =
-        k.reached f.block ∙ ((met_before q o l at).1.branches f.edge f.block f.branch (f.successor, λ folds. absurd (true≢false (sym folds ∙ none)))).0
+    -- an edge of it that is feasible for sure leads to a block that is reached
+    edge_reached : (q place v : ℕ) (o : Operation) → IsLookedAt t u q → op_at t q ≡ Some o → (f : Forwarded x t o place v) → IsOpenEdge x u edges o q f.block → reaches u f.block ≡ true
+    edge_reached q place v o l at f clear = ⊎_elim
+        (λ none. k.reached f.block ∙ ((met_before q o l at).1.branches f.edge f.block f.branch (f.successor, λ folds. absurd (true≢false (sym folds ∙ none)))).0)
+        (λ y. y.0)
+        clear
 
     pub called_known : (tree : IsTree t) (root : ℕ) → AreKnownThere t root u → AreKnownThere t root w
     called_known tree root known b v inside listed none =
-        unknown_but t tree u w b v listed none unknown still (a.least g (below_but t tree u w b v listed none unknown still) (c.owed g (λ q place d r o i is l at jumps f. inr (inl (argument d f.block (in_slice (arguments_of t f.block) f.index d f.is_argument) (a.falls.below.reaches f.block (edge_reached q place d o l at jumps f)))))))
+        unknown_but t tree u w b v listed none unknown still (a.least g (below_but t tree u w b v listed none unknown still) (c.owed g (λ q place d r o i is l at f clear. inr (inl (argument d f.block (in_slice (arguments_of t f.block) f.index d f.is_argument) (a.falls.below.reaches f.block (edge_reached q place d o l at f clear)))))))
       where
         still : (z : ℕ) → reaches u z ≡ true → reaches w z ≡ true
         still z r = a.falls.below.reaches z r
@@ -169,7 +175,7 @@ module _ (x : Says) (t : Tree) (values users : List ℕ) (asked : List Demand) (
   nothing_called none rests = record { blocks = blocks; values = λ v. by v (waits_value w v) refl }
     where
       all_met : MeetsAll (known_constants u) (facts_of u) asked
-      all_met = c.owed (facts_of u) (λ q place d v o i is l at jumps f. absurd (subst (In v) none i))
+      all_met = c.owed (facts_of u) (λ q place d v o i is l at f clear. absurd (subst (In v) none i))
 
       least : AreAtMost (facts_of u) (facts_of w)
       least = a.least (facts_of u) (below_refl (facts_of u)) all_met
@@ -189,7 +195,7 @@ module _ (x : Says) (t : Tree) (values users : List ℕ) (asked : List Demand) (
           of true e = absurd (⊎_elim (λ old. true≢false (sym old ∙ k.blocks b ∙ rests b)) (λ n. true≢false (sym (reached_before b n.1) ∙ n.0)) (a.falls.came b e))
 
 -- the blocks that users may enter have numbers
-pub targets_then : (x : Says) (t : Tree) (values users : List ℕ) (asked : List Demand) (s u w : Tables) → TakesValues values s u → AreCalls x t u values users asked → IsApplied (known_constants u) asked u w → AreTargetsNumbered t s → (j : ℕ) → In j users → HasNumberedTargets t w j
-targets_then x t values users asked s u w k c a numbered j i =
+pub targets_then : (x : Says) (t : Tree) (edges : FeasibleEdges) (values users : List ℕ) (asked : List Demand) (s u w : Tables) → TakesValues values s u → AreCalls x t u edges values users asked → IsApplied (known_constants u) asked u w → AreTargetsNumbered t s → (j : ℕ) → In j users → HasNumberedTargets t w j
+targets_then x t edges values users asked s u w k c a numbered j i =
     let y = (c.only j i).0 in
     targets_same t u w a.falls.numbers j (targets_kept t s u k.numbers k.reached numbered j y.block y.in_block y.reached)

@@ -14,8 +14,9 @@ use Rattle.pliron_laws.proofs.Records.{make_op, op_shows}
 use Rattle.pliron_theory.specs.Facts.{AtMost, Facts, Says}
 use Rattle.pliron_sccp.specs.declared.demands.Demand.{Demand}
 use Rattle.pliron_sccp.specs.declared.facts.Tables.{Tables}
+use Rattle.pliron_sccp.specs.declared.edges.FeasibleEdges.{FeasibleEdges}
 use Rattle.pliron_sccp.specs.Demands.{Adds, MeetsAll}
-use Rattle.pliron_sccp.specs.Looking.{AddsEach, AreCalls, IsAskedAt, IsLookedAt, IsUseOf, SeesTo, TakesUsers}
+use Rattle.pliron_sccp.specs.Looking.{AddsEach, AreCalls, AsksAhead, Forwarded, IsAskedAt, IsLookedAt, IsOpenEdge, IsUseOf, NamesNone, SeesTo, TakesUsers}
 use Rattle.pliron_sccp.specs.Tables.{known_constants, fact_in, is_numbered, left_values, reaches, waits_block, waits_value, NoValueWaits, SaysSame, TakesValue}
 
 -- what is looked at in one table is in another that says the same of blocks
@@ -26,13 +27,13 @@ pub on_ok_then : {X Y : Type 0} {P Q : Type 0} (r : Result X Y) → (P → Q) �
 on_ok_then (Ok x) f p = f p
 on_ok_then (Err e) f p = p
 
-module _ (x : Says) (t : Tree) where
+module _ (x : Says) (t : Tree) (edges : FeasibleEdges) where
   asked_more : (s : Tables) (asked asked' : List Demand) (o : Operation) (place v : ℕ) → ((now : Facts) → MeetsAll (known_constants s) now asked' → MeetsAll (known_constants s) now asked) → IsAskedAt x t s asked o place v → IsAskedAt x t s asked' o place v
-  asked_more s asked asked' o place v more h = record { no_fold = h.no_fold; no_jump = h.no_jump; below = λ now m a f. h.below now (more now m) a f }
+  asked_more s asked asked' o place v more h = record { no_fold = h.no_fold; no_jump = h.no_jump; names_none = h.names_none; below = λ now m a f. h.below now (more now m) a f }
 
   -- uses are seen to, some and then others
   module _ (s : Tables) (v : ℕ) where
-    pub sees_none : (IsUse : ℕ → ℕ → Type 0) (users : List ℕ) (asked : List Demand) → ((k place : ℕ) → IsUse k place → ⊥) → SeesTo x t s v IsUse users asked users asked
+    pub sees_none : (IsUse : ℕ → ℕ → Type 0) (users : List ℕ) (asked : List Demand) → ((k place : ℕ) → IsUse k place → ⊥) → SeesTo x t s edges v IsUse users asked users asked
     sees_none IsUse users asked none = record {
       kept = λ k i. i;
       more = λ now m. m;
@@ -41,7 +42,7 @@ module _ (x : Says) (t : Tree) where
       owed = λ now m all. m;
     }
 
-    pub sees_more : (P Q R : ℕ → ℕ → Type 0) (users : List ℕ) (asked : List Demand) (users1 : List ℕ) (asked1 : List Demand) (users2 : List ℕ) (asked2 : List Demand) → SeesTo x t s v P users asked users1 asked1 → SeesTo x t s v Q users1 asked1 users2 asked2 → ((k place : ℕ) → (P k place ⊎ Q k place) ↔ R k place) → SeesTo x t s v R users asked users2 asked2
+    pub sees_more : (P Q R : ℕ → ℕ → Type 0) (users : List ℕ) (asked : List Demand) (users1 : List ℕ) (asked1 : List Demand) (users2 : List ℕ) (asked2 : List Demand) → SeesTo x t s edges v P users asked users1 asked1 → SeesTo x t s edges v Q users1 asked1 users2 asked2 → ((k place : ℕ) → (P k place ⊎ Q k place) ↔ R k place) → SeesTo x t s edges v R users asked users2 asked2
     sees_more P Q R users asked users1 asked1 users2 asked2 p q both = record {
       kept = λ k i. q.kept k (p.kept k i);
       more = λ now m. p.more now (q.more now m);
@@ -54,8 +55,8 @@ module _ (x : Says) (t : Tree) where
           (λ b. q.seen k place o b l at)
           ((both k place).1 u);
       owed = λ now m all. q.owed now
-          (p.owed now m (λ k place a o u l at none f. all k place a o ((both k place).0 (inl u)) l at none f))
-          (λ k place a o u l at none f. all k place a o ((both k place).0 (inr u)) l at none f);
+          (p.owed now m (λ k place a o u l at f clear. all k place a o ((both k place).0 (inl u)) l at f clear))
+          (λ k place a o u l at f clear. all k place a o ((both k place).0 (inr u)) l at f clear);
     }
 
     -- one use
@@ -63,7 +64,7 @@ module _ (x : Says) (t : Tree) where
       abbrev pub IsIt : ℕ → ℕ → Type 0
       IsIt k p = (k ≡ op) × (p ≡ place)
 
-      pub use_passed : (IsLookedAt t s op → ⊥) → SeesTo x t s v IsIt users asked users asked
+      pub use_passed : (IsLookedAt t s op → ⊥) → SeesTo x t s edges v IsIt users asked users asked
       use_passed none = record {
         kept = λ k i. i;
         more = λ now m. m;
@@ -72,23 +73,14 @@ module _ (x : Says) (t : Tree) where
         owed = λ now m all. m;
       }
 
-      pub use_reads_nothing : ((o : Operation) → op_at t op ≡ Some o → (x.can_fold o.head ≡ false) × (x.can_fold_branch o.head ≡ false) × (x.meaning.is_branch o.head ≡ false)) → SeesTo x t s v IsIt users asked users asked
+      pub use_reads_nothing : ((o : Operation) → op_at t op ≡ Some o → (x.can_fold o.head ≡ false) × (x.can_fold_branch o.head ≡ false) × NamesNone x t o × (x.meaning.is_branch o.head ≡ false)) → SeesTo x t s edges v IsIt users asked users asked
       use_reads_nothing nothing = record {
         kept = λ k i. i;
         more = λ now m. m;
         only = λ k i. inl i;
         seen = λ k p o u l at.
             let n = nothing o (subst (λ z. op_at t z ≡ Some o) u.0 at) in
-            inr (record { no_fold = n.0; no_jump = n.1; below = λ now m a f. absurd (true≢false (sym f.branch ∙ n.2)) });
-        owed = λ now m all. m;
-      }
-
-      pub use_looked : (more : List ℕ) → IsLookedAt t s op → AddsEach users more (λ k. op ≡ k) → SeesTo x t s v IsIt users asked more asked
-      use_looked more l a = record {
-        kept = λ k i. (a.members k).1 (inl i);
-        more = λ now m. m;
-        only = λ k i. ⊎_elim (λ j. inl j) (λ e. inr (subst (IsLookedAt t s) e l, (place, (sym e, refl)))) ((a.members k).0 i);
-        seen = λ k p o u seen at. inl ((a.members k).1 (inr (sym u.0)));
+            inr (record { no_fold = n.0; no_jump = n.1; names_none = n.2; below = λ now m a f. absurd (true≢false (sym f.branch ∙ n.3)) });
         owed = λ now m all. m;
       }
 
@@ -96,7 +88,46 @@ module _ (x : Says) (t : Tree) where
       abbrev pub AsksOne : (edge index : ℕ) → Facts → Type 0
       AsksOne edge index now = (b a : ℕ) → slice_get (successors_of t op) edge ≡ Some b → slice_get (arguments_of t b) index ≡ Some a → AtMost (now.fact a) (fact_in s v)
 
-      pub use_asked : (asked' : List Demand) (edge index : ℕ) → IsLive t op → IsLookedAt t s op → ((o : Operation) → op_at t op ≡ Some o → (x.can_fold o.head ≡ false) × (x.can_fold_branch o.head ≡ false) × IsTrue (x.meaning.is_branch o.head)) → IsForwardedOnce x.meaning t op place edge index → Adds (known_constants s) asked asked' (λ now. AsksOne edge index now) → SeesTo x t s v IsIt users asked users asked'
+      -- the edge and the place there forward it
+      abbrev forwarded_there : (edge index : ℕ) (o : Operation) → op_at t op ≡ Some o → IsTrue (x.meaning.is_branch o.head) → IsForwardedOnce x.meaning t op place edge index → (b a : ℕ) → slice_get (successors_of t op) edge ≡ Some b → slice_get (arguments_of t b) index ≡ Some a → Forwarded x t o place a
+      forwarded_there edge index o at branch once b a goes is = record {
+        branch = branch;
+        edge = edge;
+        block = b;
+        index = index;
+        successor = ap (λ z. slice_get z edge) (sym (op_shows t op o at).successors) ∙ goes;
+        is_argument = is;
+        forwards = once.there o at;
+      }
+
+      -- nothing is asked ahead
+      pub none_ahead : AsksAhead x t s edges op place v asked asked
+      none_ahead = record { more = λ now m. m; owed = λ now m all. m }
+
+      pub one_ahead : (asked' : List Demand) (edge index block : ℕ) → IsLive t op → ((o : Operation) → op_at t op ≡ Some o → IsTrue (x.meaning.is_branch o.head)) → IsForwardedOnce x.meaning t op place edge index → slice_get (successors_of t op) edge ≡ Some block → ((o : Operation) → op_at t op ≡ Some o → IsOpenEdge x s edges o op block) → Adds (known_constants s) asked asked' (λ now. AsksOne edge index now) → AsksAhead x t s edges op place v asked asked'
+      one_ahead asked' edge index block live branch once goes clear adds = record {
+        more = λ now m. ((adds now).0 m).0;
+        owed = λ now m all. (adds now).1 (
+          m,
+          λ b a here is. all a o.0 o.1 (forwarded_there edge index o.0 o.1 (branch o.0 o.1) once b a here is)
+              (subst (IsOpenEdge x s edges o.0 op) (some_is (sym goes ∙ here)) (clear o.0 o.1)),
+        );
+      }
+        where
+          o : (o : Operation) × (op_at t op ≡ Some o)
+          o = let h = some_of _ live in (_, make_op t op h.0 h.1)
+
+      -- it is looked at again, and something is asked ahead
+      pub use_ahead : (more : List ℕ) (asked' : List Demand) → IsLookedAt t s op → AddsEach users more (λ k. op ≡ k) → AsksAhead x t s edges op place v asked asked' → SeesTo x t s edges v IsIt users asked more asked'
+      use_ahead more asked' l a ahead = record {
+        kept = λ k i. (a.members k).1 (inl i);
+        more = ahead.more;
+        only = λ k i. ⊎_elim (λ j. inl j) (λ e. inr (subst (IsLookedAt t s) e l, (place, (sym e, refl)))) ((a.members k).0 i);
+        seen = λ k p o u seen at. inl ((a.members k).1 (inr (sym u.0)));
+        owed = λ now m all. ahead.owed now m (λ b o at f clear. all op place b o (refl, refl) l at f clear);
+      }
+
+      pub use_asked : (asked' : List Demand) (edge index : ℕ) → IsLive t op → IsLookedAt t s op → ((o : Operation) → op_at t op ≡ Some o → (x.can_fold o.head ≡ false) × (x.can_fold_branch o.head ≡ false) × NamesNone x t o × IsTrue (x.meaning.is_branch o.head)) → IsForwardedOnce x.meaning t op place edge index → Adds (known_constants s) asked asked' (λ now. AsksOne edge index now) → SeesTo x t s edges v IsIt users asked users asked'
       use_asked asked' edge index live l one once adds = record {
         kept = λ k i. i;
         more = λ now m. ((adds now).0 m).0;
@@ -104,15 +135,7 @@ module _ (x : Says) (t : Tree) where
         seen = λ k p o u seen at. inr (asks o (subst (λ z. op_at t z ≡ Some o) u.0 at) p u.1);
         owed = λ now m all. (adds now).1 (
           m,
-          λ b a goes is. all op place a o.0 (refl, refl) l o.1 (one o.0 o.1).1 (record {
-            branch = (one o.0 o.1).2;
-            edge = edge;
-            block = b;
-            index = index;
-            successor = ap (λ z. slice_get z edge) (sym (op_shows t op o.0 o.1).successors) ∙ goes;
-            is_argument = is;
-            forwards = once.there o.0 o.1;
-          }),
+          λ b a goes is. all op place a o.0 (refl, refl) l o.1 (forwarded_there edge index o.0 o.1 (one o.0 o.1).3 once b a goes is) (inl (one o.0 o.1).1),
         );
       }
         where
@@ -123,6 +146,7 @@ module _ (x : Says) (t : Tree) where
           asks o at p e = record {
             no_fold = (one o at).0;
             no_jump = (one o at).1;
+            names_none = (one o at).2;
             below = λ now m a f.
                 let same = once.alone o at f.edge f.index (slice_get_within o.successors f.edge f.block f.successor) (f.forwards ∙ ap (λ z. Some z) e) in
                 ((adds now).0 m).1 f.block a
@@ -143,10 +167,10 @@ module _ (x : Says) (t : Tree) where
   below_or (suc j) zero l = absurd (omega (arith, l))
   below_or (suc j) (suc i) l = ⊎_elim (λ a. inl (omega (arith, a))) (λ b. inr (ap (λ n. suc n) b)) (below_or j i (omega (arith, l)))
 
-  pub uses_start : (s : Tables) (v : ℕ) (uses : List Use) (users : List ℕ) (asked : List Demand) → SeesTo x t s v (IsUseBefore uses 0) users asked users asked
+  pub uses_start : (s : Tables) (v : ℕ) (uses : List Use) (users : List ℕ) (asked : List Demand) → SeesTo x t s edges v (IsUseBefore uses 0) users asked users asked
   uses_start s v uses users asked = sees_none s v (IsUseBefore uses 0) users asked (λ k place u. let l = u.1 in absurd (omega (arith, l)))
 
-  pub uses_next : (s : Tables) (v : ℕ) (uses : List Use) (i u p : ℕ) (users : List ℕ) (asked : List Demand) (users1 : List ℕ) (asked1 : List Demand) (users2 : List ℕ) (asked2 : List Demand) → slice_get uses i ≡ Some (record { user = u; place = p }) → SeesTo x t s v (IsUseBefore uses i) users asked users1 asked1 → SeesTo x t s v (λ k place. (k ≡ u) × (place ≡ p)) users1 asked1 users2 asked2 → SeesTo x t s v (IsUseBefore uses (i + 1)) users asked users2 asked2
+  pub uses_next : (s : Tables) (v : ℕ) (uses : List Use) (i u p : ℕ) (users : List ℕ) (asked : List Demand) (users1 : List ℕ) (asked1 : List Demand) (users2 : List ℕ) (asked2 : List Demand) → slice_get uses i ≡ Some (record { user = u; place = p }) → SeesTo x t s edges v (IsUseBefore uses i) users asked users1 asked1 → SeesTo x t s edges v (λ k place. (k ≡ u) × (place ≡ p)) users1 asked1 users2 asked2 → SeesTo x t s edges v (IsUseBefore uses (i + 1)) users asked users2 asked2
   uses_next s v uses i u p users asked users1 asked1 users2 asked2 at before one = sees_more s v (IsUseBefore uses i) (λ k place. (k ≡ u) × (place ≡ p)) (IsUseBefore uses (i + 1)) users asked users1 asked1 users2 asked2 before one
       (λ k place. (
         λ h. ⊎_elim
@@ -164,22 +188,26 @@ module _ (x : Says) (t : Tree) where
     seen_before : (k : ℕ) → IsLookedAt t u k → IsLookedAt t s k
     seen_before k l = looked_same t s u reached blocks k l
 
+    clear_then : (k : ℕ) (o : Operation) (b : ℕ) → IsOpenEdge x s edges o k b → IsOpenEdge x u edges o k b
+    clear_then k o b clear = ⊎_elim (λ none. inl none) (λ y. inr (reached b ∙ y.0, y.1)) clear
+
     asked_then : (asked : List Demand) (o : Operation) (place v : ℕ) → IsAskedAt x t s asked o place v → IsAskedAt x t u asked o place v
     asked_then asked o place v h = record {
       no_fold = h.no_fold;
       no_jump = h.no_jump;
+      names_none = h.names_none;
       below = λ now m a f. subst (AtMost (now.fact a)) (sym (facts v)) (h.below now (subst (λ c. MeetsAll c now asked) constants m) a f);
     }
 
-    pub calls_then : (values users : List ℕ) (asked : List Demand) → AreCalls x t s values users asked → AreCalls x t u values users asked
+    pub calls_then : (values users : List ℕ) (asked : List Demand) → AreCalls x t s edges values users asked → AreCalls x t u edges values users asked
     calls_then values users asked c = record {
       only = λ k i. let y = c.only k i in (seen_then k y.0, y.1);
       seen = λ k place v o i is l at. ⊎_elim (λ j. inl j) (λ h. inr (asked_then asked o place v h)) (c.seen k place v o i is (seen_before k l) at);
-      owed = λ now all. subst (λ z. MeetsAll z now asked) (sym constants) (c.owed now (λ k place a v o i is l at none f. subst (AtMost (now.fact a)) (facts v) (all k place a v o i is (seen_then k l) at none f)));
+      owed = λ now all. subst (λ z. MeetsAll z now asked) (sym constants) (c.owed now (λ k place a v o i is l at f clear. subst (AtMost (now.fact a)) (facts v) (all k place a v o i is (seen_then k l) at f (clear_then k o f.block clear))));
     }
 
   -- one value more
-  calls_more : (s : Tables) (v : ℕ) (values users : List ℕ) (asked : List Demand) (users' : List ℕ) (asked' : List Demand) → AreCalls x t s values users asked → SeesTo x t s v (IsUseOf t v) users asked users' asked' → AreCalls x t s (v ∷ values) users' asked'
+  calls_more : (s : Tables) (v : ℕ) (values users : List ℕ) (asked : List Demand) (users' : List ℕ) (asked' : List Demand) → AreCalls x t s edges values users asked → SeesTo x t s edges v (IsUseOf t v) users asked users' asked' → AreCalls x t s edges (v ∷ values) users' asked'
   calls_more s v values users asked users' asked' c p = record {
     only = λ k i. ⊎_elim (λ j. let y = c.only k j in (y.0, (y.1.0, inr y.1.1))) (λ y. (y.0, (v, inl refl))) (p.only k i);
     seen = λ k place w o i is l at. ⊎_elim
@@ -187,11 +215,11 @@ module _ (x : Says) (t : Tree) where
         (λ j. ⊎_elim (λ h. inl (p.kept k h)) (λ h. inr (asked_more s asked asked' o place w p.more h)) (c.seen k place w o j is l at))
         i;
     owed = λ now all. p.owed now
-        (c.owed now (λ k place a w o i is l at none f. all k place a w o (inr i) is l at none f))
-        (λ k place a o is l at none f. all k place a v o (inl refl) is l at none f);
+        (c.owed now (λ k place a w o i is l at f clear. all k place a w o (inr i) is l at f clear))
+        (λ k place a o is l at f clear. all k place a v o (inl refl) is l at f clear);
   }
 
-  calls_none : (s : Tables) (users : List ℕ) (asked : List Demand) → users ≡ [] → asked ≡ [] → AreCalls x t s [] users asked
+  calls_none : (s : Tables) (users : List ℕ) (asked : List Demand) → users ≡ [] → asked ≡ [] → AreCalls x t s edges [] users asked
   calls_none s users asked e n = record {
     only = λ k i. absurd (subst (In k) e i);
     seen = λ k place v o i is l at. absurd i;
@@ -208,7 +236,7 @@ module _ (x : Says) (t : Tree) where
     pub reached : (b : ℕ) → reaches now b ≡ reaches start b
     pub blocks : (b : ℕ) → waits_block now b ≡ waits_block start b
     pub numbers : (b : ℕ) → is_numbered now b ≡ is_numbered start b
-    pub calls : AreCalls x t now values users asked
+    pub calls : AreCalls x t now edges values users asked
     pub counted : taken ≡ length values
     pub left : taken + left_values now ≡ left_values start
     pub few : (taken ≡ 0) ⊎ (left_values start < 2 ^ 64)
@@ -261,7 +289,7 @@ module _ (x : Says) (t : Tree) where
     it_is_gone : waits_value next value ≡ false
     it_is_gone = k.values value ∙ ap (λ c. if c then false else waits_value now value) (eq-eqb value value refl)
 
-    pub taking_next : SeesTo x t next value (IsUseOf t value) users asked users' asked' → IsTaking start next users' asked' (taken + 1)
+    pub taking_next : SeesTo x t next edges value (IsUseOf t value) users asked users' asked' → IsTaking start next users' asked' (taken + 1)
     taking_next added = record {
       values = value ∷ a.values;
       distinct = (λ i. true≢false (sym k.waited ∙ a.gone value i), a.distinct);
@@ -284,7 +312,7 @@ module _ (x : Says) (t : Tree) where
     fewer_left = let f = k.fewer in omega (arith, f)
 
   -- none waits any more
-  pub taking_end : (start now last : Tables) (users : List ℕ) (asked : List Demand) (taken : ℕ) → IsTaking start now users asked taken → NoValueWaits now last → TakesUsers x t users asked start last taken
+  pub taking_end : (start now last : Tables) (users : List ℕ) (asked : List Demand) (taken : ℕ) → IsTaking start now users asked taken → NoValueWaits now last → TakesUsers x t edges users asked start last taken
   taking_end start now last users asked taken a n = record {
     values = a.values;
     takes = record {
@@ -301,7 +329,7 @@ module _ (x : Says) (t : Tree) where
   }
 
   -- what was taken from tables that say the same
-  pub takes_from : (s u s' : Tables) (users : List ℕ) (asked : List Demand) (taken : ℕ) → SaysSame s u → TakesUsers x t users asked u s' taken → TakesUsers x t users asked s s' taken
+  pub takes_from : (s u s' : Tables) (users : List ℕ) (asked : List Demand) (taken : ℕ) → SaysSame s u → TakesUsers x t edges users asked u s' taken → TakesUsers x t edges users asked s s' taken
   takes_from s u s' users asked taken same k = record {
     values = k.values;
     takes = record {
@@ -318,8 +346,8 @@ module _ (x : Says) (t : Tree) where
   }
 
 -- all uses of a value
-pub uses_end : (x : Says) (v : View) (s : Tables) (value i : ℕ) (users : List ℕ) (asked : List Demand) (users' : List ℕ) (asked' : List Demand) → HaveUses v → length (uses_of v.value_uses value) ≤ i → SeesTo x v.tree s value (IsUseBefore x v.tree (uses_of v.value_uses value) i) users asked users' asked' → SeesTo x v.tree s value (IsUseOf v.tree value) users asked users' asked'
-uses_end x v s value i users asked users' asked' h all a = sees_more x v.tree s value (IsUseBefore x v.tree (uses_of v.value_uses value) i) (λ k place. ⊥) (IsUseOf v.tree value) users asked users' asked' users' asked' a (sees_none x v.tree s value (λ k place. ⊥) users' asked' (λ k place z. z))
+pub uses_end : (x : Says) (v : View) (edges : FeasibleEdges) (s : Tables) (value i : ℕ) (users : List ℕ) (asked : List Demand) (users' : List ℕ) (asked' : List Demand) → HaveUses v → length (uses_of v.value_uses value) ≤ i → SeesTo x v.tree s edges value (IsUseBefore x v.tree edges (uses_of v.value_uses value) i) users asked users' asked' → SeesTo x v.tree s edges value (IsUseOf v.tree value) users asked users' asked'
+uses_end x v edges s value i users asked users' asked' h all a = sees_more x v.tree edges s value (IsUseBefore x v.tree edges (uses_of v.value_uses value) i) (λ k place. ⊥) (IsUseOf v.tree value) users asked users' asked' users' asked' a (sees_none x v.tree edges s value (λ k place. ⊥) users' asked' (λ k place z. z))
     (λ k place. (
       λ b. ⊎_elim (λ y. h.value_uses.listed value y.0 (record { user = k; place = place }) y.2) (λ z. absurd z) b,
       λ u.
@@ -329,5 +357,5 @@ uses_end x v s value i users asked users' asked' h all a = sees_more x v.tree s 
     ))
 
 -- what no operation reads has no uses
-pub none_reads : (x : Says) (t : Tree) (s : Tables) (w : IsTree t) (value : ℕ) (users : List ℕ) (asked : List Demand) → (IsDefined t value → ⊥) → SeesTo x t s value (IsUseOf t value) users asked users asked
-none_reads x t s w value users asked none = sees_none x t s value (IsUseOf t value) users asked (λ k place u. none (w.joined.operands k value (in_slice (operands_of t k) place value u)))
+pub none_reads : (x : Says) (t : Tree) (edges : FeasibleEdges) (s : Tables) (w : IsTree t) (value : ℕ) (users : List ℕ) (asked : List Demand) → (IsDefined t value → ⊥) → SeesTo x t s edges value (IsUseOf t value) users asked users asked
+none_reads x t edges s w value users asked none = sees_none x t edges s value (IsUseOf t value) users asked (λ k place u. none (w.joined.operands k value (in_slice (operands_of t k) place value u)))

@@ -6,15 +6,15 @@ use Rattle.pliron_core.proofs.ArgumentLemmas.{take_more}
 use Rattle.pliron_core.proofs.HoldingLemmas.{some_is, in_slice, slice_in, not_none}
 use Rattle.pliron_core.specs.Tree.{Tree, In, arguments_of, layout_of, first_of}
 use Rattle.pliron_laws.specs.Datum.{Head}
-use Rattle.pliron_laws.specs.Tree.{Operation}
-use Rattle.pliron_theory.specs.Facts.{Fact, Undetermined, Constant, NotAConstant, AtMost, Facts, known, handed, answered, IsEntered}
+use Rattle.pliron_laws.specs.Tree.{Operation, shape_of}
+use Rattle.pliron_theory.specs.Facts.{Fact, Undetermined, Constant, NotAConstant, AtMost, Facts, Says, known, handed, answered, IsEntered, IsBelowNamed, AreBelowNamed}
 use Rattle.pliron_sccp.specs.declared.demands.Demand.{Demand}
 use Rattle.pliron_sccp.specs.declared.demands.Demand.TheVariants.{Enter, Lower, Answer}
 use Rattle.pliron_sccp.specs.declared.facts.Cell.{Cell}
 use Rattle.pliron_sccp.specs.declared.facts.Cell.TheVariants.{NotAConstant as Varying}
 use Rattle.pliron_sccp.specs.Cells.{Means}
 use Rattle.pliron_sccp.proofs.Written.{means_same}
-use Rattle.pliron_sccp.specs.Demands.{Meets, MeetsAll, Adds, EachBefore, IsNotConstant, EntryEntered, GetsForwarded, AsksAnswers, AsksResults, AsksForwarded}
+use Rattle.pliron_sccp.specs.Demands.{Meets, MeetsAll, Adds, EachBefore, IsNotConstant, EntryEntered, GetsForwarded, GetsNamed, VisitEntered, AsksVisits, AsksAnswers, AsksResults, AsksForwarded}
 
 past : (ys : List ℕ) (j x : ℕ) → slice_get ys j ≡ Some x → j < length ys
 past [] j x e = absurd (not_none e)
@@ -210,6 +210,39 @@ module _ (constants : List AttrObj) where
   forward_asked f values j v w cell ds es is said e =
       adds_as (λ now. Meets constants now (Lower v cell)) (λ now. GetsForwarded f values now j v) ds es (adds_one ds es (Lower v cell) e)
       (λ now. (λ m y at. subst (AtMost (now.fact v)) (means_same constants cell m.0 (f.fact y) m.1 (said y at)) m.2, λ g. (f.fact w, said w is, g w is)))
+
+  -- what an operation names for an argument of an entry: a value, or none
+  module _ (x : Says) (t : Tree) (f : Facts) (o : Operation) (i j v : ℕ) where
+    pub named_asked : (operands : List ℕ) (p : ℕ) (a b : List Demand) → operands ≡ o.operands → Some p ≡ x.entry_operands (shape_of x.meaning t o) i j → Adds constants a b (λ now. GetsForwarded f operands now p v) → Adds constants a b (λ now. GetsNamed x t f o i now j v)
+    named_asked operands p a b same named adds =
+        subst (λ z. Adds constants a b (λ now. IsBelowNamed now.fact f.fact o.operands z v)) named
+        (subst (λ z. Adds constants a b (λ now. GetsForwarded f z now p v)) same adds)
+
+    pub unnamed_asked : (a b : List Demand) → None ≡ x.entry_operands (shape_of x.meaning t o) i j → Adds constants a b (λ now. now.fact v ≡ NotAConstant) → Adds constants a b (λ now. GetsNamed x t f o i now j v)
+    unnamed_asked a b named adds = subst (λ z. Adds constants a b (λ now. IsBelowNamed now.fact f.fact o.operands z v)) named adds
+
+  -- all arguments of an entry, and all entries
+  module _ (x : Says) (t : Tree) (f : Facts) (o : Operation) where
+    pub named_entry_asked : (region block i : ℕ) (a b c : List Demand) → b ≡ a ++ Enter block ∷ [] → length (arguments_of t block) ≤ i → Adds constants b c (λ now. EachBefore (arguments_of t block) i (GetsNamed x t f o region now)) → Adds constants a c (λ now. IsTrue (now.reaches block) × AreBelowNamed x t now.fact f.fact o region block)
+    named_entry_asked region block i a b c e all p =
+        adds_then (λ now. IsTrue (now.reaches block)) (λ now. AreBelowNamed x t now.fact f.fact o region block) (λ now. IsTrue (now.reaches block) × AreBelowNamed x t now.fact f.fact o region block) a b c
+        (adds_one a b (Enter block) e)
+        (adds_end (arguments_of t block) (λ now j v. GetsNamed x t f o region now j v) i b c all p)
+        (λ now. (λ m. m, λ m. m))
+
+    pub visit_asked : (region r e : ℕ) (a b : List Demand) → first_of (layout_of t r) None ≡ Some e → Adds constants a b (λ now. IsTrue (now.reaches e) × AreBelowNamed x t now.fact f.fact o region e) → Adds constants a b (λ now. VisitEntered x t f o now region r)
+    visit_asked region r e a b is p =
+        adds_as (λ now. IsTrue (now.reaches e) × AreBelowNamed x t now.fact f.fact o region e) (λ now. VisitEntered x t f o now region r) a b p
+        (λ now. (λ m z at. subst (λ y. IsTrue (now.reaches y) × AreBelowNamed x t now.fact f.fact o region y) (some_is (sym is ∙ at)) m, λ m. m e is))
+
+    pub visits_asked : (rs : List ℕ) (i : ℕ) (a b : List Demand) → rs ≡ o.regions → length rs ≤ i → Adds constants a b (λ now. EachBefore rs i (VisitEntered x t f o now)) → Adds constants a b (λ now. AsksVisits x t f o now)
+    visits_asked rs i a b same all p =
+        adds_as (λ now. (j r : ℕ) → slice_get rs j ≡ Some r → VisitEntered x t f o now j r) (λ now. AsksVisits x t f o now) a b
+        (adds_end rs (λ now j r. VisitEntered x t f o now j r) i a b all p)
+        (λ now. (
+          λ m j r e at is. m j r (ap (λ l. slice_get l j) same ∙ at) e is,
+          λ m j r at e is. m j r e (ap (λ l. slice_get l j) (sym same) ∙ at) is,
+        ))
 
   -- one argument of one successor
   module _ (arguments : ℕ → List ℕ) (successors : List ℕ) (edge index block : ℕ) (f : Fact) where

@@ -9,7 +9,7 @@ use Rattle.pliron_laws.specs.Tree.{Operation, op_at, shape_of}
 use Rattle.pliron_laws.proofs.Records.{ShowsOperation, op_shows}
 use Rattle.pliron_theory.specs.Facts.{Facts, Says, handed, IsFeasibleEdge}
 use Rattle.pliron_sccp.specs.declared.demands.Demand.{Demand}
-use Rattle.pliron_sccp.specs.Demands.{MeetsAll, Adds, AreFeasible, MayLead, AsksEntries, AsksJumps, AsksForwarded, FollowsEdge, AsksBranches, AsksEdges, AsksResults}
+use Rattle.pliron_sccp.specs.Demands.{MeetsAll, Adds, AreFeasible, MayLead, AsksVisits, AsksJumps, AsksForwarded, FollowsEdge, AsksBranches, AsksEdges, AsksResults}
 use Rattle.pliron_sccp.specs.Settling.{IsMet}
 use Rattle.pliron_sccp.proofs.Demanded.{adds_as}
 
@@ -63,7 +63,7 @@ module _ (x : Says) (t : Tree) (f : Facts) (op : ℕ) (o : Operation) (e : op_at
         (λ now. (λ m. (λ yes. absurd (true≢false (sym yes ∙ none)), λ same. m), λ m. m.1 none))
 
     -- all that an operation asks
-    pub all_asked : (known : List (Option AttrObj)) → known ≡ handed f o.operands → (d0 d1 d2 d3 : List Demand) → d0 ≡ [] → Adds constants d0 d1 (AsksEntries t op) → Adds constants d1 d2 (AsksEdges x t f op o) → Adds constants d2 d3 (AsksResults x.can_fold (x.constants (shape_of x.meaning t o) known) o) → (now : Facts) → MeetsAll constants now d3 ↔ IsMet x t f now op o
+    pub all_asked : (known : List (Option AttrObj)) → known ≡ handed f o.operands → (d0 d1 d2 d3 : List Demand) → d0 ≡ [] → Adds constants d0 d1 (AsksVisits x t f o) → Adds constants d1 d2 (AsksEdges x t f op o) → Adds constants d2 d3 (AsksResults x.can_fold (x.constants (shape_of x.meaning t o) known) o) → (now : Facts) → MeetsAll constants now d3 ↔ IsMet x t f now op o
     all_asked known same d0 d1 d2 d3 none p1 p2 p3 now = (there, back)
       where
         there : MeetsAll constants now d3 → IsMet x t f now op o
@@ -72,7 +72,7 @@ module _ (x : Says) (t : Tree) (f : Facts) (op : ℕ) (o : Operation) (e : op_at
             let edges = (p2 now).0 results.0 in
             let entries = (p1 now).0 edges.0 in
             record {
-              entries = λ r b i a. entries.1 r b i a;
+              entries = λ i r b at e. entries.1 i r b at e;
               branches = λ i b branch go. edges.1.0 branch i b go;
               jumps = λ i b no_branch at. edges.1.1 no_branch i b (ap (λ l. slice_get l i) shows.successors ∙ at);
               folded = λ i v a folds at said. results.1.0 folds i v a at (ap (λ ks. slice_get (x.constants (shape_of x.meaning t o) ks) i) same ∙ said);
@@ -83,7 +83,7 @@ module _ (x : Says) (t : Tree) (f : Facts) (op : ℕ) (o : Operation) (e : op_at
         back m =
             (p3 now).1 (
               (p2 now).1 (
-                (p1 now).1 (subst (MeetsAll constants now) (sym none) tt, λ r b i a. m.entries r b i a),
+                (p1 now).1 (subst (MeetsAll constants now) (sym none) tt, λ i r b at e. m.entries i r b at e),
                 (λ branch i b go. m.branches i b branch go, λ no_branch i b at. m.jumps i b no_branch (ap (λ l. slice_get l i) (sym shows.successors) ∙ at)),
               ),
               (λ folds i v a at said. m.folded i v a folds at (ap (λ ks. slice_get (x.constants (shape_of x.meaning t o) ks) i) (sym same) ∙ said), λ never v i. m.others v never i),

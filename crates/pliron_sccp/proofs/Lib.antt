@@ -30,3 +30,4 @@ pub mod Accounting
 pub mod OnTheWay
 pub mod BestLook
 pub mod BestSteps
+pub mod KeptEdges

@@ -16,6 +16,7 @@ use Rattle.pliron_laws.specs.Folding.{AnswersTrue}
 use Rattle.pliron_theory.specs.Facts.{Facts, Says, AreClosed, AreHeld}
 use Rattle.pliron_sccp.specs.declared.facts.Tables.{Tables}
 use Rattle.pliron_sccp.specs.declared.delays.Delays.{Delays}
+use Rattle.pliron_sccp.specs.declared.edges.FeasibleEdges.{FeasibleEdges}
 use Rattle.pliron_sccp.specs.declared.demands.Demand.{Demand}
 use Rattle.pliron_sccp.specs.Falling.{FactsFall, IsApplied}
 use Rattle.pliron_laws.specs.Tree.{Operation}
@@ -27,6 +28,7 @@ use Rattle.pliron_sccp.specs.Settling.{AreAtMost, AreStarted, IsSettled}
 use Rattle.pliron_sccp.specs.Delaying.{delayed, TakesAside}
 use Rattle.pliron_sccp.specs.Looking.{AreCalls, AreTargetsNumbered, LooksAt, LooksThrough, TakesValues}
 use Rattle.pliron_sccp.specs.Looking.LooksThrough.{Nothing, Then}
+use Rattle.pliron_sccp.specs.Feasible.{leads}
 use Rattle.pliron_sccp.specs.Starting.{IsStarted}
 use Rattle.pliron_sccp.specs.Searched.{IsSearched}
 use Rattle.pliron_sccp.specs.Searching.{LooksAside, SeesToAll, TakesTurn, VisitsValues, IsSearchOnTheWay, IsSearching}
@@ -36,12 +38,12 @@ use Rattle.pliron_sccp.proofs.DistinctLists.{held_directly, below_held, distinct
 use Rattle.pliron_sccp.proofs.DistinctLists.{inside_block as stands_inside}
 use Rattle.pliron_sccp.proofs.InsideLists.{holds_listed}
 use Rattle.pliron_sccp.proofs.Settled.{entered_still, varies_still, closed_when_settled}
-use Rattle.pliron_sccp.proofs.Stepping.{entries_of, others_reached, entry_apart, entry_held, all_but_one, argument_but, below_but, unknown_but, below_same, IsSettledIn, AreSettledIn, settled_wider, through_settles, through_falls, block_settles, look_starts, look_holds, look_known}
+use Rattle.pliron_sccp.proofs.Stepping.{entries_of, others_reached, entry_apart, entry_held, all_but_one, argument_but, below_but, unknown_but, below_same, IsSettledIn, AreSettledIn, settled_wider, through_settles, through_falls, looks_only, block_settles, look_starts, look_holds, look_known}
 use Rattle.pliron_sccp.proofs.Applied.{falls_trans}
 use Rattle.pliron_sccp.proofs.Aside.{aside_block, aside_then, aside_values}
 use Rattle.pliron_sccp.proofs.Called.{values_settle, reached_before, called_aside, called_starts, called_known, nothing_called}
-use Rattle.pliron_sccp.proofs.BestLook.{ForwardsItsOperands}
-use Rattle.pliron_sccp.proofs.BestSteps.{start_best, step_best, aside_best, best_precise}
+use Rattle.pliron_sccp.proofs.BestLook.{PassesItsOperands}
+use Rattle.pliron_sccp.proofs.BestSteps.{start_best, step_best, aside_best, aside_kept, best_precise}
 use Rattle.pliron_sccp.proofs.Accounting.{unsearched_accounted, unsearched_inside, falls_accounted, falls_inside, block_accounted, values_accounted, block_inside, values_kept_inside, accounted_bound, accounted_counts}
 
 -- a value that a block inside the root lists is made inside it
@@ -152,7 +154,7 @@ module _ (x : Says) (t : Tree) (root : ℕ) (w : IsTree t) (live : IsLive t root
     there = λ b v i j none. facts v ∙ l.there b v i j (sym (reached b) ∙ none);
   }
 
-  module _ (edges : EdgesLast t root) where
+  module _ (last : EdgesLast t root) where
     through_laid : (ks : List ℕ) (s u : Tables) → LooksThrough x t ks s u → ((k : ℕ) → In k ks → (c : ℕ) × (parent_of t k ≡ Some c) × (reaches s c ≡ true)) → IsLaidOut t root s → IsLaidOut t root u
     through_laid [] s u Nothing placed l = l
     through_laid (k ∷ ks) s u (Then _ q a d) placed l =
@@ -160,9 +162,9 @@ module _ (x : Says) (t : Tree) (root : ℕ) (w : IsTree t) (live : IsLive t root
         through_laid ks q u d
         (λ j i. let y = placed j (inr i) in (y.0, y.1, a.applied.falls.below.reaches y.0 y.2))
         (record {
-          started = look_starts x t root w edges k p.0 s q a p.1 p.2 l.started;
-          held = look_holds x t root w edges k p.0 s q a p.1 p.2 l.started l.held;
-          there = look_known x t root w edges k p.0 s q a p.1 p.2 l.started l.there;
+          started = look_starts x t root w last k p.0 s q a p.1 p.2 l.started;
+          held = look_holds x t root w last k p.0 s q a p.1 p.2 l.started l.held;
+          there = look_known x t root w last k p.0 s q a p.1 p.2 l.started l.there;
         })
 
     laid_of : (s : Tables) (z : Delays) → IsSearchOnTheWay x t root s z → IsLaidOut t root s
@@ -184,7 +186,7 @@ module _ (x : Says) (t : Tree) (root : ℕ) (w : IsTree t) (live : IsLive t root
         }
 
     -- all values were taken, and what they call for was met
-    module _ (values users : List ℕ) (asked : List Demand) (s u q s' : Tables) (z z' : Delays) (k : TakesValues values s u) (c : AreCalls x t u values users asked) (a : IsApplied (known_constants u) asked u q) (v : SeesToAll x t users q s' z z') where
+    module _ (values users : List ℕ) (asked : List Demand) (s u q s' : Tables) (z z' : Delays) (k : TakesValues values s u) (edges : FeasibleEdges) (c : AreCalls x t u edges values users asked) (a : IsApplied (known_constants u) asked u q) (v : SeesToAll x t users q s' z z') where
       pub called_falls : FactsFall u s'
       called_falls = falls_trans u q s' a.falls (through_falls x t v.short q s' v.looks)
 
@@ -192,9 +194,9 @@ module _ (x : Says) (t : Tree) (root : ℕ) (w : IsTree t) (live : IsLive t root
       called_laid o =
           let l = laid_same s u k.facts k.reached (laid_of s z o) in
           record {
-            started = called_starts x t values users asked s u q k c a root l.started;
-            held = λ b h r e. ⊎_elim (λ y. inl y) (λ y. inr (y.0, y.1, a.falls.below.reaches y.0 y.2)) (l.held b h (reached_before x t values users asked s u q k c a b r) e);
-            there = called_known x t values users asked s u q k c a (λ j. In j (delayed z)) o.settled o.aside w root l.there;
+            started = called_starts x t edges values users asked s u q k c a root l.started;
+            held = λ b h r e. ⊎_elim (λ y. inl y) (λ y. inr (y.0, y.1, a.falls.below.reaches y.0 y.2)) (l.held b h (reached_before x t edges values users asked s u q k c a b r) e);
+            there = called_known x t edges values users asked s u q k c a (λ j. In j (delayed z)) o.settled o.aside w root l.there;
           }
 
       -- users are looked at or put aside
@@ -203,7 +205,7 @@ module _ (x : Says) (t : Tree) (root : ℕ) (w : IsTree t) (live : IsLive t root
           through_settles x t (λ j. In j (delayed z')) v.short q s' v.looks
           (settled_wider x t (λ j. In j users ⊎ In j (delayed z)) (λ j. In j v.short ⊎ In j (delayed z')) q
           (λ j y. ⊎_elim (λ i. v.seen j i) (λ i. inr (v.kept j i)) y)
-          (values_settle x t values users asked s u q k c a (λ j. In j (delayed z)) o.settled))
+          (values_settle x t edges values users asked s u q k c a (λ j. In j (delayed z)) o.settled))
 
       pub values_on_way : IsSearchOnTheWay x t root s z → IsSearchOnTheWay x t root s' z'
       values_on_way o =
@@ -213,7 +215,7 @@ module _ (x : Says) (t : Tree) (root : ℕ) (w : IsTree t) (live : IsLive t root
             settled = users_settle o;
             aside = λ j i. aside_then x t u s' j called_falls (⊎_elim
                 (λ old. aside_values x t values s u j k (o.aside j old))
-                (λ new. called_aside x t values users asked s u q k c a (λ j. In j (delayed z)) o.settled o.aside j new)
+                (λ new. called_aside x t edges values users asked s u q k c a (λ j. In j (delayed z)) o.settled o.aside j new)
                 (v.only j i));
             started = l.started;
             held = l.held;
@@ -221,17 +223,17 @@ module _ (x : Says) (t : Tree) (root : ℕ) (w : IsTree t) (live : IsLive t root
             waits = falls_inside t root u s' (values_kept_inside t root values s u o.waits k) called_falls (reached_listed s' l.started);
           }
 
-    pub step_on_way : (s s' : Tables) (z z' : Delays) (taken : ℕ) → TakesTurn x t s s' z z' taken → IsSearchOnTheWay x t root s z → IsSearchOnTheWay x t root s' z'
-    step_on_way s s' z z' taken (Block c u k d same e) o = subst (IsSearchOnTheWay x t root s') (sym same) (block_on_way c s u s' z k d o)
-    step_on_way s s' z z' taken (Values none v) o = values_on_way v.takes.values v.users v.asked s v.between v.met s' z z' v.takes.takes v.takes.calls v.applied v.sees o
+    pub step_on_way : (s s' : Tables) (z z' : Delays) (edges edges' : FeasibleEdges) (taken : ℕ) → TakesTurn x t s s' z z' edges edges' taken → IsSearchOnTheWay x t root s z → IsSearchOnTheWay x t root s' z'
+    step_on_way s s' z z' edges edges' taken (Block c u k d same e) o = subst (IsSearchOnTheWay x t root s') (sym same) (block_on_way c s u s' z k (looks_only x t (body_of t c) u s' edges edges' d) o)
+    step_on_way s s' z z' edges edges' taken (Values none v kept) o = values_on_way v.takes.values v.users v.asked s v.between v.met s' z z' v.takes.takes edges v.takes.calls v.applied v.sees o
 
-    pub step_accounted : (s s' : Tables) (z z' : Delays) (pops taken : ℕ) → TakesTurn x t s s' z z' taken → IsSearchOnTheWay x t root s z → IsAccounted t root s pops → IsAccounted t root s' (pops + taken)
-    step_accounted s s' z z' pops taken (Block c u k d same e) o a =
+    pub step_accounted : (s s' : Tables) (z z' : Delays) (edges edges' : FeasibleEdges) (pops taken : ℕ) → TakesTurn x t s s' z z' edges edges' taken → IsSearchOnTheWay x t root s z → IsAccounted t root s pops → IsAccounted t root s' (pops + taken)
+    step_accounted s s' z z' edges edges' pops taken (Block c u k d same e) o a =
         subst (λ n. IsAccounted t root s' (pops + n)) (sym e)
-        (falls_accounted t root u s' (pops + 1) (block_inside t root c s u o.waits k) (through_falls x t (body_of t c) u s' d) (block_accounted t root w c s u pops o.waits k a))
-    step_accounted s s' z z' pops taken (Values none v) o a =
+        (falls_accounted t root u s' (pops + 1) (block_inside t root c s u o.waits k) (through_falls x t (body_of t c) u s' (looks_only x t (body_of t c) u s' edges edges' d)) (block_accounted t root w c s u pops o.waits k a))
+    step_accounted s s' z z' edges edges' pops taken (Values none v kept) o a =
         subst (λ n. IsAccounted t root s' (pops + n)) (sym v.takes.counted)
-        (falls_accounted t root v.between s' (pops + length v.takes.values) (values_kept_inside t root v.takes.values s v.between o.waits v.takes.takes) (called_falls v.takes.values v.users v.asked s v.between v.met s' z z' v.takes.takes v.takes.calls v.applied v.sees) (values_accounted t root w v.takes.values s v.between pops o.waits v.takes.takes a))
+        (falls_accounted t root v.between s' (pops + length v.takes.values) (values_kept_inside t root v.takes.values s v.between o.waits v.takes.takes) (called_falls v.takes.values v.users v.asked s v.between v.met s' z z' v.takes.takes edges v.takes.calls v.applied v.sees) (values_accounted t root w v.takes.values s v.between pops o.waits v.takes.takes a))
 
     -- one that was put aside was looked at
     pub aside_on_way : (k : ℕ) (s s' : Tables) (z z' : Delays) → TakesAside k (delayed z) (delayed z') → LooksAt x t k s s' → IsSearchOnTheWay x t root s z → IsSearchOnTheWay x t root s' z'
@@ -272,8 +274,8 @@ module _ (x : Says) (t : Tree) (root : ℕ) (w : IsTree t) (live : IsLive t root
   one_is_none e = omega (arith, e)
 
   -- where no value was taken no user is seen to
-  no_users : (s s' : Tables) (z z' : Delays) → (v : VisitsValues x t s s' z z' 0) → (v.takes.values ≡ []) × (v.users ≡ [])
-  no_users s s' z z' v = (are_none, none_of v.users v.takes.calls)
+  no_users : (s s' : Tables) (z z' : Delays) (edges : FeasibleEdges) → (v : VisitsValues x t edges s s' z z' 0) → (v.takes.values ≡ []) × (v.users ≡ [])
+  no_users s s' z z' edges v = (are_none, none_of v.users v.takes.calls)
     where
       no_values : (vs : List ℕ) → length vs ≡ 0 → vs ≡ []
       no_values [] e = refl
@@ -282,32 +284,32 @@ module _ (x : Says) (t : Tree) (root : ℕ) (w : IsTree t) (live : IsLive t root
       are_none : v.takes.values ≡ []
       are_none = no_values v.takes.values (sym v.takes.counted)
 
-      none_of : (us : List ℕ) → AreCalls x t v.between v.takes.values us v.asked → us ≡ []
+      none_of : (us : List ℕ) → AreCalls x t v.between edges v.takes.values us v.asked → us ≡ []
       none_of [] c = refl
       none_of (k ∷ us) c = let y = (c.only k (inl refl)).1 in absurd (subst (In y.0) are_none y.1)
 
   -- where nothing was taken nothing waits
-  pub nothing_waits : (s s' : Tables) (z z' : Delays) → TakesTurn x t s s' z z' 0 → NothingWaits s'
-  nothing_waits s s' z z' (Block c u k d same e) = absurd (one_is_none (sym e))
-  nothing_waits s s' z z' (Values none v) =
-      let n = no_users s s' z z' v in
-      subst NothingWaits (sym (same_tables v.sees.short s' v.sees.looks (λ k i. subst (In k) n.1 (v.sees.among k i)))) (nothing_called x t v.takes.values v.users v.asked s v.between v.met v.takes.takes v.takes.calls v.applied n.0 none)
+  pub nothing_waits : (s s' : Tables) (z z' : Delays) (edges edges' : FeasibleEdges) → TakesTurn x t s s' z z' edges edges' 0 → NothingWaits s'
+  nothing_waits s s' z z' edges edges' (Block c u k d same e) = absurd (one_is_none (sym e))
+  nothing_waits s s' z z' edges edges' (Values none v kept) =
+      let n = no_users s s' z z' edges v in
+      subst NothingWaits (sym (same_tables v.sees.short s' v.sees.looks (λ k i. subst (In k) n.1 (v.sees.among k i)))) (nothing_called x t edges v.takes.values v.users v.asked s v.between v.met v.takes.takes v.takes.calls v.applied n.0 none)
     where
       same_tables : (ks : List ℕ) (u : Tables) → LooksThrough x t ks v.met u → ((k : ℕ) → In k ks → ⊥) → u ≡ v.met
       same_tables [] u Nothing empty = refl
       same_tables (k ∷ ks) u d empty = absurd (empty k (inl refl))
 
   -- and no more is put aside
-  pub none_put : (s s' : Tables) (z z' : Delays) → TakesTurn x t s s' z z' 0 → length (delayed z') ≤ length (delayed z)
-  none_put s s' z z' (Block c u k d same e) = absurd (one_is_none (sym e))
-  none_put s s' z z' (Values none v) =
-      let n = ap length (no_users s s' z z' v).1 in
+  pub none_put : (s s' : Tables) (z z' : Delays) (edges edges' : FeasibleEdges) → TakesTurn x t s s' z z' edges edges' 0 → length (delayed z') ≤ length (delayed z)
+  none_put s s' z z' edges edges' (Block c u k d same e) = absurd (one_is_none (sym e))
+  none_put s s' z z' edges edges' (Values none v kept) =
+      let n = ap length (no_users s s' z z' edges v).1 in
       let g = v.sees.grows in
       omega (arith, n, g)
 
-  pub few_put : (s s' : Tables) (z z' : Delays) (taken : ℕ) → TakesTurn x t s s' z z' taken → length (delayed z') < length (delayed z) + 2 ^ 64
-  few_put s s' z z' taken (Block c u k d same e) = let n = ap (λ q. length (delayed q)) same in omega (arith, n)
-  few_put s s' z z' taken (Values none v) = let g = v.sees.grows in let f = v.sees.few in omega (arith, g, f)
+  pub few_put : (s s' : Tables) (z z' : Delays) (edges edges' : FeasibleEdges) (taken : ℕ) → TakesTurn x t s s' z z' edges edges' taken → length (delayed z') < length (delayed z) + 2 ^ 64
+  few_put s s' z z' edges edges' taken (Block c u k d same e) = let n = ap (λ q. length (delayed q)) same in omega (arith, n)
+  few_put s s' z z' edges edges' taken (Values none v kept) = let g = v.sees.grows in let f = v.sees.few in omega (arith, g, f)
 
   pub closed_at_end : (s : Tables) (z : Delays) → NothingWaits s → delayed z ≡ [] → IsSearchOnTheWay x t root s z → AreClosed x t root (facts_of s)
   closed_at_end s z done none o = closed_when_settled x t root (facts_of s) o.started
@@ -353,47 +355,54 @@ module _ (x : Says) (t : Tree) (root : ℕ) (w : IsTree t) (live : IsLive t root
   pub few_to_take : HaveFewKeys t → length (blocks_inside t root) + 2 * length (values_inside t root) < 2 ^ 128
   few_to_take few = let b = few_blocks few in let v = few_values few in omega (arith, b, v)
 
-  module _ (linked : IsWellLinked x.meaning t root) (answers : AnswersTrue x.meaning x.can_fold x.constants) (places : ForwardsItsOperands x) where
-    pub started_search : (s : Tables) (z : Delays) → delayed z ≡ [] → IsStarted t root s → IsSearching x t root s z 0
-    started_search s z none start = record { way = start_on_way s start z none; accounted = start_accounted s start; best = λ owed. start_best x t root w linked answers places owed s start }
+  module _ (linked : IsWellLinked x.meaning t root) (answers : AnswersTrue x.meaning x.can_fold x.constants) (places : PassesItsOperands x) where
+    pub started_search : (s : Tables) (z : Delays) (edges : FeasibleEdges) → delayed z ≡ [] → ((k b : ℕ) → leads edges k b ≡ false) → IsStarted t root s → IsSearching x t root s z edges 0
+    started_search s z edges none nowhere start = record {
+      way = start_on_way s start z none;
+      accounted = start_accounted s start;
+      best = λ owed. start_best x t root w linked answers places owed s start;
+      sure = λ owed k b led. absurd (true≢false (sym led ∙ nowhere k b));
+    }
 
-    module _ (s s' : Tables) (z z' : Delays) (pops taken : ℕ) (step : TakesTurn x t s s' z z' taken) (so_far : IsSearching x t root s z pops) where
-      pub next_search : IsSearching x t root s' z' (pops + taken)
+    module _ (s s' : Tables) (z z' : Delays) (edges edges' : FeasibleEdges) (pops taken : ℕ) (step : TakesTurn x t s s' z z' edges edges' taken) (so_far : IsSearching x t root s z edges pops) where
+      pub next_search : IsSearching x t root s' z' edges' (pops + taken)
       next_search = record {
-        way = step_on_way linked.edges s s' z z' taken step so_far.way;
-        accounted = step_accounted linked.edges s s' z z' pops taken step so_far.way so_far.accounted;
-        best = λ owed. step_best x t root w linked answers places owed s s' z z' taken step so_far.way (so_far.best owed);
+        way = step_on_way linked.edges s s' z z' edges edges' taken step so_far.way;
+        accounted = step_accounted linked.edges s s' z z' edges edges' pops taken step so_far.way so_far.accounted;
+        best = λ owed. (step_best x t root w linked answers places owed s s' z z' edges edges' taken step so_far.way (so_far.best owed) (so_far.sure owed)).0;
+        sure = λ owed. (step_best x t root w linked answers places owed s s' z z' edges edges' taken step so_far.way (so_far.best owed) (so_far.sure owed)).1;
       }
 
       pub search_bound : pops + taken ≤ length (blocks_inside t root) + 2 * length (values_inside t root)
       search_bound = accounted_bound t root s' (pops + taken) next_search.accounted
 
       pub fewer_left : 0 < taken → (length (blocks_inside t root) + 2 * length (values_inside t root) - (pops + taken)) * 2 ^ 64 + length (delayed z') < (length (blocks_inside t root) + 2 * length (values_inside t root) - pops) * 2 ^ 64 + length (delayed z)
-      fewer_left some = fewer (length (blocks_inside t root) + 2 * length (values_inside t root)) pops taken (length (delayed z)) (length (delayed z')) search_bound some (few_put s s' z z' taken step)
+      fewer_left some = fewer (length (blocks_inside t root) + 2 * length (values_inside t root)) pops taken (length (delayed z)) (length (delayed z')) search_bound some (few_put s s' z z' edges edges' taken step)
 
     -- where nothing was taken
-    module _ (s s' : Tables) (z z' : Delays) (pops : ℕ) (step : TakesTurn x t s s' z z' 0) (so_far : IsSearching x t root s z pops) where
-      pub same_search : IsSearching x t root s' z' pops
-      same_search = let e : pops + 0 ≡ pops = omega arith in subst (IsSearching x t root s' z') e (next_search s s' z z' pops 0 step so_far)
+    module _ (s s' : Tables) (z z' : Delays) (edges edges' : FeasibleEdges) (pops : ℕ) (step : TakesTurn x t s s' z z' edges edges' 0) (so_far : IsSearching x t root s z edges pops) where
+      pub same_search : IsSearching x t root s' z' edges' pops
+      same_search = let e : pops + 0 ≡ pops = omega arith in subst (IsSearching x t root s' z' edges') e (next_search s s' z z' edges edges' pops 0 step so_far)
 
       -- one that was put aside is looked at
-      module _ (u : Tables) (y : Delays) (looks : LooksAside x t s' u z' y true) where
-        pub aside_search : IsSearching x t root u y pops
+      module _ (u : Tables) (y : Delays) (kept : FeasibleEdges) (looks : LooksAside x t s' u z' y edges' kept true) where
+        pub aside_search : IsSearching x t root u y kept pops
         aside_search = record {
           way = aside_on_way linked.edges looks.0 s' u z' y looks.1 looks.2 same_search.way;
           accounted = falls_accounted t root s' u pops same_search.way.waits looks.2.applied.falls same_search.accounted;
           best = λ owed. aside_best x t root w linked answers places owed s' (same_search.best owed) same_search.way.started.inside looks.0 u (same_search.way.aside looks.0 looks.1.was).looked looks.2;
+          sure = λ owed. aside_kept x t root w linked answers places owed s' (same_search.best owed) same_search.way.started.inside looks.0 edges' kept (same_search.way.aside looks.0 looks.1.was).looked looks.3 (same_search.sure owed);
         }
 
         pub fewer_aside : length (delayed y) < length (delayed z)
-        fewer_aside = let p = none_put s s' z z' step in let f = looks.1.fewer in omega (arith, p, f)
+        fewer_aside = let p = none_put s s' z z' edges edges' step in let f = looks.1.fewer in omega (arith, p, f)
 
       -- nothing is put aside
-      pub end_search : (u : Tables) (y : Delays) → LooksAside x t s' u z' y false → IsSearched x t root u pops
-      end_search u y (none, same) = subst (λ q. IsSearched x t root q pops) (sym same) ended
+      pub end_search : (u : Tables) (y : Delays) (kept : FeasibleEdges) → LooksAside x t s' u z' y edges' kept false → IsSearched x t root u pops
+      end_search u y kept (none, same) = subst (λ q. IsSearched x t root q pops) (sym same) ended
         where
           done : NothingWaits s'
-          done = nothing_waits s s' z z' step
+          done = nothing_waits s s' z z' edges edges' step
 
           closed : AreClosed x t root (facts_of s')
           closed = closed_at_end s' z' done none same_search.way

@@ -1,5 +1,5 @@
 -- Operations stay settled while no operand of theirs falls, and where all are settled facts are closed.
-use Rattle.std.proofs.Common.{◌≡◌, ◌⊎◌, inl, inr, ⊎_elim, ℕ, List, Some, None, slice_get, sym, ap, ◌∙◌, subst, arith}
+use Rattle.std.proofs.Common.{◌≡◌, ◌⊎◌, inl, inr, ⊎_elim, ℕ, List, Option, Some, None, slice_get, sym, ap, ◌∙◌, subst, arith}
 use Rattle.pliron_core.specs.Tree.{Tree, In, head_of, regions_of, layout_of, first_of}
 use Rattle.pliron_core.specs.Joined.{IsTree}
 use Rattle.pliron_core.proofs.HoldingLemmas.{in_slice, some_of}
@@ -7,7 +7,7 @@ use Rattle.pliron_laws.specs.Tree.{Operation, op_at, shape_of}
 use Rattle.pliron_laws.proofs.Records.{make_op}
 use Rattle.pliron_theory.proofs.Alike.{map_same}
 use Rattle.pliron_theory.proofs.KnownData.{picked_at}
-use Rattle.pliron_theory.specs.Facts.{Fact, Undetermined, NotAConstant, AtMost, known, answered, Facts, Says, handed, IsInReachedBlock, IsEntered, AreClosed}
+use Rattle.pliron_theory.specs.Facts.{Fact, Undetermined, NotAConstant, AtMost, known, answered, Facts, Says, handed, IsInReachedBlock, IsEntered, IsBelowNamed, AreClosed}
 use Rattle.pliron_sccp.specs.Settling.{IsMet, AreAtMost, AreSettledBut, AreStarted}
 use Rattle.pliron_theory.proofs.FactLattice.{at_most_trans}
 
@@ -17,6 +17,15 @@ varies_still f g (inl u) e = let x : Undetermined ≡ NotAConstant = sym u ∙ e
 varies_still f g (inr (inl n)) e = n
 varies_still f g (inr (inr s)) e = s ∙ e
 
+-- facts that fall go on standing below what is named, and what is seen is the facts of operands
+pub named_lower : (now later seen : ℕ → Fact) (operands : List ℕ) (a : Option ℕ) (v : ℕ) → AtMost (later v) (now v) → IsBelowNamed now seen operands a v → IsBelowNamed later seen operands a v
+named_lower now later seen operands None v below q = varies_still (now v) (later v) below q
+named_lower now later seen operands (Some p) v below q = λ w at. at_most_trans (later v) (now v) (seen w) below (q w at)
+
+named_same : (now seen seen' : ℕ → Fact) (operands : List ℕ) → ((v : ℕ) → In v operands → seen' v ≡ seen v) → (a : Option ℕ) (v : ℕ) → IsBelowNamed now seen operands a v → IsBelowNamed now seen' operands a v
+named_same now seen seen' operands same None v q = q
+named_same now seen seen' operands same (Some p) v q = λ w at. subst (AtMost (now v)) (sym (same w (in_slice operands p w at))) (q w at)
+
 module _ (x : Says) (t : Tree) where
   pub entered_still : (f g : Facts) (b : ℕ) → AreAtMost g f → IsEntered t f b → IsEntered t g b
   entered_still f g b below (reached, varies) = (below.reaches b reached, λ v i. varies_still (f.fact v) (g.fact v) (below.fact v) (varies v i))
@@ -24,7 +33,7 @@ module _ (x : Says) (t : Tree) where
   -- facts that fall go on meeting what was asked
   pub met_still : (f now later : Facts) (k : ℕ) (o : Operation) → AreAtMost later now → IsMet x t f now k o → IsMet x t f later k o
   met_still f now later k o below m = record {
-    entries = λ r b i e. entered_still now later b below (m.entries r b i e);
+    entries = λ i r b at e. let y = m.entries i r b at e in (below.reaches b y.0, λ j v a. named_lower now.fact later.fact f.fact o.operands (x.entry_operands (shape_of x.meaning t o) i j) v (below.fact v) (y.1 j v a));
     branches = λ i b branch go.
         let y = m.branches i b branch go in
         (below.reaches b y.0, λ j v w at g. at_most_trans (later.fact v) (now.fact v) (f.fact w) (below.fact v) (y.1 j v w at g));
@@ -39,7 +48,7 @@ module _ (x : Says) (t : Tree) where
   -- only the facts of operands were read
   pub met_same : (f g now : Facts) (k : ℕ) (o : Operation) → ((v : ℕ) → In v o.operands → g.fact v ≡ f.fact v) → IsMet x t f now k o → IsMet x t g now k o
   met_same f g now k o same m = record {
-    entries = m.entries;
+    entries = λ i r b at e. let y = m.entries i r b at e in (y.0, λ j v a. named_same now.fact f.fact g.fact o.operands same (x.entry_operands (shape_of x.meaning t o) i j) v (y.1 j v a));
     branches = λ i b branch go.
         let y = m.branches i b branch (go.0, λ folds. subst (λ ks. In b (x.feasible (shape_of x.meaning t o) o.successors ks)) (handed_same f g o.operands same) (go.1 folds)) in (
           y.0,
@@ -57,7 +66,8 @@ module _ (x : Says) (t : Tree) where
   closed_when_settled root f started settled w = record {
     inside = started.inside;
     outside = started.outside;
-    entries = entries;
+    root_entries = started.entries;
+    entries = λ k i r b o stands at there e. (met k o stands at).entries i r b there e;
     branches = λ k i b o stands at branch go. (met k o stands at).branches i b branch go;
     jumps = λ k i b o stands at no_branch e. (met k o stands at).jumps i b no_branch e;
     folded = λ k i v a o stands at folds e said. (met k o stands at).folded i v a folds e said;
@@ -69,10 +79,3 @@ module _ (x : Says) (t : Tree) where
           (λ z. absurd z)
           (λ y. ⊎_elim (λ q. met_same q.seen f f k o (λ v i. ⊎_elim (λ e. e) (λ z. absurd z) (q.same v i)) q.met) (λ z. absurd z) y)
           (settled k b o p r at)
-
-      entries : (k r b : ℕ) → (k ≡ root) ⊎ IsInReachedBlock t f k → In r (regions_of t k) → first_of (layout_of t r) None ≡ Some b → IsEntered t f b
-      entries k r b (inl s) i e = started.entries r b (subst (λ z. In r (regions_of t z)) s i) e
-      entries k r b (inr (d, p, q)) i e =
-          let live = (w.joined.standing k d p).0 in
-          let h = some_of (head_of t k) live in
-          (met k _ (d, p, q) (make_op t k h.0 h.1)).entries r b i e

@@ -1,5 +1,5 @@
 -- One fold of the chain.
-use Rattle.std.proofs.Common.{◌≡◌, ◌⊎◌, inl, inr, slice_get, map, drop, ◌∷◌, [], ℕ, zero, suc, ◌+◌, Bool, false, List, Option, Some, None, Result, Ok, Err, length, IsSome, is_some, sym, ap, ap₂, ◌∙◌, subst, arith, ◌≤◌, IsTrue}
+use Rattle.std.proofs.Common.{◌≡◌, ◌⊎◌, inl, inr, slice_get, slice_range, map, drop, ◌∷◌, [], ℕ, zero, suc, ◌+◌, Bool, false, List, Option, Some, None, Result, Ok, Err, length, IsSome, is_some, sym, ap, ap₂, ◌∙◌, subst, arith, ◌≤◌, IsTrue}
 use Rattle.std.specs.Result.{IfOk, OnErr}
 use Rattle.pliron_core.specs.declared.attrs.AttrObj.{AttrObj}
 use Rattle.pliron_core.specs.declared.attrs.IRStatus.{IRStatus}
@@ -21,12 +21,13 @@ use Rattle.pliron_core.specs.Changes.{IsSameTree}
 use Rattle.pliron_core.specs.Status.{changed_by_either}
 use Rattle.pliron_core.specs.declared.attrs.IRStatus.TheVariants.{Changed, Unchanged}
 use Rattle.std.proofs.lemmas.List.{get_or_past}
-use Rattle.pliron_theory.proofs.SoundRuns.{PassesForwarded}
+use Rattle.pliron_theory.proofs.SoundRuns.{PassesForwarded, NamesWell}
 use Rattle.pliron_laws.proofs.Records.{ShowsOperation, op_shows}
 use Rattle.pliron_theory.specs.Facts.{Facts, Says, known, handed, answers_of}
 use Rattle.pliron_theory.specs.Following.{StandsAsBefore, Follows}
 use Rattle.pliron_sccp.specs.Steps.{IsFoldStep, AreFoldSteps, IsFoldingOn, TellsCreated}
 use Rattle.pliron_sccp.specs.declared.rewrite.Fold.{Fold}
+use Rattle.pliron_sccp.specs.declared.rewrite.Folds.{Folds}
 use Rattle.pliron_sccp.specs.Chain.{FoldsInTurn, FoldsPartly}
 use Rattle.pliron_sccp.specs.Chain.FoldsPartly.{Stopped, After}
 use Rattle.pliron_sccp.specs.Chain.FoldsInTurn.{NoMore, Next}
@@ -96,9 +97,9 @@ module _ (x : Says) (t₀ : Tree) (root : ℕ) (f₀ : Facts) (t : Tree) (op : �
         subst (λ z. MaterialisesSome accepts head op s.operation.results z t u) (ap₂ (λ p q. x.constants p q) now.shape s.known_is)
         (subst (λ z. MaterialisesSome accepts head op z (x.constants (shape_of x.meaning t now.operation) ks) t u) now.results (law.constant t u op ks answer now.operation now.stands is).0)
 
-    pub step_follows : AnswersTrue x.meaning x.can_fold x.constants → AnswersJumps x.meaning x.can_fold_branch x.feasible → PassesForwarded x.meaning → MakesConstants x.meaning accepts head → ((attr : AttrObj) → IsTrue (accepts attr) → x.meaning.is_branch (head attr) ≡ false) → (u : Tree) (answer : Option IRStatus) → outcome t u op ks answer → IsTree u → length t.operations ≤ length u.operations → Follows x t₀ root f₀ u
-    step_follows answers jumps passes makes plain u answer is w longer =
-        fold_on x t₀ root f₀ s.first answers jumps passes accepts head makes plain op s.operation s.stands s.at s.folds t u s.follows w (step_some u answer is) longer
+    pub step_follows : AnswersTrue x.meaning x.can_fold x.constants → AnswersJumps x.meaning x.can_fold_branch x.feasible → PassesForwarded x.meaning → NamesWell x → MakesConstants x.meaning accepts head → ((attr : AttrObj) → IsTrue (accepts attr) → x.meaning.is_branch (head attr) ≡ false) → (u : Tree) (answer : Option IRStatus) → outcome t u op ks answer → IsTree u → length t.operations ≤ length u.operations → Follows x t₀ root f₀ u
+    step_follows answers jumps passes names makes plain u answer is w longer =
+        fold_on x t₀ root f₀ s.first answers jumps passes names accepts head makes plain op s.operation s.stands s.at s.folds t u s.follows w (step_some u answer is) longer
 
 -- the outcome, whatever was answered
 pub either : (P : Option IRStatus → Type 0) (r : Result IRStatus OptError) → IfOk r (λ status. P (Some status)) → OnErr r (P None) → (a : Option IRStatus) × P a
@@ -111,32 +112,32 @@ drop_at (y ∷ ys) zero x e = ap (λ z. z ∷ ys) (some_is e)
 drop_at (y ∷ ys) (suc i) x e =
     let one : suc i + 1 ≡ suc (i + 1) = omega arith in drop_at ys i x e ∙ ap (λ n. x ∷ drop n (y ∷ ys)) (sym one)
 
-module _ (x : Says) (outcome : Outcome) (start : Tree) (folds : List Fold) where
+module _ (x : Says) (outcome : Outcome) (start : Tree) (folds : Folds) where
   pub folding_start : IsFoldingOn x outcome start folds 0 Unchanged start
   folding_start = record { follows = λ t₀ root f₀ s. s.follows; partly = λ t₀ root f₀ s u z. z; turns = λ t₀ root f₀ s u z. z; told = same_refl start; stays = λ k l. l }
 
-  pub folding_can : (i : ℕ) (status : IRStatus) (here : Tree) → IsFoldingOn x outcome start folds i status here → (fold : Fold) → slice_get folds i ≡ Some fold → (t₀ : Tree) (root : ℕ) (f₀ : Facts) → AreFoldSteps x t₀ root f₀ start folds → IsFoldStep x t₀ root f₀ here fold.op fold.known.items
+  pub folding_can : (i : ℕ) (status : IRStatus) (here : Tree) → IsFoldingOn x outcome start folds i status here → (fold : Fold) → slice_get folds.rows.items i ≡ Some fold → (t₀ : Tree) (root : ℕ) (f₀ : Facts) → AreFoldSteps x t₀ root f₀ start folds → IsFoldStep x t₀ root f₀ here fold.op (slice_range folds.known.items fold.start fold.end)
   folding_can i status here g fold at t₀ root f₀ s =
       let e = s.each i fold at in
-      record { first = s.first; follows = g.follows t₀ root f₀ s; operation = e.0; at = e.1; stands = e.2; folds = e.3; known_is = e.4 }
+      record { first = s.first; follows = g.follows t₀ root f₀ s; operation = e.operation; at = e.at; stands = e.stands; folds = e.folds; known_is = e.known_is }
 
-  pub folding_next : (i : ℕ) (status : IRStatus) (here : Tree) → IsFoldingOn x outcome start folds i status here → (fold : Fold) → slice_get folds i ≡ Some fold → (next : Tree) (one : IRStatus) → outcome here next fold.op fold.known.items (Some one) → TellsCreated one here next → ((k : ℕ) → IsLive here k → IsLive next k) → ((t₀ : Tree) (root : ℕ) (f₀ : Facts) → IsFoldStep x t₀ root f₀ here fold.op fold.known.items → Follows x t₀ root f₀ next) → IsFoldingOn x outcome start folds (i + 1) (changed_by_either status one) next
+  pub folding_next : (i : ℕ) (status : IRStatus) (here : Tree) → IsFoldingOn x outcome start folds i status here → (fold : Fold) → slice_get folds.rows.items i ≡ Some fold → (next : Tree) (one : IRStatus) → outcome here next fold.op (slice_range folds.known.items fold.start fold.end) (Some one) → TellsCreated one here next → ((k : ℕ) → IsLive here k → IsLive next k) → ((t₀ : Tree) (root : ℕ) (f₀ : Facts) → IsFoldStep x t₀ root f₀ here fold.op (slice_range folds.known.items fold.start fold.end) → Follows x t₀ root f₀ next) → IsFoldingOn x outcome start folds (i + 1) (changed_by_either status one) next
   folding_next i status here g fold at next one is told stays follows = record {
     follows = λ t₀ root f₀ s. follows t₀ root f₀ (folding_can i status here g fold at t₀ root f₀ s);
     partly = λ t₀ root f₀ s u z.
         let e = s.each i fold at in
-        let known = e.4 ∙ ap (handed f₀) (sym (op_shows t₀ fold.op e.0 e.1).operands) in
-        g.partly t₀ root f₀ s u (subst (λ l. FoldsPartly outcome t₀ f₀ (map (λ q. q.op) l) here u) (sym (drop_at folds i fold at)) (After fold.op next one (subst (λ ks. outcome here next fold.op ks (Some one)) known is) z));
+        let known = e.known_is ∙ ap (handed f₀) (sym (op_shows t₀ fold.op e.operation e.at).operands) in
+        g.partly t₀ root f₀ s u (subst (λ l. FoldsPartly outcome t₀ f₀ (map (λ q. q.op) l) here u) (sym (drop_at folds.rows.items i fold at)) (After fold.op next one (subst (λ ks. outcome here next fold.op ks (Some one)) known is) z));
     turns = λ t₀ root f₀ s u z.
         let e = s.each i fold at in
-        let known = e.4 ∙ ap (handed f₀) (sym (op_shows t₀ fold.op e.0 e.1).operands) in
-        g.turns t₀ root f₀ s u (subst (λ l. FoldsInTurn outcome t₀ f₀ (map (λ q. q.op) l) here u) (sym (drop_at folds i fold at)) (Next fold.op next one (subst (λ ks. outcome here next fold.op ks (Some one)) known is) z));
+        let known = e.known_is ∙ ap (handed f₀) (sym (op_shows t₀ fold.op e.operation e.at).operands) in
+        g.turns t₀ root f₀ s u (subst (λ l. FoldsInTurn outcome t₀ f₀ (map (λ q. q.op) l) here u) (sym (drop_at folds.rows.items i fold at)) (Next fold.op next one (subst (λ ks. outcome here next fold.op ks (Some one)) known is) z));
     told = told_then start here next status one stays g.told told;
     stays = λ k l. stays k (g.stays k l);
   }
 
-  pub folding_end : (i : ℕ) (status : IRStatus) (here : Tree) → IsFoldingOn x outcome start folds i status here → drop i folds ≡ [] → (t₀ : Tree) (root : ℕ) (f₀ : Facts) → AreFoldSteps x t₀ root f₀ start folds → FoldsInTurn outcome t₀ f₀ (map (λ fold. fold.op) folds) start here
+  pub folding_end : (i : ℕ) (status : IRStatus) (here : Tree) → IsFoldingOn x outcome start folds i status here → drop i folds.rows.items ≡ [] → (t₀ : Tree) (root : ℕ) (f₀ : Facts) → AreFoldSteps x t₀ root f₀ start folds → FoldsInTurn outcome t₀ f₀ (map (λ fold. fold.op) folds.rows.items) start here
   folding_end i status here g none t₀ root f₀ s = g.turns t₀ root f₀ s here (subst (λ l. FoldsInTurn outcome t₀ f₀ (map (λ q. q.op) l) here here) (sym none) NoMore)
 
-  pub folding_broken : (i : ℕ) (status : IRStatus) (here : Tree) → IsFoldingOn x outcome start folds i status here → (next : Tree) → IsSameTree here next → (t₀ : Tree) (root : ℕ) (f₀ : Facts) → AreFoldSteps x t₀ root f₀ start folds → FoldsPartly outcome t₀ f₀ (map (λ fold. fold.op) folds) start next
+  pub folding_broken : (i : ℕ) (status : IRStatus) (here : Tree) → IsFoldingOn x outcome start folds i status here → (next : Tree) → IsSameTree here next → (t₀ : Tree) (root : ℕ) (f₀ : Facts) → AreFoldSteps x t₀ root f₀ start folds → FoldsPartly outcome t₀ f₀ (map (λ fold. fold.op) folds.rows.items) start next
   folding_broken i status here g next same t₀ root f₀ s = g.partly t₀ root f₀ s next (Stopped same)

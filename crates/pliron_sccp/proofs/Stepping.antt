@@ -10,7 +10,8 @@ use Rattle.pliron_core.proofs.ListLemmas.{decide_in, In-left, In-right}
 use Rattle.pliron_core.proofs.NeighbourLemmas.{first_of-In}
 use Rattle.pliron_core.proofs.HoldingLemmas.{in_slice, some_is, not_none, inside_block, some_of}
 use Rattle.pliron_laws.specs.Linked.{EdgesLast}
-use Rattle.pliron_laws.specs.Tree.{Operation, op_at}
+use Rattle.pliron_laws.specs.Tree.{Operation, op_at, shape_of}
+use Rattle.pliron_theory.proofs.FactLattice.{unknown_below}
 use Rattle.pliron_laws.proofs.Records.{make_op, op_shows}
 use Rattle.pliron_theory.specs.Facts.{Fact, Undetermined, NotAConstant, Facts, Says, IsInReachedBlock, AreHeld}
 use Rattle.pliron_sccp.specs.declared.facts.Tables.{Tables}
@@ -20,8 +21,10 @@ use Rattle.pliron_sccp.specs.Settling.{IsMet, AreAtMost, IsSettled, AreSettledBu
 use Rattle.pliron_sccp.specs.Falling.{FactsFall}
 use Rattle.pliron_sccp.specs.Demands.{Asks, AsksEntries, CanMeet, MeetsAll}
 use Rattle.pliron_sccp.specs.declared.demands.Demand.{Demand}
-use Rattle.pliron_sccp.specs.Looking.{AreTargetsNumbered, HasNumberedTargets, LooksAt, LooksThrough}
+use Rattle.pliron_sccp.specs.declared.edges.FeasibleEdges.{FeasibleEdges}
+use Rattle.pliron_sccp.specs.Looking.{AreTargetsNumbered, GoesThrough, HasNumberedTargets, LooksAt, LooksThrough}
 use Rattle.pliron_sccp.specs.Looking.LooksThrough.{Nothing, Then}
+use Rattle.pliron_sccp.specs.Looking.GoesThrough.{Nowhere, Onward}
 use Rattle.pliron_sccp.specs.Accounts.{AreKnownThere}
 use Rattle.pliron_sccp.proofs.DistinctLists.{held_directly, values_apart}
 use Rattle.pliron_sccp.proofs.Settled.{met_still, entered_still, varies_still}
@@ -39,7 +42,7 @@ can_meet x t k s asked live n asks = (asks o.0 o.1 (lowest_facts s)).1 met
 
     met : IsMet x t (facts_of s) (lowest_facts s) k o.0
     met = record {
-      entries = λ r b i e. (n.entries r b i e, λ v j. refl);
+      entries = λ i r b at e. (n.entries r b (subst (In r) (sym (op_shows t k o.0 o.1).regions) (in_slice o.0.regions i r at)) e, λ j v a. unknown_below (lowest_facts s).fact (fact_in s) o.0.operands (x.entry_operands (shape_of x.meaning t o.0) i j) v refl);
       branches = λ i b branch go. (successor i b go.0, λ j v y listed forwards. inr (inl refl));
       jumps = λ i b none e. (successor i b e, λ v j. refl);
       folded = λ i v a folds listed said. inr (inl refl);
@@ -195,6 +198,11 @@ module _ (x : Says) (t : Tree) where
   through_falls [] s u Nothing = falls_refl s
   through_falls (k ∷ ks) s u (Then _ q l d) = falls_trans s q u l.applied.falls (through_falls ks q u d)
 
+  -- whatever was kept
+  pub looks_only : (ks : List ℕ) (s u : Tables) (edges edges' : FeasibleEdges) → GoesThrough x t ks s u edges edges' → LooksThrough x t ks s u
+  looks_only [] s u edges edges' Nowhere = Nothing
+  looks_only (k ∷ ks) s u edges edges' (Onward _ q kept a keeps d) = Then k q a (looks_only ks q u kept edges' d)
+
   module _ (w : IsTree t) where
     -- a block is taken: its operations are still to be looked at
     pub block_settles : (rest : ℕ → Type 0) (c : ℕ) (s u : Tables) → TakesBlock c s u → AreSettledIn s rest → AreSettledIn u (λ j. In j (body_of t c) ⊎ rest j)
@@ -214,7 +222,7 @@ module _ (x : Says) (t : Tree) where
         before (inr (inr h)) = inr (inr (inr h))
 
   -- a block that comes to be reached is an entry of the operation's regions or a successor of it
-  module _ (k : ℕ) (o : Operation) (at : op_at t k ≡ Some o) (s u : Tables) (l : LooksAt x t k s u) where
+  module _ (k : ℕ) (o : Operation) (stands : op_at t k ≡ Some o) (s u : Tables) (l : LooksAt x t k s u) where
     not_else : (b : ℕ) → reaches s b ≡ false → (In b (entries_of t k) → ⊥) → (In b (successors_of t k) → ⊥) → reaches u b ≡ true → ⊥
     not_else b old no_entry no_successor new = true≢false (sym (least.reaches b new) ∙ ap not (eq-eqb b b refl))
       where
@@ -225,11 +233,11 @@ module _ (x : Says) (t : Tree) where
         below = record { reaches = λ z r. another b z (λ e. true≢false (sym r ∙ ap (reaches s) (sym e) ∙ old)); fact = λ v. inr (inl refl) }
 
         successor : (i z : ℕ) → slice_get o.successors i ≡ Some z → not (nat_eq b z) ≡ true
-        successor i z e = another b z (λ same. no_successor (subst (λ q. In q (successors_of t k)) (sym same) (subst (In z) (sym (op_shows t k o at).successors) (in_slice o.successors i z e))))
+        successor i z e = another b z (λ same. no_successor (subst (λ q. In q (successors_of t k)) (sym same) (subst (In z) (sym (op_shows t k o stands).successors) (in_slice o.successors i z e))))
 
         met : IsMet x t (facts_of s) g k o
         met = record {
-          entries = λ r z i e. (entry_apart t k b no_entry r z i e, λ v j. refl);
+          entries = λ i r z at e. (entry_apart t k b no_entry r z (subst (In r) (sym (op_shows t k o stands).regions) (in_slice o.regions i r at)) e, λ j v a. unknown_below g.fact (fact_in s) o.operands (x.entry_operands (shape_of x.meaning t o) i j) v refl);
           branches = λ i z branch go. (successor i z go.0, λ j v y listed forwards. inr (inl refl));
           jumps = λ i z none e. (successor i z e, λ v j. refl);
           folded = λ i v a folds listed said. inr (inl refl);
@@ -237,7 +245,7 @@ module _ (x : Says) (t : Tree) where
         }
 
         least : AreAtMost g (facts_of u)
-        least = l.applied.least g below ((l.asks o at g).1 met)
+        least = l.applied.least g below ((l.asks o stands g).1 met)
 
     pub came_from : (b : ℕ) → reaches u b ≡ true → (reaches s b ≡ true) ⊎ In b (entries_of t k) ⊎ In b (successors_of t k)
     came_from b new = by (reaches s b) refl (decide_in b (entries_of t k)) (decide_in b (successors_of t k))
@@ -312,7 +320,7 @@ module _ (x : Says) (t : Tree) (root : ℕ) (w : IsTree t) (edges : EdgesLast t 
             let shows = op_shows t k operation.0 operation.1 in
             let given : (z : ℕ) → In z operation.0.results → g.fact z ≡ NotAConstant = λ z i. result z (subst (In z) (sym shows.results) i) in
             record {
-              entries = λ r z i e. let y = m.entries r z i e in (y.0, λ a j. argument a z j y.0);
+              entries = λ i r z there e. let y = m.entries i r z there e in (y.0, λ j a q. unknown_below g.fact (fact_in s) operation.0.operands (x.entry_operands (shape_of x.meaning t operation.0) i j) a (argument a z (in_slice (arguments_of t z) j a q) y.0));
               branches = λ i z branch go. let y = m.branches i z branch go in (y.0, λ j a q at forwards. inr (inl (argument a z (in_slice (arguments_of t z) j a at) y.0)));
               jumps = λ i z none e. let y = m.jumps i z none e in (y.0, λ a j. argument a z j y.0);
               folded = λ i a q folds at said. inr (inl (given a (in_slice operation.0.results i a at)));

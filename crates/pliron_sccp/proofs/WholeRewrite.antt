@@ -8,7 +8,7 @@ use Rattle.pliron_core.specs.Joined.{IsTree}
 use Rattle.pliron_core.proofs.TreeLemmas.{live_dead}
 use Rattle.pliron_laws.specs.Datum.{Head}
 use Rattle.pliron_laws.specs.InPlace.{Outcome, TellsChange}
-use Rattle.pliron_sccp.specs.declared.rewrite.Fold.{Fold}
+use Rattle.pliron_sccp.specs.declared.rewrite.Folds.{Folds}
 use Rattle.pliron_sccp.specs.declared.rewrite.ConstantArgument.{ConstantArgument}
 use Rattle.pliron_sccp.specs.declared.rewrite.Found.{Found}
 use Rattle.pliron_theory.specs.Facts.{Facts, Says}
@@ -22,23 +22,23 @@ told_change t u Unchanged same = same
 told_change t u Changed (k, none, live) = λ same. live_dead u k live (ap (λ z. z.head) (same.operations k) ∙ none)
 
 module _ (x : Says) (can_fold : Head → Bool) (t : Tree) (root : ℕ) (f : Facts) (found : Found) (w : IsTree t) (i : IsFound x can_fold t root f found) where
-  pub found_folds : (folds : List Fold) → folds ≡ found.folds.items → AreFoldSteps x t root f t folds
+  pub found_folds : (folds : Folds) → folds ≡ found.folds → AreFoldSteps x t root f t folds
   found_folds folds e = subst (AreFoldSteps x t root f t) (sym e) (record { first = w; follows = started x t root f w i.closed i.held; each = i.each_fold })
 
   pub found_arguments : (u : Tree) → Follows x t root f u → (arguments : List ConstantArgument) → arguments ≡ found.arguments.items → AreArgumentSteps x t root f u arguments
   found_arguments u g arguments e = subst (AreArgumentSteps x t root f u) (sym e) (record { first = w; follows = g; each = i.each_argument })
 
-  ops_are : (folds : List Fold) → folds ≡ found.folds.items → map (λ fold. fold.op) folds ≡ folding can_fold t root f
-  ops_are folds e = ap (map (λ fold. fold.op)) e ∙ i.folds
+  ops_are : (folds : Folds) → folds ≡ found.folds → map (λ fold. fold.op) folds.rows.items ≡ folding can_fold t root f
+  ops_are folds e = ap (λ z. map (λ fold. fold.op) z.rows.items) e ∙ i.folds
 
   stand_for : (arguments : List ConstantArgument) → arguments ≡ found.arguments.items → StandForEach t arguments (known_arguments t root f)
   stand_for arguments e = subst (λ z. StandForEach t z (known_arguments t root f)) (sym e) i.arguments
 
-  module _ (accepts : AttrObj → Bool) (head : AttrObj → Head) (outcome : Outcome) (folds : List Fold) (same : folds ≡ found.folds.items) where
-    pub broken_folding : (u : Tree) → FoldsPartly outcome t f (map (λ fold. fold.op) folds) t u → IsPartlyRewritten can_fold accepts head outcome t root f u
+  module _ (accepts : AttrObj → Bool) (head : AttrObj → Head) (outcome : Outcome) (folds : Folds) (same : folds ≡ found.folds) where
+    pub broken_folding : (u : Tree) → FoldsPartly outcome t f (map (λ fold. fold.op) folds.rows.items) t u → IsPartlyRewritten can_fold accepts head outcome t root f u
     broken_folding u p = inl (subst (λ ks. FoldsPartly outcome t f ks t u) (ops_are folds same) p)
 
-    module _ (folded : Tree) (turns : FoldsInTurn outcome t f (map (λ fold. fold.op) folds) t folded) (arguments : List ConstantArgument) (also : arguments ≡ found.arguments.items) where
+    module _ (folded : Tree) (turns : FoldsInTurn outcome t f (map (λ fold. fold.op) folds.rows.items) t folded) (arguments : List ConstantArgument) (also : arguments ≡ found.arguments.items) where
       pub broken_putting : (u : Tree) → ((known : List KnownArgument) → StandForEach t arguments known → IsPartlyPut accepts head known folded u) → IsPartlyRewritten can_fold accepts head outcome t root f u
       broken_putting u p = inr (folded, subst (λ ks. FoldsInTurn outcome t f ks t folded) (ops_are folds same) turns, p (known_arguments t root f) (stand_for arguments also))
 

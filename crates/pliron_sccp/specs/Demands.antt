@@ -6,7 +6,7 @@ use Rattle.pliron_core.specs.Tree.{Tree, In, head_of, regions_of, successors_of,
 use Rattle.pliron_laws.specs.Datum.{Head, Meaning}
 use Rattle.pliron_laws.specs.Tree.{Operation, op_at, shape_of}
 use Rattle.pliron_laws.specs.Folding.{Feasible}
-use Rattle.pliron_theory.specs.Facts.{Fact, Constant, NotAConstant, AtMost, answered, Facts, Says, IsFeasibleEdge, Forwards, IsEntered}
+use Rattle.pliron_theory.specs.Facts.{Fact, Constant, NotAConstant, AtMost, answered, Facts, Says, IsFeasibleEdge, Forwards, IsEntered, IsBelowNamed, AreBelowNamed}
 use Rattle.pliron_sccp.specs.declared.demands.Demand.{Demand}
 use Rattle.pliron_sccp.specs.declared.demands.Demand.TheVariants.{Enter, Lower, Answer}
 use Rattle.pliron_sccp.specs.declared.facts.Tables.{Tables}
@@ -41,8 +41,17 @@ AlwaysAdds old new P = (constants : List AttrObj) → Adds constants old new P
 abbrev pub EachBefore : List ℕ → ℕ → (ℕ → ℕ → Type 0) → Type 0
 EachBefore xs i Q = (j x : ℕ) → j < i → slice_get xs j ≡ Some x → Q j x
 
+-- of the root
 abbrev pub AsksEntries : Tree → ℕ → Facts → Type 0
 AsksEntries t op now = (r b : ℕ) → In r (regions_of t op) → first_of (layout_of t r) None ≡ Some b → IsEntered t now b
+
+-- the block is the entry of the operation's region with this index
+abbrev pub IsEntryOf : Tree → (op i b : ℕ) → Type 0
+IsEntryOf t op i b = (r : ℕ) × (slice_get (regions_of t op) i ≡ Some r) × (first_of (layout_of t r) None ≡ Some b)
+
+-- the entries of the operation are reached, and their arguments below what it names for them, as it was read
+abbrev pub AsksVisits : Says → Tree → Facts → Operation → Facts → Type 0
+AsksVisits x t f o now = (i r b : ℕ) → slice_get o.regions i ≡ Some r → first_of (layout_of t r) None ≡ Some b → IsTrue (now.reaches b) × AreBelowNamed x t now.fact f.fact o i b
 
 abbrev pub AsksJumps : Tree → ℕ → Facts → Type 0
 AsksJumps t op now = (i b : ℕ) → slice_get (successors_of t op) i ≡ Some b → IsEntered t now b
@@ -83,6 +92,12 @@ IsNotConstant now j v = now.fact v ≡ NotAConstant
 
 abbrev pub EntryEntered : Tree → Facts → (j r : ℕ) → Type 0
 EntryEntered t now j r = (b : ℕ) → first_of (layout_of t r) None ≡ Some b → IsEntered t now b
+
+abbrev pub VisitEntered : Says → Tree → Facts → Operation → Facts → (i r : ℕ) → Type 0
+VisitEntered x t f o now i r = (b : ℕ) → first_of (layout_of t r) None ≡ Some b → IsTrue (now.reaches b) × AreBelowNamed x t now.fact f.fact o i b
+
+abbrev pub GetsNamed : Says → Tree → Facts → Operation → ℕ → Facts → (j v : ℕ) → Type 0
+GetsNamed x t f o i now j v = IsBelowNamed now.fact f.fact o.operands (x.entry_operands (shape_of x.meaning t o) i j) v
 
 abbrev pub GetsAnswer : List (Option AttrObj) → Facts → (i v : ℕ) → Type 0
 GetsAnswer answers now i v = (a : Option AttrObj) → slice_get answers i ≡ Some a → AtMost (now.fact v) (answered a)

@@ -9,6 +9,7 @@ pub mod Cells
 pub mod Tables
 pub mod Demands
 pub mod Falling
+pub mod Feasible
 pub mod Inside
 pub mod Searched
 pub mod Listed

@@ -1,26 +1,16 @@
 -- What facts say is to be rewritten, as it is listed.
-use Rattle.std.specs.Prelude.{◌≡◌, ℕ, Bool, false, List, [], ◌∷◌, ◌++◌, Option, Some, None, if◌then◌else◌, map, slice_get, IsTrue}
+use Rattle.std.specs.Prelude.{◌≡◌, ℕ, Bool, List, [], ◌∷◌, ◌++◌, Some, if◌then◌else◌, map, slice_get}
 use Rattle.pliron_core.specs.Tree.{Tree, head_of, parent_of, arguments_of}
 use Rattle.pliron_laws.specs.Datum.{Head}
-use Rattle.pliron_laws.specs.Tree.{Operation, op_at}
-use Rattle.pliron_theory.specs.Facts.{Facts, Says, IsInReachedBlock, handed}
+use Rattle.pliron_theory.specs.Facts.{Facts, Says}
 use Rattle.pliron_sccp.specs.declared.rewrite.ConstantArgument.{ConstantArgument}
-use Rattle.pliron_sccp.specs.declared.rewrite.Fold.{Fold}
+use Rattle.pliron_sccp.specs.declared.rewrite.Folds.{Folds}
 use Rattle.pliron_sccp.specs.Chain.{is_reached, has_passing_head, both, folding, KnownArgument, known_in_block}
-use Rattle.pliron_sccp.specs.Steps.{IsKnown, StandForEach}
+use Rattle.pliron_sccp.specs.Steps.{IsKnown, AreEachFold, StandForEach}
 
 -- the operation folds and stands in a block that is reached
 abbrev pub is_folding : (Head → Bool) → Tree → Facts → ℕ → Bool
 is_folding can_fold t f k = both (has_passing_head can_fold (head_of t k)) (is_reached f (parent_of t k))
-
--- a fold of an operation that stands in a block that is reached, with what is known of its operands
-abbrev pub IsFold : Says → Tree → Facts → Fold → Type 0
-IsFold x t f fold = (o : Operation) × (op_at t fold.op ≡ Some o) × IsInReachedBlock t f fold.op × IsTrue (x.can_fold o.head) × (fold.known.items ≡ handed f o.operands)
-
--- the fold of this operation, if it folds there
-abbrev pub IsFoldOf : Says → Tree → Facts → ℕ → Option Fold → Type 0
-IsFoldOf x t f k None = is_folding x.can_fold t f k ≡ false
-IsFoldOf x t f k (Some fold) = IsTrue (is_folding x.can_fold t f k) × (fold.op ≡ k) × IsFold x t f fold
 
 -- each item of the list is so
 abbrev pub Each : {A : Type 0} → List A → (A → Type 0) → Type 0
@@ -31,14 +21,14 @@ abbrev pub alone_if : Bool → ℕ → List ℕ
 alone_if b k = if b then k ∷ [] else []
 
 -- the fold of the operation is added, if it has one
-pub record AddsFold (x : Says) (t : Tree) (f : Facts) (k : ℕ) (old new : List Fold) : Type 0 where
-  pub operations : map (λ fold. fold.op) new ≡ map (λ fold. fold.op) old ++ alone_if (is_folding x.can_fold t f k) k
-  pub each : Each old (IsFold x t f) → Each new (IsFold x t f)
+pub record AddsFold (x : Says) (t : Tree) (f : Facts) (k : ℕ) (old new : Folds) : Type 0 where
+  pub operations : map (λ fold. fold.op) new.rows.items ≡ map (λ fold. fold.op) old.rows.items ++ alone_if (is_folding x.can_fold t f k) k
+  pub each : AreEachFold x t f old → AreEachFold x t f new
 
 -- these are the folds of the operations inside the root
-pub record AreFolds (x : Says) (t : Tree) (root : ℕ) (f : Facts) (folds : List Fold) : Type 0 where
-  pub operations : map (λ fold. fold.op) folds ≡ folding x.can_fold t root f
-  pub each : Each folds (IsFold x t f)
+pub record AreFolds (x : Says) (t : Tree) (root : ℕ) (f : Facts) (folds : Folds) : Type 0 where
+  pub operations : map (λ fold. fold.op) folds.rows.items ≡ folding x.can_fold t root f
+  pub each : AreEachFold x t f folds
 
 -- these arguments stand for those that are known
 pub record AreArguments (t : Tree) (f : Facts) (arguments : List ConstantArgument) (known : List KnownArgument) : Type 0 where

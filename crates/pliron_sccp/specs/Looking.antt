@@ -11,6 +11,8 @@ use Rattle.pliron_sccp.specs.declared.search.Call.TheVariants.{Pass, Look, Ask}
 use Rattle.pliron_sccp.specs.Tables.{known_constants, is_numbered, fact_in, reaches, waits_block, waits_value, facts_of}
 use Rattle.pliron_sccp.specs.Demands.{Asks, MeetsAll}
 use Rattle.pliron_sccp.specs.Falling.{IsApplied}
+use Rattle.pliron_sccp.specs.declared.edges.FeasibleEdges.{FeasibleEdges}
+use Rattle.pliron_sccp.specs.Feasible.{KeepsFeasible, leads}
 
 abbrev pub either : Bool → Bool → Bool
 either true b = true
@@ -35,6 +37,11 @@ AreTargetsNumbered t s = (k b : ℕ) → parent_of t k ≡ Some b → reaches s 
 pub data LooksThrough (x : Says) (t : Tree) : List ℕ → Tables → Tables → Type 0 where
   Nothing : {s : Tables} → LooksThrough x t [] s s
   Then : {s s' : Tables} {ks : List ℕ} (k : ℕ) (u : Tables) → LooksAt x t k s u → LooksThrough x t ks u s' → LooksThrough x t (k ∷ ks) s s'
+
+-- these operations were looked at in turn, and edges of theirs that were found feasible were kept
+pub data GoesThrough (x : Says) (t : Tree) : List ℕ → (s s' : Tables) → (edges edges' : FeasibleEdges) → Type 0 where
+  Nowhere : {s : Tables} {edges : FeasibleEdges} → GoesThrough x t [] s s edges edges
+  Onward : {s s' : Tables} {edges edges' : FeasibleEdges} {ks : List ℕ} (k : ℕ) (u : Tables) (kept : FeasibleEdges) → LooksAt x t k s u → KeepsFeasible x t (facts_of s) k edges kept → GoesThrough x t ks u s' kept edges' → GoesThrough x t (k ∷ ks) s s' edges edges'
 
 -- all values that waited wait no longer, and nothing else changed; these are they, each once
 pub record TakesValues (taken : List ℕ) (s s' : Tables) : Type 0 where
@@ -68,42 +75,56 @@ pub record Forwarded (x : Says) (t : Tree) (o : Operation) (place argument : ℕ
   pub is_argument : slice_get (arguments_of t block) index ≡ Some argument
   pub forwards : slice_get (x.meaning.forwarded (shape_of x.meaning t o) edge) index ≡ Some place
 
--- what is to be done where the operand at this place fell: nothing for what does not fold and is no branch; or it goes to
--- one argument alone, of something that does not fold
-abbrev pub IsCallFor : Says → Tree → (k place : ℕ) → Call → Type 0
-IsCallFor x t k place Pass = (o : Operation) → op_at t k ≡ Some o → (x.can_fold o.head ≡ false) × (x.can_fold_branch o.head ≡ false) × (x.meaning.is_branch o.head ≡ false)
-IsCallFor x t k place Look = Unit {0}
-IsCallFor x t k place (Ask edge index) = ((o : Operation) → op_at t k ≡ Some o → (x.can_fold o.head ≡ false) × (x.can_fold_branch o.head ≡ false) × IsTrue (x.meaning.is_branch o.head)) × IsForwardedOnce x.meaning t k place edge index
+-- each edge of the operation to this block is feasible for sure: it doesn't fold as a branch, or they were found to be
+abbrev pub IsOpenEdge : Says → Tables → FeasibleEdges → Operation → (k b : ℕ) → Type 0
+IsOpenEdge x s edges o k b = (x.can_fold_branch o.head ≡ false) ⊎ ((reaches s b ≡ true) × (leads edges k b ≡ true))
 
--- the operation does not fold, nor as a branch, and where these are met, each argument that gets its operand v from this
+-- more is asked at most of the argument to which an open edge forwards the value v from this place of the operation
+pub record AsksAhead (x : Says) (t : Tree) (s : Tables) (edges : FeasibleEdges) (k place v : ℕ) (asked asked' : List Demand) : Type 0 where
+  pub more : (now : Facts) → MeetsAll (known_constants s) now asked' → MeetsAll (known_constants s) now asked
+  pub owed : (now : Facts) → MeetsAll (known_constants s) now asked → ((a : ℕ) (o : Operation) → op_at t k ≡ Some o → (f : Forwarded x t o place a) → IsOpenEdge x s edges o k f.block → AtMost (now.fact a) (fact_in s v)) → MeetsAll (known_constants s) now asked'
+
+-- the operation names no operand for an argument of an entry
+abbrev pub NamesNone : Says → Tree → Operation → Type 0
+NamesNone x t o = (i j : ℕ) → x.entry_operands (shape_of x.meaning t o) i j ≡ None
+
+-- what is to be done where the operand at this place fell: nothing for what does not fold, names no operand and is no
+-- branch; or it goes to one argument alone, of something that does not fold and names none
+abbrev pub IsCallFor : Says → Tree → (k place : ℕ) → Call → Type 0
+IsCallFor x t k place Pass = (o : Operation) → op_at t k ≡ Some o → (x.can_fold o.head ≡ false) × (x.can_fold_branch o.head ≡ false) × NamesNone x t o × (x.meaning.is_branch o.head ≡ false)
+IsCallFor x t k place Look = Unit {0}
+IsCallFor x t k place (Ask edge index) = ((o : Operation) → op_at t k ≡ Some o → (x.can_fold o.head ≡ false) × (x.can_fold_branch o.head ≡ false) × NamesNone x t o × IsTrue (x.meaning.is_branch o.head)) × IsForwardedOnce x.meaning t k place edge index
+
+-- the operation does not fold, nor as a branch, and names no operand, and where these are met, each argument that gets its operand v from this
 -- place is at or below the fact of v
 pub record IsAskedAt (x : Says) (t : Tree) (s : Tables) (asked : List Demand) (o : Operation) (place v : ℕ) : Type 0 where
   pub no_fold : x.can_fold o.head ≡ false
   pub no_jump : x.can_fold_branch o.head ≡ false
+  pub names_none : NamesNone x t o
   pub below : (now : Facts) → MeetsAll (known_constants s) now asked → (a : ℕ) → Forwarded x t o place a → AtMost (now.fact a) (fact_in s v)
 
 -- uses of the value are seen to: an operation that was looked at and has it at such a place is to be looked at again, or
 -- asks no more than what is asked; and nothing else is added
-pub record SeesTo (x : Says) (t : Tree) (s : Tables) (v : ℕ) (IsUse : (k place : ℕ) → Type 0) (users : List ℕ) (asked : List Demand) (users' : List ℕ) (asked' : List Demand) : Type 0 where
+pub record SeesTo (x : Says) (t : Tree) (s : Tables) (edges : FeasibleEdges) (v : ℕ) (IsUse : (k place : ℕ) → Type 0) (users : List ℕ) (asked : List Demand) (users' : List ℕ) (asked' : List Demand) : Type 0 where
   pub kept : (k : ℕ) → In k users → In k users'
   pub more : (now : Facts) → MeetsAll (known_constants s) now asked' → MeetsAll (known_constants s) now asked
   pub only : (k : ℕ) → In k users' → In k users ⊎ (IsLookedAt t s k × ((place : ℕ) × IsUse k place))
   pub seen : (k place : ℕ) (o : Operation) → IsUse k place → IsLookedAt t s k → op_at t k ≡ Some o → In k users' ⊎ IsAskedAt x t s asked' o place v
-  pub owed : (now : Facts) → MeetsAll (known_constants s) now asked → ((k place a : ℕ) (o : Operation) → IsUse k place → IsLookedAt t s k → op_at t k ≡ Some o → x.can_fold_branch o.head ≡ false → Forwarded x t o place a → AtMost (now.fact a) (fact_in s v)) → MeetsAll (known_constants s) now asked'
+  pub owed : (now : Facts) → MeetsAll (known_constants s) now asked → ((k place a : ℕ) (o : Operation) → IsUse k place → IsLookedAt t s k → op_at t k ≡ Some o → (f : Forwarded x t o place a) → IsOpenEdge x s edges o k f.block → AtMost (now.fact a) (fact_in s v)) → MeetsAll (known_constants s) now asked'
 
 -- the operation has the value at this place
 abbrev pub IsUseOf : Tree → (v k place : ℕ) → Type 0
 IsUseOf t v k place = slice_get (operands_of t k) place ≡ Some v
 
 -- what these values call for: their uses are seen to, and nothing else is asked
-pub record AreCalls (x : Says) (t : Tree) (s : Tables) (values users : List ℕ) (asked : List Demand) : Type 0 where
+pub record AreCalls (x : Says) (t : Tree) (s : Tables) (edges : FeasibleEdges) (values users : List ℕ) (asked : List Demand) : Type 0 where
   pub only : (k : ℕ) → In k users → IsLookedAt t s k × ((v : ℕ) × In v values)
   pub seen : (k place v : ℕ) (o : Operation) → In v values → IsUseOf t v k place → IsLookedAt t s k → op_at t k ≡ Some o → In k users ⊎ IsAskedAt x t s asked o place v
-  pub owed : (now : Facts) → ((k place a v : ℕ) (o : Operation) → In v values → IsUseOf t v k place → IsLookedAt t s k → op_at t k ≡ Some o → x.can_fold_branch o.head ≡ false → Forwarded x t o place a → AtMost (now.fact a) (fact_in s v)) → MeetsAll (known_constants s) now asked
+  pub owed : (now : Facts) → ((k place a v : ℕ) (o : Operation) → In v values → IsUseOf t v k place → IsLookedAt t s k → op_at t k ≡ Some o → (f : Forwarded x t o place a) → IsOpenEdge x s edges o k f.block → AtMost (now.fact a) (fact_in s v)) → MeetsAll (known_constants s) now asked
 
 -- all values that waited were taken, so many, and this is what they call for
-pub record TakesUsers (x : Says) (t : Tree) (users : List ℕ) (asked : List Demand) (s s' : Tables) (taken : ℕ) : Type 0 where
+pub record TakesUsers (x : Says) (t : Tree) (edges : FeasibleEdges) (users : List ℕ) (asked : List Demand) (s s' : Tables) (taken : ℕ) : Type 0 where
   pub values : List ℕ
   pub takes : TakesValues values s s'
-  pub calls : AreCalls x t s' values users asked
+  pub calls : AreCalls x t s' edges values users asked
   pub counted : taken ≡ length values

@@ -9,7 +9,9 @@ use Rattle.pliron_sccp.specs.declared.demands.Demand.{Demand}
 use Rattle.pliron_sccp.specs.Falling.{IsApplied}
 use Rattle.pliron_sccp.specs.Chain.{blocks_inside}
 use Rattle.pliron_sccp.specs.Delaying.{delayed, IsAside, PutsAside, TakesAside}
-use Rattle.pliron_sccp.specs.Looking.{LooksAt, LooksThrough, TakesUsers}
+use Rattle.pliron_sccp.specs.declared.edges.FeasibleEdges.{FeasibleEdges}
+use Rattle.pliron_sccp.specs.Feasible.{AreSurelyFeasible, KeepsFeasible}
+use Rattle.pliron_sccp.specs.Looking.{GoesThrough, LooksAt, LooksThrough, TakesUsers}
 use Rattle.pliron_sccp.specs.Settling.{AreSettledBut, AreStarted}
 use Rattle.pliron_sccp.specs.Precise.{AreOwed}
 use Rattle.pliron_sccp.specs.Best.{IsBest}
@@ -32,25 +34,25 @@ pub record SeesToAll (x : Says) (t : Tree) (ks : List ℕ) (s s' : Tables) (d d'
 
 -- all values that waited were taken, so many; what their uses ask at once was met, and the other users were looked at or
 -- put aside
-pub record VisitsValues (x : Says) (t : Tree) (s s' : Tables) (d d' : Delays) (taken : ℕ) : Type 0 where
+pub record VisitsValues (x : Says) (t : Tree) (edges : FeasibleEdges) (s s' : Tables) (d d' : Delays) (taken : ℕ) : Type 0 where
   pub users : List ℕ
   pub asked : List Demand
   pub between : Tables
   pub met : Tables
-  pub takes : TakesUsers x t users asked s between taken
+  pub takes : TakesUsers x t edges users asked s between taken
   pub applied : IsApplied (known_constants between) asked between met
   pub sees : SeesToAll x t users met s' d d'
 
 -- a block that waited was taken and looked through, or else all values that waited, and their users were seen to; so many
 -- were taken
-pub data TakesTurn (x : Says) (t : Tree) (s s' : Tables) (d d' : Delays) (taken : ℕ) : Type 0 where
-  Block : (b : ℕ) (u : Tables) → TakesBlock b s u → LooksThrough x t (body_of t b) u s' → d' ≡ d → taken ≡ 1 → TakesTurn x t s s' d d' taken
-  Values : ((b : ℕ) → waits_block s b ≡ false) → VisitsValues x t s s' d d' taken → TakesTurn x t s s' d d' taken
+pub data TakesTurn (x : Says) (t : Tree) (s s' : Tables) (d d' : Delays) (edges edges' : FeasibleEdges) (taken : ℕ) : Type 0 where
+  Block : (b : ℕ) (u : Tables) → TakesBlock b s u → GoesThrough x t (body_of t b) u s' edges edges' → d' ≡ d → taken ≡ 1 → TakesTurn x t s s' d d' edges edges' taken
+  Values : ((b : ℕ) → waits_block s b ≡ false) → VisitsValues x t edges s s' d d' taken → edges' ≡ edges → TakesTurn x t s s' d d' edges edges' taken
 
 -- one operation that was put aside was looked at; or nothing was put aside, and nothing was done
-abbrev pub LooksAside : Says → Tree → (s s' : Tables) → (d d' : Delays) → Bool → Type 0
-LooksAside x t s s' d d' true = (k : ℕ) × TakesAside k (delayed d) (delayed d') × LooksAt x t k s s'
-LooksAside x t s s' d d' false = (delayed d ≡ []) × (s' ≡ s)
+abbrev pub LooksAside : Says → Tree → (s s' : Tables) → (d d' : Delays) → (edges edges' : FeasibleEdges) → Bool → Type 0
+LooksAside x t s s' d d' edges edges' true = (k : ℕ) × TakesAside k (delayed d) (delayed d') × LooksAt x t k s s' × KeepsFeasible x t (facts_of s) k edges edges'
+LooksAside x t s s' d d' edges edges' false = (delayed d ≡ []) × (s' ≡ s)
 
 -- each operation where runs may come is settled, or what settles it waits, or it is put aside; the rest of what closed
 -- facts owe; and what waits is inside the root, whose blocks have numbers
@@ -63,8 +65,10 @@ pub record IsSearchOnTheWay (x : Says) (t : Tree) (root : ℕ) (s : Tables) (d :
   pub waits : WaitsInside t root s
   pub numbered : (b : ℕ) → In b (blocks_inside t root) → is_numbered s b ≡ true
 
--- this, and the count so far; where the most precise facts are owed, the facts stand above every closed set of facts
-pub record IsSearching (x : Says) (t : Tree) (root : ℕ) (s : Tables) (d : Delays) (pops : ℕ) : Type 0 where
+-- this, and the count so far; where the most precise facts are owed, the facts stand above every closed set of facts,
+-- under which each edge that is kept is feasible
+pub record IsSearching (x : Says) (t : Tree) (root : ℕ) (s : Tables) (d : Delays) (edges : FeasibleEdges) (pops : ℕ) : Type 0 where
   pub way : IsSearchOnTheWay x t root s d
   pub accounted : IsAccounted t root s pops
   pub best : AreOwed x t root → IsBest x t root s
+  pub sure : AreOwed x t root → AreSurelyFeasible x t root edges

@@ -4,11 +4,11 @@ use Rattle.pliron_core.specs.declared.attrs.AttrObj.{AttrObj}
 use Rattle.pliron_core.specs.Tree.{Tree, In, HoldsBlock, parent_of, regions_of, arguments_of, layout_of, first_of}
 use Rattle.pliron_core.specs.Changes.{IsMadeInside}
 use Rattle.pliron_laws.specs.Tree.{Operation, op_at}
-use Rattle.pliron_theory.specs.Facts.{NotAConstant, AtMost, answered, Facts, Says, answers_of, IsFeasibleEdge, Forwards, IsEntered}
+use Rattle.pliron_theory.specs.Facts.{NotAConstant, AtMost, answered, Facts, Says, answers_of, IsFeasibleEdge, Forwards, IsEntered, AreBelowNamed}
 
 -- what the operation asked under the facts `f`, which were read, is met by the facts `now`
 pub record IsMet (x : Says) (t : Tree) (f now : Facts) (k : ℕ) (o : Operation) : Type 0 where
-  pub entries : (r b : ℕ) → In r (regions_of t k) → first_of (layout_of t r) None ≡ Some b → IsEntered t now b
+  pub entries : (i r b : ℕ) → slice_get o.regions i ≡ Some r → first_of (layout_of t r) None ≡ Some b → IsTrue (now.reaches b) × AreBelowNamed x t now.fact f.fact o i b
   pub branches : (i b : ℕ) → IsTrue (x.meaning.is_branch o.head) → IsFeasibleEdge x t f o i b → IsTrue (now.reaches b) × ((j v w : ℕ) → slice_get (arguments_of t b) j ≡ Some v → Forwards x t o i j w → AtMost (now.fact v) (f.fact w))
   pub jumps : (i b : ℕ) → x.meaning.is_branch o.head ≡ false → slice_get o.successors i ≡ Some b → IsEntered t now b
   pub folded : (i v : ℕ) (a : Option AttrObj) → IsTrue (x.can_fold o.head) → slice_get o.results i ≡ Some v → slice_get (answers_of x t f o) i ≡ Some a → AtMost (now.fact v) (answered a)

@@ -1,5 +1,5 @@
 -- What one fold of the chain may rest on.
-use Rattle.std.specs.Prelude.{◌≡◌, ℕ, Bool, List, [], ◌∷◌, Option, Some, None, IsTrue, slice_get, map, drop, take}
+use Rattle.std.specs.Prelude.{◌≡◌, ◌≤◌, ℕ, Bool, List, [], ◌∷◌, Option, Some, None, IsTrue, slice_get, slice_range, length, map, drop, take}
 use Rattle.pliron_laws.specs.Datum.{Head}
 use Rattle.pliron_laws.specs.InPlace.{Outcome}
 use Rattle.pliron_sccp.specs.Chain.{FoldsInTurn, FoldsPartly, KnownArgument, all_put, folding, known_arguments}
@@ -7,6 +7,7 @@ use Rattle.pliron_core.specs.declared.attrs.IRStatus.{IRStatus}
 use Rattle.pliron_core.specs.declared.attrs.IRStatus.TheVariants.{Changed, Unchanged}
 use Rattle.pliron_core.specs.Changes.{IsSameTree}
 use Rattle.pliron_sccp.specs.declared.rewrite.Fold.{Fold}
+use Rattle.pliron_sccp.specs.declared.rewrite.Folds.{Folds}
 use Rattle.pliron_sccp.specs.declared.rewrite.ConstantArgument.{ConstantArgument}
 use Rattle.pliron_sccp.specs.declared.rewrite.Found.{Found}
 use Rattle.pliron_core.specs.declared.attrs.AttrObj.{AttrObj}
@@ -27,11 +28,25 @@ pub record IsFoldStep (x : Says) (t₀ : Tree) (root : ℕ) (f₀ : Facts) (t : 
   pub folds : IsTrue (x.can_fold operation.head)
   pub known_is : known ≡ handed f₀ operation.operands
 
+-- a fold of an operation that stands in a block that is reached: its part of this list is what is known of the operands
+pub record IsFold (x : Says) (t : Tree) (f : Facts) (known : List (Option AttrObj)) (fold : Fold) : Type 0 where
+  pub operation : Operation
+  pub at : op_at t fold.op ≡ Some operation
+  pub stands : IsInReachedBlock t f fold.op
+  pub folds : IsTrue (x.can_fold operation.head)
+  pub rising : fold.start ≤ fold.end
+  pub within : fold.end ≤ length known
+  pub known_is : slice_range known fold.start fold.end ≡ handed f operation.operands
+
+-- each of the folds is one
+abbrev pub AreEachFold : Says → Tree → Facts → Folds → Type 0
+AreEachFold x t f folds = (i : ℕ) (fold : Fold) → slice_get folds.rows.items i ≡ Some fold → IsFold x t f folds.known.items fold
+
 -- these operations fold and stand in blocks that are reached, in the first tree, with what is known of their operands
-pub record AreFoldSteps (x : Says) (t₀ : Tree) (root : ℕ) (f₀ : Facts) (t : Tree) (folds : List Fold) : Type 0 where
+pub record AreFoldSteps (x : Says) (t₀ : Tree) (root : ℕ) (f₀ : Facts) (t : Tree) (folds : Folds) : Type 0 where
   pub first : IsTree t₀
   pub follows : Follows x t₀ root f₀ t
-  pub each : (i : ℕ) (fold : Fold) → slice_get folds i ≡ Some fold → (o : Operation) × (op_at t₀ fold.op ≡ Some o) × IsInReachedBlock t₀ f₀ fold.op × IsTrue (x.can_fold o.head) × (fold.known.items ≡ handed f₀ o.operands)
+  pub each : AreEachFold x t₀ f₀ folds
 
 -- `Unchanged` says that the tree is as before but for spent keys, `Changed` that an operation stands that did not
 abbrev pub TellsCreated : IRStatus → Tree → Tree → Type 0
@@ -39,10 +54,10 @@ TellsCreated Unchanged t u = IsSameTree t u
 TellsCreated Changed t u = (k : ℕ) × (head_of t k ≡ None) × IsLive u k
 
 -- the operations before index i are folded: what folds the later ones from here folds all from the start
-pub record IsFoldingOn (x : Says) (outcome : Outcome) (start : Tree) (folds : List Fold) (i : ℕ) (status : IRStatus) (now : Tree) : Type 0 where
+pub record IsFoldingOn (x : Says) (outcome : Outcome) (start : Tree) (folds : Folds) (i : ℕ) (status : IRStatus) (now : Tree) : Type 0 where
   pub follows : (t₀ : Tree) (root : ℕ) (f₀ : Facts) → AreFoldSteps x t₀ root f₀ start folds → Follows x t₀ root f₀ now
-  pub partly : (t₀ : Tree) (root : ℕ) (f₀ : Facts) → AreFoldSteps x t₀ root f₀ start folds → (u : Tree) → FoldsPartly outcome t₀ f₀ (map (λ fold. fold.op) (drop i folds)) now u → FoldsPartly outcome t₀ f₀ (map (λ fold. fold.op) folds) start u
-  pub turns : (t₀ : Tree) (root : ℕ) (f₀ : Facts) → AreFoldSteps x t₀ root f₀ start folds → (u : Tree) → FoldsInTurn outcome t₀ f₀ (map (λ fold. fold.op) (drop i folds)) now u → FoldsInTurn outcome t₀ f₀ (map (λ fold. fold.op) folds) start u
+  pub partly : (t₀ : Tree) (root : ℕ) (f₀ : Facts) → AreFoldSteps x t₀ root f₀ start folds → (u : Tree) → FoldsPartly outcome t₀ f₀ (map (λ fold. fold.op) (drop i folds.rows.items)) now u → FoldsPartly outcome t₀ f₀ (map (λ fold. fold.op) folds.rows.items) start u
+  pub turns : (t₀ : Tree) (root : ℕ) (f₀ : Facts) → AreFoldSteps x t₀ root f₀ start folds → (u : Tree) → FoldsInTurn outcome t₀ f₀ (map (λ fold. fold.op) (drop i folds.rows.items)) now u → FoldsInTurn outcome t₀ f₀ (map (λ fold. fold.op) folds.rows.items) start u
   pub told : TellsCreated status start now
   pub stays : (k : ℕ) → IsLive start k → IsLive now k
 
@@ -86,7 +101,7 @@ pub record IsPuttingOn (x : Says) (accepts : AttrObj → Bool) (head : AttrObj �
 pub record IsFound (x : Says) (can_fold : Head → Bool) (t : Tree) (root : ℕ) (f : Facts) (found : Found) : Type 0 where
   pub closed : AreClosed x t root f
   pub held : AreHeld t root f
-  pub folds : map (λ fold. fold.op) found.folds.items ≡ folding can_fold t root f
-  pub each_fold : (i : ℕ) (fold : Fold) → slice_get found.folds.items i ≡ Some fold → (o : Operation) × (op_at t fold.op ≡ Some o) × IsInReachedBlock t f fold.op × IsTrue (x.can_fold o.head) × (fold.known.items ≡ handed f o.operands)
+  pub folds : map (λ fold. fold.op) found.folds.rows.items ≡ folding can_fold t root f
+  pub each_fold : AreEachFold x t f found.folds
   pub arguments : StandForEach t found.arguments.items (known_arguments t root f)
   pub each_argument : (i : ℕ) (argument : ConstantArgument) → slice_get found.arguments.items i ≡ Some argument → IsKnown t f argument

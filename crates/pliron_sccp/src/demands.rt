@@ -1,16 +1,17 @@
 //! What an operation asks of the facts, read under the facts so far; and facts fall until they meet it.
 //!
 //! What is asked names a constant by its number in the tables, so that none is copied to hand it on.
-ghost use Rattle.std.specs.Prelude.{◌≡◌, ◌≤◌, ◌<◌, ◌↔◌, ◌∷◌, [], ℕ, List, nat_eq, true, if◌then◌else◌, Some, OnOk, IfOk, IsTrue, length, slice_get, IsOkUnless};
+ghost use Rattle.std.specs.Prelude.{◌≡◌, ◌≤◌, ◌<◌, ◌↔◌, ◌∷◌, [], ℕ, List, nat_eq, true, if◌then◌else◌, Some, None, OnOk, IfOk, IsTrue, length, slice_get, IsOkUnless};
 ghost use Rattle.std.specs.HashSet.{contains};
-ghost use Rattle.pliron_core.specs.Tree.{IsLive, IsBlock, IsRegion, In, operands_of, results_of, successors_of};
+ghost use Rattle.pliron_core.specs.Tree.{IsLive, IsBlock, IsRegion, In, arguments_of, operands_of, regions_of, results_of, successors_of};
 ghost use Rattle.pliron_laws.specs.Tree.{Operation as OperationOf, op_at, shape_of};
 ghost use Rattle.pliron_laws.specs.Answers.{HeadPasses};
-ghost use Rattle.pliron_theory.specs.Facts.{answered, handed, AtMost, IsEntered, known as known_of, NotAConstant as Varies};
+ghost use Rattle.pliron_theory.specs.Facts.{answered, handed, AtMost, AreBelowNamed, IsEntered, known as known_of, NotAConstant as Varies};
 ghost use Rattle.pliron_sccp.specs.Tables.{known_constants, facts_of, fact_in};
 ghost use Rattle.pliron_sccp.specs.Cells.{Means};
+ghost use Rattle.pliron_sccp.specs.Feasible.{AreFound};
 ghost use Rattle.pliron_sccp.specs.Falling.{IsApplied};
-ghost use Rattle.pliron_sccp.specs.Demands.{Adds, AlwaysAdds, CanMeet, Asks, AsksEntries, AsksEdges, AsksJumps, AsksAnswers, AsksResults, AsksForwarded, AsksBranches, FollowsEdge, AreFeasible, MayLead, EntryEntered};
+ghost use Rattle.pliron_sccp.specs.Demands.{Adds, AlwaysAdds, CanMeet, Asks, AsksEntries, AsksEdges, AsksJumps, AsksAnswers, AsksResults, AsksForwarded, AsksBranches, AsksVisits, FollowsEdge, GetsForwarded, GetsNamed, AreFeasible, IsEntryOf, MayLead, EntryEntered, VisitEntered};
 
 use crate::facts::{Cell, Tables};
 use pliron_core::{AttrObj, BasicBlock, Context, Operation, Ptr, Region, Value};
@@ -67,7 +68,7 @@ fn ask_region(region: Ptr<Region>, ctx: &Context, asked: &mut Vec<Demand>) -> Re
     }
 }
 
-/// The entry of each region is entered.
+/// The entry of each region of the root is entered: of its arguments nothing is known.
 ///
 /// Asks that the operation stands. Errors: want of memory. Cost: one step for each region and for each
 /// argument of an entry.
@@ -82,6 +83,122 @@ pub fn ask_entries(
 {
     for i in 0..op.num_region(ctx) {
         ask_region(op.get_region(ctx, i), ctx, asked)?;
+    }
+    Ok(())
+}
+
+/// The value is no constant.
+fn ask_varying(value: Value, asked: &mut Vec<Demand>) -> Result<(), OptError>
+    ensures ok { OnOk result (AlwaysAdds asked.old.items asked.new.items (λ now. now.fact value ≡ Varies)) }
+    ensures memory { IsOkUnless result OptError.Memory }
+{
+    asked.push(Demand::Lower(value, Cell::NotAConstant))?;
+    Ok(())
+}
+
+/// The value is at or below the operand at this place, if there is one.
+fn ask_operand(
+    op: Ptr<Operation>,
+    place: usize,
+    value: Value,
+    ctx: &Context,
+    tables: &Tables,
+    asked: &mut Vec<Demand>,
+) -> Result<(), OptError>
+    requires { IsLive ctx.now.tree op }
+    ensures ok { OnOk result (Adds (known_constants tables.now) asked.old.items asked.new.items (λ now. GetsForwarded (facts_of tables.now)
+        (operands_of ctx.now.tree op) now place value)) }
+    ensures memory { IsOkUnless result OptError.Memory }
+{
+    if place < op.num_operand(ctx) {
+        let cell = tables.cell(op.get_operand(ctx, place));
+        asked.push(Demand::Lower(value, cell))?;
+    }
+    Ok(())
+}
+
+/// The argument of the entry is at or below what the operation names for it.
+fn ask_named<D: Dialect>(
+    op: Ptr<Operation>,
+    region: usize,
+    entry: Ptr<BasicBlock>,
+    index: usize,
+    ctx: &Context,
+    tables: &Tables,
+    asked: &mut Vec<Demand>,
+) -> Result<(), OptError>
+    requires live { IsLive ctx.now.tree op }
+    requires block { IsBlock ctx.now.tree entry }
+    requires entry { IsEntryOf ctx.now.tree op region entry }
+    requires argument { index < length (arguments_of ctx.now.tree entry) }
+    ensures ok { OnOk result ((o : OperationOf) → op_at ctx.now.tree op ≡ Some o → (v : ℕ) → slice_get (arguments_of ctx.now.tree entry) index ≡ Some v →
+        Adds (known_constants tables.now) asked.old.items asked.new.items (λ now. GetsNamed ⟦<D as HasFolding>⟧.folding ctx.now.tree (facts_of tables.now) o region now index v)) }
+    ensures memory { IsOkUnless result OptError.Memory }
+{
+    let argument = entry.get_argument(ctx, index);
+    match D::entry_operand(op, ctx, region, index) {
+        Some(place) => ask_operand(op, place, argument, ctx, tables, asked),
+        None => ask_varying(argument, asked),
+    }
+}
+
+/// The entry is reached, and its arguments are at or below what the operation names for them.
+fn ask_named_entry<D: Dialect>(
+    op: Ptr<Operation>,
+    region: usize,
+    entry: Ptr<BasicBlock>,
+    ctx: &Context,
+    tables: &Tables,
+    asked: &mut Vec<Demand>,
+) -> Result<(), OptError>
+    requires live { IsLive ctx.now.tree op }
+    requires block { IsBlock ctx.now.tree entry }
+    requires entry { IsEntryOf ctx.now.tree op region entry }
+    ensures ok { OnOk result ((o : OperationOf) → op_at ctx.now.tree op ≡ Some o → Adds (known_constants tables.now) asked.old.items asked.new.items (λ now.
+        IsTrue (now.reaches entry) × AreBelowNamed ⟦<D as HasFolding>⟧.folding ctx.now.tree now.fact (facts_of tables.now).fact o region entry)) }
+    ensures memory { IsOkUnless result OptError.Memory }
+{
+    asked.push(Demand::Enter(entry))?;
+    for j in 0..entry.num_argument(ctx) {
+        ask_named::<D>(op, region, entry, j, ctx, tables, asked)?;
+    }
+    Ok(())
+}
+
+/// The entry of the region with this index, if it has one, is reached with what the operation names for it.
+fn ask_visit<D: Dialect>(
+    op: Ptr<Operation>,
+    region: usize,
+    ctx: &Context,
+    tables: &Tables,
+    asked: &mut Vec<Demand>,
+) -> Result<(), OptError>
+    requires live { IsLive ctx.now.tree op }
+    requires region { region < length (regions_of ctx.now.tree op) }
+    ensures ok { OnOk result ((o : OperationOf) → op_at ctx.now.tree op ≡ Some o → (r : ℕ) → slice_get (regions_of ctx.now.tree op) region ≡ Some r →
+        Adds (known_constants tables.now) asked.old.items asked.new.items (λ now. VisitEntered ⟦<D as HasFolding>⟧.folding ctx.now.tree (facts_of tables.now) o now region r)) }
+    ensures memory { IsOkUnless result OptError.Memory }
+{
+    match op.get_region(ctx, region).get_head(ctx) {
+        Some(entry) => ask_named_entry::<D>(op, region, entry, ctx, tables, asked),
+        None => Ok(()),
+    }
+}
+
+/// The entry of each region is reached, and its arguments are at or below what the operation names for them.
+fn ask_visits<D: Dialect>(
+    op: Ptr<Operation>,
+    ctx: &Context,
+    tables: &Tables,
+    asked: &mut Vec<Demand>,
+) -> Result<(), OptError>
+    requires { IsLive ctx.now.tree op }
+    ensures ok { OnOk result ((o : OperationOf) → op_at ctx.now.tree op ≡ Some o →
+        Adds (known_constants tables.now) asked.old.items asked.new.items (λ now. AsksVisits ⟦<D as HasFolding>⟧.folding ctx.now.tree (facts_of tables.now) o now)) }
+    ensures memory { IsOkUnless result OptError.Memory }
+{
+    for region in 0..op.num_region(ctx) {
+        ask_visit::<D>(op, region, ctx, tables, asked)?;
     }
     Ok(())
 }
@@ -274,13 +391,15 @@ fn ask_each_edge<D: Dialect>(
     Ok(())
 }
 
-/// Each block that the branch may go to is reached, with the values that its edges forward.
+/// Each block that the branch may go to is reached, with the values that its edges forward. These blocks are told,
+/// where it folds.
 fn ask_branches<D: Dialect>(
     alloc: Global,
     op: Ptr<Operation>,
     ctx: &Context,
     tables: &Tables,
     known: &[Option<AttrObj>],
+    feasible: &mut Option<HashSet<u64>>,
     asked: &mut Vec<Demand>,
 ) -> Result<(), OptError>
     requires live { IsLive ctx.now.tree op }
@@ -288,10 +407,13 @@ fn ask_branches<D: Dialect>(
     requires known { known.now ≡ handed (facts_of tables.now) (operands_of ctx.now.tree op) }
     ensures ok { OnOk result ((o : OperationOf) → op_at ctx.now.tree op ≡ Some o →
         Adds (known_constants tables.now) asked.old.items asked.new.items (λ now. AsksBranches ⟦<D as HasFolding>⟧.folding ctx.now.tree (facts_of tables.now) o now)) }
+    ensures feasible { OnOk result (AreFound ⟦<D as HasFolding>⟧.folding ctx.now.tree (facts_of tables.now) op feasible.new) }
     ensures memory { IsOkUnless result OptError.Memory }
 {
-    let feasible = feasible_blocks::<D>(alloc, op, ctx, known)?;
-    ask_each_edge::<D>(alloc, op, ctx, tables, known, &feasible, asked)
+    let found = feasible_blocks::<D>(alloc, op, ctx, known)?;
+    ask_each_edge::<D>(alloc, op, ctx, tables, known, &found, asked)?;
+    *feasible = found;
+    Ok(())
 }
 
 /// The result at this index, if there is one, is at or below the answer.
@@ -358,48 +480,55 @@ fn ask_results<D: Dialect>(
     }
 }
 
-/// What the edges of the operation ask.
+/// What the edges of the operation ask. The blocks that it may go to are told, where it folds as a branch.
 fn ask_edges<D: Dialect>(
     alloc: Global,
     op: Ptr<Operation>,
     ctx: &Context,
     tables: &Tables,
     known: &[Option<AttrObj>],
+    feasible: &mut Option<HashSet<u64>>,
     asked: &mut Vec<Demand>,
 ) -> Result<(), OptError>
     requires live { IsLive ctx.now.tree op }
     requires known { known.now ≡ handed (facts_of tables.now) (operands_of ctx.now.tree op) }
+    requires none { feasible.old ≡ None }
     ensures ok { OnOk result ((o : OperationOf) → op_at ctx.now.tree op ≡ Some o →
         Adds (known_constants tables.now) asked.old.items asked.new.items (λ now. AsksEdges ⟦<D as HasFolding>⟧.folding ctx.now.tree (facts_of tables.now) op o now)) }
+    ensures feasible { OnOk result (AreFound ⟦<D as HasFolding>⟧.folding ctx.now.tree (facts_of tables.now) op feasible.new) }
     ensures memory { IsOkUnless result OptError.Memory }
 {
     if D::is_branch(op, ctx) {
-        ask_branches::<D>(alloc, op, ctx, tables, known, asked)
+        ask_branches::<D>(alloc, op, ctx, tables, known, feasible, asked)
     } else {
         ask_jumps(op, ctx, asked)
     }
 }
 
-/// What the operation demands of the facts: the entries of its regions are entered, blocks that it may go to
+/// What the operation demands of the facts: the entries of its regions are reached, their arguments are at
+/// or below what it names for them, blocks that it may go to
 /// are reached with what is forwarded to them, and its results are at or below what it answers. Reads the
-/// facts and changes nothing.
+/// facts and changes nothing. Where the operation folds as a branch, tells the blocks that it may go to.
 ///
-/// Asks that the operation stands (`is_live` tests it). Errors: want of memory. Cost: one step for each
-/// operand, result, region, successor and argument of these, and what the dialect's answers cost.
+/// Asks that the operation stands (`is_live` tests it), and for a place that is empty. Errors: want of memory. Cost:
+/// one step for each operand, result, region, successor and argument of these, and what the dialect's answers cost.
 pub fn demands<D: Dialect>(
     alloc: Global,
     op: Ptr<Operation>,
     ctx: &Context,
     tables: &Tables,
+    feasible: &mut Option<HashSet<u64>>,
 ) -> Result<Vec<Demand>, OptError>
-    requires { IsLive ctx.now.tree op }
+    requires live { IsLive ctx.now.tree op }
+    requires none { feasible.old ≡ None }
     ensures ok { IfOk result (λ asked. Asks (known_constants tables.now) ⟦<D as HasFolding>⟧.folding ctx.now.tree (facts_of tables.now) op asked.items) }
+    ensures feasible { OnOk result (AreFound ⟦<D as HasFolding>⟧.folding ctx.now.tree (facts_of tables.now) op feasible.new) }
     ensures memory { IsOkUnless result OptError.Memory }
 {
     let known = known_operands(alloc, op, ctx, tables)?;
     let mut asked = Vec::new(alloc);
-    ask_entries(op, ctx, &mut asked)?;
-    ask_edges::<D>(alloc, op, ctx, tables, &known, &mut asked)?;
+    ask_visits::<D>(op, ctx, tables, &mut asked)?;
+    ask_edges::<D>(alloc, op, ctx, tables, &known, feasible, &mut asked)?;
     ask_results::<D>(alloc, op, ctx, &known, &mut asked)?;
     Ok(asked)
 }

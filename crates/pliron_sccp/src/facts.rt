@@ -9,6 +9,7 @@ ghost use Rattle.indexmap.specs.IndexSet.{index_of};
 ghost use Rattle.pliron_sccp.specs.declared.facts.Cell.TheVariants.{Constant as Known};
 ghost use Rattle.pliron_sccp.specs.Cells.{AreOnce, fall_at, is_waiting, mark_at, unknown_count};
 
+use crate::guesses::Guesses;
 use indexmap::IndexSet;
 use pliron_core::{AttrObj, BasicBlock, Ptr, Value};
 use pliron_laws::OptError;
@@ -34,6 +35,7 @@ pub enum Cell {
 ///
 /// ```text
 /// blocks, values      each once; its place is its number
+/// block_guesses, value_guesses   the number that a key most likely has
 /// marks               of each block     Unreached, Waiting, Visited            a mark goes from left to right
 /// cells               of each value     Undetermined, Constant, NotAConstant   a fact falls, from left to right
 /// falls               of each value     whether it fell since it was taken
@@ -45,6 +47,8 @@ pub enum Cell {
 pub struct Tables {
     blocks: IndexSet<Ptr<BasicBlock>>,
     values: IndexSet<Value>,
+    block_guesses: Guesses,
+    value_guesses: Guesses,
     marks: Vec<Mark>,
     cells: Vec<Cell>,
     falls: Vec<bool>,
@@ -86,6 +90,8 @@ impl Tables {
     {
         let block_count = blocks.len();
         let value_count = values.len();
+        let block_guesses = Guesses::over(alloc, blocks.as_slice())?;
+        let value_guesses = Guesses::over(alloc, values.as_slice())?;
         let marks = Vec::from_elem(alloc, Mark::Unreached, block_count)?;
         let cells = Vec::from_elem(alloc, Cell::Undetermined, value_count)?;
         let falls = Vec::from_elem(alloc, false, value_count)?;
@@ -95,6 +101,8 @@ impl Tables {
         Ok(Tables {
             blocks,
             values,
+            block_guesses,
+            value_guesses,
             marks,
             cells,
             falls,
@@ -104,11 +112,39 @@ impl Tables {
         })
     }
 
+    /// The number of the block, if it has one. Cost: one step where it is guessed, otherwise one look-up.
+    fn block_number(&self, block: Ptr<BasicBlock>) -> Option<usize>
+        ensures index { result ≡ index_of nat_eq self.now.blocks block }
+        ensures within { IfSome result (λ n. n < length self.now.blocks.keys) }
+    {
+        let guess = self.block_guesses.get(block.key());
+        if let Some(listed) = self.blocks.get_index(guess) {
+            if *listed == block {
+                return Some(guess);
+            }
+        }
+        self.blocks.get_index_of(&block)
+    }
+
+    /// The number of the value, if it has one. Cost: one step where it is guessed, otherwise one look-up.
+    fn value_number(&self, value: Value) -> Option<usize>
+        ensures index { result ≡ index_of nat_eq self.now.values value }
+        ensures within { IfSome result (λ n. n < length self.now.values.keys) }
+    {
+        let guess = self.value_guesses.get(value.key());
+        if let Some(listed) = self.values.get_index(guess) {
+            if *listed == value {
+                return Some(guess);
+            }
+        }
+        self.values.get_index_of(&value)
+    }
+
     /// Whether the block is reached. Cost: one look-up.
     pub fn reaches(&self, block: Ptr<BasicBlock>) -> bool
         ensures { result ≡ reaches self.now block }
     {
-        match self.blocks.get_index_of(&block) {
+        match self.block_number(block) {
             Some(n) => match self.marks[n] {
                 Mark::Unreached => false,
                 _ => true,
@@ -121,7 +157,7 @@ impl Tables {
     pub fn waits(&self, block: Ptr<BasicBlock>) -> bool
         ensures { result ≡ waits_block self.now block }
     {
-        match self.blocks.get_index_of(&block) {
+        match self.block_number(block) {
             Some(n) => match self.marks[n] {
                 Mark::Waiting => true,
                 _ => false,
@@ -134,7 +170,7 @@ impl Tables {
     pub fn cell(&self, value: Value) -> Cell
         ensures { Means (known_constants self.now) result (fact_in self.now value) }
     {
-        match self.values.get_index_of(&value) {
+        match self.value_number(value) {
             Some(n) => self.cells[n],
             None => Cell::NotAConstant,
         }
@@ -145,7 +181,7 @@ impl Tables {
         ensures some { IfSome result (λ c. IsConstant c.now ≡ fact_in self.now value) }
         ensures none { IfNone result (known_of (fact_in self.now value) ≡ None) }
     {
-        let n = self.values.get_index_of(&value)?;
+        let n = self.value_number(value)?;
         match self.cells[n] {
             Cell::Constant(k) => Some(&self.constants[k]),
             _ => None,
@@ -218,7 +254,7 @@ impl Tables {
         requires { (g : Fact) × Means (known_constants self.old) to g }
         ensures { (g : Fact) → Means (known_constants self.old) to g → Lowers value g self.old self.new }
     {
-        let Some(n) = self.values.get_index_of(&value) else {
+        let Some(n) = self.value_number(value) else {
             return;
         };
         let Some(new) = self.fallen(self.cells[n], to) else {
@@ -235,7 +271,7 @@ impl Tables {
     pub fn answer(&mut self, value: Value, attr: AttrObj)
         ensures { Lowers value (IsConstant attr) self.old self.new }
     {
-        let Some(n) = self.values.get_index_of(&value) else {
+        let Some(n) = self.value_number(value) else {
             return;
         };
         match self.cells[n] {

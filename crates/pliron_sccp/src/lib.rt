@@ -8,7 +8,9 @@
 
 mod delays;
 mod demands;
+mod edges;
 mod facts;
+mod guesses;
 mod inside;
 mod propagation;
 mod rewrite;

@@ -1,20 +1,20 @@
 //! What facts say is to be rewritten, the operations that fold and the constant arguments; and the tree
 //! rewritten by it.
-ghost use Rattle.std.specs.Prelude.{◌≡◌, ◌≤◌, ◌<◌, ℕ, List, Some, IsSome, IfOk, OnErr, OnOk, length, map, slice_get, IsOkUnless};
-ghost use Rattle.pliron_core.specs.Tree.{Tree, IsLive, IsBlock};
+ghost use Rattle.std.specs.Prelude.{◌≡◌, ◌≤◌, ◌<◌, ◌++◌, ℕ, List, [], Some, IsSome, IfOk, OnErr, OnOk, length, map, slice_get, slice_range, IsOkUnless};
+ghost use Rattle.pliron_core.specs.Tree.{Tree, IsLive, IsBlock, operands_of};
 ghost use Rattle.pliron_core.specs.Changes.{IsSameTree};
 ghost use Rattle.pliron_laws.specs.InPlace.{TellsChange};
 ghost use Rattle.pliron_laws.specs.Linked.{IsWellLinked};
-ghost use Rattle.pliron_theory.specs.Facts.{Facts};
+ghost use Rattle.pliron_theory.specs.Facts.{Facts, handed};
 ghost use Rattle.pliron_theory.specs.Following.{Follows};
 ghost use Rattle.pliron_theory.specs.Rewrites.{ReplacesArgument};
 ghost use Rattle.pliron_sccp.specs.Tables.{facts_of};
-ghost use Rattle.pliron_sccp.specs.Listed.{IsFoldOf, AddsFold, AreFolds, AddsKnown, AreArguments};
+ghost use Rattle.pliron_sccp.specs.Listed.{is_folding, AddsFold, AreFolds, AddsKnown, AreArguments};
 ghost use Rattle.pliron_sccp.specs.Steps.{IsFoldStep, AreFoldSteps, TellsCreated, IsArgumentStep, AreArgumentSteps, StandForEach, IsFound};
 ghost use Rattle.pliron_sccp.specs.Chain.{FoldsInTurn, FoldsPartly, KnownArgument, all_put, IsPartlyPut, IsRewritten, IsPartlyRewritten, known_arguments};
 ghost use Rattle.pliron_sccp.specs.Found.{HasFound};
 
-use crate::demands::{known, known_operands};
+use crate::demands::known;
 use crate::facts::Tables;
 use crate::inside::all_blocks;
 use crate::search::search;
@@ -24,11 +24,40 @@ use pliron_theory::HasFolding;
 use pliron_theory::rewrites::replace_argument_by_constant;
 use std::alloc::Global;
 
-/// An operation that folds, with the constants that are known of its operands.
-#[derive(Drop)]
+/// An operation that folds, and where the constants that are known of its operands stand in the list for all.
+#[derive(Clone, Copy)]
 pub struct Fold {
     pub(crate) op: Ptr<Operation>,
+    pub(crate) start: usize,
+    pub(crate) end: usize,
+}
+
+/// Operations that fold, and in one list the constants that are known of the operands of all of them.
+#[derive(Drop)]
+pub struct Folds {
+    pub(crate) rows: Vec<Fold>,
     pub(crate) known: Vec<Option<AttrObj>>,
+}
+
+impl Folds {
+    /// No folds. Takes no memory.
+    fn new(alloc: Global) -> Folds
+        ensures none { result.rows.items ≡ [] }
+    {
+        Folds {
+            rows: Vec::new(alloc),
+            known: Vec::new(alloc),
+        }
+    }
+
+    /// What is known of the operands of one of the folds. Asks that its part lies within the list.
+    fn known_of(&self, fold: Fold) -> &[Option<AttrObj>]
+        requires rising { fold.start ≤ fold.end }
+        requires within { fold.end ≤ length self.now.known.items }
+        ensures { result.now ≡ slice_range self.now.known.items fold.start fold.end }
+    {
+        &self.known[fold.start..fold.end]
+    }
 }
 
 /// An argument of a block that is a constant.
@@ -43,33 +72,41 @@ pub struct ConstantArgument {
 /// come, in pre-order.
 #[derive(Drop)]
 pub struct Found {
-    pub(crate) folds: Vec<Fold>,
+    pub(crate) folds: Folds,
     pub(crate) arguments: Vec<ConstantArgument>,
 }
 
-/// The fold of the operation by what is known of its operands, if it folds and its block is reached.
-fn fold_of<D: Dialect>(
+/// Whether the operation folds and stands in a block that is reached.
+fn is_folded<D: Dialect>(op: Ptr<Operation>, ctx: &Context, tables: &Tables) -> bool
+    requires { IsLive ctx.now.tree op }
+    ensures { result ≡ is_folding D.can_fold ctx.now.tree (facts_of tables.now) op }
+{
+    ctx.well_formed();
+    let Some(block) = op.get_parent_block(ctx) else {
+        return false;
+    };
+    if !tables.reaches(block) {
+        return false;
+    }
+    D::folds(op, ctx)
+}
+
+/// Adds the constants that are known of the operands, for a fold.
+fn add_known(
     alloc: Global,
     op: Ptr<Operation>,
     ctx: &Context,
     tables: &Tables,
-) -> Result<Option<Fold>, OptError>
+    attrs: &mut Vec<Option<AttrObj>>,
+) -> Result<(), OptError>
     requires { IsLive ctx.now.tree op }
-    ensures ok { IfOk result (λ fold. IsFoldOf ⟦<D as HasFolding>⟧.folding ctx.now.tree (facts_of tables.now) op fold) }
+    ensures ok { OnOk result (attrs.new.items ≡ attrs.old.items ++ handed (facts_of tables.now) (operands_of ctx.now.tree op)) }
     ensures memory { IsOkUnless result OptError.Memory }
 {
-    ctx.well_formed();
-    let Some(block) = op.get_parent_block(ctx) else {
-        return Ok(None);
-    };
-    if !tables.reaches(block) {
-        return Ok(None);
+    for i in 0..op.num_operand(ctx) {
+        attrs.push(known(alloc, op.get_operand(ctx, i), tables)?)?;
     }
-    if !D::folds(op, ctx) {
-        return Ok(None);
-    }
-    let known = known_operands(alloc, op, ctx, tables)?;
-    Ok(Some(Fold { op, known }))
+    Ok(())
 }
 
 /// Adds the fold of the operation, if it has one.
@@ -78,15 +115,17 @@ fn add_fold<D: Dialect>(
     op: Ptr<Operation>,
     ctx: &Context,
     tables: &Tables,
-    folds: &mut Vec<Fold>,
+    folds: &mut Folds,
 ) -> Result<(), OptError>
     requires { IsLive ctx.now.tree op }
-    ensures ok { OnOk result (AddsFold ⟦<D as HasFolding>⟧.folding ctx.now.tree (facts_of tables.now) op folds.old.items folds.new.items) }
+    ensures ok { OnOk result (AddsFold ⟦<D as HasFolding>⟧.folding ctx.now.tree (facts_of tables.now) op folds.old folds.new) }
     ensures memory { IsOkUnless result OptError.Memory }
 {
-    match fold_of::<D>(alloc, op, ctx, tables)? {
-        Some(fold) => folds.push(fold)?,
-        None => {}
+    if is_folded::<D>(op, ctx, tables) {
+        let start = folds.known.len();
+        add_known(alloc, op, ctx, tables, &mut folds.known)?;
+        let end = folds.known.len();
+        folds.rows.push(Fold { op, start, end })?;
     }
     Ok(())
 }
@@ -97,13 +136,13 @@ fn all_folds<D: Dialect>(
     root: Ptr<Operation>,
     ctx: &Context,
     tables: &Tables,
-) -> Result<Vec<Fold>, OptError>
+) -> Result<Folds, OptError>
     requires { IsLive ctx.now.tree root }
-    ensures ok { IfOk result (λ folds. AreFolds ⟦<D as HasFolding>⟧.folding ctx.now.tree root (facts_of tables.now) folds.items) }
+    ensures ok { IfOk result (λ folds. AreFolds ⟦<D as HasFolding>⟧.folding ctx.now.tree root (facts_of tables.now) folds) }
     ensures memory { IsOkUnless result OptError.Memory }
 {
     ctx.well_formed();
-    let mut folds = Vec::new(alloc);
+    let mut folds = Folds::new(alloc);
     let mut at = root.next_in_preorder(root, ctx);
     while let Some(op) = at {
         add_fold::<D>(alloc, op, ctx, tables, &mut folds)?;
@@ -184,22 +223,23 @@ pub(crate) fn find<D: Dialect>(
 /// dialect's `fold_in_place`.
 pub fn fold_one<D: Dialect, R: Rewriter + Room>(
     alloc: Global,
-    fold: &Fold,
+    op: Ptr<Operation>,
     ctx: &mut Context,
+    known: &[Option<AttrObj>],
     rewriter: &mut R,
 ) -> Result<IRStatus, OptError>
-    requires step { (t₀ : Tree) × (root : ℕ) × (f₀ : Facts) × IsFoldStep ⟦<D as HasFolding>⟧.folding t₀ root f₀ ctx.old.tree fold.now.op fold.now.known.items }
-    ensures ok { IfOk result (λ status. D.ConstFoldInterface.outcome ctx.old.tree ctx.new.tree fold.now.op fold.now.known.items (Some status)) }
+    requires step { (t₀ : Tree) × (root : ℕ) × (f₀ : Facts) × IsFoldStep ⟦<D as HasFolding>⟧.folding t₀ root f₀ ctx.old.tree op known.now }
+    ensures ok { IfOk result (λ status. D.ConstFoldInterface.outcome ctx.old.tree ctx.new.tree op known.now (Some status)) }
     ensures refused { OnErr result (IsSameTree ctx.old.tree ctx.new.tree) }
     ensures told { IfOk result (λ status. TellsCreated status ctx.old.tree ctx.new.tree) }
     ensures stays { (k : ℕ) → IsLive ctx.old.tree k → IsLive ctx.new.tree k }
     ensures memory { IsOkUnless result OptError.Memory }
-    ensures follows { (t₀ : Tree) (root : ℕ) (f₀ : Facts) → IsFoldStep ⟦<D as HasFolding>⟧.folding t₀ root f₀ ctx.old.tree fold.now.op
-        fold.now.known.items → Follows ⟦<D as HasFolding>⟧.folding t₀ root f₀ ctx.new.tree }
+    ensures follows { (t₀ : Tree) (root : ℕ) (f₀ : Facts) → IsFoldStep ⟦<D as HasFolding>⟧.folding t₀ root f₀ ctx.old.tree op known.now →
+        Follows ⟦<D as HasFolding>⟧.folding t₀ root f₀ ctx.new.tree }
 {
     ctx.well_formed();
-    rewriter.set_insertion_point_before_operation(fold.op);
-    let done = <D as ConstFoldInterface>::fold_in_place(alloc, fold.op, ctx, &fold.known, rewriter);
+    rewriter.set_insertion_point_before_operation(op);
+    let done = <D as ConstFoldInterface>::fold_in_place(alloc, op, ctx, known, rewriter);
     ctx.well_formed();
     done
 }
@@ -210,15 +250,15 @@ pub fn fold_one<D: Dialect, R: Rewriter + Room>(
 /// Errors: want of memory, after some of the folds, each of them whole. Cost: that of the dialect's `fold_in_place` for each.
 pub fn fold_all<D: Dialect, R: Rewriter + Room>(
     alloc: Global,
-    folds: &[Fold],
+    folds: &Folds,
     ctx: &mut Context,
     rewriter: &mut R,
 ) -> Result<IRStatus, OptError>
     requires steps { (t₀ : Tree) × (root : ℕ) × (f₀ : Facts) × AreFoldSteps ⟦<D as HasFolding>⟧.folding t₀ root f₀ ctx.old.tree folds.now }
     ensures folded { OnOk result ((t₀ : Tree) (root : ℕ) (f₀ : Facts) → AreFoldSteps ⟦<D as HasFolding>⟧.folding t₀ root f₀ ctx.old.tree folds.now →
-        FoldsInTurn D.ConstFoldInterface.outcome t₀ f₀ (map (λ fold. fold.op) folds.now) ctx.old.tree ctx.new.tree) }
+        FoldsInTurn D.ConstFoldInterface.outcome t₀ f₀ (map (λ fold. fold.op) folds.now.rows.items) ctx.old.tree ctx.new.tree) }
     ensures refused { OnErr result ((t₀ : Tree) (root : ℕ) (f₀ : Facts) → AreFoldSteps ⟦<D as HasFolding>⟧.folding t₀ root f₀ ctx.old.tree folds.now →
-        FoldsPartly D.ConstFoldInterface.outcome t₀ f₀ (map (λ fold. fold.op) folds.now) ctx.old.tree ctx.new.tree) }
+        FoldsPartly D.ConstFoldInterface.outcome t₀ f₀ (map (λ fold. fold.op) folds.now.rows.items) ctx.old.tree ctx.new.tree) }
     ensures told { IfOk result (λ status. TellsCreated status ctx.old.tree ctx.new.tree) }
     ensures stays { (k : ℕ) → IsLive ctx.old.tree k → IsLive ctx.new.tree k }
     ensures memory { IsOkUnless result OptError.Memory }
@@ -226,8 +266,10 @@ pub fn fold_all<D: Dialect, R: Rewriter + Room>(
         Follows ⟦<D as HasFolding>⟧.folding t₀ root f₀ ctx.new.tree }
 {
     let mut status = IRStatus::Unchanged;
-    for i in 0..folds.len() {
-        status |= fold_one::<D, R>(alloc, &folds[i], ctx, rewriter)?;
+    for i in 0..folds.rows.len() {
+        let fold = folds.rows[i];
+        let known = folds.known_of(fold);
+        status |= fold_one::<D, R>(alloc, fold.op, ctx, known, rewriter)?;
     }
     Ok(status)
 }

@@ -5,8 +5,8 @@
 //!
 //! The order of work: a block that waits is taken before any value, and looked through as a whole, its
 //! operations in order. Where none waits, all values that wait are taken, one by one, and then each of their
-//! users is looked at once, but for those that ask the same whatever is known: what neither folds nor is a
-//! branch is looked at with its block alone. So a branch that forwards many values which fell together is
+//! users is looked at once, but for those that ask the same whatever is known: what neither folds, nor is a
+//! branch, nor names operands for its regions is looked at with its block alone. So a branch that forwards many values which fell together is
 //! looked at once, and no region is gone through in rounds: a fact falls at most twice, and only its users
 //! are looked at then. In deep nests of loops an inner loop is thus not gone through again for each round of
 //! the outer ones.
@@ -14,32 +14,37 @@
 //! A user with more than a few operands is put aside, once, and looked at where neither a block nor a value
 //! waits: one at a time, those with the fewest operands first, and what that look made fall is taken before
 //! the next one. So a branch that folds, and forwards many values which fall one after the other, is looked
-//! at when all of them fell, and not after each. Before it is looked at again, its own look or one at something
-//! about as long or longer made something fall: where its own look makes its next operand fall, as in a loop
-//! that moves its arguments on by one place, it is still looked at for each. The order decides no fact.
+//! at when all of them fell, and not after each. Where it makes its own next operand fall, as in a loop that
+//! moves its arguments on by one place, that would be no help: so what was looked at more than a few times is
+//! asked at once for what it forwards along an edge that its last look found feasible, one argument for each
+//! operand that fell. The order decides no fact.
 ghost use Rattle.std.specs.Prelude.{◌≡◌, ◌<◌, ◌↔◌, ℕ, true, OnOk, IfOk, IsTrue, IsOkUnless, Some, length, slice_get};
 ghost use Rattle.pliron_core.specs.Tree.{IsLive, IsBlock, In, arguments_of, body_of, successors_of};
 ghost use Rattle.pliron_laws.specs.Answers.{ReadsHead};
 ghost use Rattle.pliron_laws.specs.Linked.{IsWellLinked};
+ghost use Rattle.pliron_laws.specs.declared.dialect.Interface.TheVariants.{RegionBranch};
 ghost use Rattle.pliron_theory.specs.Facts.{AtMost};
 ghost use Rattle.pliron_sccp.specs.Accounts.{IsUnsearched};
 ghost use Rattle.pliron_sccp.specs.Delaying.{delayed};
 ghost use Rattle.pliron_sccp.specs.Demands.{Adds};
-ghost use Rattle.pliron_sccp.specs.Looking.{either, AreTargetsNumbered, HasNumberedTargets, IsCallFor, IsLookedAt, IsUseOf, LooksAt, LooksThrough, SeesTo, TakesUsers};
+ghost use Rattle.pliron_sccp.specs.Feasible.{leads, KeepsAmong, KeepsFeasible};
+ghost use Rattle.pliron_sccp.specs.Looking.{either, AreTargetsNumbered, AsksAhead, GoesThrough, HasNumberedTargets, IsCallFor, IsLookedAt, IsUseOf, LooksAt, SeesTo, TakesUsers};
 ghost use Rattle.pliron_sccp.specs.Searched.{IsSearched};
 ghost use Rattle.pliron_sccp.specs.Searching.{IsSeenTo, LooksAside, SeesToAll, TakesTurn, VisitsValues};
 ghost use Rattle.pliron_sccp.specs.Starting.{IsStarted};
-ghost use Rattle.pliron_sccp.specs.Tables.{fact_in, known_constants, waits_block};
+ghost use Rattle.pliron_sccp.specs.Tables.{fact_in, facts_of, known_constants, reaches, waits_block};
 
 use crate::delays::Delays;
 use crate::demands::{Demand, ask_entries, demands, meet_all};
+use crate::edges::FeasibleEdges;
 use crate::facts::Tables;
 use crate::inside::{all_blocks, block_numbers, value_numbers};
 use indexmap::IndexSet;
 use pliron_core::{BasicBlock, Context, Operation, Ptr, Value};
-use pliron_laws::{Dialect, OptError};
+use pliron_laws::{Dialect, Interface, OptError};
 use pliron_theory::HasFolding;
 use std::alloc::Global;
+use std::collections::HashSet;
 
 /// Nothing is known yet of the values inside the root, no block is reached, and nothing waits.
 fn unsearched(alloc: Global, root: Ptr<Operation>, ctx: &Context) -> Result<Tables, OptError>
@@ -93,12 +98,13 @@ pub enum Call {
     Ask(usize, usize),
 }
 
-/// Whether what the operation asks may hang on all its operands: it folds, or folds as a branch.
+/// Whether what the operation asks may hang on all its operands: it folds, or folds as a branch, or names
+/// operands for the entries of its regions.
 fn reads_all<D: Dialect>(op: Ptr<Operation>, ctx: &Context) -> bool
     requires { IsLive ctx.now.tree op }
-    ensures { ReadsHead (λ h. either (D.can_fold h) (D.can_fold_branch h)) ctx.now.tree op result }
+    ensures { ReadsHead (λ h. either (D.can_fold h) (either (D.can_fold_branch h) (D.has_interface h RegionBranch))) ctx.now.tree op result }
 {
-    D::folds(op, ctx) || D::folds_branch(op, ctx)
+    D::folds(op, ctx) || D::folds_branch(op, ctx) || D::implements(op, ctx, Interface::RegionBranch)
 }
 
 /// What is to be done where the operand at this place fell. Cost: that of a few tests of the dialect.
@@ -143,6 +149,49 @@ fn ask_argument(
     Ok(())
 }
 
+/// How many operands are few. What has more is put aside, and looked at where nothing else waits.
+const FEW_OPERANDS: usize = 8;
+
+/// Whether the block is reached, and kept as one that the operation may go to.
+fn is_open(
+    op: Ptr<Operation>,
+    block: Ptr<BasicBlock>,
+    tables: &Tables,
+    edges: &FeasibleEdges,
+) -> bool
+    ensures { IsTrue result → (reaches tables.now block ≡ true) × (leads edges.now op block ≡ true) }
+{
+    tables.reaches(block) && edges.leads(op, block)
+}
+
+/// Asks the one argument to which a branch with many operands forwards the value from this place, if the edge was
+/// found feasible: so a look at its other operands may wait until all of them fell.
+fn ask_ahead<D: Dialect>(
+    op: Ptr<Operation>,
+    place: usize,
+    value: Value,
+    ctx: &Context,
+    tables: &Tables,
+    edges: &FeasibleEdges,
+    asked: &mut Vec<Demand>,
+) -> Result<(), OptError>
+    requires { IsLive ctx.now.tree op }
+    ensures ok { OnOk result (AsksAhead ⟦<D as HasFolding>⟧.folding ctx.now.tree tables.now edges.now op place value asked.old.items asked.new.items) }
+    ensures memory { IsOkUnless result OptError.Memory }
+{
+    if edges.is_empty() || op.num_operand(ctx) <= FEW_OPERANDS || !D::is_branch(op, ctx) {
+        return Ok(());
+    }
+    let Some((edge, index)) = D::forwarded_from(op, ctx, place) else {
+        return Ok(());
+    };
+    if is_open(op, op.get_successor(ctx, edge), tables, edges) {
+        ask_argument(op, edge, index, value, ctx, tables, asked)
+    } else {
+        Ok(())
+    }
+}
+
 /// Sees to one use of a value that fell, where was looked.
 fn add_use<D: Dialect>(
     op: Ptr<Operation>,
@@ -150,11 +199,12 @@ fn add_use<D: Dialect>(
     value: Value,
     ctx: &Context,
     tables: &Tables,
+    edges: &FeasibleEdges,
     users: &mut IndexSet<Ptr<Operation>>,
     asked: &mut Vec<Demand>,
 ) -> Result<(), OptError>
     requires { IsLive ctx.now.tree op }
-    ensures ok { OnOk result (SeesTo ⟦<D as HasFolding>⟧.folding ctx.now.tree tables.now value (λ k p. (k ≡ op) × (p ≡ place))
+    ensures ok { OnOk result (SeesTo ⟦<D as HasFolding>⟧.folding ctx.now.tree tables.now edges.now value (λ k p. (k ≡ op) × (p ≡ place))
         users.old.keys asked.old.items users.new.keys asked.new.items) }
     ensures memory { IsOkUnless result OptError.Memory }
 {
@@ -165,7 +215,7 @@ fn add_use<D: Dialect>(
         Call::Pass => Ok(()),
         Call::Look => {
             users.insert(op)?;
-            Ok(())
+            ask_ahead::<D>(op, place, value, ctx, tables, edges, asked)
         }
         Call::Ask(edge, index) => ask_argument(op, edge, index, value, ctx, tables, asked),
     }
@@ -176,10 +226,11 @@ fn add_uses<D: Dialect>(
     value: Value,
     ctx: &Context,
     tables: &Tables,
+    edges: &FeasibleEdges,
     users: &mut IndexSet<Ptr<Operation>>,
     asked: &mut Vec<Demand>,
 ) -> Result<(), OptError>
-    ensures ok { OnOk result (SeesTo ⟦<D as HasFolding>⟧.folding ctx.now.tree tables.now value (IsUseOf ctx.now.tree value)
+    ensures ok { OnOk result (SeesTo ⟦<D as HasFolding>⟧.folding ctx.now.tree tables.now edges.now value (IsUseOf ctx.now.tree value)
         users.old.keys asked.old.items users.new.keys asked.new.items) }
     ensures memory { IsOkUnless result OptError.Memory }
 {
@@ -189,7 +240,7 @@ fn add_uses<D: Dialect>(
     }
     for i in 0..value.num_use(ctx) {
         let (user, place) = value.get_use(ctx, i);
-        add_use::<D>(user, place, value, ctx, tables, users, asked)?;
+        add_use::<D>(user, place, value, ctx, tables, edges, users, asked)?;
     }
     Ok(())
 }
@@ -206,8 +257,9 @@ fn take_values<D: Dialect>(
     alloc: Global,
     ctx: &Context,
     tables: &mut Tables,
+    edges: &FeasibleEdges,
 ) -> Result<(IndexSet<Ptr<Operation>>, Vec<Demand>, u128), OptError>
-    ensures ok { IfOk result (λ r. TakesUsers ⟦<D as HasFolding>⟧.folding ctx.now.tree r.0.keys r.1.items tables.old tables.new r.2) }
+    ensures ok { IfOk result (λ r. TakesUsers ⟦<D as HasFolding>⟧.folding ctx.now.tree edges.now r.0.keys r.1.items tables.old tables.new r.2) }
     ensures memory { IsOkUnless result OptError.Memory }
 {
     let mut users = IndexSet::new(alloc);
@@ -215,7 +267,7 @@ fn take_values<D: Dialect>(
     let mut taken: u128 = 0;
     while let Some(value) = tables.next_value() {
         taken += 1;
-        add_uses::<D>(value, ctx, tables, &mut users, &mut asked)?;
+        add_uses::<D>(value, ctx, tables, edges, &mut users, &mut asked)?;
     }
     Ok((users, asked, taken))
 }
@@ -234,13 +286,54 @@ fn look_at<D: Dialect>(
     ensures ok { OnOk result (LooksAt ⟦<D as HasFolding>⟧.folding ctx.now.tree op tables.old tables.new) }
     ensures memory { IsOkUnless result OptError.Memory }
 {
-    let asked = demands::<D>(alloc, op, ctx, tables)?;
+    let mut feasible = None;
+    let asked = demands::<D>(alloc, op, ctx, tables, &mut feasible)?;
     meet_all(asked, tables);
     Ok(())
 }
 
-/// How many operands are few. What has more is put aside, and looked at where nothing else waits.
-const FEW_OPERANDS: usize = 8;
+/// Keeps these blocks, if the operation has many operands.
+fn keep_feasible(
+    op: Ptr<Operation>,
+    feasible: Option<HashSet<u64>>,
+    ctx: &Context,
+    edges: &mut FeasibleEdges,
+) -> Result<(), OptError>
+    requires { IsLive ctx.now.tree op }
+    ensures ok { OnOk result (KeepsAmong op feasible edges.old edges.new) }
+    ensures memory { IsOkUnless result OptError.Memory }
+{
+    let Some(blocks) = feasible else {
+        return Ok(());
+    };
+    if op.num_operand(ctx) > FEW_OPERANDS {
+        edges.keep(op, blocks)
+    } else {
+        Ok(())
+    }
+}
+
+/// Looks at the operation, and if it has many operands and folds as a branch, keeps the blocks that it may go to.
+///
+/// Asks what `look_at` asks. Errors: want of memory. Cost: that of what it asks.
+fn look_and_keep<D: Dialect>(
+    alloc: Global,
+    op: Ptr<Operation>,
+    ctx: &Context,
+    tables: &mut Tables,
+    edges: &mut FeasibleEdges,
+) -> Result<(), OptError>
+    requires live { IsLive ctx.now.tree op }
+    requires targets { HasNumberedTargets ctx.now.tree tables.old op }
+    ensures looks { OnOk result (LooksAt ⟦<D as HasFolding>⟧.folding ctx.now.tree op tables.old tables.new) }
+    ensures keeps { OnOk result (KeepsFeasible ⟦<D as HasFolding>⟧.folding ctx.now.tree (facts_of tables.old) op edges.old edges.new) }
+    ensures memory { IsOkUnless result OptError.Memory }
+{
+    let mut feasible = None;
+    let demanded = demands::<D>(alloc, op, ctx, tables, &mut feasible)?;
+    meet_all(demanded, tables);
+    keep_feasible(op, feasible, ctx, edges)
+}
 
 /// Looks at the operation, or puts it aside where it has more than a few operands.
 ///
@@ -294,16 +387,17 @@ fn visit_block<D: Dialect>(
     block: Ptr<BasicBlock>,
     ctx: &Context,
     tables: &mut Tables,
+    edges: &mut FeasibleEdges,
 ) -> Result<(), OptError>
     requires block { IsBlock ctx.now.tree block }
     requires targets { (k : ℕ) → In k (body_of ctx.now.tree block) → HasNumberedTargets ctx.now.tree tables.old k }
-    ensures ok { OnOk result (LooksThrough ⟦<D as HasFolding>⟧.folding ctx.now.tree (body_of ctx.now.tree block) tables.old tables.new) }
+    ensures ok { OnOk result (GoesThrough ⟦<D as HasFolding>⟧.folding ctx.now.tree (body_of ctx.now.tree block) tables.old tables.new edges.old edges.new) }
     ensures memory { IsOkUnless result OptError.Memory }
 {
     ctx.well_formed();
     let mut at = block.get_head(ctx);
     while let Some(op) = at {
-        look_at::<D>(alloc, op, ctx, tables)?;
+        look_and_keep::<D>(alloc, op, ctx, tables, edges)?;
         at = op.get_next(ctx);
     }
     Ok(())
@@ -316,13 +410,14 @@ fn visit_values<D: Dialect>(
     ctx: &Context,
     tables: &mut Tables,
     delays: &mut Delays,
+    edges: &FeasibleEdges,
 ) -> Result<u128, OptError>
     requires { AreTargetsNumbered ctx.now.tree tables.old }
-    ensures ok { IfOk result (λ taken. VisitsValues ⟦<D as HasFolding>⟧.folding ctx.now.tree tables.old tables.new delays.old delays.new taken) }
+    ensures ok { IfOk result (λ taken. VisitsValues ⟦<D as HasFolding>⟧.folding ctx.now.tree edges.now tables.old tables.new delays.old delays.new taken) }
     ensures memory { IsOkUnless result OptError.Memory }
 {
     ctx.well_formed();
-    let (users, asked, taken) = take_values::<D>(alloc, ctx, tables)?;
+    let (users, asked, taken) = take_values::<D>(alloc, ctx, tables, edges)?;
     meet_all(asked, tables);
     see_to_all::<D>(alloc, users.as_slice(), ctx, tables, delays)?;
     Ok(taken)
@@ -335,19 +430,20 @@ fn step<D: Dialect>(
     ctx: &Context,
     tables: &mut Tables,
     delays: &mut Delays,
+    edges: &mut FeasibleEdges,
 ) -> Result<u128, OptError>
     requires blocks { (b : ℕ) → waits_block tables.old b ≡ true → IsBlock ctx.now.tree b }
     requires targets { AreTargetsNumbered ctx.now.tree tables.old }
-    ensures ok { IfOk result (λ taken. TakesTurn ⟦<D as HasFolding>⟧.folding ctx.now.tree tables.old tables.new delays.old delays.new taken) }
+    ensures ok { IfOk result (λ taken. TakesTurn ⟦<D as HasFolding>⟧.folding ctx.now.tree tables.old tables.new delays.old delays.new edges.old edges.new taken) }
     ensures memory { IsOkUnless result OptError.Memory }
 {
     ctx.well_formed();
     match tables.next_block() {
         Some(block) => {
-            visit_block::<D>(alloc, block, ctx, tables)?;
+            visit_block::<D>(alloc, block, ctx, tables, edges)?;
             Ok(1)
         }
-        None => visit_values::<D>(alloc, ctx, tables, delays),
+        None => visit_values::<D>(alloc, ctx, tables, delays, edges),
     }
 }
 
@@ -359,16 +455,17 @@ fn look_aside<D: Dialect>(
     ctx: &Context,
     tables: &mut Tables,
     delays: &mut Delays,
+    edges: &mut FeasibleEdges,
 ) -> Result<bool, OptError>
     requires placed { (k : ℕ) → In k (delayed delays.old) → IsLookedAt ctx.now.tree tables.old k }
     requires targets { AreTargetsNumbered ctx.now.tree tables.old }
-    ensures ok { IfOk result (λ looked. LooksAside ⟦<D as HasFolding>⟧.folding ctx.now.tree tables.old tables.new delays.old delays.new looked) }
+    ensures ok { IfOk result (λ looked. LooksAside ⟦<D as HasFolding>⟧.folding ctx.now.tree tables.old tables.new delays.old delays.new edges.old edges.new looked) }
     ensures memory { IsOkUnless result OptError.Memory }
 {
     ctx.well_formed();
     match delays.take() {
         Some(op) => {
-            look_at::<D>(alloc, op, ctx, tables)?;
+            look_and_keep::<D>(alloc, op, ctx, tables, edges)?;
             Ok(true)
         }
         None => Ok(false),
@@ -401,12 +498,13 @@ pub fn search<D: Dialect>(
     ctx.well_formed();
     let mut tables = start(alloc, root, ctx)?;
     let mut delays = Delays::new(alloc);
+    let mut edges = FeasibleEdges::new(alloc);
     let mut pops: u128 = 0;
     loop {
-        let taken = step::<D>(alloc, ctx, &mut tables, &mut delays)?;
+        let taken = step::<D>(alloc, ctx, &mut tables, &mut delays, &mut edges)?;
         if taken > 0 {
             pops += taken;
-        } else if !look_aside::<D>(alloc, ctx, &mut tables, &mut delays)? {
+        } else if !look_aside::<D>(alloc, ctx, &mut tables, &mut delays, &mut edges)? {
             return Ok(Searched { tables, pops });
         }
     }

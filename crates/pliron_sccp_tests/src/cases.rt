@@ -12,7 +12,9 @@
 //! In `ASIDE`, worked out by hand too, an operation has more operands than what is looked at at once: sums of a loop
 //! that fall one after the other and that a branch behind it forwards; branches that come to be feasible only when
 //! their condition falls, one by itself, one after what it forwards fell too, and two of which the shorter one is looked
-//! at first; and a loop in which such a branch makes its own operands fall.
+//! at first; a loop in which such a branch makes its own operands fall, and one in which two make each other's fall in
+//! turn; and one of which the last operand falls that it forwards along an edge which isn't feasible, to a block that is
+//! reached.
 
 pub static ROWS: &str = "\
 C 1 3 0 func { b0(): a = const 1; b = const 2; c = add a b; ret c } => func { b0(): v0 = const 1; v1 = const 2; v2 = const 3; v3 = add v0 v1; ret v2 }
@@ -30,7 +32,34 @@ U 1 2 1 func { b0(): a = const -9223372036854775808; b = const -1; d = div a b; 
     => func { b0(): v0 = const -9223372036854775808; v1 = const -1; v2 = div v0 v1; ret v2 }
 U 2 2 1 func { b0(): c = const 1; d = const 2; cbr c b1(c) b1(d); b1(p): ret p } \
     => func { b0(): v0 = const 1; v1 = const 2; cbr v0 b1(v0) b1(v1); b1(v2): ret v2 }
-U 2 1 1 func { b0(): a = const 2; scope a { b0(p): print p; ret }; ret a } => func { b0(): v0 = const 2; scope v0 { b0(v1): print v1; ret }; ret v0 }
+C 2 2 0 func { b0(): a = const 2; scope a { b0(p): print p; ret }; ret a } \
+    => func { b0(): v0 = const 2; scope v0 { b0(v1): v2 = const 2; print v2; ret }; ret v0 }
+C 2 2 1 func { b0(): a = const 2; scope a { b0(p, q): print q; ret p }; ret } \
+    => func { b0(): v0 = const 2; scope v0 { b0(v1, v2): v3 = const 2; print v2; ret v3 }; ret }
+U 4 2 4 func { b0(): z = const 0; br b1(z); b1(i): scope i { b0(p): print p; ret }; o = const 1; n = add i o; r = read; cbr r b1(n) b2(); b2(): ret } \
+    => func { b0(): v0 = const 0; br b1(v0); b1(v1): scope v1 { b0(v2): print v2; ret }; v3 = const 1; v4 = add v1 v3; v5 = read; cbr v5 b1(v4) b2(); \
+        b2(): ret }
+U 3 2 2 func { b0(): a = const 2; scope a { b0(p): r = read; k = const 3; cbr r b0(k) b1(); b1(): ret }; ret } \
+    => func { b0(): v0 = const 2; scope v0 { b0(v1): v2 = read; v3 = const 3; cbr v2 b0(v3) b1(); b1(): ret }; ret }
+C 3 3 1 func { b0(): a = const 2; scope a { b0(p): r = read; k = const 2; cbr r b0(k) b1(); b1(): ret }; ret } \
+    => func { b0(): v0 = const 2; scope v0 { b0(v1): v2 = const 2; v3 = read; v4 = const 2; cbr v3 b0(v4) b1(); b1(): ret }; ret }
+C 2 5 0 func { b0(): a = const 2; b = const 3; scope a b a { b0(p, q): c = add p q; print c; ret }; ret } \
+    => func { b0(): v0 = const 2; v1 = const 3; scope v0 v1 v0 { b0(v2, v3): v4 = const 3; v5 = const 2; v6 = const 5; v7 = add v5 v4; print v6; ret \
+        }; ret }
+C 4 4 0 func { b0(): a = const 7; scope a { b0(p): scope p { b0(q): scope q { b0(r): print r; ret }; ret }; ret }; ret } \
+    => func { b0(): v0 = const 7; scope v0 { b0(v1): v2 = const 7; scope v2 { b0(v3): v4 = const 7; scope v4 { b0(v5): v6 = const 7; print v6; ret }; \
+        ret }; ret }; ret }
+C 3 3 4 func { b0(x): a = const 7; scope x a { b0(p, q): scope q p { b0(r, s): t = mul r s; print t; ret }; ret }; ret } \
+    => func { b0(v0): v1 = const 7; scope v0 v1 { b0(v2, v3): v4 = const 7; scope v4 v2 { b0(v5, v6): v7 = const 7; v8 = mul v7 v6; print v8; ret }; \
+        ret }; ret }
+U 3 2 3 func { b0(): c = const 1; x = const 5; y = read; cbr c b1(x) b1(y); b1(p): scope p { b0(q): print q; ret }; ret } \
+    => func { b0(): v0 = const 1; v1 = const 5; v2 = read; cbr v0 b1(v1) b1(v2); b1(v3): scope v3 { b0(v4): print v4; ret }; ret }
+C 4 6 0 func { b0(): c = const 1; x = const 5; y = const 6; cbr c b1(x) b2(y); b1(p): scope p { b0(q): br b1(q); b1(r): print r; ret }; ret; b2(z): \
+    scope z { b0(w): print w; ret }; ret } \
+    => func { b0(): v0 = const 1; v1 = const 5; v2 = const 6; cbr v0 b1(v1) b2(v2); b1(v3): v4 = const 5; scope v4 { b0(v5): v6 = const 5; br b1(v6); \
+        b1(v7): v8 = const 5; print v8; ret }; ret; b2(v9): scope v9 { b0(v10): print v10; ret }; ret }
+U 3 1 2 func { b0(): a = const 2; box { b0(p): print p; ret }; scope { b0(q): print q; ret }; ret } \
+    => func { b0(): v0 = const 2; box { b0(v1): print v1; ret }; scope { b0(v2): print v2; ret }; ret }
 C 3 5 0 func { b0(): c = const 1; x = const 5; y = const 6; cbr c b1(x) b2(y); b1(p): br b2(p); b2(q): ret q; b3(): br b2(y) } \
     => func { b0(): v0 = const 1; v1 = const 5; v2 = const 6; cbr v0 b1(v1) b2(v2); b1(v3): v4 = const 5; br b2(v4); b2(v5): v6 = const 5; ret v6; \
         b3(): br b2(v2) }
@@ -72,7 +101,16 @@ U 6 2 25 func { b0(): z = const 0; o = const 1; br b1(z); b1(p): cbr p b2(p, p, 
 U 3 1 10 func { b0(): o = const 1; br b1(o, o, o, o, o, o, o, o); b1(a, b, c, d, e, f, g, h): r = read; q = read; \
     cbr q b1(r, a, b, c, d, e, f, g) b2(); b2(): ret } \
     => func { b0(): v0 = const 1; br b1(v0, v0, v0, v0, v0, v0, v0, v0); b1(v1, v2, v3, v4, v5, v6, v7, v8): v9 = read; v10 = read; \
-        cbr v10 b1(v9, v1, v2, v3, v4, v5, v6, v7) b2(); b2(): ret }";
+        cbr v10 b1(v9, v1, v2, v3, v4, v5, v6, v7) b2(); b2(): ret }
+U 4 1 19 func { b0(): o = const 1; br b1(o, o, o, o, o, o, o, o); b1(a, b, c, d, e, f, g, h): r = read; q = read; \
+    cbr q b2(r, a, b, c, d, e, f, g) b3(); b2(i, j, k, l, m, n, p, s): t = read; cbr t b1(i, j, k, l, m, n, p, s) b3(); b3(): ret } \
+    => func { b0(): v0 = const 1; br b1(v0, v0, v0, v0, v0, v0, v0, v0); b1(v1, v2, v3, v4, v5, v6, v7, v8): v9 = read; v10 = read; \
+        cbr v10 b2(v9, v1, v2, v3, v4, v5, v6, v7) b3(); \
+        b2(v11, v12, v13, v14, v15, v16, v17, v18): v19 = read; cbr v19 b1(v11, v12, v13, v14, v15, v16, v17, v18) b3(); b3(): ret }
+C 3 2 10 func { b0(x): o = const 1; cbr x b1(o, o, o, o, o, o, o, o) b2(o); \
+    b1(a, b, c, d, e, f, g, h): r = read; cbr o b1(r, a, b, c, d, e, f, g) b2(h); b2(u): ret u } \
+    => func { b0(v0): v1 = const 1; cbr v0 b1(v1, v1, v1, v1, v1, v1, v1, v1) b2(v1); \
+        b1(v2, v3, v4, v5, v6, v7, v8, v9): v10 = read; cbr v1 b1(v10, v2, v3, v4, v5, v6, v7, v8) b2(v9); b2(v11): v12 = const 1; ret v12 }";
 
 pub static MADE: &str = "\
 U 1 0 0 func { b0(): sink; ret; b1(): v0 = read; v1 = div v0 v0; cbr v1 b1() b2(); b2(): sink; ret } \
@@ -217,11 +255,11 @@ C 2 2 6 func { b0(v0): v1 = const 0; cbr v1 b2(v1, v1) b2(v1, v0); b1(v2, v3, v4
     => func { b0(v0): v1 = const 0; cbr v1 b2(v1, v1) b2(v1, v0); b1(v2, v3, v4): v5 = read; cbr v2 b1(v2, v1, v1) b2(v3, v4); \
         b2(v6, v7): v8 = const 0; v9 = read; v10 = read; v11, v12 = pair; ret v10 }
 U 2 1 1 func { b0(v0): print v0; cbr v0 b1() b1(); b1(): v1 = const 0; ret } => func { b0(v0): print v0; cbr v0 b1() b1(); b1(): v1 = const 0; ret }
-C 4 6 3 func { b0(): v0 = const 0; cbr v0 b1(v0) b1(v0); b1(v1): print v1; v2 = const 0; v3 = add v2 v1; scope v1 v1 { b0(v4, v5): v6 = add v5 v2; br b1(v2); \
-    b1(v7): print v7; v8 = const 0; print v5; cbr v6 b1(v8) b1(v7) }; cbr v1 b1(v1) b1(v0) } \
-    => func { b0(): v0 = const 0; cbr v0 b1(v0) b1(v0); b1(v1): v2 = const 0; print v2; v3 = const 0; v4 = const 0; v5 = add v3 v2; \
-        scope v2 v2 { b0(v6, v7): v8 = add v7 v3; br b1(v3); b1(v9): v10 = const 0; print v10; v11 = const 0; print v7; cbr v8 b1(v11) b1(v10) }; \
-        cbr v2 b1(v2) b1(v0) }
+C 4 9 0 func { b0(): v0 = const 0; cbr v0 b1(v0) b1(v0); b1(v1): print v1; v2 = const 0; v3 = add v2 v1; scope v1 v1 { b0(v4, v5): v6 = add v5 v2; br \
+    b1(v2); b1(v7): print v7; v8 = const 0; print v5; cbr v6 b1(v8) b1(v7) }; cbr v1 b1(v1) b1(v0) } \
+    => func { b0(): v0 = const 0; cbr v0 b1(v0) b1(v0); b1(v1): v2 = const 0; print v2; v3 = const 0; v4 = const 0; v5 = add v3 v2; scope v2 v2 { \
+        b0(v6, v7): v8 = const 0; v9 = const 0; v10 = const 0; v11 = add v8 v3; br b1(v3); b1(v12): v13 = const 0; print v13; v14 = const 0; print v8; \
+        cbr v10 b1(v14) b1(v13) }; cbr v2 b1(v2) b1(v0) }
 C 3 4 6 func { b0(v0): scope v0 v0 { b0(v1, v2): v3 = const 0; v4, v5 = pair; br b0(v3, v4) }; v6 = const 0; br b1(v0, v6); \
     b1(v7, v8): v9 = const 3; ret v8 } \
     => func { b0(v0): scope v0 v0 { b0(v1, v2): v3 = const 0; v4, v5 = pair; br b0(v3, v4) }; v6 = const 0; br b1(v0, v6); \
@@ -242,12 +280,12 @@ U 4 1 12 func { b0(): sink; v0 = const 7; v1, v2 = pair; br b2(v2, v1, v1); b1(v
     => func { b0(): sink; v0 = const 7; v1, v2 = pair; br b2(v2, v1, v1); b1(v3): v4 = div v3 v3; v5 = const 1; br b1(v5); \
         b2(v6, v7, v8): print v1; scope { b0(v9): sink v0 v9 v9; sink; v10 = add v2 v9; br b0(v9) }; v11 = div v6 v7; sink v6; br b3(v8, v7, v7); \
         b3(v12, v13, v14): v15 = read; ret v2 }
-C 4 4 5 func { b0(v0): v1 = add v0 v0; v2 = const 0; scope { b0(): v3 = mul v2 v0; scope v3 v3 { b0(v4): v5 = add v3 v4; ret }; cbr v2 b0() b0() }; \
-    br b3(v2, v2); b1(v6, v7): v8 = const 0; v9, v10 = pair; ret v8; b2(): v11 = mul v1 v1; v12 = const 2; v13 = add v11 v11; ret v11; \
-    b3(v14, v15): v16 = add v0 v15; ret } \
-    => func { b0(v0): v1 = add v0 v0; v2 = const 0; scope { b0(): v3 = const 0; v4 = mul v2 v0; scope v3 v3 { b0(v5): v6 = add v3 v5; ret }; \
-        cbr v2 b0() b0() }; br b3(v2, v2); b1(v7, v8): v9 = const 0; v10, v11 = pair; ret v9; \
-        b2(): v12 = mul v1 v1; v13 = const 2; v14 = add v12 v12; ret v12; b3(v15, v16): v17 = const 0; v18 = const 0; v19 = add v0 v17; ret }
+C 4 6 3 func { b0(v0): v1 = add v0 v0; v2 = const 0; scope { b0(): v3 = mul v2 v0; scope v3 v3 { b0(v4): v5 = add v3 v4; ret }; cbr v2 b0() b0() }; br \
+    b3(v2, v2); b1(v6, v7): v8 = const 0; v9, v10 = pair; ret v8; b2(): v11 = mul v1 v1; v12 = const 2; v13 = add v11 v11; ret v11; b3(v14, v15): v16 \
+    = add v0 v15; ret } \
+    => func { b0(v0): v1 = add v0 v0; v2 = const 0; scope { b0(): v3 = const 0; v4 = mul v2 v0; scope v3 v3 { b0(v5): v6 = const 0; v7 = const 0; v8 = \
+        add v3 v6; ret }; cbr v2 b0() b0() }; br b3(v2, v2); b1(v9, v10): v11 = const 0; v12, v13 = pair; ret v11; b2(): v14 = mul v1 v1; v15 = const \
+        2; v16 = add v14 v14; ret v14; b3(v17, v18): v19 = const 0; v20 = const 0; v21 = add v0 v19; ret }
 C 2 3 3 func { b0(): sink; v0 = const 0; cbr v0 b1(v0, v0, v0) b1(v0, v0, v0); b1(v1, v2, v3): print v3; v4 = read; sink; v5 = add v4 v3; br b1(v1, v4, v1) } \
     => func { b0(): sink; v0 = const 0; cbr v0 b1(v0, v0, v0) b1(v0, v0, v0); \
         b1(v1, v2, v3): v4 = const 0; v5 = const 0; print v4; v6 = read; sink; v7 = add v6 v4; br b1(v5, v6, v5) }
@@ -269,12 +307,11 @@ C 3 6 4 func { b0(): v0 = const 1; cbr v0 b1(v0, v0) b2(v0, v0, v0); b1(v1, v2):
     b2(v5, v6, v7): v8, v9 = pair; sink v6 v7 v8; ret v7 } \
     => func { b0(): v0 = const 1; cbr v0 b1(v0, v0) b2(v0, v0, v0); b1(v1, v2): v3 = const 1; v4 = const 1; v5 = const 5; v6 = const 10; v7 = add v5 v5; \
         cbr v4 b2(v6, v4, v6) b2(v5, v0, v4); b2(v8, v9, v10): v11 = const 1; v12, v13 = pair; sink v11 v10 v12; ret v10 }
-C 5 6 5 func { b0(): v0 = const -1; sink; br b2(v0); b1(v1, v2): sink v2 v1; cbr v1 b2(v2) b2(v1); \
-    b2(v3): scope v3 v3 { b0(v4, v5): v6 = const 7; fork v4 b1 b1; b1(v7): sink; v8, v9 = pair; cbr v9 b1(v0) b2(); \
-    b2(): v10 = add v3 v6; ret }; v11 = div v3 v3; v12 = const 0; ret v11 } \
-    => func { b0(): v0 = const -1; sink; br b2(v0); b1(v1, v2): sink v2 v1; cbr v1 b2(v2) b2(v1); \
-        b2(v3): v4 = const -1; scope v4 v4 { b0(v5, v6): v7 = const 7; fork v5 b1 b1; b1(v8): sink; v9, v10 = pair; cbr v10 b1(v0) b2(); \
-        b2(): v11 = const 6; v12 = add v4 v7; ret }; v13 = const 1; v14 = div v4 v4; v15 = const 0; ret v13 }
+C 5 8 3 func { b0(): v0 = const -1; sink; br b2(v0); b1(v1, v2): sink v2 v1; cbr v1 b2(v2) b2(v1); b2(v3): scope v3 v3 { b0(v4, v5): v6 = const 7; \
+    fork v4 b1 b1; b1(v7): sink; v8, v9 = pair; cbr v9 b1(v0) b2(); b2(): v10 = add v3 v6; ret }; v11 = div v3 v3; v12 = const 0; ret v11 } \
+    => func { b0(): v0 = const -1; sink; br b2(v0); b1(v1, v2): sink v2 v1; cbr v1 b2(v2) b2(v1); b2(v3): v4 = const -1; scope v4 v4 { b0(v5, v6): v7 \
+        = const -1; v8 = const -1; v9 = const 7; fork v8 b1 b1; b1(v10): sink; v11, v12 = pair; cbr v12 b1(v0) b2(); b2(): v13 = const 6; v14 = add v4 \
+        v9; ret }; v15 = const 1; v16 = div v4 v4; v17 = const 0; ret v15 }
 C 2 3 3 func { b0(v0): v1 = const 0; v2 = div v0 v0; v3 = add v0 v2; br b2(v1); b1(v4): v5 = const 1; v6 = const 0; print v6; br b1(v6); \
     b2(v7): v8 = const 0; ret v8 } \
     => func { b0(v0): v1 = const 0; v2 = div v0 v0; v3 = add v0 v2; br b2(v1); b1(v4): v5 = const 1; v6 = const 0; print v6; br b1(v6); \
@@ -318,12 +355,12 @@ C 6 3 11 func { b0(v0, v1): v2 = mul v1 v0; br b1(v2, v0); b1(v3, v4): v5 = cons
     => func { b0(v0, v1): v2 = mul v1 v0; br b1(v2, v0); b1(v3, v4): v5 = const -1; v6 = div v4 v5; cbr v5 b2(v5, v3, v5) b3(); \
         b2(v7, v8, v9): v10 = const -1; v11 = const -1; box { b0(): v12, v13 = pair; ret }; v14 = add v11 v8; print v10; cbr v14 b3() b1(v10, v0); \
         b3(): scope { b0(): br b0() }; v15 = mul v1 v0; ret v1 }
-C 3 5 3 func { b0(): v0 = const 2; scope v0 { b0(v1): v2 = const 2; v3, v4 = pair; ret }; v5 = const 2; cbr v0 b2(v0, v0) b2(v5, v5); \
-    b1(v6, v7): v8 = div v7 v5; v9 = read; fork v6 b2 b3; b2(v10, v11): sink; cbr v10 b2(v0, v11) b2(v5, v11); \
-    b3(v12, v13): v14 = mul v12 v12; v15, v16 = pair; ret v15 } \
-    => func { b0(): v0 = const 2; scope v0 { b0(v1): v2 = const 2; v3, v4 = pair; ret }; v5 = const 2; cbr v0 b2(v0, v0) b2(v5, v5); \
-        b1(v6, v7): v8 = div v7 v5; v9 = read; fork v6 b2 b3; b2(v10, v11): v12 = const 2; v13 = const 2; sink; cbr v13 b2(v0, v12) b2(v5, v12); \
-        b3(v14, v15): v16 = mul v14 v14; v17, v18 = pair; ret v17 }
+C 3 6 2 func { b0(): v0 = const 2; scope v0 { b0(v1): v2 = const 2; v3, v4 = pair; ret }; v5 = const 2; cbr v0 b2(v0, v0) b2(v5, v5); b1(v6, v7): v8 = \
+    div v7 v5; v9 = read; fork v6 b2 b3; b2(v10, v11): sink; cbr v10 b2(v0, v11) b2(v5, v11); b3(v12, v13): v14 = mul v12 v12; v15, v16 = pair; ret \
+    v15 } \
+    => func { b0(): v0 = const 2; scope v0 { b0(v1): v2 = const 2; v3 = const 2; v4, v5 = pair; ret }; v6 = const 2; cbr v0 b2(v0, v0) b2(v6, v6); \
+        b1(v7, v8): v9 = div v8 v6; v10 = read; fork v7 b2 b3; b2(v11, v12): v13 = const 2; v14 = const 2; sink; cbr v14 b2(v0, v13) b2(v6, v13); \
+        b3(v15, v16): v17 = mul v15 v15; v18, v19 = pair; ret v18 }
 C 2 4 5 func { b0(v0): v1 = const 1; v2 = add v1 v0; v3 = div v0 v1; cbr v1 b1(v1, v3, v1) b1(v1, v0, v2); b1(v4, v5, v6): v7 = const 1; v8 = const -3; ret } \
     => func { b0(v0): v1 = const 1; v2 = add v1 v0; v3 = div v0 v1; cbr v1 b1(v1, v3, v1) b1(v1, v0, v2); \
         b1(v4, v5, v6): v7 = const 1; v8 = const 1; v9 = const -3; ret }
@@ -355,18 +392,18 @@ C 3 4 0 func { b0(): box { b0(): v0 = const 0; v1 = add v0 v0; br b1(v0); b1(v2)
     b1(v4, v5): box { b0(): v6 = mul v5 v4; ret }; v7 = add v4 v4; v8, v9 = pair; v10 = div v9 v5; cbr v4 b1(v4, v5) b1(v8, v5) } \
     => func { b0(): box { b0(): v0 = const 0; v1 = const 0; v2 = add v0 v0; br b1(v0); b1(v3): v4 = const 0; v5 = const 0; ret }; ret; \
         b1(v6, v7): box { b0(): v8 = mul v7 v6; ret }; v9 = add v6 v6; v10, v11 = pair; v12 = div v11 v7; cbr v6 b1(v6, v7) b1(v10, v7) }
-C 5 2 2 func { b0(): v0 = const -3; box { b0(v1): print v1; ret }; cbr v0 b2() b2(); b1(): sink v0 v0; v2 = const 1; sink v2 v0; br b2(); \
-    b2(): v3 = add v0 v0; scope v0 { b0(v4): cbr v3 b1() b1(); b1(): print v4; ret; b2(): box { b0(v5): v6 = const 0; v7 = const 1; cbr v7 b1(v7) b1(v5); \
-    b1(v8): ret }; v9 = const 0; ret }; ret v3 } \
-    => func { b0(): v0 = const -3; box { b0(v1): print v1; ret }; cbr v0 b2() b2(); b1(): sink v0 v0; v2 = const 1; sink v2 v0; br b2(); \
-        b2(): v3 = const -6; v4 = add v0 v0; scope v0 { b0(v5): cbr v3 b1() b1(); b1(): print v5; ret; \
-        b2(): box { b0(v6): v7 = const 0; v8 = const 1; cbr v8 b1(v8) b1(v6); b1(v9): ret }; v10 = const 0; ret }; ret v3 }
+C 5 3 1 func { b0(): v0 = const -3; box { b0(v1): print v1; ret }; cbr v0 b2() b2(); b1(): sink v0 v0; v2 = const 1; sink v2 v0; br b2(); b2(): v3 = \
+    add v0 v0; scope v0 { b0(v4): cbr v3 b1() b1(); b1(): print v4; ret; b2(): box { b0(v5): v6 = const 0; v7 = const 1; cbr v7 b1(v7) b1(v5); b1(v8): \
+    ret }; v9 = const 0; ret }; ret v3 } \
+    => func { b0(): v0 = const -3; box { b0(v1): print v1; ret }; cbr v0 b2() b2(); b1(): sink v0 v0; v2 = const 1; sink v2 v0; br b2(); b2(): v3 = \
+        const -6; v4 = add v0 v0; scope v0 { b0(v5): v6 = const -3; cbr v3 b1() b1(); b1(): print v6; ret; b2(): box { b0(v7): v8 = const 0; v9 = \
+        const 1; cbr v9 b1(v9) b1(v7); b1(v10): ret }; v11 = const 0; ret }; ret v3 }
 C 2 3 2 func { b0(v0): print v0; v1 = const 2; cbr v0 b1(v1, v1) b1(v0, v1); b1(v2, v3): v4 = const 1; sink v4 v2 v2; ret v2 } \
     => func { b0(v0): print v0; v1 = const 2; cbr v0 b1(v1, v1) b1(v0, v1); b1(v2, v3): v4 = const 2; v5 = const 1; sink v5 v2 v2; ret v2 }
-U 4 1 13 func { b0(v0, v1): v2 = const 0; print v0; br b1(v0); b1(v3): v4 = read; box { b0(): scope v4 v2 { b0(v5, v6): v7 = div v1 v5; v8, v9 = pair; ret }; \
-    v10, v11 = pair; v12 = mul v11 v11; ret }; v13 = read; ret v13 } \
-    => func { b0(v0, v1): v2 = const 0; print v0; br b1(v0); b1(v3): v4 = read; box { b0(): scope v4 v2 { b0(v5, v6): v7 = div v1 v5; v8, v9 = pair; ret }; \
-        v10, v11 = pair; v12 = mul v11 v11; ret }; v13 = read; ret v13 }
+C 4 2 12 func { b0(v0, v1): v2 = const 0; print v0; br b1(v0); b1(v3): v4 = read; box { b0(): scope v4 v2 { b0(v5, v6): v7 = div v1 v5; v8, v9 = pair; \
+    ret }; v10, v11 = pair; v12 = mul v11 v11; ret }; v13 = read; ret v13 } \
+    => func { b0(v0, v1): v2 = const 0; print v0; br b1(v0); b1(v3): v4 = read; box { b0(): scope v4 v2 { b0(v5, v6): v7 = const 0; v8 = div v1 v5; \
+        v9, v10 = pair; ret }; v11, v12 = pair; v13 = mul v12 v12; ret }; v14 = read; ret v14 }
 C 3 4 9 func { b0(v0, v1): v2, v3 = pair; v4, v5 = pair; v6 = const 7; print v0; cbr v5 b1(v4) b2(v0, v6); b1(v7): v8 = mul v4 v5; ret; \
     b2(v9, v10): v11 = mul v10 v10; sink; v12 = const 2; ret } \
     => func { b0(v0, v1): v2, v3 = pair; v4, v5 = pair; v6 = const 7; print v0; cbr v5 b1(v4) b2(v0, v6); b1(v7): v8 = mul v4 v5; ret; \
@@ -419,10 +456,11 @@ C 3 2 6 func { b0(v0): v1 = add v0 v0; print v1; scope { b0(): v2 = const 922337
     b1(v3, v4): v5 = add v4 v3; v6 = div v1 v2; ret }; v7 = div v1 v0; ret } \
     => func { b0(v0): v1 = add v0 v0; print v1; scope { b0(): v2 = const 9223372036854775807; cbr v2 b1(v2, v2) b1(v2, v0); \
         b1(v3, v4): v5 = const 9223372036854775807; v6 = add v4 v5; v7 = div v1 v2; ret }; v8 = div v1 v0; ret }
-C 3 5 6 func { b0(v0): v1, v2 = pair; v3 = const 7; v4 = div v3 v3; v5 = const 1; br b2(v5, v3); b1(): v6 = add v3 v2; sink; br b1(); \
-    b2(v7, v8): sink v8 v7 v8; scope v8 v3 { b0(v9, v10): v11 = mul v9 v9; ret }; ret v8 } \
+C 3 8 3 func { b0(v0): v1, v2 = pair; v3 = const 7; v4 = div v3 v3; v5 = const 1; br b2(v5, v3); b1(): v6 = add v3 v2; sink; br b1(); b2(v7, v8): sink \
+    v8 v7 v8; scope v8 v3 { b0(v9, v10): v11 = mul v9 v9; ret }; ret v8 } \
     => func { b0(v0): v1, v2 = pair; v3 = const 7; v4 = const 1; v5 = div v3 v3; v6 = const 1; br b2(v6, v3); b1(): v7 = add v3 v2; sink; br b1(); \
-        b2(v8, v9): v10 = const 7; v11 = const 1; sink v10 v11 v10; scope v10 v3 { b0(v12, v13): v14 = mul v12 v12; ret }; ret v10 }
+        b2(v8, v9): v10 = const 7; v11 = const 1; sink v10 v11 v10; scope v10 v3 { b0(v12, v13): v14 = const 7; v15 = const 7; v16 = const 49; v17 = \
+        mul v15 v15; ret }; ret v10 }
 C 4 10 0 func { b0(): v0 = const -3; cbr v0 b1(v0, v0, v0) b1(v0, v0, v0); b1(v1, v2, v3): scope { b0(): cbr v1 b2(v2, v3, v3) b2(v0, v2, v1); \
     b1(v4): v5, v6 = pair; cbr v6 b1(v4) b2(v5, v6, v6); b2(v7, v8, v9): v10 = div v3 v7; v11 = add v7 v9; ret }; v12 = const 7; ret v1 } \
     => func { b0(): v0 = const -3; cbr v0 b1(v0, v0, v0) b1(v0, v0, v0); b1(v1, v2, v3): v4 = const -3; v5 = const -3; v6 = const -3; \
@@ -439,10 +477,11 @@ C 3 5 5 func { b0(): v0 = const 0; v1 = add v0 v0; v2 = const -3; cbr v0 b2(v1, 
     => func { b0(): v0 = const 0; v1 = const 0; v2 = add v0 v0; v3 = const -3; cbr v0 b2(v1, v0) b2(v3, v1); \
         b1(): v4 = const 7; sink v4 v4; cbr v4 b1() b2(v4, v1); b2(v5, v6): v7 = const 0; print v5; v8 = add v3 v5; \
         scope v7 v8 { b0(v9, v10): v11 = mul v9 v10; v12 = const 7; br b0(v10, v10) }; ret v7 }
-C 5 3 11 func { b0(v0, v1): v2 = add v0 v0; v3 = div v1 v1; cbr v0 b1() b1(); b1(): v4 = const 0; box { b0(): v5 = read; v6 = add v5 v0; br b1(v1, v4, v5); \
-    b1(v7, v8, v9): v10 = add v7 v5; scope v7 v8 { b0(v11, v12): v13 = const 5; ret }; ret }; sink v4; sink v0 v4; ret v4 } \
-    => func { b0(v0, v1): v2 = add v0 v0; v3 = div v1 v1; cbr v0 b1() b1(); b1(): v4 = const 0; box { b0(): v5 = read; v6 = add v5 v0; br b1(v1, v4, v5); \
-        b1(v7, v8, v9): v10 = const 0; v11 = add v7 v5; scope v7 v10 { b0(v12, v13): v14 = const 5; ret }; ret }; sink v4; sink v0 v4; ret v4 }
+C 5 4 10 func { b0(v0, v1): v2 = add v0 v0; v3 = div v1 v1; cbr v0 b1() b1(); b1(): v4 = const 0; box { b0(): v5 = read; v6 = add v5 v0; br b1(v1, v4, \
+    v5); b1(v7, v8, v9): v10 = add v7 v5; scope v7 v8 { b0(v11, v12): v13 = const 5; ret }; ret }; sink v4; sink v0 v4; ret v4 } \
+    => func { b0(v0, v1): v2 = add v0 v0; v3 = div v1 v1; cbr v0 b1() b1(); b1(): v4 = const 0; box { b0(): v5 = read; v6 = add v5 v0; br b1(v1, v4, \
+        v5); b1(v7, v8, v9): v10 = const 0; v11 = add v7 v5; scope v7 v10 { b0(v12, v13): v14 = const 0; v15 = const 5; ret }; ret }; sink v4; sink v0 \
+        v4; ret v4 }
 C 5 4 0 func { b0(): box { b0(): box { b0(): v0 = const 2; v1 = mul v0 v0; cbr v1 b1(v1) b1(v1); \
     b1(v2): print v2; v3 = const 2; print v3; br b1(v2) }; sink; br b1(); b1(): ret }; sink; ret; b1(v4, v5): print v5; cbr v5 b1(v4, v5) b1(v4, v5); \
     b2(v6, v7): sink; v8 = add v6 v7; ret v7 } \
@@ -562,11 +601,10 @@ C 2 3 2 func { b0(v0): v1 = const 0; print v1; v2 = add v0 v1; br b2(v1); b1(): 
     b2(v5): v6 = add v5 v5; ret v1 } \
     => func { b0(v0): v1 = const 0; print v1; v2 = add v0 v1; br b2(v1); b1(): scope v0 { b0(v3): v4 = div v3 v3; sink; ret }; cbr v2 b1() b1(); \
         b2(v5): v6 = const 0; v7 = const 0; v8 = add v6 v6; ret v1 }
-C 4 4 4 func { b0(v0): v1 = const 1; v2 = mul v0 v0; cbr v0 b2(v2, v1) b1(); \
-    b1(): v3 = const 0; scope v1 { b0(v4): print v4; v5 = const 7; sink; ret }; cbr v3 b1() b1(); b2(v6, v7): sink v0 v6; cbr v2 b2(v7, v7) b2(v6, v7) } \
-    => func { b0(v0): v1 = const 1; v2 = mul v0 v0; cbr v0 b2(v2, v1) b1(); \
-        b1(): v3 = const 0; scope v1 { b0(v4): print v4; v5 = const 7; sink; ret }; cbr v3 b1() b1(); \
-        b2(v6, v7): v8 = const 1; sink v0 v6; cbr v2 b2(v8, v8) b2(v6, v8) }
+C 4 5 3 func { b0(v0): v1 = const 1; v2 = mul v0 v0; cbr v0 b2(v2, v1) b1(); b1(): v3 = const 0; scope v1 { b0(v4): print v4; v5 = const 7; sink; ret \
+    }; cbr v3 b1() b1(); b2(v6, v7): sink v0 v6; cbr v2 b2(v7, v7) b2(v6, v7) } \
+    => func { b0(v0): v1 = const 1; v2 = mul v0 v0; cbr v0 b2(v2, v1) b1(); b1(): v3 = const 0; scope v1 { b0(v4): v5 = const 1; print v5; v6 = const \
+        7; sink; ret }; cbr v3 b1() b1(); b2(v7, v8): v9 = const 1; sink v0 v7; cbr v2 b2(v9, v9) b2(v7, v9) }
 U 3 0 9 func { b0(v0, v1): v2, v3 = pair; cbr v1 b1(v1, v3) b1(v0, v3); \
     b1(v4, v5): v6 = add v3 v5; box { b0(): v7 = mul v2 v5; br b0() }; v8 = read; cbr v6 b1(v4, v6) b1(v5, v4) } \
     => func { b0(v0, v1): v2, v3 = pair; cbr v1 b1(v1, v3) b1(v0, v3); b1(v4, v5): v6 = add v3 v5; box { b0(): v7 = mul v2 v5; br b0() }; v8 = read; \
@@ -636,11 +674,11 @@ C 3 8 3 func { b0(v0): scope { b0(): v1 = read; v2 = const 1; cbr v1 b0() b0() }
         b1(v4, v5): v6 = add v5 v4; v7 = mul v4 v4; v8 = mul v7 v4; v9, v10 = pair; ret; \
         b2(v11, v12, v13): v14 = const 7; v15 = const 7; v16 = const 14; v17 = add v15 v15; v18 = const 0; v19 = const 0; v20 = const 0; v21 = add v19 v18; \
         ret }
-C 4 2 7 func { b0(): v0 = const 2; scope v0 { b0(v1): cbr v0 b1(v1) b1(v0); b1(v2): v3 = add v2 v2; ret }; v4 = div v0 v0; sink v0 v4 v0; br b2(v0, v4); \
-    b1(v5): v6 = const -3; br b3(); b2(v7, v8): v9, v10 = pair; print v9; br b2(v9, v7); b3(): v11 = read; sink v11; v12 = const 1; br b1(v12) } \
-    => func { b0(): v0 = const 2; scope v0 { b0(v1): cbr v0 b1(v1) b1(v0); \
-        b1(v2): v3 = add v2 v2; ret }; v4 = const 1; v5 = div v0 v0; sink v0 v4 v0; br b2(v0, v4); b1(v6): v7 = const -3; br b3(); \
-        b2(v8, v9): v10, v11 = pair; print v10; br b2(v10, v8); b3(): v12 = read; sink v12; v13 = const 1; br b1(v13) }
+C 4 5 4 func { b0(): v0 = const 2; scope v0 { b0(v1): cbr v0 b1(v1) b1(v0); b1(v2): v3 = add v2 v2; ret }; v4 = div v0 v0; sink v0 v4 v0; br b2(v0, \
+    v4); b1(v5): v6 = const -3; br b3(); b2(v7, v8): v9, v10 = pair; print v9; br b2(v9, v7); b3(): v11 = read; sink v11; v12 = const 1; br b1(v12) } \
+    => func { b0(): v0 = const 2; scope v0 { b0(v1): v2 = const 2; cbr v0 b1(v2) b1(v0); b1(v3): v4 = const 2; v5 = const 4; v6 = add v4 v4; ret }; v7 \
+        = const 1; v8 = div v0 v0; sink v0 v7 v0; br b2(v0, v7); b1(v9): v10 = const -3; br b3(); b2(v11, v12): v13, v14 = pair; print v13; br b2(v13, \
+        v11); b3(): v15 = read; sink v15; v16 = const 1; br b1(v16) }
 C 3 5 9 func { b0(): v0 = const 0; v1 = const 9223372036854775807; v2 = mul v1 v1; v3 = div v2 v0; br b1(v3); \
     b1(v4): v5 = mul v4 v0; v6 = add v5 v0; cbr v5 b1(v6) b2(v6, v4); b2(v7, v8): v9 = add v0 v8; v10 = add v8 v7; v11, v12 = pair; v13 = add v7 v12; \
     cbr v13 b2(v3, v12) b1(v9) } \
@@ -659,12 +697,12 @@ C 6 7 4 func { b0(): box { b0(v0): scope { b0(): v1 = add v0 v0; ret }; box { b0
         b1(): v3 = const 0; v4 = mul v2 v2; print v3; cbr v3 b2(v3, v3) b2(v3, v3); \
         b2(v5, v6): v7 = const 0; v8 = const 0; v9 = const 7; v10 = const 7; v11 = add v9 v7; v12, v13 = pair; v14 = const 1; v15 = div v9 v10; \
         br b2(v8, v8) }
-C 5 4 6 func { b0(): scope { b0(): v0 = const 0; fork v0 b2 b2; b1(v1, v2, v3): v4 = const -3; br b1(v1, v3, v4); \
-    b2(v5, v6, v7): v8 = mul v5 v6; print v5; br b2(v6, v6, v6) }; v9 = const 1; cbr v9 b1() b1(); \
-    b1(): v10 = mul v9 v9; v11 = const 0; print v10; scope v9 v11 { b0(v12, v13): sink v12; ret }; ret } \
-    => func { b0(): scope { b0(): v0 = const 0; fork v0 b2 b2; b1(v1, v2, v3): v4 = const -3; br b1(v1, v3, v4); \
-        b2(v5, v6, v7): v8 = mul v5 v6; print v5; br b2(v6, v6, v6) }; v9 = const 1; cbr v9 b1() b1(); \
-        b1(): v10 = const 1; v11 = mul v9 v9; v12 = const 0; print v10; scope v9 v12 { b0(v13, v14): sink v13; ret }; ret }
+C 5 6 4 func { b0(): scope { b0(): v0 = const 0; fork v0 b2 b2; b1(v1, v2, v3): v4 = const -3; br b1(v1, v3, v4); b2(v5, v6, v7): v8 = mul v5 v6; \
+    print v5; br b2(v6, v6, v6) }; v9 = const 1; cbr v9 b1() b1(); b1(): v10 = mul v9 v9; v11 = const 0; print v10; scope v9 v11 { b0(v12, v13): sink \
+    v12; ret }; ret } \
+    => func { b0(): scope { b0(): v0 = const 0; fork v0 b2 b2; b1(v1, v2, v3): v4 = const -3; br b1(v1, v3, v4); b2(v5, v6, v7): v8 = mul v5 v6; print \
+        v5; br b2(v6, v6, v6) }; v9 = const 1; cbr v9 b1() b1(); b1(): v10 = const 1; v11 = mul v9 v9; v12 = const 0; print v10; scope v9 v12 { \
+        b0(v13, v14): v15 = const 0; v16 = const 1; sink v16; ret }; ret }
 C 5 4 9 func { b0(v0, v1): v2 = add v1 v0; scope v1 { b0(v3): v4 = const -1; scope v4 { b0(): br b0() }; br b1(v4, v4); \
     b1(v5, v6): sink; v7 = mul v6 v6; scope { b0(v8): v9, v10 = pair; v11 = mul v10 v8; ret }; cbr v4 b1(v0, v6) b1(v0, v6) }; v12 = const 0; ret v1 } \
     => func { b0(v0, v1): v2 = add v1 v0; scope v1 { b0(v3): v4 = const -1; scope v4 { b0(): br b0() }; br b1(v4, v4); \
@@ -717,11 +755,11 @@ U 5 0 10 func { b0(v0): scope v0 v0 { b0(v1, v2): cbr v2 b1() b1(); b1(): v3 = a
         cbr v0 b1() b1(); b1(): v8 = div v0 v0; v9 = add v8 v8; print v8; ret v8; b2(v10, v11): v12 = const 2; ret }
 C 2 3 0 func { b0(): v0 = const 7; sink v0 v0 v0; br b1(v0); b1(v1): v2 = add v1 v1; sink; ret v1 } \
     => func { b0(): v0 = const 7; sink v0 v0 v0; br b1(v0); b1(v1): v2 = const 7; v3 = const 14; v4 = add v2 v2; sink; ret v2 }
-C 5 9 3 func { b0(v0): v1 = const 2; br b1(v1); b1(v2): v3 = div v2 v1; v4 = add v3 v3; v5 = const -3; scope v0 v3 { b0(v6, v7): cbr v6 b1() b1(); \
+C 5 10 2 func { b0(v0): v1 = const 2; br b1(v1); b1(v2): v3 = div v2 v1; v4 = add v3 v3; v5 = const -3; scope v0 v3 { b0(v6, v7): cbr v6 b1() b1(); \
     b1(): v8 = add v2 v5; cbr v8 b2(v3, v8) b1(); b2(v9, v10): v11 = add v2 v9; ret }; ret v2 } \
-    => func { b0(v0): v1 = const 2; br b1(v1); b1(v2): v3 = const 2; v4 = const 1; v5 = div v3 v1; v6 = const 2; v7 = add v4 v4; v8 = const -3; \
-        scope v0 v4 { b0(v9, v10): cbr v9 b1() b1(); b1(): v11 = const -1; v12 = add v3 v8; cbr v11 b2(v4, v11) b1(); \
-        b2(v13, v14): v15 = const -1; v16 = const 1; v17 = const 3; v18 = add v3 v16; ret }; ret v3 }
+    => func { b0(v0): v1 = const 2; br b1(v1); b1(v2): v3 = const 2; v4 = const 1; v5 = div v3 v1; v6 = const 2; v7 = add v4 v4; v8 = const -3; scope \
+        v0 v4 { b0(v9, v10): v11 = const 1; cbr v9 b1() b1(); b1(): v12 = const -1; v13 = add v3 v8; cbr v12 b2(v4, v12) b1(); b2(v14, v15): v16 = \
+        const -1; v17 = const 1; v18 = const 3; v19 = add v3 v17; ret }; ret v3 }
 C 2 2 3 func { b0(): v0 = const 0; cbr v0 b2() b2(); b1(v1, v2): v3 = const -3; v4 = const 2; fork v4 b2 b2; \
     b2(): v5 = add v0 v0; print v5; v6, v7 = pair; v8 = div v5 v5; ret v6 } \
     => func { b0(): v0 = const 0; cbr v0 b2() b2(); b1(v1, v2): v3 = const -3; v4 = const 2; fork v4 b2 b2; \

@@ -6,6 +6,8 @@ mod cases;
 #[cfg(test)]
 mod counts;
 #[cfg(test)]
+mod entries;
+#[cfg(test)]
 mod marked;
 #[cfg(test)]
 mod room;

@@ -3,18 +3,17 @@
 ghost use Rattle.std.specs.Prelude.{◌≡◌, Ok};
 ghost use Rattle.pliron_core.specs.Tree.{IsLive};
 ghost use Rattle.pliron_laws.specs.Answers.{ReadsHead};
-ghost use Rattle.pliron_evaluator.specs.Tiny.{tiny, tiny_side_effects, tiny_removable, tiny_constants, tiny_accepts, tiny_constant, tiny_folds_branch, tiny_feasible, tiny_outcome, has_tiny_kind, has_tiny_interface, tiny_shortened};
+ghost use Rattle.pliron_evaluator.specs.Tiny.{tiny, tiny_side_effects, tiny_removable, tiny_constants, tiny_accepts, tiny_constant, tiny_folds_branch, tiny_feasible, tiny_outcome, has_tiny_kind, has_tiny_interface, tiny_shortened, tiny_entry_operands};
 ghost use Rattle.pliron_evaluator.specs.TinyLaws.{tiny_counts, tiny_effects, tiny_arguments, tiny_jumps, tiny_in_place, tiny_makes};
+ghost use Rattle.pliron_evaluator.specs.TinyEntries.{tiny_names, tiny_roots};
 ghost use Rattle.pliron_sccp_tests.specs.Marked.{marked_folds, marked_answers, marked_forwards};
 
-use super::tiny::{
-    are_admitted, block, leads_to, made, made_with, put, reads_argument, reads_result,
-};
+use super::tiny::{block, leads_to, made, made_with, put, reads_argument, reads_result};
 use pliron_core::{AttrObj, BasicBlock, Context, IRStatus, Operation, Ptr, Rewriter, Value};
 use pliron_evaluator::{Tiny, TinyKind};
 use pliron_laws::{
     BlockArgRemoval, BranchOpFoldInterface, ConstFoldInterface, Dialect, HasMeaning, Interface,
-    OptError, Room, SideEffects, edges_last,
+    OptError, RegionBranchOpInterface, Room, SideEffects, is_well_linked,
 };
 use pliron_sccp::sccp_counted;
 use std::alloc::Global;
@@ -148,6 +147,25 @@ impl BranchOpFoldInterface for Marked {
     }
 }
 
+impl RegionBranchOpInterface for Marked {
+    ghost verdict = { λ t op r. r ≡ Ok tt };
+
+    ghost entry_operands = { tiny_entry_operands };
+
+    fn entry_operand(
+        op: Ptr<Operation>,
+        ctx: &Context,
+        region: usize,
+        arg: usize,
+    ) -> Option<usize> {
+        <Tiny as RegionBranchOpInterface>::entry_operand(op, ctx, region, arg)
+    }
+
+    fn verify(_alloc: Global, _op: Ptr<Operation>, _ctx: &Context) -> Result<(), OptError> {
+        Ok(())
+    }
+}
+
 impl Dialect for Marked {
     type Kind = TinyKind;
 
@@ -214,6 +232,10 @@ impl Dialect for Marked {
     ghost folds_in_place = { tiny_in_place };
 
     ghost makes_constants = { tiny_makes };
+
+    ghost names_operands = { tiny_names };
+
+    ghost roots = { tiny_roots };
 }
 
 // A constant with a mark.
@@ -268,11 +290,8 @@ fn answered(
     if !root.is_live(ctx) {
         return Err(Fail::from("no root"));
     }
-    if !edges_last(root, ctx) {
-        return Err(Fail::from("edges stand elsewhere"));
-    }
-    if !are_admitted(root, ctx) {
-        return Err(Fail::from("not admitted"));
+    if !is_well_linked::<Marked>(root, ctx) {
+        return Err(Fail::from("not well linked"));
     }
     Ok(sccp_counted::<Marked>(alloc, root, ctx)?)
 }

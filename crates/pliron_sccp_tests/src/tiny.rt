@@ -1,66 +1,12 @@
 //! The tiny dialect: a constant that a branch forwards to an argument, which a question reads.
-ghost use Rattle.std.specs.Prelude.{◌≡◌, ℕ, IsTrue};
-ghost use Rattle.pliron_core.specs.Tree.{IsLive, IsWithin};
-ghost use Rattle.pliron_evaluator.specs.Tiny.{tiny, admits_of};
-ghost use Rattle.pliron_laws.specs.Linked.{IsAdmitted};
-
 use pliron_core::{
     AttrObj, Attrs, BasicBlock, Context, Head, IRRewriter, IRStatus, Operation, Ptr, Rewriter,
 };
 use pliron_evaluator::{Tiny, TinyKind};
-use pliron_laws::edges_last;
+use pliron_laws::is_well_linked;
 use pliron_sccp::sccp_counted;
 use std::alloc::Global;
 use std::process::Abort;
-use std::test::Fail;
-
-// Whether an operation of this kind may have so many operands, results, successors and regions.
-fn admits(
-    kind: Option<TinyKind>,
-    operands: usize,
-    results: usize,
-    successors: usize,
-    regions: usize,
-) -> bool
-    ensures { result ≡ admits_of kind operands results successors regions }
-{
-    match kind {
-        Some(TinyKind::Const) => operands == 0 && results == 1 && successors == 0 && regions == 0,
-        Some(TinyKind::Ask) => operands == 1 && results == 1 && successors == 0 && regions == 0,
-        Some(TinyKind::Scope) => results == 0 && successors == 0 && regions == 1,
-        Some(TinyKind::Br) => results == 0 && successors == 1 && regions == 0,
-        None => false,
-    }
-}
-
-// Whether the dialect admits the operation.
-fn is_admitted(op: Ptr<Operation>, ctx: &Context) -> bool
-    requires { IsLive ctx.now.tree op }
-    ensures { IsTrue result → IsAdmitted tiny ctx.now.tree op }
-{
-    let kind = TinyKind::of(op.head(ctx).kind);
-    let operands = op.num_operand(ctx);
-    let results = op.num_result(ctx);
-    let successors = op.num_successor(ctx);
-    let regions = op.num_region(ctx);
-    admits(kind, operands, results, successors, regions)
-}
-
-// Whether the dialect admits the root and all operations inside it.
-pub(crate) fn are_admitted(root: Ptr<Operation>, ctx: &Context) -> bool
-    requires { IsLive ctx.now.tree root }
-    ensures { IsTrue result → (k : ℕ) → IsWithin ctx.now.tree root k → IsAdmitted tiny ctx.now.tree k }
-{
-    ctx.well_formed();
-    let mut at = Some(root);
-    while let Some(op) = at {
-        if !is_admitted(op, ctx) {
-            return false;
-        }
-        at = op.next_in_preorder(root, ctx);
-    }
-    true
-}
 
 // A new operation of this kind, with a number for its attribute.
 pub(crate) fn made(
@@ -173,34 +119,34 @@ fn tree(
     (root, second, question)
 }
 
-fn propagates_in(rt: &impl Abort, alloc: Global, ctx: &mut Context) -> Result<(), Fail> {
+// What propagation answers for the operation.
+pub(crate) fn answered(
+    rt: &impl Abort,
+    alloc: Global,
+    ctx: &mut Context,
+    root: Ptr<Operation>,
+) -> (IRStatus, u128) {
+    assert!(rt; root.is_live(ctx));
+    assert!(rt; is_well_linked::<Tiny>(root, ctx), "not well linked");
+    sccp_counted::<Tiny>(alloc, root, ctx).expect(rt, "memory")
+}
+
+fn propagates_in(rt: &impl Abort, alloc: Global, ctx: &mut Context) {
     let (root, second, question) = tree(rt, alloc, ctx);
-    if !root.is_live(ctx) {
-        return Err(Fail::from("no root"));
-    }
-    if !edges_last(root, ctx) {
-        return Err(Fail::from("edges stand elsewhere"));
-    }
-    if !are_admitted(root, ctx) {
-        return Err(Fail::from("not admitted"));
-    }
-    let (status, pops) = sccp_counted::<Tiny>(alloc, root, ctx)?;
+    let (status, pops) = answered(rt, alloc, ctx, root);
     assert_eq!(rt; status, IRStatus::Changed);
     // two blocks, two constants, an answer
     assert!(rt; 5 <= pops && pops <= 6);
     assert!(rt; second.is_live(ctx));
     assert!(rt; question.is_live(ctx));
-    let Some(constant) = second.get_head(ctx) else {
-        return Err(Fail::from("no operation"));
-    };
+    let constant = second.get_head(ctx).expect(rt, "an operation");
     assert!(rt; constant.head(ctx).kind == TinyKind::Const.number());
     assert!(rt; constant.num_result(ctx) == 1 && question.num_operand(ctx) == 1);
     assert!(rt; question.get_operand(ctx, 0) == constant.get_result(ctx, 0));
-    Ok(())
 }
 
 #[test]
-fn the_tiny_dialect(rt: HostRuntime) -> Result<(), Fail> {
+fn the_tiny_dialect(rt: HostRuntime) {
     let alloc = rt.alloc();
     let mut ctx = Context::new(alloc);
     propagates_in(&rt, alloc, &mut ctx)

@@ -13,7 +13,9 @@ use Rattle.pliron_laws.specs.Folding.{Constants, Feasible, AnswersTrue, AnswersJ
 use Rattle.pliron_laws.proofs.Records.{op_shows}
 use Rattle.pliron_theory.specs.Facts.{Fact, answered as fact_of, Facts, Says, handed, answers_of}
 use Rattle.pliron_theory.specs.Sound.{IsRightResult}
-use Rattle.pliron_theory.proofs.SoundRuns.{PassesForwarded, AreKept, constants_read}
+use Rattle.pliron_theory.proofs.SoundRuns.{PassesForwarded, none_well, AreKept, constants_read}
+use Rattle.pliron_theory.proofs.FactLattice.{unknown_below}
+use Rattle.pliron_laws.specs.Entries.{names_none}
 use Rattle.pliron_theory.proofs.KnownRuns.{Anywhere, everywhere}
 use Rattle.pliron_theory.specs.Answered.{IsAnswered, AnsweredLaw}
 
@@ -77,12 +79,13 @@ module _ (x : Says) (t : Tree) (root v : ℕ) (c : AttrObj) (w : IsTree t) (h : 
   pub kept_answered : AreKept x t root Anywhere nothing read
   kept_answered = record {
     finer = λ y. inr (inl refl);
-    visits = λ k r b may i e. (tt, λ y j. argument b y j);
+    root_visits = λ r b i e. (tt, λ y j. argument b y j);
+    visits = λ k i r b o may at there e. (tt, λ j y a. unknown_below read read o.operands (x.entry_operands (shape_of x.meaning t o) i j) y (argument b y (in_slice (arguments_of t b) j y a)));
     jumps = λ k i b o may e go. (tt, λ j y at. inl (argument b y (in_slice (arguments_of t b) j y at)));
     results = λ k i y o may e at. result k i y o e at;
   }
 
 pub answered : (m : Meaning) (can_fold can_fold_branch : Head → Bool) (constants : Constants) (feasible : Feasible) → AnswersTrue m can_fold constants → AnswersJumps m can_fold_branch feasible → PassesForwarded m → AnsweredLaw m can_fold constants
 answered m can_fold can_fold_branch constants feasible answers jumps passes t root v c w f h =
-    let x : Says = record { meaning = m; can_fold = can_fold; can_fold_branch = can_fold_branch; constants = constants; feasible = feasible } in
-    constants_read x answers jumps passes t root Anywhere nothing (λ y. fact_of (only_fact v c y)) w f (kept_answered x t root v c w h) v c (ap fact_of (fact_here v c))
+    let x : Says = record { meaning = m; can_fold = can_fold; can_fold_branch = can_fold_branch; constants = constants; feasible = feasible; entry_operands = names_none } in
+    constants_read x answers jumps passes (none_well m can_fold can_fold_branch constants feasible) t root Anywhere nothing (λ y. fact_of (only_fact v c y)) w f (kept_answered x t root v c w h) v c (ap fact_of (fact_here v c))

@@ -11,7 +11,7 @@ use Rattle.pliron_theory.specs.Renaming.{GivesConstant}
 use Rattle.pliron_laws.proofs.Records.{ShowsOperation, operation_of, op_shows, make_op, region_entry}
 use Rattle.pliron_theory.proofs.Alike.{shape_same}
 use Rattle.pliron_theory.proofs.KnownData.{picked_at}
-use Rattle.pliron_theory.specs.Facts.{Fact, Constant, NotAConstant, AtMost, known, answered, Facts, Says, handed, answers_of, IsInReachedBlock, IsFeasibleEdge, Forwards}
+use Rattle.pliron_theory.specs.Facts.{Fact, Constant, NotAConstant, AtMost, known, answered, Facts, Says, handed, answers_of, IsInReachedBlock, IsFeasibleEdge, Forwards, IsBelowNamed, AreBelowNamed}
 use Rattle.pliron_theory.specs.Sound.{AreSound, IsRightResult}
 use Rattle.pliron_theory.proofs.FactLattice.{picked_in}
 
@@ -129,6 +129,7 @@ module _ (x : Says) (t t' : Tree) (root : ℕ) (f f' : Facts) (read read' : ℕ 
     pub was : operation.operands ≡ operands_of t k
     pub results : o'.results ≡ operation.results
     pub successors : o'.successors ≡ operation.successors
+    pub regions : o'.regions ≡ operation.regions
     pub shape : shape_of x.meaning t' o' ≡ shape_of x.meaning t operation
 
   pub before : (k : ℕ) → (New k → ⊥) → (o' : Operation) → op_at t' k ≡ Some o' → WasBefore k o'
@@ -140,6 +141,7 @@ module _ (x : Says) (t t' : Tree) (root : ℕ) (f f' : Facts) (read read' : ℕ 
     was = refl;
     results = refl;
     successors = refl;
+    regions = refl;
     shape = sym (shape_same x.meaning t t' o' entries (λ b i. count_block b)) ∙ shape_longer x.meaning t o' (operands_of t k) (ap length (sym s.operands ∙ c.operands k n) ∙ length_map rename (operands_of t k));
   }
     where
@@ -191,13 +193,40 @@ module _ (x : Says) (t t' : Tree) (root : ℕ) (f f' : Facts) (read read' : ℕ 
   held : (b k : ℕ) → IsTrue (f'.reaches b) → block_holder_of t' b ≡ Some k → (k ≡ root) ⊎ IsInReachedBlock t' f' k
   held b k r e = ⊎_elim (λ s. inl s) (λ s. inr (stands_too k s)) (sound.held b k (sym (c.reaches b) ∙ r) (sym (block_holders b) ∙ e))
 
-  entries : (k r b : ℕ) → (k ≡ root) ⊎ IsInReachedBlock t' f' k → In r (regions_of t' k) → first_of (layout_of t' r) None ≡ Some b → IsTrue (f'.reaches b) × ((v : ℕ) → In v (arguments_of t' b) → read' v ≡ NotAConstant)
-  entries k r b may i e = ⊎_elim
-      (λ n. absurd (not_in r (regions_of t' k) (c.childless k n) i))
+  root_entries : (r b : ℕ) → In r (regions_of t' root) → first_of (layout_of t' r) None ≡ Some b → IsTrue (f'.reaches b) × ((v : ℕ) → In v (arguments_of t' b) → read' v ≡ NotAConstant)
+  root_entries r b i e = ⊎_elim
+      (λ n. absurd (not_in r (regions_of t' root) (c.childless root n) i))
       (λ n.
-      let y = sound.entries k r b (⊎_elim (λ s. inl s) (λ s. inr (stands_back k n s)) may) (subst (In r) (ap (λ z. z.regions) (c.rows k n)) i) (ap (λ z. first_of z None) (sym (c.layouts r)) ∙ e) in
+      let y = sound.root_entries r b (subst (In r) (ap (λ z. z.regions) (c.rows root n)) i) (ap (λ z. first_of z None) (sym (c.layouts r)) ∙ e) in
       (c.reaches b ∙ y.0, λ v j. let u = subst (In v) (c.arguments b) j in c.listed_arguments b v u ∙ y.1 v u))
-      (c.told k)
+      (c.told root)
+
+  entries : (k i r b : ℕ) (o : Operation) → IsInReachedBlock t' f' k → op_at t' k ≡ Some o → slice_get o.regions i ≡ Some r → first_of (layout_of t' r) None ≡ Some b → IsTrue (f'.reaches b) × AreBelowNamed x t' read' read' o i b
+  entries k i r b o' stands at there e = by (c.told k)
+    where
+      by : New k ⊎ (New k → ⊥) → IsTrue (f'.reaches b) × AreBelowNamed x t' read' read' o' i b
+      by (inl n) = absurd (no_item i r o'.regions (sym (op_shows t' k o' at).regions ∙ c.childless k n) there)
+      by (inr n) = (c.reaches b ∙ old.0, arguments)
+        where
+          b4 : WasBefore k o'
+          b4 = before k n o' at
+
+          old : IsTrue (f.reaches b) × AreBelowNamed x t read read b4.operation i b
+          old = sound.entries k i r b b4.operation (stands_back k n stands) b4.stands (ap (λ z. slice_get z i) (sym b4.regions) ∙ there) (ap (λ z. first_of z None) (sym (c.layouts r)) ∙ e)
+
+          below : (v : ℕ) → read' v ≡ read v → (a : Option ℕ) → IsBelowNamed read read b4.operation.operands a v → IsBelowNamed read' read' o'.operands a v
+          below v same None q = same ∙ q
+          below v same (Some p) q = λ u g.
+              let was = mapped rename b4.operation.operands p u (ap (λ z. slice_get z p) (sym b4.operands) ∙ g) in
+              let still : read' u ≡ read was.0 = ap read' was.2 ∙ (c.used k was.0 (subst (In was.0) b4.was (in_slice b4.operation.operands p was.0 was.1))).1 in
+              subst (λ z. AtMost z (read' u)) (sym same) (subst (AtMost (read v)) (sym still) (q was.0 was.1))
+
+          arguments : AreBelowNamed x t' read' read' o' i b
+          arguments j v a =
+              let at_old : slice_get (arguments_of t b) j ≡ Some v = ap (λ z. slice_get z j) (sym (c.arguments b)) ∙ a in
+              let same = c.listed_arguments b v (in_slice (arguments_of t b) j v at_old) in
+              subst (λ s. IsBelowNamed read' read' o'.operands (x.entry_operands s i j) v) (sym b4.shape)
+              (below v same (x.entry_operands (shape_of x.meaning t b4.operation) i j) (old.1 j v at_old))
 
   jumps : (k i b : ℕ) (o : Operation) → IsInReachedBlock t' f' k → op_at t' k ≡ Some o → IsFeasibleEdge x t' f' o i b → IsTrue (f'.reaches b) × ((j v : ℕ) → slice_get (arguments_of t' b) j ≡ Some v → (read' v ≡ NotAConstant) ⊎ (IsTrue (x.meaning.is_branch o.head) × ((y : ℕ) → Forwards x t' o i j y → AtMost (read' v) (read' y))))
   jumps k i b o' stands at go = by (c.told k)
@@ -277,6 +306,7 @@ module _ (x : Says) (t t' : Tree) (root : ℕ) (f f' : Facts) (read read' : ℕ 
     held = held;
     no_results = no_results;
     no_arguments = no_arguments;
+    root_entries = root_entries;
     entries = entries;
     jumps = jumps;
     results = results;

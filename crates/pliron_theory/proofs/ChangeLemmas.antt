@@ -12,10 +12,13 @@ use Rattle.pliron_laws.specs.Linked.{EndsBlock, IsAdmitted, IsWellLinked}
 use Rattle.pliron_laws.proofs.LinkedLemmas.{linked_same}
 use Rattle.pliron_theory.proofs.Keeping.{keeps_refl, keeps_trans}
 use Rattle.pliron_theory.proofs.SweptKeeps.{same_keeps}
-use Rattle.pliron_theory.specs.Change.{IsPassChange}
+use Rattle.pliron_theory.specs.Change.{IsPassChange, IsWholeChange}
 
 pub change_refl : (m : Meaning) (t : Tree) (op : ℕ) → IsLive t op → IsWellLinked m t op → IsPassChange m t t op
 change_refl m t op live linked = record { stands = live; linked = linked; inside = inside_refl t op; runs = keeps_refl m t }
+
+pub whole_passes : (m : Meaning) (t u : Tree) (op : ℕ) → IsWholeChange m t u op → IsPassChange m t u op
+whole_passes m t u op c = record { stands = c.stands; linked = c.linked; inside = c.inside; runs = c.runs m.may_be_root }
 
 pub change_trans : (m : Meaning) (t u v : Tree) (op : ℕ) → IsPassChange m t u op → IsPassChange m u v op → IsPassChange m t v op
 change_trans m t u v op a b = record {

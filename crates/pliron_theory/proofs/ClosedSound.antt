@@ -9,9 +9,9 @@ use Rattle.pliron_core.specs.Changes.{IsMakerInside}
 use Rattle.pliron_core.specs.Tree.{Tree, In, IsInside, HoldsBlock, parent_of, results_of, arguments_of, regions_of, layout_of, first_of, definition_of}
 use Rattle.pliron_core.specs.Joined.{IsTree}
 use Rattle.pliron_core.proofs.HoldingLemmas.{some_is, in_slice, slice_in, inside_block}
-use Rattle.pliron_laws.specs.Tree.{Operation, op_at}
+use Rattle.pliron_laws.specs.Tree.{Operation, op_at, shape_of}
 use Rattle.pliron_laws.proofs.Records.{op_shows}
-use Rattle.pliron_theory.specs.Facts.{NotAConstant, AtMost, answered, Facts, Says, answers_of, IsInReachedBlock, IsFeasibleEdge, Forwards, AreClosed, AreHeld}
+use Rattle.pliron_theory.specs.Facts.{NotAConstant, AtMost, answered, Facts, Says, answers_of, IsInReachedBlock, IsFeasibleEdge, Forwards, IsBelowNamed, AreBelowNamed, AreClosed, AreHeld}
 use Rattle.pliron_theory.specs.Sound.{AreSound, IsRightResult, is_it, answer_or, both, read_result, read_from, read_of}
 use Rattle.pliron_theory.proofs.FactLattice.{at_most_refl, at_most_trans}
 
@@ -109,8 +109,17 @@ module _ (x : Says) (t : Tree) (root : ℕ) (f : Facts) (w : IsTree t) (closed :
   no_arguments : (b v : ℕ) → (HoldsBlock t root b → ⊥) → In v (arguments_of t b) → read_of x t f v ≡ NotAConstant
   no_arguments b v never i = read_argument b v i ∙ closed.outside v (λ made. never (subst (IsMakerInside t root) (made_argument b v i).1 made))
 
-  entries : (k r b : ℕ) → (k ≡ root) ⊎ IsInReachedBlock t f k → In r (regions_of t k) → first_of (layout_of t r) None ≡ Some b → IsTrue (f.reaches b) × ((v : ℕ) → In v (arguments_of t b) → read_of x t f v ≡ NotAConstant)
-  entries k r b may i e = let y = closed.entries k r b may i e in (y.0, λ v j. read_argument b v j ∙ y.1 v j)
+  root_entries : (r b : ℕ) → In r (regions_of t root) → first_of (layout_of t r) None ≡ Some b → IsTrue (f.reaches b) × ((v : ℕ) → In v (arguments_of t b) → read_of x t f v ≡ NotAConstant)
+  root_entries r b i e = let y = closed.root_entries r b i e in (y.0, λ v j. read_argument b v j ∙ y.1 v j)
+
+  entries : (k i r b : ℕ) (o : Operation) → IsInReachedBlock t f k → op_at t k ≡ Some o → slice_get o.regions i ≡ Some r → first_of (layout_of t r) None ≡ Some b → IsTrue (f.reaches b) × AreBelowNamed x t (read_of x t f) (read_of x t f) o i b
+  entries k i r b o stands at there e =
+      let y = closed.entries k i r b o stands at there e in
+      (y.0, λ j v a. below v (in_slice (arguments_of t b) j v a) (x.entry_operands (shape_of x.meaning t o) i j) (y.1 j v a))
+    where
+      below : (v : ℕ) → In v (arguments_of t b) → (a : Option ℕ) → IsBelowNamed f.fact f.fact o.operands a v → IsBelowNamed (read_of x t f) (read_of x t f) o.operands a v
+      below v i None q = read_argument b v i ∙ q
+      below v i (Some p) q = λ u g. subst (λ z. AtMost z (read_of x t f u)) (sym (read_argument b v i)) (at_most_trans (f.fact v) (f.fact u) (read_of x t f u) (q u g) (finer u))
 
   jumps : (k i b : ℕ) (o : Operation) → IsInReachedBlock t f k → op_at t k ≡ Some o → IsFeasibleEdge x t f o i b → IsTrue (f.reaches b) × ((j v : ℕ) → slice_get (arguments_of t b) j ≡ Some v → (read_of x t f v ≡ NotAConstant) ⊎ (IsTrue (x.meaning.is_branch o.head) × ((y : ℕ) → Forwards x t o i j y → AtMost (read_of x t f v) (read_of x t f y))))
   jumps k i b o stands at go = by _ refl
@@ -140,4 +149,4 @@ module _ (x : Says) (t : Tree) (root : ℕ) (f : Facts) (w : IsTree t) (closed :
           (read_cases x t f v)
 
   pub closed_sound : AreSound x t root f (read_of x t f)
-  closed_sound = record { finer = finer; inside = closed.inside; held = held; no_results = no_results; no_arguments = no_arguments; entries = entries; jumps = jumps; results = results }
+  closed_sound = record { finer = finer; inside = closed.inside; held = held; no_results = no_results; no_arguments = no_arguments; root_entries = root_entries; entries = entries; jumps = jumps; results = results }

@@ -7,7 +7,7 @@ use Rattle.pliron_laws.specs.Datum.{Datum, datum_of}
 use Rattle.pliron_laws.specs.States.{Environment, bound, bind, data_of}
 use Rattle.pliron_laws.specs.Acting.{Known, pick}
 use Rattle.pliron_theory.proofs.KnownData.{put_both}
-use Rattle.pliron_theory.specs.Facts.{Fact, Undetermined, Constant, NotAConstant, AtMost, known, answered}
+use Rattle.pliron_theory.specs.Facts.{Fact, Undetermined, Constant, NotAConstant, AtMost, IsBelowNamed, known, answered}
 
 pub at_most_refl : (f : Fact) → AtMost f f
 at_most_refl f = inr (inr refl)
@@ -79,6 +79,11 @@ module _ (read : ℕ → Fact) where
   read_known fact finer env so (v ∷ vs) ds e =
       let q = put_both (env v) (data_of env vs) ds e in
       subst (Known (known (fact v) ∷ map (λ v. known (fact v)) vs)) q.4 (known_fits (fact v) (read v) q.0 (known (fact v)) (finer v) (so v q.0 q.2) refl (map (λ v. known (fact v)) vs) q.1 (read_known fact finer env so vs q.1 q.3))
+
+-- what is no constant is below every operand
+pub unknown_below : (fact seen : ℕ → Fact) (operands : List ℕ) (a : Option ℕ) (v : ℕ) → fact v ≡ NotAConstant → IsBelowNamed fact seen operands a v
+unknown_below fact seen operands None v e = e
+unknown_below fact seen operands (Some p) v e = λ w at. inr (inl e)
 
 -- what stands at an index of a list of the same length
 pub same_index : {A B : Type 0} (xs : List A) (ys : List B) → length xs ≡ length ys → (i : ℕ) (x : A) → slice_get xs i ≡ Some x → (y : B) × (slice_get ys i ≡ Some y)

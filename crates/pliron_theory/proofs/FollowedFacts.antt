@@ -24,7 +24,7 @@ use Rattle.pliron_theory.specs.Rewrites.{materialised_first, IsConstant}
 use Rattle.pliron_laws.proofs.Records.{operation_of, op_shows, make_op}
 use Rattle.pliron_laws.proofs.ConstantLemmas.{made_row}
 use Rattle.pliron_laws.proofs.FoldLemmas.{put_row, put_row-new}
-use Rattle.pliron_theory.proofs.SoundRuns.{PassesForwarded}
+use Rattle.pliron_theory.proofs.SoundRuns.{PassesForwarded, NamesWell}
 use Rattle.pliron_theory.proofs.Keeping.{keeps_refl, keeps_trans}
 use Rattle.pliron_laws.proofs.LinkedLemmas.{tree_created, tree_placed, tree_put, put_is, linked_put, linked_same}
 use Rattle.pliron_theory.specs.Edges.{KeepsEdges}
@@ -131,7 +131,7 @@ module _ (x : Says) (t₀ : Tree) (root : ℕ) (f₀ : Facts) (w₀ : IsTree t�
   pub same_on : (t t' : Tree) → Follows x t₀ root f₀ t → IsTree t' → IsSameTree t t' → length t.operations ≤ length t'.operations → Follows x t₀ root f₀ t'
   same_on t t' g w' s longer = carried_on t t' g g.facts g.read (λ v. v) (λ k. ⊥) w' (same_carried x t t' g.facts g.read g.sound.finer s) (same_keeps x.meaning t t' g.tree w' s longer) (λ r l. linked_same x.meaning t t' r g.tree w' s l) (same_change t t' root g.tree.joined w'.joined s) (λ op before after. edges_same t t' op g.tree w' s)
 
-  module _ (answers : AnswersTrue x.meaning x.can_fold x.constants) (jumps : AnswersJumps x.meaning x.can_fold_branch x.feasible) (passes : PassesForwarded x.meaning) (accepts : AttrObj → Bool) (head : AttrObj → Head) (makes : MakesConstants x.meaning accepts head) (plain : (attr : AttrObj) → IsTrue (accepts attr) → x.meaning.is_branch (head attr) ≡ false) where
+  module _ (answers : AnswersTrue x.meaning x.can_fold x.constants) (jumps : AnswersJumps x.meaning x.can_fold_branch x.feasible) (passes : PassesForwarded x.meaning) (names : NamesWell x) (accepts : AttrObj → Bool) (head : AttrObj → Head) (makes : MakesConstants x.meaning accepts head) (plain : (attr : AttrObj) → IsTrue (accepts attr) → x.meaning.is_branch (head attr) ≡ false) where
     -- a constant is put before an operation in a block that is reached
     pub put_on : (t : Tree) → Follows x t₀ root f₀ t → (k i v : ℕ) (attr : AttrObj) → IsInReachedBlock t₀ f₀ k → IsLive t₀ k → slice_get (results_of t₀ k) i ≡ Some v → read_of x t₀ f₀ v ≡ Constant attr → IsTrue (accepts attr) → Follows x t₀ root f₀ (materialised t k v (head attr))
     put_on t g k i v attr (b, p, reached) live listed is accepted = subst (Follows x t₀ root f₀) (sym (put_is t k v b (head attr) g.tree here)) done
@@ -152,7 +152,7 @@ module _ (x : Says) (t₀ : Tree) (root : ℕ) (f₀ : Facts) (w₀ : IsTree t�
         reached_here = g.reaches b ∙ reached
 
         constant : IsConstant x.meaning t v attr
-        constant = sound_facts x answers jumps passes t root g.facts g.read g.tree g.sound v attr (inl (k, (b, here, reached_here), in_slice (results_of t k) i v listed_here)) read_here
+        constant = sound_facts x answers jumps passes names t root g.facts g.read g.tree g.sound v attr (inl (k, (b, here, reached_here), in_slice (results_of t k) i v listed_here)) read_here
 
         free : parent_of (created t (head attr) 1 0) (length t.operations) ≡ None
         free = get_grown t.parents None (length t.operations) ∙ get_or_past t.parents (length t.operations) None (omega (arith, g.tree.keys.parents))
@@ -215,7 +215,7 @@ module _ (x : Says) (t₀ : Tree) (root : ℕ) (f₀ : Facts) (w₀ : IsTree t�
       argument_stands = let h = g.sound.inside b reached_here in held_block t b h.0 h.1
 
       pub argument_constant : IsConstant x.meaning t v attr
-      argument_constant = sound_facts x answers jumps passes t root g.facts g.read g.tree g.sound v attr (inr (b, reached_here, listed)) read_here
+      argument_constant = sound_facts x answers jumps passes names t root g.facts g.read g.tree g.sound v attr (inr (b, reached_here, listed)) read_here
 
       -- a constant is put first in the block, for it
       pub argument_on : IsTrue (accepts attr) → IsTree (materialised_first t b v (head attr)) → KeepsRuns x.meaning t (materialised_first t b v (head attr)) → Follows x t₀ root f₀ (materialised_first t b v (head attr))
@@ -227,11 +227,11 @@ module _ (x : Says) (t₀ : Tree) (root : ℕ) (f₀ : Facts) (w₀ : IsTree t�
           (let at = slice_in (arguments_of t b) v listed in argument_inside t root b v (head attr) (length t.operations ∷ body_of t b) g.tree (g.sound.inside b reached_here) at.0 at.1)
           (edges_alike t _ g.tree w' (first_alike t v b (head attr) g.tree argument_stands))
 
-pub following : (x : Says) → AnswersTrue x.meaning x.can_fold x.constants → AnswersJumps x.meaning x.can_fold_branch x.feasible → PassesForwarded x.meaning → (accepts : AttrObj → Bool) (head : AttrObj → Head) → MakesConstants x.meaning accepts head → ((attr : AttrObj) → IsTrue (accepts attr) → x.meaning.is_branch (head attr) ≡ false) → FollowingLaws x accepts head
-following x answers jumps passes accepts head makes plain = record {
+pub following : (x : Says) → AnswersTrue x.meaning x.can_fold x.constants → AnswersJumps x.meaning x.can_fold_branch x.feasible → PassesForwarded x.meaning → NamesWell x → (accepts : AttrObj → Bool) (head : AttrObj → Head) → MakesConstants x.meaning accepts head → ((attr : AttrObj) → IsTrue (accepts attr) → x.meaning.is_branch (head attr) ≡ false) → FollowingLaws x accepts head
+following x answers jumps passes names accepts head makes plain = record {
   start = λ t₀ root f₀ w closed held. started x t₀ root f₀ w closed held;
-  folded = λ t₀ root f₀ t t' w₀ g w' k o₀ stands at folds some longer. fold_on x t₀ root f₀ w₀ answers jumps passes accepts head makes plain k o₀ stands at folds t t' g w' some longer;
-  argument = λ t₀ root f₀ t w₀ g b v attr reached i is accepted w' keeps. argument_on x t₀ root f₀ w₀ answers jumps passes accepts head makes plain t g b v attr reached i is accepted w' keeps;
+  folded = λ t₀ root f₀ t t' w₀ g w' k o₀ stands at folds some longer. fold_on x t₀ root f₀ w₀ answers jumps passes names accepts head makes plain k o₀ stands at folds t t' g w' some longer;
+  argument = λ t₀ root f₀ t w₀ g b v attr reached i is accepted w' keeps. argument_on x t₀ root f₀ w₀ answers jumps passes names accepts head makes plain t g b v attr reached i is accepted w' keeps;
   same = λ t₀ root f₀ t t' w₀ g w' s longer. same_on x t₀ root f₀ w₀ t t' g w' s longer;
 }
 

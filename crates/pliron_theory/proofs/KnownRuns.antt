@@ -8,14 +8,15 @@ use Rattle.pliron_core.proofs.HoldingLemmas.{some_is, in_slice, slice_in, inside
 use Rattle.pliron_laws.specs.Datum.{Meaning}
 use Rattle.pliron_laws.specs.Tree.{Operation, op_at, shape_of}
 use Rattle.pliron_laws.specs.Folding.{Constants, Feasible, AnswersTrue, AnswersJumps}
+use Rattle.pliron_laws.specs.Entries.{names_none}
 use Rattle.pliron_laws.specs.Linked.{EndsBlock}
 use Rattle.pliron_theory.specs.Keeps.{IsFit}
 use Rattle.pliron_theory.specs.Knowing.{AreClosedUnderFolding, FactsLaw}
 use Rattle.pliron_theory.specs.Facts.{Fact, known, answered, Facts, Says, handed, answers_of}
 use Rattle.pliron_theory.specs.Sound.{IsRightResult}
 use Rattle.pliron_laws.proofs.Records.{op_shows}
-use Rattle.pliron_theory.proofs.FactLattice.{at_most_refl}
-use Rattle.pliron_theory.proofs.SoundRuns.{PassesForwarded, MayMove, AreKept, constants_read}
+use Rattle.pliron_theory.proofs.FactLattice.{at_most_refl, unknown_below}
+use Rattle.pliron_theory.proofs.SoundRuns.{PassesForwarded, none_well, MayMove, AreKept, constants_read}
 
 -- where blocks stand that a run enters
 module _ (t : Tree) (w : IsTree t) (root : ℕ) where
@@ -75,16 +76,13 @@ module _ (x : Says) (t : Tree) (root : ℕ) (facts : ℕ → Option AttrObj) (w 
   pub kept_everywhere : AreKept x t root Anywhere (everywhere facts) read
   kept_everywhere = record {
     finer = λ v. at_most_refl (read v);
-    visits = λ k r b may i e. (tt, λ v j. ap answered (closed.arguments b v (entry_held t w root k r b (within k may) i e) j));
+    root_visits = λ r b i e. (tt, λ v j. ap answered (closed.arguments b v (entry_held t w root root r b (inl refl) i e) j));
+    visits = λ k i r b o may at there e. (tt, λ j v a. unknown_below read read o.operands (x.entry_operands (shape_of x.meaning t o) i j) v (ap answered (closed.arguments b v (entry_held t w root k r b (inr may.0) (subst (In r) (sym (op_shows t k o at).regions) (in_slice o.regions i r there)) e) (in_slice (arguments_of t b) j v a))));
     jumps = λ k i b o may e go. (tt, λ j v at. inl (ap answered (closed.arguments b v (target_held t w root x.meaning f k i b o may.0 e go.0) (in_slice (arguments_of t b) j v at))));
     results = results;
   }
-    where
-      within : (k : ℕ) → (k ≡ root) ⊎ MayMove t root Anywhere k → IsWithin t root k
-      within k (inl s) = inl s
-      within k (inr may) = inr may.0
 
 pub facts_read : (m : Meaning) (can_fold can_fold_branch : Head → Bool) (constants : Constants) (feasible : Feasible) → AnswersTrue m can_fold constants → AnswersJumps m can_fold_branch feasible → PassesForwarded m → FactsLaw m can_fold constants
 facts_read m can_fold can_fold_branch constants feasible answers jumps passes t root facts w f closed v c e =
-    let x : Says = record { meaning = m; can_fold = can_fold; can_fold_branch = can_fold_branch; constants = constants; feasible = feasible } in
-    constants_read x answers jumps passes t root Anywhere (everywhere facts) (λ v. answered (facts v)) w f (kept_everywhere x t root facts w f closed) v c (ap answered e)
+    let x : Says = record { meaning = m; can_fold = can_fold; can_fold_branch = can_fold_branch; constants = constants; feasible = feasible; entry_operands = names_none } in
+    constants_read x answers jumps passes (none_well m can_fold can_fold_branch constants feasible) t root Anywhere (everywhere facts) (λ v. answered (facts v)) w f (kept_everywhere x t root facts w f closed) v c (ap answered e)

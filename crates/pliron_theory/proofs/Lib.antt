@@ -46,6 +46,7 @@ pub mod RemovedKeeps
 pub mod EdgesLost
 pub mod ChosenRoots
 pub mod ChangeLemmas
+pub mod WholeChanges
 pub mod EdgeLemmas
 pub mod PutEdges
 pub mod FactLattice

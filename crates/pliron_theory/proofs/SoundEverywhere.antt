@@ -7,16 +7,18 @@ use Rattle.pliron_core.specs.Tree.IsInside.{Directly, Deeper}
 use Rattle.pliron_core.specs.Joined.{IsTree}
 use Rattle.pliron_core.proofs.HoldingLemmas.{some_is, in_slice, slice_in, holder_is, holder_by, inside_up, inside_by, deeper, not_itself, inside_or, block_inside}
 use Rattle.pliron_laws.specs.Datum.{datum_of}
-use Rattle.pliron_laws.specs.Tree.{Operation, op_at}
+use Rattle.pliron_laws.specs.Tree.{Operation, op_at, shape_of}
 use Rattle.pliron_laws.specs.Folding.{AnswersTrue, AnswersJumps}
 use Rattle.pliron_laws.specs.Linked.{EndsBlock}
 use Rattle.pliron_theory.specs.Keeps.{IsFit}
 use Rattle.pliron_theory.specs.Renaming.{IsReadAs}
 use Rattle.pliron_laws.proofs.Records.{op_shows}
 use Rattle.pliron_theory.proofs.Reading.{ready_when_reached}
-use Rattle.pliron_theory.specs.Facts.{Fact, NotAConstant, AtMost, Facts, Says, IsInReachedBlock, IsFeasibleEdge, Forwards}
+use Rattle.pliron_theory.specs.Facts.{Fact, NotAConstant, AtMost, Facts, Says, IsInReachedBlock, IsFeasibleEdge, Forwards, IsBelowNamed, AreBelowNamed}
 use Rattle.pliron_theory.specs.Sound.{AreSound, IsMadeThere, IsRightResult, SoundFactsLaw}
-use Rattle.pliron_theory.proofs.SoundRuns.{PassesForwarded, MayMove, AreKept, constants_read}
+use Rattle.pliron_theory.proofs.SoundRuns.{PassesForwarded, NamesWell, MayMove, AreKept, constants_read}
+use Rattle.pliron_theory.proofs.FactLattice.{unknown_below}
+use Rattle.pliron_laws.proofs.ShapeLemmas.{head_at, live_at, shape_head}
 
 module _ (t : Tree) (w : IsTree t) where
   first_in : (xs : List ℕ) (a : ℕ) → first_of xs None ≡ Some a → In a xs
@@ -34,7 +36,7 @@ module _ (t : Tree) (w : IsTree t) where
   beside_holder k c h ends i e =
       holder_by t k ends.block h ends.in_block (ap (λ o. up_from o (λ r. region_parent_of t r)) (sym (ends.own_region c i)) ∙ e)
 
-module _ (says : Says) (t : Tree) (root : ℕ) (f : Facts) (read : ℕ → Fact) (w : IsTree t) (sound : AreSound says t root f read) where
+module _ (says : Says) (t : Tree) (root : ℕ) (f : Facts) (read : ℕ → Fact) (w : IsTree t) (names : NamesWell says) (sound : AreSound says t root f read) where
   -- a block inside the root is one that is reached
   abbrev pub Comes_to : ℕ → Type 0
   Comes_to b = HoldsBlock t root b → IsTrue (f.reaches b)
@@ -47,11 +49,6 @@ module _ (says : Says) (t : Tree) (root : ℕ) (f : Facts) (read : ℕ → Fact)
     stands : (k : ℕ) → MayMove t other Comes_to k → IsInside t root k → IsInReachedBlock t f k
     stands k may inside = (may.1.0, may.1.1, may.1.2 (block_inside may.1.0 may.1.1 inside))
 
-    counted : (k : ℕ) → (k ≡ other) ⊎ MayMove t other Comes_to k → IsWithin t root k → (k ≡ root) ⊎ IsInReachedBlock t f k
-    counted k may (inl e) = inl e
-    counted k (inl e) (inr inside) = subst (λ z. (z ≡ root) ⊎ IsInReachedBlock t f z) (sym e) (counts (inr (subst (IsInside t root) e inside)))
-    counted k (inr may) (inr inside) = inr (stands k may inside)
-
     within_or : (k : ℕ) → IsWithin t root k ⊎ (IsWithin t root k → ⊥)
     within_or k = elim (cases_eq k root) [
       | inl e ↦ inl (inl e)
@@ -62,20 +59,53 @@ module _ (says : Says) (t : Tree) (root : ℕ) (f : Facts) (read : ℕ → Fact)
         neither k ne never (inl e) = ne e
         neither k ne never (inr i) = never i
 
-    visits : (k r b : ℕ) → (k ≡ other) ⊎ MayMove t other Comes_to k → In r (regions_of t k) → first_of (layout_of t r) None ≡ Some b → Comes_to b × ((v : ℕ) → In v (arguments_of t b) → read v ≡ NotAConstant)
-    visits k r b may i e = (comes, arguments (within_or k))
+    -- the other root's own regions: it names nothing, since it may be a root
+    root_visits : (r b : ℕ) → In r (regions_of t other) → first_of (layout_of t r) None ≡ Some b → Comes_to b × ((v : ℕ) → In v (arguments_of t b) → read v ≡ NotAConstant)
+    root_visits r b i e = (comes, arguments (within_or other))
       where
-        held : block_holder_of t b ≡ Some k
-        held = entry_holder t w k r b i e
+        held : block_holder_of t b ≡ Some other
+        held = entry_holder t w other r b i e
+
+        inside : IsInReachedBlock t f other → (o : Operation) → op_at t other ≡ Some o → IsTrue (f.reaches b) × ((v : ℕ) → In v (arguments_of t b) → read v ≡ NotAConstant)
+        inside stands o at =
+            let place = slice_in o.regions r (subst (In r) (op_shows t other o at).regions i) in
+            let y = sound.entries other place.0 r b o stands at place.1 e in
+            let may : IsTrue (says.meaning.may_be_root (shape_of says.meaning t o).head) = ap says.meaning.may_be_root (shape_head says.meaning t o) ∙ fit.chosen o.head (head_at t other o at) in
+            (y.0, λ v j. let p = slice_in (arguments_of t b) v j in subst (λ z. IsBelowNamed read read o.operands z v) (names.roots (shape_of says.meaning t o) may place.0 p.0) (y.1 p.0 v p.1))
+
+        entered : (other ≡ root) ⊎ IsInReachedBlock t f other → IsTrue (f.reaches b) × ((v : ℕ) → In v (arguments_of t b) → read v ≡ NotAConstant)
+        entered (inl s) = sound.root_entries r b (subst (λ z. In r (regions_of t z)) s i) e
+        entered (inr stands) = let o = live_at t other fit.live in inside stands o.0 o.1
 
         comes : Comes_to b
-        comes (h, is, within) =
-            let same : h ≡ k = some_is (sym is ∙ held) in
-            (sound.entries k r b (counted k may (subst (IsWithin t root) same within)) i e).0
+        comes (h, is, within) = (entered (counts (subst (IsWithin t root) (some_is (sym is ∙ held)) within))).0
 
-        arguments : IsWithin t root k ⊎ (IsWithin t root k → ⊥) → (v : ℕ) → In v (arguments_of t b) → read v ≡ NotAConstant
-        arguments (inl within) v j = (sound.entries k r b (counted k may within) i e).1 v j
+        arguments : IsWithin t root other ⊎ (IsWithin t root other → ⊥) → (v : ℕ) → In v (arguments_of t b) → read v ≡ NotAConstant
+        arguments (inl within) v j = (entered (counts within)).1 v j
         arguments (inr never) v j = sound.no_arguments b v (λ h. never (subst (IsWithin t root) (some_is (sym h.1 ∙ held)) h.2)) j
+
+    visits : (k i r b : ℕ) (o : Operation) → MayMove t other Comes_to k → op_at t k ≡ Some o → slice_get o.regions i ≡ Some r → first_of (layout_of t r) None ≡ Some b → Comes_to b × AreBelowNamed says t read read o i b
+    visits k i r b o may at place e = (comes, arguments (within_or k))
+      where
+        listed : In r (regions_of t k)
+        listed = subst (In r) (sym (op_shows t k o at).regions) (in_slice o.regions i r place)
+
+        held : block_holder_of t b ≡ Some k
+        held = entry_holder t w k r b listed e
+
+        unknown : ((v : ℕ) → In v (arguments_of t b) → read v ≡ NotAConstant) → AreBelowNamed says t read read o i b
+        unknown none j v a = unknown_below read read o.operands (says.entry_operands (shape_of says.meaning t o) i j) v (none v (in_slice (arguments_of t b) j v a))
+
+        entered : IsWithin t root k → IsTrue (f.reaches b) × AreBelowNamed says t read read o i b
+        entered (inl s) = let y = sound.root_entries r b (subst (λ z. In r (regions_of t z)) s listed) e in (y.0, unknown y.1)
+        entered (inr inside) = sound.entries k i r b o (stands k may inside) at place e
+
+        comes : Comes_to b
+        comes (h, is, within) = (entered (subst (IsWithin t root) (some_is (sym is ∙ held)) within)).0
+
+        arguments : IsWithin t root k ⊎ (IsWithin t root k → ⊥) → AreBelowNamed says t read read o i b
+        arguments (inl within) = (entered within).1
+        arguments (inr never) = unknown (λ v j. sound.no_arguments b v (λ h. never (subst (IsWithin t root) (some_is (sym h.1 ∙ held)) h.2)) j)
 
     jumps : (k i b : ℕ) (o : Operation) → MayMove t other Comes_to k → op_at t k ≡ Some o → IsFeasibleEdge says t f o i b → Comes_to b × ((j v : ℕ) → slice_get (arguments_of t b) j ≡ Some v → (read v ≡ NotAConstant) ⊎ (IsTrue (says.meaning.is_branch o.head) × ((y : ℕ) → Forwards says t o i j y → AtMost (read v) (read y))))
     jumps k i b o may e go = by (inside_or t root k w.joined.rooted)
@@ -98,7 +128,7 @@ module _ (says : Says) (t : Tree) (root : ℕ) (f : Facts) (read : ℕ → Fact)
         by (inr never) = inl (sound.no_results k v never (subst (In v) (sym (op_shows t k o e).results) (in_slice o.results i v at)))
 
     pub kept : AreKept says t other Comes_to f read
-    kept = record { finer = sound.finer; visits = visits; jumps = jumps; results = results }
+    kept = record { finer = sound.finer; root_visits = root_visits; visits = visits; jumps = jumps; results = results }
 
   -- nothing in a root that stands where runs do not come is in a block that is reached
   module _ (other : ℕ) (inside : IsInside t root other) (away : IsInReachedBlock t f other → ⊥) where
@@ -127,13 +157,13 @@ module _ (says : Says) (t : Tree) (root : ℕ) (f : Facts) (read : ℕ → Fact)
         none_within holds.0 holds.2 (held_stands b holds.0 holds.2 reached holds.1)
 
 -- every root that is fit to run, whether it stands inside this one, around it or elsewhere
-pub sound_facts : (says : Says) → AnswersTrue says.meaning says.can_fold says.constants → AnswersJumps says.meaning says.can_fold_branch says.feasible → PassesForwarded says.meaning → SoundFactsLaw says
-sound_facts says answers branches passes t root f read w sound v c made is other fit = by (inside_or t root other w.joined.rooted)
+pub sound_facts : (says : Says) → AnswersTrue says.meaning says.can_fold says.constants → AnswersJumps says.meaning says.can_fold_branch says.feasible → PassesForwarded says.meaning → NamesWell says → SoundFactsLaw says
+sound_facts says answers branches passes names t root f read w sound v c made is other fit = by (inside_or t root other w.joined.rooted)
   where
-    counts_then : Counts says t root f read w sound other → IsReadAs says.meaning t v (datum_of c) other
-    counts_then counts = constants_read says answers branches passes t other (Comes_to says t root f read w sound) f read w fit (kept says t root f read w sound other counts fit) v c is
+    counts_then : Counts says t root f read w names sound other → IsReadAs says.meaning t v (datum_of c) other
+    counts_then counts = constants_read says answers branches passes names t other (Comes_to says t root f read w names sound) f read w fit (kept says t root f read w names sound other counts fit) v c is
 
-    outer : (IsInside t root other → ⊥) → Counts says t root f read w sound other
+    outer : (IsInside t root other → ⊥) → Counts says t root f read w names sound other
     outer never (inl e) = inl e
     outer never (inr i) = absurd (never i)
 
@@ -141,7 +171,7 @@ sound_facts says answers branches passes t root f read w sound v c made is other
     here inside b p true e = counts_then (λ within. inr (b, p, e))
     here inside b p false e = λ s k rest r q none i.
         let ready = ready_when_reached says.meaning t other w fit s r k rest q none in
-        absurd (not_made says t root f read w sound other inside away v made (fit.defined.own_values k v ready.inside i))
+        absurd (not_made says t root f read w names sound other inside away v made (fit.defined.own_values k v ready.inside i))
       where
         away : IsInReachedBlock t f other → ⊥
         away (d, q, reached) = let same : d ≡ b = some_is (sym q ∙ p) in absurd (true≢false (sym reached ∙ ap f.reaches same ∙ e))

@@ -1,16 +1,17 @@
 -- Facts that every run of one root confirms.
-use Rattle.std.proofs.Common.{◌≡◌, ◌⊎◌, inl, inr, ℕ, zero, suc, Bool, false, true, List, [], ◌∷◌, length, map, Option, Some, None, slice_get, refl, sym, ap, ap₂, ◌∙◌, subst, IsTrue}
+use Rattle.std.proofs.Common.{◌≡◌, ◌⊎◌, inl, inr, ℕ, zero, suc, Bool, false, true, not, List, [], ◌∷◌, length, map, Option, Some, None, slice_get, refl, sym, ap, ap₂, ◌∙◌, subst, arith, IsTrue}
 use Rattle.pliron_core.specs.declared.attrs.AttrObj.{AttrObj}
 use Rattle.pliron_core.specs.Tree.{Tree, In, IsInside, IsWithin, arguments_of, regions_of, layout_of, first_of, parent_of}
 use Rattle.pliron_core.specs.Joined.{IsTree}
 use Rattle.pliron_core.proofs.HoldingLemmas.{some_is, in_slice, not_none}
-use Rattle.pliron_laws.specs.Datum.{Datum, Empty, datum_of, Shape, Meaning, Move, Give, Visit, Goto, Emit}
+use Rattle.pliron_laws.specs.Datum.{Datum, Empty, datum_of, Head, Shape, Meaning, Move, Give, Visit, Goto, Emit}
 use Rattle.pliron_laws.specs.Tree.{Operation, Block, op_at, block_at, shape_of}
 use Rattle.pliron_laws.specs.States.{Environment, State, bind}
 use Rattle.pliron_laws.specs.Machine.{start}
 use Rattle.pliron_laws.specs.Acting.{Comes, Begins, Answered, Told, Known, pick}
 use Rattle.pliron_laws.specs.Laws.{Admitted}
-use Rattle.pliron_laws.specs.Folding.{AnswersTrue, AnswersJumps}
+use Rattle.pliron_laws.specs.Folding.{Constants, Feasible, AnswersTrue, AnswersJumps}
+use Rattle.pliron_laws.specs.Entries.{NamesOperands, RootsNameNone, names_none, none_are_named}
 use Rattle.pliron_theory.specs.Keeps.{IsFit}
 use Rattle.pliron_theory.specs.Renaming.{RunReaches, IsReadAs, GivesConstant}
 use Rattle.pliron_theory.proofs.Frames.{Facts as FrameFacts, Makes, Rules, Holding, holding_kept}
@@ -21,7 +22,7 @@ use Rattle.pliron_theory.proofs.Reached.{reached_holds}
 use Rattle.pliron_theory.proofs.Reading.{read_data}
 use Rattle.pliron_theory.proofs.SweptKeeps.{admitted_shape}
 use Rattle.pliron_theory.proofs.KnownData.{known_data_at, picked_at, some_at}
-use Rattle.pliron_theory.specs.Facts.{Fact, Constant, NotAConstant, AtMost, answered, Facts, Says, handed, answers_of, IsFeasibleEdge, Forwards}
+use Rattle.pliron_theory.specs.Facts.{Fact, Constant, NotAConstant, AtMost, answered, Facts, Says, handed, answers_of, IsFeasibleEdge, Forwards, IsBelowNamed, AreBelowNamed}
 use Rattle.pliron_theory.proofs.ConstantKeeps.{no_data}
 use Rattle.pliron_theory.specs.Sound.{IsRightResult}
 use Rattle.pliron_theory.proofs.FactLattice.{Fits, fits_lower, fits_answered, Agrees, bind_agrees, FitEach, read_fits, read_known, same_index, picked_in}
@@ -30,6 +31,27 @@ use Rattle.pliron_theory.proofs.FactLattice.{Fits, fits_lower, fits_answered, Ag
 abbrev pub PassesForwarded : Meaning → Type 0
 PassesForwarded m = (s : Shape) → Admitted m s → IsTrue (m.is_branch s.head) → (first : List Datum) → length first ≡ s.operands → (later : Bool) (memo : Datum) (input : List Datum) (i : ℕ) (ds : List Datum) → Comes m.act s first later memo input → m.act s memo input ≡ Goto i ds → map Some ds ≡ pick (m.forwarded s i) first
 
+-- visits pass what is named, and what may be a root names nothing
+pub record NamesWell (x : Says) : Type 0 where
+  pub passes : (s : Shape) → Admitted x.meaning s → (i j k : ℕ) → x.entry_operands s i j ≡ Some k → (first : List Datum) → length first ≡ s.operands → (later : Bool) (memo : Datum) (input ds : List Datum) (next : Datum) → Comes x.meaning.act s first later memo input → x.meaning.act s memo input ≡ Visit i ds next → (d : Datum) → slice_get ds j ≡ Some d → slice_get first k ≡ Some d
+  pub roots : (s : Shape) → IsTrue (x.meaning.may_be_root s.head) → (i j : ℕ) → x.entry_operands s i j ≡ None
+
+pub names_well : (x : Says) (implements : Head → Bool) → NamesOperands x.meaning x.entry_operands implements → RootsNameNone x.meaning implements → NamesWell x
+names_well x implements names roots = record {
+  passes = names.passes;
+  roots = λ s may i j. names.silent s i j (not_true (implements s.head) (sym (roots s.head) ∙ may));
+}
+  where
+    not_true : (b : Bool) → not b ≡ true → b ≡ false
+    not_true false e = refl
+    not_true true e = grind arith
+
+pub none_well : (m : Meaning) (can_fold can_fold_branch : Head → Bool) (constants : Constants) (feasible : Feasible) → NamesWell (record { meaning = m; can_fold = can_fold; can_fold_branch = can_fold_branch; constants = constants; feasible = feasible; entry_operands = names_none })
+none_well m can_fold can_fold_branch constants feasible = record {
+  passes = (none_are_named m (λ h. false)).passes;
+  roots = λ s may i j. refl;
+}
+
 -- a run of the root may come to this operation
 abbrev pub MayMove : Tree → ℕ → (ℕ → Type 0) → ℕ → Type 0
 MayMove t root Comes_to k = IsInside t root k × ((b : ℕ) × (parent_of t k ≡ Some b) × Comes_to b)
@@ -37,11 +59,12 @@ MayMove t root Comes_to k = IsInside t root k × ((b : ℕ) × (parent_of t k �
 -- what runs of one root confirm, if they come to these blocks
 pub record AreKept (x : Says) (t : Tree) (root : ℕ) (Comes_to : ℕ → Type 0) (f : Facts) (read : ℕ → Fact) : Type 0 where
   pub finer : (v : ℕ) → AtMost (f.fact v) (read v)
-  pub visits : (k r b : ℕ) → (k ≡ root) ⊎ MayMove t root Comes_to k → In r (regions_of t k) → first_of (layout_of t r) None ≡ Some b → Comes_to b × ((v : ℕ) → In v (arguments_of t b) → read v ≡ NotAConstant)
+  pub root_visits : (r b : ℕ) → In r (regions_of t root) → first_of (layout_of t r) None ≡ Some b → Comes_to b × ((v : ℕ) → In v (arguments_of t b) → read v ≡ NotAConstant)
+  pub visits : (k i r b : ℕ) (o : Operation) → MayMove t root Comes_to k → op_at t k ≡ Some o → slice_get o.regions i ≡ Some r → first_of (layout_of t r) None ≡ Some b → Comes_to b × AreBelowNamed x t read read o i b
   pub jumps : (k i b : ℕ) (o : Operation) → MayMove t root Comes_to k → op_at t k ≡ Some o → IsFeasibleEdge x t f o i b → Comes_to b × ((j v : ℕ) → slice_get (arguments_of t b) j ≡ Some v → (read v ≡ NotAConstant) ⊎ (IsTrue (x.meaning.is_branch o.head) × ((w : ℕ) → Forwards x t o i j w → AtMost (read v) (read w))))
   pub results : (k i v : ℕ) (o : Operation) → MayMove t root Comes_to k → op_at t k ≡ Some o → slice_get o.results i ≡ Some v → IsRightResult x t f read k i v o
 
-module _ (says : Says) (answers : AnswersTrue says.meaning says.can_fold says.constants) (jumps : AnswersJumps says.meaning says.can_fold_branch says.feasible) (passes : PassesForwarded says.meaning) (t : Tree) (root : ℕ) (Comes_to : ℕ → Type 0) (found : Facts) (read : ℕ → Fact) (w : IsTree t) (f : IsFit says.meaning t root) (kept : AreKept says t root Comes_to found read) where
+module _ (says : Says) (answers : AnswersTrue says.meaning says.can_fold says.constants) (jumps : AnswersJumps says.meaning says.can_fold_branch says.feasible) (passes : PassesForwarded says.meaning) (names : NamesWell says) (t : Tree) (root : ℕ) (Comes_to : ℕ → Type 0) (found : Facts) (read : ℕ → Fact) (w : IsTree t) (f : IsFit says.meaning t root) (kept : AreKept says t root Comes_to found read) where
   abbrev m : Meaning
   m = says.meaning
 
@@ -116,11 +139,6 @@ module _ (says : Says) (answers : AnswersTrue says.meaning says.can_fold says.co
   in_mind : (k : ℕ) (rest : List ℕ) (memo : Datum) (input : List Datum) (o : Operation) → op_at t k ≡ Some o → Minds o memo input → (h : Option ℕ) → IsMinding h (k ∷ rest) memo (Some input)
   in_mind k rest memo input o e x None = tt
   in_mind k rest memo input o e x (Some h) = λ p g. subst (λ q. Minds q memo input) (some_is (sym e ∙ g)) x
-
-  -- what moves at a place is the root or may move
-  mover : (env : Environment) (h : Option ℕ) (k : ℕ) (rest : List ℕ) → IsAt t root env h (k ∷ rest) → IsFound h (k ∷ rest) → (k ≡ root) ⊎ MayMove t root Comes_to k
-  mover env None k rest p q = let s : k ≡ root = cc in inl s
-  mover env (Some h) k rest p q = inr (placed_inside t w root env h k rest p, q k (inl refl))
 
   all_stand : (b : ℕ) (x : Block) → block_at t b ≡ Some x → Comes_to b → (h : ℕ) → IsFound (Some h) x.operations
   all_stand b x e comes h k i = (b, w.bodies.owned k b (subst (In k) (sym (block_shows t b x e).operations) i), comes)
@@ -200,11 +218,29 @@ module _ (says : Says) (answers : AnswersTrue says.meaning says.can_fold says.co
               let y = same_index x.first o.operands x.counted q.0 d q.2 in
               fits_lower (read v) (read y.0) d (below y.0 (picked_in (m.forwarded (shape_of m t o) i) o.operands j q.0 y.0 q.1 y.1)) (x.fits q.0 y.0 d y.1 q.2)
 
-  -- a visit comes to such a block too
-  visits_found : (env env1 : Environment) → Agrees read env → (k i r : ℕ) (o : Operation) (b : Block) (ds : List Datum) → (k ≡ root) ⊎ MayMove t root Comes_to k → op_at t k ≡ Some o → slice_get o.regions i ≡ Some r → (y : ShowsEntry t r b) → bind env b.arguments ds ≡ Some env1 → Comes_to y.key × Agrees read env1
-  visits_found env env1 so k i r o b ds may e re y be =
-      let visit = kept.visits k r y.key may (subst (In r) (sym (op_shows t k o e).regions) (in_slice o.regions i r re)) y.entry in
+  -- a visit comes to such a block too: of the root's regions with what nobody knows
+  root_visit_found : (env env1 : Environment) → Agrees read env → (k i r : ℕ) (o : Operation) (b : Block) (ds : List Datum) → k ≡ root → op_at t k ≡ Some o → slice_get o.regions i ≡ Some r → (y : ShowsEntry t r b) → bind env b.arguments ds ≡ Some env1 → Comes_to y.key × Agrees read env1
+  root_visit_found env env1 so k i r o b ds s e re y be =
+      let visit = kept.root_visits r y.key (subst (λ z. In r (regions_of t z)) s (subst (In r) (sym (op_shows t k o e).regions) (in_slice o.regions i r re))) y.entry in
       (visit.0, bind_agrees read b.arguments ds env env1 (λ j v d at is. subst (λ z. Fits z d) (sym (visit.1 v (subst (In v) (sym (block_shows t y.key b y.stands).arguments) (in_slice b.arguments j v at)))) tt) be so)
+
+  -- of others' with what the operands were that they name
+  visit_found : (env env1 : Environment) → Agrees read env → (k i r : ℕ) (memo : Datum) (o : Operation) (b : Block) (input ds : List Datum) (next : Datum) → MayMove t root Comes_to k → op_at t k ≡ Some o → Minds o memo input → m.act (shape_of m t o) memo input ≡ Visit i ds next → slice_get o.regions i ≡ Some r → (y : ShowsEntry t r b) → bind env b.arguments ds ≡ Some env1 → Comes_to y.key × Agrees read env1
+  unfolding shape_of
+  visit_found env env1 so k i r memo o b input ds next may e x acts re y be = (visit.0, bind_agrees read b.arguments ds env env1 told be so)
+    where
+      visit : Comes_to y.key × AreBelowNamed says t read read o i y.key
+      visit = kept.visits k i r y.key o may e re y.entry
+
+      told : (j v : ℕ) (d : Datum) → slice_get b.arguments j ≡ Some v → slice_get ds j ≡ Some d → Fits (read v) d
+      told j v d at is = by (says.entry_operands (shape_of m t o) i j) refl (visit.1 j v (ap (λ l. slice_get l j) (block_shows t y.key b y.stands).arguments ∙ at))
+        where
+          by : (a : Option ℕ) → says.entry_operands (shape_of m t o) i j ≡ a → IsBelowNamed read read o.operands a v → Fits (read v) d
+          by None q below = subst (λ z. Fits z d) (sym below) tt
+          by (Some p) q below =
+              let there = names.passes (shape_of m t o) (admitted k o (inr may.0) e) i j p q x.first x.counted x.later memo input ds next x.comes acts d is in
+              let u = same_index x.first o.operands x.counted p d there in
+              fits_lower (read v) (read u.0) d (below u.0 u.1) (x.fits p u.0 d u.1 there)
 
   -- the same of the places
   there : Rules m t (places t root)
@@ -226,7 +262,7 @@ module _ (says : Says) (answers : AnswersTrue says.meaning says.can_fold says.co
     visits = λ env env1 h k rest memo answer i ds next r b so p x re be e.
         let q = there.visits env env1 h k rest memo answer i ds next r b tt (p.0, p.1) x re be e in
         let a = entry_shows t r b be in
-        let g = visits_found env env1 so k i r x.operation b ds (mover env h k rest p.0 p.3) x.stands re a e in
+        let g = comes env env1 so h k rest memo answer i r ds next b p.0 p.2 p.3 x re a e in
         (g.1, (q.1.0, q.1.1, at_rest (Some k) b.operations, all_stand a.key b a.stands g.0 k), (q.2, (λ back. visited env so h k rest memo answer i ds next p.2 x back), p.3), λ g j s y d z. (q.3 g j s y d z.0, z.1, z.2));
     tells = λ env h k rest memo answer e next d so p x. (p.0, has_some h (d ∷ []), told env so h k rest memo answer e next d p.2 x, p.3);
     resumes = λ env h rest memo ds p. (p.0, has_some h ds, p.1 ds, p.2);
@@ -234,6 +270,11 @@ module _ (says : Says) (answers : AnswersTrue says.meaning says.can_fold says.co
     where
       moves : (env : Environment) (h k : ℕ) (rest : List ℕ) → IsAt t root env (Some h) (k ∷ rest) → IsFound (Some h) (k ∷ rest) → MayMove t root Comes_to k
       moves env h k rest p q = (placed_inside t w root env h k rest p, q k (inl refl))
+
+      comes : (env env1 : Environment) → Agrees read env → (h : Option ℕ) (k : ℕ) (rest : List ℕ) (memo : Datum) (answer : Option (List Datum)) (i r : ℕ) (ds : List Datum) (next : Datum) (b : Block) → IsAt t root env h (k ∷ rest) → IsMinding h (k ∷ rest) memo answer → IsFound h (k ∷ rest) → (x : Makes m t env k memo answer (Visit i ds next)) → slice_get x.operation.regions i ≡ Some r → (y : ShowsEntry t r b) → bind env b.arguments ds ≡ Some env1 → Comes_to y.key × Agrees read env1
+      comes env env1 so None k rest memo answer i r ds next b p mind q x re y e = let s : k ≡ root = cc in root_visit_found env env1 so k i r x.operation b ds s x.stands re y e
+      comes env env1 so (Some h) k rest memo answer i r ds next b p mind q x re y e =
+          visit_found env env1 so k i r memo x.operation b x.input ds next (moves env h k rest p q) x.stands (now env so k rest memo answer mind (Visit i ds next) x) x.acts re y e
 
       visited : (env : Environment) → Agrees read env → (h : Option ℕ) (k : ℕ) (rest : List ℕ) (memo : Datum) (answer : Option (List Datum)) (i : ℕ) (ds : List Datum) (next : Datum) → IsMinding h (k ∷ rest) memo answer → Makes m t env k memo answer (Visit i ds next) → (back : List Datum) → IsMinding h (k ∷ rest) next (Some back)
       visited env so None k rest memo answer i ds next p x back = tt

@@ -4,7 +4,7 @@ use Rattle.pliron_core.specs.Tree.{Tree, IsLive, holder_of}
 use Rattle.pliron_core.specs.Joined.{IsTree}
 use Rattle.pliron_core.specs.Changes.{IsSameTree, IsInsideChange}
 use Rattle.pliron_laws.specs.Datum.{Meaning}
-use Rattle.pliron_theory.specs.Keeps.{KeepsRuns}
+use Rattle.pliron_theory.specs.Keeps.{KeepsRuns, KeepsAllRuns}
 use Rattle.pliron_laws.specs.Linked.{IsWellLinked}
 
 -- what a pass on op does to the tree, whatever it answers
@@ -17,6 +17,13 @@ pub record IsPassChange (m : Meaning) (t u : Tree) (op : ℕ) : Type 0 where
   -- each fit root that still stands does as before and is fit
   pub runs : KeepsRuns m t u
 
+-- the same of a pass that keeps the runs of all roots, whatever their heads
+pub record IsWholeChange (m : Meaning) (t u : Tree) (op : ℕ) : Type 0 where
+  pub stands : IsLive u op
+  pub linked : IsWellLinked m u op
+  pub inside : IsInsideChange t u op
+  pub runs : KeepsAllRuns m t u
+
 -- what passes do is reflexive and transitive, spent keys are nothing to it, and seen from the operation
 -- that holds theirs it is a pass on that one
 pub record PassLaws : Type 0 where
@@ -24,5 +31,7 @@ pub record PassLaws : Type 0 where
   pub transitive : (m : Meaning) (t u v : Tree) (op : ℕ) → IsPassChange m t u op → IsPassChange m u v op → IsPassChange m t v op
   pub same : (m : Meaning) (t u : Tree) (op : ℕ) → IsTree t → IsTree u → IsSameTree t u → length t.operations ≤ length u.operations → IsLive t op → IsWellLinked m t op → IsPassChange m t u op
   pub held : (m : Meaning) (t u : Tree) (op inner : ℕ) → IsTree t → IsTree u → holder_of t inner ≡ Some op → IsWellLinked m t op → IsPassChange m t u inner → IsPassChange m t u op
+  -- what keeps the runs of all roots keeps those of the roots that the meaning lets be such
+  pub whole : (m : Meaning) (t u : Tree) (op : ℕ) → IsWholeChange m t u op → IsPassChange m t u op
   -- each operation that was well linked and still stands is so after a pass, wherever it stands
   pub linked : (m : Meaning) (t u : Tree) (op root : ℕ) → IsTree t → IsTree u → IsPassChange m t u op → IsLive t root → IsLive u root → IsWellLinked m t root → IsWellLinked m u root

@@ -7,6 +7,7 @@ use Rattle.pliron_laws.specs.Datum.{Head, Meaning}
 use Rattle.pliron_laws.specs.Tree.{Operation, op_at, shape_of}
 use Rattle.pliron_laws.specs.Acting.{pick}
 use Rattle.pliron_laws.specs.Folding.{Constants, Feasible}
+use Rattle.pliron_laws.specs.Entries.{EntryOperands}
 
 -- nothing is known yet, the value is this constant, or it isn't one constant
 pub data Fact : Type 0 where
@@ -39,6 +40,7 @@ pub record Says : Type 0 where
   pub can_fold_branch : Head → Bool
   pub constants : Constants
   pub feasible : Feasible
+  pub entry_operands : EntryOperands
 
 -- the constants that are handed to a fold
 abbrev pub handed : Facts → List ℕ → List (Option AttrObj)
@@ -64,13 +66,25 @@ Forwards x t o i j w = slice_get (pick (x.meaning.forwarded (shape_of x.meaning 
 abbrev pub IsEntered : Tree → Facts → ℕ → Type 0
 IsEntered t f b = IsTrue (f.reaches b) × ((v : ℕ) → In v (arguments_of t b) → f.fact v ≡ NotAConstant)
 
+-- the fact of an argument is at or below what was seen of the operand at the named place, and no constant where none
+-- is named
+abbrev pub IsBelowNamed : (fact seen : ℕ → Fact) → List ℕ → Option ℕ → ℕ → Type 0
+IsBelowNamed fact seen operands None v = fact v ≡ NotAConstant
+IsBelowNamed fact seen operands (Some p) v = (w : ℕ) → slice_get operands p ≡ Some w → AtMost (fact v) (seen w)
+
+-- the arguments of the block b, the entry of the region with index i, are below what the operation names for them
+abbrev pub AreBelowNamed : Says → Tree → (fact seen : ℕ → Fact) → Operation → (i b : ℕ) → Type 0
+AreBelowNamed x t fact seen o i b = (j v : ℕ) → slice_get (arguments_of t b) j ≡ Some v → IsBelowNamed fact seen o.operands (x.entry_operands (shape_of x.meaning t o) i j) v
+
 -- facts about what is inside the root are closed
 pub record AreClosed (x : Says) (t : Tree) (root : ℕ) (f : Facts) : Type 0 where
   pub inside : (b : ℕ) → IsTrue (f.reaches b) → HoldsBlock t root b
   -- nothing is known of values that are not made inside the root, its own results among them
   pub outside : (v : ℕ) → (IsMadeInside t root v → ⊥) → f.fact v ≡ NotAConstant
-  -- the entry of each region of the root, and of each operation in a block that is reached
-  pub entries : (k r b : ℕ) → (k ≡ root) ⊎ IsInReachedBlock t f k → In r (regions_of t k) → first_of (layout_of t r) None ≡ Some b → IsEntered t f b
+  -- the entry of each region of the root, of whose arguments nothing is known whatever the root names for them
+  pub root_entries : (r b : ℕ) → In r (regions_of t root) → first_of (layout_of t r) None ≡ Some b → IsEntered t f b
+  -- the entry of each region of an operation in a block that is reached
+  pub entries : (k i r b : ℕ) (o : Operation) → IsInReachedBlock t f k → op_at t k ≡ Some o → slice_get o.regions i ≡ Some r → first_of (layout_of t r) None ≡ Some b → IsTrue (f.reaches b) × AreBelowNamed x t f.fact f.fact o i b
   -- where a branch may go, each argument is at or below what the edge forwards to it, where it forwards one
   pub branches : (k i b : ℕ) (o : Operation) → IsInReachedBlock t f k → op_at t k ≡ Some o → IsTrue (x.meaning.is_branch o.head) → IsFeasibleEdge x t f o i b → IsTrue (f.reaches b) × ((j v w : ℕ) → slice_get (arguments_of t b) j ≡ Some v → Forwards x t o i j w → AtMost (f.fact v) (f.fact w))
   pub jumps : (k i b : ℕ) (o : Operation) → IsInReachedBlock t f k → op_at t k ≡ Some o → x.meaning.is_branch o.head ≡ false → slice_get o.successors i ≡ Some b → IsEntered t f b

@@ -27,3 +27,7 @@ pub record KeepsRuns (m : Meaning) (t t' : Tree) : Type 0 where
 -- the same meaning, where these heads may be those of roots
 abbrev pub with_roots : Meaning → (Head → Bool) → Meaning
 with_roots m may_be_root = record m { may_be_root = may_be_root }
+
+-- runs are kept whatever heads may be those of roots
+abbrev pub KeepsAllRuns : Meaning → (t t' : Tree) → Type 0
+KeepsAllRuns m t t' = (chosen : Head → Bool) → KeepsRuns (with_roots m chosen) t t'

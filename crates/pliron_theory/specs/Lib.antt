@@ -13,6 +13,7 @@ pub mod Dropping
 pub mod ChosenRoots
 pub mod Edges
 pub mod Change
+pub mod Whole
 pub mod Facts
 pub mod Sound
 pub mod Following

@@ -9,7 +9,7 @@ use Rattle.pliron_laws.specs.Datum.{datum_of}
 use Rattle.pliron_laws.specs.Tree.{Operation, op_at}
 use Rattle.pliron_theory.specs.Renaming.{GivesConstant}
 use Rattle.pliron_theory.specs.Rewrites.{IsConstant}
-use Rattle.pliron_theory.specs.Facts.{Fact, Constant, NotAConstant, AtMost, answered, Facts, Says, answers_of, IsInReachedBlock, IsFeasibleEdge, Forwards, AreClosed, AreHeld}
+use Rattle.pliron_theory.specs.Facts.{Fact, Constant, NotAConstant, AtMost, answered, Facts, Says, answers_of, IsInReachedBlock, IsFeasibleEdge, Forwards, AreBelowNamed, AreClosed, AreHeld}
 
 -- `read` is right about the result at i of an operation: it isn't constant, it is at or below what folding
 -- the operation answers, or the operation gives this constant at once
@@ -25,7 +25,8 @@ pub record AreSound (x : Says) (t : Tree) (root : ℕ) (f : Facts) (read : ℕ �
   pub no_results : (k v : ℕ) → (IsInside t root k → ⊥) → In v (results_of t k) → read v ≡ NotAConstant
   pub no_arguments : (b v : ℕ) → (HoldsBlock t root b → ⊥) → In v (arguments_of t b) → read v ≡ NotAConstant
   -- each move from where runs may come to leads to where they may come to, and binds what is read
-  pub entries : (k r b : ℕ) → (k ≡ root) ⊎ IsInReachedBlock t f k → In r (regions_of t k) → first_of (layout_of t r) None ≡ Some b → IsTrue (f.reaches b) × ((v : ℕ) → In v (arguments_of t b) → read v ≡ NotAConstant)
+  pub root_entries : (r b : ℕ) → In r (regions_of t root) → first_of (layout_of t r) None ≡ Some b → IsTrue (f.reaches b) × ((v : ℕ) → In v (arguments_of t b) → read v ≡ NotAConstant)
+  pub entries : (k i r b : ℕ) (o : Operation) → IsInReachedBlock t f k → op_at t k ≡ Some o → slice_get o.regions i ≡ Some r → first_of (layout_of t r) None ≡ Some b → IsTrue (f.reaches b) × AreBelowNamed x t read read o i b
   pub jumps : (k i b : ℕ) (o : Operation) → IsInReachedBlock t f k → op_at t k ≡ Some o → IsFeasibleEdge x t f o i b → IsTrue (f.reaches b) × ((j v : ℕ) → slice_get (arguments_of t b) j ≡ Some v → (read v ≡ NotAConstant) ⊎ (IsTrue (x.meaning.is_branch o.head) × ((w : ℕ) → Forwards x t o i j w → AtMost (read v) (read w))))
   pub results : (k i v : ℕ) (o : Operation) → IsInReachedBlock t f k → op_at t k ≡ Some o → slice_get o.results i ≡ Some v → IsRightResult x t f read k i v o
 

@@ -3,8 +3,8 @@ ghost use Rattle.pliron_theory.specs.Facts.{Says};
 
 use pliron_laws::Dialect;
 
-/// What facts read of a dialect: its meaning, which heads fold by constants and as branches, and what
-/// folding these answers. Each dialect has it; contracts alone speak of it.
+/// What facts read of a dialect: its meaning, which heads fold by constants and as branches, what folding
+/// these answers, and which operands are named for the arguments of entries. Each dialect has it; contracts alone speak of it.
 pub trait HasFolding {
     ghost folding: { Says };
 }
@@ -16,5 +16,6 @@ impl<D: Dialect> HasFolding for D {
       can_fold_branch = D.can_fold_branch;
       constants = D.constants;
       feasible = D.feasible;
+      entry_operands = D.entry_operands;
     } };
 }

@@ -5,6 +5,7 @@ ghost use Rattle.pliron_theory.specs.Refolded.{RefoldingLaw};
 ghost use Rattle.pliron_theory.specs.Folded.{BranchFoldsLaw, BranchLinksLaw, BranchOutcomesLaw, ConstantFoldsLaw};
 ghost use Rattle.pliron_theory.specs.ChosenRoots.{ChosenRootsLaw};
 ghost use Rattle.pliron_theory.specs.Change.{PassLaws};
+ghost use Rattle.pliron_theory.specs.Whole.{WholeLaws};
 ghost use Rattle.pliron_theory.specs.Edges.{EdgeLaws};
 ghost use Rattle.pliron_theory.specs.Knowing.{FactsLaw};
 ghost use Rattle.pliron_theory.specs.Sound.{SoundFactsLaw, ClosedFactsLaw};
@@ -135,6 +136,12 @@ pub fn folds_keep_links()
 /// well linked.
 pub fn passes_compose()
     ensures { PassLaws }
+{}
+
+/// What passes do that keep the runs of all roots, whatever their heads, is reflexive and transitive, and
+/// spent keys are nothing to it; it holds of the operation around theirs too.
+pub fn whole_passes_compose()
+    ensures { WholeLaws }
 {}
 
 /// Edges inside operations stay where blocks keep their successors and their operations with regions:

@@ -1,5 +1,5 @@
 //! What is noted of the runs of a pass.
-use crate::counts::Counts;
+use crate::rewrites::Comparison;
 use pliron_core::{IRStatus, Operation, Ptr};
 use pliron_laws::OptError;
 use std::alloc::{AllocError, Global};
@@ -10,9 +10,8 @@ pub struct Row {
     /// How many runs there were, and how many of these changed something.
     pub runs: usize,
     pub changed: usize,
-    /// What stood inside the operations before and after.
-    pub before: Counts,
-    pub after: Counts,
+    /// What stood inside the operations before and after, and what was rewritten.
+    pub compared: Comparison,
     /// How many nanoseconds they took.
     pub nanos: u128,
 }
@@ -44,13 +43,12 @@ pub struct Diary {
     pub is_short: bool,
 }
 
-/// One run of a pass: the operation, what stood inside it before and after, and how long it took.
+/// One run of a pass: the operation, what stood inside it before and after, what was rewritten, and how long it took.
 #[derive(Clone, Copy)]
 pub struct Run {
     pub op: Ptr<Operation>,
     pub status: IRStatus,
-    pub before: Counts,
-    pub after: Counts,
+    pub compared: Comparison,
     pub nanos: u128,
 }
 
@@ -61,8 +59,7 @@ impl Row {
         if run.status == IRStatus::Changed {
             self.changed = self.changed.saturating_add(1);
         }
-        self.before.add(&run.before);
-        self.after.add(&run.after);
+        self.compared.add(&run.compared);
         self.nanos = self.nanos.saturating_add(run.nanos);
     }
 }
@@ -89,8 +86,7 @@ impl Diary {
             self.rows.push(Row {
                 runs: 0,
                 changed: 0,
-                before: Counts::none(),
-                after: Counts::none(),
+                compared: Comparison::none(),
                 nanos: 0,
             })?;
         }

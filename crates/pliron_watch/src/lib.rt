@@ -9,6 +9,7 @@ mod honest;
 mod optimised;
 mod pipeline_words;
 mod progress;
+mod rewrites;
 mod schedule;
 mod watched;
 
@@ -17,5 +18,6 @@ pub use diary::{Diary, Note, Row};
 pub use optimised::{Optimised, optimise, run_watched};
 pub use pipeline_words::{Plan, PlanError, WordFault};
 pub use progress::{Progress, Timeless};
+pub use rewrites::{Comparison, Rewrites};
 pub use schedule::{WatchedPipeline, WatchedSchedule, Wish, scheduled, watched_passes};
 pub use watched::{Watch, Watched};

@@ -22,7 +22,7 @@ pub type WatchedSchedule<N, C> = Either<WatchedPipeline<N, C>, Repeat<WatchedPip
 /// What is wished to be looked at around each run of a pass.
 #[derive(Clone, Copy)]
 pub struct Wish<'w> {
-    /// Whether what stands inside the operation is counted before and after.
+    /// Whether what stands inside the operation is compared before and after.
     pub counts: bool,
     /// Whether the operation is verified after.
     pub verifies: bool,

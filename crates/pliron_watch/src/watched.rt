@@ -3,9 +3,9 @@ ghost use Rattle.std.specs.Prelude.{◌≡◌, false};
 ghost use Rattle.pliron_core.specs.Tree.{IsLive};
 ghost use Rattle.pliron_pipeline.specs.Steps.{step_name};
 
-use crate::counts::Counts;
 use crate::diary::{Diary, Note, Run};
 use crate::progress::Progress;
+use crate::rewrites::{Comparison, Snapshot};
 use pliron_core::{Context, IRStatus, Operation, Ptr};
 use pliron_laws::OptError;
 use pliron_opts::Notation;
@@ -17,7 +17,7 @@ use std::time::Clock;
 /// What is looked at around each run of a pass.
 #[derive(Clone, Copy, Debug, Drop)]
 pub struct Watch {
-    /// Whether what stands inside the operation is counted before and after.
+    /// Whether what stands inside the operation is compared before and after.
     pub counts: bool,
     /// Whether the operation is verified after.
     pub verifies: bool,
@@ -34,14 +34,13 @@ pub struct Watched<N: Notation, C: Progress + Drop> {
     diary: Diary,
 }
 
-/// What the operation and all that stands inside it come to, where that is wished.
-fn counts(wished: bool, op: Ptr<Operation>, ctx: &Context) -> Counts
+/// What stood inside the operation, what stands there, and what was rewritten, where it is known what stood.
+fn compared(before: &Option<Snapshot>, op: Ptr<Operation>, ctx: &Context) -> Comparison
     requires { IsLive ctx.now.tree op }
 {
-    if wished {
-        Counts::of(op, ctx)
-    } else {
-        Counts::none()
+    match before {
+        Some(snapshot) => snapshot.compare(op, ctx),
+        None => Comparison::none(),
     }
 }
 
@@ -78,6 +77,21 @@ impl<N: Notation, C: Progress + Drop> Watched<N, C> {
         ensures { result.now ≡ self.now.diary }
     {
         &self.diary
+    }
+
+    /// What stands inside the operation, where it is wished to compare it.
+    fn snapshot(&mut self, alloc: Global, op: Ptr<Operation>, ctx: &Context) -> Option<Snapshot>
+        requires { IsLive ctx.now.tree op }
+        ensures { self.new.step ≡ self.old.step }
+    {
+        if !self.watch.counts {
+            return None;
+        }
+        let snapshot = Snapshot::of(alloc, op, ctx).ok();
+        if snapshot.is_none() {
+            self.diary.is_short = true;
+        }
+        snapshot
     }
 
     /// What verifying the operation finds and how it is printed, as far as they are wished.
@@ -150,7 +164,7 @@ impl<N: Notation, C: Progress + Drop> Pass for Watched<N, C> {
         analyses: &mut AnalysisManager<BenchFacts>,
     ) -> Result<PassResult<<BenchFacts as AnalysisKind>::Kind>, OptError> {
         let number = analyses.pm_data().state().pass_run_count;
-        let before = counts(self.watch.counts, op, ctx);
+        let before = self.snapshot(alloc, op, ctx);
         let start = nanos(&self.clock);
         let answer = self.step.run(alloc, op, ctx, analyses);
         let nanos = nanos(&self.clock).saturating_sub(start);
@@ -159,8 +173,7 @@ impl<N: Notation, C: Progress + Drop> Pass for Watched<N, C> {
                 let run = Run {
                     op,
                     status: answer.ir_changed,
-                    before,
-                    after: counts(self.watch.counts, op, ctx),
+                    compared: compared(&before, op, ctx),
                     nanos,
                 };
                 if self.note(alloc, number, &run, ctx).is_err() {

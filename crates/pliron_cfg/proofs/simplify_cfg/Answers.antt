@@ -1,6 +1,6 @@
 use Rattle.std.proofs.Common.{rules, inl, inr, ap, ◌∙◌}
 use Rattle.pliron_core.specs.Status.{changed_by_either}
-use Rattle.pliron_theory.proofs.ChangeLemmas.{change_trans}
+use Rattle.pliron_theory.proofs.WholeChanges.{whole_trans}
 use Rattle.pliron_cfg.proofs.SimplifiedLemmas.{simplified, fails}
 use Rattle.pliron_cfg.proofs.simplify_cfg.Goals as goal
 
@@ -10,7 +10,7 @@ returns-in_err-remove_blocks_inside_op-clause-err g c =
 
 pub returns-in_err-remove_blocks_inside_op-clause-change : goal.returns-in_err-remove_blocks_inside_op-clause-change
 returns-in_err-remove_blocks_inside_op-clause-change g c =
-    change_trans g.D.HasMeaning.meaning c.args.ctx.now.tree c.fold_branches.new.ctx.tree c.remove_blocks_inside_op.new.ctx.tree c.args.op c.in_ok-status.ensures.change c.in_err-remove_blocks_inside_op.ensures.change
+    whole_trans g.D.HasMeaning.meaning c.args.ctx.now.tree c.fold_branches.new.ctx.tree c.remove_blocks_inside_op.new.ctx.tree c.args.op c.in_ok-status.ensures.change c.in_err-remove_blocks_inside_op.ensures.change
 
 pub returns-in_err-merge_inside_op-clause-err : goal.returns-in_err-merge_inside_op-clause-err
 returns-in_err-merge_inside_op-clause-err g c =
@@ -23,7 +23,7 @@ returns-in_err-merge_inside_op-clause-err g c =
 
 pub returns-in_err-merge_inside_op-clause-change : goal.returns-in_err-merge_inside_op-clause-change
 returns-in_err-merge_inside_op-clause-change g c =
-    change_trans g.D.HasMeaning.meaning c.args.ctx.now.tree c.remove_blocks_inside_op.new.ctx.tree c.merge_inside_op.new.ctx.tree c.args.op (change_trans g.D.HasMeaning.meaning c.args.ctx.now.tree c.fold_branches.new.ctx.tree c.remove_blocks_inside_op.new.ctx.tree c.args.op c.in_ok-status.ensures.change c.in_ok-remove_blocks_inside_op.ensures.change) c.in_err-merge_inside_op.ensures.change
+    whole_trans g.D.HasMeaning.meaning c.args.ctx.now.tree c.remove_blocks_inside_op.new.ctx.tree c.merge_inside_op.new.ctx.tree c.args.op (whole_trans g.D.HasMeaning.meaning c.args.ctx.now.tree c.fold_branches.new.ctx.tree c.remove_blocks_inside_op.new.ctx.tree c.args.op c.in_ok-status.ensures.change c.in_ok-remove_blocks_inside_op.ensures.change) c.in_err-merge_inside_op.ensures.change
 
 pub returns-clause-ok : goal.returns-clause-ok
 returns-clause-ok g c =
@@ -33,4 +33,4 @@ returns-clause-ok g c =
 
 pub returns-clause-change : goal.returns-clause-change
 returns-clause-change g c =
-    change_trans g.D.HasMeaning.meaning c.args.ctx.now.tree c.remove_blocks_inside_op.new.ctx.tree c.merge_inside_op.new.ctx.tree c.args.op (change_trans g.D.HasMeaning.meaning c.args.ctx.now.tree c.fold_branches.new.ctx.tree c.remove_blocks_inside_op.new.ctx.tree c.args.op c.in_ok-status.ensures.change c.in_ok-remove_blocks_inside_op.ensures.change) c.in_ok-merge_inside_op.ensures.change
+    whole_trans g.D.HasMeaning.meaning c.args.ctx.now.tree c.remove_blocks_inside_op.new.ctx.tree c.merge_inside_op.new.ctx.tree c.args.op (whole_trans g.D.HasMeaning.meaning c.args.ctx.now.tree c.fold_branches.new.ctx.tree c.remove_blocks_inside_op.new.ctx.tree c.args.op c.in_ok-status.ensures.change c.in_ok-remove_blocks_inside_op.ensures.change) c.in_ok-merge_inside_op.ensures.change

@@ -5,7 +5,7 @@ use Rattle.pliron_core.specs.declared.attrs.IRStatus.TheVariants.{Changed, Uncha
 use Rattle.pliron_core.specs.Tree.{Tree, In}
 use Rattle.pliron_core.specs.Joined.{IsTree}
 use Rattle.pliron_laws.specs.Datum.{Meaning}
-use Rattle.pliron_theory.specs.Change.{IsPassChange}
+use Rattle.pliron_theory.specs.Change.{IsWholeChange}
 use Rattle.pliron_block_laws.specs.Links.{KeepsLinks}
 use Rattle.pliron_cfg.specs.Visited.{Start, IsCutOff, IsUnreachable}
 use Rattle.pliron_cfg.specs.Visits.{AreVisits}
@@ -35,7 +35,7 @@ pub record AreCleared (m : Meaning) (t u : Tree) (scope : Scope) (root : ℕ) (r
   pub without : IsWithout t u (Went (start_of scope) t u)
   pub were : (b : ℕ) → IsUnreachable (start_of scope) u b → IsUnreachable (start_of scope) t b
   pub visits : AreVisits u (start_of scope u) rs ks
-  pub change : IsPassChange m t u root
+  pub change : IsWholeChange m t u root
   pub links : KeepsLinks m t u
   pub among : (r : ℕ) → In r left → In r rs
   pub cleared : (r : ℕ) → In r rs → In r left ⊎ ((b : ℕ) → IsCutOff u r b → ⊥)

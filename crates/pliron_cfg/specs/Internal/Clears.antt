@@ -4,7 +4,7 @@ use Rattle.pliron_core.specs.declared.attrs.IRStatus.{IRStatus}
 use Rattle.pliron_core.specs.declared.attrs.IRStatus.TheVariants.{Changed, Unchanged}
 use Rattle.pliron_core.specs.Tree.{Tree, In}
 use Rattle.pliron_laws.specs.Datum.{Meaning}
-use Rattle.pliron_theory.specs.Keeps.{KeepsRuns}
+use Rattle.pliron_theory.specs.Keeps.{KeepsAllRuns}
 use Rattle.pliron_block_laws.specs.Cutting.{AreCut}
 use Rattle.pliron_cfg.specs.Visited.{IsCutOff}
 
@@ -15,7 +15,7 @@ pub record LosesCutOff (m : Meaning) (t v : Tree) (region : ℕ) : Type 0 where
   pub one : ℕ
   pub listed : In one blocks
   pub cut : AreCut t v region blocks
-  pub runs : KeepsRuns m t v
+  pub runs : KeepsAllRuns m t v
 
 abbrev pub ClearsRegion : Meaning → (t v : Tree) → ℕ → IRStatus → Type 0
 ClearsRegion m t v region Changed = LosesCutOff m t v region

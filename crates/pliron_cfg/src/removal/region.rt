@@ -2,7 +2,7 @@
 ghost use Rattle.std.specs.Prelude.{◌≡◌, ◌↔◌, ◌⊎◌, ℕ, Some, IfOk, IfErr};
 ghost use Rattle.pliron_core.specs.Tree.{In, IsDistinct, block_parent_of};
 ghost use Rattle.pliron_laws.specs.declared.fault.OptError.TheVariants.{LiveUse, Memory};
-ghost use Rattle.pliron_theory.specs.Keeps.{KeepsRuns};
+ghost use Rattle.pliron_theory.specs.Keeps.{KeepsAllRuns};
 ghost use Rattle.pliron_search.specs.Regions.{IsLawfulRegion};
 ghost use Rattle.pliron_block_laws.specs.Cutting.{AreCut};
 ghost use Rattle.pliron_block_laws.specs.Leaving.{BlocksMayGo};
@@ -30,7 +30,7 @@ fn erase_blocks<D: Dialect, R: Rewriter>(
     requires may { BlocksMayGo ctx.old.tree region blocks.now }
     requires distinct { IsDistinct blocks.now }
     ensures cut { AreCut ctx.old.tree ctx.new.tree region blocks.now }
-    ensures runs { KeepsRuns D.meaning ctx.old.tree ctx.new.tree }
+    ensures runs { KeepsAllRuns D.meaning ctx.old.tree ctx.new.tree }
     ensures point { R.point rewriter.new ≡ R.point rewriter.old }
 {
     blocks_go();

@@ -254,7 +254,7 @@ fn act(
 {
     match kind {
         BenchKind::Mod => Ok(Move::Give(Vec::new(alloc))),
-        BenchKind::Func => func_move(alloc, memo, num_entry_argument(ctx, op), input),
+        BenchKind::Func => func_move(alloc, memo, num_entry_argument(ctx, op, 0), input),
         BenchKind::Const => const_move(alloc, &op.head(ctx).attrs),
         BenchKind::Add => add_move(alloc, input),
         BenchKind::Mul => mul_move(alloc, input),
@@ -263,7 +263,7 @@ fn act(
         BenchKind::Print => print_move(alloc, memo, input),
         BenchKind::Pair => pair_move(alloc),
         BenchKind::Sink => Ok(Move::Give(Vec::new(alloc))),
-        BenchKind::Scope => scope_move(alloc, memo, num_entry_argument(ctx, op), input),
+        BenchKind::Scope => scope_move(alloc, memo, num_entry_argument(ctx, op, 0), input),
         BenchKind::Box => Ok(Move::Give(Vec::new(alloc))),
         BenchKind::Br => Ok(Move::Goto(0, all_copies(alloc, input)?)),
         BenchKind::Cbr => cbr_move(alloc, &op.head(ctx).attrs, input),

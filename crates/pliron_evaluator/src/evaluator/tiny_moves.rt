@@ -1,9 +1,10 @@
 //! The moves of the tiny dialect.
 ghost use Rattle.std.specs.Prelude.{◌≡◌, map, drop, IfOk};
-ghost use Rattle.pliron_core.specs.Tree.{IsLive};
+ghost use Rattle.pliron_core.specs.Tree.{IsLive, regions_of};
+ghost use Rattle.pliron_laws.specs.Tree.{entry_block, count_arguments};
 ghost use Rattle.pliron_laws.specs.Datum.{datum_of as content_of};
 ghost use Rattle.pliron_laws.specs.Answers.{ReadsHead};
-ghost use Rattle.pliron_evaluator.specs.Tiny.{first_attribute, first_datum, fitted_or_empty, begun, has_begun, ask_move, scope_move};
+ghost use Rattle.pliron_evaluator.specs.Tiny.{first_attribute, first_datum, fitted_or_empty, begun, has_begun, between, ask_move, scope_move, visit_with, both_move, twice_move};
 ghost use Rattle.pliron_evaluator.specs.Evaluator.{datum_of_value, move_of};
 
 use crate::evaluator::shapes::num_entry_argument;
@@ -90,6 +91,74 @@ fn scope_move(
     }
 }
 
+// The memo between two visits.
+fn between(alloc: Global, kept: Datum) -> Result<Datum, AllocError>
+    ensures { IfOk result (λ memo. datum_of_value memo ≡ between (datum_of_value kept)) }
+{
+    Datum::join(alloc, kept, Datum::Empty)
+}
+
+// The region is visited with this datum for the first argument of its entry.
+fn visit_with(
+    alloc: Global,
+    ctx: &Context,
+    op: Ptr<Operation>,
+    region: usize,
+    datum: Datum,
+    memo: Datum,
+) -> Result<Move, AllocError>
+    requires { IsLive ctx.now.tree op }
+    ensures { IfOk result (λ next. move_of next ≡ visit_with (map (λ r. count_arguments (entry_block ctx.now.tree r)) (regions_of ctx.now.tree op)) region
+        (datum_of_value datum) (datum_of_value memo)) }
+{
+    let count = num_entry_argument(ctx, op, region);
+    let passed = one(alloc, datum)?;
+    Ok(Move::Visit(region, fitted(alloc, count, &passed)?, memo))
+}
+
+fn both_move(
+    alloc: Global,
+    ctx: &Context,
+    op: Ptr<Operation>,
+    memo: &Datum,
+    input: &[Datum],
+) -> Result<Move, AllocError>
+    requires { IsLive ctx.now.tree op }
+    ensures { IfOk result (λ next. move_of next ≡ both_move (datum_of_value memo.now) (map (λ r. count_arguments (entry_block ctx.now.tree r))
+        (regions_of ctx.now.tree op)) (map datum_of_value input.now)) }
+{
+    match memo {
+        Datum::Empty => {
+            let second = datum_or_empty(alloc, input, 1)?;
+            visit_with(alloc, ctx, op, 0, second, between(alloc, Datum::Empty)?)
+        }
+        Datum::Join(_, _) => visit_with(alloc, ctx, op, 1, Datum::Empty, begun()),
+        _ => Ok(Move::Give(Vec::new(alloc))),
+    }
+}
+
+fn twice_move(
+    alloc: Global,
+    ctx: &Context,
+    op: Ptr<Operation>,
+    memo: &Datum,
+    input: &[Datum],
+) -> Result<Move, AllocError>
+    requires { IsLive ctx.now.tree op }
+    ensures { IfOk result (λ next. move_of next ≡ twice_move (datum_of_value memo.now) (map (λ r. count_arguments (entry_block ctx.now.tree r))
+        (regions_of ctx.now.tree op)) (map datum_of_value input.now)) }
+{
+    match memo {
+        Datum::Empty => {
+            let first = datum_or_empty(alloc, input, 0)?;
+            let kept = between(alloc, first.copy(alloc)?)?;
+            visit_with(alloc, ctx, op, 0, first, kept)
+        }
+        Datum::Join(kept, _) => visit_with(alloc, ctx, op, 0, kept.copy(alloc)?, begun()),
+        _ => Ok(Move::Give(Vec::new(alloc))),
+    }
+}
+
 impl Evaluate for Tiny {
     fn next_move(
         alloc: Global,
@@ -101,8 +170,10 @@ impl Evaluate for Tiny {
         match TinyKind::of(op.head(ctx).kind) {
             Some(TinyKind::Const) => Ok(Move::Give(one(alloc, constant(alloc, ctx, op)?)?)),
             Some(TinyKind::Ask) => ask_move(alloc, memo, input),
-            Some(TinyKind::Scope) => scope_move(alloc, memo, num_entry_argument(ctx, op), input),
+            Some(TinyKind::Scope) => scope_move(alloc, memo, num_entry_argument(ctx, op, 0), input),
             Some(TinyKind::Br) => Ok(Move::Goto(0, all_copies(alloc, input)?)),
+            Some(TinyKind::Both) => both_move(alloc, ctx, op, memo, input),
+            Some(TinyKind::Twice) => twice_move(alloc, ctx, op, memo, input),
             None => Ok(Move::Trap),
         }
     }

@@ -3,8 +3,8 @@ use Rattle.std.proofs.lemmas.Result.{IfOk-weaker, on_err_weaker}
 use Rattle.pliron_core.specs.Tree.{operands_of, definition_of}
 use Rattle.pliron_core.proofs.WalkLemmas.{inside_live}
 use Rattle.pliron_core.proofs.UsedLemmas.{length_map}
-use Rattle.pliron_theory.proofs.Answered.{answered}
-use Rattle.pliron_theory.proofs.FoldedBranches.{branch_folds, branch_links, branch_outcomes}
+use Rattle.pliron_theory.proofs.ChosenRoots.{chosen_roots}
+use Rattle.pliron_theory.proofs.FoldedBranches.{branch_links, branch_outcomes}
 use Rattle.pliron_cfg.specs.Folded.{known_of}
 use Rattle.pliron_cfg.proofs.FoldLemmas.{stands_in_block, either, told, step}
 use Rattle.pliron_cfg.proofs.folding.fold_known.Goals as goal
@@ -52,10 +52,11 @@ returns-clause-step g c = λ root linked branch.
     let u = c.fold_in_place-done.new.ctx.tree in
     let m = g.D.HasMeaning.meaning in
     let outcome = g.D.BranchOpFoldInterface.outcome in
+    let laws = chosen_roots _ _ _ _ _ _ _ _ g.D.BlockArgRemoval.removable _ _ _ (λ h h' s. s.branch) d.keeps_counts d.forwards_operands d.acts_without_argument d.answers_true d.answers_jumps d.folds_in_place d.makes_constants in
     let done = either (λ a. outcome t u c.args.op c.args.known.now a) c.fold_in_place-done.result c.fold_in_place-done.ensures.ok c.fold_in_place-done.ensures.refused in
     step m g.D.ConstFoldInterface.can_fold g.D.BranchOpFoldInterface.can_fold_branch g.D.ConstFoldInterface.constants outcome t u root c.args.op c.well_formed-2.ensures.tree c.well_formed-3.ensures.tree linked branch
-    (branch_folds _ _ _ _ _ _ d.forwards_operands d.answers_jumps _ _ _ _ _ d.folds_in_place)
+    (λ chosen. (laws chosen).branch_folds)
     (branch_links _ _ _ _ _ _ d.forwards_operands d.answers_jumps _ _ _ _ _ d.folds_in_place)
     (branch_outcomes _ _ _ _ _ _ d.forwards_operands d.answers_jumps _ _ _ _ _ d.folds_in_place)
-    (answered _ _ _ _ _ d.answers_true d.answers_jumps d.forwards_operands.passes)
+    (λ chosen. (laws chosen).answered)
     c.fold_in_place-done.ensures.longer done.0 (subst (λ z. outcome t u c.args.op z done.0) c.requires.known done.1)

@@ -1,12 +1,12 @@
 use Rattle.std.proofs.Common.{sym, ◌∙◌, subst, inl}
-use Rattle.pliron_theory.specs.Change.{IsPassChange}
+use Rattle.pliron_theory.specs.Change.{IsWholeChange}
 use Rattle.pliron_laws.proofs.FoldLemmas.{on_err}
 use Rattle.pliron_core.proofs.HoldingLemmas.{some_is, block_held}
 use Rattle.pliron_core.proofs.WithinLemmas.{block_holder_live}
 use Rattle.pliron_cfg.proofs.BlockStarts.{block_lasts, block_starts}
 use Rattle.pliron_cfg.specs.Visited.{OfBlock}
 use Rattle.pliron_cfg.specs.Visits.{AreVisits}
-use Rattle.pliron_theory.proofs.ChangeLemmas.{change_refl}
+use Rattle.pliron_theory.proofs.WholeChanges.{whole_refl}
 use Rattle.std.proofs.lemmas.Result.{IfOk-weaker}
 use Rattle.pliron_cfg.specs.Merged.{MergesSome.Nothing}
 use Rattle.pliron_cfg.proofs.Whole.{all_linked, all_merged, partly, partly_change, partly_links, either_way, err_weaker, none_new, no_block_new, branch_went, ok_whole}
@@ -54,7 +54,7 @@ returns-clause-change g c =
     let live = x.6 in
     let linked = c.requires.linked root x.5 in
     let visits = subst (AreVisits t (OfBlock c.args.block t) c.in_ok-visits.visits.regions.items) (sym c.deref.ensures.value) c.in_ok-visits.ensures.visits in
-    λ holder e. subst (IsPassChange g.D.HasMeaning.meaning t c.merge_among.new.ctx.tree) (some_is (sym x.5 ∙ e)) (partly_change _ _ _ _ g.met.D.Dialect.forwards_operands (OfBlock c.args.block) root (block_lasts c.args.block root) t w live linked (block_starts t w c.args.block root x.5) _ _ visits c.merge_among.new.ctx.tree (either_way g.D.HasMeaning.meaning _ t c.merge_among.new.ctx.tree c.merge_among.result c.merge_among.ensures.ok c.merge_among.ensures.refused))
+    λ holder e. subst (IsWholeChange g.D.HasMeaning.meaning t c.merge_among.new.ctx.tree) (some_is (sym x.5 ∙ e)) (partly_change _ _ _ _ g.met.D.Dialect.forwards_operands (OfBlock c.args.block) root (block_lasts c.args.block root) t w live linked (block_starts t w c.args.block root x.5) _ _ visits c.merge_among.new.ctx.tree (either_way g.D.HasMeaning.meaning _ t c.merge_among.new.ctx.tree c.merge_among.result c.merge_among.ensures.ok c.merge_among.ensures.refused))
 
 pub returns-clause-links : goal.returns-clause-links
 returns-clause-links g c =
@@ -68,7 +68,7 @@ returns-clause-links g c =
     partly_links _ _ _ _ g.met.D.Dialect.forwards_operands (OfBlock c.args.block) root (block_lasts c.args.block root) t w live linked (block_starts t w c.args.block root x.5) _ _ visits c.merge_among.new.ctx.tree (either_way g.D.HasMeaning.meaning _ t c.merge_among.new.ctx.tree c.merge_among.result c.merge_among.ensures.ok c.merge_among.ensures.refused)
 
 pub returns-in_err-visits-clause-change : goal.returns-in_err-visits-clause-change
-returns-in_err-visits-clause-change g c = λ holder e. change_refl g.D.HasMeaning.meaning c.args.ctx.now.tree holder (block_holder_live c.args.ctx.now.tree c.args.block holder c.well_formed-2.ensures.tree.joined e) (c.requires.linked holder e)
+returns-in_err-visits-clause-change g c = λ holder e. whole_refl g.D.HasMeaning.meaning c.args.ctx.now.tree holder (block_holder_live c.args.ctx.now.tree c.args.block holder c.well_formed-2.ensures.tree.joined e) (c.requires.linked holder e)
 
 pub returns-in_err-visits-clause-refused : goal.returns-in_err-visits-clause-refused
 returns-in_err-visits-clause-refused g c = on_err _ c.from_residual.result (inl Nothing)

@@ -3,7 +3,7 @@ use Rattle.pliron_laws.proofs.FoldLemmas.{on_err}
 use Rattle.pliron_cfg.specs.Merged.{MergesSome.Nothing}
 use Rattle.pliron_cfg.specs.Visited.{OfOperation}
 use Rattle.pliron_cfg.specs.Visits.{AreVisits}
-use Rattle.pliron_theory.proofs.ChangeLemmas.{change_refl}
+use Rattle.pliron_theory.proofs.WholeChanges.{whole_refl}
 use Rattle.std.proofs.lemmas.Result.{IfOk-weaker}
 use Rattle.pliron_cfg.proofs.Whole.{own_region, operation_lasts, all_linked, all_merged, partly, partly_change, partly_links, either_way, err_weaker, none_new, no_block_new, branch_went, ok_whole}
 use Rattle.pliron_cfg.proofs.merging.merge_inside_op.Goals as goal
@@ -49,7 +49,7 @@ returns-clause-links g c =
     partly_links _ _ _ _ g.met.D.Dialect.forwards_operands (OfOperation op) op (operation_lasts op) t w c.requires.live c.requires.linked (λ r i. own_region t w op r i) _ _ visits c.merge_among.new.ctx.tree (either_way g.D.HasMeaning.meaning _ t c.merge_among.new.ctx.tree c.merge_among.result c.merge_among.ensures.ok c.merge_among.ensures.refused)
 
 pub returns-in_err-visits-clause-change : goal.returns-in_err-visits-clause-change
-returns-in_err-visits-clause-change g c = change_refl g.D.HasMeaning.meaning c.args.ctx.now.tree c.args.op c.requires.live c.requires.linked
+returns-in_err-visits-clause-change g c = whole_refl g.D.HasMeaning.meaning c.args.ctx.now.tree c.args.op c.requires.live c.requires.linked
 
 pub returns-in_err-visits-clause-refused : goal.returns-in_err-visits-clause-refused
 returns-in_err-visits-clause-refused g c = on_err _ c.from_residual.result (inl Nothing)

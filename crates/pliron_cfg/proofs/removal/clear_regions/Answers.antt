@@ -1,7 +1,7 @@
 use Rattle.std.proofs.Common.{rules, ◌≡◌, ◌++◌, ◌∷◌, [], sym, subst}
 use Rattle.std.proofs.lemmas.Result.{err_from_is_err_and}
 use Rattle.pliron_laws.specs.Linked.{IsWellLinked}
-use Rattle.pliron_theory.specs.Change.{IsPassChange}
+use Rattle.pliron_theory.specs.Change.{IsWholeChange}
 use Rattle.pliron_cfg.specs.Internal.Cleared.{AreCleared}
 use Rattle.pliron_cfg.proofs.ScopeLemmas.{holder_is, one_holder}
 use Rattle.pliron_cfg.proofs.ClearedSteps.{none_cleared, all_cleared, region_lawful, tells_reached, fails, next}
@@ -12,7 +12,7 @@ loop-region-init g c =
     let t = c.args.ctx.now.tree in
     let s = c.args.scope.now in
     let x = holder_is t c.well_formed-2.ensures.tree s c.requires.stands in
-    (x.0, x.1, none_cleared g.D.HasMeaning.meaning t s x.0 c.args.regions.items c.args.reached.now.keys c.passes_compose.ensures c.well_formed-2.ensures.tree c.requires.stands x.1 x.2 (c.requires.linked x.0 x.1) c.requires.visits)
+    (x.0, x.1, none_cleared g.D.HasMeaning.meaning t s x.0 c.args.regions.items c.args.reached.now.keys c.whole_passes_compose.ensures c.well_formed-2.ensures.tree c.requires.stands x.1 x.2 (c.requires.linked x.0 x.1) c.requires.visits)
 
 pub clear_region-cleared-requires-clause-lawful : goal.clear_region-cleared-requires-clause-lawful
 clear_region-cleared-requires-clause-lawful g c =
@@ -27,7 +27,7 @@ clear_region-cleared-requires-clause-lawful g c =
     let e : c.loop-region.regions.items ≡ rest ++ r ∷ [] = search (rules, c.in-Some.ensures) in
     let h : AreCleared g.D.HasMeaning.meaning t u s root rs ks (rest ++ r ∷ []) c.loop-region.status = subst (λ z. AreCleared g.D.HasMeaning.meaning t u s root rs ks z c.loop-region.status) e c.loop-region.invariant.2 in
     let w = c.well_formed-in-Some.ensures.tree in
-    region_lawful g.D.HasMeaning.meaning t u u s root r rs ks rest c.passes_compose.ensures c.removing_keeps_links.ensures c.removing_changes_inside.ensures c.change_laws.ensures.inside w w c.loop-region.status h
+    region_lawful g.D.HasMeaning.meaning t u u s root r rs ks rest c.whole_passes_compose.ensures c.removing_keeps_links.ensures c.removing_changes_inside.ensures c.change_laws.ensures.inside w w c.loop-region.status h
 
 pub clear_region-cleared-requires-clause-reached : goal.clear_region-cleared-requires-clause-reached
 clear_region-cleared-requires-clause-reached g c =
@@ -42,7 +42,7 @@ clear_region-cleared-requires-clause-reached g c =
     let e : c.loop-region.regions.items ≡ rest ++ r ∷ [] = search (rules, c.in-Some.ensures) in
     let h : AreCleared g.D.HasMeaning.meaning t u s root rs ks (rest ++ r ∷ []) c.loop-region.status = subst (λ z. AreCleared g.D.HasMeaning.meaning t u s root rs ks z c.loop-region.status) e c.loop-region.invariant.2 in
     let w = c.well_formed-in-Some.ensures.tree in
-    tells_reached g.D.HasMeaning.meaning t u u s root r rs ks rest c.passes_compose.ensures c.removing_keeps_links.ensures c.removing_changes_inside.ensures c.change_laws.ensures.inside w w c.loop-region.status h
+    tells_reached g.D.HasMeaning.meaning t u u s root r rs ks rest c.whole_passes_compose.ensures c.removing_keeps_links.ensures c.removing_changes_inside.ensures c.change_laws.ensures.inside w w c.loop-region.status h
 
 pub returns-in_err-cleared-clause-err : goal.returns-in_err-cleared-clause-err
 returns-in_err-cleared-clause-err g c =
@@ -59,7 +59,7 @@ returns-in_err-cleared-clause-err g c =
     let w = c.well_formed-in-Some.ensures.tree in
     let x = c.in_err-cleared.ensures.err in
     let p = err_from_is_err_and c.from_residual.result c.from_residual.ensures.1 in
-    rw (p.1, p.2) (fails g.D.HasMeaning.meaning t u c.clear_region-cleared.new.ctx.tree s root r rs ks rest c.passes_compose.ensures c.removing_keeps_links.ensures c.removing_changes_inside.ensures c.change_laws.ensures.inside w c.well_formed-in-Some-2.ensures.tree c.loop-region.status h _ x.0 x.1)
+    rw (p.1, p.2) (fails g.D.HasMeaning.meaning t u c.clear_region-cleared.new.ctx.tree s root r rs ks rest c.whole_passes_compose.ensures c.removing_keeps_links.ensures c.removing_changes_inside.ensures c.change_laws.ensures.inside w c.well_formed-in-Some-2.ensures.tree c.loop-region.status h _ x.0 x.1)
 
 pub returns-in_err-cleared-clause-links : goal.returns-in_err-cleared-clause-links
 returns-in_err-cleared-clause-links g c root y =
@@ -70,8 +70,8 @@ pub returns-in_err-cleared-clause-change : goal.returns-in_err-cleared-clause-ch
 returns-in_err-cleared-clause-change g c holder y =
     let t = c.args.ctx.now.tree in
     let x = c.in_err-cleared.ensures.err in
-    subst (λ z. IsPassChange g.D.HasMeaning.meaning t z holder) (sym x.0)
-    (subst (IsPassChange g.D.HasMeaning.meaning t c.loop-region.ctx.tree) (one_holder t c.args.scope.now c.loop-region.invariant.0 holder c.loop-region.invariant.1 y) c.loop-region.invariant.2.change)
+    subst (λ z. IsWholeChange g.D.HasMeaning.meaning t z holder) (sym x.0)
+    (subst (IsWholeChange g.D.HasMeaning.meaning t c.loop-region.ctx.tree) (one_holder t c.args.scope.now c.loop-region.invariant.0 holder c.loop-region.invariant.1 y) c.loop-region.invariant.2.change)
 
 pub loop-region-preserved : goal.loop-region-preserved
 loop-region-preserved g c =
@@ -90,7 +90,7 @@ loop-region-preserved g c =
       root,
       c.loop-region.invariant.1,
       subst (AreCleared g.D.HasMeaning.meaning t v s root rs ks rest) (sym c.with_more-status.ensures)
-          (next g.D.HasMeaning.meaning t u v s root r rs ks rest c.passes_compose.ensures c.removing_keeps_links.ensures c.removing_changes_inside.ensures c.change_laws.ensures.inside w c.well_formed-in-Some-2.ensures.tree c.loop-region.status h c.in_ok-cleared.field-0 c.in_ok-cleared.ensures.ok),
+          (next g.D.HasMeaning.meaning t u v s root r rs ks rest c.whole_passes_compose.ensures c.removing_keeps_links.ensures c.removing_changes_inside.ensures c.change_laws.ensures.inside w c.well_formed-in-Some-2.ensures.tree c.loop-region.status h c.in_ok-cleared.field-0 c.in_ok-cleared.ensures.ok),
     )
 
 pub returns-clause-ok : goal.returns-clause-ok
@@ -104,7 +104,7 @@ returns-clause-ok g c =
     (subst (λ z. AreCleared g.D.HasMeaning.meaning t u s root c.args.regions.items c.args.reached.now.keys z c.loop-region.status) e c.loop-region.invariant.2)
 
 pub returns-clause-change : goal.returns-clause-change
-returns-clause-change g c holder y = subst (IsPassChange g.D.HasMeaning.meaning c.args.ctx.now.tree c.loop-region.ctx.tree) (one_holder c.args.ctx.now.tree c.args.scope.now c.loop-region.invariant.0 holder c.loop-region.invariant.1 y) c.loop-region.invariant.2.change
+returns-clause-change g c holder y = subst (IsWholeChange g.D.HasMeaning.meaning c.args.ctx.now.tree c.loop-region.ctx.tree) (one_holder c.args.ctx.now.tree c.args.scope.now c.loop-region.invariant.0 holder c.loop-region.invariant.1 y) c.loop-region.invariant.2.change
 
 pub returns-clause-links : goal.returns-clause-links
 returns-clause-links g c = c.loop-region.invariant.2.links

@@ -21,13 +21,13 @@ pub returns-in_err-regions-clause-change : goal.returns-in_err-regions-clause-ch
 returns-in_err-regions-clause-change g c holder y =
     let t = c.args.ctx.now.tree in
     let x = holder_is t c.well_formed-2.ensures.tree c.args.scope.now c.requires.stands in
-    c.passes_compose.ensures.reflexive g.D.HasMeaning.meaning t holder (subst (IsLive t) (one_holder t c.args.scope.now x.0 holder x.1 y) x.2) (c.requires.linked holder y)
+    c.whole_passes_compose.ensures.reflexive g.D.HasMeaning.meaning t holder (subst (IsLive t) (one_holder t c.args.scope.now x.0 holder x.1 y) x.2) (c.requires.linked holder y)
 
 pub returns-in_err-reached-clause-change : goal.returns-in_err-reached-clause-change
 returns-in_err-reached-clause-change g c holder y =
     let t = c.args.ctx.now.tree in
     let x = holder_is t c.well_formed-2.ensures.tree c.args.scope.now c.requires.stands in
-    c.passes_compose.ensures.reflexive g.D.HasMeaning.meaning t holder (subst (IsLive t) (one_holder t c.args.scope.now x.0 holder x.1 y) x.2) (c.requires.linked holder y)
+    c.whole_passes_compose.ensures.reflexive g.D.HasMeaning.meaning t holder (subst (IsLive t) (one_holder t c.args.scope.now x.0 holder x.1 y) x.2) (c.requires.linked holder y)
 
 pub clear_regions-requires-clause-visits : goal.clear_regions-requires-clause-visits
 clear_regions-requires-clause-visits g c =

@@ -4,7 +4,9 @@ use Rattle.pliron_dce.specs.Going.{IsSweptSoFar, LeavesNoDead, TellsGone, SomeHa
 use Rattle.pliron_dce.specs.Steps.{IsReady}
 use Rattle.pliron_dce.specs.Work.{item_of, HasReady, AreClosed}
 use Rattle.pliron_dce.specs.Incoming.{list_of}
+use Rattle.pliron_dce.specs.Predecessors.{mark_of}
 use Rattle.pliron_dce.proofs.IncomingLists.{none_known}
+use Rattle.pliron_dce.proofs.IncomingLemmas.{marked_after}
 use Rattle.pliron_dce.proofs.WorkLemmas.{all_wait}
 use Rattle.pliron_dce.proofs.SweepLemmas.{step_less}
 use Rattle.pliron_dce.proofs.Progress.{on_the_way, one_more, at_the_end, tells_more, edges_more, regions_more}
@@ -17,6 +19,7 @@ loop-incoming-init g c = record {
   all = subst (λ z. HasReady g.D.HasMeaning.meaning g.D.SideEffects.side_effects g.D.BlockArgRemoval.removable c.args.ctx.now.tree c.args.root z) (sym (all_wait c.new-work.result c.args.candidates.items c.new-work.ensures.round c.new-work.ensures.later c.new-work.ensures.around)) c.requires.all;
   closed = subst (λ z. AreClosed c.args.ctx.now.tree z) (sym c.new-work.ensures.around) (λ k a i l j. absurd i);
   known = none_known g.D.HasMeaning.meaning c.args.ctx.now.tree c.args.root (λ b. list_of c.new-incoming.result b) c.new-incoming.ensures;
+  marked = c.requires.marked;
 }
 
 pub loop-incoming-smaller : goal.loop-incoming-smaller
@@ -34,6 +37,7 @@ loop-incoming-preserved g c =
       all = c.in_ok-had.ensures.all;
       closed = c.in_ok-had.ensures.closed;
       known = c.in_ok-had.ensures.known;
+      marked = marked_after _ _ _ _ g.met.D.Dialect.forwards_operands (λ h h' s. s.branch) g.met.D.Dialect.keeps_counts g.D.SideEffects.side_effects g.met.D.Dialect.gives_at_once g.D.BlockArgRemoval.removable c.loop-incoming.ctx.tree c.take_one-taken.new.ctx.tree c.args.root (item_of c.in-Some.next) (λ b. mark_of c.args.predecessors.now b) c.well_formed-in-Some.ensures.tree c.well_formed-in-Some-2.ensures.tree (way.1.linked c.args.root c.requires.linked way.1.stands) ready c.in_ok-had.ensures.goes c.loop-incoming.invariant.marked;
     }
 
 pub returns-clause-gone : goal.returns-clause-gone

@@ -4,6 +4,7 @@ use Rattle.pliron_dce.specs.Dead.{Item}
 use Rattle.pliron_dce.specs.Going.{IsSweptSoFar, TellsGone, SomeHasRegions}
 use Rattle.pliron_dce.specs.Incoming.{list_of, AreKnown}
 use Rattle.pliron_dce.specs.Measures.{things}
+use Rattle.pliron_dce.specs.Predecessors.{mark_of, AreMarked}
 use Rattle.pliron_dce.specs.Work.{waiting, HasReady, AreClosed}
 use Rattle.pliron_dce.proofs.sweep.sweep.Given as goal
 
@@ -14,6 +15,7 @@ invariant-loop-incoming g l = record {
   all : HasReady g.D.HasMeaning.meaning g.D.SideEffects.side_effects g.D.BlockArgRemoval.removable l.ctx.tree l.root (waiting l.work);
   closed : AreClosed l.ctx.tree l.work.around.keys;
   known : AreKnown g.D.HasMeaning.meaning l.ctx.tree l.root (λ b. list_of l.incoming b);
+  marked : AreMarked g.D.HasMeaning.meaning l.ctx.tree l.root (λ b. mark_of l.predecessors b);
 }
 
 abbrev pub decreases-loop-incoming : goal.decreases-loop-incoming

@@ -1,38 +1,34 @@
-use Rattle.std.proofs.Common.{◌≡◌, ◌<◌, length, get_or, sym, ◌∙◌, ap, refl, subst, arith, Contains, true≢false}
+use Rattle.std.proofs.Common.{◌≡◌, sym, ◌∙◌, refl, Contains, true≢false}
 use Rattle.std.specs.List.{All}
+use Rattle.pliron_graph.specs.Internal.Owners.{owner_in}
 use Rattle.pliron_graph.proofs.PreSentinelLemmas.{all_more, all_at, all_end}
 use Rattle.pliron_graph.proofs.pre_sentinels.is_sink.Goals as goal
 
 pub stays_inside-requires-clause-member : goal.stays_inside-requires-clause-member
 stays_inside-requires-clause-member g c =
     let graph = g.G.ControlFlowGraph.graph c.args.graph.now c.args.ctx.now in
-    let items : c.as_slice-node-items.result.now ≡ c.args.members.now.keys = c.as_slice-node-items.ensures.keys in
-    let within : c.loop-node.node-index < length c.args.members.now.keys = omega (arith, c.loop-node-test.true, ap length items) in
-    let item : c.node-item.result ≡ get_or c.args.members.now.keys c.loop-node.node-index c.node-item.result = c.node-item.is ∙ ap (λ xs. get_or xs c.loop-node.node-index c.node-item.result) items in
-    all_at (λ v. Contains graph.nodes v) c.args.members.now.keys c.loop-node.node-index c.node-item.result within item c.requires.nodes
+    all_at (λ v. Contains graph.nodes v) c.args.members.now c.loop-node.node-index c.node-item.result c.loop-node-test.true c.node-item.is c.requires.nodes
 
 pub returns-then-not-stays_inside : goal.returns-then-not-stays_inside
 returns-then-not-stays_inside g c =
     let graph = g.G.ControlFlowGraph.graph c.args.graph.now c.args.ctx.now in
-    let items : c.as_slice-node-items.result.now ≡ c.args.members.now.keys = c.as_slice-node-items.ensures.keys in
-    let within : c.loop-node.node-index < length c.args.members.now.keys = omega (arith, c.loop-node-test.true, ap length items) in
-    let item : c.node-item.result ≡ get_or c.args.members.now.keys c.loop-node.node-index c.node-item.result = c.node-item.is ∙ ap (λ xs. get_or xs c.loop-node.node-index c.node-item.result) items in (
+    let nodes = g.S.ListedSet.listed c.args.places.now in (
       λ e. absurd (true≢false (sym e)),
       λ h. absurd (true≢false (sym (c.stays_inside.ensures.1
-          (all_at (λ u. All (λ v. Contains c.args.members.now.keys v) (graph.succ u)) c.args.members.now.keys c.loop-node.node-index c.node-item.result within item h)) ∙ c.if-not-stays_inside.true)),
+          (all_at (λ u. All (λ v. owner_in g.G.Node.PartialEq.eq nodes c.args.owners.now v ≡ c.args.owner) (graph.succ u)) c.args.members.now c.loop-node.node-index c.node-item.result c.loop-node-test.true c.node-item.is h)) ∙ c.if-not-stays_inside.true)),
     )
 
 pub loop-node-preserved : goal.loop-node-preserved
 loop-node-preserved g c =
     let graph = g.G.ControlFlowGraph.graph c.args.graph.now c.args.ctx.now in
-    all_more (λ u. All (λ v. Contains c.args.members.now.keys v) (graph.succ u)) c.as_slice-node-items.result.now c.loop-node.node-index c.node-item.result c.loop-node-test.true c.node-item.is c.loop-node.invariant
+    let nodes = g.S.ListedSet.listed c.args.places.now in
+    all_more (λ u. All (λ v. owner_in g.G.Node.PartialEq.eq nodes c.args.owners.now v ≡ c.args.owner) (graph.succ u)) c.args.members.now c.loop-node.node-index c.node-item.result c.loop-node-test.true c.node-item.is c.loop-node.invariant
     (c.stays_inside.ensures.0 c.if-not-stays_inside.false)
 
 pub returns : goal.returns
 returns g c =
     let graph = g.G.ControlFlowGraph.graph c.args.graph.now c.args.ctx.now in
-    let items : c.as_slice-node-items.result.now ≡ c.args.members.now.keys = c.as_slice-node-items.ensures.keys in (
-      λ _. subst (All (λ u. All (λ v. Contains c.args.members.now.keys v) (graph.succ u))) items
-          (all_end (λ u. All (λ v. Contains c.args.members.now.keys v) (graph.succ u)) c.as_slice-node-items.result.now c.loop-node.node-index c.loop-node-test.false c.loop-node.invariant),
+    let nodes = g.S.ListedSet.listed c.args.places.now in (
+      λ _. all_end (λ u. All (λ v. owner_in g.G.Node.PartialEq.eq nodes c.args.owners.now v ≡ c.args.owner) (graph.succ u)) c.args.members.now c.loop-node.node-index c.loop-node-test.false c.loop-node.invariant,
       λ _. refl,
     )

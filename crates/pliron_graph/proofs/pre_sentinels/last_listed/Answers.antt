@@ -8,8 +8,8 @@ use Rattle.pliron_graph.proofs.pre_sentinels.last_listed.Goals as goal
 pub loop-node-preserved-then-place_of : goal.loop-node-preserved-then-place_of
 loop-node-preserved-then-place_of g c =
     let eq = g.N.PartialEq.eq in
-    let nodes = c.args.nodes.now.keys in
-    let low : number_in g.N.PartialEq.eq c.args.nodes.now.keys c.node-item.result ≤ number_in g.N.PartialEq.eq c.args.nodes.now.keys c.loop-node.last =
+    let nodes = g.S.ListedSet.listed c.args.places.now in
+    let low : number_in g.N.PartialEq.eq (g.S.ListedSet.listed c.args.places.now) c.node-item.result ≤ number_in g.N.PartialEq.eq (g.S.ListedSet.listed c.args.places.now) c.loop-node.last =
     omega (arith, c.if-place_of.true, c.place_of.ensures, c.place_of-in-loop-node.ensures) in
     record {
       among = c.loop-node.invariant.among;
@@ -19,8 +19,8 @@ loop-node-preserved-then-place_of g c =
 pub loop-node-preserved : goal.loop-node-preserved
 loop-node-preserved g c =
     let eq = g.N.PartialEq.eq in
-    let nodes = c.args.nodes.now.keys in
-    let high : number_in g.N.PartialEq.eq c.args.nodes.now.keys c.loop-node.last ≤ number_in g.N.PartialEq.eq c.args.nodes.now.keys c.node-item.result =
+    let nodes = g.S.ListedSet.listed c.args.places.now in
+    let high : number_in g.N.PartialEq.eq (g.S.ListedSet.listed c.args.places.now) c.loop-node.last ≤ number_in g.N.PartialEq.eq (g.S.ListedSet.listed c.args.places.now) c.node-item.result =
     omega (arith, c.if-place_of.false, c.place_of.ensures, c.place_of-in-loop-node.ensures) in
     record {
       among = (c.loop-node.node-index, c.loop-node-test.true, sym c.node-item.is);
@@ -32,5 +32,5 @@ loop-node-preserved g c =
 pub returns-clause-last : goal.returns-clause-last
 returns-clause-last g c =
     let eq = g.N.PartialEq.eq in
-    let nodes = c.args.nodes.now.keys in
+    let nodes = g.S.ListedSet.listed c.args.places.now in
     all_end (λ v. number_in eq nodes v ≤ number_in eq nodes c.loop-node.last) c.args.members.now c.loop-node.node-index c.loop-node-test.false c.loop-node.invariant.last

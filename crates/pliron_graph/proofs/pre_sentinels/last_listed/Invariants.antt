@@ -7,5 +7,5 @@ abbrev pub invariant-loop-node : goal.invariant-loop-node
 invariant-loop-node g l =
     record {
       among : Contains l.members l.last;
-      last : All (λ v. number_in g.N.PartialEq.eq l.nodes.keys v ≤ number_in g.N.PartialEq.eq l.nodes.keys l.last) (take l.node-index l.members);
+      last : All (λ v. number_in g.N.PartialEq.eq (g.S.ListedSet.listed l.places) v ≤ number_in g.N.PartialEq.eq (g.S.ListedSet.listed l.places) l.last) (take l.node-index l.members);
     }

@@ -40,9 +40,9 @@ returns-in_err-run_held-clause-outcome g c =
     let w = c.well_formed-2.ensures.tree in
     let eq = g.P.E.Kind.PartialEq.eq in
     let member = c.loop-at.invariant.listed c.in-Some.inner c.in-Some.is in
-    let ran = subst (λ o. HasRun g.P.E.Kind.PartialEq.eq (RunsPass g.P.Pass.name g.P.Pass.outcome (IsFirstFault g.P.D.Dialect.has_interface (verdict_by g.P.D.SideEffects.verdict g.P.D.BlockArgRemoval.verdict g.P.D.ConstFoldInterface.verdict g.P.D.BranchOpFoldInterface.verdict)) g.P.Pass.is_pass_manager) (children c.args.ctx.now.tree c.args.op) o c.args.pass.now (stage c.args.ctx.now c.args.analyses.now) c.loop-at.pass (stage c.loop-at.ctx c.loop-at.analyses) c.loop-at.changed) c.in-Some.is c.loop-at.invariant.ran in
+    let ran = subst (λ o. HasRun g.P.E.Kind.PartialEq.eq (RunsPass g.P.Pass.name g.P.Pass.outcome (IsFirstFault g.P.D.Dialect.has_interface (verdict_by g.P.D.SideEffects.verdict g.P.D.BlockArgRemoval.verdict g.P.D.ConstFoldInterface.verdict g.P.D.BranchOpFoldInterface.verdict g.P.D.RegionBranchOpInterface.verdict)) g.P.Pass.is_pass_manager) (children c.args.ctx.now.tree c.args.op) o c.args.pass.now (stage c.args.ctx.now c.args.analyses.now) c.loop-at.pass (stage c.loop-at.ctx c.loop-at.analyses) c.loop-at.changed) c.in-Some.is c.loop-at.invariant.ran in
     let e : c.from_residual.result ≡ Err c.in_err-run_held.field-0.0 = search rules in
-    rw e (run_fails eq (RunsPass g.P.Pass.name g.P.Pass.outcome (IsFirstFault g.P.D.Dialect.has_interface (verdict_by g.P.D.SideEffects.verdict g.P.D.BlockArgRemoval.verdict g.P.D.ConstFoldInterface.verdict g.P.D.BranchOpFoldInterface.verdict)) g.P.Pass.is_pass_manager) (children t c.args.op) c.in-Some.inner c.args.pass.now c.loop-at.pass c.run_held.new.pass (stage c.args.ctx.now c.args.analyses.now) (stage c.loop-at.ctx c.loop-at.analyses) (stage c.run_held.new.ctx c.run_held.new.analyses) c.loop-at.changed c.in_err-run_held.field-0.0 (distinct-children t w c.args.op) member ran c.in_err-run_held.ensures.outcome)
+    rw e (run_fails eq (RunsPass g.P.Pass.name g.P.Pass.outcome (IsFirstFault g.P.D.Dialect.has_interface (verdict_by g.P.D.SideEffects.verdict g.P.D.BlockArgRemoval.verdict g.P.D.ConstFoldInterface.verdict g.P.D.BranchOpFoldInterface.verdict g.P.D.RegionBranchOpInterface.verdict)) g.P.Pass.is_pass_manager) (children t c.args.op) c.in-Some.inner c.args.pass.now c.loop-at.pass c.run_held.new.pass (stage c.args.ctx.now c.args.analyses.now) (stage c.loop-at.ctx c.loop-at.analyses) (stage c.run_held.new.ctx c.run_held.new.analyses) c.loop-at.changed c.in_err-run_held.field-0.0 (distinct-children t w c.args.op) member ran c.in_err-run_held.ensures.outcome)
 
 pub loop-at-smaller : goal.loop-at-smaller
 loop-at-smaller g c =
@@ -66,14 +66,14 @@ loop-at-preserved g c =
     let held = c.in_ok-run_held.ensures.held in
     let member = c.loop-at.invariant.listed c.in-Some.inner c.in-Some.is in
     let next = subst (λ xs. c.next_beside-at.result ≡ next_in c.in-Some.inner xs) same (c.next_beside-at.ensures c.args.op held) in
-    let ran = subst (λ o. HasRun g.P.E.Kind.PartialEq.eq (RunsPass g.P.Pass.name g.P.Pass.outcome (IsFirstFault g.P.D.Dialect.has_interface (verdict_by g.P.D.SideEffects.verdict g.P.D.BlockArgRemoval.verdict g.P.D.ConstFoldInterface.verdict g.P.D.BranchOpFoldInterface.verdict)) g.P.Pass.is_pass_manager) (children c.args.ctx.now.tree c.args.op) o c.args.pass.now (stage c.args.ctx.now c.args.analyses.now) c.loop-at.pass (stage c.loop-at.ctx c.loop-at.analyses) c.loop-at.changed) c.in-Some.is c.loop-at.invariant.ran in
+    let ran = subst (λ o. HasRun g.P.E.Kind.PartialEq.eq (RunsPass g.P.Pass.name g.P.Pass.outcome (IsFirstFault g.P.D.Dialect.has_interface (verdict_by g.P.D.SideEffects.verdict g.P.D.BlockArgRemoval.verdict g.P.D.ConstFoldInterface.verdict g.P.D.BranchOpFoldInterface.verdict g.P.D.RegionBranchOpInterface.verdict)) g.P.Pass.is_pass_manager) (children c.args.ctx.now.tree c.args.op) o c.args.pass.now (stage c.args.ctx.now c.args.analyses.now) c.loop-at.pass (stage c.loop-at.ctx c.loop-at.analyses) c.loop-at.changed) c.in-Some.is c.loop-at.invariant.ran in
     record {
       change = change_trans g.P.D.HasMeaning.meaning t c.loop-at.ctx.tree u c.args.op c.loop-at.invariant.change c.in_ok-run_held.ensures.change;
       still = same;
       held = λ k e. (In-children u c.well_formed-in-Some.ensures.tree k c.args.op).0 (In-next c.in-Some.inner (children u c.args.op) k (sym (c.next_beside-at.ensures c.args.op held) ∙ e));
       listed = λ k e. In-next c.in-Some.inner (children t c.args.op) k (sym next ∙ e);
       fresh = λ f. c.in_ok-run_held.ensures.fresh (c.loop-at.invariant.fresh f);
-      ran = subst (λ z. HasRun g.P.E.Kind.PartialEq.eq (RunsPass g.P.Pass.name g.P.Pass.outcome (IsFirstFault g.P.D.Dialect.has_interface (verdict_by g.P.D.SideEffects.verdict g.P.D.BlockArgRemoval.verdict g.P.D.ConstFoldInterface.verdict g.P.D.BranchOpFoldInterface.verdict)) g.P.Pass.is_pass_manager) (children c.args.ctx.now.tree c.args.op) c.next_beside-at.result c.args.pass.now (stage c.args.ctx.now c.args.analyses.now) c.run_held.new.pass (stage c.run_held.new.ctx c.run_held.new.analyses) z) (sym c.bitor_assign.ensures.after) (run_more eq (RunsPass g.P.Pass.name g.P.Pass.outcome (IsFirstFault g.P.D.Dialect.has_interface (verdict_by g.P.D.SideEffects.verdict g.P.D.BlockArgRemoval.verdict g.P.D.ConstFoldInterface.verdict g.P.D.BranchOpFoldInterface.verdict)) g.P.Pass.is_pass_manager) (children t c.args.op) c.in-Some.inner c.next_beside-at.result c.args.pass.now c.loop-at.pass c.run_held.new.pass (stage c.args.ctx.now c.args.analyses.now) (stage c.loop-at.ctx c.loop-at.analyses) (stage c.run_held.new.ctx c.run_held.new.analyses) c.loop-at.changed c.in_ok-run_held.field-0 (distinct-children t w c.args.op) member next ran c.in_ok-run_held.ensures.outcome);
+      ran = subst (λ z. HasRun g.P.E.Kind.PartialEq.eq (RunsPass g.P.Pass.name g.P.Pass.outcome (IsFirstFault g.P.D.Dialect.has_interface (verdict_by g.P.D.SideEffects.verdict g.P.D.BlockArgRemoval.verdict g.P.D.ConstFoldInterface.verdict g.P.D.BranchOpFoldInterface.verdict g.P.D.RegionBranchOpInterface.verdict)) g.P.Pass.is_pass_manager) (children c.args.ctx.now.tree c.args.op) c.next_beside-at.result c.args.pass.now (stage c.args.ctx.now c.args.analyses.now) c.run_held.new.pass (stage c.run_held.new.ctx c.run_held.new.analyses) z) (sym c.bitor_assign.ensures.after) (run_more eq (RunsPass g.P.Pass.name g.P.Pass.outcome (IsFirstFault g.P.D.Dialect.has_interface (verdict_by g.P.D.SideEffects.verdict g.P.D.BlockArgRemoval.verdict g.P.D.ConstFoldInterface.verdict g.P.D.BranchOpFoldInterface.verdict g.P.D.RegionBranchOpInterface.verdict)) g.P.Pass.is_pass_manager) (children t c.args.op) c.in-Some.inner c.next_beside-at.result c.args.pass.now c.loop-at.pass c.run_held.new.pass (stage c.args.ctx.now c.args.analyses.now) (stage c.loop-at.ctx c.loop-at.analyses) (stage c.run_held.new.ctx c.run_held.new.analyses) c.loop-at.changed c.in_ok-run_held.field-0 (distinct-children t w c.args.op) member next ran c.in_ok-run_held.ensures.outcome);
     }
 
 pub returns-clause-change : goal.returns-clause-change
@@ -84,5 +84,5 @@ returns-clause-fresh g c = c.loop-at.invariant.fresh
 
 pub returns-clause-outcome : goal.returns-clause-outcome
 returns-clause-outcome g c =
-    let ran = subst (λ o. HasRun g.P.E.Kind.PartialEq.eq (RunsPass g.P.Pass.name g.P.Pass.outcome (IsFirstFault g.P.D.Dialect.has_interface (verdict_by g.P.D.SideEffects.verdict g.P.D.BlockArgRemoval.verdict g.P.D.ConstFoldInterface.verdict g.P.D.BranchOpFoldInterface.verdict)) g.P.Pass.is_pass_manager) (children c.args.ctx.now.tree c.args.op) o c.args.pass.now (stage c.args.ctx.now c.args.analyses.now) c.loop-at.pass (stage c.loop-at.ctx c.loop-at.analyses) c.loop-at.changed) c.in_default.is c.loop-at.invariant.ran in
-    run_all g.P.E.Kind.PartialEq.eq (RunsPass g.P.Pass.name g.P.Pass.outcome (IsFirstFault g.P.D.Dialect.has_interface (verdict_by g.P.D.SideEffects.verdict g.P.D.BlockArgRemoval.verdict g.P.D.ConstFoldInterface.verdict g.P.D.BranchOpFoldInterface.verdict)) g.P.Pass.is_pass_manager) (children c.args.ctx.now.tree c.args.op) c.args.pass.now c.loop-at.pass (stage c.args.ctx.now c.args.analyses.now) (stage c.loop-at.ctx c.loop-at.analyses) c.loop-at.changed ran
+    let ran = subst (λ o. HasRun g.P.E.Kind.PartialEq.eq (RunsPass g.P.Pass.name g.P.Pass.outcome (IsFirstFault g.P.D.Dialect.has_interface (verdict_by g.P.D.SideEffects.verdict g.P.D.BlockArgRemoval.verdict g.P.D.ConstFoldInterface.verdict g.P.D.BranchOpFoldInterface.verdict g.P.D.RegionBranchOpInterface.verdict)) g.P.Pass.is_pass_manager) (children c.args.ctx.now.tree c.args.op) o c.args.pass.now (stage c.args.ctx.now c.args.analyses.now) c.loop-at.pass (stage c.loop-at.ctx c.loop-at.analyses) c.loop-at.changed) c.in_default.is c.loop-at.invariant.ran in
+    run_all g.P.E.Kind.PartialEq.eq (RunsPass g.P.Pass.name g.P.Pass.outcome (IsFirstFault g.P.D.Dialect.has_interface (verdict_by g.P.D.SideEffects.verdict g.P.D.BlockArgRemoval.verdict g.P.D.ConstFoldInterface.verdict g.P.D.BranchOpFoldInterface.verdict g.P.D.RegionBranchOpInterface.verdict)) g.P.Pass.is_pass_manager) (children c.args.ctx.now.tree c.args.op) c.args.pass.now c.loop-at.pass (stage c.args.ctx.now c.args.analyses.now) (stage c.loop-at.ctx c.loop-at.analyses) c.loop-at.changed ran

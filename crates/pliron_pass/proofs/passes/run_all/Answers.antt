@@ -30,9 +30,9 @@ loop-i-preserved g c =
       fresh = λ f. c.in_ok-run_pipeline.ensures.fresh (c.loop-i.invariant.fresh f);
       same_length = length-set c.loop-i.passes.items c.loop-i.i c.run_pipeline.new.pass ∙ c.loop-i.invariant.same_length;
       rest = turn_left c.args.passes.now.items c.loop-i.passes.items c.loop-i.i c.index_mut.result.now c.run_pipeline.new.pass c.loop-i.invariant.same_length c.loop-i.invariant.rest lt (sym c.index_mut.ensures.value);
-      ran = subst (λ z. RunsEach g.P.E.Kind.PartialEq.eq (RunsPass g.P.Pass.name g.P.Pass.outcome (IsFirstFault g.P.D.Dialect.has_interface (verdict_by g.P.D.SideEffects.verdict g.P.D.BlockArgRemoval.verdict g.P.D.ConstFoldInterface.verdict g.P.D.BranchOpFoldInterface.verdict)) g.P.Pass.is_pass_manager) c.args.op (stage c.args.ctx.now c.args.analyses.now) (take (c.loop-i.i + 1) c.args.passes.now.items) (take (c.loop-i.i + 1) (slice_set c.loop-i.passes.items c.loop-i.i c.run_pipeline.new.pass)) (stage c.run_pipeline.new.ctx c.run_pipeline.new.analyses) z) (sym c.bitor_assign.ensures.after)
-          (subst (λ z. RunsEach g.P.E.Kind.PartialEq.eq (RunsPass g.P.Pass.name g.P.Pass.outcome (IsFirstFault g.P.D.Dialect.has_interface (verdict_by g.P.D.SideEffects.verdict g.P.D.BlockArgRemoval.verdict g.P.D.ConstFoldInterface.verdict g.P.D.BranchOpFoldInterface.verdict)) g.P.Pass.is_pass_manager) c.args.op (stage c.args.ctx.now c.args.analyses.now) z (take (c.loop-i.i + 1) (slice_set c.loop-i.passes.items c.loop-i.i c.run_pipeline.new.pass)) (stage c.run_pipeline.new.ctx c.run_pipeline.new.analyses) (changed_by_either c.loop-i.changed c.in_ok-run_pipeline.field-0)) (sym (turn_before c.args.passes.now.items c.loop-i.passes.items c.loop-i.i c.index_mut.result.now c.run_pipeline.new.pass c.loop-i.invariant.same_length c.loop-i.invariant.rest lt (sym c.index_mut.ensures.value)))
-          (subst (λ z. RunsEach g.P.E.Kind.PartialEq.eq (RunsPass g.P.Pass.name g.P.Pass.outcome (IsFirstFault g.P.D.Dialect.has_interface (verdict_by g.P.D.SideEffects.verdict g.P.D.BlockArgRemoval.verdict g.P.D.ConstFoldInterface.verdict g.P.D.BranchOpFoldInterface.verdict)) g.P.Pass.is_pass_manager) c.args.op (stage c.args.ctx.now c.args.analyses.now) (take c.loop-i.i c.args.passes.now.items ++ c.index_mut.result.now ∷ []) z (stage c.run_pipeline.new.ctx c.run_pipeline.new.analyses) (changed_by_either c.loop-i.changed c.in_ok-run_pipeline.field-0)) (sym (turn_after c.args.passes.now.items c.loop-i.passes.items c.loop-i.i c.index_mut.result.now c.run_pipeline.new.pass c.loop-i.invariant.same_length c.loop-i.invariant.rest lt (sym c.index_mut.ensures.value))) step));
+      ran = subst (λ z. RunsEach g.P.E.Kind.PartialEq.eq (RunsPass g.P.Pass.name g.P.Pass.outcome (IsFirstFault g.P.D.Dialect.has_interface (verdict_by g.P.D.SideEffects.verdict g.P.D.BlockArgRemoval.verdict g.P.D.ConstFoldInterface.verdict g.P.D.BranchOpFoldInterface.verdict g.P.D.RegionBranchOpInterface.verdict)) g.P.Pass.is_pass_manager) c.args.op (stage c.args.ctx.now c.args.analyses.now) (take (c.loop-i.i + 1) c.args.passes.now.items) (take (c.loop-i.i + 1) (slice_set c.loop-i.passes.items c.loop-i.i c.run_pipeline.new.pass)) (stage c.run_pipeline.new.ctx c.run_pipeline.new.analyses) z) (sym c.bitor_assign.ensures.after)
+          (subst (λ z. RunsEach g.P.E.Kind.PartialEq.eq (RunsPass g.P.Pass.name g.P.Pass.outcome (IsFirstFault g.P.D.Dialect.has_interface (verdict_by g.P.D.SideEffects.verdict g.P.D.BlockArgRemoval.verdict g.P.D.ConstFoldInterface.verdict g.P.D.BranchOpFoldInterface.verdict g.P.D.RegionBranchOpInterface.verdict)) g.P.Pass.is_pass_manager) c.args.op (stage c.args.ctx.now c.args.analyses.now) z (take (c.loop-i.i + 1) (slice_set c.loop-i.passes.items c.loop-i.i c.run_pipeline.new.pass)) (stage c.run_pipeline.new.ctx c.run_pipeline.new.analyses) (changed_by_either c.loop-i.changed c.in_ok-run_pipeline.field-0)) (sym (turn_before c.args.passes.now.items c.loop-i.passes.items c.loop-i.i c.index_mut.result.now c.run_pipeline.new.pass c.loop-i.invariant.same_length c.loop-i.invariant.rest lt (sym c.index_mut.ensures.value)))
+          (subst (λ z. RunsEach g.P.E.Kind.PartialEq.eq (RunsPass g.P.Pass.name g.P.Pass.outcome (IsFirstFault g.P.D.Dialect.has_interface (verdict_by g.P.D.SideEffects.verdict g.P.D.BlockArgRemoval.verdict g.P.D.ConstFoldInterface.verdict g.P.D.BranchOpFoldInterface.verdict g.P.D.RegionBranchOpInterface.verdict)) g.P.Pass.is_pass_manager) c.args.op (stage c.args.ctx.now c.args.analyses.now) (take c.loop-i.i c.args.passes.now.items ++ c.index_mut.result.now ∷ []) z (stage c.run_pipeline.new.ctx c.run_pipeline.new.analyses) (changed_by_either c.loop-i.changed c.in_ok-run_pipeline.field-0)) (sym (turn_after c.args.passes.now.items c.loop-i.passes.items c.loop-i.i c.index_mut.result.now c.run_pipeline.new.pass c.loop-i.invariant.same_length c.loop-i.invariant.rest lt (sym c.index_mut.ensures.value))) step));
     }
 
 pub returns-in_err-run_pipeline-clause-change : goal.returns-in_err-run_pipeline-clause-change
@@ -48,5 +48,5 @@ pub returns-clause-outcome : goal.returns-clause-outcome
 returns-clause-outcome g c =
     let all : length c.args.passes.now.items ≤ c.loop-i.i = omega (arith, c.len-i-end.ensures, c.loop-i-test.false) in
     let now : length c.loop-i.passes.items ≤ c.loop-i.i = omega (arith, c.loop-i.invariant.same_length, all) in
-    subst (λ z. RunsEach g.P.E.Kind.PartialEq.eq (RunsPass g.P.Pass.name g.P.Pass.outcome (IsFirstFault g.P.D.Dialect.has_interface (verdict_by g.P.D.SideEffects.verdict g.P.D.BlockArgRemoval.verdict g.P.D.ConstFoldInterface.verdict g.P.D.BranchOpFoldInterface.verdict)) g.P.Pass.is_pass_manager) c.args.op (stage c.args.ctx.now c.args.analyses.now) z c.loop-i.passes.items (stage c.loop-i.ctx c.loop-i.analyses) c.loop-i.changed) (take_all c.loop-i.i c.args.passes.now.items all)
-    (subst (λ z. RunsEach g.P.E.Kind.PartialEq.eq (RunsPass g.P.Pass.name g.P.Pass.outcome (IsFirstFault g.P.D.Dialect.has_interface (verdict_by g.P.D.SideEffects.verdict g.P.D.BlockArgRemoval.verdict g.P.D.ConstFoldInterface.verdict g.P.D.BranchOpFoldInterface.verdict)) g.P.Pass.is_pass_manager) c.args.op (stage c.args.ctx.now c.args.analyses.now) (take c.loop-i.i c.args.passes.now.items) z (stage c.loop-i.ctx c.loop-i.analyses) c.loop-i.changed) (take_all c.loop-i.i c.loop-i.passes.items now) c.loop-i.invariant.ran)
+    subst (λ z. RunsEach g.P.E.Kind.PartialEq.eq (RunsPass g.P.Pass.name g.P.Pass.outcome (IsFirstFault g.P.D.Dialect.has_interface (verdict_by g.P.D.SideEffects.verdict g.P.D.BlockArgRemoval.verdict g.P.D.ConstFoldInterface.verdict g.P.D.BranchOpFoldInterface.verdict g.P.D.RegionBranchOpInterface.verdict)) g.P.Pass.is_pass_manager) c.args.op (stage c.args.ctx.now c.args.analyses.now) z c.loop-i.passes.items (stage c.loop-i.ctx c.loop-i.analyses) c.loop-i.changed) (take_all c.loop-i.i c.args.passes.now.items all)
+    (subst (λ z. RunsEach g.P.E.Kind.PartialEq.eq (RunsPass g.P.Pass.name g.P.Pass.outcome (IsFirstFault g.P.D.Dialect.has_interface (verdict_by g.P.D.SideEffects.verdict g.P.D.BlockArgRemoval.verdict g.P.D.ConstFoldInterface.verdict g.P.D.BranchOpFoldInterface.verdict g.P.D.RegionBranchOpInterface.verdict)) g.P.Pass.is_pass_manager) c.args.op (stage c.args.ctx.now c.args.analyses.now) (take c.loop-i.i c.args.passes.now.items) z (stage c.loop-i.ctx c.loop-i.analyses) c.loop-i.changed) (take_all c.loop-i.i c.loop-i.passes.items now) c.loop-i.invariant.ran)

@@ -14,6 +14,6 @@ abbrev pub invariant-loop-runs : goal.invariant-loop-runs
 invariant-loop-runs g l = record {
   change : IsPassChange g.P.D.HasMeaning.meaning l.fn.ctx.tree l.ctx.tree l.op;
   fresh : IsFresh g.P.E.Kind.PartialEq.eq g.P.E.AnalysisKind.kind g.P.E.Analyses.holds l.fn.ctx.tree l.fn.analyses.cache.entries → IsFresh g.P.E.Kind.PartialEq.eq g.P.E.AnalysisKind.kind g.P.E.Analyses.holds l.ctx.tree l.analyses.cache.entries;
-  ran : Repeats g.P.E.Kind.PartialEq.eq (RunsPass g.P.Pass.name g.P.Pass.outcome (IsFirstFault g.P.D.Dialect.has_interface (verdict_by g.P.D.SideEffects.verdict g.P.D.BlockArgRemoval.verdict g.P.D.ConstFoldInterface.verdict g.P.D.BranchOpFoldInterface.verdict)) g.P.Pass.is_pass_manager) l.op l.fn.pass (stage l.fn.ctx l.fn.analyses) l.runs l.pass (stage l.ctx l.analyses) l.changed;
+  ran : Repeats g.P.E.Kind.PartialEq.eq (RunsPass g.P.Pass.name g.P.Pass.outcome (IsFirstFault g.P.D.Dialect.has_interface (verdict_by g.P.D.SideEffects.verdict g.P.D.BlockArgRemoval.verdict g.P.D.ConstFoldInterface.verdict g.P.D.BranchOpFoldInterface.verdict g.P.D.RegionBranchOpInterface.verdict)) g.P.Pass.is_pass_manager) l.op l.fn.pass (stage l.fn.ctx l.fn.analyses) l.runs l.pass (stage l.ctx l.analyses) l.changed;
   at_most : l.runs ≤ l.max;
 }

@@ -11,7 +11,7 @@ use Rattle.pliron_sccp.proofs.demands.ask_edge.Goals as goal
 
 pub returns-in_ok-values-clause-ok : goal.returns-in_ok-values-clause-ok
 returns-in_ok-values-clause-ok g c =
-    let x : Says = (record { meaning = g.D.HasMeaning.meaning; can_fold = g.D.ConstFoldInterface.can_fold; can_fold_branch = g.D.BranchOpFoldInterface.can_fold_branch; constants = g.D.ConstFoldInterface.constants; feasible = g.D.BranchOpFoldInterface.feasible }) in
+    let x : Says = (record { meaning = g.D.HasMeaning.meaning; can_fold = g.D.ConstFoldInterface.can_fold; can_fold_branch = g.D.BranchOpFoldInterface.can_fold_branch; constants = g.D.ConstFoldInterface.constants; feasible = g.D.BranchOpFoldInterface.feasible; entry_operands = g.D.RegionBranchOpInterface.entry_operands }) in
     let t = c.args.ctx.now.tree in
     let f = facts_of c.args.tables.now in
     let a = c.args.asked.now.items in
@@ -30,7 +30,7 @@ returns-in_ok-values-clause-ok g c =
 
 pub returns-else-may_go-clause-ok : goal.returns-else-may_go-clause-ok
 returns-else-may_go-clause-ok g c = λ o e b at.
-    let x : Says = (record { meaning = g.D.HasMeaning.meaning; can_fold = g.D.ConstFoldInterface.can_fold; can_fold_branch = g.D.BranchOpFoldInterface.can_fold_branch; constants = g.D.ConstFoldInterface.constants; feasible = g.D.BranchOpFoldInterface.feasible }) in
+    let x : Says = (record { meaning = g.D.HasMeaning.meaning; can_fold = g.D.ConstFoldInterface.can_fold; can_fold_branch = g.D.BranchOpFoldInterface.can_fold_branch; constants = g.D.ConstFoldInterface.constants; feasible = g.D.BranchOpFoldInterface.feasible; entry_operands = g.D.RegionBranchOpInterface.entry_operands }) in
     let t = c.args.ctx.now.tree in
     let f = facts_of c.args.tables.now in
     let block = c.get_successor-block.result in

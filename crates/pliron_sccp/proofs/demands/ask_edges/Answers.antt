@@ -1,14 +1,15 @@
-use Rattle.std.proofs.Common.{◌∙◌, sym}
+use Rattle.std.proofs.Common.{◌∙◌, sym, subst}
 use Rattle.std.proofs.lemmas.Result.{on_ok_weaker}
 use Rattle.pliron_laws.proofs.Records.{op_shows}
 use Rattle.pliron_theory.specs.Facts.{Says}
 use Rattle.pliron_sccp.specs.Tables.{known_constants, facts_of}
+use Rattle.pliron_sccp.specs.Feasible.{AreFound}
 use Rattle.pliron_sccp.proofs.EdgesAsked.{branching_edges, jumping_edges}
 use Rattle.pliron_sccp.proofs.demands.ask_edges.Goals as goal
 
 pub returns-then-is_branch-clause-ok : goal.returns-then-is_branch-clause-ok
 returns-then-is_branch-clause-ok g c =
-    let x : Says = (record { meaning = g.D.HasMeaning.meaning; can_fold = g.D.ConstFoldInterface.can_fold; can_fold_branch = g.D.BranchOpFoldInterface.can_fold_branch; constants = g.D.ConstFoldInterface.constants; feasible = g.D.BranchOpFoldInterface.feasible }) in
+    let x : Says = (record { meaning = g.D.HasMeaning.meaning; can_fold = g.D.ConstFoldInterface.can_fold; can_fold_branch = g.D.BranchOpFoldInterface.can_fold_branch; constants = g.D.ConstFoldInterface.constants; feasible = g.D.BranchOpFoldInterface.feasible; entry_operands = g.D.RegionBranchOpInterface.entry_operands }) in
     let t = c.args.ctx.now.tree in
     on_ok_weaker c.ask_branches.result
     (λ p o e. branching_edges x t (facts_of c.args.tables.now) c.args.op o e (known_constants c.args.tables.now) c.args.asked.now.items c.ask_branches.new.asked.items (sym (c.is_branch.ensures o.head (op_shows t c.args.op o e).head) ∙ c.if-is_branch.true) (p o e))
@@ -16,8 +17,13 @@ returns-then-is_branch-clause-ok g c =
 
 pub returns-else-is_branch-clause-ok : goal.returns-else-is_branch-clause-ok
 returns-else-is_branch-clause-ok g c =
-    let x : Says = (record { meaning = g.D.HasMeaning.meaning; can_fold = g.D.ConstFoldInterface.can_fold; can_fold_branch = g.D.BranchOpFoldInterface.can_fold_branch; constants = g.D.ConstFoldInterface.constants; feasible = g.D.BranchOpFoldInterface.feasible }) in
+    let x : Says = (record { meaning = g.D.HasMeaning.meaning; can_fold = g.D.ConstFoldInterface.can_fold; can_fold_branch = g.D.BranchOpFoldInterface.can_fold_branch; constants = g.D.ConstFoldInterface.constants; feasible = g.D.BranchOpFoldInterface.feasible; entry_operands = g.D.RegionBranchOpInterface.entry_operands }) in
     let t = c.args.ctx.now.tree in
     on_ok_weaker c.ask_jumps.result
     (λ p o e. jumping_edges x t (facts_of c.args.tables.now) c.args.op o e (known_constants c.args.tables.now) c.args.asked.now.items c.ask_jumps.new.asked.items (sym (c.is_branch.ensures o.head (op_shows t c.args.op o e).head) ∙ c.if-is_branch.false) (p (known_constants c.args.tables.now)))
     c.ask_jumps.ensures.ok
+
+pub returns-else-is_branch-clause-feasible : goal.returns-else-is_branch-clause-feasible
+returns-else-is_branch-clause-feasible g c =
+    let x : Says = (record { meaning = g.D.HasMeaning.meaning; can_fold = g.D.ConstFoldInterface.can_fold; can_fold_branch = g.D.BranchOpFoldInterface.can_fold_branch; constants = g.D.ConstFoldInterface.constants; feasible = g.D.BranchOpFoldInterface.feasible; entry_operands = g.D.RegionBranchOpInterface.entry_operands }) in
+    on_ok_weaker c.ask_jumps.result (λ p. subst (AreFound x c.args.ctx.now.tree (facts_of c.args.tables.now) c.args.op) (sym c.requires.none) tt) c.ask_jumps.ensures.ok

@@ -7,8 +7,8 @@ use Rattle.pliron_sccp.proofs.demands.demands.Goals as goal
 
 pub returns-clause-ok : goal.returns-clause-ok
 returns-clause-ok g c = λ o e now.
-    let x : Says = (record { meaning = g.D.HasMeaning.meaning; can_fold = g.D.ConstFoldInterface.can_fold; can_fold_branch = g.D.BranchOpFoldInterface.can_fold_branch; constants = g.D.ConstFoldInterface.constants; feasible = g.D.BranchOpFoldInterface.feasible }) in
+    let x : Says = (record { meaning = g.D.HasMeaning.meaning; can_fold = g.D.ConstFoldInterface.can_fold; can_fold_branch = g.D.BranchOpFoldInterface.can_fold_branch; constants = g.D.ConstFoldInterface.constants; feasible = g.D.BranchOpFoldInterface.feasible; entry_operands = g.D.RegionBranchOpInterface.entry_operands }) in
     let t = c.args.ctx.now.tree in
     let f = facts_of c.args.tables.now in
     let known = c.deref-2.ensures.value ∙ c.in_ok-known.ensures.ok ∙ ap (handed f) (op_shows t c.args.op o e).operands in
-    all_asked x t f c.args.op o e (known_constants c.args.tables.now) c.deref-2.result.now known c.new-asked.result.items c.ask_entries.new.asked.items c.ask_edges.new.asked.items c.ask_results.new.asked.items c.new-asked.ensures.items (c.in_ok-ask_entries.ensures.ok (known_constants c.args.tables.now)) (c.in_ok-ask_edges.ensures.ok o e) (c.in_ok-ask_results.ensures.ok o e (known_constants c.args.tables.now)) now
+    all_asked x t f c.args.op o e (known_constants c.args.tables.now) c.deref-2.result.now known c.new-asked.result.items c.ask_visits.new.asked.items c.ask_edges.new.asked.items c.ask_results.new.asked.items c.new-asked.ensures.items (c.in_ok-ask_visits.ensures.ok o e) (c.in_ok-ask_edges.ensures.ok o e) (c.in_ok-ask_results.ensures.ok o e (known_constants c.args.tables.now)) now

@@ -1,6 +1,6 @@
-use Rattle.std.proofs.Common.{◌∙◌, ap, subst, length, Some, None}
 use Rattle.std.proofs.lemmas.Result.{IfOk-weaker, on_err_weaker}
 use Rattle.pliron_theory.proofs.FollowedFacts.{constants_plain}
+use Rattle.pliron_theory.proofs.SoundRuns.{names_well}
 use Rattle.pliron_sccp.proofs.StepLemmas.{step_live, step_placed, step_folds, step_entries, step_told, step_refused, step_stays, step_follows, either}
 use Rattle.pliron_sccp.proofs.rewrite.fold_one.Goals as goal
 
@@ -15,7 +15,7 @@ fold_in_place-done-requires-clause-folds g c = let s = c.requires.step in step_f
 
 pub fold_in_place-done-requires-clause-entries : goal.fold_in_place-done-requires-clause-entries
 fold_in_place-done-requires-clause-entries g c =
-    let s = c.requires.step in ap length c.deref.ensures.value ∙ step_entries _ s.0 s.1 s.2 _ _ _ s.3
+    let s = c.requires.step in step_entries _ s.0 s.1 s.2 _ _ _ s.3
 
 pub returns-clause-told : goal.returns-clause-told
 returns-clause-told g c =
@@ -24,7 +24,7 @@ returns-clause-told g c =
     let t = c.args.ctx.now.tree in
     let outcome = g.D.ConstFoldInterface.outcome in
     let u = c.fold_in_place-done.new.ctx.tree in
-    IfOk-weaker c.fold_in_place-done.result _ _ (λ status is. step_told _ s.0 s.1 s.2 t c.args.fold.now.op _ s.3 _ _ outcome _ d.folds_in_place u status (subst (λ z. outcome t u c.args.fold.now.op z (Some status)) c.deref.ensures.value is)) c.fold_in_place-done.ensures.ok
+    IfOk-weaker c.fold_in_place-done.result _ _ (λ status is. step_told _ s.0 s.1 s.2 t c.args.op _ s.3 _ _ outcome _ d.folds_in_place u status is) c.fold_in_place-done.ensures.ok
 
 pub returns-clause-follows : goal.returns-clause-follows
 returns-clause-follows g c = λ t₀ root f₀ s.
@@ -32,8 +32,8 @@ returns-clause-follows g c = λ t₀ root f₀ s.
     let t = c.args.ctx.now.tree in
     let u = c.fold_in_place-done.new.ctx.tree in
     let outcome = g.D.ConstFoldInterface.outcome in
-    let done = either (λ a. outcome t u c.args.fold.now.op c.deref.result.now a) c.fold_in_place-done.result c.fold_in_place-done.ensures.ok c.fold_in_place-done.ensures.refused in
-    step_follows _ t₀ root f₀ t c.args.fold.now.op _ s _ _ outcome _ d.folds_in_place d.answers_true d.answers_jumps d.forwards_operands.passes d.makes_constants (constants_plain _ _ _ _ _ _ d.forwards_operands d.makes_constants) u done.0 (subst (λ z. outcome t u c.args.fold.now.op z done.0) c.deref.ensures.value done.1) c.well_formed-3.ensures.tree c.fold_in_place-done.ensures.longer
+    let done = either (λ a. outcome t u c.args.op c.args.known.now a) c.fold_in_place-done.result c.fold_in_place-done.ensures.ok c.fold_in_place-done.ensures.refused in
+    step_follows _ t₀ root f₀ t c.args.op _ s _ _ outcome _ d.folds_in_place d.answers_true d.answers_jumps d.forwards_operands.passes (names_well _ _ d.names_operands d.roots) d.makes_constants (constants_plain _ _ _ _ _ _ d.forwards_operands d.makes_constants) u done.0 done.1 c.well_formed-3.ensures.tree c.fold_in_place-done.ensures.longer
 
 pub returns-clause-stays : goal.returns-clause-stays
 returns-clause-stays g c =
@@ -42,8 +42,8 @@ returns-clause-stays g c =
     let t = c.args.ctx.now.tree in
     let u = c.fold_in_place-done.new.ctx.tree in
     let outcome = g.D.ConstFoldInterface.outcome in
-    let done = either (λ a. outcome t u c.args.fold.now.op c.deref.result.now a) c.fold_in_place-done.result c.fold_in_place-done.ensures.ok c.fold_in_place-done.ensures.refused in
-    step_stays _ s.0 s.1 s.2 t c.args.fold.now.op _ s.3 _ _ outcome _ d.folds_in_place u done.0 (subst (λ z. outcome t u c.args.fold.now.op z done.0) c.deref.ensures.value done.1)
+    let done = either (λ a. outcome t u c.args.op c.args.known.now a) c.fold_in_place-done.result c.fold_in_place-done.ensures.ok c.fold_in_place-done.ensures.refused in
+    step_stays _ s.0 s.1 s.2 t c.args.op _ s.3 _ _ outcome _ d.folds_in_place u done.0 done.1
 
 pub returns-clause-refused : goal.returns-clause-refused
 returns-clause-refused g c =
@@ -52,4 +52,4 @@ returns-clause-refused g c =
     let t = c.args.ctx.now.tree in
     let u = c.fold_in_place-done.new.ctx.tree in
     let outcome = g.D.ConstFoldInterface.outcome in
-    on_err_weaker c.fold_in_place-done.result (λ is. step_refused _ s.0 s.1 s.2 t c.args.fold.now.op _ s.3 _ _ outcome _ d.folds_in_place u (subst (λ z. outcome t u c.args.fold.now.op z None) c.deref.ensures.value is)) c.fold_in_place-done.ensures.refused
+    on_err_weaker c.fold_in_place-done.result (λ is. step_refused _ s.0 s.1 s.2 t c.args.op _ s.3 _ _ outcome _ d.folds_in_place u is) c.fold_in_place-done.ensures.refused

@@ -26,7 +26,7 @@ pub loop-i-preserved : goal.loop-i-preserved
 loop-i-preserved g c =
     let all = c.args.arguments.now in
     let at : slice_get all c.loop-i.i ≡ Some c.index-arguments-i.result = slice_get_read all (length all) c.loop-i.i c.index-arguments-i.result refl c.loop-i-test.true c.index-arguments-i.is in
-    let x : Says = record { meaning = g.D.HasMeaning.meaning; can_fold = g.D.ConstFoldInterface.can_fold; can_fold_branch = g.D.BranchOpFoldInterface.can_fold_branch; constants = g.D.ConstFoldInterface.constants; feasible = g.D.BranchOpFoldInterface.feasible } in
+    let x : Says = record { meaning = g.D.HasMeaning.meaning; can_fold = g.D.ConstFoldInterface.can_fold; can_fold_branch = g.D.BranchOpFoldInterface.can_fold_branch; constants = g.D.ConstFoldInterface.constants; feasible = g.D.BranchOpFoldInterface.feasible; entry_operands = g.D.RegionBranchOpInterface.entry_operands } in
     let d = g.D.ConstFoldInterface in
     let done = putting_next x d.accepts d.constant_head c.args.ctx.now.tree all c.loop-i.i c.loop-i.status c.loop-i.ctx.tree c.loop-i.invariant c.index-arguments-i.result at c.put_argument.new.ctx.tree c.in_ok-put_argument.field-0 c.in_ok-put_argument.ensures.ok c.in_ok-put_argument.ensures.told c.put_argument.ensures.stays c.put_argument.ensures.follows in
     subst (λ z. IsPuttingOn x d.accepts d.constant_head c.args.ctx.now.tree all (c.loop-i.i + 1) z c.put_argument.new.ctx.tree) (sym c.bitor_assign.ensures.after) done

@@ -1,5 +1,6 @@
 use Rattle.std.proofs.lemmas.Result.{IfOk-weaker}
 use Rattle.pliron_theory.proofs.FollowedFacts.{constants_plain}
+use Rattle.pliron_theory.proofs.SoundRuns.{names_well}
 use Rattle.pliron_sccp.proofs.StepLemmas.{either}
 use Rattle.pliron_sccp.proofs.ArgumentStep.{Becomes, becomes_stays, becomes_told, argument_listed, step_constant, argument_follows}
 use Rattle.pliron_sccp.proofs.rewrite.put_argument.Goals as goal
@@ -8,7 +9,7 @@ pub replace_argument_by_constant-done-requires-clause-constant : goal.replace_ar
 replace_argument_by_constant-done-requires-clause-constant g c =
     let s = c.requires.step in
     let d = g.met.D.Dialect in
-    step_constant _ s.0 s.1 s.2 _ _ s.3 d.answers_true d.answers_jumps d.forwards_operands.passes _ _ d.makes_constants (constants_plain _ _ _ _ _ _ d.forwards_operands d.makes_constants)
+    step_constant _ s.0 s.1 s.2 _ _ s.3 d.answers_true d.answers_jumps d.forwards_operands.passes (names_well _ _ d.names_operands d.roots) _ _ d.makes_constants (constants_plain _ _ _ _ _ _ d.forwards_operands d.makes_constants)
 
 pub returns-clause-told : goal.returns-clause-told
 returns-clause-told g c =
@@ -37,4 +38,4 @@ returns-clause-follows g c = λ t₀ root f₀ s.
     let u = c.replace_argument_by_constant-done.new.ctx.tree in
     let a = c.args.argument.now in
     let done = either (Becomes d.accepts d.constant_head a.attr t u a.block s.known.value) c.replace_argument_by_constant-done.result (IfOk-weaker c.replace_argument_by_constant-done.result _ _ (λ status is. is s.known.value (argument_listed _ t₀ root f₀ t a s)) c.replace_argument_by_constant-done.ensures.ok) c.replace_argument_by_constant-done.ensures.refused in
-    argument_follows _ t₀ root f₀ t a s law.answers_true law.answers_jumps law.forwards_operands.passes d.accepts d.constant_head law.makes_constants (constants_plain _ _ _ _ _ _ law.forwards_operands law.makes_constants) u done.0 done.1 c.well_formed-2.ensures.tree c.replace_argument_by_constant-done.ensures.runs
+    argument_follows _ t₀ root f₀ t a s law.answers_true law.answers_jumps law.forwards_operands.passes (names_well _ _ law.names_operands law.roots) d.accepts d.constant_head law.makes_constants (constants_plain _ _ _ _ _ _ law.forwards_operands law.makes_constants) u done.0 done.1 c.well_formed-2.ensures.tree c.replace_argument_by_constant-done.ensures.runs

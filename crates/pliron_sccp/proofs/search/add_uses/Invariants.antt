@@ -6,5 +6,5 @@ use Rattle.pliron_sccp.proofs.search.add_uses.Given as goal
 
 abbrev pub invariant-loop-i : goal.invariant-loop-i
 invariant-loop-i g l =
-    let x : Says = record { meaning = g.D.HasMeaning.meaning; can_fold = g.D.ConstFoldInterface.can_fold; can_fold_branch = g.D.BranchOpFoldInterface.can_fold_branch; constants = g.D.ConstFoldInterface.constants; feasible = g.D.BranchOpFoldInterface.feasible } in
-    SeesTo x l.ctx.tree l.tables l.value (IsUseBefore x l.ctx.tree (uses_of l.ctx.value_uses l.value) l.i) l.initial.users.keys l.initial.asked.items l.users.keys l.asked.items
+    let x : Says = record { meaning = g.D.HasMeaning.meaning; can_fold = g.D.ConstFoldInterface.can_fold; can_fold_branch = g.D.BranchOpFoldInterface.can_fold_branch; constants = g.D.ConstFoldInterface.constants; feasible = g.D.BranchOpFoldInterface.feasible; entry_operands = g.D.RegionBranchOpInterface.entry_operands } in
+    SeesTo x l.ctx.tree l.tables l.edges l.value (IsUseBefore x l.ctx.tree l.edges (uses_of l.ctx.value_uses l.value) l.i) l.initial.users.keys l.initial.asked.items l.users.keys l.asked.items

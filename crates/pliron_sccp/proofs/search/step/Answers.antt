@@ -29,7 +29,7 @@ returns-in_ok-visit_block-in-Some-clause-ok g c = Block c.in-Some.block c.next_b
 
 pub returns-in-None-clause-ok : goal.returns-in-None-clause-ok
 returns-in-None-clause-ok g c =
-    let x : Says = record { meaning = g.D.HasMeaning.meaning; can_fold = g.D.ConstFoldInterface.can_fold; can_fold_branch = g.D.BranchOpFoldInterface.can_fold_branch; constants = g.D.ConstFoldInterface.constants; feasible = g.D.BranchOpFoldInterface.feasible } in
+    let x : Says = record { meaning = g.D.HasMeaning.meaning; can_fold = g.D.ConstFoldInterface.can_fold; can_fold_branch = g.D.BranchOpFoldInterface.can_fold_branch; constants = g.D.ConstFoldInterface.constants; feasible = g.D.BranchOpFoldInterface.feasible; entry_operands = g.D.RegionBranchOpInterface.entry_operands } in
     let n = none_of c.next_block.result c.in-None.is c.next_block.ensures.none in
     if_ok_then c.visit_values.result
     (λ taken v. Values n.1 (record {
@@ -37,8 +37,8 @@ returns-in-None-clause-ok g c =
       asked = v.asked;
       between = v.between;
       met = v.met;
-      takes = takes_from x c.args.ctx.now.tree c.args.tables.now c.next_block.new.self v.between v.users v.asked taken n.0 v.takes;
+      takes = takes_from x c.args.ctx.now.tree c.args.edges.now c.args.tables.now c.next_block.new.self v.between v.users v.asked taken n.0 v.takes;
       applied = v.applied;
       sees = v.sees;
-    }))
+    }) refl)
     c.visit_values.ensures.ok

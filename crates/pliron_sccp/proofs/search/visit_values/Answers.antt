@@ -7,9 +7,9 @@ use Rattle.pliron_sccp.proofs.search.visit_values.Goals as goal
 
 pub meet_all-requires : goal.meet_all-requires
 meet_all-requires g c =
-    let x : Says = record { meaning = g.D.HasMeaning.meaning; can_fold = g.D.ConstFoldInterface.can_fold; can_fold_branch = g.D.BranchOpFoldInterface.can_fold_branch; constants = g.D.ConstFoldInterface.constants; feasible = g.D.BranchOpFoldInterface.feasible } in
+    let x : Says = record { meaning = g.D.HasMeaning.meaning; can_fold = g.D.ConstFoldInterface.can_fold; can_fold_branch = g.D.BranchOpFoldInterface.can_fold_branch; constants = g.D.ConstFoldInterface.constants; feasible = g.D.BranchOpFoldInterface.feasible; entry_operands = g.D.RegionBranchOpInterface.entry_operands } in
     let taken = c.in_ok-users.ensures.ok in
-    can_call x c.args.ctx.now.tree c.take_values.new.tables taken.values c.in_ok-users.users.keys c.in_ok-users.asked.items taken.calls
+    can_call x c.args.ctx.now.tree c.args.edges.now c.take_values.new.tables taken.values c.in_ok-users.users.keys c.in_ok-users.asked.items taken.calls
 
 pub see_to_all-requires-clause-live : goal.see_to_all-requires-clause-live
 see_to_all-requires-clause-live g c = λ k i.
@@ -18,13 +18,13 @@ see_to_all-requires-clause-live g c = λ k i.
 
 pub see_to_all-requires-clause-targets : goal.see_to_all-requires-clause-targets
 see_to_all-requires-clause-targets g c = λ k i.
-    let x : Says = record { meaning = g.D.HasMeaning.meaning; can_fold = g.D.ConstFoldInterface.can_fold; can_fold_branch = g.D.BranchOpFoldInterface.can_fold_branch; constants = g.D.ConstFoldInterface.constants; feasible = g.D.BranchOpFoldInterface.feasible } in
+    let x : Says = record { meaning = g.D.HasMeaning.meaning; can_fold = g.D.ConstFoldInterface.can_fold; can_fold_branch = g.D.BranchOpFoldInterface.can_fold_branch; constants = g.D.ConstFoldInterface.constants; feasible = g.D.BranchOpFoldInterface.feasible; entry_operands = g.D.RegionBranchOpInterface.entry_operands } in
     let taken = c.in_ok-users.ensures.ok in
-    targets_then x c.args.ctx.now.tree taken.values c.in_ok-users.users.keys c.in_ok-users.asked.items c.args.tables.now c.take_values.new.tables c.meet_all.new.tables taken.takes taken.calls c.meet_all.ensures c.requires k (subst (In k) c.as_slice.ensures.keys i)
+    targets_then x c.args.ctx.now.tree c.args.edges.now taken.values c.in_ok-users.users.keys c.in_ok-users.asked.items c.args.tables.now c.take_values.new.tables c.meet_all.new.tables taken.takes taken.calls c.meet_all.ensures c.requires k (subst (In k) c.as_slice.ensures.keys i)
 
 pub returns-clause-ok : goal.returns-clause-ok
 returns-clause-ok g c =
-    let x : Says = record { meaning = g.D.HasMeaning.meaning; can_fold = g.D.ConstFoldInterface.can_fold; can_fold_branch = g.D.BranchOpFoldInterface.can_fold_branch; constants = g.D.ConstFoldInterface.constants; feasible = g.D.BranchOpFoldInterface.feasible } in
+    let x : Says = record { meaning = g.D.HasMeaning.meaning; can_fold = g.D.ConstFoldInterface.can_fold; can_fold_branch = g.D.BranchOpFoldInterface.can_fold_branch; constants = g.D.ConstFoldInterface.constants; feasible = g.D.BranchOpFoldInterface.feasible; entry_operands = g.D.RegionBranchOpInterface.entry_operands } in
     record {
       users = c.in_ok-users.users.keys;
       asked = c.in_ok-users.asked.items;

@@ -1,5 +1,6 @@
 use Rattle.pliron_theory.proofs.SoundEverywhere.{sound_facts}
+use Rattle.pliron_theory.proofs.SoundRuns.{names_well}
 use Rattle.pliron_theory.proofs.theory.sound_facts_are_read.Goals as goal
 
 pub returns : goal.returns
-returns g c = sound_facts _ g.met.D.Dialect.answers_true g.met.D.Dialect.answers_jumps g.met.D.Dialect.forwards_operands.passes
+returns g c = sound_facts _ g.met.D.Dialect.answers_true g.met.D.Dialect.answers_jumps g.met.D.Dialect.forwards_operands.passes (names_well _ _ g.met.D.Dialect.names_operands g.met.D.Dialect.roots)

@@ -2,6 +2,8 @@ use Rattle.std.proofs.Common.{◌≡◌, refl, sym, subst, ℕ, nat_eq, List, []
 use Rattle.pliron_core.specs.Tree.{Tree}
 use Rattle.pliron_core.specs.declared.attrs.IRStatus.{IRStatus}
 use Rattle.pliron_core.specs.declared.attrs.IRStatus.TheVariants.{Changed, Unchanged}
+use Rattle.pliron_bench.specs.BenchMoves.{bench}
+use Rattle.pliron_theory.proofs.ChangeLemmas.{whole_passes}
 use Rattle.pliron_pass.specs.Cache.{IsFresh, retained}
 use Rattle.pliron_pass.proofs.FreshLemmas.{fresh_emptied}
 use Rattle.pliron_pass_tests.specs.declared.facts.Fact.{Fact}
@@ -16,3 +18,9 @@ swept t u es kept Changed e same f = subst (λ ks. IsFreshIn u (retained nat_eq 
 
 pub returns-clause-fresh : goal.returns-clause-fresh
 returns-clause-fresh c = swept c.args.ctx.now.tree c.dce.new.ctx.tree c.args._analyses.now.cache.entries c.new-answer.result.preserved.keys c.in_ok-changed.changed c.new-answer.ensures.1 c.in_ok-changed.ensures.tells.0
+
+pub returns-clause-change : goal.returns-clause-change
+returns-clause-change c = whole_passes bench c.args.ctx.now.tree c.dce.new.ctx.tree c.args.op c.dce.ensures.change
+
+pub returns-in_err-changed-clause-change : goal.returns-in_err-changed-clause-change
+returns-in_err-changed-clause-change c = whole_passes bench c.args.ctx.now.tree c.dce.new.ctx.tree c.args.op c.dce.ensures.change

@@ -1,7 +1,7 @@
 use Rattle.std.proofs.Common.{Some, map, sym, ap, ◌∙◌}
 use Rattle.pliron_laws.specs.Datum.{Goto}
 use Rattle.pliron_evaluator.specs.Evaluator.{datum_of_value}
-use Rattle.pliron_evaluator.proofs.TinyMoves.{const_moves, ask_moves, scope_moves, br_moves, other_traps}
+use Rattle.pliron_evaluator.proofs.TinyMoves.{const_moves, ask_moves, scope_moves, both_moves, twice_moves, br_moves, other_traps}
 use Rattle.pliron_evaluator.proofs.evaluator.tiny_moves.TinyEvaluate.next_move.Goals as goal
 
 pub returns-in_ok-one-in-Some-Const : goal.returns-in_ok-one-in-Some-Const
@@ -27,3 +27,13 @@ returns-in_ok-all_copies-in-Some-Br c = λ o at.
 
 pub returns-in-None : goal.returns-in-None
 returns-in-None c = other_traps c.args.ctx.now.tree c.args.op c.head.result.now c.head.ensures (datum_of_value c.args.memo.now) (map datum_of_value c.args.input.now) (sym c.of.ensures ∙ c.in-None.is)
+
+pub returns-in-Some-Both : goal.returns-in-Some-Both
+returns-in-Some-Both c =
+    let kind = sym c.of.ensures ∙ c.in-Some-Both.is ∙ ap Some c.in-Some-Both.field-0-is in
+    both_moves c.args.ctx.now.tree c.args.op c.head.result.now c.head.ensures (datum_of_value c.args.memo.now) (map datum_of_value c.args.input.now) c.both_move.result kind c.both_move.ensures
+
+pub returns-in-Some-Twice : goal.returns-in-Some-Twice
+returns-in-Some-Twice c =
+    let kind = sym c.of.ensures ∙ c.in-Some-Twice.is ∙ ap Some c.in-Some-Twice.field-0-is in
+    twice_moves c.args.ctx.now.tree c.args.op c.head.result.now c.head.ensures (datum_of_value c.args.memo.now) (map datum_of_value c.args.input.now) c.twice_move.result kind c.twice_move.ensures

@@ -1,0 +1,79 @@
+//! Edges that were found feasible, kept for operations with many operands.
+ghost use Rattle.std.specs.Prelude.{◌≡◌, ◌↔◌, false, ℕ, Some, OnOk, IsOkUnless, IsTrue};
+ghost use Rattle.indexmap.specs.IndexMap.{index_map_len};
+ghost use Rattle.pliron_sccp.specs.Feasible.{leads, KeepsAmong};
+
+use indexmap::IndexMap;
+use pliron_core::{BasicBlock, Operation, Ptr};
+use pliron_laws::OptError;
+use std::alloc::Global;
+use std::collections::HashSet;
+
+/// How many looks are few. What was looked at more often has its edges kept.
+const FEW_LOOKS: usize = 4;
+
+/// Of operations that fold as branches and were looked at more than a few times, the blocks that they may go to by
+/// the facts of their last look. Facts only fall, and where folds are monotone such a block stays one.
+#[derive(Drop)]
+pub struct FeasibleEdges {
+    looks: IndexMap<Ptr<Operation>, usize>,
+    blocks: IndexMap<Ptr<Operation>, HashSet<u64>>,
+}
+
+impl FeasibleEdges {
+    /// Nothing was looked at. Takes no memory. Cost: constant.
+    pub fn new(alloc: Global) -> Self
+        ensures { (k b : ℕ) → leads result k b ≡ false }
+    {
+        FeasibleEdges {
+            looks: IndexMap::new(alloc),
+            blocks: IndexMap::new(alloc),
+        }
+    }
+
+    /// Counts a look at the operation; how often it was looked at.
+    fn count(&mut self, op: Ptr<Operation>) -> Result<usize, OptError>
+        ensures ok { OnOk result (self.new.blocks ≡ self.old.blocks) }
+        ensures memory { IsOkUnless result OptError.Memory }
+    {
+        let before = match self.looks.get(&op) {
+            Some(looks) => *looks,
+            None => 0,
+        };
+        let looks = before.saturating_add(1);
+        self.looks.insert(op, looks)?;
+        Ok(looks)
+    }
+
+    /// The operation was looked at once more, and may go to these blocks: where that was more than a few times they
+    /// are kept, in place of those from before.
+    ///
+    /// Errors: want of memory. Cost: constant.
+    pub fn keep(&mut self, op: Ptr<Operation>, blocks: HashSet<u64>) -> Result<(), OptError>
+        ensures ok { OnOk result (KeepsAmong op (Some blocks) self.old self.new) }
+        ensures memory { IsOkUnless result OptError.Memory }
+    {
+        if self.count(op)? <= FEW_LOOKS {
+            return Ok(());
+        }
+        self.blocks.insert(op, blocks)?;
+        Ok(())
+    }
+
+    /// Whether nothing is kept. Cost: constant.
+    pub fn is_empty(&self) -> bool
+        ensures { IsTrue result ↔ (index_map_len self.now.blocks ≡ 0) }
+    {
+        self.blocks.is_empty()
+    }
+
+    /// Whether the block is kept as one that the operation may go to. Cost: two look-ups.
+    pub fn leads(&self, op: Ptr<Operation>, block: Ptr<BasicBlock>) -> bool
+        ensures { result ≡ leads self.now op block }
+    {
+        match self.blocks.get(&op) {
+            Some(blocks) => blocks.contains(&block.key()),
+            None => false,
+        }
+    }
+}
