@@ -98,6 +98,7 @@ impl Arguments {
     }
 
     /// What makes a value, or made it, where it is an argument that went. Cost: constant.
+    #[inline(always)]
     pub fn definition(&self, value: Value) -> Option<Def>
         ensures { result ≡ slice_get self.now.definitions value }
     {
@@ -130,6 +131,7 @@ impl Arguments {
     /// So many new values, results of the operation, by rising key.
     ///
     /// Errors: want of memory, which changes nothing. Cost: one step for each, amortised.
+    #[inline(always)]
     pub fn add_results(
         &mut self,
         alloc: Global,
@@ -205,6 +207,7 @@ enum Maker {
 }
 
 impl Maker {
+    #[inline(always)]
     fn definition(&self, i: usize) -> Def
         ensures { result ≡ made_by self.now i }
     {
@@ -217,6 +220,7 @@ impl Maker {
 
 // So many values, by rising key.
 #[tactic(auto, using(crate::proofs::GrownLemmas::range_more))]
+#[inline(always)]
 fn value_keys(alloc: Global, first: usize, count: usize) -> Result<Row<Value>, AllocError>
     requires { first + count < 2 ^ 64 }
     ensures { IfOk result (λ row. row ≡ range_with_len first count) }
@@ -229,6 +233,7 @@ fn value_keys(alloc: Global, first: usize, count: usize) -> Result<Row<Value>, A
 }
 
 // The definitions of so many new values.
+#[inline(always)]
 fn write_definitions(written: &mut Vec<Def>, maker: Maker, count: usize)
     requires { vec_len written.old + count ≤ vec_capacity written.old }
     ensures { written.new.items ≡ written.old.items ++ definitions_of maker count }

@@ -121,6 +121,7 @@ impl Links {
     /// Errors: want of memory, where only the room may have grown. Cost: constant where there is room
     /// already, and otherwise linear in the tables' length, which grow so that room asked for one by one is
     /// constant each, amortised.
+    #[inline(always)]
     pub fn reserve(&mut self, nodes: usize, lists: usize) -> Result<(), AllocError>
         ensures kept { self.new ≡ record self.old {
           node_room = self.new.node_room;
@@ -139,6 +140,7 @@ impl Links {
     }
 
     /// A new node, in no list. The keys count up from 0. Asks that there is room for it. Cost: constant.
+    #[inline(always)]
     pub fn add_node(&mut self) -> usize
         requires { 0 < self.old.node_room }
         ensures key { result ≡ length self.old.owners }
@@ -157,6 +159,7 @@ impl Links {
     }
 
     /// A new list, without nodes. The keys count up from 0. Asks that there is room for it. Cost: constant.
+    #[inline(always)]
     pub fn add_list(&mut self) -> usize
         requires { 0 < self.old.list_room }
         ensures key { result ≡ length self.old.lists }
@@ -198,6 +201,7 @@ impl Links {
 
     /// The node goes to the end of the list. Asks that both were added and that no list has the node. Cost:
     /// constant.
+    #[inline(always)]
     pub fn push_back(&mut self, list: usize, node: usize)
         requires list { list < length self.old.lists }
         requires node { node < length self.old.owners }

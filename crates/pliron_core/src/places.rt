@@ -34,6 +34,7 @@ const FREE: Place = Place {
 };
 
 // The places of so many targets, by rising key, each with one use.
+#[inline(always)]
 pub(super) fn new_places(
     alloc: Global,
     first: usize,
@@ -53,6 +54,7 @@ pub(super) fn new_places(
 }
 
 // The gap of a user.
+#[inline(always)]
 pub(super) fn gap_at(places: &Vec<Row<Place>>, gaps: &Vec<Gap>, user: usize) -> Gap
     requires gaps { HaveGaps places.now.items gaps.now.items }
     requires user { user < length gaps.now.items }
@@ -64,6 +66,7 @@ pub(super) fn gap_at(places: &Vec<Row<Place>>, gaps: &Vec<Gap>, user: usize) -> 
 }
 
 // How many targets a user has.
+#[inline(always)]
 pub(super) fn count_at(places: &Vec<Row<Place>>, gaps: &Vec<Gap>, user: usize) -> usize
     requires gaps { HaveGaps places.now.items gaps.now.items }
     requires user { user < length gaps.now.items }
@@ -74,6 +77,7 @@ pub(super) fn count_at(places: &Vec<Row<Place>>, gaps: &Vec<Gap>, user: usize) -
 }
 
 // The target at an index among those of a row.
+#[inline(always)]
 pub(super) fn target_at(row: &Row<Place>, gap: Gap, i: usize) -> usize
     requires gap { HasGap row.now gap }
     requires index { i < length (held row.now) }
@@ -88,6 +92,7 @@ pub(super) fn target_at(row: &Row<Place>, gap: Gap, i: usize) -> usize
 }
 
 // The index that a taken place has among those that are taken.
+#[inline(always)]
 pub(super) fn rank_at(row: &Row<Place>, gap: Gap, place: usize) -> usize
     requires gap { HasGap row.now gap }
     requires taken { (p : PlaceOf) × (slice_get row.now place ≡ Some p) × (p.target ≢ no_target) }
@@ -276,6 +281,7 @@ pub(super) fn settle_gap(
 }
 
 // The places of these uses of `old` name `new`, where the uses now stand from `first` on.
+#[inline(always)]
 pub(super) fn retarget(
     places: &mut Vec<Row<Place>>,
     moved: &Row<Use>,

@@ -37,6 +37,7 @@ impl<T> Model for Row<T> {
 
 impl<T> Row<T> {
     /// No items. Takes no memory. Cost: constant.
+    #[inline(always)]
     pub fn new(alloc: Global) -> Self
         ensures { result ≡ [] }
     {
@@ -47,6 +48,7 @@ impl<T> Row<T> {
     }
 
     /// How many items. Cost: constant.
+    #[inline(always)]
     pub fn len(&self) -> usize
         ensures { result ≡ length self.now }
     {
@@ -59,6 +61,7 @@ impl<T> Row<T> {
     }
 
     /// Whether there are no items. Cost: constant.
+    #[inline(always)]
     pub fn is_empty(&self) -> bool
         ensures { result ≡ (length self.now == 0) }
     {
@@ -66,6 +69,7 @@ impl<T> Row<T> {
     }
 
     /// The item at the end, if there is one. Cost: constant.
+    #[inline(always)]
     pub fn last(&self) -> Option<T>
     where
         T: Copy,
@@ -81,6 +85,7 @@ impl<T> Row<T> {
 
     /// One more at the end. Errors: want of memory, which leaves the list as it was.
     /// Cost: constant, amortised.
+    #[inline(always)]
     pub fn push(&mut self, item: T) -> Result<(), AllocError>
     where
         T: Drop,
@@ -113,6 +118,7 @@ impl<T> Row<T> {
 
     /// All of another list at the end. Errors: want of memory, which leaves the list as it was.
     /// Cost: the other list's length, amortised.
+    #[inline(always)]
     pub fn extend(&mut self, other: &Row<T>) -> Result<(), AllocError>
     where
         T: Copy,
@@ -130,6 +136,7 @@ impl<T> Row<T> {
     }
 
     /// The item at the end goes, if there is one. Cost: constant.
+    #[inline(always)]
     pub fn pop(&mut self)
     where
         T: Drop,
@@ -147,6 +154,7 @@ impl<T> Row<T> {
     }
 
     // Only the first `count` items stay.
+    #[inline(always)]
     pub(crate) fn truncate(&mut self, count: usize)
     where
         T: Drop,
@@ -172,6 +180,7 @@ impl<T> Row<T> {
     }
 
     /// The item at an index. Asks that there is one. Cost: constant.
+    #[inline(always)]
     pub fn get(&self, i: usize) -> T
     where
         T: Copy,
@@ -188,6 +197,7 @@ impl<T> Row<T> {
 
     /// The item at an index goes. The later ones move down by one place. Asks that there is one. Cost: the
     /// number of items after it.
+    #[inline(always)]
     pub fn remove(&mut self, i: usize)
     where
         T: Drop,
@@ -210,6 +220,7 @@ impl<T> Row<T> {
     }
 
     /// Writes the item at an index. Asks that there is one. Cost: constant.
+    #[inline(always)]
     pub fn set(&mut self, i: usize, item: T)
     where
         T: Copy + Drop,
@@ -230,6 +241,7 @@ impl<T> Row<T> {
 }
 
 // The entry `j` of the row `i`.
+#[inline(always)]
 pub(crate) fn entry<T>(rows: &Vec<Row<T>>, i: usize, j: usize) -> T
 where
     T: Copy,
@@ -240,6 +252,7 @@ where
 }
 
 // Writes the entry `j` of the row `i`.
+#[inline(always)]
 pub(crate) fn set_entry<T>(rows: &mut Vec<Row<T>>, i: usize, j: usize, item: T)
 where
     T: Copy + Drop,
@@ -252,6 +265,7 @@ where
 }
 
 // The last entry of the row `i` goes.
+#[inline(always)]
 pub(crate) fn pop_entry<T>(rows: &mut Vec<Row<T>>, i: usize)
 where
     T: Drop,

@@ -87,6 +87,7 @@ impl Uses {
     }
 
     /// How many targets a user has. Asks that there is such a user. Cost: constant.
+    #[inline(always)]
     pub fn num_targets(&self, user: usize) -> usize
         requires { user < length self.now.targets }
         ensures { result ≡ length (targets_of self.now user) }
@@ -96,6 +97,7 @@ impl Uses {
 
     /// The target at a place of a user. Asks that there are such a user and such a place (`num_targets` tests
     /// it). Cost: constant.
+    #[inline(always)]
     pub fn target(&self, user: usize, place: usize) -> usize
         requires user { user < length self.now.targets }
         requires place { place < length (targets_of self.now user) }
@@ -106,6 +108,7 @@ impl Uses {
     }
 
     /// How many uses a target has. Asks that there is such a target. Cost: constant.
+    #[inline(always)]
     pub fn num_uses(&self, target: usize) -> usize
         requires { target < length self.now.uses }
         ensures { result ≡ length (table_uses self.now target) }
@@ -115,6 +118,7 @@ impl Uses {
 
     /// The use of a target at an index, in no given order. Asks that there is such a target, and that the
     /// index is below `num_uses`. Cost: constant.
+    #[inline(always)]
     pub fn get_use(&self, target: usize, i: usize) -> Use
         requires target { target < length self.now.uses }
         requires place { i < length (table_uses self.now target) }
@@ -130,6 +134,7 @@ impl Uses {
     ///
     /// Errors: want of memory, which leaves users, targets and uses as they were.
     /// Cost: constant per user or target, amortised.
+    #[inline(always)]
     pub fn reserve(&mut self, users: usize, targets: usize) -> Result<(), AllocError>
         ensures kept { self.new ≡ record self.old { user_room = self.new.user_room; target_room = self.new.target_room } }
         ensures room { OnOk result ((users ≤ self.new.user_room) × (targets ≤ self.new.target_room)) }
@@ -140,6 +145,7 @@ impl Uses {
     }
 
     /// A new user, without targets. Asks that room for it is reserved. Cost: constant.
+    #[inline(always)]
     pub fn add_user(&mut self, alloc: Global) -> usize
         requires { 0 < self.old.user_room }
         ensures key { result ≡ length self.old.targets }
@@ -152,6 +158,7 @@ impl Uses {
     }
 
     /// A new target, without uses. Asks that room for it is reserved. Cost: constant.
+    #[inline(always)]
     pub fn add_target(&mut self, alloc: Global) -> usize
         requires { 0 < self.old.target_room }
         ensures key { result ≡ length self.old.uses }
@@ -163,6 +170,7 @@ impl Uses {
     }
 
     /// So many new targets, without uses. Asks that room for them is reserved. Cost: one step for each.
+    #[inline(always)]
     pub fn add_targets(&mut self, alloc: Global, count: usize)
         requires { count ≤ self.old.target_room }
         ensures { self.new ≡ record self.old { uses = self.old.uses ++ replicate count []; target_room = self.old.target_room - count } }
@@ -196,6 +204,7 @@ impl Uses {
     ///
     /// Asks that there are such a user and such a target. Errors: want of memory, which leaves all as it was.
     /// Cost: constant, amortised.
+    #[inline(always)]
     pub fn push(&mut self, user: usize, target: usize) -> Result<(), AllocError>
         requires user { user < length self.old.targets }
         requires target { target < length self.old.uses }

@@ -17,6 +17,7 @@ impl Operation {
     ///
     /// Errors: want of memory, which changes nothing.
     /// Cost: one step for each result and each region, amortised.
+    #[inline(always)]
     pub fn create(
         ctx: &mut Context,
         head: Head,
@@ -57,6 +58,7 @@ impl BasicBlock {
     ///
     /// Asks that the region stands. Errors: want of memory, which changes nothing.
     /// Cost: one step for each argument, amortised.
+    #[inline(always)]
     pub fn create(
         ctx: &mut Context,
         region: Ptr<Region>,
@@ -85,6 +87,7 @@ impl BasicBlock {
 
 // So many regions, by rising key.
 #[tactic(auto, using(crate::proofs::GrownLemmas::range_more))]
+#[inline(always)]
 fn region_keys(alloc: Global, first: usize, count: usize) -> Result<Row<Ptr<Region>>, NoMemory>
     requires { first + count < 2 ^ 64 }
     ensures { IfOk result (λ row. row ≡ range_with_len first count) }
@@ -97,6 +100,7 @@ fn region_keys(alloc: Global, first: usize, count: usize) -> Result<Row<Ptr<Regi
 }
 
 // The regions of a new operation, without blocks.
+#[inline(always)]
 fn add_regions(slots: &mut Vec<RegionSlot>, layout: &mut Links, op: Ptr<Operation>, count: usize)
     requires slots { vec_len slots.old + count ≤ vec_capacity slots.old }
     requires lists { count ≤ layout.old.list_room }

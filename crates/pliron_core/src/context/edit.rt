@@ -12,6 +12,7 @@ impl Operation {
     ///
     /// Asks that the operation and the value stand. Errors: want of memory, which changes nothing.
     /// Cost: amortised constant.
+    #[inline(always)]
     pub fn push_operand(ctx: &mut Context, op: Ptr<Operation>, value: Value) -> Result<(), NoMemory>
         requires live { IsLive ctx.old.tree op }
         requires value { IsDefined ctx.old.tree value }
@@ -27,6 +28,7 @@ impl Operation {
     ///
     /// Asks that the operation and the block stand. Errors: want of memory, which changes nothing.
     /// Cost: amortised constant.
+    #[inline(always)]
     pub fn push_successor(
         ctx: &mut Context,
         op: Ptr<Operation>,
