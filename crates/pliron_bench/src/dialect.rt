@@ -127,6 +127,7 @@ impl ConstFoldInterface for Bench {
     /// one of them is known to be 0; the quotient, unless the division traps.
     ///
     /// Errors: want of memory. Cost: constant, but for a copy of the attribute of a `const`.
+    #[inline(always)]
     fn check_fold(
         alloc: Global,
         op: Ptr<Operation>,
@@ -163,6 +164,7 @@ impl ConstFoldInterface for Bench {
 
     /// A `const` for a whole number within 64 signed bits. Errors: want of memory. Cost: constant.
     #[tactic(auto, unfolding(crate::specs::BenchAnswers::bench_accepts, crate::specs::BenchAnswers::bench_constant_head))]
+    #[inline(always)]
     fn materialize(
         alloc: Global,
         attr: &AttrObj,

@@ -12,6 +12,7 @@ use pliron_core::{AttrObj, Attrs, Context, Head, NoMemory, Operation, Ptr};
 use std::alloc::{AllocFailed, Global};
 
 // The first of the attributes, by default 0.
+#[inline(always)]
 fn first_attribute(alloc: Global, attrs: &Attrs) -> Result<AttrObj, NoMemory>
     ensures { IfOk result (λ attr. attr ≡ first_of attrs.now) }
 {
@@ -23,6 +24,7 @@ fn first_attribute(alloc: Global, attrs: &Attrs) -> Result<AttrObj, NoMemory>
 }
 
 // The number as a constant.
+#[inline(always)]
 fn constant(number: Option<i64>) -> Option<AttrObj>
     ensures { result ≡ as_constant number }
 {
@@ -34,6 +36,7 @@ fn constant(number: Option<i64>) -> Option<AttrObj>
 
 /// The constant of the result of an operation that folds, where it is known. Errors: want of memory. Cost:
 /// constant, but for the copy of a `const`'s attribute.
+#[inline(always)]
 pub fn answer_of(
     alloc: Global,
     kind: BenchKind,
@@ -61,6 +64,7 @@ pub fn answer_of(
 }
 
 /// The answer for an operation with one result. Errors: want of memory. Cost: constant.
+#[inline(always)]
 pub fn one_answer(
     alloc: Global,
     answer: Option<AttrObj>,

@@ -7,6 +7,7 @@ use pliron_core::{AttrObj, Attrs, Head};
 use std::alloc::{AllocFailed, Global};
 
 /// The head of an operation without attributes. Takes no memory. Cost: constant.
+#[inline(always)]
 pub fn plain_head(alloc: Global, kind: BenchKind) -> Head
     ensures { result ≡ head_without kind }
 {
@@ -18,6 +19,7 @@ pub fn plain_head(alloc: Global, kind: BenchKind) -> Head
 }
 
 /// The head of an operation with one attribute. Errors: want of memory. Cost: constant.
+#[inline(always)]
 pub fn attribute_head(
     alloc: Global,
     kind: BenchKind,

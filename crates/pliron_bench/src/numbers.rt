@@ -9,6 +9,7 @@ ghost use Rattle.pliron_bench.specs.BenchMoves.{edge_of as edge_in};
 use pliron_core::AttrObj;
 
 /// What is left of the number in 64 signed bits. Cost: constant.
+#[inline(always)]
 pub fn wrapped(number: i128) -> i64
     ensures { result ≡ int_wrap w64 number }
 {
@@ -17,6 +18,7 @@ pub fn wrapped(number: i128) -> i64
 }
 
 // Whether the number lies within 64 signed bits.
+#[inline(always)]
 fn fits(number: i128) -> bool
     ensures { result ≡ is_within number }
 {
@@ -24,6 +26,7 @@ fn fits(number: i128) -> bool
 }
 
 // The attribute's datum as a number.
+#[inline(always)]
 fn as_number(attr: &AttrObj) -> i64
     ensures { result ≡ number_in (datum_of attr.now) }
 {
@@ -34,6 +37,7 @@ fn as_number(attr: &AttrObj) -> i64
 }
 
 /// Whether the attribute is a number within 64 signed bits. Cost: constant.
+#[inline(always)]
 pub fn is_number(attr: &AttrObj) -> bool
     ensures { result ≡ is_number_within attr.now }
 {
@@ -44,6 +48,7 @@ pub fn is_number(attr: &AttrObj) -> bool
 }
 
 /// The number that is known of the operand at this index. Cost: constant.
+#[inline(always)]
 pub fn known_number(operand_attrs: &[Option<AttrObj>], i: usize) -> Option<i64>
     ensures { result ≡ known_at operand_attrs.now i }
 {
@@ -57,6 +62,7 @@ pub fn known_number(operand_attrs: &[Option<AttrObj>], i: usize) -> Option<i64>
 }
 
 /// The sum, where both are known. Cost: constant.
+#[inline(always)]
 pub fn known_sum(a: Option<i64>, b: Option<i64>) -> Option<i64>
     ensures { result ≡ sum_known a b }
 {
@@ -67,6 +73,7 @@ pub fn known_sum(a: Option<i64>, b: Option<i64>) -> Option<i64>
 }
 
 /// The wrapped sum. Cost: constant.
+#[inline(always)]
 pub fn sum(a: i64, b: i64) -> i64
     ensures { result ≡ sum_of a b }
 {
