@@ -77,7 +77,7 @@ impl FeasibleEdges {
         ctx: &Context,
     ) -> Result<(), OptError>
         requires { IsLive ctx.now.tree op }
-        ensures ok { OnOk result (self.new.blocks ≡ self.old.blocks) }
+        ensures ok { OnOk result ((k b : ℕ) → leads self.new k b ≡ leads self.old k b) }
         ensures memory { IsOkUnless result OptError.Memory }
     {
         if self.count(op)? <= FEW_LOOKS || self.named.contains_key(&op) {

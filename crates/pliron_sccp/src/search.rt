@@ -204,10 +204,11 @@ fn ask_candidate<D: Dialect>(
     ensures ok { OnOk result ((edges : FeasibleEdges) → AsksAhead ⟦<D as HasFolding>⟧.folding ctx.now.tree tables.now edges op place value asked.old.items asked.new.items) }
     ensures memory { IsOkUnless result OptError.Memory }
 {
-    if let Some(argument) = named_argument::<D>(op, place, candidate, ctx) {
-        let cell = tables.cell(value);
-        asked.push(Demand::Lower(argument, cell))?;
-    }
+    let Some(argument) = named_argument::<D>(op, place, candidate, ctx) else {
+        return Ok(());
+    };
+    let cell = tables.cell(value);
+    asked.push(Demand::Lower(argument, cell))?;
     Ok(())
 }
 
