@@ -135,9 +135,9 @@ module _ (x : Says) (t : Tree) (edges : FeasibleEdges) where
           }
 
       pub both_ahead : (between asked' : List Demand) → AsksAhead x t s edges op place v asked between → AsksAhead x t s edges op place v between asked' → AsksAhead x t s edges op place v asked asked'
-      both_ahead between asked' first then = record {
-        more = λ now m. first.more now (then.more now m);
-        owed = λ now m all. then.owed now (first.owed now m all) all;
+      both_ahead between asked' first second = record {
+        more = λ now m. first.more now (second.more now m);
+        owed = λ now m all. second.owed now (first.owed now m all) all;
       }
 
       -- it is looked at again, and something is asked ahead

@@ -408,7 +408,7 @@ fn keep_feasible(
 }
 
 /// Lists the arguments that the operation names operands for, if it has many operands.
-fn keep_named<D: Dialect>(
+fn keep_candidates<D: Dialect>(
     alloc: Global,
     op: Ptr<Operation>,
     ctx: &Context,
@@ -445,7 +445,7 @@ fn look_and_keep<D: Dialect>(
     let mut feasible = None;
     let demanded = demands::<D>(alloc, op, ctx, tables, &mut feasible)?;
     meet_all(demanded, tables);
-    keep_named::<D>(alloc, op, ctx, edges)?;
+    keep_candidates::<D>(alloc, op, ctx, edges)?;
     keep_feasible(op, feasible, ctx, edges)
 }
 
