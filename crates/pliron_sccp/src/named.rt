@@ -29,8 +29,9 @@ pub struct Candidates {
 }
 
 impl Candidates {
-    /// Asks that the operation stands. Errors: want of memory. Cost: one step for each operand, region and argument
-    /// of an entry.
+    /// Those of this operation, each argument of each entry for which it names an operand.
+    ///
+    /// Asks that it stands. Errors: want of memory. Cost: one step for each operand, region and argument of an entry.
     pub fn of<D: Dialect>(
         alloc: Global,
         op: Ptr<Operation>,

@@ -17,7 +17,8 @@
 //! at when all of them fell, and not after each. Where it makes its own next operand fall, as in a loop that
 //! moves its arguments on by one place, that would be no help: so what was looked at more than a few times is
 //! asked at once for what it forwards along an edge that its last look found feasible, one argument for each
-//! operand that fell. The order decides no fact.
+//! operand that fell, and for the arguments of its regions' entries that it names this operand for. The order
+//! decides no fact.
 ghost use Rattle.std.specs.Prelude.{◌≡◌, ◌<◌, ◌↔◌, ℕ, true, OnOk, IfOk, IfSome, IsTrue, IsOkUnless, Some, length, slice_get};
 ghost use Rattle.pliron_core.specs.Tree.{IsLive, IsBlock, In, arguments_of, body_of, successors_of};
 ghost use Rattle.pliron_laws.specs.Answers.{ReadsHead};
@@ -407,7 +408,8 @@ fn keep_feasible(
     }
 }
 
-/// Lists the arguments that the operation names operands for, if it has many operands.
+/// Lists the arguments that the operation names operands for, if it has many operands and was looked at more than a few
+/// times.
 fn keep_candidates<D: Dialect>(
     alloc: Global,
     op: Ptr<Operation>,
