@@ -5,7 +5,7 @@
                                    in a second line those of the texts of what is put aside
   plain_counts.py TEXTS whole      the same where each user of a value that fell is looked at as a whole
   plain_counts.py TEXTS at-once    the same where nothing is put aside
-  plain_counts.py TEXTS late       the same where a long branch that folds is asked for no argument ahead
+  plain_counts.py TEXTS late       the same where what is long is asked for no argument ahead
 
 Facts stand in a dictionary by name, and the worklists are lists: nothing is shared with the crate but the
 order of work that its page names, last in, first out. Each count is held against the numbers that stand with
@@ -216,6 +216,7 @@ class Search:
         """A scope passes its operands, all else nothing that is known."""
         if op.kind != "scope":
             return self.entries(op)
+        self.looks[op] = self.looks.get(op, 0) + 1
         asked = []
         for blocks in op.regions:
             asked.append((self.enter, blocks[0]))
@@ -263,13 +264,20 @@ class Search:
         elif op.kind in FOLDS + ("br", "cbr", "scope"):
             if op not in again:
                 again.append(op)
-            if op.kind == "cbr" and len(op.operands) > self.few and not self.late:
-                asked += self.ahead(op, place, name)
+            if len(op.operands) > self.few and not self.late:
+                asked += self.named(op, place, name) if op.kind == "scope" else self.ahead(op, place, name)
+
+    def named(self, op, place, name):
+        """The argument that gets this operand of a scope that was looked at more than a few times."""
+        if self.looks.get(op, 0) <= FEW_LOOKS:
+            return []
+        entries = [blocks[0] for blocks in op.regions]
+        return [(self.lower, entry.args[place], self.fact(name)) for entry in entries if place < len(entry.args)]
 
     def ahead(self, op, place, name):
         """The argument that gets this operand of a cbr that was looked at more than a few times, where the edge was found
         feasible."""
-        if place == 0:
+        if op.kind != "cbr" or place == 0:
             return []
         edge = 0 if place <= op.counts[0] else 1
         index = place - 1 - edge * op.counts[0]

@@ -6,7 +6,7 @@
                                      loops, star, isolated
   shapes.py list                     the names of the shapes, but those that bench alone can write:
                                      boxed, fiftyboxes, boxes, deepboxes, boxargs,
-                                     boxconsts, boxuses, boxuseslast, shortedges
+                                     boxconsts, boxuses, boxuseslast, shortedges, scopeargs
 
 One program is built and printed in three notations, so that all optimisers see the same control flow: in
 that of this repository, with the shortest names and no blanks; in LLVM's, where an argument of a block is
@@ -542,11 +542,22 @@ def shortedges(n):
     return f"func{{{entry}():ret;{last}({args}):ret;{edges}}}\n"
 
 
+def scopeargs(n):
+    """A scope that names n operands for its arguments, which a loop around it forwards to the next operand each; not well defined."""
+    names = short_names()
+    one, first, condition = next(names), next(names), next(names)
+    outer = [next(names) for _ in range(max(2, n))]
+    inner = [next(names) for _ in outer]
+    loop = f"{first}=read;{condition}=read;scope {' '.join(outer)}{{z({','.join(inner)}):ret}}"
+    edge = ",".join([first, *inner[:-1]])
+    return f"func{{z():{one}=const 1;br y({','.join([one] * len(outer))});y({','.join(outer)}):{loop};cbr {condition} y({edge})x();x():ret}}\n"
+
+
 # in the bench notation alone, since the others have nothing like a box; a text holds 64 levels at most
 BENCH_ONLY = {"boxed": lambda n: boxed_sums(n, 1), "fiftyboxes": lambda n: boxed_sums(n, 50),
          "boxes": lambda n: boxes(n, 1), "deepboxes": lambda n: boxes(n, 50), "boxargs": boxargs,
          "boxconsts": boxconsts, "boxuses": lambda n: boxuses(n, False), "boxuseslast": lambda n: boxuses(n, True),
-         "shortedges": shortedges}
+         "shortedges": shortedges, "scopeargs": scopeargs}
 
 
 def bench(fns, w):

@@ -18,7 +18,7 @@ use Rattle.pliron_laws.proofs.ShapeLemmas.{live_at}
 use Rattle.pliron_theory.proofs.FactLattice.{at_most_trans, picked_in}
 use Rattle.pliron_sccp.specs.declared.delays.Delays.{Delays}
 use Rattle.pliron_sccp.specs.declared.demands.Demand.{Demand}
-use Rattle.pliron_theory.specs.Facts.{Fact, Undetermined, Constant, NotAConstant, AtMost, Facts, Says, AreClosed}
+use Rattle.pliron_theory.specs.Facts.{Fact, Undetermined, Constant, NotAConstant, AtMost, Facts, Says, AreClosed, IsBelowNamed, IsInReachedBlock}
 use Rattle.pliron_theory.specs.Sound.{IsMadeThere}
 use Rattle.pliron_sccp.specs.declared.facts.Tables.{Tables}
 use Rattle.pliron_sccp.specs.Tables.{fact_in, known_constants, reaches, waits_block, facts_of, TakesBlock}
@@ -29,7 +29,7 @@ use Rattle.pliron_sccp.specs.Demands.{AsksEntries, MeetsAll}
 use Rattle.pliron_sccp.specs.Visiting.{HasWay, IsGrounded, AreDetermined}
 use Rattle.pliron_sccp.specs.declared.edges.FeasibleEdges.{FeasibleEdges}
 use Rattle.pliron_sccp.specs.Feasible.{AreSurelyFeasible, KeepsFeasible}
-use Rattle.pliron_sccp.specs.Looking.{AreCalls, Forwarded, GoesThrough, IsLookedAt, IsOpenEdge, IsUseOf, LooksAt, LooksThrough, TakesValues}
+use Rattle.pliron_sccp.specs.Looking.{AreCalls, Forwarded, GoesThrough, IsHanded, IsLookedAt, IsNamed, IsOpenEdge, IsUseOf, LooksAt, LooksThrough, TakesValues}
 use Rattle.pliron_sccp.specs.Looking.GoesThrough.{Nowhere, Onward}
 use Rattle.pliron_sccp.specs.Looking.LooksThrough.{Nothing, Then}
 use Rattle.pliron_sccp.specs.Starting.{IsStarted}
@@ -225,7 +225,7 @@ module _ (x : Says) (t : Tree) (root : ℕ) (w : IsTree t) (linked : IsWellLinke
 
       -- every closed set meets what is called for
       asked_closed : (g : Facts) → AreClosed x t root g → MeetsAll (known_constants u) (only_inside t root g) asked
-      asked_closed g closed = c.owed (only_inside t root g) (λ q place v r o i is l at f clear. at_most_trans ((only_inside t root g).fact v) (g.fact v) (fact_in u r) ((only_lower t root g).fact v) (at_most_trans (g.fact v) (g.fact r) (fact_in u r) (edge q place v r o is l at f clear) (operand q place r is l)))
+      asked_closed g closed = c.owed (only_inside t root g) (λ q place v r o i is l at h. at_most_trans ((only_inside t root g).fact v) (g.fact v) (fact_in u r) ((only_lower t root g).fact v) (at_most_trans (g.fact v) (g.fact r) (fact_in u r) (handed q place v r o is l at h) (operand q place r is l)))
         where
           within : (q : ℕ) → IsLookedAt t u q → IsInside t root q
           within q l = inside_block l.block l.in_block (inside l.block (sym (k.reached l.block) ∙ l.reached))
@@ -235,9 +235,24 @@ module _ (x : Says) (t : Tree) (root : ℕ) (w : IsTree t) (linked : IsWellLinke
               let j = in_slice (operands_of t q) place r is in
               (before.above g closed).facts r (made_listed t w root r (owed.defined.own_values q r (within q l) j) (w.joined.operands q r j))
 
+          stands : (q : ℕ) → IsLookedAt t u q → IsInReachedBlock t g q
+          stands q l = (l.block, l.in_block, (before.above g closed).blocks l.block l.reached)
+
+          at_place : (q place r : ℕ) (o : Operation) → IsUseOf t r q place → op_at t q ≡ Some o → slice_get o.operands place ≡ Some r
+          at_place q place r o is at = ap (λ z. slice_get z place) (sym (op_shows t q o at).operands) ∙ is
+
           edge : (q place v r : ℕ) (o : Operation) → IsUseOf t r q place → IsLookedAt t u q → op_at t q ≡ Some o → (f : Forwarded x t o place v) → IsOpenEdge x u edges o q f.block → AtMost (g.fact v) (g.fact r)
           edge q place v r o is l at f clear =
-              (closed.branches q f.edge f.block o (l.block, l.in_block, (before.above g closed).blocks l.block l.reached) at f.branch (⊎_elim (λ none. (f.successor, λ folds. absurd (true≢false (sym folds ∙ none)))) (λ y. sure q f.block y.1 g closed f.edge o at f.successor) clear)).1 f.index v r f.is_argument (picked_in (x.meaning.forwarded (shape_of x.meaning t o) f.edge) o.operands f.index place r f.forwards (ap (λ z. slice_get z place) (sym (op_shows t q o at).operands) ∙ is))
+              (closed.branches q f.edge f.block o (stands q l) at f.branch (⊎_elim (λ none. (f.successor, λ folds. absurd (true≢false (sym folds ∙ none)))) (λ y. sure q f.block y.1 g closed f.edge o at f.successor) clear)).1 f.index v r f.is_argument (picked_in (x.meaning.forwarded (shape_of x.meaning t o) f.edge) o.operands f.index place r f.forwards (at_place q place r o is at))
+
+          named : (q place v r : ℕ) (o : Operation) → IsUseOf t r q place → IsLookedAt t u q → op_at t q ≡ Some o → IsNamed x t o place v → AtMost (g.fact v) (g.fact r)
+          named q place v r o is l at n =
+              let below = (closed.entries q n.region n.key n.entry o (stands q l) at n.in_place n.first).1 n.index v n.is_argument in
+              subst (λ z. IsBelowNamed g.fact g.fact o.operands z v) n.names below r (at_place q place r o is at)
+
+          handed : (q place v r : ℕ) (o : Operation) → IsUseOf t r q place → IsLookedAt t u q → op_at t q ≡ Some o → IsHanded x t u edges o q place v → AtMost (g.fact v) (g.fact r)
+          handed q place v r o is l at (inl h) = edge q place v r o is l at h.0 h.1
+          handed q place v r o is l at (inr h) = named q place v r o is l at h
 
       after : IsOn x t root (facts_of s) (is_visited s) (facts_of m)
       after = record {

@@ -17,7 +17,7 @@ use Rattle.pliron_sccp.specs.Accounts.{AreKnownThere, NothingWaits}
 use Rattle.pliron_sccp.specs.Delaying.{IsAside}
 use Rattle.pliron_sccp.specs.Demands.{CanMeet, MeetsAll}
 use Rattle.pliron_sccp.specs.Falling.{IsApplied}
-use Rattle.pliron_sccp.specs.Looking.{AreCalls, AreTargetsNumbered, Forwarded, HasNumberedTargets, IsAskedAt, IsLookedAt, IsOpenEdge, TakesValues}
+use Rattle.pliron_sccp.specs.Looking.{AreCalls, AreTargetsNumbered, Forwarded, HasNumberedTargets, IsAskedAt, IsHanded, IsLookedAt, IsNamed, IsOpenEdge, TakesValues}
 use Rattle.pliron_sccp.specs.Settling.{IsMet, AreAtMost, AreStarted}
 use Rattle.pliron_sccp.proofs.Applied.{at_most_both, below_refl}
 use Rattle.pliron_sccp.proofs.Settled.{met_still, entered_still, varies_still}
@@ -36,7 +36,7 @@ same_or {A} {B} (x ∷ vs) each = ⊎_elim
 
 -- what is called for can be met, since no block is asked for
 pub can_call : (x : Says) (t : Tree) (edges : FeasibleEdges) (s : Tables) (values users : List ℕ) (asked : List Demand) → AreCalls x t s edges values users asked → CanMeet s asked
-can_call x t edges s values users asked c = c.owed (lowest_facts s) (λ k place a v o i is l at f clear. inr (inl refl))
+can_call x t edges s values users asked c = c.owed (lowest_facts s) (λ k place a v o i is l at h. inr (inl refl))
 
 module _ (x : Says) (t : Tree) (edges : FeasibleEdges) (values users : List ℕ) (asked : List Demand) (s u w : Tables) (k : TakesValues values s u) (c : AreCalls x t u edges values users asked) (a : IsApplied (known_constants u) asked u w) where
   -- an operation that was looked at and is not looked at again is settled
@@ -121,7 +121,7 @@ module _ (x : Says) (t : Tree) (edges : FeasibleEdges) (values users : List ℕ)
 
   -- no block comes to be reached
   pub reached_before : (b : ℕ) → reaches w b ≡ true → reaches u b ≡ true
-  reached_before b r = (a.least low (record { reaches = λ d q. q; fact = λ v. inr (inl refl) }) (c.owed low (λ q place d v o i is l at f clear. inr (inl refl)))).reaches b r
+  reached_before b r = (a.least low (record { reaches = λ d q. q; fact = λ v. inr (inl refl) }) (c.owed low (λ q place d v o i is l at h. inr (inl refl)))).reaches b r
     where
       low : Facts
       low = record { reaches = λ d. reaches u d; fact = λ v. NotAConstant }
@@ -147,9 +147,13 @@ module _ (x : Says) (t : Tree) (edges : FeasibleEdges) (values users : List ℕ)
         (λ y. y.0)
         clear
 
+    -- and so does each region of it
+    entry_reached : (q place v : ℕ) (o : Operation) → IsLookedAt t u q → op_at t q ≡ Some o → (n : IsNamed x t o place v) → reaches u n.entry ≡ true
+    entry_reached q place v o l at n = k.reached n.entry ∙ ((met_before q o l at).1.entries n.region n.key n.entry n.in_place n.first).0
+
     pub called_known : (tree : IsTree t) (root : ℕ) → AreKnownThere t root u → AreKnownThere t root w
     called_known tree root known b v inside listed none =
-        unknown_but t tree u w b v listed none unknown still (a.least g (below_but t tree u w b v listed none unknown still) (c.owed g (λ q place d r o i is l at f clear. inr (inl (argument d f.block (in_slice (arguments_of t f.block) f.index d f.is_argument) (a.falls.below.reaches f.block (edge_reached q place d o l at f clear)))))))
+        unknown_but t tree u w b v listed none unknown still (a.least g (below_but t tree u w b v listed none unknown still) (c.owed g (λ q place d r o i is l at h. inr (inl (handed q place d o l at h)))))
       where
         still : (z : ℕ) → reaches u z ≡ true → reaches w z ≡ true
         still z r = a.falls.below.reaches z r
@@ -163,6 +167,10 @@ module _ (x : Says) (t : Tree) (edges : FeasibleEdges) (values users : List ℕ)
         argument : (z d : ℕ) → In z (arguments_of t d) → reaches w d ≡ true → g.fact z ≡ NotAConstant
         argument z d i r = argument_but t tree u w b v listed none unknown still z d i r
 
+        handed : (q place d : ℕ) (o : Operation) → IsLookedAt t u q → op_at t q ≡ Some o → IsHanded x t u edges o q place d → g.fact d ≡ NotAConstant
+        handed q place d o l at (inl h) = argument d h.0.block (in_slice (arguments_of t h.0.block) h.0.index d h.0.is_argument) (still h.0.block (edge_reached q place d o l at h.0 h.1))
+        handed q place d o l at (inr h) = argument d h.entry (in_slice (arguments_of t h.entry) h.index d h.is_argument) (still h.entry (entry_reached q place d o l at h))
+
   pub called_starts : (root : ℕ) → AreStarted t root (facts_of u) → AreStarted t root (facts_of w)
   called_starts root started = record {
     inside = λ b r. started.inside b (reached_before b r);
@@ -175,7 +183,7 @@ module _ (x : Says) (t : Tree) (edges : FeasibleEdges) (values users : List ℕ)
   nothing_called none rests = record { blocks = blocks; values = λ v. by v (waits_value w v) refl }
     where
       all_met : MeetsAll (known_constants u) (facts_of u) asked
-      all_met = c.owed (facts_of u) (λ q place d v o i is l at f clear. absurd (subst (In v) none i))
+      all_met = c.owed (facts_of u) (λ q place d v o i is l at h. absurd (subst (In v) none i))
 
       least : AreAtMost (facts_of u) (facts_of w)
       least = a.least (facts_of u) (below_refl (facts_of u)) all_met

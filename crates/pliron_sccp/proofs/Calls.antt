@@ -1,5 +1,5 @@
 -- What values that fell call for, as it is gathered.
-use Rattle.std.proofs.Common.{◌≡◌, ◌⊎◌, ◌↔◌, ⊎_elim, inl, inr, ℕ, zero, suc, ◌+◌, ◌<◌, ◌≤◌, ◌^◌, Bool, true, false, true≢false, nat_eq, if◌then◌else◌, List, [], ◌∷◌, length, slice_get, Option, Some, Result, Ok, Err, refl, sym, ap, ◌∙◌, subst, arith, IsTrue}
+use Rattle.std.proofs.Common.{◌≡◌, ◌⊎◌, ◌↔◌, ⊎_elim, inl, inr, ℕ, zero, suc, ◌+◌, ◌<◌, ◌≤◌, ◌^◌, Bool, true, false, true≢false, nat_eq, if◌then◌else◌, List, [], ◌∷◌, ◌++◌, length, slice_get, Option, Some, Result, Ok, Err, refl, sym, ap, ◌∙◌, subst, arith, IsTrue}
 use Rattle.std.specs.Result.{OnOk}
 use Rattle.std.proofs.lemmas.Bool.{eqb-true, eq-eqb}
 use Rattle.std.proofs.lemmas.Option.{slice_get_within}
@@ -13,10 +13,14 @@ use Rattle.pliron_laws.specs.Tree.{Operation, op_at}
 use Rattle.pliron_laws.proofs.Records.{make_op, op_shows}
 use Rattle.pliron_theory.specs.Facts.{AtMost, Facts, Says}
 use Rattle.pliron_sccp.specs.declared.demands.Demand.{Demand}
+use Rattle.pliron_sccp.specs.declared.demands.Demand.TheVariants.{Lower}
+use Rattle.pliron_sccp.specs.declared.facts.Cell.{Cell}
+use Rattle.pliron_sccp.specs.Cells.{Means}
 use Rattle.pliron_sccp.specs.declared.facts.Tables.{Tables}
 use Rattle.pliron_sccp.specs.declared.edges.FeasibleEdges.{FeasibleEdges}
 use Rattle.pliron_sccp.specs.Demands.{Adds, MeetsAll}
-use Rattle.pliron_sccp.specs.Looking.{AddsEach, AreCalls, AsksAhead, Forwarded, IsAskedAt, IsLookedAt, IsOpenEdge, IsUseOf, NamesNone, SeesTo, TakesUsers}
+use Rattle.pliron_sccp.specs.Looking.{AddsEach, AreCalls, AsksAhead, Forwarded, IsAskedAt, IsHanded, IsLookedAt, IsNamed, IsOpenEdge, IsUseOf, NamesNone, SeesTo, TakesUsers}
+use Rattle.pliron_sccp.proofs.Demanded.{adds_one}
 use Rattle.pliron_sccp.specs.Tables.{known_constants, fact_in, is_numbered, left_values, reaches, waits_block, waits_value, NoValueWaits, SaysSame, TakesValue}
 
 -- what is looked at in one table is in another that says the same of blocks
@@ -55,8 +59,8 @@ module _ (x : Says) (t : Tree) (edges : FeasibleEdges) where
           (λ b. q.seen k place o b l at)
           ((both k place).1 u);
       owed = λ now m all. q.owed now
-          (p.owed now m (λ k place a o u l at f clear. all k place a o ((both k place).0 (inl u)) l at f clear))
-          (λ k place a o u l at f clear. all k place a o ((both k place).0 (inr u)) l at f clear);
+          (p.owed now m (λ k place a o u l at h. all k place a o ((both k place).0 (inl u)) l at h))
+          (λ k place a o u l at h. all k place a o ((both k place).0 (inr u)) l at h);
     }
 
     -- one use
@@ -109,13 +113,32 @@ module _ (x : Says) (t : Tree) (edges : FeasibleEdges) where
         more = λ now m. ((adds now).0 m).0;
         owed = λ now m all. (adds now).1 (
           m,
-          λ b a here is. all a o.0 o.1 (forwarded_there edge index o.0 o.1 (branch o.0 o.1) once b a here is)
-              (subst (IsOpenEdge x s edges o.0 op) (some_is (sym goes ∙ here)) (clear o.0 o.1)),
+          λ b a here is. all a o.0 o.1 (inl (
+            forwarded_there edge index o.0 o.1 (branch o.0 o.1) once b a here is,
+            subst (IsOpenEdge x s edges o.0 op) (some_is (sym goes ∙ here)) (clear o.0 o.1),
+          )),
         );
       }
         where
           o : (o : Operation) × (op_at t op ≡ Some o)
           o = let h = some_of _ live in (_, make_op t op h.0 h.1)
+
+      -- the argument that is named for it is asked, and then more
+      pub named_ahead : (asked' : List Demand) (argument : ℕ) (cell : Cell) → IsLive t op → ((o : Operation) → op_at t op ≡ Some o → IsNamed x t o place argument) → Means (known_constants s) cell (fact_in s v) → asked' ≡ asked ++ Lower argument cell ∷ [] → AsksAhead x t s edges op place v asked asked'
+      named_ahead asked' argument cell live named said grown =
+          let adds = adds_one (known_constants s) asked asked' (Lower argument cell) grown in
+          let h = some_of _ live in
+          let at = make_op t op h.0 h.1 in
+          record {
+            more = λ now m. ((adds now).0 m).0;
+            owed = λ now m all. (adds now).1 (m, (fact_in s v, said, all argument _ at (inr (named _ at))));
+          }
+
+      pub both_ahead : (between asked' : List Demand) → AsksAhead x t s edges op place v asked between → AsksAhead x t s edges op place v between asked' → AsksAhead x t s edges op place v asked asked'
+      both_ahead between asked' first second = record {
+        more = λ now m. first.more now (second.more now m);
+        owed = λ now m all. second.owed now (first.owed now m all) all;
+      }
 
       -- it is looked at again, and something is asked ahead
       pub use_ahead : (more : List ℕ) (asked' : List Demand) → IsLookedAt t s op → AddsEach users more (λ k. op ≡ k) → AsksAhead x t s edges op place v asked asked' → SeesTo x t s edges v IsIt users asked more asked'
@@ -124,7 +147,7 @@ module _ (x : Says) (t : Tree) (edges : FeasibleEdges) where
         more = ahead.more;
         only = λ k i. ⊎_elim (λ j. inl j) (λ e. inr (subst (IsLookedAt t s) e l, (place, (sym e, refl)))) ((a.members k).0 i);
         seen = λ k p o u seen at. inl ((a.members k).1 (inr (sym u.0)));
-        owed = λ now m all. ahead.owed now m (λ b o at f clear. all op place b o (refl, refl) l at f clear);
+        owed = λ now m all. ahead.owed now m (λ b o at h. all op place b o (refl, refl) l at h);
       }
 
       pub use_asked : (asked' : List Demand) (edge index : ℕ) → IsLive t op → IsLookedAt t s op → ((o : Operation) → op_at t op ≡ Some o → (x.can_fold o.head ≡ false) × (x.can_fold_branch o.head ≡ false) × NamesNone x t o × IsTrue (x.meaning.is_branch o.head)) → IsForwardedOnce x.meaning t op place edge index → Adds (known_constants s) asked asked' (λ now. AsksOne edge index now) → SeesTo x t s edges v IsIt users asked users asked'
@@ -135,7 +158,7 @@ module _ (x : Says) (t : Tree) (edges : FeasibleEdges) where
         seen = λ k p o u seen at. inr (asks o (subst (λ z. op_at t z ≡ Some o) u.0 at) p u.1);
         owed = λ now m all. (adds now).1 (
           m,
-          λ b a goes is. all op place a o.0 (refl, refl) l o.1 (forwarded_there edge index o.0 o.1 (one o.0 o.1).3 once b a goes is) (inl (one o.0 o.1).1),
+          λ b a goes is. all op place a o.0 (refl, refl) l o.1 (inl (forwarded_there edge index o.0 o.1 (one o.0 o.1).3 once b a goes is, inl (one o.0 o.1).1)),
         );
       }
         where
@@ -191,6 +214,9 @@ module _ (x : Says) (t : Tree) (edges : FeasibleEdges) where
     clear_then : (k : ℕ) (o : Operation) (b : ℕ) → IsOpenEdge x s edges o k b → IsOpenEdge x u edges o k b
     clear_then k o b clear = ⊎_elim (λ none. inl none) (λ y. inr (reached b ∙ y.0, y.1)) clear
 
+    handed_then : (k place a : ℕ) (o : Operation) → IsHanded x t s edges o k place a → IsHanded x t u edges o k place a
+    handed_then k place a o handed = ⊎_elim (λ h. inl (h.0, clear_then k o h.0.block h.1)) (λ h. inr h) handed
+
     asked_then : (asked : List Demand) (o : Operation) (place v : ℕ) → IsAskedAt x t s asked o place v → IsAskedAt x t u asked o place v
     asked_then asked o place v h = record {
       no_fold = h.no_fold;
@@ -203,7 +229,7 @@ module _ (x : Says) (t : Tree) (edges : FeasibleEdges) where
     calls_then values users asked c = record {
       only = λ k i. let y = c.only k i in (seen_then k y.0, y.1);
       seen = λ k place v o i is l at. ⊎_elim (λ j. inl j) (λ h. inr (asked_then asked o place v h)) (c.seen k place v o i is (seen_before k l) at);
-      owed = λ now all. subst (λ z. MeetsAll z now asked) (sym constants) (c.owed now (λ k place a v o i is l at f clear. subst (AtMost (now.fact a)) (facts v) (all k place a v o i is (seen_then k l) at f (clear_then k o f.block clear))));
+      owed = λ now all. subst (λ z. MeetsAll z now asked) (sym constants) (c.owed now (λ k place a v o i is l at h. subst (AtMost (now.fact a)) (facts v) (all k place a v o i is (seen_then k l) at (handed_then k place a o h))));
     }
 
   -- one value more
@@ -215,8 +241,8 @@ module _ (x : Says) (t : Tree) (edges : FeasibleEdges) where
         (λ j. ⊎_elim (λ h. inl (p.kept k h)) (λ h. inr (asked_more s asked asked' o place w p.more h)) (c.seen k place w o j is l at))
         i;
     owed = λ now all. p.owed now
-        (c.owed now (λ k place a w o i is l at f clear. all k place a w o (inr i) is l at f clear))
-        (λ k place a o is l at f clear. all k place a v o (inl refl) is l at f clear);
+        (c.owed now (λ k place a w o i is l at h. all k place a w o (inr i) is l at h))
+        (λ k place a o is l at h. all k place a v o (inl refl) is l at h);
   }
 
   calls_none : (s : Tables) (users : List ℕ) (asked : List Demand) → users ≡ [] → asked ≡ [] → AreCalls x t s edges [] users asked

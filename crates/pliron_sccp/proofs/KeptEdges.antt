@@ -7,7 +7,7 @@ use Rattle.pliron_laws.proofs.Records.{op_shows}
 use Rattle.pliron_theory.specs.Facts.{Facts, Says, handed}
 use Rattle.pliron_sccp.specs.declared.edges.FeasibleEdges.{FeasibleEdges}
 use Rattle.pliron_sccp.specs.Demands.{AreFeasible}
-use Rattle.pliron_sccp.specs.Feasible.{holds, is_one_key, AreFound, KeepsAmong, KeepsFeasible}
+use Rattle.pliron_sccp.specs.Feasible.{holds, is_one_key, leads, AreFound, KeepsAmong, KeepsFeasible}
 use Rattle.pliron_sccp.proofs.EdgesAsked.{may}
 
 -- one operation's blocks are kept
@@ -23,6 +23,10 @@ kept_one find more op blocks new k b led = by (is_one_key op k) refl
     by : (z : Bool) → is_one_key op k ≡ z → (holds (find k) b ≡ true) ⊎ ((k ≡ op) × (holds (Some blocks) b ≡ true))
     by true e = inr (sym (one_key op k e), found true e)
     by false e = inl (found false e)
+
+-- what was kept before was as much
+pub kept_past : {S : Type 0} (op : ℕ) (blocks : Option (HashSet ℕ S)) (before between edges' : FeasibleEdges) → ((k b : ℕ) → leads between k b ≡ leads before k b) → KeepsAmong op blocks between edges' → KeepsAmong op blocks before edges'
+kept_past op blocks before between edges' same keeps = λ j b led. ⊎_elim (λ h. inl (sym (same j b) ∙ h)) (λ y. inr y) (keeps j b led)
 
 -- the operation may go to the blocks that folding answers
 pub are_found : {S : Type 0} (x : Says) (t : Tree) (f : Facts) (op : ℕ) (known : List (Option AttrObj)) → known ≡ handed f (operands_of t op) → (blocks : Option (HashSet ℕ S)) → AreFeasible x.meaning x.can_fold_branch x.feasible t op known blocks → AreFound x t f op blocks

@@ -79,10 +79,25 @@ pub record Forwarded (x : Says) (t : Tree) (o : Operation) (place argument : ℕ
 abbrev pub IsOpenEdge : Says → Tables → FeasibleEdges → Operation → (k b : ℕ) → Type 0
 IsOpenEdge x s edges o k b = (x.can_fold_branch o.head ≡ false) ⊎ ((reaches s b ≡ true) × (leads edges k b ≡ true))
 
--- more is asked at most of the argument to which an open edge forwards the value v from this place of the operation
+-- the operation names its operand at this place for the argument
+pub record IsNamed (x : Says) (t : Tree) (o : Operation) (place argument : ℕ) : Type 0 where
+  pub region : ℕ
+  pub key : ℕ
+  pub entry : ℕ
+  pub index : ℕ
+  pub in_place : slice_get o.regions region ≡ Some key
+  pub first : first_of (layout_of t key) None ≡ Some entry
+  pub is_argument : slice_get (arguments_of t entry) index ≡ Some argument
+  pub names : x.entry_operands (shape_of x.meaning t o) region index ≡ Some place
+
+-- the argument gets the operand at this place of the operation k for sure: along an open edge, or since it is named for it
+abbrev pub IsHanded : Says → Tree → Tables → FeasibleEdges → Operation → (k place argument : ℕ) → Type 0
+IsHanded x t s edges o k place argument = ((f : Forwarded x t o place argument) × IsOpenEdge x s edges o k f.block) ⊎ IsNamed x t o place argument
+
+-- more is asked at most of the arguments that get the value v from this place of the operation for sure
 pub record AsksAhead (x : Says) (t : Tree) (s : Tables) (edges : FeasibleEdges) (k place v : ℕ) (asked asked' : List Demand) : Type 0 where
   pub more : (now : Facts) → MeetsAll (known_constants s) now asked' → MeetsAll (known_constants s) now asked
-  pub owed : (now : Facts) → MeetsAll (known_constants s) now asked → ((a : ℕ) (o : Operation) → op_at t k ≡ Some o → (f : Forwarded x t o place a) → IsOpenEdge x s edges o k f.block → AtMost (now.fact a) (fact_in s v)) → MeetsAll (known_constants s) now asked'
+  pub owed : (now : Facts) → MeetsAll (known_constants s) now asked → ((a : ℕ) (o : Operation) → op_at t k ≡ Some o → IsHanded x t s edges o k place a → AtMost (now.fact a) (fact_in s v)) → MeetsAll (known_constants s) now asked'
 
 -- the operation names no operand for an argument of an entry
 abbrev pub NamesNone : Says → Tree → Operation → Type 0
@@ -110,7 +125,7 @@ pub record SeesTo (x : Says) (t : Tree) (s : Tables) (edges : FeasibleEdges) (v 
   pub more : (now : Facts) → MeetsAll (known_constants s) now asked' → MeetsAll (known_constants s) now asked
   pub only : (k : ℕ) → In k users' → In k users ⊎ (IsLookedAt t s k × ((place : ℕ) × IsUse k place))
   pub seen : (k place : ℕ) (o : Operation) → IsUse k place → IsLookedAt t s k → op_at t k ≡ Some o → In k users' ⊎ IsAskedAt x t s asked' o place v
-  pub owed : (now : Facts) → MeetsAll (known_constants s) now asked → ((k place a : ℕ) (o : Operation) → IsUse k place → IsLookedAt t s k → op_at t k ≡ Some o → (f : Forwarded x t o place a) → IsOpenEdge x s edges o k f.block → AtMost (now.fact a) (fact_in s v)) → MeetsAll (known_constants s) now asked'
+  pub owed : (now : Facts) → MeetsAll (known_constants s) now asked → ((k place a : ℕ) (o : Operation) → IsUse k place → IsLookedAt t s k → op_at t k ≡ Some o → IsHanded x t s edges o k place a → AtMost (now.fact a) (fact_in s v)) → MeetsAll (known_constants s) now asked'
 
 -- the operation has the value at this place
 abbrev pub IsUseOf : Tree → (v k place : ℕ) → Type 0
@@ -120,7 +135,7 @@ IsUseOf t v k place = slice_get (operands_of t k) place ≡ Some v
 pub record AreCalls (x : Says) (t : Tree) (s : Tables) (edges : FeasibleEdges) (values users : List ℕ) (asked : List Demand) : Type 0 where
   pub only : (k : ℕ) → In k users → IsLookedAt t s k × ((v : ℕ) × In v values)
   pub seen : (k place v : ℕ) (o : Operation) → In v values → IsUseOf t v k place → IsLookedAt t s k → op_at t k ≡ Some o → In k users ⊎ IsAskedAt x t s asked o place v
-  pub owed : (now : Facts) → ((k place a v : ℕ) (o : Operation) → In v values → IsUseOf t v k place → IsLookedAt t s k → op_at t k ≡ Some o → (f : Forwarded x t o place a) → IsOpenEdge x s edges o k f.block → AtMost (now.fact a) (fact_in s v)) → MeetsAll (known_constants s) now asked
+  pub owed : (now : Facts) → ((k place a v : ℕ) (o : Operation) → In v values → IsUseOf t v k place → IsLookedAt t s k → op_at t k ≡ Some o → IsHanded x t s edges o k place a → AtMost (now.fact a) (fact_in s v)) → MeetsAll (known_constants s) now asked
 
 -- all values that waited were taken, so many, and this is what they call for
 pub record TakesUsers (x : Says) (t : Tree) (edges : FeasibleEdges) (users : List ℕ) (asked : List Demand) (s s' : Tables) (taken : ℕ) : Type 0 where

@@ -1,23 +1,27 @@
-//! Edges that were found feasible, kept for operations with many operands.
+//! Edges that were found feasible, and arguments that operands are named for, kept for operations with many operands.
 ghost use Rattle.std.specs.Prelude.{◌≡◌, ◌↔◌, false, ℕ, Some, OnOk, IsOkUnless, IsTrue};
 ghost use Rattle.indexmap.specs.IndexMap.{index_map_len};
+ghost use Rattle.pliron_core.specs.Tree.{IsLive};
 ghost use Rattle.pliron_sccp.specs.Feasible.{leads, KeepsAmong};
 
+use crate::named::Candidates;
 use indexmap::IndexMap;
-use pliron_core::{BasicBlock, Operation, Ptr};
-use pliron_laws::OptError;
+use pliron_core::{BasicBlock, Context, Operation, Ptr};
+use pliron_laws::{Dialect, OptError};
 use std::alloc::Global;
 use std::collections::HashSet;
 
-/// How many looks are few. What was looked at more often has its edges kept.
+/// How many looks are few. What was looked at more often has its edges kept, and its named operands listed.
 const FEW_LOOKS: usize = 4;
 
 /// Of operations that fold as branches and were looked at more than a few times, the blocks that they may go to by
-/// the facts of their last look. Facts only fall, and where folds are monotone such a block stays one.
+/// the facts of their last look. Facts only fall, and where folds are monotone such a block stays one. Of operations
+/// that name operands and were looked at as often, the arguments that they name them for.
 #[derive(Drop)]
 pub struct FeasibleEdges {
     looks: IndexMap<Ptr<Operation>, usize>,
     blocks: IndexMap<Ptr<Operation>, HashSet<u64>>,
+    named: IndexMap<Ptr<Operation>, Candidates>,
 }
 
 impl FeasibleEdges {
@@ -28,6 +32,7 @@ impl FeasibleEdges {
         FeasibleEdges {
             looks: IndexMap::new(alloc),
             blocks: IndexMap::new(alloc),
+            named: IndexMap::new(alloc),
         }
     }
 
@@ -60,11 +65,39 @@ impl FeasibleEdges {
         Ok(())
     }
 
+    /// The operation was looked at once more: where that was more than a few times the arguments that it names operands
+    /// for are listed, once.
+    ///
+    /// Asks that it stands. Errors: want of memory. Cost: constant, and once one step for each operand, region and
+    /// argument of an entry.
+    pub fn keep_named<D: Dialect>(
+        &mut self,
+        alloc: Global,
+        op: Ptr<Operation>,
+        ctx: &Context,
+    ) -> Result<(), OptError>
+        requires { IsLive ctx.now.tree op }
+        ensures ok { OnOk result ((k b : ℕ) → leads self.new k b ≡ leads self.old k b) }
+        ensures memory { IsOkUnless result OptError.Memory }
+    {
+        if self.count(op)? <= FEW_LOOKS || self.named.contains_key(&op) {
+            return Ok(());
+        }
+        let candidates = Candidates::of::<D>(alloc, op, ctx)?;
+        self.named.insert(op, candidates)?;
+        Ok(())
+    }
+
+    /// The arguments that the operation most likely names its operands for, where they are listed. Cost: a look-up.
+    pub fn named(&self, op: Ptr<Operation>) -> Option<&Candidates> {
+        self.named.get(&op)
+    }
+
     /// Whether nothing is kept. Cost: constant.
     pub fn is_empty(&self) -> bool
-        ensures { IsTrue result ↔ (index_map_len self.now.blocks ≡ 0) }
+        ensures { IsTrue result ↔ ((index_map_len self.now.blocks ≡ 0) × (index_map_len self.now.named ≡ 0)) }
     {
-        self.blocks.is_empty()
+        self.blocks.is_empty() && self.named.is_empty()
     }
 
     /// Whether the block is kept as one that the operation may go to. Cost: two look-ups.

@@ -12,6 +12,7 @@ mod edges;
 mod facts;
 mod guesses;
 mod inside;
+mod named;
 mod propagation;
 mod rewrite;
 mod search;

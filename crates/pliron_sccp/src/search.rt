@@ -17,18 +17,20 @@
 //! at when all of them fell, and not after each. Where it makes its own next operand fall, as in a loop that
 //! moves its arguments on by one place, that would be no help: so what was looked at more than a few times is
 //! asked at once for what it forwards along an edge that its last look found feasible, one argument for each
-//! operand that fell. The order decides no fact.
-ghost use Rattle.std.specs.Prelude.{◌≡◌, ◌<◌, ◌↔◌, ℕ, true, OnOk, IfOk, IsTrue, IsOkUnless, Some, length, slice_get};
+//! operand that fell, and for the arguments of its regions' entries that it names this operand for. The order
+//! decides no fact.
+ghost use Rattle.std.specs.Prelude.{◌≡◌, ◌<◌, ◌↔◌, ℕ, true, OnOk, IfOk, IfSome, IsTrue, IsOkUnless, Some, length, slice_get};
 ghost use Rattle.pliron_core.specs.Tree.{IsLive, IsBlock, In, arguments_of, body_of, successors_of};
 ghost use Rattle.pliron_laws.specs.Answers.{ReadsHead};
 ghost use Rattle.pliron_laws.specs.Linked.{IsWellLinked};
+ghost use Rattle.pliron_laws.specs.Tree.{Operation as OperationOf, op_at};
 ghost use Rattle.pliron_laws.specs.declared.dialect.Interface.TheVariants.{RegionBranch};
 ghost use Rattle.pliron_theory.specs.Facts.{AtMost};
 ghost use Rattle.pliron_sccp.specs.Accounts.{IsUnsearched};
 ghost use Rattle.pliron_sccp.specs.Delaying.{delayed};
 ghost use Rattle.pliron_sccp.specs.Demands.{Adds};
 ghost use Rattle.pliron_sccp.specs.Feasible.{leads, KeepsAmong, KeepsFeasible};
-ghost use Rattle.pliron_sccp.specs.Looking.{either, AreTargetsNumbered, AsksAhead, GoesThrough, HasNumberedTargets, IsCallFor, IsLookedAt, IsUseOf, LooksAt, SeesTo, TakesUsers};
+ghost use Rattle.pliron_sccp.specs.Looking.{either, AreTargetsNumbered, AsksAhead, GoesThrough, HasNumberedTargets, IsCallFor, IsLookedAt, IsNamed, IsUseOf, LooksAt, SeesTo, TakesUsers};
 ghost use Rattle.pliron_sccp.specs.Searched.{IsSearched};
 ghost use Rattle.pliron_sccp.specs.Searching.{IsSeenTo, LooksAside, SeesToAll, TakesTurn, VisitsValues};
 ghost use Rattle.pliron_sccp.specs.Starting.{IsStarted};
@@ -39,6 +41,7 @@ use crate::demands::{Demand, ask_entries, demands, meet_all};
 use crate::edges::FeasibleEdges;
 use crate::facts::Tables;
 use crate::inside::{all_blocks, block_numbers, value_numbers};
+use crate::named::Candidate;
 use indexmap::IndexSet;
 use pliron_core::{BasicBlock, Context, Operation, Ptr, Value};
 use pliron_laws::{Dialect, Interface, OptError};
@@ -164,8 +167,106 @@ fn is_open(
     tables.reaches(block) && edges.leads(op, block)
 }
 
-/// Asks the one argument to which a branch with many operands forwards the value from this place, if the edge was
-/// found feasible: so a look at its other operands may wait until all of them fell.
+/// The argument of an entry that is listed so, if it is there and the operation names this place for it.
+fn named_argument<D: Dialect>(
+    op: Ptr<Operation>,
+    place: usize,
+    candidate: Candidate,
+    ctx: &Context,
+) -> Option<Value>
+    requires { IsLive ctx.now.tree op }
+    ensures { IfSome result (λ a. (o : OperationOf) → op_at ctx.now.tree op ≡ Some o → IsNamed ⟦<D as HasFolding>⟧.folding ctx.now.tree o place a) }
+{
+    let Candidate { region, index, .. } = candidate;
+    if region >= op.num_region(ctx) {
+        return None;
+    }
+    let entry = op.get_region(ctx, region).get_head(ctx)?;
+    if index >= entry.num_argument(ctx) {
+        return None;
+    }
+    match D::entry_operand(op, ctx, region, index) {
+        Some(named) if named == place => Some(entry.get_argument(ctx, index)),
+        _ => None,
+    }
+}
+
+/// Asks the argument that is listed so, if the operation names this place for it.
+fn ask_candidate<D: Dialect>(
+    op: Ptr<Operation>,
+    place: usize,
+    candidate: Candidate,
+    value: Value,
+    ctx: &Context,
+    tables: &Tables,
+    asked: &mut Vec<Demand>,
+) -> Result<(), OptError>
+    requires { IsLive ctx.now.tree op }
+    ensures ok { OnOk result ((edges : FeasibleEdges) → AsksAhead ⟦<D as HasFolding>⟧.folding ctx.now.tree tables.now edges op place value asked.old.items asked.new.items) }
+    ensures memory { IsOkUnless result OptError.Memory }
+{
+    let Some(argument) = named_argument::<D>(op, place, candidate, ctx) else {
+        return Ok(());
+    };
+    let cell = tables.cell(value);
+    asked.push(Demand::Lower(argument, cell))?;
+    Ok(())
+}
+
+/// Asks the arguments for which an operation with many operands names this place, if it was looked at more than a few times.
+fn ask_named_ahead<D: Dialect>(
+    op: Ptr<Operation>,
+    place: usize,
+    value: Value,
+    ctx: &Context,
+    tables: &Tables,
+    edges: &FeasibleEdges,
+    asked: &mut Vec<Demand>,
+) -> Result<(), OptError>
+    requires { IsLive ctx.now.tree op }
+    ensures ok { OnOk result (AsksAhead ⟦<D as HasFolding>⟧.folding ctx.now.tree tables.now edges.now op place value asked.old.items asked.new.items) }
+    ensures memory { IsOkUnless result OptError.Memory }
+{
+    let Some(candidates) = edges.named(op) else {
+        return Ok(());
+    };
+    let mut count = candidates.last(place);
+    while let Some(candidate) = candidates.get(count) {
+        ask_candidate::<D>(op, place, candidate, value, ctx, tables, asked)?;
+        count = candidate.before;
+    }
+    Ok(())
+}
+
+/// Asks the one argument to which a branch forwards the value from this place, if the edge was found feasible.
+fn ask_forwarded_ahead<D: Dialect>(
+    op: Ptr<Operation>,
+    place: usize,
+    value: Value,
+    ctx: &Context,
+    tables: &Tables,
+    edges: &FeasibleEdges,
+    asked: &mut Vec<Demand>,
+) -> Result<(), OptError>
+    requires { IsLive ctx.now.tree op }
+    ensures ok { OnOk result (AsksAhead ⟦<D as HasFolding>⟧.folding ctx.now.tree tables.now edges.now op place value asked.old.items asked.new.items) }
+    ensures memory { IsOkUnless result OptError.Memory }
+{
+    if !D::is_branch(op, ctx) {
+        return Ok(());
+    }
+    let Some((edge, index)) = D::forwarded_from(op, ctx, place) else {
+        return Ok(());
+    };
+    if is_open(op, op.get_successor(ctx, edge), tables, edges) {
+        ask_argument(op, edge, index, value, ctx, tables, asked)
+    } else {
+        Ok(())
+    }
+}
+
+/// Asks at once what an operation with many operands hands on from this place: so a look at its other operands may
+/// wait until all of them fell.
 fn ask_ahead<D: Dialect>(
     op: Ptr<Operation>,
     place: usize,
@@ -179,17 +280,11 @@ fn ask_ahead<D: Dialect>(
     ensures ok { OnOk result (AsksAhead ⟦<D as HasFolding>⟧.folding ctx.now.tree tables.now edges.now op place value asked.old.items asked.new.items) }
     ensures memory { IsOkUnless result OptError.Memory }
 {
-    if edges.is_empty() || op.num_operand(ctx) <= FEW_OPERANDS || !D::is_branch(op, ctx) {
+    if edges.is_empty() || op.num_operand(ctx) <= FEW_OPERANDS {
         return Ok(());
     }
-    let Some((edge, index)) = D::forwarded_from(op, ctx, place) else {
-        return Ok(());
-    };
-    if is_open(op, op.get_successor(ctx, edge), tables, edges) {
-        ask_argument(op, edge, index, value, ctx, tables, asked)
-    } else {
-        Ok(())
-    }
+    ask_named_ahead::<D>(op, place, value, ctx, tables, edges, asked)?;
+    ask_forwarded_ahead::<D>(op, place, value, ctx, tables, edges, asked)
 }
 
 /// Sees to one use of a value that fell, where was looked.
@@ -313,7 +408,27 @@ fn keep_feasible(
     }
 }
 
-/// Looks at the operation, and if it has many operands and folds as a branch, keeps the blocks that it may go to.
+/// Lists the arguments that the operation names operands for, if it has many operands and was looked at more than a few
+/// times.
+fn keep_candidates<D: Dialect>(
+    alloc: Global,
+    op: Ptr<Operation>,
+    ctx: &Context,
+    edges: &mut FeasibleEdges,
+) -> Result<(), OptError>
+    requires { IsLive ctx.now.tree op }
+    ensures ok { OnOk result ((k b : ℕ) → leads edges.new k b ≡ leads edges.old k b) }
+    ensures memory { IsOkUnless result OptError.Memory }
+{
+    if op.num_operand(ctx) > FEW_OPERANDS && D::implements(op, ctx, Interface::RegionBranch) {
+        edges.keep_named::<D>(alloc, op, ctx)
+    } else {
+        Ok(())
+    }
+}
+
+/// Looks at the operation, and if it has many operands keeps the blocks that it may go to, where it folds as a branch,
+/// and lists the arguments that it names operands for.
 ///
 /// Asks what `look_at` asks. Errors: want of memory. Cost: that of what it asks.
 fn look_and_keep<D: Dialect>(
@@ -332,6 +447,7 @@ fn look_and_keep<D: Dialect>(
     let mut feasible = None;
     let demanded = demands::<D>(alloc, op, ctx, tables, &mut feasible)?;
     meet_all(demanded, tables);
+    keep_candidates::<D>(alloc, op, ctx, edges)?;
     keep_feasible(op, feasible, ctx, edges)
 }
 

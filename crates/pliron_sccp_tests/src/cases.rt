@@ -13,8 +13,9 @@
 //! that fall one after the other and that a branch behind it forwards; branches that come to be feasible only when
 //! their condition falls, one by itself, one after what it forwards fell too, and two of which the shorter one is looked
 //! at first; a loop in which such a branch makes its own operands fall, and one in which two make each other's fall in
-//! turn; and one of which the last operand falls that it forwards along an edge which isn't feasible, to a block that is
-//! reached.
+//! turn; one of which the last operand falls that it forwards along an edge which isn't feasible, to a block that is
+//! reached; and a loop that moves the arguments of a `scope` on to its next operands, with three operands, and with ten
+//! of which the last two stay constant: the loop forwards a constant to the ninth, and so what is named for it to the tenth.
 
 pub static ROWS: &str = "\
 C 1 3 0 func { b0(): a = const 1; b = const 2; c = add a b; ret c } => func { b0(): v0 = const 1; v1 = const 2; v2 = const 3; v3 = add v0 v1; ret v2 }
@@ -110,7 +111,17 @@ U 4 1 19 func { b0(): o = const 1; br b1(o, o, o, o, o, o, o, o); b1(a, b, c, d,
 C 3 2 10 func { b0(x): o = const 1; cbr x b1(o, o, o, o, o, o, o, o) b2(o); \
     b1(a, b, c, d, e, f, g, h): r = read; cbr o b1(r, a, b, c, d, e, f, g) b2(h); b2(u): ret u } \
     => func { b0(v0): v1 = const 1; cbr v0 b1(v1, v1, v1, v1, v1, v1, v1, v1) b2(v1); \
-        b1(v2, v3, v4, v5, v6, v7, v8, v9): v10 = read; cbr v1 b1(v10, v2, v3, v4, v5, v6, v7, v8) b2(v9); b2(v11): v12 = const 1; ret v12 }";
+        b1(v2, v3, v4, v5, v6, v7, v8, v9): v10 = read; cbr v1 b1(v10, v2, v3, v4, v5, v6, v7, v8) b2(v9); b2(v11): v12 = const 1; ret v12 }
+U 4 1 8 func { b0(): a = const 1; br b1(a, a, a); b1(x, y, z): g = read; h = read; scope x y z { b0(p, q, r): ret }; cbr h b1(g, p, q) b2(); b2(): ret } \
+    => func { b0(): v0 = const 1; br b1(v0, v0, v0); b1(v1, v2, v3): v4 = read; v5 = read; scope v1 v2 v3 { b0(v6, v7, v8): ret }; \
+        cbr v5 b1(v4, v6, v7) b2(); b2(): ret }
+C 4 5 18 func { b0(): a = const 1; br b1(a, a, a, a, a, a, a, a, a, a); b1(q, r, s, t, u, v, w, x, y, z): g = read; h = read; \
+    scope q r s t u v w x y z { b0(Q, R, S, T, U, V, W, X, Y, Z): print X; print Z; ret }; \
+    cbr h b1(g, Q, R, S, T, U, V, W, a, Y) b2(); b2(): ret } \
+    => func { b0(): v0 = const 1; br b1(v0, v0, v0, v0, v0, v0, v0, v0, v0, v0); b1(v1, v2, v3, v4, v5, v6, v7, v8, v9, v10): \
+        v11 = const 1; v12 = const 1; v13 = read; v14 = read; scope v1 v2 v3 v4 v5 v6 v7 v8 v12 v11 { \
+        b0(v15, v16, v17, v18, v19, v20, v21, v22, v23, v24): v25 = const 1; v26 = const 1; print v22; print v25; ret }; \
+        cbr v14 b1(v13, v15, v16, v17, v18, v19, v20, v21, v0, v26) b2(); b2(): ret }";
 
 pub static MADE: &str = "\
 U 1 0 0 func { b0(): sink; ret; b1(): v0 = read; v1 = div v0 v0; cbr v1 b1() b2(); b2(): sink; ret } \

@@ -1,13 +1,11 @@
-use Rattle.std.proofs.Common.{inr, [], sym, ◌∙◌}
-use Rattle.pliron_laws.proofs.ShapeLemmas.{head_at}
+use Rattle.std.proofs.Common.{[]}
 use Rattle.pliron_theory.specs.Facts.{Says}
-use Rattle.pliron_sccp.proofs.Calls.{one_ahead, on_ok_then}
+use Rattle.pliron_sccp.proofs.Calls.{both_ahead, on_ok_then}
 use Rattle.pliron_sccp.proofs.search.ask_ahead.Goals as goal
 
-pub returns-then-is_open-clause-ok : goal.returns-then-is_open-clause-ok
-returns-then-is_open-clause-ok g c =
+pub returns-clause-ok : goal.returns-clause-ok
+returns-clause-ok g c =
     let x : Says = record { meaning = g.D.HasMeaning.meaning; can_fold = g.D.ConstFoldInterface.can_fold; can_fold_branch = g.D.BranchOpFoldInterface.can_fold_branch; constants = g.D.ConstFoldInterface.constants; feasible = g.D.BranchOpFoldInterface.feasible; entry_operands = g.D.RegionBranchOpInterface.entry_operands } in
-    let t = c.args.ctx.now.tree in
-    on_ok_then c.ask_argument.result
-    (λ adds. one_ahead x t c.args.edges.now c.args.tables.now c.args.value c.args.op c.args.place [] c.args.asked.now.items c.ask_argument.new.asked.items c.in-Some.edge c.in-Some.index c.get_successor.result c.requires (λ o at. sym (c.is_branch.ensures o.head (head_at t c.args.op o at)) ∙ c.if-not-is_branch.false) c.in-Some.ensures c.get_successor.ensures.successor (λ o at. inr (c.is_open.ensures c.if-is_open.true)) adds)
-    c.ask_argument.ensures.ok
+    on_ok_then c.ask_forwarded_ahead.result
+    (λ ahead. both_ahead x c.args.ctx.now.tree c.args.edges.now c.args.tables.now c.args.value c.args.op c.args.place [] c.args.asked.now.items c.ask_named_ahead.new.asked.items c.ask_forwarded_ahead.new.asked.items c.in_ok-ask_named_ahead.ensures.ok ahead)
+    c.ask_forwarded_ahead.ensures.ok

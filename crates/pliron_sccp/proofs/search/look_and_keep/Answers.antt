@@ -2,7 +2,7 @@ use Rattle.std.proofs.lemmas.Result.{on_ok_weaker}
 use Rattle.pliron_theory.specs.Facts.{Says}
 use Rattle.pliron_sccp.specs.Tables.{facts_of}
 use Rattle.pliron_sccp.proofs.Stepping.{can_meet}
-use Rattle.pliron_sccp.proofs.KeptEdges.{keeps_found}
+use Rattle.pliron_sccp.proofs.KeptEdges.{keeps_found, kept_past}
 use Rattle.pliron_sccp.proofs.search.look_and_keep.Goals as goal
 
 pub meet_all-requires : goal.meet_all-requires
@@ -16,4 +16,4 @@ returns-clause-looks g c = on_ok_weaker c.keep_feasible.result (λ kept. record 
 pub returns-clause-keeps : goal.returns-clause-keeps
 returns-clause-keeps g c =
     let x : Says = record { meaning = g.D.HasMeaning.meaning; can_fold = g.D.ConstFoldInterface.can_fold; can_fold_branch = g.D.BranchOpFoldInterface.can_fold_branch; constants = g.D.ConstFoldInterface.constants; feasible = g.D.BranchOpFoldInterface.feasible; entry_operands = g.D.RegionBranchOpInterface.entry_operands } in
-    on_ok_weaker c.keep_feasible.result (λ kept. keeps_found x c.args.ctx.now.tree (facts_of c.args.tables.now) c.args.op c.demands.new.feasible c.args.edges.now c.keep_feasible.new.edges c.in_ok-demanded.ensures.feasible kept) c.keep_feasible.ensures.ok
+    on_ok_weaker c.keep_feasible.result (λ kept. keeps_found x c.args.ctx.now.tree (facts_of c.args.tables.now) c.args.op c.demands.new.feasible c.args.edges.now c.keep_feasible.new.edges c.in_ok-demanded.ensures.feasible (kept_past c.args.op c.demands.new.feasible c.args.edges.now c.keep_candidates.new.edges c.keep_feasible.new.edges c.in_ok-keep_candidates.ensures.ok kept)) c.keep_feasible.ensures.ok
