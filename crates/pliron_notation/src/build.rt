@@ -326,7 +326,7 @@ fn connect(
         Wires s number (number + 1) ctx.old.tree ctx.new.tree built.now) }
 {
     let op = built.operations[number];
-    add_operands(ctx, built, op, &text.operands)?;
+    add_operands(ctx, built, op, text.operands.as_slice())?;
     add_successors(ctx, built, op, &text.successors)
 }
 

@@ -142,7 +142,7 @@ impl Labels {
     }
 
     /// Writes the label's number for each place. A place without one stays. Cost: the number of places.
-    pub fn resolve(&self, places: &mut Vec<usize>) {
+    pub fn resolve(&self, places: &mut [usize]) {
         for place in places.iter_mut() {
             match self.entries.get(*place) {
                 Some(

@@ -6,6 +6,7 @@ use crate::stop::Stop;
 use crate::syntax::{BlockText, OperationText, Step, Syntax};
 use crate::tokens::{Name, Token, Tokens};
 use pliron_bench::BenchKind;
+use smallvec::SmallVec;
 use std::alloc::Global;
 
 /// The most regions that stand in one another.
@@ -70,6 +71,7 @@ struct Parser<'t> {
 
 /// The syntax of a text, by its tokens. Errors: `Unreadable` where the text is outside the notation; want of
 /// memory. Cost: linear in the tokens.
+#[inline(never)]
 pub fn parse(alloc: Global, text: &Tokens<BenchKind>) -> Result<Syntax, Stop> {
     let mut cursor = Cursor::new(&text.tokens);
     let root = cursor.kind(Expected::Root)?;
@@ -255,7 +257,7 @@ impl Parser<'_> {
             number: 0,
             first_edge: 0,
             block,
-            operands: Vec::new(self.alloc),
+            operands: SmallVec::new(self.alloc),
             successors: Vec::new(self.alloc),
         };
         self.tail(&mut text)?;
@@ -412,8 +414,8 @@ impl Parser<'_> {
             (None, Some(block)) => return Err(Stop::at(block, Expected::DefinedBlock)),
         }
         for operation in self.syntax.operations.iter_mut() {
-            self.values.resolve(&mut operation.operands);
-            self.blocks.resolve(&mut operation.successors);
+            self.values.resolve(operation.operands.as_mut_slice());
+            self.blocks.resolve(operation.successors.as_mut_slice());
         }
         Ok(())
     }

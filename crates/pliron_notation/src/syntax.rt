@@ -4,6 +4,7 @@ ghost use Rattle.pliron_bench.specs.Bench.{head_with, takes_attributes, takes_op
 ghost use Rattle.pliron_notation.specs.Notation.{AllBelow, AreInRegion, AreSoundOperations, IsAdmittedText, IsNext, IsOrdered, IsSoundSyntax, IsSoundOperation, IsUpToLast, first_made};
 
 use pliron_bench::BenchKind;
+use smallvec::SmallVec;
 use std::alloc::{AllocError, Global};
 
 /// What a text writes of an operation inside another one. Values, blocks and regions go by the numbers
@@ -17,7 +18,7 @@ pub struct OperationText {
     pub first_edge: usize,
     /// The block that it stands in.
     pub block: usize,
-    pub operands: Vec<usize>,
+    pub operands: SmallVec<usize, 2>,
     pub successors: Vec<usize>,
 }
 
@@ -125,7 +126,7 @@ impl Syntax {
         if !operation.is_admitted() || !is_placed(block.last, number, operation) {
             return false;
         }
-        if !are_below(&operation.operands, self.values) {
+        if !are_below(operation.operands.as_slice(), self.values) {
             return false;
         }
         self.are_in_region(&operation.successors, block.region)

@@ -158,6 +158,7 @@ pub struct Tokens<K> {
 
 /// The tokens of a text, up to the first place that is no token. Errors: want of memory. Cost: linear in the
 /// text, but for look-ups of words.
+#[inline(never)]
 pub fn tokenise<K: Word>(alloc: Global, text: &[u8]) -> Result<Tokens<K>, AllocError> {
     let mut words = Words::new(alloc, text.len())?;
     let mut tokens = Vec::with_capacity(alloc, text.len() / 2)?;
