@@ -62,12 +62,18 @@ pub fn build(alloc: Global, syntax: &Syntax, ctx: &mut Context) -> Result<Ptr<Op
     build_reserved(alloc, syntax, ctx)
 }
 
-/// Makes room for all operations, blocks and values of a text. Errors: want of memory.
+/// Makes room for all operations, blocks and values of a text, and for as many operations and values again, so
+/// that a pass that makes a few, as a constant for each value, grows no table. Errors: want of memory. Cost: what
+/// isn't used is never written, and takes addresses and no memory where a system gives memory at the first write.
 fn reserve_all(syntax: &Syntax, ctx: &mut Context) -> Result<(), NoMemory>
     ensures { ctx.new ≡ ctx.old }
 {
     let operations = syntax.operations.len().saturating_add(1);
-    ctx.reserve(operations, syntax.blocks.len(), syntax.values)
+    ctx.reserve(
+        operations.saturating_mul(2),
+        syntax.blocks.len(),
+        syntax.values.saturating_mul(2),
+    )
 }
 
 /// Builds the operation of a text, for which room is reserved.
@@ -320,7 +326,7 @@ fn connect(
         Wires s number (number + 1) ctx.old.tree ctx.new.tree built.now) }
 {
     let op = built.operations[number];
-    add_operands(ctx, built, op, &text.operands)?;
+    add_operands(ctx, built, op, text.operands.as_slice())?;
     add_successors(ctx, built, op, &text.successors)
 }
 

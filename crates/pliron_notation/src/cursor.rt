@@ -7,27 +7,25 @@ use crate::words::Word;
 /// The tokens that are left.
 #[derive(Drop)]
 pub struct Cursor<'t, K> {
-    count: usize,
-    rest: &'t [Token<K>],
+    tokens: &'t [Token<K>],
+    /// How many were taken.
+    taken: usize,
 }
 
 impl<'t, K: Word> Cursor<'t, K> {
     /// All these tokens are left. Cost: constant.
     pub fn new(tokens: &'t [Token<K>]) -> Self {
-        Cursor {
-            count: tokens.len(),
-            rest: tokens,
-        }
+        Cursor { tokens, taken: 0 }
     }
 
     /// How many tokens are left. Cost: constant.
     pub fn len(&self) -> usize {
-        self.rest.len()
+        self.tokens.len().saturating_sub(self.taken)
     }
 
     /// The next token was to be something else. Cost: constant.
     pub fn stop(&self, expected: Expected) -> Stop {
-        Stop::at(self.count.saturating_sub(self.rest.len()), expected)
+        Stop::at(self.taken, expected)
     }
 
     /// The token that was taken last was to be something else. Cost: constant.
@@ -37,27 +35,24 @@ impl<'t, K: Word> Cursor<'t, K> {
 
     /// The number of the token that was taken last. Cost: constant.
     pub fn last(&self) -> usize {
-        let next = self.count.saturating_sub(self.rest.len());
-        next.saturating_sub(1)
+        self.taken.saturating_sub(1)
     }
 
     /// The next token. Cost: constant.
     fn peek(&self) -> Option<Token<K>> {
-        self.rest.first().copied()
+        self.tokens.get(self.taken).copied()
     }
 
     /// Goes to the token after the next one. Cost: constant.
     fn skip(&mut self) {
-        if let Some((_, rest)) = self.rest.split_first() {
-            self.rest = rest;
-        }
+        self.taken = self.taken.wrapping_add(1);
     }
 
     /// Takes the next token if it is the given one. Cost: constant.
     pub fn accept(&mut self, token: Token<K>) -> bool {
-        match self.rest.split_first() {
-            Some((first, rest)) if *first == token => {
-                self.rest = rest;
+        match self.tokens.get(self.taken) {
+            Some(next) if *next == token => {
+                self.skip();
                 true
             }
             _ => false,
@@ -105,10 +100,9 @@ impl<'t, K: Word> Cursor<'t, K> {
 
     /// Takes the next token if it is a name. Cost: constant.
     pub fn accept_name(&mut self) -> Option<Name> {
-        match self.rest.split_first() {
-            Some((Token::Name(name), rest)) => {
-                let name = *name;
-                self.rest = rest;
+        match self.peek() {
+            Some(Token::Name(name)) => {
+                self.skip();
                 Some(name)
             }
             _ => None,
@@ -117,8 +111,8 @@ impl<'t, K: Word> Cursor<'t, K> {
 
     /// Whether a block comes next: a name and an opening bracket. Cost: constant.
     pub fn at_block(&self) -> bool {
-        match self.rest {
-            [Token::Name(_), Token::OpenRound, ..] => true,
+        match (self.peek(), self.tokens.get(self.taken.wrapping_add(1))) {
+            (Some(Token::Name(_)), Some(Token::OpenRound)) => true,
             _ => false,
         }
     }

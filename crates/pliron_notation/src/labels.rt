@@ -28,9 +28,9 @@ struct Entry {
 /// its own are closed.
 #[derive(Drop)]
 pub struct Labels {
-    /// For each name the place of its label in the scope that opened last, from which `earlier` leads
-    /// on to its labels in scopes that opened before.
-    latest: Vec<Option<usize>>,
+    /// For each name the place of its label in the scope that opened last and 1 more, or 0. From there
+    /// `earlier` leads on to its labels in scopes that opened before.
+    latest: Vec<usize>,
     entries: Vec<Entry>,
 }
 
@@ -38,19 +38,44 @@ impl Labels {
     /// No labels, for a text of so many names. Errors: want of memory. Cost: the number of names.
     pub fn new(alloc: Global, names: usize) -> Result<Self, AllocError> {
         Ok(Labels {
-            latest: vec![in alloc; None; names]?,
+            latest: vec![in alloc; 0; names]?,
             entries: Vec::new(alloc),
         })
     }
 
+    /// Makes room for so many more labels. Errors: want of memory. Cost: the number of labels.
+    pub fn reserve(&mut self, labels: usize) -> Result<(), AllocError> {
+        self.entries.reserve(labels)
+    }
+
     /// The place of a label, which this token mentions. Errors: want of memory. Cost: constant, amortised.
     pub fn place(&mut self, label: Label, mention: usize) -> Result<usize, AllocError> {
+        match self.latest_as(label) {
+            Some(place) => Ok(place),
+            None => self.earlier_or_new(label, mention),
+        }
+    }
+
+    /// The place of the label, if it is its name's in the scope that opened last.
+    fn latest_as(&self, label: Label) -> Option<usize> {
+        let place = self.latest.get(label.name.number)?.checked_sub(1)?;
+        let entry = self.entries.get(place)?;
+        if entry.scope == label.scope {
+            Some(place)
+        } else {
+            None
+        }
+    }
+
+    /// The place of a label that isn't its name's in the scope that opened last.
+    #[inline(never)]
+    fn earlier_or_new(&mut self, label: Label, mention: usize) -> Result<usize, AllocError> {
         let place = match self.last_up_to(label) {
             Some((place, scope)) if scope == label.scope => place,
             earlier => self.add(label.scope, earlier.map(|(place, _)| place), mention)?,
         };
         if let Some(latest) = self.latest.get_mut(label.name.number) {
-            *latest = Some(place);
+            *latest = place.saturating_add(1);
         }
         Ok(place)
     }
@@ -58,7 +83,7 @@ impl Labels {
     /// The name's label in the scope or, if it has none there, in the last that opened before: its place
     /// and its scope.
     fn last_up_to(&self, label: Label) -> Option<(usize, usize)> {
-        let mut place = *self.latest.get(label.name.number)?;
+        let mut place = self.latest.get(label.name.number)?.checked_sub(1);
         // Each turn goes to a scope that opened before.
         for _ in 0..self.entries.len() {
             let entry = self.entries.get(place?)?;
@@ -117,7 +142,7 @@ impl Labels {
     }
 
     /// Writes the label's number for each place. A place without one stays. Cost: the number of places.
-    pub fn resolve(&self, places: &mut Vec<usize>) {
+    pub fn resolve(&self, places: &mut [usize]) {
         for place in places.iter_mut() {
             match self.entries.get(*place) {
                 Some(

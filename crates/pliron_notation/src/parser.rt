@@ -6,6 +6,7 @@ use crate::stop::Stop;
 use crate::syntax::{BlockText, OperationText, Step, Syntax};
 use crate::tokens::{Name, Token, Tokens};
 use pliron_bench::BenchKind;
+use smallvec::SmallVec;
 use std::alloc::Global;
 
 /// The most regions that stand in one another.
@@ -24,6 +25,16 @@ struct OpenRegion {
 }
 
 impl OpenRegion {
+    /// No open region, which nothing reads.
+    fn none(kind: BenchKind) -> Self {
+        OpenRegion {
+            kind,
+            func: 0,
+            number: 0,
+            block: None,
+        }
+    }
+
     /// Whether the region has a block at least.
     fn needs_block(&self) -> bool {
         self.kind == BenchKind::Func || self.kind == BenchKind::Scope
@@ -51,12 +62,16 @@ struct Parser<'t> {
     syntax: Syntax,
     values: Labels,
     blocks: Labels,
-    open: Vec<OpenRegion>,
+    /// The open region that no other open one stands in, or what nothing reads.
+    region: OpenRegion,
+    /// What nothing reads, and the open regions around that one.
+    outer: Vec<OpenRegion>,
     regions: usize,
 }
 
 /// The syntax of a text, by its tokens. Errors: `Unreadable` where the text is outside the notation; want of
 /// memory. Cost: linear in the tokens.
+#[inline(never)]
 pub fn parse(alloc: Global, text: &Tokens<BenchKind>) -> Result<Syntax, Stop> {
     let mut cursor = Cursor::new(&text.tokens);
     let root = cursor.kind(Expected::Root)?;
@@ -69,27 +84,36 @@ pub fn parse(alloc: Global, text: &Tokens<BenchKind>) -> Result<Syntax, Stop> {
         syntax: Syntax::new(alloc, root),
         values: Labels::new(alloc, text.names)?,
         blocks: Labels::new(alloc, text.names)?,
-        open: Vec::new(alloc),
+        region: OpenRegion::none(root),
+        outer: Vec::new(alloc),
         regions: 0,
     };
-    parser.open_region(root, 0)?;
+    parser.reserve(text)?;
+    parser.open_region(root)?;
     parser.contents(text.tokens.len())?;
     parser.resolve()?;
     Ok(parser.syntax)
 }
 
 impl Parser<'_> {
+    /// Makes room for what most texts of these tokens have.
+    fn reserve(&mut self, text: &Tokens<BenchKind>) -> Result<(), Stop> {
+        self.values.reserve(text.names)?;
+        self.syntax.reserve(text.tokens.len() / 4)?;
+        Ok(())
+    }
+
     /// Reads what stands in the open region and all that it holds, up to the end of the text.
     fn contents(&mut self, count: usize) -> Result<(), Stop> {
         let mut place = Place::RegionStart;
         // Each turn takes a token.
         for _ in 0..count {
-            match self.open.last().copied() {
-                Some(region) => place = self.step(region, &place)?,
-                None => break,
+            if self.outer.is_empty() {
+                break;
             }
+            place = self.step(place)?;
         }
-        if self.open.is_empty() && self.cursor.len() == 0 {
+        if self.outer.is_empty() && self.cursor.len() == 0 {
             Ok(())
         } else {
             Err(self.cursor.stop(Expected::End))
@@ -97,24 +121,24 @@ impl Parser<'_> {
     }
 
     /// Reads the next block or operation of the region, or its end.
-    fn step(&mut self, region: OpenRegion, place: &Place) -> Result<Place, Stop> {
+    fn step(&mut self, place: Place) -> Result<Place, Stop> {
         if self.cursor.accept(Token::CloseBrace) {
-            return self.close_region(region, place);
+            return self.close_region(place);
         }
-        let is_parted = *place == Place::RegionStart || self.cursor.accept(Token::Semicolon);
+        let is_parted = place == Place::RegionStart || self.cursor.accept(Token::Semicolon);
         if is_parted && self.cursor.at_block() {
-            return self.block(region);
+            return self.block();
         }
         match (place, is_parted) {
-            (Place::BlockStart, false) | (Place::Operation, true) => self.operation(region),
-            _ => Err(self.cursor.stop(self.expected(region, place, is_parted))),
+            (Place::BlockStart, false) | (Place::Operation, true) => self.operation(),
+            _ => Err(self.cursor.stop(self.expected(place, is_parted))),
         }
     }
 
     /// What was to stand next in the region, after this and with a semicolon or without one.
-    fn expected(&self, region: OpenRegion, place: &Place, is_parted: bool) -> Expected {
+    fn expected(&self, place: Place, is_parted: bool) -> Expected {
         match (place, is_parted) {
-            (Place::RegionStart, _) if region.needs_block() => Expected::BlockOfRegion,
+            (Place::RegionStart, _) if self.region.needs_block() => Expected::BlockOfRegion,
             (Place::RegionStart, _) => Expected::BlockOrEnd,
             (Place::BlockStart, false) => Expected::OperationOrEnd,
             (Place::BlockStart, true) => Expected::Block,
@@ -124,9 +148,9 @@ impl Parser<'_> {
         }
     }
 
-    /// Opens the region of an operation of this kind, in this `func`.
-    fn open_region(&mut self, kind: BenchKind, func: usize) -> Result<(), Stop> {
-        if self.open.len() >= MAX_DEPTH {
+    /// Opens the region of an operation of this kind.
+    fn open_region(&mut self, kind: BenchKind) -> Result<(), Stop> {
+        if self.outer.len() >= MAX_DEPTH {
             return Err(self.cursor.stop_before(Expected::FewerRegions));
         }
         self.cursor.expect(Token::OpenBrace, Expected::OpenBrace)?;
@@ -135,63 +159,64 @@ impl Parser<'_> {
         let func = if kind == BenchKind::Func {
             number
         } else {
-            func
+            self.region.func
         };
-        self.open.push(OpenRegion {
+        self.outer.push(self.region)?;
+        self.region = OpenRegion {
             kind,
             func,
             number,
             block: None,
-        })?;
+        };
         Ok(())
     }
 
     /// Ends the region. The brace is taken.
-    fn close_region(&mut self, region: OpenRegion, place: &Place) -> Result<Place, Stop> {
-        if region.needs_block() && *place == Place::RegionStart {
+    fn close_region(&mut self, place: Place) -> Result<Place, Stop> {
+        if self.region.needs_block() && place == Place::RegionStart {
             return Err(self.cursor.stop_before(Expected::BlockOfRegion));
         }
-        let _ = self.open.pop();
+        if let Some(region) = self.outer.pop() {
+            self.region = region;
+        }
         Ok(Place::Operation)
     }
 
     /// Reads the head of a block.
-    fn block(&mut self, region: OpenRegion) -> Result<Place, Stop> {
+    fn block(&mut self) -> Result<Place, Stop> {
         let name = self.cursor.name(Expected::Block)?;
         let number = self.syntax.blocks.len();
-        let scope = region.number;
+        let scope = self.region.number;
         let token = self.cursor.last();
         if !self.blocks.define(Label { scope, name }, number, token)? {
             return Err(Stop::at(token, Expected::NewBlock));
         }
         self.cursor.expect(Token::OpenRound, Expected::OpenRound)?;
-        let arguments = self.arguments(region)?;
+        let arguments = self.arguments()?;
         self.cursor.expect(Token::Colon, Expected::Colon)?;
         self.syntax.steps.push(Step::Block(number))?;
         self.syntax.blocks.push(BlockText {
-            region: region.number,
+            region: scope,
             arguments,
             last: None,
         })?;
-        if let Some(open) = self.open.last_mut() {
-            open.block = Some(number);
-        }
+        self.region.block = Some(number);
         Ok(Place::BlockStart)
     }
 
     /// Reads the arguments of a block up to the closing bracket, and answers how many there are.
-    fn arguments(&mut self, region: OpenRegion) -> Result<usize, Stop> {
+    fn arguments(&mut self) -> Result<usize, Stop> {
         let first = self.syntax.values;
         if self.cursor.accept(Token::CloseRound) {
             return Ok(0);
         }
-        if region.kind == BenchKind::Mod {
+        if self.region.kind == BenchKind::Mod {
             return Err(self.cursor.stop(Expected::NoArguments));
         }
         // Each turn takes a token.
         for _ in 0..self.cursor.len() {
             let name = self.cursor.name(Expected::Value)?;
-            self.define(region.func, name)?;
+            self.define(name)?;
             if self.is_list_end()? {
                 return Ok(self.syntax.values.saturating_sub(first));
             }
@@ -210,13 +235,11 @@ impl Parser<'_> {
     }
 
     /// Takes in that the next value of the text has this name.
-    fn define(&mut self, func: usize, name: Name) -> Result<(), Stop> {
+    fn define(&mut self, name: Name) -> Result<(), Stop> {
         let number = self.syntax.values;
+        let scope = self.region.func;
         let token = self.cursor.last();
-        if !self
-            .values
-            .define(Label { scope: func, name }, number, token)?
-        {
+        if !self.values.define(Label { scope, name }, number, token)? {
             return Err(Stop::at(token, Expected::NewValue));
         }
         self.syntax.values = number.saturating_add(1);
@@ -224,20 +247,26 @@ impl Parser<'_> {
     }
 
     /// Reads an operation up to its region, which it opens.
-    fn operation(&mut self, region: OpenRegion) -> Result<Place, Stop> {
-        let kind = self.kind(region)?;
-        let block = region
-            .block
-            .ok_or(self.cursor.stop_before(Expected::BlockOfRegion))?;
-        let text = self.operation_text(kind, region, block)?;
-        let number = self.syntax.operations.len();
-        self.syntax.steps.push(Step::Operation(number))?;
-        self.syntax.operations.push(text)?;
+    fn operation(&mut self) -> Result<Place, Stop> {
+        let kind = self.kind()?;
+        let Some(block) = self.region.block else {
+            return Err(self.cursor.stop_before(Expected::BlockOfRegion));
+        };
+        let mut text = OperationText {
+            kind,
+            number: 0,
+            first_edge: 0,
+            block,
+            operands: SmallVec::new(self.alloc),
+            successors: Vec::new(self.alloc),
+        };
+        self.tail(&mut text)?;
+        let number = self.syntax.add_operation(text)?;
         if let Some(block) = self.syntax.blocks.get_mut(block) {
             block.last = Some(number);
         }
         if kind.region_count() > 0 {
-            self.open_region(kind, region.func)?;
+            self.open_region(kind)?;
             return Ok(Place::RegionStart);
         }
         Ok(if kind.successor_count() > 0 {
@@ -248,10 +277,10 @@ impl Parser<'_> {
     }
 
     /// Reads the results and the kind of an operation, which are to fit one another and the region.
-    fn kind(&mut self, region: OpenRegion) -> Result<BenchKind, Stop> {
-        let count = self.results(region.func)?;
+    fn kind(&mut self) -> Result<BenchKind, Stop> {
+        let count = self.results()?;
         let kind = self.cursor.kind(Expected::Kind)?;
-        let in_mod = region.kind == BenchKind::Mod;
+        let in_mod = self.region.kind == BenchKind::Mod;
         if kind.is_top() != in_mod {
             let expected = if in_mod {
                 Expected::TopKind
@@ -272,84 +301,66 @@ impl Parser<'_> {
     }
 
     /// Reads the results before a kind, of which there are at most two, and answers how many.
-    fn results(&mut self, func: usize) -> Result<usize, Stop> {
+    fn results(&mut self) -> Result<usize, Stop> {
         let Some(name) = self.cursor.accept_name() else {
             return Ok(0);
         };
-        self.define(func, name)?;
+        self.define(name)?;
         if self.cursor.accept(Token::Equals) {
             return Ok(1);
         }
         self.cursor.expect(Token::Comma, Expected::CommaOrEquals)?;
         let name = self.cursor.name(Expected::Value)?;
-        self.define(func, name)?;
+        self.define(name)?;
         self.cursor.expect(Token::Equals, Expected::Equals)?;
         Ok(2)
     }
 
     /// Reads what stands behind a kind, up to a region.
-    fn operation_text(
-        &mut self,
-        kind: BenchKind,
-        region: OpenRegion,
-        block: usize,
-    ) -> Result<OperationText, Stop> {
-        let mut text = OperationText {
-            kind,
-            number: 0,
-            first_edge: 0,
-            block,
-            operands: Vec::new(self.alloc),
-            successors: Vec::new(self.alloc),
-        };
-        match kind {
-            BenchKind::Const => text.number = self.cursor.number()?,
+    fn tail(&mut self, text: &mut OperationText) -> Result<(), Stop> {
+        match text.kind {
+            BenchKind::Const => {
+                text.number = self.cursor.number()?;
+                Ok(())
+            }
             BenchKind::Add | BenchKind::Mul | BenchKind::Div => {
-                self.operand(region, &mut text)?;
-                self.operand(region, &mut text)?;
+                self.operand(text)?;
+                self.operand(text)
             }
-            BenchKind::Print => self.operand(region, &mut text)?,
-            BenchKind::Sink | BenchKind::Scope | BenchKind::Ret => {
-                self.operands(region, &mut text)?;
-            }
-            BenchKind::Br => self.edge(region, &mut text)?,
-            BenchKind::Cbr => self.edges(region, &mut text)?,
+            BenchKind::Print => self.operand(text),
+            BenchKind::Sink | BenchKind::Scope | BenchKind::Ret => self.operands(text),
+            BenchKind::Br => self.edge(text),
+            BenchKind::Cbr => self.edges(text),
             BenchKind::Fork => {
-                self.operand(region, &mut text)?;
-                self.successor(region, &mut text)?;
-                self.successor(region, &mut text)?;
+                self.operand(text)?;
+                self.successor(text)?;
+                self.successor(text)
             }
-            _ => {}
+            _ => Ok(()),
         }
-        Ok(text)
     }
 
     /// Reads an operand.
-    fn operand(&mut self, region: OpenRegion, text: &mut OperationText) -> Result<(), Stop> {
+    fn operand(&mut self, text: &mut OperationText) -> Result<(), Stop> {
         let name = self.cursor.name(Expected::Value)?;
-        self.add_operand(region, name, text)
+        self.add_operand(name, text)
     }
 
-    fn add_operand(
-        &mut self,
-        region: OpenRegion,
-        name: Name,
-        text: &mut OperationText,
-    ) -> Result<(), Stop> {
-        let scope = region.func;
-        let place = self
-            .values
-            .place(Label { scope, name }, self.cursor.last())?;
+    /// Takes in that the name that was read last is an operand.
+    fn add_operand(&mut self, name: Name, text: &mut OperationText) -> Result<(), Stop> {
+        let scope = self.region.func;
+        let mention = self.cursor.last();
+        let place = self.values.place(Label { scope, name }, mention)?;
         text.operands.push(place)?;
         Ok(())
     }
 
     /// Reads operands as long as names follow.
-    fn operands(&mut self, region: OpenRegion, text: &mut OperationText) -> Result<(), Stop> {
+    fn operands(&mut self, text: &mut OperationText) -> Result<(), Stop> {
         // Each turn takes a token.
         for _ in 0..self.cursor.len() {
             match self.cursor.accept_name() {
-                Some(name) => self.add_operand(region, name, text)?,
+                Some(name) => self.add_operand(name, text)?,
                 None => break,
             }
         }
@@ -357,26 +368,25 @@ impl Parser<'_> {
     }
 
     /// Reads a successor.
-    fn successor(&mut self, region: OpenRegion, text: &mut OperationText) -> Result<(), Stop> {
+    fn successor(&mut self, text: &mut OperationText) -> Result<(), Stop> {
         let name = self.cursor.name(Expected::Block)?;
-        let scope = region.number;
-        let place = self
-            .blocks
-            .place(Label { scope, name }, self.cursor.last())?;
+        let scope = self.region.number;
+        let mention = self.cursor.last();
+        let place = self.blocks.place(Label { scope, name }, mention)?;
         text.successors.push(place)?;
         Ok(())
     }
 
     /// Reads a successor and what is forwarded to it.
-    fn edge(&mut self, region: OpenRegion, text: &mut OperationText) -> Result<(), Stop> {
-        self.successor(region, text)?;
+    fn edge(&mut self, text: &mut OperationText) -> Result<(), Stop> {
+        self.successor(text)?;
         self.cursor.expect(Token::OpenRound, Expected::OpenRound)?;
         if self.cursor.accept(Token::CloseRound) {
             return Ok(());
         }
         // Each turn takes a token.
         for _ in 0..self.cursor.len() {
-            self.operand(region, text)?;
+            self.operand(text)?;
             if self.is_list_end()? {
                 return Ok(());
             }
@@ -385,11 +395,11 @@ impl Parser<'_> {
     }
 
     /// Reads the condition and the two edges of a `cbr`.
-    fn edges(&mut self, region: OpenRegion, text: &mut OperationText) -> Result<(), Stop> {
-        self.operand(region, text)?;
-        self.edge(region, text)?;
+    fn edges(&mut self, text: &mut OperationText) -> Result<(), Stop> {
+        self.operand(text)?;
+        self.edge(text)?;
         text.first_edge = text.operands.len().saturating_sub(1);
-        self.edge(region, text)
+        self.edge(text)
     }
 
     /// Writes the numbers of values and blocks for their names. A name that the text doesn't define
@@ -404,8 +414,8 @@ impl Parser<'_> {
             (None, Some(block)) => return Err(Stop::at(block, Expected::DefinedBlock)),
         }
         for operation in self.syntax.operations.iter_mut() {
-            self.values.resolve(&mut operation.operands);
-            self.blocks.resolve(&mut operation.successors);
+            self.values.resolve(operation.operands.as_mut_slice());
+            self.blocks.resolve(operation.successors.as_mut_slice());
         }
         Ok(())
     }

@@ -4,7 +4,8 @@ ghost use Rattle.pliron_bench.specs.Bench.{head_with, takes_attributes, takes_op
 ghost use Rattle.pliron_notation.specs.Notation.{AllBelow, AreInRegion, AreSoundOperations, IsAdmittedText, IsNext, IsOrdered, IsSoundSyntax, IsSoundOperation, IsUpToLast, first_made};
 
 use pliron_bench::BenchKind;
-use std::alloc::Global;
+use smallvec::SmallVec;
+use std::alloc::{AllocError, Global};
 
 /// What a text writes of an operation inside another one. Values, blocks and regions go by the numbers
 /// in which the text makes them.
@@ -17,7 +18,7 @@ pub struct OperationText {
     pub first_edge: usize,
     /// The block that it stands in.
     pub block: usize,
-    pub operands: Vec<usize>,
+    pub operands: SmallVec<usize, 2>,
     pub successors: Vec<usize>,
 }
 
@@ -58,6 +59,22 @@ impl Syntax {
             blocks: Vec::new(alloc),
             values: 0,
         }
+    }
+
+    /// Makes room for so many more operations. Errors: want of memory. Cost: the number of operations.
+    pub fn reserve(&mut self, operations: usize) -> Result<(), AllocError> {
+        self.steps.reserve(operations)?;
+        self.operations.reserve(operations)
+    }
+
+    /// Adds the next operation of the text, as the next step, and answers its number. Errors: want of memory.
+    /// Cost: constant, amortised.
+    pub fn add_operation(&mut self, operation: OperationText) -> Result<usize, AllocError> {
+        let number = self.operations.len();
+        self.steps.push(Step::Operation(number))?;
+        self.operations.reserve(1)?;
+        self.operations.push_reserved(operation);
+        Ok(number)
     }
 
     /// Whether all can be made in this order, and makes a tree with edges only at the ends of blocks.
@@ -109,7 +126,7 @@ impl Syntax {
         if !operation.is_admitted() || !is_placed(block.last, number, operation) {
             return false;
         }
-        if !are_below(&operation.operands, self.values) {
+        if !are_below(operation.operands.as_slice(), self.values) {
             return false;
         }
         self.are_in_region(&operation.successors, block.region)

@@ -1,8 +1,8 @@
 //! From bytes to tokens.
-ghost use Rattle.std.specs.Prelude.{◌≡◌, ◌+◌, ◌<◌, ◌≤◌, length};
+ghost use Rattle.std.specs.Prelude.{◌≡◌, ◌+◌, ◌<◌, ◌≤◌, length, IfOk};
 
 use crate::expected::{Expected, Misread};
-use crate::words::{Word, Words};
+use crate::words::{Word, Words, Written, is_letter};
 use std::alloc::{AllocError, Global};
 
 /// A name, by its number among the names of the text.
@@ -27,50 +27,7 @@ pub enum Token<K> {
     Equals,
 }
 
-fn is_name_byte(byte: u8) -> bool {
-    byte.is_ascii_alphanumeric() || byte == b'_'
-}
-
-/// How many bytes the first lexeme has: a word, a number or one other byte.
-fn lexeme_len(text: &[u8]) -> usize
-    requires { 0 < length text.now }
-    ensures some { 0 < result }
-    ensures within { result ≤ length text.now }
-{
-    let first = text[0];
-    let after = &text[1..];
-    if first.is_ascii_alphabetic() {
-        1 + after
-            .iter()
-            .position(|byte| !is_name_byte(*byte))
-            .unwrap_or(after.len())
-    } else if first == b'-' || first.is_ascii_digit() {
-        1 + after
-            .iter()
-            .position(|byte| !byte.is_ascii_digit())
-            .unwrap_or(after.len())
-    } else {
-        1
-    }
-}
-
-/// The number that a lexeme writes: decimal digits without a leading zero, and no `-0`.
-fn number_of(lexeme: &[u8]) -> Option<i64> {
-    match lexeme {
-        [b'0', _, ..] | [b'-', b'0', ..] => None,
-        _ => std::str::from_utf8(lexeme).ok()?.parse::<i64>().ok(),
-    }
-}
-
-/// Whether the lexeme is a blank.
-fn is_blank(lexeme: &[u8]) -> bool {
-    match lexeme {
-        [b' ' | b'\t' | b'\r' | b'\n'] => true,
-        _ => false,
-    }
-}
-
-/// What a lexeme is.
+/// What a text begins with.
 #[derive(Clone, Copy)]
 enum Lexeme<K> {
     Blank,
@@ -79,33 +36,115 @@ enum Lexeme<K> {
     Strange(Expected),
 }
 
-/// What a lexeme is. Errors: want of memory.
-fn token_of<'t, K: Word>(
-    lexeme: &'t [u8],
-    words: &mut Words<'t, K>,
-) -> Result<Lexeme<K>, AllocError> {
-    if is_blank(lexeme) {
-        return Ok(Lexeme::Blank);
-    }
-    Ok(match lexeme {
-        [b'{'] => Lexeme::Token(Token::OpenBrace),
-        [b'}'] => Lexeme::Token(Token::CloseBrace),
-        [b'('] => Lexeme::Token(Token::OpenRound),
-        [b')'] => Lexeme::Token(Token::CloseRound),
-        [b','] => Lexeme::Token(Token::Comma),
-        [b':'] => Lexeme::Token(Token::Colon),
-        [b';'] => Lexeme::Token(Token::Semicolon),
-        [b'='] => Lexeme::Token(Token::Equals),
-        [b'-' | b'0'..=b'9', ..] => match number_of(lexeme) {
-            Some(number) => Lexeme::Token(Token::Number(number)),
-            None => Lexeme::Strange(Expected::Number),
-        },
-        [b'a'..=b'z' | b'A'..=b'Z', ..] => match words.token(lexeme)? {
+impl<K> Lexeme<K> {
+    /// The token, if it is one, and else what was to stand there.
+    fn of(token: Option<Token<K>>, expected: Expected) -> Self {
+        match token {
             Some(token) => Lexeme::Token(token),
-            None => Lexeme::Strange(Expected::ShortWord),
-        },
-        _ => Lexeme::Strange(Expected::Token),
-    })
+            None => Lexeme::Strange(expected),
+        }
+    }
+}
+
+/// The token that a byte is by itself.
+fn token_of_byte<K>(byte: u8) -> Option<Token<K>> {
+    match byte {
+        b'{' => Some(Token::OpenBrace),
+        b'}' => Some(Token::CloseBrace),
+        b'(' => Some(Token::OpenRound),
+        b')' => Some(Token::CloseRound),
+        b',' => Some(Token::Comma),
+        b':' => Some(Token::Colon),
+        b';' => Some(Token::Semicolon),
+        b'=' => Some(Token::Equals),
+        _ => None,
+    }
+}
+
+/// What a lexeme is, by its first byte.
+#[derive(Clone, Copy, PartialEq, Eq)]
+enum Form {
+    Blank,
+    Word,
+    Number,
+    /// One byte, which is a token by itself or none.
+    Mark,
+}
+
+impl Form {
+    fn of(first: u8) -> Self {
+        if is_letter(first) {
+            return Form::Word;
+        }
+        match first {
+            b' ' | b'\t' | b'\r' | b'\n' => Form::Blank,
+            b'-' | b'0'..=b'9' => Form::Number,
+            _ => Form::Mark,
+        }
+    }
+}
+
+/// How many bytes the number has that a text begins with: its first byte and the digits behind it.
+fn number_len(text: &[u8]) -> usize
+    requires { 0 < length text.now }
+    ensures some { 0 < result }
+    ensures within { result ≤ length text.now }
+{
+    let mut len: usize = 1;
+    while len < text.len() && text[len].is_ascii_digit() {
+        len += 1;
+    }
+    len
+}
+
+/// The number that a lexeme writes: decimal digits without a leading zero, and no `-0`.
+fn number_of(lexeme: &[u8]) -> Option<i64> {
+    match lexeme {
+        [b'0', _, ..] | [b'-', b'0', ..] | [b'-'] => None,
+        [b'-', digits @ ..] => negative_of(digits),
+        _ => negative_of(lexeme)?.checked_neg(),
+    }
+}
+
+/// The number below zero that these digits write.
+fn negative_of(digits: &[u8]) -> Option<i64> {
+    let mut number: i64 = 0;
+    for digit in digits {
+        let ones = i64::from(digit.wrapping_sub(b'0'));
+        number = number.checked_mul(10)?.checked_sub(ones)?;
+    }
+    Some(number)
+}
+
+/// What a text begins with, and what stands behind it. Errors: want of memory.
+fn first_lexeme<'t, K: Word>(
+    text: &'t [u8],
+    words: &mut Words<'t, K>,
+) -> Result<(Lexeme<K>, &'t [u8]), AllocError>
+    requires { 0 < length text.now }
+    ensures { IfOk result (λ read. length read.1.now < length text.now) }
+{
+    match Form::of(text[0]) {
+        Form::Blank => Ok((Lexeme::Blank, &text[1..])),
+        Form::Word => {
+            let written = Written::first_of(text);
+            let after = &text[written.word.len()..];
+            let token = words.token(written)?;
+            Ok((Lexeme::of(token, Expected::ShortWord), after))
+        }
+        Form::Number => {
+            let (lexeme, after) = text.split_at(number_len(text));
+            let lexeme = match number_of(lexeme) {
+                Some(number) => Lexeme::Token(Token::Number(number)),
+                None => Lexeme::Strange(Expected::Number),
+            };
+            Ok((lexeme, after))
+        }
+        Form::Mark => {
+            let token = token_of_byte(text[0]);
+            Ok((Lexeme::of(token, Expected::Token), &text[1..]))
+        }
+    }
 }
 
 /// The tokens of a text up to the first place that is no token, and how many names they have.
@@ -119,14 +158,15 @@ pub struct Tokens<K> {
 
 /// The tokens of a text, up to the first place that is no token. Errors: want of memory. Cost: linear in the
 /// text, but for look-ups of words.
+#[inline(never)]
 pub fn tokenise<K: Word>(alloc: Global, text: &[u8]) -> Result<Tokens<K>, AllocError> {
     let mut words = Words::new(alloc, text.len())?;
-    let mut tokens = Vec::new(alloc);
+    let mut tokens = Vec::with_capacity(alloc, text.len() / 2)?;
     let mut misread = None;
     let mut rest = text;
     while !rest.is_empty() {
-        let (lexeme, after) = rest.split_at(lexeme_len(rest));
-        match token_of(lexeme, &mut words)? {
+        let (lexeme, after) = first_lexeme(rest, &mut words)?;
+        match lexeme {
             Lexeme::Blank => {}
             Lexeme::Token(token) => tokens.push(token)?,
             Lexeme::Strange(expected) => {
@@ -153,6 +193,19 @@ pub struct Span {
     pub len: usize,
 }
 
+/// How many bytes the first lexeme has: a word, a number or one other byte.
+fn lexeme_len(text: &[u8]) -> usize
+    requires { 0 < length text.now }
+    ensures some { 0 < result }
+    ensures within { result ≤ length text.now }
+{
+    match Form::of(text[0]) {
+        Form::Word => Written::first_of(text).word.len(),
+        Form::Number => number_len(text),
+        Form::Blank | Form::Mark => 1,
+    }
+}
+
 /// The place of the token of this number in a text, or its end where there are no more. Cost: linear in the
 /// text before it.
 pub fn span_of_token(text: &[u8], number: usize) -> Span
@@ -162,8 +215,8 @@ pub fn span_of_token(text: &[u8], number: usize) -> Span
     let mut rest = text;
     while !rest.is_empty() {
         let len = lexeme_len(rest);
-        let (lexeme, after) = rest.split_at(len);
-        if !is_blank(lexeme) {
+        let (_, after) = rest.split_at(len);
+        if Form::of(rest[0]) != Form::Blank {
             if count == number {
                 return Span {
                     start: text.len() - rest.len(),

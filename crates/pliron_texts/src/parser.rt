@@ -298,8 +298,8 @@ impl<K: Kinds + Word> Parser<'_, K> {
             return Err(Stop::at(token, Expected::DefinedBlock));
         }
         for operation in self.syntax.operations.iter_mut() {
-            self.values.resolve(&mut operation.operands);
-            self.blocks.resolve(&mut operation.successors);
+            self.values.resolve(operation.operands.as_mut_slice());
+            self.blocks.resolve(operation.successors.as_mut_slice());
         }
         Ok(())
     }

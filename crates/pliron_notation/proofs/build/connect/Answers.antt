@@ -9,13 +9,13 @@ pub add_operands-requires-clause-op : goal.add_operands-requires-clause-op
 add_operands-requires-clause-op c = in-read c.args.built.now.operations.items c.args.number c.index-op.result.now c.requires.number c.index-op.ensures
 
 pub add_operands-requires-clause-operands : goal.add_operands-requires-clause-operands
-add_operands-requires-clause-operands c = λ x i. c.requires.operands x (subst (In x) c.deref.ensures.value i)
+add_operands-requires-clause-operands c = λ x i. c.requires.operands x (subst (In x) c.as_slice.ensures i)
 
 pub add_successors-requires-clause-op : goal.add_successors-requires-clause-op
 add_successors-requires-clause-op c = in-read c.args.built.now.operations.items c.args.number c.index-op.result.now c.requires.number c.index-op.ensures
 
 pub add_successors-requires-clause-successors : goal.add_successors-requires-clause-successors
-add_successors-requires-clause-successors c = λ x i. c.requires.successors x (subst (In x) c.deref-2.ensures.value i)
+add_successors-requires-clause-successors c = λ x i. c.requires.successors x (subst (In x) c.deref.ensures.value i)
 
 pub returns-clause-goes_on : goal.returns-clause-goes_on
 returns-clause-goes_on c =
@@ -24,5 +24,5 @@ returns-clause-goes_on c =
 
 pub returns-clause-wired : goal.returns-clause-wired
 returns-clause-wired c = on_ok_weaker c.add_successors.result
-    (λ more s at root base l. wired-operation s c.args.ctx.now.tree c.add_operands.new.ctx.tree c.add_successors.new.ctx.tree c.args.built.now c.args.number c.index-op.result.now c.args.text.now c.deref.result.now c.deref-2.result.now at c.requires.number c.index-op.ensures c.deref.ensures.value c.deref-2.ensures.value c.in_ok-add_operands.ensures.added more root base l)
+    (λ more s at root base l. wired-operation s c.args.ctx.now.tree c.add_operands.new.ctx.tree c.add_successors.new.ctx.tree c.args.built.now c.args.number c.index-op.result.now c.args.text.now c.as_slice.result.now c.deref.result.now at c.requires.number c.index-op.ensures c.as_slice.ensures c.deref.ensures.value c.in_ok-add_operands.ensures.added more root base l)
     c.add_successors.ensures.added
