@@ -224,6 +224,7 @@ impl Printer {
     }
 
     /// The letter and the number.
+    #[inline(always)]
     fn name(&mut self, letter: char, number: usize) -> Result<(), AllocError> {
         self.text.push(letter)?;
         self.text.push_str(Buffer::new().format(number))
@@ -274,7 +275,7 @@ impl Printer {
     }
 
     /// A blank and the number.
-    #[inline(never)]
+    #[inline(always)]
     fn number_behind(&mut self, number: i128) -> Result<(), AllocError> {
         self.text.push(' ')?;
         self.text.push_str(Buffer::new().format(number))
