@@ -61,10 +61,12 @@ pub fn counted_tail(number: Option<i128>) -> Tail {
 }
 
 impl Printed for Bench {
+    #[inline(always)]
     fn begins_names(op: Ptr<Operation>, ctx: &Context) -> bool {
         BenchKind::from_number(op.head(ctx).kind) == Some(BenchKind::Func)
     }
 
+    #[inline(always)]
     fn word(op: Ptr<Operation>, ctx: &Context) -> Option<&'static str> {
         match BenchKind::from_number(op.head(ctx).kind) {
             Some(kind) => Some(kind.word()),
@@ -72,12 +74,15 @@ impl Printed for Bench {
         }
     }
 
+    #[inline(always)]
     fn tail(op: Ptr<Operation>, ctx: &Context) -> Tail {
-        let number = number_of(op, ctx);
-        match (BenchKind::from_number(op.head(ctx).kind), number) {
-            (Some(BenchKind::Const), Some(number)) => Tail::Number(number),
-            (Some(BenchKind::Br), _) => Tail::Edge,
-            (Some(BenchKind::Cbr), number) => counted_tail(number),
+        match BenchKind::from_number(op.head(ctx).kind) {
+            Some(BenchKind::Const) => match number_of(op, ctx) {
+                Some(number) => Tail::Number(number),
+                None => Tail::Names,
+            },
+            Some(BenchKind::Br) => Tail::Edge,
+            Some(BenchKind::Cbr) => counted_tail(number_of(op, ctx)),
             _ => Tail::Names,
         }
     }

@@ -3,12 +3,15 @@ ghost use Rattle.std.specs.Prelude.{◌≡◌, IsOkUnless};
 ghost use Rattle.pliron_core.specs.Tree.{IsLive, IsBlock, IsRegion};
 ghost use Rattle.pliron_notation.specs.Printing.{AllStand, IsStanding};
 
+mod numbers;
+
+use self::numbers::Numbers;
 use crate::printed::{Printed, Tail};
-use crate::steps::{Step, steps_of};
+use crate::steps::{Outline, Step};
+use itoa::Buffer;
 use pliron_core::{BasicBlock, Context, Operation, Ptr, Region, Value};
 use pliron_laws::OptError;
 use std::alloc::{AllocError, Global};
-use std::collections::HashMap;
 
 /// What was printed last.
 #[derive(Clone, Copy, PartialEq, Eq)]
@@ -23,8 +26,8 @@ enum Last {
 #[derive(Drop)]
 struct Printer {
     text: String,
-    values: HashMap<Value, usize>,
-    blocks: HashMap<Ptr<BasicBlock>, usize>,
+    values: Numbers,
+    blocks: Numbers,
 }
 
 /// The text of the operation in one line, where blocks are `b0`, `b1`, .. in each region and values are
@@ -39,18 +42,28 @@ pub fn print_as<P: Printed>(
     requires { IsLive ctx.now.tree root }
     ensures { IsOkUnless result OptError.Memory }
 {
-    let steps = steps_of(alloc, root, ctx)?;
-    let mut printer = Printer {
-        text: String::new(alloc),
-        values: HashMap::new(alloc),
-        blocks: HashMap::new(alloc),
-    };
-    printer.number::<P>(ctx, &steps)?;
-    printer.print::<P>(ctx, &steps)?;
+    let outline = Outline::of(alloc, root, ctx)?;
+    let mut printer = Printer::new(alloc, &outline)?;
+    printer.number::<P>(ctx, &outline.steps)?;
+    printer.print::<P>(ctx, &outline.steps)?;
     Ok(printer.text)
 }
 
 impl Printer {
+    /// A printer with room for a text of the usual length, and for twice as many keys as there are values and
+    /// blocks, since some of those between may have gone. Errors: want of memory.
+    fn new(alloc: Global, outline: &Outline) -> Result<Printer, AllocError> {
+        let extent = outline.extent;
+        let letters = outline.steps.len().saturating_mul(24);
+        let values = extent.values.saturating_mul(2);
+        let blocks = extent.blocks.saturating_mul(2);
+        Ok(Printer {
+            text: String::with_capacity(alloc, letters)?,
+            values: Numbers::new(alloc, extent.first_value, values)?,
+            blocks: Numbers::new(alloc, extent.first_block, blocks)?,
+        })
+    }
+
     /// Gives each value and each block its number.
     fn number<P: Printed>(&mut self, ctx: &Context, steps: &[Step]) -> Result<(), AllocError>
         requires { AllStand ctx.now.tree steps.now }
@@ -64,6 +77,7 @@ impl Printer {
 
     /// Gives what the step makes its numbers, where `next` is the next number of a value, and answers
     /// the number after them.
+    #[inline(always)]
     fn number_step<P: Printed>(
         &mut self,
         ctx: &Context,
@@ -86,6 +100,7 @@ impl Printer {
         }
     }
 
+    #[inline(always)]
     fn number_results(
         &mut self,
         ctx: &Context,
@@ -96,7 +111,7 @@ impl Printer {
     {
         for i in 0..op.num_result(ctx) {
             self.values
-                .insert(op.get_result(ctx, i), first.saturating_add(i))?;
+                .insert(op.get_result(ctx, i).key(), first.saturating_add(i))?;
         }
         Ok(first.saturating_add(op.num_result(ctx)))
     }
@@ -111,7 +126,7 @@ impl Printer {
     {
         for i in 0..block.num_argument(ctx) {
             self.values
-                .insert(block.get_argument(ctx, i), first.saturating_add(i))?;
+                .insert(block.get_argument(ctx, i).key(), first.saturating_add(i))?;
         }
         Ok(first.saturating_add(block.num_argument(ctx)))
     }
@@ -124,7 +139,7 @@ impl Printer {
         for number in 0..usize::MAX {
             match next {
                 Some(block) => {
-                    self.blocks.insert(block, number)?;
+                    self.blocks.insert(block.key(), number)?;
                     next = block.get_next(ctx);
                 }
                 None => break,
@@ -144,6 +159,7 @@ impl Printer {
     }
 
     /// Prints what the step names, and what parts it from what was printed last.
+    #[inline(always)]
     fn print_step<P: Printed>(
         &mut self,
         ctx: &Context,
@@ -154,11 +170,7 @@ impl Printer {
     {
         match step {
             Step::Operation(op) => {
-                self.text.push_str(match last {
-                    Last::Nothing => "",
-                    Last::Operation => "; ",
-                    Last::Opening | Last::Block => " ",
-                })?;
+                self.parting(last)?;
                 self.operation::<P>(ctx, *op)?;
                 Ok(Last::Operation)
             }
@@ -181,26 +193,51 @@ impl Printer {
         }
     }
 
-    /// A value's name. A value that stands outside what is printed is written `_`.
-    fn value(&mut self, value: Value) -> Result<(), AllocError> {
-        match self.values.get(&value) {
-            Some(number) => {
-                let number = *number;
-                write!(self.text, "v{number}")
+    /// What parts an operation from what was printed last.
+    #[inline(always)]
+    fn parting(&mut self, last: &Last) -> Result<(), AllocError> {
+        match last {
+            Last::Nothing => Ok(()),
+            Last::Operation => {
+                self.text.push(';')?;
+                self.text.push(' ')
             }
-            None => self.text.push_str("_"),
+            Last::Opening | Last::Block => self.text.push(' '),
+        }
+    }
+
+    /// A value's name. A value that stands outside what is printed is written `_`.
+    #[inline(always)]
+    fn value(&mut self, value: Value) -> Result<(), AllocError> {
+        match self.values.get(value.key()) {
+            Some(number) => self.name('v', number),
+            None => self.text.push('_'),
         }
     }
 
     /// A block's name. A block that stands outside what is printed is written `_`.
     fn block_name(&mut self, block: Ptr<BasicBlock>) -> Result<(), AllocError> {
-        match self.blocks.get(&block) {
-            Some(number) => {
-                let number = *number;
-                write!(self.text, "b{number}")
-            }
-            None => self.text.push_str("_"),
+        match self.blocks.get(block.key()) {
+            Some(number) => self.name('b', number),
+            None => self.text.push('_'),
         }
+    }
+
+    /// The letter and the number.
+    #[inline(always)]
+    fn name(&mut self, letter: char, number: usize) -> Result<(), AllocError> {
+        self.text.push(letter)?;
+        self.text.push_str(Buffer::new().format(number))
+    }
+
+    /// A comma and a blank, if it is not the first item.
+    #[inline(always)]
+    fn comma(&mut self, is_first: bool) -> Result<(), AllocError> {
+        if is_first {
+            return Ok(());
+        }
+        self.text.push(',')?;
+        self.text.push(' ')
     }
 
     /// A block's name and arguments.
@@ -208,66 +245,77 @@ impl Printer {
         requires { IsBlock ctx.now.tree block }
     {
         self.block_name(block)?;
-        self.text.push_str("(")?;
+        self.text.push('(')?;
         for i in 0..block.num_argument(ctx) {
-            self.text.push_str(if i == 0 { "" } else { ", " })?;
+            self.comma(i == 0)?;
             self.value(block.get_argument(ctx, i))?;
         }
         self.text.push_str("):")
     }
 
     /// An operation up to its regions.
+    #[inline(always)]
     fn operation<P: Printed>(&mut self, ctx: &Context, op: Ptr<Operation>) -> Result<(), AllocError>
         requires { IsLive ctx.now.tree op }
     {
         self.results(ctx, op)?;
         self.text.push_str(P::word(op, ctx).unwrap_or("_"))?;
-        let count = op.num_operand(ctx);
         match P::tail(op, ctx) {
-            Tail::Number(number) => write!(self.text, " {number}"),
-            Tail::Edge => self.edges(ctx, op, 0, count),
+            Tail::Number(number) => self.number_behind(number),
+            Tail::Edge => self.edges(ctx, op, 0, op.num_operand(ctx)),
             Tail::TwoEdges(first) => {
                 self.operands(ctx, op, 1)?;
                 self.edges(ctx, op, 1, first.saturating_add(1))
             }
             Tail::Names => {
-                self.operands(ctx, op, count)?;
+                self.operands(ctx, op, op.num_operand(ctx))?;
                 self.successors(ctx, op)
             }
         }
     }
 
+    /// A blank and the number.
+    #[inline(always)]
+    fn number_behind(&mut self, number: i128) -> Result<(), AllocError> {
+        self.text.push(' ')?;
+        self.text.push_str(Buffer::new().format(number))
+    }
+
     /// The results of an operation, and an equals sign behind them.
+    #[inline(always)]
     fn results(&mut self, ctx: &Context, op: Ptr<Operation>) -> Result<(), AllocError>
         requires { IsLive ctx.now.tree op }
     {
-        for i in 0..op.num_result(ctx) {
-            self.text.push_str(if i == 0 { "" } else { ", " })?;
+        let count = op.num_result(ctx);
+        for i in 0..count {
+            self.comma(i == 0)?;
             self.value(op.get_result(ctx, i))?;
         }
-        if op.num_result(ctx) > 0 {
-            self.text.push_str(" = ")?;
+        if count == 0 {
+            return Ok(());
         }
-        Ok(())
+        self.text.push_str(" = ")
     }
 
     /// The operands before this index, with a blank before each.
+    #[inline(always)]
     fn operands(&mut self, ctx: &Context, op: Ptr<Operation>, end: usize) -> Result<(), AllocError>
         requires { IsLive ctx.now.tree op }
     {
         for i in 0..end.min(op.num_operand(ctx)) {
-            self.text.push_str(" ")?;
+            self.text.push(' ')?;
             self.value(op.get_operand(ctx, i))?;
         }
         Ok(())
     }
 
     /// The successors, with a blank before each.
+    #[inline(always)]
     fn successors(&mut self, ctx: &Context, op: Ptr<Operation>) -> Result<(), AllocError>
         requires { IsLive ctx.now.tree op }
     {
         for i in 0..op.num_successor(ctx) {
-            self.text.push_str(" ")?;
+            self.text.push(' ')?;
             self.block_name(op.get_successor(ctx, i))?;
         }
         Ok(())
@@ -286,7 +334,7 @@ impl Printer {
     {
         let count = op.num_operand(ctx);
         for i in 0..op.num_successor(ctx) {
-            self.text.push_str(" ")?;
+            self.text.push(' ')?;
             self.block_name(op.get_successor(ctx, i))?;
             if i == 0 {
                 self.forwarded(ctx, op, start, cut.min(count))?;
@@ -307,11 +355,11 @@ impl Printer {
     ) -> Result<(), AllocError>
         requires { IsLive ctx.now.tree op }
     {
-        self.text.push_str("(")?;
+        self.text.push('(')?;
         for i in start..end.min(op.num_operand(ctx)) {
-            self.text.push_str(if i == start { "" } else { ", " })?;
+            self.comma(i == start)?;
             self.value(op.get_operand(ctx, i))?;
         }
-        self.text.push_str(")")
+        self.text.push(')')
     }
 }

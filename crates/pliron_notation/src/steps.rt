@@ -3,7 +3,7 @@ ghost use Rattle.std.specs.Prelude.{IfOk, IfSome};
 ghost use Rattle.pliron_core.specs.Tree.{IsLive, IsBlock, IsRegion};
 ghost use Rattle.pliron_notation.specs.Printing.{AllStand, IsStanding};
 
-use pliron_core::{BasicBlock, Context, Operation, Ptr, Region};
+use pliron_core::{BasicBlock, Context, Operation, Ptr, Region, Value};
 use std::alloc::{AllocError, Global};
 
 /// What a text writes next.
@@ -17,30 +17,94 @@ pub enum Step {
     End(Ptr<Region>),
 }
 
-/// All that stands in an operation, from the operation on.
-///
-/// Asks that the operation stands (`is_live` tests it). Errors: want of memory. Cost: one step for each
-/// operation, block and region, where no operation has more than one region.
-pub fn steps_of(alloc: Global, root: Ptr<Operation>, ctx: &Context) -> Result<Vec<Step>, AllocError>
-    requires { IsLive ctx.now.tree root }
-    ensures { IfOk result (λ steps. AllStand ctx.now.tree steps.items) }
-{
-    let mut steps = Vec::new(alloc);
-    let mut next = Some(Step::Operation(root));
-    // No tree has as many steps.
-    for _ in 0..u64::MAX {
-        match next {
-            Some(step) => {
-                steps.push(step)?;
-                next = step_after(root, ctx, &step);
+/// How many values and blocks the steps make.
+#[derive(Clone, Copy)]
+pub struct Extent {
+    pub values: usize,
+    pub blocks: usize,
+    /// No more than the key of the first result of an operation or the first argument of a block.
+    pub first_value: u64,
+    /// No more than the key of a block.
+    pub first_block: u64,
+}
+
+/// The steps in order, and how much they make.
+#[derive(Drop)]
+pub struct Outline {
+    pub steps: Vec<Step>,
+    pub extent: Extent,
+}
+
+impl Outline {
+    /// All that stands in an operation, from the operation on.
+    ///
+    /// Asks that the operation stands (`is_live` tests it). Errors: want of memory. Cost: one step for each
+    /// operation, block and region, where no operation has more than one region.
+    pub fn of(alloc: Global, root: Ptr<Operation>, ctx: &Context) -> Result<Outline, AllocError>
+        requires { IsLive ctx.now.tree root }
+        ensures { IfOk result (λ outline. AllStand ctx.now.tree outline.steps.items) }
+    {
+        let mut steps = Vec::new(alloc);
+        let mut extent = Extent::none();
+        let mut next = Some(Step::Operation(root));
+        // No tree has as many steps.
+        for _ in 0..u64::MAX {
+            match next {
+                Some(step) => {
+                    steps.push(step)?;
+                    extent.add(ctx, &step);
+                    next = step_after(root, ctx, &step);
+                }
+                None => break,
             }
-            None => break,
+        }
+        Ok(Outline { steps, extent })
+    }
+}
+
+impl Extent {
+    fn none() -> Extent {
+        Extent {
+            values: 0,
+            blocks: 0,
+            first_value: u64::MAX,
+            first_block: u64::MAX,
         }
     }
-    Ok(steps)
+
+    // Counts what the step makes.
+    #[inline(always)]
+    fn add(&mut self, ctx: &Context, step: &Step)
+        requires { IsStanding ctx.now.tree step.now }
+    {
+        match step {
+            Step::Operation(op) => {
+                let results = op.num_result(ctx);
+                if results > 0 {
+                    self.add_values(results, op.get_result(ctx, 0));
+                }
+            }
+            Step::Block(block) => {
+                self.blocks = self.blocks.saturating_add(1);
+                self.first_block = self.first_block.min(block.key());
+                let arguments = block.num_argument(ctx);
+                if arguments > 0 {
+                    self.add_values(arguments, block.get_argument(ctx, 0));
+                }
+            }
+            Step::Region(_) | Step::End(_) => {}
+        }
+    }
+
+    #[inline(always)]
+    fn add_values(&mut self, count: usize, first: Value) {
+        self.values = self.values.saturating_add(count);
+        self.first_value = self.first_value.min(first.key());
+    }
 }
 
 /// What is written after this step.
+#[inline(always)]
 fn step_after(root: Ptr<Operation>, ctx: &Context, step: &Step) -> Option<Step>
     requires { IsStanding ctx.now.tree step.now }
     ensures { IfSome result (λ next. IsStanding ctx.now.tree next) }
@@ -65,6 +129,7 @@ fn step_after(root: Ptr<Operation>, ctx: &Context, step: &Step) -> Option<Step>
     }
 }
 
+#[inline(always)]
 fn after_operation(root: Ptr<Operation>, ctx: &Context, op: Ptr<Operation>) -> Option<Step>
     requires { IsLive ctx.now.tree op }
     ensures { IfSome result (λ next. IsStanding ctx.now.tree next) }
@@ -78,6 +143,7 @@ fn after_operation(root: Ptr<Operation>, ctx: &Context, op: Ptr<Operation>) -> O
     }
 }
 
+#[inline(never)]
 fn after_block(ctx: &Context, block: Ptr<BasicBlock>) -> Option<Step>
     requires { IsBlock ctx.now.tree block }
     ensures { IfSome result (λ next. IsStanding ctx.now.tree next) }
@@ -88,6 +154,7 @@ fn after_block(ctx: &Context, block: Ptr<BasicBlock>) -> Option<Step>
     }
 }
 
+#[inline(never)]
 fn after_region(root: Ptr<Operation>, ctx: &Context, region: Ptr<Region>) -> Option<Step>
     requires { IsRegion ctx.now.tree region }
     ensures { IfSome result (λ next. IsStanding ctx.now.tree next) }

@@ -2,7 +2,7 @@ use Rattle.std.proofs.Common.{sym, subst}
 use Rattle.std.specs.Prelude.{IfSome}
 use Rattle.pliron_notation.specs.Printing.{AllStand, IsStanding}
 use Rattle.pliron_notation.proofs.CheckLemmas.{stand-more}
-use Rattle.pliron_notation.proofs.steps.steps_of.Goals as goal
+use Rattle.pliron_notation.proofs.steps.Outline.of.Goals as goal
 
 pub loop-init : goal.loop-init
 loop-init c = (subst (AllStand c.args.ctx.now.tree) (sym c.new-steps.ensures.items) tt, c.requires)
