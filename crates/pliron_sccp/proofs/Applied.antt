@@ -1,5 +1,5 @@
 -- Facts fall step by step.
-use Rattle.std.proofs.Common.{◌≡◌, ◌≢◌, ◌⊎◌, ◌↔◌, inl, inr, ⊎_elim, ℕ, Bool, true, false, true≢false, nat_eq, if◌then◌else◌, List, [], ◌∷◌, ◌++◌, append_assoc, refl, sym, ap, ◌∙◌, subst, arith, IsTrue}
+use Rattle.std.proofs.Common.{◌≡◌, ◌≢◌, ◌⊎◌, ◌↔◌, inl, inr, ⊎_elim, ℕ, Bool, true, false, true≢false, nat_eq, if◌then◌else◌, List, [], ◌∷◌, ◌++◌, append_assoc, slice_get, refl, sym, ap, ◌∙◌, subst, arith, IsTrue}
 use Rattle.std.proofs.lemmas.List.{append-nil}
 use Rattle.std.proofs.lemmas.Bool.{eqb-true, eq-eqb}
 use Rattle.pliron_theory.specs.Facts.{Fact, Undetermined, Constant, NotAConstant, AtMost, Facts}
@@ -14,6 +14,8 @@ use Rattle.pliron_sccp.specs.Demands.{CanMeet, Meets, MeetsAll}
 use Rattle.pliron_sccp.specs.Cells.{KeepsConstants, Means}
 use Rattle.pliron_sccp.specs.Settling.{AreAtMost}
 use Rattle.pliron_sccp.specs.Falling.{FactsFall, IsApplied}
+use Rattle.pliron_sccp.specs.Looking.{StampsIt}
+use Rattle.pliron_core.specs.Tree.{Tree}
 use Rattle.pliron_sccp.proofs.Written.{means_kept, means_same}
 
 same_below : (f g : Fact) → g ≡ f → AtMost g f
@@ -85,6 +87,34 @@ applied_more constants d ds s s1 s2 p q = record {
   met = (q.met.0, met_below constants (facts_of s1) (facts_of s2) ds q.falls.below p.met);
   least = λ g below m. q.least g (p.least g below m.1) (m.0, tt);
 }
+
+-- two tables say the same, but for stamps of looks
+module _ (t : Tree) (k : ℕ) (s u : Tables) (same : StampsIt t k s u) where
+  same_falls : FactsFall s u
+  same_falls = record {
+    below = record { reaches = λ b r. same.reached b ∙ r; fact = λ v. same_below (fact_in s v) (fact_in u v) (same.facts v) };
+    told = λ v. inl (same.facts v);
+    entered = λ b r. inl (sym (same.reached b) ∙ r);
+    values = λ v w. same.values v ∙ w;
+    blocks = λ b w. same.blocks b ∙ w;
+    fell = λ v w. inl (sym (same.values v) ∙ w);
+    came = λ b w. inl (sym (same.blocks b) ∙ w);
+    numbers = same.numbers;
+    keeps = λ n c e. ap (λ z. slice_get z n) same.constants ∙ e;
+  }
+
+  pub can_meet_same : (asked : List Demand) → CanMeet s asked → CanMeet u asked
+  can_meet_same asked can = subst (λ z. MeetsAll z (lowest_facts u) asked) (sym same.constants)
+      (met_below (known_constants s) (lowest_facts s) (lowest_facts u) asked (record { reaches = λ b r. same.numbers b ∙ r; fact = λ v. inr (inr refl) }) can)
+
+  pub applied_same : (asked : List Demand) (w : Tables) → IsApplied (known_constants u) asked u w → IsApplied (known_constants s) asked s w
+  applied_same asked w a = record {
+    falls = falls_trans s u w same_falls a.falls;
+    met = subst (λ z. MeetsAll z (facts_of w) asked) same.constants a.met;
+    least = λ g below m. a.least g
+        (record { reaches = λ b r. below.reaches b (sym (same.reached b) ∙ r); fact = λ v. subst (AtMost (g.fact v)) (sym (same.facts v)) (below.fact v) })
+        (subst (λ z. MeetsAll z g asked) (sym same.constants) m);
+  }
 
 -- one block is entered
 module _ (block : ℕ) (s s' : Tables) (e : Enters block s s') where

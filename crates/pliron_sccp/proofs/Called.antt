@@ -12,14 +12,15 @@ use Rattle.pliron_theory.proofs.KnownData.{picked_at}
 use Rattle.pliron_sccp.specs.declared.demands.Demand.{Demand}
 use Rattle.pliron_sccp.specs.declared.facts.Tables.{Tables}
 use Rattle.pliron_sccp.specs.declared.edges.FeasibleEdges.{FeasibleEdges}
-use Rattle.pliron_sccp.specs.Tables.{known_constants, fact_in, lowest_facts, reaches, waits_block, waits_value, facts_of}
+use Rattle.pliron_sccp.specs.Tables.{known_constants, fact_in, lowest_facts, reaches, waits_block, waits_value, facts_of, StampsFallen}
 use Rattle.pliron_sccp.specs.Accounts.{AreKnownThere, NothingWaits}
 use Rattle.pliron_sccp.specs.Delaying.{IsAside}
 use Rattle.pliron_sccp.specs.Demands.{CanMeet, MeetsAll}
 use Rattle.pliron_sccp.specs.Falling.{IsApplied}
-use Rattle.pliron_sccp.specs.Looking.{AreCalls, AreTargetsNumbered, Forwarded, HasNumberedTargets, IsAskedAt, IsHanded, IsLookedAt, IsNamed, IsOpenEdge, TakesValues}
+use Rattle.pliron_sccp.specs.Looking.{AreCalls, AreTargetsNumbered, Forwarded, HasNumberedTargets, IsAskedAt, IsBehind, IsHanded, IsLookedAt, IsNamed, IsOpenEdge, TakesValues}
 use Rattle.pliron_sccp.specs.Settling.{IsMet, AreAtMost, AreStarted}
 use Rattle.pliron_sccp.proofs.Applied.{at_most_both, below_refl}
+use Rattle.pliron_sccp.proofs.Stamps.{behind_same, told_calls}
 use Rattle.pliron_sccp.proofs.Settled.{met_still, entered_still, varies_still}
 use Rattle.pliron_sccp.proofs.Stepping.{below_same, targets_same, targets_kept, all_but_one, argument_but, below_but, unknown_but, not_yet, IsSettledIn, AreSettledIn}
 
@@ -40,14 +41,14 @@ can_call x t edges s values users asked c = c.owed (lowest_facts s) (λ k place 
 
 module _ (x : Says) (t : Tree) (edges : FeasibleEdges) (values users : List ℕ) (asked : List Demand) (s u w : Tables) (k : TakesValues values s u) (c : AreCalls x t u edges values users asked) (a : IsApplied (known_constants u) asked u w) where
   -- an operation that was looked at and is not looked at again is settled
-  module _ (j b : ℕ) (o : Operation) (at : op_at t j ≡ Some o) (l : IsLookedAt t u j) (rests : In j users → ⊥) (y : IsSettledIn x t s j o) where
-    reads : (v : ℕ) → In v o.operands → In v values → (place : ℕ) × (slice_get o.operands place ≡ Some v) × IsAskedAt x t u asked o place v
+  module _ (stamped : StampsFallen u w) (j b : ℕ) (o : Operation) (at : op_at t j ≡ Some o) (l : IsLookedAt t u j) (rests : In j users → ⊥) (y : IsSettledIn x t s j o) where
+    reads : (v : ℕ) → In v o.operands → In v values × IsBehind t u j v → (place : ℕ) × (slice_get o.operands place ≡ Some v) × IsAskedAt x t u asked o place v
     reads v i taken =
         let p = slice_in o.operands v i in
         (p.0, p.1, asks p.0 v taken p.1)
       where
-        asks : (place v : ℕ) → In v values → slice_get o.operands place ≡ Some v → IsAskedAt x t u asked o place v
-        asks place v taken is = ⊎_elim (λ i. absurd (rests i)) (λ h. h) (c.seen j place v o taken (ap (λ z. slice_get z place) (op_shows t j o at).operands ∙ is) l at)
+        asks : (place v : ℕ) → In v values × IsBehind t u j v → slice_get o.operands place ≡ Some v → IsAskedAt x t u asked o place v
+        asks place v taken is = ⊎_elim (λ i. absurd (rests i)) (λ h. h) (c.seen j place v o taken.0 (ap (λ z. slice_get z place) (op_shows t j o at).operands ∙ is) taken.1 l at)
 
     falls_to : AreAtMost (facts_of w) (facts_of s)
     falls_to = record {
@@ -58,11 +59,11 @@ module _ (x : Says) (t : Tree) (edges : FeasibleEdges) (values users : List ℕ)
     still : IsMet x t y.seen (facts_of w) j o
     still = met_still x t y.seen (facts_of s) (facts_of w) j o falls_to y.met
 
-    each : (v : ℕ) → In v o.operands → (fact_in u v ≡ y.seen.fact v) ⊎ In v values
-    each v i = ⊎_elim (λ e. inl (k.facts v ∙ e)) (λ q. inr ((k.waited v).0 q)) (y.same v i)
+    each : (v : ℕ) → In v o.operands → (fact_in u v ≡ y.seen.fact v) ⊎ (In v values × IsBehind t u j v)
+    each v i = ⊎_elim (λ e. inl (k.facts v ∙ e)) (λ q. inr ((k.waited v).0 q.0, behind_same t s u k.stamps j v q.1)) (y.same v i)
 
-    by_new : ((v : ℕ) × In v o.operands × In v values) → IsSettledIn x t w j o
-    by_new (v, i, taken) = record { seen = facts_of u; met = met; same = λ q h. a.falls.told q }
+    by_new : ((v : ℕ) × In v o.operands × (In v values × IsBehind t u j v)) → IsSettledIn x t w j o
+    by_new (v, i, taken) = record { seen = facts_of u; met = met; same = λ q h. told_calls t u w a.falls stamped.falls j q }
       where
         first : IsAskedAt x t u asked o (reads v i taken).0 v
         first = (reads v i taken).2
@@ -91,27 +92,27 @@ module _ (x : Says) (t : Tree) (edges : FeasibleEdges) (values users : List ℕ)
           others = still.others;
         }
           where
-            asked_of : (place r : ℕ) → In r values → slice_get o.operands place ≡ Some r → (e d index q : ℕ) → IsTrue (x.meaning.is_branch o.head) → slice_get o.successors e ≡ Some d → slice_get (arguments_of t d) index ≡ Some q → slice_get (x.meaning.forwarded (shape_of x.meaning t o) e) index ≡ Some place → AtMost (fact_in w q) (fact_in u r)
+            asked_of : (place r : ℕ) → In r values × IsBehind t u j r → slice_get o.operands place ≡ Some r → (e d index q : ℕ) → IsTrue (x.meaning.is_branch o.head) → slice_get o.successors e ≡ Some d → slice_get (arguments_of t d) index ≡ Some q → slice_get (x.meaning.forwarded (shape_of x.meaning t o) e) index ≡ Some place → AtMost (fact_in w q) (fact_in u r)
             asked_of place r new is e d index q branch goes listed forwards = ⊎_elim
                 (λ z. absurd (rests z))
                 (λ h. h.below (facts_of w) a.met q (record { branch = branch; edge = e; block = d; index = index; successor = goes; is_argument = listed; forwards = forwards }))
-                (c.seen j place r o new (ap (λ z. slice_get z place) (op_shows t j o at).operands ∙ is) l at)
+                (c.seen j place r o new.0 (ap (λ z. slice_get z place) (op_shows t j o at).operands ∙ is) new.1 l at)
 
     pub rests_settled : IsSettledIn x t w j o
     rests_settled = ⊎_elim
-        (λ all. record { seen = y.seen; met = still; same = λ v i. ⊎_elim (λ e. inl (e ∙ all v i)) (λ q. inr q) (a.falls.told v) })
+        (λ all. record { seen = y.seen; met = still; same = λ v i. ⊎_elim (λ e. inl (e ∙ all v i)) (λ q. inr q) (told_calls t u w a.falls stamped.falls j v) })
         by_new
         (same_or o.operands each)
 
   -- all values are taken: the users that are looked at again are still to be looked at, beside what was before
-  pub values_settle : (rest : ℕ → Type 0) → AreSettledIn x t s rest → AreSettledIn x t w (λ j. In j users ⊎ rest j)
-  values_settle rest settled j b o p r at = ⊎_elim (λ old. before old (settled j b o p (sym (k.reached b) ∙ old) at)) (λ new. inl new) (a.falls.entered b r)
+  pub values_settle : StampsFallen u w → (rest : ℕ → Type 0) → AreSettledIn x t s rest → AreSettledIn x t w (λ j. In j users ⊎ rest j)
+  values_settle stamped rest settled j b o p r at = ⊎_elim (λ old. before old (settled j b o p (sym (k.reached b) ∙ old) at)) (λ new. inl new) (a.falls.entered b r)
     where
       settles : reaches u b ≡ true → (q : Bool) → waits_block u b ≡ q → IsSettledIn x t s j o → (waits_block w b ≡ true) ⊎ IsSettledIn x t w j o ⊎ In j users ⊎ rest j
       settles old true e y = inl (a.falls.blocks b e)
       settles old false e y = ⊎_elim
           (λ i. inr (inr (inl i)))
-          (λ n. inr (inl (rests_settled j b o at (record { block = b; in_block = p; reached = old; taken = e }) n y)))
+          (λ n. inr (inl (rests_settled stamped j b o at (record { block = b; in_block = p; reached = old; taken = e }) n y)))
           (decide_in j users)
 
       before : reaches u b ≡ true → (waits_block s b ≡ true) ⊎ IsSettledIn x t s j o ⊎ rest j → (waits_block w b ≡ true) ⊎ IsSettledIn x t w j o ⊎ In j users ⊎ rest j

@@ -19,9 +19,10 @@ use Rattle.pliron_sccp.specs.Cells.{Means}
 use Rattle.pliron_sccp.specs.declared.facts.Tables.{Tables}
 use Rattle.pliron_sccp.specs.declared.edges.FeasibleEdges.{FeasibleEdges}
 use Rattle.pliron_sccp.specs.Demands.{Adds, MeetsAll}
-use Rattle.pliron_sccp.specs.Looking.{AddsEach, AreCalls, AsksAhead, Forwarded, IsAskedAt, IsHanded, IsLookedAt, IsNamed, IsOpenEdge, IsUseOf, NamesNone, SeesTo, TakesUsers}
+use Rattle.pliron_sccp.specs.Looking.{AddsEach, AreCalls, AsksAhead, Forwarded, IsAskedAt, IsBehind, IsHanded, IsLookedAt, IsNamed, IsOpenEdge, IsUseOf, NamesNone, SeesTo, TakesUsers}
 use Rattle.pliron_sccp.proofs.Demanded.{adds_one}
-use Rattle.pliron_sccp.specs.Tables.{known_constants, fact_in, is_numbered, left_values, reaches, waits_block, waits_value, NoValueWaits, SaysSame, TakesValue}
+use Rattle.pliron_sccp.specs.Tables.{known_constants, fact_in, is_numbered, left_values, reaches, waits_block, waits_value, KeepsStamps, NoValueWaits, SaysSame, TakesValue}
+use Rattle.pliron_sccp.proofs.Stamps.{behind_same, kept_back, kept_both}
 
 -- what is looked at in one table is in another that says the same of blocks
 pub looked_same : (t : Tree) (s u : Tables) → ((b : ℕ) → reaches u b ≡ reaches s b) → ((b : ℕ) → waits_block u b ≡ waits_block s b) → (k : ℕ) → IsLookedAt t u k → IsLookedAt t s k
@@ -42,7 +43,7 @@ module _ (x : Says) (t : Tree) (edges : FeasibleEdges) where
       kept = λ k i. i;
       more = λ now m. m;
       only = λ k i. inl i;
-      seen = λ k place o u l at. absurd (none k place u);
+      seen = λ k place o u b l at. absurd (none k place u);
       owed = λ now m all. m;
     }
 
@@ -54,9 +55,9 @@ module _ (x : Says) (t : Tree) (edges : FeasibleEdges) where
           (λ j. ⊎_elim (λ h. inl h) (λ h. inr (h.0, (h.1.0, (both k h.1.0).0 (inl h.1.1)))) (p.only k j))
           (λ h. inr (h.0, (h.1.0, (both k h.1.0).0 (inr h.1.1))))
           (q.only k i);
-      seen = λ k place o u l at. ⊎_elim
-          (λ a. ⊎_elim (λ i. inl (q.kept k i)) (λ h. inr (asked_more s asked1 asked2 o place v q.more h)) (p.seen k place o a l at))
-          (λ b. q.seen k place o b l at)
+      seen = λ k place o u behind l at. ⊎_elim
+          (λ a. ⊎_elim (λ i. inl (q.kept k i)) (λ h. inr (asked_more s asked1 asked2 o place v q.more h)) (p.seen k place o a behind l at))
+          (λ b. q.seen k place o b behind l at)
           ((both k place).1 u);
       owed = λ now m all. q.owed now
           (p.owed now m (λ k place a o u l at h. all k place a o ((both k place).0 (inl u)) l at h))
@@ -73,7 +74,17 @@ module _ (x : Says) (t : Tree) (edges : FeasibleEdges) where
         kept = λ k i. i;
         more = λ now m. m;
         only = λ k i. inl i;
-        seen = λ k p o u l at. absurd (none (subst (IsLookedAt t s) u.0 l));
+        seen = λ k p o u b l at. absurd (none (subst (IsLookedAt t s) u.0 l));
+        owed = λ now m all. m;
+      }
+
+      -- it was looked at since
+      pub use_ahead_of : (IsBehind t s op v → ⊥) → SeesTo x t s edges v IsIt users asked users asked
+      use_ahead_of none = record {
+        kept = λ k i. i;
+        more = λ now m. m;
+        only = λ k i. inl i;
+        seen = λ k p o u b l at. absurd (none (subst (λ z. IsBehind t s z v) u.0 b));
         owed = λ now m all. m;
       }
 
@@ -82,7 +93,7 @@ module _ (x : Says) (t : Tree) (edges : FeasibleEdges) where
         kept = λ k i. i;
         more = λ now m. m;
         only = λ k i. inl i;
-        seen = λ k p o u l at.
+        seen = λ k p o u b l at.
             let n = nothing o (subst (λ z. op_at t z ≡ Some o) u.0 at) in
             inr (record { no_fold = n.0; no_jump = n.1; names_none = n.2; below = λ now m a f. absurd (true≢false (sym f.branch ∙ n.3)) });
         owed = λ now m all. m;
@@ -146,7 +157,7 @@ module _ (x : Says) (t : Tree) (edges : FeasibleEdges) where
         kept = λ k i. (a.members k).1 (inl i);
         more = ahead.more;
         only = λ k i. ⊎_elim (λ j. inl j) (λ e. inr (subst (IsLookedAt t s) e l, (place, (sym e, refl)))) ((a.members k).0 i);
-        seen = λ k p o u seen at. inl ((a.members k).1 (inr (sym u.0)));
+        seen = λ k p o u b seen at. inl ((a.members k).1 (inr (sym u.0)));
         owed = λ now m all. ahead.owed now m (λ b o at h. all op place b o (refl, refl) l at h);
       }
 
@@ -155,7 +166,7 @@ module _ (x : Says) (t : Tree) (edges : FeasibleEdges) where
         kept = λ k i. i;
         more = λ now m. ((adds now).0 m).0;
         only = λ k i. inl i;
-        seen = λ k p o u seen at. inr (asks o (subst (λ z. op_at t z ≡ Some o) u.0 at) p u.1);
+        seen = λ k p o u b seen at. inr (asks o (subst (λ z. op_at t z ≡ Some o) u.0 at) p u.1);
         owed = λ now m all. (adds now).1 (
           m,
           λ b a goes is. all op place a o.0 (refl, refl) l o.1 (inl (forwarded_there edge index o.0 o.1 (one o.0 o.1).3 once b a goes is, inl (one o.0 o.1).1)),
@@ -204,7 +215,7 @@ module _ (x : Says) (t : Tree) (edges : FeasibleEdges) where
       ))
 
   -- the same in other tables that say the same
-  module _ (s u : Tables) (facts : (v : ℕ) → fact_in u v ≡ fact_in s v) (reached : (b : ℕ) → reaches u b ≡ reaches s b) (blocks : (b : ℕ) → waits_block u b ≡ waits_block s b) (constants : known_constants u ≡ known_constants s) where
+  module _ (s u : Tables) (facts : (v : ℕ) → fact_in u v ≡ fact_in s v) (reached : (b : ℕ) → reaches u b ≡ reaches s b) (blocks : (b : ℕ) → waits_block u b ≡ waits_block s b) (constants : known_constants u ≡ known_constants s) (stamps : KeepsStamps s u) where
     seen_then : (k : ℕ) → IsLookedAt t s k → IsLookedAt t u k
     seen_then k l = looked_same t u s (λ b. sym (reached b)) (λ b. sym (blocks b)) k l
 
@@ -228,7 +239,7 @@ module _ (x : Says) (t : Tree) (edges : FeasibleEdges) where
     pub calls_then : (values users : List ℕ) (asked : List Demand) → AreCalls x t s edges values users asked → AreCalls x t u edges values users asked
     calls_then values users asked c = record {
       only = λ k i. let y = c.only k i in (seen_then k y.0, y.1);
-      seen = λ k place v o i is l at. ⊎_elim (λ j. inl j) (λ h. inr (asked_then asked o place v h)) (c.seen k place v o i is (seen_before k l) at);
+      seen = λ k place v o i is b l at. ⊎_elim (λ j. inl j) (λ h. inr (asked_then asked o place v h)) (c.seen k place v o i is (behind_same t u s (kept_back s u stamps) k v b) (seen_before k l) at);
       owed = λ now all. subst (λ z. MeetsAll z now asked) (sym constants) (c.owed now (λ k place a v o i is l at h. subst (AtMost (now.fact a)) (facts v) (all k place a v o i is (seen_then k l) at (handed_then k place a o h))));
     }
 
@@ -236,9 +247,9 @@ module _ (x : Says) (t : Tree) (edges : FeasibleEdges) where
   calls_more : (s : Tables) (v : ℕ) (values users : List ℕ) (asked : List Demand) (users' : List ℕ) (asked' : List Demand) → AreCalls x t s edges values users asked → SeesTo x t s edges v (IsUseOf t v) users asked users' asked' → AreCalls x t s edges (v ∷ values) users' asked'
   calls_more s v values users asked users' asked' c p = record {
     only = λ k i. ⊎_elim (λ j. let y = c.only k j in (y.0, (y.1.0, inr y.1.1))) (λ y. (y.0, (v, inl refl))) (p.only k i);
-    seen = λ k place w o i is l at. ⊎_elim
-        (λ e. subst (λ z. In k users' ⊎ IsAskedAt x t s asked' o place z) (sym e) (p.seen k place o (subst (λ z. IsUseOf t z k place) e is) l at))
-        (λ j. ⊎_elim (λ h. inl (p.kept k h)) (λ h. inr (asked_more s asked asked' o place w p.more h)) (c.seen k place w o j is l at))
+    seen = λ k place w o i is b l at. ⊎_elim
+        (λ e. subst (λ z. In k users' ⊎ IsAskedAt x t s asked' o place z) (sym e) (p.seen k place o (subst (λ z. IsUseOf t z k place) e is) (subst (λ z. IsBehind t s k z) e b) l at))
+        (λ j. ⊎_elim (λ h. inl (p.kept k h)) (λ h. inr (asked_more s asked asked' o place w p.more h)) (c.seen k place w o j is b l at))
         i;
     owed = λ now all. p.owed now
         (c.owed now (λ k place a w o i is l at h. all k place a w o (inr i) is l at h))
@@ -248,7 +259,7 @@ module _ (x : Says) (t : Tree) (edges : FeasibleEdges) where
   calls_none : (s : Tables) (users : List ℕ) (asked : List Demand) → users ≡ [] → asked ≡ [] → AreCalls x t s edges [] users asked
   calls_none s users asked e n = record {
     only = λ k i. absurd (subst (In k) e i);
-    seen = λ k place v o i is l at. absurd i;
+    seen = λ k place v o i is b l at. absurd i;
     owed = λ now all. subst (MeetsAll (known_constants s) now) (sym n) tt;
   }
 
@@ -266,6 +277,7 @@ module _ (x : Says) (t : Tree) (edges : FeasibleEdges) where
     pub counted : taken ≡ length values
     pub left : taken + left_values now ≡ left_values start
     pub few : (taken ≡ 0) ⊎ (left_values start < 2 ^ 64)
+    pub stamps : KeepsStamps start now
 
   pub taking_start : (s : Tables) (users : List ℕ) (asked : List Demand) → users ≡ [] → asked ≡ [] → IsTaking s s users asked 0
   taking_start s users asked none nothing = record {
@@ -281,6 +293,7 @@ module _ (x : Says) (t : Tree) (edges : FeasibleEdges) where
     counted = refl;
     left = omega arith;
     few = inl refl;
+    stamps = record { looks = λ f. refl; falls = λ v. refl };
   }
 
   -- one value more is taken
@@ -328,10 +341,11 @@ module _ (x : Says) (t : Tree) (edges : FeasibleEdges) where
       reached = λ b. k.reached b ∙ a.reached b;
       blocks = λ b. k.blocks b ∙ a.blocks b;
       numbers = λ b. k.numbers b ∙ a.numbers b;
-      calls = calls_more next value a.values users asked users' asked' (calls_then now next k.facts k.reached k.blocks k.constants a.values users asked a.calls) added;
+      calls = calls_more next value a.values users asked users' asked' (calls_then now next k.facts k.reached k.blocks k.constants k.stamps a.values users asked a.calls) added;
       counted = let c = a.counted in omega (arith, c);
       left = let l = a.left in let f = k.fewer in omega (arith, l, f);
       few = inr small_left;
+      stamps = kept_both start now next a.stamps k.stamps;
     }
 
     pub fewer_left : left_values next < left_values now
@@ -349,8 +363,9 @@ module _ (x : Says) (t : Tree) (edges : FeasibleEdges) where
       reached = λ b. n.0.reached b ∙ a.reached b;
       blocks = λ b. n.0.blocks b ∙ a.blocks b;
       numbers = λ b. n.0.numbers b ∙ a.numbers b;
+      stamps = kept_both start now last a.stamps n.0.stamps;
     };
-    calls = calls_then now last n.0.facts n.0.reached n.0.blocks n.0.constants a.values users asked a.calls;
+    calls = calls_then now last n.0.facts n.0.reached n.0.blocks n.0.constants n.0.stamps a.values users asked a.calls;
     counted = a.counted;
   }
 
@@ -366,6 +381,7 @@ module _ (x : Says) (t : Tree) (edges : FeasibleEdges) where
       reached = λ b. k.takes.reached b ∙ same.reached b;
       blocks = λ b. k.takes.blocks b ∙ same.blocks b;
       numbers = λ b. k.takes.numbers b ∙ same.numbers b;
+      stamps = kept_both s u s' same.stamps k.takes.stamps;
     };
     calls = k.calls;
     counted = k.counted;

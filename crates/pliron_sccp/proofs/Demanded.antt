@@ -34,6 +34,10 @@ pub handed_more : (f : Facts) (xs : List ℕ) (i x : ℕ) (before after : List (
 handed_more f xs i x before after a at so_far is grown =
     grown ∙ ap (λ z. z ++ a ∷ []) so_far ∙ ap (λ z. handed f (take i xs) ++ z ∷ []) is ∙ sym (handed_append f (take i xs) x) ∙ ap (handed f) (sym (take_more xs i x at)) ∙ ap (λ n. handed f (take n xs)) (sym (add-one i))
 
+-- what is known, added to nothing
+pub known_alone : (f : Facts) (xs : List ℕ) (old new : List (Option AttrObj)) → old ≡ [] → new ≡ old ++ handed f xs → new ≡ handed f xs
+known_alone f xs old new none added = added ∙ ap (λ z. z ++ handed f xs) none
+
 -- what stands at a place in a list, and a list from which nothing can be popped
 pub get_amid : (xs : List (Option AttrObj)) (a : Option AttrObj) (ys : List (Option AttrObj)) → slice_get ((xs ++ a ∷ []) ++ ys) (length xs) ≡ Some a
 get_amid [] a ys = refl

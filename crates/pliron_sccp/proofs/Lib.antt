@@ -23,6 +23,7 @@ pub mod UserLists
 pub mod Calls
 pub mod InsideLists
 pub mod PutAside
+pub mod Stamps
 pub mod Stepping
 pub mod Aside
 pub mod Called

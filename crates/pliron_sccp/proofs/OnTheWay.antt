@@ -20,7 +20,7 @@ use Rattle.pliron_sccp.specs.declared.edges.FeasibleEdges.{FeasibleEdges}
 use Rattle.pliron_sccp.specs.declared.demands.Demand.{Demand}
 use Rattle.pliron_sccp.specs.Falling.{FactsFall, IsApplied}
 use Rattle.pliron_laws.specs.Tree.{Operation}
-use Rattle.pliron_sccp.specs.Tables.{fact_in, known_constants, reaches, facts_of, TakesBlock}
+use Rattle.pliron_sccp.specs.Tables.{fact_in, known_constants, reaches, facts_of, StampsFallen, TakesBlock}
 use Rattle.pliron_sccp.specs.Chain.{blocks_inside}
 use Rattle.pliron_sccp.specs.Inside.{block_values, values_inside}
 use Rattle.pliron_sccp.specs.Demands.{AsksEntries}
@@ -200,19 +200,19 @@ module _ (x : Says) (t : Tree) (root : ℕ) (w : IsTree t) (live : IsLive t root
           }
 
       -- users are looked at or put aside
-      users_settle : IsSearchOnTheWay x t root s z → AreSettledIn x t s' (λ j. In j (delayed z'))
-      users_settle o =
+      users_settle : StampsFallen u q → IsSearchOnTheWay x t root s z → AreSettledIn x t s' (λ j. In j (delayed z'))
+      users_settle stamped o =
           through_settles x t (λ j. In j (delayed z')) v.short q s' v.looks
           (settled_wider x t (λ j. In j users ⊎ In j (delayed z)) (λ j. In j v.short ⊎ In j (delayed z')) q
           (λ j y. ⊎_elim (λ i. v.seen j i) (λ i. inr (v.kept j i)) y)
-          (values_settle x t edges values users asked s u q k c a (λ j. In j (delayed z)) o.settled))
+          (values_settle x t edges values users asked s u q k c a stamped (λ j. In j (delayed z)) o.settled))
 
-      pub values_on_way : IsSearchOnTheWay x t root s z → IsSearchOnTheWay x t root s' z'
-      values_on_way o =
+      pub values_on_way : StampsFallen u q → IsSearchOnTheWay x t root s z → IsSearchOnTheWay x t root s' z'
+      values_on_way stamped o =
           let l = through_laid v.short q s' v.looks (λ j i. let y = (c.only j (v.among j i)).0 in (y.block, y.in_block, a.falls.below.reaches y.block y.reached)) (called_laid o) in
           record {
             numbered = λ b i. called_falls.numbers b ∙ k.numbers b ∙ o.numbered b i;
-            settled = users_settle o;
+            settled = users_settle stamped o;
             aside = λ j i. aside_then x t u s' j called_falls (⊎_elim
                 (λ old. aside_values x t values s u j k (o.aside j old))
                 (λ new. called_aside x t edges values users asked s u q k c a (λ j. In j (delayed z)) o.settled o.aside j new)
@@ -225,7 +225,7 @@ module _ (x : Says) (t : Tree) (root : ℕ) (w : IsTree t) (live : IsLive t root
 
     pub step_on_way : (s s' : Tables) (z z' : Delays) (edges edges' : FeasibleEdges) (taken : ℕ) → TakesTurn x t s s' z z' edges edges' taken → IsSearchOnTheWay x t root s z → IsSearchOnTheWay x t root s' z'
     step_on_way s s' z z' edges edges' taken (Block c u k d same e) o = subst (IsSearchOnTheWay x t root s') (sym same) (block_on_way c s u s' z k (looks_only x t (body_of t c) u s' edges edges' d) o)
-    step_on_way s s' z z' edges edges' taken (Values none v kept) o = values_on_way v.takes.values v.users v.asked s v.between v.met s' z z' v.takes.takes edges v.takes.calls v.applied v.sees o
+    step_on_way s s' z z' edges edges' taken (Values none v kept) o = values_on_way v.takes.values v.users v.asked s v.between v.met s' z z' v.takes.takes edges v.takes.calls v.applied v.sees v.stamped o
 
     pub step_accounted : (s s' : Tables) (z z' : Delays) (edges edges' : FeasibleEdges) (pops taken : ℕ) → TakesTurn x t s s' z z' edges edges' taken → IsSearchOnTheWay x t root s z → IsAccounted t root s pops → IsAccounted t root s' (pops + taken)
     step_accounted s s' z z' edges edges' pops taken (Block c u k d same e) o a =
@@ -320,7 +320,7 @@ module _ (x : Says) (t : Tree) (root : ℕ) (w : IsTree t) (live : IsLive t root
       w
     where
       rests : {k : ℕ} {q : Operation} → IsSettledIn x t s k q → IsSettled x t (facts_of s) (λ v. ⊥) k q
-      rests y = record { seen = y.seen; met = y.met; same = λ v i. ⊎_elim (λ e. inl e) (λ h. absurd (true≢false (sym h ∙ done.values v))) (y.same v i) }
+      rests y = record { seen = y.seen; met = y.met; same = λ v i. ⊎_elim (λ e. inl e) (λ h. absurd (true≢false (sym h.0 ∙ done.values v))) (y.same v i) }
 
   -- there are few blocks and values
   pub few_blocks : HaveFewKeys t → length (blocks_inside t root) < 2 ^ 64

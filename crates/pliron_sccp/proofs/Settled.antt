@@ -62,7 +62,7 @@ module _ (x : Says) (t : Tree) where
   }
 
   -- where nothing waits the facts are closed
-  pub closed_when_settled : (root : ℕ) (f : Facts) → AreStarted t root f → AreSettledBut x t f (λ b. ⊥) (λ v. ⊥) (λ k. ⊥) → IsTree t → AreClosed x t root f
+  pub closed_when_settled : (root : ℕ) (f : Facts) → AreStarted t root f → AreSettledBut x t f (λ b. ⊥) (λ k v. ⊥) (λ k. ⊥) → IsTree t → AreClosed x t root f
   closed_when_settled root f started settled w = record {
     inside = started.inside;
     outside = started.outside;

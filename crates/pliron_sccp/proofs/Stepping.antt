@@ -15,20 +15,21 @@ use Rattle.pliron_theory.proofs.FactLattice.{unknown_below}
 use Rattle.pliron_laws.proofs.Records.{make_op, op_shows}
 use Rattle.pliron_theory.specs.Facts.{Fact, Undetermined, NotAConstant, Facts, Says, IsInReachedBlock, AreHeld}
 use Rattle.pliron_sccp.specs.declared.facts.Tables.{Tables}
-use Rattle.pliron_sccp.specs.Tables.{known_constants, fact_in, is_numbered, lowest_facts, reaches, waits_block, waits_value, facts_of, TakesBlock}
+use Rattle.pliron_sccp.specs.Tables.{known_constants, fact_in, is_numbered, lowest_facts, reaches, waits_block, facts_of, StampsFalls, TakesBlock}
 use Rattle.pliron_sccp.specs.Inside.{block_values}
 use Rattle.pliron_sccp.specs.Settling.{IsMet, AreAtMost, IsSettled, AreSettledBut, AreStarted}
 use Rattle.pliron_sccp.specs.Falling.{FactsFall}
 use Rattle.pliron_sccp.specs.Demands.{Asks, AsksEntries, CanMeet, MeetsAll}
 use Rattle.pliron_sccp.specs.declared.demands.Demand.{Demand}
 use Rattle.pliron_sccp.specs.declared.edges.FeasibleEdges.{FeasibleEdges}
-use Rattle.pliron_sccp.specs.Looking.{AreTargetsNumbered, GoesThrough, HasNumberedTargets, LooksAt, LooksThrough}
+use Rattle.pliron_sccp.specs.Looking.{stamp_of, AreTargetsNumbered, CallsFor, GoesThrough, HasNumberedTargets, LooksAt, LooksThrough}
 use Rattle.pliron_sccp.specs.Looking.LooksThrough.{Nothing, Then}
 use Rattle.pliron_sccp.specs.Looking.GoesThrough.{Nowhere, Onward}
 use Rattle.pliron_sccp.specs.Accounts.{AreKnownThere}
 use Rattle.pliron_sccp.proofs.DistinctLists.{held_directly, values_apart}
 use Rattle.pliron_sccp.proofs.Settled.{met_still, entered_still, varies_still}
 use Rattle.pliron_sccp.proofs.Applied.{falls_refl, falls_trans}
+use Rattle.pliron_sccp.proofs.Stamps.{behind_same, calls_still, told_calls}
 
 -- what an operation asks can be met where the blocks that it may enter have numbers
 pub can_meet : (x : Says) (t : Tree) (k : ℕ) (s : Tables) (asked : List Demand) → IsLive t k → HasNumberedTargets t s k → Asks (known_constants s) x t (facts_of s) k asked → CanMeet s asked
@@ -151,22 +152,22 @@ not_yet s u b still none = by (reaches s b) refl
 
 module _ (x : Says) (t : Tree) where
   abbrev pub IsSettledIn : Tables → ℕ → Operation → Type 0
-  IsSettledIn s k o = IsSettled x t (facts_of s) (λ v. waits_value s v ≡ true) k o
+  IsSettledIn s k o = IsSettled x t (facts_of s) (λ v. CallsFor t s k v) k o
 
   abbrev pub AreSettledIn : Tables → (ℕ → Type 0) → Type 0
-  AreSettledIn s todo = AreSettledBut x t (facts_of s) (λ b. waits_block s b ≡ true) (λ v. waits_value s v ≡ true) todo
+  AreSettledIn s todo = AreSettledBut x t (facts_of s) (λ b. waits_block s b ≡ true) (λ k v. CallsFor t s k v) todo
 
-  -- it stays settled while facts fall
-  pub settled_then : (s u : Tables) (k : ℕ) (o : Operation) → FactsFall s u → IsSettledIn s k o → IsSettledIn u k o
-  settled_then s u k o f y = record {
+  -- it stays settled while facts fall, where no look at it is stamped
+  pub settled_then : (s u : Tables) (k : ℕ) (o : Operation) → FactsFall s u → StampsFalls s u → stamp_of u (results_of t k) ≡ stamp_of s (results_of t k) → IsSettledIn s k o → IsSettledIn u k o
+  settled_then s u k o f p look y = record {
     seen = y.seen;
     met = met_still x t y.seen (facts_of s) (facts_of u) k o f.below y.met;
-    same = λ v i. ⊎_elim (λ e. ⊎_elim (λ d. inl (d ∙ e)) (λ w. inr w) (f.told v)) (λ w. inr (f.values v w)) (y.same v i);
+    same = λ v i. ⊎_elim (λ e. ⊎_elim (λ d. inl (d ∙ e)) (λ w. inr w) (told_calls t s u f p k v)) (λ w. inr (calls_still t s u f p k v look w)) (y.same v i);
   }
 
   -- it is settled where what it asked before is met
-  pub settled_now : (s u : Tables) (k : ℕ) (o : Operation) → FactsFall s u → IsMet x t (facts_of s) (facts_of u) k o → IsSettledIn u k o
-  settled_now s u k o f m = record { seen = facts_of s; met = m; same = λ v i. f.told v }
+  pub settled_now : (s u : Tables) (k : ℕ) (o : Operation) → FactsFall s u → StampsFalls s u → IsMet x t (facts_of s) (facts_of u) k o → IsSettledIn u k o
+  settled_now s u k o f p m = record { seen = facts_of s; met = m; same = λ v i. told_calls t s u f p k v }
 
   -- more may be still to be looked at
   pub settled_wider : (P Q : ℕ → Type 0) (s : Tables) → ((j : ℕ) → P j → Q j) → AreSettledIn s P → AreSettledIn s Q
@@ -185,8 +186,12 @@ module _ (x : Says) (t : Tree) where
 
         before : (waits_block s b ≡ true) ⊎ IsSettledIn s j o ⊎ In j (k ∷ ks) ⊎ rest j → (waits_block u b ≡ true) ⊎ IsSettledIn u j o ⊎ In j ks ⊎ rest j
         before (inl waits) = inl (f.blocks b waits)
-        before (inr (inl y)) = inr (inl (settled_then s u j o f y))
-        before (inr (inr (inl (inl e)))) = inr (inl (settled_now s u j o f (here e)))
+        before (inr (inl y)) = inr (inl (again (nat_eq j k) refl))
+          where
+            again : (q : Bool) → nat_eq j k ≡ q → IsSettledIn u j o
+            again true e = settled_now s u j o f l.stamped.falls (here (eqb-true j k e))
+            again false e = settled_then s u j o f l.stamped.falls (l.stamped.others j (λ same. true≢false (sym (eq-eqb j k same) ∙ e))) y
+        before (inr (inr (inl (inl e)))) = inr (inl (settled_now s u j o f l.stamped.falls (here e)))
         before (inr (inr (inl (inr i)))) = inr (inr (inl i))
         before (inr (inr (inr h))) = inr (inr (inr h))
 
@@ -217,7 +222,7 @@ module _ (x : Says) (t : Tree) where
         before (inr (inl y)) = inr (inl (record {
           seen = y.seen;
           met = met_still x t y.seen (facts_of s) (facts_of u) j o (below_same s u k.facts k.reached) y.met;
-          same = λ v i. ⊎_elim (λ e. inl (k.facts v ∙ e)) (λ q. inr (k.values v ∙ q)) (y.same v i);
+          same = λ v i. ⊎_elim (λ e. inl (k.facts v ∙ e)) (λ q. inr (k.values v ∙ q.0, behind_same t s u k.stamps j v q.1)) (y.same v i);
         }))
         before (inr (inr h)) = inr (inr (inr h))
 

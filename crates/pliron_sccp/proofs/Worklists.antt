@@ -9,7 +9,7 @@ use Rattle.pliron_core.specs.Lists.{In, IsDistinct}
 use Rattle.pliron_core.proofs.ListLemmas.{In-right, distinct-join, distinct-front, distinct-apart, distinct-length}
 use Rattle.pliron_core.proofs.FlatLemmas.{distinct-indices}
 use Rattle.pliron_core.proofs.HoldingLemmas.{some_is, in_slice}
-use Rattle.pliron_sccp.specs.Cells.{AreOnce, table_at}
+use Rattle.pliron_sccp.specs.Cells.{AreOnce, stamp_at, table_at}
 
 -- a list's test, in the words of lists
 pub any_in : (x : ℕ) (xs : List ℕ) → list_any (nat_eq x) xs ≡ true → In x xs
@@ -161,3 +161,26 @@ get_at (x ∷ xs) (suc i) d lt = get_at xs i d (omega (arith, lt))
 pub length_one : {A : Type 0} (xs : List A) (n : A) → length (xs ++ n ∷ []) ≡ length xs + 1
 length_one [] n = refl
 length_one (x ∷ xs) n = let e = length_one xs n in omega (arith, e)
+
+-- one stamp is written: what has that number has it, and others keep theirs
+pub stamp_here : (stamps : List ℕ) (n clock : ℕ) (o : Option ℕ) → n < length stamps → o ≡ Some n → stamp_at (slice_set stamps n clock) o ≡ clock
+stamp_here stamps n clock o lt e = ap (stamp_at (slice_set stamps n clock)) e ∙ get_or-set_same stamps n clock 0 lt
+
+pub stamp_there : (stamps : List ℕ) (n clock : ℕ) (o : Option ℕ) → (o ≡ Some n → ⊥) → stamp_at (slice_set stamps n clock) o ≡ stamp_at stamps o
+stamp_there stamps n clock None other = refl
+stamp_there stamps n clock (Some m) other = get_or-set_other stamps n m clock 0 (λ e. other (ap (λ z. Some z) e))
+
+-- no stamp is past the clock
+pub none_past : (stamps : List ℕ) (clock : ℕ) → ((n : ℕ) → stamp_at stamps (Some n) ≤ clock) → (o : Option ℕ) → stamp_at stamps o ≤ clock
+none_past stamps clock all None = omega arith
+none_past stamps clock all (Some n) = all n
+
+pub past_later : (stamps : List ℕ) (clock later n : ℕ) → clock ≤ later → ((m : ℕ) → stamp_at stamps (Some m) ≤ clock) → n < length stamps → (m : ℕ) → stamp_at (slice_set stamps n later) (Some m) ≤ later
+past_later stamps clock later n le all lt m = by (nat_eq m n) refl
+  where
+    by : (q : Bool) → nat_eq m n ≡ q → stamp_at (slice_set stamps n later) (Some m) ≤ later
+    by true e = let s = stamp_here stamps n later (Some m) lt (ap (λ z. Some z) (eqb-true m n e)) in omega (arith, s)
+    by false e =
+        let s = stamp_there stamps n later (Some m) (λ same. true≢false (sym (eq-eqb m n (some_is same)) ∙ e)) in
+        let l = all m in
+        omega (arith, s, l, le)

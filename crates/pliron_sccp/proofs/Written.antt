@@ -8,11 +8,11 @@ use Rattle.pliron_sccp.specs.declared.facts.Cell.{Cell}
 use Rattle.pliron_sccp.specs.declared.facts.Cell.TheVariants.{Undetermined as Unknown, Constant as Known, NotAConstant as Varying}
 use Rattle.pliron_sccp.specs.declared.facts.Tables.{Tables}
 use Rattle.pliron_sccp.specs.Cells.{cell_at, constant_or, is_unknown, said, unknown_count, KeepsConstants, Means}
-use Rattle.pliron_sccp.specs.Tables.{known_constants, fact_in, is_numbered, reaches, waits_block, waits_value, FallsTo, IsMeet, Lowers, NowWaits}
+use Rattle.pliron_sccp.specs.Tables.{known_constants, fact_in, fall_stamp, is_numbered, look_stamp, reaches, waits_block, waits_value, FallsTo, IsMeet, KeepsStamps, Lowers, NowWaits}
 use Rattle.std.specs.Option.{IfNone}
 use Rattle.std.proofs.lemmas.List.{get_or-set_same}
 use Rattle.pliron_sccp.proofs.Worklists.{read_set, same_number}
-use Rattle.std.proofs.lemmas.Bool.{eq-eqb}
+use Rattle.std.proofs.lemmas.Bool.{eq-eqb, eqb-true}
 
 pub means_said : (constants : List AttrObj) (cell : Cell) (f : Fact) → Means constants cell f → said constants cell ≡ f
 means_said constants Unknown f m = sym m
@@ -139,15 +139,17 @@ stays_low value to s low = record {
   reached = λ b. refl;
   blocks = λ b. refl;
   numbers = λ b. refl;
+  stamps = record { looks = λ f. refl; falls = λ v. inl (refl, refl) };
   keeps = λ k c e. e;
 }
 
 -- a cell is written, and then its value waits
-pub falls_then : {u : Tables} (s s' : Tables) (value n : ℕ) (to m : Fact) → NowWaits n u s' → position (nat_eq value) s.values.keys ≡ Some n → u.values.keys ≡ s.values.keys → fact_in u value ≡ m → ((v : ℕ) → nat_eq value v ≡ false → fact_in u v ≡ fact_in s v) → ((v : ℕ) → waits_value u v ≡ waits_value s v) → ((b : ℕ) → reaches u b ≡ reaches s b) → ((b : ℕ) → waits_block u b ≡ waits_block s b) → ((b : ℕ) → is_numbered u b ≡ is_numbered s b) → KeepsConstants (known_constants s) (known_constants u) → FallsTo (fact_in s value) to m → Lowers value to s s'
-falls_then {u} s s' value n to m w at keys here others waiting reached blocks numbers keeps fall = record {
+pub falls_then : {u : Tables} (s s' : Tables) (value n : ℕ) (to m : Fact) → NowWaits n u s' → position (nat_eq value) s.values.keys ≡ Some n → u.values.keys ≡ s.values.keys → fact_in u value ≡ m → ((v : ℕ) → nat_eq value v ≡ false → fact_in u v ≡ fact_in s v) → ((v : ℕ) → waits_value u v ≡ waits_value s v) → ((b : ℕ) → reaches u b ≡ reaches s b) → ((b : ℕ) → waits_block u b ≡ waits_block s b) → ((b : ℕ) → is_numbered u b ≡ is_numbered s b) → KeepsStamps s u → KeepsConstants (known_constants s) (known_constants u) → FallsTo (fact_in s value) to m → Lowers value to s s'
+falls_then {u} s s' value n to m w at keys here others waiting reached blocks numbers stamps keeps fall = record {
   met = subst (IsMeet (fact_in s value) to) (sym is) fall.0;
   told = inr ((λ e. fall.1 (sym is ∙ e)), w.waits value at_u);
-  others = λ v e. (w.facts v ∙ others v e, w.others v (λ same. true≢false (sym (eq-eqb value v (same_number u.values.keys value v n at_u same)) ∙ e)) ∙ waiting v);
+  others = λ v e. (w.facts v ∙ others v e, w.others v (apart v e) ∙ waiting v);
+  stamps = record { looks = λ f. w.looks f ∙ stamps.looks f; falls = λ v. stamped v (nat_eq value v) refl };
   reached = λ b. w.reached b ∙ reached b;
   blocks = λ b. w.blocks b ∙ blocks b;
   numbers = λ b. w.numbers b ∙ numbers b;
@@ -156,6 +158,13 @@ falls_then {u} s s' value n to m w at keys here others waiting reached blocks nu
   where
     at_u : position (nat_eq value) u.values.keys ≡ Some n
     at_u = ap (position (nat_eq value)) keys ∙ at
+
+    apart : (v : ℕ) → nat_eq value v ≡ false → position (nat_eq v) u.values.keys ≡ Some n → ⊥
+    apart v e same = true≢false (sym (eq-eqb value v (same_number u.values.keys value v n at_u same)) ∙ e)
+
+    stamped : (v : ℕ) (q : Bool) → nat_eq value v ≡ q → ((fact_in s' v ≡ fact_in s v) × (fall_stamp s' v ≡ fall_stamp s v)) ⊎ ((f : ℕ) → look_stamp s' f ≤ fall_stamp s' v)
+    stamped v true e = inr (λ f. w.stamped v f (ap (λ z. position (nat_eq z) u.values.keys) (sym (eqb-true value v e)) ∙ at_u))
+    stamped v false e = inl (w.facts v ∙ others v e, w.unstamped v (apart v e) ∙ stamps.falls v)
 
     is : fact_in s' value ≡ m
     is = w.facts value ∙ here

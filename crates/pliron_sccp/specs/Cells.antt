@@ -37,6 +37,10 @@ cell_at cells o = table_at Varying cells o
 abbrev pub fall_at : List Bool → Option ℕ → Bool
 fall_at falls o = table_at false falls o
 
+-- what has no number has no stamp
+abbrev pub stamp_at : List ℕ → Option ℕ → ℕ
+stamp_at stamps o = table_at 0 stamps o
+
 abbrev pub constant_or : Option AttrObj → Fact
 constant_or None = NotAConstant
 constant_or (Some c) = Constant c

@@ -1,6 +1,6 @@
 -- What was looked at, and what that did to the tables of the search for facts.
-use Rattle.std.specs.Prelude.{◌≡◌, ◌↔◌, ◌⊎◌, ℕ, Bool, true, false, List, [], ◌∷◌, Some, None, length, slice_get, IsTrue}
-use Rattle.pliron_core.specs.Tree.{Tree, In, IsDistinct, arguments_of, first_of, layout_of, operands_of, parent_of, regions_of, successors_of}
+use Rattle.std.specs.Prelude.{◌≡◌, ◌≤◌, ◌↔◌, ◌⊎◌, ℕ, Bool, true, false, List, [], ◌∷◌, Some, None, length, slice_get, IsTrue}
+use Rattle.pliron_core.specs.Tree.{Tree, In, IsDistinct, arguments_of, first_of, layout_of, operands_of, parent_of, regions_of, results_of, successors_of}
 use Rattle.pliron_laws.specs.Answers.{IsForwardedOnce}
 use Rattle.pliron_laws.specs.Tree.{Operation, op_at, shape_of}
 use Rattle.pliron_theory.specs.Facts.{AtMost, Facts, Says}
@@ -8,7 +8,7 @@ use Rattle.pliron_sccp.specs.declared.demands.Demand.{Demand}
 use Rattle.pliron_sccp.specs.declared.facts.Tables.{Tables}
 use Rattle.pliron_sccp.specs.declared.search.Call.{Call}
 use Rattle.pliron_sccp.specs.declared.search.Call.TheVariants.{Pass, Look, Ask}
-use Rattle.pliron_sccp.specs.Tables.{known_constants, is_numbered, fact_in, reaches, waits_block, waits_value, facts_of}
+use Rattle.pliron_sccp.specs.Tables.{known_constants, is_numbered, fact_in, reaches, waits_block, waits_value, facts_of, look_stamp, fall_stamp, KeepsStamps, StampsFalls}
 use Rattle.pliron_sccp.specs.Demands.{Asks, MeetsAll}
 use Rattle.pliron_sccp.specs.Falling.{IsApplied}
 use Rattle.pliron_sccp.specs.declared.edges.FeasibleEdges.{FeasibleEdges}
@@ -18,11 +18,41 @@ abbrev pub either : Bool → Bool → Bool
 either true b = true
 either false b = b
 
+-- the stamp of the last look at the operation; one without results has none
+abbrev pub stamp_of : Tables → (results : List ℕ) → ℕ
+stamp_of s [] = 0
+stamp_of s (first ∷ more) = look_stamp s first
+
+-- the stamps don't tell that the operation was looked at since the value fell last
+abbrev pub IsBehind : Tree → Tables → (k v : ℕ) → Type 0
+IsBehind t s k v = stamp_of s (results_of t k) ≤ fall_stamp s v
+
+-- the value waits, and calls for a look at the operation
+abbrev pub CallsFor : Tree → Tables → (k v : ℕ) → Type 0
+CallsFor t s k v = (waits_value s v ≡ true) × IsBehind t s k v
+
+-- the look at the operation may have got another stamp, and nothing else changed
+pub record StampsIt (t : Tree) (k : ℕ) (s s' : Tables) : Type 0 where
+  pub facts : (v : ℕ) → fact_in s' v ≡ fact_in s v
+  pub reached : (b : ℕ) → reaches s' b ≡ reaches s b
+  pub blocks : (b : ℕ) → waits_block s' b ≡ waits_block s b
+  pub values : (v : ℕ) → waits_value s' v ≡ waits_value s v
+  pub numbers : (b : ℕ) → is_numbered s' b ≡ is_numbered s b
+  pub constants : known_constants s' ≡ known_constants s
+  pub looks : (j : ℕ) → (j ≡ k → ⊥) → stamp_of s' (results_of t j) ≡ stamp_of s (results_of t j)
+  pub falls : (v : ℕ) → fall_stamp s' v ≡ fall_stamp s v
+
+-- the look at the operation was stamped, and no other, and so was what fell in it
+pub record IsStamped (t : Tree) (k : ℕ) (s s' : Tables) : Type 0 where
+  pub others : (j : ℕ) → (j ≡ k → ⊥) → stamp_of s' (results_of t j) ≡ stamp_of s (results_of t j)
+  pub falls : StampsFalls s s'
+
 -- one operation was looked at: what it asks of the facts before is met, and nothing else was done
 pub record LooksAt (x : Says) (t : Tree) (k : ℕ) (s s' : Tables) : Type 0 where
   pub asked : List Demand
   pub asks : Asks (known_constants s) x t (facts_of s) k asked
   pub applied : IsApplied (known_constants s) asked s s'
+  pub stamped : IsStamped t k s s'
 
 -- the blocks that the operation may enter have numbers
 pub record HasNumberedTargets (t : Tree) (s : Tables) (k : ℕ) : Type 0 where
@@ -52,6 +82,7 @@ pub record TakesValues (taken : List ℕ) (s s' : Tables) : Type 0 where
   pub reached : (b : ℕ) → reaches s' b ≡ reaches s b
   pub blocks : (b : ℕ) → waits_block s' b ≡ waits_block s b
   pub numbers : (b : ℕ) → is_numbered s' b ≡ is_numbered s b
+  pub stamps : KeepsStamps s s'
 
 -- the operation stands in a block that is reached and was looked at
 pub record IsLookedAt (t : Tree) (s : Tables) (k : ℕ) : Type 0 where
@@ -119,12 +150,12 @@ pub record IsAskedAt (x : Says) (t : Tree) (s : Tables) (asked : List Demand) (o
   pub below : (now : Facts) → MeetsAll (known_constants s) now asked → (a : ℕ) → Forwarded x t o place a → AtMost (now.fact a) (fact_in s v)
 
 -- uses of the value are seen to: an operation that was looked at and has it at such a place is to be looked at again, or
--- asks no more than what is asked; and nothing else is added
+-- asks no more than what is asked, or was looked at since the value fell; and nothing else is added
 pub record SeesTo (x : Says) (t : Tree) (s : Tables) (edges : FeasibleEdges) (v : ℕ) (IsUse : (k place : ℕ) → Type 0) (users : List ℕ) (asked : List Demand) (users' : List ℕ) (asked' : List Demand) : Type 0 where
   pub kept : (k : ℕ) → In k users → In k users'
   pub more : (now : Facts) → MeetsAll (known_constants s) now asked' → MeetsAll (known_constants s) now asked
   pub only : (k : ℕ) → In k users' → In k users ⊎ (IsLookedAt t s k × ((place : ℕ) × IsUse k place))
-  pub seen : (k place : ℕ) (o : Operation) → IsUse k place → IsLookedAt t s k → op_at t k ≡ Some o → In k users' ⊎ IsAskedAt x t s asked' o place v
+  pub seen : (k place : ℕ) (o : Operation) → IsUse k place → IsBehind t s k v → IsLookedAt t s k → op_at t k ≡ Some o → In k users' ⊎ IsAskedAt x t s asked' o place v
   pub owed : (now : Facts) → MeetsAll (known_constants s) now asked → ((k place a : ℕ) (o : Operation) → IsUse k place → IsLookedAt t s k → op_at t k ≡ Some o → IsHanded x t s edges o k place a → AtMost (now.fact a) (fact_in s v)) → MeetsAll (known_constants s) now asked'
 
 -- the operation has the value at this place
@@ -134,7 +165,7 @@ IsUseOf t v k place = slice_get (operands_of t k) place ≡ Some v
 -- what these values call for: their uses are seen to, and nothing else is asked
 pub record AreCalls (x : Says) (t : Tree) (s : Tables) (edges : FeasibleEdges) (values users : List ℕ) (asked : List Demand) : Type 0 where
   pub only : (k : ℕ) → In k users → IsLookedAt t s k × ((v : ℕ) × In v values)
-  pub seen : (k place v : ℕ) (o : Operation) → In v values → IsUseOf t v k place → IsLookedAt t s k → op_at t k ≡ Some o → In k users ⊎ IsAskedAt x t s asked o place v
+  pub seen : (k place v : ℕ) (o : Operation) → In v values → IsUseOf t v k place → IsBehind t s k v → IsLookedAt t s k → op_at t k ≡ Some o → In k users ⊎ IsAskedAt x t s asked o place v
   pub owed : (now : Facts) → ((k place a v : ℕ) (o : Operation) → In v values → IsUseOf t v k place → IsLookedAt t s k → op_at t k ≡ Some o → IsHanded x t s edges o k place a → AtMost (now.fact a) (fact_in s v)) → MeetsAll (known_constants s) now asked
 
 -- all values that waited were taken, so many, and this is what they call for

@@ -4,14 +4,14 @@ use Rattle.pliron_core.specs.Tree.{Tree, In, body_of}
 use Rattle.pliron_theory.specs.Facts.{Says, AreHeld}
 use Rattle.pliron_sccp.specs.declared.facts.Tables.{Tables}
 use Rattle.pliron_sccp.specs.declared.delays.Delays.{Delays}
-use Rattle.pliron_sccp.specs.Tables.{is_numbered, known_constants, waits_block, waits_value, facts_of, TakesBlock}
+use Rattle.pliron_sccp.specs.Tables.{is_numbered, known_constants, waits_block, facts_of, StampsFallen, TakesBlock}
 use Rattle.pliron_sccp.specs.declared.demands.Demand.{Demand}
 use Rattle.pliron_sccp.specs.Falling.{IsApplied}
 use Rattle.pliron_sccp.specs.Chain.{blocks_inside}
 use Rattle.pliron_sccp.specs.Delaying.{delayed, IsAside, PutsAside, TakesAside}
 use Rattle.pliron_sccp.specs.declared.edges.FeasibleEdges.{FeasibleEdges}
 use Rattle.pliron_sccp.specs.Feasible.{AreSurelyFeasible, KeepsFeasible}
-use Rattle.pliron_sccp.specs.Looking.{GoesThrough, LooksAt, LooksThrough, TakesUsers}
+use Rattle.pliron_sccp.specs.Looking.{CallsFor, GoesThrough, LooksAt, LooksThrough, TakesUsers}
 use Rattle.pliron_sccp.specs.Settling.{AreSettledBut, AreStarted}
 use Rattle.pliron_sccp.specs.Precise.{AreOwed}
 use Rattle.pliron_sccp.specs.Best.{IsBest}
@@ -41,6 +41,7 @@ pub record VisitsValues (x : Says) (t : Tree) (edges : FeasibleEdges) (s s' : Ta
   pub met : Tables
   pub takes : TakesUsers x t edges users asked s between taken
   pub applied : IsApplied (known_constants between) asked between met
+  pub stamped : StampsFallen between met
   pub sees : SeesToAll x t users met s' d d'
 
 -- a block that waited was taken and looked through, or else all values that waited, and their users were seen to; so many
@@ -57,7 +58,7 @@ LooksAside x t s s' d d' edges edges' false = (delayed d ≡ []) × (s' ≡ s)
 -- each operation where runs may come is settled, or what settles it waits, or it is put aside; the rest of what closed
 -- facts owe; and what waits is inside the root, whose blocks have numbers
 pub record IsSearchOnTheWay (x : Says) (t : Tree) (root : ℕ) (s : Tables) (d : Delays) : Type 0 where
-  pub settled : AreSettledBut x t (facts_of s) (λ b. waits_block s b ≡ true) (λ v. waits_value s v ≡ true) (λ k. In k (delayed d))
+  pub settled : AreSettledBut x t (facts_of s) (λ b. waits_block s b ≡ true) (λ k v. CallsFor t s k v) (λ k. In k (delayed d))
   pub aside : (k : ℕ) → In k (delayed d) → IsAside x t s k
   pub started : AreStarted t root (facts_of s)
   pub held : AreHeld t root (facts_of s)

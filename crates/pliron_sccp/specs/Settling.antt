@@ -19,15 +19,15 @@ pub record AreAtMost (g f : Facts) : Type 0 where
   pub reaches : (b : ℕ) → IsTrue (f.reaches b) → IsTrue (g.reaches b)
   pub fact : (v : ℕ) → AtMost (g.fact v) (f.fact v)
 
--- what the operation asked under some facts that were read is met, and each operand is as it was then, or waits
-pub record IsSettled (x : Says) (t : Tree) (f : Facts) (waits_value : ℕ → Type 0) (k : ℕ) (o : Operation) : Type 0 where
+-- what the operation asked under some facts that were read is met, and each operand is as it was then, or calls for it
+pub record IsSettled (x : Says) (t : Tree) (f : Facts) (calls : ℕ → Type 0) (k : ℕ) (o : Operation) : Type 0 where
   pub seen : Facts
   pub met : IsMet x t seen f k o
-  pub same : (v : ℕ) → In v o.operands → (f.fact v ≡ seen.fact v) ⊎ waits_value v
+  pub same : (v : ℕ) → In v o.operands → (f.fact v ≡ seen.fact v) ⊎ calls v
 
 -- each operation in a block that is reached stands in a block that waits, is settled, or is still to be looked at
-abbrev pub AreSettledBut : Says → Tree → Facts → (waits_block waits_value todo : ℕ → Type 0) → Type 0
-AreSettledBut x t f waits_block waits_value todo = (k b : ℕ) (o : Operation) → parent_of t k ≡ Some b → IsTrue (f.reaches b) → op_at t k ≡ Some o → waits_block b ⊎ IsSettled x t f waits_value k o ⊎ todo k
+abbrev pub AreSettledBut : Says → Tree → Facts → (waits_block : ℕ → Type 0) → (calls : (k v : ℕ) → Type 0) → (todo : ℕ → Type 0) → Type 0
+AreSettledBut x t f waits_block calls todo = (k b : ℕ) (o : Operation) → parent_of t k ≡ Some b → IsTrue (f.reaches b) → op_at t k ≡ Some o → waits_block b ⊎ IsSettled x t f (calls k) k o ⊎ todo k
 
 -- the rest of what closed facts owe
 pub record AreStarted (t : Tree) (root : ℕ) (f : Facts) : Type 0 where

@@ -1,10 +1,10 @@
 -- What the tables of the search for facts say, and what each call does to them.
-use Rattle.std.specs.Prelude.{◌≡◌, ◌≢◌, ◌⊎◌, ◌+◌, ◌<◌, ◌^◌, ℕ, Bool, true, false, nat_eq, if◌then◌else◌, List, Some, length}
+use Rattle.std.specs.Prelude.{◌≡◌, ◌≢◌, ◌⊎◌, ◌+◌, ◌<◌, ◌≤◌, ◌^◌, ℕ, Bool, true, false, nat_eq, if◌then◌else◌, List, Some, length}
 use Rattle.std.specs.List.{list_any}
 use Rattle.indexmap.specs.IndexSet.{contains, index_of}
 use Rattle.pliron_core.specs.declared.attrs.AttrObj.{AttrObj}
 use Rattle.pliron_sccp.specs.declared.facts.Tables.{Tables}
-use Rattle.pliron_sccp.specs.Cells.{was_reached, is_waiting, mark_at, cell_at, fall_at, said, KeepsConstants}
+use Rattle.pliron_sccp.specs.Cells.{was_reached, is_waiting, mark_at, cell_at, fall_at, stamp_at, said, KeepsConstants}
 use Rattle.pliron_theory.specs.Facts.{Fact, Undetermined, NotAConstant, AtMost, Facts}
 
 -- whether the block has a number
@@ -27,6 +27,14 @@ waits_block s b = is_waiting (mark_at s.marks.items (index_of nat_eq s.blocks b)
 abbrev pub waits_value : Tables → ℕ → Bool
 waits_value s v = fall_at s.falls.items (index_of nat_eq s.values v)
 
+-- the stamp of the last look at the operation whose first result this is
+abbrev pub look_stamp : Tables → ℕ → ℕ
+look_stamp s first = stamp_at s.looks.items (index_of nat_eq s.values first)
+
+-- the stamp of the value's last fall
+abbrev pub fall_stamp : Tables → ℕ → ℕ
+fall_stamp s v = stamp_at s.fell.items (index_of nat_eq s.values v)
+
 -- how many values wait
 abbrev pub left_values : Tables → ℕ
 left_values s = length s.waiting_values.items
@@ -48,6 +56,20 @@ pub record IsMeet (f g m : Fact) : Type 0 where
 abbrev pub FallsTo : Fact → Fact → Fact → Type 0
 FallsTo f g m = IsMeet f g m × (m ≢ f)
 
+-- all stamps stay
+pub record KeepsStamps (s s' : Tables) : Type 0 where
+  pub looks : (first : ℕ) → look_stamp s' first ≡ look_stamp s first
+  pub falls : (v : ℕ) → fall_stamp s' v ≡ fall_stamp s v
+
+-- a value keeps its fact and its stamp, or is stamped no earlier than any look
+abbrev pub StampsFalls : (s s' : Tables) → Type 0
+StampsFalls s s' = (v : ℕ) → ((fact_in s' v ≡ fact_in s v) × (fall_stamp s' v ≡ fall_stamp s v)) ⊎ ((first : ℕ) → look_stamp s' first ≤ fall_stamp s' v)
+
+-- so it is for each value, and the stamps of looks stay
+pub record StampsFallen (s s' : Tables) : Type 0 where
+  pub looks : (first : ℕ) → look_stamp s' first ≡ look_stamp s first
+  pub falls : StampsFalls s s'
+
 -- over these blocks and values: no block is reached, nothing is known of a value, and nothing waits
 pub record AreNew (blocks values : List ℕ) (s : Tables) : Type 0 where
   pub numbers : (b : ℕ) → is_numbered s b ≡ list_any (nat_eq b) blocks
@@ -64,8 +86,9 @@ pub record Enters (block : ℕ) (s s' : Tables) : Type 0 where
   pub values : (v : ℕ) → waits_value s' v ≡ waits_value s v
   pub numbers : (b : ℕ) → is_numbered s' b ≡ is_numbered s b
   pub keeps : KeepsConstants (known_constants s) (known_constants s')
+  pub stamps : KeepsStamps s s'
 
--- the fact of the value falls to the greatest one below both, and it waits if that is another one
+-- the fact of the value falls to the greatest one below both, and it waits and is stamped if that is another one
 pub record Lowers (value : ℕ) (to : Fact) (s s' : Tables) : Type 0 where
   pub met : IsMeet (fact_in s value) to (fact_in s' value)
   pub told : ((fact_in s' value ≡ fact_in s value) × (waits_value s' value ≡ waits_value s value)) ⊎ ((fact_in s' value ≢ fact_in s value) × (waits_value s' value ≡ true))
@@ -74,8 +97,9 @@ pub record Lowers (value : ℕ) (to : Fact) (s s' : Tables) : Type 0 where
   pub blocks : (b : ℕ) → waits_block s' b ≡ waits_block s b
   pub numbers : (b : ℕ) → is_numbered s' b ≡ is_numbered s b
   pub keeps : KeepsConstants (known_constants s) (known_constants s')
+  pub stamps : StampsFallen s s'
 
--- the value with this number waits, and nothing else changed
+-- the value with this number waits, stamped no earlier than any look, and nothing else changed
 pub record NowWaits (n : ℕ) (s s' : Tables) : Type 0 where
   pub waits : (v : ℕ) → index_of nat_eq s.values v ≡ Some n → waits_value s' v ≡ true
   pub others : (v : ℕ) → (index_of nat_eq s.values v ≡ Some n → ⊥) → waits_value s' v ≡ waits_value s v
@@ -84,6 +108,9 @@ pub record NowWaits (n : ℕ) (s s' : Tables) : Type 0 where
   pub blocks : (b : ℕ) → waits_block s' b ≡ waits_block s b
   pub numbers : (b : ℕ) → is_numbered s' b ≡ is_numbered s b
   pub keeps : KeepsConstants (known_constants s) (known_constants s')
+  pub looks : (first : ℕ) → look_stamp s' first ≡ look_stamp s first
+  pub stamped : (v first : ℕ) → index_of nat_eq s.values v ≡ Some n → look_stamp s' first ≤ fall_stamp s' v
+  pub unstamped : (v : ℕ) → (index_of nat_eq s.values v ≡ Some n → ⊥) → fall_stamp s' v ≡ fall_stamp s v
 
 -- the block waits no longer
 pub record TakesBlock (block : ℕ) (s s' : Tables) : Type 0 where
@@ -93,6 +120,7 @@ pub record TakesBlock (block : ℕ) (s s' : Tables) : Type 0 where
   pub facts : (v : ℕ) → fact_in s' v ≡ fact_in s v
   pub values : (v : ℕ) → waits_value s' v ≡ waits_value s v
   pub numbers : (b : ℕ) → is_numbered s' b ≡ is_numbered s b
+  pub stamps : KeepsStamps s s'
 
 -- the value waits no longer
 pub record TakesValue (value : ℕ) (s s' : Tables) : Type 0 where
@@ -105,6 +133,7 @@ pub record TakesValue (value : ℕ) (s s' : Tables) : Type 0 where
   pub constants : known_constants s' ≡ known_constants s
   pub fewer : left_values s ≡ left_values s' + 1
   pub few : left_values s < 2 ^ 64
+  pub stamps : KeepsStamps s s'
 
 -- nothing of what is said changed
 pub record SaysSame (s s' : Tables) : Type 0 where
@@ -114,6 +143,18 @@ pub record SaysSame (s s' : Tables) : Type 0 where
   pub values : (v : ℕ) → waits_value s' v ≡ waits_value s v
   pub numbers : (b : ℕ) → is_numbered s' b ≡ is_numbered s b
   pub constants : known_constants s' ≡ known_constants s
+  pub stamps : KeepsStamps s s'
+
+-- a look at the operation with this first result may have got another stamp, and nothing else changed
+pub record StampsLook (first : ℕ) (s s' : Tables) : Type 0 where
+  pub facts : (v : ℕ) → fact_in s' v ≡ fact_in s v
+  pub reached : (b : ℕ) → reaches s' b ≡ reaches s b
+  pub blocks : (b : ℕ) → waits_block s' b ≡ waits_block s b
+  pub values : (v : ℕ) → waits_value s' v ≡ waits_value s v
+  pub numbers : (b : ℕ) → is_numbered s' b ≡ is_numbered s b
+  pub constants : known_constants s' ≡ known_constants s
+  pub looks : (other : ℕ) → nat_eq first other ≡ false → look_stamp s' other ≡ look_stamp s other
+  pub falls : (v : ℕ) → fall_stamp s' v ≡ fall_stamp s v
 
 abbrev pub NoBlockWaits : Tables → Tables → Type 0
 NoBlockWaits s s' = SaysSame s s' × ((b : ℕ) → waits_block s b ≡ false)

@@ -1,13 +1,13 @@
 //! What an operation asks of the facts, read under the facts so far; and facts fall until they meet it.
 //!
 //! What is asked names a constant by its number in the tables, so that none is copied to hand it on.
-ghost use Rattle.std.specs.Prelude.{◌≡◌, ◌≤◌, ◌<◌, ◌↔◌, ◌∷◌, [], ℕ, List, nat_eq, true, if◌then◌else◌, Some, None, OnOk, IfOk, IsTrue, length, slice_get, IsOkUnless};
+ghost use Rattle.std.specs.Prelude.{◌≡◌, ◌≤◌, ◌<◌, ◌↔◌, ◌∷◌, ◌++◌, [], ℕ, List, nat_eq, true, if◌then◌else◌, Some, None, OnOk, IfOk, IsTrue, length, slice_get, IsOkUnless};
 ghost use Rattle.std.specs.HashSet.{contains};
 ghost use Rattle.pliron_core.specs.Tree.{IsLive, IsBlock, IsRegion, In, arguments_of, operands_of, regions_of, results_of, successors_of};
 ghost use Rattle.pliron_laws.specs.Tree.{Operation as OperationOf, op_at, shape_of};
 ghost use Rattle.pliron_laws.specs.Answers.{HeadPasses};
 ghost use Rattle.pliron_theory.specs.Facts.{answered, handed, AtMost, AreBelowNamed, IsEntered, known as known_of, NotAConstant as Varies};
-ghost use Rattle.pliron_sccp.specs.Tables.{known_constants, facts_of, fact_in};
+ghost use Rattle.pliron_sccp.specs.Tables.{known_constants, facts_of, fact_in, StampsFallen};
 ghost use Rattle.pliron_sccp.specs.Cells.{Means};
 ghost use Rattle.pliron_sccp.specs.Feasible.{AreFound};
 ghost use Rattle.pliron_sccp.specs.Falling.{IsApplied};
@@ -29,6 +29,28 @@ pub enum Demand {
     Lower(Value, Cell),
     /// The fact of the value is at or below this constant.
     Answer(Value, AttrObj),
+}
+
+/// Lists that each look writes on, kept so that looks take no memory for lists of their own.
+///
+/// ```text
+/// known   the constants that are known of the operands
+/// asked   what is asked, until it is met
+/// ```
+#[derive(Drop)]
+pub struct Slate {
+    known: Vec<Option<AttrObj>>,
+    pub(crate) asked: Vec<Demand>,
+}
+
+impl Slate {
+    /// Nothing is written. Takes no memory. Cost: constant.
+    pub fn new(alloc: Global) -> Slate {
+        Slate {
+            known: Vec::new(alloc),
+            asked: Vec::new(alloc),
+        }
+    }
 }
 
 /// The block is reached, and its arguments are not constants.
@@ -230,22 +252,22 @@ pub(crate) fn known(
     }
 }
 
-/// The constants that are known of the operands, for a fold.
-pub(crate) fn known_operands(
+/// Adds the constants that are known of the operands, for a fold.
+pub(crate) fn add_known(
     alloc: Global,
     op: Ptr<Operation>,
     ctx: &Context,
     tables: &Tables,
-) -> Result<Vec<Option<AttrObj>>, OptError>
+    attrs: &mut Vec<Option<AttrObj>>,
+) -> Result<(), OptError>
     requires { IsLive ctx.now.tree op }
-    ensures ok { IfOk result (λ attrs. attrs.items ≡ handed (facts_of tables.now) (operands_of ctx.now.tree op)) }
+    ensures ok { OnOk result (attrs.new.items ≡ attrs.old.items ++ handed (facts_of tables.now) (operands_of ctx.now.tree op)) }
     ensures memory { IsOkUnless result OptError.Memory }
 {
-    let mut attrs = Vec::new(alloc);
     for i in 0..op.num_operand(ctx) {
         attrs.push(known(alloc, op.get_operand(ctx, i), tables)?)?;
     }
-    Ok(attrs)
+    Ok(())
 }
 
 /// What is known of one of these values.
@@ -508,7 +530,8 @@ fn ask_edges<D: Dialect>(
 /// What the operation demands of the facts: the entries of its regions are reached, their arguments are at
 /// or below what it names for them, blocks that it may go to
 /// are reached with what is forwarded to them, and its results are at or below what it answers. Reads the
-/// facts and changes nothing. Where the operation folds as a branch, tells the blocks that it may go to.
+/// facts and writes it on the slate, in place of what was asked there. Where the operation folds as a branch, tells
+/// the blocks that it may go to.
 ///
 /// Asks that the operation stands (`is_live` tests it), and for a place that is empty. Errors: want of memory. Cost:
 /// one step for each operand, result, region, successor and argument of these, and what the dialect's answers cost.
@@ -517,26 +540,36 @@ pub fn demands<D: Dialect>(
     op: Ptr<Operation>,
     ctx: &Context,
     tables: &Tables,
+    slate: &mut Slate,
     feasible: &mut Option<HashSet<u64>>,
-) -> Result<Vec<Demand>, OptError>
+) -> Result<(), OptError>
     requires live { IsLive ctx.now.tree op }
     requires none { feasible.old ≡ None }
-    ensures ok { IfOk result (λ asked. Asks (known_constants tables.now) ⟦<D as HasFolding>⟧.folding ctx.now.tree (facts_of tables.now) op asked.items) }
+    ensures ok { OnOk result (Asks (known_constants tables.now) ⟦<D as HasFolding>⟧.folding ctx.now.tree (facts_of tables.now) op slate.new.asked.items) }
     ensures feasible { OnOk result (AreFound ⟦<D as HasFolding>⟧.folding ctx.now.tree (facts_of tables.now) op feasible.new) }
     ensures memory { IsOkUnless result OptError.Memory }
 {
-    let known = known_operands(alloc, op, ctx, tables)?;
-    let mut asked = Vec::new(alloc);
-    ask_visits::<D>(op, ctx, tables, &mut asked)?;
-    ask_edges::<D>(alloc, op, ctx, tables, &known, feasible, &mut asked)?;
-    ask_results::<D>(alloc, op, ctx, &known, &mut asked)?;
-    Ok(asked)
+    slate.known.clear();
+    add_known(alloc, op, ctx, tables, &mut slate.known)?;
+    slate.asked.clear();
+    ask_visits::<D>(op, ctx, tables, &mut slate.asked)?;
+    ask_edges::<D>(
+        alloc,
+        op,
+        ctx,
+        tables,
+        &slate.known,
+        feasible,
+        &mut slate.asked,
+    )?;
+    ask_results::<D>(alloc, op, ctx, &slate.known, &mut slate.asked)
 }
 
 /// Meets one thing that is asked, and does nothing else. Takes no memory.
 fn meet(demand: Demand, tables: &mut Tables)
     requires { CanMeet tables.old (demand ∷ []) }
-    ensures { IsApplied (known_constants tables.old) (demand ∷ []) tables.old tables.new }
+    ensures applied { IsApplied (known_constants tables.old) (demand ∷ []) tables.old tables.new }
+    ensures stamped { StampsFallen tables.old tables.new }
 {
     match demand {
         Demand::Enter(block) => tables.enter(block),
@@ -545,16 +578,17 @@ fn meet(demand: Demand, tables: &mut Tables)
     }
 }
 
-/// Meets all that is asked, and does nothing else: what fell waits. Takes no memory.
+/// Meets all that is asked, and does nothing else: what fell waits. Nothing is asked then, and the list keeps its
+/// room. Takes no memory.
 ///
 /// Asks that the blocks and the constants that are asked for have their numbers here. Cost: one step for
 /// each.
-pub fn meet_all(asked: Vec<Demand>, tables: &mut Tables)
-    requires { CanMeet tables.old asked.items }
-    ensures { IsApplied (known_constants tables.old) asked.items tables.old tables.new }
+pub fn meet_all(asked: &mut Vec<Demand>, tables: &mut Tables)
+    requires { CanMeet tables.old asked.old.items }
+    ensures applied { IsApplied (known_constants tables.old) asked.old.items tables.old tables.new }
+    ensures stamped { StampsFallen tables.old tables.new }
 {
-    let mut rest = asked;
-    while let Some(demand) = rest.pop() {
+    while let Some(demand) = asked.pop() {
         meet(demand, tables);
     }
 }

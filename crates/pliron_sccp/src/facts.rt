@@ -7,7 +7,7 @@ ghost use Rattle.std.specs.Prelude.{◌≡◌, ◌≤◌, ◌+◌, ◌<◌, ◌^
 ghost use Rattle.std.specs.List.{list_any};
 ghost use Rattle.indexmap.specs.IndexSet.{index_of};
 ghost use Rattle.pliron_sccp.specs.declared.facts.Cell.TheVariants.{Constant as Known};
-ghost use Rattle.pliron_sccp.specs.Cells.{AreOnce, fall_at, is_waiting, mark_at, unknown_count};
+ghost use Rattle.pliron_sccp.specs.Cells.{AreOnce, fall_at, is_waiting, mark_at, stamp_at, unknown_count};
 
 use crate::guesses::Guesses;
 use indexmap::IndexSet;
@@ -42,6 +42,9 @@ pub enum Cell {
 /// constants           by the number in a cell; at most one for each value
 /// waiting_blocks      blocks reached that were not looked through yet          the last one is taken first
 /// waiting_values      values whose facts fell since they were taken            the last one is taken first
+/// clock               how many looks were stamped
+/// looks               of each value     the stamp of the last look at the operation whose first result it is
+/// fell                of each value     what the clock said when it fell last
 /// ```
 #[derive(Drop)]
 pub struct Tables {
@@ -55,6 +58,9 @@ pub struct Tables {
     constants: Vec<AttrObj>,
     waiting_blocks: Vec<usize>,
     waiting_values: Vec<usize>,
+    clock: u64,
+    looks: Vec<u64>,
+    fell: Vec<u64>,
     ghost marked: { length marks.items ≡ length blocks.keys },
     ghost told: { length cells.items ≡ length values.keys },
     ghost fallen: { length falls.items ≡ length values.keys },
@@ -69,13 +75,16 @@ pub struct Tables {
     ghost values_few: { length values.keys < 2 ^ 63 },
     ghost known: { (n k : ℕ) → slice_get cells.items n ≡ Some (Known k) → k < length constants.items },
     ghost constants_room: { length constants.items + unknown_count cells.items ≤ vec_capacity constants },
+    ghost looked: { length looks.items ≡ length values.keys },
+    ghost stamped: { length fell.items ≡ length values.keys },
+    ghost past: { (n : ℕ) → stamp_at looks.items (Some n) ≤ clock },
 }
 
 impl Tables {
     ghost use Rattle.std.specs.Prelude.{◌≡◌, ℕ, true, IfOk, IfSome, IfNone, None};
     ghost use Rattle.pliron_theory.specs.Facts.{AtMost, Fact, Constant as IsConstant, known as known_of};
     ghost use Rattle.pliron_sccp.specs.Cells.{Means};
-    ghost use Rattle.pliron_sccp.specs.Tables.{known_constants, fact_in, is_numbered, reaches, waits_block, AreNew, Enters, FallsTo, Lowers, NowWaits, TakesBlock, TakesValue, NoBlockWaits, NoValueWaits};
+    ghost use Rattle.pliron_sccp.specs.Tables.{known_constants, fact_in, fall_stamp, is_numbered, look_stamp, reaches, waits_block, AreNew, Enters, FallsTo, Lowers, NowWaits, StampsLook, TakesBlock, TakesValue, NoBlockWaits, NoValueWaits};
 
     /// Tables over these blocks and values, with all the room that they ever need.
     ///
@@ -98,6 +107,8 @@ impl Tables {
         let constants = Vec::with_capacity(alloc, value_count)?;
         let waiting_blocks = Vec::with_capacity(alloc, block_count)?;
         let waiting_values = Vec::with_capacity(alloc, value_count)?;
+        let looks = Vec::from_elem(alloc, 0, value_count)?;
+        let fell = Vec::from_elem(alloc, 0, value_count)?;
         Ok(Tables {
             blocks,
             values,
@@ -109,6 +120,9 @@ impl Tables {
             constants,
             waiting_blocks,
             waiting_values,
+            clock: 0,
+            looks,
+            fell,
         })
     }
 
@@ -188,6 +202,42 @@ impl Tables {
         }
     }
 
+    /// The stamp of the last look at the operation with this first result, 0 where there was none. Cost: one look-up.
+    pub fn look_stamp(&self, first: Value) -> u64
+        ensures { result ≡ look_stamp self.now first }
+    {
+        match self.value_number(first) {
+            Some(n) => self.looks[n],
+            None => 0,
+        }
+    }
+
+    /// The stamp of the value's last fall: looks with greater stamps came later. Cost: one look-up.
+    pub fn fall_stamp(&self, value: Value) -> u64
+        ensures { result ≡ fall_stamp self.now value }
+    {
+        match self.value_number(value) {
+            Some(n) => self.fell[n],
+            None => 0,
+        }
+    }
+
+    /// The operation with this first result is looked at now: the look gets the greatest stamp so far, and so does what
+    /// falls before the next one. Takes no memory. Cost: one look-up.
+    pub fn stamp_look(&mut self, first: Value)
+        ensures { StampsLook first self.old self.new }
+    {
+        self.clock = self.clock.saturating_add(1);
+        if let Some(n) = self.value_number(first) {
+            self.looks[n] = self.clock;
+        }
+    }
+
+    /// How many constants were answered. Cost: constant.
+    pub fn constant_count(&self) -> usize {
+        self.constants.len()
+    }
+
     /// The block is reached, and waits if it was not. Takes no memory.
     ///
     /// Asks that the block has a number. Cost: one look-up.
@@ -195,7 +245,7 @@ impl Tables {
         requires { is_numbered self.old block ≡ true }
         ensures { Enters block self.old self.new }
     {
-        let Some(n) = self.blocks.get_index_of(&block) else {
+        let Some(n) = self.block_number(block) else {
             unreachable!()
         };
         match self.marks[n] {
@@ -207,11 +257,12 @@ impl Tables {
         }
     }
 
-    /// The value with this number waits. Takes no memory.
+    /// The value with this number waits, and its fall is stamped. Takes no memory.
     fn wait(&mut self, n: usize)
         requires { n < length self.old.values.keys }
         ensures { NowWaits n self.old self.new }
     {
+        self.fell[n] = self.clock;
         if !self.falls[n] {
             self.waiting_values.push_reserved(n);
             self.falls[n] = true;

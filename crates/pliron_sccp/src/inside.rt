@@ -145,7 +145,7 @@ pub fn block_numbers(
     ensures ok { IfOk result (λ numbered. AddsKeys blocks.now [] numbered.keys) }
     ensures memory { IsOkUnless result OptError.Memory }
 {
-    let mut numbered = IndexSet::new(alloc);
+    let mut numbered = IndexSet::with_capacity(alloc, blocks.len())?;
     for i in 0..blocks.len() {
         add_block(blocks[i], &mut numbered)?;
     }
@@ -235,6 +235,31 @@ fn add_block_values(
     add_body(block, ctx, values)
 }
 
+/// How many values the block lists, to make room for them.
+fn count_in_block(block: Ptr<BasicBlock>, ctx: &Context) -> usize
+    requires { IsBlock ctx.now.tree block }
+{
+    ctx.well_formed();
+    let mut count = block.num_argument(ctx);
+    let mut at = block.get_head(ctx);
+    while let Some(op) = at {
+        count = count.saturating_add(op.num_result(ctx));
+        at = op.get_next(ctx);
+    }
+    count
+}
+
+/// How many values these blocks list, to make room for them.
+fn count_values(blocks: &[Ptr<BasicBlock>], ctx: &Context) -> usize
+    requires { (b : ℕ) → In b blocks.now → IsBlock ctx.now.tree b }
+{
+    let mut count: usize = 0;
+    for i in 0..blocks.len() {
+        count = count.saturating_add(count_in_block(blocks[i], ctx));
+    }
+    count
+}
+
 /// The values that these blocks list, each with a number.
 ///
 /// Asks that the blocks stand. Errors: want of memory. Cost: one step for each operation and value.
@@ -247,7 +272,7 @@ pub fn value_numbers(
     ensures ok { IfOk result (λ numbered. AddsKeys (flat_map (λ b. block_values ctx.now.tree b) blocks.now) [] numbered.keys) }
     ensures memory { IsOkUnless result OptError.Memory }
 {
-    let mut numbered = IndexSet::new(alloc);
+    let mut numbered = IndexSet::with_capacity(alloc, count_values(blocks, ctx))?;
     for i in 0..blocks.len() {
         add_block_values(blocks[i], ctx, &mut numbered)?;
     }

@@ -14,7 +14,7 @@ ghost use Rattle.pliron_sccp.specs.Steps.{IsFoldStep, AreFoldSteps, TellsCreated
 ghost use Rattle.pliron_sccp.specs.Chain.{FoldsInTurn, FoldsPartly, KnownArgument, all_put, IsPartlyPut, IsRewritten, IsPartlyRewritten, known_arguments};
 ghost use Rattle.pliron_sccp.specs.Found.{HasFound};
 
-use crate::demands::known;
+use crate::demands::{add_known, known};
 use crate::facts::Tables;
 use crate::inside::all_blocks;
 use crate::search::search;
@@ -40,14 +40,14 @@ pub struct Folds {
 }
 
 impl Folds {
-    /// No folds. Takes no memory.
-    fn new(alloc: Global) -> Folds
-        ensures none { result.rows.items ≡ [] }
+    /// No folds, with room for so many of one operand. Errors: want of memory.
+    fn with_capacity(alloc: Global, count: usize) -> Result<Folds, OptError>
+        ensures none { IfOk result (λ folds. folds.rows.items ≡ []) }
+        ensures memory { IsOkUnless result OptError.Memory }
     {
-        Folds {
-            rows: Vec::new(alloc),
-            known: Vec::new(alloc),
-        }
+        let rows = Vec::with_capacity(alloc, count)?;
+        let known = Vec::with_capacity(alloc, count)?;
+        Ok(Folds { rows, known })
     }
 
     /// What is known of the operands of one of the folds. Asks that its part lies within the list.
@@ -91,24 +91,6 @@ fn is_folded<D: Dialect>(op: Ptr<Operation>, ctx: &Context, tables: &Tables) -> 
     D::folds(op, ctx)
 }
 
-/// Adds the constants that are known of the operands, for a fold.
-fn add_known(
-    alloc: Global,
-    op: Ptr<Operation>,
-    ctx: &Context,
-    tables: &Tables,
-    attrs: &mut Vec<Option<AttrObj>>,
-) -> Result<(), OptError>
-    requires { IsLive ctx.now.tree op }
-    ensures ok { OnOk result (attrs.new.items ≡ attrs.old.items ++ handed (facts_of tables.now) (operands_of ctx.now.tree op)) }
-    ensures memory { IsOkUnless result OptError.Memory }
-{
-    for i in 0..op.num_operand(ctx) {
-        attrs.push(known(alloc, op.get_operand(ctx, i), tables)?)?;
-    }
-    Ok(())
-}
-
 /// Adds the fold of the operation, if it has one.
 fn add_fold<D: Dialect>(
     alloc: Global,
@@ -142,7 +124,7 @@ fn all_folds<D: Dialect>(
     ensures memory { IsOkUnless result OptError.Memory }
 {
     ctx.well_formed();
-    let mut folds = Folds::new(alloc);
+    let mut folds = Folds::with_capacity(alloc, tables.constant_count())?;
     let mut at = root.next_in_preorder(root, ctx);
     while let Some(op) = at {
         add_fold::<D>(alloc, op, ctx, tables, &mut folds)?;

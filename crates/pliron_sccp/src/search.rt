@@ -6,7 +6,9 @@
 //! The order of work: a block that waits is taken before any value, and looked through as a whole, its
 //! operations in order. Where none waits, all values that wait are taken, one by one, and then each of their
 //! users is looked at once, but for those that ask the same whatever is known: what neither folds, nor is a
-//! branch, nor names operands for its regions is looked at with its block alone. So a branch that forwards many values which fell together is
+//! branch, nor names operands for its regions is looked at with its block alone. Nor is a user looked at again that
+//! was since the value fell last, as stamps of looks and falls tell: so an operation whose operands all fell before its block
+//! came to it is looked at once. So a branch that forwards many values which fell together is
 //! looked at once, and no region is gone through in rounds: a fact falls at most twice, and only its users
 //! are looked at then. In deep nests of loops an inner loop is thus not gone through again for each round of
 //! the outer ones.
@@ -19,7 +21,7 @@
 //! asked at once for what it forwards along an edge that its last look found feasible, one argument for each
 //! operand that fell, and for the arguments of its regions' entries that it names this operand for. The order
 //! decides no fact.
-ghost use Rattle.std.specs.Prelude.{◌≡◌, ◌<◌, ◌↔◌, ℕ, true, OnOk, IfOk, IfSome, IsTrue, IsOkUnless, Some, length, slice_get};
+ghost use Rattle.std.specs.Prelude.{◌≡◌, ◌<◌, ◌↔◌, ℕ, true, OnOk, IfOk, IfSome, IsTrue, IsOkUnless, Some, None, length, slice_get};
 ghost use Rattle.pliron_core.specs.Tree.{IsLive, IsBlock, In, arguments_of, body_of, successors_of};
 ghost use Rattle.pliron_laws.specs.Answers.{ReadsHead};
 ghost use Rattle.pliron_laws.specs.Linked.{IsWellLinked};
@@ -29,15 +31,15 @@ ghost use Rattle.pliron_theory.specs.Facts.{AtMost};
 ghost use Rattle.pliron_sccp.specs.Accounts.{IsUnsearched};
 ghost use Rattle.pliron_sccp.specs.Delaying.{delayed};
 ghost use Rattle.pliron_sccp.specs.Demands.{Adds};
-ghost use Rattle.pliron_sccp.specs.Feasible.{leads, KeepsAmong, KeepsFeasible};
-ghost use Rattle.pliron_sccp.specs.Looking.{either, AreTargetsNumbered, AsksAhead, GoesThrough, HasNumberedTargets, IsCallFor, IsLookedAt, IsNamed, IsUseOf, LooksAt, SeesTo, TakesUsers};
+ghost use Rattle.pliron_sccp.specs.Feasible.{leads, AreFound, KeepsAmong, KeepsFeasible};
+ghost use Rattle.pliron_sccp.specs.Looking.{either, AreTargetsNumbered, AsksAhead, GoesThrough, HasNumberedTargets, IsBehind, IsCallFor, IsLookedAt, IsNamed, IsUseOf, LooksAt, SeesTo, StampsIt, TakesUsers};
 ghost use Rattle.pliron_sccp.specs.Searched.{IsSearched};
 ghost use Rattle.pliron_sccp.specs.Searching.{IsSeenTo, LooksAside, SeesToAll, TakesTurn, VisitsValues};
 ghost use Rattle.pliron_sccp.specs.Starting.{IsStarted};
 ghost use Rattle.pliron_sccp.specs.Tables.{fact_in, facts_of, known_constants, reaches, waits_block};
 
 use crate::delays::Delays;
-use crate::demands::{Demand, ask_entries, demands, meet_all};
+use crate::demands::{Demand, Slate, ask_entries, demands, meet_all};
 use crate::edges::FeasibleEdges;
 use crate::facts::Tables;
 use crate::inside::{all_blocks, block_numbers, value_numbers};
@@ -76,7 +78,7 @@ pub fn start(alloc: Global, root: Ptr<Operation>, ctx: &Context) -> Result<Table
     let mut tables = unsearched(alloc, root, ctx)?;
     let mut asked = Vec::new(alloc);
     ask_entries(root, ctx, &mut asked)?;
-    meet_all(asked, &mut tables);
+    meet_all(&mut asked, &mut tables);
     Ok(tables)
 }
 
@@ -287,7 +289,15 @@ fn ask_ahead<D: Dialect>(
     ask_forwarded_ahead::<D>(op, place, value, ctx, tables, edges, asked)
 }
 
-/// Sees to one use of a value that fell, where was looked.
+/// Whether the stamps tell that the operation was looked at since the value fell last.
+fn is_ahead(op: Ptr<Operation>, value: Value, ctx: &Context, tables: &Tables) -> bool
+    requires { IsLive ctx.now.tree op }
+    ensures { IsTrue result → IsBehind ctx.now.tree tables.now op value → ⊥ }
+{
+    op.num_result(ctx) > 0 && tables.fall_stamp(value) < tables.look_stamp(op.get_result(ctx, 0))
+}
+
+/// Sees to one use of a value that fell, where was looked, and not since the fall.
 fn add_use<D: Dialect>(
     op: Ptr<Operation>,
     place: usize,
@@ -303,6 +313,9 @@ fn add_use<D: Dialect>(
         users.old.keys asked.old.items users.new.keys asked.new.items) }
     ensures memory { IsOkUnless result OptError.Memory }
 {
+    if is_ahead(op, value, ctx, tables) {
+        return Ok(());
+    }
     if !is_visited(op, ctx, tables) {
         return Ok(());
     }
@@ -367,6 +380,43 @@ fn take_values<D: Dialect>(
     Ok((users, asked, taken))
 }
 
+/// The look at the operation gets its stamp, kept with its first result, if it has one.
+fn stamp(op: Ptr<Operation>, ctx: &Context, tables: &mut Tables)
+    requires { IsLive ctx.now.tree op }
+    ensures { StampsIt ctx.now.tree op tables.old tables.new }
+{
+    ctx.well_formed();
+    if op.num_result(ctx) > 0 {
+        tables.stamp_look(op.get_result(ctx, 0));
+    }
+}
+
+/// Meets what the operation asks of the facts so far, and does nothing else. Where it folds as a branch, tells the
+/// blocks that it may go to.
+///
+/// Asks that it stands, that the blocks which it may enter have numbers, and for a place that is empty. Errors: want of
+/// memory. Cost: that of what it asks.
+fn look<D: Dialect>(
+    alloc: Global,
+    op: Ptr<Operation>,
+    ctx: &Context,
+    tables: &mut Tables,
+    slate: &mut Slate,
+    feasible: &mut Option<HashSet<u64>>,
+) -> Result<(), OptError>
+    requires live { IsLive ctx.now.tree op }
+    requires targets { HasNumberedTargets ctx.now.tree tables.old op }
+    requires none { feasible.old ≡ None }
+    ensures ok { OnOk result (LooksAt ⟦<D as HasFolding>⟧.folding ctx.now.tree op tables.old tables.new) }
+    ensures feasible { OnOk result (AreFound ⟦<D as HasFolding>⟧.folding ctx.now.tree (facts_of tables.old) op feasible.new) }
+    ensures memory { IsOkUnless result OptError.Memory }
+{
+    demands::<D>(alloc, op, ctx, tables, slate, feasible)?;
+    stamp(op, ctx, tables);
+    meet_all(&mut slate.asked, tables);
+    Ok(())
+}
+
 /// Meets what the operation asks of the facts so far, and does nothing else.
 ///
 /// Asks that it stands, and that the blocks which it may enter have numbers. Errors: want of memory. Cost: that of what it asks.
@@ -375,6 +425,7 @@ fn look_at<D: Dialect>(
     op: Ptr<Operation>,
     ctx: &Context,
     tables: &mut Tables,
+    slate: &mut Slate,
 ) -> Result<(), OptError>
     requires live { IsLive ctx.now.tree op }
     requires targets { HasNumberedTargets ctx.now.tree tables.old op }
@@ -382,9 +433,7 @@ fn look_at<D: Dialect>(
     ensures memory { IsOkUnless result OptError.Memory }
 {
     let mut feasible = None;
-    let asked = demands::<D>(alloc, op, ctx, tables, &mut feasible)?;
-    meet_all(asked, tables);
-    Ok(())
+    look::<D>(alloc, op, ctx, tables, slate, &mut feasible)
 }
 
 /// Keeps these blocks, if the operation has many operands.
@@ -437,6 +486,7 @@ fn look_and_keep<D: Dialect>(
     ctx: &Context,
     tables: &mut Tables,
     edges: &mut FeasibleEdges,
+    slate: &mut Slate,
 ) -> Result<(), OptError>
     requires live { IsLive ctx.now.tree op }
     requires targets { HasNumberedTargets ctx.now.tree tables.old op }
@@ -445,8 +495,7 @@ fn look_and_keep<D: Dialect>(
     ensures memory { IsOkUnless result OptError.Memory }
 {
     let mut feasible = None;
-    let demanded = demands::<D>(alloc, op, ctx, tables, &mut feasible)?;
-    meet_all(demanded, tables);
+    look::<D>(alloc, op, ctx, tables, slate, &mut feasible)?;
     keep_candidates::<D>(alloc, op, ctx, edges)?;
     keep_feasible(op, feasible, ctx, edges)
 }
@@ -460,6 +509,7 @@ fn see_to<D: Dialect>(
     ctx: &Context,
     tables: &mut Tables,
     delays: &mut Delays,
+    slate: &mut Slate,
 ) -> Result<(), OptError>
     requires live { IsLive ctx.now.tree op }
     requires targets { HasNumberedTargets ctx.now.tree tables.old op }
@@ -470,7 +520,7 @@ fn see_to<D: Dialect>(
     if operands > FEW_OPERANDS {
         delays.put(alloc, op, operands)
     } else {
-        look_at::<D>(alloc, op, ctx, tables)
+        look_at::<D>(alloc, op, ctx, tables, slate)
     }
 }
 
@@ -483,6 +533,7 @@ fn see_to_all<D: Dialect>(
     ctx: &Context,
     tables: &mut Tables,
     delays: &mut Delays,
+    slate: &mut Slate,
 ) -> Result<(), OptError>
     requires live { (k : ℕ) → In k ops.now → IsLive ctx.now.tree k }
     requires targets { (k : ℕ) → In k ops.now → HasNumberedTargets ctx.now.tree tables.old k }
@@ -490,7 +541,7 @@ fn see_to_all<D: Dialect>(
     ensures memory { IsOkUnless result OptError.Memory }
 {
     for i in 0..ops.len() {
-        see_to::<D>(alloc, ops[i], ctx, tables, delays)?;
+        see_to::<D>(alloc, ops[i], ctx, tables, delays, slate)?;
     }
     Ok(())
 }
@@ -504,6 +555,7 @@ fn visit_block<D: Dialect>(
     ctx: &Context,
     tables: &mut Tables,
     edges: &mut FeasibleEdges,
+    slate: &mut Slate,
 ) -> Result<(), OptError>
     requires block { IsBlock ctx.now.tree block }
     requires targets { (k : ℕ) → In k (body_of ctx.now.tree block) → HasNumberedTargets ctx.now.tree tables.old k }
@@ -513,7 +565,7 @@ fn visit_block<D: Dialect>(
     ctx.well_formed();
     let mut at = block.get_head(ctx);
     while let Some(op) = at {
-        look_and_keep::<D>(alloc, op, ctx, tables, edges)?;
+        look_and_keep::<D>(alloc, op, ctx, tables, edges, slate)?;
         at = op.get_next(ctx);
     }
     Ok(())
@@ -527,15 +579,16 @@ fn visit_values<D: Dialect>(
     tables: &mut Tables,
     delays: &mut Delays,
     edges: &FeasibleEdges,
+    slate: &mut Slate,
 ) -> Result<u128, OptError>
     requires { AreTargetsNumbered ctx.now.tree tables.old }
     ensures ok { IfOk result (λ taken. VisitsValues ⟦<D as HasFolding>⟧.folding ctx.now.tree edges.now tables.old tables.new delays.old delays.new taken) }
     ensures memory { IsOkUnless result OptError.Memory }
 {
     ctx.well_formed();
-    let (users, asked, taken) = take_values::<D>(alloc, ctx, tables, edges)?;
-    meet_all(asked, tables);
-    see_to_all::<D>(alloc, users.as_slice(), ctx, tables, delays)?;
+    let (users, mut asked, taken) = take_values::<D>(alloc, ctx, tables, edges)?;
+    meet_all(&mut asked, tables);
+    see_to_all::<D>(alloc, users.as_slice(), ctx, tables, delays, slate)?;
     Ok(taken)
 }
 
@@ -547,6 +600,7 @@ fn step<D: Dialect>(
     tables: &mut Tables,
     delays: &mut Delays,
     edges: &mut FeasibleEdges,
+    slate: &mut Slate,
 ) -> Result<u128, OptError>
     requires blocks { (b : ℕ) → waits_block tables.old b ≡ true → IsBlock ctx.now.tree b }
     requires targets { AreTargetsNumbered ctx.now.tree tables.old }
@@ -556,10 +610,10 @@ fn step<D: Dialect>(
     ctx.well_formed();
     match tables.next_block() {
         Some(block) => {
-            visit_block::<D>(alloc, block, ctx, tables, edges)?;
+            visit_block::<D>(alloc, block, ctx, tables, edges, slate)?;
             Ok(1)
         }
-        None => visit_values::<D>(alloc, ctx, tables, delays, edges),
+        None => visit_values::<D>(alloc, ctx, tables, delays, edges, slate),
     }
 }
 
@@ -572,6 +626,7 @@ fn look_aside<D: Dialect>(
     tables: &mut Tables,
     delays: &mut Delays,
     edges: &mut FeasibleEdges,
+    slate: &mut Slate,
 ) -> Result<bool, OptError>
     requires placed { (k : ℕ) → In k (delayed delays.old) → IsLookedAt ctx.now.tree tables.old k }
     requires targets { AreTargetsNumbered ctx.now.tree tables.old }
@@ -581,7 +636,7 @@ fn look_aside<D: Dialect>(
     ctx.well_formed();
     match delays.take() {
         Some(op) => {
-            look_and_keep::<D>(alloc, op, ctx, tables, edges)?;
+            look_and_keep::<D>(alloc, op, ctx, tables, edges, slate)?;
             Ok(true)
         }
         None => Ok(false),
@@ -615,12 +670,13 @@ pub fn search<D: Dialect>(
     let mut tables = start(alloc, root, ctx)?;
     let mut delays = Delays::new(alloc);
     let mut edges = FeasibleEdges::new(alloc);
+    let mut slate = Slate::new(alloc);
     let mut pops: u128 = 0;
     loop {
-        let taken = step::<D>(alloc, ctx, &mut tables, &mut delays, &mut edges)?;
+        let taken = step::<D>(alloc, ctx, &mut tables, &mut delays, &mut edges, &mut slate)?;
         if taken > 0 {
             pops += taken;
-        } else if !look_aside::<D>(alloc, ctx, &mut tables, &mut delays, &mut edges)? {
+        } else if !look_aside::<D>(alloc, ctx, &mut tables, &mut delays, &mut edges, &mut slate)? {
             return Ok(Searched { tables, pops });
         }
     }

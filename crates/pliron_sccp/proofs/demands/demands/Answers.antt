@@ -1,14 +1,20 @@
 use Rattle.std.proofs.Common.{◌∙◌, ap}
+use Rattle.std.proofs.lemmas.Result.{on_ok_weaker}
+use Rattle.pliron_core.specs.Tree.{operands_of}
 use Rattle.pliron_laws.proofs.Records.{op_shows}
 use Rattle.pliron_theory.specs.Facts.{Says, handed}
 use Rattle.pliron_sccp.specs.Tables.{known_constants, facts_of}
+use Rattle.pliron_sccp.proofs.Demanded.{known_alone}
 use Rattle.pliron_sccp.proofs.EdgesAsked.{all_asked}
 use Rattle.pliron_sccp.proofs.demands.demands.Goals as goal
 
 pub returns-clause-ok : goal.returns-clause-ok
-returns-clause-ok g c = λ o e now.
+returns-clause-ok g c =
     let x : Says = (record { meaning = g.D.HasMeaning.meaning; can_fold = g.D.ConstFoldInterface.can_fold; can_fold_branch = g.D.BranchOpFoldInterface.can_fold_branch; constants = g.D.ConstFoldInterface.constants; feasible = g.D.BranchOpFoldInterface.feasible; entry_operands = g.D.RegionBranchOpInterface.entry_operands }) in
     let t = c.args.ctx.now.tree in
     let f = facts_of c.args.tables.now in
-    let known = c.deref-2.ensures.value ∙ c.in_ok-known.ensures.ok ∙ ap (handed f) (op_shows t c.args.op o e).operands in
-    all_asked x t f c.args.op o e (known_constants c.args.tables.now) c.deref-2.result.now known c.new-asked.result.items c.ask_visits.new.asked.items c.ask_edges.new.asked.items c.ask_results.new.asked.items c.new-asked.ensures.items (c.in_ok-ask_visits.ensures.ok o e) (c.in_ok-ask_edges.ensures.ok o e) (c.in_ok-ask_results.ensures.ok o e (known_constants c.args.tables.now)) now
+    let read = known_alone f (operands_of t c.args.op) c.clear.new.self.items c.add_known.new.attrs.items c.clear.ensures.items c.in_ok-add_known.ensures.ok in
+    on_ok_weaker c.ask_results.result (λ asked. λ o e now.
+    let known = c.deref-2.ensures.value ∙ read ∙ ap (handed f) (op_shows t c.args.op o e).operands in
+    all_asked x t f c.args.op o e (known_constants c.args.tables.now) c.deref-2.result.now known c.clear-2.new.self.items c.ask_visits.new.asked.items c.ask_edges.new.asked.items c.ask_results.new.asked.items c.clear-2.ensures.items (c.in_ok-ask_visits.ensures.ok o e) (c.in_ok-ask_edges.ensures.ok o e) (asked o e (known_constants c.args.tables.now)) now)
+    c.ask_results.ensures.ok

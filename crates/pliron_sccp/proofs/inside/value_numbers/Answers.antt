@@ -21,9 +21,9 @@ loop-i-preserved c =
     let all = c.args.blocks.now in
     let f : ℕ → List ℕ = λ b. block_values c.args.ctx.now.tree b in
     let at : slice_get all c.loop-i.i ≡ Some c.index-blocks-i.result = slice_get_read all (length all) c.loop-i.i c.index-blocks-i.result refl c.loop-i-test.true c.index-blocks-i.is in
-    counted_next (AddsKeysOf f) all c.loop-i.i c.index-blocks-i.result c.new-numbered.result.keys c.loop-i.numbered.keys c.add_block_values.new.values.keys at (keys_step f c.index-blocks-i.result c.loop-i.numbered.keys c.add_block_values.new.values.keys c.in_ok-add_block_values.ensures.ok) c.loop-i.invariant
+    counted_next (AddsKeysOf f) all c.loop-i.i c.index-blocks-i.result c.in_ok-numbered.numbered.keys c.loop-i.numbered.keys c.add_block_values.new.values.keys at (keys_step f c.index-blocks-i.result c.loop-i.numbered.keys c.add_block_values.new.values.keys c.in_ok-add_block_values.ensures.ok) c.loop-i.invariant
 
 pub returns-clause-ok : goal.returns-clause-ok
 returns-clause-ok c =
     let f : ℕ → List ℕ = λ b. block_values c.args.ctx.now.tree b in
-    subst (λ z. AddsKeysOf f c.args.blocks.now z c.loop-i.numbered.keys) (no_keys c.new-numbered.result.keys c.new-numbered.ensures.len) (counted_end (AddsKeysOf f) c.args.blocks.now c.loop-i.i c.new-numbered.result.keys c.loop-i.numbered.keys (omega arith) (keys_none c.loop-i.numbered.keys) c.loop-i.invariant)
+    subst (λ z. AddsKeysOf f c.args.blocks.now z c.loop-i.numbered.keys) (no_keys c.in_ok-numbered.numbered.keys c.in_ok-numbered.ensures.len) (counted_end (AddsKeysOf f) c.args.blocks.now c.loop-i.i c.in_ok-numbered.numbered.keys c.loop-i.numbered.keys (omega arith) (keys_none c.loop-i.numbered.keys) c.loop-i.invariant)

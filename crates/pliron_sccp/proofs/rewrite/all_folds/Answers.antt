@@ -8,7 +8,7 @@ use Rattle.pliron_sccp.proofs.rewrite.all_folds.Goals as goal
 pub loop-at-init : goal.loop-at-init
 loop-at-init g c =
     let x : Says = record { meaning = g.D.HasMeaning.meaning; can_fold = g.D.ConstFoldInterface.can_fold; can_fold_branch = g.D.BranchOpFoldInterface.can_fold_branch; constants = g.D.ConstFoldInterface.constants; feasible = g.D.BranchOpFoldInterface.feasible; entry_operands = g.D.RegionBranchOpInterface.entry_operands } in
-    folds_start x c.args.ctx.now.tree c.args.root (facts_of c.args.tables.now) c.well_formed-2.ensures.tree c.new-folds.result c.next_in_preorder-at.result c.new-folds.ensures.none c.next_in_preorder-at.ensures.next
+    folds_start x c.args.ctx.now.tree c.args.root (facts_of c.args.tables.now) c.well_formed-2.ensures.tree c.in_ok-folds.folds c.next_in_preorder-at.result c.in_ok-folds.ensures.none c.next_in_preorder-at.ensures.next
 
 pub add_fold-requires : goal.add_fold-requires
 add_fold-requires g c =

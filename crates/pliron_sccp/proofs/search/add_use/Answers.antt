@@ -1,7 +1,7 @@
 use Rattle.std.proofs.Common.{nat_eq, true≢false, subst, sym, ◌∙◌}
 use Rattle.pliron_theory.specs.Facts.{Says}
 use Rattle.pliron_sccp.specs.Looking.{IsCallFor}
-use Rattle.pliron_sccp.proofs.Calls.{use_passed, use_reads_nothing, use_ahead, use_asked, on_ok_then}
+use Rattle.pliron_sccp.proofs.Calls.{use_passed, use_reads_nothing, use_ahead, use_ahead_of, use_asked, on_ok_then}
 use Rattle.pliron_sccp.proofs.UserLists.{key_added, and_true}
 use Rattle.pliron_sccp.proofs.search.add_use.Goals as goal
 
@@ -24,6 +24,11 @@ pub returns-in-Pass-clause-ok : goal.returns-in-Pass-clause-ok
 returns-in-Pass-clause-ok g c =
     let x : Says = record { meaning = g.D.HasMeaning.meaning; can_fold = g.D.ConstFoldInterface.can_fold; can_fold_branch = g.D.BranchOpFoldInterface.can_fold_branch; constants = g.D.ConstFoldInterface.constants; feasible = g.D.BranchOpFoldInterface.feasible; entry_operands = g.D.RegionBranchOpInterface.entry_operands } in
     use_reads_nothing x c.args.ctx.now.tree c.args.edges.now c.args.tables.now c.args.value c.args.op c.args.place c.args.users.now.keys c.args.asked.now.items (subst (IsCallFor x c.args.ctx.now.tree c.args.op c.args.place) c.in-Pass.is c.call_for.ensures)
+
+pub returns-then-is_ahead-clause-ok : goal.returns-then-is_ahead-clause-ok
+returns-then-is_ahead-clause-ok g c =
+    let x : Says = record { meaning = g.D.HasMeaning.meaning; can_fold = g.D.ConstFoldInterface.can_fold; can_fold_branch = g.D.BranchOpFoldInterface.can_fold_branch; constants = g.D.ConstFoldInterface.constants; feasible = g.D.BranchOpFoldInterface.feasible; entry_operands = g.D.RegionBranchOpInterface.entry_operands } in
+    use_ahead_of x c.args.ctx.now.tree c.args.edges.now c.args.tables.now c.args.value c.args.op c.args.place c.args.users.now.keys c.args.asked.now.items (c.is_ahead.ensures c.if-is_ahead.true)
 
 pub returns-then-not-is_visited-clause-ok : goal.returns-then-not-is_visited-clause-ok
 returns-then-not-is_visited-clause-ok g c =

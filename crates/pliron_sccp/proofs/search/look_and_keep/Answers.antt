@@ -1,19 +1,13 @@
 use Rattle.std.proofs.lemmas.Result.{on_ok_weaker}
 use Rattle.pliron_theory.specs.Facts.{Says}
 use Rattle.pliron_sccp.specs.Tables.{facts_of}
-use Rattle.pliron_sccp.proofs.Stepping.{can_meet}
 use Rattle.pliron_sccp.proofs.KeptEdges.{keeps_found, kept_past}
 use Rattle.pliron_sccp.proofs.search.look_and_keep.Goals as goal
 
-pub meet_all-requires : goal.meet_all-requires
-meet_all-requires g c =
-    let x : Says = record { meaning = g.D.HasMeaning.meaning; can_fold = g.D.ConstFoldInterface.can_fold; can_fold_branch = g.D.BranchOpFoldInterface.can_fold_branch; constants = g.D.ConstFoldInterface.constants; feasible = g.D.BranchOpFoldInterface.feasible; entry_operands = g.D.RegionBranchOpInterface.entry_operands } in
-    can_meet x c.args.ctx.now.tree c.args.op c.args.tables.now c.in_ok-demanded.demanded.items c.requires.live c.requires.targets c.in_ok-demanded.ensures.ok
-
 pub returns-clause-looks : goal.returns-clause-looks
-returns-clause-looks g c = on_ok_weaker c.keep_feasible.result (λ kept. record { asked = c.in_ok-demanded.demanded.items; asks = c.in_ok-demanded.ensures.ok; applied = c.meet_all.ensures }) c.keep_feasible.ensures.ok
+returns-clause-looks g c = on_ok_weaker c.keep_feasible.result (λ kept. c.in_ok-look.ensures.ok) c.keep_feasible.ensures.ok
 
 pub returns-clause-keeps : goal.returns-clause-keeps
 returns-clause-keeps g c =
     let x : Says = record { meaning = g.D.HasMeaning.meaning; can_fold = g.D.ConstFoldInterface.can_fold; can_fold_branch = g.D.BranchOpFoldInterface.can_fold_branch; constants = g.D.ConstFoldInterface.constants; feasible = g.D.BranchOpFoldInterface.feasible; entry_operands = g.D.RegionBranchOpInterface.entry_operands } in
-    on_ok_weaker c.keep_feasible.result (λ kept. keeps_found x c.args.ctx.now.tree (facts_of c.args.tables.now) c.args.op c.demands.new.feasible c.args.edges.now c.keep_feasible.new.edges c.in_ok-demanded.ensures.feasible (kept_past c.args.op c.demands.new.feasible c.args.edges.now c.keep_candidates.new.edges c.keep_feasible.new.edges c.in_ok-keep_candidates.ensures.ok kept)) c.keep_feasible.ensures.ok
+    on_ok_weaker c.keep_feasible.result (λ kept. keeps_found x c.args.ctx.now.tree (facts_of c.args.tables.now) c.args.op c.look.new.feasible c.args.edges.now c.keep_feasible.new.edges c.in_ok-look.ensures.feasible (kept_past c.args.op c.look.new.feasible c.args.edges.now c.keep_candidates.new.edges c.keep_feasible.new.edges c.in_ok-keep_candidates.ensures.ok kept)) c.keep_feasible.ensures.ok

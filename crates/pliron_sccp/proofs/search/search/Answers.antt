@@ -10,8 +10,8 @@ use Rattle.pliron_sccp.proofs.DistinctLists.{inside_block}
 use Rattle.pliron_sccp.proofs.OnTheWay.{targets_numbered, few_to_take, started_search, next_search, search_bound, aside_search, end_search, fewer_left, fewer_aside, more_by}
 use Rattle.pliron_sccp.proofs.search.search.Goals as goal
 
-pub loop-edges-init : goal.loop-edges-init
-loop-edges-init g c =
+pub loop-slate-init : goal.loop-slate-init
+loop-slate-init g c =
     let x : Says = record { meaning = g.D.HasMeaning.meaning; can_fold = g.D.ConstFoldInterface.can_fold; can_fold_branch = g.D.BranchOpFoldInterface.can_fold_branch; constants = g.D.ConstFoldInterface.constants; feasible = g.D.BranchOpFoldInterface.feasible; entry_operands = g.D.RegionBranchOpInterface.entry_operands } in
     let d = g.met.D.Dialect in
     started_search x c.args.ctx.now.tree c.args.root c.well_formed-2.ensures.tree c.requires.live c.requires.linked d.answers_true (record { forwarded = d.forwards_operands.places; named = d.names_operands.there }) c.in_ok-tables.tables c.new-delays.result c.new-edges.result c.new-delays.ensures c.new-edges.ensures c.in_ok-tables.ensures.ok
@@ -19,43 +19,43 @@ loop-edges-init g c =
 pub step-requires-clause-targets : goal.step-requires-clause-targets
 step-requires-clause-targets g c =
     let x : Says = record { meaning = g.D.HasMeaning.meaning; can_fold = g.D.ConstFoldInterface.can_fold; can_fold_branch = g.D.BranchOpFoldInterface.can_fold_branch; constants = g.D.ConstFoldInterface.constants; feasible = g.D.BranchOpFoldInterface.feasible; entry_operands = g.D.RegionBranchOpInterface.entry_operands } in
-    targets_numbered x c.args.ctx.now.tree c.args.root c.well_formed-2.ensures.tree c.requires.live c.requires.linked.edges c.loop-edges.tables c.loop-edges.delays c.loop-edges.invariant.way
+    targets_numbered x c.args.ctx.now.tree c.args.root c.well_formed-2.ensures.tree c.requires.live c.requires.linked.edges c.loop-slate.tables c.loop-slate.delays c.loop-slate.invariant.way
 
 pub step-requires-clause-blocks : goal.step-requires-clause-blocks
-step-requires-clause-blocks g c = λ b waits. inside_block c.args.ctx.now.tree c.well_formed-2.ensures.tree c.args.root b (c.loop-edges.invariant.way.waits.blocks b waits).0
+step-requires-clause-blocks g c = λ b waits. inside_block c.args.ctx.now.tree c.well_formed-2.ensures.tree c.args.root b (c.loop-slate.invariant.way.waits.blocks b waits).0
 
 pub overflow_add-pops : goal.overflow_add-pops
 overflow_add-pops g c =
     let x : Says = record { meaning = g.D.HasMeaning.meaning; can_fold = g.D.ConstFoldInterface.can_fold; can_fold_branch = g.D.BranchOpFoldInterface.can_fold_branch; constants = g.D.ConstFoldInterface.constants; feasible = g.D.BranchOpFoldInterface.feasible; entry_operands = g.D.RegionBranchOpInterface.entry_operands } in
     let d = g.met.D.Dialect in
     let few = few_to_take x c.args.ctx.now.tree c.args.root c.well_formed-2.ensures.tree c.requires.live c.well_formed-2.ensures.keys in
-    let bound = search_bound x c.args.ctx.now.tree c.args.root c.well_formed-2.ensures.tree c.requires.live c.requires.linked d.answers_true (record { forwarded = d.forwards_operands.places; named = d.names_operands.there }) c.loop-edges.tables c.step.new.tables c.loop-edges.delays c.step.new.delays c.loop-edges.edges c.step.new.edges c.loop-edges.pops c.in_ok-taken.taken c.in_ok-taken.ensures.ok c.loop-edges.invariant in
+    let bound = search_bound x c.args.ctx.now.tree c.args.root c.well_formed-2.ensures.tree c.requires.live c.requires.linked d.answers_true (record { forwarded = d.forwards_operands.places; named = d.names_operands.there }) c.loop-slate.tables c.step.new.tables c.loop-slate.delays c.step.new.delays c.loop-slate.edges c.step.new.edges c.loop-slate.pops c.in_ok-taken.taken c.in_ok-taken.ensures.ok c.loop-slate.invariant in
     omega (arith, few, bound)
 
-pub loop-edges-smaller-then-taken-gt0 : goal.loop-edges-smaller-then-taken-gt0
-loop-edges-smaller-then-taken-gt0 g c =
+pub loop-slate-smaller-then-taken-gt0 : goal.loop-slate-smaller-then-taken-gt0
+loop-slate-smaller-then-taken-gt0 g c =
     let x : Says = record { meaning = g.D.HasMeaning.meaning; can_fold = g.D.ConstFoldInterface.can_fold; can_fold_branch = g.D.BranchOpFoldInterface.can_fold_branch; constants = g.D.ConstFoldInterface.constants; feasible = g.D.BranchOpFoldInterface.feasible; entry_operands = g.D.RegionBranchOpInterface.entry_operands } in
     let d = g.met.D.Dialect in
-    fewer_left x c.args.ctx.now.tree c.args.root c.well_formed-2.ensures.tree c.requires.live c.requires.linked d.answers_true (record { forwarded = d.forwards_operands.places; named = d.names_operands.there }) c.loop-edges.tables c.step.new.tables c.loop-edges.delays c.step.new.delays c.loop-edges.edges c.step.new.edges c.loop-edges.pops c.in_ok-taken.taken c.in_ok-taken.ensures.ok c.loop-edges.invariant (omega (arith, c.if-taken-gt0.true))
+    fewer_left x c.args.ctx.now.tree c.args.root c.well_formed-2.ensures.tree c.requires.live c.requires.linked d.answers_true (record { forwarded = d.forwards_operands.places; named = d.names_operands.there }) c.loop-slate.tables c.step.new.tables c.loop-slate.delays c.step.new.delays c.loop-slate.edges c.step.new.edges c.loop-slate.pops c.in_ok-taken.taken c.in_ok-taken.ensures.ok c.loop-slate.invariant (omega (arith, c.if-taken-gt0.true))
 
-pub loop-edges-preserved-then-taken-gt0 : goal.loop-edges-preserved-then-taken-gt0
-loop-edges-preserved-then-taken-gt0 g c =
+pub loop-slate-preserved-then-taken-gt0 : goal.loop-slate-preserved-then-taken-gt0
+loop-slate-preserved-then-taken-gt0 g c =
     let x : Says = record { meaning = g.D.HasMeaning.meaning; can_fold = g.D.ConstFoldInterface.can_fold; can_fold_branch = g.D.BranchOpFoldInterface.can_fold_branch; constants = g.D.ConstFoldInterface.constants; feasible = g.D.BranchOpFoldInterface.feasible; entry_operands = g.D.RegionBranchOpInterface.entry_operands } in
     let d = g.met.D.Dialect in
-    next_search x c.args.ctx.now.tree c.args.root c.well_formed-2.ensures.tree c.requires.live c.requires.linked d.answers_true (record { forwarded = d.forwards_operands.places; named = d.names_operands.there }) c.loop-edges.tables c.step.new.tables c.loop-edges.delays c.step.new.delays c.loop-edges.edges c.step.new.edges c.loop-edges.pops c.in_ok-taken.taken c.in_ok-taken.ensures.ok c.loop-edges.invariant
+    next_search x c.args.ctx.now.tree c.args.root c.well_formed-2.ensures.tree c.requires.live c.requires.linked d.answers_true (record { forwarded = d.forwards_operands.places; named = d.names_operands.there }) c.loop-slate.tables c.step.new.tables c.loop-slate.delays c.step.new.delays c.loop-slate.edges c.step.new.edges c.loop-slate.pops c.in_ok-taken.taken c.in_ok-taken.ensures.ok c.loop-slate.invariant
 
 pub look_aside-requires-clause-placed : goal.look_aside-requires-clause-placed
 look_aside-requires-clause-placed g c =
     let x : Says = record { meaning = g.D.HasMeaning.meaning; can_fold = g.D.ConstFoldInterface.can_fold; can_fold_branch = g.D.BranchOpFoldInterface.can_fold_branch; constants = g.D.ConstFoldInterface.constants; feasible = g.D.BranchOpFoldInterface.feasible; entry_operands = g.D.RegionBranchOpInterface.entry_operands } in
     let d = g.met.D.Dialect in
-    let s = next_search x c.args.ctx.now.tree c.args.root c.well_formed-2.ensures.tree c.requires.live c.requires.linked d.answers_true (record { forwarded = d.forwards_operands.places; named = d.names_operands.there }) c.loop-edges.tables c.step.new.tables c.loop-edges.delays c.step.new.delays c.loop-edges.edges c.step.new.edges c.loop-edges.pops c.in_ok-taken.taken c.in_ok-taken.ensures.ok c.loop-edges.invariant in
+    let s = next_search x c.args.ctx.now.tree c.args.root c.well_formed-2.ensures.tree c.requires.live c.requires.linked d.answers_true (record { forwarded = d.forwards_operands.places; named = d.names_operands.there }) c.loop-slate.tables c.step.new.tables c.loop-slate.delays c.step.new.delays c.loop-slate.edges c.step.new.edges c.loop-slate.pops c.in_ok-taken.taken c.in_ok-taken.ensures.ok c.loop-slate.invariant in
     λ k i. (s.way.aside k i).looked
 
 pub look_aside-requires-clause-targets : goal.look_aside-requires-clause-targets
 look_aside-requires-clause-targets g c =
     let x : Says = record { meaning = g.D.HasMeaning.meaning; can_fold = g.D.ConstFoldInterface.can_fold; can_fold_branch = g.D.BranchOpFoldInterface.can_fold_branch; constants = g.D.ConstFoldInterface.constants; feasible = g.D.BranchOpFoldInterface.feasible; entry_operands = g.D.RegionBranchOpInterface.entry_operands } in
     let d = g.met.D.Dialect in
-    let s = next_search x c.args.ctx.now.tree c.args.root c.well_formed-2.ensures.tree c.requires.live c.requires.linked d.answers_true (record { forwarded = d.forwards_operands.places; named = d.names_operands.there }) c.loop-edges.tables c.step.new.tables c.loop-edges.delays c.step.new.delays c.loop-edges.edges c.step.new.edges c.loop-edges.pops c.in_ok-taken.taken c.in_ok-taken.ensures.ok c.loop-edges.invariant in
+    let s = next_search x c.args.ctx.now.tree c.args.root c.well_formed-2.ensures.tree c.requires.live c.requires.linked d.answers_true (record { forwarded = d.forwards_operands.places; named = d.names_operands.there }) c.loop-slate.tables c.step.new.tables c.loop-slate.delays c.step.new.delays c.loop-slate.edges c.step.new.edges c.loop-slate.pops c.in_ok-taken.taken c.in_ok-taken.ensures.ok c.loop-slate.invariant in
     targets_numbered x c.args.ctx.now.tree c.args.root c.well_formed-2.ensures.tree c.requires.live c.requires.linked.edges c.step.new.tables c.step.new.delays s.way
 
 pub returns-then-not-branch-clause-ok : goal.returns-then-not-branch-clause-ok
@@ -63,28 +63,28 @@ returns-then-not-branch-clause-ok g c =
     let x : Says = record { meaning = g.D.HasMeaning.meaning; can_fold = g.D.ConstFoldInterface.can_fold; can_fold_branch = g.D.BranchOpFoldInterface.can_fold_branch; constants = g.D.ConstFoldInterface.constants; feasible = g.D.BranchOpFoldInterface.feasible; entry_operands = g.D.RegionBranchOpInterface.entry_operands } in
     let d = g.met.D.Dialect in
     let none : c.in_ok-taken.taken ≡ 0 = omega (arith, c.if-taken-gt0.false) in
-    let turn = subst (TakesTurn x c.args.ctx.now.tree c.loop-edges.tables c.step.new.tables c.loop-edges.delays c.step.new.delays c.loop-edges.edges c.step.new.edges) none c.in_ok-taken.ensures.ok in
+    let turn = subst (TakesTurn x c.args.ctx.now.tree c.loop-slate.tables c.step.new.tables c.loop-slate.delays c.step.new.delays c.loop-slate.edges c.step.new.edges) none c.in_ok-taken.ensures.ok in
     let looks = subst (LooksAside x c.args.ctx.now.tree c.step.new.tables c.look_aside.new.tables c.step.new.delays c.look_aside.new.delays c.step.new.edges c.look_aside.new.edges) c.if-not-branch.true c.in_ok-look_aside.ensures.ok in
-    end_search x c.args.ctx.now.tree c.args.root c.well_formed-2.ensures.tree c.requires.live c.requires.linked d.answers_true (record { forwarded = d.forwards_operands.places; named = d.names_operands.there }) c.loop-edges.tables c.step.new.tables c.loop-edges.delays c.step.new.delays c.loop-edges.edges c.step.new.edges c.loop-edges.pops turn c.loop-edges.invariant c.look_aside.new.tables c.look_aside.new.delays c.look_aside.new.edges looks
+    end_search x c.args.ctx.now.tree c.args.root c.well_formed-2.ensures.tree c.requires.live c.requires.linked d.answers_true (record { forwarded = d.forwards_operands.places; named = d.names_operands.there }) c.loop-slate.tables c.step.new.tables c.loop-slate.delays c.step.new.delays c.loop-slate.edges c.step.new.edges c.loop-slate.pops turn c.loop-slate.invariant c.look_aside.new.tables c.look_aside.new.delays c.look_aside.new.edges looks
 
-pub loop-edges-smaller : goal.loop-edges-smaller
-loop-edges-smaller g c =
+pub loop-slate-smaller : goal.loop-slate-smaller
+loop-slate-smaller g c =
     let x : Says = record { meaning = g.D.HasMeaning.meaning; can_fold = g.D.ConstFoldInterface.can_fold; can_fold_branch = g.D.BranchOpFoldInterface.can_fold_branch; constants = g.D.ConstFoldInterface.constants; feasible = g.D.BranchOpFoldInterface.feasible; entry_operands = g.D.RegionBranchOpInterface.entry_operands } in
     let d = g.met.D.Dialect in
     let none : c.in_ok-taken.taken ≡ 0 = omega (arith, c.if-taken-gt0.false) in
-    let turn = subst (TakesTurn x c.args.ctx.now.tree c.loop-edges.tables c.step.new.tables c.loop-edges.delays c.step.new.delays c.loop-edges.edges c.step.new.edges) none c.in_ok-taken.ensures.ok in
+    let turn = subst (TakesTurn x c.args.ctx.now.tree c.loop-slate.tables c.step.new.tables c.loop-slate.delays c.step.new.delays c.loop-slate.edges c.step.new.edges) none c.in_ok-taken.ensures.ok in
     let looks = subst (LooksAside x c.args.ctx.now.tree c.step.new.tables c.look_aside.new.tables c.step.new.delays c.look_aside.new.delays c.step.new.edges c.look_aside.new.edges) c.if-not-branch.false c.in_ok-look_aside.ensures.ok in
-    more_by ((length (blocks_inside c.args.ctx.now.tree c.args.root) + 2 * length (values_inside c.args.ctx.now.tree c.args.root) - c.loop-edges.pops) * 2 ^ 64) (length (delayed c.look_aside.new.delays)) (length (delayed c.loop-edges.delays))
-    (fewer_aside x c.args.ctx.now.tree c.args.root c.well_formed-2.ensures.tree c.requires.live c.requires.linked d.answers_true (record { forwarded = d.forwards_operands.places; named = d.names_operands.there }) c.loop-edges.tables c.step.new.tables c.loop-edges.delays c.step.new.delays c.loop-edges.edges c.step.new.edges c.loop-edges.pops turn c.loop-edges.invariant c.look_aside.new.tables c.look_aside.new.delays c.look_aside.new.edges looks)
+    more_by ((length (blocks_inside c.args.ctx.now.tree c.args.root) + 2 * length (values_inside c.args.ctx.now.tree c.args.root) - c.loop-slate.pops) * 2 ^ 64) (length (delayed c.look_aside.new.delays)) (length (delayed c.loop-slate.delays))
+    (fewer_aside x c.args.ctx.now.tree c.args.root c.well_formed-2.ensures.tree c.requires.live c.requires.linked d.answers_true (record { forwarded = d.forwards_operands.places; named = d.names_operands.there }) c.loop-slate.tables c.step.new.tables c.loop-slate.delays c.step.new.delays c.loop-slate.edges c.step.new.edges c.loop-slate.pops turn c.loop-slate.invariant c.look_aside.new.tables c.look_aside.new.delays c.look_aside.new.edges looks)
 
-pub loop-edges-preserved : goal.loop-edges-preserved
-loop-edges-preserved g c =
+pub loop-slate-preserved : goal.loop-slate-preserved
+loop-slate-preserved g c =
     let x : Says = record { meaning = g.D.HasMeaning.meaning; can_fold = g.D.ConstFoldInterface.can_fold; can_fold_branch = g.D.BranchOpFoldInterface.can_fold_branch; constants = g.D.ConstFoldInterface.constants; feasible = g.D.BranchOpFoldInterface.feasible; entry_operands = g.D.RegionBranchOpInterface.entry_operands } in
     let d = g.met.D.Dialect in
     let none : c.in_ok-taken.taken ≡ 0 = omega (arith, c.if-taken-gt0.false) in
-    let turn = subst (TakesTurn x c.args.ctx.now.tree c.loop-edges.tables c.step.new.tables c.loop-edges.delays c.step.new.delays c.loop-edges.edges c.step.new.edges) none c.in_ok-taken.ensures.ok in
+    let turn = subst (TakesTurn x c.args.ctx.now.tree c.loop-slate.tables c.step.new.tables c.loop-slate.delays c.step.new.delays c.loop-slate.edges c.step.new.edges) none c.in_ok-taken.ensures.ok in
     let looks = subst (LooksAside x c.args.ctx.now.tree c.step.new.tables c.look_aside.new.tables c.step.new.delays c.look_aside.new.delays c.step.new.edges c.look_aside.new.edges) c.if-not-branch.false c.in_ok-look_aside.ensures.ok in
-    aside_search x c.args.ctx.now.tree c.args.root c.well_formed-2.ensures.tree c.requires.live c.requires.linked d.answers_true (record { forwarded = d.forwards_operands.places; named = d.names_operands.there }) c.loop-edges.tables c.step.new.tables c.loop-edges.delays c.step.new.delays c.loop-edges.edges c.step.new.edges c.loop-edges.pops turn c.loop-edges.invariant c.look_aside.new.tables c.look_aside.new.delays c.look_aside.new.edges looks
+    aside_search x c.args.ctx.now.tree c.args.root c.well_formed-2.ensures.tree c.requires.live c.requires.linked d.answers_true (record { forwarded = d.forwards_operands.places; named = d.names_operands.there }) c.loop-slate.tables c.step.new.tables c.loop-slate.delays c.step.new.delays c.loop-slate.edges c.step.new.edges c.loop-slate.pops turn c.loop-slate.invariant c.look_aside.new.tables c.look_aside.new.delays c.look_aside.new.edges looks
 
 err_same : {X Y : Type 0} (r : Result X Y) (e m : Y) → IsErrAnd r (λ x. x ≡ e) → e ≡ m → IfErr r (λ x. x ≡ m)
 err_same (Ok x) e m given same = tt

@@ -5,9 +5,9 @@ use Rattle.pliron_sccp.specs.Inside.{values_inside}
 use Rattle.pliron_sccp.specs.Searching.{IsSearching}
 use Rattle.pliron_sccp.proofs.search.search.Given as goal
 
-abbrev pub invariant-loop-edges : goal.invariant-loop-edges
-invariant-loop-edges g l = IsSearching (record { meaning = g.D.HasMeaning.meaning; can_fold = g.D.ConstFoldInterface.can_fold; can_fold_branch = g.D.BranchOpFoldInterface.can_fold_branch; constants = g.D.ConstFoldInterface.constants; feasible = g.D.BranchOpFoldInterface.feasible; entry_operands = g.D.RegionBranchOpInterface.entry_operands }) l.ctx.tree l.fn.root l.tables l.delays l.edges l.pops
+abbrev pub invariant-loop-slate : goal.invariant-loop-slate
+invariant-loop-slate g l = IsSearching (record { meaning = g.D.HasMeaning.meaning; can_fold = g.D.ConstFoldInterface.can_fold; can_fold_branch = g.D.BranchOpFoldInterface.can_fold_branch; constants = g.D.ConstFoldInterface.constants; feasible = g.D.BranchOpFoldInterface.feasible; entry_operands = g.D.RegionBranchOpInterface.entry_operands }) l.ctx.tree l.fn.root l.tables l.delays l.edges l.pops
 
 -- what can still be taken counts more than what is put aside, of which each turn adds less than 2 ^ 64
-abbrev pub decreases-loop-edges : goal.decreases-loop-edges
-decreases-loop-edges g l = (length (blocks_inside l.ctx.tree l.fn.root) + 2 * length (values_inside l.ctx.tree l.fn.root) - l.pops) * 2 ^ 64 + length (delayed l.delays)
+abbrev pub decreases-loop-slate : goal.decreases-loop-slate
+decreases-loop-slate g l = (length (blocks_inside l.ctx.tree l.fn.root) + 2 * length (values_inside l.ctx.tree l.fn.root) - l.pops) * 2 ^ 64 + length (delayed l.delays)

@@ -25,5 +25,5 @@ returns-clause-ok c =
       unsearched = c.in_ok-tables.ensures.ok;
       asked = c.ask_entries.new.asked.items;
       asks = λ now. let a = c.in_ok-ask_entries.ensures.ok (known_constants s) now in (λ m. (a.0 m).1, λ p. a.1 (subst (MeetsAll (known_constants s) now) (sym c.new-asked.ensures.items) tt, p));
-      applied = c.meet_all.ensures;
+      applied = c.meet_all.ensures.applied;
     }

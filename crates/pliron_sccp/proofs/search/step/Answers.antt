@@ -39,6 +39,7 @@ returns-in-None-clause-ok g c =
       met = v.met;
       takes = takes_from x c.args.ctx.now.tree c.args.edges.now c.args.tables.now c.next_block.new.self v.between v.users v.asked taken n.0 v.takes;
       applied = v.applied;
+      stamped = v.stamped;
       sees = v.sees;
     }) refl)
     c.visit_values.ensures.ok

@@ -20,7 +20,7 @@ pub see_to_all-requires-clause-targets : goal.see_to_all-requires-clause-targets
 see_to_all-requires-clause-targets g c = λ k i.
     let x : Says = record { meaning = g.D.HasMeaning.meaning; can_fold = g.D.ConstFoldInterface.can_fold; can_fold_branch = g.D.BranchOpFoldInterface.can_fold_branch; constants = g.D.ConstFoldInterface.constants; feasible = g.D.BranchOpFoldInterface.feasible; entry_operands = g.D.RegionBranchOpInterface.entry_operands } in
     let taken = c.in_ok-users.ensures.ok in
-    targets_then x c.args.ctx.now.tree c.args.edges.now taken.values c.in_ok-users.users.keys c.in_ok-users.asked.items c.args.tables.now c.take_values.new.tables c.meet_all.new.tables taken.takes taken.calls c.meet_all.ensures c.requires k (subst (In k) c.as_slice.ensures.keys i)
+    targets_then x c.args.ctx.now.tree c.args.edges.now taken.values c.in_ok-users.users.keys c.in_ok-users.asked.items c.args.tables.now c.take_values.new.tables c.meet_all.new.tables taken.takes taken.calls c.meet_all.ensures.applied c.requires k (subst (In k) c.as_slice.ensures.keys i)
 
 pub returns-clause-ok : goal.returns-clause-ok
 returns-clause-ok g c =
@@ -31,6 +31,7 @@ returns-clause-ok g c =
       between = c.take_values.new.tables;
       met = c.meet_all.new.tables;
       takes = c.in_ok-users.ensures.ok;
-      applied = c.meet_all.ensures;
+      applied = c.meet_all.ensures.applied;
+      stamped = c.meet_all.ensures.stamped;
       sees = subst (λ ks. SeesToAll x c.args.ctx.now.tree ks c.meet_all.new.tables c.see_to_all.new.tables c.args.delays.now c.see_to_all.new.delays) c.as_slice.ensures.keys c.in_ok-see_to_all.ensures.ok;
     }

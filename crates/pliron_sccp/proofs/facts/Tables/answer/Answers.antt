@@ -52,6 +52,9 @@ invariant_of-self c =
       values_few = s.values_few;
       known = λ q k e. ⊎_elim (λ same. omega (arith, size, len, number_is c.len.result k same)) (λ before. let l = s.known q k before in omega (arith, size, l)) (known_set cells n (Known c.len.result) q k e);
       constants_room = omega (arith, size, count, s.constants_room, c.push_reserved.ensures.capacity);
+      looked = s.looked;
+      stamped = s.stamped;
+      past = s.past;
     }
 
 pub returns-in-Undetermined : goal.returns-in-Undetermined
@@ -73,7 +76,7 @@ returns-in-Undetermined c =
     falls_then s c.wait.new.self c.args.value n (Constant c.args.attr) (Constant c.args.attr) c.wait.ensures at refl
     (written_here constants cells s.values.keys c.args.value n new at lt more ∙ ap constant_or got)
     (λ v e. ap (said more) (written_there constants cells s.values.keys c.args.value n new at lt v e) ∙ said_kept constants more kept (cell_at cells (position (nat_eq v) s.values.keys)) (means_at constants cells s.known (position (nat_eq v) s.values.keys)))
-    (λ v. refl) (λ b. refl) (λ b. refl) (λ b. refl) kept
+    (λ v. refl) (λ b. refl) (λ b. refl) (λ b. refl) (record { looks = λ v. refl; falls = λ v. refl }) kept
     (fall_first c.args.attr (fact_in s c.args.value) (ap (λ o. said constants (cell_at cells o)) at ∙ ap (said constants) none))
 
 pub index-requires-in-Constant : goal.index-requires-in-Constant
@@ -113,6 +116,9 @@ invariant_of-self-then-not-is_same c =
       values_few = s.values_few;
       known = λ q k e. ⊎_elim (λ same. absurd (no_constant k same)) (λ before. s.known q k before) (known_set cells n Varying q k e);
       constants_room = omega (arith, count, s.constants_room);
+      looked = s.looked;
+      stamped = s.stamped;
+      past = s.past;
     }
 
 pub returns-then-not-is_same : goal.returns-then-not-is_same
@@ -133,7 +139,7 @@ returns-then-not-is_same c =
     falls_then s c.wait-then-not-is_same.new.self c.args.value n (Constant c.args.attr) NotAConstant c.wait-then-not-is_same.ensures at refl
     (written_here constants cells s.values.keys c.args.value n Varying at lt constants)
     (λ v e. ap (said constants) (written_there constants cells s.values.keys c.args.value n Varying at lt v e))
-    (λ v. refl) (λ b. refl) (λ b. refl) (λ b. refl) (λ j a e. e)
+    (λ v. refl) (λ b. refl) (λ b. refl) (λ b. refl) (record { looks = λ v. refl; falls = λ v. refl }) (λ j a e. e)
     (fall_apart c.args.attr d (fact_in s c.args.value) f (λ e. true≢false (sym (c.is_same.ensures.1 e) ∙ c.if-not-is_same.true)))
 
 pub returns-in-Constant : goal.returns-in-Constant

@@ -4,9 +4,16 @@ use Rattle.std.specs.List.{list_any, position}
 use Rattle.std.proofs.lemmas.List.{length-set}
 use Rattle.pliron_sccp.specs.declared.facts.Mark.TheVariants.{Unreached, Waiting}
 use Rattle.pliron_sccp.specs.Cells.{AreOnce, is_waiting}
-use Rattle.pliron_sccp.proofs.Worklists.{within, room_left, pushed_waits, once_added}
+use Rattle.pliron_core.proofs.HoldingLemmas.{not_none, slice_in}
+use Rattle.pliron_sccp.proofs.Worklists.{any_in, within, room_left, pushed_waits, once_added}
 use Rattle.pliron_sccp.proofs.Marked.{reached_entered, waits_entered}
 use Rattle.pliron_sccp.proofs.facts.Tables.enter.Goals as goal
+
+pub unreachable-requires : goal.unreachable-requires
+unreachable-requires c =
+    let s = c.args.self.now in
+    let p = slice_in s.blocks.keys c.args.block (any_in c.args.block s.blocks.keys c.requires) in
+    not_none (sym c.in_default.is ∙ c.block_number.ensures.index ∙ s.block_numbers p.0 c.args.block p.1)
 
 pub push_reserved-requires : goal.push_reserved-requires
 push_reserved-requires c =
@@ -38,6 +45,9 @@ invariant_of-self c =
       values_few = s.values_few;
       known = s.known;
       constants_room = s.constants_room;
+      looked = s.looked;
+      stamped = s.stamped;
+      past = s.past;
     }
 
 pub returns-in-Unreached : goal.returns-in-Unreached
@@ -53,5 +63,6 @@ returns-in-Unreached c =
       numbers = λ b. refl;
       facts = λ v. refl;
       values = λ v. refl;
+      stamps = record { looks = λ v. refl; falls = λ v. refl };
       keeps = λ k a e. e;
     }

@@ -73,6 +73,9 @@ invariant_of-self c =
       values_few = s.values_few;
       known = λ q k e. ⊎_elim (λ same. means_below constants k fall.0 (subst (λ z. Means constants z fall.0) same means)) (λ before. s.known q k before) (known_set cells n new q k e);
       constants_room = omega (arith, count, s.constants_room);
+      looked = s.looked;
+      stamped = s.stamped;
+      past = s.past;
     }
 
 pub returns : goal.returns
@@ -95,4 +98,4 @@ returns c = λ g m.
     falls_then s c.wait.new.self c.args.value n g fall.0 c.wait.ensures at refl
     (written_here constants cells s.values.keys c.args.value n new at lt constants ∙ means_said constants new fall.0 means)
     (λ v e. ap (said constants) (written_there constants cells s.values.keys c.args.value n new at lt v e))
-    (λ v. refl) (λ b. refl) (λ b. refl) (λ b. refl) (λ k a e. e) down
+    (λ v. refl) (λ b. refl) (λ b. refl) (λ b. refl) (record { looks = λ v. refl; falls = λ v. refl }) (λ k a e. e) down

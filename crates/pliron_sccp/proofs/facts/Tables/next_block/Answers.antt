@@ -38,6 +38,9 @@ invariant_of-self-2 c =
       values_few = s.values_few;
       known = s.known;
       constants_room = s.constants_room;
+      looked = s.looked;
+      stamped = s.stamped;
+      past = s.past;
     }
 
 pub returns-clause-taken : goal.returns-clause-taken
@@ -61,4 +64,5 @@ returns-clause-taken c =
       facts = λ v. refl;
       values = λ v. refl;
       numbers = λ b. refl;
+      stamps = record { looks = λ v. refl; falls = λ v. refl };
     }

@@ -36,6 +36,9 @@ invariant_of-self-2 c =
       values_few = s.values_few;
       known = s.known;
       constants_room = s.constants_room;
+      looked = s.looked;
+      stamped = s.stamped;
+      past = s.past;
     }
 
 pub returns-clause-taken : goal.returns-clause-taken
@@ -61,6 +64,7 @@ returns-clause-taken c =
       blocks = λ b. refl;
       numbers = λ b. refl;
       constants = refl;
+      stamps = record { looks = λ v. refl; falls = λ v. refl };
       fewer = ap length items ∙ length_one c.pop.new.self.items n;
       few = omega (arith, s.values_few, s.fallen, most);
     }

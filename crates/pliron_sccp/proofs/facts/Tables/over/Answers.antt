@@ -16,6 +16,8 @@ invariant_of-result c =
     let marks = c.in_ok-marks.marks.items in
     let cells = c.in_ok-cells.cells.items in
     let falls = c.in_ok-falls.falls.items in
+    let looks = c.in_ok-looks.looks.items in
+    let fell = c.in_ok-fell.fell.items in
     let m : marks ≡ replicate c.len-block_count.result Unreached = c.in_ok-marks.ensures.items_if_clones_equal (λ y h. h) in
     let e : cells ≡ replicate c.len-value_count.result Unknown = c.in_ok-cells.ensures.items_if_clones_equal (λ y h. h) in
     let f : falls ≡ replicate c.len-value_count.result false = c.in_ok-falls.ensures.items_if_clones_equal (λ y h. h) in
@@ -25,6 +27,9 @@ invariant_of-result c =
     let bl : c.len-block_count.result ≡ length blocks = grind (arith, common_steps) in
     let vl : c.len-value_count.result ≡ length values = grind (arith, common_steps) in
     let none = ap length c.in_ok-constants.ensures.items in
+    let k : looks ≡ replicate c.len-value_count.result 0 = c.in_ok-looks.ensures.items_if_clones_equal (λ y h. h) in
+    let kl : length looks ≡ c.len-value_count.result = grind (arith, common_steps) in
+    let gl : length fell ≡ c.len-value_count.result = grind (arith, common_steps) in
     let most = count_most cells in
     record {
       marked = ml ∙ bl;
@@ -41,6 +46,9 @@ invariant_of-result c =
       values_few = omega (arith, vl, c.len-value_count.ensures.small);
       known = λ n k at. absurd (none_known cells (λ i. fresh_at Unknown c.len-value_count.result cells e el i) n k at);
       constants_room = omega (arith, none, most, el, c.in_ok-constants.ensures.capacity);
+      looked = kl ∙ vl;
+      stamped = gl ∙ vl;
+      past = λ n. let z = fresh_at 0 c.len-value_count.result looks k kl n in omega (arith, z);
     }
 
 pub returns-clause-ok : goal.returns-clause-ok

@@ -36,4 +36,7 @@ invariant_of-self c =
       values_few = s.values_few;
       known = s.known;
       constants_room = s.constants_room;
+      looked = s.looked;
+      stamped = length-set s.fell.items n s.clock ∙ s.stamped;
+      past = s.past;
     }

@@ -1,7 +1,7 @@
 use Rattle.pliron_core.specs.Tree.{operands_of}
 use Rattle.pliron_sccp.specs.Tables.{facts_of}
 use Rattle.pliron_sccp.proofs.ListedFolds.{known_start, known_step}
-use Rattle.pliron_sccp.proofs.rewrite.add_known.Goals as goal
+use Rattle.pliron_sccp.proofs.demands.add_known.Goals as goal
 
 pub loop-i-init : goal.loop-i-init
 loop-i-init c = known_start (facts_of c.args.tables.now) (operands_of c.args.ctx.now.tree c.args.op) c.args.attrs.now.items
