@@ -273,6 +273,7 @@ impl Uses {
     /// Asks that there are such a user and such a place. Takes no memory. Cost: the number of targets between
     /// it and the place where one was removed last, and constant for the first; amortised, a constant and at
     /// most twice the number of targets after it.
+    #[inline(always)]
     pub fn remove(&mut self, user: usize, place: usize) -> usize
         requires user { user < length self.old.targets }
         requires place { place < length (targets_of self.old user) }
@@ -295,6 +296,7 @@ impl Uses {
 
     /// All targets of a user go. Asks that there is such a user. Takes no memory. Cost: the number of its
     /// targets.
+    #[inline(always)]
     pub fn clear(&mut self, user: usize)
         requires { user < length self.old.targets }
         ensures targets { self.new.targets ≡ slice_set self.old.targets user [] }

@@ -12,6 +12,7 @@ use pliron_core::{BasicBlock, Context, Def, Operation, Ptr, Value};
 use pliron_laws::Dialect;
 
 // Whether the operation is no terminator and answers that it has no side effects.
+#[inline(always)]
 fn is_harmless<D: Dialect>(op: Ptr<Operation>, ctx: &Context) -> bool
     requires { IsLive ctx.now.tree op }
     ensures { IsTrue result ↔ IsHarmless D.meaning D.side_effects ctx.now.tree op }
@@ -23,6 +24,7 @@ fn is_harmless<D: Dialect>(op: Ptr<Operation>, ctx: &Context) -> bool
 }
 
 // Whether no result of the operation is used.
+#[inline(always)]
 fn is_unused(op: Ptr<Operation>, ctx: &Context) -> bool
     requires { IsLive ctx.now.tree op }
     ensures { IsTrue result ↔ HaveNoUse ctx.now.tree op }
@@ -37,6 +39,7 @@ fn is_unused(op: Ptr<Operation>, ctx: &Context) -> bool
 }
 
 // Whether the operation may go at once.
+#[inline(always)]
 pub(crate) fn is_ready_operation<D: Dialect>(
     op: Ptr<Operation>,
     looks: &mut Looks,
@@ -66,6 +69,7 @@ pub(crate) fn is_ready_operation<D: Dialect>(
 }
 
 // Whether the operation that holds the block lets its arguments go.
+#[inline(always)]
 fn may_lose<D: Dialect>(block: Ptr<BasicBlock>, holder: Ptr<Operation>, ctx: &Context) -> bool
     requires block { IsBlock ctx.now.tree block }
     requires holder { block_holder_of ctx.now.tree block ≡ Some holder }
@@ -79,6 +83,7 @@ fn may_lose<D: Dialect>(block: Ptr<BasicBlock>, holder: Ptr<Operation>, ctx: &Co
 }
 
 // Whether the operation is the root or stands inside it.
+#[inline(always)]
 pub(crate) fn is_within(op: Ptr<Operation>, root: Ptr<Operation>, ctx: &Context) -> bool
     requires { IsLive ctx.now.tree op }
     ensures { IsTrue result ↔ IsWithin ctx.now.tree root op }
@@ -87,6 +92,7 @@ pub(crate) fn is_within(op: Ptr<Operation>, root: Ptr<Operation>, ctx: &Context)
 }
 
 // Whether the value is an argument that may go at once.
+#[inline(always)]
 pub(crate) fn is_ready_argument<D: Dialect>(
     value: Value,
     predecessors: &Predecessors,
@@ -117,6 +123,7 @@ pub(crate) fn is_ready_argument<D: Dialect>(
 }
 
 // The operation that holds the block directly.
+#[inline(always)]
 pub(crate) fn holder_of(block: Ptr<BasicBlock>, ctx: &Context) -> Ptr<Operation>
     requires { IsBlock ctx.now.tree block }
     ensures holder { block_holder_of ctx.now.tree block ≡ Some result }

@@ -49,6 +49,7 @@ fn operands_within(
 }
 
 // A ready operation is erased with its contents. Answers the values that it and its contents used.
+#[inline(always)]
 pub(crate) fn take_operation<D: Dialect>(
     alloc: Global,
     op: Ptr<Operation>,

@@ -59,6 +59,7 @@ impl Work {
     }
 
     // The candidate is looked at in the next round.
+    #[inline(always)]
     fn add(&mut self, candidate: Candidate) -> Result<(), AllocError>
         ensures kept { OnOk result ((x : Item) → Among x (items_of (waiting self.old)) → Among x (items_of (waiting self.new))) }
         ensures added { OnOk result (Among (item_of candidate) (items_of (waiting self.new))) }
@@ -70,6 +71,7 @@ impl Work {
 }
 
 // Whether the candidate may go at once.
+#[inline(always)]
 fn is_ready<D: Dialect>(
     candidate: &Candidate,
     looks: &mut Looks,
@@ -88,6 +90,7 @@ fn is_ready<D: Dialect>(
 }
 
 // The last one of this round that is ready; those after it are not, and go.
+#[inline(always)]
 fn next_in_round<D: Dialect>(
     round: &mut Vec<Candidate>,
     looks: &mut Looks,
@@ -168,6 +171,7 @@ fn begin_round<D: Dialect>(
 }
 
 // The next one of this round that is ready.
+#[inline(always)]
 fn next_of<D: Dialect>(
     work: &mut Work,
     predecessors: &Predecessors,
@@ -237,6 +241,7 @@ pub(crate) fn next_ready<D: Dialect>(
 }
 
 // The operation that holds what makes the value.
+#[inline(always)]
 fn holder_of_maker(value: Value, ctx: &Context) -> Option<Ptr<Operation>>
     requires { IsDefined ctx.now.tree value }
     ensures around { IsAroundMaker ctx.now.tree value result }
@@ -250,6 +255,7 @@ fn holder_of_maker(value: Value, ctx: &Context) -> Option<Ptr<Operation>>
 }
 
 // The operations around what makes the value, and those around them, are looked at once nothing else is ready.
+#[inline(always)]
 fn push_around(
     around: &mut IndexSet<Ptr<Operation>>,
     value: Value,
@@ -273,6 +279,7 @@ fn push_around(
 
 // What may have become ready when these values lost uses: what makes each of them, and the operations
 // around it.
+#[inline(always)]
 pub(crate) fn note(work: &mut Work, used: &[Value], ctx: &Context) -> Result<(), AllocError>
     requires closed { AreClosed ctx.now.tree work.old.around.keys }
     ensures kept { OnOk result ((x : Item) → Among x (items_of (waiting work.old)) → Among x (items_of (waiting work.new))) }

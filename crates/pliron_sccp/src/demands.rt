@@ -238,6 +238,7 @@ fn ask_jumps(op: Ptr<Operation>, ctx: &Context, asked: &mut Vec<Demand>) -> Resu
 }
 
 /// The constant that is known of a value, for a fold.
+#[inline(always)]
 pub(crate) fn known(
     alloc: Global,
     value: Value,
@@ -253,6 +254,7 @@ pub(crate) fn known(
 }
 
 /// Adds the constants that are known of the operands, for a fold.
+#[inline(always)]
 pub(crate) fn add_known(
     alloc: Global,
     op: Ptr<Operation>,
@@ -439,6 +441,7 @@ fn ask_branches<D: Dialect>(
 }
 
 /// The result at this index, if there is one, is at or below the answer.
+#[inline(always)]
 fn ask_answer(
     op: Ptr<Operation>,
     i: usize,
@@ -463,6 +466,7 @@ fn ask_answer(
 }
 
 /// Each result is at or below its answer.
+#[inline(always)]
 fn ask_answers(
     op: Ptr<Operation>,
     ctx: &Context,
@@ -481,6 +485,7 @@ fn ask_answers(
 }
 
 /// Results of what folds are at or below their answers, other results are not constants.
+#[inline(always)]
 fn ask_results<D: Dialect>(
     alloc: Global,
     op: Ptr<Operation>,
@@ -566,6 +571,7 @@ pub fn demands<D: Dialect>(
 }
 
 /// Meets one thing that is asked, and does nothing else. Takes no memory.
+#[inline(always)]
 fn meet(demand: Demand, tables: &mut Tables)
     requires { CanMeet tables.old (demand ∷ []) }
     ensures applied { IsApplied (known_constants tables.old) (demand ∷ []) tables.old tables.new }
@@ -583,6 +589,7 @@ fn meet(demand: Demand, tables: &mut Tables)
 ///
 /// Asks that the blocks and the constants that are asked for have their numbers here. Cost: one step for
 /// each.
+#[inline(always)]
 pub fn meet_all(asked: &mut Vec<Demand>, tables: &mut Tables)
     requires { CanMeet tables.old asked.old.items }
     ensures applied { IsApplied (known_constants tables.old) asked.old.items tables.old tables.new }

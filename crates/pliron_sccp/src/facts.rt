@@ -127,6 +127,7 @@ impl Tables {
     }
 
     /// The number of the block, if it has one. Cost: one step where it is guessed, otherwise one look-up.
+    #[inline(always)]
     fn block_number(&self, block: Ptr<BasicBlock>) -> Option<usize>
         ensures index { result ≡ index_of nat_eq self.now.blocks block }
         ensures within { IfSome result (λ n. n < length self.now.blocks.keys) }
@@ -141,6 +142,7 @@ impl Tables {
     }
 
     /// The number of the value, if it has one. Cost: one step where it is guessed, otherwise one look-up.
+    #[inline(always)]
     fn value_number(&self, value: Value) -> Option<usize>
         ensures index { result ≡ index_of nat_eq self.now.values value }
         ensures within { IfSome result (λ n. n < length self.now.values.keys) }
@@ -181,6 +183,7 @@ impl Tables {
     }
 
     /// What is known of the value, a constant by its number. Cost: one look-up.
+    #[inline(always)]
     pub fn cell(&self, value: Value) -> Cell
         ensures { Means (known_constants self.now) result (fact_in self.now value) }
     {
@@ -191,6 +194,7 @@ impl Tables {
     }
 
     /// The constant that the value is, if it is one. Cost: one look-up.
+    #[inline(always)]
     pub fn constant(&self, value: Value) -> Option<&AttrObj>
         ensures some { IfSome result (λ c. IsConstant c.now ≡ fact_in self.now value) }
         ensures none { IfNone result (known_of (fact_in self.now value) ≡ None) }
@@ -203,6 +207,7 @@ impl Tables {
     }
 
     /// The stamp of the last look at the operation with this first result, 0 where there was none. Cost: one look-up.
+    #[inline(always)]
     pub fn look_stamp(&self, first: Value) -> u64
         ensures { result ≡ look_stamp self.now first }
     {
@@ -213,6 +218,7 @@ impl Tables {
     }
 
     /// The stamp of the value's last fall: looks with greater stamps came later. Cost: one look-up.
+    #[inline(always)]
     pub fn fall_stamp(&self, value: Value) -> u64
         ensures { result ≡ fall_stamp self.now value }
     {
@@ -224,6 +230,7 @@ impl Tables {
 
     /// The operation with this first result is looked at now: the look gets the greatest stamp so far, and so does what
     /// falls before the next one. Takes no memory. Cost: one look-up.
+    #[inline(always)]
     pub fn stamp_look(&mut self, first: Value)
         ensures { StampsLook first self.old self.new }
     {
@@ -258,6 +265,7 @@ impl Tables {
     }
 
     /// The value with this number waits, and its fall is stamped. Takes no memory.
+    #[inline(always)]
     fn wait(&mut self, n: usize)
         requires { n < length self.old.values.keys }
         ensures { NowWaits n self.old self.new }
@@ -270,6 +278,7 @@ impl Tables {
     }
 
     /// What the fact falls to, where that is another one than before.
+    #[inline(always)]
     fn fallen(&self, old: Cell, to: Cell) -> Option<Cell>
         requires old { (f : Fact) × Means (known_constants self.now) old f }
         requires to { (g : Fact) × Means (known_constants self.now) to g }
@@ -301,6 +310,7 @@ impl Tables {
     /// if that is another one than before. Takes no memory.
     ///
     /// Asks that a constant in the cell has its number here. Cost: one look-up, and comparing two attributes.
+    #[inline(always)]
     pub fn lower(&mut self, value: Value, to: Cell)
         requires { (g : Fact) × Means (known_constants self.old) to g }
         ensures { (g : Fact) → Means (known_constants self.old) to g → Lowers value g self.old self.new }
@@ -319,6 +329,7 @@ impl Tables {
     /// is another one than before. Takes no memory.
     ///
     /// Cost: one look-up, and comparing two attributes.
+    #[inline(always)]
     pub fn answer(&mut self, value: Value, attr: AttrObj)
         ensures { Lowers value (IsConstant attr) self.old self.new }
     {

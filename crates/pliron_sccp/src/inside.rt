@@ -31,6 +31,7 @@ fn list_region(
 }
 
 /// Adds the blocks of the operation's regions, in order.
+#[inline(always)]
 fn list_regions(
     op: Ptr<Operation>,
     ctx: &Context,
@@ -162,6 +163,7 @@ fn add_block(block: Ptr<BasicBlock>, blocks: &mut IndexSet<Ptr<BasicBlock>>) -> 
 }
 
 /// One value more.
+#[inline(always)]
 fn add_value(value: Value, values: &mut IndexSet<Value>) -> Result<(), OptError>
     ensures ok { OnOk result (AddsKeys (value ∷ []) values.old.keys values.new.keys) }
     ensures memory { IsOkUnless result OptError.Memory }
@@ -171,6 +173,7 @@ fn add_value(value: Value, values: &mut IndexSet<Value>) -> Result<(), OptError>
 }
 
 /// The results more.
+#[inline(always)]
 fn add_results(
     op: Ptr<Operation>,
     ctx: &Context,

@@ -92,6 +92,7 @@ fn is_folded<D: Dialect>(op: Ptr<Operation>, ctx: &Context, tables: &Tables) -> 
 }
 
 /// Adds the fold of the operation, if it has one.
+#[inline(always)]
 fn add_fold<D: Dialect>(
     alloc: Global,
     op: Ptr<Operation>,
@@ -203,6 +204,7 @@ pub(crate) fn find<D: Dialect>(
 /// Asks that the tree came from the first one by such steps, so that the facts still hold of the operation.
 /// Errors: want of memory, which leaves the tree as it was but for spent keys. Cost: that of the
 /// dialect's `fold_in_place`.
+#[inline(always)]
 pub fn fold_one<D: Dialect, R: Rewriter + Room>(
     alloc: Global,
     op: Ptr<Operation>,

@@ -83,6 +83,7 @@ pub fn start(alloc: Global, root: Ptr<Operation>, ctx: &Context) -> Result<Table
 }
 
 /// Whether the operation stands in a block that is reached and was looked at.
+#[inline(always)]
 fn is_visited(op: Ptr<Operation>, ctx: &Context, tables: &Tables) -> bool
     requires { IsLive ctx.now.tree op }
     ensures { IsTrue result ↔ IsLookedAt ctx.now.tree tables.now op }
@@ -290,6 +291,7 @@ fn ask_ahead<D: Dialect>(
 }
 
 /// Whether the stamps tell that the operation was looked at since the value fell last.
+#[inline(always)]
 fn is_ahead(op: Ptr<Operation>, value: Value, ctx: &Context, tables: &Tables) -> bool
     requires { IsLive ctx.now.tree op }
     ensures { IsTrue result → IsBehind ctx.now.tree tables.now op value → ⊥ }
@@ -298,6 +300,7 @@ fn is_ahead(op: Ptr<Operation>, value: Value, ctx: &Context, tables: &Tables) ->
 }
 
 /// Sees to one use of a value that fell, where was looked, and not since the fall.
+#[inline(always)]
 fn add_use<D: Dialect>(
     op: Ptr<Operation>,
     place: usize,
@@ -381,6 +384,7 @@ fn take_values<D: Dialect>(
 }
 
 /// The look at the operation gets its stamp, kept with its first result, if it has one.
+#[inline(always)]
 fn stamp(op: Ptr<Operation>, ctx: &Context, tables: &mut Tables)
     requires { IsLive ctx.now.tree op }
     ensures { StampsIt ctx.now.tree op tables.old tables.new }
@@ -396,6 +400,7 @@ fn stamp(op: Ptr<Operation>, ctx: &Context, tables: &mut Tables)
 ///
 /// Asks that it stands, that the blocks which it may enter have numbers, and for a place that is empty. Errors: want of
 /// memory. Cost: that of what it asks.
+#[inline(always)]
 fn look<D: Dialect>(
     alloc: Global,
     op: Ptr<Operation>,
@@ -420,6 +425,7 @@ fn look<D: Dialect>(
 /// Meets what the operation asks of the facts so far, and does nothing else.
 ///
 /// Asks that it stands, and that the blocks which it may enter have numbers. Errors: want of memory. Cost: that of what it asks.
+#[inline(always)]
 fn look_at<D: Dialect>(
     alloc: Global,
     op: Ptr<Operation>,

@@ -24,6 +24,7 @@ enum Inner {
 
 // An operation in no block, which names nothing and has no regions, and whose results nothing names,
 // stands no more. Constant cost.
+#[inline(always)]
 fn bury(ctx: &mut Context, op: Ptr<Operation>)
     requires live { IsLive ctx.old.tree op }
     requires free { parent_of ctx.old.tree op ≡ None }
@@ -70,6 +71,7 @@ fn remove_block(ctx: &mut Context, block: Ptr<BasicBlock>)
 }
 
 // What stands last inside the operation. Constant cost.
+#[inline(always)]
 fn last_inside(ctx: &Context, op: Ptr<Operation>) -> Inner
     requires { IsLive ctx.now.tree op }
     ensures { IsLast ctx.now.tree op result }
@@ -91,6 +93,7 @@ fn last_inside(ctx: &Context, op: Ptr<Operation>) -> Inner
 
 // One step of taking apart an operation that names nothing, and of which nothing names a value or a
 // block. Constant cost.
+#[inline(always)]
 fn dismantle_step(ctx: &mut Context, op: Ptr<Operation>) -> Option<Ptr<Operation>>
     requires live { IsLive ctx.old.tree op }
     requires unnamed { IsUnnamed ctx.old.tree op }
@@ -118,6 +121,7 @@ fn dismantle_step(ctx: &mut Context, op: Ptr<Operation>) -> Option<Ptr<Operation
 // An operation in no block goes with its contents, where nothing within it names anything and nothing
 // names a value or a block of it: from the inside out, the last first. Linear in the operations,
 // blocks and regions that go; takes no memory.
+#[inline(always)]
 fn dismantle(ctx: &mut Context, op: Ptr<Operation>)
     requires live { IsLive ctx.old.tree op }
     requires free { parent_of ctx.old.tree op ≡ None }
@@ -133,6 +137,7 @@ fn dismantle(ctx: &mut Context, op: Ptr<Operation>)
 }
 
 // The operation loses its operands and its successors. Linear in their number.
+#[inline(always)]
 fn drop_names(ctx: &mut Context, op: Ptr<Operation>)
     requires { IsLive ctx.old.tree op }
     ensures { ctx.new.tree ≡ unnamed ctx.old.tree op }
@@ -143,6 +148,7 @@ fn drop_names(ctx: &mut Context, op: Ptr<Operation>)
 
 // The operation and all that stands inside it, at any depth, lose operands and successors. Linear in
 // the operations, blocks and regions inside it and in what they lose; takes no memory.
+#[inline(always)]
 fn drop_names_within(ctx: &mut Context, root: Ptr<Operation>)
     requires { IsLive ctx.old.tree root }
     ensures { ctx.new.tree ≡ names_dropped ctx.old.tree (nat_eq root) }

@@ -20,6 +20,7 @@ fn is_value_at(values: &Row<Value>, i: usize, value: Value) -> bool
 
 impl Value {
     /// Whether the value stands: what made it in this context still lists it. Cost: constant.
+    #[inline(always)]
     pub fn is_live(self, ctx: &Context) -> bool
         ensures { IsTrue result ↔ IsDefined ctx.now.tree self }
     {

@@ -123,6 +123,7 @@ impl Ptr<Operation> {
     /// The first operation directly inside this one, in the order of its regions, their blocks and their
     /// bodies. Asks that the operation stands (`is_live` tests it). Cost: one step for each empty region and
     /// block before it.
+    #[inline(always)]
     pub fn first_inside(self, ctx: &Context) -> Option<Ptr<Operation>>
         requires { IsLive ctx.now.tree self }
         ensures { result ≡ first_of (children ctx.now.tree self) None }
@@ -133,6 +134,7 @@ impl Ptr<Operation> {
 
     /// The operation after this one among those directly inside the operation that holds both. Asks that the
     /// operation stands (`is_live` tests it). Cost: one step for each empty region and block between them.
+    #[inline(always)]
     pub fn next_beside(self, ctx: &Context) -> Option<Ptr<Operation>>
         requires { IsLive ctx.now.tree self }
         ensures { ForSome (holder_of ctx.now.tree self) (λ holder.
@@ -142,6 +144,7 @@ impl Ptr<Operation> {
     }
 
     // The operation that follows this one and its contents on the walk over `root`.
+    #[inline(always)]
     fn next_after(self, root: Ptr<Operation>, ctx: &Context) -> Option<Ptr<Operation>>
         requires live { IsLive ctx.now.tree root }
         requires within { IsWithin ctx.now.tree root self }
@@ -168,6 +171,7 @@ impl Ptr<Operation> {
     /// test it). Cost: a call goes by links, down to the first child or up to the first holder with a later
     /// one, so that the whole walk, from `root` until `None`, costs one step for each operation, block and
     /// region within `root`.
+    #[inline(always)]
     pub fn next_in_preorder(self, root: Ptr<Operation>, ctx: &Context) -> Option<Ptr<Operation>>
         requires live { IsLive ctx.now.tree root }
         requires within { IsWithin ctx.now.tree root self }
