@@ -225,6 +225,7 @@ impl Links {
 
     /// The node goes directly before the node `at` of this list. Asks that the list has `at`, and that the
     /// node was added and no list has it. Cost: constant.
+    #[inline(always)]
     pub fn insert_before(&mut self, list: usize, at: usize, node: usize)
         requires held { owner_of self.old at ≡ Some list }
         requires node { node < length self.old.owners }
@@ -248,6 +249,7 @@ impl Links {
 
     /// Takes the node out of the list that has it; the others keep their order. Asks that this list has it.
     /// Cost: constant.
+    #[inline(always)]
     pub fn remove(&mut self, list: usize, node: usize)
         requires held { owner_of self.old node ≡ Some list }
         ensures { self.new ≡ record self.old {

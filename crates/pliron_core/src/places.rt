@@ -180,6 +180,7 @@ pub(super) fn raise_gap(
 }
 
 // The gap of the user goes to where its target `i` stands, or, where it has as many, to the end.
+#[inline(always)]
 pub(super) fn open_gap(
     places: &mut Vec<Row<Place>>,
     gaps: &mut Vec<Gap>,
@@ -210,6 +211,7 @@ pub(super) fn open_gap(
 
 // The target behind the gap of the user goes, and is the answer. The last use of that target takes the
 // index of the use that goes.
+#[inline(always)]
 pub(super) fn widen_gap(
     places: &mut Vec<Row<Place>>,
     gaps: &mut Vec<Gap>,
@@ -243,6 +245,7 @@ pub(super) fn widen_gap(
 }
 
 // The gap of the user, which stands at the end, goes.
+#[inline(always)]
 pub(super) fn close_gap(places: &mut Vec<Row<Place>>, gaps: &mut Vec<Gap>, user: usize)
     requires gaps { HaveGaps places.old.items gaps.old.items }
     requires user { user < length gaps.old.items }
@@ -258,6 +261,7 @@ pub(super) fn close_gap(places: &mut Vec<Row<Place>>, gaps: &mut Vec<Gap>, user:
 }
 
 // The gap of the user goes where it stands at the end or is longer than the targets are many.
+#[inline(always)]
 pub(super) fn settle_gap(
     places: &mut Vec<Row<Place>>,
     gaps: &mut Vec<Gap>,

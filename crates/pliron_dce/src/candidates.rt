@@ -60,6 +60,7 @@ fn push_region(
 }
 
 // The arguments of all blocks that the operation holds directly go there.
+#[inline(always)]
 fn push_held(
     work: &mut Vec<Candidate>,
     wide: &mut Vec<Ptr<BasicBlock>>,
@@ -77,6 +78,7 @@ fn push_held(
 }
 
 // These arguments go there, and then the operation itself, unless it is the root.
+#[inline(always)]
 fn push_operation(
     work: &mut Vec<Candidate>,
     wide: &mut Vec<Ptr<BasicBlock>>,

@@ -15,6 +15,7 @@ use pliron_laws::{Dialect, OptError};
 use std::alloc::{AllocError, Global};
 
 // The operands of this operation go to the end of the list.
+#[inline(always)]
 fn push_operands(
     values: &mut Vec<Value>,
     op: Ptr<Operation>,
@@ -30,6 +31,7 @@ fn push_operands(
 }
 
 // The operands of the operation and of all operations inside it.
+#[inline(always)]
 fn operands_within(
     alloc: Global,
     op: Ptr<Operation>,

@@ -49,6 +49,7 @@ impl Labels {
     }
 
     /// The place of a label, which this token mentions. Errors: want of memory. Cost: constant, amortised.
+    #[inline(always)]
     pub fn place(&mut self, label: Label, mention: usize) -> Result<usize, AllocError> {
         match self.latest_as(label) {
             Some(place) => Ok(place),

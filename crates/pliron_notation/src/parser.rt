@@ -341,12 +341,14 @@ impl Parser<'_> {
     }
 
     /// Reads an operand.
+    #[inline(always)]
     fn operand(&mut self, text: &mut OperationText) -> Result<(), Stop> {
         let name = self.cursor.name(Expected::Value)?;
         self.add_operand(name, text)
     }
 
     /// Takes in that the name that was read last is an operand.
+    #[inline(always)]
     fn add_operand(&mut self, name: Name, text: &mut OperationText) -> Result<(), Stop> {
         let scope = self.region.func;
         let mention = self.cursor.last();

@@ -21,6 +21,7 @@ fn block_holder(ctx: &Context, block: Ptr<BasicBlock>) -> Ptr<Operation>
 }
 
 // Whether the operation is `root` or stands inside it. The cost is the depth of the operation.
+#[inline(always)]
 fn is_within(ctx: &Context, root: Ptr<Operation>, op: Ptr<Operation>) -> bool
     requires { IsLive ctx.now.tree op }
     ensures { IsTrue result ↔ IsWithin ctx.now.tree root op }
@@ -55,6 +56,7 @@ enum Scope {
 
 impl Scope {
     // Whether the operation stands in the scope. The cost is the depth of the operation.
+    #[inline(always)]
     fn has(&self, op: Ptr<Operation>, ctx: &Context) -> bool
         requires { IsLive ctx.now.tree op }
         ensures { IsTrue result ↔ IsInScope ctx.now.tree self.now op }
@@ -66,6 +68,7 @@ impl Scope {
     }
 
     // Whether each use of the value is in the scope.
+    #[inline(always)]
     fn keeps_value(&self, value: Value, ctx: &Context) -> bool
         requires { IsDefined ctx.now.tree value }
         ensures { IsTrue result ↔ IsValueKept ctx.now.tree self.now value }
@@ -125,6 +128,7 @@ impl Scope {
     }
 
     // The same for the results of the operation, and for each block directly in it.
+    #[inline(always)]
     fn keeps_operation(&self, op: Ptr<Operation>, ctx: &Context) -> bool
         requires { IsLive ctx.now.tree op }
         ensures { IsTrue result ↔ IsOperationKept ctx.now.tree self.now op }
@@ -143,6 +147,7 @@ impl Scope {
     }
 
     // The same for the operation and all that is inside it.
+    #[inline(always)]
     fn keeps_preorder(&self, root: Ptr<Operation>, ctx: &Context) -> bool
         requires { IsLive ctx.now.tree root }
         ensures { IsTrue result ↔ IsPreorderKept ctx.now.tree self.now root }

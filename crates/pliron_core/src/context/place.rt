@@ -31,6 +31,7 @@ impl BasicBlock {
 }
 
 // The operation becomes the last of the block.
+#[inline(always)]
 pub(crate) fn place_last(ctx: &mut Context, op: Ptr<Operation>, block: Ptr<BasicBlock>)
     requires block { IsBlock ctx.old.tree block }
     requires live { IsLive ctx.old.tree op }
@@ -53,6 +54,7 @@ pub(crate) fn place_first(ctx: &mut Context, op: Ptr<Operation>, block: Ptr<Basi
 }
 
 // The operation becomes the direct predecessor of the operation `at` of this block.
+#[inline(always)]
 pub(crate) fn place_before(
     ctx: &mut Context,
     op: Ptr<Operation>,
@@ -70,6 +72,7 @@ pub(crate) fn place_before(
 }
 
 // The operation leaves the block that has it, if one does.
+#[inline(always)]
 pub(crate) fn take_out(ctx: &mut Context, op: Ptr<Operation>)
     requires { IsLive ctx.old.tree op }
     ensures { ctx.new ≡ record ctx.old { tree = taken_out ctx.old.tree op } }

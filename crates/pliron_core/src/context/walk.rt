@@ -69,6 +69,7 @@ impl Context {
     }
 
     // The operation after `op` among those that its holder has.
+    #[inline(always)]
     fn next_sibling(&self, op: usize) -> Option<usize>
         requires { IsLive self.now.tree op }
         ensures { ForSome (holder_of self.now.tree op) (λ holder.
@@ -92,6 +93,7 @@ impl Context {
 impl Ptr<Operation> {
     /// The operation that this one stands directly inside, if it stands in a block. Asks that the operation
     /// stands (`is_live` tests it). Cost: constant.
+    #[inline(always)]
     pub fn get_parent_op(self, ctx: &Context) -> Option<Ptr<Operation>>
         requires { IsLive ctx.now.tree self }
         ensures holder { result ≡ holder_of ctx.now.tree self }
@@ -105,6 +107,7 @@ impl Ptr<Operation> {
 
     /// Whether this operation stands inside `op`, at any depth; an operation is not inside itself. Asks that
     /// this one stands (`is_live` tests it). Cost: the depth of this one.
+    #[inline(always)]
     pub fn is_inside(self, op: Ptr<Operation>, ctx: &Context) -> bool
         requires { IsLive ctx.now.tree self }
         ensures { IsTrue result ↔ IsInside ctx.now.tree op self }
