@@ -6,8 +6,8 @@
 //!
 //! The operations around what lost a use are looked at once nothing else is ready, each once for all the uses
 //! that what is inside it lost until then. For a look at one goes over what is inside it.
-ghost use Rattle.std.specs.Prelude.{◌≡◌, ◌↔◌, ◌++◌, ◌∷◌, [], map, IfOk, OnOk, IfErr, IfSome, IfNone, IsTrue, IsPermutation};
-ghost use Rattle.pliron_core.specs.Tree.{IsLive, IsDefined};
+ghost use Rattle.std.specs.Prelude.{◌≡◌, ◌↔◌, ◌++◌, ◌∷◌, [], true, false, map, IfOk, OnOk, IfErr, IfSome, IfNone, IsTrue, IsPermutation};
+ghost use Rattle.pliron_core.specs.Tree.{In, IsLive, IsDefined};
 ghost use Rattle.pliron_laws.specs.Linked.{IsWellLinked};
 ghost use Rattle.pliron_dce.specs.Dead.{Item};
 ghost use Rattle.pliron_dce.specs.Steps.{IsReady, Among, AreLookedAt};
@@ -254,6 +254,21 @@ fn holder_of_maker(value: Value, ctx: &Context) -> Option<Ptr<Operation>>
     }
 }
 
+// The operation comes last, unless it is there. Whether it came. Mostly it is the one that came last, which takes no
+// look-up.
+#[inline(always)]
+fn add_around(around: &mut IndexSet<Ptr<Operation>>, op: Ptr<Operation>) -> Result<bool, AllocError>
+    ensures came { IfOk result (λ came. came ≡ true → around.new.keys ≡ around.old.keys ++ op ∷ []) }
+    ensures there { IfOk result (λ came. came ≡ false → In op around.old.keys × (around.new.keys ≡ around.old.keys)) }
+{
+    if let Some(last) = around.get_index(around.len().wrapping_sub(1)) {
+        if *last == op {
+            return Ok(false);
+        }
+    }
+    Ok(around.insert(op)?)
+}
+
 // The operations around what makes the value, and those around them, are looked at once nothing else is ready.
 #[inline(always)]
 fn push_around(
@@ -269,7 +284,7 @@ fn push_around(
     ctx.well_formed();
     let mut holder = holder_of_maker(value, ctx);
     while let Some(op) = holder {
-        if !around.insert(op)? {
+        if !add_around(around, op)? {
             return Ok(());
         }
         holder = op.get_parent_op(ctx);

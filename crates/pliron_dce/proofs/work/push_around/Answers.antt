@@ -4,7 +4,7 @@ use Rattle.pliron_core.specs.Tree.{In, IsLive}
 use Rattle.pliron_core.specs.Walks.{contents}
 use Rattle.pliron_core.proofs.WalkStepLemmas.{up_smaller}
 use Rattle.pliron_dce.specs.Work.{AreClosed, LooksAround}
-use Rattle.pliron_dce.proofs.AroundSets.{IsRising, put_last, was_in, rising_starts, rising_more, rising_stops, rising_ends}
+use Rattle.pliron_dce.proofs.AroundSets.{IsRising, rising_starts, rising_more, rising_stops, rising_ends}
 use Rattle.pliron_dce.proofs.WorkLemmas.{some_told}
 use Rattle.pliron_dce.proofs.work.push_around.Goals as goal
 
@@ -14,12 +14,12 @@ loop-holder-init c = record {
   rising = rising_starts c.args.ctx.now.tree c.args.value c.args.around.now.keys c.holder_of_maker-holder.result c.requires.closed c.holder_of_maker-holder.ensures.around;
 }
 
-stops : (c : goal.Then-not-branch) → LooksAround c.args.ctx.now.tree c.args.value c.args.around.now.keys c.insert.new.self.keys × AreClosed c.args.ctx.now.tree c.insert.new.self.keys
+stops : (c : goal.Then-not-branch) → LooksAround c.args.ctx.now.tree c.args.value c.args.around.now.keys c.add_around.new.around.keys × AreClosed c.args.ctx.now.tree c.add_around.new.around.keys
 stops c =
-    let there = was_in c.loop-holder.around.keys c.insert.new.self.keys c.in-Some.op _ c.in_ok-insert.ensures.added c.in_ok-insert.ensures.keys c.if-not-branch.true in
+    let there = c.in_ok-add_around.ensures.there c.if-not-branch.true in
     let t = c.args.ctx.now.tree in
-    let r : IsRising t c.args.value c.args.around.now.keys c.insert.new.self.keys (Some c.in-Some.op) = subst (λ z. IsRising t c.args.value c.args.around.now.keys z (Some c.in-Some.op)) (sym there.1) (subst (λ z. IsRising t c.args.value c.args.around.now.keys c.loop-holder.around.keys z) c.in-Some.is c.loop-holder.invariant.rising) in
-    rising_stops t c.well_formed-2.ensures.tree c.args.value c.args.around.now.keys c.requires.closed c.insert.new.self.keys c.in-Some.op (c.loop-holder.invariant.live c.in-Some.op c.in-Some.is) (subst (In c.in-Some.op) (sym there.1) there.0) r
+    let r : IsRising t c.args.value c.args.around.now.keys c.add_around.new.around.keys (Some c.in-Some.op) = subst (λ z. IsRising t c.args.value c.args.around.now.keys z (Some c.in-Some.op)) (sym there.1) (subst (λ z. IsRising t c.args.value c.args.around.now.keys c.loop-holder.around.keys z) c.in-Some.is c.loop-holder.invariant.rising) in
+    rising_stops t c.well_formed-2.ensures.tree c.args.value c.args.around.now.keys c.requires.closed c.add_around.new.around.keys c.in-Some.op (c.loop-holder.invariant.live c.in-Some.op c.in-Some.is) (subst (In c.in-Some.op) (sym there.1) there.0) r
 
 pub returns-then-not-branch-clause-looks : goal.returns-then-not-branch-clause-looks
 returns-then-not-branch-clause-looks c = (stops c).0
@@ -38,10 +38,10 @@ loop-holder-smaller c =
 pub loop-holder-preserved : goal.loop-holder-preserved
 loop-holder-preserved c =
     let t = c.args.ctx.now.tree in
-    let more = put_last c.loop-holder.around.keys c.insert.new.self.keys c.in-Some.op _ c.in_ok-insert.ensures.added c.in_ok-insert.ensures.keys c.if-not-branch.false in
+    let more = c.in_ok-add_around.ensures.came c.if-not-branch.false in
     record {
       live = λ k e. some_told (λ z. IsLive t z) c.get_parent_op-holder.ensures.live e;
-      rising = rising_more t c.well_formed-2.ensures.tree c.args.value c.args.around.now.keys c.loop-holder.around.keys c.insert.new.self.keys c.in-Some.op c.get_parent_op-holder.result more c.get_parent_op-holder.ensures.holder (subst (λ z. IsRising t c.args.value c.args.around.now.keys c.loop-holder.around.keys z) c.in-Some.is c.loop-holder.invariant.rising);
+      rising = rising_more t c.well_formed-2.ensures.tree c.args.value c.args.around.now.keys c.loop-holder.around.keys c.add_around.new.around.keys c.in-Some.op c.get_parent_op-holder.result more c.get_parent_op-holder.ensures.holder (subst (λ z. IsRising t c.args.value c.args.around.now.keys c.loop-holder.around.keys z) c.in-Some.is c.loop-holder.invariant.rising);
     }
 
 pub returns-clause-looks : goal.returns-clause-looks
