@@ -43,7 +43,9 @@ pub struct Written<'t> {
 
 impl<'t> Written<'t> {
     /// The word that a text begins with: its first byte, whatever that is, and the letters, digits and `_`
-    /// behind it. Cost: the length of the word.
+    /// behind it.
+    ///
+    /// Asks that the text isn't empty. Cost: the length of the word.
     pub fn first_of(text: &'t [u8]) -> Self
         requires { 0 < length text.now }
         ensures some { 0 < length result.word.now }
@@ -79,7 +81,7 @@ fn is_name_byte(byte: u8) -> bool {
     is_letter(byte) || byte.is_ascii_digit() || byte == b'_'
 }
 
-/// Whether the byte is a letter of ASCII.
+/// Whether the byte is a letter of ASCII. Cost: constant.
 pub fn is_letter(byte: u8) -> bool {
     // A capital letter and its small one differ in this bit.
     (byte | 0x20).wrapping_sub(b'a') < 26
