@@ -71,7 +71,7 @@ def exponents(program, lists):
     head = ["Shape", *titles]
     print("| " + " | ".join(head) + " |\n" + "|---" * len(head) + "|")
     with tempfile.TemporaryDirectory() as folder:
-        for shape in os.environ.get("SHAPES", "").split() or [*shapes.SHAPES, *shapes.BOXES]:
+        for shape in os.environ.get("SHAPES", "").split() or [*shapes.SHAPES, *shapes.BENCH_ONLY]:
             print("| " + " | ".join([shape, *grown_to(program, lists, shape, folder)]) + " |", flush=True)
 
 
