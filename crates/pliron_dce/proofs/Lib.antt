@@ -19,3 +19,4 @@ pub mod ErasedEdges
 pub mod IncomingLists
 pub mod MarkLemmas
 pub mod IncomingLemmas
+mod LeafLemmas

@@ -65,6 +65,9 @@ pub(crate) fn is_ready_operation<D: Dialect>(
     if !op.is_inside(root, ctx) {
         return false;
     }
+    if op.num_region(ctx) == 0 {
+        return true;
+    }
     op.is_self_contained(ctx)
 }
 

@@ -16,7 +16,7 @@ use crate::looks::Looks;
 use crate::predecessors::Predecessors;
 use crate::take::{take_argument, take_operation};
 use crate::work::{Candidate, Work, next_ready, note};
-use pliron_core::{Context, Def, IRStatus, Operation, Ptr};
+use pliron_core::{Context, Def, IRStatus, Operation, Ptr, Value};
 use pliron_laws::{Dialect, OptError};
 use std::alloc::Global;
 
@@ -34,13 +34,15 @@ fn either(a: bool, b: bool) -> bool
     a || b
 }
 
-// A ready thing goes, and what may be ready then is noted. Answers whether it had regions.
+// A ready thing goes, and what may be ready then is noted. Answers whether it had regions. What an operation used is listed in
+// the list that is lent.
 fn take_one<D: Dialect>(
     alloc: Global,
     next: Candidate,
     root: Ptr<Operation>,
     work: &mut Work,
     incoming: &mut Incoming,
+    used: &mut Vec<Value>,
     ctx: &mut Context,
 ) -> Result<bool, OptError>
     requires linked { IsWellLinked D.meaning ctx.old.tree root }
@@ -60,18 +62,18 @@ fn take_one<D: Dialect>(
     match next {
         Candidate::Operation(op) => {
             let had = has_regions(op, ctx);
-            let used = take_operation::<D>(alloc, op, root, ctx)?;
+            take_operation::<D>(used, op, root, ctx)?;
             ctx.well_formed();
-            note(work, &used, ctx)?;
+            note(work, used, ctx)?;
             Ok(had)
         }
         Candidate::Argument(value) => match value.def(ctx) {
             Def::Argument(block, index) => {
                 incoming.add::<D>(alloc, block, root, ctx)?;
                 let edges = incoming.edges_to(block);
-                let used = take_argument::<D>(alloc, block, index, edges, root, ctx)?;
+                let lost = take_argument::<D>(alloc, block, index, edges, root, ctx)?;
                 ctx.well_formed();
-                note(work, &used, ctx)?;
+                note(work, &lost, ctx)?;
                 Ok(false)
             }
             Def::Result(_, _) => unreachable!(),
@@ -100,11 +102,12 @@ pub(crate) fn sweep<D: Dialect>(
 {
     let mut work = Work::new(alloc, candidates, looks);
     let mut incoming = Incoming::new(alloc);
+    let mut used = Vec::new(alloc);
     let mut status = IRStatus::Unchanged;
     let mut regions = false;
     while let Some(next) = next_ready::<D>(&mut work, predecessors, root, ctx)? {
         ctx.well_formed();
-        let taken = take_one::<D>(alloc, next, root, &mut work, &mut incoming, ctx);
+        let taken = take_one::<D>(alloc, next, root, &mut work, &mut incoming, &mut used, ctx);
         ctx.well_formed();
         let had = taken?;
         regions = either(regions, had);

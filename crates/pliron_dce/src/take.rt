@@ -30,45 +30,45 @@ fn push_operands(
     Ok(())
 }
 
-// The operands of the operation and of all operations inside it.
+// The operands of the operation and of all operations inside it are listed, and nothing else is.
 #[inline(always)]
-fn operands_within(
-    alloc: Global,
+fn list_operands_within(
+    values: &mut Vec<Value>,
     op: Ptr<Operation>,
     ctx: &Context,
-) -> Result<Vec<Value>, AllocError>
+) -> Result<(), AllocError>
     requires { IsLive ctx.now.tree op }
-    ensures { IfOk result (λ values. AreOperandsWithin ctx.now.tree op values.items) }
+    ensures { OnOk result (AreOperandsWithin ctx.now.tree op values.new.items) }
 {
     ctx.well_formed();
-    let mut values = Vec::new(alloc);
+    values.clear();
     let mut at = Some(op);
     while let Some(inner) = at {
-        push_operands(&mut values, inner, ctx)?;
+        push_operands(values, inner, ctx)?;
         at = inner.next_in_preorder(op, ctx);
     }
-    Ok(values)
+    Ok(())
 }
 
-// A ready operation is erased with its contents. Answers the values that it and its contents used.
+// A ready operation is erased with its contents. Lists the values that it and its contents used.
 #[inline(always)]
 pub(crate) fn take_operation<D: Dialect>(
-    alloc: Global,
+    used: &mut Vec<Value>,
     op: Ptr<Operation>,
     root: Ptr<Operation>,
     ctx: &mut Context,
-) -> Result<Vec<Value>, OptError>
+) -> Result<(), OptError>
     requires linked { IsWellLinked D.meaning ctx.old.tree root }
     requires ready { IsReadyOperation D.meaning D.side_effects ctx.old.tree root op }
-    ensures gone { IfOk result (λ used. ctx.new.tree ≡ erased ctx.old.tree op) }
-    ensures noted { IfOk result (λ used. AreNoted ctx.old.tree ctx.new.tree used.items) }
+    ensures gone { OnOk result (ctx.new.tree ≡ erased ctx.old.tree op) }
+    ensures noted { OnOk result (AreNoted ctx.old.tree ctx.new.tree used.new.items) }
     ensures refused { OnErr result (ctx.new ≡ ctx.old) }
     ensures memory { IsOkUnless result OptError.Memory }
 {
     ctx.well_formed();
-    let used = operands_within(alloc, op, ctx)?;
+    list_operands_within(used, op, ctx)?;
     IRRewriter::new().erase_operation(ctx, op);
-    Ok(used)
+    Ok(())
 }
 
 // The operands that edges forward to the argument with this index. Of edges in the order of how much they

@@ -1,4 +1,6 @@
+use Rattle.std.proofs.Common.{refl, arith}
 use Rattle.pliron_laws.proofs.AnswerLemmas.{no, refuted}
+use Rattle.pliron_dce.proofs.LeafLemmas.{leaf_contained}
 use Rattle.pliron_dce.specs.Steps.{IsReadyOperation}
 use Rattle.pliron_dce.proofs.ReadyTests.{ready_told, ready_unheld, ready_unused}
 use Rattle.pliron_dce.proofs.TakeLemmas.{op_live, op_contained}
@@ -17,4 +19,11 @@ pub returns : goal.returns
 returns g c = (
   (λ e. ready_told g.D.HasMeaning.meaning g.D.SideEffects.side_effects c.args.ctx.now.tree c.args.root c.args.op c.well_formed-2.ensures.tree (c.is_inside.ensures.0 c.if-not-is_inside.false) (c.is_harmless.ensures.0 c.if-not-is_harmless.false) (c.is_unused.ensures.0 c.if-not-is_unused.false) (c.is_self_contained.ensures.0 e)),
   (λ r. c.is_self_contained.ensures.1 (op_contained g.D.HasMeaning.meaning g.D.SideEffects.side_effects c.args.ctx.now.tree c.args.root c.args.op c.well_formed-2.ensures.tree c.requires.linked g.met.D.Dialect.keeps_counts g.D.BlockArgRemoval.removable g.met.D.Dialect.gives_at_once r)),
+)
+
+pub returns-then-num_region-eq0 : goal.returns-then-num_region-eq0
+returns-then-num_region-eq0 g c = (
+  (λ e. ready_told g.D.HasMeaning.meaning g.D.SideEffects.side_effects c.args.ctx.now.tree c.args.root c.args.op c.well_formed-2.ensures.tree (c.is_inside.ensures.0 c.if-not-is_inside.false) (c.is_harmless.ensures.0 c.if-not-is_harmless.false) (c.is_unused.ensures.0 c.if-not-is_unused.false)
+      (leaf_contained c.args.ctx.now.tree c.well_formed-2.ensures.tree c.args.op (omega (arith, c.num_region.ensures, c.if-num_region-eq0.true)) (c.is_unused.ensures.0 c.if-not-is_unused.false))),
+  (λ r. refl),
 )

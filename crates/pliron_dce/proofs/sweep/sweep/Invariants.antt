@@ -8,8 +8,8 @@ use Rattle.pliron_dce.specs.Predecessors.{mark_of, AreMarked}
 use Rattle.pliron_dce.specs.Work.{waiting, HasReady, AreClosed}
 use Rattle.pliron_dce.proofs.sweep.sweep.Given as goal
 
-abbrev pub invariant-loop-incoming : goal.invariant-loop-incoming
-invariant-loop-incoming g l = record {
+abbrev pub invariant-loop-used : goal.invariant-loop-used
+invariant-loop-used g l = record {
   way : (gone : List Item) × IsSweptSoFar g.D.HasMeaning.meaning g.D.Dialect.shortened g.D.SideEffects.side_effects g.D.BlockArgRemoval.removable l.fn.ctx.tree l.ctx.tree l.root gone × TellsGone gone l.status × (IsTrue l.regions ↔ SomeHasRegions l.fn.ctx.tree gone);
   edges : (IsTrue l.regions → ⊥) → KeepsEdges l.fn.ctx.tree l.ctx.tree;
   all : HasReady g.D.HasMeaning.meaning g.D.SideEffects.side_effects g.D.BlockArgRemoval.removable l.ctx.tree l.root (waiting l.work);
@@ -18,5 +18,5 @@ invariant-loop-incoming g l = record {
   marked : AreMarked g.D.HasMeaning.meaning l.ctx.tree l.root (λ b. mark_of l.predecessors b);
 }
 
-abbrev pub decreases-loop-incoming : goal.decreases-loop-incoming
-decreases-loop-incoming g l = things l.ctx.tree
+abbrev pub decreases-loop-used : goal.decreases-loop-used
+decreases-loop-used g l = things l.ctx.tree

@@ -6,7 +6,7 @@ use Rattle.pliron_core.proofs.WalkStepLemmas.{next_inside}
 use Rattle.pliron_laws.proofs.PassedLemmas.{ArePassed, passed_all}
 use Rattle.pliron_laws.proofs.EdgeLastLemmas.{walk_smaller, walk_passed}
 use Rattle.pliron_dce.proofs.TakeLemmas.{HasOperands, passed_more}
-use Rattle.pliron_dce.proofs.take.operands_within.Goals as goal
+use Rattle.pliron_dce.proofs.take.list_operands_within.Goals as goal
 
 pub push_operands-requires : goal.push_operands-requires
 push_operands-requires c = within_live c.args.ctx.now.tree c.well_formed-2.ensures.tree c.args.op c.in-Some.inner c.requires (c.loop-at.invariant.within c.in-Some.inner c.in-Some.is)
