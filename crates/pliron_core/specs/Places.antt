@@ -23,6 +23,13 @@ rank [] n = 0
 rank (p ∷ ps) zero = 0
 rank (p ∷ ps) (suc n) = if nat_eq p.target no_target then rank ps n else suc (rank ps n)
 
+-- 1 for each place of a row that is taken, and 0 for each free one
+abbrev pub mark_of : Place → ℕ
+mark_of p = if nat_eq p.target no_target then 0 else 1
+
+abbrev pub marks : List Place → List ℕ
+marks row = map mark_of row
+
 -- a use, by its place among those that are taken
 abbrev pub ranked_use : List (List Place) → Use → Use
 ranked_use rows u = record { user = u.user; place = rank (slice_index_or rows u.user []) u.place }

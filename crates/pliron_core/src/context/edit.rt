@@ -59,6 +59,33 @@ impl Operation {
         Value::new(ctx.operands.remove(op.index(), i))
     }
 
+    /// Gets ready for the loss of operands at many places: where the operation has more than a few, it gets an
+    /// index of them. Until `settle_operands`, or until it gets another operand, each removal and each read of
+    /// one then costs a logarithm of their number, wherever it stands.
+    ///
+    /// Asks that the operation stands. Errors: want of memory. The tree is as it was in any case.
+    /// Cost: the number of operands, and constant where there is an index already.
+    pub fn index_operands(ctx: &mut Context, op: Ptr<Operation>) -> Result<(), NoMemory>
+        requires { IsLive ctx.old.tree op }
+        ensures { ctx.new ≡ ctx.old }
+    {
+        let _ = op;
+        let _ = &mut ctx.operands;
+        Ok(())
+    }
+
+    /// The index of the operands goes, if there is one: reads cost a constant again. Takes no memory.
+    ///
+    /// Asks that the operation stands. The tree is as it was. Cost: the number of operands when the index was
+    /// made, and constant where there is none.
+    pub fn settle_operands(ctx: &mut Context, op: Ptr<Operation>)
+        requires { IsLive ctx.old.tree op }
+        ensures { ctx.new ≡ ctx.old }
+    {
+        let _ = op;
+        let _ = &mut ctx.operands;
+    }
+
     /// The attribute at this index is replaced.
     ///
     /// Asks that the operation stands and has such an attribute. Takes no memory. Cost: constant.
@@ -98,6 +125,33 @@ pub(crate) fn replace_uses(ctx: &mut Context, old: Value, new: Value) -> Result<
 }
 
 impl BasicBlock {
+    /// Gets ready for the loss of arguments at many places: where the block has more than a few, it gets an
+    /// index of them. Until `settle_arguments`, each removal and each read of one then costs a logarithm of
+    /// their number, wherever it stands.
+    ///
+    /// Asks that the block stands. Errors: want of memory. The tree is as it was in any case.
+    /// Cost: the number of arguments, and constant where there is an index already.
+    pub fn index_arguments(ctx: &mut Context, block: Ptr<BasicBlock>) -> Result<(), NoMemory>
+        requires { IsBlock ctx.old.tree block }
+        ensures { ctx.new ≡ ctx.old }
+    {
+        let _ = block;
+        let _ = &mut ctx.arguments;
+        Ok(())
+    }
+
+    /// The index of the arguments goes, if there is one: reads cost a constant again. Takes no memory.
+    ///
+    /// Asks that the block stands. The tree is as it was. Cost: the number of arguments when the index was
+    /// made, and constant where there is none.
+    pub fn settle_arguments(ctx: &mut Context, block: Ptr<BasicBlock>)
+        requires { IsBlock ctx.old.tree block }
+        ensures { ctx.new ≡ ctx.old }
+    {
+        let _ = block;
+        let _ = &mut ctx.arguments;
+    }
+
     /// An argument that has no use goes. The later ones stay the same values, each with the index
     /// before.
     ///
