@@ -6,7 +6,8 @@
                                      loops, star, isolated
   shapes.py list                     the names of the shapes, but those that bench alone can write:
                                      boxed, fiftyboxes, boxes, deepboxes, boxargs,
-                                     boxconsts, boxuses, boxuseslast, shortedges, scopeargs
+                                     boxconsts, boxuses, boxuseslast, shortedges, scopeargs,
+                                     twoedges, forks
 
 One program is built and printed in three notations, so that all optimisers see the same control flow: in
 that of this repository, with the shortest names and no blanks; in LLVM's, where an argument of a block is
@@ -334,6 +335,23 @@ def shiftargs(n, rng):
     return [f]
 
 
+def farargs(n, rng):
+    """as shiftargs, but each argument moves to the other end, so that they go from both ends in turn, one at a time."""
+    f = Fn()
+    count = max(2, n // 3)
+    loop, end = f.block(count), f.block(0)
+    zero = f.const(f.entry, 0)
+    f.br(f.entry, loop, *[zero] * count)
+    ends = [i // 2 if i % 2 == 0 else count - 1 - i // 2 for i in range(count)]
+    vals = [zero] * count
+    for one, other in zip(ends, ends[1:]):
+        vals[one] = loop.args[other]
+    r = f.read(loop)
+    f.cbr(loop, r, loop, vals, end, [])
+    f.ret(end)
+    return [f]
+
+
 def alternating(n, rng):
     """two blocks of n/2 arguments; those of the second are freed from both ends in turn."""
     f = Fn(1)
@@ -478,7 +496,7 @@ SHAPES = {"chain": chain, "diamonds": diamonds, "merges": merges, "loops": loops
           "nest": nest, "brchain": brchain, "brchain_rev": brchain_rev,
           "unreach": unreach, "dead": dead, "deadring": deadring, "fan": fan,
           "manyargs": manyargs, "liveargs": liveargs,
-          "lateargs": lateargs, "shiftargs": shiftargs, "alternating": alternating,
+          "lateargs": lateargs, "shiftargs": shiftargs, "farargs": farargs, "alternating": alternating,
           "sumsink": sumsink, "sumbr": sumbr, "sumcbr": sumcbr, "shiftbr": shiftbr, "shiftcbr": shiftcbr, "turncbr": turncbr,
           "funcs": funcs, "mixed": mixed}
 
@@ -542,6 +560,26 @@ def shortedges(n):
     return f"func{{{entry}():ret;{last}({args}):ret;{edges}}}\n"
 
 
+def twoedges(n):
+    """A loop of n/3 arguments, each forwarded to the next one along both edges of one branch; not well formed in LLVM's notation."""
+    names = short_names()
+    one, first, condition = next(names), next(names), next(names)
+    args = [next(names) for _ in range(max(2, n // 3))]
+    edges = " ".join(f"y({','.join([head, *args[:-1]])})" for head in (first, one))
+    return f"func{{z():{one}=const 1;br y({','.join([one] * len(args))});y({','.join(args)}):{first}=read;{condition}=read;cbr {condition} {edges}}}\n"
+
+
+def forks(n):
+    """A block of n/4 arguments, to which n/4 operations go that are no branches."""
+    values, blocks = short_names(), short_names()
+    args = ",".join(next(values) for _ in range(max(1, n // 4)))
+    last, wide = next(blocks), next(blocks)
+    chain = [next(blocks) for _ in range(max(1, n // 4))]
+    x = next(values)
+    forks = ";".join(f"{block}():fork {x} {wide} {after}" for block, after in zip(chain, [*chain[1:], last]))
+    return f"func{{{next(blocks)}():{x}=read;br {chain[0]}();{forks};{wide}({args}):ret;{last}():ret}}\n"
+
+
 def scopeargs(n):
     """A scope that names n operands for its arguments, which a loop around it forwards to the next operand each; not well defined."""
     names = short_names()
@@ -557,7 +595,7 @@ def scopeargs(n):
 BENCH_ONLY = {"boxed": lambda n: boxed_sums(n, 1), "fiftyboxes": lambda n: boxed_sums(n, 50),
          "boxes": lambda n: boxes(n, 1), "deepboxes": lambda n: boxes(n, 50), "boxargs": boxargs,
          "boxconsts": boxconsts, "boxuses": lambda n: boxuses(n, False), "boxuseslast": lambda n: boxuses(n, True),
-         "shortedges": shortedges, "scopeargs": scopeargs}
+         "shortedges": shortedges, "scopeargs": scopeargs, "twoedges": twoedges, "forks": forks}
 
 
 def bench(fns, w):
