@@ -12,6 +12,8 @@ mod UserLemmas
 pub mod MoveLemmas
 pub mod TableLemmas
 pub mod GapLemmas
+pub mod MarkLemmas
+pub mod HoleLemmas
 pub mod RelocateLemmas
 pub mod LeaveLemmas
 pub mod MemberLemmas
