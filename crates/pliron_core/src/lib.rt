@@ -7,6 +7,7 @@
 mod arguments;
 mod attrs;
 mod context;
+mod counts;
 mod keys;
 mod laws;
 mod links;
