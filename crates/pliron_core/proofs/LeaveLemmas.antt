@@ -13,7 +13,7 @@ use Rattle.pliron_core.specs.declared.places.Holes.TheVariants.{OneGap}
 use Rattle.pliron_core.specs.Places.{at, put, cut, held, rank, marks, marks_in, no_target, no_gap, free_place, targets_in, uses_in, HasGap, IsLinked}
 use Rattle.pliron_core.specs.Holes.{gap_of, is_counted, HaveHoles}
 use Rattle.pliron_core.proofs.PlaceLemmas.{row-targets, target-real, uses-same}
-use Rattle.pliron_core.proofs.MarkLemmas.{row-marks, marks-same, marks-freed, rank-marks, gap-marks, rank-take}
+use Rattle.pliron_core.proofs.MarkLemmas.{row-marks, marks-same, marks-freed, rank-alike, gap-marks, rank-take}
 use Rattle.pliron_core.proofs.HoleLemmas.{has-gap, holes-put, holes-marked, row-marked}
 use Rattle.pliron_core.proofs.TableLemmas.{set-same, set-other, at-within, put-here, put-other, put-cases, cut-cases, cut-kept, put-length, take-within, take-below}
 use Rattle.pliron_core.proofs.GapLemmas.{same, slice-some, held-same, held-freed, held-take, held-length, behind-index, held-at}
@@ -128,7 +128,7 @@ module _ (rows : List (List Place)) (lists : List (List Use)) (user place target
   left-marks = map-set marks rows1 user _ ∙ ap (λ z. set z user (marks (set (get_or rows1 user []) place free_place))) marks1 ∙ ap (set (marks_in rows) user) (marks-freed (get_or rows1 user []) place ∙ ap (λ l. set l place 0) row-marks1)
 
   ranked : rank (get_or rows1 user []) place ≡ rank (get_or rows user []) place
-  ranked = rank-marks (get_or rows user []) (get_or rows1 user []) place row-marks1
+  ranked = rank-alike (get_or rows user []) (get_or rows1 user []) place row-marks1
 
   taken1 : stands1.0.target ≢ no_target
   taken1 f = real (sym stands1.2 ∙ f)

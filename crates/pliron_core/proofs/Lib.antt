@@ -12,6 +12,8 @@ mod UserLemmas
 pub mod MoveLemmas
 pub mod TableLemmas
 pub mod GapLemmas
+pub mod CountLemmas
+pub mod LevelLemmas
 pub mod MarkLemmas
 pub mod HoleLemmas
 pub mod RelocateLemmas

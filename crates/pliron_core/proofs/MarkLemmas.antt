@@ -10,22 +10,17 @@ use Rattle.std.proofs.Math.ListN.{get_or-map}
 use Rattle.pliron_core.specs.declared.places.Place.{Place}
 use Rattle.pliron_core.specs.declared.places.Gap.{Gap}
 use Rattle.pliron_core.specs.Places.{no_target, mark_of, marks, marks_in, held, rank, free_place, HasGap}
+use Rattle.pliron_core.proofs.CountLemmas.{mark-free, mark-taken, rank-marks, marks-set, marked-there}
 use Rattle.pliron_core.proofs.GapLemmas.{same, rank-free, rank-taken, rank-all, slice-some, held-at}
 
-pub mark-free : (p : Place) → p.target ≡ no_target → mark_of p ≡ 0
-mark-free p e = rw (eq-eqb p.target no_target e) refl
-
-pub mark-taken : (p : Place) → p.target ≢ no_target → mark_of p ≡ 1
-mark-taken p ne = rw (ne_eqb p.target no_target ne) refl
-
-pub free-marked : (p : Place) → mark_of p ≡ 0 → p.target ≡ no_target
-free-marked p e = elim (cases_eq p.target no_target) [
+pub free-zero : (p : Place) → mark_of p ≡ 0 → p.target ≡ no_target
+free-zero p e = elim (cases_eq p.target no_target) [
   | inl h ↦ h
   | inr h ↦ let f : 1 ≡ 0 = sym (mark-taken p h) ∙ e in absurd (omega (arith, f))
 ]
 
-pub taken-marked : (p : Place) → mark_of p ≡ 1 → p.target ≢ no_target
-taken-marked p e f = let g : 0 ≡ 1 = sym (mark-free p f) ∙ e in omega (arith, g)
+pub taken-one : (p : Place) → mark_of p ≡ 1 → p.target ≢ no_target
+taken-one p e f = let g : 0 ≡ 1 = sym (mark-free p f) ∙ e in omega (arith, g)
 
 pub mark-names : (p q : Place) → p.target ≡ q.target → mark_of p ≡ mark_of q
 mark-names p q e = elim (cases_eq q.target no_target) [
@@ -45,7 +40,7 @@ marks-same (x ∷ xs) zero p q e t =
 marks-same (x ∷ xs) (suc n) p q e t = ap (λ l. mark_of x ∷ l) (marks-same xs n p q e t)
 
 pub marks-freed : (row : List Place) (n : ℕ) → marks (set row n free_place) ≡ set (marks row) n 0
-marks-freed row n = map-set mark_of row n free_place
+marks-freed row n = marks-set row n free_place
 
 -- what stands in a row with the same marks
 pub was-marked : (row row' : List Place) → marks row' ≡ marks row → (n : ℕ) (x : Place) → slice_get row' n ≡ Some x → (y : Place) × (slice_get row n ≡ Some y) × (mark_of y ≡ mark_of x)
@@ -60,39 +55,20 @@ was-marked (y ∷ ys) (x ∷ xs) e (suc n) z f = let rest : marks xs ≡ marks y
 pub gap-marks : (row row' : List Place) (gap : Gap) → marks row' ≡ marks row → HasGap row gap → HasGap row' gap
 gap-marks row row' gap e has = record {
   fits = omega (arith, has.fits, ap length e, length-map row mark_of, length-map row' mark_of);
-  free = λ n p f a b. let w = was-marked row row' e n p f in free-marked p (sym w.2 ∙ mark-free w.0 (has.free n w.0 w.1 a b));
-  before = λ n p f a. let w = was-marked row row' e n p f in taken-marked p (sym w.2 ∙ mark-taken w.0 (has.before n w.0 w.1 a));
-  behind = λ n p f a. let w = was-marked row row' e n p f in taken-marked p (sym w.2 ∙ mark-taken w.0 (has.behind n w.0 w.1 a));
+  free = λ n p f a b. let w = was-marked row row' e n p f in free-zero p (sym w.2 ∙ mark-free w.0 (has.free n w.0 w.1 a b));
+  before = λ n p f a. let w = was-marked row row' e n p f in taken-one p (sym w.2 ∙ mark-taken w.0 (has.before n w.0 w.1 a));
+  behind = λ n p f a. let w = was-marked row row' e n p f in taken-one p (sym w.2 ∙ mark-taken w.0 (has.behind n w.0 w.1 a));
 }
-
--- what marks say of a row: how many are taken before a place, and in all
-pub rank-sum : (row : List Place) (n : ℕ) → rank row n ≡ sum (take n (marks row))
-rank-sum [] zero = refl
-rank-sum [] (suc n) = refl
-rank-sum (p ∷ ps) zero = refl
-rank-sum (p ∷ ps) (suc n) =
-    let rest = rank-sum ps n in
-    let next = sum_by-cons (λ z. z) (mark_of p) (take n (marks ps)) in
-    elim (cases_eq p.target no_target) [
-      | inl h ↦ rank-free p ps n h ∙ omega (arith, rest, next, mark-free p h)
-      | inr h ↦ rank-taken p ps n h ∙ omega (arith, rest, next, mark-taken p h)
-    ]
-
-pub held-sum : (row : List Place) → length (held row) ≡ sum (marks row)
-held-sum row = sym (rank-all row) ∙ rank-sum row (length row) ∙ ap sum (take_all (length row) (marks row) (omega (arith, length-map row mark_of)))
 
 -- a place that counts find
 pub mark-within : (row : List Place) (counts : List ℕ) (place m : ℕ) → marks row ≡ counts → slice_get counts place ≡ Some m → place < length row
 mark-within row counts place m e one = omega (arith, slice_get_within counts place m one, ap length e, length-map row mark_of)
 
 pub mark-place : (row : List Place) (counts : List ℕ) (place : ℕ) → marks row ≡ counts → slice_get counts place ≡ Some 1 → (p : Place) × (slice_get row place ≡ Some p) × (p.target ≢ no_target)
-mark-place row counts place e one =
-    let s = slice-some row place (mark-within row counts place 1 e one) in
-    let m : slice_get (marks row) place ≡ Some (mark_of s.0) = slice_get-map mark_of row place ∙ ap (option_map mark_of) s.1 in
-    (s.0, s.1, taken-marked s.0 (same (sym m ∙ ap (λ l. slice_get l place) e ∙ one)))
+mark-place row counts place e one = marked-there row place (ap (λ l. slice_get l place) e ∙ one)
 
 pub rank-counts : (row : List Place) (counts : List ℕ) (place i : ℕ) → marks row ≡ counts → sum (take place counts) ≡ i → rank row place ≡ i
-rank-counts row counts place i e before = rank-sum row place ∙ ap (λ l. sum (take place l)) e ∙ before
+rank-counts row counts place i e before = rank-marks row place ∙ ap (λ l. sum (take place l)) e ∙ before
 
 pub mark-target : (row : List Place) (counts : List ℕ) (place i : ℕ) (p : Place) → marks row ≡ counts → slice_get counts place ≡ Some 1 → sum (take place counts) ≡ i → slice_get row place ≡ Some p → slice_get (held row) i ≡ Some p.target
 mark-target row counts place i p e one before here =
@@ -111,15 +87,15 @@ rank-take row zero (suc m) h = absurd (omega (arith, h))
 rank-take [] (suc n) (suc m) h = refl
 rank-take (p ∷ ps) (suc n) (suc m) h = rw (rank-take ps n m (omega (arith, h))) refl
 
-pub rank-marks : (row row' : List Place) (n : ℕ) → marks row' ≡ marks row → rank row' n ≡ rank row n
-rank-marks [] [] n e = refl
-rank-marks [] (x ∷ xs) n e = absurd (cc)
-rank-marks (y ∷ ys) [] n e = absurd (cc)
-rank-marks (y ∷ ys) (x ∷ xs) zero e = refl
-rank-marks (y ∷ ys) (x ∷ xs) (suc n) e =
+pub rank-alike : (row row' : List Place) (n : ℕ) → marks row' ≡ marks row → rank row' n ≡ rank row n
+rank-alike [] [] n e = refl
+rank-alike [] (x ∷ xs) n e = absurd (cc)
+rank-alike (y ∷ ys) [] n e = absurd (cc)
+rank-alike (y ∷ ys) (x ∷ xs) zero e = refl
+rank-alike (y ∷ ys) (x ∷ xs) (suc n) e =
     let marked : mark_of x ≡ mark_of y = cc in
     let rest : marks xs ≡ marks ys = cc in
     elim (cases_eq y.target no_target) [
-      | inl h ↦ rank-free x xs n (free-marked x (marked ∙ mark-free y h)) ∙ rank-marks ys xs n rest ∙ sym (rank-free y ys n h)
-      | inr h ↦ rank-taken x xs n (taken-marked x (marked ∙ mark-taken y h)) ∙ ap suc (rank-marks ys xs n rest) ∙ sym (rank-taken y ys n h)
+      | inl h ↦ rank-free x xs n (free-zero x (marked ∙ mark-free y h)) ∙ rank-alike ys xs n rest ∙ sym (rank-free y ys n h)
+      | inr h ↦ rank-taken x xs n (taken-one x (marked ∙ mark-taken y h)) ∙ ap suc (rank-alike ys xs n rest) ∙ sym (rank-taken y ys n h)
     ]

@@ -16,7 +16,7 @@ use Rattle.pliron_core.specs.Places.{at, held, mark_of, marks, marks_in, no_targ
 use Rattle.pliron_core.specs.Holes.{HaveHoles}
 use Rattle.pliron_core.proofs.PlaceLemmas.{at-map}
 use Rattle.pliron_core.proofs.GapLemmas.{held-free, held-taken}
-use Rattle.pliron_core.proofs.MarkLemmas.{mark-free, mark-taken}
+use Rattle.pliron_core.proofs.CountLemmas.{mark-free, mark-taken}
 use Rattle.pliron_core.proofs.HoleLemmas.{holes-same}
 use Rattle.pliron_core.proofs.TableLemmas.{set-same, set-other, at-within, at-same, at-other}
 

@@ -8,6 +8,7 @@ mod arguments;
 mod attrs;
 mod context;
 mod counted;
+mod counts;
 mod keys;
 mod laws;
 mod links;

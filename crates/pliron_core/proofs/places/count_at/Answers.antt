@@ -3,7 +3,7 @@ use Rattle.std.specs.List.{sum}
 use Rattle.std.proofs.lemmas.List.{get_or_default}
 use Rattle.pliron_core.specs.Places.{held, marks, HasGap}
 use Rattle.pliron_core.proofs.GapLemmas.{held-length}
-use Rattle.pliron_core.proofs.MarkLemmas.{held-sum}
+use Rattle.pliron_core.proofs.CountLemmas.{held-marks}
 use Rattle.pliron_core.proofs.HoleLemmas.{hole-read}
 use Rattle.pliron_core.proofs.places.count_at.Goals as goal
 
@@ -29,4 +29,4 @@ pub returns-in-Counted : goal.returns-in-Counted
 returns-in-Counted c =
     let r = c.requires in
     let marked : marks (get_or c.args.places.now.items c.args.user []) ≡ c.in-Counted.counts.value = hole-read _ _ _ _ _ c.index.ensures c.in-Counted.is r.user r.holes in
-    c.total.ensures ∙ ap sum (c.deref.ensures ∙ sym marked) ∙ sym (held-sum (get_or c.args.places.now.items c.args.user []))
+    c.total.ensures ∙ ap sum (c.deref.ensures ∙ sym marked) ∙ sym (held-marks (get_or c.args.places.now.items c.args.user []))
