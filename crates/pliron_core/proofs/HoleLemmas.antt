@@ -1,12 +1,14 @@
 -- Lemmas on where the free places of each user are.
-use Rattle.std.proofs.Common.{◌≡◌, ◌≢◌, ◌⊎◌, ℕ, ◌<◌, ◌≤◌, true, false, List, [], ◌∷◌, ◌++◌, length, get_or, set, refl, sym, ap, ◌∙◌, subst, inl, inr, arith, length-append}
+use Rattle.std.proofs.Common.{◌≡◌, ◌≢◌, ◌⊎◌, ℕ, ◌-◌, ◌<◌, ◌≤◌, true, false, List, [], ◌∷◌, ◌++◌, length, get_or, set, Some, refl, sym, ap, ◌∙◌, subst, inl, inr, arith, length-append}
+use Rattle.std.specs.List.{slice_get}
 use Rattle.std.proofs.lemmas.Bool.{cases_eq}
+use Rattle.std.proofs.lemmas.Option.{slice_get_within}
 use Rattle.std.proofs.lemmas.List.{get_or-set_same, get_or-set_other, get_or_default, set-get_or, length-map, length-set}
 use Rattle.pliron_core.specs.declared.places.Place.{Place}
 use Rattle.pliron_core.specs.declared.places.Gap.{Gap}
 use Rattle.pliron_core.specs.declared.places.Holes.{Holes}
 use Rattle.pliron_core.specs.declared.places.Holes.TheVariants.{OneGap, Counted}
-use Rattle.pliron_core.specs.Places.{marks, marks_in, no_gap, HasGap}
+use Rattle.pliron_core.specs.Places.{marks, marks_in, no_gap, no_target, HasGap}
 use Rattle.pliron_core.specs.Holes.{Tracks, hole_of, gap_in, counted_in, counts_in, gap_of, is_counted, counts_of, HaveHoles}
 use Rattle.pliron_core.proofs.MarkLemmas.{row-marks, gap-marks}
 
@@ -90,3 +92,26 @@ holes-taken rows rows' holes holes' user place within is was counted long less o
     | inr ne ↦ rw (others u ne) (tracks-marks (get_or rows u []) (get_or rows' u []) (hole_of holes u) (sym (row-marks rows' u) ∙ ap (λ m. get_or m u []) e ∙ get_or-set_other (marks_in rows) user u _ [] ne ∙ row-marks rows u) (is.each u))
   ];
 }
+
+-- a row whose taken places stand first
+pub gap-first : (row : List Place) (start len : ℕ) → start ≤ length row → len ≡ length row - start → ((n : ℕ) (p : Place) → slice_get row n ≡ Some p → n < start → p.target ≢ no_target) → ((n : ℕ) (p : Place) → slice_get row n ≡ Some p → start ≤ n → p.target ≡ no_target)
+    → HasGap row (record { start = start; len = len })
+gap-first row start len within long first free = record {
+  fits = omega (arith, within, long);
+  free = λ n p e a b. free n p e a;
+  before = first;
+  behind = λ n p e a. absurd (let w = slice_get_within row n p e in omega (arith, w, a, within, long));
+}
+
+-- another row for one user, and the other rows as they were
+pub holes-other : (rows rows' : List (List Place)) (holes : List Holes) (user : ℕ) (hole : Holes) → user < length rows → length rows' ≡ length rows → ((u : ℕ) → u ≢ user → get_or rows' u [] ≡ get_or rows u []) → Tracks (get_or rows' user []) hole → HaveHoles rows holes → HaveHoles rows' (set holes user hole)
+holes-other rows rows' holes user hole within long others one is = record {
+  count = length-set holes user hole ∙ is.count ∙ sym long;
+  each = λ u. elim (cases_eq u user) [
+    | inl e ↦ rw (e, get_or-set_same holes user hole (OneGap no_gap) (omega (arith, within, is.count))) one
+    | inr ne ↦ rw (others u ne, get_or-set_other holes user u hole (OneGap no_gap) ne) (is.each u)
+  ];
+}
+
+pub hole-written : (holes : List Holes) (user : ℕ) (hole : Holes) → user < length holes → hole_of (set holes user hole) user ≡ hole
+hole-written holes user hole within = get_or-set_same holes user hole (OneGap no_gap) within

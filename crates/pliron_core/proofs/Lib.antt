@@ -18,6 +18,7 @@ pub mod MarkLemmas
 pub mod HoleLemmas
 pub mod RelocateLemmas
 pub mod LeaveLemmas
+pub mod SettleLemmas
 pub mod MemberLemmas
 pub mod RemovalLemmas
 pub mod CarryLemmas

@@ -177,6 +177,9 @@ uses-user rows lists = map-same (map (ranked_use (rows ++ [] ∷ []))) (map (ran
 pub same-table : {t t' : List (List ℕ)} {u u' : List (List Use)} {m m' n : ℕ} → t ≡ t' → u ≡ u' → m ≡ m' → (let x : Table = record { targets = t; uses = u; user_room = m; target_room = n } in x) ≡ record { targets = t'; uses = u'; user_room = m'; target_room = n }
 same-table e f g = rw (e, f, g) refl
 
+pub whole-table : {t t' : List (List ℕ)} {u u' : List (List Use)} {m m' n n' : ℕ} → t ≡ t' → u ≡ u' → m ≡ m' → n ≡ n' → (let x : Table = record { targets = t; uses = u; user_room = m; target_room = n } in x) ≡ record { targets = t'; uses = u'; user_room = m'; target_room = n' }
+whole-table e f g h = rw (e, f, g, h) refl
+
 -- what a list of uses that was read says, and how the use is seen
 pub use-there : (lists : List (List Use)) (target i : ℕ) (read : List Use) (u : Use) → target < length lists → read ≡ get_or lists target read → slice_get read i ≡ Some u → at lists target i ≡ Some u
 use-there lists target i read u h e there = ap (λ l. slice_get l i) (sym (e ∙ get_or_default lists target read [] h)) ∙ there

@@ -169,6 +169,29 @@ impl Arguments {
         Ok(())
     }
 
+    /// The arguments of a block are counted from now on, if there are many, so that ones far from one another
+    /// go quickly.
+    ///
+    /// Asks that there is such a block. Errors: want of memory. Nothing that contracts see changes.
+    /// Cost: the number of its arguments.
+    pub fn index(&mut self, alloc: Global, block: Ptr<BasicBlock>) -> Result<(), AllocError>
+        requires { block < length self.old.rows }
+        ensures { self.new ≡ self.old }
+    {
+        self.lists.index(alloc, block.index())
+    }
+
+    /// The arguments of a block are not counted from now on: reads are constant again.
+    ///
+    /// Asks that there is such a block. Takes no memory. Nothing that contracts see changes. Cost: the number
+    /// of its arguments when they were counted, and constant where they are not.
+    pub fn settle(&mut self, block: Ptr<BasicBlock>)
+        requires { block < length self.old.rows }
+        ensures { self.new ≡ self.old }
+    {
+        self.lists.settle(block.index());
+    }
+
     /// The argument of a block at an index goes. Each later one has the index before.
     ///
     /// Asks that there are such a block and such an argument. Takes no memory. Cost: the number of arguments

@@ -5,6 +5,7 @@ ghost use Rattle.pliron_core.specs.declared.places.Place.{Place as PlaceOf};
 ghost use Rattle.pliron_core.specs.Places.{at, held, rank, marks, targets_in, uses_in, no_target, IsLinked};
 ghost use Rattle.pliron_core.specs.Holes.{hole_of, counts_of, is_counted, HaveHoles, AreLinked, KeepRooms};
 
+use crate::compact::move_down;
 use crate::counts::{Counts, marks_of};
 use crate::places::{Gap, Holes, Place, are_counted, close_gap, vacate};
 use crate::row::Row;
@@ -78,4 +79,46 @@ pub(super) fn take_counted(
 {
     let place = free_counted(holes, user, i);
     vacate(places, uses, user, place)
+}
+
+// The places of a user are not counted from now on, and none of them is free if they were. Takes no memory.
+#[inline(always)]
+pub(super) fn settle_places(
+    places: &mut Vec<Row<Place>>,
+    holes: &mut Vec<Holes>,
+    uses: &mut Vec<Row<Use>>,
+    user: usize,
+)
+    requires linked { AreLinked places.old.items holes.old.items uses.old.items }
+    requires user { user < length holes.old.items }
+    ensures linked { AreLinked places.new.items holes.new.items uses.new.items }
+    ensures gapped { is_counted holes.new.items user ≡ false }
+    ensures targets { targets_in places.new.items ≡ targets_in places.old.items }
+    ensures uses { uses_in places.new.items uses.new.items ≡ uses_in places.old.items uses.old.items }
+    ensures rooms { KeepRooms places.old places.new holes.old holes.new uses.old uses.new }
+{
+    if are_counted(holes, user) {
+        settle_counted(places, holes, uses, user);
+    }
+}
+
+// The taken places of a user come together at the front, and the others go: it has no gap.
+fn settle_counted(
+    places: &mut Vec<Row<Place>>,
+    holes: &mut Vec<Holes>,
+    uses: &mut Vec<Row<Use>>,
+    user: usize,
+)
+    requires linked { AreLinked places.old.items holes.old.items uses.old.items }
+    requires user { user < length holes.old.items }
+    ensures linked { AreLinked places.new.items holes.new.items uses.new.items }
+    ensures gapped { is_counted holes.new.items user ≡ false }
+    ensures targets { targets_in places.new.items ≡ targets_in places.old.items }
+    ensures uses { uses_in places.new.items uses.new.items ≡ uses_in places.old.items uses.old.items }
+    ensures rooms { KeepRooms places.old places.new holes.old holes.new uses.old uses.new }
+{
+    let start = move_down(places, uses, user);
+    let len = places[user].len() - start;
+    holes[user] = Holes::OneGap(Gap { start, len });
+    close_gap(places, holes, user);
 }

@@ -350,6 +350,7 @@ pub(super) fn close_gap(places: &mut Vec<Row<Place>>, holes: &mut Vec<Holes>, us
     requires end { (gap_of holes.old.items user).start ≡ length (held (slice_index_or places.old.items user [])) }
     ensures places { places.new.items ≡ slice_set places.old.items user (take (gap_of holes.old.items user).start (slice_index_or places.old.items user [])) }
     ensures holes { HaveHoles places.new.items holes.new.items }
+    ensures gapped { is_counted holes.new.items user ≡ false }
     ensures rooms { (vec_len places.new ≡ vec_len places.old) × (vec_capacity places.new ≡ vec_capacity places.old) × (vec_len holes.new ≡
         vec_len holes.old) × (vec_capacity holes.new ≡ vec_capacity holes.old) }
 {

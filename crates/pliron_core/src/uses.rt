@@ -8,7 +8,7 @@ ghost use Rattle.std.specs.Option.{option_map};
 ghost use Rattle.pliron_core.specs.Places.{at, put, held, rank, shifted, targets_in, no_target, free_place, HasGap, IsLinked, places_from, uses_by};
 ghost use Rattle.pliron_core.specs.Holes.{gap_of, HaveHoles, AreLinked, KeepRooms};
 
-use crate::counted::{count_places, take_counted};
+use crate::counted::{count_places, settle_places, take_counted};
 use crate::places::{
     Holes, NO_GAP, Place, are_counted, count_at, new_places, open_gap, rank_at, retarget, settle_gap, target_at,
     widen_gap,
@@ -214,6 +214,7 @@ impl Uses {
         ensures rooms { (self.new.user_room ≡ self.old.user_room) × (self.new.target_room ≡ self.old.target_room) }
         ensures err { OnErr result (self.new ≡ self.old) }
     {
+        settle_places(&mut self.places, &mut self.holes, &mut self.uses, user);
         let at = self.uses[target].len();
         let place = self.places[user].len();
         self.uses[target].push(Use { user, place })?;
@@ -267,6 +268,29 @@ impl Uses {
         self.uses.swap(old, new);
         let _ = self.uses[new].len();
         retarget(&mut self.places, &self.uses[new], old, new, 0);
+    }
+
+    /// The places of a user are counted from now on, if it has many, so that targets far from one another go
+    /// quickly.
+    ///
+    /// Asks that there is such a user. Errors: want of memory. Nothing that contracts see changes.
+    /// Cost: the number of its places.
+    pub fn index(&mut self, alloc: Global, user: usize) -> Result<(), AllocError>
+        requires { user < length self.old.targets }
+        ensures { self.new ≡ self.old }
+    {
+        count_places(alloc, &self.places, &mut self.holes, user)
+    }
+
+    /// The places of a user are not counted from now on: reads are constant again.
+    ///
+    /// Asks that there is such a user. Takes no memory. Nothing that contracts see changes. Cost: the number of
+    /// its places when they were counted, and constant where they are not.
+    pub fn settle(&mut self, user: usize)
+        requires { user < length self.old.targets }
+        ensures { self.new ≡ self.old }
+    {
+        settle_places(&mut self.places, &mut self.holes, &mut self.uses, user);
     }
 
     /// The target at a place goes, and is the answer. The later ones move down by one place.

@@ -69,8 +69,8 @@ impl Operation {
         requires { IsLive ctx.old.tree op }
         ensures { ctx.new ≡ ctx.old }
     {
-        let _ = op;
-        let _ = &mut ctx.operands;
+        let alloc = ctx.alloc;
+        ctx.operands.index(alloc, op.index())?;
         Ok(())
     }
 
@@ -82,8 +82,7 @@ impl Operation {
         requires { IsLive ctx.old.tree op }
         ensures { ctx.new ≡ ctx.old }
     {
-        let _ = op;
-        let _ = &mut ctx.operands;
+        ctx.operands.settle(op.index());
     }
 
     /// The attribute at this index is replaced.
@@ -135,8 +134,8 @@ impl BasicBlock {
         requires { IsBlock ctx.old.tree block }
         ensures { ctx.new ≡ ctx.old }
     {
-        let _ = block;
-        let _ = &mut ctx.arguments;
+        let alloc = ctx.alloc;
+        ctx.arguments.index(alloc, block)?;
         Ok(())
     }
 
@@ -148,8 +147,7 @@ impl BasicBlock {
         requires { IsBlock ctx.old.tree block }
         ensures { ctx.new ≡ ctx.old }
     {
-        let _ = block;
-        let _ = &mut ctx.arguments;
+        ctx.arguments.settle(block);
     }
 
     /// An argument that has no use goes. The later ones stay the same values, each with the index
