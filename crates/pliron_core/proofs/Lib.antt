@@ -15,6 +15,7 @@ pub mod GapLemmas
 pub mod CountLemmas
 pub mod LevelLemmas
 pub mod RelocateLemmas
+pub mod CompactLemmas
 pub mod LeaveLemmas
 pub mod MemberLemmas
 pub mod RemovalLemmas
