@@ -6,6 +6,7 @@
 
 mod arguments;
 mod attrs;
+mod compact;
 mod context;
 mod counted;
 mod counts;
