@@ -1,11 +1,10 @@
 -- Lemmas on where the free places of each user are.
-use Rattle.std.proofs.Common.{◌≡◌, ◌≢◌, ◌⊎◌, ℕ, ◌-◌, ◌<◌, ◌≤◌, true, false, List, [], ◌∷◌, ◌++◌, length, get_or, set, Some, refl, sym, ap, ◌∙◌, subst, inl, inr, arith, length-append}
+use Rattle.std.proofs.Common.{◌≡◌, ◌≢◌, ℕ, ◌-◌, ◌<◌, ◌≤◌, true, false, List, [], length, get_or, set, Some, refl, sym, ap, ◌∙◌, subst, inl, inr, arith}
 use Rattle.std.specs.List.{slice_get}
 use Rattle.std.proofs.lemmas.Bool.{cases_eq}
 use Rattle.std.proofs.lemmas.Option.{slice_get_within}
 use Rattle.std.proofs.lemmas.List.{get_or-set_same, get_or-set_other, get_or_default, set-get_or, length-map, length-set}
 use Rattle.pliron_core.specs.declared.places.Place.{Place}
-use Rattle.pliron_core.specs.declared.places.Gap.{Gap}
 use Rattle.pliron_core.specs.declared.places.Holes.{Holes}
 use Rattle.pliron_core.specs.declared.places.Holes.TheVariants.{OneGap, Counted}
 use Rattle.pliron_core.specs.Places.{marks, marks_in, no_gap, no_target, HasGap}

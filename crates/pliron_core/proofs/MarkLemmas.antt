@@ -1,17 +1,15 @@
 -- Lemmas on which places of a row are taken, by their marks.
-use Rattle.std.proofs.Common.{◌≡◌, ◌≢◌, ℕ, zero, suc, ◌<◌, ◌≤◌, List, [], ◌∷◌, length, map, take, get_or, set, Some, refl, sym, ap, ◌∙◌, subst, inl, inr, arith}
+use Rattle.std.proofs.Common.{◌≡◌, ◌≢◌, ℕ, zero, suc, ◌<◌, ◌≤◌, List, [], ◌∷◌, length, take, get_or, set, Some, refl, sym, ap, ◌∙◌, inl, inr, arith}
 use Rattle.std.specs.List.{slice_get, sum}
-use Rattle.std.specs.Option.{option_map}
-use Rattle.std.proofs.lemmas.List.Sums.{sum_by-cons}
-use Rattle.std.proofs.lemmas.Option.{slice_get_within, slice_get-map}
-use Rattle.std.proofs.lemmas.Bool.{cases_eq, eq-eqb, ne_eqb}
-use Rattle.std.proofs.lemmas.List.{map-set, length-map, take_all}
+use Rattle.std.proofs.lemmas.Option.{slice_get_within}
+use Rattle.std.proofs.lemmas.Bool.{cases_eq}
+use Rattle.std.proofs.lemmas.List.{length-map}
 use Rattle.std.proofs.Math.ListN.{get_or-map}
 use Rattle.pliron_core.specs.declared.places.Place.{Place}
 use Rattle.pliron_core.specs.declared.places.Gap.{Gap}
 use Rattle.pliron_core.specs.Places.{no_target, mark_of, marks, marks_in, held, rank, free_place, HasGap}
 use Rattle.pliron_core.proofs.CountLemmas.{mark-free, mark-taken, rank-marks, marks-set, marked-there}
-use Rattle.pliron_core.proofs.GapLemmas.{same, rank-free, rank-taken, rank-all, slice-some, held-at}
+use Rattle.pliron_core.proofs.GapLemmas.{same, rank-free, rank-taken, held-at}
 
 pub free-zero : (p : Place) → mark_of p ≡ 0 → p.target ≡ no_target
 free-zero p e = elim (cases_eq p.target no_target) [

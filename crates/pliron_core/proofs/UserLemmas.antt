@@ -6,7 +6,6 @@ use Rattle.std.proofs.lemmas.List.FromFn.{get_or-map-range_with_len, length-map-
 use Rattle.std.proofs.lemmas.Option.{slice_get-get_or}
 use Rattle.pliron_core.specs.declared.uses.Use.{Use}
 use Rattle.pliron_core.specs.declared.places.Place.{Place}
-use Rattle.pliron_core.specs.declared.places.Gap.{Gap}
 use Rattle.pliron_core.specs.declared.places.Holes.{Holes}
 use Rattle.pliron_core.specs.declared.places.Holes.TheVariants.{OneGap}
 use Rattle.pliron_core.specs.Places.{at, held, no_target, no_gap, targets_in, places_from, uses_by, HasGap, IsLinked}

@@ -1,8 +1,7 @@
 //! Users whose places are counted: long rows that lose targets far from one another.
 
 ghost use Rattle.std.specs.Prelude.{◌≡◌, ◌≢◌, ℕ, true, false, [], ◌<◌, length, sum, take, slice_set, slice_index_or, slice_get, Some, remove, vec_len, vec_capacity};
-ghost use Rattle.pliron_core.specs.declared.places.Place.{Place as PlaceOf};
-ghost use Rattle.pliron_core.specs.Places.{at, held, rank, marks, targets_in, uses_in, no_target, IsLinked};
+ghost use Rattle.pliron_core.specs.Places.{held, targets_in, uses_in};
 ghost use Rattle.pliron_core.specs.Holes.{hole_of, counts_of, is_counted, HaveHoles, AreLinked, KeepRooms};
 
 use crate::compact::move_down;

@@ -1,6 +1,6 @@
 //! The places of each user, with a gap where targets went, and how they move.
 
-ghost use Rattle.std.specs.Prelude.{◌≡◌, ◌≢◌, ℕ, false, ◌+◌, ◌-◌, ◌^◌, ◌<◌, ◌≤◌, [], ◌∷◌, ◌++◌, length, map, slice_set, vec_capacity, vec_len, slice_get, slice_index_or, Some, take, IfOk, OnOk, OnErr, remove, replicate};
+ghost use Rattle.std.specs.Prelude.{◌≡◌, ◌≢◌, ℕ, false, ◌+◌, ◌-◌, ◌^◌, ◌<◌, ◌≤◌, [], length, slice_set, vec_capacity, vec_len, slice_get, slice_index_or, Some, take, IfOk, remove};
 ghost use Rattle.pliron_core.specs.declared.uses.Use.{Use};
 ghost use Rattle.std.specs.Option.{option_map};
 ghost use Rattle.pliron_core.specs.declared.places.Place.{Place as PlaceOf};
@@ -225,7 +225,10 @@ pub(super) fn lower_gap(
 {
     let Gap { start, len } = gap_at(places, holes, user);
     relocate(places, uses, user, start - 1, start + len - 1);
-    holes[user] = Holes::OneGap(Gap { start: start - 1, len });
+    holes[user] = Holes::OneGap(Gap {
+        start: start - 1,
+        len,
+    });
 }
 
 // The gap of the user goes one place up: what stands behind it goes before it.
@@ -247,7 +250,10 @@ pub(super) fn raise_gap(
 {
     let Gap { start, len } = gap_at(places, holes, user);
     relocate(places, uses, user, start + len, start);
-    holes[user] = Holes::OneGap(Gap { start: start + 1, len });
+    holes[user] = Holes::OneGap(Gap {
+        start: start + 1,
+        len,
+    });
 }
 
 // The gap of the user goes to where its target `i` stands, or, where it has as many, to the end.

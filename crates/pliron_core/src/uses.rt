@@ -1,17 +1,14 @@
 //! Which targets each user names, in order, and where each target is used.
 
-ghost use Rattle.std.specs.Prelude.{◌≡◌, ◌≢◌, ℕ, ◌+◌, ◌-◌, ◌^◌, ◌<◌, ◌≤◌, [], ◌∷◌, ◌++◌, length, map, slice_set, vec_capacity, vec_len, slice_get, slice_index_or, Some, take, IfOk, OnOk, OnErr, IsOk, remove, replicate};
+ghost use Rattle.std.specs.Prelude.{◌≡◌, ◌≢◌, ◌+◌, ◌-◌, ◌<◌, ◌≤◌, [], ◌∷◌, ◌++◌, length, map, slice_set, vec_capacity, vec_len, slice_get, Some, OnOk, OnErr, IsOk, remove, replicate};
 ghost use Rattle.std.specs.List.{range_with_len};
-ghost use Rattle.pliron_core.specs.Uses.{Table, targets_of, table_uses, AreAgreed, replace_target};
-ghost use Rattle.pliron_core.specs.declared.uses.Use.{Use};
-ghost use Rattle.std.specs.Option.{option_map};
-ghost use Rattle.pliron_core.specs.Places.{at, put, held, rank, shifted, targets_in, no_target, free_place, HasGap, IsLinked, places_from, uses_by};
-ghost use Rattle.pliron_core.specs.Holes.{gap_of, HaveHoles, AreLinked, KeepRooms};
+ghost use Rattle.pliron_core.specs.Uses.{targets_of, table_uses, AreAgreed, replace_target};
+ghost use Rattle.pliron_core.specs.Places.{uses_by};
 
 use crate::counted::{count_places, settle_places, take_counted};
 use crate::places::{
-    Holes, NO_GAP, Place, are_counted, count_at, new_places, open_gap, rank_at, retarget, settle_gap, target_at,
-    widen_gap,
+    Holes, NO_GAP, Place, are_counted, count_at, new_places, open_gap, rank_at, retarget,
+    settle_gap, target_at, widen_gap,
 };
 use crate::row::{Row, entry, pop_entry, set_entry};
 use std::alloc::{AllocError, Global};
@@ -24,10 +21,15 @@ use std::mem;
 /// step. Here user 0 names the targets 5, 7 and 5, after it lost a target that stood second:
 ///
 /// ```text
-/// places[0]   0: 5 at 0   1: free   2: 7 at 0   3: 5 at 1     holes[0] = start 1, len 1
+/// places[0]   0: 5 at 0   1: free   2: 7 at 0   3: 5 at 1     holes[0] = one gap: start 1, len 1
 /// uses[5]     0: user 0, place 0    1: user 0, place 3        place 3 is index 2: behind the gap, 3 - 1
 /// uses[7]     0: user 0, place 2
 /// ```
+///
+/// A gap moves to where a target goes, over all places between. So a user that is about to lose many targets,
+/// far from one another, may have its places counted (`index`): the free ones then stay where they are, and
+/// counts tell, in a logarithm of the number of places, how many are taken before a place, and where the i-th
+/// taken one is. It ends by `settle`, or when the user gets one more target.
 #[derive(Drop)]
 pub struct Uses {
     places: Vec<Row<Place>>,
@@ -99,7 +101,7 @@ impl Uses {
     }
 
     /// The target at a place of a user. Asks that there are such a user and such a place (`num_targets` tests
-    /// it). Cost: constant.
+    /// it). Cost: constant, and a logarithm where its places are counted.
     #[inline(always)]
     pub fn target(&self, user: usize, place: usize) -> usize
         requires user { user < length self.now.targets }
@@ -119,7 +121,7 @@ impl Uses {
     }
 
     /// The use of a target at an index, in no given order. Asks that there is such a target, and that the
-    /// index is below `num_uses`. Cost: constant.
+    /// index is below `num_uses`. Cost: constant, and a logarithm where the places of the user are counted.
     #[inline(always)]
     pub fn get_use(&self, target: usize, i: usize) -> Use
         requires target { target < length self.now.uses }
@@ -204,7 +206,7 @@ impl Uses {
     /// The user gets one more target, at the end.
     ///
     /// Asks that there are such a user and such a target. Errors: want of memory, which leaves all as it was.
-    /// Cost: constant, amortised.
+    /// Cost: constant, amortised. Places that are counted are settled first.
     #[inline(always)]
     pub fn push(&mut self, user: usize, target: usize) -> Result<(), AllocError>
         requires user { user < length self.old.targets }
@@ -297,7 +299,7 @@ impl Uses {
     ///
     /// Asks that there are such a user and such a place. Takes no memory. Cost: the number of targets between
     /// it and the place where one was removed last, and constant for the first; amortised, a constant and at
-    /// most twice the number of targets after it.
+    /// most twice the number of targets after it. A logarithm where its places are counted.
     #[inline(always)]
     pub fn remove(&mut self, user: usize, place: usize) -> usize
         requires user { user < length self.old.targets }
@@ -329,7 +331,7 @@ impl Uses {
     }
 
     /// All targets of a user go. Asks that there is such a user. Takes no memory. Cost: the number of its
-    /// targets.
+    /// targets, each a logarithm where its places are counted.
     #[inline(always)]
     pub fn clear(&mut self, user: usize)
         requires { user < length self.old.targets }

@@ -11,7 +11,7 @@ impl Operation {
     /// One more operand, at the end.
     ///
     /// Asks that the operation and the value stand. Errors: want of memory, which changes nothing.
-    /// Cost: amortised constant.
+    /// Cost: amortised constant. An index of the operands goes first, as by `settle_operands`.
     #[inline(always)]
     pub fn push_operand(ctx: &mut Context, op: Ptr<Operation>, value: Value) -> Result<(), NoMemory>
         requires live { IsLive ctx.old.tree op }
@@ -48,7 +48,8 @@ impl Operation {
     ///
     /// Asks that the operation stands and has such an operand. Takes no memory.
     /// Cost: the number of operands between it and the place where the operation lost one last, and
-    /// constant for the first; amortised, a constant and at most twice the number of operands after it.
+    /// constant for the first; amortised, a constant and at most twice the number of operands after it. With an
+    /// index (`index_operands`) it is a logarithm.
     pub fn remove_operand(ctx: &mut Context, op: Ptr<Operation>, i: usize) -> Value
         requires live { IsLive ctx.old.tree op }
         requires index { i < length (operands_of ctx.old.tree op) }
@@ -155,7 +156,8 @@ impl BasicBlock {
     ///
     /// Asks that the block stands and has such an argument, and that no operation uses it. Takes no
     /// memory. Cost: the number of arguments between it and the place where the block lost one last, and
-    /// constant for the first; amortised, a constant and at most twice the number of arguments after it.
+    /// constant for the first; amortised, a constant and at most twice the number of arguments after it. With an
+    /// index (`index_arguments`) it is a logarithm.
     pub fn remove_argument(ctx: &mut Context, block: Ptr<BasicBlock>, i: usize)
         requires block { IsBlock ctx.old.tree block }
         requires index { i < length (arguments_of ctx.old.tree block) }

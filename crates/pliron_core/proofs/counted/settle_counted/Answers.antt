@@ -1,4 +1,4 @@
-use Rattle.std.proofs.Common.{◌≡◌, ◌<◌, ◌≤◌, ◌-◌, [], length, get_or, ap, ◌∙◌, rules, arith}
+use Rattle.std.proofs.Common.{◌≡◌, ◌<◌, ◌-◌, [], length, get_or, ap, ◌∙◌, rules, arith}
 use Rattle.std.proofs.lemmas.List.{get_or_default}
 use Rattle.pliron_core.specs.Places.{targets_in, uses_in}
 use Rattle.pliron_core.proofs.LeaveLemmas.{closed-linked, closed-targets, closed-uses}

@@ -1,7 +1,6 @@
 use Rattle.std.proofs.Common.{◌≡◌, ◌<◌, [], length, get_or, set, ap, sym, ◌∙◌, rules, arith}
 use Rattle.std.specs.List.{slice_get, remove, sum}
-use Rattle.pliron_core.specs.Places.{held, rank, marks, targets_in}
-use Rattle.pliron_core.specs.Holes.{counts_of}
+use Rattle.pliron_core.specs.Places.{held, targets_in}
 use Rattle.pliron_core.proofs.CountLemmas.{held-marks}
 use Rattle.pliron_core.proofs.MarkLemmas.{mark-place, rank-counts}
 use Rattle.pliron_core.proofs.HoleLemmas.{counted-marks, holes-taken}

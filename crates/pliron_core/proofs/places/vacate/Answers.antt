@@ -75,4 +75,3 @@ returns-clause-marks c =
     let long : c.len-end.result ≡ length (get_or c.args.uses.now.items c.entry-target.result.target []) = row-length c.args.uses.now.items c.entry-target.result.target _ _ (at-within _ _ _ _ there) c.index.ensures c.len-end.ensures in
     let end : at c.args.uses.now.items c.entry-target.result.target (length (get_or c.args.uses.now.items c.entry-target.result.target []) - 1) ≡ Some c.entry-moved.result = ap (λ n. at c.args.uses.now.items c.entry-target.result.target (n - 1)) (sym long) ∙ c.entry-moved.ensures in
     rw (c.set_entry-3.ensures.items, c.set_entry.ensures.items) (left-marks _ _ _ _ _ _ _ r.linked c.entry-target.ensures real end)
-

@@ -44,4 +44,3 @@ returns-clause-targets c =
     let r = c.requires in
     let rank = behind-rank c.args.places.now.items c.args.holes.now.items c.args.user c.gap_at-start.result c.gap_at-start.ensures.gap r.linked.holes r.gapped r.start in
     c.vacate-target.ensures.targets ∙ ap (λ n. set (targets_in c.args.places.now.items) c.args.user (remove (get_or (targets_in c.args.places.now.items) c.args.user []) n)) rank
-
