@@ -14,10 +14,10 @@ held-free p ps e = rw (eq-eqb p.target no_target e) refl
 pub held-taken : (p : Place) (ps : List Place) → p.target ≢ no_target → held (p ∷ ps) ≡ p.target ∷ held ps
 held-taken p ps ne = rw (ne_eqb p.target no_target ne) refl
 
-rank-free : (p : Place) (ps : List Place) (n : ℕ) → p.target ≡ no_target → rank (p ∷ ps) (suc n) ≡ rank ps n
+pub rank-free : (p : Place) (ps : List Place) (n : ℕ) → p.target ≡ no_target → rank (p ∷ ps) (suc n) ≡ rank ps n
 rank-free p ps n e = rw (eq-eqb p.target no_target e) refl
 
-rank-taken : (p : Place) (ps : List Place) (n : ℕ) → p.target ≢ no_target → rank (p ∷ ps) (suc n) ≡ suc (rank ps n)
+pub rank-taken : (p : Place) (ps : List Place) (n : ℕ) → p.target ≢ no_target → rank (p ∷ ps) (suc n) ≡ suc (rank ps n)
 rank-taken p ps n ne = rw (ne_eqb p.target no_target ne) refl
 
 pub same : {X : Type 0} {a b : X} → Some a ≡ Some b → a ≡ b

@@ -1,6 +1,6 @@
 -- Lemmas on a taken place that becomes free: its use goes, and the last use of that target takes the index
 -- of the use that goes.
-use Rattle.std.proofs.Common.{◌≡◌, ◌≢◌, ◌⊎◌, ℕ, ◌+◌, ◌-◌, ◌<◌, ◌≤◌, List, [], length, take, get_or, set, Some, refl, sym, ap, ◌∙◌, inl, inr, arith}
+use Rattle.std.proofs.Common.{◌≡◌, ◌≢◌, ◌⊎◌, ℕ, ◌+◌, ◌-◌, ◌<◌, ◌≤◌, false, List, [], length, take, get_or, set, Some, refl, sym, ap, ◌∙◌, inl, inr, arith}
 use Rattle.std.specs.List.{slice_get, remove}
 use Rattle.std.proofs.lemmas.List.{get_or-set_same, get_or-set_other, map-set, set-get_or, length-set}
 use Rattle.std.proofs.lemmas.Option.{slice_get_within}
@@ -8,8 +8,13 @@ use Rattle.std.proofs.lemmas.Bool.{cases_eq}
 use Rattle.pliron_core.specs.declared.uses.Use.{Use}
 use Rattle.pliron_core.specs.declared.places.Place.{Place}
 use Rattle.pliron_core.specs.declared.places.Gap.{Gap}
-use Rattle.pliron_core.specs.Places.{at, put, cut, held, rank, no_target, no_gap, free_place, gap_of, targets_in, HasGap, HaveGaps, IsLinked, AreLinked}
-use Rattle.pliron_core.proofs.PlaceLemmas.{row-targets, gaps-put, target-real}
+use Rattle.pliron_core.specs.declared.places.Holes.{Holes}
+use Rattle.pliron_core.specs.declared.places.Holes.TheVariants.{OneGap}
+use Rattle.pliron_core.specs.Places.{at, put, cut, held, rank, marks, marks_in, no_target, no_gap, free_place, targets_in, uses_in, HasGap, IsLinked}
+use Rattle.pliron_core.specs.Holes.{gap_of, is_counted, HaveHoles}
+use Rattle.pliron_core.proofs.PlaceLemmas.{row-targets, target-real, uses-same}
+use Rattle.pliron_core.proofs.MarkLemmas.{row-marks, marks-same, marks-freed, rank-alike, gap-marks, rank-take}
+use Rattle.pliron_core.proofs.HoleLemmas.{has-gap, holes-put, holes-marked, row-marked}
 use Rattle.pliron_core.proofs.TableLemmas.{set-same, set-other, at-within, put-here, put-other, put-cases, cut-cases, cut-kept, put-length, take-within, take-below}
 use Rattle.pliron_core.proofs.GapLemmas.{same, slice-some, held-same, held-freed, held-take, held-length, behind-index, held-at}
 
@@ -112,75 +117,68 @@ module _ (rows : List (List Place)) (lists : List (List Use)) (user place target
   held1 : held (get_or rows1 user []) ≡ held (get_or rows user [])
   held1 = sym (row-targets rows1 user) ∙ ap (λ z. get_or z user []) targets1 ∙ row-targets rows user
 
-  -- a place holds in the first write what it held, but for the index of its use
-  kept1 : (u n : ℕ) (x : Place) → at rows1 u n ≡ Some x → (y : Place) × (at rows u n ≡ Some y) × (x.target ≡ y.target)
-  kept1 u n x e = elim (put-cases rows moved.user moved.place u n _ _ _ mended e) [
-    | inl h ↦ (record { target = target; at = last_use }, rw (h.0, h.1) mended, sym (ap (λ z. z.target) h.2))
-    | inr h ↦ (x, h.1, refl)
+  -- and have the same places taken
+  marks1 : marks_in rows1 ≡ marks_in rows
+  marks1 = map-set marks rows moved.user _ ∙ ap (set (marks_in rows) moved.user) (marks-same (get_or rows moved.user []) moved.place _ _ mended refl ∙ sym (row-marks rows moved.user)) ∙ set-get_or (marks_in rows) moved.user []
+
+  row-marks1 : marks (get_or rows1 user []) ≡ marks (get_or rows user [])
+  row-marks1 = sym (row-marks rows1 user) ∙ ap (λ z. get_or z user []) marks1 ∙ row-marks rows user
+
+  pub left-marks : marks_in rows2 ≡ set (marks_in rows) user (set (marks (get_or rows user [])) place 0)
+  left-marks = map-set marks rows1 user _ ∙ ap (λ z. set z user (marks (set (get_or rows1 user []) place free_place))) marks1 ∙ ap (set (marks_in rows) user) (marks-freed (get_or rows1 user []) place ∙ ap (λ l. set l place 0) row-marks1)
+
+  ranked : rank (get_or rows1 user []) place ≡ rank (get_or rows user []) place
+  ranked = rank-alike (get_or rows user []) (get_or rows1 user []) place row-marks1
+
+  taken1 : stands1.0.target ≢ no_target
+  taken1 f = real (sym stands1.2 ∙ f)
+
+  pub left-target : slice_get (held (get_or rows user [])) (rank (get_or rows user []) place) ≡ Some target
+  left-target = held-at (get_or rows user []) place _ here real
+
+  pub left-targets : targets_in rows2 ≡ set (targets_in rows) user (remove (get_or (targets_in rows) user []) (rank (get_or rows user []) place))
+  left-targets =
+      map-set held rows1 user _ ∙ ap (λ z. set z user (held (set (get_or rows1 user []) place free_place))) targets1 ∙ ap (set (targets_in rows) user) (held-freed (get_or rows1 user []) place stands1.0 stands1.1 taken1 ∙ ap (remove (held (get_or rows1 user []))) ranked ∙ ap (λ l. remove l (rank (get_or rows user []) place)) (held1 ∙ sym (row-targets rows user)))
+
+-- a gap that the place behind it joins
+module _ (row : List Place) (gap : Gap) (has : HasGap row gap) (more : gap.start < length (held row)) where
+  abbrev behind : ℕ
+  behind = gap.start + gap.len
+
+  abbrev wider : Gap
+  wider = record { start = gap.start; len = gap.len + 1 }
+
+  within_row : behind < length row
+  within_row = omega (arith, more, held-length row gap has)
+
+  pub behind-ranked : rank row behind ≡ gap.start
+  behind-ranked = let back : behind - gap.len ≡ gap.start = omega arith in behind-index row gap has behind (omega arith) (omega (arith, within_row)) ∙ back
+
+  pub behind-taken_place : (p : Place) × (slice_get row behind ≡ Some p) × (p.target ≢ no_target)
+  behind-taken_place = let s = slice-some row behind within_row in (s.0, s.1, has.behind _ s.0 s.1 (omega arith))
+
+  cases : (n : ℕ) (x : Place) → slice_get (set row behind free_place) n ≡ Some x → ((n ≡ behind) × (x ≡ free_place)) ⊎ ((n ≢ behind) × (slice_get row n ≡ Some x))
+  cases n x e = elim (cases_eq n behind) [
+    | inl h ↦ inl (h, same (sym e ∙ ap (slice_get (set row behind free_place)) h ∙ set-same row behind free_place behind-taken_place.0 behind-taken_place.1))
+    | inr h ↦ inr (h, sym (set-other row behind n free_place h) ∙ e)
   ]
 
-  gap1 : (u : ℕ) (gap : Gap) → HasGap (get_or rows u []) gap → HasGap (get_or rows1 u []) gap
-  gap1 u gap has = record {
-    fits = omega (arith, has.fits, put-length rows moved.user moved.place u (record { target = target; at = i }) _ mended);
-    free = λ n x e a b. let k = kept1 u n x e in k.2 ∙ has.free n k.0 k.1 a b;
-    before = λ n x e a. let k = kept1 u n x e in λ f. has.before n k.0 k.1 a (sym k.2 ∙ f);
-    behind = λ n x e a. let k = kept1 u n x e in λ f. has.behind n k.0 k.1 a (sym k.2 ∙ f);
+  wider-set : HasGap (set row behind free_place) wider
+  wider-set = record {
+    fits = omega (arith, length-set row behind free_place, within_row);
+    free = λ n x e a b. elim (cases n x e) [ inl c ↦ ap (λ z. z.target) c.1 | inr c ↦ has.free n x c.1 a (omega (arith, b, c.0)) ];
+    before = λ n x e a. elim (cases n x e) [ inl c ↦ absurd (omega (arith, c.0, a)) | inr c ↦ has.before n x c.1 a ];
+    behind = λ n x e a. elim (cases n x e) [ inl c ↦ absurd (omega (arith, c.0, a)) | inr c ↦ has.behind n x c.1 (omega (arith, a)) ];
   }
 
-  module _ (gaps : List Gap) (all : HaveGaps rows gaps) (place_is : place ≡ (gap_of gaps user).start + (gap_of gaps user).len) where
-    abbrev gap : Gap
-    gap = gap_of gaps user
-
-    abbrev wider : Gap
-    wider = record { start = gap.start; len = gap.len + 1 }
-
-    abbrev row1 : List Place
-    row1 = get_or rows1 user []
-
-    has1 : HasGap row1 gap
-    has1 = gap1 user gap (all.each user)
-
-    cases : (n : ℕ) (x : Place) → slice_get (set row1 place free_place) n ≡ Some x → ((n ≡ place) × (x ≡ free_place)) ⊎ ((n ≢ place) × (slice_get row1 n ≡ Some x))
-    cases n x e = elim (cases_eq n place) [
-      | inl h ↦ inl (h, same (sym e ∙ ap (slice_get (set row1 place free_place)) h ∙ set-same row1 place free_place stands1.0 stands1.1))
-      | inr h ↦ inr (h, sym (set-other row1 place n free_place h) ∙ e)
-    ]
-
-    wider-has : HasGap (set row1 place free_place) wider
-    wider-has = record {
-      fits = omega (arith, length-set row1 place free_place, slice_get_within row1 place stands1.0 stands1.1, place_is);
-      free = λ n x e a b. elim (cases n x e) [ inl c ↦ ap (λ z. z.target) c.1 | inr c ↦ has1.free n x c.1 a (omega (arith, b, c.0, place_is)) ];
-      before = λ n x e a. elim (cases n x e) [ inl c ↦ absurd (omega (arith, c.0, a, place_is)) | inr c ↦ has1.before n x c.1 a ];
-      behind = λ n x e a. elim (cases n x e) [ inl c ↦ absurd (omega (arith, c.0, a, place_is)) | inr c ↦ has1.behind n x c.1 (omega (arith, a)) ];
-    }
-
-    gaps1 : HaveGaps rows1 gaps
-    gaps1 = record { count = all.count ∙ sym (length-set rows moved.user (set (get_or rows moved.user []) moved.place (record { target = target; at = i }))); each = λ u. gap1 u (gap_of gaps u) (all.each u) }
-
-    pub left-gaps : HaveGaps rows2 (set gaps user wider)
-    left-gaps = gaps-put rows1 gaps user (set row1 place free_place) wider inside1 wider-has gaps1
-
-    ranked : rank row1 place ≡ gap.start
-    ranked =
-        let back : place - gap.len ≡ gap.start = omega (arith, place_is) in
-        let w = slice_get_within row1 place stands1.0 stands1.1 in
-        behind-index row1 gap has1 place (omega (arith, place_is)) (omega (arith, w)) ∙ back
-
-    taken1 : stands1.0.target ≢ no_target
-    taken1 f = real (sym stands1.2 ∙ f)
-
-    pub left-target : slice_get (held (get_or rows user [])) gap.start ≡ Some target
-    left-target = ap (λ l. slice_get l gap.start) (sym held1) ∙ ap (slice_get (held row1)) (sym ranked) ∙ held-at row1 place stands1.0 stands1.1 taken1 ∙ ap Some stands1.2
-
-    pub left-targets : targets_in rows2 ≡ set (targets_in rows) user (remove (get_or (targets_in rows) user []) gap.start)
-    left-targets =
-        map-set held rows1 user _ ∙ ap (λ z. set z user (held (set row1 place free_place))) targets1 ∙ ap (set (targets_in rows) user) (held-freed row1 place stands1.0 stands1.1 taken1 ∙ ap (remove (held row1)) ranked ∙ ap (λ l. remove l gap.start) (held1 ∙ sym (row-targets rows user)))
+  pub wider-has : (row' : List Place) → marks row' ≡ set (marks row) behind 0 → HasGap row' wider
+  wider-has row' e = gap-marks (set row behind free_place) row' wider (e ∙ sym (marks-freed row behind)) wider-set
 
 -- a gap at the end of its row goes
-module _ (rows : List (List Place)) (gaps : List Gap) (user : ℕ) (all : HaveGaps rows gaps) (within : user < length gaps)
-    (end : (gap_of gaps user).start ≡ length (held (get_or rows user []))) where
+module _ (rows : List (List Place)) (holes : List Holes) (user : ℕ) (all : HaveHoles rows holes) (within : user < length holes) (gapped : is_counted holes user ≡ false)
+    (end : (gap_of holes user).start ≡ length (held (get_or rows user []))) where
   abbrev last_gap : Gap
-  last_gap = gap_of gaps user
+  last_gap = gap_of holes user
 
   abbrev last_row : List Place
   last_row = get_or rows user []
@@ -189,7 +187,7 @@ module _ (rows : List (List Place)) (gaps : List Gap) (user : ℕ) (all : HaveGa
   closed = set rows user (take last_gap.start last_row)
 
   has : HasGap last_row last_gap
-  has = all.each user
+  has = has-gap rows holes user all gapped
 
   long : last_gap.start + last_gap.len ≡ length last_row
   long = omega (arith, end, held-length last_row last_gap has)
@@ -205,8 +203,8 @@ module _ (rows : List (List Place)) (gaps : List Gap) (user : ℕ) (all : HaveGa
     behind = λ n x e a. let w = take-within last_row last_gap.start n x e in has.before n x w.1 w.0;
   }
 
-  pub closed-gaps : HaveGaps closed (set gaps user no_gap)
-  closed-gaps = gaps-put rows gaps user _ no_gap row_within closed-has all
+  pub closed-holes : HaveHoles closed (set holes user (OneGap no_gap))
+  closed-holes = holes-put rows holes user _ (OneGap no_gap) row_within closed-has all
 
   pub closed-targets : targets_in closed ≡ targets_in rows
   closed-targets =
@@ -220,17 +218,20 @@ module _ (rows : List (List Place)) (gaps : List Gap) (user : ℕ) (all : HaveGa
     | inr h ↦ ap (λ r. slice_get r n) (sym (get_or-set_other rows user u _ [] h)) ∙ e
   ]
 
+  place-before : (n : ℕ) (x : Place) → slice_get last_row n ≡ Some x → x.target ≢ no_target → n < last_gap.start
+  place-before n x e real = elim (below n) [ inl b ↦ b | inr b ↦ absurd (real (has.free n x e b (let w = slice_get_within last_row n x e in omega (arith, w, long)))) ]
+    where
+      below : (n : ℕ) → (n < last_gap.start) ⊎ (last_gap.start ≤ n)
+      below n = grind arith
+
   at-closed : (u n : ℕ) (x : Place) → at rows u n ≡ Some x → x.target ≢ no_target → at closed u n ≡ Some x
   at-closed u n x e real = elim (cases_eq u user) [
     | inl h ↦
         let there : slice_get last_row n ≡ Some x = ap (λ z. at rows z n) (sym h) ∙ e in
-        let before : n < last_gap.start = elim (below n) [ inl b ↦ b | inr b ↦ absurd (real (has.free n x there b (let w = slice_get_within last_row n x there in omega (arith, w, long)))) ] in
+        let before = place-before n x there real in
         ap (λ r. slice_get r n) (ap (λ z. get_or closed z []) h ∙ get_or-set_same rows user _ [] row_within) ∙ take-below last_row last_gap.start n before ∙ there
     | inr h ↦ ap (λ r. slice_get r n) (get_or-set_other rows user u _ [] h) ∙ e
   ]
-    where
-      below : (n : ℕ) → (n < last_gap.start) ⊎ (last_gap.start ≤ n)
-      below n = grind arith
 
   pub closed-linked : (lists : List (List Use)) → IsLinked rows lists → IsLinked closed lists
   closed-linked lists is = record {
@@ -239,33 +240,31 @@ module _ (rows : List (List Place)) (gaps : List Gap) (user : ℕ) (all : HaveGa
     few = is.few;
   }
 
--- what stands behind the gap
-pub behind-gap : (rows : List (List Place)) (gaps : List Gap) (user : ℕ) (gap : Gap) → gap ≡ gap_of gaps user → HaveGaps rows gaps → (gap_of gaps user).start < length (held (get_or rows user [])) → (p : Place) × (at rows user (gap.start + gap.len) ≡ Some p) × (p.target ≢ no_target)
-behind-gap rows gaps user gap e all more = rw e (found (all.each user))
-  where
-    found : HasGap (get_or rows user []) (gap_of gaps user) → (p : Place) × (at rows user ((gap_of gaps user).start + (gap_of gaps user).len) ≡ Some p) × (p.target ≢ no_target)
-    found has =
-        let long : length (held (get_or rows user [])) + (gap_of gaps user).len ≡ length (get_or rows user []) = held-length (get_or rows user []) (gap_of gaps user) has in
-        let s = slice-some (get_or rows user []) ((gap_of gaps user).start + (gap_of gaps user).len) (omega (arith, more, long)) in
-        (s.0, s.1, has.behind _ s.0 s.1 (omega arith))
-
-pub behind-real : (rows : List (List Place)) (gaps : List Gap) (user : ℕ) (gap : Gap) (p : Place) → gap ≡ gap_of gaps user → HaveGaps rows gaps → (gap_of gaps user).start < length (held (get_or rows user [])) → at rows user (gap.start + gap.len) ≡ Some p → p.target ≢ no_target
-behind-real rows gaps user gap p e all more here f =
-    let b = behind-gap rows gaps user gap e all more in
-    b.2 (ap (λ z. z.target) (same (sym b.1 ∙ here)) ∙ f)
+  -- each use keeps its place among those that are taken
+  pub closed-uses : (lists : List (List Use)) → IsLinked rows lists → uses_in closed lists ≡ uses_in rows lists
+  closed-uses lists is = uses-same rows closed lists (λ t k u e. kept u (is.placed t k u.user u.place e) (target-real rows lists is t k u e))
+    where
+      kept : (u : Use) {t k : ℕ} → at rows u.user u.place ≡ Some (record { target = t; at = k }) → t ≢ no_target → rank (get_or closed u.user []) u.place ≡ rank (get_or rows u.user []) u.place
+      kept u e real = elim (cases_eq u.user user) [
+        | inl h ↦
+            let there : slice_get last_row u.place ≡ Some _ = ap (λ z. at rows z u.place) (sym h) ∙ e in
+            let before = place-before u.place _ there real in
+            ap (λ z. rank (get_or closed z []) u.place) h ∙ ap (λ r. rank r u.place) (get_or-set_same rows user _ [] row_within) ∙ rank-take last_row last_gap.start u.place (omega (arith, before)) ∙ ap (λ z. rank (get_or rows z []) u.place) (sym h)
+        | inr h ↦ ap (λ r. rank r u.place) (get_or-set_other rows user u.user _ [] h)
+      ]
 
 -- what `widen_gap` writes, by the gap that it read
-pub widened : (rows : List (List Place)) (gaps : List Gap) (lists : List (List Use)) (user : ℕ) (gap : Gap) (target i : ℕ) (moved : Use) → gap ≡ gap_of gaps user → AreLinked rows gaps lists
-    → (gap_of gaps user).start < length (held (get_or rows user []))
-    → at rows user (gap.start + gap.len) ≡ Some (record { target = target; at = i }) → at lists target (length (get_or lists target []) - 1) ≡ Some moved
-    → AreLinked (put (put rows moved.user moved.place (record { target = target; at = i })) user (gap.start + gap.len) free_place) (set gaps user (record { start = gap.start; len = gap.len + 1 })) (cut (put lists target i moved) target)
-    × (slice_get (held (get_or rows user [])) (gap_of gaps user).start ≡ Some target)
-    × (targets_in (put (put rows moved.user moved.place (record { target = target; at = i })) user (gap.start + gap.len) free_place) ≡ set (targets_in rows) user (remove (get_or (targets_in rows) user []) (gap_of gaps user).start))
-widened rows gaps lists user gap target i moved e is more here end =
-    let real : target ≢ no_target = behind-real rows gaps user gap (record { target = target; at = i }) e is.gaps more here in
-    let place_is : gap.start + gap.len ≡ (gap_of gaps user).start + (gap_of gaps user).len = ap (λ z. z.start + z.len) e in
-    let wider : (let z : Gap = record { start = gap.start; len = gap.len + 1 } in z) ≡ record { start = (gap_of gaps user).start; len = (gap_of gaps user).len + 1 } = ap (λ z. let y : Gap = record { start = z.start; len = z.len + 1 } in y) e in (
-      record { linked = linked-left rows lists user (gap.start + gap.len) target i moved is.linked here real end; gaps = rw wider (left-gaps rows lists user (gap.start + gap.len) target i moved is.linked here real end gaps is.gaps place_is) },
-      left-target rows lists user (gap.start + gap.len) target i moved is.linked here real end gaps is.gaps place_is,
-      left-targets rows lists user (gap.start + gap.len) target i moved is.linked here real end gaps is.gaps place_is,
-    )
+pub behind-gap : (rows : List (List Place)) (holes : List Holes) (user : ℕ) (gap : Gap) → gap ≡ gap_of holes user → HaveHoles rows holes → is_counted holes user ≡ false → (gap_of holes user).start < length (held (get_or rows user []))
+    → (p : Place) × (at rows user (gap.start + gap.len) ≡ Some p) × (p.target ≢ no_target)
+behind-gap rows holes user gap e all gapped more = rw e (behind-taken_place (get_or rows user []) (gap_of holes user) (has-gap rows holes user all gapped) more)
+
+pub behind-rank : (rows : List (List Place)) (holes : List Holes) (user : ℕ) (gap : Gap) → gap ≡ gap_of holes user → HaveHoles rows holes → is_counted holes user ≡ false → (gap_of holes user).start < length (held (get_or rows user []))
+    → rank (get_or rows user []) (gap.start + gap.len) ≡ (gap_of holes user).start
+behind-rank rows holes user gap e all gapped more = rw e (behind-ranked (get_or rows user []) (gap_of holes user) (has-gap rows holes user all gapped) more)
+
+pub widened : (rows rows' : List (List Place)) (holes : List Holes) (user : ℕ) (gap : Gap) → gap ≡ gap_of holes user → HaveHoles rows holes → user < length holes → is_counted holes user ≡ false
+    → (gap_of holes user).start < length (held (get_or rows user [])) → marks_in rows' ≡ set (marks_in rows) user (set (marks (get_or rows user [])) (gap.start + gap.len) 0)
+    → HaveHoles rows' (set holes user (OneGap (record { start = gap.start; len = gap.len + 1 })))
+widened rows rows' holes user gap e all within gapped more marked =
+    let inside : user < length rows = omega (arith, within, all.count) in
+    holes-marked rows rows' holes user _ _ inside marked (rw e (wider-has (get_or rows user []) (gap_of holes user) (has-gap rows holes user all gapped) more (get_or rows' user []) (row-marked rows rows' user _ inside (marked ∙ ap (λ z. set (marks_in rows) user (set (marks (get_or rows user [])) (z.start + z.len) 0)) e)))) all

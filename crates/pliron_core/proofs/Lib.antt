@@ -12,8 +12,14 @@ mod UserLemmas
 pub mod MoveLemmas
 pub mod TableLemmas
 pub mod GapLemmas
+pub mod CountLemmas
+pub mod LevelLemmas
+pub mod MarkLemmas
+pub mod HoleLemmas
 pub mod RelocateLemmas
+pub mod CompactLemmas
 pub mod LeaveLemmas
+pub mod SettleLemmas
 pub mod MemberLemmas
 pub mod RemovalLemmas
 pub mod CarryLemmas

@@ -1,20 +1,23 @@
 -- Lemmas on uses that move to another target.
-use Rattle.std.proofs.Common.{◌≡◌, ◌≢◌, ◌⊎◌, ℕ, zero, suc, ◌+◌, ◌-◌, ◌<◌, ◌≤◌, nat_lt, List, [], ◌∷◌, ◌++◌, length, map, get_or, set, Option, Some, None, refl, sym, ap, ◌∙◌, subst, inl, inr, arith, zero-add, length-append}
+use Rattle.std.proofs.Common.{◌≡◌, ◌≢◌, ◌⊎◌, ℕ, zero, suc, ◌+◌, ◌-◌, ◌<◌, ◌≤◌, nat_lt, List, [], ◌∷◌, ◌++◌, length, map, get_or, set, Option, Some, None, refl, sym, ap, ◌∙◌, inl, inr, arith, zero-add, length-append}
 use Rattle.std.specs.List.{slice_get, swap}
 use Rattle.std.proofs.lemmas.List.Edits.{swap_is}
 use Rattle.std.specs.Option.{option_map}
 use Rattle.std.proofs.lemmas.Bool.{cases_eq, eq-eqb, ne_eqb}
 use Rattle.std.proofs.lemmas.Bool.Decides.{nat_tests}
-use Rattle.std.proofs.lemmas.Option.{slice_get_within, slice_get-map}
+use Rattle.std.proofs.lemmas.Option.{slice_get_within}
 use Rattle.std.proofs.lemmas.List.{get_or-set_same, get_or-set_other, length-set, get_or_default, length-map, set-get_or, set-set}
 use Rattle.pliron_core.specs.declared.uses.Use.{Use}
 use Rattle.pliron_core.specs.declared.places.Place.{Place}
 use Rattle.std.proofs.Math.ListN.{get_or-map}
 use Rattle.pliron_core.specs.Uses.{replace_target}
-use Rattle.pliron_core.specs.declared.places.Gap.{Gap}
-use Rattle.pliron_core.specs.Places.{at, held, no_target, shifted, gap_of, HasGap, HaveGaps, IsLinked, targets_in, ranked_use, uses_in}
+use Rattle.pliron_core.specs.declared.places.Holes.{Holes}
+use Rattle.pliron_core.specs.Places.{at, held, mark_of, marks, marks_in, no_target, shifted, IsLinked, targets_in, ranked_use, uses_in}
+use Rattle.pliron_core.specs.Holes.{HaveHoles}
 use Rattle.pliron_core.proofs.PlaceLemmas.{at-map}
 use Rattle.pliron_core.proofs.GapLemmas.{held-free, held-taken}
+use Rattle.pliron_core.proofs.CountLemmas.{mark-free, mark-taken}
+use Rattle.pliron_core.proofs.HoleLemmas.{holes-same}
 use Rattle.pliron_core.proofs.TableLemmas.{set-same, set-other, at-within, at-same, at-other}
 
 shifted-here : (old new first k : ℕ) → shifted old new first (k + 1) (record { target = old; at = k }) ≡ (let p : Place = record { target = new; at = first + k } in p)
@@ -236,27 +239,23 @@ module _ (rows after : List (List Place)) (lists : List (List Use)) (old new : �
   pub targets-moved : length after ≡ length rows → targets_in after ≡ map (map (replace_target old new)) (targets_in rows)
   targets-moved long = ap targets_in (moved-rows long) ∙ all-held rows (λ u p q e. (move-taken u p q e, moved-target u p q e))
 
-  -- gaps stay
-  gap-moved : (row : List Place) (gap : Gap) → ((p : ℕ) (q : Place) → slice_get row p ≡ Some q → q.target ≢ no_target → (move q).target ≢ no_target) → HasGap row gap → HasGap (map move row) gap
-  gap-moved row gap taken has = record {
-    fits = omega (arith, has.fits, length-map row move);
-    free = λ n q e a b. let w = was n q e in ap (λ z. z.target) w.2 ∙ move-free w.0 (has.free n w.0 w.1 a b);
-    before = λ n q e a. let w = was n q e in λ f. taken n w.0 w.1 (has.before n w.0 w.1 a) (sym (ap (λ z. z.target) w.2) ∙ f);
-    behind = λ n q e a. let w = was n q e in λ f. taken n w.0 w.1 (has.behind n w.0 w.1 a) (sym (ap (λ z. z.target) w.2) ∙ f);
-  }
-    where
-      was : (n : ℕ) (q : Place) → slice_get (map move row) n ≡ Some q → (x : Place) × (slice_get row n ≡ Some x) × (q ≡ move x)
-      was n q e = found (slice_get row n) refl
-        where
-          found : (o : Option Place) → slice_get row n ≡ o → (x : Place) × (slice_get row n ≡ Some x) × (q ≡ move x)
-          found None f = let none : slice_get (map move row) n ≡ None = slice_get-map move row n ∙ ap (option_map move) f in absurd (cc)
-          found (Some x) f = let there : slice_get (map move row) n ≡ Some (move x) = slice_get-map move row n ∙ ap (option_map move) f in (x, f, some_is (sym e ∙ there))
+  -- the same places are taken
+  marks-moved : (row : List Place) → ((p : ℕ) (q : Place) → slice_get row p ≡ Some q → q.target ≢ no_target → (move q).target ≢ no_target) → marks (map move row) ≡ marks row
+  marks-moved [] taken = refl
+  marks-moved (q ∷ qs) taken =
+      let one : mark_of (move q) ≡ mark_of q = elim (cases_eq q.target no_target) [
+        | inl h ↦ mark-free (move q) (move-free q h) ∙ sym (mark-free q h)
+        | inr h ↦ mark-taken (move q) (taken 0 q refl h) ∙ sym (mark-taken q h)
+      ] in
+      let rest = marks-moved qs (λ p x e. taken (suc p) x e) in
+      ap (λ m. m ∷ marks (map move qs)) one ∙ ap (λ l. mark_of q ∷ l) rest
 
-  pub gaps-moved : (gaps : List Gap) → length after ≡ length rows → HaveGaps rows gaps → HaveGaps after gaps
-  gaps-moved gaps long has = record {
-    count = has.count ∙ sym long;
-    each = λ u. subst (λ r. HasGap r (gap_of gaps u)) (sym (ap (λ z. get_or z u []) (moved-rows long) ∙ get_or-map (λ r. map move r) rows u [])) (gap-moved (get_or rows u []) (gap_of gaps u) (move-taken u) (has.each u));
-  }
+  all-marks : (some : List (List Place)) → ((u : ℕ) → (p : ℕ) (q : Place) → at some u p ≡ Some q → q.target ≢ no_target → (move q).target ≢ no_target) → marks_in (map (λ r. map move r) some) ≡ marks_in some
+  all-marks [] taken = refl
+  all-marks (r ∷ rs) taken = let one = marks-moved r (taken 0) in let rest = all-marks rs (λ u. taken (suc u)) in rw (one, rest) refl
+
+  pub holes-moved : (holes : List Holes) → length after ≡ length rows → HaveHoles rows holes → HaveHoles after holes
+  holes-moved holes long has = holes-same rows after holes (ap marks_in (moved-rows long) ∙ all-marks rows (λ u p q e. move-taken u p q e)) has
 
 -- what `replace` read and wrote in the lists of uses
 pub record Reads (lists : List (List Use)) (old new : ℕ) (moved dest row index : List Use) : Type 0 where

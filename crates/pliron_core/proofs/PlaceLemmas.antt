@@ -1,9 +1,9 @@
 -- Lemmas on linked places and uses.
-use Rattle.std.proofs.Common.{◌≡◌, ◌≢◌, ◌⊎◌, ℕ, zero, suc, ◌-◌, ◌<◌, ◌≤◌, List, [], ◌∷◌, ◌++◌, length, map, take, get_or, set, Option, Some, None, refl, sym, ap, ◌∙◌, subst, inl, inr, arith, length-append}
+use Rattle.std.proofs.Common.{◌≡◌, ◌≢◌, ◌⊎◌, ℕ, zero, suc, ◌-◌, ◌<◌, ◌≤◌, false, List, [], ◌∷◌, ◌++◌, length, map, take, get_or, set, Option, Some, None, refl, sym, ap, ◌∙◌, subst, inl, inr, arith, length-append}
 use Rattle.std.specs.List.{slice_get}
 use Rattle.std.proofs.lemmas.Bool.{cases_eq}
 use Rattle.std.proofs.lemmas.Option.{slice_get-map}
-use Rattle.std.proofs.lemmas.List.{get_or-set_same, get_or-set_other, map-set, set-get_or, set-set, length-map, length-set, get_or_default}
+use Rattle.std.proofs.lemmas.List.{get_or-set_same, map-set, set-get_or, set-set, length-map, length-set, get_or_default}
 use Rattle.std.proofs.Math.ListN.{get_or-map}
 use Rattle.std.proofs.lemmas.Grind.{common_steps}
 use Rattle.std.specs.Option.{option_map}
@@ -11,8 +11,12 @@ use Rattle.pliron_core.specs.declared.uses.Use.{Use}
 use Rattle.pliron_core.specs.declared.places.Place.{Place}
 use Rattle.pliron_core.specs.Uses.{Table, AreAgreed}
 use Rattle.pliron_core.specs.declared.places.Gap.{Gap}
-use Rattle.pliron_core.specs.Places.{at, held, rank, ranked_use, no_target, no_gap, gap_of, targets_in, uses_in, HasGap, HaveGaps, IsLinked, AreLinked}
+use Rattle.pliron_core.specs.declared.places.Holes.{Holes}
+use Rattle.pliron_core.specs.declared.places.Holes.TheVariants.{OneGap}
+use Rattle.pliron_core.specs.Places.{at, held, rank, ranked_use, no_target, no_gap, targets_in, uses_in, HasGap, IsLinked}
+use Rattle.pliron_core.specs.Holes.{Tracks, hole_of, gap_of, is_counted, HaveHoles, AreLinked}
 use Rattle.pliron_core.proofs.TableLemmas.{at-same, at-other, at-within}
+use Rattle.pliron_core.proofs.HoleLemmas.{gapped-is, has-gap, holes-row}
 use Rattle.pliron_core.proofs.GapLemmas.{same, held-at, held-from, held-push, rank-once}
 
 module _ {A : Type 0} where
@@ -155,12 +159,26 @@ map-same : {A B : Type 0} (f g : A → B) → ((x : A) → f x ≡ g x) → (xs 
 map-same f g each [] = refl
 map-same f g each (x ∷ xs) = rw (each x, map-same f g each xs) refl
 
+map-same_at : {A B : Type 0} (f g : A → B) (xs : List A) → ((i : ℕ) (x : A) → slice_get xs i ≡ Some x → f x ≡ g x) → map f xs ≡ map g xs
+map-same_at f g [] each = refl
+map-same_at f g (x ∷ xs) each = rw (each 0 x refl, map-same_at f g xs (λ i y e. each (suc i) y e)) refl
+
+-- other rows, where each use has the same place among those that are taken
+pub uses-same : (rows rows' : List (List Place)) (lists : List (List Use)) → ((t i : ℕ) (u : Use) → at lists t i ≡ Some u → rank (get_or rows' u.user []) u.place ≡ rank (get_or rows u.user []) u.place) → uses_in rows' lists ≡ uses_in rows lists
+uses-same rows rows' [] each = refl
+uses-same rows rows' (l ∷ ls) each =
+    let one = map-same_at (ranked_use rows') (ranked_use rows) l (λ i u e. ap (λ n. let w : Use = record { user = u.user; place = n } in w) (each 0 i u e)) in
+    rw (one, uses-same rows rows' ls (λ t i u e. each (suc t) i u e)) refl
+
 -- one more user, and the tables that contracts see
 pub uses-user : (rows : List (List Place)) (lists : List (List Use)) → uses_in (rows ++ [] ∷ []) lists ≡ uses_in rows lists
 uses-user rows lists = map-same (map (ranked_use (rows ++ [] ∷ []))) (map (ranked_use rows)) (λ l. map-same (ranked_use (rows ++ [] ∷ [])) (ranked_use rows) (λ u. ap (λ r. let w : Use = record { user = u.user; place = rank r u.place } in w) (get_or-pad rows [] u.user)) l) lists
 
 pub same-table : {t t' : List (List ℕ)} {u u' : List (List Use)} {m m' n : ℕ} → t ≡ t' → u ≡ u' → m ≡ m' → (let x : Table = record { targets = t; uses = u; user_room = m; target_room = n } in x) ≡ record { targets = t'; uses = u'; user_room = m'; target_room = n }
 same-table e f g = rw (e, f, g) refl
+
+pub whole-table : {t t' : List (List ℕ)} {u u' : List (List Use)} {m m' n n' : ℕ} → t ≡ t' → u ≡ u' → m ≡ m' → n ≡ n' → (let x : Table = record { targets = t; uses = u; user_room = m; target_room = n } in x) ≡ record { targets = t'; uses = u'; user_room = m'; target_room = n' }
+whole-table e f g h = rw (e, f, g, h) refl
 
 -- what a list of uses that was read says, and how the use is seen
 pub use-there : (lists : List (List Use)) (target i : ℕ) (read : List Use) (u : Use) → target < length lists → read ≡ get_or lists target read → slice_get read i ≡ Some u → at lists target i ≡ Some u
@@ -178,10 +196,10 @@ gap-none = record {
   behind = λ n p e. absurd (cc);
 }
 
-pub gaps-user : (rows : List (List Place)) (gaps : List Gap) → HaveGaps rows gaps → HaveGaps (rows ++ [] ∷ []) (gaps ++ no_gap ∷ [])
-gaps-user rows gaps is = record {
-  count = omega (arith, length-append rows ([] ∷ []), length-append gaps (no_gap ∷ []), is.count);
-  each = λ u. rw (get_or-pad rows [] u, get_or-pad gaps no_gap u) (is.each u);
+pub holes-user : (rows : List (List Place)) (holes : List Holes) → HaveHoles rows holes → HaveHoles (rows ++ [] ∷ []) (holes ++ OneGap no_gap ∷ [])
+holes-user rows holes is = record {
+  count = omega (arith, length-append rows ([] ∷ []), length-append holes (OneGap no_gap ∷ []), is.count);
+  each = λ u. rw (get_or-pad rows [] u, get_or-pad holes (OneGap no_gap) u) (is.each u);
 }
 
 -- one more place, which is taken
@@ -193,24 +211,15 @@ gap-push row gap p real is = record {
   behind = λ n q e a. elim (push-cases row p q n e) [ inl k ↦ subst (λ z. z.target ≢ no_target) k.1 real | inr k ↦ is.behind n q k a ];
 }
 
--- another row for the same gap, another gap for the same row, or both
-pub gaps-put : (rows : List (List Place)) (gaps : List Gap) (user : ℕ) (row : List Place) (gap : Gap) → user < length rows → HasGap row gap → HaveGaps rows gaps → HaveGaps (set rows user row) (set gaps user gap)
-gaps-put rows gaps user row gap within one is = record {
-  count = length-set gaps user gap ∙ is.count ∙ sym (length-set rows user row);
-  each = λ u. elim (cases_eq u user) [
-    | inl e ↦ rw (e, get_or-set_same rows user row [] within, get_or-set_same gaps user gap no_gap (omega (arith, within, is.count))) one
-    | inr ne ↦ rw (get_or-set_other rows user u row [] ne, get_or-set_other gaps user u gap no_gap ne) (is.each u)
-  ];
-}
-
-pub gaps-row : (rows : List (List Place)) (gaps : List Gap) (user : ℕ) (row : List Place) → user < length rows → HasGap row (gap_of gaps user) → HaveGaps rows gaps → HaveGaps (set rows user row) gaps
-gaps-row rows gaps user row within one is = subst (HaveGaps (set rows user row)) (set-get_or gaps user no_gap) (gaps-put rows gaps user row (gap_of gaps user) within one is)
-
 pub targets-push : (rows : List (List Place)) (user : ℕ) (p : Place) → p.target ≢ no_target → targets_in (set rows user (get_or rows user [] ++ p ∷ [])) ≡ set (targets_in rows) user (get_or (targets_in rows) user [] ++ p.target ∷ [])
 targets-push rows user p real = map-set _ rows user _ ∙ ap (set (targets_in rows) user) (held-push (get_or rows user []) p real ∙ ap (λ r. r ++ p.target ∷ []) (sym (row-targets rows user)))
 
+pushed-holes : (rows : List (List Place)) (holes : List Holes) (user : ℕ) (p : Place) → user < length rows → is_counted holes user ≡ false → p.target ≢ no_target → HaveHoles rows holes → HaveHoles (set rows user (get_or rows user [] ++ p ∷ [])) holes
+pushed-holes rows holes user p within gapped real is =
+    holes-row rows holes user _ within (subst (Tracks (get_or rows user [] ++ p ∷ [])) (sym (gapped-is (hole_of holes user) gapped)) (gap-push (get_or rows user []) (gap_of holes user) p real (has-gap rows holes user is gapped))) is
+
 -- what `push` writes, by the values that it read
-module _ (rows : List (List Place)) (gaps : List Gap) (lists : List (List Use)) (user target at' place : ℕ) (is : AreLinked rows gaps lists) where
+module _ (rows : List (List Place)) (holes : List Holes) (lists : List (List Use)) (user target at' place : ℕ) (is : AreLinked rows holes lists) (gapped : is_counted holes user ≡ false) where
   module _ (hu : user < length (targets_in rows)) (ht : target < length lists) (list0 list1 list2 : List Use) (row0 row1 row2 : List Place)
       (l0 : list0 ≡ get_or lists target list0) (l1 : list1 ≡ get_or lists target list1) (r0 : row0 ≡ get_or rows user row0) (r1 : row1 ≡ get_or rows user row1)
       (at_is : at' ≡ length list0) (place_is : place ≡ length row0)
@@ -227,13 +236,13 @@ module _ (rows : List (List Place)) (gaps : List Gap) (lists : List (List Use)) 
     real : target ≢ no_target
     real f = omega (arith, ht, is.linked.few, f)
 
-    pub pushed-linked : row2 ≡ row1 ++ record { target = target; at = at' } ∷ [] → AreLinked (set rows user row2) gaps (set lists target list2)
+    pub pushed-linked : row2 ≡ row1 ++ record { target = target; at = at' } ∷ [] → AreLinked (set rows user row2) holes (set lists target list2)
     pushed-linked r2 =
         let a : row1 ≡ get_or rows user [] = r1 ∙ get_or_default rows user row1 [] within in
         let b : list0 ≡ get_or lists target [] = l0 ∙ get_or_default lists target list0 [] ht in
         rw (list_is, r2, at_is, b, a) (record {
           linked = linked-push rows lists user target within ht is.linked;
-          gaps = gaps-row rows gaps user _ within (gap-push (get_or rows user []) (gap_of gaps user) _ real (is.gaps.each user)) is.gaps;
+          holes = pushed-holes rows holes user _ within gapped real is.holes;
         })
 
     pub pushed-targets : row2 ≡ row1 ++ record { target = target; at = at' } ∷ [] → targets_in (set rows user row2) ≡ set (targets_in rows) user (get_or (targets_in rows) user [] ++ target ∷ [])

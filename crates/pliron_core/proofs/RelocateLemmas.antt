@@ -1,12 +1,16 @@
 -- Lemmas on what moves from one place of a user to a free one.
-use Rattle.std.proofs.Common.{◌≡◌, ◌≢◌, ◌⊎◌, ℕ, ◌+◌, ◌-◌, ◌<◌, ◌≤◌, List, [], length, get_or, set, Some, sym, ap, ◌∙◌, subst, inl, inr, arith}
+use Rattle.std.proofs.Common.{◌≡◌, ◌≢◌, ◌⊎◌, ℕ, ◌+◌, ◌-◌, ◌<◌, ◌≤◌, false, List, [], length, get_or, set, Some, sym, ap, ◌∙◌, subst, inl, inr, arith}
 use Rattle.std.specs.List.{slice_get}
 use Rattle.std.proofs.lemmas.List.{get_or-set_same, map-set, set-set, set-get_or, length-set, length-map}
 use Rattle.pliron_core.specs.declared.uses.Use.{Use}
 use Rattle.pliron_core.specs.declared.places.Place.{Place}
 use Rattle.pliron_core.specs.declared.places.Gap.{Gap}
-use Rattle.pliron_core.specs.Places.{at, put, held, no_target, free_place, gap_of, targets_in, HasGap, HaveGaps, IsLinked, AreLinked}
-use Rattle.pliron_core.proofs.PlaceLemmas.{row-targets, gaps-put}
+use Rattle.pliron_core.specs.declared.places.Holes.{Holes}
+use Rattle.pliron_core.specs.declared.places.Holes.TheVariants.{OneGap}
+use Rattle.pliron_core.specs.Places.{at, put, held, no_target, free_place, targets_in, HasGap, IsLinked}
+use Rattle.pliron_core.specs.Holes.{gap_of, is_counted, HaveHoles, AreLinked}
+use Rattle.pliron_core.proofs.PlaceLemmas.{row-targets}
+use Rattle.pliron_core.proofs.HoleLemmas.{has-gap, gapped-some, holes-put, hole-put}
 use Rattle.pliron_core.proofs.TableLemmas.{at-within, put-here, put-other, put-cases}
 use Rattle.pliron_core.proofs.GapLemmas.{same, moved_row, moved-cases, slice-some, held-lowered, held-raised, held-length}
 
@@ -73,19 +77,19 @@ row-kept : (rows : List (List Place)) (user : ℕ) (row : List Place) → held r
 row-kept rows user row e = map-set held rows user row ∙ ap (set (targets_in rows) user) (e ∙ sym (row-targets rows user)) ∙ set-get_or (targets_in rows) user []
 
 -- a gap that goes one place down
-module _ (rows : List (List Place)) (gaps : List Gap) (lists : List (List Use)) (user : ℕ) (is : AreLinked rows gaps lists) (within : user < length gaps)
-    (some : 0 < (gap_of gaps user).len) where
+module _ (rows : List (List Place)) (holes : List Holes) (lists : List (List Use)) (user : ℕ) (is : AreLinked rows holes lists) (within : user < length holes)
+    (some : 0 < (gap_of holes user).len) where
   abbrev gap : Gap
-  gap = gap_of gaps user
+  gap = gap_of holes user
 
   abbrev row : List Place
   row = get_or rows user []
 
   has : HasGap row gap
-  has = is.gaps.each user
+  has = has-gap rows holes user is.holes (gapped-some holes user some)
 
   inside : user < length rows
-  inside = omega (arith, within, is.gaps.count)
+  inside = omega (arith, within, is.holes.count)
 
   module _ (before : 0 < gap.start) where
     pub lower-from : (p : Place) × (at rows user (gap.start - 1) ≡ Some p) × (p.target ≢ no_target)
@@ -117,8 +121,8 @@ module _ (rows : List (List Place)) (gaps : List Gap) (lists : List (List Use)) 
         cases : (n : ℕ) (x : Place) → slice_get lower-row n ≡ Some x → ((n ≡ gap.start - 1) × (x ≡ free_place)) ⊎ (((n ≡ gap.start + gap.len - 1) × (x ≡ lower-from.0)) ⊎ ((n ≢ gap.start - 1) × (n ≢ gap.start + gap.len - 1) × (slice_get row n ≡ Some x)))
         cases n x e = moved-cases row (gap.start - 1) (gap.start + gap.len - 1) n lower-from.0 lower-to.0 x lower-from.1 lower-to.1 (omega (arith, before, some)) e
 
-    pub lowered-gaps : HaveGaps (set rows user lower-row) (set gaps user (record { start = gap.start - 1; len = gap.len }))
-    lowered-gaps = gaps-put rows gaps user lower-row _ inside lower-gap is.gaps
+    pub lowered-holes : HaveHoles (set rows user lower-row) (set holes user (OneGap (record { start = gap.start - 1; len = gap.len })))
+    lowered-holes = holes-put rows holes user lower-row _ inside lower-gap is.holes
 
     pub lowered-targets : targets_in (set rows user lower-row) ≡ targets_in rows
     lowered-targets = row-kept rows user lower-row (held-raised row (gap.start - 1) (gap.start + gap.len - 1) lower-from.0 (omega (arith, before, some)) (omega (arith, before, has.fits)) lower-from.1 lower-from.2 (λ n q e h k. has.free n q e (omega (arith, h, before)) (omega (arith, k, before, some))))
@@ -156,53 +160,53 @@ module _ (rows : List (List Place)) (gaps : List Gap) (lists : List (List Use)) 
         cases : (n : ℕ) (x : Place) → slice_get raise-row n ≡ Some x → ((n ≡ gap.start + gap.len) × (x ≡ free_place)) ⊎ (((n ≡ gap.start) × (x ≡ raise-from.0)) ⊎ ((n ≢ gap.start + gap.len) × (n ≢ gap.start) × (slice_get row n ≡ Some x)))
         cases n x e = moved-cases row (gap.start + gap.len) gap.start n raise-from.0 raise-to.0 x raise-from.1 raise-to.1 (omega (arith, some)) e
 
-    pub raised-gaps : HaveGaps (set rows user raise-row) (set gaps user (record { start = gap.start + 1; len = gap.len }))
-    raised-gaps = gaps-put rows gaps user raise-row _ inside raise-gap is.gaps
+    pub raised-holes : HaveHoles (set rows user raise-row) (set holes user (OneGap (record { start = gap.start + 1; len = gap.len })))
+    raised-holes = holes-put rows holes user raise-row _ inside raise-gap is.holes
 
     pub raised-targets : targets_in (set rows user raise-row) ≡ targets_in rows
     raised-targets = row-kept rows user raise-row (held-lowered row (gap.start + gap.len) gap.start raise-from.0 (omega (arith, some)) raise-from.1 raise-from.2 (λ n q e h k. has.free n q e h k))
 
 -- what `lower_gap` and `raise_gap` write, by the gap that they read
-pub lowered : (rows rows' : List (List Place)) (gaps : List Gap) (lists lists' : List (List Use)) (user : ℕ) (gap : Gap) → gap ≡ gap_of gaps user → AreLinked rows gaps lists → user < length gaps
-    → 0 < (gap_of gaps user).len → 0 < (gap_of gaps user).start
+pub lowered : (rows rows' : List (List Place)) (holes : List Holes) (lists lists' : List (List Use)) (user : ℕ) (gap : Gap) → gap ≡ gap_of holes user → AreLinked rows holes lists → user < length holes
+    → 0 < (gap_of holes user).len → 0 < (gap_of holes user).start
     → ((p : Place) → at rows user (gap.start - 1) ≡ Some p → rows' ≡ put (put rows user (gap.start + gap.len - 1) p) user (gap.start - 1) free_place) → IsLinked rows' lists'
-    → AreLinked rows' (set gaps user (record { start = gap.start - 1; len = gap.len })) lists' × (targets_in rows' ≡ targets_in rows)
-lowered rows rows' gaps lists lists' user gap e is within some before moved linked =
-    let f = lower-from rows gaps lists user is within some before in
-    let t = lower-to rows gaps lists user is within some before in
+    → AreLinked rows' (set holes user (OneGap (record { start = gap.start - 1; len = gap.len }))) lists' × (targets_in rows' ≡ targets_in rows)
+lowered rows rows' holes lists lists' user gap e is within some before moved linked =
+    let f = lower-from rows holes lists user is within some before in
+    let t = lower-to rows holes lists user is within some before in
     let write = rw e at moved in
-    let m : rows' ≡ set rows user (lower-row rows gaps lists user is within some before) = write f.0 f.1 ∙ relocated-rows rows lists user _ _ f.0 t.0 is.linked f.1 f.2 t.1 t.2 in
-    (record { linked = linked; gaps = rw (e, m) (lowered-gaps rows gaps lists user is within some before) }, ap targets_in m ∙ lowered-targets rows gaps lists user is within some before)
+    let m : rows' ≡ set rows user (lower-row rows holes lists user is within some before) = write f.0 f.1 ∙ relocated-rows rows lists user _ _ f.0 t.0 is.linked f.1 f.2 t.1 t.2 in
+    (record { linked = linked; holes = rw (e, m) (lowered-holes rows holes lists user is within some before) }, ap targets_in m ∙ lowered-targets rows holes lists user is within some before)
 
-pub raised : (rows rows' : List (List Place)) (gaps : List Gap) (lists lists' : List (List Use)) (user : ℕ) (gap : Gap) → gap ≡ gap_of gaps user → AreLinked rows gaps lists → user < length gaps
-    → 0 < (gap_of gaps user).len → (gap_of gaps user).start < length (held (get_or rows user []))
+pub raised : (rows rows' : List (List Place)) (holes : List Holes) (lists lists' : List (List Use)) (user : ℕ) (gap : Gap) → gap ≡ gap_of holes user → AreLinked rows holes lists → user < length holes
+    → 0 < (gap_of holes user).len → (gap_of holes user).start < length (held (get_or rows user []))
     → ((p : Place) → at rows user (gap.start + gap.len) ≡ Some p → rows' ≡ put (put rows user gap.start p) user (gap.start + gap.len) free_place) → IsLinked rows' lists'
-    → AreLinked rows' (set gaps user (record { start = gap.start + 1; len = gap.len })) lists' × (targets_in rows' ≡ targets_in rows)
-raised rows rows' gaps lists lists' user gap e is within some more moved linked =
-    let f = raise-from rows gaps lists user is within some more in
-    let t = raise-to rows gaps lists user is within some more in
+    → AreLinked rows' (set holes user (OneGap (record { start = gap.start + 1; len = gap.len }))) lists' × (targets_in rows' ≡ targets_in rows)
+raised rows rows' holes lists lists' user gap e is within some more moved linked =
+    let f = raise-from rows holes lists user is within some more in
+    let t = raise-to rows holes lists user is within some more in
     let write = rw e at moved in
-    let m : rows' ≡ set rows user (raise-row rows gaps lists user is within some more) = write f.0 f.1 ∙ relocated-rows rows lists user _ _ f.0 t.0 is.linked f.1 f.2 t.1 t.2 in
-    (record { linked = linked; gaps = rw (e, m) (raised-gaps rows gaps lists user is within some more) }, ap targets_in m ∙ raised-targets rows gaps lists user is within some more)
+    let m : rows' ≡ set rows user (raise-row rows holes lists user is within some more) = write f.0 f.1 ∙ relocated-rows rows lists user _ _ f.0 t.0 is.linked f.1 f.2 t.1 t.2 in
+    (record { linked = linked; holes = rw (e, m) (raised-holes rows holes lists user is within some more) }, ap targets_in m ∙ raised-targets rows holes lists user is within some more)
 
 -- an empty gap may stand anywhere
-pub empty-gap : (rows : List (List Place)) (gaps : List Gap) (lists : List (List Use)) (user start : ℕ) → AreLinked rows gaps lists → user < length gaps → (gap_of gaps user).len ≡ 0 → start ≤ length (held (get_or rows user []))
-    → AreLinked rows (set gaps user (record { start = start; len = 0 })) lists
-empty-gap rows gaps lists user start is within none h = record {
+pub empty-gap : (rows : List (List Place)) (holes : List Holes) (lists : List (List Use)) (user start : ℕ) → AreLinked rows holes lists → user < length holes → is_counted holes user ≡ false → (gap_of holes user).len ≡ 0 → start ≤ length (held (get_or rows user []))
+    → AreLinked rows (set holes user (OneGap (record { start = start; len = 0 }))) lists
+empty-gap rows holes lists user start is within gapped none h = record {
   linked = is.linked;
-  gaps = subst (λ r. HaveGaps r (set gaps user (record { start = start; len = 0 }))) (set-get_or rows user []) (gaps-put rows gaps user (get_or rows user []) _ (omega (arith, within, is.gaps.count)) has' is.gaps);
+  holes = hole-put rows holes user _ (omega (arith, within, is.holes.count)) has' is.holes;
 }
   where
-    has : HasGap (get_or rows user []) (gap_of gaps user)
-    has = is.gaps.each user
+    has : HasGap (get_or rows user []) (gap_of holes user)
+    has = has-gap rows holes user is.holes gapped
 
-    long : length (held (get_or rows user [])) + (gap_of gaps user).len ≡ length (get_or rows user [])
-    long = held-length (get_or rows user []) (gap_of gaps user) has
+    long : length (held (get_or rows user [])) + (gap_of holes user).len ≡ length (get_or rows user [])
+    long = held-length (get_or rows user []) (gap_of holes user) has
 
     taken : (n : ℕ) (p : Place) → slice_get (get_or rows user []) n ≡ Some p → p.target ≢ no_target
     taken n p e = elim (side n) [ inl b ↦ has.before n p e b | inr b ↦ has.behind n p e (omega (arith, b, none)) ]
       where
-        side : (n : ℕ) → (n < (gap_of gaps user).start) ⊎ ((gap_of gaps user).start ≤ n)
+        side : (n : ℕ) → (n < (gap_of holes user).start) ⊎ ((gap_of holes user).start ≤ n)
         side n = grind arith
 
     has' : HasGap (get_or rows user []) (record { start = start; len = 0 })
@@ -217,11 +221,11 @@ empty-gap rows gaps lists user start is within none h = record {
 pub held-kept : (rows rows' : List (List Place)) (user : ℕ) → targets_in rows' ≡ targets_in rows → held (get_or rows' user []) ≡ held (get_or rows user [])
 held-kept rows rows' user e = sym (row-targets rows' user) ∙ ap (λ z. get_or z user []) e ∙ row-targets rows user
 
-pub users-kept : (rows rows' : List (List Place)) (gaps gaps' : List Gap) (user : ℕ) → HaveGaps rows gaps → HaveGaps rows' gaps' → targets_in rows' ≡ targets_in rows → user < length gaps → user < length gaps'
-users-kept rows rows' gaps gaps' user one two e h = omega (arith, h, one.count, two.count, ap length e, length-map rows held, length-map rows' held)
+pub users-kept : (rows rows' : List (List Place)) (holes holes' : List Holes) (user : ℕ) → HaveHoles rows holes → HaveHoles rows' holes' → targets_in rows' ≡ targets_in rows → user < length holes → user < length holes'
+users-kept rows rows' holes holes' user one two e h = omega (arith, h, one.count, two.count, ap length e, length-map rows held, length-map rows' held)
 
-pub user-within : (rows : List (List Place)) (gaps : List Gap) (user : ℕ) → HaveGaps rows gaps → user < length (targets_in rows) → user < length gaps
-user-within rows gaps user all h = omega (arith, h, all.count, length-map rows held)
+pub user-within : (rows : List (List Place)) (holes : List Holes) (user : ℕ) → HaveHoles rows holes → user < length (targets_in rows) → user < length holes
+user-within rows holes user all h = omega (arith, h, all.count, length-map rows held)
 
-pub users-set : (rows rows' : List (List Place)) (gaps gaps' : List Gap) (user : ℕ) (row : List ℕ) → HaveGaps rows gaps → HaveGaps rows' gaps' → targets_in rows' ≡ set (targets_in rows) user row → user < length gaps → user < length gaps'
-users-set rows rows' gaps gaps' user row one two e h = omega (arith, h, one.count, two.count, ap length e, length-set (targets_in rows) user row, length-map rows held, length-map rows' held)
+pub users-set : (rows rows' : List (List Place)) (holes holes' : List Holes) (user : ℕ) (row : List ℕ) → HaveHoles rows holes → HaveHoles rows' holes' → targets_in rows' ≡ set (targets_in rows) user row → user < length holes → user < length holes'
+users-set rows rows' holes holes' user row one two e h = omega (arith, h, one.count, two.count, ap length e, length-set (targets_in rows) user row, length-map rows held, length-map rows' held)

@@ -6,8 +6,10 @@ use Rattle.std.proofs.lemmas.List.FromFn.{get_or-map-range_with_len, length-map-
 use Rattle.std.proofs.lemmas.Option.{slice_get-get_or}
 use Rattle.pliron_core.specs.declared.uses.Use.{Use}
 use Rattle.pliron_core.specs.declared.places.Place.{Place}
-use Rattle.pliron_core.specs.declared.places.Gap.{Gap}
-use Rattle.pliron_core.specs.Places.{at, held, no_target, no_gap, gap_of, targets_in, places_from, uses_by, HasGap, HaveGaps, IsLinked, AreLinked}
+use Rattle.pliron_core.specs.declared.places.Holes.{Holes}
+use Rattle.pliron_core.specs.declared.places.Holes.TheVariants.{OneGap}
+use Rattle.pliron_core.specs.Places.{at, held, no_target, no_gap, targets_in, places_from, uses_by, HasGap, IsLinked}
+use Rattle.pliron_core.specs.Holes.{hole_of, HaveHoles, AreLinked}
 use Rattle.pliron_core.proofs.TableLemmas.{at-within}
 use Rattle.pliron_core.proofs.GapLemmas.{same, held-taken}
 use Rattle.pliron_core.proofs.GrownLemmas.{get_last, mapped_range_get, mapped_range_more}
@@ -105,12 +107,12 @@ gap-with first count h = record {
   behind = λ n q e a f. let r = mapped_range_at place first count n q e in let s : first + n ≡ q.target = ap (λ z. z.target) r.1 in omega (arith, r.0, s, f, h);
 }
 
-pub gaps-with : (rows : List (List Place)) (gaps : List Gap) (row : List Place) → HasGap row no_gap → HaveGaps rows gaps → HaveGaps (rows ++ row ∷ []) (gaps ++ no_gap ∷ [])
-gaps-with rows gaps row has is = record {
-  count = omega (arith, length-append rows (row ∷ []), length-append gaps (no_gap ∷ []), is.count);
+pub holes-with : (rows : List (List Place)) (holes : List Holes) (row : List Place) → HasGap row no_gap → HaveHoles rows holes → HaveHoles (rows ++ row ∷ []) (holes ++ OneGap no_gap ∷ [])
+holes-with rows holes row has is = record {
+  count = omega (arith, length-append rows (row ∷ []), length-append holes (OneGap no_gap ∷ []), is.count);
   each = λ u. elim (get_last rows row [] u) [
-    | inl e ↦ rw (e, get_or-pad gaps no_gap u) (is.each u)
-    | inr e ↦ let past : gap_of gaps u ≡ no_gap = get_or_past gaps u no_gap (omega (arith, e.2, is.count)) in rw (e.0, get_or-pad gaps no_gap u, past) has
+    | inl e ↦ rw (e, get_or-pad holes (OneGap no_gap) u) (is.each u)
+    | inr e ↦ let past : hole_of holes u ≡ OneGap no_gap = get_or_past holes u (OneGap no_gap) (omega (arith, e.2, is.count)) in rw (e.0, get_or-pad holes (OneGap no_gap) u, past) has
   ];
 }
 
@@ -133,12 +135,12 @@ pub length-uses : (lists : List (List Use)) (user count : ℕ) → length (lists
 length-uses lists user count = length-append lists (uses_by user count) ∙ ap (λ n. length lists + n) (length-map-range_with_len (λ k. (let x : Use = record { user = user; place = k } in x) ∷ []) 0 count)
 
 -- a new user with so many new targets
-pub user-linked : (rows : List (List Place)) (gaps : List Gap) (lists : List (List Use)) (count : ℕ) → length lists + count < 2 ^ 64 → AreLinked rows gaps lists → AreLinked (rows ++ places_from (length lists) count ∷ []) (gaps ++ no_gap ∷ []) (lists ++ uses_by (length rows) count)
-user-linked rows gaps lists count few is =
+pub user-linked : (rows : List (List Place)) (holes : List Holes) (lists : List (List Use)) (count : ℕ) → length lists + count < 2 ^ 64 → AreLinked rows holes lists → AreLinked (rows ++ places_from (length lists) count ∷ []) (holes ++ OneGap no_gap ∷ []) (lists ++ uses_by (length rows) count)
+user-linked rows holes lists count few is =
     let n = length-uses lists (length rows) count in
     record {
       linked = linked-with rows lists count (omega (arith, n, few)) is.linked;
-      gaps = gaps-with rows gaps _ (gap-with (length lists) count (omega (arith, few))) is.gaps;
+      holes = holes-with rows holes _ (gap-with (length lists) count (omega (arith, few))) is.holes;
     }
 
 -- as many more targets without uses

@@ -3,6 +3,8 @@ pub mod Nodes
 pub mod Rows
 pub mod Uses
 pub mod Places
+pub mod Counts
+pub mod Holes
 pub mod Rising
 pub mod Tree
 pub mod Joined

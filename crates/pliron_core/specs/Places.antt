@@ -1,5 +1,5 @@
 -- How places and uses are linked.
-use Rattle.std.specs.Prelude.{zero, suc, ◌≡◌, ◌≢◌, ◌≤◌, ◌<◌, ℕ, ◌+◌, ◌&&◌, nat_eq, nat_lt, if◌then◌else◌, List, [], ◌∷◌, length, Option, Some, slice_index_or, slice_get, slice_set, take, ◌-◌, map, Vec, vec_len, vec_capacity}
+use Rattle.std.specs.Prelude.{zero, suc, ◌≡◌, ◌≢◌, ◌≤◌, ◌<◌, ℕ, ◌+◌, ◌&&◌, nat_eq, nat_lt, if◌then◌else◌, List, [], ◌∷◌, length, Option, Some, slice_index_or, slice_get, slice_set, take, ◌-◌, map}
 use Rattle.std.specs.List.{range_with_len}
 use Rattle.pliron_core.specs.declared.uses.Use.{Use}
 use Rattle.pliron_core.specs.declared.places.Place.{Place}
@@ -30,6 +30,9 @@ mark_of p = if nat_eq p.target no_target then 0 else 1
 abbrev pub marks : List Place → List ℕ
 marks row = map mark_of row
 
+abbrev pub marks_in : List (List Place) → List (List ℕ)
+marks_in rows = map marks rows
+
 -- a use, by its place among those that are taken
 abbrev pub ranked_use : List (List Place) → Use → Use
 ranked_use rows u = record { user = u.user; place = rank (slice_index_or rows u.user []) u.place }
@@ -47,9 +50,6 @@ pub record HasGap (row : List Place) (gap : Gap) : Type 0 where
 abbrev pub no_gap : Gap
 no_gap = record { start = 0; len = 0 }
 
-abbrev pub gap_of : List Gap → ℕ → Gap
-gap_of gaps user = slice_index_or gaps user no_gap
-
 abbrev pub free_place : Place
 free_place = record { target = no_target; at = 0 }
 
@@ -60,11 +60,6 @@ places_from first count = map (λ target. record { target = target; at = 0 }) (r
 
 abbrev pub uses_by : ℕ → ℕ → List (List Use)
 uses_by user count = map (λ place. record { user = user; place = place } ∷ []) (range_with_len 0 count)
-
--- each row has one gap
-pub record HaveGaps (rows : List (List Place)) (gaps : List Gap) : Type 0 where
-  pub count : length gaps ≡ length rows
-  pub each : (user : ℕ) → HasGap (slice_index_or rows user []) (gap_of gaps user)
 
 -- the entry at two indices
 abbrev pub at : {X : Type 0} → List (List X) → ℕ → ℕ → Option X
@@ -83,14 +78,6 @@ pub record IsLinked (rows : List (List Place)) (lists : List (List Use)) : Type 
   pub used : (user place target i : ℕ) → at rows user place ≡ Some (record { target = target; at = i }) → target ≢ no_target → at lists target i ≡ Some (record { user = user; place = place })
   pub placed : (target i user place : ℕ) → at lists target i ≡ Some (record { user = user; place = place }) → at rows user place ≡ Some (record { target = target; at = i })
   pub few : length lists ≤ no_target
-
-pub record AreLinked (rows : List (List Place)) (spans : List Gap) (lists : List (List Use)) : Type 0 where
-  pub linked : IsLinked rows lists
-  pub gaps : HaveGaps rows spans
-
--- the tables are as long as before, with as much room
-abbrev pub KeepRooms : {X Y W Z : Type 0} → (places places' : Vec X Z) → (gaps gaps' : Vec Y Z) → (uses uses' : Vec W Z) → Type 0
-KeepRooms places places' gaps gaps' uses uses' = (vec_len places' ≡ vec_len places) × (vec_capacity places' ≡ vec_capacity places) × (vec_len gaps' ≡ vec_len gaps) × (vec_capacity gaps' ≡ vec_capacity gaps) × (vec_len uses' ≡ vec_len uses) × (vec_capacity uses' ≡ vec_capacity uses)
 
 -- a place of `old` that was reached names `new`
 abbrev pub shifted : ℕ → ℕ → ℕ → ℕ → Place → Place

@@ -77,7 +77,7 @@ impl Arguments {
     }
 
     /// The argument of a block at an index. Asks that there are such a block and such an argument. Cost:
-    /// constant.
+    /// constant, and a logarithm where they are counted.
     pub fn get(&self, block: Ptr<BasicBlock>, i: usize) -> Value
         requires block { block < length self.now.rows }
         requires index { i < length (argument_row_of self.now block) }
@@ -86,7 +86,8 @@ impl Arguments {
         Value::new(self.lists.target(block.index(), i))
     }
 
-    /// Whether the value is the argument of the block at this index. Cost: constant.
+    /// Whether the value is the argument of the block at this index. Cost: constant, and a logarithm where they
+    /// are counted.
     pub fn is_at(&self, block: Ptr<BasicBlock>, i: usize, value: Value) -> bool
         ensures { IsTrue result ↔ (slice_get (argument_row_of self.now block) i ≡ Some value) }
     {
@@ -97,7 +98,8 @@ impl Arguments {
         }
     }
 
-    /// What makes a value, or made it, where it is an argument that went. Cost: constant.
+    /// What makes a value, or made it, where it is an argument that went. Cost: constant, and a logarithm where
+    /// it is an argument and those of its block are counted.
     #[inline(always)]
     pub fn definition(&self, value: Value) -> Option<Def>
         ensures { result ≡ slice_get self.now.definitions value }
@@ -169,11 +171,34 @@ impl Arguments {
         Ok(())
     }
 
+    /// The arguments of a block are counted from now on, if there are many, so that ones far from one another
+    /// go quickly.
+    ///
+    /// Asks that there is such a block. Errors: want of memory. Nothing that contracts see changes.
+    /// Cost: the number of its arguments.
+    pub fn index(&mut self, alloc: Global, block: Ptr<BasicBlock>) -> Result<(), AllocError>
+        requires { block < length self.old.rows }
+        ensures { self.new ≡ self.old }
+    {
+        self.lists.index(alloc, block.index())
+    }
+
+    /// The arguments of a block are not counted from now on: reads are constant again.
+    ///
+    /// Asks that there is such a block. Takes no memory. Nothing that contracts see changes. Cost: the number
+    /// of its arguments when they were counted, and constant where they are not.
+    pub fn settle(&mut self, block: Ptr<BasicBlock>)
+        requires { block < length self.old.rows }
+        ensures { self.new ≡ self.old }
+    {
+        self.lists.settle(block.index());
+    }
+
     /// The argument of a block at an index goes. Each later one has the index before.
     ///
     /// Asks that there are such a block and such an argument. Takes no memory. Cost: the number of arguments
     /// between it and the place where the block lost one last, and constant for the first; amortised, a
-    /// constant and at most twice the number of arguments after it.
+    /// constant and at most twice the number of arguments after it. A logarithm where they are counted.
     pub fn remove(&mut self, block: Ptr<BasicBlock>, i: usize)
         requires block { block < length self.old.rows }
         requires index { i < length (argument_row_of self.old block) }
@@ -187,7 +212,7 @@ impl Arguments {
     }
 
     /// All arguments of a block go. Asks that there is such a block. Takes no memory. Cost: the number of its
-    /// arguments.
+    /// arguments, each a logarithm where they are counted.
     pub fn clear(&mut self, block: Ptr<BasicBlock>)
         requires { block < length self.old.rows }
         ensures { self.new ≡ record self.old { rows = slice_set self.old.rows block [] } }

@@ -6,7 +6,10 @@
 
 mod arguments;
 mod attrs;
+mod compact;
 mod context;
+mod counted;
+mod counts;
 mod keys;
 mod laws;
 mod links;

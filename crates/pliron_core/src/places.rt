@@ -1,11 +1,13 @@
 //! The places of each user, with a gap where targets went, and how they move.
 
-ghost use Rattle.std.specs.Prelude.{◌≡◌, ◌≢◌, ℕ, ◌+◌, ◌-◌, ◌^◌, ◌<◌, ◌≤◌, [], ◌∷◌, ◌++◌, length, map, slice_set, vec_capacity, vec_len, slice_get, slice_index_or, Some, take, IfOk, OnOk, OnErr, remove, replicate};
+ghost use Rattle.std.specs.Prelude.{◌≡◌, ◌≢◌, ℕ, false, ◌+◌, ◌-◌, ◌^◌, ◌<◌, ◌≤◌, [], length, slice_set, vec_capacity, vec_len, slice_get, slice_index_or, Some, take, IfOk, remove};
 ghost use Rattle.pliron_core.specs.declared.uses.Use.{Use};
 ghost use Rattle.std.specs.Option.{option_map};
 ghost use Rattle.pliron_core.specs.declared.places.Place.{Place as PlaceOf};
-ghost use Rattle.pliron_core.specs.Places.{at, put, held, rank, shifted, targets_in, no_target, free_place, gap_of, HasGap, HaveGaps, IsLinked, AreLinked, KeepRooms, places_from};
+ghost use Rattle.pliron_core.specs.Places.{at, put, held, rank, marks, marks_in, shifted, targets_in, no_target, free_place, HasGap, IsLinked, places_from};
+ghost use Rattle.pliron_core.specs.Holes.{gap_of, is_counted, Tracks, HaveHoles, AreLinked, KeepRooms};
 
+use crate::counts::Counts;
 use crate::row::{Row, entry, pop_entry, set_entry};
 use crate::uses::Use;
 use std::alloc::{AllocError, Global};
@@ -26,6 +28,19 @@ pub struct Gap {
     pub start: usize,
     pub len: usize,
 }
+
+/// Where the free places of a user are.
+///
+/// They lie together, in a gap, or anywhere in the row, where counts find them: so it is of a long row that
+/// loses targets far from one another.
+#[derive(Drop)]
+pub enum Holes {
+    OneGap(Gap),
+    Counted(Box<Counts>),
+}
+
+// No free places.
+pub(super) const NO_GAP: Gap = Gap { start: 0, len: 0 };
 
 // What a free place has.
 const FREE: Place = Place {
@@ -53,32 +68,62 @@ pub(super) fn new_places(
     Ok(row)
 }
 
-// The gap of a user.
+// Whether the places of a user are counted.
 #[inline(always)]
-pub(super) fn gap_at(places: &Vec<Row<Place>>, gaps: &Vec<Gap>, user: usize) -> Gap
-    requires gaps { HaveGaps places.now.items gaps.now.items }
-    requires user { user < length gaps.now.items }
-    ensures gap { result ≡ gap_of gaps.now.items user }
+pub(super) fn are_counted(holes: &Vec<Holes>, user: usize) -> bool
+    requires { user < length holes.now.items }
+    ensures { result ≡ is_counted holes.now.items user }
+{
+    match &holes[user] {
+        Holes::OneGap(_) => false,
+        Holes::Counted(_) => true,
+    }
+}
+
+// The gap of a user: none where its places are counted.
+#[inline(always)]
+pub(super) fn gap_at(places: &Vec<Row<Place>>, holes: &Vec<Holes>, user: usize) -> Gap
+    requires holes { HaveHoles places.now.items holes.now.items }
+    requires user { user < length holes.now.items }
+    ensures gap { result ≡ gap_of holes.now.items user }
     ensures few { length (slice_index_or places.now.items user []) < 2 ^ 64 }
 {
     let _ = places[user].len();
-    gaps[user]
+    match &holes[user] {
+        Holes::OneGap(gap) => *gap,
+        Holes::Counted(_) => NO_GAP,
+    }
 }
 
 // How many targets a user has.
 #[inline(always)]
-pub(super) fn count_at(places: &Vec<Row<Place>>, gaps: &Vec<Gap>, user: usize) -> usize
-    requires gaps { HaveGaps places.now.items gaps.now.items }
-    requires user { user < length gaps.now.items }
+pub(super) fn count_at(places: &Vec<Row<Place>>, holes: &Vec<Holes>, user: usize) -> usize
+    requires holes { HaveHoles places.now.items holes.now.items }
+    requires user { user < length holes.now.items }
     ensures { result ≡ length (held (slice_index_or places.now.items user [])) }
 {
-    let count = places[user].len();
-    count - gap_at(places, gaps, user).len
+    match &holes[user] {
+        Holes::OneGap(gap) => places[user].len() - gap.len,
+        Holes::Counted(counts) => counts.total(),
+    }
 }
 
 // The target at an index among those of a row.
 #[inline(always)]
-pub(super) fn target_at(row: &Row<Place>, gap: Gap, i: usize) -> usize
+pub(super) fn target_at(row: &Row<Place>, hole: &Holes, i: usize) -> usize
+    requires hole { Tracks row.now hole.now }
+    requires index { i < length (held row.now) }
+    ensures { slice_get (held row.now) i ≡ Some result }
+{
+    match hole {
+        Holes::OneGap(gap) => target_beside(row, *gap, i),
+        Holes::Counted(counts) => target_counted(row, counts, i),
+    }
+}
+
+// The target at an index among those of a row with a gap.
+#[inline(always)]
+fn target_beside(row: &Row<Place>, gap: Gap, i: usize) -> usize
     requires gap { HasGap row.now gap }
     requires index { i < length (held row.now) }
     ensures { slice_get (held row.now) i ≡ Some result }
@@ -91,9 +136,41 @@ pub(super) fn target_at(row: &Row<Place>, gap: Gap, i: usize) -> usize
     }
 }
 
+// The target at an index among those of a row whose places are counted.
+fn target_counted(row: &Row<Place>, counts: &Counts, i: usize) -> usize
+    requires counts { marks row.now ≡ counts.now }
+    requires index { i < length (held row.now) }
+    ensures { slice_get (held row.now) i ≡ Some result }
+{
+    row.get(counts.select(i)).target
+}
+
 // The index that a taken place has among those that are taken.
 #[inline(always)]
-pub(super) fn rank_at(row: &Row<Place>, gap: Gap, place: usize) -> usize
+pub(super) fn rank_at(row: &Row<Place>, hole: &Holes, place: usize) -> usize
+    requires hole { Tracks row.now hole.now }
+    requires taken { (p : PlaceOf) × (slice_get row.now place ≡ Some p) × (p.target ≢ no_target) }
+    ensures { result ≡ rank row.now place }
+{
+    match hole {
+        Holes::OneGap(gap) => rank_beside(row, *gap, place),
+        Holes::Counted(counts) => rank_counted(row, counts, place),
+    }
+}
+
+// The index that a taken place of a row whose places are counted has among those that are taken.
+fn rank_counted(row: &Row<Place>, counts: &Counts, place: usize) -> usize
+    requires counts { marks row.now ≡ counts.now }
+    requires place { place < length row.now }
+    ensures { result ≡ rank row.now place }
+{
+    let _ = row.len();
+    counts.rank(place)
+}
+
+// The index that a taken place of a row with a gap has among those that are taken.
+#[inline(always)]
+fn rank_beside(row: &Row<Place>, gap: Gap, place: usize) -> usize
     requires gap { HasGap row.now gap }
     requires taken { (p : PlaceOf) × (slice_get row.now place ≡ Some p) × (p.target ≢ no_target) }
     ensures { result ≡ rank row.now place }
@@ -132,104 +209,105 @@ pub(super) fn relocate(
 // The gap of the user goes one place down: what stands before it goes behind it.
 pub(super) fn lower_gap(
     places: &mut Vec<Row<Place>>,
-    gaps: &mut Vec<Gap>,
+    holes: &mut Vec<Holes>,
     uses: &mut Vec<Row<Use>>,
     user: usize,
 )
-    requires linked { AreLinked places.old.items gaps.old.items uses.old.items }
-    requires user { user < length gaps.old.items }
-    requires len { 0 < (gap_of gaps.old.items user).len }
-    requires start { 0 < (gap_of gaps.old.items user).start }
-    ensures linked { AreLinked places.new.items gaps.new.items uses.new.items }
+    requires linked { AreLinked places.old.items holes.old.items uses.old.items }
+    requires user { user < length holes.old.items }
+    requires len { 0 < (gap_of holes.old.items user).len }
+    requires start { 0 < (gap_of holes.old.items user).start }
+    ensures linked { AreLinked places.new.items holes.new.items uses.new.items }
     ensures targets { targets_in places.new.items ≡ targets_in places.old.items }
-    ensures gap { gap_of gaps.new.items user ≡ record { start = (gap_of gaps.old.items user).start - 1; len = (gap_of gaps.old.items user).len } }
+    ensures gap { gap_of holes.new.items user ≡ record { start = (gap_of holes.old.items user).start - 1; len = (gap_of holes.old.items user).len } }
     ensures count { length uses.new.items ≡ length uses.old.items }
-    ensures rooms { KeepRooms places.old places.new gaps.old gaps.new uses.old uses.new }
+    ensures rooms { KeepRooms places.old places.new holes.old holes.new uses.old uses.new }
 {
-    let Gap { start, len } = gap_at(places, gaps, user);
+    let Gap { start, len } = gap_at(places, holes, user);
     relocate(places, uses, user, start - 1, start + len - 1);
-    gaps[user] = Gap {
+    holes[user] = Holes::OneGap(Gap {
         start: start - 1,
         len,
-    };
+    });
 }
 
 // The gap of the user goes one place up: what stands behind it goes before it.
 pub(super) fn raise_gap(
     places: &mut Vec<Row<Place>>,
-    gaps: &mut Vec<Gap>,
+    holes: &mut Vec<Holes>,
     uses: &mut Vec<Row<Use>>,
     user: usize,
 )
-    requires linked { AreLinked places.old.items gaps.old.items uses.old.items }
-    requires user { user < length gaps.old.items }
-    requires len { 0 < (gap_of gaps.old.items user).len }
-    requires start { (gap_of gaps.old.items user).start < length (held (slice_index_or places.old.items user [])) }
-    ensures linked { AreLinked places.new.items gaps.new.items uses.new.items }
+    requires linked { AreLinked places.old.items holes.old.items uses.old.items }
+    requires user { user < length holes.old.items }
+    requires len { 0 < (gap_of holes.old.items user).len }
+    requires start { (gap_of holes.old.items user).start < length (held (slice_index_or places.old.items user [])) }
+    ensures linked { AreLinked places.new.items holes.new.items uses.new.items }
     ensures targets { targets_in places.new.items ≡ targets_in places.old.items }
-    ensures gap { gap_of gaps.new.items user ≡ record { start = (gap_of gaps.old.items user).start + 1; len = (gap_of gaps.old.items user).len } }
+    ensures gap { gap_of holes.new.items user ≡ record { start = (gap_of holes.old.items user).start + 1; len = (gap_of holes.old.items user).len } }
     ensures count { length uses.new.items ≡ length uses.old.items }
-    ensures rooms { KeepRooms places.old places.new gaps.old gaps.new uses.old uses.new }
+    ensures rooms { KeepRooms places.old places.new holes.old holes.new uses.old uses.new }
 {
-    let Gap { start, len } = gap_at(places, gaps, user);
+    let Gap { start, len } = gap_at(places, holes, user);
     relocate(places, uses, user, start + len, start);
-    gaps[user] = Gap {
+    holes[user] = Holes::OneGap(Gap {
         start: start + 1,
         len,
-    };
+    });
 }
 
 // The gap of the user goes to where its target `i` stands, or, where it has as many, to the end.
 #[inline(always)]
 pub(super) fn open_gap(
     places: &mut Vec<Row<Place>>,
-    gaps: &mut Vec<Gap>,
+    holes: &mut Vec<Holes>,
     uses: &mut Vec<Row<Use>>,
     user: usize,
     i: usize,
 )
-    requires linked { AreLinked places.old.items gaps.old.items uses.old.items }
-    requires user { user < length gaps.old.items }
+    requires linked { AreLinked places.old.items holes.old.items uses.old.items }
+    requires user { user < length holes.old.items }
+    requires gapped { is_counted holes.old.items user ≡ false }
     requires index { i ≤ length (held (slice_index_or places.old.items user [])) }
-    ensures linked { AreLinked places.new.items gaps.new.items uses.new.items }
+    ensures linked { AreLinked places.new.items holes.new.items uses.new.items }
     ensures targets { targets_in places.new.items ≡ targets_in places.old.items }
-    ensures start { (gap_of gaps.new.items user).start ≡ i }
+    ensures start { (gap_of holes.new.items user).start ≡ i }
+    ensures gapped { is_counted holes.new.items user ≡ false }
     ensures count { length uses.new.items ≡ length uses.old.items }
-    ensures rooms { KeepRooms places.old places.new gaps.old gaps.new uses.old uses.new }
+    ensures rooms { KeepRooms places.old places.new holes.old holes.new uses.old uses.new }
 {
-    if gap_at(places, gaps, user).len == 0 {
-        gaps[user] = Gap { start: i, len: 0 };
+    if gap_at(places, holes, user).len == 0 {
+        holes[user] = Holes::OneGap(Gap { start: i, len: 0 });
         return;
     }
-    while gap_at(places, gaps, user).start > i {
-        lower_gap(places, gaps, uses, user);
+    while gap_at(places, holes, user).start > i {
+        lower_gap(places, holes, uses, user);
     }
-    while gap_at(places, gaps, user).start < i {
-        raise_gap(places, gaps, uses, user);
+    while gap_at(places, holes, user).start < i {
+        raise_gap(places, holes, uses, user);
     }
 }
 
-// The target behind the gap of the user goes, and is the answer. The last use of that target takes the
-// index of the use that goes.
+// The target at a taken place of the user goes, and is the answer: the place is free from then on. The last
+// use of that target takes the index of the use that goes.
 #[inline(always)]
-pub(super) fn widen_gap(
+pub(super) fn vacate(
     places: &mut Vec<Row<Place>>,
-    gaps: &mut Vec<Gap>,
     uses: &mut Vec<Row<Use>>,
     user: usize,
+    place: usize,
 ) -> usize
-    requires linked { AreLinked places.old.items gaps.old.items uses.old.items }
-    requires user { user < length gaps.old.items }
-    requires start { (gap_of gaps.old.items user).start < length (held (slice_index_or places.old.items user [])) }
-    ensures linked { AreLinked places.new.items gaps.new.items uses.new.items }
-    ensures target { slice_get (held (slice_index_or places.old.items user [])) (gap_of gaps.old.items user).start ≡ Some result }
+    requires linked { IsLinked places.old.items uses.old.items }
+    requires taken { (p : PlaceOf) × (at places.old.items user place ≡ Some p) × (p.target ≢ no_target) }
+    ensures linked { IsLinked places.new.items uses.new.items }
+    ensures target { slice_get (held (slice_index_or places.old.items user [])) (rank (slice_index_or places.old.items user []) place) ≡ Some result }
     ensures targets { targets_in places.new.items ≡ slice_set (targets_in places.old.items) user (remove (slice_index_or
-        (targets_in places.old.items) user []) (gap_of gaps.old.items user).start) }
+        (targets_in places.old.items) user []) (rank (slice_index_or places.old.items user []) place)) }
+    ensures marks { marks_in places.new.items ≡ slice_set (marks_in places.old.items) user (slice_set (marks (slice_index_or places.old.items user [])) place 0) }
     ensures count { length uses.new.items ≡ length uses.old.items }
-    ensures rooms { KeepRooms places.old places.new gaps.old gaps.new uses.old uses.new }
+    ensures rooms { (vec_len places.new ≡ vec_len places.old) × (vec_capacity places.new ≡ vec_capacity places.old) × (vec_len uses.new ≡
+        vec_len uses.old) × (vec_capacity uses.new ≡ vec_capacity uses.old) }
 {
-    let Gap { start, len } = gap_at(places, gaps, user);
-    let place = start + len;
     let Place { target, at } = entry(places, user, place);
     let end = uses[target].len() - 1;
     let moved = entry(uses, target, end);
@@ -237,51 +315,79 @@ pub(super) fn widen_gap(
     set_entry(uses, target, at, moved);
     pop_entry(uses, target);
     set_entry(places, user, place, FREE);
-    gaps[user] = Gap {
+    target
+}
+
+// The target behind the gap of the user goes, and is the answer.
+#[inline(always)]
+pub(super) fn widen_gap(
+    places: &mut Vec<Row<Place>>,
+    holes: &mut Vec<Holes>,
+    uses: &mut Vec<Row<Use>>,
+    user: usize,
+) -> usize
+    requires linked { AreLinked places.old.items holes.old.items uses.old.items }
+    requires user { user < length holes.old.items }
+    requires gapped { is_counted holes.old.items user ≡ false }
+    requires start { (gap_of holes.old.items user).start < length (held (slice_index_or places.old.items user [])) }
+    ensures linked { AreLinked places.new.items holes.new.items uses.new.items }
+    ensures target { slice_get (held (slice_index_or places.old.items user [])) (gap_of holes.old.items user).start ≡ Some result }
+    ensures targets { targets_in places.new.items ≡ slice_set (targets_in places.old.items) user (remove (slice_index_or
+        (targets_in places.old.items) user []) (gap_of holes.old.items user).start) }
+    ensures gapped { is_counted holes.new.items user ≡ false }
+    ensures count { length uses.new.items ≡ length uses.old.items }
+    ensures rooms { KeepRooms places.old places.new holes.old holes.new uses.old uses.new }
+{
+    let Gap { start, len } = gap_at(places, holes, user);
+    let target = vacate(places, uses, user, start + len);
+    holes[user] = Holes::OneGap(Gap {
         start,
         len: len + 1,
-    };
+    });
     target
 }
 
 // The gap of the user, which stands at the end, goes.
 #[inline(always)]
-pub(super) fn close_gap(places: &mut Vec<Row<Place>>, gaps: &mut Vec<Gap>, user: usize)
-    requires gaps { HaveGaps places.old.items gaps.old.items }
-    requires user { user < length gaps.old.items }
-    requires end { (gap_of gaps.old.items user).start ≡ length (held (slice_index_or places.old.items user [])) }
-    ensures places { places.new.items ≡ slice_set places.old.items user (take (gap_of gaps.old.items user).start (slice_index_or places.old.items user [])) }
-    ensures gaps { HaveGaps places.new.items gaps.new.items }
-    ensures rooms { (vec_len places.new ≡ vec_len places.old) × (vec_capacity places.new ≡ vec_capacity places.old) × (vec_len gaps.new ≡
-        vec_len gaps.old) × (vec_capacity gaps.new ≡ vec_capacity gaps.old) }
+pub(super) fn close_gap(places: &mut Vec<Row<Place>>, holes: &mut Vec<Holes>, user: usize)
+    requires holes { HaveHoles places.old.items holes.old.items }
+    requires user { user < length holes.old.items }
+    requires gapped { is_counted holes.old.items user ≡ false }
+    requires end { (gap_of holes.old.items user).start ≡ length (held (slice_index_or places.old.items user [])) }
+    ensures places { places.new.items ≡ slice_set places.old.items user (take (gap_of holes.old.items user).start (slice_index_or places.old.items user [])) }
+    ensures holes { HaveHoles places.new.items holes.new.items }
+    ensures gapped { is_counted holes.new.items user ≡ false }
+    ensures rooms { (vec_len places.new ≡ vec_len places.old) × (vec_capacity places.new ≡ vec_capacity places.old) × (vec_len holes.new ≡
+        vec_len holes.old) × (vec_capacity holes.new ≡ vec_capacity holes.old) }
 {
-    let start = gap_at(places, gaps, user).start;
+    let start = gap_at(places, holes, user).start;
     places[user].truncate(start);
-    gaps[user] = Gap { start: 0, len: 0 };
+    holes[user] = Holes::OneGap(NO_GAP);
 }
 
 // The gap of the user goes where it stands at the end or is longer than the targets are many.
 #[inline(always)]
 pub(super) fn settle_gap(
     places: &mut Vec<Row<Place>>,
-    gaps: &mut Vec<Gap>,
+    holes: &mut Vec<Holes>,
     uses: &mut Vec<Row<Use>>,
     user: usize,
 )
-    requires linked { AreLinked places.old.items gaps.old.items uses.old.items }
-    requires user { user < length gaps.old.items }
-    ensures linked { AreLinked places.new.items gaps.new.items uses.new.items }
+    requires linked { AreLinked places.old.items holes.old.items uses.old.items }
+    requires user { user < length holes.old.items }
+    requires gapped { is_counted holes.old.items user ≡ false }
+    ensures linked { AreLinked places.new.items holes.new.items uses.new.items }
     ensures targets { targets_in places.new.items ≡ targets_in places.old.items }
     ensures count { length uses.new.items ≡ length uses.old.items }
-    ensures rooms { KeepRooms places.old places.new gaps.old gaps.new uses.old uses.new }
+    ensures rooms { KeepRooms places.old places.new holes.old holes.new uses.old uses.new }
 {
-    let Gap { start, len } = gap_at(places, gaps, user);
-    let count = count_at(places, gaps, user);
+    let Gap { start, len } = gap_at(places, holes, user);
+    let count = count_at(places, holes, user);
     if start < count && len <= count {
         return;
     }
-    open_gap(places, gaps, uses, user, count);
-    close_gap(places, gaps, user);
+    open_gap(places, holes, uses, user, count);
+    close_gap(places, holes, user);
 }
 
 // The places of these uses of `old` name `new`, where the uses now stand from `first` on.

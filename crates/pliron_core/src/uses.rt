@@ -1,15 +1,14 @@
 //! Which targets each user names, in order, and where each target is used.
 
-ghost use Rattle.std.specs.Prelude.{◌≡◌, ◌≢◌, ℕ, ◌+◌, ◌-◌, ◌^◌, ◌<◌, ◌≤◌, [], ◌∷◌, ◌++◌, length, map, slice_set, vec_capacity, vec_len, slice_get, slice_index_or, Some, take, IfOk, OnOk, OnErr, IsOk, remove, replicate};
+ghost use Rattle.std.specs.Prelude.{◌≡◌, ◌≢◌, ◌+◌, ◌-◌, ◌<◌, ◌≤◌, [], ◌∷◌, ◌++◌, length, map, slice_set, vec_capacity, vec_len, slice_get, Some, OnOk, OnErr, IsOk, remove, replicate};
 ghost use Rattle.std.specs.List.{range_with_len};
-ghost use Rattle.pliron_core.specs.Uses.{Table, targets_of, table_uses, AreAgreed, replace_target};
-ghost use Rattle.pliron_core.specs.declared.uses.Use.{Use};
-ghost use Rattle.std.specs.Option.{option_map};
-ghost use Rattle.pliron_core.specs.Places.{at, put, held, rank, shifted, targets_in, no_target, free_place, gap_of, HasGap, HaveGaps, IsLinked, AreLinked, KeepRooms, places_from, uses_by};
+ghost use Rattle.pliron_core.specs.Uses.{targets_of, table_uses, AreAgreed, replace_target};
+ghost use Rattle.pliron_core.specs.Places.{uses_by};
 
+use crate::counted::{count_places, settle_places, take_counted};
 use crate::places::{
-    Gap, Place, close_gap, count_at, gap_at, new_places, open_gap, rank_at, retarget, settle_gap,
-    target_at, widen_gap,
+    Holes, NO_GAP, Place, are_counted, count_at, new_places, open_gap, rank_at, retarget,
+    settle_gap, target_at, widen_gap,
 };
 use crate::row::{Row, entry, pop_entry, set_entry};
 use std::alloc::{AllocError, Global};
@@ -22,14 +21,19 @@ use std::mem;
 /// step. Here user 0 names the targets 5, 7 and 5, after it lost a target that stood second:
 ///
 /// ```text
-/// places[0]   0: 5 at 0   1: free   2: 7 at 0   3: 5 at 1     gaps[0] = start 1, len 1
+/// places[0]   0: 5 at 0   1: free   2: 7 at 0   3: 5 at 1     holes[0] = one gap: start 1, len 1
 /// uses[5]     0: user 0, place 0    1: user 0, place 3        place 3 is index 2: behind the gap, 3 - 1
 /// uses[7]     0: user 0, place 2
 /// ```
+///
+/// A gap moves to where a target goes, over all places between. So a user that is about to lose many targets,
+/// far from one another, may have its places counted (`index`): the free ones then stay where they are, and
+/// counts tell, in a logarithm of the number of places, how many are taken before a place, and where the i-th
+/// taken one is. It ends by `settle`, or when the user gets one more target.
 #[derive(Drop)]
 pub struct Uses {
     places: Vec<Row<Place>>,
-    gaps: Vec<Gap>,
+    holes: Vec<Holes>,
     uses: Vec<Row<Use>>,
 }
 
@@ -46,16 +50,17 @@ impl Model for Uses {
     ghost Value = { Table };
 
     ghost use Rattle.std.specs.Prelude.{◌-◌, min, vec_capacity, vec_len};
-    ghost use Rattle.pliron_core.specs.Places.{AreLinked, targets_in, uses_in};
+    ghost use Rattle.pliron_core.specs.Places.{targets_in, uses_in};
+    ghost use Rattle.pliron_core.specs.Holes.{AreLinked};
 
     ghost view = { λ c. record {
       targets = targets_in c.places.items;
       uses = uses_in c.places.items c.uses.items;
-      user_room = min (vec_capacity c.places - vec_len c.places) (vec_capacity c.gaps - vec_len c.gaps);
+      user_room = min (vec_capacity c.places - vec_len c.places) (vec_capacity c.holes - vec_len c.holes);
       target_room = vec_capacity c.uses - vec_len c.uses;
     } };
 
-    ghost invariant = { λ c. AreLinked c.places.items c.gaps.items c.uses.items };
+    ghost invariant = { λ c. AreLinked c.places.items c.holes.items c.uses.items };
 }
 
 impl Uses {
@@ -65,7 +70,7 @@ impl Uses {
     {
         Uses {
             places: Vec::new(alloc),
-            gaps: Vec::new(alloc),
+            holes: Vec::new(alloc),
             uses: Vec::new(alloc),
         }
     }
@@ -92,19 +97,18 @@ impl Uses {
         requires { user < length self.now.targets }
         ensures { result ≡ length (targets_of self.now user) }
     {
-        count_at(&self.places, &self.gaps, user)
+        count_at(&self.places, &self.holes, user)
     }
 
     /// The target at a place of a user. Asks that there are such a user and such a place (`num_targets` tests
-    /// it). Cost: constant.
+    /// it). Cost: constant, and a logarithm where its places are counted.
     #[inline(always)]
     pub fn target(&self, user: usize, place: usize) -> usize
         requires user { user < length self.now.targets }
         requires place { place < length (targets_of self.now user) }
         ensures { slice_get (targets_of self.now user) place ≡ Some result }
     {
-        let gap = gap_at(&self.places, &self.gaps, user);
-        target_at(&self.places[user], gap, place)
+        target_at(&self.places[user], &self.holes[user], place)
     }
 
     /// How many uses a target has. Asks that there is such a target. Cost: constant.
@@ -117,7 +121,7 @@ impl Uses {
     }
 
     /// The use of a target at an index, in no given order. Asks that there is such a target, and that the
-    /// index is below `num_uses`. Cost: constant.
+    /// index is below `num_uses`. Cost: constant, and a logarithm where the places of the user are counted.
     #[inline(always)]
     pub fn get_use(&self, target: usize, i: usize) -> Use
         requires target { target < length self.now.uses }
@@ -125,8 +129,7 @@ impl Uses {
         ensures { slice_get (table_uses self.now target) i ≡ Some result }
     {
         let Use { user, place } = self.uses[target].get(i);
-        let gap = gap_at(&self.places, &self.gaps, user);
-        let place = rank_at(&self.places[user], gap, place);
+        let place = rank_at(&self.places[user], &self.holes[user], place);
         Use { user, place }
     }
 
@@ -140,7 +143,7 @@ impl Uses {
         ensures room { OnOk result ((users ≤ self.new.user_room) × (targets ≤ self.new.target_room)) }
     {
         self.places.reserve(users)?;
-        self.gaps.reserve(users)?;
+        self.holes.reserve(users)?;
         self.uses.reserve(targets)
     }
 
@@ -153,7 +156,7 @@ impl Uses {
     {
         let key = self.places.len();
         self.places.push_reserved(Row::new(alloc));
-        self.gaps.push_reserved(Gap { start: 0, len: 0 });
+        self.holes.push_reserved(Holes::OneGap(NO_GAP));
         key
     }
 
@@ -190,20 +193,20 @@ impl Uses {
         ensures err { OnErr result ((self.new.targets ≡ self.old.targets) × (self.new.uses ≡ self.old.uses)) }
     {
         self.places.reserve(1)?;
-        self.gaps.reserve(1)?;
+        self.holes.reserve(1)?;
         self.uses.reserve(count)?;
         let row = new_places(alloc, self.uses.len(), count)?;
         let user = self.places.len();
         add_used(&mut self.uses, alloc, user, count)?;
         self.places.push_reserved(row);
-        self.gaps.push_reserved(Gap { start: 0, len: 0 });
+        self.holes.push_reserved(Holes::OneGap(NO_GAP));
         Ok(())
     }
 
     /// The user gets one more target, at the end.
     ///
     /// Asks that there are such a user and such a target. Errors: want of memory, which leaves all as it was.
-    /// Cost: constant, amortised.
+    /// Cost: constant, amortised. Places that are counted are settled first.
     #[inline(always)]
     pub fn push(&mut self, user: usize, target: usize) -> Result<(), AllocError>
         requires user { user < length self.old.targets }
@@ -213,6 +216,7 @@ impl Uses {
         ensures rooms { (self.new.user_room ≡ self.old.user_room) × (self.new.target_room ≡ self.old.target_room) }
         ensures err { OnErr result (self.new ≡ self.old) }
     {
+        settle_places(&mut self.places, &mut self.holes, &mut self.uses, user);
         let at = self.uses[target].len();
         let place = self.places[user].len();
         self.uses[target].push(Use { user, place })?;
@@ -268,11 +272,34 @@ impl Uses {
         retarget(&mut self.places, &self.uses[new], old, new, 0);
     }
 
+    /// The places of a user are counted from now on, if it has many, so that targets far from one another go
+    /// quickly.
+    ///
+    /// Asks that there is such a user. Errors: want of memory. Nothing that contracts see changes.
+    /// Cost: the number of its places.
+    pub fn index(&mut self, alloc: Global, user: usize) -> Result<(), AllocError>
+        requires { user < length self.old.targets }
+        ensures { self.new ≡ self.old }
+    {
+        count_places(alloc, &self.places, &mut self.holes, user)
+    }
+
+    /// The places of a user are not counted from now on: reads are constant again.
+    ///
+    /// Asks that there is such a user. Takes no memory. Nothing that contracts see changes. Cost: the number of
+    /// its places when they were counted, and constant where they are not.
+    pub fn settle(&mut self, user: usize)
+        requires { user < length self.old.targets }
+        ensures { self.new ≡ self.old }
+    {
+        settle_places(&mut self.places, &mut self.holes, &mut self.uses, user);
+    }
+
     /// The target at a place goes, and is the answer. The later ones move down by one place.
     ///
     /// Asks that there are such a user and such a place. Takes no memory. Cost: the number of targets between
     /// it and the place where one was removed last, and constant for the first; amortised, a constant and at
-    /// most twice the number of targets after it.
+    /// most twice the number of targets after it. A logarithm where its places are counted.
     #[inline(always)]
     pub fn remove(&mut self, user: usize, place: usize) -> usize
         requires user { user < length self.old.targets }
@@ -282,20 +309,29 @@ impl Uses {
         ensures count { length self.new.uses ≡ length self.old.uses }
         ensures rooms { (self.new.user_room ≡ self.old.user_room) × (self.new.target_room ≡ self.old.target_room) }
     {
+        if are_counted(&self.holes, user) {
+            return take_counted(
+                &mut self.places,
+                &mut self.holes,
+                &mut self.uses,
+                user,
+                place,
+            );
+        }
         open_gap(
             &mut self.places,
-            &mut self.gaps,
+            &mut self.holes,
             &mut self.uses,
             user,
             place,
         );
-        let target = widen_gap(&mut self.places, &mut self.gaps, &mut self.uses, user);
-        settle_gap(&mut self.places, &mut self.gaps, &mut self.uses, user);
+        let target = widen_gap(&mut self.places, &mut self.holes, &mut self.uses, user);
+        settle_gap(&mut self.places, &mut self.holes, &mut self.uses, user);
         target
     }
 
     /// All targets of a user go. Asks that there is such a user. Takes no memory. Cost: the number of its
-    /// targets.
+    /// targets, each a logarithm where its places are counted.
     #[inline(always)]
     pub fn clear(&mut self, user: usize)
         requires { user < length self.old.targets }

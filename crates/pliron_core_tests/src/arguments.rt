@@ -32,7 +32,7 @@ fn argument_of(rt: &impl Abort, ctx: &Context, block: Ptr<BasicBlock>, i: usize)
     block.get_argument(ctx, i)
 }
 
-fn remove_argument(rt: &impl Abort, ctx: &mut Context, block: Ptr<BasicBlock>, i: usize) {
+pub fn remove_argument(rt: &impl Abort, ctx: &mut Context, block: Ptr<BasicBlock>, i: usize) {
     assert!(rt; block.is_live(ctx));
     assert!(rt; i < block.num_argument(ctx));
     let gone = block.get_argument(ctx, i);
@@ -42,13 +42,13 @@ fn remove_argument(rt: &impl Abort, ctx: &mut Context, block: Ptr<BasicBlock>, i
     assert!(rt; !gone.is_live(ctx));
 }
 
-fn check_argument(rt: &impl Abort, ctx: &Context, block: Ptr<BasicBlock>, i: usize, want: Value) {
+pub fn check_argument(rt: &impl Abort, ctx: &Context, block: Ptr<BasicBlock>, i: usize, want: Value) {
     assert!(rt; argument_of(rt, ctx, block, i) == want);
     assert!(rt; want.is_live(ctx));
     assert!(rt; want.def(ctx) == Def::Argument(block, i));
 }
 
-fn arguments_of(
+pub fn arguments_of(
     rt: &impl Abort,
     alloc: Global,
     ctx: &Context,

@@ -7,6 +7,8 @@ mod arguments;
 #[cfg(test)]
 mod attributes;
 #[cfg(test)]
+mod counted;
+#[cfg(test)]
 mod deep;
 #[cfg(test)]
 mod edges;

@@ -36,7 +36,7 @@ fn number(rt: &impl Abort, word: &str) -> usize {
 }
 
 // So many operations with one result each, and their results.
-fn make_values(
+pub fn make_values(
     rt: &impl Abort,
     alloc: Global,
     ctx: &mut Context,
@@ -78,7 +78,7 @@ fn step(
 }
 
 // Whether a use of the value is the operand at this place.
-fn is_used_at(
+pub fn is_used_at(
     rt: &impl Abort,
     ctx: &Context,
     value: Value,

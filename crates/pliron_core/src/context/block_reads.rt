@@ -27,7 +27,7 @@ impl Ptr<BasicBlock> {
     }
 
     /// The argument at this index. Asks that the block stands and has as many (`is_live` and `num_argument`
-    /// test it). Cost: constant.
+    /// test it). Cost: constant, and a logarithm where the block has an index (`index_arguments`).
     pub fn get_argument(self, ctx: &Context, i: usize) -> Value
         requires live { IsBlock ctx.now.tree self }
         requires index { i < length (arguments_of ctx.now.tree self) }

@@ -18,7 +18,8 @@ impl Value {
     }
 
     /// The use at this index: an operation, and the index among its operands. The order of uses is open. Asks
-    /// that the value stands and has as many (`is_live` and `num_use` test it). Cost: constant.
+    /// that the value stands and has as many (`is_live` and `num_use` test it). Cost: constant, and a logarithm
+    /// where that operation has an index (`index_operands`).
     pub fn get_use(self, ctx: &Context, i: usize) -> (Ptr<Operation>, usize)
         requires live { IsDefined ctx.now.tree self }
         requires index { i < length (uses_of ctx.now.value_uses self) }

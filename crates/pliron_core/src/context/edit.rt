@@ -11,7 +11,7 @@ impl Operation {
     /// One more operand, at the end.
     ///
     /// Asks that the operation and the value stand. Errors: want of memory, which changes nothing.
-    /// Cost: amortised constant.
+    /// Cost: amortised constant. An index of the operands goes first, as by `settle_operands`.
     #[inline(always)]
     pub fn push_operand(ctx: &mut Context, op: Ptr<Operation>, value: Value) -> Result<(), NoMemory>
         requires live { IsLive ctx.old.tree op }
@@ -48,7 +48,8 @@ impl Operation {
     ///
     /// Asks that the operation stands and has such an operand. Takes no memory.
     /// Cost: the number of operands between it and the place where the operation lost one last, and
-    /// constant for the first; amortised, a constant and at most twice the number of operands after it.
+    /// constant for the first; amortised, a constant and at most twice the number of operands after it. With an
+    /// index (`index_operands`) it is a logarithm.
     pub fn remove_operand(ctx: &mut Context, op: Ptr<Operation>, i: usize) -> Value
         requires live { IsLive ctx.old.tree op }
         requires index { i < length (operands_of ctx.old.tree op) }
@@ -69,8 +70,8 @@ impl Operation {
         requires { IsLive ctx.old.tree op }
         ensures { ctx.new ≡ ctx.old }
     {
-        let _ = op;
-        let _ = &mut ctx.operands;
+        let alloc = ctx.alloc;
+        ctx.operands.index(alloc, op.index())?;
         Ok(())
     }
 
@@ -82,8 +83,7 @@ impl Operation {
         requires { IsLive ctx.old.tree op }
         ensures { ctx.new ≡ ctx.old }
     {
-        let _ = op;
-        let _ = &mut ctx.operands;
+        ctx.operands.settle(op.index());
     }
 
     /// The attribute at this index is replaced.
@@ -135,8 +135,8 @@ impl BasicBlock {
         requires { IsBlock ctx.old.tree block }
         ensures { ctx.new ≡ ctx.old }
     {
-        let _ = block;
-        let _ = &mut ctx.arguments;
+        let alloc = ctx.alloc;
+        ctx.arguments.index(alloc, block)?;
         Ok(())
     }
 
@@ -148,8 +148,7 @@ impl BasicBlock {
         requires { IsBlock ctx.old.tree block }
         ensures { ctx.new ≡ ctx.old }
     {
-        let _ = block;
-        let _ = &mut ctx.arguments;
+        ctx.arguments.settle(block);
     }
 
     /// An argument that has no use goes. The later ones stay the same values, each with the index
@@ -157,7 +156,8 @@ impl BasicBlock {
     ///
     /// Asks that the block stands and has such an argument, and that no operation uses it. Takes no
     /// memory. Cost: the number of arguments between it and the place where the block lost one last, and
-    /// constant for the first; amortised, a constant and at most twice the number of arguments after it.
+    /// constant for the first; amortised, a constant and at most twice the number of arguments after it. With an
+    /// index (`index_arguments`) it is a logarithm.
     pub fn remove_argument(ctx: &mut Context, block: Ptr<BasicBlock>, i: usize)
         requires block { IsBlock ctx.old.tree block }
         requires index { i < length (arguments_of ctx.old.tree block) }

@@ -39,7 +39,7 @@ impl Ptr<Operation> {
     }
 
     /// The operand at this index. Asks that the operation stands and has as many (`is_live` and `num_operand`
-    /// test it). Cost: constant.
+    /// test it). Cost: constant, and a logarithm where the operation has an index (`index_operands`).
     pub fn get_operand(self, ctx: &Context, i: usize) -> Value
         requires live { IsLive ctx.now.tree self }
         requires index { i < length (operands_of ctx.now.tree self) }

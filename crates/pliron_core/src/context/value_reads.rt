@@ -19,7 +19,8 @@ fn is_value_at(values: &Row<Value>, i: usize, value: Value) -> bool
 }
 
 impl Value {
-    /// Whether the value stands: what made it in this context still lists it. Cost: constant.
+    /// Whether the value stands: what made it in this context still lists it. Cost: constant, and a logarithm
+    /// for an argument of a block with an index (`index_arguments`).
     #[inline(always)]
     pub fn is_live(self, ctx: &Context) -> bool
         ensures { IsTrue result ↔ IsDefined ctx.now.tree self }
@@ -34,7 +35,8 @@ impl Value {
         }
     }
 
-    /// What makes the value. Asks that the value stands (`is_live` tests it). Cost: constant.
+    /// What makes the value. Asks that the value stands (`is_live` tests it). Cost: constant, and a logarithm
+    /// for an argument of a block with an index (`index_arguments`).
     pub fn def(self, ctx: &Context) -> Def
         requires { IsDefined ctx.now.tree self }
         ensures definition { definition_of ctx.now.tree self ≡ Some result }

@@ -1,12 +1,13 @@
 use Rattle.std.proofs.Common.{◌≡◌, [], length, get_or, ap, arith}
-use Rattle.pliron_core.specs.Places.{held, gap_of}
+use Rattle.pliron_core.specs.Places.{held}
+use Rattle.pliron_core.specs.Holes.{gap_of}
 use Rattle.pliron_core.proofs.RelocateLemmas.{empty-gap, held-kept}
 use Rattle.pliron_core.proofs.places.open_gap.Goals as goal
 
 pub returns-then-gap_at-eq0-clause-linked : goal.returns-then-gap_at-eq0-clause-linked
 returns-then-gap_at-eq0-clause-linked c =
-    let none : (gap_of c.args.gaps.now.items c.args.user).len ≡ 0 = omega (arith, ap (λ z. z.len) c.gap_at.ensures.gap, c.if-gap_at-eq0.true) in
-    empty-gap _ _ _ _ _ c.requires.linked c.requires.user none c.requires.index
+    let none : (gap_of c.args.holes.now.items c.args.user).len ≡ 0 = omega (arith, ap (λ z. z.len) c.gap_at.ensures.gap, c.if-gap_at-eq0.true) in
+    empty-gap _ _ _ _ _ c.requires.linked c.requires.user c.requires.gapped none c.requires.index
 
 pub raise_gap-requires-clause-start : goal.raise_gap-requires-clause-start
 raise_gap-requires-clause-start c =

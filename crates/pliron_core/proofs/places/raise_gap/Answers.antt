@@ -1,16 +1,17 @@
 use Rattle.std.proofs.Common.{ap, arith}
+use Rattle.pliron_core.proofs.HoleLemmas.{has-gap, gapped-some}
 use Rattle.pliron_core.proofs.RelocateLemmas.{raise-from, raise-to, raised}
 use Rattle.pliron_core.proofs.places.raise_gap.Goals as goal
 
 pub overflow_add-start : goal.overflow_add-start
 overflow_add-start c =
-    let has = c.requires.linked.gaps.each c.args.user in
+    let has = has-gap c.args.places.now.items c.args.holes.now.items c.args.user c.requires.linked.holes (gapped-some c.args.holes.now.items c.args.user c.requires.len) in
     let g = c.gap_at-start.ensures in
     omega (arith, has.fits, g.few, ap (λ z. z.start) g.gap, ap (λ z. z.len) g.gap)
 
 pub overflow_add-start-2 : goal.overflow_add-start-2
 overflow_add-start-2 c =
-    let has = c.requires.linked.gaps.each c.args.user in
+    let has = has-gap c.args.places.now.items c.args.holes.now.items c.args.user c.requires.linked.holes (gapped-some c.args.holes.now.items c.args.user c.requires.len) in
     let g = c.gap_at-start.ensures in
     omega (arith, has.fits, g.few, c.requires.len, ap (λ z. z.start) g.gap, ap (λ z. z.len) g.gap)
 

@@ -8,4 +8,4 @@ invariant_of-self c =
     let v = c.push_reserved.new.self in
     let items : v.items ≡ c.self.inside.uses.items ++ [] ∷ [] = c.push_reserved.ensures.items ∙ ap (λ r. c.self.inside.uses.items ++ r ∷ []) c.new.ensures in
     let few : length (c.self.inside.uses.items ++ [] ∷ []) ≤ no_target = omega (arith, v.ok.0, v.ok.1, v.small, ap length items) in
-    rw items (record { linked = linked-target _ _ few c.self.invariant.linked; gaps = c.self.invariant.gaps })
+    rw items (record { linked = linked-target _ _ few c.self.invariant.linked; holes = c.self.invariant.holes })

@@ -1,14 +1,15 @@
 use Rattle.std.proofs.Common.{◌≡◌, ◌++◌, ◌∷◌, [], ap, ◌∙◌, arith}
 use Rattle.std.proofs.lemmas.List.{map-append}
 use Rattle.pliron_core.specs.Places.{held, targets_in, uses_in, no_gap}
-use Rattle.pliron_core.proofs.PlaceLemmas.{linked-user, gaps-user, uses-user, same-table}
+use Rattle.pliron_core.specs.declared.places.Holes.TheVariants.{OneGap}
+use Rattle.pliron_core.proofs.PlaceLemmas.{linked-user, holes-user, uses-user, same-table}
 use Rattle.pliron_core.proofs.uses.Uses.add_user.Goals as goal
 
 pub invariant_of-self : goal.invariant_of-self
 invariant_of-self c =
     let rows : c.push_reserved.new.self.items ≡ c.self.inside.places.items ++ [] ∷ [] = c.push_reserved.ensures.items ∙ ap (λ r. c.self.inside.places.items ++ r ∷ []) c.new.ensures in
-    let spans : c.push_reserved-2.new.self.items ≡ c.self.inside.gaps.items ++ no_gap ∷ [] = c.push_reserved-2.ensures.items in
-    rw (rows, spans) (record { linked = linked-user _ _ c.self.invariant.linked; gaps = gaps-user _ _ c.self.invariant.gaps })
+    let spans : c.push_reserved-2.new.self.items ≡ c.self.inside.holes.items ++ OneGap no_gap ∷ [] = c.push_reserved-2.ensures.items in
+    rw (rows, spans) (record { linked = linked-user _ _ c.self.invariant.linked; holes = holes-user _ _ c.self.invariant.holes })
 
 pub returns-clause-added : goal.returns-clause-added
 returns-clause-added c =

@@ -2,13 +2,14 @@ use Rattle.std.proofs.Common.{◌≡◌, ◌+◌, ◌^◌, ◌<◌, ◌++◌, �
 use Rattle.std.specs.List.{range_with_len}
 use Rattle.std.proofs.lemmas.List.{length-map}
 use Rattle.pliron_core.specs.Places.{ranked_use, targets_in, no_gap, places_from, uses_by}
+use Rattle.pliron_core.specs.declared.places.Holes.TheVariants.{OneGap}
 use Rattle.pliron_core.proofs.UserLemmas.{user-linked, targets-with, length-uses}
 use Rattle.pliron_core.proofs.uses.Uses.add_user_with.Goals as goal
 
 pub invariant_of-self-2 : goal.invariant_of-self-2
 invariant_of-self-2 c =
     let rows : c.push_reserved.new.self.items ≡ c.self.inside.places.items ++ places_from (length c.self.inside.uses.items) c.args.count ∷ [] = search rules in
-    let spans : c.push_reserved-2.new.self.items ≡ c.self.inside.gaps.items ++ no_gap ∷ [] = search rules in
+    let spans : c.push_reserved-2.new.self.items ≡ c.self.inside.holes.items ++ OneGap no_gap ∷ [] = search rules in
     let lists : c.add_used.new.uses.items ≡ c.self.inside.uses.items ++ uses_by (length c.self.inside.places.items) c.args.count = search rules in
     let few : length c.self.inside.uses.items + c.args.count < 2 ^ 64 = search rules in
     rw (rows, spans, lists) (user-linked _ _ _ _ few c.self.invariant)

@@ -2,7 +2,7 @@ use Rattle.std.proofs.Common.{◌<◌, length, map, ap, ◌∙◌, sym, arith}
 use Rattle.std.specs.List.{slice_get}
 use Rattle.std.proofs.lemmas.List.{length-map}
 use Rattle.pliron_core.specs.Places.{ranked_use}
-use Rattle.pliron_core.proofs.MoveLemmas.{unused_is, handed, linked-moved, gaps-moved, targets-moved, reword}
+use Rattle.pliron_core.proofs.MoveLemmas.{unused_is, handed, linked-moved, holes-moved, targets-moved, reword}
 use Rattle.pliron_core.proofs.uses.Uses.hand_over.Goals as goal
 
 pub retarget-requires-clause-listed : goal.retarget-requires-clause-listed
@@ -33,7 +33,7 @@ invariant_of-self c =
     let each = reword _ _ _ _ _ _ _ _ q.none (ap length q.index_is) c.retarget.ensures.each in
     record {
       linked = rw q.lists_is (linked-moved _ _ _ _ _ c.self.invariant.linked ho hn r.differ each);
-      gaps = gaps-moved _ _ _ _ _ c.self.invariant.linked ho hn r.differ each _ c.retarget.ensures.len c.self.invariant.gaps;
+      holes = holes-moved _ _ _ _ _ c.self.invariant.linked ho hn r.differ each _ c.retarget.ensures.len c.self.invariant.holes;
     }
 
 pub returns-clause-targets : goal.returns-clause-targets

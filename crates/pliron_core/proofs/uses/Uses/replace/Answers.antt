@@ -1,8 +1,9 @@
 use Rattle.std.proofs.Common.{◌-◌, ◌<◌, length, map, ap, ◌∙◌, sym, subst, arith}
 use Rattle.std.specs.List.{slice_get}
 use Rattle.std.proofs.lemmas.List.{length-map}
-use Rattle.pliron_core.specs.Places.{ranked_use, AreLinked}
-use Rattle.pliron_core.proofs.MoveLemmas.{reads, put_back, linked-moved, gaps-moved, targets-moved, reword}
+use Rattle.pliron_core.specs.Places.{ranked_use}
+use Rattle.pliron_core.specs.Holes.{AreLinked}
+use Rattle.pliron_core.proofs.MoveLemmas.{reads, put_back, linked-moved, holes-moved, targets-moved, reword}
 use Rattle.pliron_core.proofs.uses.Uses.replace.Goals as goal
 
 pub invariant_of-self : goal.invariant_of-self
@@ -11,7 +12,7 @@ invariant_of-self c =
     let long = length-map c.self.inside.uses.items (map (ranked_use c.self.inside.places.items)) in
     let ho : c.args.old < length c.self.inside.uses.items = omega (arith, r.old, long) in
     let hn : c.args.new < length c.self.inside.uses.items = omega (arith, r.new, long) in
-    subst (AreLinked c.self.inside.places.items c.self.inside.gaps.items) (sym (put_back _ _ _ _ _ _ _ _ ho hn r.differ c.index_mut.ensures.value c.replace-moved.ensures.value c.index_mut-2.ensures.value c.in-Err.ensures.err)) c.self.invariant
+    subst (AreLinked c.self.inside.places.items c.self.inside.holes.items) (sym (put_back _ _ _ _ _ _ _ _ ho hn r.differ c.index_mut.ensures.value c.replace-moved.ensures.value c.index_mut-2.ensures.value c.in-Err.ensures.err)) c.self.invariant
 
 pub returns-in-Err-clause-err : goal.returns-in-Err-clause-err
 returns-in-Err-clause-err c =
@@ -61,7 +62,7 @@ invariant_of-self-2 c =
     let each = reword _ _ _ _ _ _ _ _ (ap (λ n. n - c.len.result) c.len-end.ensures ∙ ap (λ n. length c.index-2.result.now - n) c.len.ensures ∙ q.first_is) (ap length q.moved_is) c.retarget.ensures.each in
     record {
       linked = rw q.lists_is (linked-moved _ _ _ _ _ c.self.invariant.linked ho hn r.differ each);
-      gaps = gaps-moved _ _ _ _ _ c.self.invariant.linked ho hn r.differ each _ c.retarget.ensures.len c.self.invariant.gaps;
+      holes = holes-moved _ _ _ _ _ c.self.invariant.linked ho hn r.differ each _ c.retarget.ensures.len c.self.invariant.holes;
     }
 
 pub returns-clause-targets : goal.returns-clause-targets

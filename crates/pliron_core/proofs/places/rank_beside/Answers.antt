@@ -1,7 +1,7 @@
 use Rattle.std.proofs.Common.{◌≤◌, ◌<◌, ◌+◌, length, sym, arith}
 use Rattle.std.proofs.lemmas.Option.{slice_get_within}
 use Rattle.pliron_core.proofs.GapLemmas.{rank-before, behind-index, behind-taken}
-use Rattle.pliron_core.proofs.places.rank_at.Goals as goal
+use Rattle.pliron_core.proofs.places.rank_beside.Goals as goal
 
 pub overflow_sub-result : goal.overflow_sub-result
 overflow_sub-result c =

@@ -1,7 +1,7 @@
 use Rattle.std.proofs.Common.{◌≡◌, ◌+◌, length, arith}
 use Rattle.pliron_core.specs.Places.{held}
 use Rattle.pliron_core.proofs.GapLemmas.{held-length, target-before, target-behind}
-use Rattle.pliron_core.proofs.places.target_at.Goals as goal
+use Rattle.pliron_core.proofs.places.target_beside.Goals as goal
 
 pub overflow_add-i : goal.overflow_add-i
 overflow_add-i c = let h : length (held c.args.row.now) + c.args.gap.len ≡ length c.args.row.now = held-length _ _ c.requires.gap in omega (arith, h, c.requires.index, c.len.ensures, c.len.type_inv)

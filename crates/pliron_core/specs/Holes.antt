@@ -1,0 +1,51 @@
+-- Where the free places of each user are.
+use Rattle.std.specs.Prelude.{◌≡◌, ℕ, Bool, true, false, List, [], length, slice_index_or, Vec, vec_len, vec_capacity}
+use Rattle.pliron_core.specs.declared.uses.Use.{Use}
+use Rattle.pliron_core.specs.declared.places.Place.{Place}
+use Rattle.pliron_core.specs.declared.places.Gap.{Gap}
+use Rattle.pliron_core.specs.declared.places.Holes.{Holes}
+use Rattle.pliron_core.specs.declared.places.Holes.TheVariants.{OneGap, Counted}
+use Rattle.pliron_core.specs.Places.{marks, no_gap, HasGap, IsLinked}
+
+-- the free places of the row are those in the gap, or those that the counts have as free
+abbrev pub Tracks : List Place → Holes → Type 0
+Tracks row (OneGap gap) = HasGap row gap
+Tracks row (Counted counts) = marks row ≡ counts.value
+
+abbrev pub hole_of : List Holes → ℕ → Holes
+hole_of holes user = slice_index_or holes user (OneGap no_gap)
+
+abbrev pub gap_in : Holes → Gap
+gap_in (OneGap gap) = gap
+gap_in (Counted counts) = no_gap
+
+abbrev pub counted_in : Holes → Bool
+counted_in (OneGap gap) = false
+counted_in (Counted counts) = true
+
+abbrev pub counts_in : Holes → List ℕ
+counts_in (OneGap gap) = []
+counts_in (Counted counts) = counts.value
+
+-- the gap of a user, whether its places are counted, and by what
+abbrev pub gap_of : List Holes → ℕ → Gap
+gap_of holes user = gap_in (hole_of holes user)
+
+abbrev pub is_counted : List Holes → ℕ → Bool
+is_counted holes user = counted_in (hole_of holes user)
+
+abbrev pub counts_of : List Holes → ℕ → List ℕ
+counts_of holes user = counts_in (hole_of holes user)
+
+-- what is known of the free places of each row is so
+pub record HaveHoles (rows : List (List Place)) (holes : List Holes) : Type 0 where
+  pub count : length holes ≡ length rows
+  pub each : (user : ℕ) → Tracks (slice_index_or rows user []) (hole_of holes user)
+
+pub record AreLinked (rows : List (List Place)) (spans : List Holes) (lists : List (List Use)) : Type 0 where
+  pub linked : IsLinked rows lists
+  pub holes : HaveHoles rows spans
+
+-- the tables are as long as before, with as much room
+abbrev pub KeepRooms : {X Y W Z : Type 0} → (places places' : Vec X Z) → (holes holes' : Vec Y Z) → (uses uses' : Vec W Z) → Type 0
+KeepRooms places places' holes holes' uses uses' = (vec_len places' ≡ vec_len places) × (vec_capacity places' ≡ vec_capacity places) × (vec_len holes' ≡ vec_len holes) × (vec_capacity holes' ≡ vec_capacity holes) × (vec_len uses' ≡ vec_len uses) × (vec_capacity uses' ≡ vec_capacity uses)
