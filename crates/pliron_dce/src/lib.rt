@@ -22,6 +22,7 @@ mod incoming;
 mod looks;
 mod predecessors;
 mod ready;
+mod rows;
 mod sweep;
 mod take;
 mod work;
