@@ -105,7 +105,7 @@ fn take_all<D: Dialect>(
     let mut used = Vec::new(alloc);
     let mut status = IRStatus::Unchanged;
     let mut regions = false;
-    while let Some(next) = next_ready::<D>(work, predecessors, root, ctx)? {
+    while let Some(next) = next_ready::<D>(alloc, work, predecessors, root, ctx)? {
         ctx.well_formed();
         let taken = take_one::<D>(alloc, next, root, work, incoming, &mut used, ctx);
         ctx.well_formed();
