@@ -2,12 +2,9 @@ use Rattle.std.proofs.Common.{refl, rules, inl, inr, ◌↔◌, IsTrue, ◌++◌
 use Rattle.pliron_dce.specs.Dead.{Item}
 use Rattle.pliron_dce.specs.Going.{IsSweptSoFar, LeavesNoDead, TellsGone, SomeHasRegions}
 use Rattle.pliron_dce.specs.Steps.{IsReady}
-use Rattle.pliron_dce.specs.Work.{item_of, HasReady, AreClosed}
-use Rattle.pliron_dce.specs.Incoming.{list_of}
+use Rattle.pliron_dce.specs.Work.{item_of}
 use Rattle.pliron_dce.specs.Predecessors.{mark_of}
-use Rattle.pliron_dce.proofs.IncomingLists.{none_known}
 use Rattle.pliron_dce.proofs.IncomingLemmas.{marked_after}
-use Rattle.pliron_dce.proofs.WorkLemmas.{all_wait}
 use Rattle.pliron_dce.proofs.SweepLemmas.{step_less}
 use Rattle.pliron_dce.proofs.Progress.{on_the_way, one_more, at_the_end, tells_more, edges_more, regions_more}
 use Rattle.pliron_dce.proofs.sweep.take_all.Goals as goal
