@@ -5,11 +5,14 @@
 //!
 //! When it goes, each of them forwards one operand less, and still no less than those behind. So a list is made
 //! once, when the first argument of its block goes, and is right until the block goes.
+//!
+//! At that moment the rows that lose something with each argument of the block are indexed too.
 ghost use Rattle.std.specs.Prelude.{◌≡◌, ℕ, None, Some, IfOk, OnOk, IsSome, IsOkUnless, IsPermutation};
 ghost use Rattle.pliron_core.specs.Tree.{IsBlock, HoldsBlock, uses_of};
 ghost use Rattle.pliron_laws.specs.Linked.{IsWellLinked};
 ghost use Rattle.pliron_dce.specs.Incoming.{edges_of, list_of, AreCounted, AreIncoming, AreKnown, BranchesLead, AreFalling};
 
+use crate::rows::{index_rows, settle_rows};
 use indexmap::IndexMap;
 use pliron_core::{BasicBlock, Context, Operation, Ptr};
 use pliron_laws::{Dialect, OptError};
@@ -92,18 +95,19 @@ impl Incoming {
         }
     }
 
-    // Makes the list of the block, unless there is one.
+    // Makes the list of the block and indexes the rows that lose something with its arguments, unless there is one.
     pub(crate) fn add<D: Dialect>(
         &mut self,
         alloc: Global,
         block: Ptr<BasicBlock>,
         root: Ptr<Operation>,
-        ctx: &Context,
+        ctx: &mut Context,
     ) -> Result<(), OptError>
-        requires block { IsBlock ctx.now.tree block }
-        requires branches { BranchesLead D.meaning ctx.now.tree block }
-        requires known { AreKnown D.meaning ctx.now.tree root (λ b. list_of self.old b) }
-        ensures known { OnOk result (AreKnown D.meaning ctx.now.tree root (λ b. list_of self.new b)) }
+        requires block { IsBlock ctx.old.tree block }
+        requires branches { BranchesLead D.meaning ctx.old.tree block }
+        requires known { AreKnown D.meaning ctx.old.tree root (λ b. list_of self.old b) }
+        ensures same { ctx.new ≡ ctx.old }
+        ensures known { OnOk result (AreKnown D.meaning ctx.old.tree root (λ b. list_of self.new b)) }
         ensures there { OnOk result (IsSome (list_of self.new block)) }
         ensures memory { IsOkUnless result OptError.Memory }
     {
@@ -112,7 +116,17 @@ impl Incoming {
         }
         let list = make_list::<D>(alloc, block, ctx)?;
         self.lists.insert(block, list)?;
+        index_rows(block, self.edges_to(block), ctx)?;
         Ok(())
+    }
+
+    // The rows that were indexed for the blocks that have lists lose their indexes, where they still stand.
+    pub(crate) fn settle(&self, ctx: &mut Context)
+        ensures { ctx.new ≡ ctx.old }
+    {
+        for (block, list) in self.lists.iter() {
+            settle_rows(*block, list, ctx);
+        }
     }
 
     // The list of the block.

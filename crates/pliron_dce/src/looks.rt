@@ -5,6 +5,9 @@
 //! it no more, and the next look begins where the last one ended: all looks at an operation together go over
 //! its values once.
 //!
+//! Over the uses of one value a look goes from the last one down. A use that goes leaves its index to the last one,
+//! which was passed if any was; so what was passed stays behind the rest, but for one use for each that went.
+//!
 //! The places are hints. That something holds the operation is seen where it is found; where nothing is
 //! found, the operation is asked as a whole.
 ghost use Rattle.std.specs.Prelude.{◌↔◌, ◌≤◌, length, IfSome, IsTrue};
@@ -22,8 +25,8 @@ use std::alloc::{AllocError, Global};
 #[derive(Clone, Copy)]
 struct Rest {
     start: usize,
-    // where the last look at the first of these values found the use that held the operation
-    first_use: usize,
+    // how many uses of the first of these values may not have been passed: none of those behind them holds the operation
+    uses: usize,
     end: usize,
 }
 
@@ -100,7 +103,7 @@ impl Looks {
         if is_long(op, ctx) {
             let rest = Rest {
                 start,
-                first_use: 0,
+                uses: usize::MAX,
                 end: start,
             };
             self.rests.insert(op, rest)?;
@@ -146,22 +149,22 @@ fn look_on(values: &[Value], rest: &mut Rest, op: Ptr<Operation>, ctx: &Context)
 {
     for i in rest.start..rest.end {
         if let Some(value) = values.get(i) {
-            if let Some(found) = find_holding(op, *value, rest.first_use, ctx) {
+            if let Some(uses) = find_holding(op, *value, rest.uses, ctx) {
                 rest.start = i;
-                rest.first_use = found;
+                rest.uses = uses;
                 return true;
             }
         }
-        rest.first_use = 0;
+        rest.uses = usize::MAX;
     }
     rest.start = rest.end;
     false
 }
 
-// A use of the value that holds the operation, the first one from an index on and around the end.
-fn find_holding(op: Ptr<Operation>, value: Value, first: usize, ctx: &Context) -> Option<usize>
+// How many uses of the value there are up to the last of the first `most` that holds the operation, if one does.
+fn find_holding(op: Ptr<Operation>, value: Value, most: usize, ctx: &Context) -> Option<usize>
     requires { IsLive ctx.now.tree op }
-    ensures { IfSome result (λ i. IsHeld ctx.now.tree op) }
+    ensures { IfSome result (λ uses. IsHeld ctx.now.tree op) }
 {
     ctx.well_formed();
     if !value.is_live(ctx) {
@@ -172,9 +175,9 @@ fn find_holding(op: Ptr<Operation>, value: Value, first: usize, ctx: &Context) -
         return None;
     }
     if is_result_of(value, op, ctx) {
-        return Some(0);
+        return Some(count);
     }
-    let found = find_outside(value, op, first.min(count), ctx)?;
+    let found = find_outside(value, op, most.min(count), ctx)?;
     if is_made_inside(value, op, ctx) {
         return Some(found);
     }
@@ -203,43 +206,26 @@ fn is_made_inside(value: Value, op: Ptr<Operation>, ctx: &Context) -> bool
     }
 }
 
-// The index of a use that stands outside the operation, the first one from this one on and around the end.
-// Uses that go leave their places to the last ones, so the next one outside is mostly found there.
-fn find_outside(value: Value, op: Ptr<Operation>, first: usize, ctx: &Context) -> Option<usize>
+// How many uses of the value there are up to the last of the first `count` that stands outside the operation, if one
+// does. What stands side by side in one operation is asked once.
+fn find_outside(value: Value, op: Ptr<Operation>, count: usize, ctx: &Context) -> Option<usize>
     requires value { IsDefined ctx.now.tree value }
-    requires first { first ≤ length (uses_of ctx.now.value_uses value) }
-    ensures { IfSome result (λ i. IsUsedOutside ctx.now.tree op value) }
-{
-    let behind = find_outside_among(value, op, first, value.num_use(ctx), ctx);
-    if behind.is_some() {
-        return behind;
-    }
-    find_outside_among(value, op, 0, first, ctx)
-}
-
-// The index of a use that stands outside the operation, the first one of those from `start` to `end`. What
-// stands side by side in one operation is asked once.
-fn find_outside_among(
-    value: Value,
-    op: Ptr<Operation>,
-    start: usize,
-    end: usize,
-    ctx: &Context,
-) -> Option<usize>
-    requires value { IsDefined ctx.now.tree value }
-    requires end { end ≤ length (uses_of ctx.now.value_uses value) }
-    ensures { IfSome result (λ i. IsUsedOutside ctx.now.tree op value) }
+    requires count { count ≤ length (uses_of ctx.now.value_uses value) }
+    ensures { IfSome result (λ uses. IsUsedOutside ctx.now.tree op value) }
 {
     ctx.well_formed();
     let mut known = op;
-    for i in start..end {
-        let (user, _) = value.get_use(ctx, i);
+    let mut left = count;
+    while left > 0 {
+        let uses = left;
+        left -= 1;
+        let (user, _) = value.get_use(ctx, left);
         let holder = user.get_parent_op(ctx);
         if holder == Some(known) {
             continue;
         }
         if !is_within(user, op, ctx) {
-            return Some(i);
+            return Some(uses);
         }
         if user != op {
             known = holder.unwrap_or(op);

@@ -82,6 +82,42 @@ fn take_one<D: Dialect>(
 }
 
 // What is ready goes, until nothing is. Answers whether something went, and whether regions did.
+fn take_all<D: Dialect>(
+    alloc: Global,
+    root: Ptr<Operation>,
+    work: &mut Work,
+    incoming: &mut Incoming,
+    predecessors: &Predecessors,
+    ctx: &mut Context,
+) -> Result<(IRStatus, bool), OptError>
+    requires live { IsLive ctx.old.tree root }
+    requires linked { IsWellLinked D.meaning ctx.old.tree root }
+    requires all { HasReady D.meaning D.side_effects D.removable ctx.old.tree root (waiting work.old) }
+    requires closed { AreClosed ctx.old.tree work.old.around.keys }
+    requires known { AreKnown D.meaning ctx.old.tree root (λ b. list_of incoming.old b) }
+    requires marked { AreMarked D.meaning ctx.old.tree root (λ b. mark_of predecessors.now b) }
+    ensures gone { (gone : List Item) × IsSweptSoFar D.meaning D.shortened D.side_effects D.removable ctx.old.tree ctx.new.tree root gone ×
+        IfOk result (λ a. LeavesNoDead D.meaning D.side_effects D.removable ctx.old.tree ctx.new.tree root × TellsGone gone a.0 × (IsTrue a.1 ↔
+        SomeHasRegions ctx.old.tree gone)) }
+    ensures edges { IfOk result (λ a. (IsTrue a.1 → ⊥) → KeepsEdges ctx.old.tree ctx.new.tree) }
+    ensures memory { IsOkUnless result OptError.Memory }
+{
+    let mut used = Vec::new(alloc);
+    let mut status = IRStatus::Unchanged;
+    let mut regions = false;
+    while let Some(next) = next_ready::<D>(alloc, work, predecessors, root, ctx)? {
+        ctx.well_formed();
+        let taken = take_one::<D>(alloc, next, root, work, incoming, &mut used, ctx);
+        ctx.well_formed();
+        let had = taken?;
+        regions = either(regions, had);
+        status = IRStatus::Changed;
+    }
+    Ok((status, regions))
+}
+
+// What is ready goes, until nothing is. Answers whether something went, and whether regions did. No row stays
+// indexed, also after an error.
 pub(crate) fn sweep<D: Dialect>(
     alloc: Global,
     root: Ptr<Operation>,
@@ -102,16 +138,7 @@ pub(crate) fn sweep<D: Dialect>(
 {
     let mut work = Work::new(alloc, candidates, looks);
     let mut incoming = Incoming::new(alloc);
-    let mut used = Vec::new(alloc);
-    let mut status = IRStatus::Unchanged;
-    let mut regions = false;
-    while let Some(next) = next_ready::<D>(&mut work, predecessors, root, ctx)? {
-        ctx.well_formed();
-        let taken = take_one::<D>(alloc, next, root, &mut work, &mut incoming, &mut used, ctx);
-        ctx.well_formed();
-        let had = taken?;
-        regions = either(regions, had);
-        status = IRStatus::Changed;
-    }
-    Ok((status, regions))
+    let swept = take_all::<D>(alloc, root, &mut work, &mut incoming, predecessors, ctx);
+    incoming.settle(ctx);
+    swept
 }

@@ -2,7 +2,7 @@
 //!
 //! In each round the arguments go before the operations, the last one first. So those of one block go side
 //! by side, whichever way their uses went, and so do the operands that were forwarded to them; what a block
-//! or a branch loses side by side costs one step each.
+//! or a branch loses side by side costs one step each, where its row is too short for an index (`rows`).
 //!
 //! The operations around what lost a use are looked at once nothing else is ready, each once for all the uses
 //! that what is inside it lost until then. For a look at one goes over what is inside it.
@@ -200,20 +200,22 @@ fn push_operations(round: &mut Vec<Candidate>, ops: &[Ptr<Operation>]) -> Result
     Ok(())
 }
 
-// The operations around what lost uses come into the round.
-fn begin_around(work: &mut Work) -> Result<(), AllocError>
+// The operations around what lost uses come into the round. Their set begins anew, since emptying one costs as much as it
+// ever held.
+fn begin_around(alloc: Global, work: &mut Work) -> Result<(), AllocError>
     ensures kept { OnOk result ((x : Item) → Among x (items_of (waiting work.old)) → Among x (items_of (waiting work.new))) }
     ensures later { work.new.later ≡ work.old.later }
     ensures around { OnOk result (work.new.around.keys ≡ []) }
 {
     push_operations(&mut work.round, work.around.as_slice())?;
-    work.around.clear();
+    work.around = IndexSet::new(alloc);
     Ok(())
 }
 
 // The next one that is ready: of this round, of the next one, or around what lost uses. What is looked at and
 // not ready goes.
 pub(crate) fn next_ready<D: Dialect>(
+    alloc: Global,
     work: &mut Work,
     predecessors: &Predecessors,
     root: Ptr<Operation>,
@@ -236,7 +238,7 @@ pub(crate) fn next_ready<D: Dialect>(
     if let Some(next) = next_of::<D>(work, predecessors, root, ctx) {
         return Ok(Some(next));
     }
-    begin_around(work)?;
+    begin_around(alloc, work)?;
     Ok(next_of::<D>(work, predecessors, root, ctx))
 }
 

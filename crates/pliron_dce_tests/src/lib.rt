@@ -15,3 +15,5 @@ mod runs;
 mod short;
 #[cfg(test)]
 mod texts;
+#[cfg(test)]
+mod wide;

@@ -54,7 +54,8 @@ fn check_in(
     Ok(())
 }
 
-fn check(
+// After `dce` on the text, this is printed and this was answered.
+pub fn check(
     rt: &impl Abort,
     alloc: Global,
     text: &str,

@@ -1,11 +1,11 @@
-use Rattle.std.proofs.Common.{rules, ◌++◌, ◌∷◌, [], inr, sym, subst}
+use Rattle.std.proofs.Common.{◌≡◌, ◌<◌, rules, ◌++◌, ◌∷◌, [], length, Some, slice_get, inr, sym, subst}
 use Rattle.std.proofs.lemmas.Option.{slice_get_within}
 use Rattle.pliron_core.specs.Tree.{arguments_of}
 use Rattle.pliron_dce.specs.declared.work.Candidate.TheVariants.{Operation, Argument}
 use Rattle.pliron_dce.specs.Dead.{Op, Arg}
-use Rattle.pliron_dce.specs.Steps.{IsReady}
-use Rattle.pliron_dce.specs.Going.{Goes}
-use Rattle.pliron_dce.specs.Incoming.{list_of}
+use Rattle.pliron_dce.specs.Steps.{IsReady, AreNoted}
+use Rattle.pliron_dce.specs.Going.{Goes, Removes}
+use Rattle.pliron_dce.specs.Incoming.{list_of, edges_of, AreIncoming}
 use Rattle.pliron_dce.proofs.IncomingLemmas.{known_after, ready_branches}
 use Rattle.pliron_dce.specs.Work.{item_of, waiting, HasReady}
 use Rattle.pliron_laws.proofs.FoldLemmas.{on_err}
@@ -39,20 +39,23 @@ returns-in_ok-note-in-Operation-clause-all g c =
 pub take_argument-requires-clause-index : goal.take_argument-requires-clause-index
 take_argument-requires-clause-index g c =
     let r = subst (λ z. IsReady g.D.HasMeaning.meaning g.D.SideEffects.side_effects g.D.BlockArgRemoval.removable c.args.ctx.now.tree c.args.root (item_of z)) c.in-Argument.is c.requires.ready in
-    slice_get_within (arguments_of c.args.ctx.now.tree c.in-Argument-def.block) c.in-Argument-def.index c.in-Argument.value (argument_listed g.D.HasMeaning.meaning g.D.BlockArgRemoval.removable c.args.ctx.now.tree c.args.root c.in-Argument.value c.in-Argument-def.block c.in-Argument-def.index c.well_formed-2.ensures.tree r c.in-Argument-def.ensures.definition)
+    let at = argument_listed g.D.HasMeaning.meaning g.D.BlockArgRemoval.removable c.args.ctx.now.tree c.args.root c.in-Argument.value c.in-Argument-def.block c.in-Argument-def.index c.well_formed-2.ensures.tree r c.in-Argument-def.ensures.definition in
+    subst (λ z. c.in-Argument-def.index < length (arguments_of z.tree c.in-Argument-def.block)) (sym c.add.ensures.same) (slice_get_within (arguments_of c.args.ctx.now.tree c.in-Argument-def.block) c.in-Argument-def.index c.in-Argument.value at)
 
 pub note-requires-in-Argument-def : goal.note-requires-in-Argument-def
 note-requires-in-Argument-def g c =
     let r = subst (λ z. IsReady g.D.HasMeaning.meaning g.D.SideEffects.side_effects g.D.BlockArgRemoval.removable c.args.ctx.now.tree c.args.root (item_of z)) c.in-Argument.is c.requires.ready in
     let at = argument_listed g.D.HasMeaning.meaning g.D.BlockArgRemoval.removable c.args.ctx.now.tree c.args.root c.in-Argument.value c.in-Argument-def.block c.in-Argument-def.index c.well_formed-2.ensures.tree r c.in-Argument-def.ensures.definition in
-    record { closed = closed_after _ _ _ _ g.met.D.Dialect.forwards_operands (λ h h' s. s.branch) g.met.D.Dialect.keeps_counts g.D.SideEffects.side_effects g.met.D.Dialect.gives_at_once g.D.BlockArgRemoval.removable g.met.D.Dialect.acts_without_argument c.args.ctx.now.tree c.take_argument.new.ctx.tree c.args.root (Arg c.in-Argument.value) c.args.work.now.around.keys c.well_formed-2.ensures.tree c.well_formed-in-Argument-def.ensures.tree c.requires.linked r (c.in_ok-lost-in-Argument-def.ensures.gone c.in-Argument.value at) c.requires.closed }
+    let gone = subst (λ z. Removes g.D.HasMeaning.meaning g.D.Dialect.shortened z.tree c.take_argument.new.ctx.tree c.in-Argument.value) c.add.ensures.same (c.in_ok-lost-in-Argument-def.ensures.gone c.in-Argument.value (subst (λ z. slice_get (arguments_of z.tree c.in-Argument-def.block) c.in-Argument-def.index ≡ Some c.in-Argument.value) (sym c.add.ensures.same) at)) in
+    record { closed = closed_after _ _ _ _ g.met.D.Dialect.forwards_operands (λ h h' s. s.branch) g.met.D.Dialect.keeps_counts g.D.SideEffects.side_effects g.met.D.Dialect.gives_at_once g.D.BlockArgRemoval.removable g.met.D.Dialect.acts_without_argument c.args.ctx.now.tree c.take_argument.new.ctx.tree c.args.root (Arg c.in-Argument.value) c.args.work.now.around.keys c.well_formed-2.ensures.tree c.well_formed-in-Argument-def.ensures.tree c.requires.linked r gone c.requires.closed }
 
 pub returns-in_ok-note-in-Argument-def-clause-all : goal.returns-in_ok-note-in-Argument-def-clause-all
 returns-in_ok-note-in-Argument-def-clause-all g c =
     let ready = subst (λ z. IsReady g.D.HasMeaning.meaning g.D.SideEffects.side_effects g.D.BlockArgRemoval.removable c.args.ctx.now.tree c.args.root (item_of z)) c.in-Argument.is c.requires.ready in
     let at = argument_listed g.D.HasMeaning.meaning g.D.BlockArgRemoval.removable c.args.ctx.now.tree c.args.root c.in-Argument.value c.in-Argument-def.block c.in-Argument-def.index c.well_formed-2.ensures.tree ready c.in-Argument-def.ensures.definition in
+    let gone = subst (λ z. Removes g.D.HasMeaning.meaning g.D.Dialect.shortened z.tree c.take_argument.new.ctx.tree c.in-Argument.value) c.add.ensures.same (c.in_ok-lost-in-Argument-def.ensures.gone c.in-Argument.value (subst (λ z. slice_get (arguments_of z.tree c.in-Argument-def.block) c.in-Argument-def.index ≡ Some c.in-Argument.value) (sym c.add.ensures.same) at)) in
     let all = subst (λ z. HasReady g.D.HasMeaning.meaning g.D.SideEffects.side_effects g.D.BlockArgRemoval.removable c.args.ctx.now.tree c.args.root ((waiting c.args.work.now) ++ z ∷ [])) c.in-Argument.is c.requires.all in
-    ready_all _ _ _ _ g.met.D.Dialect.forwards_operands (λ h h' s. s.branch) g.met.D.Dialect.keeps_counts g.D.SideEffects.side_effects g.met.D.Dialect.gives_at_once g.D.BlockArgRemoval.removable g.met.D.Dialect.acts_without_argument c.args.ctx.now.tree c.take_argument.new.ctx.tree c.args.root (Argument c.in-Argument.value) c.in_ok-lost-in-Argument-def.lost.items (waiting c.args.work.now) (waiting c.note-in-Argument-def.new.work) c.well_formed-2.ensures.tree c.well_formed-in-Argument-def.ensures.tree c.requires.linked ready (c.in_ok-lost-in-Argument-def.ensures.gone c.in-Argument.value at) all c.in_ok-lost-in-Argument-def.ensures.noted (search (rules, c.in_ok-note-in-Argument-def.ensures.looked)) c.in_ok-note-in-Argument-def.ensures.kept
+    ready_all _ _ _ _ g.met.D.Dialect.forwards_operands (λ h h' s. s.branch) g.met.D.Dialect.keeps_counts g.D.SideEffects.side_effects g.met.D.Dialect.gives_at_once g.D.BlockArgRemoval.removable g.met.D.Dialect.acts_without_argument c.args.ctx.now.tree c.take_argument.new.ctx.tree c.args.root (Argument c.in-Argument.value) c.in_ok-lost-in-Argument-def.lost.items (waiting c.args.work.now) (waiting c.note-in-Argument-def.new.work) c.well_formed-2.ensures.tree c.well_formed-in-Argument-def.ensures.tree c.requires.linked ready gone all (subst (λ z. AreNoted z.tree c.take_argument.new.ctx.tree c.in_ok-lost-in-Argument-def.lost.items) c.add.ensures.same c.in_ok-lost-in-Argument-def.ensures.noted) (search (rules, c.in_ok-note-in-Argument-def.ensures.looked)) c.in_ok-note-in-Argument-def.ensures.kept
 
 pub returns-in_err-note-in-Operation-clause-refused : goal.returns-in_err-note-in-Operation-clause-refused
 returns-in_err-note-in-Operation-clause-refused g c =
@@ -70,13 +73,14 @@ pub take_argument-requires-clause-edges : goal.take_argument-requires-clause-edg
 take_argument-requires-clause-edges g c =
     let r = subst (λ z. IsReady g.D.HasMeaning.meaning g.D.SideEffects.side_effects g.D.BlockArgRemoval.removable c.args.ctx.now.tree c.args.root (item_of z)) c.in-Argument.is c.requires.ready in
     let at = argument_listed g.D.HasMeaning.meaning g.D.BlockArgRemoval.removable c.args.ctx.now.tree c.args.root c.in-Argument.value c.in-Argument-def.block c.in-Argument-def.index c.well_formed-2.ensures.tree r c.in-Argument-def.ensures.definition in
-    c.in_ok-add-in-Argument-def.ensures.known c.in-Argument-def.block c.edges_to-edges.result.now c.edges_to-edges.ensures (ready_branches g.D.HasMeaning.meaning g.D.BlockArgRemoval.removable c.args.ctx.now.tree c.args.root c.in-Argument.value c.in-Argument-def.block c.in-Argument-def.index c.well_formed-2.ensures.tree r at).0
+    subst (λ z. AreIncoming g.D.HasMeaning.meaning z.tree c.in-Argument-def.block (edges_of c.edges_to-edges.result.now)) (sym c.add.ensures.same) (c.in_ok-add-in-Argument-def.ensures.known c.in-Argument-def.block c.edges_to-edges.result.now c.edges_to-edges.ensures (ready_branches g.D.HasMeaning.meaning g.D.BlockArgRemoval.removable c.args.ctx.now.tree c.args.root c.in-Argument.value c.in-Argument-def.block c.in-Argument-def.index c.well_formed-2.ensures.tree r at).0)
 
 pub returns-in_ok-note-in-Argument-def-clause-known : goal.returns-in_ok-note-in-Argument-def-clause-known
 returns-in_ok-note-in-Argument-def-clause-known g c =
     let r = subst (λ z. IsReady g.D.HasMeaning.meaning g.D.SideEffects.side_effects g.D.BlockArgRemoval.removable c.args.ctx.now.tree c.args.root (item_of z)) c.in-Argument.is c.requires.ready in
     let at = argument_listed g.D.HasMeaning.meaning g.D.BlockArgRemoval.removable c.args.ctx.now.tree c.args.root c.in-Argument.value c.in-Argument-def.block c.in-Argument-def.index c.well_formed-2.ensures.tree r c.in-Argument-def.ensures.definition in
-    known_after _ _ _ _ g.met.D.Dialect.forwards_operands (λ h h' s. s.branch) g.met.D.Dialect.keeps_counts g.D.SideEffects.side_effects g.met.D.Dialect.gives_at_once g.D.BlockArgRemoval.removable c.args.ctx.now.tree c.take_argument.new.ctx.tree c.args.root (Arg c.in-Argument.value) (λ b. list_of c.add.new.self b) c.well_formed-2.ensures.tree c.well_formed-in-Argument-def.ensures.tree c.requires.linked r (c.in_ok-lost-in-Argument-def.ensures.gone c.in-Argument.value at) c.in_ok-add-in-Argument-def.ensures.known
+    let gone = subst (λ z. Removes g.D.HasMeaning.meaning g.D.Dialect.shortened z.tree c.take_argument.new.ctx.tree c.in-Argument.value) c.add.ensures.same (c.in_ok-lost-in-Argument-def.ensures.gone c.in-Argument.value (subst (λ z. slice_get (arguments_of z.tree c.in-Argument-def.block) c.in-Argument-def.index ≡ Some c.in-Argument.value) (sym c.add.ensures.same) at)) in
+    known_after _ _ _ _ g.met.D.Dialect.forwards_operands (λ h h' s. s.branch) g.met.D.Dialect.keeps_counts g.D.SideEffects.side_effects g.met.D.Dialect.gives_at_once g.D.BlockArgRemoval.removable c.args.ctx.now.tree c.take_argument.new.ctx.tree c.args.root (Arg c.in-Argument.value) (λ b. list_of c.add.new.self b) c.well_formed-2.ensures.tree c.well_formed-in-Argument-def.ensures.tree c.requires.linked r gone c.in_ok-add-in-Argument-def.ensures.known
 
 pub returns-in_ok-note-in-Operation-clause-known : goal.returns-in_ok-note-in-Operation-clause-known
 returns-in_ok-note-in-Operation-clause-known g c =

@@ -9,5 +9,5 @@ pub returns-clause-kept : goal.returns-clause-kept
 returns-clause-kept c x i =
     let ops = map (λ k. Operation k) c.args.work.now.around.keys in
     let round : c.push_operations.new.round.items ≡ c.args.work.now.round.items ++ ops = c.in_ok-push_operations.ensures ∙ ap (λ z. c.args.work.now.round.items ++ map (λ k. Operation k) z) c.as_slice.ensures.keys in
-    let none = map (λ k. Operation k) c.clear.new.self.keys in
+    let none = map (λ k. Operation k) c.new.result.keys in
     subst (λ z. Among x (items_of (none ++ (c.args.work.now.later.items ++ z)))) (sym round) (around_kept ops c.args.work.now.later.items c.args.work.now.round.items none x i)

@@ -6,7 +6,7 @@ use Rattle.pliron_dce.specs.Incoming.{list_of, AreKnown}
 use Rattle.pliron_dce.specs.Measures.{things}
 use Rattle.pliron_dce.specs.Predecessors.{mark_of, AreMarked}
 use Rattle.pliron_dce.specs.Work.{waiting, HasReady, AreClosed}
-use Rattle.pliron_dce.proofs.sweep.sweep.Given as goal
+use Rattle.pliron_dce.proofs.sweep.take_all.Given as goal
 
 abbrev pub invariant-loop-used : goal.invariant-loop-used
 invariant-loop-used g l = record {
