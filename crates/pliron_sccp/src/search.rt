@@ -30,7 +30,7 @@ ghost use Rattle.pliron_laws.specs.declared.dialect.Interface.TheVariants.{Regio
 ghost use Rattle.pliron_theory.specs.Facts.{AtMost};
 ghost use Rattle.pliron_sccp.specs.Accounts.{IsUnsearched};
 ghost use Rattle.pliron_sccp.specs.Delaying.{delayed};
-ghost use Rattle.pliron_sccp.specs.Demands.{Adds};
+ghost use Rattle.pliron_sccp.specs.Demands.{Adds, AreEntered};
 ghost use Rattle.pliron_sccp.specs.Feasible.{leads, AreFound, KeepsAmong, KeepsFeasible};
 ghost use Rattle.pliron_sccp.specs.Looking.{either, AreTargetsNumbered, AsksAhead, GoesThrough, HasNumberedTargets, IsBehind, IsCallFor, IsLookedAt, IsNamed, IsUseOf, LooksAt, SeesTo, StampsIt, TakesUsers};
 ghost use Rattle.pliron_sccp.specs.Searched.{IsSearched};
@@ -412,8 +412,10 @@ fn look<D: Dialect>(
     requires live { IsLive ctx.now.tree op }
     requires targets { HasNumberedTargets ctx.now.tree tables.old op }
     requires none { feasible.old ≡ None }
+    requires entered { AreEntered ctx.now.tree (facts_of tables.old) slate.old.entered }
     ensures ok { OnOk result (LooksAt ⟦<D as HasFolding>⟧.folding ctx.now.tree op tables.old tables.new) }
     ensures feasible { OnOk result (AreFound ⟦<D as HasFolding>⟧.folding ctx.now.tree (facts_of tables.old) op feasible.new) }
+    ensures entered { OnOk result (AreEntered ctx.now.tree (facts_of tables.new) slate.new.entered) }
     ensures memory { IsOkUnless result OptError.Memory }
 {
     demands::<D>(alloc, op, ctx, tables, slate, feasible)?;
@@ -435,7 +437,9 @@ fn look_at<D: Dialect>(
 ) -> Result<(), OptError>
     requires live { IsLive ctx.now.tree op }
     requires targets { HasNumberedTargets ctx.now.tree tables.old op }
+    requires entered { AreEntered ctx.now.tree (facts_of tables.old) slate.old.entered }
     ensures ok { OnOk result (LooksAt ⟦<D as HasFolding>⟧.folding ctx.now.tree op tables.old tables.new) }
+    ensures entered { OnOk result (AreEntered ctx.now.tree (facts_of tables.new) slate.new.entered) }
     ensures memory { IsOkUnless result OptError.Memory }
 {
     let mut feasible = None;
@@ -496,8 +500,10 @@ fn look_and_keep<D: Dialect>(
 ) -> Result<(), OptError>
     requires live { IsLive ctx.now.tree op }
     requires targets { HasNumberedTargets ctx.now.tree tables.old op }
+    requires entered { AreEntered ctx.now.tree (facts_of tables.old) slate.old.entered }
     ensures looks { OnOk result (LooksAt ⟦<D as HasFolding>⟧.folding ctx.now.tree op tables.old tables.new) }
     ensures keeps { OnOk result (KeepsFeasible ⟦<D as HasFolding>⟧.folding ctx.now.tree (facts_of tables.old) op edges.old edges.new) }
+    ensures entered { OnOk result (AreEntered ctx.now.tree (facts_of tables.new) slate.new.entered) }
     ensures memory { IsOkUnless result OptError.Memory }
 {
     let mut feasible = None;
@@ -519,7 +525,9 @@ fn see_to<D: Dialect>(
 ) -> Result<(), OptError>
     requires live { IsLive ctx.now.tree op }
     requires targets { HasNumberedTargets ctx.now.tree tables.old op }
+    requires entered { AreEntered ctx.now.tree (facts_of tables.old) slate.old.entered }
     ensures ok { OnOk result (IsSeenTo ⟦<D as HasFolding>⟧.folding ctx.now.tree op tables.old tables.new delays.old delays.new) }
+    ensures entered { OnOk result (AreEntered ctx.now.tree (facts_of tables.new) slate.new.entered) }
     ensures memory { IsOkUnless result OptError.Memory }
 {
     let operands = op.num_operand(ctx);
@@ -543,7 +551,9 @@ fn see_to_all<D: Dialect>(
 ) -> Result<(), OptError>
     requires live { (k : ℕ) → In k ops.now → IsLive ctx.now.tree k }
     requires targets { (k : ℕ) → In k ops.now → HasNumberedTargets ctx.now.tree tables.old k }
+    requires entered { AreEntered ctx.now.tree (facts_of tables.old) slate.old.entered }
     ensures ok { OnOk result (SeesToAll ⟦<D as HasFolding>⟧.folding ctx.now.tree ops.now tables.old tables.new delays.old delays.new) }
+    ensures entered { OnOk result (AreEntered ctx.now.tree (facts_of tables.new) slate.new.entered) }
     ensures memory { IsOkUnless result OptError.Memory }
 {
     for i in 0..ops.len() {
@@ -565,7 +575,9 @@ fn visit_block<D: Dialect>(
 ) -> Result<(), OptError>
     requires block { IsBlock ctx.now.tree block }
     requires targets { (k : ℕ) → In k (body_of ctx.now.tree block) → HasNumberedTargets ctx.now.tree tables.old k }
+    requires entered { AreEntered ctx.now.tree (facts_of tables.old) slate.old.entered }
     ensures ok { OnOk result (GoesThrough ⟦<D as HasFolding>⟧.folding ctx.now.tree (body_of ctx.now.tree block) tables.old tables.new edges.old edges.new) }
+    ensures entered { OnOk result (AreEntered ctx.now.tree (facts_of tables.new) slate.new.entered) }
     ensures memory { IsOkUnless result OptError.Memory }
 {
     ctx.well_formed();
@@ -587,8 +599,10 @@ fn visit_values<D: Dialect>(
     edges: &FeasibleEdges,
     slate: &mut Slate,
 ) -> Result<u128, OptError>
-    requires { AreTargetsNumbered ctx.now.tree tables.old }
+    requires targets { AreTargetsNumbered ctx.now.tree tables.old }
+    requires entered { AreEntered ctx.now.tree (facts_of tables.old) slate.old.entered }
     ensures ok { IfOk result (λ taken. VisitsValues ⟦<D as HasFolding>⟧.folding ctx.now.tree edges.now tables.old tables.new delays.old delays.new taken) }
+    ensures entered { OnOk result (AreEntered ctx.now.tree (facts_of tables.new) slate.new.entered) }
     ensures memory { IsOkUnless result OptError.Memory }
 {
     ctx.well_formed();
@@ -610,7 +624,9 @@ fn step<D: Dialect>(
 ) -> Result<u128, OptError>
     requires blocks { (b : ℕ) → waits_block tables.old b ≡ true → IsBlock ctx.now.tree b }
     requires targets { AreTargetsNumbered ctx.now.tree tables.old }
+    requires entered { AreEntered ctx.now.tree (facts_of tables.old) slate.old.entered }
     ensures ok { IfOk result (λ taken. TakesTurn ⟦<D as HasFolding>⟧.folding ctx.now.tree tables.old tables.new delays.old delays.new edges.old edges.new taken) }
+    ensures entered { OnOk result (AreEntered ctx.now.tree (facts_of tables.new) slate.new.entered) }
     ensures memory { IsOkUnless result OptError.Memory }
 {
     ctx.well_formed();
@@ -636,7 +652,9 @@ fn look_aside<D: Dialect>(
 ) -> Result<bool, OptError>
     requires placed { (k : ℕ) → In k (delayed delays.old) → IsLookedAt ctx.now.tree tables.old k }
     requires targets { AreTargetsNumbered ctx.now.tree tables.old }
+    requires entered { AreEntered ctx.now.tree (facts_of tables.old) slate.old.entered }
     ensures ok { IfOk result (λ looked. LooksAside ⟦<D as HasFolding>⟧.folding ctx.now.tree tables.old tables.new delays.old delays.new edges.old edges.new looked) }
+    ensures entered { OnOk result (AreEntered ctx.now.tree (facts_of tables.new) slate.new.entered) }
     ensures memory { IsOkUnless result OptError.Memory }
 {
     ctx.well_formed();
