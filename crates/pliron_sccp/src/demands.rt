@@ -1,6 +1,11 @@
 //! What an operation asks of the facts, read under the facts so far; and facts fall until they meet it.
 //!
 //! What is asked names a constant by its number in the tables, so that none is copied to hand it on.
+//!
+//! An operation that is no branch asks of its successors that they are entered: reached, and none of their arguments a
+//! constant. Facts only fall, so of a block that was entered so nothing of this is asked again: it is noted, where it has
+//! more than a few arguments. So what is asked says all that the operation asks under the facts that were read and those
+//! below them, and no others are met or compared.
 ghost use Rattle.std.specs.Prelude.{◌≡◌, ◌≤◌, ◌<◌, ◌↔◌, ◌∷◌, ◌++◌, [], ℕ, List, nat_eq, true, if◌then◌else◌, Some, None, OnOk, IfOk, IsTrue, length, slice_get, IsOkUnless};
 ghost use Rattle.std.specs.HashSet.{contains};
 ghost use Rattle.pliron_core.specs.Tree.{IsLive, IsBlock, IsRegion, In, arguments_of, operands_of, regions_of, results_of, successors_of};
@@ -599,8 +604,10 @@ fn ask_edges<D: Dialect>(
 /// facts and writes it on the slate, in place of what was asked there. Where the operation folds as a branch, tells
 /// the blocks that it may go to.
 ///
-/// Asks that the operation stands (`is_live` tests it), and for a place that is empty. Errors: want of memory. Cost:
-/// one step for each operand, result, region, successor and argument of these, and what the dialect's answers cost.
+/// Asks that the operation stands (`is_live` tests it), that the blocks noted on the slate are entered under these facts,
+/// and for a place that is empty. Errors: want of memory. Cost: one step for each operand, result, region, successor and
+/// argument of these, and what the dialect's answers cost. The arguments of a successor of what is no branch cost that
+/// once for all such operations, where they are more than a few.
 pub fn demands<D: Dialect>(
     alloc: Global,
     op: Ptr<Operation>,

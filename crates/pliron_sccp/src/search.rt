@@ -398,8 +398,8 @@ fn stamp(op: Ptr<Operation>, ctx: &Context, tables: &mut Tables)
 /// Meets what the operation asks of the facts so far, and does nothing else. Where it folds as a branch, tells the
 /// blocks that it may go to.
 ///
-/// Asks that it stands, that the blocks which it may enter have numbers, and for a place that is empty. Errors: want of
-/// memory. Cost: that of what it asks.
+/// Asks that it stands, that the blocks which it may enter have numbers, that those noted on the slate are entered, which
+/// holds again afterwards, and for a place that is empty. Errors: want of memory. Cost: that of what it asks.
 #[inline(always)]
 fn look<D: Dialect>(
     alloc: Global,
@@ -426,7 +426,8 @@ fn look<D: Dialect>(
 
 /// Meets what the operation asks of the facts so far, and does nothing else.
 ///
-/// Asks that it stands, and that the blocks which it may enter have numbers. Errors: want of memory. Cost: that of what it asks.
+/// Asks that it stands, that the blocks which it may enter have numbers, and that those noted on the slate are entered, which
+/// holds again afterwards. Errors: want of memory. Cost: that of what it asks.
 #[inline(always)]
 fn look_at<D: Dialect>(
     alloc: Global,
@@ -564,7 +565,8 @@ fn see_to_all<D: Dialect>(
 
 /// Looks at the operations of the block, in order.
 ///
-/// Asks that the block stands, and that the blocks which these may enter have numbers. Errors: want of memory. Cost: that of what they ask.
+/// Asks that the block stands, that the blocks which these may enter have numbers, and that those noted on the slate are
+/// entered. Errors: want of memory. Cost: that of what they ask.
 fn visit_block<D: Dialect>(
     alloc: Global,
     block: Ptr<BasicBlock>,
@@ -679,7 +681,8 @@ pub struct Searched {
 ///
 /// Asks that the root stands and is well linked. Errors: want of memory. Cost: one step for each operation,
 /// block, region and value inside the root, and what looking at an operation costs once for its block and
-/// once for each time when operands of it fell.
+/// once for each time when operands of it fell. Where operations that are no branches go to one block of more than a few
+/// arguments, these are gone through once for all of them.
 pub fn search<D: Dialect>(
     alloc: Global,
     root: Ptr<Operation>,

@@ -6,8 +6,8 @@ use Rattle.pliron_sccp.proofs.demands.ask_jumps.Goals as goal
 
 pub loop-i-init : goal.loop-i-init
 loop-i-init c = λ constants f entered. (
-    under_start constants f (successors_of c.args.ctx.now.tree c.args.op) (λ now j b. IsEntered c.args.ctx.now.tree now b) c.args.asked.now.items,
-    entered_where constants c.args.ctx.now.tree f c.args.asked.now.items c.args.entered.now entered,
+  under_start constants f (successors_of c.args.ctx.now.tree c.args.op) (λ now j b. IsEntered c.args.ctx.now.tree now b) c.args.asked.now.items,
+  entered_where constants c.args.ctx.now.tree f c.args.asked.now.items c.args.entered.now entered,
 )
 
 pub loop-i-preserved : goal.loop-i-preserved
