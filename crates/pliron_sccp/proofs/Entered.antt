@@ -1,20 +1,20 @@
 -- Blocks that were entered whole, which jumps need not ask again.
-use Rattle.std.proofs.Common.{◌≡◌, ◌↔◌, ◌⊎◌, inl, inr, ⊎_elim, ℕ, ◌+◌, ◌≤◌, Bool, true, false, true≢false, nat_eq, List, [], ◌∷◌, length, Option, Some, None, slice_get, refl, sym, ap, ◌∙◌, subst, arith, position}
+use Rattle.std.proofs.Common.{◌≡◌, ◌↔◌, inl, inr, ⊎_elim, ℕ, ◌+◌, ◌≤◌, Bool, true, false, true≢false, nat_eq, List, length, Option, Some, None, slice_get, refl, sym, ap, ◌∙◌, subst, arith, position}
 use Rattle.std.specs.List.{list_any}
-use Rattle.std.specs.HashSet.{HashSet, contains}
+use Rattle.std.specs.HashSet.{HashSet}
 use Rattle.std.proofs.lemmas.List.Folds.{list_any_at}
 use Rattle.std.proofs.lemmas.List.Quantifiers.{position-Some}
 use Rattle.pliron_core.specs.declared.attrs.AttrObj.{AttrObj}
-use Rattle.pliron_core.specs.Tree.{Tree, In, successors_of}
+use Rattle.pliron_core.specs.Tree.{Tree}
 use Rattle.pliron_theory.specs.Facts.{Facts, IsEntered}
 use Rattle.pliron_sccp.specs.declared.demands.Demand.{Demand}
 use Rattle.pliron_sccp.specs.declared.facts.Tables.{Tables}
 use Rattle.pliron_sccp.specs.declared.facts.Mark.TheVariants.{Unreached}
 use Rattle.pliron_sccp.specs.Cells.{table_at, was_reached}
-use Rattle.pliron_sccp.specs.Tables.{fact_in, facts_of, is_numbered, lowest_facts, reaches}
+use Rattle.pliron_sccp.specs.Tables.{fact_in, facts_of, lowest_facts, reaches}
 use Rattle.pliron_sccp.specs.Settling.{AreAtMost}
 use Rattle.pliron_sccp.specs.Falling.{IsApplied}
-use Rattle.pliron_sccp.specs.Demands.{MeetsAll, Adds, AddsUnder, AreEntered, AreEnteredWhere, AsksJumps, EachBefore, NotesEntry}
+use Rattle.pliron_sccp.specs.Demands.{MeetsAll, Adds, AddsUnder, AreEntered, AreEnteredWhere, EachBefore, NotesEntry}
 use Rattle.pliron_sccp.proofs.Demanded.{past, more}
 use Rattle.pliron_sccp.proofs.Settled.{varies_still}
 
