@@ -2,7 +2,8 @@
 """How often propagation takes something from a worklist, by a plain program over the bench notation.
 
   plain_counts.py TEXTS            the counts of the made texts of crates/pliron_sccp_tests/src/cases.rt, in order, and
-                                   in a second line those of the texts of what is put aside
+                                   in a second line those of the texts of what is put aside, and in a third those of
+                                   what is entered whole
   plain_counts.py TEXTS whole      the same where each user of a value that fell is looked at as a whole
   plain_counts.py TEXTS at-once    the same where nothing is put aside
   plain_counts.py TEXTS late       the same where what is long is asked for no argument ahead
@@ -336,7 +337,7 @@ def texts_of(path, name):
 
 
 def main():
-    for name in "MADE", "ASIDE":
+    for name in "MADE", "ASIDE", "ENTERED":
         counts = []
         for blocks, constants, others, text in texts_of(sys.argv[1], name):
             search = Search(Parser(text).operation(), "whole" in sys.argv[2:], "at-once" in sys.argv[2:], "late" in sys.argv[2:])

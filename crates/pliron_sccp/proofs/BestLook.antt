@@ -198,17 +198,17 @@ module _ (x : Says) (t : Tree) (root : ℕ) (w : IsTree t) (linked : IsWellLinke
       abbrev pub new : Facts
       new = facts_of s'
 
-      asks : (g : Facts) → MeetsAll (known_constants s) g looks.asked ↔ IsMet x t now g k o
-      asks g = subst (λ z. MeetsAll (known_constants s) g looks.asked ↔ IsMet x t z g k o) (sym same) (looks.asks o at g)
-
-      met : IsMet x t now new k o
-      met = (asks new).0 looks.applied.met
+      asks : (g : Facts) → AreAtMost g now → MeetsAll (known_constants s) g looks.asked ↔ IsMet x t now g k o
+      asks g below = subst (λ z. MeetsAll (known_constants s) g looks.asked ↔ IsMet x t z g k o) (sym same) (looks.asks o at g (subst (λ z. AreAtMost g z) same below))
 
       falls : AreAtMost new now
       falls = subst (λ z. AreAtMost new z) (sym same) looks.applied.falls.below
 
+      met : IsMet x t now new k o
+      met = (asks new falls).0 looks.applied.met
+
       least : (g : Facts) → AreAtMost g now → IsMet x t now g k o → AreAtMost g new
-      least g below m = looks.applied.least g (subst (λ z. AreAtMost g z) same below) ((asks g).1 m)
+      least g below m = looks.applied.least g (subst (λ z. AreAtMost g z) same below) ((asks g below).1 m)
 
       above_still : (g : Facts) → AreClosed x t root g → IsAbove t root new g
       above_still g closed =

@@ -16,7 +16,7 @@ use Rattle.pliron_sccp.specs.Cells.{Means}
 use Rattle.pliron_sccp.proofs.Written.{means_same}
 use Rattle.pliron_sccp.specs.Demands.{Meets, MeetsAll, Adds, EachBefore, IsNotConstant, EntryEntered, GetsForwarded, GetsNamed, VisitEntered, AsksVisits, AsksAnswers, AsksResults, AsksForwarded}
 
-past : (ys : List ℕ) (j x : ℕ) → slice_get ys j ≡ Some x → j < length ys
+pub past : (ys : List ℕ) (j x : ℕ) → slice_get ys j ≡ Some x → j < length ys
 past [] j x e = absurd (not_none e)
 past (y ∷ ys) zero x e = omega arith
 past (y ∷ ys) (suc j) x e = let l = past ys j x e in omega (arith, l)
@@ -75,7 +75,7 @@ module _ (constants : List AttrObj) where
     pub adds_start : (a : List Demand) → Adds constants a a (So 0)
     adds_start a now = (λ m. (m, λ j x lt at. absurd (omega (arith, lt))), λ m. m.0)
 
-    more : (now : Facts) (i x : ℕ) → slice_get xs i ≡ Some x → (So i now × Q now i x) ↔ So (i + 1) now
+    pub more : (now : Facts) (i x : ℕ) → slice_get xs i ≡ Some x → (So i now × Q now i x) ↔ So (i + 1) now
     more now i x at = (
       λ m j y lt is. ⊎_elim (λ below. m.0 j y below is) (λ here. last m.1 j y here is) (split j lt),
       λ all. (λ j y lt is. all j y (omega (arith, lt)) is, all i x (omega arith) at),

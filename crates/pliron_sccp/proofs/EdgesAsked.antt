@@ -2,16 +2,17 @@
 use Rattle.std.proofs.Common.{◌≡◌, ◌↔◌, ℕ, zero, suc, true, false, true≢false, List, [], ◌∷◌, map, Option, Some, None, slice_get, sym, ap, ◌∙◌, subst, IsTrue}
 use Rattle.std.specs.HashSet.{HashSet}
 use Rattle.pliron_core.specs.declared.attrs.AttrObj.{AttrObj}
-use Rattle.pliron_core.specs.Tree.{Tree, In, successors_of}
-use Rattle.pliron_core.proofs.HoldingLemmas.{some_is, not_none}
+use Rattle.pliron_core.specs.Tree.{Tree, In, IsLive, successors_of}
+use Rattle.pliron_core.proofs.HoldingLemmas.{some_is, some_of, not_none}
 use Rattle.pliron_laws.specs.Acting.{pick}
 use Rattle.pliron_laws.specs.Tree.{Operation, op_at, shape_of}
-use Rattle.pliron_laws.proofs.Records.{ShowsOperation, op_shows}
+use Rattle.pliron_laws.proofs.Records.{ShowsOperation, make_op, op_shows}
 use Rattle.pliron_theory.specs.Facts.{Facts, Says, handed, IsFeasibleEdge}
 use Rattle.pliron_sccp.specs.declared.demands.Demand.{Demand}
-use Rattle.pliron_sccp.specs.Demands.{MeetsAll, Adds, AreFeasible, MayLead, AsksVisits, AsksJumps, AsksForwarded, FollowsEdge, AsksBranches, AsksEdges, AsksResults}
-use Rattle.pliron_sccp.specs.Settling.{IsMet}
+use Rattle.pliron_sccp.specs.Demands.{MeetsAll, Adds, AddsUnder, AlwaysAdds, AreEnteredWhere, AreFeasible, MayLead, AsksVisits, AsksJumps, AsksForwarded, FollowsEdge, AsksBranches, AsksEdges, AsksResults}
+use Rattle.pliron_sccp.specs.Settling.{AreAtMost, IsMet}
 use Rattle.pliron_sccp.proofs.Demanded.{adds_as}
+use Rattle.pliron_sccp.proofs.Entered.{under, under_as, where_more}
 
 out_of_some : (xs : List ℕ) (j w : ℕ) → slice_get (map Some xs) j ≡ Some (Some w) → slice_get xs j ≡ Some w
 out_of_some [] j w e = absurd (not_none e)
@@ -52,24 +53,24 @@ module _ (x : Says) (t : Tree) (f : Facts) (op : ℕ) (o : Operation) (e : op_at
         adds_as constants (λ now. (i c : ℕ) → slice_get (successors_of t op) i ≡ Some c → FollowsEdge x t f o now i c) (AsksBranches x t f o) a b p
         (λ now. (λ m i c go. m i c (ap (λ l. slice_get l i) shows.successors ∙ go.0) go, λ m i c at go. m i c go))
 
-    pub branching_edges : (a b : List Demand) → IsTrue (x.meaning.is_branch o.head) → Adds constants a b (AsksBranches x t f o) → Adds constants a b (AsksEdges x t f op o)
+    pub branching_edges : (a b : List Demand) → IsTrue (x.meaning.is_branch o.head) → Adds constants a b (AsksBranches x t f o) → AddsUnder f constants a b (AsksEdges x t f op o)
     branching_edges a b branch p =
-        adds_as constants (AsksBranches x t f o) (AsksEdges x t f op o) a b p
+        under_as constants f (AsksBranches x t f o) (AsksEdges x t f op o) a b (under constants f (AsksBranches x t f o) a b p)
         (λ now. (λ m. (λ yes. m, λ none. absurd (true≢false (sym branch ∙ none))), λ m. m.0 branch))
 
-    pub jumping_edges : (a b : List Demand) → x.meaning.is_branch o.head ≡ false → Adds constants a b (AsksJumps t op) → Adds constants a b (AsksEdges x t f op o)
+    pub jumping_edges : (a b : List Demand) → x.meaning.is_branch o.head ≡ false → AddsUnder f constants a b (AsksJumps t op) → AddsUnder f constants a b (AsksEdges x t f op o)
     jumping_edges a b none p =
-        adds_as constants (AsksJumps t op) (AsksEdges x t f op o) a b p
+        under_as constants f (AsksJumps t op) (AsksEdges x t f op o) a b p
         (λ now. (λ m. (λ yes. absurd (true≢false (sym yes ∙ none)), λ same. m), λ m. m.1 none))
 
     -- all that an operation asks
-    pub all_asked : (known : List (Option AttrObj)) → known ≡ handed f o.operands → (d0 d1 d2 d3 : List Demand) → d0 ≡ [] → Adds constants d0 d1 (AsksVisits x t f o) → Adds constants d1 d2 (AsksEdges x t f op o) → Adds constants d2 d3 (AsksResults x.can_fold (x.constants (shape_of x.meaning t o) known) o) → (now : Facts) → MeetsAll constants now d3 ↔ IsMet x t f now op o
-    all_asked known same d0 d1 d2 d3 none p1 p2 p3 now = (there, back)
+    pub all_asked : (known : List (Option AttrObj)) → known ≡ handed f o.operands → (d0 d1 d2 d3 : List Demand) → d0 ≡ [] → Adds constants d0 d1 (AsksVisits x t f o) → AddsUnder f constants d1 d2 (AsksEdges x t f op o) → Adds constants d2 d3 (AsksResults x.can_fold (x.constants (shape_of x.meaning t o) known) o) → (now : Facts) → AreAtMost now f → MeetsAll constants now d3 ↔ IsMet x t f now op o
+    all_asked known same d0 d1 d2 d3 none p1 p2 p3 now below = (there, back)
       where
         there : MeetsAll constants now d3 → IsMet x t f now op o
         there m =
             let results = (p3 now).0 m in
-            let edges = (p2 now).0 results.0 in
+            let edges = (p2 now below).0 results.0 in
             let entries = (p1 now).0 edges.0 in
             record {
               entries = λ i r b at e. entries.1 i r b at e;
@@ -82,9 +83,17 @@ module _ (x : Says) (t : Tree) (f : Facts) (op : ℕ) (o : Operation) (e : op_at
         back : IsMet x t f now op o → MeetsAll constants now d3
         back m =
             (p3 now).1 (
-              (p2 now).1 (
+              (p2 now below).1 (
                 (p1 now).1 (subst (MeetsAll constants now) (sym none) tt, λ i r b at e. m.entries i r b at e),
                 (λ branch i b go. m.branches i b branch go, λ no_branch i b at. m.jumps i b no_branch (ap (λ l. slice_get l i) (sym shows.successors) ∙ at)),
               ),
               (λ folds i v a at said. m.folded i v a folds at (ap (λ ks. slice_get (x.constants (shape_of x.meaning t o) ks) i) (sym same) ∙ said), λ never v i. m.others v never i),
             )
+
+-- what results are asked leaves the blocks as they are
+pub results_where : {S : Type 0} (x : Says) (t : Tree) (f : Facts) (op : ℕ) (constants : List AttrObj) (known : List (Option AttrObj)) (d2 d3 : List Demand) (blocks : HashSet ℕ S) → IsLive t op → ((o : Operation) → op_at t op ≡ Some o → AlwaysAdds d2 d3 (λ now. AsksResults x.can_fold (x.constants (shape_of x.meaning t o) known) o now)) → AreEnteredWhere constants t f d2 blocks → AreEnteredWhere constants t f d3 blocks
+results_where x t f op constants known d2 d3 blocks live adds entered =
+    where_more constants t f (AsksResults x.can_fold (x.constants (shape_of x.meaning t o.0) known) o.0) d2 d3 blocks (adds o.0 o.1 constants) entered
+  where
+    o : (o : Operation) × (op_at t op ≡ Some o)
+    o = let h = some_of _ live in (_, make_op t op h.0 h.1)

@@ -10,6 +10,7 @@ pub mod Marked
 pub mod Written
 pub mod Fresh
 pub mod Demanded
+pub mod Entered
 pub mod Applied
 pub mod EdgesAsked
 pub mod DistinctLists

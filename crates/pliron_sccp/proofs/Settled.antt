@@ -1,10 +1,9 @@
 -- Operations stay settled while no operand of theirs falls, and where all are settled facts are closed.
-use Rattle.std.proofs.Common.{◌≡◌, ◌⊎◌, inl, inr, ⊎_elim, ℕ, List, Option, Some, None, slice_get, sym, ap, ◌∙◌, subst, arith}
-use Rattle.pliron_core.specs.Tree.{Tree, In, head_of, regions_of, layout_of, first_of}
+use Rattle.std.proofs.Common.{◌≡◌, inl, inr, ⊎_elim, ℕ, List, Option, Some, None, slice_get, sym, ap, ◌∙◌, subst, arith}
+use Rattle.pliron_core.specs.Tree.{Tree, In}
 use Rattle.pliron_core.specs.Joined.{IsTree}
-use Rattle.pliron_core.proofs.HoldingLemmas.{in_slice, some_of}
+use Rattle.pliron_core.proofs.HoldingLemmas.{in_slice}
 use Rattle.pliron_laws.specs.Tree.{Operation, op_at, shape_of}
-use Rattle.pliron_laws.proofs.Records.{make_op}
 use Rattle.pliron_theory.proofs.Alike.{map_same}
 use Rattle.pliron_theory.proofs.KnownData.{picked_at}
 use Rattle.pliron_theory.specs.Facts.{Fact, Undetermined, NotAConstant, AtMost, known, answered, Facts, Says, handed, IsInReachedBlock, IsEntered, IsBelowNamed, AreClosed}

@@ -29,11 +29,12 @@ use Rattle.pliron_sccp.specs.Accounts.{AreKnownThere}
 use Rattle.pliron_sccp.proofs.DistinctLists.{held_directly, values_apart}
 use Rattle.pliron_sccp.proofs.Settled.{met_still, entered_still, varies_still}
 use Rattle.pliron_sccp.proofs.Applied.{falls_refl, falls_trans}
+use Rattle.pliron_sccp.proofs.Entered.{lowest_below}
 use Rattle.pliron_sccp.proofs.Stamps.{behind_same, calls_still, told_calls}
 
 -- what an operation asks can be met where the blocks that it may enter have numbers
 pub can_meet : (x : Says) (t : Tree) (k : ℕ) (s : Tables) (asked : List Demand) → IsLive t k → HasNumberedTargets t s k → Asks (known_constants s) x t (facts_of s) k asked → CanMeet s asked
-can_meet x t k s asked live n asks = (asks o.0 o.1 (lowest_facts s)).1 met
+can_meet x t k s asked live n asks = (asks o.0 o.1 (lowest_facts s) (lowest_below s)).1 met
   where
     o : (o : Operation) × (op_at t k ≡ Some o)
     o = let h = some_of _ live in (_, make_op t k h.0 h.1)
@@ -182,7 +183,7 @@ module _ (x : Says) (t : Tree) where
         f = l.applied.falls
 
         here : j ≡ k → IsMet x t (facts_of s) (facts_of u) j o
-        here e = subst (λ z. IsMet x t (facts_of s) (facts_of u) z o) (sym e) ((l.asks o (subst (λ z. op_at t z ≡ Some o) e at) (facts_of u)).0 l.applied.met)
+        here e = subst (λ z. IsMet x t (facts_of s) (facts_of u) z o) (sym e) ((l.asks o (subst (λ z. op_at t z ≡ Some o) e at) (facts_of u) f.below).0 l.applied.met)
 
         before : (waits_block s b ≡ true) ⊎ IsSettledIn s j o ⊎ In j (k ∷ ks) ⊎ rest j → (waits_block u b ≡ true) ⊎ IsSettledIn u j o ⊎ In j ks ⊎ rest j
         before (inl waits) = inl (f.blocks b waits)
@@ -250,7 +251,7 @@ module _ (x : Says) (t : Tree) where
         }
 
         least : AreAtMost g (facts_of u)
-        least = l.applied.least g below ((l.asks o stands g).1 met)
+        least = l.applied.least g below ((l.asks o stands g below).1 met)
 
     pub came_from : (b : ℕ) → reaches u b ≡ true → (reaches s b ≡ true) ⊎ In b (entries_of t k) ⊎ In b (successors_of t k)
     came_from b new = by (reaches s b) refl (decide_in b (entries_of t k)) (decide_in b (successors_of t k))
@@ -305,7 +306,7 @@ module _ (x : Says) (t : Tree) (root : ℕ) (w : IsTree t) (edges : EdgesLast t 
         (held_near b r)
 
     pub look_known : AreKnownThere t root s → AreKnownThere t root u
-    look_known known b v inside listed none = unknown_but t w s u b v listed none unknown still (l.applied.least g (below_but t w s u b v listed none unknown still) ((l.asks operation.0 operation.1 g).1 met))
+    look_known known b v inside listed none = unknown_but t w s u b v listed none unknown still (l.applied.least g (below_but t w s u b v listed none unknown still) ((l.asks operation.0 operation.1 g (below_but t w s u b v listed none unknown still)).1 met))
       where
         unknown : fact_in s v ≡ Undetermined
         unknown = known b v inside listed (not_yet s u b still none)
@@ -321,7 +322,7 @@ module _ (x : Says) (t : Tree) (root : ℕ) (w : IsTree t) (edges : EdgesLast t 
 
         met : IsMet x t (facts_of s) g k operation.0
         met =
-            let m = (l.asks operation.0 operation.1 (facts_of u)).0 l.applied.met in
+            let m = (l.asks operation.0 operation.1 (facts_of u) l.applied.falls.below).0 l.applied.met in
             let shows = op_shows t k operation.0 operation.1 in
             let given : (z : ℕ) → In z operation.0.results → g.fact z ≡ NotAConstant = λ z i. result z (subst (In z) (sym shows.results) i) in
             record {

@@ -1,5 +1,5 @@
 -- What an operation asks of the facts, one thing at a time.
-use Rattle.std.specs.Prelude.{◌≡◌, ◌↔◌, ◌<◌, ℕ, Bool, false, nat_eq, List, [], ◌∷◌, Option, Some, None, slice_get, IsTrue}
+use Rattle.std.specs.Prelude.{◌≡◌, ◌↔◌, ◌⊎◌, ◌<◌, ℕ, Bool, true, false, nat_eq, List, [], ◌∷◌, Option, Some, None, slice_get, IsTrue}
 use Rattle.std.specs.HashSet.{HashSet, contains}
 use Rattle.pliron_core.specs.declared.attrs.AttrObj.{AttrObj}
 use Rattle.pliron_core.specs.Tree.{Tree, In, head_of, regions_of, successors_of, arguments_of, layout_of, first_of}
@@ -12,7 +12,7 @@ use Rattle.pliron_sccp.specs.declared.demands.Demand.TheVariants.{Enter, Lower, 
 use Rattle.pliron_sccp.specs.declared.facts.Tables.{Tables}
 use Rattle.pliron_sccp.specs.Cells.{Means}
 use Rattle.pliron_sccp.specs.Tables.{known_constants, lowest_facts}
-use Rattle.pliron_sccp.specs.Settling.{IsMet}
+use Rattle.pliron_sccp.specs.Settling.{AreAtMost, IsMet}
 
 -- the block is reached, or the value's fact is at or below what the cell means by these constants, or at or below this
 -- constant
@@ -36,6 +36,22 @@ Adds constants old new P = (now : Facts) → MeetsAll constants now new ↔ (Mee
 -- whatever the constants are
 abbrev pub AlwaysAdds : (old new : List Demand) → (Facts → Type 0) → Type 0
 AlwaysAdds old new P = (constants : List AttrObj) → Adds constants old new P
+
+-- so it is for facts at or below f
+abbrev pub AddsUnder : Facts → List AttrObj → (old new : List Demand) → (Facts → Type 0) → Type 0
+AddsUnder f constants old new P = (now : Facts) → AreAtMost now f → MeetsAll constants now new ↔ (MeetsAll constants now old × P now)
+
+-- each of these blocks is entered
+abbrev pub AreEntered : {S : Type 0} → Tree → Facts → HashSet ℕ S → Type 0
+AreEntered t now blocks = (b : ℕ) → contains nat_eq blocks b ≡ true → IsEntered t now b
+
+-- facts at or below f that meet what is asked enter each of these blocks
+abbrev pub AreEnteredWhere : {S : Type 0} → List AttrObj → Tree → Facts → List Demand → HashSet ℕ S → Type 0
+AreEnteredWhere constants t f asked blocks = (now : Facts) → AreAtMost now f → MeetsAll constants now asked → AreEntered t now blocks
+
+-- an entry is due unless the block is among the first ones; the second ones have none but these and it
+abbrev pub NotesEntry : {S : Type 0} → ℕ → (blocks blocks' : HashSet ℕ S) → (due : Bool) → Type 0
+NotesEntry block blocks blocks' due = (due ≡ false → contains nat_eq blocks block ≡ true) × ((b : ℕ) → contains nat_eq blocks' b ≡ true → (contains nat_eq blocks b ≡ true) ⊎ (b ≡ block))
 
 -- the items before index i are so
 abbrev pub EachBefore : List ℕ → ℕ → (ℕ → ℕ → Type 0) → Type 0
@@ -82,9 +98,9 @@ abbrev pub MayLead : {S : Type 0} → Option (HashSet ℕ S) → ℕ → Bool �
 MayLead None b answer = IsTrue answer
 MayLead (Some blocks) b answer = answer ≡ contains nat_eq blocks b
 
--- facts meet all that is asked exactly if they meet the operation, as it was read under the facts f
+-- facts at or below f meet all that is asked exactly if they meet the operation, as it was read under f
 abbrev pub Asks : List AttrObj → Says → Tree → Facts → ℕ → List Demand → Type 0
-Asks constants x t f op asked = (o : Operation) → op_at t op ≡ Some o → (now : Facts) → MeetsAll constants now asked ↔ IsMet x t f now op o
+Asks constants x t f op asked = (o : Operation) → op_at t op ≡ Some o → (now : Facts) → AreAtMost now f → MeetsAll constants now asked ↔ IsMet x t f now op o
 
 -- what is asked for the item at one index
 abbrev pub IsNotConstant : Facts → (j v : ℕ) → Type 0

@@ -1,17 +1,22 @@
 //! What an operation asks of the facts, read under the facts so far; and facts fall until they meet it.
 //!
 //! What is asked names a constant by its number in the tables, so that none is copied to hand it on.
+//!
+//! An operation that is no branch asks of its successors that they are entered: reached, and none of their arguments a
+//! constant. Facts only fall, so of a block that was entered so nothing of this is asked again: it is noted, where it has
+//! more than a few arguments. So what is asked says all that the operation asks under the facts that were read and those
+//! below them, and no others are met or compared.
 ghost use Rattle.std.specs.Prelude.{◌≡◌, ◌≤◌, ◌<◌, ◌↔◌, ◌∷◌, ◌++◌, [], ℕ, List, nat_eq, true, if◌then◌else◌, Some, None, OnOk, IfOk, IsTrue, length, slice_get, IsOkUnless};
 ghost use Rattle.std.specs.HashSet.{contains};
 ghost use Rattle.pliron_core.specs.Tree.{IsLive, IsBlock, IsRegion, In, arguments_of, operands_of, regions_of, results_of, successors_of};
 ghost use Rattle.pliron_laws.specs.Tree.{Operation as OperationOf, op_at, shape_of};
 ghost use Rattle.pliron_laws.specs.Answers.{HeadPasses};
-ghost use Rattle.pliron_theory.specs.Facts.{answered, handed, AtMost, AreBelowNamed, IsEntered, known as known_of, NotAConstant as Varies};
+ghost use Rattle.pliron_theory.specs.Facts.{answered, handed, AtMost, Facts, AreBelowNamed, IsEntered, known as known_of, NotAConstant as Varies};
 ghost use Rattle.pliron_sccp.specs.Tables.{known_constants, facts_of, fact_in, StampsFallen};
 ghost use Rattle.pliron_sccp.specs.Cells.{Means};
 ghost use Rattle.pliron_sccp.specs.Feasible.{AreFound};
 ghost use Rattle.pliron_sccp.specs.Falling.{IsApplied};
-ghost use Rattle.pliron_sccp.specs.Demands.{Adds, AlwaysAdds, CanMeet, Asks, AsksEntries, AsksEdges, AsksJumps, AsksAnswers, AsksResults, AsksForwarded, AsksBranches, AsksVisits, FollowsEdge, GetsForwarded, GetsNamed, AreFeasible, IsEntryOf, MayLead, EntryEntered, VisitEntered};
+ghost use Rattle.pliron_sccp.specs.Demands.{Adds, AddsUnder, AlwaysAdds, AreEntered, AreEnteredWhere, CanMeet, NotesEntry, Asks, AsksEntries, AsksEdges, AsksJumps, AsksAnswers, AsksResults, AsksForwarded, AsksBranches, AsksVisits, FollowsEdge, GetsForwarded, GetsNamed, AreFeasible, IsEntryOf, MayLead, EntryEntered, VisitEntered};
 
 use crate::facts::{Cell, Tables};
 use pliron_core::{AttrObj, BasicBlock, Context, Operation, Ptr, Region, Value};
@@ -31,24 +36,33 @@ pub enum Demand {
     Answer(Value, AttrObj),
 }
 
-/// Lists that each look writes on, kept so that looks take no memory for lists of their own.
+/// Lists that each look writes on, kept so that looks take no memory for lists of their own; and what later looks need
+/// not ask again.
 ///
 /// ```text
-/// known   the constants that are known of the operands
-/// asked   what is asked, until it is met
+/// known     the constants that are known of the operands
+/// asked     what is asked, until it is met
+/// entered   blocks with more than a few arguments that were entered by what is no branch: none of these is a constant
 /// ```
 #[derive(Drop)]
 pub struct Slate {
     known: Vec<Option<AttrObj>>,
     pub(crate) asked: Vec<Demand>,
+    pub(crate) entered: HashSet<u64>,
 }
 
 impl Slate {
-    /// Nothing is written. Takes no memory. Cost: constant.
-    pub fn new(alloc: Global) -> Slate {
+    ghost use Rattle.std.specs.Prelude.{◌≡◌, ℕ, false, nat_eq};
+    ghost use Rattle.std.specs.HashSet.{contains};
+
+    /// Nothing is written, and no block was entered. Takes no memory. Cost: constant.
+    pub fn new(alloc: Global) -> Slate
+        ensures { (b : ℕ) → contains nat_eq result.entered b ≡ false }
+    {
         Slate {
             known: Vec::new(alloc),
             asked: Vec::new(alloc),
+            entered: HashSet::new(alloc),
         }
     }
 }
@@ -225,14 +239,63 @@ fn ask_visits<D: Dialect>(
     Ok(())
 }
 
-/// Each successor is entered.
-fn ask_jumps(op: Ptr<Operation>, ctx: &Context, asked: &mut Vec<Demand>) -> Result<(), OptError>
+/// How many arguments are few. A block with more is asked to be entered once.
+const FEW_ARGUMENTS: usize = 8;
+
+/// Whether the block is still to be asked to be entered. One with more than a few arguments is noted, so that it is
+/// asked once.
+fn note_entry(
+    block: Ptr<BasicBlock>,
+    ctx: &Context,
+    entered: &mut HashSet<u64>,
+) -> Result<bool, OptError>
+    requires { IsBlock ctx.now.tree block }
+    ensures ok { IfOk result (λ due. NotesEntry block entered.old entered.new due) }
+    ensures memory { IsOkUnless result OptError.Memory }
+{
+    if block.num_argument(ctx) <= FEW_ARGUMENTS {
+        return Ok(true);
+    }
+    Ok(entered.insert(block.key())?)
+}
+
+/// The block is entered, which is asked unless it was asked before.
+fn ask_jump(
+    block: Ptr<BasicBlock>,
+    ctx: &Context,
+    entered: &mut HashSet<u64>,
+    asked: &mut Vec<Demand>,
+) -> Result<(), OptError>
+    requires { IsBlock ctx.now.tree block }
+    ensures ok { OnOk result ((constants : List AttrObj) (f : Facts) → AreEnteredWhere constants ctx.now.tree f asked.old.items entered.old →
+        AddsUnder f constants asked.old.items asked.new.items (λ now. IsEntered ctx.now.tree now block)) }
+    ensures entered { OnOk result ((constants : List AttrObj) (f : Facts) → AreEnteredWhere constants ctx.now.tree f asked.old.items entered.old →
+        AreEnteredWhere constants ctx.now.tree f asked.new.items entered.new) }
+    ensures memory { IsOkUnless result OptError.Memory }
+{
+    if note_entry(block, ctx, entered)? {
+        ask_entry(block, ctx, asked)
+    } else {
+        Ok(())
+    }
+}
+
+/// Each successor is entered, which is asked of those that were not entered so before.
+fn ask_jumps(
+    op: Ptr<Operation>,
+    ctx: &Context,
+    entered: &mut HashSet<u64>,
+    asked: &mut Vec<Demand>,
+) -> Result<(), OptError>
     requires { IsLive ctx.now.tree op }
-    ensures ok { OnOk result (AlwaysAdds asked.old.items asked.new.items (λ now. AsksJumps ctx.now.tree op now)) }
+    ensures ok { OnOk result ((constants : List AttrObj) (f : Facts) → AreEntered ctx.now.tree f entered.old →
+        AddsUnder f constants asked.old.items asked.new.items (λ now. AsksJumps ctx.now.tree op now)) }
+    ensures entered { OnOk result ((constants : List AttrObj) (f : Facts) → AreEntered ctx.now.tree f entered.old →
+        AreEnteredWhere constants ctx.now.tree f asked.new.items entered.new) }
     ensures memory { IsOkUnless result OptError.Memory }
 {
     for i in 0..op.num_successor(ctx) {
-        ask_entry(op.get_successor(ctx, i), ctx, asked)?;
+        ask_jump(op.get_successor(ctx, i), ctx, entered, asked)?;
     }
     Ok(())
 }
@@ -515,20 +578,23 @@ fn ask_edges<D: Dialect>(
     tables: &Tables,
     known: &[Option<AttrObj>],
     feasible: &mut Option<HashSet<u64>>,
+    entered: &mut HashSet<u64>,
     asked: &mut Vec<Demand>,
 ) -> Result<(), OptError>
     requires live { IsLive ctx.now.tree op }
     requires known { known.now ≡ handed (facts_of tables.now) (operands_of ctx.now.tree op) }
     requires none { feasible.old ≡ None }
+    requires entered { AreEntered ctx.now.tree (facts_of tables.now) entered.old }
     ensures ok { OnOk result ((o : OperationOf) → op_at ctx.now.tree op ≡ Some o →
-        Adds (known_constants tables.now) asked.old.items asked.new.items (λ now. AsksEdges ⟦<D as HasFolding>⟧.folding ctx.now.tree (facts_of tables.now) op o now)) }
+        AddsUnder (facts_of tables.now) (known_constants tables.now) asked.old.items asked.new.items (λ now. AsksEdges ⟦<D as HasFolding>⟧.folding ctx.now.tree (facts_of tables.now) op o now)) }
     ensures feasible { OnOk result (AreFound ⟦<D as HasFolding>⟧.folding ctx.now.tree (facts_of tables.now) op feasible.new) }
+    ensures entered { OnOk result (AreEnteredWhere (known_constants tables.now) ctx.now.tree (facts_of tables.now) asked.new.items entered.new) }
     ensures memory { IsOkUnless result OptError.Memory }
 {
     if D::is_branch(op, ctx) {
         ask_branches::<D>(alloc, op, ctx, tables, known, feasible, asked)
     } else {
-        ask_jumps(op, ctx, asked)
+        ask_jumps(op, ctx, entered, asked)
     }
 }
 
@@ -538,8 +604,10 @@ fn ask_edges<D: Dialect>(
 /// facts and writes it on the slate, in place of what was asked there. Where the operation folds as a branch, tells
 /// the blocks that it may go to.
 ///
-/// Asks that the operation stands (`is_live` tests it), and for a place that is empty. Errors: want of memory. Cost:
-/// one step for each operand, result, region, successor and argument of these, and what the dialect's answers cost.
+/// Asks that the operation stands (`is_live` tests it), that the blocks noted on the slate are entered under these facts,
+/// and for a place that is empty. Errors: want of memory. Cost: one step for each operand, result, region, successor and
+/// argument of these, and what the dialect's answers cost. The arguments of a successor of what is no branch cost that
+/// once for all such operations, where they are more than a few.
 pub fn demands<D: Dialect>(
     alloc: Global,
     op: Ptr<Operation>,
@@ -550,8 +618,10 @@ pub fn demands<D: Dialect>(
 ) -> Result<(), OptError>
     requires live { IsLive ctx.now.tree op }
     requires none { feasible.old ≡ None }
+    requires entered { AreEntered ctx.now.tree (facts_of tables.now) slate.old.entered }
     ensures ok { OnOk result (Asks (known_constants tables.now) ⟦<D as HasFolding>⟧.folding ctx.now.tree (facts_of tables.now) op slate.new.asked.items) }
     ensures feasible { OnOk result (AreFound ⟦<D as HasFolding>⟧.folding ctx.now.tree (facts_of tables.now) op feasible.new) }
+    ensures entered { OnOk result (AreEnteredWhere (known_constants tables.now) ctx.now.tree (facts_of tables.now) slate.new.asked.items slate.new.entered) }
     ensures memory { IsOkUnless result OptError.Memory }
 {
     slate.known.clear();
@@ -565,6 +635,7 @@ pub fn demands<D: Dialect>(
         tables,
         &slate.known,
         feasible,
+        &mut slate.entered,
         &mut slate.asked,
     )?;
     ask_results::<D>(alloc, op, ctx, &slate.known, &mut slate.asked)

@@ -30,7 +30,7 @@ ghost use Rattle.pliron_laws.specs.declared.dialect.Interface.TheVariants.{Regio
 ghost use Rattle.pliron_theory.specs.Facts.{AtMost};
 ghost use Rattle.pliron_sccp.specs.Accounts.{IsUnsearched};
 ghost use Rattle.pliron_sccp.specs.Delaying.{delayed};
-ghost use Rattle.pliron_sccp.specs.Demands.{Adds};
+ghost use Rattle.pliron_sccp.specs.Demands.{Adds, AreEntered};
 ghost use Rattle.pliron_sccp.specs.Feasible.{leads, AreFound, KeepsAmong, KeepsFeasible};
 ghost use Rattle.pliron_sccp.specs.Looking.{either, AreTargetsNumbered, AsksAhead, GoesThrough, HasNumberedTargets, IsBehind, IsCallFor, IsLookedAt, IsNamed, IsUseOf, LooksAt, SeesTo, StampsIt, TakesUsers};
 ghost use Rattle.pliron_sccp.specs.Searched.{IsSearched};
@@ -398,8 +398,8 @@ fn stamp(op: Ptr<Operation>, ctx: &Context, tables: &mut Tables)
 /// Meets what the operation asks of the facts so far, and does nothing else. Where it folds as a branch, tells the
 /// blocks that it may go to.
 ///
-/// Asks that it stands, that the blocks which it may enter have numbers, and for a place that is empty. Errors: want of
-/// memory. Cost: that of what it asks.
+/// Asks that it stands, that the blocks which it may enter have numbers, that those noted on the slate are entered, which
+/// holds again afterwards, and for a place that is empty. Errors: want of memory. Cost: that of what it asks.
 #[inline(always)]
 fn look<D: Dialect>(
     alloc: Global,
@@ -412,8 +412,10 @@ fn look<D: Dialect>(
     requires live { IsLive ctx.now.tree op }
     requires targets { HasNumberedTargets ctx.now.tree tables.old op }
     requires none { feasible.old ≡ None }
+    requires entered { AreEntered ctx.now.tree (facts_of tables.old) slate.old.entered }
     ensures ok { OnOk result (LooksAt ⟦<D as HasFolding>⟧.folding ctx.now.tree op tables.old tables.new) }
     ensures feasible { OnOk result (AreFound ⟦<D as HasFolding>⟧.folding ctx.now.tree (facts_of tables.old) op feasible.new) }
+    ensures entered { OnOk result (AreEntered ctx.now.tree (facts_of tables.new) slate.new.entered) }
     ensures memory { IsOkUnless result OptError.Memory }
 {
     demands::<D>(alloc, op, ctx, tables, slate, feasible)?;
@@ -424,7 +426,8 @@ fn look<D: Dialect>(
 
 /// Meets what the operation asks of the facts so far, and does nothing else.
 ///
-/// Asks that it stands, and that the blocks which it may enter have numbers. Errors: want of memory. Cost: that of what it asks.
+/// Asks that it stands, that the blocks which it may enter have numbers, and that those noted on the slate are entered, which
+/// holds again afterwards. Errors: want of memory. Cost: that of what it asks.
 #[inline(always)]
 fn look_at<D: Dialect>(
     alloc: Global,
@@ -435,7 +438,9 @@ fn look_at<D: Dialect>(
 ) -> Result<(), OptError>
     requires live { IsLive ctx.now.tree op }
     requires targets { HasNumberedTargets ctx.now.tree tables.old op }
+    requires entered { AreEntered ctx.now.tree (facts_of tables.old) slate.old.entered }
     ensures ok { OnOk result (LooksAt ⟦<D as HasFolding>⟧.folding ctx.now.tree op tables.old tables.new) }
+    ensures entered { OnOk result (AreEntered ctx.now.tree (facts_of tables.new) slate.new.entered) }
     ensures memory { IsOkUnless result OptError.Memory }
 {
     let mut feasible = None;
@@ -496,8 +501,10 @@ fn look_and_keep<D: Dialect>(
 ) -> Result<(), OptError>
     requires live { IsLive ctx.now.tree op }
     requires targets { HasNumberedTargets ctx.now.tree tables.old op }
+    requires entered { AreEntered ctx.now.tree (facts_of tables.old) slate.old.entered }
     ensures looks { OnOk result (LooksAt ⟦<D as HasFolding>⟧.folding ctx.now.tree op tables.old tables.new) }
     ensures keeps { OnOk result (KeepsFeasible ⟦<D as HasFolding>⟧.folding ctx.now.tree (facts_of tables.old) op edges.old edges.new) }
+    ensures entered { OnOk result (AreEntered ctx.now.tree (facts_of tables.new) slate.new.entered) }
     ensures memory { IsOkUnless result OptError.Memory }
 {
     let mut feasible = None;
@@ -519,7 +526,9 @@ fn see_to<D: Dialect>(
 ) -> Result<(), OptError>
     requires live { IsLive ctx.now.tree op }
     requires targets { HasNumberedTargets ctx.now.tree tables.old op }
+    requires entered { AreEntered ctx.now.tree (facts_of tables.old) slate.old.entered }
     ensures ok { OnOk result (IsSeenTo ⟦<D as HasFolding>⟧.folding ctx.now.tree op tables.old tables.new delays.old delays.new) }
+    ensures entered { OnOk result (AreEntered ctx.now.tree (facts_of tables.new) slate.new.entered) }
     ensures memory { IsOkUnless result OptError.Memory }
 {
     let operands = op.num_operand(ctx);
@@ -543,7 +552,9 @@ fn see_to_all<D: Dialect>(
 ) -> Result<(), OptError>
     requires live { (k : ℕ) → In k ops.now → IsLive ctx.now.tree k }
     requires targets { (k : ℕ) → In k ops.now → HasNumberedTargets ctx.now.tree tables.old k }
+    requires entered { AreEntered ctx.now.tree (facts_of tables.old) slate.old.entered }
     ensures ok { OnOk result (SeesToAll ⟦<D as HasFolding>⟧.folding ctx.now.tree ops.now tables.old tables.new delays.old delays.new) }
+    ensures entered { OnOk result (AreEntered ctx.now.tree (facts_of tables.new) slate.new.entered) }
     ensures memory { IsOkUnless result OptError.Memory }
 {
     for i in 0..ops.len() {
@@ -554,7 +565,8 @@ fn see_to_all<D: Dialect>(
 
 /// Looks at the operations of the block, in order.
 ///
-/// Asks that the block stands, and that the blocks which these may enter have numbers. Errors: want of memory. Cost: that of what they ask.
+/// Asks that the block stands, that the blocks which these may enter have numbers, and that those noted on the slate are
+/// entered. Errors: want of memory. Cost: that of what they ask.
 fn visit_block<D: Dialect>(
     alloc: Global,
     block: Ptr<BasicBlock>,
@@ -565,7 +577,9 @@ fn visit_block<D: Dialect>(
 ) -> Result<(), OptError>
     requires block { IsBlock ctx.now.tree block }
     requires targets { (k : ℕ) → In k (body_of ctx.now.tree block) → HasNumberedTargets ctx.now.tree tables.old k }
+    requires entered { AreEntered ctx.now.tree (facts_of tables.old) slate.old.entered }
     ensures ok { OnOk result (GoesThrough ⟦<D as HasFolding>⟧.folding ctx.now.tree (body_of ctx.now.tree block) tables.old tables.new edges.old edges.new) }
+    ensures entered { OnOk result (AreEntered ctx.now.tree (facts_of tables.new) slate.new.entered) }
     ensures memory { IsOkUnless result OptError.Memory }
 {
     ctx.well_formed();
@@ -587,8 +601,10 @@ fn visit_values<D: Dialect>(
     edges: &FeasibleEdges,
     slate: &mut Slate,
 ) -> Result<u128, OptError>
-    requires { AreTargetsNumbered ctx.now.tree tables.old }
+    requires targets { AreTargetsNumbered ctx.now.tree tables.old }
+    requires entered { AreEntered ctx.now.tree (facts_of tables.old) slate.old.entered }
     ensures ok { IfOk result (λ taken. VisitsValues ⟦<D as HasFolding>⟧.folding ctx.now.tree edges.now tables.old tables.new delays.old delays.new taken) }
+    ensures entered { OnOk result (AreEntered ctx.now.tree (facts_of tables.new) slate.new.entered) }
     ensures memory { IsOkUnless result OptError.Memory }
 {
     ctx.well_formed();
@@ -610,7 +626,9 @@ fn step<D: Dialect>(
 ) -> Result<u128, OptError>
     requires blocks { (b : ℕ) → waits_block tables.old b ≡ true → IsBlock ctx.now.tree b }
     requires targets { AreTargetsNumbered ctx.now.tree tables.old }
+    requires entered { AreEntered ctx.now.tree (facts_of tables.old) slate.old.entered }
     ensures ok { IfOk result (λ taken. TakesTurn ⟦<D as HasFolding>⟧.folding ctx.now.tree tables.old tables.new delays.old delays.new edges.old edges.new taken) }
+    ensures entered { OnOk result (AreEntered ctx.now.tree (facts_of tables.new) slate.new.entered) }
     ensures memory { IsOkUnless result OptError.Memory }
 {
     ctx.well_formed();
@@ -636,7 +654,9 @@ fn look_aside<D: Dialect>(
 ) -> Result<bool, OptError>
     requires placed { (k : ℕ) → In k (delayed delays.old) → IsLookedAt ctx.now.tree tables.old k }
     requires targets { AreTargetsNumbered ctx.now.tree tables.old }
+    requires entered { AreEntered ctx.now.tree (facts_of tables.old) slate.old.entered }
     ensures ok { IfOk result (λ looked. LooksAside ⟦<D as HasFolding>⟧.folding ctx.now.tree tables.old tables.new delays.old delays.new edges.old edges.new looked) }
+    ensures entered { OnOk result (AreEntered ctx.now.tree (facts_of tables.new) slate.new.entered) }
     ensures memory { IsOkUnless result OptError.Memory }
 {
     ctx.well_formed();
@@ -661,7 +681,8 @@ pub struct Searched {
 ///
 /// Asks that the root stands and is well linked. Errors: want of memory. Cost: one step for each operation,
 /// block, region and value inside the root, and what looking at an operation costs once for its block and
-/// once for each time when operands of it fell.
+/// once for each time when operands of it fell. Where operations that are no branches go to one block of more than a few
+/// arguments, these are gone through once for all of them.
 pub fn search<D: Dialect>(
     alloc: Global,
     root: Ptr<Operation>,

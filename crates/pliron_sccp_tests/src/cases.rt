@@ -16,6 +16,10 @@
 //! turn; one of which the last operand falls that it forwards along an edge which isn't feasible, to a block that is
 //! reached; and a loop that moves the arguments of a `scope` on to its next operands, with three operands, and with ten
 //! of which the last two stay constant: the loop forwards a constant to the ninth, and so what is named for it to the tenth.
+//! In `ENTERED`, by hand as well, what is no branch goes to blocks of nine arguments: two to one of these, and one twice to
+//! one of eight; three edges to a block to which a branch forwarded constants, looked through before the first of them or
+//! after it; one from such a block to itself; and one to a block to which a branch forwards constants later, beside a block
+//! that branches alone enter.
 
 pub static ROWS: &str = "\
 C 1 3 0 func { b0(): a = const 1; b = const 2; c = add a b; ret c } => func { b0(): v0 = const 1; v1 = const 2; v2 = const 3; v3 = add v0 v1; ret v2 }
@@ -795,3 +799,25 @@ C func { b0(): scope { b0(): a = const 2; b = add a a; ret }; print b; ret } \
 C func { b0(): box { b0(x): a = const 2; b = mul a a } } => func { b0(): box { b0(v0): v1 = const 2; v2 = const 4; v3 = mul v1 v1 } }
 U func { b0(): a = const 1; fork a b1 b1; b1(p, q): s = add p q; ret s } => func { b0(): v0 = const 1; fork v0 b1 b1; b1(v1, v2): v3 = add v1 v2; ret v3 }
 U mod { } => mod { }";
+
+pub static ENTERED: &str = "\
+U 5 0 22 func { b0(): r = read; fork r b1 b2; b1(): s = read; fork s b2 b3; b2(p0, p1, p2, p3, p4, p5, p6, p7, p8): t = add p0 p8; ret t; \
+    b3(): u = read; fork u b4 b4; b4(q0, q1, q2, q3, q4, q5, q6, q7): w = add q0 q7; ret w } \
+    => func { b0(): v0 = read; fork v0 b1 b2; b1(): v1 = read; fork v1 b2 b3; b2(v2, v3, v4, v5, v6, v7, v8, v9, v10): v11 = add v2 v10; ret v11; \
+        b3(): v12 = read; fork v12 b4 b4; b4(v13, v14, v15, v16, v17, v18, v19, v20): v21 = add v13 v20; ret v21 }
+U 4 1 13 func { b0(): k = const 4; r = read; cbr r b1(k, k, k, k, k, k, k, k, k) b2(); b1(p0, p1, p2, p3, p4, p5, p6, p7, p8): q = add p0 p8; ret q; \
+    b2(): s = read; fork s b1 b3; b3(): u = read; fork u b1 b1 } \
+    => func { b0(): v0 = const 4; v1 = read; cbr v1 b1(v0, v0, v0, v0, v0, v0, v0, v0, v0) b2(); b1(v2, v3, v4, v5, v6, v7, v8, v9, v10): v11 = add v2 v10; ret v11; \
+        b2(): v12 = read; fork v12 b1 b3; b3(): v13 = read; fork v13 b1 b1 }
+U 4 1 13 func { b0(): k = const 4; r = read; cbr r b2() b1(k, k, k, k, k, k, k, k, k); b1(p0, p1, p2, p3, p4, p5, p6, p7, p8): q = add p0 p8; ret q; \
+    b2(): s = read; fork s b1 b3; b3(): u = read; fork u b1 b1 } \
+    => func { b0(): v0 = const 4; v1 = read; cbr v1 b2() b1(v0, v0, v0, v0, v0, v0, v0, v0, v0); b1(v2, v3, v4, v5, v6, v7, v8, v9, v10): v11 = add v2 v10; ret v11; \
+        b2(): v12 = read; fork v12 b1 b3; b3(): v13 = read; fork v13 b1 b1 }
+U 3 1 11 func { b0(): k = const 4; br b1(k, k, k, k, k, k, k, k, k); b1(p0, p1, p2, p3, p4, p5, p6, p7, p8): q = add p0 p8; s = read; fork s b1 b2; b2(): ret q } \
+    => func { b0(): v0 = const 4; br b1(v0, v0, v0, v0, v0, v0, v0, v0, v0); b1(v1, v2, v3, v4, v5, v6, v7, v8, v9): v10 = add v1 v9; v11 = read; fork v11 b1 b2; b2(): ret v10 }
+C 5 11 11 func { b0(): k = const 4; r = read; fork r b1 b3; b1(p0, p1, p2, p3, p4, p5, p6, p7, p8): br b2(k, k, k, k, k, k, k, k, k); \
+    b2(q0, q1, q2, q3, q4, q5, q6, q7, q8): t = add q0 q8; ret t; b3(): s = read; fork s b1 b4; b4(): br b1(k, k, k, k, k, k, k, k, k) } \
+    => func { b0(): v0 = const 4; v1 = read; fork v1 b1 b3; b1(v2, v3, v4, v5, v6, v7, v8, v9, v10): br b2(v0, v0, v0, v0, v0, v0, v0, v0, v0); \
+        b2(v11, v12, v13, v14, v15, v16, v17, v18, v19): v20 = const 4; v21 = const 4; v22 = const 4; v23 = const 4; \
+        v24 = const 4; v25 = const 4; v26 = const 4; v27 = const 4; v28 = const 4; v29 = const 8; \
+        v30 = add v28 v20; ret v29; b3(): v31 = read; fork v31 b1 b4; b4(): br b1(v0, v0, v0, v0, v0, v0, v0, v0, v0) }";

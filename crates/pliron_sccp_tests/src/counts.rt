@@ -1,9 +1,10 @@
-//! How often propagation takes something from a worklist, on the made texts and on those of what is put aside.
+//! How often propagation takes something from a worklist, on the made texts and on those of what is put aside and of
+//! what is entered whole.
 //!
 //! The counts were found by a plain program over facts by name, `docs/benchmarks/plain_counts.py`, which
 //! shares with the crate only the order of work: last in, first out, blocks before values, and these before
 //! what is put aside. Without the last rule it counts 39 on the third text of `ASIDE`.
-use super::cases::{ASIDE, MADE};
+use super::cases::{ASIDE, ENTERED, MADE};
 use pliron_bench::Bench;
 use pliron_core::Context;
 use pliron_notation::read_text;
@@ -23,6 +24,8 @@ static COUNTS: &str = "\
 16 7 17 15 18 12 6 12 8 7 13 12 8 11 12 15 5 17 7 16";
 
 static ASIDE_COUNTS: &str = "42 17 31 33 21 38 22 18 42";
+
+static ENTERED_COUNTS: &str = "27 19 18 16 27";
 
 // The text of a line: behind the answer and three numbers, before the arrow.
 fn text_of(line: &str) -> Option<&str> {
@@ -78,4 +81,9 @@ fn made_texts_are_counted(rt: HostRuntime) -> Result<(), Fail> {
 #[test]
 fn what_is_put_aside_is_counted(rt: HostRuntime) -> Result<(), Fail> {
     count_each(&rt, rt.alloc(), ASIDE, ASIDE_COUNTS)
+}
+
+#[test]
+fn what_is_entered_whole_is_counted(rt: HostRuntime) -> Result<(), Fail> {
+    count_each(&rt, rt.alloc(), ENTERED, ENTERED_COUNTS)
 }

@@ -3,7 +3,7 @@ ghost use Rattle.pliron_bench.specs.BenchMoves.{bench};
 ghost use Rattle.pliron_core.specs.Tree.{IsLive};
 ghost use Rattle.pliron_laws.specs.Linked.{IsWellLinked};
 
-use super::cases::{ASIDE, HOSTILE, MADE, ROWS};
+use super::cases::{ASIDE, ENTERED, HOSTILE, MADE, ROWS};
 use pliron_bench::Bench;
 use pliron_core::{Context, IRStatus, Operation, Ptr};
 use pliron_notation::{print_text, read_text};
@@ -106,6 +106,15 @@ fn made_texts(rt: HostRuntime) -> Result<(), Fail> {
 #[test]
 fn what_is_put_aside(rt: HostRuntime) -> Result<(), Fail> {
     for line in ASIDE.lines() {
+        check(&rt, rt.alloc(), &read_case(line)?)?;
+    }
+    Ok(())
+}
+
+// Blocks of more arguments than few to which operations go that are no branches.
+#[test]
+fn what_is_entered_whole(rt: HostRuntime) -> Result<(), Fail> {
+    for line in ENTERED.lines() {
         check(&rt, rt.alloc(), &read_case(line)?)?;
     }
     Ok(())

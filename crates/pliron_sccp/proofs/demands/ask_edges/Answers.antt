@@ -4,6 +4,7 @@ use Rattle.pliron_laws.proofs.Records.{op_shows}
 use Rattle.pliron_theory.specs.Facts.{Says}
 use Rattle.pliron_sccp.specs.Tables.{known_constants, facts_of}
 use Rattle.pliron_sccp.specs.Feasible.{AreFound}
+use Rattle.pliron_sccp.proofs.Entered.{entered_where}
 use Rattle.pliron_sccp.proofs.EdgesAsked.{branching_edges, jumping_edges}
 use Rattle.pliron_sccp.proofs.demands.ask_edges.Goals as goal
 
@@ -20,8 +21,18 @@ returns-else-is_branch-clause-ok g c =
     let x : Says = (record { meaning = g.D.HasMeaning.meaning; can_fold = g.D.ConstFoldInterface.can_fold; can_fold_branch = g.D.BranchOpFoldInterface.can_fold_branch; constants = g.D.ConstFoldInterface.constants; feasible = g.D.BranchOpFoldInterface.feasible; entry_operands = g.D.RegionBranchOpInterface.entry_operands }) in
     let t = c.args.ctx.now.tree in
     on_ok_weaker c.ask_jumps.result
-    (λ p o e. jumping_edges x t (facts_of c.args.tables.now) c.args.op o e (known_constants c.args.tables.now) c.args.asked.now.items c.ask_jumps.new.asked.items (sym (c.is_branch.ensures o.head (op_shows t c.args.op o e).head) ∙ c.if-is_branch.false) (p (known_constants c.args.tables.now)))
+    (λ p o e. jumping_edges x t (facts_of c.args.tables.now) c.args.op o e (known_constants c.args.tables.now) c.args.asked.now.items c.ask_jumps.new.asked.items (sym (c.is_branch.ensures o.head (op_shows t c.args.op o e).head) ∙ c.if-is_branch.false) (p (known_constants c.args.tables.now) (facts_of c.args.tables.now) c.requires.entered))
     c.ask_jumps.ensures.ok
+
+pub returns-then-is_branch-clause-entered : goal.returns-then-is_branch-clause-entered
+returns-then-is_branch-clause-entered g c = on_ok_weaker c.ask_branches.result
+    (λ p. entered_where (known_constants c.args.tables.now) c.args.ctx.now.tree (facts_of c.args.tables.now) c.ask_branches.new.asked.items c.args.entered.now c.requires.entered)
+    c.ask_branches.ensures.ok
+
+pub returns-else-is_branch-clause-entered : goal.returns-else-is_branch-clause-entered
+returns-else-is_branch-clause-entered g c = on_ok_weaker c.ask_jumps.result
+    (λ p. p (known_constants c.args.tables.now) (facts_of c.args.tables.now) c.requires.entered)
+    c.ask_jumps.ensures.entered
 
 pub returns-else-is_branch-clause-feasible : goal.returns-else-is_branch-clause-feasible
 returns-else-is_branch-clause-feasible g c =

@@ -11,3 +11,6 @@ pub returns-clause-keeps : goal.returns-clause-keeps
 returns-clause-keeps g c =
     let x : Says = record { meaning = g.D.HasMeaning.meaning; can_fold = g.D.ConstFoldInterface.can_fold; can_fold_branch = g.D.BranchOpFoldInterface.can_fold_branch; constants = g.D.ConstFoldInterface.constants; feasible = g.D.BranchOpFoldInterface.feasible; entry_operands = g.D.RegionBranchOpInterface.entry_operands } in
     on_ok_weaker c.keep_feasible.result (λ kept. keeps_found x c.args.ctx.now.tree (facts_of c.args.tables.now) c.args.op c.look.new.feasible c.args.edges.now c.keep_feasible.new.edges c.in_ok-look.ensures.feasible (kept_past c.args.op c.look.new.feasible c.args.edges.now c.keep_candidates.new.edges c.keep_feasible.new.edges c.in_ok-keep_candidates.ensures.ok kept)) c.keep_feasible.ensures.ok
+
+pub returns-clause-entered : goal.returns-clause-entered
+returns-clause-entered g c = on_ok_weaker c.keep_feasible.result (λ kept. c.in_ok-look.ensures.entered) c.keep_feasible.ensures.ok

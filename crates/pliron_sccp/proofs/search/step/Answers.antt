@@ -2,6 +2,7 @@ use Rattle.std.proofs.Common.{Result, Ok, Err, refl}
 use Rattle.std.specs.Result.{IfOk}
 use Rattle.pliron_theory.specs.Facts.{Says}
 use Rattle.pliron_sccp.specs.Searching.TakesTurn.{Block, Values}
+use Rattle.pliron_sccp.proofs.Entered.{entered_same}
 use Rattle.pliron_sccp.proofs.Marked.{waits_reached}
 use Rattle.pliron_sccp.proofs.Stepping.{targets_same, targets_kept}
 use Rattle.pliron_sccp.proofs.Calls.{takes_from}
@@ -19,10 +20,20 @@ visit_block-requires-clause-targets g c = λ k i.
     let placed = c.well_formed-2.ensures.tree.bodies.owned k c.in-Some.block i in
     targets_same c.args.ctx.now.tree s c.next_block.new.self taken.numbers k (c.requires.targets k c.in-Some.block placed (waits_reached _ taken.waited))
 
-pub visit_values-requires : goal.visit_values-requires
-visit_values-requires g c =
+pub visit_values-requires-clause-targets : goal.visit_values-requires-clause-targets
+visit_values-requires-clause-targets g c =
     let n = none_of c.next_block.result c.in-None.is c.next_block.ensures.none in
     targets_kept c.args.ctx.now.tree c.args.tables.now c.next_block.new.self n.0.numbers n.0.reached c.requires.targets
+
+pub visit_block-requires-clause-entered : goal.visit_block-requires-clause-entered
+visit_block-requires-clause-entered g c =
+    let taken = c.in-Some.ensures.taken in
+    entered_same c.args.ctx.now.tree c.args.tables.now c.next_block.new.self c.args.slate.now.entered taken.facts taken.reached c.requires.entered
+
+pub visit_values-requires-clause-entered : goal.visit_values-requires-clause-entered
+visit_values-requires-clause-entered g c =
+    let n = none_of c.next_block.result c.in-None.is c.next_block.ensures.none in
+    entered_same c.args.ctx.now.tree c.args.tables.now c.next_block.new.self c.args.slate.now.entered n.0.facts n.0.reached c.requires.entered
 
 pub returns-in_ok-visit_block-in-Some-clause-ok : goal.returns-in_ok-visit_block-in-Some-clause-ok
 returns-in_ok-visit_block-in-Some-clause-ok g c = Block c.in-Some.block c.next_block.new.self c.in-Some.ensures.taken c.in_ok-visit_block-in-Some.ensures.ok refl refl

@@ -11,7 +11,7 @@ use Rattle.pliron_sccp.proofs.search.visit_block.Goals as goal
 pub loop-at-init : goal.loop-at-init
 loop-at-init g c =
     let x : Says = record { meaning = g.D.HasMeaning.meaning; can_fold = g.D.ConstFoldInterface.can_fold; can_fold_branch = g.D.BranchOpFoldInterface.can_fold_branch; constants = g.D.ConstFoldInterface.constants; feasible = g.D.BranchOpFoldInterface.feasible; entry_operands = g.D.RegionBranchOpInterface.entry_operands } in
-    (walk_start (λ ks p q. GoesThrough x c.args.ctx.now.tree ks p.0 q.0 p.1 q.1) (body_of c.args.ctx.now.tree c.args.block) c.get_head-at.result (c.args.tables.now, c.args.edges.now) c.get_head-at.ensures.first, λ b. refl)
+    (walk_start (λ ks p q. GoesThrough x c.args.ctx.now.tree ks p.0 q.0 p.1 q.1) (body_of c.args.ctx.now.tree c.args.block) c.get_head-at.result (c.args.tables.now, c.args.edges.now) c.get_head-at.ensures.first, λ b. refl, c.requires.entered)
 
 pub look_and_keep-requires-clause-live : goal.look_and_keep-requires-clause-live
 look_and_keep-requires-clause-live g c =
@@ -21,13 +21,16 @@ look_and_keep-requires-clause-live g c =
 pub look_and_keep-requires-clause-targets : goal.look_and_keep-requires-clause-targets
 look_and_keep-requires-clause-targets g c = targets_same c.args.ctx.now.tree c.args.tables.now c.loop-at.tables c.loop-at.invariant.1 c.in-Some.op (c.requires.targets c.in-Some.op (c.loop-at.invariant.0.within c.in-Some.op c.in-Some.is))
 
+pub look_and_keep-requires-clause-entered : goal.look_and_keep-requires-clause-entered
+look_and_keep-requires-clause-entered g c = c.loop-at.invariant.2
+
 pub loop-at-preserved : goal.loop-at-preserved
 loop-at-preserved g c =
     let x : Says = record { meaning = g.D.HasMeaning.meaning; can_fold = g.D.ConstFoldInterface.can_fold; can_fold_branch = g.D.BranchOpFoldInterface.can_fold_branch; constants = g.D.ConstFoldInterface.constants; feasible = g.D.BranchOpFoldInterface.feasible; entry_operands = g.D.RegionBranchOpInterface.entry_operands } in
     let w = c.well_formed-2.ensures.tree in
     let owned = w.bodies.owned c.in-Some.op c.args.block (c.loop-at.invariant.0.within c.in-Some.op c.in-Some.is) in
     let next = c.get_next-at.ensures.next ∙ ap (λ o. up_from o (λ b. next_in c.in-Some.op (body_of c.args.ctx.now.tree b))) owned in
-    (walk_next (λ ks p q. GoesThrough x c.args.ctx.now.tree ks p.0 q.0 p.1 q.1) (body_of c.args.ctx.now.tree c.args.block) c.loop-at.at c.get_next-at.result c.in-Some.op (c.args.tables.now, c.args.edges.now) (c.loop-at.tables, c.loop-at.edges) (c.look_and_keep.new.tables, c.look_and_keep.new.edges) (w.bodies.distinct c.args.block) c.loop-at.invariant.0 c.in-Some.is next (λ rest u d. Onward c.in-Some.op c.look_and_keep.new.tables c.look_and_keep.new.edges c.in_ok-look_and_keep.ensures.looks c.in_ok-look_and_keep.ensures.keeps d), λ b. c.in_ok-look_and_keep.ensures.looks.applied.falls.numbers b ∙ c.loop-at.invariant.1 b)
+    (walk_next (λ ks p q. GoesThrough x c.args.ctx.now.tree ks p.0 q.0 p.1 q.1) (body_of c.args.ctx.now.tree c.args.block) c.loop-at.at c.get_next-at.result c.in-Some.op (c.args.tables.now, c.args.edges.now) (c.loop-at.tables, c.loop-at.edges) (c.look_and_keep.new.tables, c.look_and_keep.new.edges) (w.bodies.distinct c.args.block) c.loop-at.invariant.0 c.in-Some.is next (λ rest u d. Onward c.in-Some.op c.look_and_keep.new.tables c.look_and_keep.new.edges c.in_ok-look_and_keep.ensures.looks c.in_ok-look_and_keep.ensures.keeps d), λ b. c.in_ok-look_and_keep.ensures.looks.applied.falls.numbers b ∙ c.loop-at.invariant.1 b, c.in_ok-look_and_keep.ensures.entered)
 
 pub loop-at-smaller : goal.loop-at-smaller
 loop-at-smaller g c =
@@ -41,3 +44,6 @@ pub returns-clause-ok : goal.returns-clause-ok
 returns-clause-ok g c =
     let x : Says = record { meaning = g.D.HasMeaning.meaning; can_fold = g.D.ConstFoldInterface.can_fold; can_fold_branch = g.D.BranchOpFoldInterface.can_fold_branch; constants = g.D.ConstFoldInterface.constants; feasible = g.D.BranchOpFoldInterface.feasible; entry_operands = g.D.RegionBranchOpInterface.entry_operands } in
     walk_end (λ ks p q. GoesThrough x c.args.ctx.now.tree ks p.0 q.0 p.1 q.1) (body_of c.args.ctx.now.tree c.args.block) c.loop-at.at (c.args.tables.now, c.args.edges.now) (c.loop-at.tables, c.loop-at.edges) c.in_default.is Nowhere c.loop-at.invariant.0
+
+pub returns-clause-entered : goal.returns-clause-entered
+returns-clause-entered g c = c.loop-at.invariant.2
