@@ -7,11 +7,27 @@ use pliron_core::{Operation, Ptr};
 use pliron_laws::OptError;
 use std::alloc::Global;
 
-/// Operations that are put aside, each once: in set number i those with at least `2^i` operands and fewer than
-/// `2^(i + 1)`, so that one of those with the fewest is found in constant time.
+/// Operations that are put aside: in set number i those with at least `2^i` operands and fewer than `2^(i + 1)`, so
+/// that one of those with the fewest is found in constant time. In the last set are those of which all that fell was
+/// handed on at once, so that a look at them most likely changes nothing.
 #[derive(Drop)]
 pub struct Delays {
     sets: Vec<IndexSet<Ptr<Operation>>>,
+}
+
+/// The number of the last set.
+const LAST: usize = 64;
+
+/// The number of the set for an operation with so many operands.
+fn set_number(operands: usize, is_urgent: bool) -> usize
+    requires { 0 < operands }
+    ensures { result ≤ 64 }
+{
+    if is_urgent {
+        operands.ilog2() as usize
+    } else {
+        LAST
+    }
 }
 
 impl Delays {
@@ -24,7 +40,7 @@ impl Delays {
         }
     }
 
-    /// Puts an operation with so many operands aside, once.
+    /// Puts an operation with so many operands aside, behind all that are urgent where it isn't.
     ///
     /// Asks that it has an operand. Errors: want of memory. Cost: constant.
     pub fn put(
@@ -32,12 +48,13 @@ impl Delays {
         alloc: Global,
         op: Ptr<Operation>,
         operands: usize,
+        is_urgent: bool,
     ) -> Result<(), OptError>
         requires { 0 < operands }
         ensures ok { OnOk result (PutsAside op (delayed self.old) (delayed self.new)) }
         ensures memory { IsOkUnless result OptError.Memory }
     {
-        let i = operands.ilog2() as usize;
+        let i = set_number(operands, is_urgent);
         while self.sets.len() <= i {
             self.sets.push(IndexSet::new(alloc))?;
         }
@@ -45,8 +62,8 @@ impl Delays {
         Ok(())
     }
 
-    /// Takes one of those with the fewest operands, to within a factor of two; `None` where nothing is put
-    /// aside. Cost: constant, since there are at most 64 sets.
+    /// Takes one of those with the fewest operands, to within a factor of two, or else of the last set; `None` where
+    /// nothing is put aside. Cost: constant, since there are at most 65 sets.
     pub fn take(&mut self) -> Option<Ptr<Operation>>
         ensures some { IfSome result (λ op. TakesAside op (delayed self.old) (delayed self.new)) }
         ensures none { IfNone result (delayed self.old ≡ []) }

@@ -93,6 +93,11 @@ impl FeasibleEdges {
         self.named.get(&op)
     }
 
+    /// Whether blocks are kept of the operation, or arguments listed. Cost: two look-ups.
+    pub fn is_asked_ahead(&self, op: Ptr<Operation>) -> bool {
+        self.blocks.contains_key(&op) || self.named.contains_key(&op)
+    }
+
     /// Whether nothing is kept. Cost: constant.
     pub fn is_empty(&self) -> bool
         ensures { IsTrue result ↔ ((index_map_len self.now.blocks ≡ 0) × (index_map_len self.now.named ≡ 0)) }

@@ -299,6 +299,39 @@ fn is_ahead(op: Ptr<Operation>, value: Value, ctx: &Context, tables: &Tables) ->
     op.num_result(ctx) > 0 && tables.fall_stamp(value) < tables.look_stamp(op.get_result(ctx, 0))
 }
 
+/// Whether all that the operation does with the operand at this place was asked at once, so far as is known: then a look
+/// at it may wait until the end. Facts don't hang on it.
+fn is_handed_on<D: Dialect>(
+    op: Ptr<Operation>,
+    place: usize,
+    ctx: &Context,
+    edges: &FeasibleEdges,
+) -> bool
+    requires { IsLive ctx.now.tree op }
+{
+    if !edges.is_asked_ahead(op) || D::folds(op, ctx) {
+        return false;
+    }
+    !D::is_branch(op, ctx) || D::forwarded_from(op, ctx, place).is_some()
+}
+
+/// Notes an operation with many operands that is to be looked at before those whose operands were handed on at once.
+fn note_urgent<D: Dialect>(
+    op: Ptr<Operation>,
+    place: usize,
+    ctx: &Context,
+    edges: &FeasibleEdges,
+    urgent: &mut HashSet<u64>,
+) -> Result<(), OptError>
+    requires { IsLive ctx.now.tree op }
+    ensures memory { IsOkUnless result OptError.Memory }
+{
+    if op.num_operand(ctx) > FEW_OPERANDS && !is_handed_on::<D>(op, place, ctx, edges) {
+        urgent.insert(op.key())?;
+    }
+    Ok(())
+}
+
 /// Sees to one use of a value that fell, where was looked, and not since the fall.
 #[inline(always)]
 fn add_use<D: Dialect>(
@@ -309,6 +342,7 @@ fn add_use<D: Dialect>(
     tables: &Tables,
     edges: &FeasibleEdges,
     users: &mut IndexSet<Ptr<Operation>>,
+    urgent: &mut HashSet<u64>,
     asked: &mut Vec<Demand>,
 ) -> Result<(), OptError>
     requires { IsLive ctx.now.tree op }
@@ -326,6 +360,7 @@ fn add_use<D: Dialect>(
         Call::Pass => Ok(()),
         Call::Look => {
             users.insert(op)?;
+            note_urgent::<D>(op, place, ctx, edges, urgent)?;
             ask_ahead::<D>(op, place, value, ctx, tables, edges, asked)
         }
         Call::Ask(edge, index) => ask_argument(op, edge, index, value, ctx, tables, asked),
@@ -339,6 +374,7 @@ fn add_uses<D: Dialect>(
     tables: &Tables,
     edges: &FeasibleEdges,
     users: &mut IndexSet<Ptr<Operation>>,
+    urgent: &mut HashSet<u64>,
     asked: &mut Vec<Demand>,
 ) -> Result<(), OptError>
     ensures ok { OnOk result (SeesTo ⟦<D as HasFolding>⟧.folding ctx.now.tree tables.now edges.now value (IsUseOf ctx.now.tree value)
@@ -351,7 +387,7 @@ fn add_uses<D: Dialect>(
     }
     for i in 0..value.num_use(ctx) {
         let (user, place) = value.get_use(ctx, i);
-        add_use::<D>(user, place, value, ctx, tables, edges, users, asked)?;
+        add_use::<D>(user, place, value, ctx, tables, edges, users, urgent, asked)?;
     }
     Ok(())
 }
@@ -369,6 +405,7 @@ fn take_values<D: Dialect>(
     ctx: &Context,
     tables: &mut Tables,
     edges: &FeasibleEdges,
+    urgent: &mut HashSet<u64>,
 ) -> Result<(IndexSet<Ptr<Operation>>, Vec<Demand>, u128), OptError>
     ensures ok { IfOk result (λ r. TakesUsers ⟦<D as HasFolding>⟧.folding ctx.now.tree edges.now r.0.keys r.1.items tables.old tables.new r.2) }
     ensures memory { IsOkUnless result OptError.Memory }
@@ -378,7 +415,7 @@ fn take_values<D: Dialect>(
     let mut taken: u128 = 0;
     while let Some(value) = tables.next_value() {
         taken += 1;
-        add_uses::<D>(value, ctx, tables, edges, &mut users, &mut asked)?;
+        add_uses::<D>(value, ctx, tables, edges, &mut users, urgent, &mut asked)?;
     }
     Ok((users, asked, taken))
 }
@@ -519,6 +556,7 @@ fn look_and_keep<D: Dialect>(
 fn see_to<D: Dialect>(
     alloc: Global,
     op: Ptr<Operation>,
+    urgent: &HashSet<u64>,
     ctx: &Context,
     tables: &mut Tables,
     delays: &mut Delays,
@@ -533,7 +571,7 @@ fn see_to<D: Dialect>(
 {
     let operands = op.num_operand(ctx);
     if operands > FEW_OPERANDS {
-        delays.put(alloc, op, operands)
+        delays.put(alloc, op, operands, urgent.contains(&op.key()))
     } else {
         look_at::<D>(alloc, op, ctx, tables, slate)
     }
@@ -545,6 +583,7 @@ fn see_to<D: Dialect>(
 fn see_to_all<D: Dialect>(
     alloc: Global,
     ops: &[Ptr<Operation>],
+    urgent: &HashSet<u64>,
     ctx: &Context,
     tables: &mut Tables,
     delays: &mut Delays,
@@ -558,7 +597,7 @@ fn see_to_all<D: Dialect>(
     ensures memory { IsOkUnless result OptError.Memory }
 {
     for i in 0..ops.len() {
-        see_to::<D>(alloc, ops[i], ctx, tables, delays, slate)?;
+        see_to::<D>(alloc, ops[i], urgent, ctx, tables, delays, slate)?;
     }
     Ok(())
 }
@@ -608,9 +647,10 @@ fn visit_values<D: Dialect>(
     ensures memory { IsOkUnless result OptError.Memory }
 {
     ctx.well_formed();
-    let (users, mut asked, taken) = take_values::<D>(alloc, ctx, tables, edges)?;
+    let mut urgent = HashSet::new(alloc);
+    let (users, mut asked, taken) = take_values::<D>(alloc, ctx, tables, edges, &mut urgent)?;
     meet_all(&mut asked, tables);
-    see_to_all::<D>(alloc, users.as_slice(), ctx, tables, delays, slate)?;
+    see_to_all::<D>(alloc, users.as_slice(), &urgent, ctx, tables, delays, slate)?;
     Ok(taken)
 }
 

@@ -5,8 +5,8 @@ use Rattle.pliron_sccp.proofs.Calls.{use_passed, use_reads_nothing, use_ahead, u
 use Rattle.pliron_sccp.proofs.UserLists.{key_added, and_true}
 use Rattle.pliron_sccp.proofs.search.add_use.Goals as goal
 
-pub returns-in_ok-insert-in-Look-clause-ok : goal.returns-in_ok-insert-in-Look-clause-ok
-returns-in_ok-insert-in-Look-clause-ok g c =
+pub returns-in_ok-note_urgent-in-Look-clause-ok : goal.returns-in_ok-note_urgent-in-Look-clause-ok
+returns-in_ok-note_urgent-in-Look-clause-ok g c =
     let x : Says = record { meaning = g.D.HasMeaning.meaning; can_fold = g.D.ConstFoldInterface.can_fold; can_fold_branch = g.D.BranchOpFoldInterface.can_fold_branch; constants = g.D.ConstFoldInterface.constants; feasible = g.D.BranchOpFoldInterface.feasible; entry_operands = g.D.RegionBranchOpInterface.entry_operands } in
     on_ok_then c.ask_ahead.result
     (λ ahead. use_ahead x c.args.ctx.now.tree c.args.edges.now c.args.tables.now c.args.value c.args.op c.args.place c.args.users.now.keys c.args.asked.now.items c.insert.new.self.keys c.ask_ahead.new.asked.items (c.is_visited.ensures.0 c.if-not-is_visited.false) (key_added (λ x y. and_true (nat_eq x y)) c.args.users.now.keys c.insert.new.self.keys c.args.op c.in_ok-insert-in-Look.ensures.keys) ahead)

@@ -11,8 +11,8 @@ returns-clause-ok c =
     let xs = c.loop-alloc.self.sets.items in
     let x = c.index_mut.result.now in
     let y = c.insert.new.self in
-    let at : slice_get xs c.ilog2-i.result ≡ Some x = slice_get_read xs (length xs) c.ilog2-i.result x refl (omega arith) c.index_mut.ensures.value in
-    subst (λ old. PutsAside c.args.op old (flat_map (λ s. s.keys) (slice_set xs c.ilog2-i.result y))) c.loop-alloc.invariant
-    (put_aside (λ s. s.keys) xs c.ilog2-i.result x y c.args.op at
+    let at : slice_get xs c.set_number-i.result ≡ Some x = slice_get_read xs (length xs) c.set_number-i.result x refl (omega arith) c.index_mut.ensures.value in
+    subst (λ old. PutsAside c.args.op old (flat_map (λ s. s.keys) (slice_set xs c.set_number-i.result y))) c.loop-alloc.invariant
+    (put_aside (λ s. s.keys) xs c.set_number-i.result x y c.args.op at
     (key_added (λ x y. and_true (nat_eq x y)) x.keys y.keys c.args.op c.in_ok-insert.ensures.keys)
     (key_grows (λ x y. and_true (nat_eq x y)) x.keys y.keys c.args.op c.in_ok-insert.ensures.keys))
