@@ -7,7 +7,7 @@
   shapes.py list                     the names of the shapes, but those that bench alone can write:
                                      boxed, fiftyboxes, boxes, deepboxes, boxargs,
                                      boxconsts, boxuses, boxuseslast, shortedges, scopeargs,
-                                     twoedges, forks
+                                     twoedges, forks, longbranches
 
 One program is built and printed in three notations, so that all optimisers see the same control flow: in
 that of this repository, with the shortest names and no blanks; in LLVM's, where an argument of a block is
@@ -591,11 +591,35 @@ def scopeargs(n):
     return f"func{{z():{one}=const 1;br y({','.join([one] * len(outer))});y({','.join(outer)}):{loop};cbr {condition} y({edge})x();x():ret}}\n"
 
 
+def longbranches(n):
+    """k branches that each make one of k values fall, and k others that forward all of these, with k^2 near n/2."""
+    values, blocks = short_names(), short_names()
+    count = max(2, int((n / 2) ** 0.5))
+    one, unknown, condition, last = (next(values) for _ in range(4))
+    fall = [next(values) for _ in range(count)]
+    inner = [next(values) for _ in range(count)]
+    header, end, stop, *sides = (next(blocks) for _ in range(3 + 4 * count))
+    left, known, open_, joined = (sides[i * count:(i + 1) * count] for i in range(4))
+    right = [(next(blocks), next(blocks)) for _ in range(count)]
+    parts = [f"{next(blocks)}():{one}=const 1;{unknown}=read;br {header}({one})", f"{header}({condition}):br {left[0]}()"]
+    for i in range(count):
+        after = left[i + 1] if i + 1 < count else right[0][0]
+        parts += [f"{left[i]}():cbr {condition} {known[i]}() {open_[i]}({','.join([unknown, *[one] * (2 * count)])})",
+                  f"{known[i]}():br {joined[i]}({one})", f"{open_[i]}({last}{i}):br {joined[i]}({last}{i})", f"{joined[i]}({fall[i]}):br {after}()"]
+    for i, (head, taken) in enumerate(right):
+        after = right[i + 1][0] if i + 1 < count else end
+        args = ",".join(f"{v}_{i}" for v in inner[:2])
+        parts += [f"{head}():cbr {unknown} {taken}({','.join(fall)}) {after}()", f"{taken}({args}):br {after}()"]
+    again = f"{last}_"
+    parts += [f"{end}():{again}=read;cbr {unknown} {header}({again}) {stop}()", f"{stop}():ret"]
+    return "func{" + ";".join(parts) + "}\n"
+
+
 # in the bench notation alone, since the others have nothing like a box; a text holds 64 levels at most
 BENCH_ONLY = {"boxed": lambda n: boxed_sums(n, 1), "fiftyboxes": lambda n: boxed_sums(n, 50),
          "boxes": lambda n: boxes(n, 1), "deepboxes": lambda n: boxes(n, 50), "boxargs": boxargs,
          "boxconsts": boxconsts, "boxuses": lambda n: boxuses(n, False), "boxuseslast": lambda n: boxuses(n, True),
-         "shortedges": shortedges, "scopeargs": scopeargs, "twoedges": twoedges, "forks": forks}
+         "shortedges": shortedges, "scopeargs": scopeargs, "twoedges": twoedges, "forks": forks, "longbranches": longbranches}
 
 
 def bench(fns, w):
