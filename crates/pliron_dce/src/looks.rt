@@ -8,7 +8,10 @@
 //! Over the uses of one value a look goes from the last one down. A use that goes leaves its index to the last one,
 //! which was passed if any was; so what was passed stays behind the rest, but for one use for each that went.
 //!
-//! The places are hints. That something holds the operation is seen where it is found; where nothing is
+//! Where operations stand deep inside others, each of those around passes the same uses. So then each operation has
+//! its position in the text, which tells at once whether a user stands inside, where a climb goes past all around it.
+//!
+//! Places and positions are hints. That something holds the operation is seen where it is found; where nothing is
 //! found, the operation is asked as a whole.
 ghost use Rattle.std.specs.Prelude.{◌↔◌, ◌≤◌, length, IfSome, IsTrue};
 ghost use Rattle.pliron_core.specs.Tree.{In, IsLive, IsDefined, results_of, uses_of};
@@ -21,6 +24,13 @@ use indexmap::IndexMap;
 use pliron_core::{Context, Def, Operation, Ptr, Value};
 use std::alloc::{AllocError, Global};
 
+// The positions of the operations inside one: from the first one up to the last one, which is outside.
+#[derive(Clone, Copy)]
+struct Span {
+    first: usize,
+    last: usize,
+}
+
 // The part of the list of values that no look at the operation has passed.
 #[derive(Clone, Copy)]
 struct Rest {
@@ -28,6 +38,7 @@ struct Rest {
     // how many uses of the first of these values may not have been passed: none of those behind them holds the operation
     uses: usize,
     end: usize,
+    span: Span,
 }
 
 // What is still to be looked at of each operation that has regions or several results.
@@ -36,7 +47,14 @@ pub(crate) struct Looks {
     // all values that are made inside the root, in the order of a text
     values: Vec<Value>,
     rests: IndexMap<Ptr<Operation>, Rest>,
+    // the positions of all operations inside the root, if some stand deep inside others
+    positions: IndexMap<Ptr<Operation>, usize>,
+    // how many operations stand around the one that has most, of those that have a rest
+    depth: usize,
 }
+
+// How many operations around one are few.
+const FEW_AROUND: usize = 8;
 
 // Whether a look at the operation may be long.
 fn is_long(op: Ptr<Operation>, ctx: &Context) -> bool
@@ -56,12 +74,27 @@ impl Looks {
         let mut looks = Looks {
             values: Vec::new(alloc),
             rests: IndexMap::new(alloc),
+            positions: IndexMap::new(alloc),
+            depth: 0,
         };
         let mut open = Vec::new(alloc);
         looks.add_all(&mut open, candidates, ctx)?;
         let end = looks.values.len();
-        looks.close(&mut open, None, end);
+        looks.close(&mut open, None, end, candidates.len());
+        if looks.depth > FEW_AROUND {
+            looks.number(candidates)?;
+        }
         Ok(looks)
+    }
+
+    // The operations among these candidates get their positions.
+    fn number(&mut self, candidates: &[Candidate]) -> Result<(), AllocError> {
+        for position in 0..candidates.len() {
+            if let Candidate::Operation(op) = candidates[position] {
+                self.positions.insert(op, position)?;
+            }
+        }
+        Ok(())
     }
 
     // The values of all candidates are put last. The open operations are those around the last one.
@@ -72,13 +105,13 @@ impl Looks {
         ctx: &Context,
     ) -> Result<(), AllocError> {
         let mut start = 0;
-        for candidate in candidates {
-            match *candidate {
+        for position in 0..candidates.len() {
+            match candidates[position] {
                 Candidate::Argument(value) => self.values.push(value)?,
                 Candidate::Operation(op) => {
                     if op.is_live(ctx) {
-                        self.close(open, op.get_parent_op(ctx), start);
-                        self.add(open, op, start, ctx)?;
+                        self.close(open, op.get_parent_op(ctx), start, position);
+                        self.add(open, op, start, position, ctx)?;
                     }
                     start = self.values.len();
                 }
@@ -93,6 +126,7 @@ impl Looks {
         open: &mut Vec<Ptr<Operation>>,
         op: Ptr<Operation>,
         start: usize,
+        position: usize,
         ctx: &Context,
     ) -> Result<(), AllocError>
         requires { IsLive ctx.now.tree op }
@@ -105,19 +139,25 @@ impl Looks {
                 start,
                 uses: usize::MAX,
                 end: start,
+                span: Span {
+                    first: position,
+                    last: position,
+                },
             };
             self.rests.insert(op, rest)?;
             open.push(op)?;
+            self.depth = self.depth.max(open.len());
         }
         Ok(())
     }
 
-    // The values of the open operations end here, up to the holder of what comes next.
+    // The values and positions of the open operations end here, up to the holder of what comes next.
     fn close(
         &mut self,
         open: &mut Vec<Ptr<Operation>>,
         holder: Option<Ptr<Operation>>,
         end: usize,
+        position: usize,
     ) {
         while let Some(last) = open.last().copied() {
             if holder == Some(last) {
@@ -125,6 +165,7 @@ impl Looks {
             }
             if let Some(rest) = self.rests.get_mut(&last) {
                 rest.end = end;
+                rest.span.last = position;
             }
             open.pop();
         }
@@ -136,20 +177,26 @@ impl Looks {
         ensures { IsTrue result → IsHeld ctx.now.tree op }
     {
         match self.rests.get_mut(&op) {
-            Some(rest) => look_on(&self.values, rest, op, ctx),
+            Some(rest) => look_on(&self.values, &self.positions, rest, op, ctx),
             None => false,
         }
     }
 }
 
 // Whether one of these values that no look has passed holds the operation; those before it are passed.
-fn look_on(values: &[Value], rest: &mut Rest, op: Ptr<Operation>, ctx: &Context) -> bool
+fn look_on(
+    values: &[Value],
+    positions: &IndexMap<Ptr<Operation>, usize>,
+    rest: &mut Rest,
+    op: Ptr<Operation>,
+    ctx: &Context,
+) -> bool
     requires { IsLive ctx.now.tree op }
     ensures { IsTrue result → IsHeld ctx.now.tree op }
 {
     for i in rest.start..rest.end {
         if let Some(value) = values.get(i) {
-            if let Some(uses) = find_holding(op, *value, rest.uses, ctx) {
+            if let Some(uses) = find_holding(op, *value, rest.uses, rest.span, positions, ctx) {
                 rest.start = i;
                 rest.uses = uses;
                 return true;
@@ -162,7 +209,14 @@ fn look_on(values: &[Value], rest: &mut Rest, op: Ptr<Operation>, ctx: &Context)
 }
 
 // How many uses of the value there are up to the last of the first `most` that holds the operation, if one does.
-fn find_holding(op: Ptr<Operation>, value: Value, most: usize, ctx: &Context) -> Option<usize>
+fn find_holding(
+    op: Ptr<Operation>,
+    value: Value,
+    most: usize,
+    span: Span,
+    positions: &IndexMap<Ptr<Operation>, usize>,
+    ctx: &Context,
+) -> Option<usize>
     requires { IsLive ctx.now.tree op }
     ensures { IfSome result (λ uses. IsHeld ctx.now.tree op) }
 {
@@ -177,11 +231,26 @@ fn find_holding(op: Ptr<Operation>, value: Value, most: usize, ctx: &Context) ->
     if is_result_of(value, op, ctx) {
         return Some(count);
     }
-    let found = find_outside(value, op, most.min(count), ctx)?;
+    let found = find_outside(value, op, most.min(count), span, positions, ctx)?;
     if is_made_inside(value, op, ctx) {
         return Some(found);
     }
     None
+}
+
+// Whether the operation has a position, which is one of these.
+fn is_positioned_inside(
+    op: Ptr<Operation>,
+    span: Span,
+    positions: &IndexMap<Ptr<Operation>, usize>,
+) -> bool {
+    if positions.is_empty() {
+        return false;
+    }
+    match positions.get(&op) {
+        Some(position) => span.first <= *position && *position < span.last,
+        None => false,
+    }
 }
 
 // Whether the value is a result of the operation.
@@ -208,7 +277,14 @@ fn is_made_inside(value: Value, op: Ptr<Operation>, ctx: &Context) -> bool
 
 // How many uses of the value there are up to the last of the first `count` that stands outside the operation, if one
 // does. What stands side by side in one operation is asked once.
-fn find_outside(value: Value, op: Ptr<Operation>, count: usize, ctx: &Context) -> Option<usize>
+fn find_outside(
+    value: Value,
+    op: Ptr<Operation>,
+    count: usize,
+    span: Span,
+    positions: &IndexMap<Ptr<Operation>, usize>,
+    ctx: &Context,
+) -> Option<usize>
     requires value { IsDefined ctx.now.tree value }
     requires count { count ≤ length (uses_of ctx.now.value_uses value) }
     ensures { IfSome result (λ uses. IsUsedOutside ctx.now.tree op value) }
@@ -220,6 +296,9 @@ fn find_outside(value: Value, op: Ptr<Operation>, count: usize, ctx: &Context) -
         let uses = left;
         left -= 1;
         let (user, _) = value.get_use(ctx, left);
+        if is_positioned_inside(user, span, positions) {
+            continue;
+        }
         let holder = user.get_parent_op(ctx);
         if holder == Some(known) {
             continue;
