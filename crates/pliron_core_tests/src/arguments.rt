@@ -42,7 +42,13 @@ pub fn remove_argument(rt: &impl Abort, ctx: &mut Context, block: Ptr<BasicBlock
     assert!(rt; !gone.is_live(ctx));
 }
 
-pub fn check_argument(rt: &impl Abort, ctx: &Context, block: Ptr<BasicBlock>, i: usize, want: Value) {
+pub fn check_argument(
+    rt: &impl Abort,
+    ctx: &Context,
+    block: Ptr<BasicBlock>,
+    i: usize,
+    want: Value,
+) {
     assert!(rt; argument_of(rt, ctx, block, i) == want);
     assert!(rt; want.is_live(ctx));
     assert!(rt; want.def(ctx) == Def::Argument(block, i));

@@ -21,7 +21,8 @@ enum Order {
 
 // Places at random, which count modulo the number of items.
 static PLACES: [usize; 24] = [
-    7, 131, 58, 3, 190, 77, 16, 149, 102, 0, 64, 65, 63, 1, 177, 41, 88, 12, 199, 120, 29, 154, 95, 2,
+    7, 131, 58, 3, 190, 77, 16, 149, 102, 0, 64, 65, 63, 1, 177, 41, 88, 12, 199, 120, 29, 154, 95,
+    2,
 ];
 
 fn place_at(rt: &impl Abort, order: Order, k: usize, len: usize) -> usize {
