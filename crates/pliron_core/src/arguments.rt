@@ -212,7 +212,7 @@ impl Arguments {
     }
 
     /// All arguments of a block go. Asks that there is such a block. Takes no memory. Cost: the number of its
-    /// arguments, each a logarithm where they are counted.
+    /// arguments. If they are counted, they are settled first.
     pub fn clear(&mut self, block: Ptr<BasicBlock>)
         requires { block < length self.old.rows }
         ensures { self.new ≡ record self.old { rows = slice_set self.old.rows block [] } }

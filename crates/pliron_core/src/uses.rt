@@ -331,7 +331,7 @@ impl Uses {
     }
 
     /// All targets of a user go. Asks that there is such a user. Takes no memory. Cost: the number of its
-    /// targets, each a logarithm where its places are counted.
+    /// targets. Places that are counted are settled first.
     #[inline(always)]
     pub fn clear(&mut self, user: usize)
         requires { user < length self.old.targets }
@@ -339,6 +339,7 @@ impl Uses {
         ensures count { length self.new.uses ≡ length self.old.uses }
         ensures rooms { (self.new.user_room ≡ self.old.user_room) × (self.new.target_room ≡ self.old.target_room) }
     {
+        self.settle(user);
         while self.num_targets(user) > 0 {
             let last = self.num_targets(user) - 1;
             self.remove(user, last);
