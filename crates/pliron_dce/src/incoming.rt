@@ -6,13 +6,14 @@
 //! When it goes, each of them forwards one operand less, and still no less than those behind. So a list is made
 //! once, when the first argument of its block goes, and is right until the block goes.
 //!
-//! At that moment the rows that lose something with each argument of the block are indexed too.
+//! Beside the list stands how far from one another the arguments of the block went, by which the rows that lose
+//! something with each of them are indexed.
 ghost use Rattle.std.specs.Prelude.{◌≡◌, ℕ, None, Some, IfOk, OnOk, IsSome, IsOkUnless, IsPermutation};
 ghost use Rattle.pliron_core.specs.Tree.{IsBlock, HoldsBlock, uses_of};
 ghost use Rattle.pliron_laws.specs.Linked.{IsWellLinked};
 ghost use Rattle.pliron_dce.specs.Incoming.{edges_of, list_of, AreCounted, AreIncoming, AreKnown, BranchesLead, AreFalling};
 
-use crate::rows::{index_rows, settle_rows};
+use crate::rows::{Indexing, Losses, index_chosen, settle_rows};
 use indexmap::IndexMap;
 use pliron_core::{BasicBlock, Context, Operation, Ptr};
 use pliron_laws::{Dialect, OptError};
@@ -24,13 +25,14 @@ pub(crate) struct IncomingEdge {
     pub(crate) branch: Ptr<Operation>,
     pub(crate) place: usize,
     // how many operands it forwarded when the list was made
-    count: usize,
+    pub(crate) count: usize,
 }
 
 // The edges to each block that lost an argument.
 #[derive(Drop)]
 pub(crate) struct Incoming {
     lists: IndexMap<Ptr<BasicBlock>, Vec<IncomingEdge>>,
+    losses: IndexMap<Ptr<BasicBlock>, Losses>,
 }
 
 // The edges to the block, in the order of its uses.
@@ -92,22 +94,22 @@ impl Incoming {
     {
         Incoming {
             lists: IndexMap::new(alloc),
+            losses: IndexMap::new(alloc),
         }
     }
 
-    // Makes the list of the block and indexes the rows that lose something with its arguments, unless there is one.
-    pub(crate) fn add<D: Dialect>(
+    // Makes the list of the block, unless there is one.
+    fn make<D: Dialect>(
         &mut self,
         alloc: Global,
         block: Ptr<BasicBlock>,
         root: Ptr<Operation>,
-        ctx: &mut Context,
+        ctx: &Context,
     ) -> Result<(), OptError>
-        requires block { IsBlock ctx.old.tree block }
-        requires branches { BranchesLead D.meaning ctx.old.tree block }
-        requires known { AreKnown D.meaning ctx.old.tree root (λ b. list_of self.old b) }
-        ensures same { ctx.new ≡ ctx.old }
-        ensures known { OnOk result (AreKnown D.meaning ctx.old.tree root (λ b. list_of self.new b)) }
+        requires block { IsBlock ctx.now.tree block }
+        requires branches { BranchesLead D.meaning ctx.now.tree block }
+        requires known { AreKnown D.meaning ctx.now.tree root (λ b. list_of self.old b) }
+        ensures known { OnOk result (AreKnown D.meaning ctx.now.tree root (λ b. list_of self.new b)) }
         ensures there { OnOk result (IsSome (list_of self.new block)) }
         ensures memory { IsOkUnless result OptError.Memory }
     {
@@ -116,7 +118,47 @@ impl Incoming {
         }
         let list = make_list::<D>(alloc, block, ctx)?;
         self.lists.insert(block, list)?;
-        index_rows(block, self.edges_to(block), ctx)?;
+        Ok(())
+    }
+
+    // The argument of the block with this index is about to go. Which rows are to be indexed before.
+    fn note(
+        &mut self,
+        block: Ptr<BasicBlock>,
+        index: usize,
+        ctx: &Context,
+    ) -> Result<Indexing, AllocError>
+        requires { IsBlock ctx.now.tree block }
+        ensures { self.new.lists ≡ self.old.lists }
+    {
+        let before = self.losses.get(&block).copied();
+        let (losses, indexing) = Losses::after(before, index, block.num_argument(ctx));
+        self.losses.insert(block, losses)?;
+        Ok(indexing)
+    }
+
+    // Makes the list of the block, unless there is one, and indexes rows where its arguments go far from one another. The one
+    // with this index is about to go.
+    pub(crate) fn add<D: Dialect>(
+        &mut self,
+        alloc: Global,
+        block: Ptr<BasicBlock>,
+        index: usize,
+        root: Ptr<Operation>,
+        ctx: &mut Context,
+    ) -> Result<(), OptError>
+        requires block { IsBlock ctx.old.tree block }
+        requires inside { HoldsBlock ctx.old.tree root block }
+        requires branches { BranchesLead D.meaning ctx.old.tree block }
+        requires known { AreKnown D.meaning ctx.old.tree root (λ b. list_of self.old b) }
+        ensures same { ctx.new ≡ ctx.old }
+        ensures known { OnOk result (AreKnown D.meaning ctx.old.tree root (λ b. list_of self.new b)) }
+        ensures there { OnOk result (IsSome (list_of self.new block)) }
+        ensures memory { IsOkUnless result OptError.Memory }
+    {
+        self.make::<D>(alloc, block, root, ctx)?;
+        let indexing = self.note(block, index, ctx)?;
+        index_chosen(indexing, block, self.edges_to(block), ctx)?;
         Ok(())
     }
 

@@ -1,19 +1,82 @@
 //! Indexes of the rows from which things go: the arguments of a block, and the operands of the branches that lead
 //! to it.
 //!
-//! A row keeps one gap, which moves to where something goes. Arguments that feed one another may go at places that
-//! are far apart in turn, and both edges of one branch may lead to one block, so the gap would move over the row
-//! again and again. An index of the row spares that.
+//! A row keeps one gap, which moves to where something goes; where that is beside what went last, nothing is
+//! cheaper. But arguments that feed one another may go at places that are far apart in turn, and the gap would move
+//! over the row again and again. An index of the row spares that. So it is made once the gap has moved over the
+//! row a few times.
+//!
+//! Where a branch forwards much along two edges, its row loses operands at two places in turn whichever way the
+//! arguments go. Such a row is indexed at once.
 ghost use Rattle.std.specs.Prelude.{◌≡◌};
-ghost use Rattle.pliron_core.specs.Tree.{IsBlock};
+ghost use Rattle.pliron_core.specs.Tree.{IsBlock, IsLive};
 ghost use Rattle.pliron_theory.specs.Dropping.{AreEdgesTo};
 ghost use Rattle.pliron_dce.specs.Incoming.{edges_of};
 
 use crate::incoming::IncomingEdge;
 use pliron_core::{BasicBlock, Context, NoMemory, Operation, Ptr};
 
+// How often the gap of a row moves over it before it is indexed.
+const FEW_MOVES: usize = 8;
+
+// How many operands that other edges of a branch forward are few.
+const FEW_OTHERS: usize = 64;
+
+// Which rows are indexed before an argument goes.
+#[derive(Clone, Copy)]
+pub(crate) enum Indexing {
+    Nothing,
+    WideBranches,
+    AllRows,
+}
+
+// How the arguments of a block went so far.
+#[derive(Clone, Copy)]
+pub(crate) struct Losses {
+    // the index of the last one
+    last: usize,
+    // how many arguments the gap moved over
+    moved: usize,
+    is_indexed: bool,
+}
+
+impl Losses {
+    // How they went after one more, of so many arguments, and which rows are to be indexed before.
+    pub(crate) fn after(before: Option<Losses>, index: usize, count: usize) -> (Losses, Indexing) {
+        let Some(losses) = before else {
+            let first = Losses {
+                last: index,
+                moved: 0,
+                is_indexed: false,
+            };
+            return (first, Indexing::WideBranches);
+        };
+        let moved = losses.moved.saturating_add(distance(losses.last, index));
+        let is_far = !losses.is_indexed && moved / FEW_MOVES > count;
+        let next = Losses {
+            last: index,
+            moved,
+            is_indexed: losses.is_indexed || is_far,
+        };
+        (
+            next,
+            if is_far {
+                Indexing::AllRows
+            } else {
+                Indexing::Nothing
+            },
+        )
+    }
+}
+
+// How many places the gap moves over from where one item went to where another one does. What stands beside it costs
+// nothing.
+fn distance(last: usize, index: usize) -> usize {
+    last.abs_diff(index).saturating_sub(1)
+}
+
 // The arguments of the block and the operands of each branch that leads to it are indexed.
-pub(crate) fn index_rows(
+fn index_rows(
     block: Ptr<BasicBlock>,
     edges: &[IncomingEdge],
     ctx: &mut Context,
@@ -28,6 +91,51 @@ pub(crate) fn index_rows(
         Operation::index_operands(ctx, edge.branch)?;
     }
     Ok(())
+}
+
+// The operands of each branch are indexed that forwards more than a few along other edges.
+fn index_wide(
+    block: Ptr<BasicBlock>,
+    edges: &[IncomingEdge],
+    ctx: &mut Context,
+) -> Result<(), NoMemory>
+    requires { AreEdgesTo ctx.old.tree block (edges_of edges.now) }
+    ensures { ctx.new ≡ ctx.old }
+{
+    ctx.well_formed();
+    for edge in edges {
+        index_if_wide(edge.branch, edge.count, ctx)?;
+    }
+    Ok(())
+}
+
+// The operands of the branch are indexed if they are more than so many and a few.
+fn index_if_wide(branch: Ptr<Operation>, count: usize, ctx: &mut Context) -> Result<(), NoMemory>
+    requires { IsLive ctx.old.tree branch }
+    ensures { ctx.new ≡ ctx.old }
+{
+    if branch.num_operand(ctx) > count.saturating_add(FEW_OTHERS) {
+        Operation::index_operands(ctx, branch)?;
+    }
+    Ok(())
+}
+
+// Those of the rows are indexed that are to be.
+pub(crate) fn index_chosen(
+    indexing: Indexing,
+    block: Ptr<BasicBlock>,
+    edges: &[IncomingEdge],
+    ctx: &mut Context,
+) -> Result<(), NoMemory>
+    requires block { IsBlock ctx.old.tree block }
+    requires edges { AreEdgesTo ctx.old.tree block (edges_of edges.now) }
+    ensures { ctx.new ≡ ctx.old }
+{
+    match indexing {
+        Indexing::Nothing => Ok(()),
+        Indexing::WideBranches => index_wide(block, edges, ctx),
+        Indexing::AllRows => index_rows(block, edges, ctx),
+    }
 }
 
 // The indexes of those that still stand go.

@@ -69,7 +69,7 @@ fn take_one<D: Dialect>(
         }
         Candidate::Argument(value) => match value.def(ctx) {
             Def::Argument(block, index) => {
-                incoming.add::<D>(alloc, block, root, ctx)?;
+                incoming.add::<D>(alloc, block, index, root, ctx)?;
                 let edges = incoming.edges_to(block);
                 let lost = take_argument::<D>(alloc, block, index, edges, root, ctx)?;
                 ctx.well_formed();

@@ -86,3 +86,9 @@ pub returns-in_ok-note-in-Operation-clause-known : goal.returns-in_ok-note-in-Op
 returns-in_ok-note-in-Operation-clause-known g c =
     let r = subst (λ z. IsReady g.D.HasMeaning.meaning g.D.SideEffects.side_effects g.D.BlockArgRemoval.removable c.args.ctx.now.tree c.args.root (item_of z)) c.in-Operation.is c.requires.ready in
     known_after _ _ _ _ g.met.D.Dialect.forwards_operands (λ h h' s. s.branch) g.met.D.Dialect.keeps_counts g.D.SideEffects.side_effects g.met.D.Dialect.gives_at_once g.D.BlockArgRemoval.removable c.args.ctx.now.tree c.take_operation.new.ctx.tree c.args.root (Op c.in-Operation.op) (λ b. list_of c.args.incoming.now b) c.well_formed-2.ensures.tree c.well_formed-in-Operation.ensures.tree c.requires.linked r (op_live g.D.HasMeaning.meaning g.D.SideEffects.side_effects c.args.ctx.now.tree c.args.root c.in-Operation.op c.well_formed-2.ensures.tree c.requires.linked g.met.D.Dialect.keeps_counts g.D.BlockArgRemoval.removable g.met.D.Dialect.gives_at_once r, c.in_ok-take_operation-in-Operation.ensures.gone) c.requires.known
+
+pub add-requires-clause-inside : goal.add-requires-clause-inside
+add-requires-clause-inside g c =
+    let r = subst (λ z. IsReady g.D.HasMeaning.meaning g.D.SideEffects.side_effects g.D.BlockArgRemoval.removable c.args.ctx.now.tree c.args.root (item_of z)) c.in-Argument.is c.requires.ready in
+    let at = argument_listed g.D.HasMeaning.meaning g.D.BlockArgRemoval.removable c.args.ctx.now.tree c.args.root c.in-Argument.value c.in-Argument-def.block c.in-Argument-def.index c.well_formed-2.ensures.tree r c.in-Argument-def.ensures.definition in
+    (ready_branches g.D.HasMeaning.meaning g.D.BlockArgRemoval.removable c.args.ctx.now.tree c.args.root c.in-Argument.value c.in-Argument-def.block c.in-Argument-def.index c.well_formed-2.ensures.tree r at).0
