@@ -16,7 +16,8 @@ ghost use Rattle.pliron_sccp.specs.Tables.{known_constants, facts_of, fact_in, S
 ghost use Rattle.pliron_sccp.specs.Cells.{Means};
 ghost use Rattle.pliron_sccp.specs.Feasible.{AreFound};
 ghost use Rattle.pliron_sccp.specs.Falling.{IsApplied};
-ghost use Rattle.pliron_sccp.specs.Demands.{Adds, AddsUnder, AlwaysAdds, AreEntered, AreEnteredWhere, CanMeet, NotesEntry, Asks, AsksEntries, AsksEdges, AsksJumps, AsksAnswers, AsksResults, AsksForwarded, AsksBranches, AsksVisits, FollowsEdge, GetsForwarded, GetsNamed, AreFeasible, IsEntryOf, MayLead, EntryEntered, VisitEntered};
+ghost use Rattle.pliron_sccp.specs.Demands.{AddsUnder, AreEntered, AreEnteredWhere, NotesEntry};
+ghost use Rattle.pliron_sccp.specs.Demands.{Adds, AlwaysAdds, CanMeet, Asks, AsksEntries, AsksEdges, AsksJumps, AsksAnswers, AsksResults, AsksForwarded, AsksBranches, AsksVisits, FollowsEdge, GetsForwarded, GetsNamed, AreFeasible, IsEntryOf, MayLead, EntryEntered, VisitEntered};
 
 use crate::facts::{Cell, Tables};
 use pliron_core::{AttrObj, BasicBlock, Context, Operation, Ptr, Region, Value};
