@@ -13,7 +13,7 @@ ghost use Rattle.pliron_core.specs.Tree.{IsBlock, HoldsBlock, uses_of};
 ghost use Rattle.pliron_laws.specs.Linked.{IsWellLinked};
 ghost use Rattle.pliron_dce.specs.Incoming.{edges_of, list_of, AreCounted, AreIncoming, AreKnown, BranchesLead, AreFalling};
 
-use crate::rows::{Indexing, Losses, index_chosen, settle_rows};
+use crate::rows::{AllLosses, Indexing, index_chosen, settle_rows};
 use indexmap::IndexMap;
 use pliron_core::{BasicBlock, Context, Operation, Ptr};
 use pliron_laws::{Dialect, OptError};
@@ -32,7 +32,7 @@ pub(crate) struct IncomingEdge {
 #[derive(Drop)]
 pub(crate) struct Incoming {
     lists: IndexMap<Ptr<BasicBlock>, Vec<IncomingEdge>>,
-    losses: IndexMap<Ptr<BasicBlock>, Losses>,
+    losses: AllLosses,
 }
 
 // The edges to the block, in the order of its uses.
@@ -94,7 +94,7 @@ impl Incoming {
     {
         Incoming {
             lists: IndexMap::new(alloc),
-            losses: IndexMap::new(alloc),
+            losses: AllLosses::new(alloc),
         }
     }
 
@@ -131,10 +131,7 @@ impl Incoming {
         requires { IsBlock ctx.now.tree block }
         ensures { self.new.lists ≡ self.old.lists }
     {
-        let before = self.losses.get(&block).copied();
-        let (losses, indexing) = Losses::after(before, index, block.num_argument(ctx));
-        self.losses.insert(block, losses)?;
-        Ok(indexing)
+        self.losses.note(block, index, block.num_argument(ctx))
     }
 
     // Makes the list of the block, unless there is one, and indexes rows where its arguments go far from one another. The one

@@ -14,13 +14,15 @@ ghost use Rattle.pliron_theory.specs.Dropping.{AreEdgesTo};
 ghost use Rattle.pliron_dce.specs.Incoming.{edges_of};
 
 use crate::incoming::IncomingEdge;
+use indexmap::IndexMap;
 use pliron_core::{BasicBlock, Context, NoMemory, Operation, Ptr};
+use std::alloc::{AllocError, Global};
 
 // How often the gap of a row moves over it before it is indexed.
 const FEW_MOVES: usize = 8;
 
-// How many operands that other edges of a branch forward are few.
-const FEW_OTHERS: usize = 64;
+// How many arguments of a block, or operands that other edges of a branch forward, are few.
+const FEW_ITEMS: usize = 64;
 
 // Which rows are indexed before an argument goes.
 #[derive(Clone, Copy)]
@@ -41,31 +43,88 @@ pub(crate) struct Losses {
 }
 
 impl Losses {
-    // How they went after one more, of so many arguments, and which rows are to be indexed before.
-    pub(crate) fn after(before: Option<Losses>, index: usize, count: usize) -> (Losses, Indexing) {
-        let Some(losses) = before else {
-            let first = Losses {
-                last: index,
-                moved: 0,
-                is_indexed: false,
-            };
-            return (first, Indexing::WideBranches);
-        };
-        let moved = losses.moved.saturating_add(distance(losses.last, index));
-        let is_far = !losses.is_indexed && moved / FEW_MOVES > count;
+    // The argument with this index goes first.
+    fn first(index: usize) -> Losses {
+        Losses {
+            last: index,
+            moved: 0,
+            is_indexed: false,
+        }
+    }
+
+    // How they went after one more, of so many arguments, and whether all rows are to be indexed before.
+    fn after(self, index: usize, count: usize) -> (Losses, bool) {
+        let moved = self.moved.saturating_add(distance(self.last, index));
+        let is_far = !self.is_indexed && moved / FEW_MOVES > count;
         let next = Losses {
             last: index,
             moved,
-            is_indexed: losses.is_indexed || is_far,
+            is_indexed: self.is_indexed || is_far,
         };
-        (
-            next,
-            if is_far {
-                Indexing::AllRows
-            } else {
-                Indexing::Nothing
-            },
-        )
+        (next, is_far)
+    }
+}
+
+// How the arguments of each block with more than a few went.
+#[derive(Drop)]
+pub(crate) struct AllLosses {
+    losses: IndexMap<Ptr<BasicBlock>, Losses>,
+    // of the block that lost one last
+    recent: Option<(Ptr<BasicBlock>, Losses)>,
+}
+
+impl AllLosses {
+    // None went.
+    pub(crate) fn new(alloc: Global) -> AllLosses {
+        AllLosses {
+            losses: IndexMap::new(alloc),
+            recent: None,
+        }
+    }
+
+    // How the arguments of the block went, if one of them did.
+    fn find(&self, block: Ptr<BasicBlock>) -> Option<Losses> {
+        if let Some((recent, losses)) = self.recent {
+            if recent == block {
+                return Some(losses);
+            }
+        }
+        self.losses.get(&block).copied()
+    }
+
+    // Those of the block are the recent ones.
+    fn keep(&mut self, block: Ptr<BasicBlock>, losses: Losses) -> Result<(), AllocError> {
+        let before = self.recent;
+        if let Some((recent, last)) = before {
+            if recent != block {
+                self.losses.insert(recent, last)?;
+            }
+        }
+        self.recent = Some((block, losses));
+        Ok(())
+    }
+
+    // The argument of the block with this index, of so many, is about to go. Which rows are to be indexed before.
+    pub(crate) fn note(
+        &mut self,
+        block: Ptr<BasicBlock>,
+        index: usize,
+        count: usize,
+    ) -> Result<Indexing, AllocError> {
+        if count <= FEW_ITEMS {
+            return Ok(Indexing::Nothing);
+        }
+        let Some(losses) = self.find(block) else {
+            self.keep(block, Losses::first(index))?;
+            return Ok(Indexing::WideBranches);
+        };
+        let (next, is_far) = losses.after(index, count);
+        self.keep(block, next)?;
+        if is_far {
+            Ok(Indexing::AllRows)
+        } else {
+            Ok(Indexing::Nothing)
+        }
     }
 }
 
@@ -114,7 +173,7 @@ fn index_if_wide(branch: Ptr<Operation>, count: usize, ctx: &mut Context) -> Res
     requires { IsLive ctx.old.tree branch }
     ensures { ctx.new ≡ ctx.old }
 {
-    if branch.num_operand(ctx) > count.saturating_add(FEW_OTHERS) {
+    if branch.num_operand(ctx) > count.saturating_add(FEW_ITEMS) {
         Operation::index_operands(ctx, branch)?;
     }
     Ok(())
