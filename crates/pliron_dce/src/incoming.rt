@@ -98,14 +98,14 @@ impl Incoming {
         }
     }
 
-    // Makes the list of the block, unless there is one.
+    // Makes the list of the block, unless there is one. Whether it was made now.
     fn make<D: Dialect>(
         &mut self,
         alloc: Global,
         block: Ptr<BasicBlock>,
         root: Ptr<Operation>,
         ctx: &Context,
-    ) -> Result<(), OptError>
+    ) -> Result<bool, OptError>
         requires block { IsBlock ctx.now.tree block }
         requires branches { BranchesLead D.meaning ctx.now.tree block }
         requires known { AreKnown D.meaning ctx.now.tree root (λ b. list_of self.old b) }
@@ -114,24 +114,27 @@ impl Incoming {
         ensures memory { IsOkUnless result OptError.Memory }
     {
         if self.lists.contains_key(&block) {
-            return Ok(());
+            return Ok(false);
         }
         let list = make_list::<D>(alloc, block, ctx)?;
         self.lists.insert(block, list)?;
-        Ok(())
+        Ok(true)
     }
 
-    // The argument of the block with this index is about to go. Which rows are to be indexed before.
+    // The argument of the block with this index is about to go, as the first one or after others. Which rows are to be
+    // indexed before.
     fn note(
         &mut self,
         block: Ptr<BasicBlock>,
         index: usize,
+        is_first: bool,
         ctx: &Context,
     ) -> Result<Indexing, AllocError>
         requires { IsBlock ctx.now.tree block }
         ensures { self.new.lists ≡ self.old.lists }
     {
-        self.losses.note(block, index, block.num_argument(ctx))
+        self.losses
+            .note(block, index, block.num_argument(ctx), is_first)
     }
 
     // Makes the list of the block, unless there is one, and indexes rows where its arguments go far from one another. The one
@@ -153,8 +156,8 @@ impl Incoming {
         ensures there { OnOk result (IsSome (list_of self.new block)) }
         ensures memory { IsOkUnless result OptError.Memory }
     {
-        self.make::<D>(alloc, block, root, ctx)?;
-        let indexing = self.note(block, index, ctx)?;
+        let is_first = self.make::<D>(alloc, block, root, ctx)?;
+        let indexing = self.note(block, index, is_first, ctx)?;
         index_chosen(indexing, block, self.edges_to(block), ctx)?;
         Ok(())
     }

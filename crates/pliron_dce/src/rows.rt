@@ -104,20 +104,22 @@ impl AllLosses {
         Ok(())
     }
 
-    // The argument of the block with this index, of so many, is about to go. Which rows are to be indexed before.
+    // The argument of the block with this index, of so many, is about to go, as the first one or after others. Which rows
+    // are to be indexed before.
     pub(crate) fn note(
         &mut self,
         block: Ptr<BasicBlock>,
         index: usize,
         count: usize,
+        is_first: bool,
     ) -> Result<Indexing, AllocError> {
+        if is_first {
+            return Ok(Indexing::WideBranches);
+        }
         if count <= FEW_ITEMS {
             return Ok(Indexing::Nothing);
         }
-        let Some(losses) = self.find(block) else {
-            self.keep(block, Losses::first(index))?;
-            return Ok(Indexing::WideBranches);
-        };
+        let losses = self.find(block).unwrap_or(Losses::first(index));
         let (next, is_far) = losses.after(index, count);
         self.keep(block, next)?;
         if is_far {

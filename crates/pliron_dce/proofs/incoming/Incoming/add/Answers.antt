@@ -6,4 +6,4 @@ use Rattle.pliron_dce.proofs.incoming.Incoming.add.Goals as goal
 
 pub returns-clause-known : goal.returns-clause-known
 returns-clause-known g c block edges e inside =
-    c.in_ok-make.ensures.known block edges (ap (λ z. option_map (λ v. v.items) (get is_one_key z block)) (sym c.note.ensures) ∙ e) inside
+    c.in_ok-is_first.ensures.known block edges (ap (λ z. option_map (λ v. v.items) (get is_one_key z block)) (sym c.note.ensures) ∙ e) inside
