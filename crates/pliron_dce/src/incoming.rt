@@ -133,8 +133,8 @@ impl Incoming {
         requires { IsBlock ctx.now.tree block }
         ensures { self.new.lists ≡ self.old.lists }
     {
-        self.losses
-            .note(block, index, block.num_argument(ctx), is_first)
+        let count = block.num_argument(ctx);
+        self.losses.note(block, index, count, is_first)
     }
 
     // Makes the list of the block, unless there is one, and indexes rows where its arguments go far from one another. The one
