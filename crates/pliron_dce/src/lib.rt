@@ -69,15 +69,14 @@ pub fn ready_things_are_seen<D: Dialect>()
 /// operations around what loses a use are looked at once for all that is lost until nothing else is ready.
 /// Looks at an operation go over what it makes and holds, up to the first use that holds it, and each goes on
 /// from where the last one ended; what goes is gone over once more. The first argument of a block that goes
-/// asks each edge to the block for all that it forwards (`successor_operands`), sorts the edges by how much
-/// that is, and has the arguments of the block and the operands of these branches indexed where they are many,
-/// until all is done. Each one then asks only the edges that forward to it, and one more, for the one operand
-/// that they forward there (`successor_operand`), and takes that one out. So each argument that goes costs a
-/// logarithm of the number of arguments and operands in its rows: one for the block, and one for each edge
-/// that forwards to it, wherever they stand. The arguments of a block that may go at one time go side by side,
-/// the last one first; so in rows without an index those that stay behind them move once for all of these.
-/// Whether branches alone lead to a block is asked of each edge to it once, at the start, where there are many,
-/// and else at each look at an argument of it that nothing uses.
+/// asks each edge to the block for all that it forwards (`successor_operands`) and sorts the edges by how much
+/// that is. Each one then asks only the edges that forward to it, and one more, for the one operand that they
+/// forward there (`successor_operand`), and takes that one out. The arguments of a block that may go at one
+/// time go side by side, the last one first; so those that stay behind them move once for all of these. Where
+/// arguments go far from one another, the rows that they and their operands stand in are indexed: one that goes
+/// then costs a logarithm of the length of each of its rows, and the moves before it at most a few times these
+/// lengths. Whether branches alone lead to a block is asked of each edge to it once, at the start, where there
+/// are many, and else at each look at an argument of it that nothing uses.
 pub fn dce<D: Dialect>(
     alloc: Global,
     op: Ptr<Operation>,

@@ -2,7 +2,8 @@
 //!
 //! In each round the arguments go before the operations, the last one first. So those of one block go side
 //! by side, whichever way their uses went, and so do the operands that were forwarded to them; what a block
-//! or a branch loses side by side costs one step each, where its row is too short for an index (`rows`).
+//! or a branch loses side by side costs one step each. What goes in other orders costs more, and gets an index
+//! (`rows`).
 //!
 //! The operations around what lost a use are looked at once nothing else is ready, each once for all the uses
 //! that what is inside it lost until then. For a look at one goes over what is inside it.
