@@ -7,7 +7,8 @@
   shapes.py list                     the names of the shapes, but those that bench alone can write:
                                      boxed, fiftyboxes, boxes, deepboxes, boxargs,
                                      boxconsts, boxuses, boxuseslast, shortedges, scopeargs,
-                                     twoedges, forks, longbranches
+                                     twoedges, forks, longbranches, lastuses, deeplastuses,
+                                     manyaround, deepuses, deepvalues, deepchain
 
 One program is built and printed in three notations, so that all optimisers see the same control flow: in
 that of this repository, with the shortest names and no blanks; in LLVM's, where an argument of a block is
@@ -591,23 +592,80 @@ def scopeargs(n):
     return f"func{{z():{one}=const 1;br y({','.join([one] * len(outer))});y({','.join(outer)}):{loop};cbr {condition} y({edge})x();x():ret}}\n"
 
 
+def lastuses(n, depth):
+    """A value inside boxes that hold one another, with 5n/6 uses there that stay and others outside that go one by one. Before each of these goes as many
+    go inside as are left outside, so that the last uses, those outside, take the indices of these."""
+    names = short_names()
+    rounds = max(3, int((n / 3) ** 0.5))
+    value = next(names)
+    gone = [next(names) for _ in range(rounds + 2)]
+    user = [next(names) for _ in range(rounds + 2)]
+    inside = ";".join(f"box{{z():{gone[i]}=read;ret{f' {value}' * (rounds - i)}}}" for i in range(rounds, 1, -1))
+    outside = ";".join(f"box{{z():{user[i]}=read;ret {value}{f' {user[i + 1]} {gone[i + 1]}' if i < rounds else ''}}}" for i in range(1, rounds + 1))
+    stay = f"scope{{z():ret{f' {value}' * max(1, n - rounds * rounds // 2)}}}"
+    return "func{z():" + "box{z():" * depth + f"{value}=read;{stay};{inside}" + "}" * depth + f";{outside};ret}}\n"
+
+
+def manyaround(n):
+    """n/6 boxes lose a use at once, and as many others go one by one after that."""
+    names = short_names()
+    once = [next(names) for _ in range(max(2, n // 6))]
+    chain = [next(names) for _ in once]
+    boxes = ";".join(f"box{{z():{x}=read}}" for x in once)
+    links = ";".join(f"box{{z():{x}=read;ret {y}}}" for x, y in zip(chain, [*chain[1:], chain[-1]]))
+    return f"func{{z():{boxes};sink {' '.join(once)};{links};ret}}\n"
+
+
+def held_boxes(inside, names, depth):
+    """Boxes around it, each held by a value of its own that is printed outside it."""
+    for _ in range(depth):
+        held = next(names)
+        inside = f"box{{z():{inside};{held}=read}};print {held}"
+    return "func{z():" + inside + ";ret}\n"
+
+
+def deepuses(n):
+    """50 values, each used in n/50 scopes, inside 61 boxes that are all held."""
+    names = short_names()
+    values = [next(names) for _ in range(50)]
+    scopes = [f"scope{{z():ret {' '.join(values)}}}"] * max(1, n // 50)
+    return held_boxes(";".join([f"{x}=read" for x in values] + scopes), names, 61)
+
+
+def deepvalues(n):
+    """n values, each used once, inside 60 boxes that are all held."""
+    names = short_names()
+    values = [next(names) for _ in range(max(2, n))]
+    return held_boxes(f"scope{{z({','.join(values)}):ret {' '.join(values)}}}", names, 60)
+
+
+def deepchain(n):
+    """n/5 values inside 60 boxes, used outside, inside 60 others that are held, by boxes that go one by one."""
+    names = short_names()
+    values = [next(names) for _ in range(max(2, n // 5))]
+    chain = [next(names) for _ in values]
+    inside = "box{z():" * 60 + ";".join(f"{x}=read" for x in values) + "}" * 60
+    links = ";".join(f"box{{z():{x}=read;ret {v} {y}}}" for v, x, y in zip(values, chain, [*chain[1:], chain[-1]]))
+    return held_boxes(links, names, 60).replace("func{z():", f"func{{z():{inside};", 1)
+
+
 def longbranches(n):
-    """k branches that each make one of k values fall, and k others that forward all of these, with k^2 near n/2."""
+    """k branches that each make one of k values fall, and about k others that forward all of these, with k^2 near n/4."""
     values, blocks = short_names(), short_names()
-    count = max(2, int((n / 2) ** 0.5))
+    count = max(2, int((n / 4) ** 0.5))
     one, unknown, condition, last = (next(values) for _ in range(4))
     fall = [next(values) for _ in range(count)]
     inner = [next(values) for _ in range(count)]
     header, end, stop, *sides = (next(blocks) for _ in range(3 + 4 * count))
     left, known, open_, joined = (sides[i * count:(i + 1) * count] for i in range(4))
-    right = [(next(blocks), next(blocks)) for _ in range(count)]
+    right = [(next(blocks), next(blocks)) for _ in range(max(1, n // (2 * count) - count))]
     parts = [f"{next(blocks)}():{one}=const 1;{unknown}=read;br {header}({one})", f"{header}({condition}):br {left[0]}()"]
     for i in range(count):
         after = left[i + 1] if i + 1 < count else right[0][0]
         parts += [f"{left[i]}():cbr {condition} {known[i]}() {open_[i]}({','.join([unknown, *[one] * (2 * count)])})",
                   f"{known[i]}():br {joined[i]}({one})", f"{open_[i]}({last}{i}):br {joined[i]}({last}{i})", f"{joined[i]}({fall[i]}):br {after}()"]
     for i, (head, taken) in enumerate(right):
-        after = right[i + 1][0] if i + 1 < count else end
+        after = right[i + 1][0] if i + 1 < len(right) else end
         args = ",".join(f"{v}_{i}" for v in inner[:2])
         parts += [f"{head}():cbr {unknown} {taken}({','.join(fall)}) {after}()", f"{taken}({args}):br {after}()"]
     again = f"{last}_"
@@ -619,7 +677,9 @@ def longbranches(n):
 BENCH_ONLY = {"boxed": lambda n: boxed_sums(n, 1), "fiftyboxes": lambda n: boxed_sums(n, 50),
          "boxes": lambda n: boxes(n, 1), "deepboxes": lambda n: boxes(n, 50), "boxargs": boxargs,
          "boxconsts": boxconsts, "boxuses": lambda n: boxuses(n, False), "boxuseslast": lambda n: boxuses(n, True),
-         "shortedges": shortedges, "scopeargs": scopeargs, "twoedges": twoedges, "forks": forks, "longbranches": longbranches}
+         "shortedges": shortedges, "scopeargs": scopeargs, "twoedges": twoedges, "forks": forks,
+         "longbranches": longbranches, "lastuses": lambda n: lastuses(n, 1), "deeplastuses": lambda n: lastuses(n, 60),
+         "manyaround": manyaround, "deepuses": deepuses, "deepvalues": deepvalues, "deepchain": deepchain}
 
 
 def bench(fns, w):

@@ -58,12 +58,17 @@ def counted(program, path):
 
 
 def longest(shape, most):
-    """The longest text of a shape that has at most so many bytes, but for a thousandth."""
-    n, text = 1000, shapes.text_of(shape, 1000, "bench")
-    while not 0.999 * most <= len(text) <= most:
-        n = max(1, int(n * 0.9995 * most / len(text)))
+    """The longest text of a shape that has at most so many bytes, but for a thousandth, or where n steps further for a hundredth."""
+    n, found = 1000, ""
+    for _ in range(30):
         text = shapes.text_of(shape, n, "bench")
-    return text
+        if len(found) < len(text) <= most:
+            found = text
+        if 0.999 * most <= len(found):
+            break
+        n = max(1, int(n * 0.9995 * most / len(text)))
+    assert 0.99 * most <= len(found), shape
+    return found
 
 
 def exponents(program, lists):
