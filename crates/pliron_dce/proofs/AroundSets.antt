@@ -1,7 +1,7 @@
 -- The set of operations that are looked at once nothing else is ready.
 use Rattle.std.proofs.Common.{◌≡◌, ◌⊎◌, inl, inr, ⊎_elim, ℕ, Bool, true, false, not, true≢false, nat_eq, ◌&&◌, if◌then◌else◌, List, [], ◌∷◌, ◌++◌, Option, Some, None, refl, sym, ap, ◌∙◌, subst, arith}
 use Rattle.std.specs.List.{list_any}
-use Rattle.std.proofs.lemmas.Bool.{cases_Bool, eq-eqb, false≢true, or_cases}
+use Rattle.std.proofs.lemmas.Bool.{false≢true, or_cases}
 use Rattle.pliron_core.specs.Changes.{IsMadeInside}
 use Rattle.pliron_core.specs.Tree.{Tree, In, IsLive, IsInside, Directly, IsWithin, holder_of}
 use Rattle.pliron_core.specs.Joined.{IsTree}

@@ -2,9 +2,9 @@
 use Rattle.std.proofs.Common.{◌≡◌, ◌≢◌, ◌⊎◌, inl, inr, ⊎_elim, ℕ, Bool, List, [], ◌∷◌, Option, Some, sym, ap, subst}
 use Rattle.std.proofs.lemmas.Bool.{cases_eq}
 use Rattle.pliron_core.specs.declared.context.Def.TheVariants.{Argument}
-use Rattle.pliron_core.specs.Tree.{Tree, In, IsLive, IsMadeBy, IsInside, IsWithin, operands_of, results_of, definition_of}
+use Rattle.pliron_core.specs.Tree.{Tree, In, IsLive, IsMadeBy, operands_of, results_of, definition_of}
 use Rattle.pliron_core.specs.Joined.{IsTree}
-use Rattle.pliron_core.proofs.HoldingLemmas.{in_slice, slice_in, deeper}
+use Rattle.pliron_core.proofs.HoldingLemmas.{in_slice, slice_in}
 use Rattle.pliron_laws.specs.Datum.{Head, Meaning}
 use Rattle.pliron_dce.specs.Dead.{Item, Op, Arg, Use, Holds, OfResult, OfInside}
 use Rattle.pliron_dce.specs.Steps.{IsReady, IsReadyOperation, IsReadyArgument, Among, AreNoted, AreLookedAt}

@@ -1,12 +1,8 @@
 -- What the loop knows after a thing went.
-use Rattle.std.proofs.Common.{◌≡◌, ⊎_elim, inr, ℕ, Bool, true, false, List, [], ◌∷◌, ◌++◌, ◌<◌, Option, Some, IsSome, slice_get, refl, sym, subst}
+use Rattle.std.proofs.Common.{◌≡◌, ⊎_elim, inr, ℕ, Bool, List, [], ◌∷◌, ◌++◌, ◌<◌, Option, Some, slice_get, sym, subst}
 use Rattle.pliron_core.specs.declared.context.Def.TheVariants.{Argument}
-use Rattle.pliron_core.specs.Tree.{Tree, In, IsLive, IsMadeBy, IsWithin, holder_of, definition_of, arguments_of}
+use Rattle.pliron_core.specs.Tree.{Tree, In, IsLive, IsMadeBy, definition_of, arguments_of}
 use Rattle.pliron_dce.proofs.ReadyTests.{ready_defined}
-use Rattle.pliron_core.specs.Erased.{erased, IsSelfContained}
-use Rattle.pliron_core.proofs.HoldingLemmas.{holder_live, inside_by, not_itself}
-use Rattle.pliron_core.proofs.WithinLemmas.{within_is}
-use Rattle.pliron_theory.proofs.ErasedKeeps.{op_erased, erased_swept}
 use Rattle.pliron_dce.proofs.RemovedThins.{inside_live}
 use Rattle.pliron_dce.proofs.ReadySteps.{ready_contained}
 use Rattle.pliron_dce.proofs.Places.{placed_end}
@@ -16,7 +12,7 @@ use Rattle.pliron_laws.specs.Laws.{KeepsCounts, GivesAtOnce, ForwardsOperands, A
 use Rattle.pliron_laws.specs.Linked.{IsWellLinked}
 use Rattle.pliron_dce.specs.declared.work.Candidate.{Candidate}
 use Rattle.pliron_dce.specs.Dead.{Item, Op, Arg, Use}
-use Rattle.pliron_dce.specs.Going.{Goes, Removes}
+use Rattle.pliron_dce.specs.Going.{Goes}
 use Rattle.pliron_dce.specs.Steps.{IsReady, IsReadyArgument, Among, AreNoted, AreLookedAt}
 use Rattle.pliron_dce.specs.Work.{item_of, items_of, HasReady, AreClosed}
 use Rattle.pliron_dce.proofs.Progress.{step, gone_unready}

@@ -2,7 +2,7 @@
 use Rattle.std.specs.Prelude.{◌≡◌, ◌⊎◌, ℕ, Bool, List, [], ◌∷◌, Option, Some}
 use Rattle.pliron_core.specs.declared.context.Def.TheVariants.{Result, Argument}
 use Rattle.pliron_core.specs.Changes.{IsMadeInside}
-use Rattle.pliron_core.specs.Tree.{Tree, In, IsDefined, IsInside, IsWithin, operands_of, results_of, definition_of}
+use Rattle.pliron_core.specs.Tree.{Tree, In, IsDefined, IsWithin, operands_of, results_of, definition_of}
 use Rattle.pliron_laws.specs.Datum.{Head, Meaning}
 use Rattle.pliron_dce.specs.Dead.{Item, Op, Arg, Use, MayGo, MayBeRemoved, Holds}
 

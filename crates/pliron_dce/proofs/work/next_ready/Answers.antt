@@ -1,5 +1,4 @@
-use Rattle.std.proofs.Common.{◌≡◌, ◌++◌, [], ◌∙◌, map, ap, sym, subst, IfNone, inl}
-use Rattle.pliron_dce.specs.declared.work.Candidate.TheVariants.{Operation}
+use Rattle.std.proofs.Common.{◌≡◌, [], ◌∙◌, ap, sym, subst}
 use Rattle.pliron_dce.specs.Work.{waiting, HasReady, AreClosed}
 use Rattle.pliron_dce.proofs.WorkLemmas.{next_of_all, none_of_all, none_waits}
 use Rattle.pliron_dce.proofs.work.next_ready.Goals as goal
