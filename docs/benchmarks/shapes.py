@@ -653,9 +653,10 @@ def longbranches(n):
     """k branches that each make one of k values fall, and about k others that forward all of these, with k^2 near n/4."""
     values, blocks = short_names(), short_names()
     count = max(2, int((n / 4) ** 0.5))
-    one, unknown, condition, last = (next(values) for _ in range(4))
+    one, unknown, condition, again = (next(values) for _ in range(4))
     fall = [next(values) for _ in range(count)]
-    inner = [next(values) for _ in range(count)]
+    opened = [next(values) for _ in range(count)]
+    first, second = next(values), next(values)
     header, end, stop, *sides = (next(blocks) for _ in range(3 + 4 * count))
     left, known, open_, joined = (sides[i * count:(i + 1) * count] for i in range(4))
     right = [(next(blocks), next(blocks)) for _ in range(max(1, n // (2 * count) - count))]
@@ -663,12 +664,11 @@ def longbranches(n):
     for i in range(count):
         after = left[i + 1] if i + 1 < count else right[0][0]
         parts += [f"{left[i]}():cbr {condition} {known[i]}() {open_[i]}({','.join([unknown, *[one] * (2 * count)])})",
-                  f"{known[i]}():br {joined[i]}({one})", f"{open_[i]}({last}{i}):br {joined[i]}({last}{i})", f"{joined[i]}({fall[i]}):br {after}()"]
+                  f"{known[i]}():br {joined[i]}({one})", f"{open_[i]}({opened[i]}):br {joined[i]}({opened[i]})", f"{joined[i]}({fall[i]}):br {after}()"]
     for i, (head, taken) in enumerate(right):
         after = right[i + 1][0] if i + 1 < len(right) else end
-        args = ",".join(f"{v}_{i}" for v in inner[:2])
+        args = f"{first}__{i},{second}__{i}"
         parts += [f"{head}():cbr {unknown} {taken}({','.join(fall)}) {after}()", f"{taken}({args}):br {after}()"]
-    again = f"{last}_"
     parts += [f"{end}():{again}=read;cbr {unknown} {header}({again}) {stop}()", f"{stop}():ret"]
     return "func{" + ";".join(parts) + "}\n"
 
