@@ -68,5 +68,9 @@ pub fn other_constant(form: usize) -> i128
 pub fn form_of_constant(datum: i128) -> Option<u128>
     ensures { result ≡ form_said_by datum }
 {
-    if datum < 0 { Some((-1 - datum) as u128) } else { None }
+    if datum < 0 {
+        Some((-1 - datum) as u128)
+    } else {
+        None
+    }
 }

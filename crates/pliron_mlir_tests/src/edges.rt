@@ -1,9 +1,7 @@
 //! Branches, by what LLVM leaves of them.
 use crate::integers::{kind, width};
 use crate::rows::edges;
-use pliron_mlir::{
-    Class, branch_head, class_named, integer_of, number, plain_head, switch_head,
-};
+use pliron_mlir::{Class, branch_head, class_named, integer_of, number, plain_head, switch_head};
 use pliron_roles::Roles;
 use std::alloc::Global;
 

@@ -3,8 +3,8 @@ use pliron_bits::{BinaryOperator, Flags};
 use pliron_core::{BasicBlock, Context, Head, IRRewriter, Operation, Ptr, Rewriter, Value};
 use pliron_laws::is_well_linked;
 use pliron_mlir::{
-    AnyMeaning, Class, Mlir, binary_head, class_of_head, constant_head, form_of, number, plain_head,
-    switch_head,
+    AnyMeaning, Class, Mlir, binary_head, class_of_head, constant_head, form_of, number,
+    plain_head, switch_head,
 };
 use pliron_pass::{AnalysisManager, BenchFacts, Passes};
 use pliron_pipeline::{DCEPass, SCCPPass, SimplifyCFGPass, Step, run_pipeline};
@@ -78,8 +78,18 @@ fn function(alloc: Global, ctx: &mut Context) -> Option<Ptr<Operation>> {
     for _ in 0..3 {
         blocks.push(block(ctx, func, 1)?).ok()?;
     }
-    let k = value(ctx, entry, constant_head(alloc, number(32, 5), 11).ok()?, &[])?;
-    let j = value(ctx, entry, constant_head(alloc, number(32, 7), 12).ok()?, &[])?;
+    let k = value(
+        ctx,
+        entry,
+        constant_head(alloc, number(32, 5), 11).ok()?,
+        &[],
+    )?;
+    let j = value(
+        ctx,
+        entry,
+        constant_head(alloc, number(32, 7), 12).ok()?,
+        &[],
+    )?;
     let flags = Flags {
         no_signed_wrap: true,
         ..Flags::NONE
@@ -91,8 +101,22 @@ fn function(alloc: Global, ctx: &mut Context) -> Option<Ptr<Operation>> {
     append(ctx, entry, head, &[s, j, k, s], 0, &blocks)?;
     for block in &blocks {
         let given = argument(*block, ctx)?;
-        append(ctx, *block, plain_head(alloc, Class::Effect, 16).ok()?, &[given], 0, &[])?;
-        append(ctx, *block, plain_head(alloc, Class::Leave, 17).ok()?, &[given], 0, &[])?;
+        append(
+            ctx,
+            *block,
+            plain_head(alloc, Class::Effect, 16).ok()?,
+            &[given],
+            0,
+            &[],
+        )?;
+        append(
+            ctx,
+            *block,
+            plain_head(alloc, Class::Leave, 17).ok()?,
+            &[given],
+            0,
+            &[],
+        )?;
     }
     Some(func)
 }
@@ -116,7 +140,8 @@ fn shown(alloc: Global, func: Ptr<Operation>, ctx: &Context) -> Option<String> {
             };
             let head = here.head(ctx);
             let (class, form) = (class_of_head(head), form_of(head));
-            text.push_str(format!(in alloc; " {class:?} {form:?}").ok()?.as_str()).ok()?;
+            text.push_str(format!(in alloc; " {class:?} {form:?}").ok()?.as_str())
+                .ok()?;
             op = here.get_next(ctx);
         }
         block = at.get_next(ctx);
@@ -142,7 +167,10 @@ fn optimise(alloc: Global, root: Ptr<Operation>, ctx: &mut Context) -> Option<St
 fn folds_in(rt: &impl Abort, alloc: Global, ctx: &mut Context) {
     let root = function(alloc, ctx).expect(rt, "memory");
     let after = optimise(alloc, root, ctx).expect(rt, "memory");
-    assert_eq!(rt; after.as_str(), "^ Some(Constant) None Some(Effect) Some(16) Some(Leave) Some(17)");
+    assert_eq!(rt;
+        after.as_str(),
+        "^ Some(Constant) None Some(Effect) Some(16) Some(Leave) Some(17)"
+    );
 }
 
 #[test]

@@ -120,8 +120,16 @@ fn failing<'t>(alloc: Global, rows: &'t str) -> Option<&'t str> {
 #[test]
 fn computes_as_llvm(rt: HostRuntime) {
     let alloc = rt.alloc();
-    assert_eq!(rt; failing(alloc, wrapping::ROWS), None, "sums, differences, products");
-    assert_eq!(rt; failing(alloc, division::ROWS), None, "quotients, remainders");
+    assert_eq!(rt;
+        failing(alloc, wrapping::ROWS),
+        None,
+        "sums, differences, products"
+    );
+    assert_eq!(rt;
+        failing(alloc, division::ROWS),
+        None,
+        "quotients, remainders"
+    );
     assert_eq!(rt; failing(alloc, shifts::ROWS), None, "shifts");
     assert_eq!(rt; failing(alloc, logic::ROWS), None, "bits, minima, maxima");
     assert_eq!(rt; failing(alloc, compare::ROWS), None, "comparisons");
