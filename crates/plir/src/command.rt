@@ -264,8 +264,8 @@ fn command<'a>(alloc: Global) -> Result<Command<'a>, AllocError> {
     with(plir, explain(alloc))
 }
 
-/// What the words ask for. Errors: words that the program doesn't have, or asking for help; want of memory. Cost:
+/// What the words ask for. Errors: words that the program doesn't have, or asking for help; allocation failure. Cost:
 /// linear in the words.
-pub fn parsed<'a>(alloc: Global, words: &'a [String]) -> Result<ArgMatches<'a>, Error> {
+pub fn parse_arguments<'a>(alloc: Global, words: &'a [String]) -> Result<ArgMatches<'a>, Error> {
     command(alloc)?.try_get_matches_from(words)
 }

@@ -1,15 +1,15 @@
 //! `plir`: texts of operations, for people: runs, passes, marks under what is wrong, pictures, and why passes changed what.
 //!
-//! It knows words, files, streams and an exit status. What each command does stands in `pliron_people` and `pliron_draw`.
+//! It knows words, files, streams and an exit status. What each command does stands in `pliron_cli` and `pliron_draw`.
 #![tactic(auto)]
 
 mod command;
 
 use clap::ArgMatches;
-use command::parsed;
+use command::parse_arguments;
 use pliron_draw::{FlowWish, draw_flow, draw_graph, explain};
-use pliron_people::{
-    CompareWish, OptWish, Outcome, Progress, RunWish, Source, Wish, check, compare, opt, run,
+use pliron_cli::{
+    CompareOptions, OptOptions, Outcome, Progress, RunWish, Source, Wish, check, compare, opt, run,
 };
 use std::alloc::Global;
 use std::io::{self, IsTerminal, Read, Write};
@@ -28,7 +28,7 @@ fn text_of(rt: &HostRuntime, name: &str) -> io::Result<Vec<u8>> {
 }
 
 /// What people call the input.
-fn called(name: &str) -> &str {
+fn input_name(name: &str) -> &str {
     if name == "-" { "standard input" } else { name }
 }
 
@@ -50,7 +50,7 @@ fn compare_wished<'w>(
     run: RunWish<'w>,
     pipeline: &'w str,
 ) -> io::Result<Outcome> {
-    let wish = CompareWish { run, pipeline };
+    let wish = CompareOptions { run, pipeline };
     Ok(compare(alloc, source, &wish)?)
 }
 
@@ -127,7 +127,7 @@ fn opt_watched<'w>(
     watch: Wish<'w>,
     pipeline: &'w str,
 ) -> io::Result<Outcome> {
-    let wish = OptWish {
+    let wish = OptOptions {
         pipeline,
         is_pretty: is_pretty(rt, matches),
         watch,
@@ -152,7 +152,7 @@ fn opt_wished(rt: &HostRuntime, source: &Source, matches: &ArgMatches) -> io::Re
 }
 
 /// The outcome of a command whose input can't be read: its name is told, and why.
-fn unread(alloc: Global, name: &str, error: &io::Error) -> io::Result<Outcome> {
+fn unreadable_input(alloc: Global, name: &str, error: &io::Error) -> io::Result<Outcome> {
     let report = format!(in alloc; "error: cannot read {name}: {error}\n")?;
     Ok(Outcome {
         output: Vec::new(alloc),
@@ -176,10 +176,10 @@ fn outcome(rt: &HostRuntime, command: &str, matches: &ArgMatches) -> io::Result<
     let name = matches.get_str("file").unwrap_or("-");
     let text = match text_of(rt, name) {
         Ok(text) => text,
-        Err(error) => return unread(alloc, called(name), &error),
+        Err(error) => return unreadable_input(alloc, input_name(name), &error),
     };
     let source = Source {
-        name: called(name),
+        name: input_name(name),
         text: &text,
     };
     match command {
@@ -234,7 +234,7 @@ fn act_on(rt: &HostRuntime, matches: &ArgMatches) -> io::Result<u8> {
 fn main(rt: HostRuntime) -> io::Result<ExitCode> {
     let alloc = rt.alloc();
     let words: Vec<String> = env::args(&rt)?.collect(alloc)?;
-    match parsed(alloc, words.as_slice()) {
+    match parse_arguments(alloc, words.as_slice()) {
         Ok(matches) => Ok(ExitCode::from(act_on(&rt, &matches)?)),
         Err(error) => {
             error.print(&rt)?;

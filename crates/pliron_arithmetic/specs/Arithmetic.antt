@@ -8,7 +8,7 @@ use Rattle.pliron_laws.specs.Laws.{CountsFit}
 use Rattle.pliron_dialects.specs.Numbers.{nth_number, wrapped_sum, wrapped_product, less, is_zero}
 use Rattle.pliron_dialects.specs.Forms.{edge_by_condition}
 use Rattle.pliron_dialects.specs.Roles.{Role, Tables, KeepsTables, ActsFit, condition_of, Constant, Computes, Jumps, Branches, Leaves, Acts}
-use Rattle.pliron_dialects.specs.Visits.{once, fitted, visit_of, length-fitted, visit_fits, once_fits}
+use Rattle.pliron_dialects.specs.Visits.{once, fit_data, visit_of, length-fitted, visit_fits, once_fits}
 
 -- a function has one region, visits it once with its inputs, and leaves with what the visit gives
 abbrev pub function_takes : ℕ → ℕ → ℕ → Bool
@@ -23,7 +23,7 @@ abbrev pub if_takes : ℕ → ℕ → ℕ → Bool
 if_takes operands results regions = nat_eq regions 2
 
 abbrev pub if_act : Shape → Datum → List Datum → Move
-if_act s memo input = once memo (visit_of (edge_by_condition (condition_of input)) s (drop 1 input)) (Give (fitted s.results input))
+if_act s memo input = once memo (visit_of (edge_by_condition (condition_of input)) s (drop 1 input)) (Give (fit_data s.results input))
 
 -- a `while` visits its region with its operands, and again with the values of each visit until the first of them
 -- is 0; then it gives the others
@@ -31,7 +31,7 @@ abbrev pub while_takes : ℕ → ℕ → ℕ → Bool
 while_takes operands results regions = nat_eq regions 1
 
 abbrev pub again_unless : Bool → Shape → List Datum → Move
-again_unless true s values = Give (fitted s.results values)
+again_unless true s values = Give (fit_data s.results values)
 again_unless false s values = visit_of 0 s values
 
 abbrev pub while_act : Shape → Datum → List Datum → Move
@@ -115,7 +115,7 @@ acts Less = tt
 acts Jump = tt
 acts Branch = tt
 acts Return = tt
-acts If = λ s h memo input. once_fits false s memo (visit_of (edge_by_condition (condition_of input)) s (drop 1 input)) (Give (fitted s.results input)) (visit_fits false (edge_by_condition (condition_of input)) s (drop 1 input)) (length-fitted s.results input)
+acts If = λ s h memo input. once_fits false s memo (visit_of (edge_by_condition (condition_of input)) s (drop 1 input)) (Give (fit_data s.results input)) (visit_fits false (edge_by_condition (condition_of input)) s (drop 1 input)) (length-fitted s.results input)
 acts While = λ s h memo input. once_fits false s memo (visit_of 0 s input) (again_unless (is_zero (condition_of input)) s (drop 1 input)) (visit_fits false 0 s input) (again_fits (is_zero (condition_of input)) s (drop 1 input))
 
 pub keeps_arithmetic : KeepsTables arithmetic

@@ -6,7 +6,7 @@ use pliron_arithmetic::{Arithmetic, ArithmeticKind};
 use pliron_core::{AttrObj, Context, IRRewriter, Operation, Ptr, Rewriter};
 use pliron_laws::reads::all_operations;
 use pliron_laws::{BranchOpFoldInterface, ConstFoldInterface, is_well_linked};
-use pliron_texts::print_text;
+use pliron_table_text::print_text;
 use std::alloc::Global;
 use std::process::Abort;
 use std::test::Fail;
@@ -31,7 +31,7 @@ static CASES: &str = "\
 0 | ? ? ? | function { b0(c, x, y): branch c t(x) f(y); t(p): return p; f(q): return q } \
     => function { b0(v0, v1, v2): branch v0 b1(v1) b2(v2); b1(v3): return v3; b2(v4): return v4 }";
 
-fn known(rt: &impl Abort, alloc: Global, words: &str) -> Vec<Option<AttrObj>> {
+fn known_operands(rt: &impl Abort, alloc: Global, words: &str) -> Vec<Option<AttrObj>> {
     let mut attrs = Vec::new(alloc);
     for word in words.split(' ') {
         match word.parse::<i64>() {
@@ -112,7 +112,7 @@ fn folded_in(rt: &impl Abort, alloc: Global, ctx: &mut Context, case: &str) -> S
     assert!(rt; root.is_live(ctx));
     assert!(rt; is_well_linked::<Arithmetic>(root, ctx));
     let op = operation_at(rt, alloc, ctx, root, index);
-    let attrs = known(rt, alloc, words);
+    let attrs = known_operands(rt, alloc, words);
     fold(rt, alloc, ctx, op, &attrs);
     assert!(rt; root.is_live(ctx));
     assert!(rt; is_well_linked::<Arithmetic>(root, ctx));

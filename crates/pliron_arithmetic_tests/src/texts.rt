@@ -1,7 +1,7 @@
 //! Texts that are read and printed, and texts outside the notation, by its rules in docs/DIALECTS.md.
 use pliron_arithmetic::ArithmeticKind;
 use pliron_core::{Context, Operation, Ptr};
-use pliron_texts::{print_text, read_text};
+use pliron_table_text::{print_text, read_text};
 use std::alloc::Global;
 use std::process::Abort;
 
@@ -127,7 +127,7 @@ Function { b0(): return }
 func { b0(): ret }";
 
 #[test]
-fn unreadable(rt: HostRuntime) {
+fn unreadable_texts(rt: HostRuntime) {
     for text in UNREADABLE.lines() {
         check(&rt, rt.alloc(), text, "none");
     }

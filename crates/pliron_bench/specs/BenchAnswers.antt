@@ -103,12 +103,12 @@ abbrev pub only : Option ℕ → List ℕ
 only None = []
 only (Some b) = b ∷ []
 
-abbrev pub taken : List ℕ → Option ℤ → List ℕ
-taken targets None = targets
-taken targets (Some c) = only (slice_get targets (edge_of c))
+abbrev pub edges_taken : List ℕ → Option ℤ → List ℕ
+edges_taken targets None = targets
+edges_taken targets (Some c) = only (slice_get targets (edge_of c))
 
 abbrev pub feasible_of : BenchKind → List ℕ → List (Option AttrObj) → List ℕ
-feasible_of Cbr targets known = taken targets (known_at known 0)
+feasible_of Cbr targets known = edges_taken targets (known_at known 0)
 feasible_of _ targets known = targets
 
 abbrev pub no_jump : List ℕ → List (Option AttrObj) → List ℕ

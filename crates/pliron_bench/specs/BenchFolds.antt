@@ -14,7 +14,7 @@ use Rattle.pliron_laws.specs.Folding.{AnswersTrue, AnswersJumps, KnowsMore, Fold
 use Rattle.pliron_bench.specs.Bench.{by_kind, kind_of, result_count}
 use Rattle.pliron_bench.specs.BenchNumbers.{as_number, number_at, sum, product, quotient, known_as, known_at, known_sum, zero_only, known_product, known_quotient}
 use Rattle.pliron_bench.specs.BenchMoves.{give_or_trap, edge_of, act_of, no_act, branches, bench}
-use Rattle.pliron_bench.specs.BenchAnswers.{folds_of, bench_folds, as_constant, constants_of, no_constants, bench_constants, folds_branch_of, bench_folds_branch, only, taken as taken_of, feasible_of, no_jump, bench_feasible}
+use Rattle.pliron_bench.specs.BenchAnswers.{folds_of, bench_folds, as_constant, constants_of, no_constants, bench_constants, folds_branch_of, bench_folds_branch, only, edges_taken as taken_of, feasible_of, no_jump, bench_feasible}
 use Rattle.pliron_bench.specs.BenchParts.{Admits, of_kind, IsQuiet, comes_first}
 
 -- ---- numbers that are known

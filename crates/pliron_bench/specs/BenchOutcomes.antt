@@ -10,7 +10,7 @@ use Rattle.pliron_bench.specs.declared.kind.BenchKind.TheVariants.{Const, Br, Cb
 use Rattle.pliron_laws.specs.Datum.{Head, Shape}
 use Rattle.pliron_laws.specs.Tree.{Operation, op_at, shape_of}
 use Rattle.pliron_laws.specs.Acting.{pick}
-use Rattle.pliron_laws.specs.InPlace.{Outcome, materialising}
+use Rattle.pliron_laws.specs.InPlace.{Outcome, materialising_outcome}
 use Rattle.pliron_laws.specs.Replacing.{branch_replaced}
 use Rattle.pliron_bench.specs.Bench.{kind_of, by_kind, takes, plain_head}
 use Rattle.pliron_bench.specs.BenchNumbers.{known_at}
@@ -24,7 +24,7 @@ kind_in (Some h) = kind_of h.kind
 -- a constant stays as it is, for all else constants are put
 abbrev pub fold_of : Option BenchKind → Outcome
 fold_of (Some Const) t t' op known answer = (t' ≡ t) × (answer ≡ Some Unchanged)
-fold_of _ t t' op known answer = materialising bench bench_constants bench_accepts bench_constant_head t t' op known answer
+fold_of _ t t' op known answer = materialising_outcome bench bench_constants bench_accepts bench_constant_head t t' op known answer
 
 unfoldable pub bench_outcome : Outcome
 bench_outcome t t' op known answer = fold_of (kind_in (head_of t op)) t t' op known answer
@@ -48,7 +48,7 @@ pub record BecomesJump (t t' : Tree) (op : ℕ) (o : Operation) (edge : ℕ) : T
   pub forwarded : map Some values ≡ pick (bench.forwarded (shape_of bench t o) edge) o.operands
   pub tree : t' ≡ branch_replaced t op (plain_head Br) values (block ∷ [])
 
--- where memory was refused the tree is as before, but for spent keys; else the branch stays, or becomes
+-- where memory was refused the tree is as before, but for erased handles; else the branch stays, or becomes
 -- a jump where its edge is known
 abbrev pub JumpsWhereKnown : Option ℕ → Tree → Tree → ℕ → Operation → Option IRStatus → Type 0
 JumpsWhereKnown edge t t' op o None = IsSameTree t t'

@@ -126,7 +126,7 @@ impl ConstFoldInterface for Bench {
     /// The number of a `const`; the wrapped sum of two known operands; the wrapped product, also where
     /// one of them is known to be 0; the quotient, unless the division traps.
     ///
-    /// Errors: want of memory. Cost: constant, but for a copy of the attribute of a `const`.
+    /// Errors: allocation failure. Cost: constant, but for a copy of the attribute of a `const`.
     #[inline(always)]
     fn check_fold(
         alloc: Global,
@@ -147,7 +147,7 @@ impl ConstFoldInterface for Bench {
     /// A `const` stays as it is. For all else that folds, a `const` is put for the result where it is
     /// known.
     ///
-    /// Errors: want of memory. Cost: one step for each use of the result.
+    /// Errors: allocation failure. Cost: one step for each use of the result.
     fn fold_in_place<R: Rewriter + Room>(
         alloc: Global,
         op: Ptr<Operation>,
@@ -162,7 +162,7 @@ impl ConstFoldInterface for Bench {
         }
     }
 
-    /// A `const` for a whole number within 64 signed bits. Errors: want of memory. Cost: constant.
+    /// A `const` for a whole number within 64 signed bits. Errors: allocation failure. Cost: constant.
     #[tactic(auto, unfolding(crate::specs::BenchAnswers::bench_accepts, crate::specs::BenchAnswers::bench_constant_head))]
     #[inline(always)]
     fn materialize(
@@ -203,7 +203,7 @@ impl BranchOpFoldInterface for Bench {
     /// Where the condition is known, the one block that the branch takes: the second one if the
     /// condition counts as 0, else the first one. Both blocks where it is unknown.
     ///
-    /// Errors: want of memory. Cost: constant.
+    /// Errors: allocation failure. Cost: constant.
     fn check_fold(
         alloc: Global,
         op: Ptr<Operation>,
@@ -226,7 +226,7 @@ impl BranchOpFoldInterface for Bench {
     /// An admitted `cbr` with a known condition becomes a `br` to the block that it takes, with the
     /// values that this edge forwards; anything else stays.
     ///
-    /// Errors: want of memory, after which the tree is as it was, but for spent keys. Cost: one step for
+    /// Errors: allocation failure, after which the tree is as it was, but for erased handles. Cost: one step for
     /// each operand.
     fn fold_in_place<R: Rewriter + Room>(
         alloc: Global,
@@ -353,7 +353,7 @@ impl Dialect for Bench {
     /// Of a `br` all operands. Of those of a `cbr` behind the condition, the first edge forwards as many as
     /// the attribute counts, and the second edge the others.
     ///
-    /// Errors: want of memory. Cost: one step for each value.
+    /// Errors: allocation failure. Cost: one step for each value.
     fn successor_operands(
         alloc: Global,
         op: Ptr<Operation>,

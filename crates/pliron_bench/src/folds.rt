@@ -34,7 +34,7 @@ fn constant(number: Option<i64>) -> Option<AttrObj>
     }
 }
 
-/// The constant of the result of an operation that folds, where it is known. Errors: want of memory. Cost:
+/// The constant of the result of an operation that folds, where it is known. Errors: allocation failure. Cost:
 /// constant, but for the copy of a `const`'s attribute.
 #[inline(always)]
 pub fn answer_of(
@@ -63,7 +63,7 @@ pub fn answer_of(
     }
 }
 
-/// The answer for an operation with one result. Errors: want of memory. Cost: constant.
+/// The answer for an operation with one result. Errors: allocation failure. Cost: constant.
 #[inline(always)]
 pub fn one_answer(
     alloc: Global,

@@ -93,7 +93,7 @@ pub fn places_at(op: Ptr<Operation>, ctx: &Context, i: usize) -> Places
 }
 
 /// The operands at these places. Asks that the operation stands and has operands at them, and that the place
-/// after the last is a `usize`. Errors: want of memory. Cost: the number of places.
+/// after the last is a `usize`. Errors: allocation failure. Cost: the number of places.
 pub fn operands_at(
     alloc: Global,
     op: Ptr<Operation>,
@@ -142,7 +142,7 @@ pub fn place_among(places: Places, place: usize) -> Option<usize>
     }
 }
 
-/// The successors, in order. Asks that the operation stands (`is_live` tests it). Errors: want of memory.
+/// The successors, in order. Asks that the operation stands (`is_live` tests it). Errors: allocation failure.
 /// Cost: the number of successors.
 pub fn all_successors(
     alloc: Global,
@@ -160,7 +160,7 @@ pub fn all_successors(
 }
 
 /// The successor at this index alone, if there is one. Asks that the operation stands (`is_live` tests it).
-/// Errors: want of memory. Cost: constant.
+/// Errors: allocation failure. Cost: constant.
 pub fn only_successor(
     alloc: Global,
     op: Ptr<Operation>,

@@ -2,7 +2,7 @@
 ghost use Rattle.std.specs.Prelude.{◌≡◌, ℕ, List, ◌∷◌, ◌<◌, ◌≤◌, [], Some, None, IsSome, OnOk, OnErr, length, IsOkUnless};
 ghost use Rattle.pliron_core.specs.declared.rewriter.OpInsertionPoint.TheVariants.{BeforeOperation};
 ghost use Rattle.pliron_core.specs.Tree.{In, IsLive, IsBlock, IsDefined, operands_of, successors_of, results_of, regions_of, parent_of};
-ghost use Rattle.pliron_core.specs.Insertion.{IsPointFor, inserted};
+ghost use Rattle.pliron_core.specs.Insertion.{IsPointFor, after_inserting};
 ghost use Rattle.pliron_core.specs.Changes.{IsSameTree};
 ghost use Rattle.pliron_laws.specs.Tree.{Operation as OperationOf, op_at};
 ghost use Rattle.pliron_laws.specs.Replacing.{with_edges};
@@ -55,7 +55,7 @@ fn put_jump<R: Rewriter>(
     requires target { IsBlock ctx.old.tree target }
     requires free { parent_of ctx.old.tree jump ≡ None }
     requires point { IsPointFor ctx.old.tree (R.point rewriter.old) jump }
-    ensures ok { OnOk result (ctx.new.tree ≡ inserted (with_edges ctx.old.tree jump values.now (target ∷ [])) (R.point rewriter.old) jump) }
+    ensures ok { OnOk result (ctx.new.tree ≡ after_inserting (with_edges ctx.old.tree jump values.now (target ∷ [])) (R.point rewriter.old) jump) }
     ensures err { OnErr result ((given blocks : List ℕ) × (ctx.new.tree ≡ with_edges ctx.old.tree jump given blocks)) }
     ensures point { R.point rewriter.new ≡ R.point rewriter.old }
 {
@@ -68,8 +68,8 @@ fn put_jump<R: Rewriter>(
 /// operation: wholly or not at all.
 ///
 /// Asks that the operation stands in a block, has such an edge, and has no results and no regions, and that
-/// the rewriter inserts before it. Errors: want of memory, which leaves the tree as it was but for spent
-/// keys. Cost: linear in the operation's operands and successors, and what the rewriter's listener costs.
+/// the rewriter inserts before it. Errors: allocation failure, which leaves the tree as it was but for erased
+/// handles. Cost: linear in the operation's operands and successors, and what the rewriter's listener costs.
 pub fn jump_in_place<R: Rewriter + Room>(
     alloc: Global,
     op: Ptr<Operation>,

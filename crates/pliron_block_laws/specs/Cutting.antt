@@ -1,7 +1,7 @@
 -- Blocks of one region that are erased one after the other.
 use Rattle.std.specs.Prelude.{◌≡◌, ℕ, Bool, true, false, nat_eq, if◌then◌else◌, List, [], ◌∷◌, length, Some, None}
-use Rattle.pliron_core.specs.Tree.{Tree, In, IsBlock, row_of, head_of, operands_of, successors_of, parent_of, body_of, arguments_of, block_parent_of, layout_of, block_holder_of, region_parent_of}
-use Rattle.pliron_core.specs.Joined.{IsTree}
+use Rattle.pliron_core.specs.Tree.{Tree, In, IsBlock, row_of, head_of, operands_of, successors_of, parent_of, body_of, arguments_of, block_parent_of, layout_of, block_parent_operation_of, region_parent_of}
+use Rattle.pliron_core.specs.Invariant.{IsTree}
 use Rattle.pliron_core.specs.Erased.{is_met_above, stands_in, block_erased}
 
 abbrev pub is_listed : List ℕ → ℕ → Bool
@@ -18,7 +18,7 @@ abbrev pub cut_op : Tree → List ℕ → ℕ → Bool
 cut_op t bs k = is_met_above t (stands_in_one t bs) (Some k)
 
 abbrev pub cut_block : Tree → List ℕ → ℕ → Bool
-cut_block t bs c = if is_listed bs c then true else is_met_above t (stands_in_one t bs) (block_holder_of t c)
+cut_block t bs c = if is_listed bs c then true else is_met_above t (stands_in_one t bs) (block_parent_operation_of t c)
 
 -- the blocks were erased one after the other
 pub data ErasesAll : List ℕ → Tree → Tree → Type 0 where

@@ -1,7 +1,7 @@
 -- The unreachable blocks of a region go in one rewrite.
 use Rattle.std.specs.Prelude.{◌≡◌, ℕ, true, List, [], ◌∷◌, Some, None}
 use Rattle.pliron_core.specs.Tree.{Tree, In, first_of, operands_of, block_parent_of, layout_of, region_parent_of, definition_of}
-use Rattle.pliron_core.specs.Joined.{IsTree}
+use Rattle.pliron_core.specs.Invariant.{IsTree}
 use Rattle.pliron_core.specs.Edges.{succs_of}
 use Rattle.pliron_core.specs.Erased.{uses_dropped}
 use Rattle.pliron_laws.specs.Datum.{Meaning}
@@ -16,7 +16,7 @@ pub data DropsAll : List ℕ → Tree → Tree → Type 0 where
   Then : {t u : Tree} (b : ℕ) (bs : List ℕ) → DropsAll bs (uses_dropped t b) u → DropsAll (b ∷ bs) t u
 
 -- the blocks stand in the region, and are not its entry; no block of the region that is left leads to one of them,
--- and no operation that is left uses what is made in them
+-- and no operation that is left uses what is defined in them
 pub record BlocksMayGo (t : Tree) (region : ℕ) (bs : List ℕ) : Type 0 where
   pub own : (b : ℕ) → In b bs → block_parent_of t b ≡ Some region
   pub no_entry : (b : ℕ) → first_of (layout_of t region) None ≡ Some b → In b bs → ⊥

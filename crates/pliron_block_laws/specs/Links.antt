@@ -2,9 +2,9 @@
 use Rattle.std.specs.Prelude.{◌≡◌, ℕ, Bool, List, Some, slice_get}
 use Rattle.pliron_core.specs.declared.uses.Use.{Use}
 use Rattle.pliron_core.specs.Tree.{Tree, In, IsLive, successors_of}
-use Rattle.pliron_core.specs.Joined.{IsTree}
-use Rattle.pliron_core.specs.Writes.{replaced, argument_removed}
-use Rattle.pliron_core.specs.Erased.{erased, IsSelfContained}
+use Rattle.pliron_core.specs.Invariant.{IsTree}
+use Rattle.pliron_core.specs.Writes.{after_replacing, argument_removed}
+use Rattle.pliron_core.specs.Erased.{after_erasing, IsSelfContained}
 use Rattle.pliron_laws.specs.Datum.{Head, Shape, Meaning}
 use Rattle.pliron_laws.specs.Answers.{HeadPasses}
 use Rattle.pliron_laws.specs.Linked.{IsAdmitted, IsWellLinked}
@@ -24,14 +24,14 @@ abbrev pub RenamedLinksLaw : Type 0
 RenamedLinksLaw = (m : Meaning) (t t' : Tree) (rename : ℕ → ℕ) → IsRenamed t t' rename → KeepsLinks m t t'
 
 abbrev pub ReplacedLinksLaw : Type 0
-ReplacedLinksLaw = (m : Meaning) (t : Tree) (old new : ℕ) → KeepsLinks m t (replaced t old new)
+ReplacedLinksLaw = (m : Meaning) (t : Tree) (old new : ℕ) → KeepsLinks m t (after_replacing t old new)
 
 -- operations and blocks went that nothing which is left names
 abbrev pub SweptLinksLaw : Type 0
 SweptLinksLaw = (m : Meaning) (t t' : Tree) (dead dead_block : ℕ → Bool) → IsTree t → IsTree t' → IsSwept t t' dead dead_block → AreGone t' dead dead_block → KeepsLinks m t t'
 
 abbrev pub ErasedLinksLaw : Type 0
-ErasedLinksLaw = (m : Meaning) (t : Tree) (op : ℕ) → IsTree t → IsTree (erased t op) → IsLive t op → IsSelfContained t op → KeepsLinks m t (erased t op)
+ErasedLinksLaw = (m : Meaning) (t : Tree) (op : ℕ) → IsTree t → IsTree (after_erasing t op) → IsLive t op → IsSelfContained t op → KeepsLinks m t (after_erasing t op)
 
 -- blocks went with their contents, whatever named them
 abbrev pub CutLinksLaw : Type 0

@@ -5,7 +5,7 @@ use Rattle.pliron_core.specs.declared.attrs.IRStatus.TheVariants.{Changed, Uncha
 use Rattle.pliron_laws.specs.declared.fault.OptError.{OptError}
 use Rattle.pliron_laws.specs.declared.fault.OptError.TheVariants.{Memory, LiveUse}
 use Rattle.pliron_core.specs.Tree.{Tree, In, row_of, head_of, operands_of, successors_of, parent_of, body_of, arguments_of, block_parent_of, layout_of, definition_of}
-use Rattle.pliron_core.specs.Erased.{StandsIn, IsBlockWithin, IsMadeInBlock}
+use Rattle.pliron_core.specs.Erased.{StandsIn, IsBlockWithin, IsDefinedInBlock}
 use Rattle.pliron_cfg.specs.Visited.{Start, IsVisitedSsaRegion, IsCutOff, IsUnreachable}
 
 -- the operation, the block goes with one of these blocks
@@ -29,12 +29,12 @@ pub record IsWithout (t t' : Tree) (Gone : ℕ → Type 0) : Type 0 where
   pub block_parents : (c : ℕ) → (BlockGoesWith t Gone c → ⊥) → block_parent_of t' c ≡ block_parent_of t c
   pub layouts : (r c : ℕ) → In c (layout_of t' r) ↔ (In c (layout_of t r) × (BlockGoesWith t Gone c → ⊥))
 
--- an operation outside the region's unreachable blocks uses a value that is made in one of them
+-- an operation outside the region's unreachable blocks uses a value that is defined in one of them
 pub record HasLiveUse (t : Tree) (r : ℕ) : Type 0 where
   pub block : ℕ
   pub cut_off : IsCutOff t r block
   pub value : ℕ
-  pub made : IsMadeInBlock t block (definition_of t value)
+  pub made : IsDefinedInBlock t block (definition_of t value)
   pub user : ℕ
   pub names : In value (operands_of t user)
   pub outside : (c : ℕ) → IsCutOff t r c → StandsIn t c user → ⊥

@@ -7,7 +7,7 @@ use Rattle.pliron_laws.specs.declared.fault.OptError.{OptError}
 use Rattle.pliron_laws.specs.declared.fault.OptError.TheVariants.{Memory}
 use Rattle.pliron_laws.specs.Datum.{Head, Meaning}
 use Rattle.pliron_laws.specs.Folding.{Constants}
-use Rattle.pliron_laws.specs.InPlace.{Outcome, TellsChange}
+use Rattle.pliron_laws.specs.InPlace.{Outcome, ReportsChange}
 use Rattle.pliron_cfg.specs.Visited.{OfOperation, IsUnreachable}
 use Rattle.pliron_cfg.specs.Folded.{branches_of, FoldsAll, FoldsSome}
 use Rattle.pliron_cfg.specs.Removed.{RemovesAll, RemovalFails}
@@ -25,7 +25,7 @@ pub record Simplifies (m : Meaning) (can_fold can_fold_branch : Head → Bool) (
   pub removes : RemovesAll (OfOperation op) folded removed removal_status
   pub merges : MergesAll (OfOperation op) m removed t' merge_status
   pub answer : status ≡ changed_by_either (changed_by_either fold_status removal_status) merge_status
-  pub honest : TellsChange (Some status) t t'
+  pub honest : ReportsChange (Some status) t t'
   pub none_unreachable : (b : ℕ) → IsUnreachable (OfOperation op) t' b → ⊥
   pub no_pair : HasPair (OfOperation op) m t' → ⊥
 

@@ -2,8 +2,8 @@
 use Rattle.std.specs.Prelude.{◌≡◌, ℕ, Bool, true, false, Some, None, IsTrue}
 use Rattle.pliron_core.specs.Tree.{Tree, In, first_of, regions_of, parent_of, block_parent_of, layout_of}
 use Rattle.pliron_core.specs.Reads.{has_ssa}
-use Rattle.pliron_search.specs.Digraph.{Reaches}
-use Rattle.pliron_search.specs.Regions.{graph_of_region}
+use Rattle.pliron_traversal.specs.Digraph.{Reaches}
+use Rattle.pliron_traversal.specs.Regions.{graph_of_region}
 
 -- the entry of the region reaches the block
 abbrev pub IsReachedIn : Tree → (r b : ℕ) → Type 0

@@ -1,15 +1,15 @@
 //! Branches are folded by what is known of their operands.
 //!
-//! It knows what every run reads of constants, and no dialect. Of the regions that are looked at, of blocks
+//! It knows what every run reads of constants, and no dialect. Of the regions that are visited, of blocks
 //! that go or are joined and of passes it knows nothing.
 ghost use Rattle.std.specs.Prelude.{◌≡◌, ◌++◌, ℕ, Some, OnOk, OnErr, IfOk, IsOkUnless};
 ghost use Rattle.pliron_core.specs.Tree.{IsLive, block_parent_of};
 ghost use Rattle.pliron_core.specs.Changes.{IsSameTree};
-ghost use Rattle.pliron_laws.specs.InPlace.{TellsChange};
+ghost use Rattle.pliron_laws.specs.InPlace.{ReportsChange};
 ghost use Rattle.pliron_laws.specs.Linked.{IsWellLinked};
 ghost use Rattle.pliron_theory.specs.Change.{IsWholeChange};
 ghost use Rattle.pliron_cfg.specs.Folded.{branch_at, branches_of, known_operands as constants_of, FoldsAll, FoldsSome};
-ghost use Rattle.pliron_cfg.specs.FoldSteps.{IsBranchInside, IsBranchFoldStep, TellsErased};
+ghost use Rattle.pliron_cfg.specs.FoldSteps.{IsBranchInside, IsBranchFoldStep, ReportsAnyErased};
 
 mod known;
 
@@ -68,7 +68,7 @@ fn fold_known<D: Dialect, R: Rewriter + Room>(
         (constants_of D.meaning D.can_fold D.constants ctx.old.tree op) (Some status)) }
     ensures refused { OnErr result (IsSameTree ctx.old.tree ctx.new.tree) }
     ensures memory { IsOkUnless result OptError.Memory }
-    ensures told { IfOk result (λ status. TellsErased status ctx.old.tree ctx.new.tree) }
+    ensures told { IfOk result (λ status. ReportsAnyErased status ctx.old.tree ctx.new.tree) }
     ensures step { (root : ℕ) → IsWellLinked D.meaning ctx.old.tree root → IsBranchInside D.can_fold_branch ctx.old.tree root op →
         IsBranchFoldStep D.meaning D.can_fold_branch ctx.old.tree ctx.new.tree root op }
 {
@@ -91,7 +91,7 @@ fn fold_one<D: Dialect, R: Rewriter + Room>(
         (constants_of D.meaning D.can_fold D.constants ctx.old.tree op) (Some status)) }
     ensures refused { OnErr result (IsSameTree ctx.old.tree ctx.new.tree) }
     ensures memory { IsOkUnless result OptError.Memory }
-    ensures told { IfOk result (λ status. TellsErased status ctx.old.tree ctx.new.tree) }
+    ensures told { IfOk result (λ status. ReportsAnyErased status ctx.old.tree ctx.new.tree) }
     ensures step { (root : ℕ) → IsWellLinked D.meaning ctx.old.tree root → IsBranchInside D.can_fold_branch ctx.old.tree root op →
         IsBranchFoldStep D.meaning D.can_fold_branch ctx.old.tree ctx.new.tree root op }
 {
@@ -107,7 +107,7 @@ fn fold_one<D: Dialect, R: Rewriter + Room>(
 /// Asks that the operation stands and is well linked. `Changed` exactly if the tree changed: a branch went
 /// then. Blocks stay.
 ///
-/// Errors: want of memory, after some of the folds, each of them whole.
+/// Errors: allocation failure, after some of the folds, each of them whole.
 ///
 /// Cost: one step for each operation, block and region inside; for each branch that folds what the
 /// dialect's fold costs and, for each of its operands, what the dialect's answer for its maker costs.
@@ -121,8 +121,8 @@ pub fn fold_branches<D: Dialect, R: Rewriter + Room>(
     requires linked { IsWellLinked D.meaning ctx.old.tree root }
     ensures folds { IfOk result (λ status. FoldsAll D.meaning D.can_fold D.constants D.BranchOpFoldInterface.outcome
         (branches_of D.can_fold_branch ctx.old.tree root) ctx.old.tree ctx.new.tree status) }
-    ensures tells { IfOk result (λ status. TellsChange (Some status) ctx.old.tree ctx.new.tree) }
-    ensures told { IfOk result (λ status. TellsErased status ctx.old.tree ctx.new.tree) }
+    ensures tells { IfOk result (λ status. ReportsChange (Some status) ctx.old.tree ctx.new.tree) }
+    ensures told { IfOk result (λ status. ReportsAnyErased status ctx.old.tree ctx.new.tree) }
     ensures blocks { OnOk result ((b : ℕ) → block_parent_of ctx.new.tree b ≡ block_parent_of ctx.old.tree b) }
     ensures refused { OnErr result (FoldsSome D.meaning D.can_fold D.constants D.BranchOpFoldInterface.outcome
         (branches_of D.can_fold_branch ctx.old.tree root) ctx.old.tree ctx.new.tree) }

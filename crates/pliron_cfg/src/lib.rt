@@ -36,7 +36,7 @@ use std::alloc::Global;
 /// block and no mergeable pair is left where it looks. Runs are kept of every root that is otherwise fit to
 /// run, also of one whose head may not be a root's; so it is for the six calls on regions.
 ///
-/// Errors: want of memory; `LiveUse` where a value of an unreachable block is used outside the unreachable
+/// Errors: allocation failure; `LiveUse` where a value of an unreachable block is used outside the unreachable
 /// blocks of its region. The tree is then one after some whole rewrites: some folds; all of them, and some
 /// regions without their unreachable blocks; all of both, and some merges.
 ///

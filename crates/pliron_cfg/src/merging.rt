@@ -4,16 +4,16 @@
 //! values that the branch forwards stand for the arguments of the second block, the branch goes, and the
 //! operations of the second block become the last of the first one.
 //!
-//! It knows the regions that are looked at, and the rewrites of blocks. Of branches that fold, of blocks that
+//! It knows the regions that are visited, and the rewrites of blocks. Of branches that fold, of blocks that
 //! nothing leads to, of passes and of any dialect it knows nothing.
 ghost use Rattle.std.specs.Prelude.{◌≡◌, ◌∷◌, [], ℕ, Some, IfOk, OnOk, OnErr, IsOkUnless};
-ghost use Rattle.pliron_core.specs.Tree.{In, IsBlock, IsLive, IsRegion, IsWithin, block_holder_of, region_parent_of};
+ghost use Rattle.pliron_core.specs.Tree.{In, IsBlock, IsLive, IsRegion, IsWithin, block_parent_operation_of, region_parent_of};
 ghost use Rattle.pliron_laws.specs.Linked.{IsWellLinked};
 ghost use Rattle.pliron_theory.specs.Change.{IsWholeChange};
 ghost use Rattle.pliron_block_laws.specs.Links.{KeepsLinks};
 ghost use Rattle.pliron_cfg.specs.Visited.{IsUnreachable, OfBlock, OfOperation, OfRegion};
 ghost use Rattle.pliron_cfg.specs.Merged.{LosesOperation, MergesAll, MergesPartly};
-ghost use Rattle.pliron_cfg.specs.Internal.Chains.{MergesAmong, MergesAmongPartly, HasNoPairAmong, TellsMerged};
+ghost use Rattle.pliron_cfg.specs.Internal.Chains.{MergesAmong, MergesAmongPartly, HasNoPairAmong, ReportsMerged};
 
 mod joining;
 mod pairs;
@@ -33,9 +33,9 @@ fn merge_at<D: Dialect, R: Rewriter + Room>(
     rewriter: &mut R,
 ) -> Result<IRStatus, OptError>
     requires block { IsBlock ctx.old.tree first }
-    requires linked { (holder : ℕ) → block_holder_of ctx.old.tree first ≡ Some holder → IsWellLinked D.meaning ctx.old.tree holder }
+    requires linked { (holder : ℕ) → block_parent_operation_of ctx.old.tree first ≡ Some holder → IsWellLinked D.meaning ctx.old.tree holder }
     ensures ok { IfOk result (λ status. MergesAmong D.meaning (first ∷ []) ctx.old.tree ctx.new.tree ×
-        HasNoPairAmong D.meaning (first ∷ []) ctx.new.tree × TellsMerged D.meaning (first ∷ []) ctx.old.tree ctx.new.tree status) }
+        HasNoPairAmong D.meaning (first ∷ []) ctx.new.tree × ReportsMerged D.meaning (first ∷ []) ctx.old.tree ctx.new.tree status) }
     ensures refused { OnErr result (MergesAmongPartly D.meaning (first ∷ []) ctx.old.tree ctx.new.tree) }
     ensures memory { IsOkUnless result OptError.Memory }
 {
@@ -57,9 +57,9 @@ fn merge_among<D: Dialect, R: Rewriter + Room>(
     ctx: &mut Context,
     rewriter: &mut R,
 ) -> Result<IRStatus, OptError>
-    requires linked { (c holder : ℕ) → In c blocks.now → block_holder_of ctx.old.tree c ≡ Some holder → IsWellLinked D.meaning ctx.old.tree holder }
+    requires linked { (c holder : ℕ) → In c blocks.now → block_parent_operation_of ctx.old.tree c ≡ Some holder → IsWellLinked D.meaning ctx.old.tree holder }
     ensures ok { IfOk result (λ status. MergesAmong D.meaning blocks.now ctx.old.tree ctx.new.tree ×
-        HasNoPairAmong D.meaning blocks.now ctx.new.tree × TellsMerged D.meaning blocks.now ctx.old.tree ctx.new.tree status) }
+        HasNoPairAmong D.meaning blocks.now ctx.new.tree × ReportsMerged D.meaning blocks.now ctx.old.tree ctx.new.tree status) }
     ensures refused { OnErr result (MergesAmongPartly D.meaning blocks.now ctx.old.tree ctx.new.tree) }
     ensures memory { IsOkUnless result OptError.Memory }
 {
@@ -87,7 +87,7 @@ fn merge_among<D: Dialect, R: Rewriter + Room>(
 /// Asks that the operation stands and is well linked. Answers `Changed` exactly if there was a pair. No block
 /// is made, and each that is unreachable after was unreachable before.
 ///
-/// Errors: want of memory. Some pairs are merged then, and of one more the uses of some first arguments may
+/// Errors: allocation failure. Some pairs are merged then, and of one more the uses of some first arguments may
 /// name the values forwarded to them.
 ///
 /// Cost: that of the search for what it looks at, one look at the end of each block that is reached, one
@@ -126,14 +126,14 @@ pub fn merge_inside_block<D: Dialect, R: Rewriter + Room>(
     rewriter: &mut R,
 ) -> Result<IRStatus, OptError>
     requires block { IsBlock ctx.old.tree block }
-    requires linked { (holder : ℕ) → block_holder_of ctx.old.tree block ≡ Some holder → IsWellLinked D.meaning ctx.old.tree holder }
+    requires linked { (holder : ℕ) → block_parent_operation_of ctx.old.tree block ≡ Some holder → IsWellLinked D.meaning ctx.old.tree holder }
     ensures ok { IfOk result (λ status. MergesAll (OfBlock block) D.meaning ctx.old.tree ctx.new.tree status) }
     ensures told { IfOk result (λ status. LosesOperation status ctx.old.tree ctx.new.tree) }
     ensures unreachable { OnOk result ((b : ℕ) → IsUnreachable (OfBlock block) ctx.new.tree b → IsUnreachable (OfBlock block) ctx.old.tree b) }
     ensures blocks { OnOk result ((b : ℕ) → IsBlock ctx.new.tree b → IsBlock ctx.old.tree b) }
     ensures refused { OnErr result (MergesPartly (OfBlock block) D.meaning ctx.old.tree ctx.new.tree) }
     ensures memory { IsOkUnless result OptError.Memory }
-    ensures change { (holder : ℕ) → block_holder_of ctx.old.tree block ≡ Some holder → IsWholeChange D.meaning ctx.old.tree ctx.new.tree holder }
+    ensures change { (holder : ℕ) → block_parent_operation_of ctx.old.tree block ≡ Some holder → IsWholeChange D.meaning ctx.old.tree ctx.new.tree holder }
     ensures links { KeepsLinks D.meaning ctx.old.tree ctx.new.tree }
 {
     ctx.well_formed();

@@ -4,7 +4,7 @@
 //! of blocks that are joined, of passes and of any dialect it knows nothing.
 ghost use Rattle.std.specs.Prelude.{◌≡◌, ◌↔◌, ◌⊎◌, ℕ, Some, IfOk, IfErr};
 ghost use Rattle.pliron_core.specs.declared.attrs.IRStatus.TheVariants.{Unchanged};
-ghost use Rattle.pliron_core.specs.Tree.{IsLive, IsBlock, IsRegion, block_holder_of, region_parent_of};
+ghost use Rattle.pliron_core.specs.Tree.{IsLive, IsBlock, IsRegion, block_parent_operation_of, region_parent_of};
 ghost use Rattle.pliron_laws.specs.Linked.{IsWellLinked};
 ghost use Rattle.pliron_theory.specs.Change.{IsWholeChange};
 ghost use Rattle.pliron_block_laws.specs.Links.{KeepsLinks};
@@ -22,7 +22,7 @@ mod uses;
 
 use crate::removal::contents::set_of_blocks;
 use crate::removal::region::clear_region;
-use crate::removal::scope::Scope;
+use crate::removal::scope::RemovalScope;
 use crate::visits::Visits;
 use indexmap::IndexSet;
 use pliron_block_laws::inside::removing_changes_inside;
@@ -45,7 +45,7 @@ fn with_more(status: IRStatus, more: IRStatus) -> IRStatus
 // The regions lose their unreachable blocks, the last one first.
 fn clear_regions<D: Dialect, R: Rewriter + Room>(
     alloc: Global,
-    scope: &Scope,
+    scope: &RemovalScope,
     ctx: &mut Context,
     mut regions: Vec<Ptr<Region>>,
     reached: &IndexSet<Ptr<BasicBlock>>,
@@ -77,7 +77,7 @@ fn clear_regions<D: Dialect, R: Rewriter + Room>(
 // What is unreachable in the scope goes.
 fn remove_blocks_in<D: Dialect, R: Rewriter + Room>(
     alloc: Global,
-    scope: &Scope,
+    scope: &RemovalScope,
     ctx: &mut Context,
     rewriter: &mut R,
 ) -> Result<IRStatus, OptError>
@@ -103,7 +103,7 @@ fn remove_blocks_in<D: Dialect, R: Rewriter + Room>(
 /// Asks that the operation stands and is well linked. Answers `Changed` exactly if a block went; no
 /// unreachable block of such a region is left.
 ///
-/// Errors: want of memory; `LiveUse` where a value of an unreachable block is used outside the unreachable
+/// Errors: allocation failure; `LiveUse` where a value of an unreachable block is used outside the unreachable
 /// blocks of its region, of which none is removed then. The tree is then one after some whole rewrites:
 /// regions that came before are done.
 ///
@@ -123,7 +123,7 @@ pub fn remove_blocks_inside_op<D: Dialect, R: Rewriter + Room>(
     ensures change { IsWholeChange D.meaning ctx.old.tree ctx.new.tree op }
     ensures links { KeepsLinks D.meaning ctx.old.tree ctx.new.tree }
 {
-    remove_blocks_in::<D, R>(alloc, &Scope::Operation(op), ctx, rewriter)
+    remove_blocks_in::<D, R>(alloc, &RemovalScope::Operation(op), ctx, rewriter)
 }
 
 /// Removes the unreachable blocks of the regions with SSA dominance inside the operations of the block.
@@ -137,14 +137,14 @@ pub fn remove_blocks_inside_block<D: Dialect, R: Rewriter + Room>(
     rewriter: &mut R,
 ) -> Result<IRStatus, OptError>
     requires block { IsBlock ctx.old.tree block }
-    requires linked { (holder : ℕ) → block_holder_of ctx.old.tree block ≡ Some holder → IsWellLinked D.meaning ctx.old.tree holder }
+    requires linked { (holder : ℕ) → block_parent_operation_of ctx.old.tree block ≡ Some holder → IsWellLinked D.meaning ctx.old.tree holder }
     ensures ok { IfOk result (λ status. RemovesAll (OfBlock block) ctx.old.tree ctx.new.tree status) }
     ensures err { IfErr result (λ e. RemovalFails (OfBlock block) ctx.old.tree ctx.new.tree e) }
     ensures tells { IfOk result (λ a. (a ≡ Unchanged) ↔ (ctx.new.tree ≡ ctx.old.tree)) }
-    ensures change { (holder : ℕ) → block_holder_of ctx.old.tree block ≡ Some holder → IsWholeChange D.meaning ctx.old.tree ctx.new.tree holder }
+    ensures change { (holder : ℕ) → block_parent_operation_of ctx.old.tree block ≡ Some holder → IsWholeChange D.meaning ctx.old.tree ctx.new.tree holder }
     ensures links { KeepsLinks D.meaning ctx.old.tree ctx.new.tree }
 {
-    remove_blocks_in::<D, R>(alloc, &Scope::Block(block), ctx, rewriter)
+    remove_blocks_in::<D, R>(alloc, &RemovalScope::Block(block), ctx, rewriter)
 }
 
 /// Removes the unreachable blocks of the region, where it has SSA dominance, and of the regions with SSA
@@ -166,5 +166,5 @@ pub fn remove_blocks_inside_region<D: Dialect, R: Rewriter + Room>(
     ensures change { (holder : ℕ) → region_parent_of ctx.old.tree region ≡ Some holder → IsWholeChange D.meaning ctx.old.tree ctx.new.tree holder }
     ensures links { KeepsLinks D.meaning ctx.old.tree ctx.new.tree }
 {
-    remove_blocks_in::<D, R>(alloc, &Scope::Region(region), ctx, rewriter)
+    remove_blocks_in::<D, R>(alloc, &RemovalScope::Region(region), ctx, rewriter)
 }

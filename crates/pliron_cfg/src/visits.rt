@@ -3,9 +3,9 @@
 //! It knows regions as graphs, and nothing of rewrites or dialects.
 ghost use Rattle.std.specs.Prelude.{Some, ◌≡◌, ◌↔◌, ◌++◌, [], ℕ, IfOk, OnOk, IsOkUnless, IsTrue};
 ghost use Rattle.std.specs.List.{flat_map};
-ghost use Rattle.pliron_core.specs.Tree.{In, IsLive, IsBlock, IsRegion, body_of, regions_of, block_holder_of, region_parent_of};
+ghost use Rattle.pliron_core.specs.Tree.{In, IsLive, IsBlock, IsRegion, body_of, regions_of, block_parent_operation_of, region_parent_of};
 ghost use Rattle.pliron_laws.specs.Linked.{EdgesLast};
-ghost use Rattle.pliron_search.specs.Regions.{IsLawfulRegion};
+ghost use Rattle.pliron_traversal.specs.Regions.{IsLawfulRegion};
 ghost use Rattle.pliron_cfg.specs.Visited.{IsReachedIn, IsLookedInto, OfOperation, OfBlock, OfRegion};
 ghost use Rattle.pliron_cfg.specs.Visits.{AreVisits};
 ghost use Rattle.pliron_cfg.specs.Internal.Seen.{HasGrown, blocks_postponed};
@@ -17,7 +17,7 @@ use indexmap::IndexSet;
 use pliron_core::{BasicBlock, Context, Operation, Ptr, Region};
 use pliron_laws::OptError;
 use pliron_laws::reads::all_operations;
-use pliron_search::DFSTraversal;
+use pliron_traversal::DFSTraversal;
 use std::alloc::{AllocError, Global};
 
 /// What a call looks at: the visited regions with SSA dominance, each before those that are nested in it,
@@ -227,7 +227,7 @@ fn visit(alloc: Global, ctx: &Context, starts: &[Ptr<Region>]) -> Result<Visits,
 
 /// What a call on the operation looks at.
 ///
-/// Asks that the operation stands and that edges stand last in it. Errors: want of memory. Cost: linear in
+/// Asks that the operation stands and that edges stand last in it. Errors: allocation failure. Cost: linear in
 /// the blocks, edges and operations that it looks at, with one table look-up for each edge and each visited
 /// region.
 pub fn visits_inside_op(
@@ -256,7 +256,7 @@ pub fn visits_inside_block(
     block: Ptr<BasicBlock>,
 ) -> Result<Visits, OptError>
     requires block { IsBlock ctx.now.tree block }
-    requires edges { (holder : ℕ) → block_holder_of ctx.now.tree block ≡ Some holder → EdgesLast ctx.now.tree holder }
+    requires edges { (holder : ℕ) → block_parent_operation_of ctx.now.tree block ≡ Some holder → EdgesLast ctx.now.tree holder }
     ensures visits { IfOk result (λ v. AreVisits ctx.now.tree (OfBlock block ctx.now.tree) v.regions.items v.blocks.items) }
     ensures memory { IsOkUnless result OptError.Memory }
 {

@@ -18,7 +18,7 @@ IsPointFor t (BeforeOperation at) op = IsSome (parent_of t at) × (at ≢ op) ×
 IsPointFor t (AtBlockStart block) op = IsBlock t block × (HoldsBlock t op block → ⊥)
 
 -- the operation becomes the direct predecessor of the named operation, or the first of the named block
-abbrev pub inserted : Tree → OpInsertionPoint → ℕ → Tree
-inserted t Unset op = t
-inserted t (BeforeOperation at) op = put_next_to t op at (parent_of t at)
-inserted t (AtBlockStart block) op = put_first t op block
+abbrev pub after_inserting : Tree → OpInsertionPoint → ℕ → Tree
+after_inserting t Unset op = t
+after_inserting t (BeforeOperation at) op = put_next_to t op at (parent_of t at)
+after_inserting t (AtBlockStart block) op = put_first t op block

@@ -32,6 +32,6 @@ abbrev pub has_ssa : Tree → ℕ → Bool
 has_ssa t region = has_ssa_at t (region_parent_of t region)
 
 -- what makes a value stands
-abbrev pub IsMakerStanding : Tree → Def → Type 0
-IsMakerStanding t (Result op i) = IsLive t op
-IsMakerStanding t (Argument block i) = IsBlock t block
+abbrev pub IsDefinitionLive : Tree → Def → Type 0
+IsDefinitionLive t (Result op i) = IsLive t op
+IsDefinitionLive t (Argument block i) = IsBlock t block

@@ -116,11 +116,11 @@ abbrev pub region_parent_of : Tree → ℕ → Option ℕ
 region_parent_of t region = op_of_slot (slot_of t region)
 
 -- the operation that holds the block, and the one that holds an operation
-abbrev pub block_holder_of : Tree → ℕ → Option ℕ
-block_holder_of t block = up_from (block_parent_of t block) (λ r. region_parent_of t r)
+abbrev pub block_parent_operation_of : Tree → ℕ → Option ℕ
+block_parent_operation_of t block = up_from (block_parent_of t block) (λ r. region_parent_of t r)
 
-abbrev pub holder_of : Tree → ℕ → Option ℕ
-holder_of t op = up_from (parent_of t op) (λ b. block_holder_of t b)
+abbrev pub parent_operation_of : Tree → ℕ → Option ℕ
+parent_operation_of t op = up_from (parent_of t op) (λ b. block_parent_operation_of t b)
 
 -- what stands n steps above
 abbrev pub climb : (ℕ → Option ℕ) → ℕ → Option ℕ → Option ℕ
@@ -133,8 +133,8 @@ IsRooted h = (x : ℕ) → (n : ℕ) × (climb h n (Some x) ≡ None)
 
 -- x stands inside op, at any depth
 pub data IsInside (t : Tree) (op : ℕ) : ℕ → Type 0 where
-  Directly : {x : ℕ} → holder_of t x ≡ Some op → IsInside t op x
-  Deeper : {x : ℕ} (p : ℕ) → holder_of t x ≡ Some p → IsInside t op p → IsInside t op x
+  Directly : {x : ℕ} → parent_operation_of t x ≡ Some op → IsInside t op x
+  Deeper : {x : ℕ} (p : ℕ) → parent_operation_of t x ≡ Some p → IsInside t op p → IsInside t op x
 
 -- x is op or stands inside it
 abbrev pub IsWithin : Tree → ℕ → ℕ → Type 0
@@ -142,10 +142,10 @@ IsWithin t op x = (x ≡ op) ⊎ IsInside t op x
 
 -- op holds the block, at any depth
 abbrev pub HoldsBlock : Tree → ℕ → ℕ → Type 0
-HoldsBlock t op block = (k : ℕ) × (block_holder_of t block ≡ Some k) × IsWithin t op k
+HoldsBlock t op block = (k : ℕ) × (block_parent_operation_of t block ≡ Some k) × IsWithin t op k
 
 -- the value is made by op or inside it
-abbrev pub IsMadeWithin : Tree → ℕ → Option Def → Type 0
-IsMadeWithin t op None = ⊥
-IsMadeWithin t op (Some (Result k i)) = IsWithin t op k
-IsMadeWithin t op (Some (Argument block i)) = HoldsBlock t op block
+abbrev pub IsDefinedWithin : Tree → ℕ → Option Def → Type 0
+IsDefinedWithin t op None = ⊥
+IsDefinedWithin t op (Some (Result k i)) = IsWithin t op k
+IsDefinedWithin t op (Some (Argument block i)) = HoldsBlock t op block

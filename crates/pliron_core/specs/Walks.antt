@@ -2,7 +2,7 @@
 use Rattle.std.specs.Prelude.{zero, suc, ◌≡◌, ◌↔◌, ℕ, List, [], ◌∷◌, length, Some}
 use Rattle.std.specs.List.{flat_map}
 use Rattle.pliron_core.specs.Lists.{In, IsDistinct}
-use Rattle.pliron_core.specs.Tree.{Tree, IsInside, regions_of, layout_of, body_of, holder_of}
+use Rattle.pliron_core.specs.Tree.{Tree, IsInside, regions_of, layout_of, body_of, parent_operation_of}
 
 -- the operations in the blocks of a region
 abbrev pub children_of_region : Tree → ℕ → List ℕ
@@ -29,7 +29,7 @@ preorder t op = op ∷ contents t op
 
 -- the contents are exactly the operations inside op, each once, and none of them is op itself
 pub record HasExactContents (t : Tree) (op : ℕ) : Type 0 where
-  pub direct : (k : ℕ) → In k (children t op) ↔ (holder_of t k ≡ Some op)
+  pub direct : (k : ℕ) → In k (children t op) ↔ (parent_operation_of t k ≡ Some op)
   pub exact : (k : ℕ) → In k (contents t op) ↔ IsInside t op k
   pub once : IsDistinct (preorder t op)
   pub nested : contents t op ≡ flat_map (λ c. preorder t c) (children t op)

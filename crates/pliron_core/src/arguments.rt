@@ -4,11 +4,11 @@ ghost use Rattle.std.specs.List.{range_with_len};
 ghost use Rattle.pliron_core.specs.Uses.{targets_of};
 ghost use Rattle.pliron_core.specs.Arguments.{Makers, argument_row_of};
 ghost use Rattle.pliron_core.specs.Making.{made_by, definitions_of};
-ghost use Rattle.pliron_core.specs.Writes.{numbered, result_definitions, argument_definitions};
+ghost use Rattle.pliron_core.specs.Writes.{argument_definitions_from, result_definitions, argument_definitions};
 
 use crate::context::Def;
 use crate::keys::{BasicBlock, Operation, Ptr, Value};
-use crate::row::Row;
+use crate::inline_list::InlineList;
 use crate::uses::{Use, Uses};
 use std::alloc::{AllocError, Global};
 use std::marker::Model;
@@ -36,9 +36,9 @@ impl Model for Arguments {
 
     ghost Value = { Makers };
 
-    ghost use Rattle.pliron_core.specs.Arguments.{AreMade, defined};
+    ghost use Rattle.pliron_core.specs.Arguments.{AreMade, definitions_now};
 
-    ghost view = { λ a. record { rows = a.lists.targets; definitions = defined a.written.items a.lists.uses } };
+    ghost view = { λ a. record { rows = a.lists.targets; definitions = definitions_now a.written.items a.lists.uses } };
 
     ghost invariant = { λ a. AreMade a.lists.targets a.written.items a.lists.uses };
 }
@@ -121,7 +121,7 @@ impl Arguments {
 
     /// Makes room for so many more blocks and so many more values.
     ///
-    /// Errors: want of memory. Blocks and values stay as they were. Cost: linear in the tables' length,
+    /// Errors: allocation failure. Blocks and values stay as they were. Cost: linear in the tables' length,
     /// which grow so that room asked for one by one is constant each, amortised.
     pub fn reserve(&mut self, blocks: usize, values: usize) -> Result<(), AllocError>
         ensures { self.new ≡ self.old }
@@ -132,14 +132,14 @@ impl Arguments {
 
     /// So many new values, results of the operation, by rising key.
     ///
-    /// Errors: want of memory, which changes nothing. Cost: one step for each, amortised.
+    /// Errors: allocation failure, which changes nothing. Cost: one step for each, amortised.
     #[inline(always)]
     pub fn add_results(
         &mut self,
         alloc: Global,
         op: Ptr<Operation>,
         count: usize,
-    ) -> Result<Row<Value>, AllocError>
+    ) -> Result<InlineList<Value>, AllocError>
         ensures keys { IfOk result (λ row. row ≡ range_with_len (length self.old.definitions) count) }
         ensures ok { OnOk result (self.new ≡ record self.old { definitions = self.old.definitions ++ result_definitions op count }) }
         ensures err { OnErr result (self.new ≡ self.old) }
@@ -156,7 +156,7 @@ impl Arguments {
 
     /// A new block, with so many new values as its arguments, by rising key.
     ///
-    /// Errors: want of memory, which changes nothing. Cost: one step for each, amortised.
+    /// Errors: allocation failure, which changes nothing. Cost: one step for each, amortised.
     pub fn add_block(&mut self, alloc: Global, count: usize) -> Result<(), AllocError>
         ensures rows { OnOk result (self.new.rows ≡ self.old.rows ++ range_with_len (length self.old.definitions) count ∷ []) }
         ensures definitions { OnOk result (self.new.definitions ≡ self.old.definitions ++ argument_definitions (length self.old.rows) count) }
@@ -174,7 +174,7 @@ impl Arguments {
     /// The arguments of a block are counted from now on, if there are many, so that ones far from one another
     /// go quickly.
     ///
-    /// Asks that there is such a block. Errors: want of memory. Nothing that contracts see changes.
+    /// Asks that there is such a block. Errors: allocation failure. Nothing that contracts see changes.
     /// Cost: the number of its arguments.
     pub fn index(&mut self, alloc: Global, block: Ptr<BasicBlock>) -> Result<(), AllocError>
         requires { block < length self.old.rows }
@@ -203,7 +203,7 @@ impl Arguments {
         requires block { block < length self.old.rows }
         requires index { i < length (argument_row_of self.old block) }
         ensures rows { self.new.rows ≡ slice_set self.old.rows block (remove (argument_row_of self.old block) i) }
-        ensures definitions { self.new.definitions ≡ numbered self.old.definitions block i (drop (i + 1) (argument_row_of self.old block)) }
+        ensures definitions { self.new.definitions ≡ argument_definitions_from self.old.definitions block i (drop (i + 1) (argument_row_of self.old block)) }
     {
         self.lists.agree();
         let value = self.lists.remove(block.index(), i);
@@ -246,11 +246,11 @@ impl Maker {
 // So many values, by rising key.
 #[tactic(auto, using(crate::proofs::GrownLemmas::range_more))]
 #[inline(always)]
-fn value_keys(alloc: Global, first: usize, count: usize) -> Result<Row<Value>, AllocError>
+fn value_keys(alloc: Global, first: usize, count: usize) -> Result<InlineList<Value>, AllocError>
     requires { first + count < 2 ^ 64 }
     ensures { IfOk result (λ row. row ≡ range_with_len first count) }
 {
-    let mut row = Row::new(alloc);
+    let mut row = InlineList::new(alloc);
     for i in 0..count {
         row.push(Value::new(first + i))?;
     }
@@ -272,7 +272,7 @@ fn write_definitions(written: &mut Vec<Def>, maker: Maker, count: usize)
 fn write_arguments(written: &mut Vec<Def>, lists: &Uses, block: Ptr<BasicBlock>)
     requires block { block < length lists.now.targets }
     requires values { (k v : ℕ) → slice_get (targets_of lists.now block) k ≡ Some v → v < length written.old.items }
-    ensures { written.new.items ≡ numbered written.old.items block 0 (targets_of lists.now block) }
+    ensures { written.new.items ≡ argument_definitions_from written.old.items block 0 (targets_of lists.now block) }
 {
     for i in 0..lists.num_targets(block.index()) {
         let value = lists.target(block.index(), i);

@@ -73,7 +73,7 @@ impl AttrObj {
 
     /// An equal attribute.
     ///
-    /// Errors: want of memory. Cost: the length of a text.
+    /// Errors: allocation failure. Cost: the length of a text.
     pub fn copy(&self, alloc: Global) -> Result<AttrObj, NoMemory>
         ensures { IfOk result (λ attr. attr ≡ self.now) }
     {

@@ -6,16 +6,16 @@
 
 mod arguments;
 mod attrs;
-mod compact;
+mod compaction;
 mod context;
-mod counted;
-mod counts;
+mod counted_slots;
+mod slot_counts;
 mod keys;
 mod laws;
 mod links;
-mod places;
+mod use_slots;
 mod rewriter;
-mod row;
+mod inline_list;
 mod uses;
 
 pub use attrs::{AttrObj, Attrs, Head, IRStatus, Text};
@@ -23,5 +23,5 @@ pub use context::{Context, Def, NoMemory, OperationEntry, RegionSlot};
 pub use keys::{BasicBlock, Operation, Ptr, Region, Value};
 pub use laws::change_laws;
 pub use rewriter::{IRRewriter, OpInsertionPoint, Rewriter};
-pub use row::Row;
+pub use inline_list::InlineList;
 pub use uses::Use;

@@ -118,7 +118,7 @@ impl Links {
 
     /// Makes room for so many more nodes and so many more lists, which then take no memory.
     ///
-    /// Errors: want of memory, where only the room may have grown. Cost: constant where there is room
+    /// Errors: allocation failure, where only the room may have grown. Cost: constant where there is room
     /// already, and otherwise linear in the tables' length, which grow so that room asked for one by one is
     /// constant each, amortised.
     #[inline(always)]

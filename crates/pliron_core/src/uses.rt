@@ -3,14 +3,14 @@
 ghost use Rattle.std.specs.Prelude.{◌≡◌, ◌≢◌, ◌+◌, ◌-◌, ◌<◌, ◌≤◌, [], ◌∷◌, ◌++◌, length, map, slice_set, vec_capacity, vec_len, slice_get, Some, OnOk, OnErr, IsOk, remove, replicate};
 ghost use Rattle.std.specs.List.{range_with_len};
 ghost use Rattle.pliron_core.specs.Uses.{targets_of, table_uses, AreAgreed, replace_target};
-ghost use Rattle.pliron_core.specs.Places.{uses_by};
+ghost use Rattle.pliron_core.specs.UseSlots.{uses_by};
 
-use crate::counted::{count_places, settle_places, take_counted};
-use crate::places::{
-    Holes, NO_GAP, Place, are_counted, count_at, new_places, open_gap, rank_at, retarget,
+use crate::counted_slots::{count_places, settle_places, take_counted};
+use crate::use_slots::{
+    Holes, NO_GAP, UseSlot, are_counted, count_at, new_places, open_gap, rank_at, retarget,
     settle_gap, target_at, widen_gap,
 };
-use crate::row::{Row, entry, pop_entry, set_entry};
+use crate::inline_list::{InlineList, entry, pop_entry, set_entry};
 use std::alloc::{AllocError, Global};
 use std::marker::Model;
 use std::mem;
@@ -32,9 +32,9 @@ use std::mem;
 /// taken one is. It ends by `settle`, or when the user gets one more target.
 #[derive(Drop)]
 pub struct Uses {
-    places: Vec<Row<Place>>,
+    places: Vec<InlineList<UseSlot>>,
     holes: Vec<Holes>,
-    uses: Vec<Row<Use>>,
+    uses: Vec<InlineList<Use>>,
 }
 
 /// A use: the user, and the index among its targets.
@@ -50,7 +50,7 @@ impl Model for Uses {
     ghost Value = { Table };
 
     ghost use Rattle.std.specs.Prelude.{◌-◌, min, vec_capacity, vec_len};
-    ghost use Rattle.pliron_core.specs.Places.{targets_in, uses_in};
+    ghost use Rattle.pliron_core.specs.UseSlots.{targets_in, uses_in};
     ghost use Rattle.pliron_core.specs.Holes.{AreLinked};
 
     ghost view = { λ c. record {
@@ -135,7 +135,7 @@ impl Uses {
 
     /// Makes room for so many more users and so many more targets.
     ///
-    /// Errors: want of memory, which leaves users, targets and uses as they were.
+    /// Errors: allocation failure, which leaves users, targets and uses as they were.
     /// Cost: constant per user or target, amortised.
     #[inline(always)]
     pub fn reserve(&mut self, users: usize, targets: usize) -> Result<(), AllocError>
@@ -155,7 +155,7 @@ impl Uses {
         ensures added { self.new ≡ record self.old { targets = self.old.targets ++ [] ∷ []; user_room = self.old.user_room - 1 } }
     {
         let key = self.places.len();
-        self.places.push_reserved(Row::new(alloc));
+        self.places.push_reserved(InlineList::new(alloc));
         self.holes.push_reserved(Holes::OneGap(NO_GAP));
         key
     }
@@ -168,7 +168,7 @@ impl Uses {
         ensures added { self.new ≡ record self.old { uses = self.old.uses ++ [] ∷ []; target_room = self.old.target_room - 1 } }
     {
         let key = self.uses.len();
-        self.uses.push_reserved(Row::new(alloc));
+        self.uses.push_reserved(InlineList::new(alloc));
         key
     }
 
@@ -185,7 +185,7 @@ impl Uses {
 
     /// A new user, with so many new targets, which no other user has.
     ///
-    /// Errors: want of memory, which leaves users, targets and uses as they were. Cost: one step for
+    /// Errors: allocation failure, which leaves users, targets and uses as they were. Cost: one step for
     /// each target, amortised.
     pub fn add_user_with(&mut self, alloc: Global, count: usize) -> Result<(), AllocError>
         ensures targets { OnOk result (self.new.targets ≡ self.old.targets ++ range_with_len (length self.old.uses) count ∷ []) }
@@ -205,7 +205,7 @@ impl Uses {
 
     /// The user gets one more target, at the end.
     ///
-    /// Asks that there are such a user and such a target. Errors: want of memory, which leaves all as it was.
+    /// Asks that there are such a user and such a target. Errors: allocation failure, which leaves all as it was.
     /// Cost: constant, amortised. Places that are counted are settled first.
     #[inline(always)]
     pub fn push(&mut self, user: usize, target: usize) -> Result<(), AllocError>
@@ -220,7 +220,7 @@ impl Uses {
         let at = self.uses[target].len();
         let place = self.places[user].len();
         self.uses[target].push(Use { user, place })?;
-        if let Err(error) = self.places[user].push(Place { target, at }) {
+        if let Err(error) = self.places[user].push(UseSlot { target, at }) {
             self.uses[target].pop();
             return Err(error);
         }
@@ -229,7 +229,7 @@ impl Uses {
 
     /// Every use of `old` becomes one of `new`.
     ///
-    /// Asks that there are both targets and that they are two. Errors: want of memory, which leaves all as it
+    /// Asks that there are both targets and that they are two. Errors: allocation failure, which leaves all as it
     /// was. A target without uses takes over the room of `old` too, so then nothing is refused.
     /// Cost: the number of uses of `old`, amortised.
     pub fn replace(&mut self, alloc: Global, old: usize, new: usize) -> Result<(), AllocError>
@@ -246,7 +246,7 @@ impl Uses {
             self.hand_over(old, new);
             return Ok(());
         }
-        let moved = mem::replace(&mut self.uses[old], Row::new(alloc));
+        let moved = mem::replace(&mut self.uses[old], InlineList::new(alloc));
         if let Err(error) = self.uses[new].extend(&moved) {
             self.uses[old] = moved;
             return Err(error);
@@ -275,7 +275,7 @@ impl Uses {
     /// The places of a user are counted from now on, if it has many, so that targets far from one another go
     /// quickly.
     ///
-    /// Asks that there is such a user. Errors: want of memory. Nothing that contracts see changes.
+    /// Asks that there is such a user. Errors: allocation failure. Nothing that contracts see changes.
     /// Cost: the number of its places.
     pub fn index(&mut self, alloc: Global, user: usize) -> Result<(), AllocError>
         requires { user < length self.old.targets }
@@ -349,7 +349,7 @@ impl Uses {
 
 // So many new targets, each with one use: the user names them in order.
 fn add_used(
-    uses: &mut Vec<Row<Use>>,
+    uses: &mut Vec<InlineList<Use>>,
     alloc: Global,
     user: usize,
     count: usize,
@@ -360,7 +360,7 @@ fn add_used(
 {
     let first = uses.len();
     for place in 0..count {
-        let mut row = Row::new(alloc);
+        let mut row = InlineList::new(alloc);
         if let Err(error) = row.push(Use { user, place }) {
             uses.truncate(first);
             return Err(error);

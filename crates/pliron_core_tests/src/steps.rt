@@ -117,7 +117,7 @@ pub fn append(
 }
 
 // A new last operation of the block.
-pub fn appended(
+pub fn append_operation(
     rt: &impl Abort,
     ctx: &mut Context,
     block: Ptr<BasicBlock>,

@@ -13,7 +13,7 @@ ghost use Rattle.pliron_core.specs.Tree.{IsBlock, HoldsBlock, uses_of};
 ghost use Rattle.pliron_laws.specs.Linked.{IsWellLinked};
 ghost use Rattle.pliron_dce.specs.Incoming.{edges_of, list_of, AreCounted, AreIncoming, AreKnown, BranchesLead, AreFalling};
 
-use crate::rows::{AllLosses, Indexing, index_chosen, settle_rows};
+use crate::operand_indexing::{AllLosses, Indexing, index_chosen, settle_rows};
 use indexmap::IndexMap;
 use pliron_core::{BasicBlock, Context, Operation, Ptr};
 use pliron_laws::{Dialect, OptError};

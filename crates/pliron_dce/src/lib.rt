@@ -15,20 +15,20 @@ ghost use Rattle.pliron_theory.specs.Edges.{KeepsEdges};
 ghost use Rattle.pliron_laws.specs.Linked.{IsWellLinked};
 ghost use Rattle.pliron_dce.specs.DeadLaws.{ReadyLaws, GoingLaws, PendingLaw};
 ghost use Rattle.pliron_dce.specs.Dead.{Item};
-ghost use Rattle.pliron_dce.specs.Going.{GoInTurn, AreDeadThings, LeavesNoDead, TellsDead, SomeHasRegions};
+ghost use Rattle.pliron_dce.specs.Erasing.{EraseInTurn, AreDeadItems, LeavesNoDead, ReportsDead, SomeHasRegions};
 
 mod candidates;
 mod incoming;
-mod looks;
+mod scans;
 mod predecessors;
 mod ready;
-mod rows;
+mod operand_indexing;
 mod sweep;
-mod take;
-mod work;
+mod erase;
+mod worklist;
 
 use crate::candidates::all_candidates;
-use crate::looks::Looks;
+use crate::scans::ScanPositions;
 use crate::predecessors::Predecessors;
 use crate::sweep::sweep;
 use pliron_core::{Context, IRStatus, Operation, Ptr};
@@ -41,12 +41,12 @@ pub fn ready_is_dead<D: Dialect>()
 {}
 
 /// Ready things go in turn: each step keeps all runs and links, and at the end exactly the dead are gone.
-pub fn ready_things_go<D: Dialect>()
+pub fn ready_items_are_erased<D: Dialect>()
     ensures { GoingLaws D.meaning D.shortened D.side_effects D.removable }
 {}
 
-/// What is ready after a whole rewrite was ready before it, or is looked at.
-pub fn ready_things_are_seen<D: Dialect>()
+/// What is ready after a whole rewrite was ready before it, or is visited.
+pub fn ready_items_are_candidates<D: Dialect>()
     ensures { PendingLaw D.meaning D.shortened D.side_effects D.removable }
 {}
 
@@ -62,11 +62,11 @@ pub fn ready_things_are_seen<D: Dialect>()
 /// Asks that the operation stands and is well linked. Answers `Changed` exactly if something was dead;
 /// nothing is dead then, so a second call answers `Unchanged`.
 ///
-/// Errors: want of memory. The tree is then one after some whole rewrites: dead operations with their
+/// Errors: allocation failure. The tree is then one after some whole rewrites: dead operations with their
 /// contents, and dead arguments with the operands forwarded to them.
 ///
 /// Cost: one look at each operation and argument inside, and two more for each use that it loses. The
-/// operations around what loses a use are looked at once for all that is lost until nothing else is ready.
+/// operations around what loses a use are visited once for all that is lost until nothing else is ready.
 /// Looks at an operation go over what it makes and holds, up to the first use that holds it, and each goes on
 /// from where the last one ended; what goes is gone over once more. The first argument of a block that goes
 /// asks each edge to the block for all that it forwards (`successor_operands`) and sorts the edges by how much
@@ -85,10 +85,10 @@ pub fn dce<D: Dialect>(
     requires live { IsLive ctx.old.tree op }
     requires linked { IsWellLinked D.meaning ctx.old.tree op }
     ensures change { IsWholeChange D.meaning ctx.old.tree ctx.new.tree op }
-    ensures gone { (gone : List Item) × GoInTurn D.meaning D.shortened gone ctx.old.tree ctx.new.tree ×
-        AreDeadThings D.meaning D.side_effects D.removable ctx.old.tree op gone }
+    ensures gone { (gone : List Item) × EraseInTurn D.meaning D.shortened gone ctx.old.tree ctx.new.tree ×
+        AreDeadItems D.meaning D.side_effects D.removable ctx.old.tree op gone }
     ensures none { IfOk result (λ a. LeavesNoDead D.meaning D.side_effects D.removable ctx.old.tree ctx.new.tree op) }
-    ensures status { IfOk result (λ a. TellsDead D.meaning D.side_effects D.removable ctx.old.tree op a) }
+    ensures status { IfOk result (λ a. ReportsDead D.meaning D.side_effects D.removable ctx.old.tree op a) }
     ensures tells { IfOk result (λ a. (a ≡ Unchanged) ↔ (ctx.new.tree ≡ ctx.old.tree)) }
     ensures links { (root : ℕ) → IsWellLinked D.meaning ctx.old.tree root → IsLive ctx.new.tree root → IsWellLinked D.meaning ctx.new.tree root }
     ensures memory { IsOkUnless result OptError.Memory }
@@ -110,18 +110,18 @@ pub fn dce_with_regions<D: Dialect>(
     requires live { IsLive ctx.old.tree op }
     requires linked { IsWellLinked D.meaning ctx.old.tree op }
     ensures change { IsWholeChange D.meaning ctx.old.tree ctx.new.tree op }
-    ensures gone { (gone : List Item) × GoInTurn D.meaning D.shortened gone ctx.old.tree ctx.new.tree ×
-        AreDeadThings D.meaning D.side_effects D.removable ctx.old.tree op gone × IfOk result (λ a. IsTrue a.1 ↔ SomeHasRegions ctx.old.tree gone) }
+    ensures gone { (gone : List Item) × EraseInTurn D.meaning D.shortened gone ctx.old.tree ctx.new.tree ×
+        AreDeadItems D.meaning D.side_effects D.removable ctx.old.tree op gone × IfOk result (λ a. IsTrue a.1 ↔ SomeHasRegions ctx.old.tree gone) }
     ensures none { IfOk result (λ a. LeavesNoDead D.meaning D.side_effects D.removable ctx.old.tree ctx.new.tree op) }
-    ensures status { IfOk result (λ a. TellsDead D.meaning D.side_effects D.removable ctx.old.tree op a.0) }
+    ensures status { IfOk result (λ a. ReportsDead D.meaning D.side_effects D.removable ctx.old.tree op a.0) }
     ensures tells { IfOk result (λ a. (a.0 ≡ Unchanged) ↔ (ctx.new.tree ≡ ctx.old.tree)) }
     ensures edges { IfOk result (λ a. (IsTrue a.1 → ⊥) → KeepsEdges ctx.old.tree ctx.new.tree) }
     ensures links { (root : ℕ) → IsWellLinked D.meaning ctx.old.tree root → IsLive ctx.new.tree root → IsWellLinked D.meaning ctx.new.tree root }
     ensures memory { IsOkUnless result OptError.Memory }
 {
     let mut wide = Vec::new(alloc);
-    let work = all_candidates(alloc, &mut wide, op, ctx)?;
-    let looks = Looks::new(alloc, &work, ctx)?;
+    let worklist = all_candidates(alloc, &mut wide, op, ctx)?;
+    let scans = ScanPositions::new(alloc, &worklist, ctx)?;
     let predecessors = Predecessors::new::<D>(alloc, &wide, op, ctx)?;
-    sweep::<D>(alloc, op, work, looks, &predecessors, ctx)
+    sweep::<D>(alloc, op, worklist, scans, &predecessors, ctx)
 }

@@ -1,12 +1,12 @@
 //! What may go at once.
 ghost use Rattle.std.specs.Prelude.{◌≡◌, ◌↔◌, Some, IsTrue};
-ghost use Rattle.pliron_core.specs.Tree.{IsLive, IsBlock, IsWithin, block_holder_of};
+ghost use Rattle.pliron_core.specs.Tree.{IsLive, IsBlock, IsWithin, block_parent_operation_of};
 ghost use Rattle.pliron_laws.specs.Linked.{IsWellLinked};
 ghost use Rattle.pliron_dce.specs.Dead.{IsHarmless, MayLose};
 ghost use Rattle.pliron_dce.specs.Predecessors.{mark_of, AreMarked};
-ghost use Rattle.pliron_dce.specs.Steps.{IsReadyOperation, IsReadyArgument, HaveNoUse};
+ghost use Rattle.pliron_dce.specs.Readiness.{IsReadyOperation, IsReadyArgument, HaveNoUse};
 
-use crate::looks::Looks;
+use crate::scans::ScanPositions;
 use crate::predecessors::Predecessors;
 use pliron_core::{BasicBlock, Context, Def, Operation, Ptr, Value};
 use pliron_laws::Dialect;
@@ -42,7 +42,7 @@ fn is_unused(op: Ptr<Operation>, ctx: &Context) -> bool
 #[inline(always)]
 pub(crate) fn is_ready_operation<D: Dialect>(
     op: Ptr<Operation>,
-    looks: &mut Looks,
+    scans: &mut ScanPositions,
     root: Ptr<Operation>,
     ctx: &Context,
 ) -> bool
@@ -56,7 +56,7 @@ pub(crate) fn is_ready_operation<D: Dialect>(
     if !is_harmless::<D>(op, ctx) {
         return false;
     }
-    if looks.is_found_held(op, ctx) {
+    if scans.is_kept_alive(op, ctx) {
         return false;
     }
     if !is_unused(op, ctx) {
@@ -75,7 +75,7 @@ pub(crate) fn is_ready_operation<D: Dialect>(
 #[inline(always)]
 fn may_lose<D: Dialect>(block: Ptr<BasicBlock>, holder: Ptr<Operation>, ctx: &Context) -> bool
     requires block { IsBlock ctx.now.tree block }
-    requires holder { block_holder_of ctx.now.tree block ≡ Some holder }
+    requires holder { block_parent_operation_of ctx.now.tree block ≡ Some holder }
     ensures { IsTrue result ↔ MayLose D.removable ctx.now.tree block }
 {
     ctx.well_formed();
@@ -115,7 +115,7 @@ pub(crate) fn is_ready_argument<D: Dialect>(
     let Def::Argument(block, _) = value.def(ctx) else {
         return false;
     };
-    let holder = holder_of(block, ctx);
+    let holder = parent_operation_of(block, ctx);
     if !is_within(holder, root, ctx) {
         return false;
     }
@@ -127,9 +127,9 @@ pub(crate) fn is_ready_argument<D: Dialect>(
 
 // The operation that holds the block directly.
 #[inline(always)]
-pub(crate) fn holder_of(block: Ptr<BasicBlock>, ctx: &Context) -> Ptr<Operation>
+pub(crate) fn parent_operation_of(block: Ptr<BasicBlock>, ctx: &Context) -> Ptr<Operation>
     requires { IsBlock ctx.now.tree block }
-    ensures holder { block_holder_of ctx.now.tree block ≡ Some result }
+    ensures holder { block_parent_operation_of ctx.now.tree block ≡ Some result }
     ensures live { IsLive ctx.now.tree result }
 {
     ctx.well_formed();

@@ -4,7 +4,7 @@
 //! dead things use, until a round finds nothing. Uses are found by going over all operands of all
 //! operations; the lists of uses that the tree keeps are never asked.
 ghost use Rattle.std.specs.Prelude.{◌≡◌, Some};
-ghost use Rattle.pliron_core.specs.Tree.{IsLive, IsBlock, IsDefined, block_holder_of};
+ghost use Rattle.pliron_core.specs.Tree.{IsLive, IsBlock, IsDefined, block_parent_operation_of};
 
 use super::boxes::BOXES;
 use super::cases::{DEFINED, ROWS};
@@ -92,9 +92,9 @@ fn is_within(op: Ptr<Operation>, around: Ptr<Operation>, ctx: &Context) -> bool 
 }
 
 // The operation that holds the block directly.
-fn holder_of(block: Ptr<BasicBlock>, ctx: &Context) -> Ptr<Operation>
+fn parent_operation_of(block: Ptr<BasicBlock>, ctx: &Context) -> Ptr<Operation>
     requires { IsBlock ctx.now.tree block }
-    ensures holder { block_holder_of ctx.now.tree block ≡ Some result }
+    ensures holder { block_parent_operation_of ctx.now.tree block ≡ Some result }
     ensures live { IsLive ctx.now.tree result }
 {
     ctx.well_formed();
@@ -145,7 +145,7 @@ fn forwarded_to(
 }
 
 // Whether the use of the value by this operation keeps the thing: a use of the argument; a use of a
-// result of the operation, or one outside it of a value made inside it.
+// result of the operation, or one outside it of a value defined inside it.
 fn is_kept_by(thing: Thing, user: Ptr<Operation>, value: Value, ctx: &Context) -> bool
     requires { IsDefined ctx.now.tree value }
 {
@@ -158,7 +158,7 @@ fn is_kept_by(thing: Thing, user: Ptr<Operation>, value: Value, ctx: &Context) -
             maker == op || (is_within(maker, op, ctx) && !is_within(user, op, ctx))
         }
         Def::Argument(block, _) => {
-            is_within(holder_of(block, ctx), op, ctx) && !is_within(user, op, ctx)
+            is_within(parent_operation_of(block, ctx), op, ctx) && !is_within(user, op, ctx)
         }
     }
 }
@@ -267,7 +267,7 @@ fn may_lose(things: &[Thing], value: Value, ctx: &Context) -> bool
     let Def::Argument(block, _) = value.def(ctx) else {
         return false;
     };
-    let holder = holder_of(block, ctx);
+    let holder = parent_operation_of(block, ctx);
     Bench::can_remove_block_args(holder, ctx, block) == Some(true)
         && is_led_to_by_branches(things, block, ctx)
 }
@@ -317,7 +317,7 @@ fn stays(dead: &[Thing], thing: Thing, ctx: &Context) -> bool {
                 return false;
             }
             match value.def(ctx) {
-                Def::Argument(block, _) => holder_of(block, ctx),
+                Def::Argument(block, _) => parent_operation_of(block, ctx),
                 Def::Result(op, _) => op,
             }
         }

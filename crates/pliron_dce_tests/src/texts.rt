@@ -8,7 +8,7 @@ use super::cases::{DEFINED, ROWS};
 use super::hostile::HOSTILE;
 use super::short::SHORT;
 use pliron_bench::Bench;
-use pliron_cases::cases::operation_at;
+use pliron_test_cases::cases::operation_at;
 use pliron_core::{Context, IRStatus, Operation, Ptr};
 use pliron_dce::dce;
 use pliron_notation::{print_text, read_text};

@@ -85,7 +85,7 @@ fn is_word(piece: &str) -> bool {
 }
 
 // The case, with values in place of its words.
-fn filled(rt: &impl Abort, alloc: Global, case: &str, half: usize) -> String
+fn fill_case(rt: &impl Abort, alloc: Global, case: &str, half: usize) -> String
     requires { half < 256 }
 {
     let mut text = String::new(alloc);
@@ -105,7 +105,7 @@ fn check_filled(rt: &impl Abort, alloc: Global, case: &str, half: usize) -> Resu
     let Some((before, after)) = case.split_once(" => ") else {
         return Err(Fail::from("no arrow"));
     };
-    let text = filled(rt, alloc, before, half);
+    let text = fill_case(rt, alloc, before, half);
     check(rt, alloc, text.as_str(), after, IRStatus::Changed)
 }
 

@@ -10,7 +10,7 @@ mod form;
 pub mod heads;
 mod kinds;
 pub mod numbers;
-pub mod places;
+pub mod edge_ranges;
 mod replace;
 mod tables;
 

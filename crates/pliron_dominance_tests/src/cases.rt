@@ -1,8 +1,8 @@
 //! How graphs are read: the successors of the nodes 0, 1, 2, .., each list closed by a semicolon; and how answers are
 //! written.
-ghost use Rattle.pliron_search.specs.Adjacency.{AreInverse};
+ghost use Rattle.pliron_traversal.specs.Adjacency.{AreInverse};
 
-use pliron_search::{AdjacencyList, HasLabel};
+use pliron_traversal::{AdjacencyList, HasLabel};
 use std::alloc::Global;
 use std::process::Abort;
 

@@ -5,7 +5,7 @@ ghost use Rattle.std.specs.Prelude.{Contains};
 use crate::cases::{graph_of, push, push_label, rows_of};
 use pliron_dominance::DominatorTree;
 use pliron_graph::ReverseGraph;
-use pliron_search::{ControlFlowGraph, HasLabel};
+use pliron_traversal::{ControlFlowGraph, HasLabel};
 use std::alloc::Global;
 use std::hash::Hash;
 use std::process::Abort;

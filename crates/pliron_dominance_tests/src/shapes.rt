@@ -1,5 +1,5 @@
 //! Deep and wide graphs of 20,000 nodes.
-ghost use Rattle.pliron_search.specs.Adjacency.{AreInverse};
+ghost use Rattle.pliron_traversal.specs.Adjacency.{AreInverse};
 
 use crate::cases::graph_of;
 use pliron_dominance::DominatorTree;

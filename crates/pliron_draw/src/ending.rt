@@ -1,15 +1,15 @@
 //! How the commands that draw end.
 ghost use Rattle.std.specs.Prelude.{◌≡◌, ◌⊎◌, IfOk};
-ghost use Rattle.pliron_people.specs.Outcomes.{EndsBadly};
+ghost use Rattle.pliron_cli.specs.Outcomes.{EndsBadly};
 
-use pliron_people::{Failure, Outcome, Source};
+use pliron_cli::{CommandFailure, Outcome, Source};
 use std::alloc::{AllocError, Global};
 
 /// Why a command ends without an answer.
 #[derive(Clone, Copy)]
 pub enum Wrong<'w> {
     /// As any command may fail.
-    Failed(Failure),
+    Failed(CommandFailure),
     /// The text of a graph is none.
     Graph,
     /// No region has this path.
@@ -28,9 +28,9 @@ impl Wrong<'_> {
     }
 
     /// What is told of it.
-    fn told(self, alloc: Global, source: &Source) -> Result<String, AllocError> {
+    fn message(self, alloc: Global, source: &Source) -> Result<String, AllocError> {
         match self {
-            Wrong::Failed(failure) => failure.told(alloc, source),
+            Wrong::Failed(failure) => failure.message(alloc, source),
             Wrong::Graph => format!(in alloc;
                 "error: unreadable graph\nhelp: write a line for each node, as `0: 1 2`: its number and its successors\n"
             ),
@@ -41,13 +41,13 @@ impl Wrong<'_> {
     }
 }
 
-/// The outcome of a command without an answer: nothing is to be written, and what went wrong is told. Errors: want
-/// of memory. Cost: that of reading the text.
+/// The outcome of a command without an answer: nothing is to be written, and what went wrong is told. Errors: allocation
+/// failure. Cost: that of reading the text.
 #[tactic(auto, using(crate::proofs::DrawLemmas::ends_badly_by))]
 pub fn ended_badly(alloc: Global, wrong: Wrong, source: &Source) -> Result<Outcome, AllocError>
     ensures { IfOk result EndsBadly }
 {
-    let report = wrong.told(alloc, source)?;
+    let report = wrong.message(alloc, source)?;
     Ok(Outcome {
         output: Vec::new(alloc),
         report,

@@ -1,12 +1,12 @@
 //! The command that tells what passes did.
 ghost use Rattle.std.specs.Prelude.{◌≡◌, ⊤, length, IfOk, IfSome};
-ghost use Rattle.pliron_people.specs.Outcomes.{Ends};
+ghost use Rattle.pliron_cli.specs.Outcomes.{Ends};
 
 use crate::ending::{Wrong, ended_badly, ended_with};
 use pliron_laws::OptError;
-use pliron_people::{Failure, Outcome, Source, misspelt};
-use pliron_pictures::{PassList, PassName, explained};
-use pliron_watch::{Plan, PlanError};
+use pliron_cli::{CommandFailure, Outcome, Source, misspelling_outcome};
+use pliron_graphviz::{PassList, PassName, explain_changes};
+use pliron_instrument::{PipelineText, PlanError};
 use std::alloc::{AllocError, Global};
 
 /// The outcome for these lines.
@@ -36,7 +36,7 @@ fn passes_of(alloc: Global, names: &[&str]) -> Result<Option<Vec<PassName>>, All
 }
 
 /// The passes that the plan asks for, if each of its names is that of one.
-fn list_of(alloc: Global, plan: &Plan) -> Result<Option<PassList>, AllocError>
+fn list_of(alloc: Global, plan: &PipelineText) -> Result<Option<PassList>, AllocError>
     ensures nested { IfOk result (λ found. IfSome found (λ list. list.is_nested ≡ plan.now.nested)) }
     ensures passes { IfOk result (λ found. IfSome found (λ list. length list.passes.items ≡ length plan.now.names.items)) }
 {
@@ -51,16 +51,16 @@ fn list_of(alloc: Global, plan: &Plan) -> Result<Option<PassList>, AllocError>
 }
 
 /// Tells what the passes that the plan asks for did.
-fn explain_by(alloc: Global, source: &Source, plan: &Plan) -> Result<Outcome, AllocError>
+fn explain_by(alloc: Global, source: &Source, plan: &PipelineText) -> Result<Outcome, AllocError>
     ensures { IfOk result (Ends ⊤ ⊥) }
 {
     let Some(list) = list_of(alloc, plan)? else {
-        return ended_badly(alloc, Wrong::Failed(Failure::Text), source);
+        return ended_badly(alloc, Wrong::Failed(CommandFailure::Text), source);
     };
-    match explained(alloc, source.text, &list) {
+    match explain_changes(alloc, source.text, &list) {
         Ok(Some(lines)) => ended_with_lines(alloc, lines),
-        Ok(None) => ended_badly(alloc, Wrong::Failed(Failure::Text), source),
-        Err(error) => ended_badly(alloc, Wrong::Failed(Failure::Refused(error)), source),
+        Ok(None) => ended_badly(alloc, Wrong::Failed(CommandFailure::Text), source),
+        Err(error) => ended_badly(alloc, Wrong::Failed(CommandFailure::Refused(error)), source),
     }
 }
 
@@ -68,18 +68,18 @@ fn explain_by(alloc: Global, source: &Source, plan: &Plan) -> Result<Outcome, Al
 /// for, where it stands, and why.
 ///
 /// Statuses: 0; 1 where memory or the passes were refused; 2 for an unreadable text, or a word that asks for no passes.
-/// With 1 and 2 nothing is to be written to the output. Errors: want of memory for what is told. Cost: that of
+/// With 1 and 2 nothing is to be written to the output. Errors: allocation failure for what is told. Cost: that of
 /// `explained`.
 pub fn explain(alloc: Global, source: &Source, pipeline: &str) -> Result<Outcome, AllocError>
     ensures { IfOk result (Ends ⊤ ⊥) }
 {
-    match Plan::read(alloc, pipeline) {
+    match PipelineText::read(alloc, pipeline) {
         Ok(plan) => explain_by(alloc, source, &plan),
-        Err(PlanError::Word(fault)) => misspelt(alloc, pipeline, &fault),
+        Err(PlanError::Word(fault)) => misspelling_outcome(alloc, pipeline, &fault),
         Err(PlanError::Memory) => {
             ended_badly(
                 alloc,
-                Wrong::Failed(Failure::Refused(OptError::Memory)),
+                Wrong::Failed(CommandFailure::Refused(OptError::Memory)),
                 source,
             )
         }

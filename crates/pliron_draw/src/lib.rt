@@ -10,4 +10,4 @@ mod explaining;
 
 pub use drawing::{draw_flow, draw_graph};
 pub use explaining::explain;
-pub use pliron_pictures::FlowWish;
+pub use pliron_graphviz::FlowOptions;

@@ -1,6 +1,6 @@
 //! The control flow of texts as pictures, worked by hand.
 use pliron_draw::{FlowWish, draw_flow};
-use pliron_people::{Outcome, Source};
+use pliron_cli::{Outcome, Source};
 use std::alloc::Global;
 use std::process::Abort;
 
@@ -10,7 +10,7 @@ static HEAD: &str =
 
 static END: &str = "}\n";
 
-fn drawn(rt: &impl Abort, alloc: Global, region: &str, text: &str) -> Outcome {
+fn draw_region(rt: &impl Abort, alloc: Global, region: &str, text: &str) -> Outcome {
     let source = Source {
         name: "text",
         text: text.as_bytes(),
@@ -55,7 +55,7 @@ fn flows_are_drawn(rt: HostRuntime) {
     for case in PICTURES.lines() {
         let (region, rest) = case.split_once(" => ").expect(&rt, "a case");
         let (text, lines) = rest.split_once(" => ").expect(&rt, "a case");
-        let outcome = drawn(&rt, rt.alloc(), region, text);
+        let outcome = draw_region(&rt, rt.alloc(), region, text);
         let wanted = lines_of(&rt, rt.alloc(), lines);
         assert_eq!(rt;
             std::str::from_utf8(&outcome.output).unwrap_or(""),
@@ -80,7 +80,7 @@ fn faults_are_told(rt: HostRuntime) {
     for case in FAULTS.lines() {
         let (region, rest) = case.split_once(" => ").expect(&rt, "a case");
         let (text, told) = rest.split_once(" => ").expect(&rt, "a case");
-        let outcome = drawn(&rt, rt.alloc(), region, text);
+        let outcome = draw_region(&rt, rt.alloc(), region, text);
         assert!(rt; outcome.output.is_empty());
         assert_eq!(rt; outcome.status, 2);
         assert_eq!(rt; outcome.report.lines().next(), Some(told));

@@ -10,8 +10,8 @@ abbrev pub entry : (kind : ℕ) (results regions : List ℕ) → OperationEntry
 entry kind results regions = record { head = Some (record { kind = kind; ssa = true; attrs = [] }); results = results; regions = regions }
 
 -- scope { b0(): v0 = const; br b1(v0); b1(v1): v2 = ask v1 }
-abbrev pub worked : Tree
-worked = record {
+abbrev pub worked_example : Tree
+worked_example = record {
   operations = entry 2 [] (0 ∷ []) ∷ entry 0 (0 ∷ []) [] ∷ entry 3 [] [] ∷ entry 1 (2 ∷ []) [] ∷ [];
   operands = [] ∷ [] ∷ (0 ∷ []) ∷ (1 ∷ []) ∷ [];
   successors = [] ∷ [] ∷ (1 ∷ []) ∷ [] ∷ [];

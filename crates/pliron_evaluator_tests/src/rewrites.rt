@@ -7,8 +7,8 @@ ghost use Rattle.pliron_evaluator.specs.declared.tiny.TinyKind.TheVariants.{Cons
 ghost use Rattle.pliron_laws.specs.Datum.{Head};
 
 use crate::tiny::{number_asked, number_of};
-use pliron_cases::listener::Counting;
-use pliron_cases::trees::{Made, make};
+use pliron_test_cases::listener::Counting;
+use pliron_test_cases::trees::{Made, make};
 use pliron_core::{AttrObj, BasicBlock, Context, IRStatus, Operation, Ptr};
 use pliron_meaning::evaluator::{Datum, Sight, evaluate};
 use pliron_meaning::rewrites::{
@@ -22,7 +22,7 @@ use std::process::Abort;
 static STEPS: &str = "scope; block 0 1; const 0 @0; ask @0 v1; const 0 @0";
 
 /// What is seen of the run of the root on one input, in a world that answers once.
-fn seen(rt: &impl Abort, alloc: Global, ctx: &Context, root: Ptr<Operation>) -> Sight {
+fn sight_of_root(rt: &impl Abort, alloc: Global, ctx: &Context, root: Ptr<Operation>) -> Sight {
     let inputs = Vec::from_array(alloc, [Datum::Number(3)]).expect(rt, "memory");
     let world = Vec::from_array(alloc, [Datum::Number(8)]).expect(rt, "memory");
     evaluate::<Tiny>(alloc, ctx, root, inputs, world, 100).expect(rt, "memory")
@@ -122,7 +122,7 @@ fn rewrites_in(rt: &impl Abort, alloc: Global, ctx: &mut Context) {
         made.operation("2").expect(rt, "an operation"),
     );
     let unused = made.operation("3").expect(rt, "an operation");
-    let before = seen(rt, alloc, ctx, root);
+    let before = sight_of_root(rt, alloc, ctx, root);
 
     assert_eq!(rt; erase::<Tiny>(rt, alloc, ctx, unused), IRStatus::Changed);
     assert!(rt; !unused.is_live(ctx));
@@ -131,11 +131,11 @@ fn rewrites_in(rt: &impl Abort, alloc: Global, ctx: &mut Context) {
         IRStatus::Unchanged
     );
     assert!(rt; question.is_live(ctx));
-    assert_eq!(rt; seen(rt, alloc, ctx, root), before);
+    assert_eq!(rt; sight_of_root(rt, alloc, ctx, root), before);
 
     assert_eq!(rt; replace_result(rt, alloc, ctx, asked, 0), IRStatus::Changed);
     assert_eq!(rt; number_asked(rt, ctx, asked, question), Some(0));
-    assert_eq!(rt; seen(rt, alloc, ctx, root), before);
+    assert_eq!(rt; sight_of_root(rt, alloc, ctx, root), before);
 
     assert_eq!(rt;
         replace_argument::<Tiny>(rt, alloc, ctx, body, 3),
@@ -144,7 +144,7 @@ fn rewrites_in(rt: &impl Abort, alloc: Global, ctx: &mut Context) {
     assert!(rt; body.is_live(ctx));
     let first = body.get_head(ctx).expect(rt, "a constant");
     assert_eq!(rt; number_of(rt, ctx, first), Some(3));
-    assert_eq!(rt; seen(rt, alloc, ctx, root), before);
+    assert_eq!(rt; sight_of_root(rt, alloc, ctx, root), before);
 }
 
 #[test]

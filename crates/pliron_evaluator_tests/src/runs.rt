@@ -3,8 +3,8 @@
 //!
 //! A case is a program, its inputs and the world's answers, and after ` => ` how the run ends, with which
 //! values, and with which effects, the latest first. Data are numbers and texts; `a:b` joins two, and `-` is `Empty`.
-use pliron_cases::cases::{number, read, sides};
-use pliron_cases::trees::build;
+use pliron_test_cases::cases::{number, read, sides};
+use pliron_test_cases::trees::build;
 use pliron_core::{AttrObj, Attrs, Context, Head, IRRewriter, Operation, Ptr, Rewriter, Text};
 use pliron_meaning::bench::Bench;
 use pliron_meaning::evaluator::{Datum, Sight, evaluate};
@@ -157,7 +157,7 @@ fn runs_in(rt: &impl Abort, alloc: Global, ctx: &mut Context) {
 }
 
 /// What is seen of the run of the tree.
-fn seen(
+fn sight_of_run(
     rt: &impl Abort,
     alloc: Global,
     ctx: &Context,
@@ -174,13 +174,13 @@ fn trees_in(rt: &impl Abort, alloc: Global, ctx: &mut Context) {
         let (asked, want) = sides(case).expect(rt, "a case");
         let (steps, inputs, world) = last_fields(rt, asked);
         let root = build(alloc, ctx, steps).expect(rt, "a tree");
-        let got = seen(rt, alloc, ctx, root, (inputs, world), ENOUGH);
+        let got = sight_of_run(rt, alloc, ctx, root, (inputs, world), ENOUGH);
         assert_eq!(rt; got, sight(rt, alloc, want), "{case}");
     }
     let root = build(alloc, ctx, LOOP).expect(rt, "a tree");
     for case in BOUNDS.lines() {
         let (fuel, effects) = case.split_once(" =>").expect(rt, "a case");
-        let got = seen(
+        let got = sight_of_run(
             rt,
             alloc,
             ctx,
@@ -198,7 +198,7 @@ fn roots_in(rt: &impl Abort, alloc: Global, ctx: &mut Context) {
     assert!(rt; root.is_live(ctx));
     assert!(rt; root.is_self_contained(ctx));
     IRRewriter::new().erase_operation(ctx, root);
-    let got = seen(rt, alloc, ctx, root, ("4", "2"), ENOUGH);
+    let got = sight_of_run(rt, alloc, ctx, root, ("4", "2"), ENOUGH);
     assert_eq!(rt; got, Sight::Trapped(Vec::new(alloc)));
     let mut attrs = Vec::new(alloc);
     attrs
@@ -210,7 +210,7 @@ fn roots_in(rt: &impl Abort, alloc: Global, ctx: &mut Context) {
         attrs: Attrs::new(attrs),
     };
     let root = Operation::create(ctx, head, 1, 0).expect(rt, "memory");
-    let got = seen(rt, alloc, ctx, root, ("", ""), ENOUGH);
+    let got = sight_of_run(rt, alloc, ctx, root, ("", ""), ENOUGH);
     assert_eq!(rt; got, Sight::Ended(data(rt, alloc, "ab"), Vec::new(alloc)));
 }
 

@@ -2,33 +2,33 @@
 use Rattle.std.proofs.Common.{◌≡◌, ◌↔◌, ◌⊎◌, ℕ, List, [], ◌∷◌, ◌++◌, Ok, Err, Some, sym, ap, ◌∙◌, subst, inl, inr, slice_get}
 use Rattle.std.specs.Prelude.{Result as ResultOf}
 use Rattle.std.specs.Result.{IsErrAnd}
-use Rattle.pliron_core.specs.Tree.{Tree, In, IsLive, IsInside, operands_of, results_of, parent_of, block_parent_of, region_parent_of, holder_of, definition_of, up_from}
-use Rattle.pliron_core.specs.Changes.{IsMadeInside}
-use Rattle.pliron_core.specs.Joined.{IsTree}
+use Rattle.pliron_core.specs.Tree.{Tree, In, IsLive, IsInside, operands_of, results_of, parent_of, block_parent_of, region_parent_of, parent_operation_of, definition_of, up_from}
+use Rattle.pliron_core.specs.Changes.{IsDefinedInside}
+use Rattle.pliron_core.specs.Invariant.{IsTree}
 use Rattle.pliron_core.proofs.FlatLemmas.{In-slice_get}
 use Rattle.pliron_core.proofs.WalkLemmas.{inside_from, inside_trans}
 use Rattle.pliron_laws.specs.Datum.{Meaning}
 use Rattle.pliron_laws.specs.Root.{IsDominated}
 use Rattle.pliron_laws.proofs.EdgeLastLemmas.{around_holder}
 use Rattle.pliron_theory.specs.Keeps.{IsFit}
-use Rattle.pliron_fit.specs.declared.misfit.Misfit.{Misfit}
-use Rattle.pliron_fit.specs.declared.misfit.Misfit.TheVariants.{NotRoot, HasSuccessors, NotAdmitted, EdgeNotLast, ForeignValue, NoDominance, UnequalEdge, TerminatorNotLast, ResultUsed, UsedOutside, NotDominated}
-use Rattle.pliron_fit.specs.Misfit.{IsMisfit}
+use Rattle.pliron_fit.specs.declared.violation.Violation.{Violation}
+use Rattle.pliron_fit.specs.declared.violation.Violation.TheVariants.{NotRoot, HasSuccessors, NotAdmitted, EdgeNotLast, ForeignValue, NoDominance, UnequalEdge, TerminatorNotLast, ResultUsed, UsedOutside, NotDominated}
+use Rattle.pliron_fit.specs.Violation.{IsViolation}
 use Rattle.pliron_fit.specs.Plain.{IsPlainlyFit}
 use Rattle.pliron_fit.specs.Uses.{AreDominated}
 use Rattle.pliron_fit.proofs.UseLemmas.{region_holder}
 
 module _ (t : Tree) (w : IsTree t) (root : ℕ) where
-  -- who uses by right what is made inside the root stands inside it
-  pub user_inside : (k v : ℕ) → IsMadeInside t root v → IsDominated t k v → IsInside t root k
+  -- who uses by right what is defined inside the root stands inside it
+  pub user_inside : (k v : ℕ) → IsDefinedInside t root v → IsDominated t k v → IsInside t root k
   user_inside k v made d =
       let h = region_holder t w root (definition_of t v) d.region made d.defined in
-      let up : holder_of t d.around ≡ Some h.0 = around_holder t (parent_of t d.around) ∙ ap (λ o. up_from (up_from o (λ b. block_parent_of t b)) (λ r. region_parent_of t r)) d.in_block ∙ ap (λ o. up_from o (λ r. region_parent_of t r)) d.in_region ∙ h.1 in
+      let up : parent_operation_of t d.around ≡ Some h.0 = around_holder t (parent_of t d.around) ∙ ap (λ o. up_from (up_from o (λ b. block_parent_of t b)) (λ r. region_parent_of t r)) d.in_block ∙ ap (λ o. up_from o (λ r. region_parent_of t r)) d.in_region ∙ h.1 in
       let i = inside_from t root d.around h.0 up h.2 in
       elim d.holds [ inl s ↦ subst (IsInside t root) (sym s) i | inr j ↦ inside_trans t root d.around k i j ]
 
   -- what is wrong keeps the root from being fit
-  pub refutes : (m : Meaning) (misfit : Misfit) → IsMisfit m t root misfit → IsFit m t root → ⊥
+  pub refutes : (m : Meaning) (violation : Violation) → IsViolation m t root violation → IsFit m t root → ⊥
   refutes m NotRoot h fit = h fit.chosen
   refutes m HasSuccessors h fit = h fit.defined.no_successors
   refutes m (NotAdmitted k) h fit = h.1 (fit.linked.admitted k h.0)

@@ -51,7 +51,7 @@ fn check_linked<D: Dialect>(op: Ptr<Operation>, ctx: &Context) -> Result<(), Run
 /// Runs a pass on the operation, as `run_pipeline` does, where the tree is well linked there.
 ///
 /// Whatever this answers, each operation that was fit to run (`is_fit` tests it) and still stands does exactly
-/// what it did, the operation stands, and outside it only operands change that named a value made inside it.
+/// what it did, the operation stands, and outside it only operands change that named a value defined inside it.
 ///
 /// Asks that the operation stands. Errors: `NotLinked` exactly where the tree is not well linked at the
 /// operation, and then nothing changed; else those of `run_pipeline`. Cost: that of `is_well_linked` and of the
@@ -89,7 +89,7 @@ pub struct CheckedRun {
 /// each of them that still stands does exactly what it did, and is fit to run.
 ///
 /// Asks that the operation stands (`is_live` tests it). Errors: `NotLinked` exactly where the tree is not well
-/// linked at the operation, and then nothing changed; want of memory, also before anything was run; else those
+/// linked at the operation, and then nothing changed; allocation failure, also before anything was run; else those
 /// of `run_pipeline`. Cost: that of `run_checked`, and of `is_fit` for each of the roots.
 pub fn run_checked_for<P: Pass>(
     pass: &mut P,

@@ -6,7 +6,7 @@ mod by_definition;
 #[cfg(test)]
 mod driver;
 #[cfg(test)]
-mod misfits;
+mod violations;
 #[cfg(test)]
 mod random;
 #[cfg(test)]

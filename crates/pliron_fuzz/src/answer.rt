@@ -29,7 +29,7 @@ fn taken_apart(alloc: Global, written: &[u8]) -> Result<Answer, AllocError> {
 
 /// What the program answers to a list of passes and a text.
 ///
-/// Errors: want of memory. Cost: that of the program.
+/// Errors: allocation failure. Cost: that of the program.
 pub fn answer_to(alloc: Global, list: &str, text: &str) -> Result<Answer, AllocError> {
     let mut words = Vec::new(alloc);
     words.push(String::from_str(alloc, list)?)?;

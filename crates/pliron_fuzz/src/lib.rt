@@ -12,4 +12,4 @@ mod texts;
 mod verdict;
 
 pub use tally::Tally;
-pub use verdict::{Fault, Verdict, judge};
+pub use verdict::{AnswerFault, Verdict, judge};

@@ -127,7 +127,7 @@ fn are_kept(before: &[Sight], after: &[Sight]) -> bool {
 
 /// Whether the functions of both texts run alike on a few inputs and worlds, as far as a few moves show it.
 ///
-/// Errors: want of memory. Cost: that of the runs by the evaluator.
+/// Errors: allocation failure. Cost: that of the runs by the evaluator.
 pub fn runs_are_kept(alloc: Global, before: &str, after: &str) -> Result<bool, OptError>
     ensures { IsOkUnless result OptError.Memory }
 {

@@ -1,8 +1,8 @@
 -- The components of a graph, and the order in which they stand.
 use Rattle.std.specs.Prelude.{◌≡◌, ℕ, ◌<◌, ◌⊎◌, ◌↔◌, ◌++◌, Bool, IsTrue, List, Contains, slice_get, Some, length}
 use Rattle.std.specs.Option.{option_to_list}
-use Rattle.pliron_search.specs.Digraph.{Digraph, Reaches}
-use Rattle.pliron_search.specs.Search.{Orders, IsSearch, number_in}
+use Rattle.pliron_traversal.specs.Digraph.{Digraph, Reaches}
+use Rattle.pliron_traversal.specs.Search.{Orders, IsSearch, number_in}
 use Rattle.pliron_graph.specs.declared.components.Scc.{Scc}
 
 -- the entry, if there is one, and then all nodes

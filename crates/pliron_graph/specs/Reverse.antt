@@ -1,8 +1,8 @@
 -- The reverse of a graph, with a sentinel in front of its pre-sentinels.
 use Rattle.std.specs.Prelude.{◌≡◌, ℕ, ◌<◌, ◌≤◌, ◌↔◌, slice_get, Bool, List, [], ◌∷◌, ◌++◌, Some, Contains, map, if◌then◌else◌}
 use Rattle.std.specs.List.{All, list_any}
-use Rattle.pliron_search.specs.Digraph.{Digraph}
-use Rattle.pliron_search.specs.Search.{number_in}
+use Rattle.pliron_traversal.specs.Digraph.{Digraph}
+use Rattle.pliron_traversal.specs.Search.{number_in}
 use Rattle.pliron_graph.specs.Components.{AreComponents}
 use Rattle.pliron_graph.specs.declared.components.Scc.{Scc}
 use Rattle.pliron_graph.specs.declared.reverse_node.ReverseNode.{ReverseNode}

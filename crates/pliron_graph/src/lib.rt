@@ -33,7 +33,7 @@ pub use ancestors::{
     find_ancestor_op_of_op_in_region, strictly_precedes_in_block,
 };
 pub use components::{Scc, sccs_in_topological_order};
-pub use pliron_search::{
+pub use pliron_traversal::{
     AdjacencyList, ControlFlowGraph, DFSEdgeKind, DFSTraversal, HasLabel, OrderIter,
     ReverseOrderIter, post_order, post_order_by_component, topological_order,
     topological_order_by_component,

@@ -1,6 +1,6 @@
 //! Regions of blocks as graphs, and their reverse.
 ghost use Rattle.pliron_core.specs.Tree.{IsRegion};
-ghost use Rattle.pliron_search.specs.Regions.{IsLawfulRegion};
+ghost use Rattle.pliron_traversal.specs.Regions.{IsLawfulRegion};
 
 use crate::cases::{parts, rows_of};
 use crate::texts::answer;
@@ -58,7 +58,7 @@ fn region_of(rt: &impl Abort, ctx: &Context, op: Ptr<Operation>) -> Ptr<Region>
 }
 
 // A new last operation of the block.
-fn appended(
+fn append_operation(
     rt: &impl Abort,
     alloc: Global,
     ctx: &mut Context,
@@ -96,7 +96,7 @@ fn branch(
     blocks: &[Ptr<BasicBlock>],
     targets: &[u32],
 ) {
-    let op = appended(rt, alloc, ctx, from);
+    let op = append_operation(rt, alloc, ctx, from);
     for target in targets {
         lead(rt, ctx, op, blocks, *target);
     }

@@ -1,9 +1,9 @@
 //! Graphs as texts, and how they are read.
 ghost use Rattle.std.specs.Prelude.{◌≡◌, ◌<◌, ◌≤◌, IfOk, IfSome, length};
-ghost use Rattle.pliron_search.specs.Adjacency.{AreInverse};
+ghost use Rattle.pliron_traversal.specs.Adjacency.{AreInverse};
 
 use pliron_laws::OptError;
-use pliron_search::AdjacencyList;
+use pliron_traversal::AdjacencyList;
 use std::alloc::{AllocError, Global};
 use std::collections::BTreeMap;
 
@@ -133,7 +133,7 @@ fn places_of(
 /// blank; `None` for any other text, one in which a node has two lines, and one in which a successor has
 /// none.
 ///
-/// Errors: want of memory. Cost: linear, but for an ordered map of the numbers, which strangers choose.
+/// Errors: allocation failure. Cost: linear, but for an ordered map of the numbers, which strangers choose.
 pub fn read_graph(alloc: Global, text: &[u8]) -> Result<Option<NumberedGraph>, OptError>
     ensures lawful { IfOk result (λ found. IfSome found (λ graph. AreInverse graph.edges)) }
     ensures numbered { IfOk result (λ found. IfSome found (λ graph. length graph.numbers.items ≡ length graph.edges.succ)) }

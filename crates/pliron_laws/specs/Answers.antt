@@ -3,7 +3,7 @@ use Rattle.std.specs.Prelude.{◌≡◌, ◌<◌, ℕ, Bool, nat_eq, false, List
 use Rattle.std.specs.Option.{option_map}
 use Rattle.pliron_core.specs.declared.attrs.AttrObj.{AttrObj}
 use Rattle.pliron_core.specs.Tree.{Tree, head_of, row_of, operands_of, results_of, successors_of, regions_of, arguments_of, block_parent_of, slot_of, layout_of, first_of}
-use Rattle.pliron_core.specs.Writes.{operand_removed, created}
+use Rattle.pliron_core.specs.Writes.{operand_removed, after_creating}
 use Rattle.pliron_laws.specs.Datum.{Head, Shape, Meaning}
 use Rattle.pliron_laws.specs.Tree.{Operation, op_at, shape_of}
 use Rattle.pliron_laws.specs.Acting.{pick}
@@ -85,4 +85,4 @@ LosesForwarded m shortened t t' op i j v = (o : Operation) (p : ℕ) → op_at t
 -- the dialect accepts the attribute; nothing was made where it does not
 abbrev pub IsMaterialised : (AttrObj → Bool) → (AttrObj → Head) → AttrObj → (t t' : Tree) → Option ℕ → Type 0
 IsMaterialised accepts head attr t t' None = (accepts attr ≡ false) × (t' ≡ t)
-IsMaterialised accepts head attr t t' (Some op) = IsTrue (accepts attr) × (op ≡ length t.operations) × (t' ≡ created t (head attr) 1 0)
+IsMaterialised accepts head attr t t' (Some op) = IsTrue (accepts attr) × (op ≡ length t.operations) × (t' ≡ after_creating t (head attr) 1 0)

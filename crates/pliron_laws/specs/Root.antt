@@ -3,7 +3,7 @@ use Rattle.std.specs.Prelude.{◌≡◌, ◌≢◌, ℕ, List, [], ◌∷◌, �
 use Rattle.pliron_core.specs.declared.context.Def.{Def}
 use Rattle.pliron_core.specs.declared.context.Def.TheVariants.{Result, Argument}
 use Rattle.pliron_core.specs.Tree.{Tree, In, IsInside, IsWithin, head_of, operands_of, successors_of, results_of, regions_of, parent_of, body_of, arguments_of, block_parent_of, layout_of, definition_of, up_from, first_of, last_of}
-use Rattle.pliron_core.specs.Changes.{IsMadeInside}
+use Rattle.pliron_core.specs.Changes.{IsDefinedInside}
 use Rattle.pliron_core.specs.Reads.{has_ssa}
 use Rattle.pliron_laws.specs.Datum.{Head, Meaning}
 use Rattle.pliron_laws.specs.Tree.{Operation, op_at, shape_of}
@@ -38,7 +38,7 @@ pub record IsDominated (t : Tree) (user v : ℕ) : Type 0 where
 pub record WellDefined (m : Meaning) (t : Tree) (root : ℕ) : Type 0 where
   -- the root has no successors, and operations inside it use only values that are defined inside it
   pub no_successors : successors_of t root ≡ []
-  pub own_values : (k v : ℕ) → IsInside t root k → In v (operands_of t k) → IsMadeInside t root v
+  pub own_values : (k v : ℕ) → IsInside t root k → In v (operands_of t k) → IsDefinedInside t root v
   -- the regions of the root, and of the operations inside it, have SSA dominance
   pub dominance : (k r : ℕ) → IsWithin t root k → In r (regions_of t k) → IsTrue (has_ssa t r)
   -- each edge of a branch forwards as many values as its target has arguments
@@ -47,4 +47,4 @@ pub record WellDefined (m : Meaning) (t : Tree) (root : ℕ) : Type 0 where
   pub terminators : (k b : ℕ) (h : Head) → IsInside t root k → head_of t k ≡ Some h → IsTrue (m.is_terminator h) → parent_of t k ≡ Some b → last_of None (body_of t b) ≡ Some k
   pub unused : (k v user : ℕ) → IsInside t root k → successors_of t k ≢ [] → In v (results_of t k) → In v (operands_of t user) → ⊥
   -- each use of a value that is defined inside comes behind the definition
-  pub dominated : (user v : ℕ) → In v (operands_of t user) → IsMadeInside t root v → IsDominated t user v
+  pub dominated : (user v : ℕ) → In v (operands_of t user) → IsDefinedInside t root v → IsDominated t user v

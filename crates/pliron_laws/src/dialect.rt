@@ -7,7 +7,7 @@
 //! Some laws hold by type. What the answer on side effects reads is an argument of `side_effects`, the
 //! head; what the answer on removal reads are those of `removable`, the head, the region's index and
 //! whether the block is the entry. The tests read the head alone, since `ReadsHead` says so. But for
-//! `verify`, each error is want of memory.
+//! `verify`, each error is allocation failure.
 //!
 //! A tree that was well linked is so after each call, whatever it answers. Calls with a `&Context` only
 //! read. The contract of each other call names the tree that it leaves: `materialize` adds at most an
@@ -20,12 +20,12 @@ ghost use Rattle.pliron_core.specs.declared.attrs.AttrObj.{AttrObj as Attribute}
 ghost use Rattle.pliron_core.specs.declared.rewriter.OpInsertionPoint.TheVariants.{BeforeOperation};
 ghost use Rattle.std.specs.Prelude.{Result as ResultOf};
 ghost use Rattle.pliron_laws.specs.declared.fault.OptError.{OptError as FaultName};
-ghost use Rattle.pliron_core.specs.Tree.{Tree, IsLive, block_holder_of, operands_of, successors_of, parent_of};
+ghost use Rattle.pliron_core.specs.Tree.{Tree, IsLive, block_parent_operation_of, operands_of, successors_of, parent_of};
 ghost use Rattle.pliron_laws.specs.Datum.{Head, Shape, Meaning};
 ghost use Rattle.pliron_laws.specs.Folding.{Constants, Feasible, AnswersTrue, AnswersJumps, MakesConstants};
 ghost use Rattle.pliron_laws.specs.Laws.{KeepsCounts, GivesAtOnce, ForwardsOperands, ActsWithoutArgument};
 ghost use Rattle.pliron_laws.specs.StandIns.{AreStanding, IsRestored, IsStoodIn};
-ghost use Rattle.pliron_laws.specs.InPlace.{Outcome, FoldsInPlace, PassSameTests, materialising};
+ghost use Rattle.pliron_laws.specs.InPlace.{Outcome, FoldsInPlace, PassSameTests, materialising_outcome};
 ghost use Rattle.pliron_laws.specs.Answers.{ReadsHead, ReadsCounts, ReadsShape, ReadsEdges, ReadsPlace, HasEntryArgument, HeadPasses, AreForwarded, IsForwardedAt, IsForwardedOnce, HasPlace, LosesForwarded, IsMaterialised};
 ghost use Rattle.pliron_laws.specs.Entries.{EntryOperands, NamesOperands, RootsNameNone};
 ghost use Rattle.pliron_laws.specs.declared.dialect.Interface.{Interface as InterfaceName};
@@ -69,7 +69,7 @@ pub trait SideEffects {
     ghost verdict: { Tree → ℕ → ResultOf (Unit {0}) FaultName → Type 0 };
 
     /// Looks for a fault in the operation. Asks that the operation stands (`is_live` tests it). Errors: the
-    /// first fault that the dialect finds, or want of memory.
+    /// first fault that the dialect finds, or allocation failure.
     fn verify(alloc: Global, op: Ptr<Operation>, ctx: &Context) -> Result<(), OptError>
         requires { IsLive ctx.now.tree op }
         ensures { verdict ctx.now.tree op result };
@@ -90,14 +90,14 @@ pub trait BlockArgRemoval {
         block: Ptr<BasicBlock>,
     ) -> Option<bool>
         requires live { IsLive ctx.now.tree op }
-        requires block { block_holder_of ctx.now.tree block ≡ Some op }
+        requires block { block_parent_operation_of ctx.now.tree block ≡ Some op }
         ensures { ReadsPlace removable ctx.now.tree op block result };
 
     // what the check may answer for an operation
     ghost verdict: { Tree → ℕ → ResultOf (Unit {0}) FaultName → Type 0 };
 
     /// Looks for a fault in the operation. Asks that the operation stands (`is_live` tests it). Errors: the
-    /// first fault that the dialect finds, or want of memory.
+    /// first fault that the dialect finds, or allocation failure.
     fn verify(alloc: Global, op: Ptr<Operation>, ctx: &Context) -> Result<(), OptError>
         requires { IsLive ctx.now.tree op }
         ensures { verdict ctx.now.tree op result };
@@ -128,7 +128,7 @@ pub trait ConstFoldInterface: HasMeaning {
     /// The constant that each result has, where it is known, if the operands have these constants.
     /// Asks that the operation folds, and for one entry for each operand.
     ///
-    /// Errors: want of memory.
+    /// Errors: allocation failure.
     fn check_fold(
         alloc: Global,
         op: Ptr<Operation>,
@@ -144,7 +144,7 @@ pub trait ConstFoldInterface: HasMeaning {
     /// Folds the operation where it stands, if its operands have these constants. Asks that the
     /// operation folds, for one entry for each operand, and for an insertion point just before it.
     ///
-    /// Errors: want of memory, after which the tree is as before, but for spent keys, as the law on folding
+    /// Errors: allocation failure, after which the tree is as before, but for erased handles, as the law on folding
     /// in place says.
     fn fold_in_place<R: Rewriter + Room>(
         alloc: Global,
@@ -168,8 +168,8 @@ pub trait ConstFoldInterface: HasMeaning {
     /// the results. When all stand, each gets all uses of its result. Most dialects fold in place by this
     /// call.
     ///
-    /// Asks as `fold_in_place` does. Errors: want of memory, after which the tree is as before, but for
-    /// spent keys. Cost: that of `check_fold`, one `materialize` for each answer, and one step for each
+    /// Asks as `fold_in_place` does. Errors: allocation failure, after which the tree is as before, but for
+    /// erased handles. Cost: that of `check_fold`, one `materialize` for each answer, and one step for each
     /// use of a result.
     fn fold_with_materialization<R: Rewriter + Room>(
         alloc: Global,
@@ -183,9 +183,9 @@ pub trait ConstFoldInterface: HasMeaning {
         requires folds { HeadPasses can_fold ctx.old.tree op }
         requires entries { length operand_attrs.now ≡ length (operands_of ctx.old.tree op) }
         requires point { R.point rewriter.old ≡ BeforeOperation op }
-        ensures ok { IfOk result (λ status. materialising Self.meaning constants accepts constant_head ctx.old.tree ctx.new.tree op operand_attrs.now
+        ensures ok { IfOk result (λ status. materialising_outcome Self.meaning constants accepts constant_head ctx.old.tree ctx.new.tree op operand_attrs.now
             (Some status)) }
-        ensures refused { OnErr result (materialising Self.meaning constants accepts constant_head ctx.old.tree ctx.new.tree op operand_attrs.now Option.None) }
+        ensures refused { OnErr result (materialising_outcome Self.meaning constants accepts constant_head ctx.old.tree ctx.new.tree op operand_attrs.now Option.None) }
         ensures memory { IsOkUnless result OptError.Memory }
         ensures longer { length ctx.old.tree.operations ≤ length ctx.new.tree.operations }
         ensures point { R.point rewriter.new ≡ R.point rewriter.old }
@@ -206,7 +206,7 @@ pub trait ConstFoldInterface: HasMeaning {
     /// a constant, that constant just before the operation, with no use yet.
     ///
     /// Asks that the operation stands in a block, for an insertion point just before it, and for an empty list
-    /// of constants. Errors: want of memory, after which the list has those that stand. Cost: one
+    /// of constants. Errors: allocation failure, after which the list has those that stand. Cost: one
     /// `materialize` for each answer.
     fn make_stand_ins<R: Rewriter + Room>(
         alloc: Global,
@@ -244,7 +244,7 @@ pub trait ConstFoldInterface: HasMeaning {
     /// A new operation that makes this constant, which stands in no block; `None`, with nothing made,
     /// where the dialect has none for it.
     ///
-    /// Errors: want of memory, with nothing made.
+    /// Errors: allocation failure, with nothing made.
     fn materialize(
         alloc: Global,
         attr: &AttrObj,
@@ -258,7 +258,7 @@ pub trait ConstFoldInterface: HasMeaning {
     ghost verdict: { Tree → ℕ → ResultOf (Unit {0}) FaultName → Type 0 };
 
     /// Looks for a fault in the operation. Asks that the operation stands (`is_live` tests it). Errors: the
-    /// first fault that the dialect finds, or want of memory.
+    /// first fault that the dialect finds, or allocation failure.
     fn verify(alloc: Global, op: Ptr<Operation>, ctx: &Context) -> Result<(), OptError>
         requires { IsLive ctx.now.tree op }
         ensures { verdict ctx.now.tree op result };
@@ -284,7 +284,7 @@ pub trait BranchOpFoldInterface: HasMeaning {
     /// The blocks that the branch may go to, if its operands have these constants. Asks that the
     /// operation folds as a branch, and for one entry for each operand.
     ///
-    /// Errors: want of memory.
+    /// Errors: allocation failure.
     fn check_fold(
         alloc: Global,
         op: Ptr<Operation>,
@@ -300,7 +300,7 @@ pub trait BranchOpFoldInterface: HasMeaning {
     /// Folds the branch where it stands, if its operands have these constants. Asks that the operation
     /// folds as a branch, for one entry for each operand, and for an insertion point just before it.
     ///
-    /// Errors: want of memory, after which the tree is as before, but for spent keys, as the law on folding
+    /// Errors: allocation failure, after which the tree is as before, but for erased handles, as the law on folding
     /// in place says.
     fn fold_in_place<R: Rewriter + Room>(
         alloc: Global,
@@ -323,7 +323,7 @@ pub trait BranchOpFoldInterface: HasMeaning {
     ghost verdict: { Tree → ℕ → ResultOf (Unit {0}) FaultName → Type 0 };
 
     /// Looks for a fault in the operation. Asks that the operation stands (`is_live` tests it). Errors: the
-    /// first fault that the dialect finds, or want of memory.
+    /// first fault that the dialect finds, or allocation failure.
     fn verify(alloc: Global, op: Ptr<Operation>, ctx: &Context) -> Result<(), OptError>
         requires { IsLive ctx.now.tree op }
         ensures { verdict ctx.now.tree op result };
@@ -349,7 +349,7 @@ pub trait RegionBranchOpInterface: HasMeaning {
     ghost verdict: { Tree → ℕ → ResultOf (Unit {0}) FaultName → Type 0 };
 
     /// Looks for a fault in the operation. Asks that the operation stands (`is_live` tests it). Errors: the
-    /// first fault that the dialect finds, or want of memory.
+    /// first fault that the dialect finds, or allocation failure.
     fn verify(alloc: Global, op: Ptr<Operation>, ctx: &Context) -> Result<(), OptError>
         requires { IsLive ctx.now.tree op }
         ensures { verdict ctx.now.tree op result };
@@ -411,7 +411,7 @@ pub trait Dialect: SideEffects
 
     /// The operands that the branch forwards along its edge `i`. Asks that it is a branch with such an edge.
     ///
-    /// Errors: want of memory.
+    /// Errors: allocation failure.
     fn successor_operands(
         alloc: Global,
         op: Ptr<Operation>,
@@ -427,7 +427,7 @@ pub trait Dialect: SideEffects
     /// The operand that the branch forwards at place `j` of its edge `i`; `None` where the edge has no
     /// such place. Asks that it is a branch with such an edge.
     ///
-    /// Errors: want of memory. Cost: that of `successor_operands`, which this body asks; a dialect that
+    /// Errors: allocation failure. Cost: that of `successor_operands`, which this body asks; a dialect that
     /// can tell in one step writes its own.
     fn successor_operand(
         alloc: Global,

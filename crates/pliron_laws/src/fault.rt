@@ -26,7 +26,7 @@ pub enum OptError {
     Pass(u32),
 }
 
-/// A change of the tree that was refused is want of memory.
+/// A change of the tree that was refused is allocation failure.
 impl From<NoMemory> for OptError {
     ghost from_gives = { λ _ e. e ≡ Memory };
 
@@ -35,7 +35,7 @@ impl From<NoMemory> for OptError {
     }
 }
 
-/// A refused allocation is want of memory.
+/// A refused allocation is allocation failure.
 impl From<AllocError> for OptError {
     ghost from_gives = { λ _ e. e ≡ Memory };
 
@@ -44,7 +44,7 @@ impl From<AllocError> for OptError {
     }
 }
 
-/// A refused growth of a collection is want of memory, and the value that was not stored is let go.
+/// A refused growth of a collection is allocation failure, and the value that was not stored is let go.
 impl<T: Drop> From<AllocFailed<T>> for OptError {
     ghost from_gives = { λ _ e. e ≡ Memory };
 

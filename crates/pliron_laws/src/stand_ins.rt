@@ -4,8 +4,8 @@
 //! then on nothing takes memory.
 ghost use Rattle.std.specs.Prelude.{◌≡◌, ◌++◌, ◌∷◌, ◌<◌, ℕ, [], OnOk, OnErr, IsOkUnless, vec_len, vec_capacity};
 ghost use Rattle.pliron_core.specs.Tree.{Tree};
-ghost use Rattle.pliron_core.specs.Insertion.{IsPointFor, inserted};
-ghost use Rattle.pliron_core.specs.Erased.{erased};
+ghost use Rattle.pliron_core.specs.Insertion.{IsPointFor, after_inserting};
+ghost use Rattle.pliron_core.specs.Erased.{after_erasing};
 ghost use Rattle.pliron_laws.specs.Datum.{Head};
 ghost use Rattle.pliron_laws.specs.Outcomes.{IsMadeConstant};
 ghost use Rattle.pliron_laws.specs.StandIns.{AreStanding, AreUnused, IsRestored, all_replaced, stand_in as stand_in_for, status_of};
@@ -52,10 +52,10 @@ pub(crate) fn stand_in<R: Rewriter>(
     requires fresh { (t : Tree) × (head : Head) × IsMadeConstant t ctx.old.tree constant head }
     requires point { IsPointFor ctx.old.tree (R.point rewriter.old) constant }
     requires room { vec_len made.old < vec_capacity made.old }
-    ensures ok { OnOk result (ctx.new.tree ≡ inserted ctx.old.tree (R.point rewriter.old) constant) }
+    ensures ok { OnOk result (ctx.new.tree ≡ after_inserting ctx.old.tree (R.point rewriter.old) constant) }
     ensures made { OnOk result ((t : Tree) (head : Head) → IsMadeConstant t ctx.old.tree constant head → made.new.items ≡ made.old.items ++
         stand_in_for t old ∷ []) }
-    ensures err { OnErr result (ctx.new.tree ≡ erased ctx.old.tree constant) }
+    ensures err { OnErr result (ctx.new.tree ≡ after_erasing ctx.old.tree constant) }
     ensures kept { OnErr result (made.new.items ≡ made.old.items) }
     ensures point { R.point rewriter.new ≡ R.point rewriter.old }
 {

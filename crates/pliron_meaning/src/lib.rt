@@ -1,5 +1,5 @@
 //! What a program means, and what a dialect owes: the definitions and laws that the passes of this
-//! repository are proved against, under the names that users take. What stands here is made in the crates
+//! repository are proved against, under the names that users take. What stands here is defined in the crates
 //! below; this one has no function of its own.
 //!
 //! A dialect implements [`Dialect`] and its parents, and proves the laws that stand there as members.

@@ -1,9 +1,9 @@
 -- What stands while a text is built in a tree.
 use Rattle.std.specs.Prelude.{◌≡◌, ◌⊎◌, ℕ, ◌<◌, ◌≤◌, List, length, Some, None, slice_get}
 use Rattle.pliron_core.specs.declared.attrs.Head.{Head}
-use Rattle.pliron_core.specs.Tree.{Tree, In, IsLive, IsBlock, IsRegion, IsDefined, parent_of, holder_of, block_holder_of, region_parent_of}
-use Rattle.pliron_core.specs.Joined.{IsTree}
-use Rattle.pliron_core.specs.Writes.{created, put_last}
+use Rattle.pliron_core.specs.Tree.{Tree, In, IsLive, IsBlock, IsRegion, IsDefined, parent_of, parent_operation_of, block_parent_operation_of, region_parent_of}
+use Rattle.pliron_core.specs.Invariant.{IsTree}
+use Rattle.pliron_core.specs.Writes.{after_creating, put_last}
 use Rattle.pliron_notation.specs.declared.build.Built.{Built}
 use Rattle.pliron_notation.specs.declared.syntax.Made.{Made}
 use Rattle.pliron_notation.specs.declared.syntax.Syntax.{Syntax}
@@ -37,14 +37,14 @@ pub record IsGrown (t u : Tree) (root : ℕ) : Type 0 where
   pub fresh : root ≡ length t.operations
   pub live : IsLive u root
   pub loose : parent_of u root ≡ None
-  pub held : (k : ℕ) → IsLive u k → root < k → (h : ℕ) × (holder_of u k ≡ Some h) × (root ≤ h) × (h < k)
+  pub held : (k : ℕ) → IsLive u k → root < k → (h : ℕ) × (parent_operation_of u k ≡ Some h) × (root ≤ h) × (h < k)
 
 abbrev pub All : (ℕ → Type 0) → List ℕ → Type 0
 All p xs = (x : ℕ) → In x xs → p x
 
 -- it is new, and so is the operation that holds it
 abbrev pub IsNewBlock : Tree → Tree → ℕ → ℕ → Type 0
-IsNewBlock t u root b = (h : ℕ) × (block_holder_of u b ≡ Some h) × (root ≤ h) × (length t.bodies ≤ b)
+IsNewBlock t u root b = (h : ℕ) × (block_parent_operation_of u b ≡ Some h) × (root ≤ h) × (length t.bodies ≤ b)
 
 abbrev pub IsNewRegion : Tree → Tree → ℕ → ℕ → Type 0
 IsNewRegion t u root r = (h : ℕ) × (region_parent_of u r ≡ Some h) × (root ≤ h) × (length t.layouts ≤ r)
@@ -85,5 +85,5 @@ abbrev pub AddsOnly : (xs ys new : List ℕ) → Type 0
 AddsOnly xs ys new = (x : ℕ) → In x ys → In x xs ⊎ In x new
 
 -- the tree with a new operation at the end of the block
-abbrev pub appended : Tree → Head → (results regions block : ℕ) → Tree
-appended t head results regions block = put_last (created t head results regions) (length t.operations) block
+abbrev pub after_appending : Tree → Head → (results regions block : ℕ) → Tree
+after_appending t head results regions block = put_last (after_creating t head results regions) (length t.operations) block

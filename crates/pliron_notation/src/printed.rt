@@ -91,7 +91,7 @@ impl Printed for Bench {
 /// The text of the operation in one line, where blocks are `b0`, `b1`, .. in each region and values are
 /// `v0`, `v1`, .. in each `func`. Of a tree that isn't one of this dialect the text is open.
 ///
-/// Asks that the operation stands. Errors: want of memory. Cost: linear in the tree.
+/// Asks that the operation stands. Errors: allocation failure. Cost: linear in the tree.
 pub fn print_text(alloc: Global, root: Ptr<Operation>, ctx: &Context) -> Result<String, OptError>
     requires { IsLive ctx.now.tree root }
     ensures { IsOkUnless result OptError.Memory }

@@ -33,7 +33,7 @@ pub struct BlockText {
 
 /// What a text makes next: the operation or the block of this number.
 #[derive(Clone, Copy, Drop)]
-pub enum Step {
+pub enum SyntaxStep {
     Operation(usize),
     Block(usize),
 }
@@ -43,7 +43,7 @@ pub enum Step {
 #[derive(Drop)]
 pub struct Syntax {
     pub root: BenchKind,
-    pub steps: Vec<Step>,
+    pub steps: Vec<SyntaxStep>,
     pub operations: Vec<OperationText>,
     pub blocks: Vec<BlockText>,
     pub values: usize,
@@ -61,17 +61,17 @@ impl Syntax {
         }
     }
 
-    /// Makes room for so many more operations. Errors: want of memory. Cost: the number of operations.
+    /// Makes room for so many more operations. Errors: allocation failure. Cost: the number of operations.
     pub fn reserve(&mut self, operations: usize) -> Result<(), AllocError> {
         self.steps.reserve(operations)?;
         self.operations.reserve(operations)
     }
 
-    /// Adds the next operation of the text, as the next step, and answers its number. Errors: want of memory.
+    /// Adds the next operation of the text, as the next step, and answers its number. Errors: allocation failure.
     /// Cost: constant, amortised.
     pub fn add_operation(&mut self, operation: OperationText) -> Result<usize, AllocError> {
         let number = self.operations.len();
-        self.steps.push(Step::Operation(number))?;
+        self.steps.push(SyntaxStep::Operation(number))?;
         self.operations.reserve(1)?;
         self.operations.push_reserved(operation);
         Ok(number)
@@ -215,18 +215,18 @@ impl Made {
     }
 
     /// Counts what the step makes, and answers whether it is the next and its place is made.
-    fn take(&mut self, syntax: &Syntax, step: Step) -> bool
+    fn take(&mut self, syntax: &Syntax, step: SyntaxStep) -> bool
         ensures { IsTrue result → IsNext syntax.now self.old step self.new }
     {
         match step {
-            Step::Operation(number) => match syntax.operations.get(number) {
+            SyntaxStep::Operation(number) => match syntax.operations.get(number) {
                 Some(operation) if number == self.operations && operation.block < self.blocks => {
                     self.operations += 1;
                     self.add(operation.kind.region_count(), operation.kind.result_count())
                 }
                 _ => false,
             },
-            Step::Block(number) => match syntax.blocks.get(number) {
+            SyntaxStep::Block(number) => match syntax.blocks.get(number) {
                 Some(block) if number == self.blocks && block.region < self.regions => {
                     self.blocks += 1;
                     self.add(0, block.arguments)

@@ -13,7 +13,7 @@ use std::alloc::Global;
 use std::process::Abort;
 
 /// The line of the text, where edges stand last, or `unreadable`. Ends of lines stand as `|` in the text.
-fn printed(rt: &impl Abort, alloc: Global, text: &str) -> String {
+fn printed_line(rt: &impl Abort, alloc: Global, text: &str) -> String {
     let mut bytes = Vec::new(alloc);
     for byte in text.as_bytes() {
         bytes

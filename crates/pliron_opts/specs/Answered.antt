@@ -9,7 +9,7 @@ use Rattle.pliron_laws.specs.Linked.{IsWellLinked}
 use Rattle.pliron_pass.specs.declared.bench_facts.BenchFactKind.{BenchFactKind}
 use Rattle.pliron_pass.specs.declared.bench_facts.BenchFacts.{BenchFacts}
 use Rattle.pliron_pass.specs.Headline.{DoAsBefore}
-use Rattle.pliron_pipeline.specs.Steps.{ScheduleOf}
+use Rattle.pliron_pipeline.specs.PassSteps.{ScheduleOf}
 use Rattle.pliron_opts.specs.declared.optimise.command.Command.{Command}
 use Rattle.pliron_opts.specs.declared.optimise.command.Command.TheVariants.{Optimise, Graph}
 

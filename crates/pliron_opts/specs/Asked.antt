@@ -2,7 +2,7 @@
 use Rattle.std.specs.Prelude.{◌≡◌, ℕ, Bool, true, false, List, [], ◌∷◌, Option, map, codes}
 use Rattle.pliron_opts.specs.Plans.{IsPlan}
 use Rattle.either.specs.declared.Either.TheVariants.{Left, Right}
-use Rattle.pliron_pipeline.specs.Steps.{PipelineOf, ScheduleOf, step_name}
+use Rattle.pliron_pipeline.specs.PassSteps.{PipelineOf, ScheduleOf, step_name}
 use Rattle.pliron_opts.specs.Ran.{IsScheduled}
 use Rattle.pliron_opts.specs.declared.optimise.command.Command.{Command}
 use Rattle.pliron_opts.specs.declared.optimise.command.Command.TheVariants.{Optimise, Graph}

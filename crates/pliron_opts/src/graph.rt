@@ -7,8 +7,8 @@ use std::alloc::Global;
 
 /// What the program writes for a graph; `None` for a text that is none.
 ///
-/// Errors: want of memory. Cost: that of reading and printing it.
-pub fn described(alloc: Global, text: &[u8]) -> Result<Option<String>, OptError> {
+/// Errors: allocation failure. Cost: that of reading and printing it.
+pub fn describe_graph(alloc: Global, text: &[u8]) -> Result<Option<String>, OptError> {
     match read_graph(alloc, text)? {
         Some(graph) => Ok(Some(graph_lines::print_graph(alloc, &graph)?)),
         None => Ok(None),

@@ -17,7 +17,7 @@ mod host;
 mod optimise;
 mod program;
 
-use graph::described;
+use graph::describe_graph;
 pub use host::{host_words, optimise_host};
 pub use optimise::{BenchNotation, KindNotation, Notation};
 use optimise::{Command, asked, optimised};
@@ -30,7 +30,7 @@ pub use pliron_dce::dce;
 pub use pliron_laws::OptError;
 use pliron_pass::{BenchFactKind, BenchFacts, Pass};
 pub use pliron_pipeline::{
-    DCEPass, Pipeline, SCCPPass, Schedule, SimplifyCFGPass, Step, run_pipeline,
+    DCEPass, Pipeline, SCCPPass, Schedule, SimplifyCFGPass, PassStep, run_pipeline,
 };
 pub use pliron_sccp::{sccp, sccp_counted};
 use program::{Failure, MAX_TEXT, read_input, write_answer};
@@ -48,12 +48,12 @@ fn answer<N: Notation>(
 {
     match command {
         Command::Optimise(schedule) => optimised::<N>(alloc, schedule, text),
-        Command::Graph => described(alloc, text),
+        Command::Graph => describe_graph(alloc, text),
     }
 }
 
 /// What is to be written for the words and the input.
-fn answered<N: Notation, R: Read>(
+fn answer_to_input<N: Notation, R: Read>(
     alloc: Global,
     words: &[String],
     input: &mut R,
@@ -99,7 +99,7 @@ pub fn run_optimiser<N: Notation, R: Read, W: Write, E: Write>(
         (RunsAlone ⟦<BenchFactKind as PartialEq>⟧.eq ⟦<Schedule<N::D, BenchFacts> as Pass>⟧.outcome)) (map string_bytes args.now)
         (R.remaining input.old)) (W.contents output.old) (W.contents output.new) result }
 {
-    match answered::<N, R>(alloc, args, input) {
+    match answer_to_input::<N, R>(alloc, args, input) {
         Ok(answer) => match write_answer(answer.as_bytes(), output) {
             Ok(()) => 0,
             Err(failure) => failure.report(program, errors),

@@ -2,9 +2,9 @@
 //!
 //! It knows no tree, no pass and no notation.
 mod failure;
-mod plan;
+mod pipeline_word;
 mod streams;
 
 pub use failure::Failure;
-pub use plan::Plan;
+pub use pipeline_word::PipelineWord;
 pub use streams::{MAX_TEXT, read_input, write_answer};

@@ -3,7 +3,7 @@ ghost use Rattle.std.specs.Prelude.{◌≡◌, ℕ, Bool, true, ◌+◌, ◌<◌
 ghost use Rattle.std.specs.Borrow.{sem};
 ghost use Rattle.std.specs.Option.{option_copied_mut};
 ghost use Rattle.pliron_core.specs.Tree.{Tree, IsLive};
-ghost use Rattle.pliron_core.specs.Joined.{IsTree};
+ghost use Rattle.pliron_core.specs.Invariant.{IsTree};
 ghost use Rattle.pliron_core.specs.Changes.{IsSameTree};
 ghost use Rattle.pliron_pass.specs.Answer.{has_changed, kept_kinds};
 ghost use Rattle.pliron_theory.specs.Edges.{edges_inside};
@@ -84,7 +84,7 @@ pub trait Analyses: AnalysisKind {
 impl<E: Analyses + Drop> AnalysisManager<E> {
     /// Computes an analysis and its needs, in order, where they are not cached, and puts it last.
     ///
-    /// Asks that the operation stands (`is_live` tests it). Errors: want of memory, and those of the
+    /// Asks that the operation stands (`is_live` tests it). Errors: allocation failure, and those of the
     /// analyses, which leave only entries of lower ranks added. Cost: a look-up for each need, and computing
     /// what is not cached.
     pub fn compute_analysis(
@@ -135,7 +135,7 @@ impl<E: Analyses + Drop> AnalysisManager<E> {
 
     /// An answer that preserves the cached kinds that read edges alone.
     ///
-    /// Errors: want of memory. Cost: the number of entries in the cache.
+    /// Errors: allocation failure. Cost: the number of entries in the cache.
     pub fn keep_edge_kinds(&self, changed: IRStatus) -> Result<PassResult<E::Kind>, OptError>
         ensures changed { IfOk result (λ r. has_changed r ≡ changed) }
         ensures kept { IfOk result (λ r. kept_kinds r ≡ edge_kinds E.Kind.eq E.reads_edges_alone self.now.cache.entries) }

@@ -1,7 +1,7 @@
 //! What a refusal of memory leaves. With ample memory nothing is refused here; `rt try --test` with
 //! `--fail-alloc N` refuses the Nth request.
 use super::cache::kinds;
-use super::facts::Fact;
+use super::facts::LatticeValue;
 use super::lines::read;
 use super::passes::Tally;
 use pliron_core::{Context, IRStatus};
@@ -39,7 +39,7 @@ fn computed_in(
 }
 
 #[test]
-fn computing(rt: HostRuntime) {
+fn refused_computing(rt: HostRuntime) {
     let alloc = rt.alloc();
     let mut ctx = Context::new(alloc);
     let mut analyses = AnalysisManager::<BenchFacts>::new(alloc);
@@ -51,7 +51,7 @@ fn preserved_in(
     rt: &impl Abort,
     alloc: Global,
     ctx: &mut Context,
-    analyses: &mut AnalysisManager<Fact>,
+    analyses: &mut AnalysisManager<LatticeValue>,
     answer: &mut PassResult<u32>,
 ) {
     let root = read(rt, alloc, ctx, TEXT);
@@ -65,17 +65,17 @@ fn preserved_in(
 }
 
 #[test]
-fn preserving(rt: HostRuntime) {
+fn refused_preserving(rt: HostRuntime) {
     let alloc = rt.alloc();
     let mut ctx = Context::new(alloc);
-    let mut analyses = AnalysisManager::<Fact>::new(alloc);
+    let mut analyses = AnalysisManager::<LatticeValue>::new(alloc);
     let mut answer = PassResult::<u32>::new(alloc);
     preserved_in(&rt, alloc, &mut ctx, &mut analyses, &mut answer);
 }
 
 // A pass that there is no room for comes back as it was.
 #[test]
-fn adding(rt: HostRuntime) {
+fn refused_adding(rt: HostRuntime) {
     let alloc = rt.alloc();
     let mut passes = Passes::new(alloc);
     for runs in 0..9 {

@@ -6,14 +6,14 @@
 mod constants;
 mod control_flow;
 mod dead_code;
-mod honest;
+mod change_reports;
 mod optimisation;
 mod step;
 
 pub use constants::{Constants, SCCPPass};
 pub use control_flow::{ControlFlow, SimplifyCFGPass};
 pub use dead_code::{DCEPass, DeadCode};
-pub use honest::schedules_are_honest;
+pub use change_reports::schedules_report_accurately;
 pub use optimisation::{Effect, Optimisation, OptimisingPass};
 pub use pliron_pass::run_pipeline;
-pub use step::{Pipeline, Schedule, Step};
+pub use step::{Pipeline, Schedule, PassStep};

@@ -5,7 +5,7 @@ ghost use Rattle.pliron_laws.specs.Linked.{IsWellLinked};
 ghost use Rattle.pliron_laws.specs.declared.fault.OptError.{OptError as FaultName};
 ghost use Rattle.pliron_theory.specs.Change.{IsPassChange};
 ghost use Rattle.pliron_pass.specs.Answer.{has_changed, kept_kinds};
-ghost use Rattle.pliron_pipeline.specs.Optimising.{IsTruly, RunsOptimisation};
+ghost use Rattle.pliron_pipeline.specs.Optimising.{IsAccurateAnswer, RunsOptimisation};
 ghost use Rattle.pliron_pipeline.specs.declared.optimisation.Effect.{Effect as EffectOf};
 
 use pliron_core::{Context, IRStatus, Operation, Ptr};
@@ -43,7 +43,7 @@ pub trait Optimisation {
         requires live { IsLive ctx.old.tree op }
         requires linked { IsWellLinked Self.D.meaning ctx.old.tree op }
         ensures change { IsPassChange Self.D.meaning ctx.old.tree ctx.new.tree op }
-        ensures tells { IfOk result (λ effect. IsTruly ctx.old.tree ctx.new.tree effect) }
+        ensures tells { IfOk result (λ effect. IsAccurateAnswer ctx.old.tree ctx.new.tree effect) }
         ensures outcome { outcome ctx.old.tree ctx.new.tree op result };
 }
 

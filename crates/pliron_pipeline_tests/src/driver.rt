@@ -3,12 +3,12 @@ use pliron_bench::Bench;
 use pliron_core::Context;
 use pliron_notation::{print_text, read_text};
 use pliron_pass::{AnalysisManager, BenchFacts, OptError, Passes};
-use pliron_pipeline::{Step, run_pipeline};
+use pliron_pipeline::{PassStep, run_pipeline};
 use std::alloc::Global;
 use std::process::Abort;
 
 /// What the passes of these names make of a text; `None` where the text is unreadable.
-fn optimised(
+fn optimise_by_names(
     alloc: Global,
     names: &[&str],
     text: &str,
@@ -17,9 +17,9 @@ fn optimised(
     let Some(root) = read_text(alloc, text.as_bytes(), ctx)? else {
         return Ok(None);
     };
-    let mut passes = Passes::<Step<Bench, BenchFacts>>::new(alloc);
+    let mut passes = Passes::<PassStep<Bench, BenchFacts>>::new(alloc);
     for name in names {
-        if let Some(step) = Step::from_name(name) {
+        if let Some(step) = PassStep::from_name(name) {
             passes.add_pass(step)?;
         }
     }
@@ -30,7 +30,7 @@ fn optimised(
 
 fn check_in(rt: &impl Abort, alloc: Global, text: &str, want: Option<&str>, ctx: &mut Context) {
     let names = ["sccp", "simplify-cfg", "dce"];
-    let printed = optimised(alloc, &names, text, ctx).expect(rt, "memory");
+    let printed = optimise_by_names(alloc, &names, text, ctx).expect(rt, "memory");
     match printed {
         Some(printed) => assert_eq!(rt; Some(printed.as_str()), want),
         None => assert_eq!(rt; None, want),

@@ -8,8 +8,8 @@ ghost use Rattle.pliron_bench.specs.BenchMoves.{bench};
 use super::nest::{Deep, deep};
 use super::texts::{KINDS, write_fact};
 use pliron_bench::{Bench, BenchKind};
-use pliron_cases::cases::read;
-use pliron_cases::runs::seen;
+use pliron_test_cases::cases::read;
+use pliron_test_cases::runs::sight_of_run;
 use pliron_core::{Context, Operation, Ptr};
 use pliron_evaluator::evaluator::Sight;
 use pliron_laws::Dialect;
@@ -117,7 +117,7 @@ fn sights(rt: &impl Abort, alloc: Global, ops: &[Ptr<Operation>], ctx: &Context)
     let mut sights = Vec::new(alloc);
     for op in ops {
         if op.is_live(ctx) && Bench::is_kind(*op, ctx, BenchKind::Func) {
-            let sight = seen(alloc, ctx, *op, &[2, 0], &[1, 0, 3, 0, 0, 5], ENOUGH);
+            let sight = sight_of_run(alloc, ctx, *op, &[2, 0], &[1, 0, 3, 0, 0, 5], ENOUGH);
             let sight = sight.expect(rt, "memory");
             sights.push(sight).expect(rt, "memory");
         }
@@ -137,7 +137,7 @@ fn compare_sights(rt: &impl Abort, before: &[Sight], after: &[Sight], case: &str
 }
 
 // What the fact says.
-fn told(rt: &impl Abort, alloc: Global, fact: &BenchFacts) -> String {
+fn fact_text(rt: &impl Abort, alloc: Global, fact: &BenchFacts) -> String {
     let mut text = String::new(alloc);
     write_fact(rt, &mut text, fact);
     text
@@ -156,8 +156,8 @@ fn compare_facts(
         if let Some(fact) = analyses.try_get_analysis(kind, op) {
             let fresh = anew.try_get_analysis(kind, op).expect(rt, "a fact");
             assert_eq!(rt;
-                told(rt, alloc, fact).as_str(),
-                told(rt, alloc, fresh).as_str()
+                fact_text(rt, alloc, fact).as_str(),
+                fact_text(rt, alloc, fresh).as_str()
             );
             count = count.saturating_add(1);
         }
@@ -241,7 +241,7 @@ fn kept_in(
 }
 
 // The same in a context of its own.
-fn kept(rt: &impl Abort, alloc: Global, words: &str, text: &str) -> usize {
+fn count_kept(rt: &impl Abort, alloc: Global, words: &str, text: &str) -> usize {
     let mut ctx = Context::new(alloc);
     let mut analyses = AnalysisManager::<BenchFacts>::new(alloc);
     kept_in(rt, alloc, words, text, &mut ctx, &mut analyses)
@@ -252,7 +252,7 @@ fn runs_and_facts_are_kept(rt: HostRuntime) {
     let mut count: usize = 0;
     for words in PASSES.lines() {
         for text in TEXTS.lines() {
-            count = count.saturating_add(kept(&rt, rt.alloc(), words, text));
+            count = count.saturating_add(count_kept(&rt, rt.alloc(), words, text));
         }
     }
     assert!(rt; count > 200, "{count} facts");

@@ -12,7 +12,7 @@ use pliron_pass::{
     Analyses, AnalysisKind, AnalysisManager, BenchFacts, GuardedPass, NestedOpsPass, OpGuard,
     OpInterfaceGuard, OpInterfacePass, OpPass, OptError, Pass, PassResult, Passes, Repeat,
 };
-use pliron_pipeline::Step;
+use pliron_pipeline::PassStep;
 use std::alloc::Global;
 use std::process::Abort;
 use std::str::SplitAsciiWhitespace;
@@ -102,7 +102,7 @@ impl<P: Pass> Pass for Nest<P> {
 
 impl<P: Pass> Nest<P> {
     /// How many inner runs the latest run began, where this is a repeated pass.
-    pub fn begun(&self) -> usize {
+    pub fn inner_runs_begun(&self) -> usize {
         match self {
             Nest::Again(pass) => pass.runs(),
             _ => 0,
@@ -121,14 +121,14 @@ pub trait Build: Pass + Drop {
     ) -> Self;
 }
 
-impl<D: Dialect, E: Analyses + Drop> Build for Step<D, E> {
+impl<D: Dialect, E: Analyses + Drop> Build for PassStep<D, E> {
     fn build<A: Abort>(
         rt: &A,
         _alloc: Global,
         word: &str,
         _rest: &mut SplitAsciiWhitespace<'_>,
     ) -> Self {
-        Step::from_name(word).expect(rt, "a pass")
+        PassStep::from_name(word).expect(rt, "a pass")
     }
 }
 
@@ -193,7 +193,7 @@ impl<P: Build> Build for Nest<P> {
 }
 
 /// A pass under up to three combinators, one in another.
-pub type Deep = Nest<Nest<Nest<Step<Bench, BenchFacts>>>>;
+pub type Deep = Nest<Nest<Nest<PassStep<Bench, BenchFacts>>>>;
 
 /// The pass of these words.
 pub fn deep(rt: &impl Abort, alloc: Global, words: &str) -> Deep {

@@ -8,7 +8,7 @@ use pliron_bench::Bench;
 use pliron_core::{Context, IRStatus, Operation, Ptr};
 use pliron_laws::OptError;
 use pliron_pass::{AnalysisManager, BenchFacts, Passes};
-use pliron_pipeline::{Step, run_pipeline};
+use pliron_pipeline::{PassStep, run_pipeline};
 use std::alloc::Global;
 
 /// Runs a list of the three passes on an operation that is fit to run. Whatever this answers, the operation
@@ -16,7 +16,7 @@ use std::alloc::Global;
 ///
 /// Asks that the operation is fit to run. Errors: those of the passes. Cost: that of the passes.
 pub fn optimised_alike(
-    passes: &mut Passes<Step<Bench, BenchFacts>>,
+    passes: &mut Passes<PassStep<Bench, BenchFacts>>,
     alloc: Global,
     root: Ptr<Operation>,
     ctx: &mut Context,

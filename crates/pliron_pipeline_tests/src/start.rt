@@ -8,7 +8,7 @@ use pliron_evaluator::evaluator::evaluate;
 use pliron_laws::{OptError, is_well_linked};
 use pliron_notation::print_text;
 use pliron_pass::{AnalysisManager, BenchFacts, Passes};
-use pliron_pipeline::{DCEPass, SCCPPass, Step, run_pipeline};
+use pliron_pipeline::{DCEPass, SCCPPass, PassStep, run_pipeline};
 use std::alloc::{AllocError, Global};
 use std::process::Abort;
 
@@ -78,13 +78,13 @@ fn six_by_seven(alloc: Global, ctx: &mut Context) -> Option<Ptr<Operation>> {
 }
 
 /// What is seen of a run of at most a hundred steps.
-fn seen(alloc: Global, root: Ptr<Operation>, ctx: &Context) -> Result<String, AllocError> {
+fn sight_of_run(alloc: Global, root: Ptr<Operation>, ctx: &Context) -> Result<String, AllocError> {
     let sight = evaluate::<Bench>(alloc, ctx, root, Vec::new(alloc), Vec::new(alloc), 100)?;
     Ok(format!(in alloc; "{sight:?}")?)
 }
 
 /// Folds constants, takes out what is dead, and prints. `None`: the tree isn't well linked.
-fn optimised(
+fn fold_and_sweep(
     alloc: Global,
     root: Ptr<Operation>,
     ctx: &mut Context,
@@ -92,9 +92,9 @@ fn optimised(
     if !root.is_live(ctx) || !is_well_linked::<Bench>(root, ctx) {
         return Ok(None);
     }
-    let mut passes = Passes::<Step<Bench, BenchFacts>>::new(alloc);
-    passes.add_pass(Step::Sccp(SCCPPass::new()))?;
-    passes.add_pass(Step::Dce(DCEPass::new()))?;
+    let mut passes = Passes::<PassStep<Bench, BenchFacts>>::new(alloc);
+    passes.add_pass(PassStep::Sccp(SCCPPass::new()))?;
+    passes.add_pass(PassStep::Dce(DCEPass::new()))?;
     let mut analyses = AnalysisManager::new(alloc);
     run_pipeline(&mut passes, alloc, root, ctx, &mut analyses)?;
     Ok(Some(print_text(alloc, root, ctx)?))
@@ -102,12 +102,12 @@ fn optimised(
 
 fn starts_in(rt: &impl Abort, alloc: Global, ctx: &mut Context) {
     let root = six_by_seven(alloc, ctx).expect(rt, "memory");
-    let before = seen(alloc, root, ctx).expect(rt, "memory");
+    let before = sight_of_run(alloc, root, ctx).expect(rt, "memory");
     assert_eq!(rt; before.as_str(), "Ended([Number(42)], [])");
-    let text = optimised(alloc, root, ctx).expect(rt, "memory");
+    let text = fold_and_sweep(alloc, root, ctx).expect(rt, "memory");
     let text = text.expect(rt, "well linked");
     assert_eq!(rt; text.as_str(), "func { b0(): v0 = const 42; ret v0 }");
-    let after = seen(alloc, root, ctx).expect(rt, "memory");
+    let after = sight_of_run(alloc, root, ctx).expect(rt, "memory");
     assert_eq!(rt; after.as_str(), "Ended([Number(42)], [])");
 }
 

@@ -5,7 +5,7 @@ use Rattle.std.specs.List.{flat_map}
 use Rattle.std.proofs.lemmas.List.Concat.{flat_map-append}
 use Rattle.pliron_core.specs.Lists.{In}
 use Rattle.pliron_core.specs.Tree.{Tree, IsLive, IsBlock, body_of, layout_of, regions_of}
-use Rattle.pliron_core.specs.Joined.{IsTree}
+use Rattle.pliron_core.specs.Invariant.{IsTree}
 use Rattle.pliron_core.proofs.FlatLemmas.{flat_map-same}
 use Rattle.pliron_core.proofs.ListLemmas.{In-right}
 use Rattle.pliron_core.proofs.ArgumentLemmas.{take_more}

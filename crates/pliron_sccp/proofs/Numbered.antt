@@ -4,13 +4,13 @@ use Rattle.std.specs.List.{flat_map, list_any}
 use Rattle.pliron_core.specs.Lists.{In}
 use Rattle.pliron_core.specs.Tree.{Tree}
 use Rattle.pliron_core.proofs.ListLemmas.{In-left, In-right, In-cases}
-use Rattle.pliron_theory.specs.Facts.{Undetermined, NotAConstant}
-use Rattle.pliron_sccp.specs.declared.facts.Tables.{Tables}
-use Rattle.pliron_sccp.specs.Tables.{AreNew}
+use Rattle.pliron_theory.specs.LatticeValues.{Undetermined, NotAConstant}
+use Rattle.pliron_sccp.specs.declared.lattice_tables.Tables.{Tables}
+use Rattle.pliron_sccp.specs.LatticeTables.{AreNew}
 use Rattle.pliron_sccp.specs.Chain.{blocks_inside}
 use Rattle.pliron_sccp.specs.Inside.{block_values}
-use Rattle.pliron_sccp.specs.Accounts.{IsUnsearched}
-use Rattle.pliron_sccp.specs.Looking.{AddsEach}
+use Rattle.pliron_sccp.specs.WorklistCounts.{IsUnsearched}
+use Rattle.pliron_sccp.specs.OperationVisits.{AddsEach}
 use Rattle.pliron_sccp.specs.Starting.{AddsKeys}
 use Rattle.pliron_sccp.proofs.Worklists.{any_in, in_any}
 

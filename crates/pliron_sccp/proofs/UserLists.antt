@@ -5,7 +5,7 @@ use Rattle.std.proofs.lemmas.Bool.{eq-eqb}
 use Rattle.indexmap.specs.IndexSet.{insert_key}
 use Rattle.pliron_core.specs.Lists.{In, IsDistinct}
 use Rattle.pliron_core.proofs.ListLemmas.{In-left, In-right, In-cases, distinct-join}
-use Rattle.pliron_sccp.specs.Looking.{AddsEach}
+use Rattle.pliron_sccp.specs.OperationVisits.{AddsEach}
 use Rattle.pliron_sccp.proofs.Worklists.{any_in, in_any}
 
 -- the equality of keys, as a set has it

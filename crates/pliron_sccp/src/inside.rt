@@ -114,7 +114,7 @@ fn stack_body(
 /// The blocks inside the operation, at any depth, in pre-order: each is followed by those inside its
 /// operations.
 ///
-/// Asks that the operation stands. Errors: want of memory. Cost: one step for each operation, block and
+/// Asks that the operation stands. Errors: allocation failure. Cost: one step for each operation, block and
 /// region inside it; the depth takes memory on a list alone.
 pub fn all_blocks(
     alloc: Global,
@@ -138,7 +138,7 @@ pub fn all_blocks(
 
 /// These blocks, each with a number.
 ///
-/// Errors: want of memory. Cost: one step for each.
+/// Errors: allocation failure. Cost: one step for each.
 pub fn block_numbers(
     alloc: Global,
     blocks: &[Ptr<BasicBlock>],
@@ -265,7 +265,7 @@ fn count_values(blocks: &[Ptr<BasicBlock>], ctx: &Context) -> usize
 
 /// The values that these blocks list, each with a number.
 ///
-/// Asks that the blocks stand. Errors: want of memory. Cost: one step for each operation and value.
+/// Asks that the blocks stand. Errors: allocation failure. Cost: one step for each operation and value.
 pub fn value_numbers(
     alloc: Global,
     blocks: &[Ptr<BasicBlock>],

@@ -6,13 +6,13 @@
 //! It stands on the theory of runs and knows nothing of the other optimisations, of passes and of the program.
 #![tactic(auto)]
 
-mod delays;
-mod demands;
-mod edges;
-mod facts;
-mod guesses;
+mod deferred;
+mod constraints_of;
+mod feasible_edges;
+mod lattice_tables;
+mod direct_mapped_index;
 mod inside;
-mod named;
+mod entry_operands;
 mod propagation;
 mod rewrite;
 mod search;

@@ -1,7 +1,7 @@
 //! Constant propagation: facts are found, and the tree is rewritten by them.
 ghost use Rattle.std.specs.Prelude.{◌≡◌, Some, IfOk, OnOk, OnErr, ℕ, IsOkUnless};
 ghost use Rattle.pliron_core.specs.Tree.{IsLive};
-ghost use Rattle.pliron_laws.specs.InPlace.{TellsChange};
+ghost use Rattle.pliron_laws.specs.InPlace.{ReportsChange};
 ghost use Rattle.pliron_laws.specs.Linked.{IsWellLinked};
 ghost use Rattle.pliron_theory.specs.Change.{IsPassChange};
 ghost use Rattle.pliron_theory.specs.Edges.{KeepsEdges};
@@ -27,7 +27,7 @@ fn propagate<D: Dialect, R: Rewriter + Room>(
     ensures partly { OnErr result (IsPartlyPropagated ⟦<D as HasFolding>⟧.folding D.accepts D.constant_head D.ConstFoldInterface.outcome ctx.old.tree
         op ctx.new.tree) }
     ensures change { IsPassChange D.meaning ctx.old.tree ctx.new.tree op }
-    ensures tells { IfOk result (λ a. TellsChange (Some a.0) ctx.old.tree ctx.new.tree) }
+    ensures tells { IfOk result (λ a. ReportsChange (Some a.0) ctx.old.tree ctx.new.tree) }
     ensures edges { KeepsEdges ctx.old.tree ctx.new.tree }
     ensures links { (root : ℕ) → IsWellLinked D.meaning ctx.old.tree root → IsWellLinked D.meaning ctx.new.tree root }
     ensures memory { IsOkUnless result OptError.Memory }
@@ -55,7 +55,7 @@ pub fn sccp_counted<D: Dialect>(
     ensures partly { OnErr result (IsPartlyPropagated ⟦<D as HasFolding>⟧.folding D.accepts D.constant_head D.ConstFoldInterface.outcome ctx.old.tree
         op ctx.new.tree) }
     ensures change { IsPassChange D.meaning ctx.old.tree ctx.new.tree op }
-    ensures tells { IfOk result (λ a. TellsChange (Some a.0) ctx.old.tree ctx.new.tree) }
+    ensures tells { IfOk result (λ a. ReportsChange (Some a.0) ctx.old.tree ctx.new.tree) }
     ensures edges { KeepsEdges ctx.old.tree ctx.new.tree }
     ensures links { (root : ℕ) → IsWellLinked D.meaning ctx.old.tree root → IsWellLinked D.meaning ctx.new.tree root }
     ensures memory { IsOkUnless result OptError.Memory }
@@ -82,7 +82,7 @@ pub fn sccp_through<D: Dialect, R: Rewriter + Room>(
     ensures partly { OnErr result (IsPartlyPropagated ⟦<D as HasFolding>⟧.folding D.accepts D.constant_head D.ConstFoldInterface.outcome ctx.old.tree
         op ctx.new.tree) }
     ensures change { IsPassChange D.meaning ctx.old.tree ctx.new.tree op }
-    ensures tells { IfOk result (λ a. TellsChange (Some a) ctx.old.tree ctx.new.tree) }
+    ensures tells { IfOk result (λ a. ReportsChange (Some a) ctx.old.tree ctx.new.tree) }
     ensures edges { KeepsEdges ctx.old.tree ctx.new.tree }
     ensures links { (root : ℕ) → IsWellLinked D.meaning ctx.old.tree root → IsWellLinked D.meaning ctx.new.tree root }
     ensures memory { IsOkUnless result OptError.Memory }
@@ -101,11 +101,11 @@ pub fn sccp_through<D: Dialect, R: Rewriter + Room>(
 /// erased, and results and arguments without uses get their constants too.
 ///
 /// Wegman and Zadeck, "Constant propagation with conditional branches", 1991, section 3, over blocks with
-/// arguments; a user is looked at again only where its block was looked at before.
+/// arguments; a user is visited again only where its block was visited before.
 ///
 /// Asks that the operation stands and is well linked. Answers `Changed` exactly if a constant was put.
 ///
-/// Errors: want of memory. The tree is then as before, or one after a first part of these rewrites.
+/// Errors: allocation failure. The tree is then as before, or one after a first part of these rewrites.
 ///
 /// Cost: one look at each operation in a block that is reached, and one more for each time that a fact
 /// about an operand falls, which it does twice at most, but where it has more than a few operands one for
@@ -122,7 +122,7 @@ pub fn sccp<D: Dialect>(
     ensures partly { OnErr result (IsPartlyPropagated ⟦<D as HasFolding>⟧.folding D.accepts D.constant_head D.ConstFoldInterface.outcome ctx.old.tree
         op ctx.new.tree) }
     ensures change { IsPassChange D.meaning ctx.old.tree ctx.new.tree op }
-    ensures tells { IfOk result (λ a. TellsChange (Some a) ctx.old.tree ctx.new.tree) }
+    ensures tells { IfOk result (λ a. ReportsChange (Some a) ctx.old.tree ctx.new.tree) }
     ensures edges { KeepsEdges ctx.old.tree ctx.new.tree }
     ensures links { (root : ℕ) → IsWellLinked D.meaning ctx.old.tree root → IsWellLinked D.meaning ctx.new.tree root }
     ensures memory { IsOkUnless result OptError.Memory }

@@ -9,15 +9,15 @@
 //! operations whose operands are determined, until a round changes nothing. The lines of `HOSTILE` have no
 //! counts: uses stand before definitions or use themselves, edges forward too few values or too many, and
 //! blocks end without a terminator. They were worked out by hand, where the order of work decides nothing.
-//! In `ASIDE`, worked out by hand too, an operation has more operands than what is looked at at once: sums of a loop
+//! In `ASIDE`, worked out by hand too, an operation has more operands than what is visited at once: sums of a loop
 //! that fall one after the other and that a branch behind it forwards; branches that come to be feasible only when
-//! their condition falls, one by itself, one after what it forwards fell too, and two of which the shorter one is looked
-//! at first; a loop in which such a branch makes its own operands fall, and one in which two make each other's fall in
+//! their condition falls, one by itself, one after what it forwards fell too, and two of which the shorter one is
+//! visited first; a loop in which such a branch makes its own operands fall, and one in which two make each other's fall in
 //! turn; one of which the last operand falls that it forwards along an edge which isn't feasible, to a block that is
 //! reached; and a loop that moves the arguments of a `scope` on to its next operands, with three operands, and with ten
 //! of which the last two stay constant: the loop forwards a constant to the ninth, and so what is named for it to the tenth.
 //! In `ENTERED`, by hand as well, what is no branch goes to blocks of nine arguments: two to one of these, and one twice to
-//! one of eight; three edges to a block to which a branch forwarded constants, looked through before the first of them or
+//! one of eight; three edges to a block to which a branch forwarded constants, visited before the first of them or
 //! after it; one from such a block to itself; and one to a block to which a branch forwards constants later, beside a block
 //! that branches alone enter.
 

@@ -1,9 +1,9 @@
-//! How often propagation takes something from a worklist, on the made texts and on those of what is put aside and of
+//! How often propagation takes something from a worklist, on the made texts and on those of what is deferred and of
 //! what is entered whole.
 //!
 //! The counts were found by a plain program over facts by name, `docs/benchmarks/plain_counts.py`, which
 //! shares with the crate only the order of work: last in, first out, blocks before values, and these before
-//! what is put aside. Without the last rule it counts 39 on the third text of `ASIDE`.
+//! what is deferred. Without the last rule it counts 39 on the third text of `ASIDE`.
 use super::cases::{ASIDE, ENTERED, MADE};
 use pliron_bench::Bench;
 use pliron_core::Context;

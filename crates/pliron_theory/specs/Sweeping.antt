@@ -2,7 +2,7 @@
 use Rattle.std.specs.Prelude.{◌≡◌, ℕ, Bool, true, false, List, [], ◌∷◌, Option, Some, None, length}
 use Rattle.pliron_core.specs.declared.context.Def.{Def}
 use Rattle.pliron_core.specs.declared.context.Def.TheVariants.{Result, Argument}
-use Rattle.pliron_core.specs.Tree.{Tree, In, IsInside, first_of, last_of, row_of, head_of, operands_of, successors_of, regions_of, parent_of, body_of, arguments_of, block_parent_of, layout_of, definition_of, block_holder_of}
+use Rattle.pliron_core.specs.Tree.{Tree, In, IsInside, first_of, last_of, row_of, head_of, operands_of, successors_of, regions_of, parent_of, body_of, arguments_of, block_parent_of, layout_of, definition_of, block_parent_operation_of}
 use Rattle.pliron_laws.specs.Datum.{Datum, Empty, Head, Meaning, Give}
 use Rattle.pliron_laws.specs.Tree.{Operation, op_at, shape_of}
 use Rattle.pliron_laws.specs.Linked.{IsAdmitted}
@@ -35,7 +35,7 @@ pub record IsSwept (t t' : Tree) (dead dead_block : ℕ → Bool) : Type 0 where
   -- what is in a dead block is dead, and so is what is in a dead operation; an entry block is dead only
   -- with the operation that holds it
   pub holders : (k b : ℕ) → parent_of t k ≡ Some b → dead k ≡ false → dead_block b ≡ false
-  pub block_holders : (b k : ℕ) → block_holder_of t b ≡ Some k → dead_block b ≡ false → dead k ≡ false
+  pub block_holders : (b k : ℕ) → block_parent_operation_of t b ≡ Some k → dead_block b ≡ false → dead k ≡ false
   pub entries : (k r b : ℕ) → dead k ≡ false → In r (regions_of t k) → first_of (layout_of t r) None ≡ Some b → dead_block b ≡ false
   -- what is left names nothing of what is dead
   pub values : (k v : ℕ) → dead k ≡ false → In v (operands_of t k) → is_maker_dead dead dead_block (definition_of t v) ≡ false

@@ -1,5 +1,5 @@
 //! What a dialect says of folding, under one name.
-ghost use Rattle.pliron_theory.specs.Facts.{Says};
+ghost use Rattle.pliron_theory.specs.LatticeValues.{Says};
 
 use pliron_laws::Dialect;
 

@@ -19,7 +19,7 @@ use std::alloc::Global;
 /// Erases the operation with its contents, where the dialect answers that it has no side effects.
 ///
 /// Asks that it stands, and that no value or block of it is used outside it.
-/// Errors: want of memory, which changes nothing. Cost: what is erased, with its operands and
+/// Errors: allocation failure, which changes nothing. Cost: what is erased, with its operands and
 /// successors.
 pub fn erase_unused<D: Dialect, R: Rewriter + Room>(
     alloc: Global,
@@ -51,7 +51,7 @@ pub fn erase_unused<D: Dialect, R: Rewriter + Room>(
 ///
 /// Asks that `op` stands in a block, and that every run of a root that is fit to run reads the result as
 /// this constant wherever it reads it.
-/// Errors: want of memory, which leaves the tree as it was but for spent keys. Cost: that of
+/// Errors: allocation failure, which leaves the tree as it was but for erased handles. Cost: that of
 /// `materialize`, and one step for each use of the result.
 pub fn replace_result_by_constant<D: Dialect, R: Rewriter + Room>(
     alloc: Global,
@@ -82,7 +82,7 @@ pub fn replace_result_by_constant<D: Dialect, R: Rewriter + Room>(
 ///
 /// Asks that the block stands, and that every run of a root that is fit to run reads the argument as
 /// this constant wherever it reads it.
-/// Errors: want of memory, which leaves the tree as it was but for spent keys. Cost: that of
+/// Errors: allocation failure, which leaves the tree as it was but for erased handles. Cost: that of
 /// `materialize`, and one step for each use of the argument.
 pub fn replace_argument_by_constant<D: Dialect, R: Rewriter + Room>(
     alloc: Global,

@@ -17,7 +17,7 @@ ghost use Rattle.pliron_theory.specs.RunLaws.{KeepingLaws, FewerRootsLaw, Operan
 use crate::folding::HasFolding;
 use pliron_laws::Dialect;
 
-/// "Runs are kept" is reflexive and transitive, and spent keys are nothing to it.
+/// "Runs are kept" is reflexive and transitive, and erased handles are nothing to it.
 pub fn runs_kept()
     ensures { KeepingLaws }
 {}
@@ -108,7 +108,7 @@ pub fn branch_folds_keep_links<D: Dialect>()
     ensures { BranchLinksLaw D.meaning D.can_fold_branch D.BranchOpFoldInterface.outcome }
 {}
 
-/// Each outcome of a dialect's fold of a branch in place is the same tree but for spent keys, or another
+/// Each outcome of a dialect's fold of a branch in place is the same tree but for erased handles, or another
 /// branch stands in its place.
 pub fn branch_folds_replace<D: Dialect>()
     ensures { BranchOutcomesLaw D.meaning D.can_fold_branch D.BranchOpFoldInterface.outcome }
@@ -131,7 +131,7 @@ pub fn folds_keep_links()
     ensures { FoldsKeepLinks }
 {}
 
-/// What passes do to a tree is reflexive and transitive, and spent keys are nothing to it; it holds of
+/// What passes do to a tree is reflexive and transitive, and erased handles are nothing to it; it holds of
 /// the operation around theirs too, and leaves each operation that was well linked, and still stands,
 /// well linked.
 pub fn passes_compose()
@@ -139,7 +139,7 @@ pub fn passes_compose()
 {}
 
 /// What passes do that keep the runs of all roots, whatever their heads, is reflexive and transitive, and
-/// spent keys are nothing to it; it holds of the operation around theirs too.
+/// erased handles are nothing to it; it holds of the operation around theirs too.
 pub fn whole_passes_compose()
     ensures { WholeLaws }
 {}
@@ -155,13 +155,13 @@ pub fn constants_first_keep_links()
     ensures { FirstKeepsLinks }
 {}
 
-/// What sound facts inside an operation say of values that are made in blocks that are reached, every
+/// What sound facts inside an operation say of values that are defined in blocks that are reached, every
 /// run of every root that is fit to run reads.
 pub fn sound_facts_are_read<D: Dialect>()
     ensures { SoundFactsLaw ⟦<D as HasFolding>⟧.folding }
 {}
 
-/// What closed facts inside an operation say of values that are made in blocks that are reached, and
+/// What closed facts inside an operation say of values that are defined in blocks that are reached, and
 /// what folding answers there by them, every run of every root that is fit to run reads.
 pub fn closed_facts_are_read<D: Dialect>()
     ensures { ClosedFactsLaw ⟦<D as HasFolding>⟧.folding }

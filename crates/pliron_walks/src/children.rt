@@ -23,7 +23,7 @@ pub struct Children<'a> {
 impl<'a> Model for Children<'a> {
     ghost use Rattle.std.specs.Prelude.{◌≡◌, ℕ, List, Some};
     ghost use Rattle.std.specs.Option.{ForSome};
-    ghost use Rattle.pliron_core.specs.Tree.{holder_of};
+    ghost use Rattle.pliron_core.specs.Tree.{parent_operation_of};
     ghost use Rattle.pliron_core.specs.Walks.{children};
     ghost use Rattle.pliron_core.specs.WalkSteps.{rest_from};
 
@@ -31,7 +31,7 @@ impl<'a> Model for Children<'a> {
 
     ghost view = { λ w. rest_from w.next (children w.ctx.now.tree w.holder) };
 
-    ghost invariant = { λ w. ForSome w.next (λ k. holder_of w.ctx.now.tree k ≡ Some w.holder) };
+    ghost invariant = { λ w. ForSome w.next (λ k. parent_operation_of w.ctx.now.tree k ≡ Some w.holder) };
 }
 
 impl<'a> Children<'a> {

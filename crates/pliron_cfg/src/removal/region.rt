@@ -3,7 +3,7 @@ ghost use Rattle.std.specs.Prelude.{◌≡◌, ◌↔◌, ◌⊎◌, ℕ, Some, 
 ghost use Rattle.pliron_core.specs.Tree.{In, IsDistinct, block_parent_of};
 ghost use Rattle.pliron_laws.specs.declared.fault.OptError.TheVariants.{LiveUse, Memory};
 ghost use Rattle.pliron_theory.specs.Keeps.{KeepsAllRuns};
-ghost use Rattle.pliron_search.specs.Regions.{IsLawfulRegion};
+ghost use Rattle.pliron_traversal.specs.Regions.{IsLawfulRegion};
 ghost use Rattle.pliron_block_laws.specs.Cutting.{AreCut};
 ghost use Rattle.pliron_block_laws.specs.Leaving.{BlocksMayGo};
 ghost use Rattle.pliron_cfg.specs.Visited.{IsReachedIn};

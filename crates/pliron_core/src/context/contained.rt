@@ -1,7 +1,7 @@
 //! Whether an operation holds a block, and whether what stands in an operation or in a block is used
 //! outside it. Takes no memory.
 ghost use Rattle.std.specs.Prelude.{◌≡◌, Some, IsTrue, ◌↔◌};
-ghost use Rattle.pliron_core.specs.Tree.{IsLive, IsBlock, IsRegion, IsDefined, IsWithin, HoldsBlock, block_holder_of};
+ghost use Rattle.pliron_core.specs.Tree.{IsLive, IsBlock, IsRegion, IsDefined, IsWithin, HoldsBlock, block_parent_operation_of};
 ghost use Rattle.pliron_core.specs.Erased.{IsSelfContained, StandsIn, IsSelfContainedBlock};
 ghost use Rattle.pliron_core.specs.Contained.{IsInScope, IsValueKept, IsTargetKept, IsBlockKept, IsRegionKept, IsOperationKept, IsPreorderKept, IsBodyKept};
 
@@ -9,9 +9,9 @@ use super::Context;
 use crate::keys::{BasicBlock, Operation, Ptr, Region, Value};
 
 // The operation that holds the block directly.
-fn block_holder(ctx: &Context, block: Ptr<BasicBlock>) -> Ptr<Operation>
+fn block_parent_operation(ctx: &Context, block: Ptr<BasicBlock>) -> Ptr<Operation>
     requires { IsBlock ctx.now.tree block }
-    ensures holder { block_holder_of ctx.now.tree block ≡ Some result }
+    ensures holder { block_parent_operation_of ctx.now.tree block ≡ Some result }
     ensures live { IsLive ctx.now.tree result }
 {
     match block.get_parent_region(ctx) {
@@ -47,7 +47,7 @@ fn stands_in(ctx: &Context, block: Ptr<BasicBlock>, op: Ptr<Operation>) -> bool
     false
 }
 
-// Where what is looked at is to be used: within an operation, or in a block.
+// Where what is visited is to be used: within an operation, or in a block.
 #[derive(Clone, Copy)]
 enum Scope {
     Inside(Ptr<Operation>),
@@ -188,7 +188,7 @@ impl Ptr<Operation> {
         requires block { IsBlock ctx.now.tree block }
         ensures { IsTrue result ↔ HoldsBlock ctx.now.tree self block }
     {
-        is_within(ctx, self, block_holder(ctx, block))
+        is_within(ctx, self, block_parent_operation(ctx, block))
     }
 
     /// Whether no value that is made by this operation or inside it, and no block in it, is used outside it.

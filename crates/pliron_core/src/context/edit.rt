@@ -1,7 +1,7 @@
 //! Operands, successors, attributes and arguments.
 ghost use Rattle.std.specs.Prelude.{◌≡◌, ◌+◌, ◌<◌, ◌≤◌, [], length, slice_get, OnOk, OnErr, IfSome, IsOk};
 ghost use Rattle.pliron_core.specs.Tree.{IsLive, IsBlock, IsDefined, In, operands_of, head_of, arguments_of, uses_of};
-ghost use Rattle.pliron_core.specs.Writes.{operand_pushed, successor_pushed, operand_removed, attribute_set, with_attribute, argument_removed, replaced};
+ghost use Rattle.pliron_core.specs.Writes.{operand_pushed, successor_pushed, operand_removed, attribute_set, with_attribute, argument_removed, after_replacing};
 
 use super::{Context, NoMemory};
 use crate::attrs::{AttrObj, Head};
@@ -10,7 +10,7 @@ use crate::keys::{BasicBlock, Operation, Ptr, Value};
 impl Operation {
     /// One more operand, at the end.
     ///
-    /// Asks that the operation and the value stand. Errors: want of memory, which changes nothing.
+    /// Asks that the operation and the value stand. Errors: allocation failure, which changes nothing.
     /// Cost: amortised constant. An index of the operands goes first, as by `settle_operands`.
     #[inline(always)]
     pub fn push_operand(ctx: &mut Context, op: Ptr<Operation>, value: Value) -> Result<(), NoMemory>
@@ -26,7 +26,7 @@ impl Operation {
 
     /// One more successor, at the end.
     ///
-    /// Asks that the operation and the block stand. Errors: want of memory, which changes nothing.
+    /// Asks that the operation and the block stand. Errors: allocation failure, which changes nothing.
     /// Cost: amortised constant.
     #[inline(always)]
     pub fn push_successor(
@@ -64,7 +64,7 @@ impl Operation {
     /// index of them. Until `settle_operands`, or until it gets another operand, each removal and each read of
     /// one then costs a logarithm of their number, wherever it stands.
     ///
-    /// Asks that the operation stands. Errors: want of memory. The tree is as it was in any case.
+    /// Asks that the operation stands. Errors: allocation failure. The tree is as it was in any case.
     /// Cost: the number of operands, and constant where there is an index already.
     pub fn index_operands(ctx: &mut Context, op: Ptr<Operation>) -> Result<(), NoMemory>
         requires { IsLive ctx.old.tree op }
@@ -111,7 +111,7 @@ fn set_head_attribute(head: &mut Option<Head>, i: usize, attr: AttrObj)
 pub(crate) fn replace_uses(ctx: &mut Context, old: Value, new: Value) -> Result<(), NoMemory>
     requires old { IsDefined ctx.old.tree old }
     requires new { IsDefined ctx.old.tree new }
-    ensures ok { OnOk result (ctx.new.tree ≡ replaced ctx.old.tree old new) }
+    ensures ok { OnOk result (ctx.new.tree ≡ after_replacing ctx.old.tree old new) }
     ensures block_uses { ctx.new.block_uses ≡ ctx.old.block_uses }
     ensures unused { uses_of ctx.old.value_uses new ≡ [] → IsOk result }
     ensures err { OnErr result (ctx.new ≡ ctx.old) }
@@ -129,7 +129,7 @@ impl BasicBlock {
     /// index of them. Until `settle_arguments`, each removal and each read of one then costs a logarithm of
     /// their number, wherever it stands.
     ///
-    /// Asks that the block stands. Errors: want of memory. The tree is as it was in any case.
+    /// Asks that the block stands. Errors: allocation failure. The tree is as it was in any case.
     /// Cost: the number of arguments, and constant where there is an index already.
     pub fn index_arguments(ctx: &mut Context, block: Ptr<BasicBlock>) -> Result<(), NoMemory>
         requires { IsBlock ctx.old.tree block }

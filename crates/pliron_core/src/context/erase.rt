@@ -1,15 +1,15 @@
 //! Erasing, from the inside out: no operation that goes has anything inside it.
 ghost use Rattle.std.specs.Prelude.{◌≡◌, ℕ, nat_eq, [], Some, None};
 ghost use Rattle.pliron_core.specs.declared.context.Def.TheVariants.{Result, Argument};
-ghost use Rattle.pliron_core.specs.Tree.{In, IsLive, IsBlock, operands_of, successors_of, regions_of, parent_of, body_of, layout_of, definition_of, holder_of};
+ghost use Rattle.pliron_core.specs.Tree.{In, IsLive, IsBlock, operands_of, successors_of, regions_of, parent_of, body_of, layout_of, definition_of, parent_operation_of};
 ghost use Rattle.pliron_core.specs.Writes.{taken_out};
-ghost use Rattle.pliron_core.specs.Erased.{block_taken_out, cleared, names_dropped, uses_dropped, erased, block_emptied, block_erased, IsSelfContained, IsSelfContainedBlock};
-ghost use Rattle.pliron_core.specs.Dismantling.{buried, region_popped, last_region_of, IsLast, IsUnnamed, IsUnused, IsUnusedBlock, IsStep, unnamed};
+ghost use Rattle.pliron_core.specs.Erased.{block_taken_out, after_clearing, names_dropped, uses_dropped, after_erasing, block_emptied, block_erased, IsSelfContained, IsSelfContainedBlock};
+ghost use Rattle.pliron_core.specs.Dismantling.{after_dismantling, region_popped, last_region_of, IsLast, IsUnnamed, IsUnused, IsUnusedBlock, IsStep, without_names};
 
 use super::place::take_out;
 use super::{Context, OperationEntry};
 use crate::keys::{BasicBlock, Operation, Ptr};
-use crate::row::Row;
+use crate::inline_list::InlineList;
 
 // What stands last inside an operation: in its last region, and there in the last block.
 #[derive(Clone, Copy)]
@@ -32,13 +32,13 @@ fn bury(ctx: &mut Context, op: Ptr<Operation>)
     requires successors { successors_of ctx.old.tree op ≡ [] }
     requires regions { regions_of ctx.old.tree op ≡ [] }
     requires unnamed { (x v i : ℕ) → In v (operands_of ctx.old.tree x) → definition_of ctx.old.tree v ≡ Some (Result op i) → ⊥ }
-    ensures { ctx.new ≡ record ctx.old { tree = buried ctx.old.tree op } }
+    ensures { ctx.new ≡ record ctx.old { tree = after_dismantling ctx.old.tree op } }
 {
     let alloc = ctx.alloc;
     ctx.operations[op.index()] = OperationEntry {
         head: None,
-        results: Row::new(alloc),
-        regions: Row::new(alloc),
+        results: InlineList::new(alloc),
+        regions: InlineList::new(alloc),
     };
 }
 
@@ -126,7 +126,7 @@ fn dismantle(ctx: &mut Context, op: Ptr<Operation>)
     requires live { IsLive ctx.old.tree op }
     requires free { parent_of ctx.old.tree op ≡ None }
     requires unused { IsUnused ctx.old.tree op }
-    ensures { ctx.new.tree ≡ cleared ctx.old.tree (nat_eq op) }
+    ensures { ctx.new.tree ≡ after_clearing ctx.old.tree (nat_eq op) }
 {
     ctx.well_formed();
     let mut at = Some(op);
@@ -140,7 +140,7 @@ fn dismantle(ctx: &mut Context, op: Ptr<Operation>)
 #[inline(always)]
 fn drop_names(ctx: &mut Context, op: Ptr<Operation>)
     requires { IsLive ctx.old.tree op }
-    ensures { ctx.new.tree ≡ unnamed ctx.old.tree op }
+    ensures { ctx.new.tree ≡ without_names ctx.old.tree op }
 {
     ctx.operands.clear(op.index());
     ctx.successors.clear(op.index());
@@ -185,7 +185,7 @@ impl BasicBlock {
 pub(crate) fn erase_operation(ctx: &mut Context, op: Ptr<Operation>)
     requires live { IsLive ctx.old.tree op }
     requires contained { IsSelfContained ctx.old.tree op }
-    ensures { ctx.new.tree ≡ erased ctx.old.tree op }
+    ensures { ctx.new.tree ≡ after_erasing ctx.old.tree op }
 {
     ctx.well_formed();
     take_out(ctx, op);
@@ -208,8 +208,8 @@ pub(crate) fn erase_block(ctx: &mut Context, block: Ptr<BasicBlock>)
     remove_block(ctx, block);
 }
 
-// All that stands in the block goes, where nothing in it names anything, and nothing names what is
-// made in it. Linear in what goes; takes no memory.
+// All that stands in the block goes, where nothing in it names anything, and nothing names what is defined
+// in it. Linear in what goes; takes no memory.
 fn empty_block(ctx: &mut Context, block: Ptr<BasicBlock>)
     requires block { IsBlock ctx.old.tree block }
     requires unused { IsUnusedBlock ctx.old.tree block }

@@ -5,10 +5,10 @@ ghost use Rattle.pliron_core.specs.Reads.{has_ssa};
 
 use super::{Context, RegionSlot};
 use crate::keys::{BasicBlock, Operation, Ptr, Region};
-use crate::row::Row;
+use crate::inline_list::InlineList;
 
 // Whether the region stands at this index.
-fn is_region_at(regions: &Row<Ptr<Region>>, i: usize, region: Ptr<Region>) -> bool
+fn is_region_at(regions: &InlineList<Ptr<Region>>, i: usize, region: Ptr<Region>) -> bool
     ensures { IsTrue result ↔ (slice_get regions.now i ≡ Some region) }
 {
     if i < regions.len() {

@@ -1,14 +1,14 @@
 //! What can be read of a value.
 ghost use Rattle.std.specs.Prelude.{◌≡◌, slice_get, Some, IsTrue, ◌↔◌};
 ghost use Rattle.pliron_core.specs.Tree.{IsDefined, definition_of};
-ghost use Rattle.pliron_core.specs.Reads.{IsMakerStanding};
+ghost use Rattle.pliron_core.specs.Reads.{IsDefinitionLive};
 
 use super::{Context, Def};
 use crate::keys::Value;
-use crate::row::Row;
+use crate::inline_list::InlineList;
 
 // Whether the value stands at this index.
-fn is_value_at(values: &Row<Value>, i: usize, value: Value) -> bool
+fn is_value_at(values: &InlineList<Value>, i: usize, value: Value) -> bool
     ensures { IsTrue result ↔ (slice_get values.now i ≡ Some value) }
 {
     if i < values.len() {
@@ -40,7 +40,7 @@ impl Value {
     pub fn def(self, ctx: &Context) -> Def
         requires { IsDefined ctx.now.tree self }
         ensures definition { definition_of ctx.now.tree self ≡ Some result }
-        ensures stands { IsMakerStanding ctx.now.tree result }
+        ensures stands { IsDefinitionLive ctx.now.tree result }
     {
         ctx.well_formed();
         match ctx.arguments.definition(self) {

@@ -2,7 +2,7 @@
 ghost use Rattle.std.specs.Prelude.{◌≡◌, ◌+◌, ℕ, None, Some, IsTrue, IfSome, ◌↔◌};
 ghost use Rattle.std.specs.Option.{ForSome};
 ghost use Rattle.pliron_core.specs.Lists.{first_of, next_in};
-ghost use Rattle.pliron_core.specs.Tree.{IsLive, IsBlock, IsRegion, IsInside, IsWithin, slot_of, holder_of};
+ghost use Rattle.pliron_core.specs.Tree.{IsLive, IsBlock, IsRegion, IsInside, IsWithin, slot_of, parent_operation_of};
 ghost use Rattle.pliron_core.specs.Walks.{children, preorder, HasExactContents};
 ghost use Rattle.pliron_core.specs.WalkSteps.{first_in_blocks, first_in_regions, IsFollowedBy};
 
@@ -72,7 +72,7 @@ impl Context {
     #[inline(always)]
     fn next_sibling(&self, op: usize) -> Option<usize>
         requires { IsLive self.now.tree op }
-        ensures { ForSome (holder_of self.now.tree op) (λ holder.
+        ensures { ForSome (parent_operation_of self.now.tree op) (λ holder.
             result ≡ next_in op (children self.now.tree holder)) }
     {
         self.well_formed();
@@ -96,7 +96,7 @@ impl Ptr<Operation> {
     #[inline(always)]
     pub fn get_parent_op(self, ctx: &Context) -> Option<Ptr<Operation>>
         requires { IsLive ctx.now.tree self }
-        ensures holder { result ≡ holder_of ctx.now.tree self }
+        ensures holder { result ≡ parent_operation_of ctx.now.tree self }
         ensures live { IfSome result (λ op. IsLive ctx.now.tree op) }
     {
         ctx.well_formed();
@@ -140,7 +140,7 @@ impl Ptr<Operation> {
     #[inline(always)]
     pub fn next_beside(self, ctx: &Context) -> Option<Ptr<Operation>>
         requires { IsLive ctx.now.tree self }
-        ensures { ForSome (holder_of ctx.now.tree self) (λ holder.
+        ensures { ForSome (parent_operation_of ctx.now.tree self) (λ holder.
             result ≡ next_in self (children ctx.now.tree holder)) }
     {
         ctx.next_sibling(self.index()).map(|key| Ptr::new(key))

@@ -4,7 +4,7 @@ ghost use Rattle.std.specs.Prelude.{◌≡◌, [], ◌∷◌, map, drop, slice_g
 ghost use Rattle.std.specs.Option.{ForSome};
 ghost use Rattle.pliron_core.specs.Tree.{IsLive, IsBlock, operands_of, results_of, regions_of, successors_of};
 ghost use Rattle.pliron_laws.specs.Tree.{Operation as OperationRecord, op_at, and_block};
-ghost use Rattle.pliron_laws.specs.Machine.{start, trap, at_rest, bind, leave, given, enter, go_to, emit, entry_in, input_of, perform, turn, step};
+ghost use Rattle.pliron_laws.specs.Machine.{start, trap, at_rest, bind, leave, after_giving, enter, go_to, emit, entry_in, input_of, perform, turn, step};
 ghost use Rattle.pliron_evaluator.specs.Evaluator.{datum_of_value, move_of, environment_of, answer_of_values, waiting_of, state_of, next_of_value};
 
 use crate::evaluator::environment::{
@@ -85,7 +85,7 @@ fn give(
 ) -> Result<Next, AllocError>
     requires live { IsLive ctx.now.tree op }
     requires first { slice_get state.rest.items 0 ≡ Some op }
-    ensures { IfOk result (λ next. next_of_value next ≡ given (state_of state) (drop 1 state.rest.items) (map waiting_of state.waiting.items)
+    ensures { IfOk result (λ next. next_of_value next ≡ after_giving (state_of state) (drop 1 state.rest.items) (map waiting_of state.waiting.items)
         (map datum_of_value values.items) (bind (environment_of state.environment) (results_of ctx.now.tree op) (map datum_of_value values.items))) }
 {
     let results = all_results(alloc, op, ctx)?;

@@ -1,6 +1,6 @@
 //! Texts and the lines that they are printed as.
-use super::printed;
-use pliron_cases::cases::sides;
+use super::printed_line;
+use pliron_test_cases::cases::sides;
 
 /// Blanks, ends of lines as `|`, and names.
 static LAYOUTS: &str = "\
@@ -146,8 +146,8 @@ fn texts_and_their_lines(rt: HostRuntime) {
     for table in [LAYOUTS, KINDS, JUMPS, BRANCHES, REGIONS, CROWDED] {
         for case in table.lines() {
             let (text, want) = sides(case).expect(&rt, "a case");
-            assert_eq!(&rt; printed(&rt, alloc, text).as_str(), want, "{case}");
-            assert_eq!(&rt; printed(&rt, alloc, want).as_str(), want, "{case}");
+            assert_eq!(&rt; printed_line(&rt, alloc, text).as_str(), want, "{case}");
+            assert_eq!(&rt; printed_line(&rt, alloc, want).as_str(), want, "{case}");
         }
     }
 }
@@ -155,6 +155,6 @@ fn texts_and_their_lines(rt: HostRuntime) {
 #[test]
 fn printed_lines(rt: HostRuntime) {
     for line in PRINTED.lines() {
-        assert_eq!(&rt; printed(&rt, rt.alloc(), line).as_str(), line, "{line}");
+        assert_eq!(&rt; printed_line(&rt, rt.alloc(), line).as_str(), line, "{line}");
     }
 }

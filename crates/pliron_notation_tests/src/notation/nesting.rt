@@ -1,13 +1,13 @@
 //! Regions in one another.
-use super::printed;
-use pliron_cases::cases::{fields, line};
+use super::printed_line;
+use pliron_test_cases::cases::{fields, line};
 use pliron_core::{Attrs, BasicBlock, Context, Head, IRRewriter, Operation, Ptr, Rewriter};
 use pliron_meaning::bench::BenchKind;
 use std::alloc::Global;
 use std::process::Abort;
 
 /// The text of so many operations in one another, at least two: of the first, the last and all between.
-fn nested(rt: &impl Abort, alloc: Global, case: &str, depth: usize) -> String {
+fn nested_text(rt: &impl Abort, alloc: Global, case: &str, depth: usize) -> String {
     let (first, rest) = fields(case).expect(rt, "two fields");
     let (between, last) = fields(rest).expect(rt, "two fields");
     let mut text = String::from_str(alloc, first).expect(rt, "memory");
@@ -32,11 +32,11 @@ func { b0(): / scope { b0(): / scope { b0(): }";
 fn sixty_four_regions_in_one_another(rt: HostRuntime) {
     let alloc = rt.alloc();
     for case in NESTS.lines() {
-        let most = nested(&rt, alloc, case, 64);
-        assert!(&rt; printed(&rt, alloc, most.as_str()) == most, "{case}");
-        let more = nested(&rt, alloc, case, 65);
+        let most = nested_text(&rt, alloc, case, 64);
+        assert!(&rt; printed_line(&rt, alloc, most.as_str()) == most, "{case}");
+        let more = nested_text(&rt, alloc, case, 65);
         assert!(&rt;
-            printed(&rt, alloc, more.as_str()).as_str() == "unreadable",
+            printed_line(&rt, alloc, more.as_str()).as_str() == "unreadable",
             "{case}"
         );
     }
@@ -90,7 +90,7 @@ fn deep(rt: &impl Abort, alloc: Global) -> String {
 #[test]
 fn deep_tree_is_printed(rt: HostRuntime) {
     let alloc = rt.alloc();
-    let want = nested(&rt, alloc, "func { b0(): / box { b0(): / box { }", 3000);
+    let want = nested_text(&rt, alloc, "func { b0(): / box { b0(): / box { }", 3000);
     assert!(&rt; deep(&rt, alloc) == want);
-    assert!(&rt; printed(&rt, alloc, want.as_str()).as_str() == "unreadable");
+    assert!(&rt; printed_line(&rt, alloc, want.as_str()).as_str() == "unreadable");
 }

@@ -1,7 +1,7 @@
 //! Each rule of the grammar broken, and beside it kept: to the left of ` => ` an unreadable text, to its right
 //! one that is read. `|` stands for the end of a line.
-use super::printed;
-use pliron_cases::cases::sides;
+use super::printed_line;
+use pliron_test_cases::cases::sides;
 use std::alloc::Global;
 use std::process::Abort;
 
@@ -206,11 +206,11 @@ func { b0(a): b = const a } => func { b0(a): b = const 0 }";
 fn check_rule(rt: &impl Abort, alloc: Global, case: &str) {
     let (broken, kept) = sides(case).expect(rt, "a case");
     assert!(rt;
-        printed(rt, alloc, broken).as_str() == "unreadable",
+        printed_line(rt, alloc, broken).as_str() == "unreadable",
         "readable: {broken}"
     );
     assert!(rt;
-        printed(rt, alloc, kept).as_str() != "unreadable",
+        printed_line(rt, alloc, kept).as_str() != "unreadable",
         "unreadable: {kept}"
     );
 }

@@ -1,0 +1,24 @@
+//! The work of each command of `plir`, the program for people, as functions from texts and wishes to texts.
+//!
+//! It knows the bench notation and what people want to see of texts and runs; of words, files and streams it
+//! knows nothing.
+#![tactic(auto)]
+
+mod checking;
+mod comparing;
+mod failure;
+mod optimising;
+mod outcome;
+mod report;
+mod running;
+mod statistics;
+mod table;
+
+pub use checking::check;
+pub use comparing::{CompareOptions, compare};
+pub use failure::CommandFailure;
+pub use optimising::{OptOptions, misspelling_outcome, opt};
+pub use outcome::Outcome;
+pub use pliron_diagnostics::{RunOptions, Source};
+pub use pliron_instrument::{Progress, InstrumentationOptions};
+pub use running::run;

@@ -1,0 +1,193 @@
+//! What passes make of texts.
+ghost use Rattle.std.specs.Prelude.{◌≡◌, ⊤, map, IfOk, IfSome, string_bytes};
+ghost use Rattle.pliron_bench.specs.BenchMoves.{bench};
+ghost use Rattle.pliron_opts.specs.Ran.{RunsAlone};
+ghost use Rattle.pliron_opts.specs.Read.{ReadsBench, PrintsBench};
+ghost use Rattle.pliron_cli.specs.Outcomes.{Ends, EndsBadly};
+ghost use Rattle.pliron_cli.specs.Optimised.{IsLaidOut, IsMade, IsPlannedMade, IsMadeBy};
+
+use crate::failure::CommandFailure;
+use crate::outcome::{Outcome, failure_outcome};
+use crate::report::{ReportOptions, report_of, write_refused};
+use pliron_laws::OptError;
+use pliron_opts::{BenchNotation, Notation};
+use pliron_pass::{BenchFactKind, Pass};
+use pliron_diagnostics::{SourceMark, Source, mark_source, pretty};
+use pliron_instrument::{
+    PipelineText, PlanError, Progress, Instrumented, InstrumentedSchedule, InstrumentationOptions, WordFault, optimise, build_schedule,
+    instrumented_passes,
+};
+use std::alloc::{AllocError, Global};
+
+/// What is wished of passes.
+#[derive(Clone, Copy)]
+pub struct OptOptions<'w> {
+    /// The passes, as a word.
+    pub pipeline: &'w str,
+    /// Whether each operation is to stand on a line of its own.
+    pub is_pretty: bool,
+    /// What is visited around each run of a pass.
+    pub watch: InstrumentationOptions<'w>,
+    /// Whether the time of each pass is told.
+    pub times: bool,
+}
+
+/// What is told of a word that plans no passes.
+fn fault_message(alloc: Global, word: &str, fault: &WordFault) -> Result<String, AllocError> {
+    let label = format!(in alloc; "expected {}", fault.expected)?;
+    let mark = SourceMark {
+        message: "no such passes",
+        label: label.as_str(),
+        name: "PIPELINE",
+        start: fault.start,
+        len: fault.len,
+    };
+    mark_source(alloc, word.as_bytes(), &mark)
+}
+
+/// The outcome for a word that plans no passes: nothing is to be written, and the part that is wrong is told. Errors: allocation
+/// failure. Cost: linear in the word.
+pub fn misspelling_outcome(alloc: Global, word: &str, fault: &WordFault) -> Result<Outcome, AllocError>
+    ensures { IfOk result EndsBadly }
+{
+    let report = fault_message(alloc, word, fault)?;
+    Ok(Outcome {
+        output: Vec::new(alloc),
+        report,
+        status: 2,
+    })
+}
+
+/// The text with each operation on a line of its own, or as it is.
+fn over_lines(alloc: Global, printed: String, is_pretty: bool) -> Result<Vec<u8>, AllocError>
+    ensures { IfOk result (λ output. IsLaidOut (string_bytes printed) output.items) }
+{
+    if is_pretty {
+        pretty(alloc, printed.as_bytes())
+    } else {
+        Ok(printed.into_bytes())
+    }
+}
+
+/// The same and an end of a line.
+#[tactic(auto, using(crate::proofs::PeopleLemmas::ended))]
+fn laid_out(alloc: Global, printed: String, is_pretty: bool) -> Result<Vec<u8>, AllocError>
+    ensures { IfOk result (λ output. IsLaidOut (string_bytes printed) output.items) }
+{
+    let mut output = over_lines(alloc, printed, is_pretty)?;
+    output.push(b'\n')?;
+    Ok(output)
+}
+
+/// Whether something is missing in what was noted.
+fn is_short<N: Notation, C: Progress + Drop>(passes: &[Instrumented<N, C>]) -> bool {
+    passes.iter().any(|pass| pass.diary().is_short)
+}
+
+/// Whether verifying found something.
+fn has_fault<N: Notation, C: Progress + Drop>(passes: &[Instrumented<N, C>]) -> bool {
+    passes.iter().any(|pass| pass.diary().notes.iter().any(|note| note.fault.is_some()))
+}
+
+/// What is told beside the answer.
+fn report_options(wish: &OptOptions) -> ReportOptions {
+    ReportOptions {
+        is_pretty: wish.is_pretty,
+        faults: wish.watch.verifies,
+        counts: wish.watch.counts,
+        times: wish.times,
+    }
+}
+
+/// The outcome where memory or the passes were refused: what was noted, why, and in which pass.
+fn refusal_outcome<N: Notation, C: Progress + Drop>(
+    alloc: Global,
+    mut report: String,
+    source: &Source,
+    error: OptError,
+    passes: &[Instrumented<N, C>],
+) -> Result<Outcome, AllocError>
+    ensures { IfOk result EndsBadly }
+{
+    let failure = CommandFailure::Refused(error);
+    report.push_str(failure.message(alloc, source)?.as_str())?;
+    write_refused(&mut report, passes)?;
+    Ok(Outcome {
+        output: Vec::new(alloc),
+        report,
+        status: failure.status(),
+    })
+}
+
+/// What these passes make of the text.
+#[tactic(auto, using(crate::proofs::PeopleLemmas::is_made))]
+fn opt_with<N: Notation, C: Progress + Copy + Drop>(
+    alloc: Global,
+    source: &Source,
+    wish: &OptOptions,
+    schedule: &mut InstrumentedSchedule<N, C>,
+) -> Result<Outcome, AllocError>
+    ensures { IfOk result (λ outcome. Ends (IsMade N.reads N.prints N.D.meaning (RunsAlone ⟦<BenchFactKind as PartialEq>⟧.eq
+        ⟦<InstrumentedSchedule<N, C> as Pass>⟧.outcome schedule.old) source.now.text.now outcome.output.items) ⊤ outcome) }
+{
+    let made = optimise(alloc, schedule, source.text);
+    let passes = instrumented_passes(schedule);
+    let report = report_of(alloc, passes, &report_options(wish))?;
+    match made {
+        Ok(Some(_)) if is_short(passes) => refusal_outcome(alloc, report, source, OptError::Memory, passes),
+        Ok(Some(_)) if has_fault(passes) => Ok(Outcome {
+            output: Vec::new(alloc),
+            report,
+            status: 3,
+        }),
+        Ok(Some(made)) => Ok(Outcome {
+            output: laid_out(alloc, made.printed, wish.is_pretty)?,
+            report,
+            status: 0,
+        }),
+        Ok(None) => failure_outcome(alloc, CommandFailure::Text, source),
+        Err(error) => refusal_outcome(alloc, report, source, error, passes),
+    }
+}
+
+/// What the passes that the plan asks for make of the text.
+#[tactic(auto, using(crate::proofs::PeopleLemmas::is_planned_made))]
+fn opt_by<N: Notation, C: Progress + Copy + Drop>(
+    alloc: Global,
+    source: &Source,
+    wish: &OptOptions,
+    plan: &PipelineText,
+    clock: C,
+) -> Result<Outcome, AllocError>
+    ensures { IfOk result (λ outcome. Ends (IsPlannedMade N.reads N.prints N.D.meaning ⟦<Instrumented<N, C> as Pass>⟧.name
+        (RunsAlone ⟦<BenchFactKind as PartialEq>⟧.eq ⟦<InstrumentedSchedule<N, C> as Pass>⟧.outcome) plan.now.runs plan.now.nested
+        (map (λ name. name.now) plan.now.names.items) source.now.text.now outcome.output.items) ⊤ outcome) }
+{
+    match build_schedule::<N, C>(alloc, plan, &wish.watch, clock)? {
+        Some(mut schedule) => opt_with(alloc, source, wish, &mut schedule),
+        None => failure_outcome(alloc, CommandFailure::Text, source),
+    }
+}
+
+/// Runs the passes that the word asks for on the text, and answers the tree that they leave, printed.
+///
+/// Statuses: 0; 1 where memory or the passes were refused; 2 for a word that asks for no passes or an unreadable text;
+/// 3 where verifying found something. With all but 0 nothing is to be written to the output. Errors: allocation failure for
+/// what is told. Cost: reading, the passes, what is visited, and printing.
+#[tactic(auto, using(crate::proofs::PeopleLemmas::is_made_by))]
+pub fn opt<C: Progress + Copy + Drop>(
+    alloc: Global,
+    source: &Source,
+    wish: &OptOptions,
+    clock: C,
+) -> Result<Outcome, AllocError>
+    ensures { IfOk result (λ outcome. Ends (IsMadeBy ReadsBench PrintsBench bench ⟦<Instrumented<BenchNotation, C> as Pass>⟧.name
+        (RunsAlone ⟦<BenchFactKind as PartialEq>⟧.eq ⟦<InstrumentedSchedule<BenchNotation, C> as Pass>⟧.outcome) wish.now.pipeline.now
+        source.now.text.now outcome.output.items) ⊤ outcome) }
+{
+    match PipelineText::read(alloc, wish.pipeline) {
+        Ok(plan) => opt_by::<BenchNotation, C>(alloc, source, wish, &plan, clock),
+        Err(PlanError::Word(fault)) => misspelling_outcome(alloc, wish.pipeline, &fault),
+        Err(PlanError::Memory) => failure_outcome(alloc, CommandFailure::Refused(OptError::Memory), source),
+    }
+}

@@ -1,0 +1,16 @@
+//! What people see of texts and runs: texts over several lines, marks under what is wrong, and how runs end.
+//!
+//! It knows the bench notation and runs; of passes, arguments, files and streams it knows nothing.
+#![tactic(auto)]
+
+mod fault;
+mod layout;
+mod source_mark;
+mod operation_ranges;
+mod run_report;
+
+pub use fault::text_fault;
+pub use layout::pretty;
+pub use source_mark::{SourceMark, Position, Source, mark_source, position_of};
+pub use operation_ranges::{OperationRange, operation_places, place_of};
+pub use run_report::{End, RunOptions, RunReport, end_of, run_text, run_sight, sight_text};

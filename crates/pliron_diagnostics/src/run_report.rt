@@ -1,0 +1,261 @@
+//! Runs, as people see them.
+ghost use Rattle.std.specs.Prelude.{◌≡◌, map, IfOk};
+ghost use Rattle.pliron_laws.specs.Datum.{Number as NumberOf};
+ghost use Rattle.pliron_laws.specs.Machine.{run, sight_after as sight_seen};
+ghost use Rattle.pliron_bench.specs.BenchMoves.{bench};
+ghost use Rattle.pliron_evaluator.specs.Evaluator.{datum_of_value, sight_of};
+
+use crate::source_mark::{SourceMark, Source, mark_source, push_bytes};
+use crate::operation_ranges::{OperationRange, operation_places, place_of};
+use pliron_bench::Bench;
+use pliron_core::{Context, Operation, Ptr};
+use pliron_evaluator::evaluator::{Datum, Noted, Notes, Sight, evaluate_noting};
+use pliron_laws::OptError;
+use pliron_notation::read_text;
+use std::alloc::{AllocError, Global};
+
+/// What a run is given.
+#[derive(Clone, Copy)]
+pub struct RunOptions<'w> {
+    /// The values that the operation gets.
+    pub inputs: &'w [i64],
+    /// What the world answers to its effects, in order.
+    pub world: &'w [i64],
+    /// The most moves that it makes.
+    pub steps: usize,
+    /// Whether each move is told.
+    pub trace: bool,
+}
+
+/// The numbers as data.
+fn data(alloc: Global, numbers: &[i64]) -> Result<Vec<Datum>, AllocError>
+    ensures { IfOk result (λ made. map datum_of_value made.items ≡ map NumberOf numbers.now) }
+{
+    let mut data = Vec::new(alloc);
+    for number in numbers {
+        data.push(Datum::Number(i128::from(*number)))?;
+    }
+    Ok(data)
+}
+
+/// Writes a datum: a number, a word, or data in brackets.
+fn write_datum(text: &mut String, datum: &Datum) -> Result<(), AllocError> {
+    match datum {
+        Datum::Empty => text.push_str("()"),
+        Datum::Number(number) => {
+            let number = *number;
+            write!(text, "{number}")
+        }
+        Datum::Text(word) => text.push_str(word.as_str()),
+        Datum::Join(first, others) => {
+            text.push_str("(")?;
+            write_datum(text, first)?;
+            text.push_str(" ")?;
+            write_datum(text, others)?;
+            text.push_str(")")
+        }
+    }
+}
+
+/// Writes the data of a list, each after a blank.
+fn write_data(text: &mut String, data: &[Datum]) -> Result<(), AllocError> {
+    for datum in data {
+        text.push_str(" ")?;
+        write_datum(text, datum)?;
+    }
+    Ok(())
+}
+
+/// Writes the effects, of which the latest is first, each on a line.
+fn write_effects(text: &mut String, effects: &[Datum]) -> Result<(), AllocError> {
+    for effect in effects.iter().rev() {
+        text.push_str("effect ")?;
+        write_datum(text, effect)?;
+        text.push_str("\n")?;
+    }
+    Ok(())
+}
+
+/// What is seen of a run: a line for each effect, as they came, and one that says how it ended.
+///
+/// Errors: allocation failure. Cost: linear in what is seen.
+pub fn sight_text(alloc: Global, sight: &Sight) -> Result<String, AllocError> {
+    let mut text = String::new(alloc);
+    match sight {
+        Sight::Ended(values, effects) => {
+            write_effects(&mut text, effects)?;
+            text.push_str("ended with")?;
+            if values.is_empty() {
+                text.push_str(" nothing")?;
+            }
+            write_data(&mut text, values)?;
+        }
+        Sight::Trapped(effects) => {
+            write_effects(&mut text, effects)?;
+            text.push_str("trapped")?;
+        }
+        Sight::Reached(effects) => {
+            write_effects(&mut text, effects)?;
+            text.push_str("made no further move: steps or the world's answers were used up")?;
+        }
+    }
+    text.push_str("\n")?;
+    Ok(text)
+}
+
+/// How a run came to its end.
+#[derive(Clone, Copy, Debug, Drop, PartialEq, Eq)]
+pub enum End {
+    /// It ended with values.
+    Ended,
+    /// It trapped.
+    Trapped,
+    /// The steps or the world's answers were used up.
+    Stopped,
+}
+
+/// What is told of a run.
+#[derive(Drop)]
+pub struct RunReport {
+    /// Its effects as they came, and how it ended.
+    pub seen: String,
+    /// Its moves, where these are wished, and the mark under the operation that trapped.
+    pub report: String,
+    pub end: End,
+}
+
+/// How the run of which this is seen came to its end. Cost: constant.
+pub fn end_of(sight: &Sight) -> End {
+    match sight {
+        Sight::Ended(_, _) => End::Ended,
+        Sight::Trapped(_) => End::Trapped,
+        Sight::Reached(_) => End::Stopped,
+    }
+}
+
+/// What is seen of the run of the operation, with notes of its moves. Errors: allocation failure. Cost: that of
+/// `evaluate_noting`.
+pub fn run_sight(
+    alloc: Global,
+    root: Ptr<Operation>,
+    ctx: &Context,
+    wish: &RunOptions,
+    notes: &mut Notes,
+) -> Result<Sight, AllocError>
+    ensures { IfOk result (λ sight. sight_of sight ≡ sight_seen (run bench ctx.now.tree root (map NumberOf wish.now.inputs.now) (map NumberOf wish.now.world.now) wish.now.steps)) }
+{
+    let inputs = data(alloc, wish.inputs)?;
+    let world = data(alloc, wish.world)?;
+    evaluate_noting::<Bench>(alloc, ctx, root, inputs, world, wish.steps, notes)
+}
+
+/// Writes each move: where its operation stands, how it is written, and the data that it takes.
+fn write_moves(
+    report: &mut String,
+    source: &Source,
+    root: Ptr<Operation>,
+    places: &[OperationRange],
+    moves: &[Noted],
+) -> Result<(), AllocError> {
+    for noted in moves {
+        if let Some(place) = place_of(places, root, noted.op) {
+            write!(report, "{}:{} ", place.line, place.column)?;
+            push_bytes(report, source.text, place.start, place.len)?;
+        }
+        match &noted.input {
+            Some(input) if !input.is_empty() => {
+                report.push_str(" <-")?;
+                write_data(report, input)?;
+            }
+            _ => {}
+        }
+        report.push_str("\n")?;
+    }
+    Ok(())
+}
+
+/// Marks the operation that trapped.
+fn write_trap(
+    alloc: Global,
+    report: &mut String,
+    source: &Source,
+    place: OperationRange,
+) -> Result<(), AllocError> {
+    let mark = SourceMark {
+        message: "the run trapped",
+        label: "at this operation",
+        name: source.name,
+        start: place.start,
+        len: place.len,
+    };
+    report.push_str(mark_source(alloc, source.text, &mark)?.as_str())
+}
+
+/// What is told beside what is seen: the moves that are noted, and the mark under the operation that trapped.
+fn report_of(
+    alloc: Global,
+    source: &Source,
+    root: Ptr<Operation>,
+    notes: &Notes,
+    end: End,
+) -> Result<String, AllocError> {
+    let places = operation_places(alloc, source.text)?;
+    let mut report = String::new(alloc);
+    write_moves(&mut report, source, root, &places, &notes.moves)?;
+    match (end, notes.last) {
+        (End::Trapped, Some(op)) => match place_of(&places, root, op) {
+            Some(place) => {
+                write_trap(alloc, &mut report, source, place)?;
+                Ok(report)
+            }
+            None => Ok(report),
+        },
+        _ => Ok(report),
+    }
+}
+
+/// What is told of the run of a text's operation; `None` of an unreadable text.
+///
+/// Errors: allocation failure. Cost: reading, and that of `evaluate_noting`.
+pub fn run_text(alloc: Global, source: &Source, wish: &RunOptions) -> Result<Option<RunReport>, OptError> {
+    let mut ctx = Context::new(alloc);
+    run_text_in(alloc, source, wish, &mut ctx)
+}
+
+/// The same in this context.
+fn run_text_in(
+    alloc: Global,
+    source: &Source,
+    wish: &RunOptions,
+    ctx: &mut Context,
+) -> Result<Option<RunReport>, OptError> {
+    let Some(root) = read_text(alloc, source.text, ctx)? else {
+        return Ok(None);
+    };
+    Ok(Some(report_of_run(alloc, source, wish, root, ctx)?))
+}
+
+/// The notes that are wished.
+fn notes_for(alloc: Global, wish: &RunOptions) -> Notes {
+    if wish.trace {
+        Notes::of_all(alloc)
+    } else {
+        Notes::of_last(alloc)
+    }
+}
+
+/// What is told of the run of the operation, which was read from the text.
+fn report_of_run(
+    alloc: Global,
+    source: &Source,
+    wish: &RunOptions,
+    root: Ptr<Operation>,
+    ctx: &Context,
+) -> Result<RunReport, AllocError> {
+    let mut notes = notes_for(alloc, wish);
+    let sight = run_sight(alloc, root, ctx, wish, &mut notes)?;
+    let end = end_of(&sight);
+    let report = report_of(alloc, source, root, &notes, end)?;
+    let seen = sight_text(alloc, &sight)?;
+    Ok(RunReport { seen, report, end })
+}
