@@ -124,7 +124,7 @@ kept_within : (t t' : Tree) (op : ℕ) (known : List (Option AttrObj)) (status :
 kept_within t t' op known status e f = (Kept (same_tree t t' e), subst (λ a. ReportsChange (Some a) t t') (sym f) (same_tree t t' e))
 
 edge_within : (k : Option BenchKind) (a : Bool) (q : Option ℤ) (t t' : Tree) (op : ℕ) (known : List (Option AttrObj)) (o : Operation) (answer : Option IRStatus) → op_at t op ≡ Some o → kind_of (shape_of bench t o).head.kind ≡ k → admits_shape (shape_of bench t o) ≡ a → known_at known 0 ≡ q → JumpsWhereKnown (known_edge k a q) t t' op o answer → FoldsBranch bench op known t t' × ReportsChange answer t t'
-edge_within k a q t t' op known o None at e f g j = (Kept j, j)
+edge_within k a q t t' op known o None at e f g j = (Kept j, tt)
 edge_within (Some Cbr) true (Some c) t t' op known o (Some status) at e f g j =
     let w = jump_within t t' op known o (shape_of bench t o) c at refl e f g j.0 in
     (w.0, subst (λ z. ReportsChange (Some z) t t') (sym j.1) w.1)

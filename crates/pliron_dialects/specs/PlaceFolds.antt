@@ -142,7 +142,7 @@ module _ (roles : ℕ → Option Role) (m : ℕ) (jumps : roles m ≡ Some Jumps
   kept_within t t' op known status e f = (Kept (same_tree t t' e), subst (λ a. ReportsChange (Some a) t t') (sym f) (same_tree t t' e))
 
   edge_within : (k : Option Form) (a : Bool) (q : Option ℤ) (t t' : Tree) (op : ℕ) (known : List (Option AttrObj)) (o : Operation) (answer : Option IRStatus) → op_at t op ≡ Some o → form_at roles (shape_of (meaning_by roles) t o).head.kind ≡ k → admits_shape roles (shape_of (meaning_by roles) t o) ≡ a → known_number_at known 0 ≡ q → JumpsWhereKnown roles m (known_edge k a q) t t' op o answer → FoldsBranch (meaning_by roles) op known t t' × ReportsChange answer t t'
-  edge_within k a q t t' op known o None at e f g j = (Kept j, j)
+  edge_within k a q t t' op known o None at e f g j = (Kept j, tt)
   edge_within (Some BranchesForm) true (Some c) t t' op known o (Some status) at e f g j =
       let w = jump_within t t' op known o (shape_of (meaning_by roles) t o) c at refl (is_branch_role _ e) f g j.0 in
       (w.0, subst (λ z. ReportsChange (Some z) t t') (sym j.1) w.1)

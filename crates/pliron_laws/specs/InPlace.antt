@@ -17,9 +17,10 @@ use Rattle.pliron_laws.specs.Replacing.{FoldsBranch}
 abbrev pub Outcome : Type 1
 Outcome = Tree → Tree → ℕ → List (Option AttrObj) → Option IRStatus → Type 0
 
--- `Changed` says that the tree changed, `Unchanged` and a refusal that it is as before, but for erased handles
+-- `Changed` says that the tree changed, `Unchanged` that it is as before, but for erased handles; where memory was refused
+-- nothing is told
 abbrev pub ReportsChange : Option IRStatus → Tree → Tree → Type 0
-ReportsChange None t t' = IsSameTree t t'
+ReportsChange None t t' = Unit {0}
 ReportsChange (Some Changed) t t' = IsSameTree t t' → ⊥
 ReportsChange (Some Unchanged) t t' = IsSameTree t t'
 
@@ -30,8 +31,8 @@ materialising_outcome m constants accepts head t t' op known None = IsSameTree t
 materialising_outcome m constants accepts head t t' op known (Some status) = ((o : Operation) → op_at t op ≡ Some o → Materialises accepts head op o.results (constants (shape_of m t o) known) t t') × ReportsChange (Some status) t t'
 
 -- each outcome of a constant fold materialises some of the answered results, each outcome of a branch
--- fold keeps the branch or replaces it, and the answer tells whether the tree changed; so where memory was
--- refused nothing of the fold is left
+-- fold keeps the branch or replaces it, and the answer tells whether the tree changed; where memory was
+-- refused such an outcome is left too: one whole rewrite, or none
 pub record FoldsInPlace (m : Meaning) (constants : Constants) (accepts : AttrObj → Bool) (head : AttrObj → Head) (fold branch_fold : Outcome) : Type 0 where
   pub constant : (t t' : Tree) (op : ℕ) (known : List (Option AttrObj)) (answer : Option IRStatus) (o : Operation) → op_at t op ≡ Some o → fold t t' op known answer → MaterialisesSome accepts head op o.results (constants (shape_of m t o) known) t t' × ReportsChange answer t t'
   pub branch : (t t' : Tree) (op : ℕ) (known : List (Option AttrObj)) (answer : Option IRStatus) → branch_fold t t' op known answer → FoldsBranch m op known t t' × ReportsChange answer t t'

@@ -144,8 +144,8 @@ pub trait ConstFoldInterface: HasMeaning {
     /// Folds the operation where it stands, if its operands have these constants. Asks that the
     /// operation folds, for one entry for each operand, and for an insertion point just before it.
     ///
-    /// Errors: allocation failure, after which the tree is as before, but for erased handles, as the law on folding
-    /// in place says.
+    /// Errors: allocation failure, after which the tree is one that the law on folding in place allows: as before,
+    /// but for erased handles, or after one whole fold.
     fn fold_in_place<R: Rewriter + Room>(
         alloc: Global,
         op: Ptr<Operation>,
@@ -300,8 +300,8 @@ pub trait BranchOpFoldInterface: HasMeaning {
     /// Folds the branch where it stands, if its operands have these constants. Asks that the operation
     /// folds as a branch, for one entry for each operand, and for an insertion point just before it.
     ///
-    /// Errors: allocation failure, after which the tree is as before, but for erased handles, as the law on folding
-    /// in place says.
+    /// Errors: allocation failure, after which the tree is one that the law on folding in place allows: as before,
+    /// but for erased handles, or after one whole fold.
     fn fold_in_place<R: Rewriter + Room>(
         alloc: Global,
         op: Ptr<Operation>,
@@ -487,8 +487,8 @@ pub trait Dialect: SideEffects
     // A branch goes to one of the blocks that folding answers.
     ghost answers_jumps: { AnswersJumps Self.meaning Self.can_fold_branch Self.feasible };
 
-    // Folding in place puts constants for results, or another branch in the place of one, or nothing; where
-    // memory is refused, nothing.
+    // Folding in place puts constants for results, or another branch in the place of one, or nothing; so it
+    // does where memory is refused, and what was begun is whole.
     ghost folds_in_place: { FoldsInPlace Self.meaning Self.constants Self.accepts Self.constant_head Self.ConstFoldInterface.outcome
         Self.BranchOpFoldInterface.outcome };
 
