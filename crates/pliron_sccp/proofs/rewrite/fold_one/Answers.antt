@@ -44,4 +44,3 @@ returns-clause-stays g c =
     let outcome = g.D.ConstFoldInterface.outcome in
     let done = either (λ a. outcome t u c.args.op c.args.known_constant.now a) c.fold_in_place-done.result c.fold_in_place-done.ensures.ok c.fold_in_place-done.ensures.refused in
     step_stays _ s.0 s.1 s.2 t c.args.op _ s.3 _ _ outcome _ d.folds_in_place u done.0 done.1
-
