@@ -9,11 +9,11 @@ mod contents;
 mod definitions;
 mod dominated;
 mod find;
-mod nesting;
+mod violation;
 mod operations;
 mod run;
-mod violation;
+mod nesting;
 
 pub use find::{find_violation, fit_roots, is_fit};
-pub use run::{CheckedRun, RunError, run_checked, run_checked_for};
 pub use violation::Violation;
+pub use run::{CheckedRun, RunError, run_checked, run_checked_for};
