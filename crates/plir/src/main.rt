@@ -7,10 +7,10 @@ mod command;
 
 use clap::ArgMatches;
 use command::parse_arguments;
-use pliron_draw::{FlowWish, draw_flow, draw_graph, explain};
 use pliron_cli::{
     CompareOptions, OptOptions, Outcome, Progress, RunWish, Source, Wish, check, compare, opt, run,
 };
+use pliron_draw::{FlowWish, draw_flow, draw_graph, explain};
 use std::alloc::Global;
 use std::io::{self, IsTerminal, Read, Write};
 use std::process::ExitCode;

@@ -3,8 +3,8 @@ ghost use Rattle.pliron_bench.specs.BenchMoves.{bench};
 ghost use Rattle.pliron_core.specs.Tree.{IsLive};
 ghost use Rattle.pliron_laws.specs.Linked.{IsWellLinked};
 
-use crate::optimisations::seen_of;
 use crate::observation::Observation;
+use crate::optimisations::seen_of;
 use pliron_bench::{Bench, BenchKind};
 use pliron_core::{Context, IRStatus, Operation, Ptr};
 use pliron_laws::OptError;

@@ -7,19 +7,24 @@
 
 mod cache;
 mod combinators;
+mod observation;
 mod optimisations;
 mod pairs;
-mod observation;
 
-use pliron_laws::OptError;
 use observation::Observation;
+use pliron_laws::OptError;
 use std::process::ExitCode;
 
 /// More cases than there are of any kind.
 const CASES: usize = 100;
 
 /// Takes note of what is seen: writes a line where it is wrong, and answers whether the call was refused.
-fn is_refused(rt: &HostRuntime, name: &str, number: usize, found: Result<Observation, OptError>) -> bool {
+fn is_refused(
+    rt: &HostRuntime,
+    name: &str,
+    number: usize,
+    found: Result<Observation, OptError>,
+) -> bool {
     let seen = Observation::of(found);
     if seen == Observation::Wrong {
         let _ = println!(rt; "{name} {number}");

@@ -16,7 +16,11 @@ pub enum Observation {
 impl Observation {
     /// What is seen of a call that was refused, by whether what it leaves may be. Cost: constant.
     pub fn of_refusal(may_be: bool) -> Self {
-        if may_be { Observation::Refused } else { Observation::Wrong }
+        if may_be {
+            Observation::Refused
+        } else {
+            Observation::Wrong
+        }
     }
 
     /// What is seen of a call that has an answer, by whether that is right. Cost: constant.

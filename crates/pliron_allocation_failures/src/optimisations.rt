@@ -81,7 +81,9 @@ fn is_one_of(trees: &str, line: &str) -> bool {
 /// the last of which is the answer. Cost: linear in the trees.
 pub fn seen_of<T>(answer: &Result<T, OptError>, trees: &str, line: &str) -> Observation {
     match answer {
-        Ok(_) => Observation::of_answer(trees.rsplit_once('|').map_or(trees, |ends| ends.1).trim() == line),
+        Ok(_) => Observation::of_answer(
+            trees.rsplit_once('|').map_or(trees, |ends| ends.1).trim() == line,
+        ),
         Err(OptError::Memory) => Observation::of_refusal(is_one_of(trees, line)),
         Err(_) => Observation::Wrong,
     }

@@ -8,7 +8,7 @@ ghost use Rattle.pliron_arithmetic.specs.Arithmetic.{if_act, while_act, again_un
 
 use crate::kind::ArithmeticKind;
 use pliron_evaluator::evaluator::own_moves::{
-    ShapeCounts, OwnMoves, behind_first, choice_by_input, give, is_over, visit, visit_and_leave,
+    OwnMoves, ShapeCounts, behind_first, choice_by_input, give, is_over, visit, visit_and_leave,
 };
 use pliron_evaluator::evaluator::{Datum, Move};
 use std::alloc::{AllocError, Global};

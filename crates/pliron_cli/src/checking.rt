@@ -8,10 +8,10 @@ use crate::failure::CommandFailure;
 use crate::outcome::{Outcome, failure_outcome};
 use pliron_bench::Bench;
 use pliron_core::{Context, Operation, Ptr};
+use pliron_diagnostics::{Source, SourceMark, mark_source, operation_places, place_of};
 use pliron_fit::{Violation, find_violation};
 use pliron_laws::OptError;
 use pliron_notation::read_text;
-use pliron_diagnostics::{SourceMark, Source, mark_source, operation_places, place_of};
 use std::alloc::{AllocError, Global};
 
 /// What is wrong, what is said under the operation, and what helps.

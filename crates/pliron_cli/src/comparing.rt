@@ -10,12 +10,15 @@ use crate::failure::CommandFailure;
 use crate::optimising::misspelling_outcome;
 use crate::outcome::{Outcome, failure_outcome};
 use pliron_core::{Context, Operation, Ptr};
+use pliron_diagnostics::{RunOptions, Source, run_sight, sight_text};
 use pliron_evaluator::evaluator::{Datum, Notes, Sight};
+use pliron_instrument::{
+    InstrumentationOptions, InstrumentedSchedule, PipelineText, PlanError, Timeless,
+    build_schedule, run_instrumented,
+};
 use pliron_laws::OptError;
 use pliron_notation::read_text;
 use pliron_opts::BenchNotation;
-use pliron_diagnostics::{RunOptions, Source, run_sight, sight_text};
-use pliron_instrument::{PipelineText, PlanError, Timeless, InstrumentedSchedule, InstrumentationOptions, run_instrumented, build_schedule};
 use std::alloc::{AllocError, Global};
 
 /// What is wished of runs before and after passes.
@@ -101,7 +104,11 @@ fn sights_of(
 }
 
 /// What is written of the runs: what is seen, once where it is the same of both, and whether it is.
-fn comparison_text(alloc: Global, sights: &Sights, likeness: Likeness) -> Result<String, AllocError> {
+fn comparison_text(
+    alloc: Global,
+    sights: &Sights,
+    likeness: Likeness,
+) -> Result<String, AllocError> {
     let before = sight_text(alloc, &sights.before)?;
     let after = sight_text(alloc, &sights.after)?;
     match likeness {
@@ -190,6 +197,10 @@ pub fn compare(alloc: Global, source: &Source, wish: &CompareOptions) -> Result<
     match PipelineText::read(alloc, wish.pipeline) {
         Ok(plan) => compare_by(alloc, source, &wish.run, &plan),
         Err(PlanError::Word(fault)) => misspelling_outcome(alloc, wish.pipeline, &fault),
-        Err(PlanError::Memory) => failure_outcome(alloc, CommandFailure::Refused(OptError::Memory), source),
+        Err(PlanError::Memory) => failure_outcome(
+            alloc,
+            CommandFailure::Refused(OptError::Memory),
+            source,
+        ),
     }
 }

@@ -2,8 +2,8 @@
 ghost use Rattle.std.specs.Prelude.{◌≡◌};
 ghost use Rattle.pliron_cli.specs.Outcomes.{status_of};
 
-use pliron_laws::OptError;
 use pliron_diagnostics::{Source, text_fault};
+use pliron_laws::OptError;
 use std::alloc::{AllocError, Global};
 use thiserror::Error;
 

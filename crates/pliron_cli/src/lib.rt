@@ -20,5 +20,5 @@ pub use failure::CommandFailure;
 pub use optimising::{OptOptions, misspelling_outcome, opt};
 pub use outcome::Outcome;
 pub use pliron_diagnostics::{RunOptions, Source};
-pub use pliron_instrument::{Progress, InstrumentationOptions};
+pub use pliron_instrument::{InstrumentationOptions, Progress};
 pub use running::run;

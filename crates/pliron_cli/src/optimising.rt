@@ -9,14 +9,14 @@ ghost use Rattle.pliron_cli.specs.Optimised.{IsLaidOut, IsMade, IsPlannedMade, I
 use crate::failure::CommandFailure;
 use crate::outcome::{Outcome, failure_outcome};
 use crate::report::{ReportOptions, report_of, write_refused};
+use pliron_diagnostics::{Source, SourceMark, mark_source, pretty};
+use pliron_instrument::{
+    InstrumentationOptions, Instrumented, InstrumentedSchedule, PipelineText, PlanError, Progress,
+    WordFault, build_schedule, instrumented_passes, optimise,
+};
 use pliron_laws::OptError;
 use pliron_opts::{BenchNotation, Notation};
 use pliron_pass::{BenchFactKind, Pass};
-use pliron_diagnostics::{SourceMark, Source, mark_source, pretty};
-use pliron_instrument::{
-    PipelineText, PlanError, Progress, Instrumented, InstrumentedSchedule, InstrumentationOptions, WordFault, optimise, build_schedule,
-    instrumented_passes,
-};
 use std::alloc::{AllocError, Global};
 
 /// What is wished of passes.
@@ -47,7 +47,11 @@ fn fault_message(alloc: Global, word: &str, fault: &WordFault) -> Result<String,
 
 /// The outcome for a word that plans no passes: nothing is to be written, and the part that is wrong is told. Errors: allocation
 /// failure. Cost: linear in the word.
-pub fn misspelling_outcome(alloc: Global, word: &str, fault: &WordFault) -> Result<Outcome, AllocError>
+pub fn misspelling_outcome(
+    alloc: Global,
+    word: &str,
+    fault: &WordFault,
+) -> Result<Outcome, AllocError>
     ensures { IfOk result EndsBadly }
 {
     let report = fault_message(alloc, word, fault)?;
@@ -134,7 +138,13 @@ fn opt_with<N: Notation, C: Progress + Copy + Drop>(
     let passes = instrumented_passes(schedule);
     let report = report_of(alloc, passes, &report_options(wish))?;
     match made {
-        Ok(Some(_)) if is_short(passes) => refusal_outcome(alloc, report, source, OptError::Memory, passes),
+        Ok(Some(_)) if is_short(passes) => refusal_outcome(
+            alloc,
+            report,
+            source,
+            OptError::Memory,
+            passes,
+        ),
         Ok(Some(_)) if has_fault(passes) => Ok(Outcome {
             output: Vec::new(alloc),
             report,
@@ -188,6 +198,10 @@ pub fn opt<C: Progress + Copy + Drop>(
     match PipelineText::read(alloc, wish.pipeline) {
         Ok(plan) => opt_by::<BenchNotation, C>(alloc, source, wish, &plan, clock),
         Err(PlanError::Word(fault)) => misspelling_outcome(alloc, wish.pipeline, &fault),
-        Err(PlanError::Memory) => failure_outcome(alloc, CommandFailure::Refused(OptError::Memory), source),
+        Err(PlanError::Memory) => failure_outcome(
+            alloc,
+            CommandFailure::Refused(OptError::Memory),
+            source,
+        ),
     }
 }

@@ -19,7 +19,11 @@ pub struct Outcome {
 /// The outcome of a command without an answer: nothing is to be written, and what went wrong is told.
 ///
 /// Errors: allocation failure. Cost: that of reading the text.
-pub fn failure_outcome(alloc: Global, failure: CommandFailure, source: &Source) -> Result<Outcome, AllocError>
+pub fn failure_outcome(
+    alloc: Global,
+    failure: CommandFailure,
+    source: &Source,
+) -> Result<Outcome, AllocError>
     ensures { IfOk result EndsBadly }
 {
     let report = failure.message(alloc, source)?;

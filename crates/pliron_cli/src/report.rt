@@ -1,9 +1,9 @@
 //! What is told of the runs of passes: trees and what verifying finds after each, counts, and times.
 use crate::statistics::write_statistics;
 use pliron_core::IRStatus;
-use pliron_opts::Notation;
 use pliron_diagnostics::pretty;
-use pliron_instrument::{RunNote, Progress, RoundRecord, Instrumented};
+use pliron_instrument::{Instrumented, Progress, RoundRecord, RunNote};
+use pliron_opts::Notation;
 use std::alloc::{AllocError, Global};
 
 /// What is told of the runs of passes.

@@ -1,7 +1,7 @@
 //! What is told of the work of passes: how much stood before and after each, and what each rewrote.
 use crate::table::Table;
+use pliron_instrument::{Instrumented, Progress, RoundRecord};
 use pliron_opts::Notation;
-use pliron_instrument::{Progress, RoundRecord, Instrumented};
 use std::alloc::{AllocError, Global};
 
 /// What one pass did in one round.

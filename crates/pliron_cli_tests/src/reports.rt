@@ -1,6 +1,6 @@
 //! What `plir opt` tells beside its answer, worked by hand. `|` stands for the end of a line.
 use crate::lines::in_one_line;
-use crate::optimised::{plain, all_options, with_watch};
+use crate::optimised::{all_options, plain, with_watch};
 use pliron_cli::{OptOptions, Outcome, Progress, Source, Wish, opt};
 use std::alloc::Global;
 use std::io;

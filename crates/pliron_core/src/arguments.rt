@@ -7,8 +7,8 @@ ghost use Rattle.pliron_core.specs.Making.{made_by, definitions_of};
 ghost use Rattle.pliron_core.specs.Writes.{argument_definitions_from, result_definitions, argument_definitions};
 
 use crate::context::Def;
-use crate::keys::{BasicBlock, Operation, Ptr, Value};
 use crate::inline_list::InlineList;
+use crate::keys::{BasicBlock, Operation, Ptr, Value};
 use crate::uses::{Use, Uses};
 use std::alloc::{AllocError, Global};
 use std::marker::Model;

@@ -4,8 +4,8 @@ ghost use Rattle.std.specs.Prelude.{◌≡◌, ◌≢◌, ℕ, ◌<◌, ◌≤�
 ghost use Rattle.pliron_core.specs.declared.use_slots.UseSlot.{UseSlot as PlaceOf};
 ghost use Rattle.pliron_core.specs.UseSlots.{at, targets_held, no_target, targets_in, uses_in, IsLinked};
 
-use crate::use_slots::{UseSlot, relocate};
 use crate::inline_list::{InlineList, entry};
+use crate::use_slots::{UseSlot, relocate};
 use crate::uses::Use;
 
 // Each taken place of the user moves down over the free ones before it. How many are taken: they stand first.

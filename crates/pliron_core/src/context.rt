@@ -18,9 +18,9 @@ mod walk;
 
 use crate::arguments::Arguments;
 use crate::attrs::Head;
+use crate::inline_list::InlineList;
 use crate::keys::{BasicBlock, Operation, Ptr, Region, Value};
 use crate::links::Links;
-use crate::inline_list::InlineList;
 use crate::uses::Uses;
 use std::alloc::{AllocError, Global};
 use std::marker::Model;

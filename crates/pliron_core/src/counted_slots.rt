@@ -5,9 +5,9 @@ ghost use Rattle.pliron_core.specs.UseSlots.{targets_held, targets_in, uses_in};
 ghost use Rattle.pliron_core.specs.Holes.{hole_of, counts_of, is_counted, HaveHoles, AreLinked, KeepRooms};
 
 use crate::compaction::move_down;
+use crate::inline_list::InlineList;
 use crate::slot_counts::{SlotCounts, marks_of};
 use crate::use_slots::{Gap, Holes, UseSlot, are_counted, close_gap, vacate};
-use crate::inline_list::InlineList;
 use crate::uses::Use;
 use std::alloc::{AllocError, Global};
 

@@ -5,8 +5,8 @@ ghost use Rattle.std.specs.List.{sum};
 ghost use Rattle.pliron_core.specs.UseSlots.{marks};
 ghost use Rattle.pliron_core.specs.Counts.{AreMarks, pairs};
 
-use crate::use_slots::UseSlot;
 use crate::inline_list::{InlineList, entry, set_entry};
+use crate::use_slots::UseSlot;
 use std::alloc::{AllocError, Global};
 use std::marker::Model;
 

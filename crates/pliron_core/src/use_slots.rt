@@ -7,8 +7,8 @@ ghost use Rattle.pliron_core.specs.declared.use_slots.UseSlot.{UseSlot as PlaceO
 ghost use Rattle.pliron_core.specs.UseSlots.{at, put, targets_held, rank, marks, marks_in, retarget_slot, targets_in, no_target, free_place, HasGap, IsLinked, places_from};
 ghost use Rattle.pliron_core.specs.Holes.{gap_of, is_counted, Tracks, HaveHoles, AreLinked, KeepRooms};
 
-use crate::slot_counts::SlotCounts;
 use crate::inline_list::{InlineList, entry, pop_entry, set_entry};
+use crate::slot_counts::SlotCounts;
 use crate::uses::Use;
 use std::alloc::{AllocError, Global};
 

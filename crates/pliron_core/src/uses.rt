@@ -6,11 +6,11 @@ ghost use Rattle.pliron_core.specs.Uses.{targets_of, table_uses, AreAgreed, repl
 ghost use Rattle.pliron_core.specs.UseSlots.{uses_by};
 
 use crate::counted_slots::{count_places, settle_places, take_counted};
+use crate::inline_list::{InlineList, entry, pop_entry, set_entry};
 use crate::use_slots::{
     Holes, NO_GAP, UseSlot, are_counted, count_at, new_places, open_gap, rank_at, retarget,
     settle_gap, target_at, widen_gap,
 };
-use crate::inline_list::{InlineList, entry, pop_entry, set_entry};
 use std::alloc::{AllocError, Global};
 use std::marker::Model;
 use std::mem;

@@ -2,8 +2,8 @@
 use crate::steps::in_new_context;
 use crate::straight::build_sum;
 use pliron_core::{
-    AttrObj, Attrs, Context, NoMemory, OpInsertionPoint, OperationEntry, RegionSlot, InlineList, Use,
-    change_laws,
+    AttrObj, Attrs, Context, InlineList, NoMemory, OpInsertionPoint, OperationEntry, RegionSlot,
+    Use, change_laws,
 };
 use std::alloc::Global;
 use std::process::Abort;

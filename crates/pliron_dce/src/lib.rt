@@ -18,18 +18,18 @@ ghost use Rattle.pliron_dce.specs.Dead.{Item};
 ghost use Rattle.pliron_dce.specs.Erasing.{EraseInTurn, AreDeadItems, LeavesNoDead, ReportsDead, SomeHasRegions};
 
 mod candidates;
+mod erase;
 mod incoming;
-mod scans;
+mod operand_indexing;
 mod predecessors;
 mod ready;
-mod operand_indexing;
+mod scans;
 mod sweep;
-mod erase;
 mod worklist;
 
 use crate::candidates::all_candidates;
-use crate::scans::ScanPositions;
 use crate::predecessors::Predecessors;
+use crate::scans::ScanPositions;
 use crate::sweep::sweep;
 use pliron_core::{Context, IRStatus, Operation, Ptr};
 use pliron_laws::{Dialect, OptError};

@@ -18,7 +18,7 @@ ghost use Rattle.pliron_core.specs.Tree.{In, IsLive, IsDefined, results_of, uses
 ghost use Rattle.pliron_core.specs.Changes.{IsDefinedInside};
 ghost use Rattle.pliron_dce.specs.Readiness.{IsKeptAlive, IsUsedOutside};
 
-use crate::ready::{parent_operation_of, is_within};
+use crate::ready::{is_within, parent_operation_of};
 use crate::worklist::DeadCandidate;
 use indexmap::IndexMap;
 use pliron_core::{Context, Def, Operation, Ptr, Value};

@@ -11,10 +11,10 @@ ghost use Rattle.pliron_dce.specs.Predecessors.{mark_of, AreMarked};
 ghost use Rattle.pliron_dce.specs.Erasing.{ErasesItem, HasRegions, SomeHasRegions, IsSweptSoFar, LeavesNoDead, ReportsErased};
 ghost use Rattle.pliron_dce.specs.Worklist.{item_of, pending_candidates, HasReady, AreClosed};
 
-use crate::incoming::Incoming;
-use crate::scans::ScanPositions;
-use crate::predecessors::Predecessors;
 use crate::erase::{erase_dead_argument, erase_dead_operation};
+use crate::incoming::Incoming;
+use crate::predecessors::Predecessors;
+use crate::scans::ScanPositions;
 use crate::worklist::{DeadCandidate, Worklist, next_ready, note};
 use pliron_core::{Context, Def, IRStatus, Operation, Ptr, Value};
 use pliron_laws::{Dialect, OptError};

@@ -16,9 +16,9 @@ ghost use Rattle.pliron_dce.specs.Predecessors.{mark_of, AreMarked};
 ghost use Rattle.pliron_dce.specs.declared.worklist.DeadCandidate.TheVariants.{Operation as AnOperation};
 ghost use Rattle.pliron_dce.specs.Worklist.{item_of, items_of, pending_candidates, HasReady, KeepsReady, AreClosed, AddsParents, IsAroundMaker};
 
-use crate::scans::ScanPositions;
 use crate::predecessors::Predecessors;
-use crate::ready::{parent_operation_of, is_ready_argument, is_ready_operation};
+use crate::ready::{is_ready_argument, is_ready_operation, parent_operation_of};
+use crate::scans::ScanPositions;
 use indexmap::IndexSet;
 use pliron_core::{Context, Def, Operation, Ptr, Value};
 use pliron_laws::Dialect;
@@ -46,7 +46,11 @@ pub(crate) struct Worklist {
 
 impl Worklist {
     // All these are visited in the first round.
-    pub(crate) fn new(alloc: Global, candidates: Vec<DeadCandidate>, scans: ScanPositions) -> Worklist
+    pub(crate) fn new(
+        alloc: Global,
+        candidates: Vec<DeadCandidate>,
+        scans: ScanPositions,
+    ) -> Worklist
         ensures round { result.round.items ≡ candidates.items }
         ensures later { result.later.items ≡ [] }
         ensures around { result.around.keys ≡ [] }
@@ -188,7 +192,13 @@ fn next_of<D: Dialect>(
     ensures later { worklist.new.later ≡ worklist.old.later }
     ensures around { worklist.new.around ≡ worklist.old.around }
 {
-    next_in_round::<D>(&mut worklist.round, &mut worklist.scans, predecessors, root, ctx)
+    next_in_round::<D>(
+        &mut worklist.round,
+        &mut worklist.scans,
+        predecessors,
+        root,
+        ctx,
+    )
 }
 
 // These operations come into the round.

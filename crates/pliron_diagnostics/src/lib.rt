@@ -5,12 +5,12 @@
 
 mod fault;
 mod layout;
-mod source_mark;
 mod operation_ranges;
 mod run_report;
+mod source_mark;
 
 pub use fault::text_fault;
 pub use layout::pretty;
-pub use source_mark::{SourceMark, Position, Source, mark_source, position_of};
 pub use operation_ranges::{OperationRange, operation_places, place_of};
-pub use run_report::{End, RunOptions, RunReport, end_of, run_text, run_sight, sight_text};
+pub use run_report::{End, RunOptions, RunReport, end_of, run_sight, run_text, sight_text};
+pub use source_mark::{Position, Source, SourceMark, mark_source, position_of};

@@ -5,8 +5,8 @@ ghost use Rattle.pliron_laws.specs.Machine.{run, sight_after as sight_seen};
 ghost use Rattle.pliron_bench.specs.BenchMoves.{bench};
 ghost use Rattle.pliron_evaluator.specs.Evaluator.{datum_of_value, sight_of};
 
-use crate::source_mark::{SourceMark, Source, mark_source, push_bytes};
 use crate::operation_ranges::{OperationRange, operation_places, place_of};
+use crate::source_mark::{Source, SourceMark, mark_source, push_bytes};
 use pliron_bench::Bench;
 use pliron_core::{Context, Operation, Ptr};
 use pliron_evaluator::evaluator::{Datum, Noted, Notes, Sight, evaluate_noting};
@@ -217,7 +217,11 @@ fn report_of(
 /// What is told of the run of a text's operation; `None` of an unreadable text.
 ///
 /// Errors: allocation failure. Cost: reading, and that of `evaluate_noting`.
-pub fn run_text(alloc: Global, source: &Source, wish: &RunOptions) -> Result<Option<RunReport>, OptError> {
+pub fn run_text(
+    alloc: Global,
+    source: &Source,
+    wish: &RunOptions,
+) -> Result<Option<RunReport>, OptError> {
     let mut ctx = Context::new(alloc);
     run_text_in(alloc, source, wish, &mut ctx)
 }

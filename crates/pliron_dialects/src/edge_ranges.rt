@@ -114,7 +114,12 @@ pub fn operands_at(
 
 /// The operand at place `j` of these, if there are so many. Asks that the operation stands and has operands
 /// at them, and that the place after the last is a `usize`. Cost: constant.
-pub fn operand_among(op: Ptr<Operation>, ctx: &Context, places: EdgeRange, j: usize) -> Option<Value>
+pub fn operand_among(
+    op: Ptr<Operation>,
+    ctx: &Context,
+    places: EdgeRange,
+    j: usize,
+) -> Option<Value>
     requires live { IsLive ctx.now.tree op }
     requires within { (k : ℕ) → k < places.count → places.first + k < length (operands_of ctx.now.tree op) }
     requires fits { places.first + places.count ≤ 18446744073709551615 }

@@ -10,9 +10,9 @@ ghost use Rattle.pliron_dialects.specs.Forms.{head_of_kind as head_without};
 ghost use Rattle.pliron_dialects.specs.Roles.{role_at};
 ghost use Rattle.pliron_dialects.specs.RoleOutcomes.{BecomesJump};
 
+use crate::edge_ranges::{operands_at, places_at};
 use crate::heads::plain_head;
 use crate::kinds::Kinds;
-use crate::edge_ranges::{operands_at, places_at};
 use pliron_core::{BasicBlock, Context, Head, NoMemory, Operation, Ptr, Rewriter, Value};
 use pliron_laws::{OptError, Room};
 use std::alloc::Global;

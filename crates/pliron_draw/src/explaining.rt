@@ -3,10 +3,10 @@ ghost use Rattle.std.specs.Prelude.{◌≡◌, ⊤, length, IfOk, IfSome};
 ghost use Rattle.pliron_cli.specs.Outcomes.{Ends};
 
 use crate::ending::{Wrong, ended_badly, ended_with};
-use pliron_laws::OptError;
 use pliron_cli::{CommandFailure, Outcome, Source, misspelling_outcome};
 use pliron_graphviz::{PassList, PassName, explain_changes};
 use pliron_instrument::{PipelineText, PlanError};
+use pliron_laws::OptError;
 use std::alloc::{AllocError, Global};
 
 /// The outcome for these lines.

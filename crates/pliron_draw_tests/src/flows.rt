@@ -1,6 +1,6 @@
 //! The control flow of texts as pictures, worked by hand.
-use pliron_draw::{FlowWish, draw_flow};
 use pliron_cli::{Outcome, Source};
+use pliron_draw::{FlowWish, draw_flow};
 use std::alloc::Global;
 use std::process::Abort;
 

@@ -1,6 +1,6 @@
 //! Graphs as pictures, worked by hand: the search takes successors by index, and components stand in topological order.
-use pliron_draw::draw_graph;
 use pliron_cli::Source;
+use pliron_draw::draw_graph;
 use std::alloc::Global;
 use std::process::Abort;
 

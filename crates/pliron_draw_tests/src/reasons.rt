@@ -1,6 +1,6 @@
 //! Why passes changed what, worked by hand.
-use pliron_draw::explain;
 use pliron_cli::Source;
+use pliron_draw::explain;
 use std::alloc::Global;
 use std::process::Abort;
 

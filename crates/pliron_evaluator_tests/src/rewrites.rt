@@ -7,14 +7,14 @@ ghost use Rattle.pliron_evaluator.specs.declared.tiny.TinyKind.TheVariants.{Cons
 ghost use Rattle.pliron_laws.specs.Datum.{Head};
 
 use crate::tiny::{number_asked, number_of};
-use pliron_test_cases::listener::Counting;
-use pliron_test_cases::trees::{Made, make};
 use pliron_core::{AttrObj, BasicBlock, Context, IRStatus, Operation, Ptr};
 use pliron_meaning::evaluator::{Datum, Sight, evaluate};
 use pliron_meaning::rewrites::{
     erase_unused, replace_argument_by_constant, replace_result_by_constant,
 };
 use pliron_meaning::{Dialect, Tiny, TinyKind};
+use pliron_test_cases::listener::Counting;
+use pliron_test_cases::trees::{Made, make};
 use std::alloc::Global;
 use std::process::Abort;
 

@@ -1,14 +1,14 @@
 //! What the tiny dialect answers, asked through the traits, and folding by constants that are put for
 //! results.
-use pliron_test_cases::answers::{effects, interfaces, entry_operand_of, removable};
-use pliron_test_cases::cases::{number, sides};
-use pliron_test_cases::listener::Counting;
-use pliron_test_cases::losses::lose;
-use pliron_test_cases::trees::{Made, build, make};
 use pliron_core::{AttrObj, Context, IRRewriter, IRStatus, Operation, Ptr, Rewriter, Value};
 use pliron_meaning::{
     BranchOpFoldInterface, ConstFoldInterface, Dialect, Room, Tiny, TinyKind, edges_last,
 };
+use pliron_test_cases::answers::{effects, entry_operand_of, interfaces, removable};
+use pliron_test_cases::cases::{number, sides};
+use pliron_test_cases::listener::Counting;
+use pliron_test_cases::losses::lose;
+use pliron_test_cases::trees::{Made, build, make};
 use std::alloc::Global;
 use std::process::Abort;
 
@@ -73,7 +73,10 @@ fn named_in(rt: &impl Abort, alloc: Global, ctx: &mut Context) {
         let op = build(alloc, ctx, steps).expect(rt, "a tree");
         let region = number(region).expect(rt, "a number");
         let argument = number(argument).expect(rt, "a number");
-        let got = entry_operand_of::<Tiny>(alloc, ctx, op, region, argument).expect(rt, "an answer");
+        let got = entry_operand_of::<Tiny>(alloc, ctx, op, region, argument).expect(
+            rt,
+            "an answer",
+        );
         assert_eq!(rt; got.as_str(), want, "{case}");
     }
 }

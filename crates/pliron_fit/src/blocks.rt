@@ -7,7 +7,7 @@ ghost use Rattle.pliron_laws.specs.EdgeChecks.{HasOwnUsers};
 ghost use Rattle.pliron_fit.specs.Checks.{IsStop, IsUsedInside, IsFitBlock, IsFitRegion, IsFitHolder};
 
 use crate::contents::is_inside;
-use crate::violation::{Violation, Stop};
+use crate::violation::{Stop, Violation};
 use indexmap::IndexSet;
 use pliron_core::{BasicBlock, Context, Operation, Ptr, Region, Value};
 use pliron_laws::edges::{is_directly_in, region_of};

@@ -10,8 +10,8 @@ ghost use Rattle.pliron_fit.specs.Plain.{IsPlainlyFit};
 
 use crate::contents::contents_of;
 use crate::dominated::check_dominance;
-use crate::violation::{Violation, Stop};
 use crate::operations::check_operation;
+use crate::violation::{Stop, Violation};
 use indexmap::IndexSet;
 use pliron_core::{Context, Operation, Ptr};
 use pliron_laws::{Dialect, OptError};

@@ -8,7 +8,7 @@ ghost use Rattle.pliron_fit.specs.Checks.{IsStop, IsUsedInside, IsFitInside, IsS
 
 use crate::blocks::{check_holder, check_uses};
 use crate::contents::is_defined_inside;
-use crate::violation::{Violation, Stop};
+use crate::violation::{Stop, Violation};
 use indexmap::IndexSet;
 use pliron_core::{Context, Operation, Ptr};
 use pliron_laws::Dialect;

@@ -2,11 +2,11 @@
 //! texts that are well defined by construction are.
 use super::by_definition::{Use, all_of, all_uses, holders_among, is_fit_by_definition};
 use pliron_bench::Bench;
-use pliron_test_cases::cases::read;
 use pliron_core::{Context, Operation, Ptr};
 use pliron_fit::is_fit;
 use pliron_laws::is_well_linked;
 use pliron_random_text::{Kind, Subject};
+use pliron_test_cases::cases::read;
 use std::alloc::Global;
 use std::process::Abort;
 

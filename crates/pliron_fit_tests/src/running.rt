@@ -1,8 +1,6 @@
 //! Checked passes: roots that were fit to run are fit afterwards, and what is not well linked is refused.
 use super::by_definition::{all_of, holders_among};
 use pliron_bench::Bench;
-use pliron_test_cases::cases::read;
-use pliron_test_cases::trees::build;
 use pliron_core::{Context, IRStatus, Operation, Ptr};
 use pliron_fit::{RunError, fit_roots, is_fit, run_checked, run_checked_for};
 use pliron_laws::OptError;
@@ -10,6 +8,8 @@ use pliron_meaning::Tiny;
 use pliron_pass::{AnalysisManager, BenchFacts, Passes};
 use pliron_pipeline::PassStep;
 use pliron_random_text::Subject;
+use pliron_test_cases::cases::read;
+use pliron_test_cases::trees::build;
 use std::alloc::Global;
 use std::process::Abort;
 

@@ -2,12 +2,12 @@
 //! one beside it that has none.
 use super::traps::Traps;
 use pliron_bench::Bench;
-use pliron_test_cases::cases::{fields, operation_at, read, sides};
-use pliron_test_cases::trees::build;
 use pliron_core::{Context, Operation, Ptr};
 use pliron_fit::{find_violation, is_fit};
 use pliron_laws::Dialect;
 use pliron_meaning::Tiny;
+use pliron_test_cases::cases::{fields, operation_at, read, sides};
+use pliron_test_cases::trees::build;
 use std::alloc::Global;
 use std::process::Abort;
 

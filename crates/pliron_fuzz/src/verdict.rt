@@ -76,7 +76,11 @@ fn fault_of_line(
 }
 
 /// What is wrong with what the passes leave of the text, which is the line.
-fn fault_of_passes(alloc: Global, subject: &Subject, line: &str) -> Result<Option<AnswerFault>, OptError>
+fn fault_of_passes(
+    alloc: Global,
+    subject: &Subject,
+    line: &str,
+) -> Result<Option<AnswerFault>, OptError>
     ensures { IsOkUnless result OptError.Memory }
 {
     if !is_settled(alloc, "dce", "dce", line)? {

@@ -12,7 +12,7 @@ use crate::components::find_components;
 use crate::owners::{find_owners, owner_of};
 use indexmap::IndexSet;
 use pliron_laws::OptError;
-use pliron_traversal::traversal::{nodes_by_number, index_nodes};
+use pliron_traversal::traversal::{index_nodes, nodes_by_number};
 use pliron_traversal::{AdjacencyList, ControlFlowGraph, ListedSet, NumberSet};
 use std::alloc::Global;
 

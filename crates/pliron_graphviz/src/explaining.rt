@@ -7,8 +7,8 @@ ghost use Rattle.pliron_bench.specs.BenchMoves.{bench};
 
 use crate::pass_list::{PassList, PassName};
 use crate::reasons::{Reasons, Rewrite};
-use crate::tree_state::{TreeState, tree_state};
 use crate::text_parts::{TextParts, words_of};
+use crate::tree_state::{TreeState, tree_state};
 use pliron_bench::Bench;
 use pliron_cfg::{fold_branches, merge_inside_op, remove_blocks_inside_op};
 use pliron_core::{Context, IRRewriter, IRStatus, Operation, Ptr};
@@ -222,7 +222,11 @@ fn explained_in(
 /// Each pass is made of its own calls, what stood before each is compared with what stands after it, and the reason is what
 /// that call does. Errors: allocation failure, and those of the passes. Cost: reading, and for each pass its own cost and a step
 /// for all that stands.
-pub fn explain_changes(alloc: Global, text: &[u8], list: &PassList) -> Result<Option<String>, OptError> {
+pub fn explain_changes(
+    alloc: Global,
+    text: &[u8],
+    list: &PassList,
+) -> Result<Option<String>, OptError> {
     let mut ctx = Context::new(alloc);
     explained_in(alloc, text, list, &mut ctx)
 }

@@ -60,7 +60,9 @@ fn further(
     number: usize,
 ) -> Result<Option<PathStep>, AllocError> {
     Ok(match way {
-        PathStep::Operation(op) => region_of(ctx, op, number).map(|region| PathStep::Region(region)),
+        PathStep::Operation(op) => region_of(ctx, op, number).map(|region| PathStep::Region(
+            region,
+        )),
         PathStep::Region(region) if region.is_live(ctx) => {
             operation_in(alloc, ctx, region, number)?.map(|op| PathStep::Operation(op))
         }

@@ -153,7 +153,11 @@ impl TextParts {
         self.add_value(walk.end(), block)
     }
 
-    fn add_value(&mut self, part: Option<TextPart>, block: Option<usize>) -> Result<(), AllocError> {
+    fn add_value(
+        &mut self,
+        part: Option<TextPart>,
+        block: Option<usize>,
+    ) -> Result<(), AllocError> {
         match part {
             Some(part) => Ok(self.values.push(ValueName { part, block })?),
             None => Ok(()),

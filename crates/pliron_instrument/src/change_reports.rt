@@ -1,9 +1,9 @@
 //! Instrumented passes report accurately whether they changed the tree, in whatever list and however often it is run.
 ghost use Rattle.pliron_pipeline.specs.ChangeReports.{IsAccurate};
 
+use crate::instrumented::Instrumented;
 use crate::progress::Progress;
 use crate::schedule::{InstrumentedPipeline, InstrumentedSchedule};
-use crate::instrumented::Instrumented;
 use pliron_laws::Dialect;
 use pliron_opts::Notation;
 use pliron_pass::{Analyses, BenchFacts, Pass, Passes};

@@ -3,9 +3,9 @@ ghost use Rattle.std.specs.Prelude.{◌≡◌, false};
 ghost use Rattle.pliron_core.specs.Tree.{IsLive};
 ghost use Rattle.pliron_pipeline.specs.PassSteps.{step_name};
 
-use crate::run_records::{InstrumentationRecord, RunNote, RunMeasure};
-use crate::progress::Progress;
 use crate::comparison::{Comparison, Snapshot};
+use crate::progress::Progress;
+use crate::run_records::{InstrumentationRecord, RunMeasure, RunNote};
 use pliron_core::{Context, IRStatus, Operation, Ptr};
 use pliron_laws::OptError;
 use pliron_opts::Notation;
@@ -54,7 +54,12 @@ fn nanos<C: Clock>(clock: &C) -> u128 {
 
 impl<N: Notation, C: Progress + Drop> Instrumented<N, C> {
     /// The pass, of which nothing was noted. Cost: constant.
-    pub fn new(alloc: Global, step: PassStep<N::D, BenchFacts>, watch: Instrumentation, clock: C) -> Self
+    pub fn new(
+        alloc: Global,
+        step: PassStep<N::D, BenchFacts>,
+        watch: Instrumentation,
+        clock: C,
+    ) -> Self
         ensures { result.step ≡ step }
     {
         Instrumented {

@@ -100,7 +100,10 @@ fn counted_by_colon<'w>(alloc: Global, rest: &'w str) -> Result<(usize, RestOfWo
 }
 
 /// The same of the rest of a word behind `repeat<`.
-fn counted_in_brackets<'w>(alloc: Global, rest: &'w str) -> Result<(usize, RestOfWord<'w>), PlanError>
+fn counted_in_brackets<'w>(
+    alloc: Global,
+    rest: &'w str,
+) -> Result<(usize, RestOfWord<'w>), PlanError>
     ensures whole { IfOk result (λ read. rest.now ≡ decimal read.0 ++ (codes ">(" ++ (read.1.text.now ++ codes ")"))) }
     ensures few { IfOk result (λ read. (1 ≤ read.0) × (read.0 ≤ 64)) }
 {

@@ -2,9 +2,9 @@
 ghost use Rattle.std.specs.Prelude.{◌≡◌, ◌++◌, ◌∷◌, [], map, IfOk, IfSome, OnOk};
 ghost use Rattle.pliron_instrument.specs.Schedules.{IsPlanned, is_for_each, listed_passes, passes_of, pipeline_of, runs_of};
 
+use crate::instrumented::{Instrumentation, Instrumented};
 use crate::pipeline_words::PipelineText;
 use crate::progress::Progress;
-use crate::instrumented::{Instrumentation, Instrumented};
 use pliron_opts::Notation;
 use pliron_pass::{Either, NestedOpsPass, Pass, Passes, Repeat};
 use pliron_pipeline::PassStep;
@@ -17,7 +17,10 @@ pub type InstrumentedPipeline<N, C> = Either<
 >;
 
 /// A pipeline that is run once (`Left`), or again and again until it changes nothing, at most so many times.
-pub type InstrumentedSchedule<N, C> = Either<InstrumentedPipeline<N, C>, Repeat<InstrumentedPipeline<N, C>>>;
+pub type InstrumentedSchedule<N, C> = Either<
+    InstrumentedPipeline<N, C>,
+    Repeat<InstrumentedPipeline<N, C>>,
+>;
 
 /// What is wished to be visited around each run of a pass.
 #[derive(Clone, Copy)]

@@ -2,7 +2,6 @@
 use super::texts::TEXTS;
 use super::trees::{all_of, blocks_of, holders_of};
 use pliron_bench::{Bench, BenchKind};
-use pliron_test_cases::cases::read;
 use pliron_core::{BasicBlock, Context, Operation, Ptr, Region};
 use pliron_graph::{
     find_ancestor_block_of_block_in_region, find_ancestor_block_of_op_in_region,
@@ -10,6 +9,7 @@ use pliron_graph::{
     find_ancestor_op_of_op_in_region, strictly_precedes_in_block,
 };
 use pliron_laws::Interface;
+use pliron_test_cases::cases::read;
 use std::alloc::Global;
 use std::process::Abort;
 

@@ -5,11 +5,11 @@ ghost use Rattle.pliron_traversal.specs.Regions.{IsLawfulRegion};
 
 use super::texts::TEXTS;
 use super::trees::{blocks_of, holders_of};
-use pliron_test_cases::cases::read;
 use pliron_core::{Context, Operation, Ptr, Region};
 use pliron_dominance::DominatorTree;
 use pliron_graph::{ReverseGraph, sccs_in_topological_order};
 use pliron_laws::edges_last;
+use pliron_test_cases::cases::read;
 use pliron_traversal::{
     ControlFlowGraph, DFSTraversal, post_order, post_order_by_component, topological_order,
     topological_order_by_component,

@@ -1,8 +1,8 @@
 //! What is asked of a tree after a call, without knowing what it left.
 use pliron_bench::Bench;
-use pliron_test_cases::cases::{line, read};
 use pliron_core::{Context, IRStatus, Operation, Ptr};
 use pliron_laws::{OptError, is_well_linked};
+use pliron_test_cases::cases::{line, read};
 use std::alloc::Global;
 use std::process::Abort;
 

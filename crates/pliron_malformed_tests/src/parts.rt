@@ -3,18 +3,18 @@ ghost use Rattle.pliron_bench.specs.BenchMoves.{bench};
 ghost use Rattle.pliron_core.specs.Tree.{IsLive};
 ghost use Rattle.pliron_laws.specs.Linked.{IsWellLinked};
 
-use super::left::{check_left, answer_if_any, whole_line};
+use super::left::{answer_if_any, check_left, whole_line};
 use super::texts::{BLOCKS, HOLDERS, MOST, TEXTS};
 use super::trees::{blocks_of, holders_of};
 use pliron_bench::Bench;
-use pliron_test_cases::cases::read;
-use pliron_test_cases::listener::Counting;
 use pliron_cfg::{
     merge_inside_block, merge_inside_region, remove_blocks_inside_block,
     remove_blocks_inside_region,
 };
 use pliron_core::{BasicBlock, Context, IRStatus, Operation, Ptr};
 use pliron_laws::{OptError, is_well_linked};
+use pliron_test_cases::cases::read;
+use pliron_test_cases::listener::Counting;
 use std::alloc::Global;
 use std::process::Abort;
 

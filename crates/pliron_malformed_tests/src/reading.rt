@@ -2,12 +2,12 @@
 use super::texts::TEXTS;
 use super::trees::{all_of, blocks_of, holders_of};
 use pliron_bench::Bench;
-use pliron_test_cases::cases::read;
-use pliron_test_cases::runs::sights;
 use pliron_core::{BasicBlock, Context, Operation, Ptr};
 use pliron_fit::{find_violation, fit_roots, is_fit};
 use pliron_laws::{Dialect, Interface, edges_last, is_admitted, is_well_linked};
 use pliron_pass::{AnalysisManager, BenchFactKind, BenchFacts, verify_operation};
+use pliron_test_cases::cases::read;
+use pliron_test_cases::runs::sights;
 use pliron_walks::{Children, Contents};
 use std::alloc::Global;
 use std::process::Abort;

@@ -1,10 +1,8 @@
 //! Calls that may change what is inside an operation, on each operation with regions.
-use super::left::{check_left, answer_if_any, whole_line};
+use super::left::{answer_if_any, check_left, whole_line};
 use super::texts::{HOLDERS, MOST, TEXTS};
 use super::trees::holders_of;
 use pliron_bench::Bench;
-use pliron_test_cases::cases::read;
-use pliron_test_cases::listener::Counting;
 use pliron_cfg::{fold_branches, merge_inside_op, remove_blocks_inside_op, simplify_cfg};
 use pliron_core::{Context, IRStatus, Operation, Ptr};
 use pliron_dce::dce;
@@ -13,6 +11,8 @@ use pliron_laws::{OptError, is_well_linked};
 use pliron_pass::{AnalysisManager, BenchFacts};
 use pliron_pipeline::PassStep;
 use pliron_sccp::{sccp, sccp_counted, sccp_through};
+use pliron_test_cases::cases::read;
+use pliron_test_cases::listener::Counting;
 use std::alloc::Global;
 use std::process::Abort;
 

@@ -1,12 +1,14 @@
 //! What the dialect `Bench` answers, on texts of its notation and asked through the traits, and what
 //! folding constants in place leaves: by values worked out by hand.
-use pliron_test_cases::answers::{effects, interfaces, removable};
-use pliron_test_cases::cases::{all_known, fields, known_operand, line, number, operation_at, read, sides};
-use pliron_test_cases::listener::Counting;
-use pliron_test_cases::trees::build;
 use pliron_core::{AttrObj, Context, IRStatus, Operation, Ptr, Rewriter};
 use pliron_meaning::bench::{Bench, BenchKind};
 use pliron_meaning::{BlockArgRemoval, ConstFoldInterface, Dialect, SideEffects};
+use pliron_test_cases::answers::{effects, interfaces, removable};
+use pliron_test_cases::cases::{
+    all_known, fields, known_operand, line, number, operation_at, read, sides,
+};
+use pliron_test_cases::listener::Counting;
+use pliron_test_cases::trees::build;
 use std::alloc::Global;
 use std::process::Abort;
 

@@ -14,7 +14,7 @@ ghost use Rattle.pliron_notation.specs.Notation.{AllBelow, AreSoundOperations, I
 ghost use Rattle.pliron_notation.specs.Building.{AddsOnly, AreStanding, BuildingGoesOn, HasAllMade, HasMade, IsGrown, KeepsEntries, after_appending};
 ghost use Rattle.pliron_notation.specs.Laid.{HasMoreOperands, HasMoreSuccessors, IsAllLaid, LaysBlock, LaysOn, LaysOperation, Wires};
 
-use crate::syntax::{BlockText, OperationText, SyntaxStep, Syntax};
+use crate::syntax::{BlockText, OperationText, Syntax, SyntaxStep};
 use pliron_bench::BenchKind;
 use pliron_bench::heads::{attribute_head, plain_head};
 use pliron_core::{

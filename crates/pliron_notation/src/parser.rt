@@ -3,7 +3,7 @@ use crate::cursor::Cursor;
 use crate::expected::Expected;
 use crate::labels::{Label, Labels};
 use crate::stop::Stop;
-use crate::syntax::{BlockText, OperationText, SyntaxStep, Syntax};
+use crate::syntax::{BlockText, OperationText, Syntax, SyntaxStep};
 use crate::tokens::{Name, Token, Tokens};
 use pliron_bench::BenchKind;
 use smallvec::SmallVec;

@@ -30,7 +30,7 @@ pub use pliron_dce::dce;
 pub use pliron_laws::OptError;
 use pliron_pass::{BenchFactKind, BenchFacts, Pass};
 pub use pliron_pipeline::{
-    DCEPass, Pipeline, SCCPPass, Schedule, SimplifyCFGPass, PassStep, run_pipeline,
+    DCEPass, PassStep, Pipeline, SCCPPass, Schedule, SimplifyCFGPass, run_pipeline,
 };
 pub use pliron_sccp::{sccp, sccp_counted};
 use program::{Failure, MAX_TEXT, read_input, write_answer};

@@ -18,7 +18,12 @@ pub fn kinds(rt: &impl Abort, alloc: Global, analyses: &AnalysisManager<LatticeV
     text
 }
 
-fn check_kinds(rt: &impl Abort, alloc: Global, analyses: &AnalysisManager<LatticeValue>, want: &str) {
+fn check_kinds(
+    rt: &impl Abort,
+    alloc: Global,
+    analyses: &AnalysisManager<LatticeValue>,
+    want: &str,
+) {
     assert_eq!(rt; kinds(rt, alloc, analyses).as_str(), want);
 }
 

@@ -1,7 +1,7 @@
 //! The passes here report accurately whether they changed the tree, in whatever list and however often it is run.
 ghost use Rattle.pliron_pipeline.specs.ChangeReports.{IsAccurate};
 
-use crate::step::{Pipeline, Schedule, PassStep};
+use crate::step::{PassStep, Pipeline, Schedule};
 use pliron_laws::Dialect;
 use pliron_pass::{Analyses, Pass, Passes};
 

@@ -8,8 +8,6 @@ ghost use Rattle.pliron_bench.specs.BenchMoves.{bench};
 use super::nest::{Deep, deep};
 use super::texts::{KINDS, write_fact};
 use pliron_bench::{Bench, BenchKind};
-use pliron_test_cases::cases::read;
-use pliron_test_cases::runs::sight_of_run;
 use pliron_core::{Context, Operation, Ptr};
 use pliron_evaluator::evaluator::Sight;
 use pliron_laws::Dialect;
@@ -18,6 +16,8 @@ use pliron_pass::{
     Passes, Repeat,
 };
 use pliron_pipeline::run_pipeline;
+use pliron_test_cases::cases::read;
+use pliron_test_cases::runs::sight_of_run;
 use std::alloc::Global;
 use std::process::Abort;
 

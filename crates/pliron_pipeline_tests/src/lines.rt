@@ -6,11 +6,11 @@ ghost use Rattle.pliron_bench.specs.BenchMoves.{bench};
 
 use super::nest::{Deep, deep};
 use super::texts::write_facts;
-use pliron_test_cases::cases::read;
 use pliron_core::{Context, IRStatus, Operation, Ptr};
 use pliron_notation::print_text;
 use pliron_pass::{AnalysisManager, BenchFactKind, BenchFacts, OptError, PMConfig};
 use pliron_pipeline::run_pipeline;
+use pliron_test_cases::cases::read;
 use std::alloc::Global;
 use std::process::Abort;
 
@@ -206,7 +206,15 @@ fn run_on(
     let mut text = String::new(alloc);
     let answer = run_pipeline(pass, alloc, op, ctx, analyses);
     write_answer(rt, &mut text, &answer);
-    write_rest(rt, alloc, &mut text, pass.inner_runs_begun(), analyses, op, ctx);
+    write_rest(
+        rt,
+        alloc,
+        &mut text,
+        pass.inner_runs_begun(),
+        analyses,
+        op,
+        ctx,
+    );
     text
 }
 

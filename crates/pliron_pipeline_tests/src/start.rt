@@ -8,7 +8,7 @@ use pliron_evaluator::evaluator::evaluate;
 use pliron_laws::{OptError, is_well_linked};
 use pliron_notation::print_text;
 use pliron_pass::{AnalysisManager, BenchFacts, Passes};
-use pliron_pipeline::{DCEPass, SCCPPass, PassStep, run_pipeline};
+use pliron_pipeline::{DCEPass, PassStep, SCCPPass, run_pipeline};
 use std::alloc::{AllocError, Global};
 use std::process::Abort;
 

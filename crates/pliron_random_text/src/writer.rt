@@ -8,7 +8,7 @@
 
 use crate::dice::Dice;
 use crate::names::Name;
-use crate::region_plan::{Exit, RegionPlan, PlannedOperation};
+use crate::region_plan::{Exit, PlannedOperation, RegionPlan};
 use std::alloc::{AllocError, Global};
 
 /// The most regions of a function, and the most that stand one in another.

@@ -69,7 +69,11 @@ impl Scratch {
 }
 
 /// The block is reached, and its arguments are not constants.
-fn constrain_entry(block: Ptr<BasicBlock>, ctx: &Context, constraints: &mut Vec<Constraint>) -> Result<(), OptError>
+fn constrain_entry(
+    block: Ptr<BasicBlock>,
+    ctx: &Context,
+    constraints: &mut Vec<Constraint>,
+) -> Result<(), OptError>
     requires { IsBlock ctx.now.tree block }
     ensures ok { OnOk result (AlwaysAdds constraints.old.items constraints.new.items (λ now. IsEntryExecutable ctx.now.tree now block)) }
     ensures memory { IsOkUnless result OptError.Memory }
@@ -82,7 +86,11 @@ fn constrain_entry(block: Ptr<BasicBlock>, ctx: &Context, constraints: &mut Vec<
 }
 
 /// No result is a constant.
-fn constrain_unknown(op: Ptr<Operation>, ctx: &Context, constraints: &mut Vec<Constraint>) -> Result<(), OptError>
+fn constrain_unknown(
+    op: Ptr<Operation>,
+    ctx: &Context,
+    constraints: &mut Vec<Constraint>,
+) -> Result<(), OptError>
     requires { IsLive ctx.now.tree op }
     ensures ok { OnOk result (AlwaysAdds constraints.old.items constraints.new.items (λ now. (v : ℕ) → In v (results_of ctx.now.tree op) → now.lattice_value v ≡ Varies)) }
     ensures memory { IsOkUnless result OptError.Memory }
@@ -94,7 +102,11 @@ fn constrain_unknown(op: Ptr<Operation>, ctx: &Context, constraints: &mut Vec<Co
 }
 
 /// The region's entry is entered, if it has one.
-fn constrain_region(region: Ptr<Region>, ctx: &Context, constraints: &mut Vec<Constraint>) -> Result<(), OptError>
+fn constrain_region(
+    region: Ptr<Region>,
+    ctx: &Context,
+    constraints: &mut Vec<Constraint>,
+) -> Result<(), OptError>
     requires { IsRegion ctx.now.tree region }
     ensures ok { OnOk result (AlwaysAdds constraints.old.items constraints.new.items (λ now. EntryIsExecutable ctx.now.tree now 0 region)) }
     ensures memory { IsOkUnless result OptError.Memory }

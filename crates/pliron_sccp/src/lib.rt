@@ -6,13 +6,13 @@
 //! It stands on the theory of runs and knows nothing of the other optimisations, of passes and of the program.
 #![tactic(auto)]
 
-mod deferred;
 mod constraints_of;
-mod feasible_edges;
-mod lattice_tables;
+mod deferred;
 mod direct_mapped_index;
-mod inside;
 mod entry_operands;
+mod feasible_edges;
+mod inside;
+mod lattice_tables;
 mod propagation;
 mod rewrite;
 mod search;

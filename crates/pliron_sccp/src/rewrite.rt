@@ -15,8 +15,8 @@ ghost use Rattle.pliron_sccp.specs.Chain.{FoldsInTurn, FoldsPartly, KnownArgumen
 ghost use Rattle.pliron_sccp.specs.Found.{HasFound};
 
 use crate::constraints_of::{add_known, known_constant};
-use crate::lattice_tables::Tables;
 use crate::inside::all_blocks;
+use crate::lattice_tables::Tables;
 use crate::search::search;
 use pliron_core::{AttrObj, BasicBlock, Context, IRStatus, Operation, Ptr, Rewriter};
 use pliron_laws::{ConstFoldInterface, Dialect, OptError, Room};

@@ -38,12 +38,12 @@ ghost use Rattle.pliron_sccp.specs.Searching.{IsVisitedOrDeferred, VisitsDeferre
 ghost use Rattle.pliron_sccp.specs.Starting.{IsStarted};
 ghost use Rattle.pliron_sccp.specs.LatticeTables.{lattice_value_in, lattice_values_of, known_constants, is_executable, is_block_on_worklist};
 
-use crate::deferred::DeferredOperations;
 use crate::constraints_of::{Constraint, Scratch, constrain_entries, constraints_of, satisfy_all};
-use crate::feasible_edges::FeasibleEdges;
-use crate::lattice_tables::Tables;
-use crate::inside::{all_blocks, block_numbers, value_numbers};
+use crate::deferred::DeferredOperations;
 use crate::entry_operands::EntryCandidate;
+use crate::feasible_edges::FeasibleEdges;
+use crate::inside::{all_blocks, block_numbers, value_numbers};
+use crate::lattice_tables::Tables;
 use indexmap::IndexSet;
 use pliron_core::{BasicBlock, Context, Operation, Ptr, Value};
 use pliron_laws::{Dialect, Interface, OptError};
@@ -292,11 +292,17 @@ fn propagate_eagerly<D: Dialect>(
 
 /// Whether the stamps tell that the operation was visited since the value fell last.
 #[inline(always)]
-fn was_visited_since_lowered(op: Ptr<Operation>, value: Value, ctx: &Context, tables: &Tables) -> bool
+fn was_visited_since_lowered(
+    op: Ptr<Operation>,
+    value: Value,
+    ctx: &Context,
+    tables: &Tables,
+) -> bool
     requires { IsLive ctx.now.tree op }
     ensures { IsTrue result → IsBehind ctx.now.tree tables.now op value → ⊥ }
 {
-    op.num_result(ctx) > 0 && tables.lowered_stamp(value) < tables.visit_stamp(op.get_result(ctx, 0))
+    op.num_result(ctx) > 0
+        && tables.lowered_stamp(value) < tables.visit_stamp(op.get_result(ctx, 0))
 }
 
 /// Whether all that the operation does with the operand at this place was asked at once, so far as is known: then a look
@@ -363,7 +369,15 @@ fn add_use<D: Dialect>(
             mark_urgent::<D>(op, place, ctx, edges, urgent)?;
             propagate_eagerly::<D>(op, place, value, ctx, tables, edges, constraints)
         }
-        Reaction::Ask(edge, index) => constrain_argument(op, edge, index, value, ctx, tables, constraints),
+        Reaction::Ask(edge, index) => constrain_argument(
+            op,
+            edge,
+            index,
+            value,
+            ctx,
+            tables,
+            constraints,
+        ),
     }
 }
 
@@ -387,7 +401,17 @@ fn add_uses<D: Dialect>(
     }
     for i in 0..value.num_use(ctx) {
         let (user, place) = value.get_use(ctx, i);
-        add_use::<D>(user, place, value, ctx, tables, edges, users, urgent, constraints)?;
+        add_use::<D>(
+            user,
+            place,
+            value,
+            ctx,
+            tables,
+            edges,
+            users,
+            urgent,
+            constraints,
+        )?;
     }
     Ok(())
 }
@@ -415,7 +439,15 @@ fn take_values<D: Dialect>(
     let mut taken: u128 = 0;
     while let Some(value) = tables.pop_value() {
         taken += 1;
-        add_uses::<D>(value, ctx, tables, edges, &mut users, urgent, &mut constraints)?;
+        add_uses::<D>(
+            value,
+            ctx,
+            tables,
+            edges,
+            &mut users,
+            urgent,
+            &mut constraints,
+        )?;
     }
     Ok((users, constraints, taken))
 }
@@ -650,7 +682,15 @@ fn visit_values<D: Dialect>(
     let mut urgent = HashSet::new(alloc);
     let (users, mut constraints, taken) = take_values::<D>(alloc, ctx, tables, edges, &mut urgent)?;
     satisfy_all(&mut constraints, tables);
-    visit_or_defer_all::<D>(alloc, users.as_slice(), &urgent, ctx, tables, delays, scratch)?;
+    visit_or_defer_all::<D>(
+        alloc,
+        users.as_slice(),
+        &urgent,
+        ctx,
+        tables,
+        delays,
+        scratch,
+    )?;
     Ok(taken)
 }
 
@@ -740,10 +780,24 @@ pub fn search<D: Dialect>(
     let mut scratch = Scratch::new(alloc);
     let mut pops: u128 = 0;
     loop {
-        let taken = step::<D>(alloc, ctx, &mut tables, &mut delays, &mut edges, &mut scratch)?;
+        let taken = step::<D>(
+            alloc,
+            ctx,
+            &mut tables,
+            &mut delays,
+            &mut edges,
+            &mut scratch,
+        )?;
         if taken > 0 {
             pops += taken;
-        } else if !visit_deferred::<D>(alloc, ctx, &mut tables, &mut delays, &mut edges, &mut scratch)? {
+        } else if !visit_deferred::<D>(
+            alloc,
+            ctx,
+            &mut tables,
+            &mut delays,
+            &mut edges,
+            &mut scratch,
+        )? {
             return Ok(Searched { tables, pops });
         }
     }

@@ -6,11 +6,11 @@
 //! constant's and `?` elsewhere, and what the root's run tells, the latest first, where `-` is `Empty`. The
 //! world answers 1, 2, 3 and 4.
 use super::tiny::propagate_operation;
-use pliron_test_cases::cases::{fields, sides};
-use pliron_test_cases::trees::{Made, make};
 use pliron_core::{AttrObj, Context, Def, Operation, Ptr, Value};
 use pliron_evaluator::evaluator::{Datum, Sight, evaluate};
 use pliron_evaluator::{Tiny, TinyKind};
+use pliron_test_cases::cases::{fields, sides};
+use pliron_test_cases::trees::{Made, make};
 use std::alloc::Global;
 use std::process::Abort;
 
@@ -77,7 +77,12 @@ fn question_operand(ctx: &Context, op: Ptr<Operation>) -> Option<Value> {
 }
 
 // What each question reads.
-fn entry_answers(rt: &impl Abort, alloc: Global, ctx: &Context, operations: &[Ptr<Operation>]) -> String {
+fn entry_answers(
+    rt: &impl Abort,
+    alloc: Global,
+    ctx: &Context,
+    operations: &[Ptr<Operation>],
+) -> String {
     let mut all = String::new(alloc);
     for op in operations {
         let Some(value) = question_operand(ctx, *op) else {

@@ -8,7 +8,7 @@ ghost use Rattle.pliron_evaluator.specs.TinyLaws.{tiny_counts, tiny_effects, tin
 ghost use Rattle.pliron_evaluator.specs.TinyEntries.{tiny_names, tiny_roots};
 ghost use Rattle.pliron_sccp_tests.specs.Marked.{marked_folds, marked_answers, marked_forwards};
 
-use super::tiny::{block, leads_to, make_operation, made_with, put, reads_argument, reads_result};
+use super::tiny::{block, leads_to, made_with, make_operation, put, reads_argument, reads_result};
 use pliron_core::{AttrObj, BasicBlock, Context, IRStatus, Operation, Ptr, Rewriter, Value};
 use pliron_evaluator::{Tiny, TinyKind};
 use pliron_laws::{

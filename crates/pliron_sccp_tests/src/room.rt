@@ -2,11 +2,11 @@
 //! for room before.
 use super::cases::{HOSTILE, MADE, ROWS};
 use pliron_bench::Bench;
+use pliron_core::{Context, IRStatus};
+use pliron_sccp::sccp_through;
 use pliron_test_cases::cases::{line, read, sides};
 use pliron_test_cases::listener::Counting;
 use pliron_test_cases::runs::text_behind;
-use pliron_core::{Context, IRStatus};
-use pliron_sccp::sccp_through;
 use std::alloc::Global;
 use std::process::Abort;
 

@@ -25,7 +25,10 @@ fn no_tree() -> Stop {
     Stop::at(0, Expected::Tree)
 }
 
-fn head_of<K: Kinds>(alloc: Global, text: &TableOperation<K>) -> Result<Head, AllocFailed<AttrObj>> {
+fn head_of<K: Kinds>(
+    alloc: Global,
+    text: &TableOperation<K>,
+) -> Result<Head, AllocFailed<AttrObj>> {
     let number = text.kind.number();
     match text.attribute {
         Some(attribute) => attribute_head(alloc, number, AttrObj::Int(attribute as i128)),
@@ -118,7 +121,11 @@ fn add_block(text: &TableBlock, ctx: &mut Context, built: &mut BuiltTable) -> Re
 }
 
 /// Gives all operations their operands and successors.
-fn connect_all<K>(syntax: &TableSyntax<K>, ctx: &mut Context, built: &BuiltTable) -> Result<(), Stop> {
+fn connect_all<K>(
+    syntax: &TableSyntax<K>,
+    ctx: &mut Context,
+    built: &BuiltTable,
+) -> Result<(), Stop> {
     for (number, text) in syntax.operations.iter().enumerate() {
         let op = built.operations.get(number).copied().ok_or(no_tree())?;
         for value in &text.operands {

@@ -84,17 +84,23 @@ impl<K: Kinds + Word> TableParser<'_, K> {
     }
 
     /// Reads the next block or operation of the region, or its end.
-    fn step(&mut self, region: OpenTableRegion, place: LastReadOfTable) -> Result<LastReadOfTable, Stop> {
+    fn step(
+        &mut self,
+        region: OpenTableRegion,
+        place: LastReadOfTable,
+    ) -> Result<LastReadOfTable, Stop> {
         if self.cursor.accept(Token::CloseBrace) {
             let _ = self.open.pop();
             return self.region(region.holder, region.place.saturating_add(1));
         }
-        let is_parted = place == LastReadOfTable::RegionStart || self.cursor.accept(Token::Semicolon);
+        let is_parted = place == LastReadOfTable::RegionStart
+            || self.cursor.accept(Token::Semicolon);
         if is_parted && self.cursor.at_block() {
             return self.block(region);
         }
         match (place, is_parted) {
-            (LastReadOfTable::BlockStart, false) | (LastReadOfTable::Operation, true) => self.operation(region.block),
+            (LastReadOfTable::BlockStart, false) | (LastReadOfTable::Operation, true) =>
+                self.operation(region.block),
             (LastReadOfTable::RegionStart, _) => Err(self.cursor.stop(Expected::BlockOrEnd)),
             (LastReadOfTable::BlockStart, true) => Err(self.cursor.stop(Expected::Block)),
             (LastReadOfTable::Operation, false) => Err(self.cursor.stop(Expected::SemicolonOrEnd)),

@@ -6,9 +6,9 @@ ghost use Rattle.pliron_core.specs.Writes.{after_creating, block_created, region
 
 use super::{Context, NoMemory, OperationEntry, RegionSlot};
 use crate::attrs::Head;
+use crate::inline_list::InlineList;
 use crate::keys::{BasicBlock, Operation, Ptr, Region};
 use crate::links::Links;
-use crate::inline_list::InlineList;
 use std::alloc::Global;
 
 impl Operation {
@@ -88,7 +88,11 @@ impl BasicBlock {
 // So many regions, by rising key.
 #[tactic(auto, using(crate::proofs::GrownLemmas::range_more))]
 #[inline(always)]
-fn region_keys(alloc: Global, first: usize, count: usize) -> Result<InlineList<Ptr<Region>>, NoMemory>
+fn region_keys(
+    alloc: Global,
+    first: usize,
+    count: usize,
+) -> Result<InlineList<Ptr<Region>>, NoMemory>
     requires { first + count < 2 ^ 64 }
     ensures { IfOk result (λ row. row ≡ range_with_len first count) }
 {

@@ -8,8 +8,8 @@ ghost use Rattle.pliron_core.specs.Dismantling.{after_dismantling, region_popped
 
 use super::place::take_out;
 use super::{Context, OperationEntry};
-use crate::keys::{BasicBlock, Operation, Ptr};
 use crate::inline_list::InlineList;
+use crate::keys::{BasicBlock, Operation, Ptr};
 
 // What stands last inside an operation: in its last region, and there in the last block.
 #[derive(Clone, Copy)]

@@ -4,8 +4,8 @@ ghost use Rattle.pliron_core.specs.Tree.{IsLive, IsBlock, IsRegion, layout_of, r
 ghost use Rattle.pliron_core.specs.Reads.{has_ssa};
 
 use super::{Context, RegionSlot};
-use crate::keys::{BasicBlock, Operation, Ptr, Region};
 use crate::inline_list::InlineList;
+use crate::keys::{BasicBlock, Operation, Ptr, Region};
 
 // Whether the region stands at this index.
 fn is_region_at(regions: &InlineList<Ptr<Region>>, i: usize, region: Ptr<Region>) -> bool

@@ -4,8 +4,8 @@ ghost use Rattle.pliron_core.specs.Tree.{IsDefined, definition_of};
 ghost use Rattle.pliron_core.specs.Reads.{IsDefinitionLive};
 
 use super::{Context, Def};
-use crate::keys::Value;
 use crate::inline_list::InlineList;
+use crate::keys::Value;
 
 // Whether the value stands at this index.
 fn is_value_at(values: &InlineList<Value>, i: usize, value: Value) -> bool

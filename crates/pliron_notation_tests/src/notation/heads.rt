@@ -1,6 +1,6 @@
 //! The operations that a text makes: by their heads, and by how much they have of what.
-use pliron_test_cases::cases::{fields, operation_at, read, sides};
 use pliron_core::{AttrObj, Context, Operation, Ptr};
+use pliron_test_cases::cases::{fields, operation_at, read, sides};
 use std::alloc::Global;
 use std::process::Abort;
 

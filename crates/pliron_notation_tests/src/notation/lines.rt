@@ -155,6 +155,10 @@ fn texts_and_their_lines(rt: HostRuntime) {
 #[test]
 fn printed_lines(rt: HostRuntime) {
     for line in PRINTED.lines() {
-        assert_eq!(&rt; printed_line(&rt, rt.alloc(), line).as_str(), line, "{line}");
+        assert_eq!(&rt;
+            printed_line(&rt, rt.alloc(), line).as_str(),
+            line,
+            "{line}"
+        );
     }
 }

@@ -1,8 +1,8 @@
 //! Regions in one another.
 use super::printed_line;
-use pliron_test_cases::cases::{fields, line};
 use pliron_core::{Attrs, BasicBlock, Context, Head, IRRewriter, Operation, Ptr, Rewriter};
 use pliron_meaning::bench::BenchKind;
+use pliron_test_cases::cases::{fields, line};
 use std::alloc::Global;
 use std::process::Abort;
 

@@ -7,7 +7,7 @@ ghost use Rattle.pliron_opts.specs.Ran.{IsScheduled};
 use crate::program::Plan;
 use pliron_laws::Dialect;
 use pliron_pass::{BenchFacts, Either, NestedOpsPass, Passes, Repeat};
-use pliron_pipeline::{Pipeline, Schedule, PassStep};
+use pliron_pipeline::{PassStep, Pipeline, Schedule};
 use std::alloc::{AllocError, Global};
 
 /// What the arguments ask for.
@@ -90,7 +90,10 @@ fn plan_schedule<D: Dialect>(
 /// What the words after the program's name ask for, if they are understood: `graph`, or a list of passes.
 ///
 /// Errors: allocation failure. Cost: linear in the words.
-pub fn read_command<D: Dialect>(alloc: Global, words: &[String]) -> Result<Option<Command<D>>, AllocError>
+pub fn read_command<D: Dialect>(
+    alloc: Global,
+    words: &[String],
+) -> Result<Option<Command<D>>, AllocError>
     ensures { IfOk result (λ found. IfSome found (λ command. AskFor (map string_bytes words.now) command)) }
 {
     let [word] = words else {
