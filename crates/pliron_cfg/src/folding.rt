@@ -105,7 +105,7 @@ fn fold_one<D: Dialect, R: Rewriter + Room>(
 /// collected in pre-order, then each is folded by the constants that are known of its operands. A constant
 /// is known of a value where what makes the value folds, and answers it with no operand known.
 ///
-/// Asks that the operation stands and is well linked. `Changed` exactly if the tree changed: a branch went
+/// Asks that the operation is live and is well linked. `Changed` exactly if the tree changed: a branch went
 /// then. Blocks stay.
 ///
 /// Errors: allocation failure, after some of the folds, each of them whole.

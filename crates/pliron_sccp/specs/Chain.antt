@@ -79,7 +79,7 @@ pub record IsRewritten (can_fold : Head → Bool) (accepts : AttrObj → Bool) (
 abbrev pub IsPartlyPut : (AttrObj → Bool) → (AttrObj → Head) → List KnownArgument → Tree → Tree → Type 0
 IsPartlyPut accepts head known t u = (n : ℕ) × IsSameTree (all_put accepts head (take n known) t) u
 
--- some of the folds, or all of them and some of the arguments: the tree where memory was refused
+-- some of the folds, or all of them and some of the arguments: the tree on allocation failure
 abbrev pub IsPartlyRewritten : (Head → Bool) → (AttrObj → Bool) → (AttrObj → Head) → Outcome → Tree → ℕ → LatticeValues → Tree → Type 0
 IsPartlyRewritten can_fold accepts head outcome t₀ root f t = FoldsPartly outcome t₀ f (folding_operations can_fold t₀ root f) t₀ t ⊎ ((folded : Tree) × FoldsInTurn outcome t₀ f (folding_operations can_fold t₀ root f) t₀ folded × IsPartlyPut accepts head (known_arguments t₀ root f) folded t)
 

@@ -76,7 +76,7 @@ pub struct Found {
     pub(crate) arguments: Vec<ConstantArgument>,
 }
 
-/// Whether the operation folds and stands in a block that is reached.
+/// Whether the operation folds and is in a block that is reached.
 fn is_folded<D: Dialect>(op: Ptr<Operation>, ctx: &Context, tables: &Tables) -> bool
     requires { IsLive ctx.now.tree op }
     ensures { result ≡ is_folding D.can_fold ctx.now.tree (lattice_values_of tables.now) op }
