@@ -1,6 +1,6 @@
 //! `plir`: texts of operations, for people: runs, passes, marks under what is wrong, pictures, and why passes changed what.
 //!
-//! It knows words, files, streams and an exit status. What each command does stands in `pliron_cli` and `pliron_draw`.
+//! It knows words, files, streams and an exit status. What each command does stands in `pliron_cli` and `pliron_cli`.
 #![tactic(auto)]
 
 mod command;
@@ -8,9 +8,9 @@ mod command;
 use clap::ArgMatches;
 use command::parse_arguments;
 use pliron_cli::{
-    CompareOptions, OptOptions, Outcome, Progress, RunWish, Source, Wish, check, compare, opt, run,
+    CompareOptions, FlowWish, OptOptions, Outcome, Progress, RunWish, Source, Wish, check, compare,
+    draw_flow, draw_graph, explain, opt, run,
 };
-use pliron_draw::{FlowWish, draw_flow, draw_graph, explain};
 use std::alloc::Global;
 use std::io::{self, IsTerminal, Read, Write};
 use std::process::ExitCode;

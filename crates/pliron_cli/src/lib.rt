@@ -6,6 +6,9 @@
 
 mod checking;
 mod comparing;
+mod drawing;
+mod ending;
+mod explaining;
 mod failure;
 mod optimising;
 mod outcome;
@@ -16,9 +19,12 @@ mod table;
 
 pub use checking::check;
 pub use comparing::{CompareOptions, compare};
+pub use drawing::{draw_flow, draw_graph};
+pub use explaining::explain;
 pub use failure::CommandFailure;
 pub use optimising::{OptOptions, misspelling_outcome, opt};
 pub use outcome::Outcome;
 pub use pliron_diagnostics::{RunOptions, Source};
+pub use pliron_graphviz::FlowOptions;
 pub use pliron_instrument::{InstrumentationOptions, Progress};
 pub use running::run;
