@@ -8,7 +8,8 @@ mod command;
 use clap::ArgMatches;
 use command::parse_arguments;
 use pliron_cli::{
-    CompareOptions, OptOptions, Outcome, Progress, RunWish, Source, Wish, check, compare, opt, run,
+    BenchNotation, CompareOptions, OptOptions, Outcome, Progress, RunWish, Source, Wish, check,
+    compare, opt, run,
 };
 use pliron_draw::{FlowWish, draw_flow, draw_graph, explain};
 use std::alloc::Global;
@@ -51,7 +52,7 @@ fn compare_wished<'w>(
     pipeline: &'w str,
 ) -> io::Result<Outcome> {
     let wish = CompareOptions { run, pipeline };
-    Ok(compare(alloc, source, &wish)?)
+    Ok(compare::<BenchNotation>(alloc, source, &wish)?)
 }
 
 /// Runs the text as the words wish, or before and after passes.
@@ -135,7 +136,7 @@ fn opt_watched<'w>(
     };
     let start = rt.monotonic().unwrap_or(Duration::ZERO);
     let terminal = Terminal { rt, start };
-    Ok(opt(rt.alloc(), source, &wish, terminal)?)
+    Ok(opt::<BenchNotation, _>(rt.alloc(), source, &wish, terminal)?)
 }
 
 /// Runs the passes that the words ask for on the text.
@@ -183,7 +184,7 @@ fn outcome(rt: &HostRuntime, command: &str, matches: &ArgMatches) -> io::Result<
         text: &text,
     };
     match command {
-        "check" => Ok(check(alloc, &source)?),
+        "check" => Ok(check::<BenchNotation>(alloc, &source)?),
         "opt" => opt_wished(rt, &source, matches),
         "dot" => draw_wished(alloc, &source, matches),
         "graph" => Ok(draw_graph(alloc, &source)?),
@@ -192,16 +193,14 @@ fn outcome(rt: &HostRuntime, command: &str, matches: &ArgMatches) -> io::Result<
     }
 }
 
-/// Writes what the command leaves: to the file that is named, where there is an answer, or to standard output.
+/// Writes what the command leaves: to the file that is named, where there is something to be written, or to standard
+/// output. A file that is named is left as it is where there is nothing.
 fn write(rt: &HostRuntime, outcome: &Outcome, file: Option<&str>) -> io::Result<()> {
     eprint!(rt; "{}", outcome.report)?;
     match file {
-        Some(file) if outcome.status == 0 || outcome.status == 3 => fs::write(
-            rt,
-            file,
-            &outcome.output,
-        ),
-        _ => rt.stdout().write_all(&outcome.output),
+        Some(_) if outcome.status != 0 && outcome.output.is_empty() => Ok(()),
+        Some(file) => fs::write(rt, file, &outcome.output),
+        None => rt.stdout().write_all(&outcome.output),
     }
 }
 

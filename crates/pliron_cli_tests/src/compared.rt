@@ -1,6 +1,6 @@
 //! Runs before and after passes, worked by hand. `|` stands for the end of a line.
 use crate::lines::in_one_line;
-use pliron_cli::{CompareOptions, RunWish, Source, compare};
+use pliron_cli::{BenchNotation, CompareOptions, RunWish, Source, compare};
 use std::alloc::Global;
 use std::process::Abort;
 
@@ -21,7 +21,7 @@ fn expect_compared(rt: &impl Abort, alloc: Global, pipeline: &str, text: &str, w
         trace: false,
     };
     let wish = before_and_after(run, pipeline);
-    let outcome = compare(alloc, &source, &wish).expect(rt, "memory");
+    let outcome = compare::<BenchNotation>(alloc, &source, &wish).expect(rt, "memory");
     let (status, output) = wanted.split_once(' ').expect(rt, "a status");
     let found = in_one_line(alloc, &outcome.output).expect(rt, "memory");
     assert!(rt; found.as_str() == output, "{text} => {found}");

@@ -1,6 +1,6 @@
 //! What `plir opt` writes, beside what `plir_opt` does on the same words and texts.
 use crate::lines::{in_one_line, with_lines};
-use pliron_cli::{OptOptions, Source, Wish, opt};
+use pliron_cli::{BenchNotation, OptOptions, Source, Wish, opt};
 use pliron_instrument::Timeless;
 use pliron_opts::plir_run;
 use std::alloc::Global;
@@ -83,7 +83,7 @@ fn expect_same(rt: &impl Abort, alloc: Global, list: &str, wish: &OptOptions, te
         name: "in.plir",
         text: text.as_bytes(),
     };
-    let outcome = opt(alloc, &source, wish, Timeless).expect(rt, "memory");
+    let outcome = opt::<BenchNotation, _>(alloc, &source, wish, Timeless).expect(rt, "memory");
     assert!(rt; outcome.status == status, "{list}: {text}");
     let wanted = std::str::from_utf8(&written).unwrap_or("");
     let line = wanted.split_once('\n').unwrap_or(("", "")).0;
@@ -120,7 +120,7 @@ fn over_several_lines(rt: HostRuntime) {
     };
     let mut wish = plain("dce");
     wish.is_pretty = true;
-    let outcome = opt(alloc, &source, &wish, Timeless).expect(&rt, "memory");
+    let outcome = opt::<BenchNotation, _>(alloc, &source, &wish, Timeless).expect(&rt, "memory");
     let lines = with_lines(alloc, wanted).expect(&rt, "memory");
     assert!(rt; outcome.output.as_slice() == lines.as_bytes());
     assert!(rt; outcome.report.is_empty());

@@ -4,6 +4,8 @@
 #[cfg(test)]
 mod graphs;
 #[cfg(test)]
+mod named;
+#[cfg(test)]
 mod streams;
 #[cfg(test)]
 mod texts;

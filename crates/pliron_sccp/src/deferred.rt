@@ -1,4 +1,15 @@
 //! Operations with many operands, deferred until nothing shorter waits.
+//!
+//! What is deferred is a look: an operation with more than a few operands, some of which fell, is to be visited
+//! again, later. It is no fact, and this is no worklist of facts. Each block that is entered and each value that falls
+//! waits in `Tables`, by its number, with the room taken beforehand; it is popped there one by one, and counted, before
+//! an operation is visited for it or deferred. A look pops nothing and is not counted, whether it was deferred or
+//! not. An operation is deferred once, however many of its operands fall meanwhile, and is taken where neither a block
+//! nor a value waits.
+//!
+//! The sets are by key, and grow: operations have no numbers here, and a number for each would cost each text a table as
+//! long as itself, while few operations have so many operands. So putting one aside may be refused memory. No rewrite
+//! was begun by then, so the tree is as before.
 ghost use Rattle.std.specs.Prelude.{◌≡◌, ◌<◌, ◌≤◌, ◌+◌, ℕ, [], IfNone, IfOk, IfSome, OnOk, IsOkUnless, IsTrue, Some, ◌↔◌, length, slice_get};
 ghost use Rattle.pliron_sccp.specs.Deferring.{HasFirst, Defers, PopsDeferred, deferred_operations};
 

@@ -1,4 +1,8 @@
 //! Edges that were found feasible, and arguments that operands are named for, kept for operations with many operands.
+//!
+//! What is kept is derived from facts and is none: it says which arguments are asked before a look would ask them. Facts
+//! stand in `Tables`, by number. The tables here are by key, and grow, since only what has many operands and was visited
+//! more than a few times has a row; a row for each operation, by number, would cost each text a table as long as itself.
 ghost use Rattle.std.specs.Prelude.{◌≡◌, ◌↔◌, false, ℕ, Some, OnOk, IsOkUnless, IsTrue};
 ghost use Rattle.indexmap.specs.IndexMap.{index_map_len};
 ghost use Rattle.pliron_core.specs.Tree.{IsLive};
