@@ -6,6 +6,8 @@ mod arithmetic;
 #[cfg(test)]
 mod graphs;
 #[cfg(test)]
+mod named;
+#[cfg(test)]
 mod streams;
 #[cfg(test)]
 mod texts;
