@@ -8,8 +8,8 @@ mod command;
 use clap::ArgMatches;
 use command::parse_arguments;
 use pliron_cli::{
-    CompareOptions, FlowWish, OptOptions, Outcome, Progress, RunWish, Source, Wish, check, compare,
-    draw_flow, draw_graph, explain, opt, run,
+    CompareOptions, FlowOptions, InstrumentationOptions, OptOptions, Outcome, Progress, RunOptions,
+    Source, check, compare, draw_flow, draw_graph, explain, opt, run,
 };
 use std::alloc::Global;
 use std::io::{self, IsTerminal, Read, Write};
@@ -47,7 +47,7 @@ fn numbers(alloc: Global, matches: &ArgMatches, id: &str) -> io::Result<Vec<i64>
 fn compare_wished<'w>(
     alloc: Global,
     source: &Source,
-    run: RunWish<'w>,
+    run: RunOptions<'w>,
     pipeline: &'w str,
 ) -> io::Result<Outcome> {
     let wish = CompareOptions { run, pipeline };
@@ -58,7 +58,7 @@ fn compare_wished<'w>(
 fn run_wished(alloc: Global, source: &Source, matches: &ArgMatches) -> io::Result<Outcome> {
     let inputs = numbers(alloc, matches, "input")?;
     let world = numbers(alloc, matches, "world")?;
-    let wish = RunWish {
+    let wish = RunOptions {
         inputs: &inputs,
         world: &world,
         steps: matches.get_one::<usize>("steps").unwrap_or(100_000),
@@ -124,7 +124,7 @@ fn opt_watched<'w>(
     rt: &HostRuntime,
     source: &Source,
     matches: &ArgMatches,
-    watch: Wish<'w>,
+    watch: InstrumentationOptions<'w>,
     pipeline: &'w str,
 ) -> io::Result<Outcome> {
     let wish = OptOptions {
@@ -141,7 +141,7 @@ fn opt_watched<'w>(
 /// Runs the passes that the words ask for on the text.
 fn opt_wished(rt: &HostRuntime, source: &Source, matches: &ArgMatches) -> io::Result<Outcome> {
     let prints = words(rt.alloc(), matches, "print-after")?;
-    let watch = Wish {
+    let watch = InstrumentationOptions {
         counts: matches.get_flag("stats"),
         verifies: matches.get_flag("verify-each"),
         prints_all: matches.get_flag("print-after-all"),
@@ -163,7 +163,7 @@ fn unreadable_input(alloc: Global, name: &str, error: &io::Error) -> io::Result<
 
 /// Draws the region that the words wish.
 fn draw_wished(alloc: Global, source: &Source, matches: &ArgMatches) -> io::Result<Outcome> {
-    let wish = FlowWish {
+    let wish = FlowOptions {
         region: matches.get_str("region").unwrap_or("0"),
         dominators: matches.get_flag("dominators"),
     };

@@ -1,5 +1,5 @@
 //! The control flow of texts as pictures, worked by hand.
-use pliron_cli::{FlowWish, Outcome, Source, draw_flow};
+use pliron_cli::{FlowOptions, Outcome, Source, draw_flow};
 use std::alloc::Global;
 use std::process::Abort;
 
@@ -14,7 +14,7 @@ fn draw_region(rt: &impl Abort, alloc: Global, region: &str, text: &str) -> Outc
         name: "text",
         text: text.as_bytes(),
     };
-    let wish = FlowWish {
+    let wish = FlowOptions {
         region: region.trim_start_matches('!'),
         dominators: region.starts_with('!'),
     };

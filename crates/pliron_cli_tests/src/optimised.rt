@@ -1,13 +1,13 @@
 //! What `plir opt` writes, beside what `plir_opt` does on the same words and texts.
 use crate::lines::{in_one_line, with_lines};
-use pliron_cli::{OptOptions, Source, Wish, opt};
+use pliron_cli::{InstrumentationOptions, OptOptions, Source, opt};
 use pliron_instrument::Timeless;
 use pliron_opts::plir_run;
 use std::alloc::Global;
 use std::process::Abort;
 
 /// Passes that are watched so.
-pub fn with_watch<'w>(pipeline: &'w str, watch: Wish<'w>) -> OptOptions<'w> {
+pub fn with_watch<'w>(pipeline: &'w str, watch: InstrumentationOptions<'w>) -> OptOptions<'w> {
     OptOptions {
         pipeline,
         is_pretty: false,
@@ -18,7 +18,7 @@ pub fn with_watch<'w>(pipeline: &'w str, watch: Wish<'w>) -> OptOptions<'w> {
 
 /// Passes alone.
 pub fn plain(pipeline: &str) -> OptOptions<'_> {
-    let watch = Wish {
+    let watch = InstrumentationOptions {
         counts: false,
         verifies: false,
         prints_all: false,
@@ -29,7 +29,7 @@ pub fn plain(pipeline: &str) -> OptOptions<'_> {
 
 /// The same with all that can be told.
 pub fn all_options(pipeline: &str) -> OptOptions<'_> {
-    let watch = Wish {
+    let watch = InstrumentationOptions {
         counts: true,
         verifies: true,
         prints_all: true,

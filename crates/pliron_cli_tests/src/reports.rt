@@ -1,7 +1,7 @@
 //! What `plir opt` tells beside its answer, worked by hand. `|` stands for the end of a line.
 use crate::lines::in_one_line;
 use crate::optimised::{all_options, plain, with_watch};
-use pliron_cli::{OptOptions, Outcome, Progress, Source, Wish, opt};
+use pliron_cli::{InstrumentationOptions, OptOptions, Outcome, Progress, Source, opt};
 use std::alloc::Global;
 use std::io;
 use std::process::Abort;
@@ -51,7 +51,7 @@ static TREES: &str = "\
 
 #[test]
 fn trees_after_a_pass(rt: HostRuntime) {
-    let watch = Wish {
+    let watch = InstrumentationOptions {
         counts: false,
         verifies: false,
         prints_all: false,
