@@ -21,7 +21,7 @@ use pliron_notation::read_text;
 use pliron_opts::BenchNotation;
 use std::alloc::{AllocError, Global};
 
-/// What is wished of runs before and after passes.
+/// The options of runs before and after passes.
 #[derive(Clone, Copy)]
 pub struct CompareOptions<'w> {
     /// What the runs are given.
