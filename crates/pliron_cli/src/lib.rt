@@ -1,6 +1,6 @@
-//! The work of each command of `plir`, the command-line program, as functions from texts and options to texts.
+//! The work of each command of `plir`, the program for people, as functions from texts and wishes to texts.
 //!
-//! It knows the bench notation and what users want to see of texts and runs; of words, files and streams it
+//! It knows the bench notation and what people want to see of texts and runs; of words, files and streams it
 //! knows nothing.
 #![tactic(auto)]
 

@@ -6,7 +6,7 @@ use pliron_opts::plir_run;
 use std::alloc::Global;
 use std::process::Abort;
 
-/// Passes that are instrumented so.
+/// Passes that are watched so.
 pub fn with_watch<'w>(pipeline: &'w str, watch: Wish<'w>) -> OptOptions<'w> {
     OptOptions {
         pipeline,

@@ -1,5 +1,5 @@
-//! The commands of the command-line program that draw texts and tell what passes did to them, as functions from
-//! texts and options to texts.
+//! The commands of the program for people that draw texts and tell what passes did to them, as functions from texts and
+//! wishes to texts.
 //!
 //! It knows how commands end; of words, files and streams it knows nothing.
 #![tactic(auto)]

@@ -1,6 +1,4 @@
 //! Whether an operation is fit to run.
-//!
-//! The check for dominance comes last, so it may rely on edges and uses.
 ghost use Rattle.std.specs.Prelude.{◌≡◌, ◌↔◌, ◌⊎◌, ℕ, [], None, OnOk, IfOk, IfErr, IfSome, IsOkUnless, IsTrue};
 ghost use Rattle.pliron_core.specs.Tree.{In, IsLive, IsWithin, successors_of};
 ghost use Rattle.pliron_core.specs.Walks.{preorder};
@@ -127,7 +125,7 @@ pub fn is_fit<D: Dialect>(
     Ok(violation.is_none())
 }
 
-// The operation is appended to the list, if it is live and fit to run.
+// The operation goes to the end of the list, if it stands and is fit to run.
 fn add_if_fit<D: Dialect>(
     alloc: Global,
     root: Ptr<Operation>,
