@@ -19,7 +19,7 @@ use pliron_opts::Notation;
 use pliron_pass::{BenchFactKind, Pass};
 use std::alloc::{AllocError, Global};
 
-/// What is wished of passes.
+/// The options of passes.
 #[derive(Clone, Copy)]
 pub struct OptOptions<'w> {
     /// The passes, as a word.
