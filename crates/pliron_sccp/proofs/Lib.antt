@@ -20,6 +20,7 @@ pub mod ListedArguments
 pub mod FoundChange
 pub mod Going
 pub mod Numbered
+pub mod Preorder
 pub mod UserLists
 pub mod Reactions
 pub mod InsideLists
