@@ -26,7 +26,7 @@ pub mod InsideLists
 pub mod DeferralSteps
 pub mod Stamps
 pub mod Stepping
-pub mod Deferred
+pub mod DeferredLemmas
 pub mod ReactionSteps
 pub mod Accounting
 pub mod OnTheWay
