@@ -10,7 +10,7 @@ use Rattle.pliron_bits.specs.declared.flags.Flags.{Flags}
 use Rattle.pliron_bits.specs.declared.operators.BinaryOperator.{BinaryOperator}
 use Rattle.pliron_bits.specs.declared.operators.Predicate.{Predicate}
 use Rattle.pliron_bits.specs.declared.operators.Cast.{Cast}
-use Rattle.pliron_bits.specs.Operators.{binary, compared, cast_to, predicate_of_number}
+use Rattle.pliron_bits.specs.Operators.{binary, comparison, cast_to, predicate_of_number}
 use Rattle.pliron_mlir.specs.declared.kind.Class.{Class}
 use Rattle.pliron_mlir.specs.declared.kind.Class.TheVariants.{Constant as ConstantClass, Select, Opaque as OpaqueClass, Jump, Branch, Switch, Leave as LeaveClass, Unreachable, Effect, Regions, Root, Module, Fork, Compare, Cast as CastClass, Binary}
 use Rattle.pliron_roles.specs.Counted.{counted_by}
@@ -40,7 +40,7 @@ computed_by operator h _ = None
 -- those of a comparison are the width, the predicate and the form
 abbrev pub truth_of_two : Option Predicate → (width a b : ℕ) → Option ℕ
 truth_of_two None width a b = None
-truth_of_two (Some predicate) width a b = Some (bit (compared predicate width a b))
+truth_of_two (Some predicate) width a b = Some (bit (comparison predicate width a b))
 
 abbrev pub compared_by : Head → List ℤ → Option ℤ
 compared_by h (a ∷ b ∷ []) =
