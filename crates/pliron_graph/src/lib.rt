@@ -10,8 +10,8 @@
 //!
 //! A [`ReverseGraph`] is the reverse of a graph, and itself a graph, whose entry leads to one node of each component that no edge leaves.
 //!
-//! The blocks of a region are such a graph, where edges stand last in the operation that holds it. The searches for ancestors go up
-//! from an operation or a block of the tree.
+//! The blocks of a region are such a graph, where edges stand last in its parent operation. The searches for
+//! ancestors go up from an operation or a block of the tree.
 //!
 //! No call goes deeper with the graph: each search has a stack of its own.
 //!
@@ -22,6 +22,7 @@
 mod ancestors;
 mod components;
 pub mod laws;
+mod numbered_graph;
 mod owners;
 mod pre_sentinels;
 mod reverse_graph;
@@ -33,6 +34,7 @@ pub use ancestors::{
     find_ancestor_op_of_op_in_region, strictly_precedes_in_block,
 };
 pub use components::{Scc, sccs_in_topological_order};
+pub use numbered_graph::{NumberedGraph, read_graph};
 pub use pliron_traversal::{
     AdjacencyList, ControlFlowGraph, DFSEdgeKind, DFSTraversal, HasLabel, OrderIter,
     ReverseOrderIter, post_order, post_order_by_component, topological_order,
