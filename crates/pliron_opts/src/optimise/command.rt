@@ -4,7 +4,7 @@ ghost use Rattle.pliron_pipeline.specs.PassSteps.{step_name};
 ghost use Rattle.pliron_opts.specs.Asked.{AskFor, IsPlanned, is_nested, names_of};
 ghost use Rattle.pliron_opts.specs.Ran.{IsScheduled};
 
-use crate::program::Plan;
+use crate::program::PipelineWord;
 use pliron_laws::Dialect;
 use pliron_pass::{BenchFacts, Either, NestedOpsPass, Passes, Repeat};
 use pliron_pipeline::{PassStep, Pipeline, Schedule};
@@ -71,14 +71,14 @@ fn schedule<D: Dialect>(
     }
 }
 
-/// The schedule that the word plans, if each of its names is the name of a pass.
+/// The schedule (pass pipeline) that the word plans, if each of its names is the name of a pass.
 fn plan_schedule<D: Dialect>(
     alloc: Global,
     word: &str,
 ) -> Result<Option<Schedule<D, BenchFacts>>, AllocError>
     ensures { IfOk result (λ found. IfSome found (λ schedule. IsPlanned word.now schedule)) }
 {
-    let Some(plan) = Plan::read(alloc, word)? else {
+    let Some(plan) = PipelineWord::read(alloc, word)? else {
         return Ok(None);
     };
     match pipeline(alloc, plan.nested, &plan.names)? {
