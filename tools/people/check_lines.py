@@ -1,8 +1,8 @@
 #!/usr/bin/env python3
 """plir test FILE..: runs the commands of texts' RUN lines, and looks for their CHECK lines in what is written.
 
-A line `// RUN: opt --pretty sccp,dce %s` in a text runs `plir` on it, where `%s` is the file; `// RUN: not check %s` wants a
-status other than 0, and what comes behind `|` is passed over. What is written, standard output and then standard error, is to have
+A line `// RUN: opt --pretty sccp,dce %s` in a text runs `plir` on it, where `%s` is the file, with blanks for its comments, which begin
+with `//`; `// RUN: not check %s` wants a status other than 0, and what comes behind `|` is passed over. What is written, standard output and then standard error, is to have
 the lines that follow, in order:
 
   CHECK: TEXT         somewhere behind what the line before found
@@ -19,9 +19,11 @@ import argparse
 import re
 import shlex
 import sys
+import tempfile
 from pathlib import Path
 
 sys.path.insert(0, str(Path(__file__).resolve().parent))
+import notation
 import program
 
 PART = re.compile(r"\{\{(.*?)\}\}|\[\[([A-Za-z_]\w*):(.*?)\]\]|\[\[([A-Za-z_]\w*)\]\]")
@@ -164,8 +166,16 @@ def test(plir, name, prefix):
     runs, checks = lines_of(text, prefix)
     if not runs:
         return f"error: {name} has no line `// RUN: ..`\n"
+    with tempfile.TemporaryDirectory(prefix="plir-") as folder:
+        file = f"{folder}/{Path(name).name}"
+        Path(file).write_text(notation.without_comments(text))
+        return tested(plir, name, file, text, runs, checks)
+
+
+def tested(plir, name, file, text, runs, checks):
+    """What is wrong with the lines of the text that stands in the file without its comments."""
     for run, line in runs:
-        words, fails = words_of(run, name)
+        words, fails = words_of(run, file)
         status, output, told = plir.run(*words)
         if (status != 0) != fails:
             return f"error: `plir {' '.join(words)}` ended with {status}\n --> {name}:{line}:1\n{told}"

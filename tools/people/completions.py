@@ -43,7 +43,7 @@ def options_of(text):
     for line in text.splitlines():
         match = OPTION.match(line)
         if match:
-            found.append([match.group(1), match.group(2), match.group(3), match.group(4) or ""])
+            found.append([match.group(1), match.group(2), match.group(3), (match.group(4) or "").strip()])
         elif found and line.startswith("          ") and line.strip():
             found[-1][3] = (found[-1][3] + " " + line.strip()).strip()
     return found

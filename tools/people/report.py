@@ -1,7 +1,7 @@
 #!/usr/bin/env python3
 """plir report FILE PIPELINE -o report.html: what passes made of a text, as one page that stands alone.
 
-Before and after stand side by side in the names of the text, with what each run of a pass changed, the control flow as pictures where
+Before and after stand side by side, with what each run of a pass changed, the control flow as pictures where
 Graphviz is there, counts, and the reasons.
 """
 import argparse
@@ -14,7 +14,10 @@ import sys
 from pathlib import Path
 
 sys.path.insert(0, str(Path(__file__).resolve().parent))
+import notation
 import program
+
+HEAD = re.compile(r"--- run (\d+), after (\S+?): (changed|unchanged)\n")
 
 STYLE = """
 body { font: 15px/1.45 system-ui, sans-serif; margin: 1.5em auto; max-width: 76em; padding: 0 1em; color: #1b1f24; }
@@ -54,14 +57,15 @@ def sides(before, after):
 
 def picture(plir, text, title, region):
     """The control flow as SVG, where Graphviz is there, and else in its language."""
-    status, dot, _ = plir.run("dot", "--region", region, "--title", title, text=text)
+    status, dot, _ = plir.run("dot", "--region", region, text=text)
     if status:
         return ""
+    caption = f"<figcaption>{html.escape(title)}</figcaption>"
     if shutil.which("dot"):
         drawn = subprocess.run(["dot", "-Tsvg"], input=dot, capture_output=True, text=True)
         if drawn.returncode == 0:
-            return f"<figure>{drawn.stdout[drawn.stdout.index('<svg'):]}</figure>"
-    return f"<figure><pre>{html.escape(dot)}</pre></figure>"
+            return f"<figure>{caption}{drawn.stdout[drawn.stdout.index('<svg'):]}</figure>"
+    return f"<figure>{caption}<pre>{html.escape(dot)}</pre></figure>"
 
 
 def pictures(plir, before, after):
@@ -87,23 +91,30 @@ def reasons(lines):
     return f'<table class="reasons">{"".join(rows)}</table>'
 
 
-def changes(told):
+def changes(text, told):
+    """The lines that each run of a pass changed."""
+    parts = HEAD.split(told)
     lines = []
-    for line in told.splitlines():
-        kind = {"-": "went", "+": "came"}.get(line[:1] if not line.startswith("---") else "")
-        lines.append(f'<span class="{kind}">{html.escape(line)}</span>' if kind else html.escape(line))
+    for number, name, status, after in zip(parts[1::4], parts[2::4], parts[3::4], parts[4::4]):
+        new = after.rstrip("\n").split("\n")
+        lines.append(html.escape(f"run {number}, {name}: {status}"))
+        if status == "changed":
+            for line in list(difflib.unified_diff(text, new, n=2, lineterm=""))[2:]:
+                kind = {"-": "went", "+": "came"}.get(line[:1])
+                lines.append(f'<span class="{kind}">{html.escape(line)}</span>' if kind else html.escape(line))
+        text = new
     return f"<pre>{chr(10).join(lines)}</pre>"
 
 
 def page(asked, plir, text):
-    status, after, told = plir.run("opt", "--keep-names", "--pretty", asked.pipeline, text=text)
+    status, after, told = plir.run("opt", "--pretty", asked.pipeline, text=text)
     if status:
         sys.stderr.write(told.replace("standard input", asked.file))
         return status, ""
-    _, before, _ = plir.run("opt", "--keep-names", "--pretty", "--stop-after", "0", asked.pipeline, text=text)
-    stats = plir.run("opt", "--number-names", "--stats", asked.pipeline, text=text)[2]
-    diff = plir.run("opt", "--print-changed", "--color=never", asked.pipeline, text=text)[2]
-    why = plir.run("explain", "--missed", asked.pipeline, text=text)[1]
+    before = notation.written(notation.read(text))
+    stats = plir.run("opt", "--stats", asked.pipeline, text=text)[2]
+    runs = plir.run("opt", "--pretty", "--print-after-all", asked.pipeline, text=text)[2]
+    why = plir.run("explain", "-", asked.pipeline, text=text)[1]
     unfit = plir.run("check", text=text)
     title = f"{Path(asked.file).name}: {asked.pipeline}"
     parts = [
@@ -114,7 +125,7 @@ def page(asked, plir, text):
         "<h2>Control flow</h2>",
         pictures(plir, before, after),
         "<h2>What each run changed</h2>",
-        changes(diff),
+        changes(before.rstrip("\n").split("\n"), runs),
         "<h2>Reasons</h2>",
         reasons(why.splitlines()),
         "<h2>Counts</h2>",
