@@ -15,8 +15,8 @@ pub add_defined-requires : goal.add_defined-requires
 add_defined-requires c =
     owing_stands c.args.ctx.now.tree c.well_formed-2.ensures.tree c.args.root c.loop-part.numbered.keys c.in-Some.part c.loop-part.stack.items c.pop.new.self.items c.loop-part.invariant c.in-Some.ensures.items
 
-pub stack_inner-in-Some-requires : goal.stack_inner-in-Some-requires
-stack_inner-in-Some-requires c =
+pub stack_inner-requires-in-Some : goal.stack_inner-requires-in-Some
+stack_inner-requires-in-Some c =
     owing_stands c.args.ctx.now.tree c.well_formed-2.ensures.tree c.args.root c.loop-part.numbered.keys c.in-Some.part c.loop-part.stack.items c.pop.new.self.items c.loop-part.invariant c.in-Some.ensures.items
 
 pub loop-part-preserved : goal.loop-part-preserved

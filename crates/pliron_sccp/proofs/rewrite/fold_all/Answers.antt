@@ -10,8 +10,8 @@ use Rattle.pliron_sccp.proofs.rewrite.fold_all.Goals as goal
 pub loop-i-init : goal.loop-i-init
 loop-i-init g c = folding_start _ _ _ _
 
-pub known_of-known_constant-requires-clause-rising : goal.known_of-known_constant-requires-clause-rising
-known_of-known_constant-requires-clause-rising g c =
+pub known_of-known-requires-clause-rising : goal.known_of-known-requires-clause-rising
+known_of-known-requires-clause-rising g c =
     let folds = c.args.folds.now in
     let rows = folds.rows.items in
     let fold = c.index-fold.result.now in
@@ -20,8 +20,8 @@ known_of-known_constant-requires-clause-rising g c =
     let one = c.requires.steps.3.each c.loop-i.i fold at in
     one.rising
 
-pub known_of-known_constant-requires-clause-within : goal.known_of-known_constant-requires-clause-within
-known_of-known_constant-requires-clause-within g c =
+pub known_of-known-requires-clause-within : goal.known_of-known-requires-clause-within
+known_of-known-requires-clause-within g c =
     let folds = c.args.folds.now in
     let rows = folds.rows.items in
     let fold = c.index-fold.result.now in
@@ -40,7 +40,7 @@ fold_one-requires g c =
     let at : slice_get rows c.loop-i.i ≡ Some fold = slice_get_read rows (length rows) c.loop-i.i fold refl lt c.index-fold.ensures in
     let x : Says = record { meaning = g.D.HasMeaning.meaning; can_fold = g.D.ConstFoldInterface.can_fold; can_fold_branch = g.D.BranchOpFoldInterface.can_fold_branch; constants = g.D.ConstFoldInterface.constants; feasible = g.D.BranchOpFoldInterface.feasible; entry_operands = g.D.RegionBranchOpInterface.entry_operands } in
     let step = folding_can x _ _ folds c.loop-i.i c.loop-i.status c.loop-i.ctx.tree c.loop-i.invariant fold at s.0 s.1 s.2 s.3 in
-    record { step = (s.0, s.1, s.2, subst (λ z. IsFoldStep x s.0 s.1 s.2 c.loop-i.ctx.tree fold.op z) (sym c.known_of-known_constant.ensures) step) }
+    record { step = (s.0, s.1, s.2, subst (λ z. IsFoldStep x s.0 s.1 s.2 c.loop-i.ctx.tree fold.op z) (sym c.known_of-known.ensures) step) }
 
 pub returns-in_err-fold_one-clause-follows : goal.returns-in_err-fold_one-clause-follows
 returns-in_err-fold_one-clause-follows g c = λ t₀ root f₀ s.
@@ -51,7 +51,7 @@ returns-in_err-fold_one-clause-follows g c = λ t₀ root f₀ s.
     let at : slice_get rows c.loop-i.i ≡ Some fold = slice_get_read rows (length rows) c.loop-i.i fold refl lt c.index-fold.ensures in
     let x : Says = record { meaning = g.D.HasMeaning.meaning; can_fold = g.D.ConstFoldInterface.can_fold; can_fold_branch = g.D.BranchOpFoldInterface.can_fold_branch; constants = g.D.ConstFoldInterface.constants; feasible = g.D.BranchOpFoldInterface.feasible; entry_operands = g.D.RegionBranchOpInterface.entry_operands } in
     let step = folding_can x _ _ folds c.loop-i.i c.loop-i.status c.loop-i.ctx.tree c.loop-i.invariant fold at t₀ root f₀ s in
-    c.fold_one.ensures.follows t₀ root f₀ (subst (λ z. IsFoldStep x t₀ root f₀ c.loop-i.ctx.tree fold.op z) (sym c.known_of-known_constant.ensures) step)
+    c.fold_one.ensures.follows t₀ root f₀ (subst (λ z. IsFoldStep x t₀ root f₀ c.loop-i.ctx.tree fold.op z) (sym c.known_of-known.ensures) step)
 
 pub loop-i-preserved : goal.loop-i-preserved
 loop-i-preserved g c =
@@ -64,8 +64,8 @@ loop-i-preserved g c =
     let outcome = g.D.ConstFoldInterface.outcome in
     let here = c.loop-i.ctx.tree in
     let next = c.fold_one.new.ctx.tree in
-    let is = subst (λ z. outcome here next fold.op z (Some c.in_ok-fold_one.field-0)) c.known_of-known_constant.ensures c.in_ok-fold_one.ensures.ok in
-    let done = folding_next x outcome c.args.ctx.now.tree folds c.loop-i.i c.loop-i.status here c.loop-i.invariant fold at next c.in_ok-fold_one.field-0 is c.in_ok-fold_one.ensures.told c.fold_one.ensures.stays (λ t₀ root f₀ s. c.fold_one.ensures.follows t₀ root f₀ (subst (λ z. IsFoldStep x t₀ root f₀ here fold.op z) (sym c.known_of-known_constant.ensures) s)) in
+    let is = subst (λ z. outcome here next fold.op z (Some c.in_ok-fold_one.field-0)) c.known_of-known.ensures c.in_ok-fold_one.ensures.ok in
+    let done = folding_next x outcome c.args.ctx.now.tree folds c.loop-i.i c.loop-i.status here c.loop-i.invariant fold at next c.in_ok-fold_one.field-0 is c.in_ok-fold_one.ensures.told c.fold_one.ensures.stays (λ t₀ root f₀ s. c.fold_one.ensures.follows t₀ root f₀ (subst (λ z. IsFoldStep x t₀ root f₀ here fold.op z) (sym c.known_of-known.ensures) s)) in
     subst (λ z. IsFoldingOn x outcome c.args.ctx.now.tree folds (c.loop-i.i + 1) z next) (sym c.bitor_assign.ensures.after) done
 
 pub returns-clause-folded : goal.returns-clause-folded
@@ -91,5 +91,5 @@ returns-in_err-fold_one-clause-refused g c =
     let at : slice_get rows c.loop-i.i ≡ Some fold = slice_get_read rows (length rows) c.loop-i.i fold refl lt c.index-fold.ensures in
     let outcome = g.D.ConstFoldInterface.outcome in
     let next = c.fold_one.new.ctx.tree in
-    let is = subst (λ z. outcome c.loop-i.ctx.tree next fold.op z None) c.known_of-known_constant.ensures c.in_err-fold_one.ensures.refused in
+    let is = subst (λ z. outcome c.loop-i.ctx.tree next fold.op z None) c.known_of-known.ensures c.in_err-fold_one.ensures.refused in
     on_err _ c.from_residual.result (λ t₀ root f₀ s. folding_broken _ outcome c.args.ctx.now.tree folds c.loop-i.i c.loop-i.status c.loop-i.ctx.tree c.loop-i.invariant fold at next is t₀ root f₀ s)
