@@ -2,6 +2,7 @@
 ghost use Rattle.std.specs.Prelude.{◌≡◌, ◌⊎◌, IfOk};
 ghost use Rattle.pliron_people.specs.Outcomes.{EndsBadly};
 
+use crate::graph_fault::graph_fault;
 use pliron_people::{Failure, Outcome, Source};
 use std::alloc::{AllocError, Global};
 
@@ -31,9 +32,7 @@ impl Wrong<'_> {
     fn told(self, alloc: Global, source: &Source) -> Result<String, AllocError> {
         match self {
             Wrong::Failed(failure) => failure.told(alloc, source),
-            Wrong::Graph => format!(in alloc;
-                "error: unreadable graph\nhelp: write a line for each node, as `0: 1 2`: its number and its successors\n"
-            ),
+            Wrong::Graph => graph_fault(alloc, source),
             Wrong::Region(path) => format!(in alloc;
                 "error: no region `{path}`\nhelp: `0.2.0` is region 0 of operation 2 of region 0 of the text's operation\n"
             ),

@@ -36,7 +36,7 @@ fn passes_of(alloc: Global, names: &[&str]) -> Result<Option<Vec<PassName>>, All
 }
 
 /// The passes that the plan asks for, if each of its names is that of one.
-fn list_of(alloc: Global, plan: &Plan) -> Result<Option<PassList>, AllocError>
+fn list_of(alloc: Global, plan: &Plan, tells_missed: bool) -> Result<Option<PassList>, AllocError>
     ensures nested { IfOk result (λ found. IfSome found (λ list. list.is_nested ≡ plan.now.nested)) }
     ensures passes { IfOk result (λ found. IfSome found (λ list. length list.passes.items ≡ length plan.now.names.items)) }
 {
@@ -45,16 +45,22 @@ fn list_of(alloc: Global, plan: &Plan) -> Result<Option<PassList>, AllocError>
             runs: plan.runs.unwrap_or(1),
             is_nested: plan.nested,
             passes,
+            tells_missed,
         })),
         None => Ok(None),
     }
 }
 
 /// Tells what the passes that the plan asks for did.
-fn explain_by(alloc: Global, source: &Source, plan: &Plan) -> Result<Outcome, AllocError>
+fn explain_by(
+    alloc: Global,
+    source: &Source,
+    plan: &Plan,
+    tells_missed: bool,
+) -> Result<Outcome, AllocError>
     ensures { IfOk result (Ends ⊤ ⊥) }
 {
-    let Some(list) = list_of(alloc, plan)? else {
+    let Some(list) = list_of(alloc, plan, tells_missed)? else {
         return ended_badly(alloc, Wrong::Failed(Failure::Text), source);
     };
     match explained(alloc, source.text, &list) {
@@ -64,18 +70,31 @@ fn explain_by(alloc: Global, source: &Source, plan: &Plan) -> Result<Outcome, Al
     }
 }
 
+/// What is wished of an explanation.
+#[derive(Clone, Copy)]
+pub struct ExplainWish<'w> {
+    /// The passes, as a word.
+    pub pipeline: &'w str,
+    /// Whether it is also told what they left as it is, and why.
+    pub missed: bool,
+}
+
 /// Tells, for each operation and argument of the text that changed or went when the passes were run that the word asks
-/// for, where it stands, and why.
+/// for, where it stands, and why; where it is wished, also for operations that they left as they are.
 ///
 /// Statuses: 0; 1 where memory or the passes were refused; 2 for an unreadable text, or a word that asks for no passes.
 /// With 1 and 2 nothing is to be written to the output. Errors: want of memory for what is told. Cost: that of
 /// `explained`.
-pub fn explain(alloc: Global, source: &Source, pipeline: &str) -> Result<Outcome, AllocError>
+pub fn explain_all(
+    alloc: Global,
+    source: &Source,
+    wish: &ExplainWish,
+) -> Result<Outcome, AllocError>
     ensures { IfOk result (Ends ⊤ ⊥) }
 {
-    match Plan::read(alloc, pipeline) {
-        Ok(plan) => explain_by(alloc, source, &plan),
-        Err(PlanError::Word(fault)) => misspelt(alloc, pipeline, &fault),
+    match Plan::read(alloc, wish.pipeline) {
+        Ok(plan) => explain_by(alloc, source, &plan, wish.missed),
+        Err(PlanError::Word(fault)) => misspelt(alloc, wish.pipeline, &fault),
         Err(PlanError::Memory) => {
             ended_badly(
                 alloc,
@@ -84,4 +103,15 @@ pub fn explain(alloc: Global, source: &Source, pipeline: &str) -> Result<Outcome
             )
         }
     }
+}
+
+/// The same of what changed or went alone. Errors: want of memory for what is told. Cost: that of `explained`.
+pub fn explain(alloc: Global, source: &Source, pipeline: &str) -> Result<Outcome, AllocError>
+    ensures { IfOk result (Ends ⊤ ⊥) }
+{
+    let wish = ExplainWish {
+        pipeline,
+        missed: false,
+    };
+    explain_all(alloc, source, &wish)
 }

@@ -7,7 +7,8 @@
 mod drawing;
 mod ending;
 mod explaining;
+mod graph_fault;
 
 pub use drawing::{draw_flow, draw_graph};
-pub use explaining::explain;
+pub use explaining::{ExplainWish, explain, explain_all};
 pub use pliron_pictures::FlowWish;

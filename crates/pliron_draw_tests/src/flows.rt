@@ -18,6 +18,8 @@ fn drawn(rt: &impl Abort, alloc: Global, region: &str, text: &str) -> Outcome {
     let wish = FlowWish {
         region: region.trim_start_matches('!'),
         dominators: region.starts_with('!'),
+        names_alone: false,
+        title: "",
     };
     draw_flow(alloc, &source, &wish).expect(rt, "memory")
 }
@@ -43,12 +45,12 @@ fn lines_of(rt: &impl Abort, alloc: Global, lines: &str) -> String {
 
 /// Paths, behind `!` where dominators are drawn, texts and their pictures.
 static PICTURES: &str = "\
-0 => func { b0(): ret } => 0 [label='b0():/lret/l']
-0 => func { a(x): br  b( x ) ; b(y): ret  y } => 0 [label='a(x):/lbr b( x )/l']|1 [label='b(y):/lret y/l']|0 -> 1 [label=' x ']
-!0 => func { a(c): cbr c b(c) d(); b(y): br d(); d(): ret } => 0 [label='a(c):/lcbr c b(c) d()/l']|1 [label='b(y):/lbr d()/l']|2 [label='d():/lret/l']|0 -> 1 [label=' c ']|0 -> 2|1 -> 2|0 -> 1 [style='dotted', color='blue', constraint='false']|0 -> 2 [style='dotted', color='blue', constraint='false']
-0 => func { a(): ret; lost(): x = const 1; br a() } => 0 [label='a():/lret/l']|1 [label='lost():/lx = const 1/lbr a()/l', color='grey', fontcolor='grey']|1 -> 0 [color='grey', fontcolor='grey']
-0 => mod { m(): func { f(): ret }; func { g(): ret } } => 0 [label='m():/lfunc { 0.0.0 }/lfunc { 0.1.0 }/l']
-0.1.0 => mod { m(): func { f(): ret }; func { g(): ret } } => 2 [label='g():/lret/l']";
+0 => func { b0(): ret } => 0 [label='b0():/lret/l', peripheries='2']
+0 => func { a(x): br  b( x ) ; b(y): ret  y } => 0 [label='a(x):/lbr b( x )/l', peripheries='2']|1 [label='b(y):/lret y/l']|0 -> 1 [label=' x ']
+!0 => func { a(c): cbr c b(c) d(); b(y): br d(); d(): ret } => 0 [label='a(c):/lcbr c b(c) d()/l', peripheries='2']|1 [label='b(y):/lbr d()/l']|2 [label='d():/lret/l']|0 -> 1 [label=' true: c ']|0 -> 2 [label=' false ']|1 -> 2|0 -> 1 [style='dotted', color='blue', constraint='false']|0 -> 2 [style='dotted', color='blue', constraint='false']
+0 => func { a(): ret; lost(): x = const 1; br a() } => 0 [label='a():/lret/l', peripheries='2']|1 [label='lost():/lx = const 1/lbr a()/l', color='grey', fontcolor='grey']|1 -> 0 [color='grey', fontcolor='grey']
+0 => mod { m(): func { f(): ret }; func { g(): ret } } => 0 [label='m():/lfunc { 0.0.0 }/lfunc { 0.1.0 }/l', peripheries='2']
+0.1.0 => mod { m(): func { f(): ret }; func { g(): ret } } => 2 [label='g():/lret/l', peripheries='2']";
 
 #[test]
 fn flows_are_drawn(rt: HostRuntime) {
@@ -85,4 +87,24 @@ fn faults_are_told(rt: HostRuntime) {
         assert_eq!(rt; outcome.status, 2);
         assert_eq!(rt; outcome.report.lines().next(), Some(told));
     }
+}
+
+/// A picture of blocks by their names, with a title.
+static NAMES: &str =
+    "digraph flow {\n  node [shape=\"box\", fontname=\"monospace\", height=\"0.25\", margin=\"0.06\"];\n  edge [fontname=\"monospace\"];\n  graph [label=\"one \\\"title\\\"\", labelloc=\"t\"];\n  0 [label=\"a(x)\", peripheries=\"2\"];\n  1 [label=\"b(y)\"];\n  0 -> 1 [label=\" x \"];\n}\n";
+
+#[test]
+fn names_and_titles(rt: HostRuntime) {
+    let source = Source {
+        name: "text",
+        text: b"func { a(x): br b(x); b(y): ret y }",
+    };
+    let wish = FlowWish {
+        region: "0",
+        dominators: false,
+        names_alone: true,
+        title: "one \"title\"",
+    };
+    let outcome = draw_flow(rt.alloc(), &source, &wish).expect(&rt, "memory");
+    assert_eq!(rt; std::str::from_utf8(&outcome.output).unwrap_or(""), NAMES);
 }

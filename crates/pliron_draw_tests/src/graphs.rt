@@ -53,16 +53,41 @@ fn graphs_are_drawn(rt: HostRuntime) {
     }
 }
 
+/// Texts that are those of no graph, the place of what is wrong, and what was to stand there.
+static FAULTS: &str = "\
+1: 2 => 1:4 a node that has a line
+1:|1: => 2:1 a node that has no line before
+x => 1:1 a number of 32 bits without leading zeros
+1 => 1:2 `:`
+1:|| => 2:1 a number of 32 bits without leading zeros
+1:  1 => 1:4 a number of 32 bits without leading zeros
+1: 01 => 1:4 a number of 32 bits without leading zeros
+1: 4294967296 => 1:4 a number of 32 bits without leading zeros
+1: 1,2 => 1:5 one blank and a number, or the end of the line
+1: 2|2: 3 1|3: 7 => 3:4 a node that has a line";
+
 #[test]
 fn other_texts_are_no_graphs(rt: HostRuntime) {
-    for text in ["1: 2", "1:\n1:\n", "x"] {
+    for case in FAULTS.lines() {
+        let (text, wanted) = case.split_once(" => ").expect(&rt, "a case");
+        let (place, label) = wanted.split_once(' ').expect(&rt, "a place");
+        let text = with_lines(&rt, rt.alloc(), text, "");
         let source = Source {
             name: "text",
             text: text.as_bytes(),
         };
         let outcome = draw_graph(rt.alloc(), &source).expect(&rt, "memory");
+        let told = outcome.report.as_str();
         assert!(rt; outcome.output.is_empty());
         assert_eq!(rt; outcome.status, 2);
-        assert!(rt; outcome.report.starts_with("error: unreadable graph\n"));
+        assert_eq!(rt; told.lines().next(), Some("error: unreadable graph"));
+        assert!(rt;
+            told.lines().nth(1).unwrap_or("").ends_with(place),
+            "{told}"
+        );
+        assert!(rt;
+            told.lines().nth(4).unwrap_or("").ends_with(label),
+            "{told}"
+        );
     }
 }

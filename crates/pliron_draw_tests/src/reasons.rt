@@ -1,5 +1,5 @@
 //! Why passes changed what, worked by hand.
-use pliron_draw::explain;
+use pliron_draw::{ExplainWish, explain, explain_all};
 use pliron_people::Source;
 use std::alloc::Global;
 use std::process::Abort;
@@ -10,6 +10,7 @@ dce => func { b0(): ret } => nothing of the text changed or went
 dce => func { b0(): x = const 1; ret } => 1:14 x = const 1: unused (dce)
 dce => func { b0(c): br b1(c); b1(p): ret } => 1:15 br b1(c): passes c no more (dce)|1:28 argument p of b1: unused (dce)
 dce => func { b0(): box { b1(): x = const 1 }; ret } => 1:14 box: unused (dce)|1:26 x = const 1: inside an operation that went (dce)
+sccp => func { b0(): a = const 2; b = add a a; ret } => 1:27 b = add a a: folded to 4 by its operands, and nothing uses it (sccp)
 sccp => func { b0(): a = const 2; b = add a a; ret b } => 1:27 b = add a a: folded to 4 by its operands (sccp)|1:40 ret b: takes 4 for b (sccp)
 simplify-cfg => func { b0(): c = const 0; cbr c b1() b2(); b1(): ret; b2(): print c; ret } => 1:27 cbr c b1() b2(): always goes to b2 (simplify-cfg)|1:50 ret: unreachable (simplify-cfg)|1:61 print c: merged into b0 (simplify-cfg)|1:70 ret: merged into b0 (simplify-cfg)
 simplify-cfg => func { b0(x): br b1(x); b1(y): ret y } => 1:15 br b1(x): b1 was merged into its block (simplify-cfg)|1:28 argument y of b1: merged, it is x (simplify-cfg)|1:32 ret y: merged into b0, takes x for y (simplify-cfg)
@@ -71,4 +72,44 @@ fn other_lists_are_refused(rt: HostRuntime) {
         assert_eq!(rt; outcome.status, 2);
         assert!(rt; outcome.report.starts_with("error: no such passes"));
     }
+}
+
+/// Lists of passes, texts, and what is told with what they missed, where a bar stands for the end of a line.
+static MISSED: &str = "\
+dce => func { b0(x): y = div x x; ret } => 1:15 y = div x x: stays, though nothing uses it: a div has side effects (missed by dce)
+sccp => func { b0(x): y = div x x; ret } => 1:15 y = div x x: not folded: its operand 1, x, isn't known (missed by sccp)
+simplify-cfg => func { b0(c): cbr c b1() b1(); b1(): ret } => 1:15 cbr c b1() b1(): goes either way: its operand 1, c, isn't known (missed by simplify-cfg)
+sccp => func { b0(x): c = const 2; y = add c x; print y; ret } => 1:28 y = add c x: not folded: its operand 2, x, isn't known (missed by sccp)
+repeat<1>(sccp) => func { b0(): a = const 2; b = add a a; ret b } => 1:27 b = add a a: folded to 4 by its operands (sccp)|1:40 ret b: takes 4 for b (sccp)";
+
+#[test]
+fn what_was_missed(rt: HostRuntime) {
+    for case in MISSED.lines() {
+        let (passes, rest) = case.split_once(" => ").expect(&rt, "a case");
+        let (text, told) = rest.split_once(" => ").expect(&rt, "a case");
+        let source = Source {
+            name: "text",
+            text: text.as_bytes(),
+        };
+        let wish = ExplainWish {
+            pipeline: passes,
+            missed: true,
+        };
+        let outcome = explain_all(rt.alloc(), &source, &wish).expect(&rt, "memory");
+        let wanted = with_lines(&rt, rt.alloc(), told);
+        let found = std::str::from_utf8(&outcome.output).unwrap_or("");
+        assert!(rt; found.contains(wanted.as_str()), "{text} => {found}");
+    }
+}
+
+#[test]
+fn a_limit_is_told(rt: HostRuntime) {
+    let source = Source {
+        name: "text",
+        text: b"func { b0(): a = const 2; b = add a a; ret }",
+    };
+    let outcome = explain(rt.alloc(), &source, "repeat<2>(sccp)").expect(&rt, "memory");
+    let found = std::str::from_utf8(&outcome.output).unwrap_or("");
+    let wanted = "after 2 runs, as many as it may, the list still changed something\n";
+    assert!(rt; found.ends_with(wanted), "{found}");
 }

@@ -5,6 +5,7 @@ ghost use Rattle.pliron_core.specs.Writes.{no_tree};
 ghost use Rattle.pliron_laws.specs.Linked.{IsWellLinked};
 ghost use Rattle.pliron_bench.specs.BenchMoves.{bench};
 
+use crate::missed::push_missed;
 use crate::pass_list::{PassList, PassName};
 use crate::reasons::{Reasons, Rewrite};
 use crate::tree_state::{TreeState, tree_state};
@@ -163,8 +164,15 @@ impl Explaining<'_> {
             self.run = self.run.saturating_add(1);
             let status = self.pass_on_all(&list.passes, operations, ctx)?;
             if status == IRStatus::Unchanged {
-                break;
+                return Ok(());
             }
+        }
+        if self.counts_runs {
+            let runs = list.runs;
+            write!(
+                self.lines,
+                "after {runs} runs, as many as it may, the list still changed something\n"
+            )?;
         }
         Ok(())
     }
@@ -213,7 +221,11 @@ fn explained_in(
         lines: String::new(alloc),
     };
     explaining.list(list, &operations, ctx)?;
-    Ok(Some(explaining.lines))
+    let mut lines = explaining.lines;
+    if list.tells_missed && root.is_live(ctx) {
+        push_missed(alloc, text, &words, list, root, ctx, &mut lines)?;
+    }
+    Ok(Some(lines))
 }
 
 /// For each operation and argument of the text that changed or went when these passes were run, a line with its place

@@ -1,5 +1,4 @@
 //! The picture of a region: its blocks with their operations, and the edges between them.
-ghost use Rattle.std.specs.Prelude.{◌≤◌};
 ghost use Rattle.pliron_core.specs.Tree.{IsBlock, IsLive};
 ghost use Rattle.pliron_search.specs.Regions.{IsLawfulRegion};
 
@@ -18,6 +17,10 @@ pub struct FlowWish<'w> {
     pub region: &'w str,
     /// Whether the immediate dominator of each block is drawn.
     pub dominators: bool,
+    /// Whether blocks are drawn by their names alone, without operations.
+    pub names_alone: bool,
+    /// What stands above the picture, if it isn't empty.
+    pub title: &'w str,
 }
 
 /// How all nodes look: in boxes.
@@ -54,36 +57,70 @@ static DOTTED: [Attribute<'static>; 3] = [
     },
 ];
 
-/// What is said of a node or an edge: its label, if it has one, and grey where the entry doesn't lead.
-fn looks<'l>(label: &'l str, is_reached: bool) -> ([Attribute<'l>; 3], usize, usize)
-    ensures within { (result.1 ≤ result.2) × (result.2 ≤ 3) }
-{
-    let all = [
-        Attribute {
-            name: "label",
-            value: label,
-        },
-        Attribute {
-            name: "color",
-            value: "grey",
-        },
-        Attribute {
-            name: "fontcolor",
-            value: "grey",
-        },
-    ];
-    let start = if label.is_empty() { 1 } else { 0 };
-    let end = if is_reached { 1 } else { 3 };
-    (all, start, end)
+/// How all nodes look that are blocks by their names alone: small boxes in narrow rows.
+static SMALL_BOXES: [Attribute<'static>; 4] = [
+    Attribute {
+        name: "shape",
+        value: "box",
+    },
+    Attribute {
+        name: "fontname",
+        value: "monospace",
+    },
+    Attribute {
+        name: "height",
+        value: "0.25",
+    },
+    Attribute {
+        name: "margin",
+        value: "0.06",
+    },
+];
+
+/// What is said of a node or an edge: its label, if it has one, grey where the entry doesn't lead, and two lines around the
+/// entry. Errors: want of memory.
+fn looks<'l>(
+    alloc: Global,
+    label: &'l str,
+    is_reached: bool,
+    is_entry: bool,
+) -> Result<Vec<Attribute<'l>>, AllocError> {
+    let mut looks = Vec::new(alloc);
+    let lines = if is_entry { "2" } else { "" };
+    let colour = if is_reached { "" } else { "grey" };
+    for (name, value) in [
+        ("label", label),
+        ("peripheries", lines),
+        ("color", colour),
+        ("fontcolor", colour),
+    ] {
+        if !value.is_empty() {
+            looks.push(Attribute { name, value })?;
+        }
+    }
+    Ok(looks)
 }
 
-/// Adds what an edge forwards, with a blank on both sides, which keeps it apart from the line.
-fn push_passed(label: &mut String, names: &[u8]) -> Result<(), AllocError> {
-    if names.is_empty() {
+/// Which way an edge of a two-way branch is, by its words and its index.
+fn way(branch: &[u8], index: usize) -> &'static str {
+    match (branch.starts_with(b"cbr"), index) {
+        (true, 0) => "true",
+        (true, _) => "false",
+        _ => "",
+    }
+}
+
+/// Adds which way an edge is and what it forwards, with a blank on both sides, which keeps it apart from the line.
+fn push_passed(label: &mut String, way: &str, names: &[u8]) -> Result<(), AllocError> {
+    if names.is_empty() && way.is_empty() {
         return Ok(());
     }
     label.push_str(" ")?;
-    push_on_one_line(label, names)?;
+    label.push_str(way)?;
+    if !names.is_empty() {
+        label.push_str(if way.is_empty() { "" } else { ": " })?;
+        push_on_one_line(label, names)?;
+    }
     label.push_str(" ")
 }
 
@@ -93,7 +130,7 @@ struct FlowPicture<'p> {
     alloc: Global,
     text: &'p [u8],
     words: &'p Words,
-    path: &'p str,
+    wish: &'p FlowWish<'p>,
     dot: Dot,
 }
 
@@ -113,7 +150,7 @@ impl FlowPicture<'_> {
             self.words.operation(self.text, op.key()).unwrap_or(b"_"),
         )?;
         for i in 0..op.num_region(ctx) {
-            write!(label, " {{ {}.{number}.{i} }}", self.path)?;
+            write!(label, " {{ {}.{number}.{i} }}", self.wish.region)?;
         }
         label.push_str("\n")
     }
@@ -123,6 +160,7 @@ impl FlowPicture<'_> {
         &mut self,
         ctx: &Context,
         row: &GraphRow<Ptr<BasicBlock>>,
+        is_entry: bool,
         before: usize,
     ) -> Result<usize, AllocError>
         requires { IsBlock ctx.now.tree row.now.node }
@@ -132,16 +170,18 @@ impl FlowPicture<'_> {
             &mut label,
             self.words.block(self.text, row.node.key()).unwrap_or(b"_"),
         )?;
-        label.push_str(":\n")?;
         let mut number = before;
-        for op in &all_operations(self.alloc, row.node, ctx)? {
-            if op.is_live(ctx) {
-                self.push_operation(ctx, *op, number, &mut label)?;
+        if !self.wish.names_alone {
+            label.push_str(":\n")?;
+            for op in &all_operations(self.alloc, row.node, ctx)? {
+                if op.is_live(ctx) {
+                    self.push_operation(ctx, *op, number, &mut label)?;
+                }
+                number = number.saturating_add(1);
             }
-            number = number.saturating_add(1);
         }
-        let (all, start, end) = looks(label.as_str(), row.is_reached);
-        self.dot.node(row.node.key(), &all[start..end])?;
+        let looks = looks(self.alloc, label.as_str(), row.is_reached, is_entry)?;
+        self.dot.node(row.node.key(), &looks)?;
         Ok(number)
     }
 
@@ -155,12 +195,41 @@ impl FlowPicture<'_> {
         };
         for i in 0..row.successors.len() {
             let mut label = String::new(self.alloc);
-            push_passed(&mut label, forwarded(branch, i).unwrap_or(b""))?;
-            let (all, start, end) = looks(label.as_str(), row.is_reached);
+            push_passed(
+                &mut label,
+                way(branch, i),
+                forwarded(branch, i).unwrap_or(b""),
+            )?;
+            let looks = looks(self.alloc, label.as_str(), row.is_reached, false)?;
             let to = row.successors[i].key();
-            self.dot.edge(row.node.key(), to, &all[start..end])?;
+            self.dot.edge(row.node.key(), to, &looks)?;
         }
         Ok(())
+    }
+
+    /// Says how all looks, and writes the title.
+    fn heads(&mut self) -> Result<(), AllocError> {
+        let boxes = if self.wish.names_alone {
+            SMALL_BOXES.as_slice()
+        } else {
+            BOXES.as_slice()
+        };
+        self.dot.all("node", boxes)?;
+        self.dot.all("edge", &LETTERS)?;
+        if self.wish.title.is_empty() {
+            return Ok(());
+        }
+        let title = [
+            Attribute {
+                name: "label",
+                value: self.wish.title,
+            },
+            Attribute {
+                name: "labelloc",
+                value: "t",
+            },
+        ];
+        self.dot.all("graph", &title)
     }
 
     /// Draws all that is wished.
@@ -168,14 +237,13 @@ impl FlowPicture<'_> {
         &mut self,
         ctx: &Context,
         rows: &[GraphRow<Ptr<BasicBlock>>],
-        dominators: bool,
     ) -> Result<(), AllocError> {
-        self.dot.all("node", &BOXES)?;
-        self.dot.all("edge", &LETTERS)?;
+        self.heads()?;
+        let entry = rows.first().map(|row| row.node);
         let mut operations = 0;
         for row in rows {
             if row.node.is_live(ctx) {
-                operations = self.block(ctx, row, operations)?;
+                operations = self.block(ctx, row, entry == Some(row.node), operations)?;
             }
         }
         for row in rows {
@@ -183,7 +251,7 @@ impl FlowPicture<'_> {
                 self.edges(ctx, row)?;
             }
         }
-        if dominators {
+        if self.wish.dominators {
             self.dominators(rows)?;
         }
         Ok(())
@@ -217,9 +285,9 @@ pub fn flow_picture(
         alloc,
         text,
         words: &words,
-        path: wish.region,
+        wish,
         dot: Dot::new(alloc, "flow")?,
     };
-    picture.draw(ctx, &rows, wish.dominators)?;
+    picture.draw(ctx, &rows)?;
     Ok(picture.dot.end()?)
 }

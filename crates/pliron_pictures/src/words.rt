@@ -175,6 +175,11 @@ impl Words {
         self.values.get(usize::try_from(number).ok()?).copied()
     }
 
+    /// Where the head of the block with this number stands, if the text has it. Cost: constant.
+    pub fn block_part(&self, number: u64) -> Option<Part> {
+        self.blocks.get(usize::try_from(number).ok()?).copied()
+    }
+
     /// The head of the block with this number, if the text has it. Cost: constant.
     pub fn block<'t>(&self, text: &'t [u8], number: u64) -> Option<&'t [u8]> {
         let part = self.blocks.get(usize::try_from(number).ok()?)?;

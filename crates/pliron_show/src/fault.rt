@@ -2,6 +2,7 @@
 ghost use Rattle.std.specs.Prelude.{IsOkUnless};
 ghost use Rattle.pliron_laws.specs.declared.fault.OptError.TheVariants.{Memory};
 
+use crate::labels::label_of;
 use crate::mark::{Mark, marked};
 use pliron_laws::OptError;
 use pliron_notation::find_text_fault;
@@ -17,13 +18,13 @@ pub fn text_fault(alloc: Global, name: &str, text: &[u8]) -> Result<Option<Strin
     let Some(fault) = find_text_fault(alloc, text)? else {
         return Ok(None);
     };
-    let label = format!(in alloc; "expected {}", fault.expected)?;
+    let label = label_of(alloc, text, &fault)?;
     let mark = Mark {
         message: "unreadable text",
-        label: label.as_str(),
+        label: label.told.as_str(),
         name,
-        start: fault.span.start,
-        len: fault.span.len,
+        start: label.span.start,
+        len: label.span.len,
     };
     Ok(Some(marked(alloc, text, &mark)?))
 }

@@ -90,6 +90,11 @@ fn line_around(text: &[u8], start: usize) -> (usize, usize)
     (first, at - first + behind)
 }
 
+/// The line without the byte that some editors put before its end.
+fn without_return(line: &[u8]) -> &[u8] {
+    line.strip_suffix(b"\r").unwrap_or(line)
+}
+
 /// The same blanks or marks over and over.
 fn push_times(text: &mut String, mark: &str, times: usize) -> Result<(), AllocError> {
     for _ in 0..times {
@@ -103,16 +108,28 @@ fn push_times(text: &mut String, mark: &str, times: usize) -> Result<(), AllocEr
 ///
 /// Errors: want of memory. Cost: linear in the text before the part, and in what is shown.
 pub fn marked(alloc: Global, text: &[u8], mark: &Mark) -> Result<String, AllocError> {
+    marked_as(alloc, "error", text, mark)
+}
+
+/// The same, where a word says how bad it is: `error`, `warning` or `note`.
+///
+/// Errors: want of memory. Cost: linear in the text before the part, and in what is shown.
+pub fn marked_as(
+    alloc: Global,
+    severity: &str,
+    text: &[u8],
+    mark: &Mark,
+) -> Result<String, AllocError> {
     let place = position_of(text, mark.start);
     let (first, len) = line_around(text, mark.start);
-    let line = &text[first..first + len];
+    let line = without_return(&text[first..first + len]);
     let column = place.column.saturating_sub(1).min(line.len());
     let from = column.saturating_sub(AROUND);
     let to = column
         .saturating_add(mark.len.max(1))
         .saturating_add(AROUND)
         .min(line.len());
-    let mut told = format!(in alloc; "error: {}\n", mark.message)?;
+    let mut told = format!(in alloc; "{severity}: {}\n", mark.message)?;
     let number = format!(in alloc; "{}", place.line)?;
     push_times(&mut told, " ", number.len())?;
     write!(told, "--> {}:{}:{}\n", mark.name, place.line, place.column)?;

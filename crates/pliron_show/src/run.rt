@@ -5,8 +5,9 @@ ghost use Rattle.pliron_laws.specs.Machine.{run, seen as sight_seen};
 ghost use Rattle.pliron_bench.specs.BenchMoves.{bench};
 ghost use Rattle.pliron_evaluator.specs.Evaluator.{datum_of_value, sight_of};
 
-use crate::mark::{Mark, Source, marked, push_bytes};
+use crate::mark::{Mark, Source, marked_as, push_bytes};
 use crate::places::{OperationPlace, operation_places, place_of};
+use crate::trap::{TrapReason, reason_by_kind, reason_of};
 use pliron_bench::Bench;
 use pliron_core::{Context, Operation, Ptr};
 use pliron_evaluator::evaluator::{Datum, Noted, Notes, Sight, evaluate_noting};
@@ -119,7 +120,7 @@ pub enum End {
 pub struct Told {
     /// Its effects as they came, and how it ended.
     pub seen: String,
-    /// Its moves, where these are wished, and the mark under the operation that trapped.
+    /// Its moves, where these are wished, and the mark under the operation that trapped or was cut off.
     pub report: String,
     pub end: End,
 }
@@ -174,44 +175,145 @@ fn write_moves(
     Ok(())
 }
 
-/// Marks the operation that trapped.
-fn write_trap(
+/// The most moves of which all are noted, to tell why the last one trapped.
+const MOST_NOTED: usize = 300_000;
+
+/// Why the run of the operation trapped, of which this was noted.
+fn why_trapped(
     alloc: Global,
-    report: &mut String,
-    source: &Source,
-    place: OperationPlace,
-) -> Result<(), AllocError> {
-    let mark = Mark {
-        message: "the run trapped",
-        label: "at this operation",
-        name: source.name,
-        start: place.start,
-        len: place.len,
-    };
-    report.push_str(marked(alloc, source.text, &mark)?.as_str())
+    root: Ptr<Operation>,
+    ctx: &Context,
+    wish: &RunWish,
+    notes: &Notes,
+) -> Result<TrapReason, AllocError> {
+    if wish.trace {
+        return Ok(reason_of(ctx, &notes.moves));
+    }
+    let mut again = Notes::of_all(alloc);
+    let mut first = *wish;
+    first.steps = wish.steps.min(MOST_NOTED);
+    match seen(alloc, root, ctx, &first, &mut again)? {
+        Sight::Trapped(_) => Ok(reason_of(ctx, &again.moves)),
+        _ => Ok(match notes.last {
+            Some(op) => reason_by_kind(ctx, op),
+            None => TrapReason::Unknown,
+        }),
+    }
 }
 
-/// What is told beside what is seen: the moves that are noted, and the mark under the operation that trapped.
-fn report_of(
+/// What is told under the operation that made the last move, if that ended the run before its end.
+#[derive(Drop)]
+struct LastMove {
+    severity: &'static str,
+    message: &'static str,
+    label: String,
+}
+
+/// Why the run ended that is seen so, where it didn't end with values.
+fn last_move(
     alloc: Global,
-    source: &Source,
     root: Ptr<Operation>,
+    ctx: &Context,
+    wish: &RunWish,
     notes: &Notes,
-    end: End,
-) -> Result<String, AllocError> {
-    let places = operation_places(alloc, source.text)?;
-    let mut report = String::new(alloc);
-    write_moves(&mut report, source, root, &places, &notes.moves)?;
-    match (end, notes.last) {
-        (End::Trapped, Some(op)) => match place_of(&places, root, op) {
-            Some(place) => {
-                write_trap(alloc, &mut report, source, place)?;
-                Ok(report)
-            }
-            None => Ok(report),
-        },
-        _ => Ok(report),
+    sight: &Sight,
+) -> Result<Option<LastMove>, AllocError> {
+    match sight {
+        Sight::Ended(_, _) => Ok(None),
+        Sight::Trapped(_) => Ok(Some(LastMove {
+            severity: "error",
+            message: "the run trapped",
+            label: why_trapped(alloc, root, ctx, wish, notes)?.told(alloc)?,
+        })),
+        Sight::Reached(effects) if effects.len() > wish.world.len() => Ok(Some(LastMove {
+            severity: "note",
+            message: "the run was cut off",
+            label: format!(in alloc; "the world has no answer to effect {}", effects.len())?,
+        })),
+        Sight::Reached(_) => Ok(Some(LastMove {
+            severity: "note",
+            message: "the run was cut off",
+            label: format!(in alloc; "this was move {}, the last that it may make", wish.steps)?,
+        })),
     }
+}
+
+/// A run that is told of: its operation, which was read from the text, and what was wished, noted and seen.
+#[derive(Clone, Copy)]
+pub(crate) struct Ran<'r> {
+    pub(crate) source: &'r Source<'r>,
+    pub(crate) root: Ptr<Operation>,
+    pub(crate) wish: &'r RunWish<'r>,
+    pub(crate) notes: &'r Notes,
+    pub(crate) sight: &'r Sight,
+}
+
+/// What is told beside what is seen: the moves that are noted, and the mark under the operation that made the last one where
+/// the run didn't end with values. Errors: want of memory. Cost: linear in the text and the moves, and a run where one
+/// trapped.
+pub(crate) fn report_of(alloc: Global, ctx: &Context, ran: &Ran) -> Result<String, AllocError> {
+    let places = operation_places(alloc, ran.source.text)?;
+    let mut report = String::new(alloc);
+    write_moves(&mut report, ran.source, ran.root, &places, &ran.notes.moves)?;
+    let last = last_move(alloc, ran.root, ctx, ran.wish, ran.notes, ran.sight)?;
+    let place = match ran.notes.last {
+        Some(op) => place_of(&places, ran.root, op),
+        None => None,
+    };
+    if let (Some(last), Some(place)) = (last, place) {
+        let mark = Mark {
+            message: last.message,
+            label: last.label.as_str(),
+            name: ran.source.name,
+            start: place.start,
+            len: place.len,
+        };
+        let told = marked_as(alloc, last.severity, ran.source.text, &mark)?;
+        report.push_str(told.as_str())?;
+    }
+    Ok(report)
+}
+
+/// The line that says how a run ended in a world of so many answers, without its effects. Errors: want of memory. Cost:
+/// linear in its values.
+pub(crate) fn end_line(alloc: Global, sight: &Sight, answers: usize) -> Result<String, AllocError> {
+    let mut text = String::new(alloc);
+    match sight {
+        Sight::Ended(values, _) => {
+            text.push_str("ended with")?;
+            if values.is_empty() {
+                text.push_str(" nothing")?;
+            }
+            write_data(&mut text, values)?;
+        }
+        Sight::Trapped(_) => text.push_str("trapped")?,
+        Sight::Reached(effects) if effects.len() > answers => {
+            text.push_str("made no further move: the world's answers were used up")?;
+        }
+        Sight::Reached(_) => text.push_str("made no further move: the steps were used up")?,
+    }
+    text.push_str("\n")?;
+    Ok(text)
+}
+
+/// The effects of a run, latest first. Cost: constant.
+pub(crate) fn effects_of(sight: &Sight) -> &[Datum] {
+    match sight {
+        Sight::Ended(_, effects) | Sight::Trapped(effects) | Sight::Reached(effects) => effects,
+    }
+}
+
+/// The effects of a run but for the first so many, each on a line. Errors: want of memory. Cost: linear in the effects.
+pub(crate) fn effects_text(
+    alloc: Global,
+    sight: &Sight,
+    first: usize,
+) -> Result<String, AllocError> {
+    let effects = effects_of(sight);
+    let mut text = String::new(alloc);
+    let new = effects.len().saturating_sub(first);
+    write_effects(&mut text, effects.get(..new).unwrap_or(effects))?;
+    Ok(text)
 }
 
 /// What is told of the run of a text's operation; `None` of an unreadable text.
@@ -235,8 +337,8 @@ fn run_text_in(
     Ok(Some(told_of_run(alloc, source, wish, root, ctx)?))
 }
 
-/// The notes that are wished.
-fn notes_for(alloc: Global, wish: &RunWish) -> Notes {
+/// The notes that are wished. Cost: constant.
+pub(crate) fn notes_for(alloc: Global, wish: &RunWish) -> Notes {
     if wish.trace {
         Notes::of_all(alloc)
     } else {
@@ -254,8 +356,19 @@ fn told_of_run(
 ) -> Result<Told, AllocError> {
     let mut notes = notes_for(alloc, wish);
     let sight = seen(alloc, root, ctx, wish, &mut notes)?;
-    let end = end_of(&sight);
-    let report = report_of(alloc, source, root, &notes, end)?;
-    let seen = sight_text(alloc, &sight)?;
-    Ok(Told { seen, report, end })
+    let ran = Ran {
+        source,
+        root,
+        wish,
+        notes: &notes,
+        sight: &sight,
+    };
+    let report = report_of(alloc, ctx, &ran)?;
+    let mut seen = effects_text(alloc, &sight, 0)?;
+    seen.push_str(end_line(alloc, &sight, wish.world.len())?.as_str())?;
+    Ok(Told {
+        seen,
+        report,
+        end: end_of(&sight),
+    })
 }

@@ -8,4 +8,6 @@ mod lines;
 #[cfg(test)]
 mod places;
 #[cfg(test)]
+mod readable;
+#[cfg(test)]
 mod runs;

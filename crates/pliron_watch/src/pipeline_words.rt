@@ -86,6 +86,20 @@ fn closed(text: &str) -> Option<&str>
     text.strip_suffix(')')
 }
 
+/// The fault of a list, after so many bytes of the word, whose last letter isn't the bracket that closes it.
+fn unclosed<T>(behind: &str, start: usize) -> Result<T, PlanError>
+    ensures { IfOk result (λ found. ⊥) }
+{
+    match behind.rsplit_once(')') {
+        Some((list, rest)) => fault(
+            start.saturating_add(list.len()).saturating_add(1),
+            rest.len(),
+            "the end, as nothing stands behind `)`",
+        ),
+        None => fault(start.saturating_add(behind.len()), 0, "`)`"),
+    }
+}
+
 /// The runs that the rest of a word behind `repeat:` asks for, and what is run. Errors: it asks for none; want of memory.
 fn counted_by_colon<'w>(alloc: Global, rest: &'w str) -> Result<(usize, Rest<'w>), PlanError>
     ensures whole { IfOk result (λ read. rest.now ≡ decimal read.0 ++ (codes ":" ++ read.1.text.now)) }
@@ -111,7 +125,7 @@ fn counted_in_brackets<'w>(alloc: Global, rest: &'w str) -> Result<(usize, Rest<
     let start = digits.len().saturating_add(9);
     match closed(behind) {
         Some(text) => Ok((runs, Rest { text, start })),
-        None => fault(start.saturating_add(behind.len()), 0, "`)`"),
+        None => unclosed(behind, start),
     }
 }
 
@@ -147,7 +161,7 @@ fn nested<'w>(rest: Rest<'w>) -> Result<(bool, Rest<'w>), PlanError>
     };
     match closed(behind) {
         Some(text) => Ok((true, Rest { text, start })),
-        None => fault(start.saturating_add(behind.len()), 0, "`)`"),
+        None => unclosed(behind, start),
     }
 }
 
