@@ -56,6 +56,14 @@ fn are_near_alike<D: Dialect>(first: Ptr<Operation>, second: Ptr<Operation>, ctx
     )
 }
 
+// The operation at this place.
+fn operation_at(order: &DominanceOrder, place: usize) -> Ptr<Operation>
+    requires { place < length order.now.operations.items }
+    ensures { result ≡ get_or order.now.operations.items place 0 }
+{
+    order.operations[place]
+}
+
 // The operation at the first place, if the one at the second is its twin.
 fn leader_at<D: Dialect>(
     order: &DominanceOrder,
@@ -121,7 +129,7 @@ fn take_at<D: Dialect, R: Rewriter + Room>(
     ensures memory { IsOkUnless result OptError.Memory }
 {
     ctx.well_formed();
-    let op = order.operations[place];
+    let op = operation_at(order, place);
     if !may_repeat::<D>(op, ctx) {
         return Ok(false);
     }
@@ -171,5 +179,6 @@ pub fn take_all<D: Dialect, R: Rewriter + Room>(
         let taken = outcome?;
         status = status_with(status, taken);
     }
+    ctx.well_formed();
     Ok(status)
 }
