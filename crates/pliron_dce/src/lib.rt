@@ -23,13 +23,13 @@ mod incoming;
 mod operand_indexing;
 mod predecessors;
 mod ready;
-mod scans;
+mod scan_positions;
 mod sweep;
 mod worklist;
 
 use crate::candidates::all_candidates;
 use crate::predecessors::Predecessors;
-use crate::scans::ScanPositions;
+use crate::scan_positions::ScanPositions;
 use crate::sweep::sweep;
 use pliron_core::{Context, IRStatus, Operation, Ptr};
 use pliron_laws::{Dialect, OptError};

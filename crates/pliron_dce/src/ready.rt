@@ -7,7 +7,7 @@ ghost use Rattle.pliron_dce.specs.Predecessors.{mark_of, AreMarked};
 ghost use Rattle.pliron_dce.specs.Readiness.{IsReadyOperation, IsReadyArgument, HaveNoUse};
 
 use crate::predecessors::Predecessors;
-use crate::scans::ScanPositions;
+use crate::scan_positions::ScanPositions;
 use pliron_core::{BasicBlock, Context, Def, Operation, Ptr, Value};
 use pliron_laws::Dialect;
 

@@ -14,7 +14,7 @@ ghost use Rattle.pliron_dce.specs.Worklist.{item_of, pending_candidates, HasRead
 use crate::erase::{erase_dead_argument, erase_dead_operation};
 use crate::incoming::Incoming;
 use crate::predecessors::Predecessors;
-use crate::scans::ScanPositions;
+use crate::scan_positions::ScanPositions;
 use crate::worklist::{DeadCandidate, Worklist, next_ready, note};
 use pliron_core::{Context, Def, IRStatus, Operation, Ptr, Value};
 use pliron_laws::{Dialect, OptError};

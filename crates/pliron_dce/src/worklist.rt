@@ -18,7 +18,7 @@ ghost use Rattle.pliron_dce.specs.Worklist.{item_of, items_of, pending_candidate
 
 use crate::predecessors::Predecessors;
 use crate::ready::{is_ready_argument, is_ready_operation, parent_operation_of};
-use crate::scans::ScanPositions;
+use crate::scan_positions::ScanPositions;
 use indexmap::IndexSet;
 use pliron_core::{Context, Def, Operation, Ptr, Value};
 use pliron_laws::Dialect;

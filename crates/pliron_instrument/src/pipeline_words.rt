@@ -178,7 +178,7 @@ fn names<'w>(alloc: Global, list: RestOfWord<'w>) -> Result<Vec<&'w str>, PlanEr
 }
 
 impl<'w> PipelineText<'w> {
-    /// What the word says: names of passes joined by commas; in `nested:..` or `read_nesting(..)` for each operation directly
+    /// What the word says: names of passes joined by commas; in `nested:..` or `nested(..)` for each operation directly
     /// inside; and that in `repeat:N:..` or `repeat<N>(..)` for at most N runs, from 1 to 64.
     ///
     /// Errors: the first part of the word that is wrong; allocation failure. Cost: linear in the word.

@@ -1,1 +1,1 @@
-pub mod LatticeValues
+pub mod Facts

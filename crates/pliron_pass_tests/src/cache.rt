@@ -1,5 +1,5 @@
 //! The cache, asked for analyses.
-use super::facts::LatticeValue;
+use super::facts::Fact;
 use super::lines::read;
 use pliron_core::{Context, IRStatus, Operation, Ptr};
 use pliron_pass::{AnalysisManager, PassResult};
@@ -7,7 +7,7 @@ use std::alloc::Global;
 use std::process::Abort;
 
 /// The kinds that are cached, in their order, a blank before each.
-pub fn kinds(rt: &impl Abort, alloc: Global, analyses: &AnalysisManager<LatticeValue>) -> String {
+pub fn kinds(rt: &impl Abort, alloc: Global, analyses: &AnalysisManager<Fact>) -> String {
     let mut text = String::new(alloc);
     for i in 0..8 {
         match analyses.cached_kind(i) {
@@ -18,17 +18,12 @@ pub fn kinds(rt: &impl Abort, alloc: Global, analyses: &AnalysisManager<LatticeV
     text
 }
 
-fn check_kinds(
-    rt: &impl Abort,
-    alloc: Global,
-    analyses: &AnalysisManager<LatticeValue>,
-    want: &str,
-) {
+fn check_kinds(rt: &impl Abort, alloc: Global, analyses: &AnalysisManager<Fact>, want: &str) {
     assert_eq!(rt; kinds(rt, alloc, analyses).as_str(), want);
 }
 
 // The note of the fact, if it is cached.
-fn note(analyses: &AnalysisManager<LatticeValue>, kind: u32, op: Ptr<Operation>) -> Option<u64> {
+fn note(analyses: &AnalysisManager<Fact>, kind: u32, op: Ptr<Operation>) -> Option<u64> {
     match analyses.try_get_analysis(kind, op) {
         Some(fact) => Some(fact.note),
         None => None,
@@ -41,7 +36,7 @@ fn compute(
     alloc: Global,
     ctx: &Context,
     root: Ptr<Operation>,
-    analyses: &mut AnalysisManager<LatticeValue>,
+    analyses: &mut AnalysisManager<Fact>,
 ) {
     assert!(rt; root.is_live(ctx));
     analyses.compute_analysis(1, root, ctx).expect(rt, "memory");
@@ -61,7 +56,7 @@ fn compute(
     );
 }
 
-fn write_note(rt: &impl Abort, analyses: &mut AnalysisManager<LatticeValue>, root: Ptr<Operation>) {
+fn write_note(rt: &impl Abort, analyses: &mut AnalysisManager<Fact>, root: Ptr<Operation>) {
     if let Some(fact) = analyses.try_get_analysis_mut(0, root) {
         fact.note = 7;
     }
@@ -73,7 +68,7 @@ fn write_note(rt: &impl Abort, analyses: &mut AnalysisManager<LatticeValue>, roo
 fn retain(
     rt: &impl Abort,
     alloc: Global,
-    analyses: &mut AnalysisManager<LatticeValue>,
+    analyses: &mut AnalysisManager<Fact>,
     answer: &mut PassResult<u32>,
 ) {
     answer.set_preserved(3).expect(rt, "memory");
@@ -91,7 +86,7 @@ fn ask_in(
     rt: &impl Abort,
     alloc: Global,
     ctx: &mut Context,
-    analyses: &mut AnalysisManager<LatticeValue>,
+    analyses: &mut AnalysisManager<Fact>,
     answer: &mut PassResult<u32>,
 ) {
     let root = read(rt, alloc, ctx, "mod {}");
@@ -104,7 +99,7 @@ fn ask_in(
 fn what_is_computed_and_kept(rt: HostRuntime) {
     let alloc = rt.alloc();
     let mut ctx = Context::new(alloc);
-    let mut analyses = AnalysisManager::<LatticeValue>::new(alloc);
+    let mut analyses = AnalysisManager::<Fact>::new(alloc);
     let mut answer = PassResult::<u32>::new(alloc);
     ask_in(&rt, alloc, &mut ctx, &mut analyses, &mut answer);
 }

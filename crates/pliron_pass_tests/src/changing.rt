@@ -2,7 +2,7 @@
 ghost use Rattle.std.specs.Prelude.{◌≡◌, false, [], ◌∷◌};
 
 use super::cache::kinds;
-use super::facts::LatticeValue;
+use super::facts::Fact;
 use super::lines::{outcome, read};
 use pliron_bench::Bench;
 use pliron_core::{Context, Operation, Ptr};
@@ -19,7 +19,7 @@ pub struct Sweep;
 impl Pass for Sweep {
     type D = Bench;
 
-    type E = LatticeValue;
+    type E = Fact;
 
     ghost is_pass_manager = { λ p. false };
 
@@ -36,7 +36,7 @@ impl Pass for Sweep {
         alloc: Global,
         op: Ptr<Operation>,
         ctx: &mut Context,
-        _analyses: &mut AnalysisManager<LatticeValue>,
+        _analyses: &mut AnalysisManager<Fact>,
     ) -> Result<PassResult<u32>, OptError> {
         let changed = dce::<Bench>(alloc, op, ctx)?;
         let mut answer = PassResult::new(alloc);
@@ -58,7 +58,7 @@ pub struct Annotate {
 impl Pass for Annotate {
     type D = Bench;
 
-    type E = LatticeValue;
+    type E = Fact;
 
     ghost is_pass_manager = { λ p. false };
 
@@ -76,7 +76,7 @@ impl Pass for Annotate {
         alloc: Global,
         op: Ptr<Operation>,
         ctx: &mut Context,
-        analyses: &mut AnalysisManager<LatticeValue>,
+        analyses: &mut AnalysisManager<Fact>,
     ) -> Result<PassResult<u32>, OptError> {
         let fact = analyses.get_analysis_mut(1, op, ctx)?;
         fact.note = self.note;
@@ -99,7 +99,7 @@ fn swept_in(
     alloc: Global,
     text: &str,
     ctx: &mut Context,
-    analyses: &mut AnalysisManager<LatticeValue>,
+    analyses: &mut AnalysisManager<Fact>,
 ) -> String {
     let root = read(rt, alloc, ctx, text);
     analyses.compute_analysis(2, root, ctx).expect(rt, "memory");
@@ -114,7 +114,7 @@ fn swept_in(
 fn check(rt: &impl Abort, alloc: Global, case: &str) {
     let (text, want) = case.split_once(" => ").expect(rt, "an arrow");
     let mut ctx = Context::new(alloc);
-    let mut analyses = AnalysisManager::<LatticeValue>::new(alloc);
+    let mut analyses = AnalysisManager::<Fact>::new(alloc);
     let said = swept_in(rt, alloc, text, &mut ctx, &mut analyses);
     assert_eq!(rt; said.as_str(), want, "{text}");
 }
@@ -141,7 +141,7 @@ fn annotated_in(
     alloc: Global,
     passes: &mut Passes<Annotate>,
     ctx: &mut Context,
-    analyses: &mut AnalysisManager<LatticeValue>,
+    analyses: &mut AnalysisManager<Fact>,
 ) {
     let root = read(rt, alloc, ctx, "mod {}");
     analyses.pm_data_mut().state_mut().pass_run_count = usize::MAX - 1;
@@ -157,7 +157,7 @@ fn annotated_in(
 fn annotates(rt: HostRuntime) {
     let alloc = rt.alloc();
     let mut ctx = Context::new(alloc);
-    let mut analyses = AnalysisManager::<LatticeValue>::new(alloc);
+    let mut analyses = AnalysisManager::<Fact>::new(alloc);
     let mut passes = writers(&rt, alloc);
     annotated_in(&rt, alloc, &mut passes, &mut ctx, &mut analyses);
 }

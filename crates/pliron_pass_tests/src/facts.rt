@@ -1,6 +1,6 @@
 //! Analyses of a caller: a fact of the kind k is computed from those of the kinds 0 to k - 1.
 ghost use Rattle.std.specs.Prelude.{nat_eq};
-ghost use Rattle.pliron_pass_tests.specs.LatticeValues.{one_kind};
+ghost use Rattle.pliron_pass_tests.specs.Facts.{one_kind};
 
 use pliron_core::{Context, Operation, Ptr};
 use pliron_pass::{Analyses, AnalysisKind, AnalysisManager, OptError};
@@ -8,12 +8,12 @@ use std::alloc::Global;
 
 /// A fact of a kind, with a note that callers may write.
 #[derive(Drop)]
-pub struct LatticeValue {
+pub struct Fact {
     pub kind: u32,
     pub note: u64,
 }
 
-impl AnalysisKind for LatticeValue {
+impl AnalysisKind for Fact {
     type Kind = u32;
 
     ghost kind = { λ f. f.kind };
@@ -23,7 +23,7 @@ impl AnalysisKind for LatticeValue {
     }
 }
 
-impl Analyses for LatticeValue {
+impl Analyses for Fact {
     ghost holds = { λ f o t. Unit {0} };
 
     ghost rank = { λ k. k };
@@ -59,9 +59,9 @@ impl Analyses for LatticeValue {
         kind: u32,
         _op: Ptr<Operation>,
         _ctx: &Context,
-        _manager: &AnalysisManager<LatticeValue>,
-    ) -> Result<LatticeValue, OptError> {
-        Ok(LatticeValue { kind, note: 0 })
+        _manager: &AnalysisManager<Fact>,
+    ) -> Result<Fact, OptError> {
+        Ok(Fact { kind, note: 0 })
     }
 
     ghost same = { one_kind };

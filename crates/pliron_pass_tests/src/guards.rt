@@ -1,7 +1,7 @@
 //! Guards with what stands under them, how often a repeated pass ran, and what managers share.
 ghost use Rattle.std.specs.Prelude.{true};
 
-use super::facts::LatticeValue;
+use super::facts::Fact;
 use super::lines::read;
 use super::passes::{FailAlways, Idle, Tally, Touch};
 use pliron_bench::Bench;
@@ -34,7 +34,7 @@ fn guarded_in(
     alloc: Global,
     pass: &mut OpInterfacePass<Bench, Tally>,
     ctx: &mut Context,
-    analyses: &mut AnalysisManager<LatticeValue>,
+    analyses: &mut AnalysisManager<Fact>,
     want: usize,
 ) {
     let root = read(rt, alloc, ctx, TEXT);
@@ -46,7 +46,7 @@ fn guarded_in(
 
 fn check_guard(rt: &impl Abort, alloc: Global, interface: Interface, want: usize) {
     let mut ctx = Context::new(alloc);
-    let mut analyses = AnalysisManager::<LatticeValue>::new(alloc);
+    let mut analyses = AnalysisManager::<Fact>::new(alloc);
     let guard = OpInterfaceGuard::new(interface);
     let mut pass: OpInterfacePass<Bench, Tally> = GuardedPass::new(guard, Tally { runs: 0 });
     guarded_in(rt, alloc, &mut pass, &mut ctx, &mut analyses, want);
@@ -63,7 +63,7 @@ fn default_in(
     rt: &impl Abort,
     alloc: Global,
     ctx: &mut Context,
-    analyses: &mut AnalysisManager<LatticeValue>,
+    analyses: &mut AnalysisManager<Fact>,
 ) {
     let root = read(rt, alloc, ctx, TEXT);
     let mut pass = GuardedPass::<Everywhere, Idle>::default();
@@ -76,7 +76,7 @@ fn default_in(
 fn default_guard(rt: HostRuntime) {
     let alloc = rt.alloc();
     let mut ctx = Context::new(alloc);
-    let mut analyses = AnalysisManager::<LatticeValue>::new(alloc);
+    let mut analyses = AnalysisManager::<Fact>::new(alloc);
     default_in(&rt, alloc, &mut ctx, &mut analyses);
 }
 
@@ -86,7 +86,7 @@ fn repeated_in(
     alloc: Global,
     max: usize,
     ctx: &mut Context,
-    analyses: &mut AnalysisManager<LatticeValue>,
+    analyses: &mut AnalysisManager<Fact>,
 ) {
     let root = read(rt, alloc, ctx, TEXT);
     let mut pass = Repeat::new(max, Touch);
@@ -101,7 +101,7 @@ fn failing_in(
     rt: &impl Abort,
     alloc: Global,
     ctx: &mut Context,
-    analyses: &mut AnalysisManager<LatticeValue>,
+    analyses: &mut AnalysisManager<Fact>,
 ) {
     let root = read(rt, alloc, ctx, TEXT);
     analyses.compute_analysis(1, root, ctx).expect(rt, "memory");
@@ -115,7 +115,7 @@ fn failing_in(
 
 fn check_repeated(rt: &impl Abort, alloc: Global, max: usize) {
     let mut ctx = Context::new(alloc);
-    let mut analyses = AnalysisManager::<LatticeValue>::new(alloc);
+    let mut analyses = AnalysisManager::<Fact>::new(alloc);
     repeated_in(rt, alloc, max, &mut ctx, &mut analyses);
 }
 
@@ -129,7 +129,7 @@ fn repeated_passes(rt: HostRuntime) {
 fn repeated_failing(rt: HostRuntime) {
     let alloc = rt.alloc();
     let mut ctx = Context::new(alloc);
-    let mut analyses = AnalysisManager::<LatticeValue>::new(alloc);
+    let mut analyses = AnalysisManager::<Fact>::new(alloc);
     failing_in(&rt, alloc, &mut ctx, &mut analyses);
 }
 

@@ -4,7 +4,7 @@ ghost use Rattle.pliron_laws.specs.Linked.{IsWellLinked};
 ghost use Rattle.pliron_bench.specs.BenchMoves.{bench};
 
 use super::cache::kinds;
-use super::facts::LatticeValue;
+use super::facts::Fact;
 use super::passes::{FailAlways, Idle, Step, Tally, Touch};
 use pliron_bench::{Bench, BenchKind};
 use pliron_core::{Context, IRStatus, Operation, Ptr};
@@ -105,7 +105,7 @@ fn take_word(
 /// What is said of a run, where the caller keeps of the cache what the answer preserves.
 pub fn outcome(
     answer: &Result<PassResult<u32>, OptError>,
-    analyses: &mut AnalysisManager<LatticeValue>,
+    analyses: &mut AnalysisManager<Fact>,
 ) -> &'static str {
     match answer {
         Ok(result) => {
@@ -127,7 +127,7 @@ fn report(
     rt: &impl Abort,
     alloc: Global,
     answer: &Result<PassResult<u32>, OptError>,
-    analyses: &mut AnalysisManager<LatticeValue>,
+    analyses: &mut AnalysisManager<Fact>,
 ) -> String {
     let mut text = String::new(alloc);
     let said = outcome(answer, analyses);
@@ -143,7 +143,7 @@ fn run_shape(
     line: Passes<Step>,
     op: Ptr<Operation>,
     ctx: &mut Context,
-    analyses: &mut AnalysisManager<LatticeValue>,
+    analyses: &mut AnalysisManager<Fact>,
 ) -> Result<PassResult<u32>, OptError>
     requires live { IsLive ctx.old.tree op }
     requires linked { IsWellLinked bench ctx.old.tree op }
@@ -179,7 +179,7 @@ fn run_line(
     shape: &str,
     line: Passes<Step>,
     ctx: &mut Context,
-    analyses: &mut AnalysisManager<LatticeValue>,
+    analyses: &mut AnalysisManager<Fact>,
 ) -> String {
     let text = if shape == "misfit" { MISFIT } else { FIT };
     let root = read(rt, alloc, ctx, text);
@@ -190,7 +190,7 @@ fn run_line(
 
 // What comes of these words in this shape.
 fn run_in(rt: &impl Abort, alloc: Global, shape: &str, words: &str, ctx: &mut Context) -> String {
-    let mut analyses = AnalysisManager::<LatticeValue>::new(alloc);
+    let mut analyses = AnalysisManager::<Fact>::new(alloc);
     let mut config = PMConfig::new(alloc);
     let mut passes = Passes::new(alloc);
     for word in words.split_ascii_whitespace() {

@@ -3,7 +3,7 @@ ghost use Rattle.std.specs.Prelude.{◌≡◌, ℕ, ◌+◌, ◌^◌, ◌-◌, B
 ghost use Rattle.pliron_laws.specs.declared.fault.OptError.TheVariants.{Pass as Code};
 ghost use Rattle.pliron_pass_tests.specs.declared.passes.Step.TheVariants.{Idle as AIdle, Touch as ATouch, Fail as AFail, Tally as ATally};
 
-use super::facts::LatticeValue;
+use super::facts::Fact;
 use pliron_bench::Bench;
 use pliron_core::{Context, IRStatus, Operation, Ptr};
 use pliron_pass::{AnalysisManager, OptError, Pass, PassResult};
@@ -16,7 +16,7 @@ pub struct Idle;
 impl Pass for Idle {
     type D = Bench;
 
-    type E = LatticeValue;
+    type E = Fact;
 
     ghost is_pass_manager = { λ p. false };
 
@@ -34,7 +34,7 @@ impl Pass for Idle {
         alloc: Global,
         _op: Ptr<Operation>,
         _ctx: &mut Context,
-        _analyses: &mut AnalysisManager<LatticeValue>,
+        _analyses: &mut AnalysisManager<Fact>,
     ) -> Result<PassResult<u32>, OptError> {
         Ok(PassResult::new(alloc))
     }
@@ -53,7 +53,7 @@ pub struct Tally {
 impl Pass for Tally {
     type D = Bench;
 
-    type E = LatticeValue;
+    type E = Fact;
 
     ghost is_pass_manager = { λ p. false };
 
@@ -71,7 +71,7 @@ impl Pass for Tally {
         alloc: Global,
         _op: Ptr<Operation>,
         _ctx: &mut Context,
-        _analyses: &mut AnalysisManager<LatticeValue>,
+        _analyses: &mut AnalysisManager<Fact>,
     ) -> Result<PassResult<u32>, OptError> {
         self.runs = self.runs.saturating_add(1);
         Ok(PassResult::new(alloc))
@@ -89,7 +89,7 @@ pub struct Touch;
 impl Pass for Touch {
     type D = Bench;
 
-    type E = LatticeValue;
+    type E = Fact;
 
     ghost is_pass_manager = { λ p. false };
 
@@ -107,7 +107,7 @@ impl Pass for Touch {
         _alloc: Global,
         _op: Ptr<Operation>,
         ctx: &mut Context,
-        analyses: &mut AnalysisManager<LatticeValue>,
+        analyses: &mut AnalysisManager<Fact>,
     ) -> Result<PassResult<u32>, OptError> {
         ctx.well_formed();
         analyses.keep_edge_kinds(IRStatus::Changed)
@@ -127,7 +127,7 @@ pub struct FailAlways {
 impl Pass for FailAlways {
     type D = Bench;
 
-    type E = LatticeValue;
+    type E = Fact;
 
     ghost is_pass_manager = { λ p. false };
 
@@ -145,7 +145,7 @@ impl Pass for FailAlways {
         _alloc: Global,
         _op: Ptr<Operation>,
         _ctx: &mut Context,
-        _analyses: &mut AnalysisManager<LatticeValue>,
+        _analyses: &mut AnalysisManager<Fact>,
     ) -> Result<PassResult<u32>, OptError> {
         Err(OptError::Pass(self.code))
     }
@@ -167,7 +167,7 @@ pub enum Step {
 impl Pass for Step {
     type D = Bench;
 
-    type E = LatticeValue;
+    type E = Fact;
 
     ghost is_pass_manager = { λ p. false };
 
@@ -199,7 +199,7 @@ impl Pass for Step {
         alloc: Global,
         op: Ptr<Operation>,
         ctx: &mut Context,
-        analyses: &mut AnalysisManager<LatticeValue>,
+        analyses: &mut AnalysisManager<Fact>,
     ) -> Result<PassResult<u32>, OptError> {
         match self {
             Step::Idle(pass) => pass.run(alloc, op, ctx, analyses),

@@ -1,7 +1,7 @@
 //! What a refusal of memory leaves. With ample memory nothing is refused here; `rt try --test` with
 //! `--fail-alloc N` refuses the Nth request.
 use super::cache::kinds;
-use super::facts::LatticeValue;
+use super::facts::Fact;
 use super::lines::read;
 use super::passes::Tally;
 use pliron_core::{Context, IRStatus};
@@ -51,7 +51,7 @@ fn preserved_in(
     rt: &impl Abort,
     alloc: Global,
     ctx: &mut Context,
-    analyses: &mut AnalysisManager<LatticeValue>,
+    analyses: &mut AnalysisManager<Fact>,
     answer: &mut PassResult<u32>,
 ) {
     let root = read(rt, alloc, ctx, TEXT);
@@ -68,7 +68,7 @@ fn preserved_in(
 fn refused_preserving(rt: HostRuntime) {
     let alloc = rt.alloc();
     let mut ctx = Context::new(alloc);
-    let mut analyses = AnalysisManager::<LatticeValue>::new(alloc);
+    let mut analyses = AnalysisManager::<Fact>::new(alloc);
     let mut answer = PassResult::<u32>::new(alloc);
     preserved_in(&rt, alloc, &mut ctx, &mut analyses, &mut answer);
 }

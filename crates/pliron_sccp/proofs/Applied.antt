@@ -7,8 +7,8 @@ use Rattle.pliron_theory.proofs.FactLattice.{at_most_refl, at_most_trans}
 use Rattle.pliron_sccp.specs.declared.lattice_tables.Tables.{Tables}
 use Rattle.pliron_core.specs.declared.attrs.AttrObj.{AttrObj}
 use Rattle.pliron_sccp.specs.declared.lattice_tables.LatticeCell.{LatticeCell}
-use Rattle.pliron_sccp.specs.declared.constraints_of.Constraint.{Constraint}
-use Rattle.pliron_sccp.specs.declared.constraints_of.Constraint.TheVariants.{Enter, Lower, Answer}
+use Rattle.pliron_sccp.specs.declared.constraints.Constraint.{Constraint}
+use Rattle.pliron_sccp.specs.declared.constraints.Constraint.TheVariants.{Enter, Lower, Answer}
 use Rattle.pliron_sccp.specs.LatticeTables.{known_constants, lattice_value_in, lowest_lattice_values, is_executable, is_block_on_worklist, is_value_on_worklist, lattice_values_of, Enters, Lowers}
 use Rattle.pliron_sccp.specs.Constraints.{CanSatisfy, Satisfies, SatisfiesAll}
 use Rattle.pliron_sccp.specs.LatticeCells.{KeepsConstants, Means}

@@ -17,7 +17,7 @@ use Rattle.pliron_laws.proofs.Records.{op_shows}
 use Rattle.pliron_laws.proofs.ShapeLemmas.{live_at}
 use Rattle.pliron_theory.proofs.FactLattice.{at_most_trans, picked_in}
 use Rattle.pliron_sccp.specs.declared.deferred.DeferredOperations.{DeferredOperations}
-use Rattle.pliron_sccp.specs.declared.constraints_of.Constraint.{Constraint}
+use Rattle.pliron_sccp.specs.declared.constraints.Constraint.{Constraint}
 use Rattle.pliron_theory.specs.LatticeValues.{LatticeValue, Undetermined, Constant, NotAConstant, AtMost, LatticeValues, Says, AreClosed, IsBelowNamed, IsInExecutableBlock}
 use Rattle.pliron_theory.specs.Sound.{IsMadeThere}
 use Rattle.pliron_sccp.specs.declared.lattice_tables.Tables.{Tables}

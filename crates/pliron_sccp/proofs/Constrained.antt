@@ -8,8 +8,8 @@ use Rattle.pliron_core.specs.Tree.{Tree, In, arguments_of, layout_of, first_of}
 use Rattle.pliron_laws.specs.Datum.{Head}
 use Rattle.pliron_laws.specs.Tree.{Operation, shape_of}
 use Rattle.pliron_theory.specs.LatticeValues.{LatticeValue, Undetermined, Constant, NotAConstant, AtMost, LatticeValues, Says, lattice_constant, operand_constants, value_of_answer, IsEntryExecutable, IsBelowNamed, AreBelowNamed}
-use Rattle.pliron_sccp.specs.declared.constraints_of.Constraint.{Constraint}
-use Rattle.pliron_sccp.specs.declared.constraints_of.Constraint.TheVariants.{Enter, Lower, Answer}
+use Rattle.pliron_sccp.specs.declared.constraints.Constraint.{Constraint}
+use Rattle.pliron_sccp.specs.declared.constraints.Constraint.TheVariants.{Enter, Lower, Answer}
 use Rattle.pliron_sccp.specs.declared.lattice_tables.LatticeCell.{LatticeCell}
 use Rattle.pliron_sccp.specs.declared.lattice_tables.LatticeCell.TheVariants.{NotAConstant as Varying}
 use Rattle.pliron_sccp.specs.LatticeCells.{Means}

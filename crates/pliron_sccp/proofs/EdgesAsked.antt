@@ -8,7 +8,7 @@ use Rattle.pliron_laws.specs.Acting.{pick}
 use Rattle.pliron_laws.specs.Tree.{Operation, op_at, shape_of}
 use Rattle.pliron_laws.proofs.Records.{ShowsOperation, make_op, op_shows}
 use Rattle.pliron_theory.specs.LatticeValues.{LatticeValues, Says, operand_constants, IsFeasibleEdge}
-use Rattle.pliron_sccp.specs.declared.constraints_of.Constraint.{Constraint}
+use Rattle.pliron_sccp.specs.declared.constraints.Constraint.{Constraint}
 use Rattle.pliron_sccp.specs.Constraints.{SatisfiesAll, Adds, AddsUnder, AlwaysAdds, AreEntriesExecutableWhere, AreFeasible, MayLead, ConstrainsInvocations, ConstrainsJumps, ConstrainsForwarded, FollowsEdge, ConstrainsBranches, ConstrainsEdges, ConstrainsResults}
 use Rattle.pliron_sccp.specs.Settling.{AreAtMost, IsSatisfied}
 use Rattle.pliron_sccp.proofs.Constrained.{adds_as}

@@ -7,7 +7,7 @@ use Rattle.std.proofs.lemmas.List.Quantifiers.{position-Some}
 use Rattle.pliron_core.specs.declared.attrs.AttrObj.{AttrObj}
 use Rattle.pliron_core.specs.Tree.{Tree}
 use Rattle.pliron_theory.specs.LatticeValues.{LatticeValues, IsEntryExecutable}
-use Rattle.pliron_sccp.specs.declared.constraints_of.Constraint.{Constraint}
+use Rattle.pliron_sccp.specs.declared.constraints.Constraint.{Constraint}
 use Rattle.pliron_sccp.specs.declared.lattice_tables.Tables.{Tables}
 use Rattle.pliron_sccp.specs.declared.lattice_tables.BlockState.TheVariants.{NotExecutable}
 use Rattle.pliron_sccp.specs.LatticeCells.{table_at, is_marked_executable}

@@ -17,7 +17,7 @@ use Rattle.pliron_theory.specs.LatticeValues.{LatticeValues, Says, AreClosed, Ar
 use Rattle.pliron_sccp.specs.declared.lattice_tables.Tables.{Tables}
 use Rattle.pliron_sccp.specs.declared.deferred.DeferredOperations.{DeferredOperations}
 use Rattle.pliron_sccp.specs.declared.feasible_edges.FeasibleEdges.{FeasibleEdges}
-use Rattle.pliron_sccp.specs.declared.constraints_of.Constraint.{Constraint}
+use Rattle.pliron_sccp.specs.declared.constraints.Constraint.{Constraint}
 use Rattle.pliron_sccp.specs.Lowering.{ValuesAreLowered, IsApplied}
 use Rattle.pliron_laws.specs.Tree.{Operation}
 use Rattle.pliron_sccp.specs.LatticeTables.{lattice_value_in, known_constants, is_executable, lattice_values_of, StampsEachLowered, PopsBlock}

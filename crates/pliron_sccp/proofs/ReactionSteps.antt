@@ -9,7 +9,7 @@ use Rattle.pliron_laws.specs.Tree.{Operation, op_at, shape_of}
 use Rattle.pliron_laws.proofs.Records.{op_shows}
 use Rattle.pliron_theory.specs.LatticeValues.{AtMost, LatticeValues, NotAConstant, Undetermined, Says, IsFeasibleEdge, IsBelowNamed}
 use Rattle.pliron_theory.proofs.KnownData.{picked_at}
-use Rattle.pliron_sccp.specs.declared.constraints_of.Constraint.{Constraint}
+use Rattle.pliron_sccp.specs.declared.constraints.Constraint.{Constraint}
 use Rattle.pliron_sccp.specs.declared.lattice_tables.Tables.{Tables}
 use Rattle.pliron_sccp.specs.declared.feasible_edges.FeasibleEdges.{FeasibleEdges}
 use Rattle.pliron_sccp.specs.LatticeTables.{known_constants, lattice_value_in, lowest_lattice_values, is_executable, is_block_on_worklist, is_value_on_worklist, lattice_values_of, StampsEachLowered}

@@ -12,8 +12,8 @@ use Rattle.pliron_laws.specs.Answers.{IsForwardedOnce}
 use Rattle.pliron_laws.specs.Tree.{Operation, op_at}
 use Rattle.pliron_laws.proofs.Records.{make_op, op_shows}
 use Rattle.pliron_theory.specs.LatticeValues.{AtMost, LatticeValues, Says}
-use Rattle.pliron_sccp.specs.declared.constraints_of.Constraint.{Constraint}
-use Rattle.pliron_sccp.specs.declared.constraints_of.Constraint.TheVariants.{Lower}
+use Rattle.pliron_sccp.specs.declared.constraints.Constraint.{Constraint}
+use Rattle.pliron_sccp.specs.declared.constraints.Constraint.TheVariants.{Lower}
 use Rattle.pliron_sccp.specs.declared.lattice_tables.LatticeCell.{LatticeCell}
 use Rattle.pliron_sccp.specs.LatticeCells.{Means}
 use Rattle.pliron_sccp.specs.declared.lattice_tables.Tables.{Tables}

@@ -20,7 +20,7 @@ use Rattle.pliron_sccp.specs.Inside.{block_values}
 use Rattle.pliron_sccp.specs.Settling.{IsSatisfied, AreAtMost, IsSettled, AreSettledBut, AreStarted}
 use Rattle.pliron_sccp.specs.Lowering.{ValuesAreLowered}
 use Rattle.pliron_sccp.specs.Constraints.{Constrains, ConstrainsEntries, CanSatisfy, SatisfiesAll}
-use Rattle.pliron_sccp.specs.declared.constraints_of.Constraint.{Constraint}
+use Rattle.pliron_sccp.specs.declared.constraints.Constraint.{Constraint}
 use Rattle.pliron_sccp.specs.declared.feasible_edges.FeasibleEdges.{FeasibleEdges}
 use Rattle.pliron_sccp.specs.OperationVisits.{stamp_of, AreTargetsNumbered, CallsForVisit, VisitsInTurnAndKeeps, HasNumberedTargets, VisitsOperation, VisitsInTurn}
 use Rattle.pliron_sccp.specs.OperationVisits.VisitsInTurn.{Nothing, Then}

@@ -7,8 +7,8 @@ use Rattle.pliron_laws.specs.Datum.{Head, Meaning}
 use Rattle.pliron_laws.specs.Tree.{Operation, op_at, shape_of}
 use Rattle.pliron_laws.specs.Folding.{Feasible}
 use Rattle.pliron_theory.specs.LatticeValues.{LatticeValue, Constant, NotAConstant, AtMost, value_of_answer, LatticeValues, Says, IsFeasibleEdge, Forwards, IsEntryExecutable, IsBelowNamed, AreBelowNamed}
-use Rattle.pliron_sccp.specs.declared.constraints_of.Constraint.{Constraint}
-use Rattle.pliron_sccp.specs.declared.constraints_of.Constraint.TheVariants.{Enter, Lower, Answer}
+use Rattle.pliron_sccp.specs.declared.constraints.Constraint.{Constraint}
+use Rattle.pliron_sccp.specs.declared.constraints.Constraint.TheVariants.{Enter, Lower, Answer}
 use Rattle.pliron_sccp.specs.declared.lattice_tables.Tables.{Tables}
 use Rattle.pliron_sccp.specs.LatticeCells.{Means}
 use Rattle.pliron_sccp.specs.LatticeTables.{known_constants, lowest_lattice_values}

@@ -2,7 +2,7 @@
 use Rattle.std.specs.Prelude.{◌≡◌, ◌≢◌, ◌⊎◌, ℕ, true, false, List}
 use Rattle.pliron_theory.specs.LatticeValues.{LatticeValues}
 use Rattle.pliron_sccp.specs.declared.lattice_tables.Tables.{Tables}
-use Rattle.pliron_sccp.specs.declared.constraints_of.Constraint.{Constraint}
+use Rattle.pliron_sccp.specs.declared.constraints.Constraint.{Constraint}
 use Rattle.pliron_core.specs.declared.attrs.AttrObj.{AttrObj}
 use Rattle.pliron_sccp.specs.LatticeCells.{KeepsConstants}
 use Rattle.pliron_sccp.specs.LatticeTables.{known_constants, lattice_value_in, is_numbered, is_executable, is_block_on_worklist, is_value_on_worklist, lattice_values_of}

@@ -4,7 +4,7 @@ use Rattle.pliron_core.specs.Tree.{Tree, In, IsDistinct, arguments_of, first_of,
 use Rattle.pliron_laws.specs.Answers.{IsForwardedOnce}
 use Rattle.pliron_laws.specs.Tree.{Operation, op_at, shape_of}
 use Rattle.pliron_theory.specs.LatticeValues.{AtMost, LatticeValues, Says}
-use Rattle.pliron_sccp.specs.declared.constraints_of.Constraint.{Constraint}
+use Rattle.pliron_sccp.specs.declared.constraints.Constraint.{Constraint}
 use Rattle.pliron_sccp.specs.declared.lattice_tables.Tables.{Tables}
 use Rattle.pliron_sccp.specs.declared.search.Reaction.{Reaction}
 use Rattle.pliron_sccp.specs.declared.search.Reaction.TheVariants.{Pass, Revisit, Ask}

@@ -5,7 +5,7 @@ use Rattle.pliron_theory.specs.LatticeValues.{Says, AreHeld}
 use Rattle.pliron_sccp.specs.declared.lattice_tables.Tables.{Tables}
 use Rattle.pliron_sccp.specs.declared.deferred.DeferredOperations.{DeferredOperations}
 use Rattle.pliron_sccp.specs.LatticeTables.{is_numbered, known_constants, is_block_on_worklist, lattice_values_of, StampsEachLowered, PopsBlock}
-use Rattle.pliron_sccp.specs.declared.constraints_of.Constraint.{Constraint}
+use Rattle.pliron_sccp.specs.declared.constraints.Constraint.{Constraint}
 use Rattle.pliron_sccp.specs.Lowering.{IsApplied}
 use Rattle.pliron_sccp.specs.Chain.{blocks_inside}
 use Rattle.pliron_sccp.specs.Deferring.{deferred_operations, IsDeferred, Defers, PopsDeferred}

@@ -2,7 +2,7 @@
 use Rattle.std.specs.Prelude.{◌↔◌, ◌⊎◌, ℕ, List}
 use Rattle.pliron_core.specs.Tree.{Tree, In}
 use Rattle.pliron_theory.specs.LatticeValues.{LatticeValues}
-use Rattle.pliron_sccp.specs.declared.constraints_of.Constraint.{Constraint}
+use Rattle.pliron_sccp.specs.declared.constraints.Constraint.{Constraint}
 use Rattle.pliron_sccp.specs.declared.lattice_tables.Tables.{Tables}
 use Rattle.pliron_sccp.specs.LatticeTables.{known_constants}
 use Rattle.pliron_sccp.specs.Constraints.{SatisfiesAll, ConstrainsEntries}

@@ -6,7 +6,7 @@
 //! It stands on the theory of runs and knows nothing of the other optimisations, of passes and of the program.
 #![tactic(auto)]
 
-mod constraints_of;
+mod constraints;
 mod deferred;
 mod direct_mapped_index;
 mod entry_operands;

@@ -14,7 +14,7 @@ ghost use Rattle.pliron_sccp.specs.RewriteSteps.{IsFoldStep, AreFoldSteps, Repor
 ghost use Rattle.pliron_sccp.specs.Chain.{FoldsInTurn, FoldsPartly, KnownArgument, all_put, IsPartlyPut, IsRewritten, IsPartlyRewritten, known_arguments};
 ghost use Rattle.pliron_sccp.specs.Found.{HasFound};
 
-use crate::constraints_of::{add_known, known_constant};
+use crate::constraints::{add_known, known_constant};
 use crate::inside::all_blocks;
 use crate::lattice_tables::Tables;
 use crate::search::search;

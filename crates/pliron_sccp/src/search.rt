@@ -38,7 +38,7 @@ ghost use Rattle.pliron_sccp.specs.Searching.{IsVisitedOrDeferred, VisitsDeferre
 ghost use Rattle.pliron_sccp.specs.Starting.{IsStarted};
 ghost use Rattle.pliron_sccp.specs.LatticeTables.{lattice_value_in, lattice_values_of, known_constants, is_executable, is_block_on_worklist};
 
-use crate::constraints_of::{Constraint, Scratch, constrain_entries, constraints_of, satisfy_all};
+use crate::constraints::{Constraint, Scratch, constrain_entries, constraints_of, satisfy_all};
 use crate::deferred::DeferredOperations;
 use crate::entry_operands::EntryCandidate;
 use crate::feasible_edges::FeasibleEdges;

@@ -1,7 +1,7 @@
 //! What the arguments of the program ask for.
-ghost use Rattle.std.specs.Prelude.{◌≡◌, map, IfOk, IfSome, string_bytes};
-ghost use Rattle.pliron_pipeline.specs.PassSteps.{step_name};
-ghost use Rattle.pliron_opts.specs.Asked.{AskFor, IsPlanned, is_nested, names_of};
+ghost use Rattle.std.specs.Prelude.{◌≡◌, ◌↔◌, All, map, IfOk, IfSome, IsSome, string_bytes};
+ghost use Rattle.pliron_pipeline.specs.PassSteps.{step_name, IsNoStep};
+ghost use Rattle.pliron_opts.specs.Asked.{AskFor, IsPlanned, IsPassList, is_nested, names_of};
 ghost use Rattle.pliron_opts.specs.Ran.{IsScheduled};
 
 use crate::program::Plan;
@@ -24,7 +24,8 @@ fn passes<D: Dialect>(
     alloc: Global,
     names: &[&str],
 ) -> Result<Option<Passes<PassStep<D, BenchFacts>>>, AllocError>
-    ensures { IfOk result (λ found. IfSome found (λ passes. map step_name passes.passes.items ≡ map (λ name. name.now) names.now)) }
+    ensures found { IfOk result (λ found. IfSome found (λ passes. map step_name passes.passes.items ≡ map (λ name. name.now) names.now)) }
+    ensures all { IfOk result (λ found. All (λ name. ¬ (IsNoStep name)) (map (λ name. name.now) names.now) → IsSome found) }
 {
     let mut passes = Passes::new(alloc);
     for name in names {
@@ -47,6 +48,7 @@ fn pipeline<D: Dialect>(
 ) -> Result<Option<Pipeline<D, BenchFacts>>, AllocError>
     ensures inside { IfOk result (λ found. IfSome found (λ pipeline. is_nested pipeline ≡ nested)) }
     ensures names { IfOk result (λ found. IfSome found (λ pipeline. names_of pipeline ≡ map (λ name. name.now) names.now)) }
+    ensures all { IfOk result (λ found. All (λ name. ¬ (IsNoStep name)) (map (λ name. name.now) names.now) → IsSome found) }
 {
     let Some(passes) = passes(alloc, names)? else {
         return Ok(None);
@@ -72,11 +74,14 @@ fn schedule<D: Dialect>(
 }
 
 /// The schedule that the word plans, if each of its names is the name of a pass.
-fn plan_schedule<D: Dialect>(
+///
+/// Errors: allocation failure. Cost: linear in the word.
+pub fn plan_schedule<D: Dialect>(
     alloc: Global,
     word: &str,
 ) -> Result<Option<Schedule<D, BenchFacts>>, AllocError>
-    ensures { IfOk result (λ found. IfSome found (λ schedule. IsPlanned word.now schedule)) }
+    ensures found { IfOk result (λ found. IfSome found (λ schedule. IsPlanned word.now schedule)) }
+    ensures variant { IfOk result (λ found. IsSome found ↔ IsPassList word.now) }
 {
     let Some(plan) = Plan::read(alloc, word)? else {
         return Ok(None);

@@ -1,0 +1,36 @@
+-- What is known of an answer in a buffer, by other words.
+use Rattle.std.proofs.Common.{◌≡◌, ◌≢◌, ◌⊎◌, ℕ, List, Result, Ok, Err, IfOk, IfErr, IsOkAnd, IsErrOf, inl, inr, refl, sym, subst}
+use Rattle.pliron_buffers.specs.declared.status.Failure.{Failure}
+use Rattle.pliron_buffers.specs.declared.status.Failure.TheVariants.{Arguments, Text, Refused, Memory}
+use Rattle.pliron_buffers.specs.declared.status.Status.{Status}
+use Rattle.pliron_buffers.specs.Fills.{Fills, Fills.Whole, Fills.Short, Fills.Fails}
+use Rattle.pliron_buffers.specs.Optimises.{IsUnderstood, Explains}
+
+-- each answer and each failure is one of these too
+pub fills_by : {A B : List ℕ → Type 0} {F G : Failure → Type 0} (before after : List ℕ) (needed : ℕ) (status : Status) → ((answer : List ℕ) → A answer → B answer) → ((failure : Failure) → F failure → G failure) → Fills A F before after needed status → Fills B G before after needed status
+fills_by before after needed status h k (Whole answer a s n l e) = Whole answer (h answer a) s n l e
+fills_by before after needed status h k (Short answer a s n l e) = Short answer (h answer a) s n l e
+fills_by before after needed status h k (Fails failure f s n e) = Fails failure (k failure f) s n e
+
+pub of_ok : {T E : Type 0} (P : List ℕ → Type 0) (bytes : T → List ℕ) (r : Result T E) (answer : List ℕ) → IsOkAnd r (λ x. answer ≡ bytes x) → IfOk r (λ x. P (bytes x)) → P answer
+of_ok P bytes (Ok x) answer e p = subst P (sym e) p
+of_ok P bytes (Err e) answer never p = absurd never
+
+pub of_err : {T E : Type 0} (P : E → Type 0) (r : Result T E) (failure : E) → IsErrOf r failure → IfErr r P → P failure
+of_err P (Ok x) failure e p = absurd (cc)
+of_err P (Err f) failure e p = let same : f ≡ failure = cc in subst P same p
+
+pub if_err : {T E : Type 0} {P Q : E → Type 0} (r : Result T E) → ((failure : E) → P failure → Q failure) → IfErr r P → IfErr r Q
+if_err (Ok x) h p = tt
+if_err (Err f) h p = h f p
+
+-- why there is no answer, of a list that was visited, and of one that is understood
+pub explains_list : (list : List ℕ) (failure : Failure) → ((failure ≡ Arguments) × ¬ (IsUnderstood list)) ⊎ (failure ≡ Memory) → Explains list failure
+explains_list list failure (inl (e, lacks)) = subst (λ f. Explains list f) (sym e) lacks
+explains_list list failure (inr e) = subst (λ f. Explains list f) (sym e) tt
+
+pub explains_text : (list : List ℕ) (failure : Failure) → IsUnderstood list → failure ≢ Arguments → Explains list failure
+explains_text list Arguments understood other = absurd (other refl)
+explains_text list Text understood other = understood
+explains_text list Refused understood other = understood
+explains_text list Memory understood other = tt
