@@ -1,4 +1,4 @@
-//! An operation with two answered results, and what is left of its fold where memory is refused.
+//! An operation with two answered results, and what is left of its fold on allocation failure.
 ghost use Rattle.std.specs.Prelude.{◌≡◌, ◌∷◌, [], ℕ, Some, Ok, OnOk, OnErr, IsOkUnless, IsSome, length, pos};
 ghost use Rattle.pliron_core.specs.Tree.{IsLive, operands_of, results_of, parent_of};
 ghost use Rattle.pliron_core.specs.Changes.{IsSameTree};
@@ -82,9 +82,9 @@ static BEFORE: &str = "func { b0(): v0, v1 = pair; sink v0 v1 v0 v1 v1; print v0
 static AFTER: &str =
     "func { b0(): v0 = const 1; v1 = const 2; v2, v3 = pair; sink v0 v1 v0 v1 v1; print v0; ret v1 v0 }";
 
-/// Folds a pair where it stands: constants are put for both results or, where memory is refused, for none.
+/// Folds a pair where it stands: constants are put for both results or, on allocation failure, for none.
 ///
-/// Asks that it stands in a block, is a pair, and has no operands and two results. Errors: allocation failure,
+/// Asks that it is live in a block, is a pair, and has no operands and two results. Errors: allocation failure,
 /// after which the tree is as before, but for erased handles. Cost: the number of uses of its results.
 fn fold_pair(alloc: Global, pair: Ptr<Operation>, ctx: &mut Context) -> Result<IRStatus, OptError>
     requires live { IsLive ctx.old.tree pair }

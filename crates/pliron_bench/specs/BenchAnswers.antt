@@ -117,7 +117,7 @@ no_jump targets known = targets
 unfoldable pub bench_feasible : Shape → List ℕ → List (Option AttrObj) → List ℕ
 bench_feasible s targets known = by_kind no_jump feasible_of (kind_of s.head.kind) targets known
 
--- a visit passes as each argument the operand of its index, where there is one among so many
+-- an invocation passes as each argument the operand of its index, where there is one among so many
 abbrev pub entry_operand_of : BenchKind → ℕ → ℕ → Option ℕ
 entry_operand_of Scope operands j = if nat_lt j operands then Some j else None
 entry_operand_of _ operands j = None

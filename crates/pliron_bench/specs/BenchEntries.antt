@@ -1,4 +1,4 @@
--- The dialect keeps the laws on operands that every visit passes, and on roots.
+-- The dialect keeps the laws on operands that every invocation passes, and on roots.
 use Rattle.std.proofs.Common.{◌≡◌, ℕ, zero, suc, ◌<◌, Bool, true, false, if◌then◌else◌, nat_lt, List, [], ◌∷◌, Option, Some, None, length, slice_get, IsTrue, refl, ap, sym, ◌∙◌, subst, arith}
 use Rattle.std.proofs.lemmas.Option.{same_Some}
 use Rattle.pliron_bench.specs.declared.kind.BenchKind.{BenchKind}
@@ -33,9 +33,9 @@ named None n j k e = absurd (unsaid e)
 named (Some Scope) n j k e = let c = in_case (nat_lt j n) j k e in (refl, c.1, below j n c.0)
 named (Some kind) n j k e = absurd (unsaid e)
 
--- ---- what visits once
+-- ---- what invokes its region once
 
--- a visit is the first move
+-- an invocation is the first transition
 at_first : (memo : Datum) (values : List Datum) (i : ℕ) (ds : List Datum) (next : Datum) → once memo (Visit 0 values memo_when_done) (Give []) ≡ Visit i ds next → (memo ≡ Empty) × (values ≡ ds) × (next ≡ memo_when_done)
 at_first Empty values i ds next e = (refl, cc, cc)
 at_first (Number n) values i ds next e = grind arith

@@ -86,14 +86,14 @@ taken_rows : (t : Tree) (op : ℕ) (o : Option ℕ) → (taken_from t op o).oper
 taken_rows t op None = refl
 taken_rows t op (Some b) = refl
 
--- what is erased has no row
+-- what is erased has no entry
 gone : (t : Tree) (op : ℕ) → op < length t.operations → row_of (after_erasing t op) op ≡ no_entry
 gone t op lt = blanked_gone (λ k. is_met_above (taken_out t op) (nat_eq op) (Some k)) no_entry (taken_out t op).operations op (met_itself (taken_out t op) op (subst (λ z. op < length z) (sym (taken_rows t op (parent_of t op))) lt))
 
 longer : {A : Type 0} (xs : List A) (y : A) (k : ℕ) → k < length xs → k < length (xs ++ y ∷ [])
 longer xs y k lt = omega (arith, length-append xs (y ∷ []), lt)
 
--- the branch that was replaced stands no more
+-- the branch that was replaced is erased
 replaced_gone : (t : Tree) (op : ℕ) (head : Head) (operands successors : List ℕ) → op < length t.operations → row_of (branch_replaced t op head operands successors) op ≡ no_entry
 replaced_gone t op head operands successors lt =
     gone (put_next_to (with_edges (after_creating t head 0 0) (next_op t) operands successors) (next_op t) op (parent_of t op)) op
@@ -124,7 +124,7 @@ kept_within : (t t' : Tree) (op : ℕ) (known : List (Option AttrObj)) (status :
 kept_within t t' op known status e f = (Kept (same_tree t t' e), subst (λ a. ReportsChange (Some a) t t') (sym f) (same_tree t t' e))
 
 edge_within : (k : Option BenchKind) (a : Bool) (q : Option ℤ) (t t' : Tree) (op : ℕ) (known : List (Option AttrObj)) (o : Operation) (answer : Option IRStatus) → op_at t op ≡ Some o → kind_of (shape_of bench t o).head.kind ≡ k → admits_shape (shape_of bench t o) ≡ a → known_at known 0 ≡ q → JumpsWhereKnown (known_edge k a q) t t' op o answer → FoldsBranch bench op known t t' × ReportsChange answer t t'
-edge_within k a q t t' op known o None at e f g j = (Kept j, j)
+edge_within k a q t t' op known o None at e f g j = (Kept j, tt)
 edge_within (Some Cbr) true (Some c) t t' op known o (Some status) at e f g j =
     let w = jump_within t t' op known o (shape_of bench t o) c at refl e f g j.0 in
     (w.0, subst (λ z. ReportsChange (Some z) t t') (sym j.1) w.1)

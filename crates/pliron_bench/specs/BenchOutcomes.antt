@@ -40,7 +40,7 @@ admits_shape s = by_kind false (takes s.head s.operands s.results s.successors (
 abbrev pub edge_under : Shape → List (Option AttrObj) → Option ℕ
 edge_under s known = known_edge (kind_of s.head.kind) (admits_shape s) (known_at known 0)
 
--- a `br` to the target of this edge, with the values that the edge forwards, stands in the place of op
+-- a `br` to the target of this edge, with the values that the edge forwards, takes the place of op
 pub record BecomesJump (t t' : Tree) (op : ℕ) (o : Operation) (edge : ℕ) : Type 0 where
   pub block : ℕ
   pub values : List ℕ
@@ -48,8 +48,8 @@ pub record BecomesJump (t t' : Tree) (op : ℕ) (o : Operation) (edge : ℕ) : T
   pub forwarded : map Some values ≡ pick (bench.forwarded (shape_of bench t o) edge) o.operands
   pub tree : t' ≡ branch_replaced t op (plain_head Br) values (block ∷ [])
 
--- where memory was refused the tree is as before, but for erased handles; else the branch stays, or becomes
--- a jump where its edge is known
+-- on allocation failure the tree is as before, but for erased handles; else the branch stays, or becomes a jump
+-- where its edge is known
 abbrev pub JumpsWhereKnown : Option ℕ → Tree → Tree → ℕ → Operation → Option IRStatus → Type 0
 JumpsWhereKnown edge t t' op o None = IsSameTree t t'
 JumpsWhereKnown None t t' op o (Some status) = (t' ≡ t) × (status ≡ Unchanged)

@@ -76,7 +76,7 @@ pub fn one_answer(
     Ok(answers)
 }
 
-/// Whether the operation is a `const`. Asks that the operation stands (`is_live` tests it). Cost: constant.
+/// Whether the operation is a `const`. Asks that the operation is live (`is_live` tests it). Cost: constant.
 pub fn makes_constant(op: Ptr<Operation>, ctx: &Context) -> bool
     requires { IsLive ctx.now.tree op }
     ensures { ReadsHead (λ h. is_const_kind (kind_of h.kind)) ctx.now.tree op result }

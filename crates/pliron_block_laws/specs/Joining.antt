@@ -1,4 +1,4 @@
--- A mergeable pair whose second block's arguments have no uses is joined.
+-- A mergeable pair whose second block's arguments have no uses is merged.
 use Rattle.std.specs.Prelude.{◌≡◌, ℕ, List, [], Some}
 use Rattle.pliron_core.specs.Tree.{Tree, In, operands_of, results_of, regions_of, body_of, arguments_of, block_parent_operation_of}
 use Rattle.pliron_core.specs.Invariant.{IsTree}
@@ -9,7 +9,7 @@ use Rattle.pliron_theory.specs.Keeps.{KeepsAllRuns}
 use Rattle.pliron_theory.specs.Splicing.{IsSpliced}
 use Rattle.pliron_block_laws.specs.Pairs.{IsMergeable, all_moved_last, after_joining}
 
--- the second block's operations stand at the end of the first one, and runs are kept
+-- the second block's operations are at the end of the first one, and runs are kept
 pub record JoinsWell (m : Meaning) (t : Tree) (a b jump : ℕ) : Type 0 where
   pub front : List ℕ
   pub spliced : IsSpliced t (after_joining t a b jump) a b jump front

@@ -31,7 +31,7 @@ abbrev pub all_moved_last : Tree → List ℕ → ℕ → Tree
 all_moved_last t [] block = t
 all_moved_last t (k ∷ ks) block = all_moved_last (moved_last t k block) ks block
 
--- the last operation of a is gone, and so is b, whose operations are the last of a
+-- the last operation of a is erased, and so is b, whose operations are the last of a
 abbrev pub after_joining : Tree → (a b jump : ℕ) → Tree
 after_joining t a b jump = block_erased (all_moved_last (after_erasing t jump) (body_of t b) a) b
 

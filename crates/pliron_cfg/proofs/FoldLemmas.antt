@@ -36,7 +36,7 @@ use Rattle.pliron_theory.specs.Rebranching.{IsRebranched}
 use Rattle.pliron_theory.proofs.ChangeLemmas.{links_stay}
 use Rattle.pliron_theory.proofs.WholeChanges.{whole_refl, whole_trans}
 use Rattle.pliron_block_laws.proofs.RebranchedInside.{rebranched_inside, inside_stays}
-use Rattle.pliron_cfg.specs.Folded.{has_passing_head, branches_of, answered_if, known_of, known_operands, FoldsAll, FoldsAll.NoMore, FoldsAll.Next, FoldsSome, FoldsSome.Stopped, FoldsSome.After}
+use Rattle.pliron_cfg.specs.Folded.{has_passing_head, branches_of, answered_if, known_of, known_operands, FoldsAll, FoldsAll.NoMore, FoldsAll.Next, FoldsSome, FoldsSome.Stopped, FoldsSome.Refused, FoldsSome.After}
 use Rattle.pliron_cfg.specs.FoldSteps.{ReportsAnyErased, IsBranchInside, IsBranchFoldStep, IsFoldingBranches}
 use Rattle.pliron_cfg.proofs.KnownLemmas.{known_read}
 
@@ -195,8 +195,9 @@ module _ (m : Meaning) (can_fold can_fold_branch : Head → Bool) (constants : C
       pub folding_change : (next : Tree) → IsBranchFoldStep m can_fold_branch now next root op → IsWholeChange m start next root
       folding_change next step = whole_trans m start now next root on.change step.change
 
-    pub folding_broken : (next : Tree) → IsSameTree now next → FoldsSome m can_fold constants outcome branches start next
-    folding_broken next same = on.some next (Stopped same)
+      pub folding_broken : (next : Tree) → (next ≡ now) ⊎ outcome now next op (known_operands m can_fold constants now op) None → FoldsSome m can_fold constants outcome branches start next
+      folding_broken next (inl same) = subst (FoldsSome m can_fold constants outcome branches start) (sym same) (on.some now Stopped)
+      folding_broken next (inr is) = on.some next (subst (λ l. FoldsSome m can_fold constants outcome l now next) (sym (drop_at branches i op at)) (Refused op is))
 
     pub folding_end : drop i branches ≡ [] → FoldsAll m can_fold constants outcome branches start now status
     folding_end none = subst (FoldsAll m can_fold constants outcome branches start now) (either_unchanged status) (on.all now Unchanged (subst (λ l. FoldsAll m can_fold constants outcome l now now Unchanged) (sym none) NoMore))

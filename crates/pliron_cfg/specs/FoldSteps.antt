@@ -30,7 +30,8 @@ pub record IsBranchFoldStep (m : Meaning) (can_fold_branch : Head → Bool) (t u
   pub blocks : (b : ℕ) → block_parent_of u b ≡ block_parent_of t b
   pub others : (k : ℕ) → k ≢ op → IsBranchInside can_fold_branch t root k → IsBranchInside can_fold_branch u root k
 
--- the branches before index i are folded, and the others still stand: what folds these from here folds all from the start
+-- the branches before index i are folded, and the others are still live: what folds these from here folds all
+-- from the start
 pub record IsFoldingBranches (m : Meaning) (can_fold can_fold_branch : Head → Bool) (constants : Constants) (outcome : Outcome) (root : ℕ) (start : Tree) (branches : List ℕ) (i : ℕ) (status : IRStatus) (now : Tree) : Type 0 where
   pub tree : IsTree now
   pub change : IsWholeChange m start now root

@@ -9,7 +9,6 @@ use Rattle.pliron_core.specs.declared.context.Def.TheVariants.{Result, Argument}
 use Rattle.pliron_core.specs.Status.{changed_by_either}
 use Rattle.pliron_core.specs.Tree.{Tree, head_of, operands_of, definition_of}
 use Rattle.pliron_core.specs.Walks.{contents}
-use Rattle.pliron_core.specs.Changes.{IsSameTree}
 use Rattle.pliron_laws.specs.Datum.{Head, Meaning}
 use Rattle.pliron_laws.specs.Tree.{Operation, op_at, shape_of}
 use Rattle.pliron_laws.specs.Folding.{Constants}
@@ -52,7 +51,9 @@ pub data FoldsAll (m : Meaning) (can_fold : Head → Bool) (constants : Constant
   NoMore : {t : Tree} → FoldsAll m can_fold constants outcome [] t t Unchanged
   Next : {t u t' : Tree} {ops : List ℕ} {rest : IRStatus} (op : ℕ) (first : IRStatus) → outcome t u op (known_operands m can_fold constants t op) (Some first) → FoldsAll m can_fold constants outcome ops u t' rest → FoldsAll m can_fold constants outcome (op ∷ ops) t t' (changed_by_either first rest)
 
--- a first part of them was folded, each wholly; where memory was refused nothing of the rest is left
+-- a first part of them was folded, each wholly, until memory was refused; where that was in a fold, it left what the
+-- dialect says that it may leave: one whole rewrite, or none
 pub data FoldsSome (m : Meaning) (can_fold : Head → Bool) (constants : Constants) (outcome : Outcome) : List ℕ → (t t' : Tree) → Type 0 where
-  Stopped : {t t' : Tree} {ops : List ℕ} → IsSameTree t t' → FoldsSome m can_fold constants outcome ops t t'
+  Stopped : {t : Tree} {ops : List ℕ} → FoldsSome m can_fold constants outcome ops t t
+  Refused : {t t' : Tree} {ops : List ℕ} (op : ℕ) → outcome t t' op (known_operands m can_fold constants t op) None → FoldsSome m can_fold constants outcome (op ∷ ops) t t'
   After : {t u t' : Tree} {ops : List ℕ} (op : ℕ) (first : IRStatus) → outcome t u op (known_operands m can_fold constants t op) (Some first) → FoldsSome m can_fold constants outcome ops u t' → FoldsSome m can_fold constants outcome (op ∷ ops) t t'

@@ -44,6 +44,6 @@ pub record IsHalfMerged (start : Start) (m : Meaning) (u t' : Tree) : Type 0 whe
   pub n : ℕ
   pub forwarded : t' ≡ forwarded_uses u (take n (arguments_of u b)) values
 
--- what stands where memory was refused: some pairs are merged, and one more may be half merged
+-- what stands on allocation failure: some pairs are merged, and one more may be half merged
 abbrev pub MergesPartly : Start → Meaning → (t t' : Tree) → Type 0
 MergesPartly start m t t' = MergesSome start m t t' ⊎ ((u : Tree) × MergesSome start m t u × IsHalfMerged start m u t')

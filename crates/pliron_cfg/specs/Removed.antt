@@ -15,8 +15,8 @@ GoesWith t Gone k = (b : ℕ) × Gone b × StandsIn t b k
 abbrev pub BlockGoesWith : Tree → (ℕ → Type 0) → ℕ → Type 0
 BlockGoesWith t Gone c = (b : ℕ) × Gone b × IsBlockWithin t b c
 
--- the second tree is the first one without these blocks and what stands in them, and nothing else changed;
--- the blocks of a region stand in one order in every tree
+-- the second tree is the first one without these blocks and what is in them, and nothing else changed; the
+-- blocks of a region stand in one order in every tree
 pub record IsWithout (t t' : Tree) (Gone : ℕ → Type 0) : Type 0 where
   pub gone : (k : ℕ) → GoesWith t Gone k → head_of t' k ≡ None
   pub gone_blocks : (c : ℕ) → BlockGoesWith t Gone c → block_parent_of t' c ≡ None
@@ -44,7 +44,7 @@ pub data RemovesSome (start : Start) (t : Tree) : Tree → Type 0 where
   Nothing : RemovesSome start t t
   Then : {u t' : Tree} (r b : ℕ) → RemovesSome start t u → IsVisitedSsaRegion start u r → IsCutOff u r b → IsWithout u t' (IsCutOff u r) → RemovesSome start t t'
 
--- exactly the unreachable blocks of the searched regions are gone, with what stands in them, and nothing else
+-- exactly the unreachable blocks of the searched regions are gone, with what is in them, and nothing else
 -- changed; they went region by region, and none is left; the answer says whether there were any
 abbrev pub RemovesAll : Start → (t t' : Tree) → IRStatus → Type 0
 RemovesAll start t t' Changed = ((b : ℕ) × IsUnreachable start t b) × IsWithout t t' (IsUnreachable start t) × RemovesSome start t t' × ((b : ℕ) → IsUnreachable start t' b → ⊥)

@@ -2,9 +2,8 @@
 //!
 //! It knows what every run reads of constants, and no dialect. Of the regions that are visited, of blocks
 //! that go or are joined and of passes it knows nothing.
-ghost use Rattle.std.specs.Prelude.{◌≡◌, ◌++◌, ℕ, Some, OnOk, OnErr, IfOk, IsOkUnless};
+ghost use Rattle.std.specs.Prelude.{◌≡◌, ◌⊎◌, ◌++◌, ℕ, Some, None, OnOk, OnErr, IfOk, IsOkUnless};
 ghost use Rattle.pliron_core.specs.Tree.{IsLive, block_parent_of};
-ghost use Rattle.pliron_core.specs.Changes.{IsSameTree};
 ghost use Rattle.pliron_laws.specs.InPlace.{ReportsChange};
 ghost use Rattle.pliron_laws.specs.Linked.{IsWellLinked};
 ghost use Rattle.pliron_theory.specs.Change.{IsWholeChange};
@@ -66,7 +65,8 @@ fn fold_known<D: Dialect, R: Rewriter + Room>(
     requires branch { (root : ℕ) × IsWellLinked D.meaning ctx.old.tree root × IsBranchInside D.can_fold_branch ctx.old.tree root op }
     ensures ok { IfOk result (λ status. D.BranchOpFoldInterface.outcome ctx.old.tree ctx.new.tree op
         (constants_of D.meaning D.can_fold D.constants ctx.old.tree op) (Some status)) }
-    ensures refused { OnErr result (IsSameTree ctx.old.tree ctx.new.tree) }
+    ensures refused { OnErr result (D.BranchOpFoldInterface.outcome ctx.old.tree ctx.new.tree op
+        (constants_of D.meaning D.can_fold D.constants ctx.old.tree op) None) }
     ensures memory { IsOkUnless result OptError.Memory }
     ensures told { IfOk result (λ status. ReportsAnyErased status ctx.old.tree ctx.new.tree) }
     ensures step { (root : ℕ) → IsWellLinked D.meaning ctx.old.tree root → IsBranchInside D.can_fold_branch ctx.old.tree root op →
@@ -89,7 +89,8 @@ fn fold_one<D: Dialect, R: Rewriter + Room>(
     requires branch { (root : ℕ) × IsWellLinked D.meaning ctx.old.tree root × IsBranchInside D.can_fold_branch ctx.old.tree root op }
     ensures ok { IfOk result (λ status. D.BranchOpFoldInterface.outcome ctx.old.tree ctx.new.tree op
         (constants_of D.meaning D.can_fold D.constants ctx.old.tree op) (Some status)) }
-    ensures refused { OnErr result (IsSameTree ctx.old.tree ctx.new.tree) }
+    ensures refused { OnErr result (ctx.new.tree ≡ ctx.old.tree ⊎ D.BranchOpFoldInterface.outcome ctx.old.tree ctx.new.tree op
+        (constants_of D.meaning D.can_fold D.constants ctx.old.tree op) None) }
     ensures memory { IsOkUnless result OptError.Memory }
     ensures told { IfOk result (λ status. ReportsAnyErased status ctx.old.tree ctx.new.tree) }
     ensures step { (root : ℕ) → IsWellLinked D.meaning ctx.old.tree root → IsBranchInside D.can_fold_branch ctx.old.tree root op →
@@ -104,7 +105,7 @@ fn fold_one<D: Dialect, R: Rewriter + Room>(
 /// collected in pre-order, then each is folded by the constants that are known of its operands. A constant
 /// is known of a value where what makes the value folds, and answers it with no operand known.
 ///
-/// Asks that the operation stands and is well linked. `Changed` exactly if the tree changed: a branch went
+/// Asks that the operation is live and is well linked. `Changed` exactly if the tree changed: a branch went
 /// then. Blocks stay.
 ///
 /// Errors: allocation failure, after some of the folds, each of them whole.

@@ -32,7 +32,7 @@ use std::alloc::Global;
 /// their operands, as [`fold_branches`], then removes unreachable blocks, as
 /// [`remove_blocks_inside_op`], then merges blocks, as [`merge_inside_op`].
 ///
-/// Asks that the operation stands and is well linked. `Changed` exactly if the tree changed. No unreachable
+/// Asks that the operation is live and is well linked. `Changed` exactly if the tree changed. No unreachable
 /// block and no mergeable pair is left where it looks. Runs are kept of every root that is otherwise fit to
 /// run, also of one whose head may not be a root's; so it is for the six calls on regions.
 ///

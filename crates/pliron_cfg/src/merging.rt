@@ -84,7 +84,7 @@ fn merge_among<D: Dialect, R: Rewriter + Room>(
 /// other predecessor, where the branch forwards a value for each argument of that block, none of them one
 /// of these arguments.
 ///
-/// Asks that the operation stands and is well linked. Answers `Changed` exactly if there was a pair. No block
+/// Asks that the operation is live and is well linked. Answers `Changed` exactly if there was a pair. No block
 /// is made, and each that is unreachable after was unreachable before.
 ///
 /// Errors: allocation failure. Some pairs are merged then, and of one more the uses of some first arguments may
@@ -117,7 +117,7 @@ pub fn merge_inside_op<D: Dialect, R: Rewriter + Room>(
 
 /// Merges pairs of blocks in the regions that it looks at inside the operations of the block.
 ///
-/// Asks that the block stands and that what holds it is well linked; answers as [`merge_inside_op`]. Errors:
+/// Asks that the block is live and that what holds it is well linked; answers as [`merge_inside_op`]. Errors:
 /// as [`merge_inside_op`]. Cost: as [`merge_inside_op`].
 pub fn merge_inside_block<D: Dialect, R: Rewriter + Room>(
     alloc: Global,
@@ -144,7 +144,7 @@ pub fn merge_inside_block<D: Dialect, R: Rewriter + Room>(
 /// Merges pairs of blocks in the region, where it has SSA dominance, and in the regions that it looks at
 /// inside.
 ///
-/// Asks that the region stands and that what holds it is well linked; answers as [`merge_inside_op`]. Errors:
+/// Asks that the region is live and that what holds it is well linked; answers as [`merge_inside_op`]. Errors:
 /// as [`merge_inside_op`]. Cost: as [`merge_inside_op`].
 pub fn merge_inside_region<D: Dialect, R: Rewriter + Room>(
     alloc: Global,

@@ -100,7 +100,7 @@ fn remove_blocks_in<D: Dialect, R: Rewriter + Room>(
 /// in one rewrite, those of nested regions first. What an unreachable block holds is not looked into, and a
 /// region without SSA dominance, which is entered through its first block alone, loses none.
 ///
-/// Asks that the operation stands and is well linked. Answers `Changed` exactly if a block went; no
+/// Asks that the operation is live and is well linked. Answers `Changed` exactly if a block went; no
 /// unreachable block of such a region is left.
 ///
 /// Errors: allocation failure; `LiveUse` where a value of an unreachable block is used outside the unreachable
@@ -128,7 +128,7 @@ pub fn remove_blocks_inside_op<D: Dialect, R: Rewriter + Room>(
 
 /// Removes the unreachable blocks of the regions with SSA dominance inside the operations of the block.
 ///
-/// Asks that the block stands and that what holds it is well linked; answers as [`remove_blocks_inside_op`].
+/// Asks that the block is live and that what holds it is well linked; answers as [`remove_blocks_inside_op`].
 /// Errors: as [`remove_blocks_inside_op`]. Cost: as [`remove_blocks_inside_op`].
 pub fn remove_blocks_inside_block<D: Dialect, R: Rewriter + Room>(
     alloc: Global,
@@ -150,7 +150,7 @@ pub fn remove_blocks_inside_block<D: Dialect, R: Rewriter + Room>(
 /// Removes the unreachable blocks of the region, where it has SSA dominance, and of the regions with SSA
 /// dominance inside.
 ///
-/// Asks that the region stands and that what holds it is well linked; answers as [`remove_blocks_inside_op`].
+/// Asks that the region is live and that what holds it is well linked; answers as [`remove_blocks_inside_op`].
 /// Errors: as [`remove_blocks_inside_op`]. Cost: as [`remove_blocks_inside_op`].
 pub fn remove_blocks_inside_region<D: Dialect, R: Rewriter + Room>(
     alloc: Global,

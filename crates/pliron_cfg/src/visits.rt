@@ -227,7 +227,7 @@ fn visit(alloc: Global, ctx: &Context, starts: &[Ptr<Region>]) -> Result<Visits,
 
 /// What a call on the operation looks at.
 ///
-/// Asks that the operation stands and that edges stand last in it. Errors: allocation failure. Cost: linear in
+/// Asks that the operation is live and that edges stand last in it. Errors: allocation failure. Cost: linear in
 /// the blocks, edges and operations that it looks at, with one table look-up for each edge and each visited
 /// region.
 pub fn visits_inside_op(
@@ -248,7 +248,7 @@ pub fn visits_inside_op(
 
 /// What a call on the block looks at: the regions of its operations, and so on down.
 ///
-/// Asks that the block stands and that edges stand last in what holds it. Errors: as [`visits_inside_op`].
+/// Asks that the block is live and that edges stand last in what holds it. Errors: as [`visits_inside_op`].
 /// Cost: as [`visits_inside_op`].
 pub fn visits_inside_block(
     alloc: Global,
@@ -268,7 +268,7 @@ pub fn visits_inside_block(
 
 /// What a call on the region looks at: the region itself, and so on down.
 ///
-/// Asks that the region stands and that edges stand last in what holds it. Errors: as [`visits_inside_op`].
+/// Asks that the region is live and that edges stand last in what holds it. Errors: as [`visits_inside_op`].
 /// Cost: as [`visits_inside_op`].
 pub fn visits_inside_region(
     alloc: Global,

@@ -12,7 +12,7 @@ pub record Makers : Type 0 where
 abbrev pub argument_row_of : Makers → ℕ → List ℕ
 argument_row_of s block = slice_index_or s.rows block []
 
--- what makes a value: the place where it stands as an argument, or what is written of it
+-- what defines a value: the place where it is an argument, or what is written of it
 abbrev pub definition_now : Def → List Use → Def
 definition_now d [] = d
 definition_now d (u ∷ us) = Argument u.user u.place
@@ -22,7 +22,7 @@ definitions_now [] uses = []
 definitions_now (d ∷ ds) [] = []
 definitions_now (d ∷ ds) (us ∷ uses) = definition_now d us ∷ definitions_now ds uses
 
--- each argument is defined by the place where it stands
+-- each argument is defined by its block and index
 abbrev pub AreNumbered : List (List ℕ) → List Def → Type 0
 AreNumbered rows definitions = (block i v : ℕ) → slice_get (slice_index_or rows block []) i ≡ Some v → slice_get definitions v ≡ Some (Argument block i)
 

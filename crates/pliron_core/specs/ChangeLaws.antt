@@ -13,7 +13,7 @@ use Rattle.pliron_core.specs.Edges.{succs_of, preds_of}
 use Rattle.pliron_core.specs.Walks.{children, contents, preorder}
 use Rattle.pliron_core.specs.Changes.{IsSameTree, HoldsRegion, IsDefinedInside, IsInsideChange}
 
--- the same stands in both trees, at the same place and made by the same
+-- the same is live in both trees, at the same place and defined by the same
 pub record StandAlike (t u : Tree) : Type 0 where
   pub operations : (x : ℕ) → IsLive t x ↔ IsLive u x
   pub blocks : (b : ℕ) → IsBlock t b ↔ IsBlock u b
@@ -58,7 +58,7 @@ pub record SameTreeLaws : Type 0 where
   pub alike : (t u : Tree) → IsTree t → IsTree u → IsSameTree t u → StandAlike t u
   pub read : (t u : Tree) → IsTree t → IsTree u → IsSameTree t u → AreReadAlike t u
   pub allow : (t u : Tree) → IsTree t → IsTree u → IsSameTree t u → AllowAlike t u
-  -- what is made and erased again leaves only an erased handle
+  -- what is created and erased again leaves only an erased handle
   pub undone : (t : Tree) (head : Head) (results regions : ℕ) → IsTree t → IsSameTree t (after_erasing (after_creating t head results regions) (length t.operations))
 
 pub record InsideChangeLaws : Type 0 where
@@ -67,5 +67,5 @@ pub record InsideChangeLaws : Type 0 where
   pub same : (t u : Tree) (op : ℕ) → IsTree t → IsTree u → IsSameTree t u → IsInsideChange t u op
   -- it grows with op
   pub wider : (t u : Tree) (op b : ℕ) → IsTree t → IsInside t op b → IsInsideChange t u b → IsInsideChange t u op
-  -- what stands beside b keeps its place
+  -- what is beside b keeps its place
   pub beside : (t u : Tree) (op b : ℕ) → IsTree t → parent_operation_of t b ≡ Some op → IsInsideChange t u b → (x : ℕ) → parent_operation_of t x ≡ Some op → IsLive u x × (parent_operation_of u x ≡ Some op) × (parent_of u x ≡ parent_of t x)

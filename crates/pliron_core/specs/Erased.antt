@@ -12,17 +12,17 @@ is_met h p zero o = false
 is_met h p (suc n) None = false
 is_met h p (suc n) (Some x) = if p x then true else is_met h p n (h x)
 
--- whether the test holds for the operation or for one that it stands inside; a chain of holders is
--- no longer than the table of operations
+-- whether the test holds for the operation or for one that it is inside; a chain of parent operations is no
+-- longer than the table of operations
 abbrev pub is_met_above : Tree → (ℕ → Bool) → Option ℕ → Bool
 is_met_above t p o = is_met (parent_operation_of t) p (length t.operations) o
 
--- the table with `none` at each key that is gone
+-- the table with `none` at each erased key
 abbrev pub blank_at : {A : Type 0} → (ℕ → Bool) → A → List A → List A
 blank_at gone none [] = []
 blank_at gone none (x ∷ xs) = (if gone 0 then none else x) ∷ blank_at (λ k. gone (suc k)) none xs
 
--- the operations for which the test holds are erased, and all that stands inside them
+-- the operations for which the test holds are erased, and all that is inside them
 abbrev pub after_clearing : Tree → (ℕ → Bool) → Tree
 after_clearing t p = record t {
   operations = blank_at (λ k. is_met_above t p (Some k)) no_entry t.operations;
@@ -35,14 +35,14 @@ after_clearing t p = record t {
   layouts = blank_at (λ r. is_met_above t p (region_parent_of t r)) [] t.layouts;
 }
 
--- they have no operands and no successors, and neither has what stands inside them
+-- they have no operands and no successors, and neither has what is inside them
 abbrev pub names_dropped : Tree → (ℕ → Bool) → Tree
 names_dropped t p = record t {
   operands = blank_at (λ k. is_met_above t p (Some k)) [] t.operands;
   successors = blank_at (λ k. is_met_above t p (Some k)) [] t.successors;
 }
 
--- whether the operation stands directly in the block
+-- whether the operation is directly in the block
 abbrev pub is_the : ℕ → Option ℕ → Bool
 is_the b None = false
 is_the b (Some c) = nat_eq b c
@@ -50,7 +50,7 @@ is_the b (Some c) = nat_eq b c
 abbrev pub stands_in : Tree → ℕ → ℕ → Bool
 stands_in t block x = is_the block (parent_of t x)
 
--- all that stands in the block is erased
+-- all that is in the block is erased
 abbrev pub block_emptied : Tree → ℕ → Tree
 block_emptied t block = let u = after_clearing t (stands_in t block) in record u { bodies = slice_set u.bodies block [] }
 
@@ -83,11 +83,11 @@ pub record IsSelfContained (t : Tree) (op : ℕ) : Type 0 where
   pub values : (x v : ℕ) → In v (operands_of t x) → IsDefinedWithin t op (definition_of t v) → IsWithin t op x
   pub blocks : (x b : ℕ) → In b (successors_of t x) → HoldsBlock t op b → IsWithin t op x
 
--- x stands in the block, at any depth
+-- x is in the block, at any depth
 abbrev pub StandsIn : Tree → ℕ → ℕ → Type 0
 StandsIn t block x = (k : ℕ) × (parent_of t k ≡ Some block) × IsWithin t k x
 
--- b is the block or stands inside it
+-- b is the block or is inside it
 abbrev pub IsBlockWithin : Tree → ℕ → ℕ → Type 0
 IsBlockWithin t block b = (b ≡ block) ⊎ ((k : ℕ) × (block_parent_operation_of t b ≡ Some k) × StandsIn t block k)
 

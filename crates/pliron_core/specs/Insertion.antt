@@ -10,8 +10,8 @@ use Rattle.pliron_core.specs.Writes.{put_next_to, put_first}
 abbrev pub point_of : IRRewriter → OpInsertionPoint
 point_of r = r.point
 
--- a point is set, and what it names stands, isn't the operation and isn't inside it; a named operation
--- stands in a block
+-- a point is set, and what it names is live, isn't the operation and isn't inside it; a named operation is in a
+-- block
 abbrev pub IsPointFor : Tree → OpInsertionPoint → ℕ → Type 0
 IsPointFor t Unset op = ⊥
 IsPointFor t (BeforeOperation at) op = IsSome (parent_of t at) × (at ≢ op) × (IsInside t op at → ⊥)

@@ -22,24 +22,24 @@ pub record HaveFewKeys (t : Tree) : Type 0 where
   pub regions : length t.layouts < 2 ^ 64
   pub values : length t.definitions < 2 ^ 64
 
--- what is named stands, and it names back
+-- what is named is live, and names back
 pub record IsJoined (t : Tree) : Type 0 where
-  -- what stands in a block is live, and so are the block and its region
+  -- what is in a block is live, and so are the block and its region
   pub standing : (x b : ℕ) → parent_of t x ≡ Some b → IsLive t x × IsBlock t b
   pub placed : (b r : ℕ) → block_parent_of t b ≡ Some r → IsRegion t r
   -- a region has one place, a value one definition
   pub regions : (k i r : ℕ) → slice_get (regions_of t k) i ≡ Some r → slot_of t r ≡ Some (record { op = k; index = i })
   pub results : (k i v : ℕ) → slice_get (results_of t k) i ≡ Some v → definition_of t v ≡ Some (Result k i)
   pub arguments : (b i v : ℕ) → slice_get (arguments_of t b) i ≡ Some v → definition_of t v ≡ Some (Argument b i)
-  -- what is used stands
+  -- what is used is live
   pub operands : (k v : ℕ) → In v (operands_of t k) → IsDefined t v
   pub successors : (k b : ℕ) → In b (successors_of t k) → IsBlock t b
-  -- the blocks of a region stand in the order in which they were made
+  -- the blocks of a region are in the order in which they were created
   pub ordered : (r : ℕ) → IsRising (layout_of t r)
   -- what was erased names nothing
   pub erased : (k : ℕ) → head_of t k ≡ None → (operands_of t k ≡ []) × (successors_of t k ≡ []) × (row_of t k ≡ no_entry)
   pub unplaced : (b : ℕ) → block_parent_of t b ≡ None → (arguments_of t b ≡ []) × (body_of t b ≡ [])
-  -- every chain of holders ends
+  -- every chain of parent operations ends
   pub rooted : IsRooted (parent_operation_of t)
 
 pub record IsTree (t : Tree) : Type 0 where

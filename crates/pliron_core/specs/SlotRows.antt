@@ -1,4 +1,4 @@
--- What a row holds.
+-- What an operand list or a use list holds.
 use Rattle.std.specs.Prelude.{List, [], ◌∷◌}
 use Rattle.pliron_core.specs.declared.inline_list.InlineItems.{InlineItems}
 use Rattle.pliron_core.specs.declared.inline_list.InlineItems.TheVariants.{Empty, One, Two, Many}

@@ -1,4 +1,4 @@
--- How the tables of a context stand for a tree.
+-- How the tables of a context represent a tree.
 use Rattle.pliron_core.specs.declared.context.Context.TheInside.{Inside}
 use Rattle.pliron_core.specs.Tree.{View}
 use Rattle.pliron_core.specs.Invariant.{IsWellFormed}

@@ -12,8 +12,8 @@ children_of_region t r = flat_map (λ b. body_of t b) (layout_of t r)
 abbrev pub children : Tree → ℕ → List ℕ
 children t op = flat_map (λ r. children_of_region t r) (regions_of t op)
 
--- what stands below x, n levels deep, where `below` lists what stands directly below: each is
--- followed by what stands below it
+-- what is below x, n levels deep, where `below` lists what is directly below: each is followed by what is below
+-- it
 abbrev pub descend : (ℕ → List ℕ) → ℕ → ℕ → List ℕ
 descend below zero x = []
 descend below (suc n) x = flat_map (λ c. c ∷ descend below n c) (below x)

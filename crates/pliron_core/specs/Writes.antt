@@ -14,7 +14,7 @@ use Rattle.pliron_core.specs.Tree.{Tree, row_of, head_of, operands_of, successor
 abbrev pub no_tree : Tree
 no_tree = record { operations = []; operands = []; successors = []; parents = []; bodies = []; arguments = []; block_parents = []; layouts = []; slots = []; definitions = [] }
 
--- what makes the results of an operation, the arguments of a block and the regions of an operation
+-- the definitions of the results of an operation, the arguments of a block and the regions of an operation
 abbrev pub result_definitions : ℕ → ℕ → List Def
 result_definitions op count = map (λ i. Result op i) (range_with_len 0 count)
 
@@ -53,7 +53,7 @@ operand_pushed t op value = record t { operands = slice_set t.operands op (opera
 abbrev pub successor_pushed : Tree → ℕ → ℕ → Tree
 successor_pushed t op block = record t { successors = slice_set t.successors op (successors_of t op ++ block ∷ []) }
 
--- that operand goes, that attribute is replaced
+-- that operand is removed, that attribute is replaced
 abbrev pub operand_removed : Tree → ℕ → ℕ → Tree
 operand_removed t op i = record t { operands = slice_set t.operands op (remove (operands_of t op) i) }
 
@@ -69,7 +69,7 @@ abbrev pub argument_definitions_from : List Def → ℕ → ℕ → List ℕ →
 argument_definitions_from definitions block i [] = definitions
 argument_definitions_from definitions block i (v ∷ vs) = argument_definitions_from (slice_set definitions v (Argument block i)) block (suc i) vs
 
--- that argument goes, and each later one has the index before
+-- that argument is removed, and each later one has the index before
 abbrev pub argument_removed : Tree → ℕ → ℕ → Tree
 argument_removed t block i = record t {
   arguments = slice_set t.arguments block (remove (arguments_of t block) i);
@@ -80,7 +80,7 @@ argument_removed t block i = record t {
 abbrev pub after_replacing : Tree → ℕ → ℕ → Tree
 after_replacing t old new = record t { operands = map (map (replace_target old new)) t.operands }
 
--- the operation stands in no block
+-- the operation is in no block
 abbrev pub taken_from : Tree → ℕ → Option ℕ → Tree
 taken_from t op None = t
 taken_from t op (Some block) = record t { bodies = slice_set t.bodies block (without op (body_of t block)); parents = slice_set t.parents op None }
@@ -88,7 +88,7 @@ taken_from t op (Some block) = record t { bodies = slice_set t.bodies block (wit
 abbrev pub taken_out : Tree → ℕ → Tree
 taken_out t op = taken_from t op (parent_of t op)
 
--- the operation stands in the block, with this body
+-- the operation is in the block, with this body
 abbrev pub after_placing : Tree → ℕ → ℕ → List ℕ → Tree
 after_placing t op block body = record t { bodies = slice_set t.bodies block body; parents = slice_set t.parents op (Some block) }
 

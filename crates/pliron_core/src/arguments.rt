@@ -15,15 +15,15 @@ use std::marker::Model;
 
 /// The arguments of each block in order, and what makes each value.
 ///
-/// A block is a user, and its arguments are its targets: where a value stands is read from its use.
-/// What is written of a value says what makes it where it is a result, and what made it where it is
-/// an argument that went. Here block 0 has the values 1 and 3, value 0 is a result, and value 2 went:
+/// A block is a user, and its arguments are its targets: the index of a value is read from its use. What is
+/// written of a value says what makes it where it is a result, and what made it where it is an argument that
+/// was removed. Here block 0 has the values 1 and 3, value 0 is a result, and value 2 was removed:
 ///
 /// ```text
 /// lists      block 0 -> 1, 3     value 1: used by block 0 at 0     value 3: used by block 0 at 1
 ///                                value 0: no use                   value 2: no use
-/// written[0] = result, which holds      written[2] = argument 1 of block 0, as it was when it went
-/// written[1], written[3] = no results; where these stand is read from their uses
+/// written[0] = result, which holds      written[2] = argument 1 of block 0, as it was when it was removed
+/// written[1], written[3] = no results; their indices are read from their uses
 /// ```
 #[derive(Drop)]
 pub struct Arguments {
@@ -98,8 +98,8 @@ impl Arguments {
         }
     }
 
-    /// What makes a value, or made it, where it is an argument that went. Cost: constant, and a logarithm where
-    /// it is an argument and those of its block are counted.
+    /// What makes a value, or made it, where it is a removed argument. Cost: constant, and a logarithm where it
+    /// is an argument and those of its block are counted.
     #[inline(always)]
     pub fn definition(&self, value: Value) -> Option<Def>
         ensures { result ≡ slice_get self.now.definitions value }
@@ -172,7 +172,7 @@ impl Arguments {
     }
 
     /// The arguments of a block are counted from now on, if there are many, so that ones far from one another
-    /// go quickly.
+    /// are removed quickly.
     ///
     /// Asks that there is such a block. Errors: allocation failure. Nothing that contracts see changes.
     /// Cost: the number of its arguments.
@@ -194,7 +194,7 @@ impl Arguments {
         self.lists.settle(block.index());
     }
 
-    /// The argument of a block at an index goes. Each later one has the index before.
+    /// The argument of a block at an index is removed. Each later one has the index before.
     ///
     /// Asks that there are such a block and such an argument. Takes no memory. Cost: the number of arguments
     /// between it and the place where the block lost one last, and constant for the first; amortised, a
@@ -211,8 +211,8 @@ impl Arguments {
         self.lists.agree();
     }
 
-    /// All arguments of a block go. Asks that there is such a block. Takes no memory. Cost: the number of its
-    /// arguments. If they are counted, they are settled first.
+    /// All arguments of a block are removed. Asks that there is such a block. Takes no memory. Cost: the number
+    /// of its arguments. If they are counted, they are settled first.
     pub fn clear(&mut self, block: Ptr<BasicBlock>)
         requires { block < length self.old.rows }
         ensures { self.new ≡ record self.old { rows = slice_set self.old.rows block [] } }

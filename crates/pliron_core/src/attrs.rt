@@ -1,4 +1,4 @@
-//! Heads of operations.
+//! Heads of operations: names with attributes.
 ghost use Rattle.std.specs.Prelude.{◌≡◌, ◌<◌, [], IfOk, string_bytes, IsTrue, ◌↔◌, length, slice_get, slice_set, Some};
 
 use crate::context::NoMemory;
@@ -179,7 +179,7 @@ impl BitOrAssign for IRStatus {
     }
 }
 
-/// What an operation is, apart from where it stands and what it uses.
+/// What an operation is, apart from its block and its operands: its name and attributes.
 #[derive(Drop)]
 pub struct Head {
     pub kind: u32,

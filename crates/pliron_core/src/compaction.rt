@@ -1,4 +1,4 @@
-//! The taken places of a row, moved together.
+//! The taken slots of an operand list, moved together.
 
 ghost use Rattle.std.specs.Prelude.{◌≡◌, ◌≢◌, ℕ, ◌<◌, ◌≤◌, [], length, slice_index_or, Some, vec_capacity, vec_len};
 ghost use Rattle.pliron_core.specs.declared.use_slots.UseSlot.{UseSlot as PlaceOf};
@@ -8,7 +8,8 @@ use crate::inline_list::{InlineList, entry};
 use crate::use_slots::{UseSlot, relocate};
 use crate::uses::Use;
 
-// Each taken place of the user moves down over the free ones before it. How many are taken: they stand first.
+// Each taken slot of the user moves down over the free ones before it. Answers how many are taken: they come
+// first.
 // Asks that there is such a user. Takes no memory. Cost: the number of its places.
 pub(super) fn move_down(
     places: &mut Vec<InlineList<UseSlot>>,

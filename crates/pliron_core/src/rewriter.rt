@@ -22,7 +22,7 @@ pub enum OpInsertionPoint {
     AtBlockStart(Ptr<BasicBlock>),
 }
 
-/// What changes a tree in whole steps, and may tell a listener of each.
+/// What changes a tree in whole steps, and may report each to a listener.
 ///
 /// What has no `Result`, and a replacement by a value without uses, takes no memory in the tree, but may
 /// take some in a listener.
@@ -47,8 +47,8 @@ pub trait Rewriter {
     /// The operation becomes the direct predecessor of the named operation, or the first of the named
     /// block. The point stays.
     ///
-    /// Asks that the operation stands, in no block; that a point is set, and that what it names stands
-    /// and isn't the operation or inside it; a named operation stands in a block.
+    /// Asks that the operation is live, in no block; that a point is set, and that what it names is live and
+    /// isn't the operation or inside it; a named operation is in a block.
     /// Errors: allocation failure, which changes nothing. Cost: constant.
     fn insert_operation(&mut self, ctx: &mut Context, op: Ptr<Operation>) -> Result<(), NoMemory>
         requires live { IsLive ctx.old.tree op }
@@ -60,7 +60,7 @@ pub trait Rewriter {
 
     /// Every use of `old` becomes one of `new`.
     ///
-    /// Asks that both values stand. Errors: allocation failure, which changes nothing, and never where `new`
+    /// Asks that both values are live. Errors: allocation failure, which changes nothing, and never where `new`
     /// has no use yet: it takes over the room that the uses of `old` have.
     /// Cost: the number of uses of `old`.
     fn replace_value_uses_with(
@@ -77,9 +77,9 @@ pub trait Rewriter {
         ensures err { OnErr result (ctx.new ≡ ctx.old) }
         ensures point { point self.new ≡ point self.old };
 
-    /// The operation leaves the block that has it, if one does, and becomes the last of this one.
+    /// Moves the operation from the block that has it, if one does, to the end of this one.
     ///
-    /// Asks that both stand, and that the operation doesn't hold the block. Takes no memory.
+    /// Asks that both are live, and that the operation doesn't hold the block. Takes no memory.
     /// Cost: constant.
     fn move_operation_to_end(
         &mut self,
@@ -95,7 +95,7 @@ pub trait Rewriter {
 
     /// Erases the operation with its contents, at any depth.
     ///
-    /// Asks that it stands, and that no value or block of it is used outside it. Takes no memory.
+    /// Asks that it is live, and that no value or block of it is used outside it. Takes no memory.
     /// Cost: what is erased, with its operands and successors.
     fn erase_operation(&mut self, ctx: &mut Context, op: Ptr<Operation>)
         requires live { IsLive ctx.old.tree op }
@@ -105,8 +105,8 @@ pub trait Rewriter {
 
     /// Erases the block with its contents, at any depth.
     ///
-    /// Asks that it stands, and that neither it nor a value or block of it is used outside it. Takes
-    /// no memory. Cost: what is erased, with its operands and successors.
+    /// Asks that it is live, and that neither it nor a value or block of it is used outside it. Takes no
+    /// memory. Cost: what is erased, with its operands and successors.
     fn erase_block(&mut self, ctx: &mut Context, block: Ptr<BasicBlock>)
         requires block { IsBlock ctx.old.tree block }
         requires contained { IsSelfContainedBlock ctx.old.tree block }

@@ -1,4 +1,4 @@
-//! Which places of a row are taken, by sums over halves.
+//! Which slots of an operand list are taken, by sums over halves.
 
 ghost use Rattle.std.specs.Prelude.{◌≡◌, ◌<◌, ◌≤◌, ◌^◌, [], Some, IfOk, length, slice_get, slice_set, take};
 ghost use Rattle.std.specs.List.{sum};
@@ -10,11 +10,11 @@ use crate::use_slots::UseSlot;
 use std::alloc::{AllocError, Global};
 use std::marker::Model;
 
-/// Which places of a row are taken: 1 for each that is, and 0 for each free one.
+/// Which slots of a list are taken: 1 for each that is, and 0 for each free one.
 ///
-/// Beside these marks stand their sums, two by two, then the sums of those, and so on up to one. So how many
-/// places are taken before one, and which is the n-th taken place, are found in as many steps as there are
-/// levels. Here the places 0, 2 and 3 of five are taken:
+/// Above these marks are their sums, two by two, then the sums of those, and so on up to one. So the number of
+/// taken slots before one, and the n-th taken slot, are found in as many steps as there are levels. Here the
+/// slots 0, 2 and 3 of five are taken:
 ///
 /// ```text
 /// level 3     3
@@ -56,8 +56,8 @@ fn sums_of(alloc: Global, below: &InlineList<usize>) -> Result<InlineList<usize>
 }
 
 impl SlotCounts {
-    /// The counts of a row with these marks. Asks that each is 1 or 0. Errors: allocation failure. Cost: the number
-    /// of marks.
+    /// The counts of a list with these marks. Asks that each is 1 or 0. Errors: allocation failure. Cost: the
+    /// number of marks.
     pub fn over(alloc: Global, row: InlineList<usize>) -> Result<SlotCounts, AllocError>
         requires { AreMarks row }
         ensures { IfOk result (λ c. c ≡ row) }
@@ -74,7 +74,7 @@ impl SlotCounts {
         Ok(SlotCounts { levels })
     }
 
-    /// How many places are taken. Cost: constant.
+    /// How many slots are taken. Cost: constant.
     pub fn total(&self) -> usize
         ensures { result ≡ sum self.now }
     {
@@ -82,8 +82,8 @@ impl SlotCounts {
         if top.is_empty() { 0 } else { top.get(0) }
     }
 
-    /// How many of the places before this one are taken. Asks that it is one, or the end. Cost: the logarithm
-    /// of the number of places.
+    /// How many of the slots before this one are taken. Asks that it is one, or the end. Cost: the logarithm of
+    /// the number of slots.
     pub fn rank(&self, place: usize) -> usize
         requires { place ≤ length self.now }
         ensures { result ≡ sum (take place self.now) }
@@ -99,8 +99,8 @@ impl SlotCounts {
         count
     }
 
-    /// The taken place with so many taken ones before it. Asks that more are taken. Cost: the logarithm of the
-    /// number of places.
+    /// The taken slot with so many taken ones before it. Asks that more are taken. Cost: the logarithm of the
+    /// number of slots.
     pub fn select(&self, i: usize) -> usize
         requires { i < sum self.now }
         ensures taken { slice_get self.now result ≡ Some 1 }
@@ -120,8 +120,8 @@ impl SlotCounts {
         place
     }
 
-    /// A taken place is free from now on. Asks that it is taken. Takes no memory. Cost: the logarithm of the
-    /// number of places.
+    /// A taken slot is free from now on. Asks that it is taken. Takes no memory. Cost: the logarithm of the
+    /// number of slots.
     pub fn free(&mut self, place: usize)
         requires { slice_get self.old place ≡ Some 1 }
         ensures { self.new ≡ slice_set self.old place 0 }
@@ -135,7 +135,7 @@ impl SlotCounts {
     }
 }
 
-/// The marks of a row of places. Errors: allocation failure. Cost: the number of places.
+/// The marks of an operand list. Errors: allocation failure. Cost: the number of slots.
 pub fn marks_of(alloc: Global, row: &InlineList<UseSlot>) -> Result<InlineList<usize>, AllocError>
     ensures { IfOk result (λ m. m ≡ marks row.now) }
 {

@@ -1,4 +1,8 @@
-//! The places of each user, with a gap where targets went, and how they move.
+//! The slots of each user, with a gap where targets were removed, and how they move.
+//!
+//! What a user loses leaves one gap, which moves to where the next item is removed: removals side by side cost
+//! one step each. Lists of up to 64 slots always keep their gap; where removals in a longer one are far apart,
+//! counts find the free slots (`counted_slots`).
 
 ghost use Rattle.std.specs.Prelude.{◌≡◌, ◌≢◌, ℕ, false, ◌+◌, ◌-◌, ◌^◌, ◌<◌, ◌≤◌, [], length, slice_set, vec_capacity, vec_len, slice_get, slice_index_or, Some, take, IfOk, remove};
 ghost use Rattle.pliron_core.specs.declared.uses.Use.{Use};
@@ -12,43 +16,43 @@ use crate::slot_counts::SlotCounts;
 use crate::uses::Use;
 use std::alloc::{AllocError, Global};
 
-/// What a place of a user names, and where its use stands in the target's list.
+/// What a slot of a user names, and the index of its use in the target's use list.
 #[derive(Clone, Copy)]
 pub struct UseSlot {
     pub target: usize,
     pub at: usize,
 }
 
-/// The places of a user that are free: the first one, and how many there are.
+/// The free slots of a user: the first one, and how many there are.
 ///
-/// What is removed leaves a free place, and the gap moves to where a target is removed; so removals one
-/// beside the other move no places, whichever way they go.
+/// A removal leaves a free slot, and the gap moves to it; so removals side by side move no slots, in either
+/// direction.
 #[derive(Clone, Copy)]
 pub struct Gap {
     pub start: usize,
     pub len: usize,
 }
 
-/// Where the free places of a user are.
+/// Where the free slots of a user are.
 ///
-/// They lie together, in a gap, or anywhere in the row, where counts find them: so it is of a long row that
-/// loses targets far from one another.
+/// They lie together, in a gap, or anywhere in the list, where counts find them: as in a long list that loses
+/// targets far from one another.
 #[derive(Drop)]
 pub enum Holes {
     OneGap(Gap),
     Counted(Box<SlotCounts>),
 }
 
-// No free places.
+// No free slots.
 pub(super) const NO_GAP: Gap = Gap { start: 0, len: 0 };
 
-// What a free place has.
+// What a free slot has.
 const FREE: UseSlot = UseSlot {
     target: usize::MAX,
     at: 0,
 };
 
-// The places of so many targets, by rising key, each with one use.
+// The slots of so many targets, by rising key, each with one use.
 #[inline(always)]
 pub(super) fn new_places(
     alloc: Global,
@@ -68,7 +72,7 @@ pub(super) fn new_places(
     Ok(row)
 }
 
-// Whether the places of a user are counted.
+// Whether the slots of a user are counted.
 #[inline(always)]
 pub(super) fn are_counted(holes: &Vec<Holes>, user: usize) -> bool
     requires { user < length holes.now.items }
@@ -80,7 +84,7 @@ pub(super) fn are_counted(holes: &Vec<Holes>, user: usize) -> bool
     }
 }
 
-// The gap of a user: none where its places are counted.
+// The gap of a user: none where its slots are counted.
 #[inline(always)]
 pub(super) fn gap_at(places: &Vec<InlineList<UseSlot>>, holes: &Vec<Holes>, user: usize) -> Gap
     requires holes { HaveHoles places.now.items holes.now.items }
@@ -108,7 +112,7 @@ pub(super) fn count_at(places: &Vec<InlineList<UseSlot>>, holes: &Vec<Holes>, us
     }
 }
 
-// The target at an index among those of a row.
+// The target at an index among those of a list.
 #[inline(always)]
 pub(super) fn target_at(row: &InlineList<UseSlot>, hole: &Holes, i: usize) -> usize
     requires hole { Tracks row.now hole.now }
@@ -121,7 +125,7 @@ pub(super) fn target_at(row: &InlineList<UseSlot>, hole: &Holes, i: usize) -> us
     }
 }
 
-// The target at an index among those of a row with a gap.
+// The target at an index among those of a list with a gap.
 #[inline(always)]
 fn target_beside(row: &InlineList<UseSlot>, gap: Gap, i: usize) -> usize
     requires gap { HasGap row.now gap }
@@ -136,7 +140,7 @@ fn target_beside(row: &InlineList<UseSlot>, gap: Gap, i: usize) -> usize
     }
 }
 
-// The target at an index among those of a row whose places are counted.
+// The target at an index among those of a list whose slots are counted.
 fn target_counted(row: &InlineList<UseSlot>, counts: &SlotCounts, i: usize) -> usize
     requires counts { marks row.now ≡ counts.now }
     requires index { i < length (targets_held row.now) }
@@ -145,7 +149,7 @@ fn target_counted(row: &InlineList<UseSlot>, counts: &SlotCounts, i: usize) -> u
     row.get(counts.select(i)).target
 }
 
-// The index that a taken place has among those that are taken.
+// The index of a taken slot among those that are taken.
 #[inline(always)]
 pub(super) fn rank_at(row: &InlineList<UseSlot>, hole: &Holes, place: usize) -> usize
     requires hole { Tracks row.now hole.now }
@@ -158,7 +162,7 @@ pub(super) fn rank_at(row: &InlineList<UseSlot>, hole: &Holes, place: usize) -> 
     }
 }
 
-// The index that a taken place of a row whose places are counted has among those that are taken.
+// The index of a taken slot of a list whose slots are counted, among those that are taken.
 fn rank_counted(row: &InlineList<UseSlot>, counts: &SlotCounts, place: usize) -> usize
     requires counts { marks row.now ≡ counts.now }
     requires place { place < length row.now }
@@ -168,7 +172,7 @@ fn rank_counted(row: &InlineList<UseSlot>, counts: &SlotCounts, place: usize) ->
     counts.rank(place)
 }
 
-// The index that a taken place of a row with a gap has among those that are taken.
+// The index of a taken slot of a list with a gap, among those that are taken.
 #[inline(always)]
 fn rank_beside(row: &InlineList<UseSlot>, gap: Gap, place: usize) -> usize
     requires gap { HasGap row.now gap }
@@ -183,7 +187,7 @@ fn rank_beside(row: &InlineList<UseSlot>, gap: Gap, place: usize) -> usize
     }
 }
 
-// What stands at a taken place of the user moves to a free one.
+// The target in a taken slot of the user moves to a free one.
 pub(super) fn relocate(
     places: &mut Vec<InlineList<UseSlot>>,
     uses: &mut Vec<InlineList<Use>>,
@@ -206,7 +210,7 @@ pub(super) fn relocate(
     set_entry(places, user, from, FREE);
 }
 
-// The gap of the user goes one place down: what stands before it goes behind it.
+// The gap of the user moves one slot down: the target before it comes behind it.
 pub(super) fn lower_gap(
     places: &mut Vec<InlineList<UseSlot>>,
     holes: &mut Vec<Holes>,
@@ -231,7 +235,7 @@ pub(super) fn lower_gap(
     });
 }
 
-// The gap of the user goes one place up: what stands behind it goes before it.
+// The gap of the user moves one slot up: the target behind it comes before it.
 pub(super) fn raise_gap(
     places: &mut Vec<InlineList<UseSlot>>,
     holes: &mut Vec<Holes>,
@@ -256,7 +260,7 @@ pub(super) fn raise_gap(
     });
 }
 
-// The gap of the user goes to where its target `i` stands, or, where it has as many, to the end.
+// The gap of the user moves to its target `i`, or, where it has as many, to the end.
 #[inline(always)]
 pub(super) fn open_gap(
     places: &mut Vec<InlineList<UseSlot>>,
@@ -288,8 +292,8 @@ pub(super) fn open_gap(
     }
 }
 
-// The target at a taken place of the user goes, and is the answer: the place is free from then on. The last
-// use of that target takes the index of the use that goes.
+// The target in a taken slot of the user is removed and answered: the slot is free from then on. The last use
+// of that target takes the index of the removed use.
 #[inline(always)]
 pub(super) fn vacate(
     places: &mut Vec<InlineList<UseSlot>>,
@@ -318,7 +322,7 @@ pub(super) fn vacate(
     target
 }
 
-// The target behind the gap of the user goes, and is the answer.
+// The target behind the gap of the user is removed and answered.
 #[inline(always)]
 pub(super) fn widen_gap(
     places: &mut Vec<InlineList<UseSlot>>,
@@ -347,7 +351,7 @@ pub(super) fn widen_gap(
     target
 }
 
-// The gap of the user, which stands at the end, goes.
+// The gap of the user, which is at the end, is dropped.
 #[inline(always)]
 pub(super) fn close_gap(places: &mut Vec<InlineList<UseSlot>>, holes: &mut Vec<Holes>, user: usize)
     requires holes { HaveHoles places.old.items holes.old.items }
@@ -365,7 +369,7 @@ pub(super) fn close_gap(places: &mut Vec<InlineList<UseSlot>>, holes: &mut Vec<H
     holes[user] = Holes::OneGap(NO_GAP);
 }
 
-// The gap of the user goes where it stands at the end or is longer than the targets are many.
+// The gap of the user is dropped where it is at the end, or longer than there are targets.
 #[inline(always)]
 pub(super) fn settle_gap(
     places: &mut Vec<InlineList<UseSlot>>,
@@ -390,7 +394,7 @@ pub(super) fn settle_gap(
     close_gap(places, holes, user);
 }
 
-// The places of these uses of `old` name `new`, where the uses now stand from `first` on.
+// The slots of these uses of `old` name `new`, where the uses are now at the indices from `first` on.
 #[inline(always)]
 pub(super) fn retarget(
     places: &mut Vec<InlineList<UseSlot>>,

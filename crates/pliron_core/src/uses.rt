@@ -1,4 +1,4 @@
-//! Which targets each user names, in order, and where each target is used.
+//! Operand lists and use lists: which targets each user names, in order, and where each target is used.
 
 ghost use Rattle.std.specs.Prelude.{◌≡◌, ◌≢◌, ◌+◌, ◌-◌, ◌<◌, ◌≤◌, [], ◌∷◌, ◌++◌, length, map, slice_set, vec_capacity, vec_len, slice_get, Some, OnOk, OnErr, IsOk, remove, replicate};
 ghost use Rattle.std.specs.List.{range_with_len};
@@ -17,8 +17,8 @@ use std::mem;
 
 /// The targets of each user and the uses of each target, all named by keys that count up.
 ///
-/// Each place knows where its use stands, and each use its place, so either is found from the other in one
-/// step. Here user 0 names the targets 5, 7 and 5, after it lost a target that stood second:
+/// Each slot knows the index of its use, and each use its slot, so either is found from the other in one step.
+/// Here user 0 names the targets 5, 7 and 5, after its second target was removed:
 ///
 /// ```text
 /// places[0]   0: 5 at 0   1: free   2: 7 at 0   3: 5 at 1     holes[0] = one gap: start 1, len 1
@@ -26,10 +26,10 @@ use std::mem;
 /// uses[7]     0: user 0, place 2
 /// ```
 ///
-/// A gap moves to where a target goes, over all places between. So a user that is about to lose many targets,
-/// far from one another, may have its places counted (`index`): the free ones then stay where they are, and
-/// counts tell, in a logarithm of the number of places, how many are taken before a place, and where the i-th
-/// taken one is. It ends by `settle`, or when the user gets one more target.
+/// The gap moves to each removed target, over all slots between. So a user that is about to lose many targets,
+/// far from one another, may have its slots counted (`index`): the free ones then stay where they are, and
+/// counts say, in a logarithm of the number of slots, how many are taken before one, and where the i-th taken
+/// one is. Counting ends with `settle`, or when the user gets one more target.
 #[derive(Drop)]
 pub struct Uses {
     places: Vec<InlineList<UseSlot>>,
@@ -75,7 +75,7 @@ impl Uses {
         }
     }
 
-    /// Each place has one use, and each use its place.
+    /// Each slot has one use, and each use its slot.
     ///
     /// A law for callers' proofs: it does nothing.
     pub fn agree(&self)
@@ -101,7 +101,7 @@ impl Uses {
     }
 
     /// The target at a place of a user. Asks that there are such a user and such a place (`num_targets` tests
-    /// it). Cost: constant, and a logarithm where its places are counted.
+    /// it). Cost: constant, and a logarithm where its slots are counted.
     #[inline(always)]
     pub fn target(&self, user: usize, place: usize) -> usize
         requires user { user < length self.now.targets }
@@ -120,8 +120,8 @@ impl Uses {
         self.uses[target].len()
     }
 
-    /// The use of a target at an index, in no given order. Asks that there is such a target, and that the
-    /// index is below `num_uses`. Cost: constant, and a logarithm where the places of the user are counted.
+    /// The use of a target at an index, in no given order. Asks that there is such a target, and that the index
+    /// is below `num_uses`. Cost: constant, and a logarithm where the slots of the user are counted.
     #[inline(always)]
     pub fn get_use(&self, target: usize, i: usize) -> Use
         requires target { target < length self.now.uses }
@@ -206,7 +206,7 @@ impl Uses {
     /// The user gets one more target, at the end.
     ///
     /// Asks that there are such a user and such a target. Errors: allocation failure, which leaves all as it was.
-    /// Cost: constant, amortised. Places that are counted are settled first.
+    /// Cost: constant, amortised. Counted slots are settled first.
     #[inline(always)]
     pub fn push(&mut self, user: usize, target: usize) -> Result<(), AllocError>
         requires user { user < length self.old.targets }
@@ -229,8 +229,8 @@ impl Uses {
 
     /// Every use of `old` becomes one of `new`.
     ///
-    /// Asks that there are both targets and that they are two. Errors: allocation failure, which leaves all as it
-    /// was. A target without uses takes over the room of `old` too, so then nothing is refused.
+    /// Asks that there are both targets and that they are two. Errors: allocation failure, which leaves all as
+    /// it was. A target without uses takes over the room of `old`, so then no allocation fails.
     /// Cost: the number of uses of `old`, amortised.
     pub fn replace(&mut self, alloc: Global, old: usize, new: usize) -> Result<(), AllocError>
         requires old { old < length self.old.uses }
@@ -272,11 +272,11 @@ impl Uses {
         retarget(&mut self.places, &self.uses[new], old, new, 0);
     }
 
-    /// The places of a user are counted from now on, if it has many, so that targets far from one another go
-    /// quickly.
+    /// The slots of a user are counted from now on, if it has many, so that targets far from one another are
+    /// removed quickly.
     ///
     /// Asks that there is such a user. Errors: allocation failure. Nothing that contracts see changes.
-    /// Cost: the number of its places.
+    /// Cost: the number of its slots.
     pub fn index(&mut self, alloc: Global, user: usize) -> Result<(), AllocError>
         requires { user < length self.old.targets }
         ensures { self.new ≡ self.old }
@@ -284,10 +284,10 @@ impl Uses {
         count_places(alloc, &self.places, &mut self.holes, user)
     }
 
-    /// The places of a user are not counted from now on: reads are constant again.
+    /// The slots of a user are not counted from now on: reads are constant again.
     ///
     /// Asks that there is such a user. Takes no memory. Nothing that contracts see changes. Cost: the number of
-    /// its places when they were counted, and constant where they are not.
+    /// its slots when they were counted, and constant where they are not.
     pub fn settle(&mut self, user: usize)
         requires { user < length self.old.targets }
         ensures { self.new ≡ self.old }
@@ -295,11 +295,11 @@ impl Uses {
         settle_places(&mut self.places, &mut self.holes, &mut self.uses, user);
     }
 
-    /// The target at a place goes, and is the answer. The later ones move down by one place.
+    /// Removes the target at a place, and answers it. The later ones move down by one place.
     ///
     /// Asks that there are such a user and such a place. Takes no memory. Cost: the number of targets between
     /// it and the place where one was removed last, and constant for the first; amortised, a constant and at
-    /// most twice the number of targets after it. A logarithm where its places are counted.
+    /// most twice the number of targets after it. A logarithm where its slots are counted.
     #[inline(always)]
     pub fn remove(&mut self, user: usize, place: usize) -> usize
         requires user { user < length self.old.targets }
@@ -330,8 +330,8 @@ impl Uses {
         target
     }
 
-    /// All targets of a user go. Asks that there is such a user. Takes no memory. Cost: the number of its
-    /// targets. Places that are counted are settled first.
+    /// Removes all targets of a user. Asks that there is such a user. Takes no memory. Cost: the number of its
+    /// targets. Counted slots are settled first.
     #[inline(always)]
     pub fn clear(&mut self, user: usize)
         requires { user < length self.old.targets }

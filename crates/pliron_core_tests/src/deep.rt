@@ -14,7 +14,7 @@ const DEPTH: usize = 10_000;
 
 const BOX: u32 = 11;
 
-// The outermost and the innermost of operations that stand inside one another.
+// The outermost and the innermost of operations that are inside one another.
 #[derive(Clone, Copy)]
 struct Nest {
     outer: Ptr<Operation>,

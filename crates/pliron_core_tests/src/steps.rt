@@ -201,7 +201,7 @@ pub fn check_links(
     }
 }
 
-// The operation stands in the block, directly after this one.
+// The operation is in the block, directly after this one.
 fn check_place(
     rt: &impl Abort,
     ctx: &Context,

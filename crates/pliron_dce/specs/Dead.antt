@@ -19,7 +19,7 @@ pub record IsHarmless (m : Meaning) (side_effects : Head → Option Bool) (t : T
   pub harmless : HasNoSideEffects side_effects t k
   pub plain : (h : Head) → head_of t k ≡ Some h → m.is_terminator h ≡ false
 
--- and stands inside the root
+-- and is inside the root
 pub record MayBeErased (m : Meaning) (side_effects : Head → Option Bool) (t : Tree) (root k : ℕ) : Type 0 where
   pub inside : IsInside t root k
   pub harmless : HasNoSideEffects side_effects t k

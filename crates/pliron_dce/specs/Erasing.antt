@@ -70,8 +70,8 @@ HasRegions t (Use user place) = ⊥
 abbrev pub SomeHasRegions : Tree → List Item → Type 0
 SomeHasRegions t gone = (x : Item) × Among x gone × HasRegions t x
 
--- what holds on the way from the tree t0: dead things of t0 went in turn, the runs of all roots are kept, links stay,
--- only what is inside the root changed, and what is dead is what was dead in t0 and still stands
+-- what holds on the way from the tree t0: dead things of t0 went in turn, the runs of all roots are kept, links
+-- stay, only what is inside the root changed, and what is dead is what was dead in t0 and is still live
 pub record IsSweptSoFar (m : Meaning) (shortened : Shape → ℕ → ℕ → Head) (side_effects : Head → Option Bool) (removable : Head → ℕ → Bool → Option Bool) (t0 t : Tree) (root : ℕ) (gone : List Item) : Type 0 where
   pub went : EraseInTurn m shortened gone t0 t
   pub dead : (x : Item) → Among x gone → IsDead m side_effects removable t0 root x

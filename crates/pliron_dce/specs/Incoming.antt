@@ -44,7 +44,7 @@ is_one_key x y = nat_eq x y && true
 abbrev pub list_of : Incoming → ℕ → Option (List IncomingEdge)
 list_of lists block = option_map (λ v. v.items) (get is_one_key lists.lists block)
 
--- so is each list, of a block that stands inside the root
+-- so is each list, of a block that is inside the root
 abbrev pub AreKnown : Meaning → Tree → ℕ → (ℕ → Option (List IncomingEdge)) → Type 0
 AreKnown m t root find = (block : ℕ) (edges : List IncomingEdge) → find block ≡ Some edges → HoldsBlock t root block → AreIncoming m t block (edges_of edges)
 

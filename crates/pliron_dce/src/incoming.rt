@@ -162,7 +162,7 @@ impl Incoming {
         Ok(())
     }
 
-    // The rows that were indexed for the blocks that have lists lose their indexes, where they still stand.
+    // The rows that were indexed for the blocks that have lists lose their indexes, where they are still live.
     pub(crate) fn settle(&self, ctx: &mut Context)
         ensures { ctx.new ≡ ctx.old }
     {

@@ -59,8 +59,8 @@ pub fn ready_items_are_candidates<D: Dialect>()
 ///
 /// Runs are kept of every root that is otherwise fit to run, also of one whose head may not be a root's.
 ///
-/// Asks that the operation stands and is well linked. Answers `Changed` exactly if something was dead;
-/// nothing is dead then, so a second call answers `Unchanged`.
+/// Asks that the operation is live and is well linked. Answers `Changed` exactly if something was dead; nothing
+/// is dead then, so a second call answers `Unchanged`.
 ///
 /// Errors: allocation failure. The tree is then one after some whole rewrites: dead operations with their
 /// contents, and dead arguments with the operands forwarded to them.
@@ -100,7 +100,7 @@ pub fn dce<D: Dialect>(
 /// As `dce`; answers too whether an operation with regions went. Where none did, the blocks and edges inside
 /// each operation that stands are as before.
 ///
-/// Asks that the operation stands and is well linked. Errors: as `dce`. Cost: as `dce`.
+/// Asks that the operation is live and is well linked. Errors: as `dce`. Cost: as `dce`.
 #[doc(hidden)]
 pub fn dce_with_regions<D: Dialect>(
     alloc: Global,

@@ -199,7 +199,7 @@ pub(crate) fn index_chosen(
     }
 }
 
-// The indexes of those that still stand go.
+// The indexes of those that are still live go.
 pub(crate) fn settle_rows(block: Ptr<BasicBlock>, edges: &[IncomingEdge], ctx: &mut Context)
     ensures { ctx.new ≡ ctx.old }
 {

@@ -85,7 +85,7 @@ fn may_lose<D: Dialect>(block: Ptr<BasicBlock>, holder: Ptr<Operation>, ctx: &Co
     true
 }
 
-// Whether the operation is the root or stands inside it.
+// Whether the operation is the root or is inside it.
 #[inline(always)]
 pub(crate) fn is_within(op: Ptr<Operation>, root: Ptr<Operation>, ctx: &Context) -> bool
     requires { IsLive ctx.now.tree op }

@@ -8,8 +8,9 @@
 //! Over the uses of one value a look goes from the last one down. A use that goes leaves its index to the last one,
 //! which was passed if any was; so what was passed stays behind the rest, but for one use for each that went.
 //!
-//! Where operations stand deep inside others, each of those around passes the same uses. So then each operation has
-//! its position in the text, which tells at once whether a user stands inside, where a climb goes past all around it.
+//! Where operations stand deep inside others, each of those around passes the same uses. So then each operation
+//! has its position in the text, which tells at once whether a user is inside, where a climb goes past all
+//! around it.
 //!
 //! Places and positions are hints. That something holds the operation is seen where it is found; where nothing is
 //! found, the operation is asked as a whole.

@@ -86,7 +86,7 @@ fn list_from(
     Err(Fail::from("too many blocks"))
 }
 
-// Whether the operation is this one or stands inside it.
+// Whether the operation is this one or is inside it.
 fn is_within(op: Ptr<Operation>, around: Ptr<Operation>, ctx: &Context) -> bool {
     op == around || (op.is_live(ctx) && op.is_inside(around, ctx))
 }

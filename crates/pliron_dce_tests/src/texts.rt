@@ -109,7 +109,7 @@ fn edges_that_forward_too_few(rt: HostRuntime) -> Result<(), Fail> {
     check_all(&rt, rt.alloc(), SHORT)
 }
 
-// What is left of the whole where the root stands inside it.
+// What is left of the whole where the root is inside it.
 fn left_around(
     rt: &impl Abort,
     alloc: Global,

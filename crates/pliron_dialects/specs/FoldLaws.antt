@@ -47,7 +47,7 @@ all_agree (Some a ∷ known) (d ∷ ds) h = one_more_agrees (whole_number_of d) 
 
 -- ---- constants
 
--- where the move gives results, they are the known constants
+-- where the transition gives results, they are the known constants
 abbrev GivesKnown : List (Option AttrObj) → Move → Type 0
 GivesKnown cs (Give ds) = Known cs ds
 GivesKnown cs (Visit i ds memo) = Unit {0}
@@ -144,7 +144,7 @@ feasible_in : (o : Option Role) (targets : List ℕ) (known : List (Option AttrO
 feasible_in None targets known b h = h
 feasible_in (Some r) targets known b h = role_in r targets known b h
 
--- where the move is a jump, it is one to one of these successors
+-- where the transition is a jump, it is one to one of these successors
 abbrev JumpsWithin : List ℕ → List ℕ → Move → Type 0
 JumpsWithin targets blocks (Goto i ds) = (b : ℕ) → slice_get targets i ≡ Some b → In b blocks
 JumpsWithin targets blocks (Give ds) = Unit {0}

@@ -145,7 +145,7 @@ effects_of (Computes n) = Some false
 effects_of Acts = Some true
 effects_of _ = None
 
--- arguments may go of all blocks of a region but its entry
+-- arguments may be removed from all blocks of a region but its entry
 abbrev pub removable_of : Form → Bool → Option Bool
 removable_of Acts entry = Some (not entry)
 removable_of _ entry = None

@@ -1,15 +1,15 @@
--- Moves of operations that visit their regions, for dialects to cite.
+-- Transitions of operations that invoke their regions, for dialects to cite.
 use Rattle.std.proofs.Common.{◌≡◌, ℕ, zero, suc, Bool, List, [], ◌∷◌, Some, length, slice_get, slice_index_or, refl, ap, ◌∙◌, arith}
 use Rattle.std.specs.Prelude.{pos}
 use Rattle.std.proofs.lemmas.Option.{same_Some}
 use Rattle.pliron_laws.specs.Datum.{Datum, Empty, Number, Text, Join, Shape, Move, Visit}
 use Rattle.pliron_laws.specs.Laws.{CountsFit}
 
--- the memo after a first move
+-- the memo after a first transition
 abbrev pub memo_when_done : Datum
 memo_when_done = Number (pos 1)
 
--- one move first, the other one when it is done
+-- one transition first, the other one when it is done
 abbrev pub once : Datum → Move → Move → Move
 once Empty move after = move
 once (Number n) move after = after
@@ -22,7 +22,7 @@ fit_data zero ds = []
 fit_data (suc n) [] = Number (pos 0) ∷ fit_data n []
 fit_data (suc n) (d ∷ ds) = d ∷ fit_data n ds
 
--- the region with this index is visited with these values, as far as its entry has arguments
+-- the region with this index is invoked with these values, as far as its entry has arguments
 abbrev pub visit_of : ℕ → Shape → List Datum → Move
 visit_of i s values = Visit i (fit_data (slice_index_or s.entry_arguments i 0) values) memo_when_done
 

@@ -74,7 +74,7 @@ pub fn answers_of(
     Ok(answers)
 }
 
-/// Whether the operation is a constant. Asks that the operation stands (`is_live` tests it). Cost: that of
+/// Whether the operation is a constant. Asks that the operation is live (`is_live` tests it). Cost: that of
 /// `from_number`.
 pub fn makes_constant<K: Kinds>(op: Ptr<Operation>, ctx: &Context) -> bool
     requires { IsLive ctx.now.tree op }

@@ -12,9 +12,9 @@ use std::alloc::{AllocError, Global};
 /// edges with the values that they forward, grey where the entry doesn't lead, and where it is wished a dotted edge
 /// from the immediate dominator of each block.
 ///
-/// Statuses: 0; 1 where memory was refused; 2 for an unreadable text, and where no region has the path. With 1 and 2
-/// nothing is to be written to the output. Errors: allocation failure for what is told. Cost: reading, and that of
-/// `graph_rows`.
+/// Statuses: 0; 1 on allocation failure; 2 for an unreadable text, and where no region has the path. With 1 and
+/// 2 nothing is to be written to the output. Errors: allocation failure for what is told. Cost: reading, and
+/// that of `graph_rows`.
 pub fn draw_flow(alloc: Global, source: &Source, wish: &FlowOptions) -> Result<Outcome, AllocError>
     ensures { IfOk result (Ends IsFlowText ⊥) }
 {
@@ -30,7 +30,8 @@ pub fn draw_flow(alloc: Global, source: &Source, wish: &FlowOptions) -> Result<O
 /// each after one blank. Each cyclic component stands in a frame, and the colour of an edge tells its kind in a
 /// depth-first search: black forward, red back, blue across, and grey where the search doesn't come.
 ///
-/// Statuses: 0; 1 where memory was refused; 2 for another text. With 1 and 2 nothing is to be written to the output.
+/// Statuses: 0; 1 on allocation failure; 2 for another text. With 1 and 2 nothing is to be written to the
+/// output.
 /// Errors: allocation failure for what is told. Cost: that of `read_graph`, and linear but for sorting each component.
 pub fn draw_graph(alloc: Global, source: &Source) -> Result<Outcome, AllocError>
     ensures { IfOk result (Ends ⊤ ⊥) }

@@ -31,8 +31,8 @@ pub fn is_same_head(first: &Head, second: &Head) -> bool
 }
 
 /// Whether the second operation has the head of the first, its operands and as many results, neither has
-/// successors or regions, and it has no side effects. Asks that both stand. Takes no memory. Cost: that of what is
-/// compared.
+/// successors or regions, and it has no side effects. Asks that both are live. Takes no memory. Cost: that of
+/// what is compared.
 pub fn are_alike<D: Dialect>(first: Ptr<Operation>, second: Ptr<Operation>, ctx: &Context) -> bool
     requires first { IsLive ctx.now.tree first }
     requires second { IsLive ctx.now.tree second }

@@ -31,7 +31,7 @@ fn data(alloc: Global, numbers: &[i128]) -> Result<Vec<Datum>, AllocError> {
     Ok(data)
 }
 
-/// The operation and all that stand inside it that are functions, in the order of the text.
+/// The operation and all that are inside it that are functions, in the order of the text.
 fn functions(
     alloc: Global,
     root: Ptr<Operation>,

@@ -20,8 +20,8 @@ fn have_one_parent(ctx: &Context, a: Ptr<Operation>, b: Ptr<Operation>) -> bool
 
 /// Whether both operations stand in one block, `a` before `b`. No operation precedes itself.
 ///
-/// Asks that both stand (`is_live` tests it). Cost: one step for each operation of the block from `a` to `b`,
-/// or to the end of the block if `b` is not after `a`; constant if they stand in different blocks.
+/// Asks that both are live (`is_live` tests it). Cost: one step for each operation of the block from `a` to
+/// `b`, or to the end of the block if `b` is not after `a`; constant if they stand in different blocks.
 pub fn strictly_precedes_in_block(ctx: &Context, a: Ptr<Operation>, b: Ptr<Operation>) -> bool
     requires first { IsLive ctx.now.tree a }
     requires second { IsLive ctx.now.tree b }
@@ -41,7 +41,7 @@ pub fn strictly_precedes_in_block(ctx: &Context, a: Ptr<Operation>, b: Ptr<Opera
     false
 }
 
-// Whether the operation stands directly in the block.
+// Whether the operation is directly in the block.
 fn is_directly_in_block(ctx: &Context, op: Ptr<Operation>, block: Ptr<BasicBlock>) -> bool
     requires { IsLive ctx.now.tree op }
     ensures { IsTrue result ↔ IsDirectlyInBlock ctx.now.tree block op }
@@ -49,7 +49,7 @@ fn is_directly_in_block(ctx: &Context, op: Ptr<Operation>, block: Ptr<BasicBlock
     op.get_parent_block(ctx) == Some(block)
 }
 
-// Whether the operation stands directly in the region.
+// Whether the operation is directly in the region.
 fn is_directly_in_region(ctx: &Context, op: Ptr<Operation>, region: Ptr<Region>) -> bool
     requires { IsLive ctx.now.tree op }
     ensures { IsTrue result ↔ IsDirectlyInRegion ctx.now.tree region op }
@@ -60,10 +60,10 @@ fn is_directly_in_region(ctx: &Context, op: Ptr<Operation>, region: Ptr<Region>)
     }
 }
 
-/// The operation, or else the nearest of its ancestors, that stands directly in the region; `None` exactly if
-/// there is none.
+/// The operation, or else the nearest of its ancestors, that is directly in the region; `None` exactly if there
+/// is none.
 ///
-/// Asks that the operation stands (`is_live` tests it). Cost: the depth of the operation.
+/// Asks that the operation is live (`is_live` tests it). Cost: the depth of the operation.
 pub fn find_ancestor_op_of_op_in_region(
     ctx: &Context,
     op: Ptr<Operation>,
@@ -84,10 +84,10 @@ pub fn find_ancestor_op_of_op_in_region(
     None
 }
 
-/// The operation, or else the nearest of its ancestors, that stands directly in the block; `None` exactly if
-/// there is none.
+/// The operation, or else the nearest of its ancestors, that is directly in the block; `None` exactly if there
+/// is none.
 ///
-/// Asks that the operation stands (`is_live` tests it). Cost: the depth of the operation.
+/// Asks that the operation is live (`is_live` tests it). Cost: the depth of the operation.
 pub fn find_ancestor_op_of_op_in_block(
     ctx: &Context,
     op: Ptr<Operation>,
@@ -108,10 +108,10 @@ pub fn find_ancestor_op_of_op_in_block(
     None
 }
 
-/// The nearest of the blocks around the operation that stands directly in the region; `None` exactly if there
-/// is none.
+/// The nearest of the blocks around the operation that is directly in the region; `None` exactly if there is
+/// none.
 ///
-/// Asks that the operation stands (`is_live` tests it). Cost: the depth of the operation.
+/// Asks that the operation is live (`is_live` tests it). Cost: the depth of the operation.
 pub fn find_ancestor_block_of_op_in_region(
     ctx: &Context,
     op: Ptr<Operation>,
@@ -126,10 +126,10 @@ pub fn find_ancestor_block_of_op_in_region(
     above.get_parent_block(ctx)
 }
 
-/// The block, or else the nearest of the blocks around it, that stands directly in the region; `None` exactly
-/// if there is none.
+/// The block, or else the nearest of the blocks around it, that is directly in the region; `None` exactly if
+/// there is none.
 ///
-/// Asks that the block stands (`is_live` tests it). Cost: the depth of the block.
+/// Asks that the block is live (`is_live` tests it). Cost: the depth of the block.
 pub fn find_ancestor_block_of_block_in_region(
     ctx: &Context,
     block: Ptr<BasicBlock>,
@@ -150,7 +150,7 @@ pub fn find_ancestor_block_of_block_in_region(
 /// The nearest ancestor of the operation that is of this kind; `None` exactly if there is none. The operation
 /// itself is not looked at.
 ///
-/// Asks that the operation stands (`is_live` tests it). Cost: the depth of the operation.
+/// Asks that the operation is live (`is_live` tests it). Cost: the depth of the operation.
 pub fn find_ancestor_of_op_type<D: Dialect>(
     ctx: &Context,
     op: Ptr<Operation>,
@@ -174,7 +174,7 @@ pub fn find_ancestor_of_op_type<D: Dialect>(
 /// The nearest ancestor of the operation that implements this interface; `None` exactly if there is none. The
 /// operation itself is not looked at.
 ///
-/// Asks that the operation stands (`is_live` tests it). Cost: the depth of the operation.
+/// Asks that the operation is live (`is_live` tests it). Cost: the depth of the operation.
 pub fn find_ancestor_of_op_interface<D: Dialect>(
     ctx: &Context,
     op: Ptr<Operation>,

@@ -10,8 +10,8 @@
 //!
 //! A [`ReverseGraph`] is the reverse of a graph, and itself a graph, whose entry leads to one node of each component that no edge leaves.
 //!
-//! The blocks of a region are such a graph, where edges stand last in the operation that holds it. The searches for ancestors go up
-//! from an operation or a block of the tree.
+//! The blocks of a region are such a graph, where edges stand last in its parent operation. The searches for
+//! ancestors go up from an operation or a block of the tree.
 //!
 //! No call goes deeper with the graph: each search has a stack of its own.
 //!

@@ -108,8 +108,8 @@ fn block(rt: &impl Abort, ctx: &mut Context, region: Ptr<Region>) -> Ptr<BasicBl
     BasicBlock::create(ctx, region, 0).expect(rt, "memory")
 }
 
-// Gives the region a block for each row, which leads to those of its row. The last block gets its edges first, so
-// that the uses of a block do not stand in the region's order.
+// Gives the region a block for each row, which leads to those of its row. The last block gets its edges first,
+// so that the uses of a block do not are in the region's order.
 fn fill(rt: &impl Abort, alloc: Global, ctx: &mut Context, region: Ptr<Region>, rows: &[Vec<u32>]) {
     let mut blocks = Vec::new(alloc);
     for _ in rows {

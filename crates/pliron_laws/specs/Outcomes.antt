@@ -16,7 +16,7 @@ next_op t = length t.operations
 abbrev pub next_value : Tree → ℕ
 next_value t = length t.definitions
 
--- a new operation with this head and one result stands just before op, and has all uses of the value
+-- a new operation with this head and one result is just before op, and has all uses of the value
 abbrev pub after_materialising : Tree → ℕ → ℕ → Head → Tree
 after_materialising t op v head = after_replacing (put_next_to (after_creating t head 1 0) (next_op t) op (parent_of t op)) v (next_value t)
 
@@ -35,8 +35,8 @@ pub data Materialises (accepts : AttrObj → Bool) (head : AttrObj → Head) (op
   PassedOver : {v : ℕ} {vs : List ℕ} {attr : AttrObj} {answers : List (Option AttrObj)} {t t' : Tree} → accepts attr ≡ false → Materialises accepts head op vs answers t t' → Materialises accepts head op (v ∷ vs) (Some attr ∷ answers) t t'
   Put : {v : ℕ} {vs : List ℕ} {attr : AttrObj} {answers : List (Option AttrObj)} {t t' : Tree} → IsTrue (accepts attr) → Materialises accepts head op vs answers (after_materialising t op v (head attr)) t' → Materialises accepts head op (v ∷ vs) (Some attr ∷ answers) t t'
 
--- a new operation with this head and one result stands where a rewriter inserts, and has all uses of
--- the value
+-- a new operation with this head and one result is at a rewriter's insertion point, and has all uses of the
+-- value
 abbrev pub materialised_at : Tree → OpInsertionPoint → ℕ → Head → Tree
 materialised_at t point v head = after_replacing (after_inserting (after_creating t head 1 0) point (next_op t)) v (next_value t)
 
@@ -46,7 +46,7 @@ pub record IsMadeConstant (t now : Tree) (c : ℕ) (head : Head) : Type 0 where
   pub made : now ≡ after_creating t head 1 0
   pub key : c ≡ length t.operations
 
--- c was just made in t for a constant, and the value stands there
+-- c was just made in t for a constant, and the value is live there
 pub record IsFreshConstant (t now : Tree) (c v : ℕ) (head : Head) : Type 0 where
   pub tree : IsTree t
   pub made : now ≡ after_creating t head 1 0

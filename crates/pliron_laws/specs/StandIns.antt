@@ -1,4 +1,5 @@
--- Constants that stand before an operation for some of its results, until all of them are made.
+-- Materialised constants before an operation that are to replace some of its results, until all of them are
+-- made.
 use Rattle.std.specs.Prelude.{◌≡◌, ◌+◌, ◌<◌, ◌≤◌, ℕ, Bool, List, [], ◌∷◌, ◌++◌, length, Option, Some, None, IsSome, slice_get}
 use Rattle.pliron_core.specs.declared.attrs.AttrObj.{AttrObj}
 use Rattle.pliron_core.specs.declared.attrs.IRStatus.{IRStatus}
@@ -17,16 +18,16 @@ use Rattle.pliron_laws.specs.Outcomes.{next_op, next_value, Materialises}
 abbrev pub stand_in : Tree → ℕ → StandIn
 stand_in t v = record { constant = next_op t; old = v; new = next_value t }
 
--- a new operation with this head and one result stands just before op
+-- a new operation with this head and one result is just before op
 abbrev pub with_constant : Tree → ℕ → Head → Tree
 with_constant t op head = put_next_to (after_creating t head 1 0) (next_op t) op (parent_of t op)
 
--- these were put before op one after the other, each for a value that stands, and nothing else was changed
+-- these were put before op one after the other, each for a live value, and nothing else was changed
 pub data AreStanding (op : ℕ) (t : Tree) : List StandIn → Tree → Type 0 where
   NoneYet : AreStanding op t [] t
   Another : {made : List StandIn} {u : Tree} (v : ℕ) (head : Head) → AreStanding op t made u → IsTree u → IsSome (parent_of u op) → IsDefined u v → AreStanding op t (made ++ stand_in u v ∷ []) (with_constant u op head)
 
--- each has the uses of the value for which it stands
+-- each has the uses of the value that it replaces
 abbrev pub all_replaced : List StandIn → Tree → Tree
 all_replaced [] t = t
 all_replaced (s ∷ more) t = all_replaced more (after_replacing t s.old s.new)
@@ -50,13 +51,13 @@ pub record IsRestored (t u : Tree) : Type 0 where
   pub definitions : (v : ℕ) (d : Def) → definition_of t v ≡ Some d → definition_of u v ≡ Some d
   pub longer : length t.operations ≤ length u.operations
 
--- whether something stands that did not
+-- whether something is live that was not
 abbrev pub ReportsNew : IRStatus → Tree → Tree → Type 0
 ReportsNew Unchanged t u = u ≡ t
 ReportsNew Changed t u = (k : ℕ) × (head_of t k ≡ None) × IsLive u k
 
--- a constant stands before op for each result that is answered by an attribute which the dialect accepts: once they have the uses
--- of the results, op is folded
+-- a constant is before op for each result that is answered by an attribute which the dialect accepts: once they
+-- have the uses of the results, op is folded
 pub record IsStoodIn (accepts : AttrObj → Bool) (head : AttrObj → Head) (op : ℕ) (answers : List (Option AttrObj)) (t : Tree) (made : List StandIn) (u : Tree) : Type 0 where
   pub standing : AreStanding op t made u
   pub folds : Materialises accepts head op (results_of t op) answers t (all_replaced made u)

@@ -6,17 +6,18 @@ use Rattle.pliron_laws.specs.Datum.{Datum}
 abbrev pub Environment : Type 0
 Environment = ℕ → Option Datum
 
--- an operation that waits for the end of a visit, with those after it in its block
+-- an operation that waits for the end of an invocation, with those after it in its block
 pub record Waiting : Type 0 where
   pub rest : List ℕ
   pub memo : Datum
 
 pub record State : Type 0 where
   pub environment : Environment
-  -- the operation that moves next, and those after it in its block
+  -- the operation whose transition is next, and those after it in its block
   pub rest : List ℕ
   pub memo : Datum
-  -- what the last visit or effect answered; at an operation's first move its operands' data are the input
+  -- what the last invocation or effect answered; at an operation's first transition its operands' data are the
+  -- input
   pub answer : Option (List Datum)
   pub waiting : List Waiting
   pub world : List Datum

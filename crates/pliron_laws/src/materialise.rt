@@ -1,4 +1,4 @@
-//! Putting a constant for a value.
+//! Replacing a value by a materialised constant.
 ghost use Rattle.std.specs.Prelude.{◌≡◌, ◌≤◌, ℕ, None, OnOk, OnErr, length};
 ghost use Rattle.pliron_core.specs.declared.attrs.Head.{Head};
 ghost use Rattle.pliron_core.specs.Tree.{Tree, In, IsDefined, operands_of};
@@ -11,7 +11,7 @@ ghost use Rattle.pliron_laws.specs.Outcomes.{IsMadeConstant, IsFreshConstant, ma
 
 use pliron_core::{Context, NoMemory, Operation, Ptr, Rewriter, Value};
 
-// The new operation goes where the rewriter inserts. Where that is refused it is erased again.
+// The new operation is inserted at the rewriter's insertion point. Where that is refused it is erased again.
 pub(crate) fn insert_or_erase<R: Rewriter>(
     ctx: &mut Context,
     constant: Ptr<Operation>,
@@ -46,11 +46,12 @@ pub(crate) fn hand_over<R: Rewriter>(ctx: &mut Context, old: Value, new: Value, 
     }
 }
 
-/// The new operation goes where the rewriter inserts, and its result gets the uses of the value.
+/// The new operation is inserted at the rewriter's insertion point, and its result gets the uses of the value.
 ///
 /// Asks that the operation was just made, in no block, with one result, and that the rewriter may insert it.
-/// Errors: allocation failure, after which the operation is erased again, so that the value is rewritten wholly
-/// or not at all. Cost: the number of uses of the value, amortised, and what the rewriter's listener costs.
+/// Errors: allocation failure, after which the operation is erased again, so that the value is replaced at all
+/// its uses or at none. Cost: the number of uses of the value, amortised, and what the rewriter's listener
+/// costs.
 pub fn put_constant<R: Rewriter>(
     ctx: &mut Context,
     constant: Ptr<Operation>,

@@ -1,4 +1,4 @@
-//! Room for changes of a tree.
+//! Memory reserved for changes of a tree.
 ghost use Rattle.std.specs.Prelude.{◌≡◌, IsOkUnless};
 
 use crate::fault::OptError;

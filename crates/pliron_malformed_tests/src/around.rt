@@ -13,7 +13,8 @@ use pliron_test_cases::cases::read;
 use std::alloc::Global;
 use std::process::Abort;
 
-/// The searches in the region of the parent operation find something exactly where the operation stands inside the parent operation, and the same thing.
+/// The searches in the region of the parent operation find something exactly where the operation is inside the
+/// parent operation, and the same thing.
 fn check_operation(
     rt: &impl Abort,
     op: Ptr<Operation>,

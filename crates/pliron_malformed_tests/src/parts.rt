@@ -51,7 +51,7 @@ fn in_region(
     }
 }
 
-/// What the call answers for the block, which stands directly in the parent operation.
+/// What the call answers for the block, which is directly in the parent operation.
 fn in_block(
     rt: &impl Abort,
     alloc: Global,
@@ -170,7 +170,7 @@ fn check_region(
     true
 }
 
-/// The blocks of the whole, each with the operation that it stands directly in.
+/// The blocks of the whole, each with the operation that it is directly in.
 fn all_blocks(
     rt: &impl Abort,
     alloc: Global,

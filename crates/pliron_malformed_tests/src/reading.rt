@@ -65,7 +65,7 @@ fn check_verified(rt: &impl Abort, alloc: Global, root: Ptr<Operation>, ctx: &Co
     assert!(rt; verify_operation::<Bench>(alloc, root, ctx).is_ok() == is_faultless);
 }
 
-/// How many operations stand inside it.
+/// How many operations are inside it.
 fn count_contents(rt: &impl Abort, root: Ptr<Operation>, ctx: &Context) -> usize {
     assert!(rt; root.is_live(ctx));
     let mut count = 0usize;
@@ -77,7 +77,7 @@ fn count_contents(rt: &impl Abort, root: Ptr<Operation>, ctx: &Context) -> usize
     count
 }
 
-/// How many of them stand directly inside it.
+/// How many of them are directly inside it.
 fn count_children(rt: &impl Abort, root: Ptr<Operation>, ctx: &Context) -> usize {
     assert!(rt; root.is_live(ctx));
     let mut count = 0usize;

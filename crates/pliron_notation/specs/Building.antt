@@ -1,4 +1,4 @@
--- What stands while a text is built in a tree.
+-- What is live while a text is built in a tree.
 use Rattle.std.specs.Prelude.{◌≡◌, ◌⊎◌, ℕ, ◌<◌, ◌≤◌, List, length, Some, None, slice_get}
 use Rattle.pliron_core.specs.declared.attrs.Head.{Head}
 use Rattle.pliron_core.specs.Tree.{Tree, In, IsLive, IsBlock, IsRegion, IsDefined, parent_of, parent_operation_of, block_parent_operation_of, region_parent_of}
@@ -12,7 +12,7 @@ use Rattle.pliron_notation.specs.declared.syntax.Syntax.{Syntax}
 abbrev pub KeepsEntries : {A : Type 0} → List A → List A → Type 0
 KeepsEntries {A} xs ys = (k : ℕ) (x : A) → slice_get xs k ≡ Some x → slice_get ys k ≡ Some x
 
--- what stands in t stands in u, at the same place and made by the same
+-- what is live in t is live in u, at the same place and defined by the same
 pub record IsExtended (t u : Tree) : Type 0 where
   pub operations : KeepsEntries t.operations u.operations
   pub parents : KeepsEntries t.parents u.parents
@@ -29,8 +29,8 @@ pub record IsKept (t u : Tree) : Type 0 where
   pub bodies : KeepsEntries t.bodies u.bodies
   pub layouts : KeepsEntries t.layouts u.layouts
 
--- u is t and a new operation in no block, with what stands inside it: each of these operations has a
--- holder that is new and older
+-- u is t and a new operation in no block, with what stands inside it: each of these operations has a parent
+-- operation that is new and older
 pub record IsGrown (t u : Tree) (root : ℕ) : Type 0 where
   pub before : IsTree t
   pub kept : IsKept t u
@@ -42,7 +42,7 @@ pub record IsGrown (t u : Tree) (root : ℕ) : Type 0 where
 abbrev pub All : (ℕ → Type 0) → List ℕ → Type 0
 All p xs = (x : ℕ) → In x xs → p x
 
--- it is new, and so is the operation that holds it
+-- it is new, and so is its parent operation
 abbrev pub IsNewBlock : Tree → Tree → ℕ → ℕ → Type 0
 IsNewBlock t u root b = (h : ℕ) × (block_parent_operation_of u b ≡ Some h) × (root ≤ h) × (length t.bodies ≤ b)
 
@@ -60,7 +60,7 @@ pub record IsBuilt (t u : Tree) (root : ℕ) (built : Built) : Type 0 where
 abbrev pub BuildingGoesOn : (u : Tree) (built : Built) (v : Tree) (more : Built) → Type 0
 BuildingGoesOn u built v more = (t : Tree) (root : ℕ) → IsBuilt t u root built → IsBuilt t v root more
 
--- what is built stands
+-- what is built is live
 pub record AreStanding (u : Tree) (built : Built) : Type 0 where
   pub operations : All (IsLive u) built.operations.items
   pub blocks : All (IsBlock u) built.blocks.items

@@ -1,4 +1,7 @@
 //! From syntax to a tree.
+//!
+//! Room is reserved for twice the operations and values of a text, since constant propagation makes a constant
+//! for each value; untouched room costs addresses alone.
 ghost use Rattle.std.specs.Prelude.{pos, ℕ, ◌≡◌, Some, slice_get, ◌++◌, ◌∷◌, [], ◌+◌, ◌<◌, IfOk, OnOk, OnErr, length};
 ghost use Rattle.pliron_core.specs.declared.attrs.Head.{Head as TreeHead};
 ghost use Rattle.pliron_core.specs.declared.attrs.AttrObj.TheVariants.{Int};
@@ -51,7 +54,7 @@ fn head_of(alloc: Global, text: &OperationText) -> Result<Head, AllocError>
 /// Builds the operation of a text, in no block and well linked.
 ///
 /// Asks that the syntax is sound, as `parse` makes it. Errors: allocation failure, after which nothing of the
-/// text stands. Cost: linear in the text.
+/// text is live. Cost: linear in the text.
 pub fn build(alloc: Global, syntax: &Syntax, ctx: &mut Context) -> Result<Ptr<Operation>, NoMemory>
     requires { IsSoundSyntax syntax.now }
     ensures built { IfOk result (λ root. IsGrown ctx.old.tree ctx.new.tree root) }
@@ -102,7 +105,7 @@ fn build_reserved(
     }
 }
 
-/// Builds all that stands inside the operation of a text.
+/// Builds all that is inside the operation of a text.
 fn fill(
     alloc: Global,
     syntax: &Syntax,

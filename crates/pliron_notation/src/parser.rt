@@ -15,7 +15,7 @@ const MAX_DEPTH: usize = 64;
 /// A region that is open.
 #[derive(Clone, Copy, Drop)]
 struct OpenRegion {
-    /// The kind of the operation that holds it.
+    /// The kind of its parent operation.
     kind: BenchKind,
     /// The number of its `func`'s region.
     func: usize,

@@ -1,4 +1,7 @@
 //! From a tree to text.
+//!
+//! A printed value has its number in a table by key from the least printed one on, and in a map where its key
+//! lies further away. Digits come from `itoa`.
 ghost use Rattle.std.specs.Prelude.{◌≡◌, IsOkUnless};
 ghost use Rattle.pliron_core.specs.Tree.{IsLive, IsBlock, IsRegion};
 ghost use Rattle.pliron_notation.specs.Printing.{AllStand, IsStanding};
@@ -33,7 +36,7 @@ struct Printer {
 /// The text of the operation in one line, where blocks are `b0`, `b1`, .. in each region and values are
 /// `v0`, `v1`, .. from each operation on at which names begin anew.
 ///
-/// Asks that the operation stands. Errors: allocation failure. Cost: linear in the tree.
+/// Asks that the operation is live. Errors: allocation failure. Cost: linear in the tree.
 pub fn print_as<P: Printed>(
     alloc: Global,
     root: Ptr<Operation>,
@@ -51,7 +54,7 @@ pub fn print_as<P: Printed>(
 
 impl Printer {
     /// A printer with room for a text of the usual length, and for twice as many keys as there are values and
-    /// blocks, since some of those between may have gone. Errors: allocation failure.
+    /// blocks, since some of those between may be erased. Errors: allocation failure.
     fn new(alloc: Global, outline: &Outline) -> Result<Printer, AllocError> {
         let extent = outline.extent;
         let letters = outline.steps.len().saturating_mul(24);

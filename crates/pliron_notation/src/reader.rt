@@ -26,10 +26,10 @@ pub struct TextFault {
     pub expected: Expected,
 }
 
-/// Reads a text of the bench notation and builds its operation, which stands in no block and is well
-/// linked. `None` is an unreadable text, which is decided before anything is made.
+/// Reads a text of the bench notation and builds its operation, which is in no block and is well linked. `None`
+/// is an unreadable text, which is decided before anything is made.
 ///
-/// Errors: allocation failure, after which nothing of the text stands.
+/// Errors: allocation failure, after which nothing of the text is live.
 /// Cost: linear in the text, but for look-ups of names, each of which takes the logarithm of their
 /// number.
 pub fn read_text(

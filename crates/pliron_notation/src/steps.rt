@@ -1,4 +1,4 @@
-//! What stands in a tree, in the order of its text.
+//! What is in a tree, in the order of its text.
 ghost use Rattle.std.specs.Prelude.{IfOk, IfSome};
 ghost use Rattle.pliron_core.specs.Tree.{IsLive, IsBlock, IsRegion};
 ghost use Rattle.pliron_notation.specs.Printing.{AllStand, IsStanding};
@@ -36,10 +36,10 @@ pub struct Outline {
 }
 
 impl Outline {
-    /// All that stands in an operation, from the operation on.
+    /// All that is in an operation, from the operation on.
     ///
-    /// Asks that the operation stands (`is_live` tests it). Errors: allocation failure. Cost: one step for each
-    /// operation, block and region, where no operation has more than one region.
+    /// Asks that the operation is live (`is_live` tests it). Errors: allocation failure. Cost: one step for
+    /// each operation, block and region, where no operation has more than one region.
     pub fn of(alloc: Global, root: Ptr<Operation>, ctx: &Context) -> Result<Outline, AllocError>
         requires { IsLive ctx.now.tree root }
         ensures { IfOk result (λ outline. AllStand ctx.now.tree outline.steps.items) }

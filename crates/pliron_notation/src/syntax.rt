@@ -16,7 +16,7 @@ pub struct OperationText {
     pub number: i64,
     /// How many values the first edge of a `cbr` forwards.
     pub first_edge: usize,
-    /// The block that it stands in.
+    /// The block that it is in.
     pub block: usize,
     pub operands: SmallVec<usize, 2>,
     pub successors: Vec<usize>,
@@ -38,8 +38,8 @@ pub enum SyntaxStep {
     Block(usize),
 }
 
-/// A text: the kind of the operation that it is as a whole, and what stands inside it, in the order of
-/// the text. The whole's region has the number 0.
+/// A text: the kind of the operation that it is as a whole, and what is inside it, in the order of the text.
+/// The whole's region has the number 0.
 #[derive(Drop)]
 pub struct Syntax {
     pub root: BenchKind,

@@ -1,4 +1,7 @@
 //! The words of a text and their tokens.
+//!
+//! A word's key is seven bits of each byte. One multiplication gives the first of eight slots, and where these
+//! are taken an ordered map decides, so no words that a stranger chose are quadratic.
 ghost use Rattle.std.specs.Prelude.{◌<◌, ◌≤◌, length};
 
 use crate::tokens::{Name, Token};

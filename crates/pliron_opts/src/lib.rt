@@ -79,10 +79,10 @@ fn answer_to_input<N: Notation, R: Read>(
 /// Runs the program over the texts of a notation, on the words after its name and these streams, and
 /// answers its status. `program` is its name in the line on how it is used.
 ///
-/// For every dialect that keeps its laws and every notation of it: an answer to a schedule of passes is a
-/// tree printed, and a line that says truly whether it changed. The tree is what these passes, run once as
-/// a whole, made of one that was read from the whole input, and every operation that was fit to run and
-/// still stands does as before.
+/// For every dialect that keeps its laws and every notation of it: an answer to a schedule of passes is a tree
+/// printed, and a line that says truly whether it changed. The tree is what these passes, run once as a whole,
+/// made of one that was read from the whole input, and every operation that was fit to run and is still live
+/// does as before.
 ///
 /// Faults are found in this order: arguments, reading, text, passes and printing, writing. Nothing is
 /// written to `output` before the whole answer is known. Statuses: 0; 1 where memory or the passes were

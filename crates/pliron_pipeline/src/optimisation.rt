@@ -37,7 +37,7 @@ pub trait Optimisation {
     fn name() -> &'static str
         ensures { result.now ≡ name };
 
-    /// Optimises the operation, and tells what changed. Asks that it stands and is well linked. Errors: those
+    /// Optimises the operation, and tells what changed. Asks that it is live and is well linked. Errors: those
     /// of the optimisation.
     fn optimise(alloc: Global, op: Ptr<Operation>, ctx: &mut Context) -> Result<Effect, OptError>
         requires live { IsLive ctx.old.tree op }

@@ -72,7 +72,7 @@ func { b0(x1): scope x1 { b0(x2): x4 = const 2; x5 = const -1; x6 = div x5 x2; x
     b1(x3): x8, x9 = pair; x10 = add x5 x9; x11 = const 1; sink x8 x2; ret x10 }; x12, x13 = pair; scope x13 { b0(x14): x15 = read; x16 = read; print x16; \
     br b1(); b1(): x17, x18 = pair; x19 = add x13 x14; x20 = add x13 x16; cbr x13 b1() b1() }; x21 = const 2; ret x13 }";
 
-// The operation and all that stand inside it, in the order of the text.
+// The operation and all that are inside it, in the order of the text.
 fn operations(
     rt: &impl Abort,
     alloc: Global,

@@ -5,7 +5,7 @@ use std::alloc::{AllocError, Global};
 
 static PASSES: [&str; 3] = ["sccp", "dce", "simplify-cfg"];
 
-/// A list of one to three passes, sometimes again and again, sometimes on what stands directly inside.
+/// A list of one to three passes, sometimes again and again, sometimes on what is directly inside.
 /// Errors: allocation failure. Cost: constant.
 pub fn list(alloc: Global, dice: &mut Dice) -> Result<String, AllocError> {
     let mut word = String::new(alloc);

@@ -29,7 +29,7 @@ use Rattle.pliron_sccp.specs.RewriteSteps.{IsFoldStep, AreFoldSteps, IsFoldingOn
 use Rattle.pliron_sccp.specs.declared.rewrite.Fold.{Fold}
 use Rattle.pliron_sccp.specs.declared.rewrite.Folds.{Folds}
 use Rattle.pliron_sccp.specs.Chain.{FoldsInTurn, FoldsPartly}
-use Rattle.pliron_sccp.specs.Chain.FoldsPartly.{Stopped, After}
+use Rattle.pliron_sccp.specs.Chain.FoldsPartly.{Refused, After}
 use Rattle.pliron_sccp.specs.Chain.FoldsInTurn.{NoMore, Next}
 use Rattle.pliron_theory.proofs.FollowedFacts.{fold_on}
 
@@ -85,9 +85,6 @@ module _ (x : Says) (t₀ : Tree) (root : ℕ) (f₀ : LatticeValues) (t : Tree)
         let p = law.constant t u op ks (Some status) now.operation now.stands is in
         told_of t u status p.1 (some_told accepts head op now.operation.results (x.constants (shape_of x.meaning t now.operation) ks) t u p.0)
 
-    pub step_refused : (u : Tree) → outcome t u op ks None → IsSameTree t u
-    step_refused u is = (law.constant t u op ks None now.operation now.stands is).1
-
     pub step_stays : (u : Tree) (answer : Option IRStatus) → outcome t u op ks answer → (k : ℕ) → IsLive t k → IsLive u k
     step_stays u answer is =
         some_stays accepts head op now.operation.results (x.constants (shape_of x.meaning t now.operation) ks) t u (law.constant t u op ks answer now.operation now.stands is).0
@@ -139,5 +136,8 @@ module _ (x : Says) (outcome : Outcome) (start : Tree) (folds : Folds) where
   pub folding_end : (i : ℕ) (status : IRStatus) (here : Tree) → IsFoldingOn x outcome start folds i status here → drop i folds.rows.items ≡ [] → (t₀ : Tree) (root : ℕ) (f₀ : LatticeValues) → AreFoldSteps x t₀ root f₀ start folds → FoldsInTurn outcome t₀ f₀ (map (λ fold. fold.op) folds.rows.items) start here
   folding_end i status here g none t₀ root f₀ s = g.turns t₀ root f₀ s here (subst (λ l. FoldsInTurn outcome t₀ f₀ (map (λ q. q.op) l) here here) (sym none) NoMore)
 
-  pub folding_broken : (i : ℕ) (status : IRStatus) (here : Tree) → IsFoldingOn x outcome start folds i status here → (next : Tree) → IsSameTree here next → (t₀ : Tree) (root : ℕ) (f₀ : LatticeValues) → AreFoldSteps x t₀ root f₀ start folds → FoldsPartly outcome t₀ f₀ (map (λ fold. fold.op) folds.rows.items) start next
-  folding_broken i status here g next same t₀ root f₀ s = g.partly t₀ root f₀ s next (Stopped same)
+  pub folding_broken : (i : ℕ) (status : IRStatus) (here : Tree) → IsFoldingOn x outcome start folds i status here → (fold : Fold) → slice_get folds.rows.items i ≡ Some fold → (next : Tree) → outcome here next fold.op (slice_range folds.known.items fold.start fold.end) None → (t₀ : Tree) (root : ℕ) (f₀ : LatticeValues) → AreFoldSteps x t₀ root f₀ start folds → FoldsPartly outcome t₀ f₀ (map (λ fold. fold.op) folds.rows.items) start next
+  folding_broken i status here g fold at next is t₀ root f₀ s =
+      let e = s.each i fold at in
+      let lattice_constant = e.known_is ∙ ap (operand_constants f₀) (sym (op_shows t₀ fold.op e.operation e.at).operands) in
+      g.partly t₀ root f₀ s next (subst (λ l. FoldsPartly outcome t₀ f₀ (map (λ q. q.op) l) here next) (sym (drop_at folds.rows.items i fold at)) (Refused fold.op (subst (λ ks. outcome here next fold.op ks None) lattice_constant is)))

@@ -35,9 +35,10 @@ pub data FoldsInTurn (outcome : Outcome) (t₀ : Tree) (f : LatticeValues) : Lis
   NoMore : {t : Tree} → FoldsInTurn outcome t₀ f [] t t
   Next : {t v : Tree} {ks : List ℕ} (k : ℕ) (u : Tree) (answer : IRStatus) → outcome t u k (operand_constants f (operands_of t₀ k)) (Some answer) → FoldsInTurn outcome t₀ f ks u v → FoldsInTurn outcome t₀ f (k ∷ ks) t v
 
--- a first part of these folds, each of them whole, where memory was refused: nothing of the rest is left
+-- a first part of these folds, each of them whole, and then one in which memory was refused, which left what the dialect
+-- says that it may leave: one whole rewrite, or none
 pub data FoldsPartly (outcome : Outcome) (t₀ : Tree) (f : LatticeValues) : List ℕ → Tree → Tree → Type 0 where
-  Stopped : {t u : Tree} {ks : List ℕ} → IsSameTree t u → FoldsPartly outcome t₀ f ks t u
+  Refused : {t u : Tree} {ks : List ℕ} (k : ℕ) → outcome t u k (operand_constants f (operands_of t₀ k)) None → FoldsPartly outcome t₀ f (k ∷ ks) t u
   After : {t v : Tree} {ks : List ℕ} (k : ℕ) (u : Tree) (answer : IRStatus) → outcome t u k (operand_constants f (operands_of t₀ k)) (Some answer) → FoldsPartly outcome t₀ f ks u v → FoldsPartly outcome t₀ f (k ∷ ks) t v
 
 -- the blocks that are reached, in pre-order
@@ -78,7 +79,7 @@ pub record IsRewritten (can_fold : Head → Bool) (accepts : AttrObj → Bool) (
 abbrev pub IsPartlyPut : (AttrObj → Bool) → (AttrObj → Head) → List KnownArgument → Tree → Tree → Type 0
 IsPartlyPut accepts head known t u = (n : ℕ) × IsSameTree (all_put accepts head (take n known) t) u
 
--- some of the folds, or all of them and some of the arguments: the tree where memory was refused
+-- some of the folds, or all of them and some of the arguments: the tree on allocation failure
 abbrev pub IsPartlyRewritten : (Head → Bool) → (AttrObj → Bool) → (AttrObj → Head) → Outcome → Tree → ℕ → LatticeValues → Tree → Type 0
 IsPartlyRewritten can_fold accepts head outcome t₀ root f t = FoldsPartly outcome t₀ f (folding_operations can_fold t₀ root f) t₀ t ⊎ ((folded : Tree) × FoldsInTurn outcome t₀ f (folding_operations can_fold t₀ root f) t₀ folded × IsPartlyPut accepts head (known_arguments t₀ root f) folded t)
 

@@ -32,7 +32,7 @@ pub record PopsDeferred (op : ℕ) (old new : List ℕ) : Type 0 where
   pub only : (k : ℕ) → In k new → In k old
   pub fewer : length old ≡ length new + 1
 
--- what is deferred stands in a block that was visited, and what it asked when it was visited is met still
+-- what is deferred is in a block that was visited, and what it asked when it was visited is met still
 pub record IsDeferred (x : Says) (t : Tree) (s : Tables) (k : ℕ) : Type 0 where
   pub looked : WasVisited t s k
   pub met : (o : Operation) → op_at t k ≡ Some o → (f : LatticeValues) × IsSatisfied x t f (lattice_values_of s) k o

@@ -1,4 +1,4 @@
--- What stands inside an operation.
+-- What is inside an operation.
 pub use Rattle.pliron_theory.specs.Edges.{blocks_directly_in}
 use Rattle.std.specs.Prelude.{ℕ, List, ◌++◌}
 use Rattle.std.specs.List.{flat_map}

@@ -1,4 +1,4 @@
--- What stands in the tables at a number, and when the tables are sound.
+-- What is in the tables at a number, and when the tables are sound.
 use Rattle.std.specs.Prelude.{◌≡◌, ℕ, Bool, true, false, List, Option, Some, None, slice_get, slice_index_or, length, filter}
 use Rattle.pliron_core.specs.declared.attrs.AttrObj.{AttrObj}
 use Rattle.pliron_theory.specs.LatticeValues.{LatticeValue, Undetermined, Constant, NotAConstant}

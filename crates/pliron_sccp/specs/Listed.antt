@@ -8,7 +8,7 @@ use Rattle.pliron_sccp.specs.declared.rewrite.Folds.{Folds}
 use Rattle.pliron_sccp.specs.Chain.{is_reached, has_passing_head, both, folding_operations, KnownArgument, known_in_block}
 use Rattle.pliron_sccp.specs.RewriteSteps.{IsKnown, AreEachFold, StandForEach}
 
--- the operation folds and stands in a block that is reached
+-- the operation folds and is in a block that is reached
 abbrev pub is_folding : (Head → Bool) → Tree → LatticeValues → ℕ → Bool
 is_folding can_fold t f k = both (has_passing_head can_fold (head_of t k)) (is_reached f (parent_of t k))
 

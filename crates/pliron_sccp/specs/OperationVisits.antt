@@ -84,7 +84,7 @@ pub record PopsValues (taken : List ℕ) (s s' : Tables) : Type 0 where
   pub numbers : (b : ℕ) → is_numbered s' b ≡ is_numbered s b
   pub stamps : KeepsStamps s s'
 
--- the operation stands in a block that is reached and was visited
+-- the operation is in a block that is reached and was visited
 pub record WasVisited (t : Tree) (s : Tables) (k : ℕ) : Type 0 where
   pub block : ℕ
   pub in_block : parent_of t k ≡ Some block

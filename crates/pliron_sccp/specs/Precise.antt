@@ -17,7 +17,7 @@ pub record AreMostPrecise (x : Says) (t : Tree) (root : ℕ) (f : LatticeValues)
   pub blocks : (g : LatticeValues) → AreClosed x t root g → (b : ℕ) → IsTrue (f.is_executable b) → IsTrue (g.is_executable b)
   pub constants : (g : LatticeValues) → AreClosed x t root g → (v : ℕ) (c : AttrObj) → IsMadeThere t f v → g.lattice_value v ≡ Constant c → f.lattice_value v ≡ Constant c
 
--- the root is isolated, and what stands inside it is well defined, whether or not its regions have SSA dominance
+-- the root is isolated, and what is inside it is well defined, whether or not its regions have SSA dominance
 pub record IsWellDefinedInside (m : Meaning) (t : Tree) (root : ℕ) : Type 0 where
   pub no_successors : successors_of t root ≡ []
   pub own_values : (k v : ℕ) → IsInside t root k → In v (operands_of t k) → IsDefinedInside t root v

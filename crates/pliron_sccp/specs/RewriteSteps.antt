@@ -17,7 +17,7 @@ use Rattle.pliron_laws.specs.Tree.{Operation, op_at}
 use Rattle.pliron_theory.specs.LatticeValues.{LatticeValues, Constant, Says, IsInExecutableBlock, operand_constants, AreClosed, AreHeld}
 use Rattle.pliron_theory.specs.Following.{Follows}
 
--- the operation folds and stands in a block that is reached, in the first tree, these constants are known of its
+-- the operation folds and is in a block that is reached, in the first tree, these constants are known of its
 -- operands there, and the tree now follows the facts
 pub record IsFoldStep (x : Says) (t₀ : Tree) (root : ℕ) (f₀ : LatticeValues) (t : Tree) (op : ℕ) (known : List (Option AttrObj)) : Type 0 where
   pub first : IsTree t₀
@@ -28,7 +28,8 @@ pub record IsFoldStep (x : Says) (t₀ : Tree) (root : ℕ) (f₀ : LatticeValue
   pub folds : IsTrue (x.can_fold operation.head)
   pub known_is : known ≡ operand_constants f₀ operation.operands
 
--- a fold of an operation that stands in a block that is reached: its part of this list is what is known of the operands
+-- a fold of an operation that is in a block that is reached: its part of this list is what is known of the
+-- operands
 pub record IsFold (x : Says) (t : Tree) (f : LatticeValues) (known : List (Option AttrObj)) (fold : Fold) : Type 0 where
   pub operation : Operation
   pub at : op_at t fold.op ≡ Some operation

@@ -25,7 +25,7 @@ pub record IsSettled (x : Says) (t : Tree) (f : LatticeValues) (calls : ℕ → 
   pub met : IsSatisfied x t seen f k o
   pub same : (v : ℕ) → In v o.operands → (f.lattice_value v ≡ seen.lattice_value v) ⊎ calls v
 
--- each operation in a block that is reached stands in a block that waits, is settled, or is still to be visited
+-- each operation in a block that is reached is in a block that waits, is settled, or is still to be visited
 abbrev pub AreSettledBut : Says → Tree → LatticeValues → (is_block_on_worklist : ℕ → Type 0) → (calls : (k v : ℕ) → Type 0) → (todo : ℕ → Type 0) → Type 0
 AreSettledBut x t f is_block_on_worklist calls todo = (k b : ℕ) (o : Operation) → parent_of t k ≡ Some b → IsTrue (f.is_executable b) → op_at t k ≡ Some o → is_block_on_worklist b ⊎ IsSettled x t f (calls k) k o ⊎ todo k
 

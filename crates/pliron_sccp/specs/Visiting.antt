@@ -14,7 +14,7 @@ pub record HasWay (t : Tree) (visited : ℕ → Bool) (b : ℕ) : Type 0 where
   pub path : Path t entry b before
   pub all_visited : (d : ℕ) → In d before → IsTrue (visited d)
 
--- each block that is reached has a way, and what holds it is the root or stands in a block that was visited
+-- each block that is reached has a way, and what holds it is the root or is in a block that was visited
 pub record IsGrounded (t : Tree) (root : ℕ) (f : LatticeValues) (visited : ℕ → Bool) : Type 0 where
   pub ways : (b : ℕ) → IsTrue (f.is_executable b) → HasWay t visited b
   pub held : (b k : ℕ) → IsTrue (f.is_executable b) → block_parent_operation_of t b ≡ Some k → (k ≡ root) ⊎ ((c : ℕ) × (parent_of t k ≡ Some c) × IsTrue (visited c))

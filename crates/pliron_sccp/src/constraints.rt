@@ -119,7 +119,7 @@ fn constrain_region(
 
 /// The entry of each region of the root is entered: of its arguments nothing is known.
 ///
-/// Asks that the operation stands. Errors: allocation failure. Cost: one step for each region and for each
+/// Asks that the operation is live. Errors: allocation failure. Cost: one step for each region and for each
 /// argument of an entry.
 pub fn constrain_entries(
     op: Ptr<Operation>,
@@ -617,10 +617,10 @@ fn constrain_edges<D: Dialect>(
 /// facts and writes it in the scratch set, in place of what was asked there. Where the operation folds as a branch, tells
 /// the blocks that it may go to.
 ///
-/// Asks that the operation stands (`is_live` tests it), that the blocks noted in the scratch set are entered under these facts,
-/// and for a place that is empty. Errors: allocation failure. Cost: one step for each operand, result, region, successor and
-/// argument of these, and what the dialect's answers cost. The arguments of a successor of what is no branch cost that
-/// once for all such operations, where they are more than a few.
+/// Asks that the operation is live (`is_live` tests it), that the blocks noted in the scratch set are entered
+/// under these facts, and for a place that is empty. Errors: allocation failure. Cost: one step for each
+/// operand, result, region, successor and argument of these, and what the dialect's answers cost. The arguments
+/// of a successor of what is no branch cost that once for all such operations, where they are more than a few.
 pub fn constraints_of<D: Dialect>(
     alloc: Global,
     op: Ptr<Operation>,

@@ -31,7 +31,8 @@ pub struct EntryCandidates {
 impl EntryCandidates {
     /// Those of this operation, each argument of each entry for which it names an operand.
     ///
-    /// Asks that it stands. Errors: allocation failure. Cost: one step for each operand, region and argument of an entry.
+    /// Asks that it is live. Errors: allocation failure. Cost: one step for each operand, region and argument
+    /// of an entry.
     pub fn of<D: Dialect>(
         alloc: Global,
         op: Ptr<Operation>,

@@ -68,8 +68,8 @@ impl FeasibleEdges {
     /// The operation was visited once more: where that was more than a few times the arguments that it names operands
     /// for are listed, once.
     ///
-    /// Asks that it stands. Errors: allocation failure. Cost: constant, and once one step for each operand, region and
-    /// argument of an entry.
+    /// Asks that it is live. Errors: allocation failure. Cost: constant, and once one step for each operand,
+    /// region and argument of an entry.
     pub fn keep_named<D: Dialect>(
         &mut self,
         alloc: Global,

@@ -1,4 +1,4 @@
-//! Listing what stands inside an operation.
+//! Listing what is inside an operation.
 ghost use Rattle.std.specs.Prelude.{◌≡◌, ◌++◌, ◌∷◌, [], ℕ, OnOk, IfOk, reverse, IsOkUnless};
 ghost use Rattle.std.specs.List.{flat_map};
 ghost use Rattle.pliron_core.specs.Tree.{IsLive, IsBlock, IsRegion, In, arguments_of, body_of, layout_of, regions_of, results_of};
@@ -114,7 +114,7 @@ fn stack_body(
 /// The blocks inside the operation, at any depth, in pre-order: each is followed by those inside its
 /// operations.
 ///
-/// Asks that the operation stands. Errors: allocation failure. Cost: one step for each operation, block and
+/// Asks that the operation is live. Errors: allocation failure. Cost: one step for each operation, block and
 /// region inside it; the depth takes memory on a list alone.
 pub fn all_blocks(
     alloc: Global,

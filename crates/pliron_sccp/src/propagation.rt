@@ -42,7 +42,7 @@ fn propagate<D: Dialect, R: Rewriter + Room>(
 /// something from a worklist: with r blocks that are reached and, made in these, c constants and n values
 /// that are not constant, at least r + c + n and at most r + c + 2 n times.
 ///
-/// Asks that the operation stands and is well linked. Errors: as `sccp`. Cost: as `sccp`.
+/// Asks that the operation is live and is well linked. Errors: as `sccp`. Cost: as `sccp`.
 pub fn sccp_counted<D: Dialect>(
     alloc: Global,
     op: Ptr<Operation>,
@@ -67,7 +67,7 @@ pub fn sccp_counted<D: Dialect>(
 /// Propagates constants inside the operation, as `sccp` does, and makes each change through this rewriter,
 /// whose listener hears of it: the room for a whole rewrite is asked of it before the first change of that.
 ///
-/// Asks that the operation stands and is well linked. Errors: as `sccp`, and where the rewriter has no room.
+/// Asks that the operation is live and is well linked. Errors: as `sccp`, and where the rewriter has no room.
 /// Cost: as `sccp`, and what the rewriter does at each change.
 pub fn sccp_through<D: Dialect, R: Rewriter + Room>(
     alloc: Global,
@@ -103,7 +103,7 @@ pub fn sccp_through<D: Dialect, R: Rewriter + Room>(
 /// Wegman and Zadeck, "Constant propagation with conditional branches", 1991, section 3, over blocks with
 /// arguments; a user is visited again only where its block was visited before.
 ///
-/// Asks that the operation stands and is well linked. Answers `Changed` exactly if a constant was put.
+/// Asks that the operation is live and is well linked. Answers `Changed` exactly if a constant was put.
 ///
 /// Errors: allocation failure. The tree is then as before, or one after a first part of these rewrites.
 ///

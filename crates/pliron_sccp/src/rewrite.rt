@@ -1,6 +1,6 @@
 //! What facts say is to be rewritten, the operations that fold and the constant arguments; and the tree
 //! rewritten by it.
-ghost use Rattle.std.specs.Prelude.{◌≡◌, ◌≤◌, ◌<◌, ◌++◌, ℕ, List, [], Some, IsSome, IfOk, OnErr, OnOk, length, map, slice_get, slice_range, IsOkUnless};
+ghost use Rattle.std.specs.Prelude.{◌≡◌, ◌≤◌, ◌<◌, ◌++◌, ℕ, List, [], Some, None, IsSome, IfOk, OnErr, OnOk, length, map, slice_get, slice_range, IsOkUnless};
 ghost use Rattle.pliron_core.specs.Tree.{Tree, IsLive, IsBlock, operands_of};
 ghost use Rattle.pliron_core.specs.Changes.{IsSameTree};
 ghost use Rattle.pliron_laws.specs.InPlace.{ReportsChange};
@@ -76,7 +76,7 @@ pub struct Found {
     pub(crate) arguments: Vec<ConstantArgument>,
 }
 
-/// Whether the operation folds and stands in a block that is reached.
+/// Whether the operation folds and is in a block that is reached.
 fn is_folded<D: Dialect>(op: Ptr<Operation>, ctx: &Context, tables: &Tables) -> bool
     requires { IsLive ctx.now.tree op }
     ensures { result ≡ is_folding D.can_fold ctx.now.tree (lattice_values_of tables.now) op }
@@ -202,8 +202,8 @@ pub(crate) fn find<D: Dialect>(
 /// Folds one operation in place by facts about the first tree.
 ///
 /// Asks that the tree came from the first one by such steps, so that the facts still hold of the operation.
-/// Errors: allocation failure, which leaves the tree as it was but for erased handles. Cost: that of the
-/// dialect's `fold_in_place`.
+/// Errors: allocation failure, after which the tree is one that the dialect's `fold_in_place` leaves then: as it
+/// was, or after one whole fold. Cost: that of the dialect's `fold_in_place`.
 #[inline(always)]
 pub fn fold_one<D: Dialect, R: Rewriter + Room>(
     alloc: Global,
@@ -214,7 +214,7 @@ pub fn fold_one<D: Dialect, R: Rewriter + Room>(
 ) -> Result<IRStatus, OptError>
     requires step { (t₀ : Tree) × (root : ℕ) × (f₀ : LatticeValues) × IsFoldStep ⟦<D as HasFolding>⟧.folding t₀ root f₀ ctx.old.tree op known.now }
     ensures ok { IfOk result (λ status. D.ConstFoldInterface.outcome ctx.old.tree ctx.new.tree op known.now (Some status)) }
-    ensures refused { OnErr result (IsSameTree ctx.old.tree ctx.new.tree) }
+    ensures refused { OnErr result (D.ConstFoldInterface.outcome ctx.old.tree ctx.new.tree op known.now None) }
     ensures told { IfOk result (λ status. ReportsCreated status ctx.old.tree ctx.new.tree) }
     ensures stays { (k : ℕ) → IsLive ctx.old.tree k → IsLive ctx.new.tree k }
     ensures memory { IsOkUnless result OptError.Memory }

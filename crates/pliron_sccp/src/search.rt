@@ -82,7 +82,7 @@ pub fn start(alloc: Global, root: Ptr<Operation>, ctx: &Context) -> Result<Table
     Ok(tables)
 }
 
-/// Whether the operation stands in a block that is reached and was visited.
+/// Whether the operation is in a block that is reached and was visited.
 #[inline(always)]
 fn is_visited(op: Ptr<Operation>, ctx: &Context, tables: &Tables) -> bool
     requires { IsLive ctx.now.tree op }
@@ -467,8 +467,9 @@ fn stamp(op: Ptr<Operation>, ctx: &Context, tables: &mut Tables)
 /// Meets what the operation asks of the facts so far, and does nothing else. Where it folds as a branch, tells the
 /// blocks that it may go to.
 ///
-/// Asks that it stands, that the blocks which it may enter have numbers, that those noted in the scratch set are entered, which
-/// holds again afterwards, and for a place that is empty. Errors: allocation failure. Cost: that of what it asks.
+/// Asks that it is live, that the blocks which it may enter have numbers, that those noted in the scratch set
+/// are entered, which holds again afterwards, and for a place that is empty. Errors: allocation failure. Cost:
+/// that of what it asks.
 #[inline(always)]
 fn visit_operation<D: Dialect>(
     alloc: Global,
@@ -495,8 +496,8 @@ fn visit_operation<D: Dialect>(
 
 /// Meets what the operation asks of the facts so far, and does nothing else.
 ///
-/// Asks that it stands, that the blocks which it may enter have numbers, and that those noted in the scratch set are entered, which
-/// holds again afterwards. Errors: allocation failure. Cost: that of what it asks.
+/// Asks that it is live, that the blocks which it may enter have numbers, and that those noted in the scratch
+/// set are entered, which holds again afterwards. Errors: allocation failure. Cost: that of what it asks.
 #[inline(always)]
 fn visit_with_scratch<D: Dialect>(
     alloc: Global,
@@ -636,8 +637,8 @@ fn visit_or_defer_all<D: Dialect>(
 
 /// Looks at the operations of the block, in order.
 ///
-/// Asks that the block stands, that the blocks which these may enter have numbers, and that those noted in the scratch set are
-/// entered. Errors: allocation failure. Cost: that of what they ask.
+/// Asks that the block is live, that the blocks which these may enter have numbers, and that those noted in the
+/// scratch set are entered. Errors: allocation failure. Cost: that of what they ask.
 fn visit_block<D: Dialect>(
     alloc: Global,
     block: Ptr<BasicBlock>,

@@ -13,7 +13,7 @@ const MAX_DEPTH: usize = 64;
 /// A region that is open.
 #[derive(Clone, Copy, Drop)]
 struct OpenTableRegion {
-    /// The number of the operation that holds it.
+    /// The number of its parent operation.
     holder: usize,
     /// Its place among the regions of that operation.
     place: usize,

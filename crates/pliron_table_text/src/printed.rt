@@ -44,7 +44,7 @@ impl<K: Kinds + Word> Printed for Texts<K> {
 /// `v1`, .. in the order of the text. An operation of no kind of the dialect has the word `_`, and so have
 /// values and blocks that stand outside what is printed.
 ///
-/// Asks that the operation stands. Errors: allocation failure. Cost: linear in the tree.
+/// Asks that the operation is live. Errors: allocation failure. Cost: linear in the tree.
 pub fn print_text<K: Kinds + Word>(
     alloc: Global,
     root: Ptr<Operation>,

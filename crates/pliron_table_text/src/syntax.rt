@@ -32,7 +32,7 @@ pub enum TableStep {
     Block(usize),
 }
 
-/// A text: its first operation is the whole, and the others stand inside it.
+/// A text: its first operation is the whole, and the others are inside it.
 #[derive(Drop)]
 pub struct TableSyntax<K> {
     pub steps: Vec<TableStep>,

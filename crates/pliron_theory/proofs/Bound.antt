@@ -371,7 +371,7 @@ module _ (t : Tree) (w : IsTree t) (root : ℕ) where
       pub inner : Waiting
       pub others : List Waiting
       pub waits : s.waiting ≡ inner ∷ others
-      pub environment_with : (v : ℕ) → In v (operands_of t k) → IsBound s.environment v
+      pub bound : (v : ℕ) → In v (operands_of t k) → IsBound s.environment v
       pub input : List Datum
       pub has_data : data_of s.environment (operands_of t k) ≡ Some input
 

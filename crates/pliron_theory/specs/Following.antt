@@ -1,4 +1,4 @@
--- How facts about a first tree go on holding while the tree is rewritten by them.
+-- How lattice values of a first tree stay valid while the tree is rewritten by them.
 use Rattle.std.specs.Prelude.{◌≡◌, ℕ, Bool, Some, length, ◌≤◌, IsTrue}
 use Rattle.pliron_core.specs.declared.attrs.AttrObj.{AttrObj}
 use Rattle.pliron_core.specs.Tree.{Tree, In, IsLive, row_of, results_of, arguments_of, parent_of, block_parent_of}
@@ -14,7 +14,7 @@ use Rattle.pliron_theory.specs.Rewrites.{materialised_first}
 use Rattle.pliron_theory.specs.LatticeValues.{LatticeValue, Constant, LatticeValues, Says, operand_constants, answers_of, IsInExecutableBlock, AreClosed, AreHeld}
 use Rattle.pliron_theory.specs.Sound.{AreSound, read_of}
 
--- an operation of the first tree stands as it did, but for operands, about which the same is known
+-- an operation of the first tree is as it was, but for operands, about which the same is known
 pub record StandsAsBefore (x : Says) (t₀ t : Tree) (f₀ f : LatticeValues) (k : ℕ) (o₀ : Operation) : Type 0 where
   pub operation : Operation
   pub stands : op_at t k ≡ Some operation
@@ -24,9 +24,9 @@ pub record StandsAsBefore (x : Says) (t₀ t : Tree) (f₀ f : LatticeValues) (k
   pub shape : shape_of x.meaning t operation ≡ shape_of x.meaning t₀ o₀
   pub handed_same : operand_constants f operation.operands ≡ operand_constants f₀ o₀.operands
 
--- the tree t came from t₀ by constants that were put for values, by the facts f₀ on t₀: every run is kept, only what is
--- inside the root changed, edges stay, the facts f on t are sound, and they say of what stood in t₀ what f₀ and
--- `read_of f₀` said
+-- the tree t came from t₀ by constants that were put for values, by the lattice values f₀ on t₀: every run is
+-- kept, only what is inside the root changed, edges stay, the lattice values f on t are sound, and they say of
+-- what was live in t₀ what f₀ and `read_of f₀` said
 pub record Follows (x : Says) (t₀ : Tree) (root : ℕ) (f₀ : LatticeValues) (t : Tree) : Type 0 where
   pub tree : IsTree t
   pub runs : KeepsRuns x.meaning t₀ t
@@ -45,8 +45,9 @@ pub record Follows (x : Says) (t₀ : Tree) (root : ℕ) (f₀ : LatticeValues) 
   pub read_results : (k v : ℕ) → In v (results_of t₀ k) → read v ≡ read_of x t₀ f₀ v
   pub read_arguments : (b v : ℕ) → In v (arguments_of t₀ b) → read v ≡ f₀.lattice_value v
 
--- how the chain of rewrites goes on: it starts at the tree that the closed facts are about; folding an operation by
--- what these know of its operands goes on, and so does a constant put first in a block for an argument, and a refusal
+-- how the chain of rewrites goes on: it starts at the tree of the closed lattice values; folding an operation
+-- by what these know of its operands continues it, and so does a constant put first in a block for an argument,
+-- and an allocation failure
 pub record FollowingLaws (x : Says) (accepts : AttrObj → Bool) (head : AttrObj → Head) : Type 0 where
   pub start : (t₀ : Tree) (root : ℕ) (f₀ : LatticeValues) → IsTree t₀ → AreClosed x t₀ root f₀ → AreHeld t₀ root f₀ → Follows x t₀ root f₀ t₀
   pub folded : (t₀ : Tree) (root : ℕ) (f₀ : LatticeValues) (t t' : Tree) → IsTree t₀ → Follows x t₀ root f₀ t → IsTree t' → (k : ℕ) (o₀ : Operation) → IsInExecutableBlock t₀ f₀ k → op_at t₀ k ≡ Some o₀ → IsTrue (x.can_fold o₀.head) → MaterialisesSome accepts head k o₀.results (answers_of x t₀ f₀ o₀) t t' → length t.operations ≤ length t'.operations → Follows x t₀ root f₀ t'

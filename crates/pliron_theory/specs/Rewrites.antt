@@ -31,7 +31,7 @@ ErasesUnused side_effects op t t' Unchanged = (HasNoSideEffects side_effects t o
 abbrev pub IsConstant : Meaning → Tree → ℕ → AttrObj → Type 0
 IsConstant m t v attr = (root : ℕ) → IsFit m t root → IsReadAs m t v (datum_of attr) root
 
--- a new operation with this head and one result stands first in the block, and has all uses of the value
+-- a new operation with this head and one result is first in the block, and has all uses of the value
 abbrev pub materialised_first : Tree → (block v : ℕ) → Head → Tree
 materialised_first t block v head = after_replacing (put_first (after_creating t head 1 0) (next_op t) block) v (next_value t)
 
@@ -54,7 +54,7 @@ ReplacesArgument accepts head attr block i t t' status = (v : ℕ) → slice_get
 abbrev pub FirstKeepsLinks : Type 0
 FirstKeepsLinks = (m : Meaning) (attr : AttrObj) (head : Head) (t : Tree) (block v root : ℕ) → IsTree t → IsBlock t block → MakesConstant m attr head → IsWellLinked m t root → IsWellLinked m (materialised_first t block v head) root
 
--- the point names an operation that stands in a block, or a block that stands
+-- the point names an operation that is in a block, or a live block
 abbrev pub IsPoint : Tree → OpInsertionPoint → Type 0
 IsPoint t Unset = ⊥
 IsPoint t (BeforeOperation at) = IsLive t at × IsSome (parent_of t at)

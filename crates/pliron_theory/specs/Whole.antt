@@ -7,8 +7,8 @@ use Rattle.pliron_laws.specs.Datum.{Meaning}
 use Rattle.pliron_laws.specs.Linked.{IsWellLinked}
 use Rattle.pliron_theory.specs.Change.{IsWholeChange}
 
--- what such passes do is reflexive and transitive, erased handles are nothing to it, and seen from the operation that
--- holds theirs it is such a pass on that one
+-- what such passes do is reflexive and transitive, doesn't depend on erased handles, and seen from the parent
+-- operation of theirs it is such a pass on that one
 pub record WholeLaws : Type 0 where
   pub reflexive : (m : Meaning) (t : Tree) (op : ℕ) → IsLive t op → IsWellLinked m t op → IsWholeChange m t t op
   pub transitive : (m : Meaning) (t u v : Tree) (op : ℕ) → IsWholeChange m t u op → IsWholeChange m u v op → IsWholeChange m t v op

@@ -1,9 +1,9 @@
--- Graphs by adjacency lists: node v has row v of two tables.
+-- Graphs by adjacency lists: node v has list v of two tables.
 use Rattle.std.specs.Prelude.{◌≡◌, ℕ, zero, suc, ◌+◌, ◌^◌, ◌<◌, List, [], ◌∷◌, Option, Some, None, length, nat_eq}
 use Rattle.std.specs.List.{All, list_any, slice_index_or}
 use Rattle.pliron_traversal.specs.Digraph.{Digraph}
 
--- row v of a table
+-- list v of a table
 abbrev pub row : List (List ℕ) → ℕ → List ℕ
 row rows v = slice_index_or rows v []
 

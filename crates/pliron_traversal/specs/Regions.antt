@@ -16,7 +16,7 @@ graph_of_region t region = record {
   pred = λ b. preds_of t b;
 }
 
--- the region stands in the tree, and edges stand last in the operation that holds it
+-- the region is live, and edges are last in the blocks inside its parent operation
 pub record IsLawfulRegion (t : Tree) (region : ℕ) : Type 0 where
   pub tree : IsTree t
   pub stands : IsRegion t region

@@ -18,7 +18,7 @@ pub record Numbers {N : Type 0} (P : N → Type 0) (number : N → ℕ) (count :
   pub each : (k : ℕ) → k < count → (v : N) × P v × (number v ≡ k)
   pub once : (u v : N) → P u → P v → number u ≡ number v → u ≡ v
 
--- v stands first at index k of xs
+-- v is first at index k of xs
 abbrev pub IsFirstAt : {N : Type 0} → List N → N → ℕ → Type 0
 IsFirstAt xs v k = (slice_get xs k ≡ Some v) × ((j : ℕ) → j < k → slice_get xs j ≡ Some v → ⊥)
 
@@ -59,11 +59,11 @@ pub record Orders (N : Type 0) : Type 0 where
 abbrev pub number_in : {N : Type 0} → (N → N → Bool) → List N → N → ℕ
 number_in eq xs v = position_or_len (eq v) xs
 
--- v stands in an order
+-- v is in an order
 abbrev pub IsListed : {N : Type 0} → (N → N → Bool) → List N → N → Type 0
 IsListed eq xs v = IsTrue (list_any (eq v) xs)
 
--- u stands before v in an order
+-- u is before v in an order
 abbrev pub StandsBefore : {N : Type 0} → (N → N → Bool) → List N → N → N → Type 0
 StandsBefore eq xs u v = number_in eq xs u < number_in eq xs v
 

@@ -17,9 +17,10 @@ pub trait HasLabel<C> {
 
 /// A graph that is read in a context.
 ///
-/// It says by `graph` which mathematical graph it means in a context, and by `is_lawful` when it may be read there. Where it may be read
-/// it is lawful: equal nodes are one, its nodes are distinct, its entry, successors and predecessors are nodes, and a node is a
-/// predecessor of another exactly if the other is among its successors. A node may stand several times among the successors of another.
+/// It says by `graph` which mathematical graph it means in a context, and by `is_lawful` when it may be read
+/// there. Where it may be read it is lawful: equal nodes are one, its nodes are distinct, its entry, successors
+/// and predecessors are nodes, and a node is a predecessor of another exactly if the other is among its
+/// successors. A node may be several times among the successors of another.
 pub trait ControlFlowGraph<C> {
     /// What names a node. A copy takes no memory.
     type Node: Eq + Hash + Copy + HasLabel<C>;

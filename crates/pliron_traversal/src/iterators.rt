@@ -20,7 +20,7 @@ impl<'a, N> Model for OrderIter<'a, N> {
 }
 
 impl<'a, N> OrderIter<'a, N> {
-    /// All these nodes are left, from the first on. Cost: constant.
+    /// An iterator over all these nodes, from the first on. Cost: constant.
     pub fn new(order: &'a [N]) -> Self
         ensures { result ≡ order.now }
     {
@@ -81,7 +81,7 @@ impl<'a, N> Model for ReverseOrderIter<'a, N> {
 }
 
 impl<'a, N> ReverseOrderIter<'a, N> {
-    /// All these nodes are left, from the last on. Cost: constant.
+    /// An iterator over all these nodes, from the last on. Cost: constant.
     pub fn new(order: &'a [N]) -> Self
         ensures { result ≡ reverse order.now }
     {

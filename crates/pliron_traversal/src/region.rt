@@ -1,4 +1,7 @@
 //! The blocks of a region as a graph.
+//!
+//! The `impl` is in the crate of the trait: `impl ControlFlowGraph<Context> for Ptr<Region>` in a third crate
+//! is `error[orphan-impl]`.
 ghost use Rattle.std.specs.Prelude.{IfOk, IsOkUnless};
 ghost use Rattle.pliron_core.specs.Tree.{IsBlock};
 ghost use Rattle.pliron_traversal.specs.Regions.{graph_of_region, IsLawfulRegion};
@@ -38,11 +41,11 @@ fn edge_sources(
     Ok(sources)
 }
 
-/// The blocks of a region in their order, with the first as the entry. The successors of a block are
-/// those of its last operation, its predecessors stand in the region's order, each once.
+/// The blocks of a region in their order, with the first as the entry. The successors of a block are those of
+/// its last operation, its predecessors are in the region's order, each once.
 ///
-/// It may be read where the region stands and `edges_last` of the operation that holds it is true.
-/// That, with what `Context::well_formed` says, is all that a caller shows.
+/// It may be read where the region is live and `edges_last` of its parent operation is true. That, with what
+/// `Context::well_formed` says, is all that a caller shows.
 impl ControlFlowGraph<Context> for Ptr<Region> {
     type Node = Ptr<BasicBlock>;
 

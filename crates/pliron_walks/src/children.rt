@@ -1,4 +1,4 @@
-//! What stands directly inside an operation.
+//! What is directly inside an operation.
 ghost use Rattle.std.specs.Prelude.{◌≡◌};
 ghost use Rattle.std.specs.Iterator.{YieldsFirst, item_count};
 ghost use Rattle.pliron_core.specs.Tree.{IsLive};
@@ -35,7 +35,7 @@ impl<'a> Model for Children<'a> {
 }
 
 impl<'a> Children<'a> {
-    /// The operations directly inside `holder`. Asks that it stands (`is_live` tests it). Cost: one step for
+    /// The operations directly inside `holder`. Asks that it is live (`is_live` tests it). Cost: one step for
     /// each empty region and block before the first of them.
     pub fn new(holder: Ptr<Operation>, ctx: &'a Context) -> Self
         requires { IsLive ctx.now.tree holder }

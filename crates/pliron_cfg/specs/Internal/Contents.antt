@@ -1,4 +1,4 @@
--- What stands in blocks at any depth, as lists, and who uses it.
+-- What is in blocks at any depth, as lists, and who uses it.
 pub use Rattle.pliron_theory.specs.Edges.{blocks_directly_in}
 use Rattle.std.specs.Prelude.{ℕ, List, ◌++◌}
 use Rattle.std.specs.List.{flat_map}

@@ -11,7 +11,7 @@ use pliron_core::{BasicBlock, Context, Operation, Ptr, Rewriter};
 use pliron_laws::{Dialect, OptError, Room};
 use std::alloc::Global;
 
-// How many operations stand in the block.
+// How many operations are in the block.
 fn count_operations(block: Ptr<BasicBlock>, ctx: &Context) -> usize
     requires { IsBlock ctx.now.tree block }
     ensures { result ≡ length (body_of ctx.now.tree block) }

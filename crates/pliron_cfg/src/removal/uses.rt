@@ -47,8 +47,8 @@ pub(crate) fn check_values(
     Ok(())
 }
 
-// What is defined in the blocks is used in them alone. Linear in what stands in the blocks and in the uses of
-// what is made there, with one table look-up for each use.
+// What is defined in the blocks is used in them alone. Linear in what is in the blocks and in the uses of what
+// is made there, with one table look-up for each use.
 pub(crate) fn check_uses(
     alloc: Global,
     ctx: &Context,

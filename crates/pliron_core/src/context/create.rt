@@ -1,4 +1,4 @@
-//! Making operations and blocks.
+//! Creating operations and blocks.
 ghost use Rattle.std.specs.Prelude.{◌≡◌, ◌+◌, ◌<◌, ◌≤◌, ◌^◌, ◌++◌, [], length, map, replicate, IfOk, OnOk, OnErr, vec_len, vec_capacity};
 ghost use Rattle.std.specs.List.{range_with_len};
 ghost use Rattle.pliron_core.specs.Tree.{IsRegion};
@@ -56,7 +56,7 @@ impl Operation {
 impl BasicBlock {
     /// A new block with so many new arguments and without operations, the last of the region.
     ///
-    /// Asks that the region stands. Errors: allocation failure, which changes nothing.
+    /// Asks that the region is live. Errors: allocation failure, which changes nothing.
     /// Cost: one step for each argument, amortised.
     #[inline(always)]
     pub fn create(

@@ -1,4 +1,4 @@
-//! Where operations stand.
+//! The block of an operation, and its place there.
 ghost use Rattle.std.specs.Prelude.{◌≡◌, ◌∷◌, ◌++◌, [], Some, None, OnOk, OnErr};
 ghost use Rattle.pliron_core.specs.Tree.{IsLive, IsBlock, HoldsBlock, parent_of, body_of};
 ghost use Rattle.pliron_core.specs.Lists.{put_before};
@@ -10,7 +10,7 @@ use crate::keys::{BasicBlock, Operation, Ptr};
 impl BasicBlock {
     /// The operation becomes the last of the block.
     ///
-    /// Asks that both stand, that the operation stands in no block, and that it doesn't hold the block
+    /// Asks that both are live, that the operation is in no block, and that it doesn't hold the block
     /// (`is_live`, `get_parent_block` and `holds_block` test it). Errors: allocation failure, which changes
     /// nothing. Cost: constant.
     pub fn push_operation(

@@ -109,7 +109,7 @@ func { b0(a): fork a b0 b0 b0 } => func { b0(a): fork a b0 b0 }
 func { b0(a): fork a b0() b0() } => func { b0(a): fork a b0 b0 }
 func { b0(a): fork a b0, b0 } => func { b0(a): fork a b0 b0 }";
 
-/// What stands in what.
+/// What is in what.
 static PLACES: &str = "box { } => func { b0(): box { } }
 scope { b0(): } => func { b0(): scope { b0(): } }
 a = const 1 => func { b0(): a = const 1 }

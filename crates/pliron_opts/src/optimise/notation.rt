@@ -38,7 +38,7 @@ pub trait Notation {
         ensures linked { IfOk result (λ found. IfSome found (λ root. IsWellLinked Self.D.meaning ctx.new.tree root)) }
         ensures text { IfOk result (λ found. IfSome found (λ root. reads text.now ctx.new.tree root)) };
 
-    /// Prints the operation. Asks that the operation stands (`is_live` tests it). Errors: allocation failure.
+    /// Prints the operation. Asks that the operation is live (`is_live` tests it). Errors: allocation failure.
     fn print(alloc: Global, root: Ptr<Operation>, ctx: &Context) -> Result<String, OptError>
         requires { IsLive ctx.now.tree root }
         ensures { IfOk result (λ printed. prints ctx.now.tree root (string_bytes printed)) };

@@ -65,7 +65,7 @@ adjacency_lawful g h = record {
       );
 }
 
--- the nodes stand in the order of their numbers
+-- the nodes are in the order of their numbers
 pub count_length : (i n : ℕ) → length (count_from i n) ≡ n
 count_length i zero = refl
 count_length i (suc n) = omega (arith, count_length (i + 1) n)

@@ -56,7 +56,7 @@ module _ (t : Tree) (r : ℕ) (h : IsLawfulRegion t r) where
   pub owned : (b : ℕ) → Contains (layout_of t r) b → block_parent_of t b ≡ Some r
   owned b c = h.tree.layouts.owned b r (in_keys (layout_of t r) b c)
 
-  -- a node is a block that stands
+  -- a node is a live block
   pub node_stands : (b : ℕ) → Contains (layout_of t r) b → IsBlock t b
   node_stands b c = In-block t h.tree r b (in_keys (layout_of t r) b c)
 

@@ -2,14 +2,13 @@ use Rattle.std.proofs.Common.{rules, ◌≡◌, ◌+◌, length, Some, slice_get
 use Rattle.std.proofs.lemmas.Option.{slice_get_read}
 use Rattle.std.proofs.lemmas.List.{drop_all}
 use Rattle.pliron_laws.proofs.FoldLemmas.{on_err}
-use Rattle.pliron_core.proofs.SameTreeLemmas.{same_refl}
 use Rattle.pliron_cfg.specs.Folded.{FoldsAll, FoldsSome, FoldsSome.Stopped}
 use Rattle.pliron_cfg.specs.FoldSteps.{IsFoldingBranches}
 use Rattle.pliron_cfg.proofs.FoldLemmas.{folding_start, folding_can, folding_next, folding_broken, folding_change, folding_end, told_honestly, linked_still}
 use Rattle.pliron_cfg.proofs.folding.fold_branches.Goals as goal
 
 pub returns-in_err-branches-clause-refused : goal.returns-in_err-branches-clause-refused
-returns-in_err-branches-clause-refused g c = on_err _ c.from_residual.result (Stopped (same_refl c.args.ctx.now.tree))
+returns-in_err-branches-clause-refused g c = on_err _ c.from_residual.result Stopped
 
 pub loop-i-init : goal.loop-i-init
 loop-i-init g c =
@@ -25,7 +24,8 @@ fold_one-requires g c =
 pub returns-in_err-fold_one-clause-refused : goal.returns-in_err-fold_one-clause-refused
 returns-in_err-fold_one-clause-refused g c =
     let t = c.args.ctx.now.tree in
-    on_err _ c.from_residual-in_err-fold_one.result (subst (λ z. FoldsSome _ _ _ _ z t c.fold_one.new.ctx.tree) c.in_ok-branches.ensures.ok (folding_broken _ _ _ _ _ _ _ c.well_formed-2.ensures.tree _ _ _ _ c.loop-i.invariant c.fold_one.new.ctx.tree c.in_err-fold_one.ensures.refused))
+    let at : slice_get c.in_ok-branches.branches.items c.loop-i.i ≡ Some c.index.result.now = slice_get_read c.in_ok-branches.branches.items (length c.in_ok-branches.branches.items) c.loop-i.i c.index.result.now refl (search (rules, c.loop-i-test.true)) c.index.ensures in
+    on_err _ c.from_residual-in_err-fold_one.result (subst (λ z. FoldsSome _ _ _ _ z t c.fold_one.new.ctx.tree) c.in_ok-branches.ensures.ok (folding_broken _ _ _ _ _ _ _ c.well_formed-2.ensures.tree _ _ _ _ c.loop-i.invariant c.index.result.now at c.fold_one.new.ctx.tree c.in_err-fold_one.ensures.refused))
 
 pub returns-in_err-fold_one-clause-change : goal.returns-in_err-fold_one-clause-change
 returns-in_err-fold_one-clause-change g c =

@@ -30,8 +30,8 @@ returns-clause-ok g c =
 
 pub returns-clause-refused : goal.returns-clause-refused
 returns-clause-refused g c =
-    let d = g.met.D.Dialect in
-    on_err_weaker c.fold_in_place-done.result (λ is. (d.folds_in_place.branch c.args.ctx.now.tree c.fold_in_place-done.new.ctx.tree c.args.op c.args.known.now None is).1) c.fold_in_place-done.ensures.refused
+    let t = c.args.ctx.now.tree in
+    on_err_weaker c.fold_in_place-done.result (λ is. subst (λ z. g.D.BranchOpFoldInterface.outcome t c.fold_in_place-done.new.ctx.tree c.args.op z None) c.requires.known is) c.fold_in_place-done.ensures.refused
 
 pub returns-clause-told : goal.returns-clause-told
 returns-clause-told g c =

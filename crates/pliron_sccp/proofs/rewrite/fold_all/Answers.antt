@@ -1,4 +1,4 @@
-use Rattle.std.proofs.Common.{◌≡◌, ◌+◌, ◌<◌, length, Some, slice_get, refl, sym, subst, arith}
+use Rattle.std.proofs.Common.{◌≡◌, ◌+◌, ◌<◌, length, Some, None, slice_get, refl, sym, subst, arith}
 use Rattle.std.proofs.lemmas.Option.{slice_get_read}
 use Rattle.std.proofs.lemmas.List.{drop_all}
 use Rattle.pliron_theory.specs.LatticeValues.{Says}
@@ -84,4 +84,12 @@ returns-in_err-fold_one-clause-stays g c = λ k l. c.fold_one.ensures.stays k (c
 
 pub returns-in_err-fold_one-clause-refused : goal.returns-in_err-fold_one-clause-refused
 returns-in_err-fold_one-clause-refused g c =
-    on_err _ c.from_residual.result (λ t₀ root f₀ s. folding_broken _ g.D.ConstFoldInterface.outcome c.args.ctx.now.tree c.args.folds.now c.loop-i.i c.loop-i.status c.loop-i.ctx.tree c.loop-i.invariant c.fold_one.new.ctx.tree c.in_err-fold_one.ensures.refused t₀ root f₀ s)
+    let folds = c.args.folds.now in
+    let rows = folds.rows.items in
+    let fold = c.index-fold.result.now in
+    let lt : c.loop-i.i < length rows = omega (arith, c.len-i-end.ensures, c.loop-i-test.true) in
+    let at : slice_get rows c.loop-i.i ≡ Some fold = slice_get_read rows (length rows) c.loop-i.i fold refl lt c.index-fold.ensures in
+    let outcome = g.D.ConstFoldInterface.outcome in
+    let next = c.fold_one.new.ctx.tree in
+    let is = subst (λ z. outcome c.loop-i.ctx.tree next fold.op z None) c.known_of-known_constant.ensures c.in_err-fold_one.ensures.refused in
+    on_err _ c.from_residual.result (λ t₀ root f₀ s. folding_broken _ outcome c.args.ctx.now.tree folds c.loop-i.i c.loop-i.status c.loop-i.ctx.tree c.loop-i.invariant fold at next is t₀ root f₀ s)

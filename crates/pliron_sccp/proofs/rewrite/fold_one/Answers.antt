@@ -1,7 +1,7 @@
-use Rattle.std.proofs.lemmas.Result.{IfOk-weaker, on_err_weaker}
+use Rattle.std.proofs.lemmas.Result.{IfOk-weaker}
 use Rattle.pliron_theory.proofs.FollowedFacts.{constants_plain}
 use Rattle.pliron_theory.proofs.SoundRuns.{names_well}
-use Rattle.pliron_sccp.proofs.StepLemmas.{step_live, step_placed, step_folds, step_entries, step_told, step_refused, step_stays, step_follows, either}
+use Rattle.pliron_sccp.proofs.StepLemmas.{step_live, step_placed, step_folds, step_entries, step_told, step_stays, step_follows, either}
 use Rattle.pliron_sccp.proofs.rewrite.fold_one.Goals as goal
 
 pub fold_in_place-done-requires-clause-live : goal.fold_in_place-done-requires-clause-live
@@ -44,12 +44,3 @@ returns-clause-stays g c =
     let outcome = g.D.ConstFoldInterface.outcome in
     let done = either (λ a. outcome t u c.args.op c.args.known_constant.now a) c.fold_in_place-done.result c.fold_in_place-done.ensures.ok c.fold_in_place-done.ensures.refused in
     step_stays _ s.0 s.1 s.2 t c.args.op _ s.3 _ _ outcome _ d.folds_in_place u done.0 done.1
-
-pub returns-clause-refused : goal.returns-clause-refused
-returns-clause-refused g c =
-    let s = c.requires.step in
-    let d = g.met.D.Dialect in
-    let t = c.args.ctx.now.tree in
-    let u = c.fold_in_place-done.new.ctx.tree in
-    let outcome = g.D.ConstFoldInterface.outcome in
-    on_err_weaker c.fold_in_place-done.result (λ is. step_refused _ s.0 s.1 s.2 t c.args.op _ s.3 _ _ outcome _ d.folds_in_place u is) c.fold_in_place-done.ensures.refused
