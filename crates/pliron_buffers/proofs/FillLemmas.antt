@@ -1,10 +1,12 @@
 -- What is known of an answer in a buffer, by other words.
 use Rattle.std.proofs.Common.{◌≡◌, ◌≢◌, ◌⊎◌, ℕ, List, Result, Ok, Err, IfOk, IfErr, IsOkAnd, IsErrOf, inl, inr, refl, sym, subst}
+use Rattle.pliron_pipeline.specs.PassSteps.{ScheduleOf}
+use Rattle.pliron_opts.specs.Asked.{IsPlanned, is_nested, names_of}
 use Rattle.pliron_buffers.specs.declared.status.Failure.{Failure}
 use Rattle.pliron_buffers.specs.declared.status.Failure.TheVariants.{Arguments, Text, Refused, Memory}
 use Rattle.pliron_buffers.specs.declared.status.Status.{Status}
 use Rattle.pliron_buffers.specs.Fills.{Fills, Fills.Whole, Fills.Short, Fills.Fails}
-use Rattle.pliron_buffers.specs.Optimises.{IsUnderstood, Explains}
+use Rattle.pliron_buffers.specs.Optimises.{IsListed, Explains}
 
 -- each answer and each failure is one of these too
 pub fills_by : {A B : List ℕ → Type 0} {F G : Failure → Type 0} (before after : List ℕ) (needed : ℕ) (status : Status) → ((answer : List ℕ) → A answer → B answer) → ((failure : Failure) → F failure → G failure) → Fills A F before after needed status → Fills B G before after needed status
@@ -24,13 +26,16 @@ pub if_err : {T E : Type 0} {P Q : E → Type 0} (r : Result T E) → ((failure 
 if_err (Ok x) h p = tt
 if_err (Err f) h p = h f p
 
--- why there is no answer, of a list that was visited, and of one that is understood
-pub explains_list : (list : List ℕ) (failure : Failure) → ((failure ≡ Arguments) × ¬ (IsUnderstood list)) ⊎ (failure ≡ Memory) → Explains list failure
-explains_list list failure (inl (e, lacks)) = subst (λ f. Explains list f) (sym e) lacks
+-- why there is no answer, of a list that isn't understood, and of one that is
+pub explains_list : (list : List ℕ) (failure : Failure) → (failure ≡ Arguments) ⊎ (failure ≡ Memory) → Explains list failure
+explains_list list failure (inl e) = subst (λ f. Explains list f) (sym e) tt
 explains_list list failure (inr e) = subst (λ f. Explains list f) (sym e) tt
 
-pub explains_text : (list : List ℕ) (failure : Failure) → IsUnderstood list → failure ≢ Arguments → Explains list failure
-explains_text list Arguments understood other = absurd (other refl)
-explains_text list Text understood other = understood
-explains_text list Refused understood other = understood
-explains_text list Memory understood other = tt
+pub lists : {D E B K : Type 0} (list : List ℕ) (schedule : ScheduleOf D E B K) → IsPlanned list schedule → IsListed list
+lists list schedule p = record { runs = p.runs; nested = is_nested p.pipeline; names = names_of p.pipeline; plan = p.plan }
+
+pub explains_text : (list : List ℕ) (failure : Failure) → IsListed list → failure ≢ Arguments → Explains list failure
+explains_text list Arguments listed other = absurd (other refl)
+explains_text list Text listed other = listed
+explains_text list Refused listed other = listed
+explains_text list Memory listed other = tt

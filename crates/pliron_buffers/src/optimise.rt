@@ -1,10 +1,10 @@
 //! Passes on a text.
-ghost use Rattle.std.specs.Prelude.{◌≡◌, ◌≢◌, ◌⊎◌, IfOk, IfErr, OnOk, string_bytes};
+ghost use Rattle.std.specs.Prelude.{◌≡◌, ◌≢◌, ◌⊎◌, IfOk, IfErr, string_bytes};
 ghost use Rattle.pliron_opts.specs.Answered.{IsOptimised};
 ghost use Rattle.pliron_opts.specs.Asked.{IsPlanned};
 ghost use Rattle.pliron_opts.specs.Ran.{RunsAlone};
 ghost use Rattle.pliron_buffers.specs.Fills.{Fills};
-ghost use Rattle.pliron_buffers.specs.Optimises.{Optimises, IsUnderstood, Explains};
+ghost use Rattle.pliron_buffers.specs.Optimises.{Optimises, Explains};
 
 use crate::buffer::fill;
 use crate::status::{Failure, Status};
@@ -16,8 +16,7 @@ use std::alloc::Global;
 /// The schedule that the list plans. Errors: the list isn't one of names of passes; allocation failure.
 fn schedule_of<D: Dialect>(alloc: Global, list: &[u8]) -> Result<Schedule<D, BenchFacts>, Failure>
     ensures planned { IfOk result (λ schedule. IsPlanned list.now schedule) }
-    ensures understood { OnOk result (IsUnderstood list.now) }
-    ensures failure { IfErr result (λ failure. ((failure ≡ Failure.Arguments) × ¬ (IsUnderstood list.now)) ⊎ (failure ≡ Failure.Memory)) }
+    ensures failure { IfErr result (λ failure. (failure ≡ Failure.Arguments) ⊎ (failure ≡ Failure.Memory)) }
 {
     let Ok(word) = str::from_utf8(list) else {
         return Err(Failure::Arguments);

@@ -1,8 +1,8 @@
 -- What words ask the program for.
-use Rattle.std.specs.Prelude.{◌≡◌, ℕ, Bool, true, false, List, [], ◌∷◌, Option, All, map, codes}
+use Rattle.std.specs.Prelude.{◌≡◌, ℕ, Bool, true, false, List, [], ◌∷◌, Option, map, codes}
 use Rattle.pliron_opts.specs.Plans.{IsPlan}
 use Rattle.either.specs.declared.Either.TheVariants.{Left, Right}
-use Rattle.pliron_pipeline.specs.PassSteps.{PipelineOf, ScheduleOf, step_name, IsNoStep}
+use Rattle.pliron_pipeline.specs.PassSteps.{PipelineOf, ScheduleOf, step_name}
 use Rattle.pliron_opts.specs.Ran.{IsScheduled}
 use Rattle.pliron_opts.specs.declared.optimise.command.Command.{Command}
 use Rattle.pliron_opts.specs.declared.optimise.command.Command.TheVariants.{Optimise, Graph}
@@ -24,14 +24,6 @@ pub record IsPlanned {D E B K : Type 0} (word : List ℕ) (schedule : ScheduleOf
   pub pipeline : PipelineOf D E B K
   pub plan : IsPlan word runs (is_nested pipeline) (names_of pipeline)
   pub scheduled : IsScheduled runs pipeline schedule
-
--- the word plans passes: each of the names in it is that of a pass
-pub record IsPassList (word : List ℕ) : Type 0 where
-  pub runs : Option ℕ
-  pub nested : Bool
-  pub names : List (List ℕ)
-  pub plan : IsPlan word runs nested names
-  pub known : All (λ name. ¬ (IsNoStep name)) names
 
 -- the words ask for the command: they are the one word `graph`, or one that plans the schedule
 abbrev pub AskFor : {D B : Type 0} → List (List ℕ) → Command D B → Type 0

