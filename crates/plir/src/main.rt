@@ -1,6 +1,6 @@
 //! `plir`: texts of operations, for people: runs, passes, marks under what is wrong, pictures, and why passes changed what.
 //!
-//! It knows words, files, streams and an exit status. What each command does stands in `pliron_cli` and `pliron_draw`.
+//! It knows words, files, streams and an exit status. What each command does stands in `pliron_cli` and `pliron_cli`.
 #![tactic(auto)]
 
 mod command;
@@ -8,9 +8,9 @@ mod command;
 use clap::ArgMatches;
 use command::parse_arguments;
 use pliron_cli::{
-    CompareOptions, OptOptions, Outcome, Progress, RunWish, Source, Wish, check, compare, opt, run,
+    BenchNotation, CompareOptions, FlowOptions, InstrumentationOptions, OptOptions, Outcome,
+    Progress, RunOptions, Source, check, compare, draw_flow, draw_graph, explain, opt, run,
 };
-use pliron_draw::{FlowWish, draw_flow, draw_graph, explain};
 use std::alloc::Global;
 use std::io::{self, IsTerminal, Read, Write};
 use std::process::ExitCode;
@@ -47,18 +47,18 @@ fn numbers(alloc: Global, matches: &ArgMatches, id: &str) -> io::Result<Vec<i64>
 fn compare_wished<'w>(
     alloc: Global,
     source: &Source,
-    run: RunWish<'w>,
+    run: RunOptions<'w>,
     pipeline: &'w str,
 ) -> io::Result<Outcome> {
     let wish = CompareOptions { run, pipeline };
-    Ok(compare(alloc, source, &wish)?)
+    Ok(compare::<BenchNotation>(alloc, source, &wish)?)
 }
 
 /// Runs the text as the words wish, or before and after passes.
 fn run_wished(alloc: Global, source: &Source, matches: &ArgMatches) -> io::Result<Outcome> {
     let inputs = numbers(alloc, matches, "input")?;
     let world = numbers(alloc, matches, "world")?;
-    let wish = RunWish {
+    let wish = RunOptions {
         inputs: &inputs,
         world: &world,
         steps: matches.get_one::<usize>("steps").unwrap_or(100_000),
@@ -124,7 +124,7 @@ fn opt_watched<'w>(
     rt: &HostRuntime,
     source: &Source,
     matches: &ArgMatches,
-    watch: Wish<'w>,
+    watch: InstrumentationOptions<'w>,
     pipeline: &'w str,
 ) -> io::Result<Outcome> {
     let wish = OptOptions {
@@ -135,13 +135,13 @@ fn opt_watched<'w>(
     };
     let start = rt.monotonic().unwrap_or(Duration::ZERO);
     let terminal = Terminal { rt, start };
-    Ok(opt(rt.alloc(), source, &wish, terminal)?)
+    Ok(opt::<BenchNotation, _>(rt.alloc(), source, &wish, terminal)?)
 }
 
 /// Runs the passes that the words ask for on the text.
 fn opt_wished(rt: &HostRuntime, source: &Source, matches: &ArgMatches) -> io::Result<Outcome> {
     let prints = words(rt.alloc(), matches, "print-after")?;
-    let watch = Wish {
+    let watch = InstrumentationOptions {
         counts: matches.get_flag("stats"),
         verifies: matches.get_flag("verify-each"),
         prints_all: matches.get_flag("print-after-all"),
@@ -163,7 +163,7 @@ fn unreadable_input(alloc: Global, name: &str, error: &io::Error) -> io::Result<
 
 /// Draws the region that the words wish.
 fn draw_wished(alloc: Global, source: &Source, matches: &ArgMatches) -> io::Result<Outcome> {
-    let wish = FlowWish {
+    let wish = FlowOptions {
         region: matches.get_str("region").unwrap_or("0"),
         dominators: matches.get_flag("dominators"),
     };
@@ -183,7 +183,7 @@ fn outcome(rt: &HostRuntime, command: &str, matches: &ArgMatches) -> io::Result<
         text: &text,
     };
     match command {
-        "check" => Ok(check(alloc, &source)?),
+        "check" => Ok(check::<BenchNotation>(alloc, &source)?),
         "opt" => opt_wished(rt, &source, matches),
         "dot" => draw_wished(alloc, &source, matches),
         "graph" => Ok(draw_graph(alloc, &source)?),
@@ -192,16 +192,14 @@ fn outcome(rt: &HostRuntime, command: &str, matches: &ArgMatches) -> io::Result<
     }
 }
 
-/// Writes what the command leaves: to the file that is named, where there is an answer, or to standard output.
+/// Writes what the command leaves: to the file that is named, where there is something to be written, or to standard
+/// output. A file that is named is left as it is where there is nothing.
 fn write(rt: &HostRuntime, outcome: &Outcome, file: Option<&str>) -> io::Result<()> {
     eprint!(rt; "{}", outcome.report)?;
     match file {
-        Some(file) if outcome.status == 0 || outcome.status == 3 => fs::write(
-            rt,
-            file,
-            &outcome.output,
-        ),
-        _ => rt.stdout().write_all(&outcome.output),
+        Some(_) if outcome.status != 0 && outcome.output.is_empty() => Ok(()),
+        Some(file) => fs::write(rt, file, &outcome.output),
+        None => rt.stdout().write_all(&outcome.output),
     }
 }
 

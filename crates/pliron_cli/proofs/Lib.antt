@@ -1,1 +1,2 @@
 pub mod PeopleLemmas
+pub mod DrawLemmas

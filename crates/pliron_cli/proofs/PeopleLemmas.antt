@@ -1,13 +1,10 @@
 -- How commands end.
 use Rattle.std.specs.Prelude.{⊤}
-use Rattle.std.proofs.Common.{◌≡◌, ◌⊎◌, inl, inr, ℕ, Bool, true, List, [], ◌∷◌, ◌++◌, Option, Some, IfSome, Result, Ok, Err, IfOk, subst, ◌∙◌}
+use Rattle.std.proofs.Common.{◌≡◌, ◌⊎◌, inl, inr, ℕ, Bool, List, [], ◌∷◌, ◌++◌, Option, Some, IfSome, Result, Ok, Err, IfOk, refl, subst, ◌∙◌}
 use Rattle.pliron_core.specs.Tree.{Tree}
-use Rattle.pliron_core.specs.Writes.{no_tree}
 use Rattle.pliron_core.specs.declared.attrs.IRStatus.{IRStatus}
 use Rattle.pliron_laws.specs.Datum.{Datum, Meaning}
 use Rattle.pliron_laws.specs.Machine.{run, sight_after}
-use Rattle.pliron_bench.specs.BenchMoves.{bench}
-use Rattle.pliron_notation.specs.Building.{IsGrown}
 use Rattle.pliron_pass.specs.Headline.{DoAsBefore}
 use Rattle.pliron_evaluator.specs.Evaluator.{sight_of}
 use Rattle.pliron_evaluator.specs.declared.evaluator.values.Sight.{Sight}
@@ -16,42 +13,73 @@ use Rattle.pliron_opts.specs.Answered.{Reads, Prints, IsOptimised, status_line}
 use Rattle.pliron_instrument.specs.PipelineWords.{Plans}
 use Rattle.pliron_instrument.specs.Schedules.{ScheduleOf, IsPlanned}
 use Rattle.pliron_cli.specs.declared.outcome.Outcome.{Outcome}
+use Rattle.pliron_cli.specs.declared.comparing.Likeness.{Likeness}
+use Rattle.pliron_cli.specs.declared.comparing.Likeness.TheVariants.{Same, SoFar, Different}
 use Rattle.pliron_cli.specs.declared.comparing.Sights.{Sights}
-use Rattle.pliron_cli.specs.Compared.{AreSeen, AreAlike}
-use Rattle.pliron_cli.specs.Optimised.{IsLaidOut, IsMade, IsPlannedMade, IsMadeBy}
-use Rattle.pliron_cli.specs.Outcomes.{Ends, Ends.Says, Ends.Denies, Ends.Fails}
+use Rattle.pliron_cli.specs.Asked.{EndsByPlan, EndsByPlan.ByPasses, EndsByPlan.WithoutPasses, EndsByWord, EndsByWord.ByPlan, EndsByWord.WithoutPlan}
+use Rattle.pliron_cli.specs.Compared.{AreSeen, AreSame, EndsWith, EndsCompared}
+use Rattle.pliron_cli.specs.Likeness.{IsLikeness, IsTold, IsToldOther, last_line}
+use Rattle.pliron_cli.specs.Optimised.{IsLaidOut, IsMade, EndsOptimised}
+use Rattle.pliron_cli.specs.Outcomes.{Ends, Ends.Says, Ends.Denies, Ends.Fails, EndsBadly}
 
 pub ends_by : (o : Outcome) → (o.status ≡ 0) ⊎ (o.status ≡ 3) → Ends ⊤ ⊤ o
 ends_by o (inl e) = Says tt e
 ends_by o (inr e) = Denies tt e
 
--- what is said may say more
-ends_so : {this that more : Type 0} (o : Outcome) → (this → more) → Ends this that o → Ends more that o
-ends_so o f (Says x e) = Says (f x) e
-ends_so o f (Denies y e) = Denies y e
-ends_so o f (Fails bad) = Fails bad
-
 -- two runs of one tree before and after
-pub are_seen : (inputs world : List Datum) (steps : ℕ) (sights : Sights) (before after : Tree) (root : ℕ) → IsGrown no_tree before root → DoAsBefore bench before after → sight_of sights.before ≡ sight_after (run bench before root inputs world steps) → sight_of sights.after ≡ sight_after (run bench after root inputs world steps) → AreSeen inputs world steps sights
-are_seen inputs world steps sights before after root read same first second = record { before = before; after = after; root = root; read = read; same = same; first = first; second = second }
+pub are_seen : (reads : Reads) (m : Meaning) (inputs world : List Datum) (steps : ℕ) (ran : ℕ → Tree → Tree → IRStatus → Type 0) (text : List ℕ) (sights : Sights) (before after : Tree) (root : ℕ) (status : IRStatus) → reads text before root → ran root before after status → DoAsBefore m before after → sight_of sights.before ≡ sight_after (run m before root inputs world steps) → sight_of sights.after ≡ sight_after (run m after root inputs world steps) → AreSeen reads m inputs world steps ran text sights
+are_seen reads m inputs world steps ran text sights before after root status read runs same first second = record { before = before; after = after; root = root; status = status; read = read; runs = runs; same = same; first = first; second = second }
 
-pub are_alike : {E : Type 0} (eq : Sight → Sight → Bool) (inputs world : List Datum) (steps : ℕ) (sights : Sights) (r : Result Outcome E) → AreSeen inputs world steps sights → IfOk r (Ends (eq sights.before sights.after ≡ true) ⊤) → IfOk r (Ends (AreAlike inputs world steps eq) ⊤)
-are_alike eq inputs world steps sights (Ok o) are ends = ends_so o (λ e. record { sights = sights; seen_so = are; equal = e }) ends
-are_alike eq inputs world steps sights (Err e) are ends = tt
+-- a line behind a text
+pub ends_with : (line text first : List ℕ) → text ≡ first ++ line → EndsWith line text
+ends_with line text first e = (first, e)
+
+-- what the likeness of two runs says, and the line that is written of it
+pub told_same : (eq : Sight → Sight → Bool) (sights : Sights) (likeness : Likeness) (o : Outcome) → likeness ≡ Same → IsLikeness eq sights likeness → EndsWith (last_line likeness) o.output.items → o.status ≡ 0 → Ends (IsTold eq sights o.output.items) (IsToldOther eq sights o.output.items) o
+told_same eq sights Same o so is line e = Says (is, line) e
+told_same eq sights SoFar o so is line e = absurd (cc)
+told_same eq sights Different o so is line e = absurd (cc)
+
+pub told_so_far : (eq : Sight → Sight → Bool) (sights : Sights) (likeness : Likeness) (o : Outcome) → likeness ≡ SoFar → IsLikeness eq sights likeness → EndsWith (last_line likeness) o.output.items → o.status ≡ 3 → Ends (IsTold eq sights o.output.items) (IsToldOther eq sights o.output.items) o
+told_so_far eq sights Same o so is line e = absurd (cc)
+told_so_far eq sights SoFar o so is line e = Denies (is, inl line) e
+told_so_far eq sights Different o so is line e = Denies (is, inr line) e
+
+pub told_different : (eq : Sight → Sight → Bool) (sights : Sights) (likeness : Likeness) (o : Outcome) → likeness ≡ Different → IsLikeness eq sights likeness → EndsWith (last_line likeness) o.output.items → o.status ≡ 3 → Ends (IsTold eq sights o.output.items) (IsToldOther eq sights o.output.items) o
+told_different eq sights Same o so is line e = absurd (cc)
+told_different eq sights SoFar o so is line e = Denies (is, inl line) e
+told_different eq sights Different o so is line e = Denies (is, inr line) e
+
+module _ (reads : Reads) (m : Meaning) (inputs world : List Datum) (steps : ℕ) (eq : Sight → Sight → Bool) (ran : ℕ → Tree → Tree → IRStatus → Type 0) (text : List ℕ) where
+  compared_so : (sights : Sights) (o : Outcome) → AreSeen reads m inputs world steps ran text sights → Ends (IsTold eq sights o.output.items) (IsToldOther eq sights o.output.items) o → EndsCompared reads m inputs world steps eq ran text o
+  compared_so sights o are (Says (same, line) e) = Says (record { sights = sights; seen_so = are; are_same = same; written = line }) e
+  compared_so sights o are (Denies (other, line) e) = Denies (record { sights = sights; seen_so = are; are_other = other; written = line }) e
+  compared_so sights o are (Fails bad) = Fails bad
+
+  pub are_compared : {E : Type 0} (sights : Sights) (r : Result Outcome E) → AreSeen reads m inputs world steps ran text sights → IfOk r (λ o. Ends (IsTold eq sights o.output.items) (IsToldOther eq sights o.output.items) o) → IfOk r (EndsCompared reads m inputs world steps eq ran text)
+  are_compared sights (Ok o) are ends = compared_so sights o are ends
+  are_compared sights (Err e) are ends = tt
 
 -- a line more
 pub ended : (laid text : List ℕ) → IsLaidOut text laid → IsLaidOut text (laid ++ 10 ∷ [])
 ended laid text e = break_added laid ∙ e
 
-module _ (reads : Reads) (prints : Prints) (m : Meaning) where
-  pub is_made : (ran : ℕ → Tree → Tree → IRStatus → Type 0) (text printed : List ℕ) (status : IRStatus) (o : Outcome) → IsOptimised reads prints m ran text (printed ++ status_line status) → IsLaidOut printed o.output.items → o.status ≡ 0 → Ends (IsMade reads prints m ran text o.output.items) ⊤ o
-  is_made ran text printed status o made laid e = Says (record { printed = printed; status = status; made = made; laid = laid }) e
+pub is_made : (reads : Reads) (prints : Prints) (m : Meaning) (ran : ℕ → Tree → Tree → IRStatus → Type 0) (text printed : List ℕ) (status : IRStatus) (o : Outcome) → IsOptimised reads prints m ran text (printed ++ status_line status) → IsLaidOut printed o.output.items → o.status ≡ 0 → EndsOptimised reads prints m ran text o
+is_made reads prints m ran text printed status o made laid e = Says (record { printed = printed; status = status; made = made; laid = laid }) e
 
-  module _ {P D E B K X : Type 0} (name : P → List ℕ) (ran : ScheduleOf P D E B K → ℕ → Tree → Tree → IRStatus → Type 0) where
-    pub is_planned_made : (runs : Option ℕ) (nested : Bool) (names : List (List ℕ)) (schedule : ScheduleOf P D E B K) (found : Option (ScheduleOf P D E B K)) (text : List ℕ) (r : Result Outcome X) → found ≡ Some schedule → IfSome found (IsPlanned name runs nested names) → IfOk r (λ o. Ends (IsMade reads prints m (ran schedule) text o.output.items) ⊤ o) → IfOk r (λ o. Ends (IsPlannedMade reads prints m name ran runs nested names text o.output.items) ⊤ o)
-    is_planned_made runs nested names schedule found text (Ok o) is planned ends = ends_so o (λ made. record { schedule = schedule; planned = subst (λ f. IfSome f (IsPlanned name runs nested names)) is planned; made = made }) ends
-    is_planned_made runs nested names schedule found text (Err e) is planned ends = tt
+module _ {P D E B K X : Type 0} (name : P → List ℕ) (EndsSo : ScheduleOf P D E B K → Outcome → Type 0) where
+  pub is_planned : (runs : Option ℕ) (nested : Bool) (names : List (List ℕ)) (schedule : ScheduleOf P D E B K) (found : Option (ScheduleOf P D E B K)) (r : Result Outcome X) → found ≡ Some schedule → IfSome found (IsPlanned name runs nested names) → IfOk r (EndsSo schedule) → IfOk r (EndsByPlan name EndsSo runs nested names)
+  is_planned runs nested names schedule found (Ok o) is planned ends = ByPasses schedule (subst (λ f. IfSome f (IsPlanned name runs nested names)) is planned) ends
+  is_planned runs nested names schedule found (Err e) is planned ends = tt
 
-    pub is_made_by : (word : List ℕ) (runs : Option ℕ) (nested : Bool) (names : List (List ℕ)) (text : List ℕ) (r : Result Outcome X) → Plans word runs nested names → IfOk r (λ o. Ends (IsPlannedMade reads prints m name ran runs nested names text o.output.items) ⊤ o) → IfOk r (λ o. Ends (IsMadeBy reads prints m name ran word text o.output.items) ⊤ o)
-    is_made_by word runs nested names text (Ok o) plan ends = ends_so o (λ made. record { runs = runs; nested = nested; names = names; plan = plan; made = made }) ends
-    is_made_by word runs nested names text (Err e) plan ends = tt
+  pub no_passes : (runs : Option ℕ) (nested : Bool) (names : List (List ℕ)) (r : Result Outcome X) → IfOk r EndsBadly → IfOk r (EndsByPlan name EndsSo runs nested names)
+  no_passes runs nested names (Ok o) bad = WithoutPasses bad
+  no_passes runs nested names (Err e) bad = tt
+
+  pub is_asked : (word : List ℕ) (runs : Option ℕ) (nested : Bool) (names : List (List ℕ)) (r : Result Outcome X) → Plans word runs nested names → IfOk r (EndsByPlan name EndsSo runs nested names) → IfOk r (EndsByWord name EndsSo word)
+  is_asked word runs nested names (Ok o) plan ends = ByPlan runs nested names plan ends
+  is_asked word runs nested names (Err e) plan ends = tt
+
+  pub no_plan : (word : List ℕ) (r : Result Outcome X) → IfOk r EndsBadly → IfOk r (EndsByWord name EndsSo word)
+  no_plan word (Ok o) bad = WithoutPlan bad
+  no_plan word (Err e) bad = tt

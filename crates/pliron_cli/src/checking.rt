@@ -1,17 +1,17 @@
 //! Whether a text's operation is fit to run.
-ghost use Rattle.std.specs.Prelude.{◌≡◌, IfOk, IfSome, MatchOption};
+ghost use Rattle.std.specs.Prelude.{◌≡◌, [], IfOk, IfSome, MatchOption};
 ghost use Rattle.pliron_core.specs.Writes.{no_tree};
-ghost use Rattle.pliron_cli.specs.Checked.{IsFitText, IsUnfitText};
+ghost use Rattle.pliron_cli.specs.Checked.{IsChecked, IsFitText, IsUnfitText, fit_line};
 ghost use Rattle.pliron_cli.specs.Outcomes.{Ends};
 
 use crate::failure::CommandFailure;
 use crate::outcome::{Outcome, failure_outcome};
-use pliron_bench::Bench;
+use crate::shown::Shown;
 use pliron_core::{Context, Operation, Ptr};
-use pliron_diagnostics::{Source, SourceMark, mark_source, operation_places, place_of};
+use pliron_diagnostics::{Source, SourceMark, mark_source, place_of};
 use pliron_fit::{Violation, find_violation};
 use pliron_laws::OptError;
-use pliron_notation::read_text;
+use pliron_opts::Notation;
 use std::alloc::{AllocError, Global};
 
 /// What is wrong, what is said under the operation, and what helps.
@@ -99,13 +99,13 @@ fn operation_of(violation: &Violation, root: Ptr<Operation>) -> Ptr<Operation> {
 }
 
 /// What is told of a violation of an operation that was read from the text.
-fn violation_message(
+fn violation_message<N: Shown>(
     alloc: Global,
     source: &Source,
     root: Ptr<Operation>,
     violation: &Violation,
 ) -> Result<String, AllocError> {
-    let places = operation_places(alloc, source.text)?;
+    let places = N::places(alloc, source.text)?;
     let words = words_of(violation);
     let place = place_of(&places, root, operation_of(violation, root));
     let mark = SourceMark {
@@ -120,43 +120,77 @@ fn violation_message(
     Ok(told)
 }
 
+/// What a check finds of a text.
+#[derive(Clone, Copy)]
+pub enum Checked {
+    /// The text is outside the notation.
+    Unreadable,
+    /// Its operation is fit to run.
+    Fit,
+    /// Its operation is this one, and this keeps it from being fit to run.
+    Unfit(Ptr<Operation>, Violation),
+}
+
+/// Reads a text of any notation into the context, and looks whether its operation is fit to run.
+///
+/// Asks that the context is empty. Errors: allocation failure. Cost: reading, and that of `find_violation`.
+pub fn check_text<N: Notation>(
+    alloc: Global,
+    text: &[u8],
+    ctx: &mut Context,
+) -> Result<Checked, OptError>
+    requires { ctx.old.tree ≡ no_tree }
+    ensures { IfOk result (IsChecked N.reads N.D.meaning text.now) }
+{
+    let Some(root) = N::read(alloc, text, ctx)? else {
+        return Ok(Checked::Unreadable);
+    };
+    match find_violation::<N::D>(alloc, root, ctx)? {
+        None => Ok(Checked::Fit),
+        Some(violation) => Ok(Checked::Unfit(root, violation)),
+    }
+}
+
 /// What keeps the text's operation from being fit to run: `Some(None)` where nothing does, and `None` of an
 /// unreadable text. Errors: allocation failure. Cost: reading, and that of `find_violation`.
-fn check_text(alloc: Global, source: &Source) -> Result<Option<Option<String>>, OptError>
-    ensures { IfOk result (λ found. IfSome found (λ wrong. MatchOption wrong IsFitText (λ told. IsUnfitText))) }
+fn wrong_with<N: Shown>(alloc: Global, source: &Source) -> Result<Option<Option<String>>, OptError>
+    ensures { IfOk result (λ found. IfSome found (λ wrong. MatchOption wrong (IsFitText N.reads N.D.meaning source.now.text.now)
+        (λ told. IsUnfitText N.reads N.D.meaning source.now.text.now))) }
 {
     let mut ctx = Context::new(alloc);
-    check_in(alloc, source, &mut ctx)
+    wrong_in::<N>(alloc, source, &mut ctx)
 }
 
 /// The same in this context.
-fn check_in(
+fn wrong_in<N: Shown>(
     alloc: Global,
     source: &Source,
     ctx: &mut Context,
 ) -> Result<Option<Option<String>>, OptError>
     requires { ctx.old.tree ≡ no_tree }
-    ensures { IfOk result (λ found. IfSome found (λ wrong. MatchOption wrong IsFitText (λ told. IsUnfitText))) }
+    ensures { IfOk result (λ found. IfSome found (λ wrong. MatchOption wrong (IsFitText N.reads N.D.meaning source.now.text.now)
+        (λ told. IsUnfitText N.reads N.D.meaning source.now.text.now))) }
 {
-    let Some(root) = read_text(alloc, source.text, ctx)? else {
-        return Ok(None);
-    };
-    match find_violation::<Bench>(alloc, root, ctx)? {
-        None => Ok(Some(None)),
-        Some(violation) => Ok(Some(Some(violation_message(alloc, source, root, &violation)?))),
+    match check_text::<N>(alloc, source.text, ctx)? {
+        Checked::Unreadable => Ok(None),
+        Checked::Fit => Ok(Some(None)),
+        Checked::Unfit(root, violation) => Ok(Some(Some(violation_message::<N>(
+            alloc, source, root, &violation,
+        )?))),
     }
 }
 
-/// Looks whether the text's operation is well linked and fit to run, and tells one thing that keeps it from that,
+/// Looks whether the operation of a text is well linked and fit to run, and tells one thing that keeps it from that,
 /// with its place.
 ///
 /// Statuses: 0 where nothing keeps it; 1 where memory was refused; 2 for an unreadable text; 3 where something does.
-/// With 1 and 2 nothing is to be written to the output. Errors: allocation failure for what is told. Cost: reading, and
+/// With all but 0 nothing is to be written to the output. Errors: allocation failure for what is told. Cost: reading, and
 /// that of `find_violation`.
-pub fn check(alloc: Global, source: &Source) -> Result<Outcome, AllocError>
-    ensures { IfOk result (Ends IsFitText IsUnfitText) }
+pub fn check<N: Shown>(alloc: Global, source: &Source) -> Result<Outcome, AllocError>
+    ensures { IfOk result (λ outcome. Ends (IsFitText N.reads N.D.meaning source.now.text.now × (outcome.output.items ≡ fit_line))
+        (IsUnfitText N.reads N.D.meaning source.now.text.now × (outcome.output.items ≡ [])) outcome) }
 {
-    match check_text(alloc, source) {
+    match wrong_with::<N>(alloc, source) {
         Ok(Some(None)) => Ok(Outcome {
             output: Vec::from_slice(alloc, b"well linked and fit to run\n")?,
             report: String::new(alloc),
@@ -167,7 +201,7 @@ pub fn check(alloc: Global, source: &Source) -> Result<Outcome, AllocError>
             report: told,
             status: 3,
         }),
-        Ok(None) => failure_outcome(alloc, CommandFailure::Text, source),
-        Err(error) => failure_outcome(alloc, CommandFailure::Refused(error), source),
+        Ok(None) => failure_outcome::<N>(alloc, CommandFailure::Text, source),
+        Err(error) => failure_outcome::<N>(alloc, CommandFailure::Refused(error), source),
     }
 }

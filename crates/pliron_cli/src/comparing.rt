@@ -1,24 +1,26 @@
 //! Runs before and after passes.
-ghost use Rattle.std.specs.Prelude.{◌≡◌, ⊤, map, true, IfOk, IfSome};
+ghost use Rattle.std.specs.Prelude.{◌≡◌, map, IfOk, IfSome, string_bytes};
 ghost use Rattle.pliron_core.specs.Writes.{no_tree};
 ghost use Rattle.pliron_laws.specs.Datum.{Number as NumberOf};
-ghost use Rattle.pliron_cli.specs.Compared.{AreSeen, AreAlike};
+ghost use Rattle.pliron_opts.specs.Ran.{RunsAlone};
+ghost use Rattle.pliron_cli.specs.Asked.{EndsByPlan, EndsByWord};
+ghost use Rattle.pliron_cli.specs.Compared.{AreSeen, EndsCompared, EndsWith, is_cut_off as was_cut_off};
+ghost use Rattle.pliron_cli.specs.Likeness.{IsLikeness, IsTold, IsToldOther, last_line};
 ghost use Rattle.pliron_cli.specs.Outcomes.{Ends};
-ghost use Rattle.pliron_cli.specs.declared.comparing.Likeness.TheVariants.{Same};
 
 use crate::failure::CommandFailure;
 use crate::optimising::misspelling_outcome;
 use crate::outcome::{Outcome, failure_outcome};
-use pliron_core::{Context, Operation, Ptr};
-use pliron_diagnostics::{RunOptions, Source, run_sight, sight_text};
-use pliron_evaluator::evaluator::{Datum, Notes, Sight};
+use crate::shown::Shown;
+use pliron_core::Context;
+use pliron_diagnostics::{RunOptions, Source, sight_text};
+use pliron_evaluator::evaluator::{Datum, Sight};
 use pliron_instrument::{
-    InstrumentationOptions, InstrumentedSchedule, PipelineText, PlanError, Timeless,
+    InstrumentationOptions, Instrumented, InstrumentedSchedule, PipelineText, PlanError, Timeless,
     build_schedule, run_instrumented,
 };
 use pliron_laws::OptError;
-use pliron_notation::read_text;
-use pliron_opts::BenchNotation;
+use pliron_pass::{BenchFactKind, Pass};
 use std::alloc::{AllocError, Global};
 
 /// What is wished of runs before and after passes.
@@ -30,15 +32,15 @@ pub struct CompareOptions<'w> {
     pub pipeline: &'w str,
 }
 
-/// What is seen of two runs.
+/// What is seen of a run before passes, and of one after them.
 #[derive(Drop)]
-struct Sights {
-    before: Sight,
-    after: Sight,
+pub struct Sights {
+    pub before: Sight,
+    pub after: Sight,
 }
 
 /// What two runs have to do with one another.
-#[derive(Clone, Copy, PartialEq, Eq)]
+#[derive(Clone, Copy)]
 enum Likeness {
     /// The same is seen of both, up to their ends.
     Same,
@@ -63,13 +65,18 @@ fn begins_with(effects: &[Datum], first: &[Datum]) -> bool {
 }
 
 /// Whether the run was cut off.
-fn is_cut_off(sight: &Sight) -> bool {
-    matches!(sight, Sight::Reached(_))
+fn is_cut_off(sight: &Sight) -> bool
+    ensures { result ≡ was_cut_off sight.now }
+{
+    match sight {
+        Sight::Reached(_) => true,
+        Sight::Ended(_, _) | Sight::Trapped(_) => false,
+    }
 }
 
 /// What the runs have to do with one another.
 fn likeness_of(sights: &Sights) -> Likeness
-    ensures { result ≡ Same → ⟦<Sight as PartialEq>⟧.eq sights.now.before sights.now.after ≡ true }
+    ensures { IsLikeness ⟦<Sight as PartialEq>⟧.eq sights.now result }
 {
     let (before, after) = (effects(&sights.before), effects(&sights.after));
     match (is_cut_off(&sights.before), is_cut_off(&sights.after)) {
@@ -82,50 +89,76 @@ fn likeness_of(sights: &Sights) -> Likeness
     }
 }
 
-/// What is seen of the run of a text's operation, and of that after the passes; `None` of an unreadable text.
+/// Reads a text of any notation into the context, and answers what is seen of a run of its operation, and of one after the
+/// passes of the schedule; `None` of an unreadable text.
+///
+/// Asks that the context is empty. Errors: those of the passes; allocation failure. Cost: reading, two runs, and the passes.
 #[tactic(auto, using(crate::proofs::PeopleLemmas::are_seen))]
-fn sights_of(
+pub fn compare_text<N: Shown>(
     alloc: Global,
-    source: &Source,
+    text: &[u8],
     wish: &RunOptions,
-    schedule: &mut InstrumentedSchedule<BenchNotation, Timeless>,
+    schedule: &mut InstrumentedSchedule<N, Timeless>,
     ctx: &mut Context,
 ) -> Result<Option<Sights>, OptError>
     requires { ctx.old.tree ≡ no_tree }
-    ensures { IfOk result (λ found. IfSome found (AreSeen (map NumberOf wish.now.inputs.now) (map NumberOf wish.now.world.now) wish.now.steps)) }
+    ensures { IfOk result (λ found. IfSome found (AreSeen N.reads N.D.meaning (map NumberOf wish.now.inputs.now) (map NumberOf wish.now.world.now)
+        wish.now.steps (RunsAlone ⟦<BenchFactKind as PartialEq>⟧.eq ⟦<InstrumentedSchedule<N, Timeless> as Pass>⟧.outcome schedule.old) text.now)) }
 {
-    let Some(root) = read_text(alloc, source.text, ctx)? else {
+    let Some(root) = N::read(alloc, text, ctx)? else {
         return Ok(None);
     };
-    let before = run_sight(alloc, root, ctx, wish, &mut Notes::of_last(alloc))?;
-    let _ = run_instrumented(alloc, schedule, root, ctx)?;
-    let after = run_sight(alloc, root, ctx, wish, &mut Notes::of_last(alloc))?;
+    let before = N::run_sight(alloc, root, ctx, wish)?;
+    let _status = run_instrumented(alloc, schedule, root, ctx)?;
+    let after = N::run_sight(alloc, root, ctx, wish)?;
     Ok(Some(Sights { before, after }))
 }
 
-/// What is written of the runs: what is seen, once where it is the same of both, and whether it is.
+/// The last line of what is written.
+fn line_of(likeness: Likeness) -> &'static str
+    ensures { result.now ≡ last_line likeness }
+{
+    match likeness {
+        Likeness::Same => "the same before and after\n",
+        Likeness::SoFar => "the same as far as the runs went\n",
+        Likeness::Different => "not the same\n",
+    }
+}
+
+/// What is seen: once where it is the same of both.
+fn seen_text(alloc: Global, sights: &Sights, likeness: Likeness) -> Result<String, AllocError> {
+    let before = sight_text(alloc, &sights.before)?;
+    match likeness {
+        Likeness::Same => Ok(before),
+        Likeness::SoFar | Likeness::Different => {
+            let after = sight_text(alloc, &sights.after)?;
+            format!(in alloc; "before: {before}after: {after}")
+        }
+    }
+}
+
+/// What is written of the runs: what is seen, and whether it is the same.
+#[tactic(auto, using(crate::proofs::PeopleLemmas::ends_with))]
 fn comparison_text(
     alloc: Global,
     sights: &Sights,
     likeness: Likeness,
-) -> Result<String, AllocError> {
-    let before = sight_text(alloc, &sights.before)?;
-    let after = sight_text(alloc, &sights.after)?;
-    match likeness {
-        Likeness::Same => format!(in alloc; "{before}the same before and after\n"),
-        Likeness::SoFar => {
-            format!(in alloc; "before: {before}after: {after}the same as far as the runs went\n")
-        }
-        Likeness::Different => { format!(in alloc; "before: {before}after: {after}not the same\n") }
-    }
+) -> Result<Vec<u8>, AllocError>
+    ensures { IfOk result (λ text. EndsWith (last_line likeness) text.items) }
+{
+    let mut text = seen_text(alloc, sights, likeness)?;
+    text.push_str(line_of(likeness))?;
+    Ok(text.into_bytes())
 }
 
 /// The outcome of these runs.
+#[tactic(auto, using(crate::proofs::PeopleLemmas::told_same, crate::proofs::PeopleLemmas::told_so_far, crate::proofs::PeopleLemmas::told_different))]
 fn outcome_of(alloc: Global, sights: &Sights) -> Result<Outcome, AllocError>
-    ensures { IfOk result (Ends (⟦<Sight as PartialEq>⟧.eq sights.now.before sights.now.after ≡ true) ⊤) }
+    ensures { IfOk result (λ outcome. Ends (IsTold ⟦<Sight as PartialEq>⟧.eq sights.now outcome.output.items)
+        (IsToldOther ⟦<Sight as PartialEq>⟧.eq sights.now outcome.output.items) outcome) }
 {
     let likeness = likeness_of(sights);
-    let output = comparison_text(alloc, sights, likeness)?.into_bytes();
+    let output = comparison_text(alloc, sights, likeness)?;
     let report = String::new(alloc);
     match likeness {
         Likeness::Same => Ok(Outcome {
@@ -142,32 +175,53 @@ fn outcome_of(alloc: Global, sights: &Sights) -> Result<Outcome, AllocError>
 }
 
 /// Compares runs before and after the passes of the schedule.
-#[tactic(auto, using(crate::proofs::PeopleLemmas::are_alike))]
-fn compare_in(
+#[tactic(auto, using(crate::proofs::PeopleLemmas::are_compared))]
+fn compare_in<N: Shown>(
     alloc: Global,
     source: &Source,
     wish: &RunOptions,
-    schedule: &mut InstrumentedSchedule<BenchNotation, Timeless>,
+    schedule: &mut InstrumentedSchedule<N, Timeless>,
     ctx: &mut Context,
 ) -> Result<Outcome, AllocError>
     requires { ctx.old.tree ≡ no_tree }
-    ensures { IfOk result (Ends (AreAlike (map NumberOf wish.now.inputs.now) (map NumberOf wish.now.world.now) wish.now.steps ⟦<Sight as PartialEq>⟧.eq) ⊤) }
+    ensures { IfOk result (EndsCompared N.reads N.D.meaning (map NumberOf wish.now.inputs.now) (map NumberOf wish.now.world.now) wish.now.steps
+        ⟦<Sight as PartialEq>⟧.eq (RunsAlone ⟦<BenchFactKind as PartialEq>⟧.eq ⟦<InstrumentedSchedule<N, Timeless> as Pass>⟧.outcome schedule.old)
+        source.now.text.now) }
 {
-    match sights_of(alloc, source, wish, schedule, ctx) {
+    match compare_text(alloc, source.text, wish, schedule, ctx) {
         Ok(Some(sights)) => outcome_of(alloc, &sights),
-        Ok(None) => failure_outcome(alloc, CommandFailure::Text, source),
-        Err(error) => failure_outcome(alloc, CommandFailure::Refused(error), source),
+        Ok(None) => failure_outcome::<N>(alloc, CommandFailure::Text, source),
+        Err(error) => failure_outcome::<N>(alloc, CommandFailure::Refused(error), source),
     }
 }
 
+/// The same in a context of its own.
+fn compare_with<N: Shown>(
+    alloc: Global,
+    source: &Source,
+    wish: &RunOptions,
+    schedule: &mut InstrumentedSchedule<N, Timeless>,
+) -> Result<Outcome, AllocError>
+    ensures { IfOk result (EndsCompared N.reads N.D.meaning (map NumberOf wish.now.inputs.now) (map NumberOf wish.now.world.now) wish.now.steps
+        ⟦<Sight as PartialEq>⟧.eq (RunsAlone ⟦<BenchFactKind as PartialEq>⟧.eq ⟦<InstrumentedSchedule<N, Timeless> as Pass>⟧.outcome schedule.old)
+        source.now.text.now) }
+{
+    let mut ctx = Context::new(alloc);
+    compare_in(alloc, source, wish, schedule, &mut ctx)
+}
+
 /// Compares runs before and after the passes that the plan asks for.
-fn compare_by(
+#[tactic(auto, using(crate::proofs::PeopleLemmas::is_planned, crate::proofs::PeopleLemmas::no_passes))]
+fn compare_by<N: Shown>(
     alloc: Global,
     source: &Source,
     wish: &RunOptions,
     plan: &PipelineText,
 ) -> Result<Outcome, AllocError>
-    ensures { IfOk result (Ends (AreAlike (map NumberOf wish.now.inputs.now) (map NumberOf wish.now.world.now) wish.now.steps ⟦<Sight as PartialEq>⟧.eq) ⊤) }
+    ensures { IfOk result (EndsByPlan ⟦<Instrumented<N, Timeless> as Pass>⟧.name (λ schedule. EndsCompared N.reads N.D.meaning (map NumberOf wish.now.inputs.now)
+        (map NumberOf wish.now.world.now) wish.now.steps ⟦<Sight as PartialEq>⟧.eq
+        (RunsAlone ⟦<BenchFactKind as PartialEq>⟧.eq ⟦<InstrumentedSchedule<N, Timeless> as Pass>⟧.outcome schedule) source.now.text.now)
+        plan.now.runs plan.now.nested (map (λ name. name.now) plan.now.names.items)) }
 {
     let nothing = InstrumentationOptions {
         counts: false,
@@ -176,28 +230,33 @@ fn compare_by(
         prints: &[],
     };
     match build_schedule(alloc, plan, &nothing, Timeless)? {
-        Some(mut schedule) => {
-            let mut ctx = Context::new(alloc);
-            compare_in(alloc, source, wish, &mut schedule, &mut ctx)
-        }
-        None => failure_outcome(alloc, CommandFailure::Text, source),
+        Some(mut schedule) => compare_with::<N>(alloc, source, wish, &mut schedule),
+        None => failure_outcome::<N>(alloc, CommandFailure::Text, source),
     }
 }
 
-/// Runs the text's operation, and again after the passes that the word asks for, and answers what is seen and whether
+/// Runs the operation of a text, and again after the passes that the word asks for, and answers what is seen and whether
 /// it is the same.
 ///
 /// Statuses: 0 where both runs ended or trapped, and the same is seen of them; 1 where memory or the passes were refused;
-/// 2 for a word that asks for no passes or an unreadable text; 3 where a run was cut off or something differs. Errors:
-/// allocation failure for what is told. Cost: reading, two runs by `evaluate_noting`, and the passes.
-pub fn compare(alloc: Global, source: &Source, wish: &CompareOptions) -> Result<Outcome, AllocError>
-    ensures { IfOk result (Ends (AreAlike (map NumberOf wish.now.run.inputs.now) (map NumberOf wish.now.run.world.now) wish.now.run.steps
-        ⟦<Sight as PartialEq>⟧.eq) ⊤) }
+/// 2 for a word that asks for no passes or an unreadable text; 3 where a run was cut off or something differs. With 1 and
+/// 2 nothing is to be written to the output. Errors: allocation failure for what is told. Cost: reading, two runs by
+/// `evaluate_noting`, and the passes.
+#[tactic(auto, using(crate::proofs::PeopleLemmas::is_asked, crate::proofs::PeopleLemmas::no_plan))]
+pub fn compare<N: Shown>(
+    alloc: Global,
+    source: &Source,
+    wish: &CompareOptions,
+) -> Result<Outcome, AllocError>
+    ensures { IfOk result (EndsByWord ⟦<Instrumented<N, Timeless> as Pass>⟧.name (λ schedule. EndsCompared N.reads N.D.meaning (map NumberOf wish.now.run.inputs.now)
+        (map NumberOf wish.now.run.world.now) wish.now.run.steps ⟦<Sight as PartialEq>⟧.eq
+        (RunsAlone ⟦<BenchFactKind as PartialEq>⟧.eq ⟦<InstrumentedSchedule<N, Timeless> as Pass>⟧.outcome schedule) source.now.text.now)
+        wish.now.pipeline.now) }
 {
     match PipelineText::read(alloc, wish.pipeline) {
-        Ok(plan) => compare_by(alloc, source, &wish.run, &plan),
+        Ok(plan) => compare_by::<N>(alloc, source, &wish.run, &plan),
         Err(PlanError::Word(fault)) => misspelling_outcome(alloc, wish.pipeline, &fault),
-        Err(PlanError::Memory) => failure_outcome(
+        Err(PlanError::Memory) => failure_outcome::<N>(
             alloc,
             CommandFailure::Refused(OptError::Memory),
             source,

@@ -2,8 +2,10 @@
 ghost use Rattle.std.specs.Prelude.{◌≡◌};
 ghost use Rattle.pliron_cli.specs.Outcomes.{status_of};
 
-use pliron_diagnostics::{Source, text_fault};
+use crate::shown::Shown;
+use pliron_diagnostics::Source;
 use pliron_laws::OptError;
+use pliron_opts::BenchNotation;
 use std::alloc::{AllocError, Global};
 use thiserror::Error;
 
@@ -27,11 +29,16 @@ impl CommandFailure {
         }
     }
 
-    /// What is told of it: of an unreadable text the first place where it leaves the notation, with its line and a
-    /// mark under it. Errors: allocation failure. Cost: that of reading the text.
+    /// What is told of it: of an unreadable text the first place where it leaves the notation of `Bench`, with its line
+    /// and a mark under it. Errors: allocation failure. Cost: that of reading the text.
     pub fn message(self, alloc: Global, source: &Source) -> Result<String, AllocError> {
+        self.told_in::<BenchNotation>(alloc, source)
+    }
+
+    /// The same of a text of this notation. Errors: allocation failure. Cost: that of reading the text.
+    pub fn told_in<N: Shown>(self, alloc: Global, source: &Source) -> Result<String, AllocError> {
         match self {
-            CommandFailure::Text => match text_fault(alloc, source.name, source.text) {
+            CommandFailure::Text => match N::fault_told(alloc, source) {
                 Ok(Some(told)) => Ok(told),
                 _ => format!(in alloc; "error: unreadable text\n"),
             },

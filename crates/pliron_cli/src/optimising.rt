@@ -1,21 +1,21 @@
 //! What passes make of texts.
-ghost use Rattle.std.specs.Prelude.{◌≡◌, ⊤, map, IfOk, IfSome, string_bytes};
-ghost use Rattle.pliron_bench.specs.BenchMoves.{bench};
+ghost use Rattle.std.specs.Prelude.{◌≡◌, map, IfOk, IfSome, string_bytes};
 ghost use Rattle.pliron_opts.specs.Ran.{RunsAlone};
-ghost use Rattle.pliron_opts.specs.Read.{ReadsBench, PrintsBench};
-ghost use Rattle.pliron_cli.specs.Outcomes.{Ends, EndsBadly};
-ghost use Rattle.pliron_cli.specs.Optimised.{IsLaidOut, IsMade, IsPlannedMade, IsMadeBy};
+ghost use Rattle.pliron_cli.specs.Asked.{EndsByPlan, EndsByWord};
+ghost use Rattle.pliron_cli.specs.Outcomes.{EndsBadly};
+ghost use Rattle.pliron_cli.specs.Optimised.{EndsOptimised, IsLaidOut};
 
 use crate::failure::CommandFailure;
 use crate::outcome::{Outcome, failure_outcome};
 use crate::report::{ReportOptions, report_of, write_refused};
+use crate::shown::Shown;
 use pliron_diagnostics::{Source, SourceMark, mark_source, pretty};
 use pliron_instrument::{
     InstrumentationOptions, Instrumented, InstrumentedSchedule, PipelineText, PlanError, Progress,
     WordFault, build_schedule, instrumented_passes, optimise,
 };
 use pliron_laws::OptError;
-use pliron_opts::{BenchNotation, Notation};
+use pliron_opts::Notation;
 use pliron_pass::{BenchFactKind, Pass};
 use std::alloc::{AllocError, Global};
 
@@ -104,7 +104,7 @@ fn report_options(wish: &OptOptions) -> ReportOptions {
 }
 
 /// The outcome where memory or the passes were refused: what was noted, why, and in which pass.
-fn refusal_outcome<N: Notation, C: Progress + Drop>(
+fn refusal_outcome<N: Shown, C: Progress + Drop>(
     alloc: Global,
     mut report: String,
     source: &Source,
@@ -114,7 +114,7 @@ fn refusal_outcome<N: Notation, C: Progress + Drop>(
     ensures { IfOk result EndsBadly }
 {
     let failure = CommandFailure::Refused(error);
-    report.push_str(failure.message(alloc, source)?.as_str())?;
+    report.push_str(failure.told_in::<N>(alloc, source)?.as_str())?;
     write_refused(&mut report, passes)?;
     Ok(Outcome {
         output: Vec::new(alloc),
@@ -125,14 +125,14 @@ fn refusal_outcome<N: Notation, C: Progress + Drop>(
 
 /// What these passes make of the text.
 #[tactic(auto, using(crate::proofs::PeopleLemmas::is_made))]
-fn opt_with<N: Notation, C: Progress + Copy + Drop>(
+fn opt_with<N: Shown, C: Progress + Copy + Drop>(
     alloc: Global,
     source: &Source,
     wish: &OptOptions,
     schedule: &mut InstrumentedSchedule<N, C>,
 ) -> Result<Outcome, AllocError>
-    ensures { IfOk result (λ outcome. Ends (IsMade N.reads N.prints N.D.meaning (RunsAlone ⟦<BenchFactKind as PartialEq>⟧.eq
-        ⟦<InstrumentedSchedule<N, C> as Pass>⟧.outcome schedule.old) source.now.text.now outcome.output.items) ⊤ outcome) }
+    ensures { IfOk result (EndsOptimised N.reads N.prints N.D.meaning (RunsAlone ⟦<BenchFactKind as PartialEq>⟧.eq
+        ⟦<InstrumentedSchedule<N, C> as Pass>⟧.outcome schedule.old) source.now.text.now) }
 {
     let made = optimise(alloc, schedule, source.text);
     let passes = instrumented_passes(schedule);
@@ -155,50 +155,50 @@ fn opt_with<N: Notation, C: Progress + Copy + Drop>(
             report,
             status: 0,
         }),
-        Ok(None) => failure_outcome(alloc, CommandFailure::Text, source),
+        Ok(None) => failure_outcome::<N>(alloc, CommandFailure::Text, source),
         Err(error) => refusal_outcome(alloc, report, source, error, passes),
     }
 }
 
 /// What the passes that the plan asks for make of the text.
-#[tactic(auto, using(crate::proofs::PeopleLemmas::is_planned_made))]
-fn opt_by<N: Notation, C: Progress + Copy + Drop>(
+#[tactic(auto, using(crate::proofs::PeopleLemmas::is_planned, crate::proofs::PeopleLemmas::no_passes))]
+fn opt_by<N: Shown, C: Progress + Copy + Drop>(
     alloc: Global,
     source: &Source,
     wish: &OptOptions,
     plan: &PipelineText,
     clock: C,
 ) -> Result<Outcome, AllocError>
-    ensures { IfOk result (λ outcome. Ends (IsPlannedMade N.reads N.prints N.D.meaning ⟦<Instrumented<N, C> as Pass>⟧.name
-        (RunsAlone ⟦<BenchFactKind as PartialEq>⟧.eq ⟦<InstrumentedSchedule<N, C> as Pass>⟧.outcome) plan.now.runs plan.now.nested
-        (map (λ name. name.now) plan.now.names.items) source.now.text.now outcome.output.items) ⊤ outcome) }
+    ensures { IfOk result (EndsByPlan ⟦<Instrumented<N, C> as Pass>⟧.name (λ schedule. EndsOptimised N.reads N.prints N.D.meaning
+        (RunsAlone ⟦<BenchFactKind as PartialEq>⟧.eq ⟦<InstrumentedSchedule<N, C> as Pass>⟧.outcome schedule) source.now.text.now) plan.now.runs
+        plan.now.nested (map (λ name. name.now) plan.now.names.items)) }
 {
     match build_schedule::<N, C>(alloc, plan, &wish.watch, clock)? {
         Some(mut schedule) => opt_with(alloc, source, wish, &mut schedule),
-        None => failure_outcome(alloc, CommandFailure::Text, source),
+        None => failure_outcome::<N>(alloc, CommandFailure::Text, source),
     }
 }
 
-/// Runs the passes that the word asks for on the text, and answers the tree that they leave, printed.
+/// Runs the passes that the word asks for on a text, and answers the tree that they leave, printed.
 ///
 /// Statuses: 0; 1 where memory or the passes were refused; 2 for a word that asks for no passes or an unreadable text;
 /// 3 where verifying found something. With all but 0 nothing is to be written to the output. Errors: allocation failure for
 /// what is told. Cost: reading, the passes, what is visited, and printing.
-#[tactic(auto, using(crate::proofs::PeopleLemmas::is_made_by))]
-pub fn opt<C: Progress + Copy + Drop>(
+#[tactic(auto, using(crate::proofs::PeopleLemmas::is_asked, crate::proofs::PeopleLemmas::no_plan))]
+pub fn opt<N: Shown, C: Progress + Copy + Drop>(
     alloc: Global,
     source: &Source,
     wish: &OptOptions,
     clock: C,
 ) -> Result<Outcome, AllocError>
-    ensures { IfOk result (λ outcome. Ends (IsMadeBy ReadsBench PrintsBench bench ⟦<Instrumented<BenchNotation, C> as Pass>⟧.name
-        (RunsAlone ⟦<BenchFactKind as PartialEq>⟧.eq ⟦<InstrumentedSchedule<BenchNotation, C> as Pass>⟧.outcome) wish.now.pipeline.now
-        source.now.text.now outcome.output.items) ⊤ outcome) }
+    ensures { IfOk result (EndsByWord ⟦<Instrumented<N, C> as Pass>⟧.name (λ schedule. EndsOptimised N.reads N.prints N.D.meaning
+        (RunsAlone ⟦<BenchFactKind as PartialEq>⟧.eq ⟦<InstrumentedSchedule<N, C> as Pass>⟧.outcome schedule) source.now.text.now)
+        wish.now.pipeline.now) }
 {
     match PipelineText::read(alloc, wish.pipeline) {
-        Ok(plan) => opt_by::<BenchNotation, C>(alloc, source, wish, &plan, clock),
+        Ok(plan) => opt_by::<N, C>(alloc, source, wish, &plan, clock),
         Err(PlanError::Word(fault)) => misspelling_outcome(alloc, wish.pipeline, &fault),
-        Err(PlanError::Memory) => failure_outcome(
+        Err(PlanError::Memory) => failure_outcome::<N>(
             alloc,
             CommandFailure::Refused(OptError::Memory),
             source,

@@ -5,6 +5,7 @@ ghost use Rattle.pliron_cli.specs.Outcomes.{Ends};
 use crate::failure::CommandFailure;
 use crate::outcome::{Outcome, failure_outcome};
 use pliron_diagnostics::{End, RunOptions, Source, run_text};
+use pliron_opts::BenchNotation;
 use std::alloc::{AllocError, Global};
 
 /// The status of a run: 0 where it ended with values, and else 3.
@@ -32,7 +33,11 @@ pub fn run(alloc: Global, source: &Source, wish: &RunOptions) -> Result<Outcome,
             report: told.report,
             status: status_of_end(told.end),
         }),
-        Ok(None) => failure_outcome(alloc, CommandFailure::Text, source),
-        Err(error) => failure_outcome(alloc, CommandFailure::Refused(error), source),
+        Ok(None) => failure_outcome::<BenchNotation>(alloc, CommandFailure::Text, source),
+        Err(error) => failure_outcome::<BenchNotation>(
+            alloc,
+            CommandFailure::Refused(error),
+            source,
+        ),
     }
 }

@@ -2,7 +2,7 @@
 //! end of a line.
 use crate::lines::with_lines;
 use crate::optimised::plain;
-use pliron_cli::{Outcome, Source, check, opt};
+use pliron_cli::{BenchNotation, Outcome, Source, check, opt};
 use pliron_instrument::Timeless;
 use std::alloc::Global;
 use std::process::Abort;
@@ -27,9 +27,11 @@ fn expect_broken(rt: &impl Abort, alloc: Global, text: &str, wanted: &str) {
         text: lines.as_bytes(),
     };
     let (place, label) = wanted.split_once(' ').expect(rt, "a place");
-    let checked = check(alloc, &source).expect(rt, "memory");
+    let checked = check::<BenchNotation>(alloc, &source).expect(rt, "memory");
     expect_told(rt, &checked, text, place, label);
-    let optimised = opt(alloc, &source, &plain("sccp"), Timeless).expect(rt, "memory");
+    let optimised = opt::<BenchNotation, _>(alloc, &source, &plain("sccp"), Timeless).expect(
+        rt, "memory",
+    );
     expect_told(rt, &optimised, text, place, label);
 }
 

@@ -1,11 +1,11 @@
 //! Runs before and after passes, worked by hand. `|` stands for the end of a line.
 use crate::lines::in_one_line;
-use pliron_cli::{CompareOptions, RunWish, Source, compare};
+use pliron_cli::{BenchNotation, CompareOptions, RunOptions, Source, compare};
 use std::alloc::Global;
 use std::process::Abort;
 
 /// Runs before and after these passes.
-fn before_and_after<'w>(run: RunWish<'w>, pipeline: &'w str) -> CompareOptions<'w> {
+fn before_and_after<'w>(run: RunOptions<'w>, pipeline: &'w str) -> CompareOptions<'w> {
     CompareOptions { run, pipeline }
 }
 
@@ -14,14 +14,14 @@ fn expect_compared(rt: &impl Abort, alloc: Global, pipeline: &str, text: &str, w
         name: "in.plir",
         text: text.as_bytes(),
     };
-    let run = RunWish {
+    let run = RunOptions {
         inputs: &[3],
         world: &[7, 8],
         steps: 20,
         trace: false,
     };
     let wish = before_and_after(run, pipeline);
-    let outcome = compare(alloc, &source, &wish).expect(rt, "memory");
+    let outcome = compare::<BenchNotation>(alloc, &source, &wish).expect(rt, "memory");
     let (status, output) = wanted.split_once(' ').expect(rt, "a status");
     let found = in_one_line(alloc, &outcome.output).expect(rt, "memory");
     assert!(rt; found.as_str() == output, "{text} => {found}");

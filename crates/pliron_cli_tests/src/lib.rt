@@ -6,9 +6,17 @@ mod broken;
 #[cfg(test)]
 mod compared;
 #[cfg(test)]
+mod diagnostics;
+#[cfg(test)]
+mod flows;
+#[cfg(test)]
+mod graphs;
+#[cfg(test)]
 mod lines;
 #[cfg(test)]
 mod optimised;
+#[cfg(test)]
+mod reasons;
 #[cfg(test)]
 mod reports;
 #[cfg(test)]

@@ -1,13 +1,13 @@
 //! What `plir opt` writes, beside what `plir_opt` does on the same words and texts.
 use crate::lines::{in_one_line, with_lines};
-use pliron_cli::{OptOptions, Source, Wish, opt};
+use pliron_cli::{BenchNotation, InstrumentationOptions, OptOptions, Source, opt};
 use pliron_instrument::Timeless;
 use pliron_opts::plir_run;
 use std::alloc::Global;
 use std::process::Abort;
 
 /// Passes that are watched so.
-pub fn with_watch<'w>(pipeline: &'w str, watch: Wish<'w>) -> OptOptions<'w> {
+pub fn with_watch<'w>(pipeline: &'w str, watch: InstrumentationOptions<'w>) -> OptOptions<'w> {
     OptOptions {
         pipeline,
         is_pretty: false,
@@ -18,7 +18,7 @@ pub fn with_watch<'w>(pipeline: &'w str, watch: Wish<'w>) -> OptOptions<'w> {
 
 /// Passes alone.
 pub fn plain(pipeline: &str) -> OptOptions<'_> {
-    let watch = Wish {
+    let watch = InstrumentationOptions {
         counts: false,
         verifies: false,
         prints_all: false,
@@ -29,7 +29,7 @@ pub fn plain(pipeline: &str) -> OptOptions<'_> {
 
 /// The same with all that can be told.
 pub fn all_options(pipeline: &str) -> OptOptions<'_> {
-    let watch = Wish {
+    let watch = InstrumentationOptions {
         counts: true,
         verifies: true,
         prints_all: true,
@@ -83,7 +83,7 @@ fn expect_same(rt: &impl Abort, alloc: Global, list: &str, wish: &OptOptions, te
         name: "in.plir",
         text: text.as_bytes(),
     };
-    let outcome = opt(alloc, &source, wish, Timeless).expect(rt, "memory");
+    let outcome = opt::<BenchNotation, _>(alloc, &source, wish, Timeless).expect(rt, "memory");
     assert!(rt; outcome.status == status, "{list}: {text}");
     let wanted = std::str::from_utf8(&written).unwrap_or("");
     let line = wanted.split_once('\n').unwrap_or(("", "")).0;
@@ -120,7 +120,7 @@ fn over_several_lines(rt: HostRuntime) {
     };
     let mut wish = plain("dce");
     wish.is_pretty = true;
-    let outcome = opt(alloc, &source, &wish, Timeless).expect(&rt, "memory");
+    let outcome = opt::<BenchNotation, _>(alloc, &source, &wish, Timeless).expect(&rt, "memory");
     let lines = with_lines(alloc, wanted).expect(&rt, "memory");
     assert!(rt; outcome.output.as_slice() == lines.as_bytes());
     assert!(rt; outcome.report.is_empty());

@@ -1,7 +1,9 @@
 //! What `plir opt` tells beside its answer, worked by hand. `|` stands for the end of a line.
 use crate::lines::in_one_line;
 use crate::optimised::{all_options, plain, with_watch};
-use pliron_cli::{OptOptions, Outcome, Progress, Source, Wish, opt};
+use pliron_cli::{
+    BenchNotation, InstrumentationOptions, OptOptions, Outcome, Progress, Source, opt,
+};
 use std::alloc::Global;
 use std::io;
 use std::process::Abort;
@@ -31,7 +33,7 @@ fn report_on(rt: &impl Abort, alloc: Global, text: &str, wish: &OptOptions) -> O
         name: "in.plir",
         text: text.as_bytes(),
     };
-    opt(alloc, &source, wish, Broken).expect(rt, "memory")
+    opt::<BenchNotation, _>(alloc, &source, wish, Broken).expect(rt, "memory")
 }
 
 fn expect_report(rt: &impl Abort, alloc: Global, text: &str, wish: &OptOptions, wanted: &str) {
@@ -51,7 +53,7 @@ static TREES: &str = "\
 
 #[test]
 fn trees_after_a_pass(rt: HostRuntime) {
-    let watch = Wish {
+    let watch = InstrumentationOptions {
         counts: false,
         verifies: false,
         prints_all: false,

@@ -1,6 +1,6 @@
 //! Words that plan passes, and words that don't, with the column of what is wrong.
 use crate::optimised::plain;
-use pliron_cli::{Source, opt};
+use pliron_cli::{BenchNotation, Source, opt};
 use pliron_instrument::{PipelineText, Timeless};
 use std::alloc::Global;
 use std::process::Abort;
@@ -10,7 +10,9 @@ fn expect_fault(rt: &impl Abort, alloc: Global, word: &str, column: &str, label:
         name: "in.plir",
         text: b"func { b0(): ret }",
     };
-    let outcome = opt(alloc, &source, &plain(word), Timeless).expect(rt, "memory");
+    let outcome = opt::<BenchNotation, _>(alloc, &source, &plain(word), Timeless).expect(
+        rt, "memory",
+    );
     let told = outcome.report.as_str();
     assert!(rt; outcome.status == 2 && outcome.output.is_empty(), "{word}");
     let mut lines = told.lines();

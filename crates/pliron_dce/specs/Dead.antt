@@ -25,11 +25,11 @@ pub record MayBeErased (m : Meaning) (side_effects : Head → Option Bool) (t : 
   pub harmless : HasNoSideEffects side_effects t k
   pub plain : (h : Head) → head_of t k ≡ Some h → m.is_terminator h ≡ false
 
--- the operation that holds the block answers that its arguments may be removed
+-- the parent operation of the block answers that its arguments may be removed
 abbrev pub MayLose : (Head → ℕ → Bool → Option Bool) → Tree → ℕ → Type 0
 MayLose removable t block = (k : ℕ) → block_parent_operation_of t block ≡ Some k → ReadsPlace removable t k block (Some true)
 
--- the value is an argument of a block inside the root, the operation that holds the block answers that its
+-- the value is an argument of a block inside the root, the parent operation of the block answers that its
 -- arguments may be removed, and branches alone lead to the block
 pub record MayBeRemoved (m : Meaning) (removable : Head → ℕ → Bool → Option Bool) (t : Tree) (root v : ℕ) : Type 0 where
   pub block : ℕ
@@ -57,9 +57,9 @@ pub record ForwardsToArgument (m : Meaning) (t : Tree) (user place v : ℕ) : Ty
   pub forwards : slice_get (m.forwarded (shape_of m t operation) edge) index ≡ Some place
   pub argument : slice_get (arguments_of t block) index ≡ Some v
 
--- the least set such that: an operation inside the root that may go is dead if each use that holds it is;
--- an argument of a block inside the root that may be removed is dead if each use of it is; a use is dead
--- if a dead operation is its user or has it inside, or if an edge forwards it to a dead argument
+-- the least set such that: an operation inside the root that may be erased is dead if each use that keeps it
+-- alive is; an argument of a block inside the root that may be removed is dead if each use of it is; a use is
+-- dead if a dead operation is its user or contains its user, or if an edge forwards it to a dead argument
 pub data IsDead (m : Meaning) (side_effects : Head → Option Bool) (removable : Head → ℕ → Bool → Option Bool) (t : Tree) (root : ℕ) : Item → Type 0 where
   DeadOperation : (k : ℕ) → MayBeErased m side_effects t root k → ((user place : ℕ) → KeepsAlive t k user place → IsDead m side_effects removable t root (Use user place)) → IsDead m side_effects removable t root (Op k)
   DeadArgument : (v : ℕ) → MayBeRemoved m removable t root v → ((user place : ℕ) → slice_get (operands_of t user) place ≡ Some v → IsDead m side_effects removable t root (Use user place)) → IsDead m side_effects removable t root (Arg v)

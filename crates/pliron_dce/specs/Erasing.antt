@@ -1,4 +1,4 @@
--- The whole rewrites that take dead things out, and what is left.
+-- The whole rewrites that erase dead operations and arguments, and what is left.
 use Rattle.std.specs.Prelude.{◌≡◌, ◌↔◌, ℕ, Bool, List, [], ◌∷◌, Option, Some, ◌⊎◌, slice_get, IsTrue}
 use Rattle.pliron_core.specs.declared.attrs.IRStatus.{IRStatus}
 use Rattle.pliron_core.specs.declared.attrs.IRStatus.TheVariants.{Changed, Unchanged}
@@ -15,7 +15,7 @@ use Rattle.pliron_laws.specs.Linked.{IsWellLinked}
 use Rattle.pliron_dce.specs.Dead.{Item, Op, Arg, Use, IsDead}
 use Rattle.pliron_dce.specs.Readiness.{Among}
 
--- the argument goes, after each edge to its block lost the operand that it forwarded to it
+-- the argument is removed, after each edge to its block lost the operand that it forwarded to it
 pub record Removes (m : Meaning) (shortened : Shape → ℕ → ℕ → Head) (t t' : Tree) (v : ℕ) : Type 0 where
   pub block : ℕ
   pub index : ℕ
@@ -26,13 +26,13 @@ pub record Removes (m : Meaning) (shortened : Shape → ℕ → ℕ → Head) (t
   pub lose : EdgesLose m shortened index edges t between
   pub removed : t' ≡ argument_removed between block index
 
--- one whole rewrite: an operation that stands is erased with its contents, or an argument goes
+-- one whole rewrite: a live operation is erased with its contents, or an argument is removed
 abbrev pub ErasesItem : Meaning → (Shape → ℕ → ℕ → Head) → (t t' : Tree) → Item → Type 0
 ErasesItem m shortened t t' (Op k) = IsLive t k × (t' ≡ after_erasing t k)
 ErasesItem m shortened t t' (Arg v) = Removes m shortened t t' v
 ErasesItem m shortened t t' (Use user place) = ⊥
 
--- these go, one after the other
+-- these are erased, one after the other
 abbrev pub EraseInTurn : Meaning → (Shape → ℕ → ℕ → Head) → List Item → (t t' : Tree) → Type 0
 EraseInTurn m shortened [] t t' = t' ≡ t
 EraseInTurn m shortened (x ∷ xs) t t' = (u : Tree) × ErasesItem m shortened t u x × EraseInTurn m shortened xs u t'
@@ -45,7 +45,7 @@ AreDeadItems m side_effects removable t root gone = (x : Item) → Among x gone 
 abbrev pub HasDead : Meaning → (Head → Option Bool) → (Head → ℕ → Bool → Option Bool) → Tree → ℕ → Type 0
 HasDead m side_effects removable t root = ((k : ℕ) × IsDead m side_effects removable t root (Op k)) ⊎ ((v : ℕ) × IsDead m side_effects removable t root (Arg v))
 
--- no operation or argument that is dead in the first tree stands in the second, and nothing is dead there
+-- no operation or argument that is dead in the first tree is live in the second, and nothing is dead there
 pub record LeavesNoDead (m : Meaning) (side_effects : Head → Option Bool) (removable : Head → ℕ → Bool → Option Bool) (t t' : Tree) (root : ℕ) : Type 0 where
   pub operations : (k : ℕ) → IsDead m side_effects removable t root (Op k) → IsLive t' k → ⊥
   pub arguments : (v : ℕ) → IsDead m side_effects removable t root (Arg v) → IsDefined t' v → ⊥
@@ -55,7 +55,7 @@ pub record LeavesNoDead (m : Meaning) (side_effects : Head → Option Bool) (rem
 abbrev pub ReportsDead : Meaning → (Head → Option Bool) → (Head → ℕ → Bool → Option Bool) → Tree → ℕ → IRStatus → Type 0
 ReportsDead m side_effects removable t root status = (status ≡ Changed) ↔ HasDead m side_effects removable t root
 
--- `Changed` exactly if something went
+-- `Changed` exactly if something was erased
 abbrev pub ReportsErased : List Item → IRStatus → Type 0
 ReportsErased [] status = status ≡ Unchanged
 ReportsErased (x ∷ xs) status = status ≡ Changed
@@ -70,8 +70,9 @@ HasRegions t (Use user place) = ⊥
 abbrev pub SomeHasRegions : Tree → List Item → Type 0
 SomeHasRegions t gone = (x : Item) × Among x gone × HasRegions t x
 
--- what holds on the way from the tree t0: dead things of t0 went in turn, the runs of all roots are kept, links
--- stay, only what is inside the root changed, and what is dead is what was dead in t0 and is still live
+-- what holds on the way from the tree t0: dead operations and arguments of t0 were erased in turn, the runs of
+-- all roots are kept, links stay, only what is inside the root changed, and what is dead is what was dead in t0
+-- and is still live
 pub record IsSweptSoFar (m : Meaning) (shortened : Shape → ℕ → ℕ → Head) (side_effects : Head → Option Bool) (removable : Head → ℕ → Bool → Option Bool) (t0 t : Tree) (root : ℕ) (gone : List Item) : Type 0 where
   pub went : EraseInTurn m shortened gone t0 t
   pub dead : (x : Item) → Among x gone → IsDead m side_effects removable t0 root x

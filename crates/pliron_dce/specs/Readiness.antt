@@ -1,4 +1,4 @@
--- When a thing may go at once.
+-- When a candidate may be erased at once.
 use Rattle.std.specs.Prelude.{◌≡◌, ◌⊎◌, ℕ, Bool, List, [], ◌∷◌, Option, Some}
 use Rattle.pliron_core.specs.declared.context.Def.TheVariants.{Result, Argument}
 use Rattle.pliron_core.specs.Changes.{IsDefinedInside}
@@ -11,7 +11,7 @@ abbrev pub Among : Item → List Item → Type 0
 Among x [] = ⊥
 Among x (y ∷ ys) = (x ≡ y) ⊎ Among x ys
 
--- the operation may go, and nothing holds it
+-- the operation may be erased, and nothing keeps it alive
 pub record IsReadyOperation (m : Meaning) (side_effects : Head → Option Bool) (t : Tree) (root k : ℕ) : Type 0 where
   pub may : MayBeErased m side_effects t root k
   pub none : (user place : ℕ) → KeepsAlive t k user place → ⊥
@@ -34,12 +34,11 @@ HaveNoUse t k = (v user : ℕ) → In v (results_of t k) → In v (operands_of t
 abbrev pub AreOperandsWithin : Tree → ℕ → List ℕ → Type 0
 AreOperandsWithin t k values = (user v : ℕ) → IsWithin t k user → In v (operands_of t user) → In v values
 
--- each value that an operation uses no more is among these
+-- each value that lost a use is among these
 abbrev pub AreRecorded : (t t' : Tree) → List ℕ → Type 0
 AreRecorded t t' used = (user v : ℕ) → In v (operands_of t user) → In v used ⊎ In v (operands_of t' user)
 
--- what makes each of these values, where it stands, is among the items, and so is each operation around
--- it
+-- what defines each of these values, where it is live, is among the items, and so is each operation around it
 pub record AreRevisited (t : Tree) (used : List ℕ) (items : List Item) : Type 0 where
   pub makers : (v k i : ℕ) → In v used → IsDefined t v → definition_of t v ≡ Some (Result k i) → Among (Op k) items
   pub arguments : (v b i : ℕ) → In v used → IsDefined t v → definition_of t v ≡ Some (Argument b i) → Among (Arg v) items
@@ -50,7 +49,7 @@ pub record AddsOperands (t : Tree) (k : ℕ) (old new : List ℕ) : Type 0 where
   pub kept : (v : ℕ) → In v old → In v new
   pub added : (v : ℕ) → In v (operands_of t k) → In v new
 
--- some use holds the operation
+-- some use keeps the operation alive
 abbrev pub IsKeptAlive : Tree → ℕ → Type 0
 IsKeptAlive t k = (user : ℕ) × (place : ℕ) × KeepsAlive t k user place
 

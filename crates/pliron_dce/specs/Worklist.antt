@@ -1,4 +1,4 @@
--- What is still to be visited.
+-- What is on the worklist.
 use Rattle.std.specs.Prelude.{◌≡◌, ◌≢◌, ◌++◌, ℕ, Bool, List, map, Option, Some}
 use Rattle.pliron_core.specs.Tree.{Tree, In, IsLive, IsInside, IsWithin, HoldsBlock, arguments_of, block_parent_operation_of}
 use Rattle.pliron_core.specs.Changes.{IsDefinedInside}
@@ -16,19 +16,19 @@ item_of (Argument v) = Arg v
 abbrev pub items_of : List DeadCandidate → List Item
 items_of cs = map item_of cs
 
--- what waits: once nothing else is ready, for the next round, and in this one
+-- what is on the worklist: for once nothing else is ready, for the next round, and in this one
 abbrev pub pending_candidates : Worklist → List DeadCandidate
 pending_candidates w = map (λ k. Operation k) w.around.keys ++ (w.later.items ++ w.round.items)
 
--- with each of these operations that stands, those around it are among them
+-- with each of these operations that is live, those around it are among them
 abbrev pub AreClosed : Tree → List ℕ → Type 0
 AreClosed t ks = (k a : ℕ) → In k ks → IsLive t k → IsInside t a k → In a ks
 
--- each thing that is ready is among these
+-- each candidate that is ready is among these
 abbrev pub HasReady : Meaning → (Head → Option Bool) → (Head → ℕ → Bool → Option Bool) → Tree → ℕ → List DeadCandidate → Type 0
 HasReady m side_effects removable t root worklist = (x : Item) → IsReady m side_effects removable t root x → Among x (items_of worklist)
 
--- each thing among the first that is ready is among the second
+-- each candidate among the first that is ready is among the second
 abbrev pub KeepsReady : Meaning → (Head → Option Bool) → (Head → ℕ → Bool → Option Bool) → Tree → ℕ → (old new : List DeadCandidate) → Type 0
 KeepsReady m side_effects removable t root old new = (x : Item) → IsReady m side_effects removable t root x → Among x (items_of old) → Among x (items_of new)
 
@@ -37,7 +37,7 @@ pub record AddsParents (t : Tree) (v : ℕ) (old new : List ℕ) : Type 0 where
   pub kept : (k : ℕ) → In k old → In k new
   pub around : (k : ℕ) → IsDefinedInside t k v → In k new
 
--- the operation directly around what makes the value
+-- the operation directly around what defines the value
 abbrev pub IsAroundMaker : Tree → ℕ → Option ℕ → Type 0
 IsAroundMaker t v o = (k : ℕ) → IsDefinedInside t k v → (a : ℕ) × (o ≡ Some a) × IsWithin t k a
 
@@ -46,7 +46,7 @@ pub record AddsArguments (t : Tree) (IsOne : ℕ → Type 0) (old new : List Dea
   pub kept : (x : Item) → Among x (items_of old) → Among x (items_of new)
   pub added : (b v : ℕ) → IsOne b → In v (arguments_of t b) → Among (Arg v) (items_of new)
 
--- the operation is among these, unless it is the root, and all arguments of blocks that it holds directly
+-- the operation is among these, unless it is the root, and all arguments of blocks directly in it
 pub record IsCovered (t : Tree) (root : ℕ) (items : List Item) (k : ℕ) : Type 0 where
   pub operation : k ≢ root → Among (Op k) items
   pub arguments : (b v : ℕ) → block_parent_operation_of t b ≡ Some k → In v (arguments_of t b) → Among (Arg v) items

@@ -1,4 +1,4 @@
-//! All that may be dead inside an operation, and the blocks there to which many edges lead.
+//! The candidates inside an operation, and the blocks there to which many edges lead.
 ghost use Rattle.std.specs.Prelude.{◌≡◌, Some, IfOk, OnOk};
 ghost use Rattle.pliron_core.specs.Tree.{IsLive, IsBlock, IsRegion, block_parent_of, block_parent_operation_of};
 ghost use Rattle.pliron_dce.specs.Dead.{Item};
@@ -10,7 +10,7 @@ use crate::worklist::DeadCandidate;
 use pliron_core::{BasicBlock, Context, Operation, Ptr, Region};
 use std::alloc::{AllocError, Global};
 
-// The arguments of the block go to the end of the list.
+// The arguments of the block are appended to the list.
 fn push_arguments(
     worklist: &mut Vec<DeadCandidate>,
     block: Ptr<BasicBlock>,
@@ -25,7 +25,7 @@ fn push_arguments(
     Ok(())
 }
 
-// The block goes to the end of the list, if many edges lead to it.
+// The block is appended to the list, if many edges lead to it.
 fn push_block(
     wide: &mut Vec<Ptr<BasicBlock>>,
     block: Ptr<BasicBlock>,
@@ -39,7 +39,7 @@ fn push_block(
     Ok(())
 }
 
-// The arguments of all blocks of the region go there.
+// The arguments of all blocks of the region are appended.
 fn push_region(
     worklist: &mut Vec<DeadCandidate>,
     wide: &mut Vec<Ptr<BasicBlock>>,
@@ -59,7 +59,7 @@ fn push_region(
     Ok(())
 }
 
-// The arguments of all blocks that the operation holds directly go there.
+// The arguments of all blocks directly in the operation are appended.
 #[inline(always)]
 fn push_contents_of(
     worklist: &mut Vec<DeadCandidate>,
@@ -77,7 +77,7 @@ fn push_contents_of(
     Ok(())
 }
 
-// These arguments go there, and then the operation itself, unless it is the root.
+// These arguments are appended, and then the operation itself, unless it is the root.
 #[inline(always)]
 fn push_operation(
     worklist: &mut Vec<DeadCandidate>,
@@ -99,7 +99,7 @@ fn push_operation(
 }
 
 // All operations inside the root and all arguments of blocks there, in the order of a text. The blocks to which
-// many edges lead go to the end of the list.
+// many edges lead are appended to the list.
 pub(crate) fn all_candidates(
     alloc: Global,
     wide: &mut Vec<Ptr<BasicBlock>>,

@@ -1,4 +1,4 @@
-//! Whole rewrites: one dead thing goes.
+//! Whole rewrites: one dead operation or argument is erased.
 ghost use Rattle.std.specs.Prelude.{◌≡◌, ◌↔◌, ◌<◌, ◌≤◌, length, ℕ, Some, IfOk, OnOk, OnErr, IsTrue, slice_get, IsOkUnless};
 ghost use Rattle.pliron_core.specs.Tree.{In, IsLive, IsBlock, operands_of, arguments_of};
 ghost use Rattle.pliron_core.specs.Erased.{after_erasing};
@@ -14,7 +14,7 @@ use pliron_core::{BasicBlock, Context, IRRewriter, Operation, Ptr, Rewriter, Val
 use pliron_laws::{Dialect, OptError};
 use std::alloc::{AllocError, Global};
 
-// The operands of this operation go to the end of the list.
+// The operands of this operation are appended to the list.
 #[inline(always)]
 fn push_operands(
     values: &mut Vec<Value>,
@@ -117,7 +117,7 @@ fn lose_operands<D: Dialect>(
     }
 }
 
-// A ready argument goes, after each edge to its block lost the operand that it forwarded to it. Answers
+// A ready argument is removed, after each edge to its block lost the operand that it forwarded to it. Answers
 // the values that these operands were.
 pub(crate) fn erase_dead_argument<D: Dialect>(
     alloc: Global,

@@ -1,13 +1,13 @@
-//! Indexes of the rows from which things go: the arguments of a block, and the operands of the branches that lead
+//! Indexes of the lists that lose entries: the arguments of a block, and the operands of the branches that lead
 //! to it.
 //!
-//! A row keeps one gap, which moves to where something goes; where that is beside what went last, nothing is
-//! cheaper. But arguments that feed one another may go at places that are far apart in turn, and the gap would move
-//! over the row again and again. An index of the row spares that. So it is made once the gap has moved over the
-//! row a few times.
+//! A list keeps one gap, which moves to each removal; where that is beside the last one, nothing is cheaper.
+//! But arguments that feed one another may be removed at places that are far apart in turn, and the gap would
+//! move over the list again and again. An index of the list spares that. So it is made once the gap has moved
+//! over the list a few times.
 //!
-//! Where a branch forwards much along two edges, its row loses operands at two places in turn whichever way the
-//! arguments go. Such a row is indexed at once.
+//! Where a branch forwards much along two edges, its operand list loses operands at two places in turn, in
+//! whatever order the arguments are removed. Such a list is indexed at once.
 ghost use Rattle.std.specs.Prelude.{◌≡◌};
 ghost use Rattle.pliron_core.specs.Tree.{IsBlock, IsLive};
 ghost use Rattle.pliron_theory.specs.Dropping.{AreEdgesTo};
@@ -18,13 +18,13 @@ use indexmap::IndexMap;
 use pliron_core::{BasicBlock, Context, NoMemory, Operation, Ptr};
 use std::alloc::{AllocError, Global};
 
-// How often the gap of a row moves over it before it is indexed.
+// How often the gap of a list moves over it before it is indexed.
 const FEW_MOVES: usize = 8;
 
 // How many arguments of a block, or operands that other edges of a branch forward, are few.
 const FEW_ITEMS: usize = 64;
 
-// Which rows are indexed before an argument goes.
+// Which lists are indexed before an argument is removed.
 #[derive(Clone, Copy)]
 pub(crate) enum Indexing {
     Nothing,
@@ -32,7 +32,7 @@ pub(crate) enum Indexing {
     AllRows,
 }
 
-// How the arguments of a block went so far.
+// Which arguments of a block were removed so far.
 #[derive(Clone, Copy)]
 pub(crate) struct ArgumentLosses {
     // the index of the last one
@@ -43,7 +43,7 @@ pub(crate) struct ArgumentLosses {
 }
 
 impl ArgumentLosses {
-    // The argument with this index goes first.
+    // The argument with this index is removed first.
     fn first(index: usize) -> ArgumentLosses {
         ArgumentLosses {
             last: index,
@@ -52,7 +52,7 @@ impl ArgumentLosses {
         }
     }
 
-    // How they went after one more, of so many arguments, and whether all rows are to be indexed before.
+    // The record after one more removal, of so many arguments, and whether all lists are to be indexed before.
     fn after(self, index: usize, count: usize) -> (ArgumentLosses, bool) {
         let moved = self.moved.saturating_add(distance(self.last, index));
         let is_far = !self.is_indexed && moved / FEW_MOVES > count;
@@ -65,16 +65,16 @@ impl ArgumentLosses {
     }
 }
 
-// How the arguments of each block with more than a few went.
+// The removals of each block with more than a few arguments.
 #[derive(Drop)]
 pub(crate) struct AllLosses {
     losses: IndexMap<Ptr<BasicBlock>, ArgumentLosses>,
-    // of the block that lost one last
+    // of the block of the last removal
     recent: Option<(Ptr<BasicBlock>, ArgumentLosses)>,
 }
 
 impl AllLosses {
-    // None went.
+    // None was removed.
     pub(crate) fn new(alloc: Global) -> AllLosses {
         AllLosses {
             losses: IndexMap::new(alloc),
@@ -82,7 +82,7 @@ impl AllLosses {
         }
     }
 
-    // How the arguments of the block went, if one of them did.
+    // The record of the block, if one of its arguments was removed.
     fn find(&self, block: Ptr<BasicBlock>) -> Option<ArgumentLosses> {
         if let Some((recent, losses)) = self.recent {
             if recent == block {
@@ -104,8 +104,8 @@ impl AllLosses {
         Ok(())
     }
 
-    // The argument of the block with this index, of so many, is about to go, as the first one or after others. Which rows
-    // are to be indexed before.
+    // The argument of the block with this index, of so many, is about to be removed, as the first one or after
+    // others. Answers which lists are to be indexed before.
     pub(crate) fn note(
         &mut self,
         block: Ptr<BasicBlock>,
@@ -130,8 +130,7 @@ impl AllLosses {
     }
 }
 
-// How many places the gap moves over from where one item went to where another one does. What stands beside it costs
-// nothing.
+// How many places the gap moves over from one removal to another one. A removal beside it costs nothing.
 fn distance(last: usize, index: usize) -> usize {
     last.abs_diff(index).saturating_sub(1)
 }
@@ -181,7 +180,7 @@ fn index_if_wide(branch: Ptr<Operation>, count: usize, ctx: &mut Context) -> Res
     Ok(())
 }
 
-// Those of the rows are indexed that are to be.
+// Those of the lists are indexed that are to be.
 pub(crate) fn index_chosen(
     indexing: Indexing,
     block: Ptr<BasicBlock>,
@@ -199,7 +198,7 @@ pub(crate) fn index_chosen(
     }
 }
 
-// The indexes of those that are still live go.
+// The indexes of those that are still live are dropped.
 pub(crate) fn settle_rows(block: Ptr<BasicBlock>, edges: &[IncomingEdge], ctx: &mut Context)
     ensures { ctx.new ≡ ctx.old }
 {

@@ -1,4 +1,8 @@
-//! What may go at once.
+//! What is trivially dead now, and may be erased at once.
+//!
+//! What most dead operations have in common is tested first: no regions, and no use of any result. Whether an
+//! operation is inside the root, which costs its depth, is tested last, and only of one without side effects
+//! that nothing uses.
 ghost use Rattle.std.specs.Prelude.{◌≡◌, ◌↔◌, Some, IsTrue};
 ghost use Rattle.pliron_core.specs.Tree.{IsLive, IsBlock, IsWithin, block_parent_operation_of};
 ghost use Rattle.pliron_laws.specs.Linked.{IsWellLinked};
@@ -38,7 +42,7 @@ fn is_unused(op: Ptr<Operation>, ctx: &Context) -> bool
     true
 }
 
-// Whether the operation may go at once.
+// Whether the operation may be erased at once.
 #[inline(always)]
 pub(crate) fn is_ready_operation<D: Dialect>(
     op: Ptr<Operation>,
@@ -71,7 +75,7 @@ pub(crate) fn is_ready_operation<D: Dialect>(
     op.is_self_contained(ctx)
 }
 
-// Whether the operation that holds the block lets its arguments go.
+// Whether the parent operation of the block allows its arguments to be removed.
 #[inline(always)]
 fn may_lose<D: Dialect>(block: Ptr<BasicBlock>, holder: Ptr<Operation>, ctx: &Context) -> bool
     requires block { IsBlock ctx.now.tree block }
@@ -94,7 +98,7 @@ pub(crate) fn is_within(op: Ptr<Operation>, root: Ptr<Operation>, ctx: &Context)
     op == root || op.is_inside(root, ctx)
 }
 
-// Whether the value is an argument that may go at once.
+// Whether the value is an argument that may be removed at once.
 #[inline(always)]
 pub(crate) fn is_ready_argument<D: Dialect>(
     value: Value,
@@ -125,7 +129,7 @@ pub(crate) fn is_ready_argument<D: Dialect>(
     predecessors.are_branches_of::<D>(block, root, ctx)
 }
 
-// The operation that holds the block directly.
+// The parent operation of the block.
 #[inline(always)]
 pub(crate) fn parent_operation_of(block: Ptr<BasicBlock>, ctx: &Context) -> Ptr<Operation>
     requires { IsBlock ctx.now.tree block }

@@ -1,19 +1,19 @@
-//! Where looks at operations go on.
+//! Where scans of operations resume.
 //!
-//! A look at an operation goes over the values that it makes and those that are defined inside it, in the order
-//! of a text, up to the first one with a use that holds the operation. Uses only go, so what was passed holds
-//! it no more, and the next look begins where the last one ended: all looks at an operation together go over
-//! its values once.
+//! A scan of an operation visits its results and the values that are defined inside it, in the order of a text,
+//! up to the first one with a use that keeps the operation alive. Uses are only removed, so what was passed
+//! doesn't keep it alive any more, and the next scan begins where the last one ended: all scans of an operation
+//! together visit its values once.
 //!
-//! Over the uses of one value a look goes from the last one down. A use that goes leaves its index to the last one,
-//! which was passed if any was; so what was passed stays behind the rest, but for one use for each that went.
+//! The uses of one value are scanned from the last one down. A removed use leaves its index to the last one,
+//! which was passed if any was; so what was passed stays behind the rest, but for one use for each removal.
 //!
-//! Where operations stand deep inside others, each of those around passes the same uses. So then each operation
-//! has its position in the text, which tells at once whether a user is inside, where a climb goes past all
+//! Where operations are deep inside others, each of those around passes the same uses. So then each operation
+//! has its position in the text, which says at once whether a user is inside, where a climb would pass all
 //! around it.
 //!
-//! Places and positions are hints. That something holds the operation is seen where it is found; where nothing is
-//! found, the operation is asked as a whole.
+//! Places and positions are hints. A use that keeps the operation alive is tested where it is found; where none
+//! is found, the operation is tested as a whole.
 ghost use Rattle.std.specs.Prelude.{◌↔◌, ◌≤◌, length, IfSome, IsTrue};
 ghost use Rattle.pliron_core.specs.Tree.{In, IsLive, IsDefined, results_of, uses_of};
 ghost use Rattle.pliron_core.specs.Changes.{IsDefinedInside};
@@ -32,32 +32,33 @@ struct SlotSpan {
     last: usize,
 }
 
-// The part of the list of values that no look at the operation has passed.
+// The part of the list of values that no scan of the operation has passed.
 #[derive(Clone, Copy)]
 struct RestOfScan {
     start: usize,
-    // how many uses of the first of these values may not have been passed: none of those behind them holds the operation
+    // how many uses of the first of these values may not have been passed: none of those behind them keeps the
+    // operation alive
     uses: usize,
     end: usize,
     span: SlotSpan,
 }
 
-// What is still to be visited of each operation that has regions or several results.
+// What is still to be scanned of each operation that has regions or several results.
 #[derive(Drop)]
 pub(crate) struct ScanPositions {
     // all values that are defined inside the root, in the order of a text
     values: Vec<Value>,
     rests: IndexMap<Ptr<Operation>, RestOfScan>,
-    // the positions of all operations inside the root, if some stand deep inside others
+    // the positions of all operations inside the root, if some are deep inside others
     positions: IndexMap<Ptr<Operation>, usize>,
-    // how many operations stand around the one that has most, of those that have a rest
+    // the greatest number of operations around one, of those that have a rest
     depth: usize,
 }
 
 // How many operations around one are few.
 const FEW_AROUND: usize = 8;
 
-// Whether a look at the operation may be long.
+// Whether a scan of the operation may be long.
 fn is_long(op: Ptr<Operation>, ctx: &Context) -> bool
     requires { IsLive ctx.now.tree op }
 {
@@ -65,8 +66,8 @@ fn is_long(op: Ptr<Operation>, ctx: &Context) -> bool
 }
 
 impl ScanPositions {
-    // Nothing has been looked at of these candidates, which stand in the order of a text, each operation
-    // behind the arguments of the blocks that it holds.
+    // Nothing has been scanned of these candidates, which are in the order of a text, each operation behind the
+    // arguments of the blocks directly in it.
     pub(crate) fn new(
         alloc: Global,
         candidates: &[DeadCandidate],
@@ -172,7 +173,7 @@ impl ScanPositions {
         }
     }
 
-    // Whether something is found that holds the operation, from where the last look at it ended.
+    // Whether a use is found that keeps the operation alive, from where the last scan of it ended.
     pub(crate) fn is_kept_alive(&mut self, op: Ptr<Operation>, ctx: &Context) -> bool
         requires { IsLive ctx.now.tree op }
         ensures { IsTrue result → IsKeptAlive ctx.now.tree op }
@@ -184,7 +185,7 @@ impl ScanPositions {
     }
 }
 
-// Whether one of these values that no look has passed holds the operation; those before it are passed.
+// Whether one of these values that no scan has passed keeps the operation alive; those before it are passed.
 fn resume_scan(
     values: &[Value],
     positions: &IndexMap<Ptr<Operation>, usize>,
@@ -209,7 +210,8 @@ fn resume_scan(
     false
 }
 
-// How many uses of the value there are up to the last of the first `most` that holds the operation, if one does.
+// How many uses of the value there are up to the last of the first `most` that keeps the operation alive, if
+// one does.
 fn find_use_outside(
     op: Ptr<Operation>,
     value: Value,
@@ -276,8 +278,8 @@ fn is_defined_inside(value: Value, op: Ptr<Operation>, ctx: &Context) -> bool
     }
 }
 
-// How many uses of the value there are up to the last of the first `count` that stands outside the operation, if one
-// does. What stands side by side in one operation is asked once.
+// How many uses of the value there are up to the last of the first `count` that is outside the operation, if
+// one is. Uses side by side by one operation are tested once.
 fn find_outside(
     value: Value,
     op: Ptr<Operation>,

@@ -1,4 +1,4 @@
-//! The loop: what is ready goes, until nothing is.
+//! The loop: what is ready is erased, until nothing is.
 ghost use Rattle.std.specs.Prelude.{◌≡◌, ◌↔◌, ◌⊎◌, ◌++◌, ◌∷◌, [], ℕ, List, IfOk, OnOk, OnErr, IsTrue, IsOkUnless};
 ghost use Rattle.pliron_core.specs.Tree.{IsLive};
 ghost use Rattle.pliron_theory.specs.Keeps.{KeepsRuns};
@@ -34,8 +34,8 @@ fn either(a: bool, b: bool) -> bool
     a || b
 }
 
-// A ready thing goes, and what may be ready then is noted. Answers whether it had regions. What an operation used is listed in
-// the list that is lent.
+// A ready candidate is erased, and what may be ready then is put on the worklist. Answers whether it had
+// regions. What an operation used is listed in the list that is lent.
 fn erase_one<D: Dialect>(
     alloc: Global,
     next: DeadCandidate,
@@ -81,7 +81,7 @@ fn erase_one<D: Dialect>(
     }
 }
 
-// What is ready goes, until nothing is. Answers whether something went, and whether regions did.
+// What is ready is erased, until nothing is. Answers whether something was erased, and whether regions were.
 fn erase_all_dead<D: Dialect>(
     alloc: Global,
     root: Ptr<Operation>,
@@ -116,8 +116,8 @@ fn erase_all_dead<D: Dialect>(
     Ok((status, regions))
 }
 
-// What is ready goes, until nothing is. Answers whether something went, and whether regions did. No row stays
-// indexed, also after an error.
+// What is ready is erased, until nothing is. Answers whether something was erased, and whether regions were. No
+// list stays indexed, also after an error.
 pub(crate) fn sweep<D: Dialect>(
     alloc: Global,
     root: Ptr<Operation>,

@@ -1,12 +1,12 @@
-//! What is still to be visited, in rounds: what lost a use in one round is visited in the next one.
+//! The worklist, in rounds: what lost a use in one round is visited in the next one.
 //!
-//! In each round the arguments go before the operations, the last one first. So those of one block go side
-//! by side, whichever way their uses went, and so do the operands that were forwarded to them; what a block
-//! or a branch loses side by side costs one step each. What goes in other orders costs more, and gets an index
-//! (`rows`).
+//! In each round the arguments are removed before the operations, the last one first. So those of one block are
+//! removed side by side, in whatever order they lost their uses, and so are the operands that were forwarded to
+//! them; what a block or a branch loses side by side costs one step each. Removals in other orders cost more,
+//! and get an index (`operand_indexing`).
 //!
 //! The operations around what lost a use are visited once nothing else is ready, each once for all the uses
-//! that what is inside it lost until then. For a look at one goes over what is inside it.
+//! that what is inside it lost until then. For a visit of one scans what is inside it.
 ghost use Rattle.std.specs.Prelude.{◌≡◌, ◌↔◌, ◌++◌, ◌∷◌, [], true, false, map, IfOk, OnOk, IfErr, IfSome, IfNone, IsTrue, IsPermutation};
 ghost use Rattle.pliron_core.specs.Tree.{In, IsLive, IsDefined};
 ghost use Rattle.pliron_laws.specs.Linked.{IsWellLinked};
@@ -24,14 +24,14 @@ use pliron_core::{Context, Def, Operation, Ptr, Value};
 use pliron_laws::Dialect;
 use std::alloc::{AllocError, Global};
 
-// What may be dead.
+// A candidate: what may be dead.
 #[derive(Clone, Copy, PartialEq, Eq)]
 pub(crate) enum DeadCandidate {
     Operation(Ptr<Operation>),
     Argument(Value),
 }
 
-// What is still to be visited.
+// The candidates that are still to be visited.
 #[derive(Drop)]
 pub(crate) struct Worklist {
     // in this round, the last one first
@@ -40,7 +40,7 @@ pub(crate) struct Worklist {
     pub(crate) later: Vec<DeadCandidate>,
     // once nothing else is ready: operations around what lost a use, and all that are around them
     pub(crate) around: IndexSet<Ptr<Operation>>,
-    // where looks at operations go on
+    // where scans of operations resume
     pub(crate) scans: ScanPositions,
 }
 
@@ -75,7 +75,7 @@ impl Worklist {
     }
 }
 
-// Whether the candidate may go at once.
+// Whether the candidate may be erased at once.
 #[inline(always)]
 fn is_ready<D: Dialect>(
     candidate: &DeadCandidate,
@@ -94,7 +94,7 @@ fn is_ready<D: Dialect>(
     }
 }
 
-// The last one of this round that is ready; those after it are not, and go.
+// The last one of this round that is ready; those after it are not, and are dropped.
 #[inline(always)]
 fn next_in_round<D: Dialect>(
     round: &mut Vec<DeadCandidate>,
@@ -118,7 +118,7 @@ fn next_in_round<D: Dialect>(
     None
 }
 
-// The arguments last, in the order in which they were made: a block is made with its arguments.
+// The arguments last, in the order in which they were created: a block is created with its arguments.
 fn put_arguments_last(candidates: &mut Vec<DeadCandidate>) -> Result<(), AllocError>
     ensures { IsPermutation candidates.old.items candidates.new.items }
 {
@@ -149,7 +149,7 @@ fn push_ready<D: Dialect>(
     Ok(())
 }
 
-// What waits for the next round and is ready comes into this one.
+// What is listed for the next round and is ready comes into this one.
 fn begin_round<D: Dialect>(
     worklist: &mut Worklist,
     predecessors: &Predecessors,
@@ -223,8 +223,8 @@ fn begin_around(alloc: Global, worklist: &mut Worklist) -> Result<(), AllocError
     Ok(())
 }
 
-// The next one that is ready: of this round, of the next one, or around what lost uses. What is visited and
-// not ready goes.
+// The next one that is ready: of this round, of the next one, or around what lost uses. What is visited and not
+// ready is dropped.
 pub(crate) fn next_ready<D: Dialect>(
     alloc: Global,
     worklist: &mut Worklist,
@@ -253,7 +253,7 @@ pub(crate) fn next_ready<D: Dialect>(
     Ok(next_of::<D>(worklist, predecessors, root, ctx))
 }
 
-// The operation that holds what makes the value.
+// The parent operation of what defines the value.
 #[inline(always)]
 fn parent_operation_of_definition(value: Value, ctx: &Context) -> Option<Ptr<Operation>>
     requires { IsDefined ctx.now.tree value }
@@ -267,8 +267,8 @@ fn parent_operation_of_definition(value: Value, ctx: &Context) -> Option<Ptr<Ope
     }
 }
 
-// The operation comes last, unless it is there. Whether it came. Mostly it is the one that came last, which takes no
-// look-up.
+// The operation is put last, unless it is there. Answers whether it was put. Mostly it is the one that was put
+// last, which takes no look-up.
 #[inline(always)]
 fn add_around(around: &mut IndexSet<Ptr<Operation>>, op: Ptr<Operation>) -> Result<bool, AllocError>
     ensures came { IfOk result (λ came. came ≡ true → around.new.keys ≡ around.old.keys ++ op ∷ []) }
@@ -282,7 +282,7 @@ fn add_around(around: &mut IndexSet<Ptr<Operation>>, op: Ptr<Operation>) -> Resu
     Ok(around.insert(op)?)
 }
 
-// The operations around what makes the value, and those around them, are visited once nothing else is ready.
+// The operations around what defines the value, and those around them, are visited once nothing else is ready.
 #[inline(always)]
 fn push_around(
     around: &mut IndexSet<Ptr<Operation>>,
@@ -305,8 +305,8 @@ fn push_around(
     Ok(())
 }
 
-// What may have become ready when these values lost uses: what makes each of them, and the operations
-// around it.
+// What may have become ready when these values lost uses: what defines each of them, and the operations around
+// it.
 #[inline(always)]
 pub(crate) fn note(worklist: &mut Worklist, used: &[Value], ctx: &Context) -> Result<(), AllocError>
     requires closed { AreClosed ctx.now.tree worklist.old.around.keys }

@@ -13,6 +13,8 @@ use Rattle.pliron_laws.proofs.EdgeLastLemmas.{around_holder}
 use Rattle.pliron_theory.specs.Keeps.{IsFit}
 use Rattle.pliron_fit.specs.declared.violation.Violation.{Violation}
 use Rattle.pliron_fit.specs.declared.violation.Violation.TheVariants.{NotRoot, HasSuccessors, NotAdmitted, EdgeNotLast, ForeignValue, NoDominance, UnequalEdge, TerminatorNotLast, ResultUsed, UsedOutside, NotDominated}
+use Rattle.pliron_fit.specs.Chosen.{AreChosen}
+use Rattle.pliron_fit.specs.Chosen.AreChosen.{NoMore, Chosen, PassedOver}
 use Rattle.pliron_fit.specs.Violation.{IsViolation}
 use Rattle.pliron_fit.specs.Plain.{IsPlainlyFit}
 use Rattle.pliron_fit.specs.Uses.{AreDominated}
@@ -66,17 +68,27 @@ in_more (x ∷ xs) y k =
       λ i. elim i [ inl j ↦ elim j [ inl e ↦ inl e | inr l ↦ inr (rest.1 (inl l)) ] | inr r ↦ inr (rest.1 (inr r)) ],
     )
 
--- one that meets a test is put last
-pub put_last : (P : Type 0) (xs new : List ℕ) (y : ℕ) → new ≡ xs ++ y ∷ [] → P → (k : ℕ) → In k new ↔ (In k xs ⊎ ((k ≡ y) × P))
-put_last P xs new y e p k =
-    let law = in_more xs y k in (
-      λ i. elim (law.0 (subst (In k) e i)) [ inl l ↦ inl l | inr r ↦ inr (r, p) ],
-      λ i. subst (In k) (sym e) (law.1 (elim i [ inl l ↦ inl l | inr r ↦ inr r.0 ])),
-    )
+-- one more of the first list, which is so and goes to the end of the second
+pub put_last : (P : ℕ → Type 0) (xs ys new : List ℕ) (y : ℕ) → new ≡ ys ++ y ∷ [] → P y → AreChosen P xs ys → AreChosen P (xs ++ y ∷ []) new
+put_last P xs ys new y e p c = subst (AreChosen P (xs ++ y ∷ [])) (sym e) (go xs ys c)
+  where
+    go : (xs ys : List ℕ) → AreChosen P xs ys → AreChosen P (xs ++ y ∷ []) (ys ++ y ∷ [])
+    go [] [] NoMore = Chosen p NoMore
+    go (x ∷ xs) (z ∷ ys) (Chosen q c) = Chosen q (go xs ys c)
+    go (x ∷ xs) ys (PassedOver q c) = PassedOver q (go xs ys c)
 
--- and another is not
-pub left_out : (P : Type 0) (xs : List ℕ) (y : ℕ) → (P → ⊥) → (k : ℕ) → In k xs ↔ (In k xs ⊎ ((k ≡ y) × P))
-left_out P xs y out k = (λ i. inl i, λ i. elim i [ inl l ↦ l | inr r ↦ absurd (out r.1) ])
+-- and one that is not
+pub left_out : (P : ℕ → Type 0) (xs ys : List ℕ) (y : ℕ) → (P y → ⊥) → AreChosen P xs ys → AreChosen P (xs ++ y ∷ []) ys
+left_out P xs ys y out NoMore = PassedOver out NoMore
+left_out P (x ∷ xs) (z ∷ ys) y out (Chosen q c) = Chosen q (left_out P xs ys y out c)
+left_out P (x ∷ xs) ys y out (PassedOver q c) = PassedOver q (left_out P xs ys y out c)
+
+-- of each in the second list it is so
+pub chosen_is : (P : ℕ → Type 0) (xs ys : List ℕ) → AreChosen P xs ys → (k : ℕ) → In k ys → P k
+chosen_is P xs ys NoMore k i = absurd i
+chosen_is P (x ∷ xs) (z ∷ ys) (Chosen q c) k (inl e) = subst P (sym e) q
+chosen_is P (x ∷ xs) (z ∷ ys) (Chosen q c) k (inr i) = chosen_is P xs ys c k i
+chosen_is P (x ∷ xs) ys (PassedOver q c) k i = chosen_is P xs ys c k i
 
 -- an error that was handed on
 pub handed_on : {A E : Type 0} (r : ResultOf A E) (e : E) → IsErrAnd r (λ y. y ≡ e) → r ≡ Err e

@@ -4,3 +4,5 @@ pub mod Plain
 pub mod Nesting
 pub mod Definitions
 pub mod Uses
+pub mod Chosen
+pub mod Checked

@@ -1,9 +1,10 @@
 //! Whether an operation is fit to run.
-ghost use Rattle.std.specs.Prelude.{◌≡◌, ◌↔◌, ◌⊎◌, ℕ, [], None, OnOk, IfOk, IfErr, IfSome, IsOkUnless, IsTrue};
+ghost use Rattle.std.specs.Prelude.{◌≡◌, ◌↔◌, ◌⊎◌, ◌∷◌, ◌++◌, ℕ, List, [], None, OnOk, IfOk, IfErr, IfSome, IsOkUnless, IsTrue};
 ghost use Rattle.pliron_core.specs.Tree.{In, IsLive, IsWithin, successors_of};
 ghost use Rattle.pliron_core.specs.Walks.{preorder};
 ghost use Rattle.pliron_laws.specs.Answers.{HeadPasses};
 ghost use Rattle.pliron_theory.specs.Keeps.{IsFit};
+ghost use Rattle.pliron_fit.specs.Chosen.{AreChosen};
 ghost use Rattle.pliron_fit.specs.Violation.{IsViolation};
 ghost use Rattle.pliron_fit.specs.Checks.{IsStop, IsSoundAt};
 ghost use Rattle.pliron_fit.specs.Plain.{IsPlainlyFit};
@@ -132,7 +133,8 @@ fn add_if_fit<D: Dialect>(
     found: &mut Vec<Ptr<Operation>>,
     ctx: &Context,
 ) -> Result<(), OptError>
-    ensures added { OnOk result ((k : ℕ) → (In k found.new.items ↔ (In k found.old.items ⊎ ((k ≡ root) × IsFit D.meaning ctx.now.tree root)))) }
+    ensures added { OnOk result ((roots : List ℕ) → AreChosen (IsFit D.meaning ctx.now.tree) roots found.old.items → AreChosen
+        (IsFit D.meaning ctx.now.tree) (roots ++ root ∷ []) found.new.items) }
     ensures memory { IsOkUnless result OptError.Memory }
 {
     if !root.is_live(ctx) {
@@ -154,7 +156,7 @@ pub fn fit_roots<D: Dialect>(
     roots: &[Ptr<Operation>],
     ctx: &Context,
 ) -> Result<Vec<Ptr<Operation>>, OptError>
-    ensures fit { IfOk result (λ found. (root : ℕ) → (In root found.items ↔ (In root roots.now × IsFit D.meaning ctx.now.tree root))) }
+    ensures fit { IfOk result (λ found. AreChosen (IsFit D.meaning ctx.now.tree) roots.now found.items) }
     ensures memory { IsOkUnless result OptError.Memory }
 {
     let mut found = Vec::new(alloc);

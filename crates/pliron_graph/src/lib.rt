@@ -22,6 +22,7 @@
 mod ancestors;
 mod components;
 pub mod laws;
+mod numbered_graph;
 mod owners;
 mod pre_sentinels;
 mod reverse_graph;
@@ -33,6 +34,7 @@ pub use ancestors::{
     find_ancestor_op_of_op_in_region, strictly_precedes_in_block,
 };
 pub use components::{Scc, sccs_in_topological_order};
+pub use numbered_graph::{NumberedGraph, read_graph};
 pub use pliron_traversal::{
     AdjacencyList, ControlFlowGraph, DFSEdgeKind, DFSTraversal, HasLabel, OrderIter,
     ReverseOrderIter, post_order, post_order_by_component, topological_order,

@@ -5,8 +5,10 @@ ghost use Rattle.pliron_traversal.specs.Adjacency.{AreInverse, graph_of};
 ghost use Rattle.pliron_traversal.specs.Search.{IsListed, IsSearch};
 
 use crate::dot::{Attribute, Dot};
-use pliron_graph::{ControlFlowGraph, DFSEdgeKind, DFSTraversal, Scc, sccs_in_topological_order};
-use pliron_graph_text::{NumberedGraph, read_graph};
+use pliron_graph::{
+    ControlFlowGraph, DFSEdgeKind, DFSTraversal, NumberedGraph, Scc, read_graph,
+    sccs_in_topological_order,
+};
 use pliron_laws::OptError;
 use std::alloc::{AllocError, Global};
 

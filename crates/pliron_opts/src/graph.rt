@@ -1,7 +1,7 @@
 //! The description of a graph, which is read from a text of its own and has no tree.
 mod graph_lines;
 
-use pliron_graph_text::read_graph;
+use pliron_graph::read_graph;
 use pliron_laws::OptError;
 use std::alloc::Global;
 

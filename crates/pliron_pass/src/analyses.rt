@@ -1,7 +1,6 @@
 //! Computing analyses.
 ghost use Rattle.std.specs.Prelude.{◌≡◌, ℕ, Bool, true, ◌+◌, ◌<◌, Option, IsSome, IsTrue, IfOk, OnOk, OnErr, IsOk, length, option_map, slice_get, IsOkUnless};
 ghost use Rattle.std.specs.Borrow.{sem};
-ghost use Rattle.std.specs.Option.{option_copied_mut};
 ghost use Rattle.pliron_core.specs.Tree.{Tree, IsLive};
 ghost use Rattle.pliron_core.specs.Invariant.{IsTree};
 ghost use Rattle.pliron_core.specs.Changes.{IsSameTree};
@@ -11,7 +10,7 @@ ghost use Rattle.pliron_pass.specs.Optimising.{edge_kinds, with_edge_kind};
 ghost use Rattle.pliron_pass.specs.Cache.{IsFresh};
 ghost use Rattle.pliron_pass.specs.Computing.{Computes};
 ghost use Rattle.pliron_pass.specs.Grown.{cached_at, HasNeeds, AddsLowerRanks};
-ghost use Rattle.pliron_pass.specs.Lending.{LendsEntry, LendsComputed, EndsComputed};
+ghost use Rattle.pliron_pass.specs.Lending.{LendsComputed, EndsComputed};
 
 use crate::kinds::AnalysisKind;
 use crate::manager::AnalysisManager;
@@ -147,14 +146,6 @@ impl<E: Analyses + Drop> AnalysisManager<E> {
             self.keep_edge_kind(i, &mut result)?;
         }
         Ok(result)
-    }
-
-    /// The entry, which can be written, where one is cached. Cost: one look-up.
-    pub fn try_get_analysis_mut(&mut self, kind: E::Kind, op: Ptr<Operation>) -> Option<&mut E>
-        ensures* writes_back { sem 𝓛 (LendsEntry E.row E.Kind.row E.Kind.Eq.own E.Kind.PartialEq E.Kind.Hash.own self.entry kind op result) }
-        ensures value { option_copied_mut result ≡ cached_at E.Kind.eq self.old.cache.entries kind op }
-    {
-        self.cache.get_mut(&(kind, op))
     }
 
     /// The entry, which can be written, computed where it is not cached.

@@ -1,4 +1,4 @@
--- The chain of rewrites from the tree before to the tree after, by facts on the first.
+-- The chain of rewrites from the tree before to the tree after, by lattice values of the first.
 pub use Rattle.pliron_theory.specs.Sound.{both}
 pub use Rattle.pliron_laws.specs.Answers.{has_passing_head}
 use Rattle.std.specs.Prelude.{◌≡◌, zero, suc, ℕ, Bool, true, false, if◌then◌else◌, List, [], ◌∷◌, ◌++◌, Option, Some, None, ◌⊎◌, take, filter, length}
@@ -26,11 +26,11 @@ abbrev pub is_reached : LatticeValues → Option ℕ → Bool
 is_reached f None = false
 is_reached f (Some b) = f.is_executable b
 
--- the operations inside the root that fold and stand in blocks that are reached, in pre-order
+-- the operations inside the root that fold and are in executable blocks, in pre-order
 abbrev pub folding_operations : (Head → Bool) → Tree → ℕ → LatticeValues → List ℕ
 folding_operations can_fold t root f = filter (λ k. both (has_passing_head can_fold (head_of t k)) (is_reached f (parent_of t k))) (contents t root)
 
--- these operations are folded in turn, each in place by what the facts know of the operands that it had in t₀
+-- these operations are folded in turn, each in place by the lattice values of the operands that it had in t₀
 pub data FoldsInTurn (outcome : Outcome) (t₀ : Tree) (f : LatticeValues) : List ℕ → Tree → Tree → Type 0 where
   NoMore : {t : Tree} → FoldsInTurn outcome t₀ f [] t t
   Next : {t v : Tree} {ks : List ℕ} (k : ℕ) (u : Tree) (answer : IRStatus) → outcome t u k (operand_constants f (operands_of t₀ k)) (Some answer) → FoldsInTurn outcome t₀ f ks u v → FoldsInTurn outcome t₀ f (k ∷ ks) t v
@@ -41,7 +41,7 @@ pub data FoldsPartly (outcome : Outcome) (t₀ : Tree) (f : LatticeValues) : Lis
   Refused : {t u : Tree} {ks : List ℕ} (k : ℕ) → outcome t u k (operand_constants f (operands_of t₀ k)) None → FoldsPartly outcome t₀ f (k ∷ ks) t u
   After : {t v : Tree} {ks : List ℕ} (k : ℕ) (u : Tree) (answer : IRStatus) → outcome t u k (operand_constants f (operands_of t₀ k)) (Some answer) → FoldsPartly outcome t₀ f ks u v → FoldsPartly outcome t₀ f (k ∷ ks) t v
 
--- the blocks that are reached, in pre-order
+-- the executable blocks, in pre-order
 abbrev pub reached_blocks : Tree → ℕ → LatticeValues → List ℕ
 reached_blocks t root f = filter (λ b. f.is_executable b) (blocks_inside t root)
 
@@ -60,7 +60,7 @@ abbrev pub known_in_block : LatticeValues → ℕ → List ℕ → List KnownArg
 known_in_block f block [] = []
 known_in_block f block (v ∷ vs) = known_with (f.lattice_value v) block v (known_in_block f block vs)
 
--- the constant arguments of blocks that are reached, in pre-order and in the order of their indices
+-- the constant arguments of executable blocks, in pre-order and in the order of their indices
 abbrev pub known_arguments : Tree → ℕ → LatticeValues → List KnownArgument
 known_arguments t root f = flat_map (λ b. known_in_block f b (arguments_of t b)) (reached_blocks t root f)
 
@@ -69,7 +69,7 @@ abbrev pub all_put : (AttrObj → Bool) → (AttrObj → Head) → List KnownArg
 all_put accepts head [] t = t
 all_put accepts head (a ∷ others) t = all_put accepts head others (if accepts a.attr then materialised_first t a.block a.value (head a.attr) else t)
 
--- first the operations that fold, then the constant arguments of blocks that are reached, in pre-order
+-- first the operations that fold, then the constant arguments of executable blocks, in pre-order
 pub record IsRewritten (can_fold : Head → Bool) (accepts : AttrObj → Bool) (head : AttrObj → Head) (outcome : Outcome) (t₀ : Tree) (root : ℕ) (f : LatticeValues) (t : Tree) : Type 0 where
   pub folded : Tree
   pub folds : FoldsInTurn outcome t₀ f (folding_operations can_fold t₀ root f) t₀ folded
@@ -83,7 +83,7 @@ IsPartlyPut accepts head known t u = (n : ℕ) × IsSameTree (all_put accepts he
 abbrev pub IsPartlyRewritten : (Head → Bool) → (AttrObj → Bool) → (AttrObj → Head) → Outcome → Tree → ℕ → LatticeValues → Tree → Type 0
 IsPartlyRewritten can_fold accepts head outcome t₀ root f t = FoldsPartly outcome t₀ f (folding_operations can_fold t₀ root f) t₀ t ⊎ ((folded : Tree) × FoldsInTurn outcome t₀ f (folding_operations can_fold t₀ root f) t₀ folded × IsPartlyPut accepts head (known_arguments t₀ root f) folded t)
 
--- the values that are defined in blocks that are reached
+-- the values that are defined in executable blocks
 abbrev pub values_there : Tree → ℕ → LatticeValues → List ℕ
 values_there t root f = flat_map (λ b. arguments_of t b ++ flat_map (λ k. results_of t k) (body_of t b)) (reached_blocks t root f)
 

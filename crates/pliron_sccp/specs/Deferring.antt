@@ -1,4 +1,4 @@
--- What is deferred while facts are searched for.
+-- What is deferred during the search.
 use Rattle.std.specs.Prelude.{◌≡◌, ◌↔◌, ◌⊎◌, ◌<◌, ◌≤◌, ◌+◌, ℕ, List, Some, length, map, slice_get}
 use Rattle.std.specs.List.{flat_map}
 use Rattle.pliron_core.specs.Tree.{Tree, In}
@@ -25,14 +25,14 @@ pub record Defers (op : ℕ) (old new : List ℕ) : Type 0 where
   pub members : (k : ℕ) → In k new ↔ (In k old ⊎ (k ≡ op))
   pub grows : length new ≤ length old + 1
 
--- one that was deferred is taken, and no other
+-- one that was deferred is popped, and no other
 pub record PopsDeferred (op : ℕ) (old new : List ℕ) : Type 0 where
   pub was : In op old
   pub others : (k : ℕ) → In k old → In k new ⊎ (k ≡ op)
   pub only : (k : ℕ) → In k new → In k old
   pub fewer : length old ≡ length new + 1
 
--- what is deferred is in a block that was visited, and what it asked when it was visited is met still
+-- what is deferred is in a block that was visited, and its constraints of that visit are still satisfied
 pub record IsDeferred (x : Says) (t : Tree) (s : Tables) (k : ℕ) : Type 0 where
   pub looked : WasVisited t s k
   pub met : (o : Operation) → op_at t k ≡ Some o → (f : LatticeValues) × IsSatisfied x t f (lattice_values_of s) k o

@@ -1,4 +1,4 @@
--- What the search for facts owes to the rewriting.
+-- What the search owes to the rewriting.
 use Rattle.std.specs.Prelude.{ℕ, Bool}
 use Rattle.pliron_core.specs.Tree.{Tree}
 use Rattle.pliron_laws.specs.Datum.{Head}
@@ -8,8 +8,8 @@ use Rattle.pliron_sccp.specs.Precise.{AreMostPrecise, AreOwed}
 use Rattle.pliron_sccp.specs.Propagated.{CountsPops}
 use Rattle.pliron_sccp.specs.RewriteSteps.{IsFound}
 
--- some facts are closed, and the most precise ones where they are owed; these are their folds and arguments, and the
--- count is one for them
+-- some lattice values are closed, and the most precise ones where they are owed; these are their folds and
+-- arguments, and the count is one for them
 pub record HasFound (x : Says) (can_fold : Head → Bool) (t : Tree) (root : ℕ) (found : Found) (pops : ℕ) : Type 0 where
   pub facts : LatticeValues
   pub found_by : IsFound x can_fold t root facts found

@@ -22,12 +22,12 @@ is_unknown Unknown = true
 is_unknown (Known k) = false
 is_unknown Varying = false
 
--- what stands at a number, and `d` where there is no number
+-- what the table has at a number, and `d` where there is no number
 abbrev pub table_at : {A : Type 0} → A → List A → Option ℕ → A
 table_at d table None = d
 table_at d table (Some n) = slice_index_or table n d
 
--- a block without a number is not reached, a value without one is not a constant and does not wait
+-- a block without a number is not executable, a value without one is not a constant and on no worklist
 abbrev pub mark_at : List BlockState → Option ℕ → BlockState
 mark_at marks o = table_at NotExecutable marks o
 
@@ -51,7 +51,7 @@ value_of_cell constants Unknown = Undetermined
 value_of_cell constants (Known k) = constant_or (slice_get constants k)
 value_of_cell constants Varying = NotAConstant
 
--- no number stands in the list twice
+-- no number is in the list twice
 abbrev pub AreOnce : List ℕ → Type 0
 AreOnce ns = (i j n : ℕ) → slice_get ns i ≡ Some n → slice_get ns j ≡ Some n → i ≡ j
 
@@ -59,7 +59,7 @@ AreOnce ns = (i j n : ℕ) → slice_get ns i ≡ Some n → slice_get ns j ≡ 
 abbrev pub unknown_count : List LatticeCell → ℕ
 unknown_count cells = length (filter is_unknown cells)
 
--- the cell means this fact, by this list of constants
+-- the cell means this lattice value, by this list of constants
 abbrev pub Means : List AttrObj → LatticeCell → LatticeValue → Type 0
 Means constants Unknown f = f ≡ Undetermined
 Means constants (Known k) f = (c : AttrObj) × (slice_get constants k ≡ Some c) × (f ≡ Constant c)

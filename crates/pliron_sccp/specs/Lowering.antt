@@ -1,4 +1,4 @@
--- How the tables change while facts fall.
+-- How the tables change while values are lowered.
 use Rattle.std.specs.Prelude.{◌≡◌, ◌≢◌, ◌⊎◌, ℕ, true, false, List}
 use Rattle.pliron_theory.specs.LatticeValues.{LatticeValues}
 use Rattle.pliron_sccp.specs.declared.lattice_tables.Tables.{Tables}
@@ -9,7 +9,8 @@ use Rattle.pliron_sccp.specs.LatticeTables.{known_constants, lattice_value_in, i
 use Rattle.pliron_sccp.specs.Constraints.{SatisfiesAll}
 use Rattle.pliron_sccp.specs.Settling.{AreAtMost}
 
--- facts fall and blocks come to be reached, and each that does waits; what waited goes on waiting, and nothing else waits
+-- values are lowered and blocks become executable, and each that does is put on its worklist; what was there
+-- stays there, and nothing else is
 pub record ValuesAreLowered (s s' : Tables) : Type 0 where
   pub below : AreAtMost (lattice_values_of s') (lattice_values_of s)
   pub told : (v : ℕ) → (lattice_value_in s' v ≡ lattice_value_in s v) ⊎ (is_value_on_worklist s' v ≡ true)
@@ -21,8 +22,8 @@ pub record ValuesAreLowered (s s' : Tables) : Type 0 where
   pub keeps : KeepsConstants (known_constants s) (known_constants s')
   pub came : (b : ℕ) → is_block_on_worklist s' b ≡ true → (is_block_on_worklist s b ≡ true) ⊎ ((is_executable s b ≡ false) × (is_executable s' b ≡ true))
 
--- all that is asked by these constants is met, and nothing else was done: facts that stood at or below the old ones and
--- meet it stand at or below the new ones
+-- all constraints by these constants are satisfied, and nothing else was done: lattice values at or below the
+-- old ones that satisfy them are at or below the new ones
 pub record IsApplied (constants : List AttrObj) (constraints : List Constraint) (s s' : Tables) : Type 0 where
   pub values_on_worklist : ValuesAreLowered s s'
   pub met : SatisfiesAll constants (lattice_values_of s') constraints

@@ -1,4 +1,4 @@
--- What was visited, and what that did to the tables of the search for facts.
+-- What was visited, and what that did to the tables of the search.
 use Rattle.std.specs.Prelude.{◌≡◌, ◌≤◌, ◌↔◌, ◌⊎◌, ℕ, Bool, true, false, List, [], ◌∷◌, Some, None, length, slice_get, IsTrue}
 use Rattle.pliron_core.specs.Tree.{Tree, In, IsDistinct, arguments_of, first_of, layout_of, operands_of, parent_of, regions_of, results_of, successors_of}
 use Rattle.pliron_laws.specs.Answers.{IsForwardedOnce}
@@ -18,20 +18,20 @@ abbrev pub either : Bool → Bool → Bool
 either true b = true
 either false b = b
 
--- the stamp of the last look at the operation; one without results has none
+-- the stamp of the last visit of the operation; one without results has none
 abbrev pub stamp_of : Tables → (results : List ℕ) → ℕ
 stamp_of s [] = 0
 stamp_of s (first ∷ more) = visit_stamp s first
 
--- the stamps don't tell that the operation was visited since the value fell last
+-- the stamps don't say that the operation was visited since the value was last lowered
 abbrev pub IsBehind : Tree → Tables → (k v : ℕ) → Type 0
 IsBehind t s k v = stamp_of s (results_of t k) ≤ lowered_stamp s v
 
--- the value waits, and calls for a look at the operation
+-- the value is on the worklist, and calls for a visit of the operation
 abbrev pub CallsForVisit : Tree → Tables → (k v : ℕ) → Type 0
 CallsForVisit t s k v = (is_value_on_worklist s v ≡ true) × IsBehind t s k v
 
--- the look at the operation may have got another stamp, and nothing else changed
+-- the visit of the operation may have got another stamp, and nothing else changed
 pub record StampsIt (t : Tree) (k : ℕ) (s s' : Tables) : Type 0 where
   pub facts : (v : ℕ) → lattice_value_in s' v ≡ lattice_value_in s v
   pub reached : (b : ℕ) → is_executable s' b ≡ is_executable s b
@@ -42,12 +42,13 @@ pub record StampsIt (t : Tree) (k : ℕ) (s s' : Tables) : Type 0 where
   pub visit_stamps : (j : ℕ) → (j ≡ k → ⊥) → stamp_of s' (results_of t j) ≡ stamp_of s (results_of t j)
   pub values_on_worklist : (v : ℕ) → lowered_stamp s' v ≡ lowered_stamp s v
 
--- the look at the operation was stamped, and no other, and so was what fell in it
+-- the visit of the operation was stamped, and no other, and so was what it lowered
 pub record IsStamped (t : Tree) (k : ℕ) (s s' : Tables) : Type 0 where
   pub others : (j : ℕ) → (j ≡ k → ⊥) → stamp_of s' (results_of t j) ≡ stamp_of s (results_of t j)
   pub values_on_worklist : StampsLowered s s'
 
--- one operation was visited: what it asks of the facts before is met, and nothing else was done
+-- one operation was visited: its constraints under the lattice values before are satisfied, and nothing else
+-- was done
 pub record VisitsOperation (x : Says) (t : Tree) (k : ℕ) (s s' : Tables) : Type 0 where
   pub constraints : List Constraint
   pub asks : Constrains (known_constants s) x t (lattice_values_of s) k constraints
@@ -59,7 +60,7 @@ pub record HasNumberedTargets (t : Tree) (s : Tables) (k : ℕ) : Type 0 where
   pub entries : (r b : ℕ) → In r (regions_of t k) → first_of (layout_of t r) None ≡ Some b → is_numbered s b ≡ true
   pub successors : (b : ℕ) → In b (successors_of t k) → is_numbered s b ≡ true
 
--- so it is for each operation in a block that is reached
+-- it is so for each operation in an executable block
 abbrev pub AreTargetsNumbered : Tree → Tables → Type 0
 AreTargetsNumbered t s = (k b : ℕ) → parent_of t k ≡ Some b → is_executable s b ≡ true → HasNumberedTargets t s k
 
@@ -73,7 +74,7 @@ pub data VisitsInTurnAndKeeps (x : Says) (t : Tree) : List ℕ → (s s' : Table
   Nowhere : {s : Tables} {edges : FeasibleEdges} → VisitsInTurnAndKeeps x t [] s s edges edges
   Onward : {s s' : Tables} {edges edges' : FeasibleEdges} {ks : List ℕ} (k : ℕ) (u : Tables) (kept : FeasibleEdges) → VisitsOperation x t k s u → KeepsFeasible x t (lattice_values_of s) k edges kept → VisitsInTurnAndKeeps x t ks u s' kept edges' → VisitsInTurnAndKeeps x t (k ∷ ks) s s' edges edges'
 
--- all values that waited wait no longer, and nothing else changed; these are they, each once
+-- the worklist of values was emptied, and nothing else changed; these were on it, each once
 pub record PopsValues (taken : List ℕ) (s s' : Tables) : Type 0 where
   pub distinct : IsDistinct taken
   pub waited : (v : ℕ) → is_value_on_worklist s v ≡ true ↔ In v taken
@@ -84,7 +85,7 @@ pub record PopsValues (taken : List ℕ) (s s' : Tables) : Type 0 where
   pub numbers : (b : ℕ) → is_numbered s' b ≡ is_numbered s b
   pub stamps : KeepsStamps s s'
 
--- the operation is in a block that is reached and was visited
+-- the operation is in an executable block that was visited
 pub record WasVisited (t : Tree) (s : Tables) (k : ℕ) : Type 0 where
   pub block : ℕ
   pub in_block : parent_of t k ≡ Some block
@@ -121,11 +122,13 @@ pub record IsNamed (x : Says) (t : Tree) (o : Operation) (place argument : ℕ) 
   pub is_argument : slice_get (arguments_of t entry) index ≡ Some argument
   pub names : x.entry_operands (shape_of x.meaning t o) region index ≡ Some place
 
--- the argument gets the operand at this place of the operation k for sure: along an open edge, or since it is named for it
+-- the argument receives the operand at this place of the operation k for sure: along an open edge, or since it
+-- is named for it
 abbrev pub IsPropagatedEagerly : Says → Tree → Tables → FeasibleEdges → Operation → (k place argument : ℕ) → Type 0
 IsPropagatedEagerly x t s edges o k place argument = ((f : Forwarded x t o place argument) × IsOpenEdge x s edges o k f.block) ⊎ IsNamed x t o place argument
 
--- more is asked at most of the arguments that get the value v from this place of the operation for sure
+-- new constraints are at most on the arguments that receive the value v from this place of the operation for
+-- sure
 pub record ConstrainsEagerly (x : Says) (t : Tree) (s : Tables) (edges : FeasibleEdges) (k place v : ℕ) (constraints constraints' : List Constraint) : Type 0 where
   pub more : (now : LatticeValues) → SatisfiesAll (known_constants s) now constraints' → SatisfiesAll (known_constants s) now constraints
   pub owed : (now : LatticeValues) → SatisfiesAll (known_constants s) now constraints → ((a : ℕ) (o : Operation) → op_at t k ≡ Some o → IsPropagatedEagerly x t s edges o k place a → AtMost (now.lattice_value a) (lattice_value_in s v)) → SatisfiesAll (known_constants s) now constraints'
@@ -134,23 +137,25 @@ pub record ConstrainsEagerly (x : Says) (t : Tree) (s : Tables) (edges : Feasibl
 abbrev pub NamesNone : Says → Tree → Operation → Type 0
 NamesNone x t o = (i j : ℕ) → x.entry_operands (shape_of x.meaning t o) i j ≡ None
 
--- what is to be done where the operand at this place fell: nothing for what does not fold, names no operand and is no
--- branch; or it goes to one argument alone, of something that does not fold and names none
+-- what is to be done where the operand at this place was lowered: nothing for what does not fold, names no
+-- operand and is no branch; or it is forwarded to one argument alone, by something that does not fold and names
+-- none
 abbrev pub IsReactionTo : Says → Tree → (k place : ℕ) → Reaction → Type 0
 IsReactionTo x t k place Pass = (o : Operation) → op_at t k ≡ Some o → (x.can_fold o.head ≡ false) × (x.can_fold_branch o.head ≡ false) × NamesNone x t o × (x.meaning.is_branch o.head ≡ false)
 IsReactionTo x t k place Revisit = Unit {0}
 IsReactionTo x t k place (Ask edge index) = ((o : Operation) → op_at t k ≡ Some o → (x.can_fold o.head ≡ false) × (x.can_fold_branch o.head ≡ false) × NamesNone x t o × IsTrue (x.meaning.is_branch o.head)) × IsForwardedOnce x.meaning t k place edge index
 
--- the operation does not fold, nor as a branch, and names no operand, and where these are met, each argument that gets its operand v from this
--- place is at or below the fact of v
+-- the operation does not fold, nor as a branch, and names no operand, and where these are satisfied, each
+-- argument that receives its operand v from this place is at or below the lattice value of v
 pub record IsConstrainedAt (x : Says) (t : Tree) (s : Tables) (constraints : List Constraint) (o : Operation) (place v : ℕ) : Type 0 where
   pub no_fold : x.can_fold o.head ≡ false
   pub no_jump : x.can_fold_branch o.head ≡ false
   pub names_none : NamesNone x t o
   pub below : (now : LatticeValues) → SatisfiesAll (known_constants s) now constraints → (a : ℕ) → Forwarded x t o place a → AtMost (now.lattice_value a) (lattice_value_in s v)
 
--- uses of the value are seen to: an operation that was visited and has it at such a place is to be visited again, or
--- asks no more than what is asked, or was visited since the value fell; and nothing else is added
+-- the uses of the value are scheduled: an operation that was visited and has it at such a place is to be
+-- visited again, or has no more constraints than those listed, or was visited since the value was lowered; and
+-- nothing else is added
 pub record SchedulesUses (x : Says) (t : Tree) (s : Tables) (edges : FeasibleEdges) (v : ℕ) (IsUse : (k place : ℕ) → Type 0) (users : List ℕ) (constraints : List Constraint) (users' : List ℕ) (constraints' : List Constraint) : Type 0 where
   pub kept : (k : ℕ) → In k users → In k users'
   pub more : (now : LatticeValues) → SatisfiesAll (known_constants s) now constraints' → SatisfiesAll (known_constants s) now constraints
@@ -162,13 +167,13 @@ pub record SchedulesUses (x : Says) (t : Tree) (s : Tables) (edges : FeasibleEdg
 abbrev pub IsUseOf : Tree → (v k place : ℕ) → Type 0
 IsUseOf t v k place = slice_get (operands_of t k) place ≡ Some v
 
--- what these values call for: their uses are seen to, and nothing else is asked
+-- the reactions to these values: their uses are scheduled, and there are no other constraints
 pub record AreReactions (x : Says) (t : Tree) (s : Tables) (edges : FeasibleEdges) (values users : List ℕ) (constraints : List Constraint) : Type 0 where
   pub only : (k : ℕ) → In k users → WasVisited t s k × ((v : ℕ) × In v values)
   pub seen : (k place v : ℕ) (o : Operation) → In v values → IsUseOf t v k place → IsBehind t s k v → WasVisited t s k → op_at t k ≡ Some o → In k users ⊎ IsConstrainedAt x t s constraints o place v
   pub owed : (now : LatticeValues) → ((k place a v : ℕ) (o : Operation) → In v values → IsUseOf t v k place → WasVisited t s k → op_at t k ≡ Some o → IsPropagatedEagerly x t s edges o k place a → AtMost (now.lattice_value a) (lattice_value_in s v)) → SatisfiesAll (known_constants s) now constraints
 
--- all values that waited were taken, so many, and this is what they call for
+-- all values on the worklist were popped, so many, and these are the reactions to them
 pub record PopsUsers (x : Says) (t : Tree) (edges : FeasibleEdges) (users : List ℕ) (constraints : List Constraint) (s s' : Tables) (taken : ℕ) : Type 0 where
   pub values : List ℕ
   pub takes : PopsValues values s s'

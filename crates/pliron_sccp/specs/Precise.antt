@@ -1,4 +1,4 @@
--- The most precise facts, and where constant propagation owes them.
+-- The most precise lattice values, and where constant propagation owes them.
 use Rattle.std.specs.Prelude.{◌≡◌, ◌≢◌, ℕ, [], Some, None, length, slice_get, IsTrue}
 use Rattle.pliron_core.specs.declared.attrs.AttrObj.{AttrObj}
 use Rattle.pliron_core.specs.Tree.{Tree, In, IsInside, head_of, operands_of, successors_of, results_of, parent_of, body_of, arguments_of, last_of}
@@ -10,8 +10,8 @@ use Rattle.pliron_laws.specs.Root.{IsDominated}
 use Rattle.pliron_theory.specs.LatticeValues.{Constant, LatticeValues, Says, AreClosed}
 use Rattle.pliron_theory.specs.Sound.{IsMadeThere}
 
--- every closed set of facts has at least these blocks, and each constant that it gives to a value that is defined in
--- one of these is also theirs
+-- every closed set of lattice values has at least these executable blocks, and each constant that it gives to a
+-- value that is defined in one of these is also theirs
 pub record AreMostPrecise (x : Says) (t : Tree) (root : ℕ) (f : LatticeValues) : Type 0 where
   pub closed : AreClosed x t root f
   pub blocks : (g : LatticeValues) → AreClosed x t root g → (b : ℕ) → IsTrue (f.is_executable b) → IsTrue (g.is_executable b)
@@ -26,7 +26,7 @@ pub record IsWellDefinedInside (m : Meaning) (t : Tree) (root : ℕ) : Type 0 wh
   pub unused : (k v user : ℕ) → IsInside t root k → successors_of t k ≢ [] → In v (results_of t k) → In v (operands_of t user) → ⊥
   pub dominated : (user v : ℕ) → In v (operands_of t user) → IsDefinedInside t root v → IsDominated t user v
 
--- whether the best facts are owed
+-- whether the most precise lattice values are owed
 pub record AreOwed (x : Says) (t : Tree) (root : ℕ) : Type 0 where
   pub monotone : FoldsMonotonely x.meaning x.can_fold x.can_fold_branch x.constants x.feasible
   pub defined : IsWellDefinedInside x.meaning t root

@@ -17,8 +17,8 @@ use Rattle.pliron_laws.specs.Tree.{Operation, op_at}
 use Rattle.pliron_theory.specs.LatticeValues.{LatticeValues, Constant, Says, IsInExecutableBlock, operand_constants, AreClosed, AreHeld}
 use Rattle.pliron_theory.specs.Following.{Follows}
 
--- the operation folds and is in a block that is reached, in the first tree, these constants are known of its
--- operands there, and the tree now follows the facts
+-- the operation folds and is in an executable block, in the first tree, these constants are known of its
+-- operands there, and the tree now follows the lattice values
 pub record IsFoldStep (x : Says) (t₀ : Tree) (root : ℕ) (f₀ : LatticeValues) (t : Tree) (op : ℕ) (known : List (Option AttrObj)) : Type 0 where
   pub first : IsTree t₀
   pub follows : Follows x t₀ root f₀ t
@@ -28,8 +28,7 @@ pub record IsFoldStep (x : Says) (t₀ : Tree) (root : ℕ) (f₀ : LatticeValue
   pub folds : IsTrue (x.can_fold operation.head)
   pub known_is : known ≡ operand_constants f₀ operation.operands
 
--- a fold of an operation that is in a block that is reached: its part of this list is what is known of the
--- operands
+-- a fold of an operation that is in an executable block: its part of this list is what is known of the operands
 pub record IsFold (x : Says) (t : Tree) (f : LatticeValues) (known : List (Option AttrObj)) (fold : Fold) : Type 0 where
   pub operation : Operation
   pub at : op_at t fold.op ≡ Some operation
@@ -43,13 +42,14 @@ pub record IsFold (x : Says) (t : Tree) (f : LatticeValues) (known : List (Optio
 abbrev pub AreEachFold : Says → Tree → LatticeValues → Folds → Type 0
 AreEachFold x t f folds = (i : ℕ) (fold : Fold) → slice_get folds.rows.items i ≡ Some fold → IsFold x t f folds.known.items fold
 
--- these operations fold and stand in blocks that are reached, in the first tree, with what is known of their operands
+-- these operations fold and are in executable blocks, in the first tree, with what is known of their operands
 pub record AreFoldSteps (x : Says) (t₀ : Tree) (root : ℕ) (f₀ : LatticeValues) (t : Tree) (folds : Folds) : Type 0 where
   pub first : IsTree t₀
   pub follows : Follows x t₀ root f₀ t
   pub each : AreEachFold x t₀ f₀ folds
 
--- `Unchanged` says that the tree is as before but for erased handles, `Changed` that an operation stands that did not
+-- `Unchanged` says that the tree is as before but for erased handles, `Changed` that an operation is live that
+-- was not
 abbrev pub ReportsCreated : IRStatus → Tree → Tree → Type 0
 ReportsCreated Unchanged t u = IsSameTree t u
 ReportsCreated Changed t u = (k : ℕ) × (head_of t k ≡ None) × IsLive u k
@@ -62,14 +62,14 @@ pub record IsFoldingOn (x : Says) (outcome : Outcome) (start : Tree) (folds : Fo
   pub told : ReportsCreated status start now
   pub stays : (k : ℕ) → IsLive start k → IsLive now k
 
--- the argument at this index of a block that is reached is this constant, in the first tree
+-- the argument at this index of an executable block is this constant, in the first tree
 pub record IsKnown (t₀ : Tree) (f₀ : LatticeValues) (argument : ConstantArgument) : Type 0 where
   pub value : ℕ
   pub reached : IsTrue (f₀.is_executable argument.block)
   pub listed : slice_get (arguments_of t₀ argument.block) argument.index ≡ Some value
   pub constant : f₀.lattice_value value ≡ Constant argument.attr
 
--- it is put by what the facts say of the first tree, which the tree now follows
+-- it is put by the lattice values of the first tree, which the tree now follows
 pub record IsArgumentStep (x : Says) (t₀ : Tree) (root : ℕ) (f₀ : LatticeValues) (t : Tree) (argument : ConstantArgument) : Type 0 where
   pub first : IsTree t₀
   pub follows : Follows x t₀ root f₀ t
@@ -85,7 +85,7 @@ StandForEach t₀ [] (k ∷ known) = ⊥
 StandForEach t₀ (a ∷ arguments) [] = ⊥
 StandForEach t₀ (a ∷ arguments) (k ∷ known) = stands_for t₀ a k × StandForEach t₀ arguments known
 
--- these arguments of blocks that are reached are constants, in the first tree
+-- these arguments of executable blocks are constants, in the first tree
 pub record AreArgumentSteps (x : Says) (t₀ : Tree) (root : ℕ) (f₀ : LatticeValues) (t : Tree) (arguments : List ConstantArgument) : Type 0 where
   pub first : IsTree t₀
   pub follows : Follows x t₀ root f₀ t
@@ -98,7 +98,7 @@ pub record IsPuttingOn (x : Says) (accepts : AttrObj → Bool) (head : AttrObj �
   pub told : ReportsCreated status start now
   pub stays : (k : ℕ) → IsLive start k → IsLive now k
 
--- these are the folds and the arguments that closed facts about the tree say
+-- these are the folds and the arguments that closed lattice values of the tree say
 pub record IsFound (x : Says) (can_fold : Head → Bool) (t : Tree) (root : ℕ) (f : LatticeValues) (found : Found) : Type 0 where
   pub closed : AreClosed x t root f
   pub held : AreHeld t root f

@@ -1,4 +1,4 @@
--- The steps of the search for facts, and what it knows between them.
+-- The steps of the search, and its invariant between them.
 use Rattle.std.specs.Prelude.{◌≡◌, ◌⊎◌, ◌<◌, ◌≤◌, ◌+◌, ◌^◌, ℕ, Bool, true, false, List, [], length}
 use Rattle.pliron_core.specs.Tree.{Tree, In, body_of}
 use Rattle.pliron_theory.specs.LatticeValues.{Says, AreHeld}
@@ -32,8 +32,8 @@ pub record VisitsOrDefersAll (x : Says) (t : Tree) (ks : List ℕ) (s s' : Table
   pub grows : length (deferred_operations d') ≤ length (deferred_operations d) + length ks
   pub few : length ks < 2 ^ 64
 
--- all values that waited were taken, so many; what their uses ask at once was met, and the other users were visited or
--- deferred
+-- all values on the worklist were popped, so many; the constraints that are propagated eagerly are satisfied,
+-- and the other users were visited or deferred
 pub record VisitsValues (x : Says) (t : Tree) (edges : FeasibleEdges) (s s' : Tables) (d d' : DeferredOperations) (taken : ℕ) : Type 0 where
   pub users : List ℕ
   pub constraints : List Constraint
@@ -44,8 +44,8 @@ pub record VisitsValues (x : Says) (t : Tree) (edges : FeasibleEdges) (s s' : Ta
   pub stamped : StampsEachLowered between met
   pub sees : VisitsOrDefersAll x t users met s' d d'
 
--- a block that waited was taken and visited, or else all values that waited, and their users were seen to; so many
--- were taken
+-- a block was popped and visited, or else all values were popped, and their uses were scheduled; so many were
+-- popped
 pub data TakesTurn (x : Says) (t : Tree) (s s' : Tables) (d d' : DeferredOperations) (edges edges' : FeasibleEdges) (taken : ℕ) : Type 0 where
   Block : (b : ℕ) (u : Tables) → PopsBlock b s u → VisitsInTurnAndKeeps x t (body_of t b) u s' edges edges' → d' ≡ d → taken ≡ 1 → TakesTurn x t s s' d d' edges edges' taken
   Values : ((b : ℕ) → is_block_on_worklist s b ≡ false) → VisitsValues x t edges s s' d d' taken → edges' ≡ edges → TakesTurn x t s s' d d' edges edges' taken
@@ -55,8 +55,9 @@ abbrev pub VisitsDeferred : Says → Tree → (s s' : Tables) → (d d' : Deferr
 VisitsDeferred x t s s' d d' edges edges' true = (k : ℕ) × PopsDeferred k (deferred_operations d) (deferred_operations d') × VisitsOperation x t k s s' × KeepsFeasible x t (lattice_values_of s) k edges edges'
 VisitsDeferred x t s s' d d' edges edges' false = (deferred_operations d ≡ []) × (s' ≡ s)
 
--- each operation where runs may come is settled, or what settles it waits, or it is deferred; the rest of what closed
--- facts owe; and what waits is inside the root, whose blocks have numbers
+-- each operation in an executable block is settled, or what settles it is on a worklist, or it is deferred; the
+-- rest of what closed lattice values owe; and what is on the worklists is inside the root, whose blocks have
+-- numbers
 pub record IsSearchOnTheWay (x : Says) (t : Tree) (root : ℕ) (s : Tables) (d : DeferredOperations) : Type 0 where
   pub settled : AreSettledBut x t (lattice_values_of s) (λ b. is_block_on_worklist s b ≡ true) (λ k v. CallsForVisit t s k v) (λ k. In k (deferred_operations d))
   pub aside : (k : ℕ) → In k (deferred_operations d) → IsDeferred x t s k
@@ -66,8 +67,8 @@ pub record IsSearchOnTheWay (x : Says) (t : Tree) (root : ℕ) (s : Tables) (d :
   pub waits : AreWorklistsInside t root s
   pub numbered : (b : ℕ) → In b (blocks_inside t root) → is_numbered s b ≡ true
 
--- this, and the count so far; where the most precise facts are owed, the facts stand above every closed set of facts,
--- under which each edge that is kept is feasible
+-- this, and the count so far; where the most precise lattice values are owed, those so far are above every
+-- closed set of lattice values, under which each edge that is kept is feasible
 pub record IsSearching (x : Says) (t : Tree) (root : ℕ) (s : Tables) (d : DeferredOperations) (edges : FeasibleEdges) (pops : ℕ) : Type 0 where
   pub way : IsSearchOnTheWay x t root s d
   pub accounted : IsAccounted t root s pops

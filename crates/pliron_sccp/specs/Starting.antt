@@ -1,4 +1,4 @@
--- How the search for facts starts.
+-- How the search starts.
 use Rattle.std.specs.Prelude.{◌↔◌, ◌⊎◌, ℕ, List}
 use Rattle.pliron_core.specs.Tree.{Tree, In}
 use Rattle.pliron_theory.specs.LatticeValues.{LatticeValues}

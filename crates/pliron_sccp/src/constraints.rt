@@ -1,11 +1,13 @@
-//! What an operation asks of the facts, read under the facts so far; and facts fall until they meet it.
+//! The constraints of an operation: its transfer function, read under the lattice values so far. Values are
+//! lowered until they satisfy them.
 //!
-//! What is asked names a constant by its number in the tables, so that none is copied to hand it on.
+//! A constraint names a constant by its number in the tables, so that none is copied to pass it on.
 //!
-//! An operation that is no branch asks of its successors that they are entered: reached, and none of their arguments a
-//! constant. Facts only fall, so of a block that was entered so nothing of this is asked again: it is noted, where it has
-//! more than a few arguments. So what is asked says all that the operation asks under the facts that were read and those
-//! below them, and no others are met or compared.
+//! An operation that is no branch constrains its successors to be entered: executable, with no argument a
+//! constant. Values are only lowered, so a block that was entered so is not constrained again: it is recorded,
+//! where it has more than a few arguments. So the list has all constraints of the operation under the lattice
+//! values that were read and those below them, but for satisfied ones, which are neither satisfied nor compared
+//! again.
 ghost use Rattle.std.specs.Prelude.{◌≡◌, ◌≤◌, ◌<◌, ◌↔◌, ◌∷◌, ◌++◌, [], ℕ, List, nat_eq, true, if◌then◌else◌, Some, None, OnOk, IfOk, IsTrue, length, slice_get, IsOkUnless};
 ghost use Rattle.std.specs.HashSet.{contains};
 ghost use Rattle.pliron_core.specs.Tree.{IsLive, IsBlock, IsRegion, In, arguments_of, operands_of, regions_of, results_of, successors_of};
@@ -26,24 +28,24 @@ use pliron_theory::HasFolding;
 use std::alloc::Global;
 use std::collections::HashSet;
 
-/// One thing that an operation asks.
+/// One constraint of an operation.
 #[derive(Drop)]
 pub enum Constraint {
-    /// The block is reached.
+    /// The block is executable.
     Enter(Ptr<BasicBlock>),
-    /// The fact of the value is at or below what the cell means.
+    /// The lattice value of the value is at or below what the cell means.
     Lower(Value, LatticeCell),
-    /// The fact of the value is at or below this constant.
+    /// The lattice value of the value is at or below this constant.
     Answer(Value, AttrObj),
 }
 
-/// Lists that each look writes on, kept so that looks take no memory for lists of their own; and what later looks need
-/// not ask again.
+/// Lists that each visit writes on, kept so that visits take no memory for lists of their own; and what later
+/// visits need not constrain again.
 ///
 /// ```text
-/// known     the constants that are known of the operands
-/// asked     what is asked, until it is met
-/// entered   blocks with more than a few arguments that were entered by what is no branch: none of these is a constant
+/// known         the constants that are known of the operands
+/// constraints   those of this visit, until they are satisfied
+/// entered       blocks with more than a few arguments that were entered by what is no branch
 /// ```
 #[derive(Drop)]
 pub struct Scratch {
@@ -56,7 +58,7 @@ impl Scratch {
     ghost use Rattle.std.specs.Prelude.{◌≡◌, ℕ, false, nat_eq};
     ghost use Rattle.std.specs.HashSet.{contains};
 
-    /// Nothing is written, and no block was entered. Takes no memory. Cost: constant.
+    /// Empty lists, and no block was entered. Takes no memory. Cost: constant.
     pub fn new(alloc: Global) -> Scratch
         ensures { (b : ℕ) → contains nat_eq result.entered b ≡ false }
     {
@@ -68,7 +70,7 @@ impl Scratch {
     }
 }
 
-/// The block is reached, and its arguments are not constants.
+/// The block is executable, and its arguments are not constants.
 fn constrain_entry(
     block: Ptr<BasicBlock>,
     ctx: &Context,
@@ -117,7 +119,7 @@ fn constrain_region(
     }
 }
 
-/// The entry of each region of the root is entered: of its arguments nothing is known.
+/// The entry of each region of the root is entered: its arguments are not constants.
 ///
 /// Asks that the operation is live. Errors: allocation failure. Cost: one step for each region and for each
 /// argument of an entry.
@@ -191,7 +193,7 @@ fn constrain_named<D: Dialect>(
     }
 }
 
-/// The entry is reached, and its arguments are at or below what the operation names for them.
+/// The entry is executable, and its arguments are at or below what the operation names for them.
 fn constrain_named_entry<D: Dialect>(
     op: Ptr<Operation>,
     region: usize,
@@ -214,7 +216,7 @@ fn constrain_named_entry<D: Dialect>(
     Ok(())
 }
 
-/// The entry of the region with this index, if it has one, is reached with what the operation names for it.
+/// The entry of the region with this index, if it has one, is executable, with what the operation names for it.
 fn constrain_invocation<D: Dialect>(
     op: Ptr<Operation>,
     region: usize,
@@ -234,7 +236,7 @@ fn constrain_invocation<D: Dialect>(
     }
 }
 
-/// The entry of each region is reached, and its arguments are at or below what the operation names for them.
+/// The entry of each region is executable, and its arguments are at or below what the operation names for them.
 fn constrain_invocations<D: Dialect>(
     op: Ptr<Operation>,
     ctx: &Context,
@@ -252,11 +254,11 @@ fn constrain_invocations<D: Dialect>(
     Ok(())
 }
 
-/// How many arguments are few. A block with more is asked to be entered once.
+/// How many arguments are few. A block with more is constrained to be entered once.
 const FEW_ARGUMENTS: usize = 8;
 
-/// Whether the block is still to be asked to be entered. One with more than a few arguments is noted, so that it is
-/// asked once.
+/// Whether the block is still to be constrained to be entered. One with more than a few arguments is recorded,
+/// so that it is constrained once.
 fn record_entry(
     block: Ptr<BasicBlock>,
     ctx: &Context,
@@ -272,7 +274,7 @@ fn record_entry(
     Ok(entered.insert(block.key())?)
 }
 
-/// The block is entered, which is asked unless it was asked before.
+/// The block is entered: a constraint, unless it was one before.
 fn constrain_jump(
     block: Ptr<BasicBlock>,
     ctx: &Context,
@@ -293,7 +295,7 @@ fn constrain_jump(
     }
 }
 
-/// Each successor is entered, which is asked of those that were not entered so before.
+/// Each successor is entered: a constraint on those that were not entered so before.
 fn constrain_jumps(
     op: Ptr<Operation>,
     ctx: &Context,
@@ -356,7 +358,8 @@ fn forwarded_cell(values: &[Value], j: usize, tables: &Tables) -> LatticeCell
     tables.cell(values[j])
 }
 
-/// The block is reached, and each argument that gets one of these values is at or below its fact.
+/// The block is executable, and each argument that receives one of these values is at or below its lattice
+/// value.
 fn constrain_forwarded(
     block: Ptr<BasicBlock>,
     values: &[Value],
@@ -438,7 +441,7 @@ fn may_go(feasible: &Option<HashSet<u64>>, block: Ptr<BasicBlock>) -> bool
     }
 }
 
-/// Where the edge may be taken, its block is reached, with the values that it forwards.
+/// Where the edge is feasible, its block is executable, with the values that it forwards.
 fn constrain_edge<D: Dialect>(
     alloc: Global,
     op: Ptr<Operation>,
@@ -467,7 +470,7 @@ fn constrain_edge<D: Dialect>(
     }
 }
 
-/// Where an edge may be taken, its block is reached, with the values that it forwards.
+/// Where an edge is feasible, its block is executable, with the values that it forwards.
 fn constrain_each_edge<D: Dialect>(
     alloc: Global,
     op: Ptr<Operation>,
@@ -491,8 +494,8 @@ fn constrain_each_edge<D: Dialect>(
     Ok(())
 }
 
-/// Each block that the branch may go to is reached, with the values that its edges forward. These blocks are told,
-/// where it folds.
+/// Each block that the branch may go to is executable, with the values that its edges forward. These blocks are
+/// reported, where it folds.
 fn constrain_branches<D: Dialect>(
     alloc: Global,
     op: Ptr<Operation>,
@@ -583,7 +586,8 @@ fn constrain_results<D: Dialect>(
     }
 }
 
-/// What the edges of the operation ask. The blocks that it may go to are told, where it folds as a branch.
+/// The constraints of the operation's edges. The blocks that it may go to are reported, where it folds as a
+/// branch.
 fn constrain_edges<D: Dialect>(
     alloc: Global,
     op: Ptr<Operation>,
@@ -611,16 +615,16 @@ fn constrain_edges<D: Dialect>(
     }
 }
 
-/// What the operation demands of the facts: the entries of its regions are reached, their arguments are at
-/// or below what it names for them, blocks that it may go to
-/// are reached with what is forwarded to them, and its results are at or below what it answers. Reads the
-/// facts and writes it in the scratch set, in place of what was asked there. Where the operation folds as a branch, tells
-/// the blocks that it may go to.
+/// The constraints of the operation: the entries of its regions are executable, their arguments are at or below
+/// what it names for them, blocks that it may go to are executable with what is forwarded to them, and its
+/// results are at or below what it answers. Reads the lattice values and writes the constraints in the scratch
+/// set, in place of those there. Where the operation folds as a branch, reports the blocks that it may go to.
 ///
-/// Asks that the operation is live (`is_live` tests it), that the blocks noted in the scratch set are entered
-/// under these facts, and for a place that is empty. Errors: allocation failure. Cost: one step for each
-/// operand, result, region, successor and argument of these, and what the dialect's answers cost. The arguments
-/// of a successor of what is no branch cost that once for all such operations, where they are more than a few.
+/// Asks that the operation is live (`is_live` tests it), that the blocks recorded in the scratch set are
+/// entered under these lattice values, and for a place that is empty. Errors: allocation failure. Cost: one
+/// step for each operand, result, region, successor and argument of these, and what the dialect's answers cost.
+/// The arguments of a successor of what is no branch cost that once for all such operations, where they are
+/// more than a few.
 pub fn constraints_of<D: Dialect>(
     alloc: Global,
     op: Ptr<Operation>,
@@ -654,7 +658,7 @@ pub fn constraints_of<D: Dialect>(
     constrain_results::<D>(alloc, op, ctx, &scratch.known, &mut scratch.constraints)
 }
 
-/// Meets one thing that is asked, and does nothing else. Takes no memory.
+/// Satisfies one constraint, and does nothing else. Takes no memory.
 #[inline(always)]
 fn satisfy(demand: Constraint, tables: &mut Tables)
     requires { CanSatisfy tables.old (demand ∷ []) }
@@ -668,11 +672,10 @@ fn satisfy(demand: Constraint, tables: &mut Tables)
     }
 }
 
-/// Meets all that is asked, and does nothing else: what fell waits. Nothing is asked then, and the list keeps its
-/// room. Takes no memory.
+/// Satisfies all constraints, and does nothing else: lowered values are put on their worklist. No constraint is
+/// left then, and the list keeps its room. Takes no memory.
 ///
-/// Asks that the blocks and the constants that are asked for have their numbers here. Cost: one step for
-/// each.
+/// Asks that the blocks and the constants of the constraints have their numbers here. Cost: one step for each.
 #[inline(always)]
 pub fn satisfy_all(constraints: &mut Vec<Constraint>, tables: &mut Tables)
     requires { CanSatisfy tables.old constraints.old.items }

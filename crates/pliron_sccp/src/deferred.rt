@@ -1,4 +1,10 @@
-//! Operations with many operands, deferred until nothing shorter waits.
+//! The deferred worklist: operations with many operands wait until nothing shorter is left to visit.
+//!
+//! Deferred operations are in sets by the binary logarithm of the number of operands: an operation is there
+//! once, and one of the shortest is found in constant time. What was propagated eagerly, and isn't urgent (it
+//! folds no result, and no operand that it doesn't just forward was lowered), comes last. Eight operands cost
+//! at most seventeen visits, since each is lowered twice at most, so shorter operations are never deferred. The
+//! search ends since what can still be popped counts 2^64 times as much as what is deferred.
 ghost use Rattle.std.specs.Prelude.{◌≡◌, ◌<◌, ◌≤◌, ◌+◌, ℕ, [], IfNone, IfOk, IfSome, OnOk, IsOkUnless, IsTrue, Some, ◌↔◌, length, slice_get};
 ghost use Rattle.pliron_sccp.specs.Deferring.{HasFirst, Defers, PopsDeferred, deferred_operations};
 
@@ -7,9 +13,9 @@ use pliron_core::{Operation, Ptr};
 use pliron_laws::OptError;
 use std::alloc::Global;
 
-/// Operations that are deferred: in set number i those with at least `2^i` operands and fewer than `2^(i + 1)`, so
-/// that one of those with the fewest is found in constant time. In the last set are those of which all that fell was
-/// propagated eagerly, so that a look at them most likely changes nothing.
+/// Operations that are deferred: in set number i those with at least `2^i` operands and fewer than `2^(i + 1)`,
+/// so that one of those with the fewest is found in constant time. In the last set are those of which all that
+/// was lowered was propagated eagerly, so that a visit most likely changes nothing.
 #[derive(Drop)]
 pub struct DeferredOperations {
     sets: Vec<IndexSet<Ptr<Operation>>>,
@@ -40,7 +46,7 @@ impl DeferredOperations {
         }
     }
 
-    /// Puts an operation with so many operands aside, behind all that are urgent where it isn't.
+    /// Defers an operation with so many operands, behind all that are urgent where it isn't.
     ///
     /// Asks that it has an operand. Errors: allocation failure. Cost: constant.
     pub fn put(

@@ -1,4 +1,9 @@
-//! Guesses of numbers by keys, so that a look-up takes no hash where keys lie close together.
+//! A direct-mapped index: guesses of numbers by keys, so that a look-up takes no hash where keys lie close
+//! together.
+//!
+//! Keys inside an operation mostly lie close together, so a table by the distance from the least key has the
+//! number of each, and one comparison with the list of keys shows whether it is that one's. A wrong guess costs
+//! a look-up by hash, so no invariant is owed. The table has two entries for each key.
 ghost use Rattle.std.specs.Prelude.{IsOkUnless};
 
 use pliron_core::{BasicBlock, Ptr, Value};
@@ -23,7 +28,7 @@ impl HasKey for Ptr<BasicBlock> {
     }
 }
 
-/// The number that each of some keys most likely has. Nothing is promised of it: who asks tests it.
+/// The number that each of some keys most likely has. Nothing is promised of it: a caller tests it.
 ///
 /// ```text
 /// first     the least of the keys
@@ -54,7 +59,7 @@ impl DirectMappedIndex {
         Ok(guesses)
     }
 
-    // Where the guess for a key stands, if there is room for one.
+    // The index of the guess for a key, if there is room for one.
     fn place(&self, key: u64) -> Option<usize> {
         if key < self.first {
             return None;

@@ -1,4 +1,5 @@
-//! Arguments of entries by the operands that are named for them, listed for an operation with many operands.
+//! Region entry operands: the arguments of entries by the operands that are named for them, listed for an
+//! operation with many operands.
 ghost use Rattle.std.specs.Prelude.{◌<◌, IfSome, IsOkUnless, length};
 ghost use Rattle.pliron_core.specs.Tree.{IsLive, regions_of};
 
@@ -15,8 +16,8 @@ pub struct EntryCandidate {
     pub before: usize,
 }
 
-/// The arguments of an operation's entries for which it most likely names each of its operands. Nothing is promised
-/// of them: who asks tests them.
+/// The arguments of an operation's entries for which it most likely names each of its operands. Nothing is
+/// promised of them: a caller tests them.
 ///
 /// ```text
 /// last      by the operand's place: how many were listed when the last one for it was, 0 for none

@@ -1,4 +1,9 @@
 //! Edges that were found feasible, and arguments that operands are named for, kept for operations with many operands.
+//!
+//! An operation that was visited more than four times keeps its feasible edges, and the arguments for which it
+//! names operands. Where an operand is lowered, the one argument is then lowered at once. The visit still
+//! follows, so no invariant is owed: where folds are monotone a feasible edge stays feasible, and a candidate
+//! is tested before it is used. Four visits tell such a branch from one that one visit at the end serves.
 ghost use Rattle.std.specs.Prelude.{◌≡◌, ◌↔◌, false, ℕ, Some, OnOk, IsOkUnless, IsTrue};
 ghost use Rattle.indexmap.specs.IndexMap.{index_map_len};
 ghost use Rattle.pliron_core.specs.Tree.{IsLive};
@@ -11,12 +16,13 @@ use pliron_laws::{Dialect, OptError};
 use std::alloc::Global;
 use std::collections::HashSet;
 
-/// How many looks are few. What was visited more often has its edges kept, and its named operands listed.
+/// How many visits are few. What was visited more often has its edges kept, and its named operands listed.
 const FEW_LOOKS: usize = 4;
 
-/// Of operations that fold as branches and were visited more than a few times, the blocks that they may go to by
-/// the facts of their last look. Facts only fall, and where folds are monotone such a block stays one. Of operations
-/// that name operands and were visited as often, the arguments that they name them for.
+/// Of operations that fold as branches and were visited more than a few times, the blocks that they may go to
+/// by the lattice values of their last visit. Values are only lowered, and where folds are monotone such a
+/// block stays one. Of operations that name operands and were visited as often, the arguments that they name
+/// them for.
 #[derive(Drop)]
 pub struct FeasibleEdges {
     visit_stamps: IndexMap<Ptr<Operation>, usize>,
@@ -36,7 +42,7 @@ impl FeasibleEdges {
         }
     }
 
-    /// Counts a look at the operation; how often it was visited.
+    /// Counts a visit of the operation, and answers how often it was visited.
     fn count(&mut self, op: Ptr<Operation>) -> Result<usize, OptError>
         ensures ok { OnOk result (self.new.blocks ≡ self.old.blocks) }
         ensures memory { IsOkUnless result OptError.Memory }

@@ -1,8 +1,13 @@
-//! What is known while facts are looked for, in tables by number: the fact of each value, the blocks
-//! that are reached, and what still waits to be visited.
+//! The state of the search, in tables by number: the lattice value of each value, the executable blocks, and
+//! the worklists.
 //!
-//! Everything above speaks of the words of `specs/Tables` alone, so that other tables can stand behind
-//! the same contracts.
+//! Everything above speaks of the words of `specs/Tables` alone, so that other tables can be behind the same
+//! contracts.
+//!
+//! All room is taken when the tables are made, so marking, lowering and popping can't be refused. A clock rises
+//! with each visit: a value keeps the stamp of its last lowering, and an operation with results that of its
+//! last visit, by the number of its first result; a user visited since the value was last lowered is not
+//! revisited. The clock stops at its greatest number, where nothing counts as visited.
 ghost use Rattle.std.specs.Prelude.{◌≡◌, ◌≤◌, ◌+◌, ◌<◌, ◌^◌, ℕ, nat_eq, Some, length, slice_get, vec_capacity, IsOkUnless};
 ghost use Rattle.std.specs.List.{list_any};
 ghost use Rattle.indexmap.specs.IndexSet.{index_of};
@@ -31,20 +36,20 @@ pub enum LatticeCell {
     NotAConstant,
 }
 
-/// The facts that were found so far, and what waits. A value without a number is not a constant.
+/// The lattice values so far, and the worklists. A value without a number is not a constant.
 ///
 /// ```text
-/// blocks, values      each once; its place is its number
-/// block_index, value_index   the number that a key most likely has
-/// marks               of each block     Unreached, Waiting, Visited            a mark goes from left to right
-/// cells               of each value     Undetermined, Constant, NotAConstant   a fact falls, from left to right
-/// falls               of each value     whether it fell since it was taken
-/// constants           by the number in a cell; at most one for each value
-/// block_worklist      blocks reached that were not looked through yet          the last one is taken first
-/// value_worklist      values whose facts fell since they were taken            the last one is taken first
-/// clock               how many looks were stamped
-/// looks               of each value     the stamp of the last look at the operation whose first result it is
-/// fell                of each value     what the clock said when it fell last
+/// blocks, values            each once; its place is its number
+/// block_index, value_index  the number that a key most likely has
+/// marks                     of each block   NotExecutable, Waiting, Visited       moves from left to right
+/// cells                     of each value   Undetermined, Constant, NotAConstant  is lowered from left to right
+/// values_on_worklist        of each value   whether it was lowered since it was popped
+/// constants                 by the number in a cell; at most one for each value
+/// block_worklist            executable blocks that were not visited yet           the last one is popped first
+/// value_worklist            values lowered since they were popped                 the last one is popped first
+/// clock                     how many visits were stamped
+/// visit_stamps              of each value   the stamp of the last visit of the operation whose first result it is
+/// lowered_stamps            of each value   what the clock said when it was last lowered
 /// ```
 #[derive(Drop)]
 pub struct Tables {
@@ -156,7 +161,7 @@ impl Tables {
         self.values.get_index_of(&value)
     }
 
-    /// Whether the block is reached. Cost: one look-up.
+    /// Whether the block is executable. Cost: one look-up.
     pub fn is_executable(&self, block: Ptr<BasicBlock>) -> bool
         ensures { result ≡ is_executable self.now block }
     {
@@ -169,7 +174,7 @@ impl Tables {
         }
     }
 
-    /// Whether the block waits. Cost: one look-up.
+    /// Whether the block is on the worklist. Cost: one look-up.
     pub fn is_on_worklist(&self, block: Ptr<BasicBlock>) -> bool
         ensures { result ≡ is_block_on_worklist self.now block }
     {
@@ -206,7 +211,8 @@ impl Tables {
         }
     }
 
-    /// The stamp of the last look at the operation with this first result, 0 where there was none. Cost: one look-up.
+    /// The stamp of the last visit of the operation with this first result, 0 where there was none. Cost: one
+    /// look-up.
     #[inline(always)]
     pub fn visit_stamp(&self, first: Value) -> u64
         ensures { result ≡ visit_stamp self.now first }
@@ -217,7 +223,7 @@ impl Tables {
         }
     }
 
-    /// The stamp of the value's last fall: looks with greater stamps came later. Cost: one look-up.
+    /// The stamp of the value's last lowering: visits with greater stamps came later. Cost: one look-up.
     #[inline(always)]
     pub fn lowered_stamp(&self, value: Value) -> u64
         ensures { result ≡ lowered_stamp self.now value }
@@ -228,8 +234,8 @@ impl Tables {
         }
     }
 
-    /// The operation with this first result is visited now: the look gets the greatest stamp so far, and so does what
-    /// falls before the next one. Takes no memory. Cost: one look-up.
+    /// The operation with this first result is visited now: the visit gets the greatest stamp so far, and so
+    /// does what is lowered before the next one. Takes no memory. Cost: one look-up.
     #[inline(always)]
     pub fn stamp_visit(&mut self, first: Value)
         ensures { StampsVisit first self.old self.new }
@@ -245,7 +251,7 @@ impl Tables {
         self.constants.len()
     }
 
-    /// The block is reached, and waits if it was not. Takes no memory.
+    /// Marks the block executable, and puts it on the worklist if it wasn't. Takes no memory.
     ///
     /// Asks that the block has a number. Cost: one look-up.
     pub fn mark_executable(&mut self, block: Ptr<BasicBlock>)
@@ -264,7 +270,7 @@ impl Tables {
         }
     }
 
-    /// The value with this number waits, and its fall is stamped. Takes no memory.
+    /// Puts the value with this number on the worklist, and stamps its lowering. Takes no memory.
     #[inline(always)]
     fn push_value(&mut self, n: usize)
         requires { n < length self.old.values.keys }
@@ -277,7 +283,7 @@ impl Tables {
         }
     }
 
-    /// What the fact falls to, where that is another one than before.
+    /// What the lattice value is lowered to, where that is another one than before.
     #[inline(always)]
     fn lowered_value(&self, old: LatticeCell, to: LatticeCell) -> Option<LatticeCell>
         requires old { (f : LatticeValue) × Means (known_constants self.now) old f }
@@ -306,8 +312,8 @@ impl Tables {
         }
     }
 
-    /// The fact of the value falls to the greatest one below it and what the cell means, and the value waits
-    /// if that is another one than before. Takes no memory.
+    /// Lowers the lattice value of the value to its meet with what the cell means, and puts the value on the
+    /// worklist if that is another one than before. Takes no memory.
     ///
     /// Asks that a constant in the cell has its number here. Cost: one look-up, and comparing two attributes.
     #[inline(always)]
@@ -325,8 +331,8 @@ impl Tables {
         self.push_value(n);
     }
 
-    /// The fact of the value falls to the greatest one below it and this constant, and the value waits if that
-    /// is another one than before. Takes no memory.
+    /// Lowers the lattice value of the value to its meet with this constant, and puts the value on the worklist
+    /// if that is another one than before. Takes no memory.
     ///
     /// Cost: one look-up, and comparing two attributes.
     #[inline(always)]
@@ -352,7 +358,7 @@ impl Tables {
         }
     }
 
-    /// One of the blocks that wait, which waits no longer; `None` where none waits. Takes no memory.
+    /// Pops a block off the worklist; `None` where it is empty. Takes no memory.
     ///
     /// Cost: constant.
     pub fn pop_block(&mut self) -> Option<Ptr<BasicBlock>>
@@ -364,7 +370,7 @@ impl Tables {
         Some(self.blocks.as_slice()[n])
     }
 
-    /// One of the values that wait, which waits no longer; `None` where none waits. Takes no memory.
+    /// Pops a value off the worklist; `None` where it is empty. Takes no memory.
     ///
     /// Cost: constant.
     pub fn pop_value(&mut self) -> Option<Value>

@@ -1,4 +1,4 @@
-//! Constant propagation: facts are found, and the tree is rewritten by them.
+//! Constant propagation: a fixpoint of lattice values is found, and the tree is rewritten by it.
 ghost use Rattle.std.specs.Prelude.{◌≡◌, Some, IfOk, OnOk, OnErr, ℕ, IsOkUnless};
 ghost use Rattle.pliron_core.specs.Tree.{IsLive};
 ghost use Rattle.pliron_laws.specs.InPlace.{ReportsChange};
@@ -13,7 +13,7 @@ use pliron_laws::{Dialect, OptError, Room};
 use pliron_theory::HasFolding;
 use std::alloc::Global;
 
-// Propagates constants through a rewriter, and counts what the search took from its worklists.
+// Propagates constants through a rewriter, and counts what the search popped off its worklists.
 fn propagate<D: Dialect, R: Rewriter + Room>(
     alloc: Global,
     op: Ptr<Operation>,
@@ -38,9 +38,9 @@ fn propagate<D: Dialect, R: Rewriter + Room>(
     Ok((status, pops))
 }
 
-/// Propagates constants inside the operation, as `sccp` does, and answers too how often its search took
-/// something from a worklist: with r blocks that are reached and, made in these, c constants and n values
-/// that are not constant, at least r + c + n and at most r + c + 2 n times.
+/// Propagates constants inside the operation, as `sccp` does, and answers too how often its search popped
+/// something off a worklist: with r executable blocks and, defined in these, c constants and n values that are
+/// not constant, at least r + c + n and at most r + c + 2 n times.
 ///
 /// Asks that the operation is live and is well linked. Errors: as `sccp`. Cost: as `sccp`.
 pub fn sccp_counted<D: Dialect>(
@@ -65,7 +65,7 @@ pub fn sccp_counted<D: Dialect>(
 }
 
 /// Propagates constants inside the operation, as `sccp` does, and makes each change through this rewriter,
-/// whose listener hears of it: the room for a whole rewrite is asked of it before the first change of that.
+/// which reports it to a listener: the room for a whole rewrite is asked of it before the first change of that.
 ///
 /// Asks that the operation is live and is well linked. Errors: as `sccp`, and where the rewriter has no room.
 /// Cost: as `sccp`, and what the rewriter does at each change.
@@ -91,14 +91,14 @@ pub fn sccp_through<D: Dialect, R: Rewriter + Room>(
     Ok(status)
 }
 
-/// Propagates constants inside the operation. Facts are searched on the tree as it stands, from no block
-/// reached and nothing known of any value: the entries of the operation's regions are reached, with any
-/// arguments; of a block that is reached, each operation that folds answers its results by the constants
-/// that are known of its operands, each other one has results that are no constants, its regions are
-/// entered, and its branch reaches the blocks that it may go to by what is known, with the values that it
-/// forwards. Then, in pre-order, each operation that folds in a block that is reached is folded in place by
-/// these facts, and after these a constant is put for each constant argument of such a block. Nothing is
-/// erased, and results and arguments without uses get their constants too.
+/// Propagates constants inside the operation. Lattice values are searched on the unchanged tree, from no
+/// executable block and nothing known of any value: the entries of the operation's regions are executable, with
+/// any arguments; in an executable block, each operation that folds answers its results by the constants that
+/// are known of its operands, each other one has results that are not constant, its regions are entered, and
+/// its branch makes the blocks executable that it may go to by what is known, with the values that it forwards.
+/// Then, in pre-order, each operation that folds in an executable block is folded in place by these lattice
+/// values, and after these a constant is put for each constant argument of such a block. Nothing is erased, and
+/// results and arguments without uses get their constants too.
 ///
 /// Wegman and Zadeck, "Constant propagation with conditional branches", 1991, section 3, over blocks with
 /// arguments; a user is visited again only where its block was visited before.
@@ -107,9 +107,9 @@ pub fn sccp_through<D: Dialect, R: Rewriter + Room>(
 ///
 /// Errors: allocation failure. The tree is then as before, or one after a first part of these rewrites.
 ///
-/// Cost: one look at each operation in a block that is reached, and one more for each time that a fact
-/// about an operand falls, which it does twice at most, but where it has more than a few operands one for
-/// all that fall before nothing shorter is left to do; then one step for each use of what is replaced.
+/// Cost: one visit of each operation in an executable block, and one more for each lowering of an operand, of
+/// which there are two at most, but where it has more than a few operands one for all that are lowered before
+/// nothing shorter is left to do; then one step for each use of what is replaced.
 pub fn sccp<D: Dialect>(
     alloc: Global,
     op: Ptr<Operation>,

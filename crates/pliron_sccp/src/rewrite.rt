@@ -1,5 +1,8 @@
-//! What facts say is to be rewritten, the operations that fold and the constant arguments; and the tree
-//! rewritten by it.
+//! What the lattice values say is to be rewritten, the operations that fold and the constant arguments; and the
+//! tree rewritten by it.
+//!
+//! What is known of the operands of all folds is one list, made while the tree is as it was searched; a fold
+//! has its part of it from `start` to `end`.
 ghost use Rattle.std.specs.Prelude.{◌≡◌, ◌≤◌, ◌<◌, ◌++◌, ℕ, List, [], Some, None, IsSome, IfOk, OnErr, OnOk, length, map, slice_get, slice_range, IsOkUnless};
 ghost use Rattle.pliron_core.specs.Tree.{Tree, IsLive, IsBlock, operands_of};
 ghost use Rattle.pliron_core.specs.Changes.{IsSameTree};
@@ -24,7 +27,7 @@ use pliron_theory::HasFolding;
 use pliron_theory::rewrites::replace_argument_by_constant;
 use std::alloc::Global;
 
-/// An operation that folds, and where the constants that are known of its operands stand in the list for all.
+/// An operation that folds, and where the constants that are known of its operands are in the list for all.
 #[derive(Clone, Copy)]
 pub struct Fold {
     pub(crate) op: Ptr<Operation>,
@@ -68,15 +71,15 @@ pub struct ConstantArgument {
     pub(crate) attr: AttrObj,
 }
 
-/// What was found of a tree: the operations that fold and the constant arguments, both where runs may
-/// come, in pre-order.
+/// What was found of a tree: the operations that fold and the constant arguments, both in executable blocks, in
+/// pre-order.
 #[derive(Drop)]
 pub struct Found {
     pub(crate) folds: Folds,
     pub(crate) arguments: Vec<ConstantArgument>,
 }
 
-/// Whether the operation folds and is in a block that is reached.
+/// Whether the operation folds and is in an executable block.
 fn is_folded<D: Dialect>(op: Ptr<Operation>, ctx: &Context, tables: &Tables) -> bool
     requires { IsLive ctx.now.tree op }
     ensures { result ≡ is_folding D.can_fold ctx.now.tree (lattice_values_of tables.now) op }
@@ -134,7 +137,7 @@ fn all_folds<D: Dialect>(
     Ok(folds)
 }
 
-/// Adds the constant arguments of a block that is reached, in the order of their indices.
+/// Adds the constant arguments of an executable block, in the order of their indices.
 fn add_arguments(
     alloc: Global,
     block: Ptr<BasicBlock>,
@@ -158,7 +161,7 @@ fn add_arguments(
     Ok(())
 }
 
-/// The constant arguments of the blocks inside the root that are reached, in pre-order.
+/// The constant arguments of the executable blocks inside the root, in pre-order.
 fn all_arguments(
     alloc: Global,
     root: Ptr<Operation>,
@@ -179,8 +182,8 @@ fn all_arguments(
     Ok(arguments)
 }
 
-/// Finds facts about what is inside the root, and what they say is to be rewritten. Answers also how
-/// often the search took something from a worklist.
+/// Finds a fixpoint of lattice values inside the root, and what they say is to be rewritten. Answers also how
+/// often the search popped something off a worklist.
 ///
 /// Errors: allocation failure.
 pub(crate) fn find<D: Dialect>(
@@ -199,9 +202,10 @@ pub(crate) fn find<D: Dialect>(
     Ok((Found { folds, arguments }, searched.pops))
 }
 
-/// Folds one operation in place by facts about the first tree.
+/// Folds one operation in place by lattice values of the first tree.
 ///
-/// Asks that the tree came from the first one by such steps, so that the facts still hold of the operation.
+/// Asks that the tree came from the first one by such steps, so that the lattice values still hold of the
+/// operation.
 /// Errors: allocation failure, after which the tree is one that the dialect's `fold_in_place` leaves then: as it
 /// was, or after one whole fold. Cost: that of the dialect's `fold_in_place`.
 #[inline(always)]
@@ -230,7 +234,8 @@ pub fn fold_one<D: Dialect, R: Rewriter + Room>(
 
 /// Folds these operations in place, one after the other.
 ///
-/// Asks that the tree came from the first one by such steps, so that the facts still hold of the operations.
+/// Asks that the tree came from the first one by such steps, so that the lattice values still hold of the
+/// operations.
 /// Errors: allocation failure, after some of the folds, each of them whole. Cost: that of the dialect's `fold_in_place` for each.
 pub fn fold_all<D: Dialect, R: Rewriter + Room>(
     alloc: Global,
@@ -258,9 +263,10 @@ pub fn fold_all<D: Dialect, R: Rewriter + Room>(
     Ok(status)
 }
 
-/// Puts a constant first in its block for an argument, by facts about the first tree.
+/// Puts a constant first in its block for an argument, by lattice values of the first tree.
 ///
-/// Asks that the tree came from the first one by such steps, so that the facts still hold of the argument.
+/// Asks that the tree came from the first one by such steps, so that the lattice values still hold of the
+/// argument.
 /// Errors: allocation failure, which leaves the tree as it was but for erased handles. Cost: that of
 /// `replace_argument_by_constant`.
 pub fn put_argument<D: Dialect, R: Rewriter + Room>(
@@ -293,7 +299,8 @@ pub fn put_argument<D: Dialect, R: Rewriter + Room>(
 
 /// Puts constants for these arguments, one after the other.
 ///
-/// Asks that the tree came from the first one by such steps, so that the facts still hold of the arguments.
+/// Asks that the tree came from the first one by such steps, so that the lattice values still hold of the
+/// arguments.
 /// Errors: allocation failure, after some of them. Cost: that of `replace_argument_by_constant` for each.
 pub fn put_all<D: Dialect, R: Rewriter + Room>(
     alloc: Global,

@@ -1,26 +1,28 @@
-//! The search for facts: blocks and values wait on worklists until nothing does.
+//! The search for a fixpoint, by two worklists of blocks and of values.
 //!
-//! Source: Wegman and Zadeck, Constant Propagation with Conditional Branches (1991), section 3: their two
-//! worklists, of flow edges and of uses in SSA form, are here one of blocks and one of values.
+//! Source: Wegman and Zadeck, Constant Propagation with Conditional Branches (1991), section 3: their two worklists,
+//! of flow edges and of uses in SSA form, are here one of blocks and one of values.
 //!
-//! The order of work: a block that waits is taken before any value, and visited as a whole, its
-//! operations in order. Where none waits, all values that wait are taken, one by one, and then each of their
-//! users is visited once, but for those that ask the same whatever is known: what neither folds, nor is a
-//! branch, nor names operands for its regions is visited with its block alone. Nor is a user visited again that
-//! was since the value fell last, as stamps of looks and falls tell: so an operation whose operands all fell before its block
-//! came to it is visited once. So a branch that forwards many values which fell together is
-//! visited once, and no region is gone through in rounds: a fact falls at most twice, and only its users
-//! are visited then. In deep nests of loops an inner loop is thus not gone through again for each round of
-//! the outer ones.
+//! The order of work. A block is popped before any value, and visited as a whole, its operations in order. Where no
+//! block is on the worklist, all values on theirs are popped, one by one, and then each of their users is visited
+//! once. Not visited are
 //!
-//! A user with more than a few operands is deferred, once, and looked at where neither a block nor a value
-//! waits: one at a time, those with the fewest operands first, and what that look made fall is taken before
-//! the next one. So a branch that folds, and forwards many values which fall one after the other, is
-//! visited when all of them fell, and not after each. Where it makes its own next operand fall, as in a loop that
-//! moves its arguments on by one place, that would be no help: so what was visited more than a few times is
-//! asked at once for what it forwards along an edge that its last look found feasible, one argument for each
-//! operand that fell, and for the arguments of its regions' entries that it names this operand for. The order
-//! decides no fact.
+//! - users whose constraints don't depend on the operand: what neither folds, nor is a branch, nor names operands
+//!   for its regions is visited with its block alone;
+//! - users visited since the value was last lowered, as stamps of visits and lowerings say: so an operation whose
+//!   operands were all lowered before its block was popped is visited once.
+//!
+//! So a branch that forwards many values lowered together is visited once, and no region is visited in rounds: a
+//! value is lowered at most twice, and only its users are visited then. In deep nests of loops an inner loop is thus
+//! not visited anew for each round of the outer ones.
+//!
+//! A user with more than a few operands is deferred, once, and visited where both worklists are empty: one at a
+//! time, those with the fewest operands first, and what that visit lowered is propagated before the next one. So a
+//! branch that folds, and forwards many values lowered one after the other, is visited when all of them are lowered,
+//! and not after each. Where it lowers its own next operand, as in a loop that moves its arguments on by one place,
+//! that would be no help. So what was visited more than a few times is propagated eagerly: for each lowered operand,
+//! the one argument that it is forwarded to along an edge that the last visit found feasible, and the arguments of
+//! its regions' entries that it names this operand for. The order decides no lattice value.
 ghost use Rattle.std.specs.Prelude.{◌≡◌, ◌<◌, ◌↔◌, ℕ, true, OnOk, IfOk, IfSome, IsTrue, IsOkUnless, Some, None, length, slice_get};
 ghost use Rattle.pliron_core.specs.Tree.{IsLive, IsBlock, In, arguments_of, body_of, successors_of};
 ghost use Rattle.pliron_laws.specs.Answers.{ReadsHead};
@@ -51,7 +53,7 @@ use pliron_theory::HasFolding;
 use std::alloc::Global;
 use std::collections::HashSet;
 
-/// Nothing is known yet of the values inside the root, no block is reached, and nothing waits.
+/// Nothing is known yet of the values inside the root, no block is executable, and the worklists are empty.
 fn initial_tables(alloc: Global, root: Ptr<Operation>, ctx: &Context) -> Result<Tables, OptError>
     requires { IsLive ctx.now.tree root }
     ensures ok { IfOk result (λ tables. IsUnsearched ctx.now.tree root tables) }
@@ -64,11 +66,9 @@ fn initial_tables(alloc: Global, root: Ptr<Operation>, ctx: &Context) -> Result<
     Tables::over(alloc, numbered, values)
 }
 
-/// The entries of the root's regions are reached and wait, their arguments are not constants, and
-/// nothing is known of all other values inside the root.
-///
-/// Asks that the root stands. Errors: allocation failure. Cost: one step for each operation, block, region
-/// and value inside it.
+/// The entries of the root's regions are executable and on the worklist, their arguments are not constants, and
+/// nothing is known of all other values inside the root. Asks that the root is live. Errors: allocation failure.
+/// Cost: one step for each operation, block, region and value inside it.
 pub fn start(alloc: Global, root: Ptr<Operation>, ctx: &Context) -> Result<Tables, OptError>
     requires { IsLive ctx.now.tree root }
     ensures ok { IfOk result (λ tables. IsStarted ctx.now.tree root tables) }
@@ -82,7 +82,7 @@ pub fn start(alloc: Global, root: Ptr<Operation>, ctx: &Context) -> Result<Table
     Ok(tables)
 }
 
-/// Whether the operation is in a block that is reached and was visited.
+/// Whether the operation is in an executable block that was visited.
 #[inline(always)]
 fn is_visited(op: Ptr<Operation>, ctx: &Context, tables: &Tables) -> bool
     requires { IsLive ctx.now.tree op }
@@ -94,17 +94,17 @@ fn is_visited(op: Ptr<Operation>, ctx: &Context, tables: &Tables) -> bool
     }
 }
 
-/// What is to be done where an operand of an operation fell.
+/// What is to be done where an operand of an operation was lowered.
 pub enum Reaction {
-    /// The operation asks the same whatever is known of the operand.
+    /// The constraints of the operation don't depend on the operand.
     Pass,
     /// It is visited again.
     Revisit,
-    /// It asks the same but for one argument: the edge, and the argument's place there.
+    /// They are the same but for one argument: the edge, and the argument's place there.
     Ask(usize, usize),
 }
 
-/// Whether what the operation asks may hang on all its operands: it folds, or folds as a branch, or names
+/// Whether the constraints of the operation may depend on all its operands: it folds, or folds as a branch, or names
 /// operands for the entries of its regions.
 fn reads_all<D: Dialect>(op: Ptr<Operation>, ctx: &Context) -> bool
     requires { IsLive ctx.now.tree op }
@@ -113,7 +113,7 @@ fn reads_all<D: Dialect>(op: Ptr<Operation>, ctx: &Context) -> bool
     D::folds(op, ctx) || D::folds_branch(op, ctx) || D::implements(op, ctx, Interface::RegionBranch)
 }
 
-/// What is to be done where the operand at this place fell. Cost: that of a few tests of the dialect.
+/// What is to be done where the operand at this place was lowered. Cost: that of a few tests of the dialect.
 fn reaction_to<D: Dialect>(op: Ptr<Operation>, place: usize, ctx: &Context) -> Reaction
     requires { IsLive ctx.now.tree op }
     ensures { IsReactionTo ⟦<D as HasFolding>⟧.folding ctx.now.tree op place result }
@@ -130,7 +130,7 @@ fn reaction_to<D: Dialect>(op: Ptr<Operation>, place: usize, ctx: &Context) -> R
     }
 }
 
-/// The argument at this place of the edge, if it has one, is at or below the fact of the value.
+/// The argument at this place of the edge, if it has one, is at or below the lattice value of the value.
 fn constrain_argument(
     op: Ptr<Operation>,
     edge: usize,
@@ -155,10 +155,10 @@ fn constrain_argument(
     Ok(())
 }
 
-/// How many operands are few. What has more is deferred, and looked at where nothing else waits.
+/// How many operands are few. What has more is deferred, and visited where nothing else is left to visit.
 const FEW_OPERANDS: usize = 8;
 
-/// Whether the block is reached, and kept as one that the operation may go to.
+/// Whether the block is executable, and kept as one that the operation may go to.
 fn is_open(
     op: Ptr<Operation>,
     block: Ptr<BasicBlock>,
@@ -194,7 +194,7 @@ fn named_argument<D: Dialect>(
     }
 }
 
-/// Asks the argument that is listed so, if the operation names this place for it.
+/// Constrains the argument that is listed so, if the operation names this place for it.
 fn constrain_candidate<D: Dialect>(
     op: Ptr<Operation>,
     place: usize,
@@ -216,7 +216,8 @@ fn constrain_candidate<D: Dialect>(
     Ok(())
 }
 
-/// Asks the arguments for which an operation with many operands names this place, if it was visited more than a few times.
+/// Constrains the arguments for which an operation with many operands names this place, if it was visited more than
+/// a few times.
 fn propagate_named_eagerly<D: Dialect>(
     op: Ptr<Operation>,
     place: usize,
@@ -241,7 +242,7 @@ fn propagate_named_eagerly<D: Dialect>(
     Ok(())
 }
 
-/// Asks the one argument to which a branch forwards the value from this place, if the edge was found feasible.
+/// Constrains the one argument to which a branch forwards the value from this place, if the edge was found feasible.
 fn propagate_forwarded_eagerly<D: Dialect>(
     op: Ptr<Operation>,
     place: usize,
@@ -268,8 +269,8 @@ fn propagate_forwarded_eagerly<D: Dialect>(
     }
 }
 
-/// Asks at once what an operation with many operands hands on from this place: so a look at its other operands may
-/// wait until all of them fell.
+/// Propagates eagerly what an operation with many operands passes on from this place: so a visit for its other
+/// operands may be deferred until all of them are lowered.
 fn propagate_eagerly<D: Dialect>(
     op: Ptr<Operation>,
     place: usize,
@@ -290,7 +291,7 @@ fn propagate_eagerly<D: Dialect>(
     propagate_forwarded_eagerly::<D>(op, place, value, ctx, tables, edges, constraints)
 }
 
-/// Whether the stamps tell that the operation was visited since the value fell last.
+/// Whether the stamps say that the operation was visited since the value was last lowered.
 #[inline(always)]
 fn was_visited_since_lowered(
     op: Ptr<Operation>,
@@ -305,8 +306,8 @@ fn was_visited_since_lowered(
         && tables.lowered_stamp(value) < tables.visit_stamp(op.get_result(ctx, 0))
 }
 
-/// Whether all that the operation does with the operand at this place was asked at once, so far as is known: then a look
-/// at it may wait until the end. Facts don't hang on it.
+/// Whether all that the operation does with the operand at this place was propagated eagerly, so far as is known:
+/// then a visit of it may be deferred until the end. The lattice values don't depend on it.
 fn is_propagated_eagerly<D: Dialect>(
     op: Ptr<Operation>,
     place: usize,
@@ -321,7 +322,7 @@ fn is_propagated_eagerly<D: Dialect>(
     !D::is_branch(op, ctx) || D::forwarded_from(op, ctx, place).is_some()
 }
 
-/// Notes an operation with many operands that is to be visited before those whose operands were propagated eagerly.
+/// Marks an operation with many operands that is to be visited before those whose operands were propagated eagerly.
 fn mark_urgent<D: Dialect>(
     op: Ptr<Operation>,
     place: usize,
@@ -338,7 +339,7 @@ fn mark_urgent<D: Dialect>(
     Ok(())
 }
 
-/// Sees to one use of a value that fell, where was looked, and not since the fall.
+/// Schedules one use of a lowered value, by an operation that was visited, and not since the lowering.
 #[inline(always)]
 fn add_use<D: Dialect>(
     op: Ptr<Operation>,
@@ -381,7 +382,7 @@ fn add_use<D: Dialect>(
     }
 }
 
-/// Sees to the uses of the value that stand where was looked.
+/// Schedules the uses of the value by operations in blocks that were visited.
 fn add_uses<D: Dialect>(
     value: Value,
     ctx: &Context,
@@ -416,14 +417,11 @@ fn add_uses<D: Dialect>(
     Ok(())
 }
 
-/// Takes all values that wait, one by one. The users that are to be visited again, each once, what others
-/// ask for one argument each, and how many values were taken. Of users in other blocks nothing is asked: a
-/// block that waits is still to be visited, and in one that is not reached nothing is asked.
-///
-/// Most precise facts need this rule: an operation that is visited before its block was could read a
-/// value of which nothing is known yet.
-///
-/// Errors: allocation failure. Cost: one step for each value and for each use of it.
+/// Pops all values off the worklist, one by one. Answers the users that are to be visited again, each once, the
+/// constraints of others on one argument each, and how many values were popped. Users in other blocks put no
+/// constraint: a block on the worklist is still to be visited, and one that is not executable puts none. The most
+/// precise lattice values need this rule: an operation that is visited before its block was could read a value of
+/// which nothing is known yet. Errors: allocation failure. Cost: one step for each value and for each use of it.
 fn take_values<D: Dialect>(
     alloc: Global,
     ctx: &Context,
@@ -452,7 +450,7 @@ fn take_values<D: Dialect>(
     Ok((users, constraints, taken))
 }
 
-/// The look at the operation gets its stamp, kept with its first result, if it has one.
+/// The visit of the operation gets its stamp, kept with its first result, if it has one.
 #[inline(always)]
 fn stamp(op: Ptr<Operation>, ctx: &Context, tables: &mut Tables)
     requires { IsLive ctx.now.tree op }
@@ -464,12 +462,10 @@ fn stamp(op: Ptr<Operation>, ctx: &Context, tables: &mut Tables)
     }
 }
 
-/// Meets what the operation asks of the facts so far, and does nothing else. Where it folds as a branch, tells the
-/// blocks that it may go to.
-///
-/// Asks that it is live, that the blocks which it may enter have numbers, that those noted in the scratch set
-/// are entered, which holds again afterwards, and for a place that is empty. Errors: allocation failure. Cost:
-/// that of what it asks.
+/// Satisfies the constraints of the operation under the lattice values so far, and does nothing else. Where it folds
+/// as a branch, reports the blocks that it may go to. Asks that it is live, that the blocks which it may enter have
+/// numbers, that those recorded in the scratch set are entered, which holds again afterwards, and for a place that
+/// is empty. Errors: allocation failure. Cost: that of its constraints.
 #[inline(always)]
 fn visit_operation<D: Dialect>(
     alloc: Global,
@@ -494,10 +490,9 @@ fn visit_operation<D: Dialect>(
     Ok(())
 }
 
-/// Meets what the operation asks of the facts so far, and does nothing else.
-///
-/// Asks that it is live, that the blocks which it may enter have numbers, and that those noted in the scratch
-/// set are entered, which holds again afterwards. Errors: allocation failure. Cost: that of what it asks.
+/// Satisfies the constraints of the operation under the lattice values so far, and does nothing else. Asks that it
+/// is live, that the blocks which it may enter have numbers, and that those recorded in the scratch set are entered,
+/// which holds again afterwards. Errors: allocation failure. Cost: that of its constraints.
 #[inline(always)]
 fn visit_with_scratch<D: Dialect>(
     alloc: Global,
@@ -538,8 +533,8 @@ fn keep_feasible(
     }
 }
 
-/// Lists the arguments that the operation names operands for, if it has many operands and was visited more than a few
-/// times.
+/// Lists the arguments that the operation names operands for, if it has many operands and was visited more than a
+/// few times.
 fn keep_candidates<D: Dialect>(
     alloc: Global,
     op: Ptr<Operation>,
@@ -557,10 +552,9 @@ fn keep_candidates<D: Dialect>(
     }
 }
 
-/// Looks at the operation, and if it has many operands keeps the blocks that it may go to, where it folds as a branch,
-/// and lists the arguments that it names operands for.
-///
-/// Asks what `visit_with_scratch` asks. Errors: allocation failure. Cost: that of what it asks.
+/// Visits the operation, and if it has many operands keeps the blocks that it may go to, where it folds as a branch,
+/// and lists the arguments that it names operands for. Asks what `visit_with_scratch` asks. Errors: allocation
+/// failure. Cost: that of its constraints.
 fn visit_and_keep<D: Dialect>(
     alloc: Global,
     op: Ptr<Operation>,
@@ -583,9 +577,8 @@ fn visit_and_keep<D: Dialect>(
     keep_feasible(op, feasible, ctx, edges)
 }
 
-/// Looks at the operation, or defers it where it has more than a few operands.
-///
-/// Asks what `visit_with_scratch` asks. Errors: allocation failure. Cost: that of what it asks, or constant.
+/// Visits the operation, or defers it where it has more than a few operands. Asks what `visit_with_scratch` asks.
+/// Errors: allocation failure. Cost: that of its constraints, or constant.
 fn visit_or_defer<D: Dialect>(
     alloc: Global,
     op: Ptr<Operation>,
@@ -610,9 +603,8 @@ fn visit_or_defer<D: Dialect>(
     }
 }
 
-/// Looks at these operations, one after the other, but puts aside what has more than a few operands.
-///
-/// Asks what `visit_with_scratch` asks, of each. Errors: allocation failure. Cost: that of what they ask.
+/// Visits these operations, one after the other, but defers what has more than a few operands. Asks what
+/// `visit_with_scratch` asks, of each. Errors: allocation failure. Cost: that of their constraints.
 fn visit_or_defer_all<D: Dialect>(
     alloc: Global,
     ops: &[Ptr<Operation>],
@@ -635,10 +627,9 @@ fn visit_or_defer_all<D: Dialect>(
     Ok(())
 }
 
-/// Looks at the operations of the block, in order.
-///
-/// Asks that the block is live, that the blocks which these may enter have numbers, and that those noted in the
-/// scratch set are entered. Errors: allocation failure. Cost: that of what they ask.
+/// Visits the operations of the block, in order. Asks that the block is live, that the blocks which these may enter
+/// have numbers, and that those recorded in the scratch set are entered. Errors: allocation failure. Cost: that of
+/// their constraints.
 fn visit_block<D: Dialect>(
     alloc: Global,
     block: Ptr<BasicBlock>,
@@ -663,8 +654,8 @@ fn visit_block<D: Dialect>(
     Ok(())
 }
 
-/// Takes all values that wait, meets what they call for at once, and looks at their other users or puts them
-/// aside; how many values these were.
+/// Pops all values off the worklist, satisfies the constraints that are propagated eagerly, and visits their other
+/// users or defers them. Answers how many values these were.
 fn visit_values<D: Dialect>(
     alloc: Global,
     ctx: &Context,
@@ -695,8 +686,8 @@ fn visit_values<D: Dialect>(
     Ok(taken)
 }
 
-/// Takes a block that waits, and looks through it, or else all values that wait, and looks at their
-/// users or puts them aside; how many were taken, none where nothing waited.
+/// Pops a block off its worklist and visits it, or else pops all values and visits their users or defers them.
+/// Answers how many were popped, none where the worklists were empty.
 fn step<D: Dialect>(
     alloc: Global,
     ctx: &Context,
@@ -722,9 +713,8 @@ fn step<D: Dialect>(
     }
 }
 
-/// Looks at one operation that was deferred, of those with the fewest operands; whether there was one.
-///
-/// Errors: allocation failure. Cost: that of what it asks.
+/// Visits one deferred operation, of those with the fewest operands. Answers whether there was one. Errors:
+/// allocation failure. Cost: that of its constraints.
 fn visit_deferred<D: Dialect>(
     alloc: Global,
     ctx: &Context,
@@ -750,20 +740,18 @@ fn visit_deferred<D: Dialect>(
     }
 }
 
-/// What was found: the facts, and how many blocks and values were taken from the worklists, each as
-/// often as it was.
+/// What was found: the lattice values, and how many blocks and values were popped off the worklists, each as often
+/// as it was.
 #[derive(Drop)]
 pub struct Searched {
     pub tables: Tables,
     pub pops: u128,
 }
 
-/// The facts about what is inside the root.
-///
-/// Asks that the root stands and is well linked. Errors: allocation failure. Cost: one step for each operation,
-/// block, region and value inside the root, and what looking at an operation costs once for its block and
-/// once for each time when operands of it fell. Where operations that are no branches go to one block of more than a few
-/// arguments, these are gone through once for all of them.
+/// The lattice values of what is inside the root. Asks that the root is live and is well linked. Errors: allocation
+/// failure. Cost: one step for each operation, block, region and value inside the root, and the cost of a visit once
+/// for the operation's block and once for each time when operands of it were lowered. Where operations that are no
+/// branches lead to one block of more than a few arguments, these are constrained once for all of them.
 pub fn search<D: Dialect>(
     alloc: Global,
     root: Ptr<Operation>,

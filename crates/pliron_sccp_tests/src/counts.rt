@@ -4,7 +4,8 @@
 //! The counts were found by a plain program over facts by name, `docs/benchmarks/plain_counts.py`, which
 //! shares with the crate only the order of work: last in, first out, blocks before values, and these before
 //! what is deferred. Without the last rule it counts 39 on the third text of `ASIDE`.
-use super::cases::{ASIDE, ENTERED, MADE};
+use super::cases::{ASIDE, ENTERED};
+use super::random_cases::MADE;
 use pliron_bench::Bench;
 use pliron_core::Context;
 use pliron_notation::read_text;

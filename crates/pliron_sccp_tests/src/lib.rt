@@ -10,6 +10,8 @@ mod entries;
 #[cfg(test)]
 mod marked;
 #[cfg(test)]
+mod random_cases;
+#[cfg(test)]
 mod room;
 #[cfg(test)]
 mod runs;

@@ -1,6 +1,7 @@
 //! `sccp_through` on all texts: it leaves and answers what `sccp` does, and each change comes through the rewriter, which was asked
 //! for room before.
-use super::cases::{HOSTILE, MADE, ROWS};
+use super::cases::{HOSTILE, ROWS};
+use super::random_cases::MADE;
 use pliron_bench::Bench;
 use pliron_core::{Context, IRStatus};
 use pliron_sccp::sccp_through;

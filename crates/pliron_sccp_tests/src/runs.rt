@@ -1,5 +1,5 @@
 //! Runs of texts before and after `sccp`, compared by the evaluator.
-use super::cases::MADE;
+use super::random_cases::MADE;
 use pliron_bench::Bench;
 use pliron_core::{Context, Operation, Ptr};
 use pliron_evaluator::evaluator::{Datum, Sight, evaluate};

@@ -3,7 +3,8 @@ ghost use Rattle.pliron_bench.specs.BenchMoves.{bench};
 ghost use Rattle.pliron_core.specs.Tree.{IsLive};
 ghost use Rattle.pliron_laws.specs.Linked.{IsWellLinked};
 
-use super::cases::{ASIDE, ENTERED, HOSTILE, MADE, ROWS};
+use super::cases::{ASIDE, ENTERED, HOSTILE, ROWS};
+use super::random_cases::MADE;
 use pliron_bench::Bench;
 use pliron_core::{Context, IRStatus, Operation, Ptr};
 use pliron_notation::{print_text, read_text};

@@ -81,9 +81,9 @@ AreBelowNamed x t lattice_value seen o i b = (j v : ℕ) → slice_get (argument
 -- the lattice values of what is inside the root are closed: a fixpoint of the transfer functions
 pub record AreClosed (x : Says) (t : Tree) (root : ℕ) (f : LatticeValues) : Type 0 where
   pub inside : (b : ℕ) → IsTrue (f.is_executable b) → HoldsBlock t root b
-  -- nothing is known of values that are not defined inside the root, its own results among them
+  -- values that are not defined inside the root are not constant, its own results among them
   pub outside : (v : ℕ) → (IsDefinedInside t root v → ⊥) → f.lattice_value v ≡ NotAConstant
-  -- the entry of each region of the root, of whose arguments nothing is known whatever the root names for them
+  -- the entry of each region of the root, whose arguments are not constant whatever the root names for them
   pub root_entries : (r b : ℕ) → In r (regions_of t root) → first_of (layout_of t r) None ≡ Some b → IsEntryExecutable t f b
   -- the entry of each region of an operation in an executable block
   pub entries : (k i r b : ℕ) (o : Operation) → IsInExecutableBlock t f k → op_at t k ≡ Some o → slice_get o.regions i ≡ Some r → first_of (layout_of t r) None ≡ Some b → IsTrue (f.is_executable b) × AreBelowNamed x t f.lattice_value f.lattice_value o i b

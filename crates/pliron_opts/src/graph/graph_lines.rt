@@ -5,10 +5,9 @@ ghost use Rattle.pliron_traversal.specs.Adjacency.{AreInverse, graph_of};
 ghost use Rattle.pliron_traversal.specs.Search.{IsSearch, IsListed};
 
 use pliron_graph::{
-    ControlFlowGraph, DFSTraversal, ReverseGraph, post_order_by_component,
+    ControlFlowGraph, DFSTraversal, NumberedGraph, ReverseGraph, post_order_by_component,
     sccs_in_topological_order, topological_order_by_component,
 };
-use pliron_graph_text::NumberedGraph;
 use pliron_laws::OptError;
 use std::alloc::Global;
 

@@ -1,4 +1,4 @@
-use Rattle.std.proofs.Common.{ap, Err, ◌∙◌}
+use Rattle.std.proofs.Common.{ap, Err, ◌∙◌, refl}
 use Rattle.pliron_core.proofs.InsideLemmas.{inside_refl}
 use Rattle.pliron_theory.proofs.Simulation.{agree_refl}
 use Rattle.pliron_fit.proofs.FitLemmas.{handed_on}
@@ -15,3 +15,9 @@ returns-in_err-check_linked-clause-refused g c = (λ e. c.in_err-check_linked.en
 
 pub returns-in_err-check_linked-clause-change : goal.returns-in_err-check_linked-clause-change
 returns-in_err-check_linked-clause-change g c = λ linked. absurd (c.in_err-check_linked.ensures.refused.1 linked)
+
+pub returns-in_err-check_linked-clause-untouched : goal.returns-in_err-check_linked-clause-untouched
+returns-in_err-check_linked-clause-untouched g c = λ n. (refl, refl, refl)
+
+pub returns-in_err-check_linked-clause-outcome : goal.returns-in_err-check_linked-clause-outcome
+returns-in_err-check_linked-clause-outcome g c = λ linked. absurd (c.in_err-check_linked.ensures.refused.1 linked)

@@ -1,8 +1,8 @@
-use Rattle.std.proofs.Common.{ap, Err, ◌∙◌}
+use Rattle.std.proofs.Common.{ap, Err, ◌∙◌, refl}
 use Rattle.pliron_core.proofs.InsideLemmas.{inside_refl}
 use Rattle.pliron_theory.proofs.Simulation.{agree_refl}
 use Rattle.pliron_theory.proofs.ChangeLemmas.{change_refl}
-use Rattle.pliron_fit.proofs.FitLemmas.{handed_on}
+use Rattle.pliron_fit.proofs.FitLemmas.{handed_on, chosen_is}
 use Rattle.pliron_fit.proofs.run.run_checked_for.Goals as goal
 
 pub returns-in_err-check_linked-clause-same : goal.returns-in_err-check_linked-clause-same
@@ -27,4 +27,10 @@ pub returns-in_err-fit-clause-change : goal.returns-in_err-fit-clause-change
 returns-in_err-fit-clause-change g c = λ linked. change_refl _ _ _ c.requires linked
 
 pub returns-clause-kept : goal.returns-clause-kept
-returns-clause-kept g c = λ root i live. c.in_ok-status.ensures.same root ((c.in_ok-fit.ensures.fit root).0 i).1 live
+returns-clause-kept g c = λ root i live. c.in_ok-ran.ensures.same root (chosen_is _ _ _ c.in_ok-fit.ensures.fit root i) live
+
+pub returns-in_err-check_linked-clause-untouched : goal.returns-in_err-check_linked-clause-untouched
+returns-in_err-check_linked-clause-untouched g c = λ n. (refl, refl, refl)
+
+pub returns-in_err-check_linked-clause-outcome : goal.returns-in_err-check_linked-clause-outcome
+returns-in_err-check_linked-clause-outcome g c = λ linked. absurd (c.in_err-check_linked.ensures.refused.1 linked)

@@ -1,0 +1,91 @@
+//! Runs of texts, worked by hand: inputs, the world's answers, the text, and what is seen, where `|` stands for
+//! the end of a line.
+use crate::diagnostics::lines::with_lines;
+use pliron_diagnostics::{End, RunOptions, Source, run_text};
+use std::alloc::Global;
+use std::process::Abort;
+
+fn expect_run(rt: &impl Abort, alloc: Global, text: &str, wanted: &str, wish: &RunOptions) {
+    let wanted = with_lines(alloc, wanted).expect(rt, "memory");
+    let source = Source {
+        name: "in.plir",
+        text: text.as_bytes(),
+    };
+    let told = run_text(alloc, &source, wish)
+        .expect(rt, "memory")
+        .expect(rt, "a readable text");
+    assert!(rt;
+        told.seen.as_str() == wanted.as_str(),
+        "{text} => {}",
+        told.seen
+    );
+}
+
+/// Texts, and what is seen of their runs on 3 and 4 in a world that answers 7 and 8, up to 20 moves.
+static RUNS: &str = "\
+func { b0(): ret } => ended with nothing|
+func { b0(x, y): z = mul x y; ret z x } => ended with 12 3|
+func { b0(x, y): print x; print y; ret } => effect (print 3)|effect (print 4)|ended with nothing|
+func { b0(x, y): print x; print y; print x; ret } => effect (print 3)|effect (print 4)|effect (print 3)|made no further move: steps or the world's answers were used up|
+func { b0(x, y): br b1(); b1(): br b1() } => made no further move: steps or the world's answers were used up|
+func { b0(x, y): z = const 0; w = div x z; ret w } => trapped|";
+
+#[test]
+fn runs_are_seen(rt: HostRuntime) {
+    let wish = RunOptions {
+        inputs: &[3, 4],
+        world: &[7, 8],
+        steps: 20,
+        trace: false,
+    };
+    for case in RUNS.lines() {
+        let (text, wanted) = case.split_once(" => ").expect(&rt, "a case");
+        expect_run(&rt, rt.alloc(), text, wanted, &wish);
+    }
+}
+
+/// A text that divides by zero in its second turn.
+static TURNS: &str = "func {
+b0(x):
+  one = const -1;
+  br b1(x);
+b1(n):
+  q = div x n;
+  m = add n one;
+  br b1(m)
+}
+";
+
+/// What is told of its run on 1.
+static TURNS_TOLD: &str = "1:1 func <- 1
+3:3 one = const -1
+4:3 br b1(x) <- 1
+6:3 q = div x n <- 1 1
+7:3 m = add n one <- 1 -1
+8:3 br b1(m) <- 0
+6:3 q = div x n <- 1 0
+error: the run trapped
+ --> in.plir:6:3
+  |
+6 |   q = div x n;
+  |   ^^^^^^^^^^^ at this operation
+";
+
+#[test]
+fn moves_and_traps_are_told(rt: HostRuntime) {
+    let source = Source {
+        name: "in.plir",
+        text: TURNS.as_bytes(),
+    };
+    let wish = RunOptions {
+        inputs: &[1],
+        world: &[],
+        steps: 100,
+        trace: true,
+    };
+    let told = run_text(rt.alloc(), &source, &wish)
+        .expect(&rt, "memory")
+        .expect(&rt, "a readable text");
+    assert!(rt; told.report.as_str() == TURNS_TOLD, "{}", told.report);
+    assert!(rt; told.end == End::Trapped);
+}
