@@ -27,25 +27,23 @@ def unescaped(found):
     return PLAIN.get(whole, "")
 
 
-def sources(word, file):
-    """The source file of this name beside the one test that calls `word`."""
-    for path in sorted(glob.glob(f"{ROOT}/crates/*_tests/src/*.rt")):
-        with open(path, encoding="utf-8") as it:
-            if re.search(rf"\b{word}\(", it.read()):
-                beside = f"{os.path.dirname(path)}/{file}.rt"
-                if os.path.exists(beside):
-                    with open(beside, encoding="utf-8") as found:
-                        return found.read()
-    return sys.exit(f"rows: no test crate calls {word} and has {file}.rt")
+def read(path):
+    if not os.path.exists(path):
+        return ""
+    with open(path, encoding="utf-8") as it:
+        return it.read()
 
 
 def static(word, file, name):
-    """The lines of a static text in the tests of `word`."""
-    found = re.search(rf'static {name}: &str =\s*"((?:[^"\\]|\\.)*)";', sources(word, file), re.S)
-    if not found:
-        sys.exit(f"rows: {name} isn't in {file}.rt")
-    # As `lines()`, which splits at line feeds alone.
-    return ESCAPE.sub(unescaped, found.group(1)).removesuffix("\n").split("\n")
+    """The lines of a static text in a file of this name, beside tests that call `word`."""
+    for path in sorted(glob.glob(f"{ROOT}/crates/*_tests/src/*.rt")):
+        if re.search(rf"\b{word}\(", read(path)):
+            beside = read(f"{os.path.dirname(path)}/{file}.rt")
+            found = re.search(rf'static {name}: &str =\s*"((?:[^"\\]|\\.)*)";', beside, re.S)
+            if found:
+                # As `lines()`, which splits at line feeds alone.
+                return ESCAPE.sub(unescaped, found.group(1)).removesuffix("\n").split("\n")
+    return sys.exit(f"rows: no test of {word} has {name} in {file}.rt")
 
 
 def with_lines(text):
