@@ -36,7 +36,7 @@ def read(path):
 
 def static(word, file, name):
     """The lines of a static text in a file of this name, beside tests that call `word`."""
-    for path in sorted(glob.glob(f"{ROOT}/crates/*_tests/src/*.rt")):
+    for path in sorted(glob.glob(f"{ROOT}/crates/*_tests/src/**/*.rt", recursive=True)):
         if re.search(rf"\b{word}\(", read(path)):
             beside = read(f"{os.path.dirname(path)}/{file}.rt")
             found = re.search(rf'static {name}: &str =\s*"((?:[^"\\]|\\.)*)";', beside, re.S)
