@@ -1,4 +1,4 @@
-//! `plir`: texts of operations, for people: runs, passes, marks under what is wrong, pictures, and why passes changed what.
+//! `plir`: texts of operations: runs, passes, marks under what is wrong, pictures, and why passes changed what.
 //!
 //! It knows words, files, streams and an exit status. What each command does stands in `pliron_cli` and `pliron_cli`.
 #![tactic(auto)]
@@ -27,7 +27,7 @@ fn text_of(rt: &HostRuntime, name: &str) -> io::Result<Vec<u8>> {
     Ok(text)
 }
 
-/// What people call the input.
+/// What users call the input.
 fn input_name(name: &str) -> &str {
     if name == "-" { "standard input" } else { name }
 }
@@ -54,7 +54,7 @@ fn compare_wished<'w>(
     Ok(compare::<BenchNotation>(alloc, source, &wish)?)
 }
 
-/// Runs the text as the words wish, or before and after passes.
+/// Runs the text as the words ask, or before and after passes.
 fn run_wished(alloc: Global, source: &Source, matches: &ArgMatches) -> io::Result<Outcome> {
     let inputs = numbers(alloc, matches, "input")?;
     let world = numbers(alloc, matches, "world")?;
@@ -70,7 +70,7 @@ fn run_wished(alloc: Global, source: &Source, matches: &ArgMatches) -> io::Resul
     }
 }
 
-/// Whether each operation is to stand on a line of its own: where that is wished, and on a terminal.
+/// Whether each operation is to stand on a line of its own: where the options ask for it, and on a terminal.
 fn is_pretty(rt: &HostRuntime, matches: &ArgMatches) -> bool {
     let on_terminal = rt.stdout().is_terminal() && matches.get_str("output").is_none();
     matches.get_flag("pretty") || (on_terminal && !matches.get_flag("one-line"))
@@ -161,7 +161,7 @@ fn unreadable_input(alloc: Global, name: &str, error: &io::Error) -> io::Result<
     })
 }
 
-/// Draws the region that the words wish.
+/// Draws the region that the words ask for.
 fn draw_wished(alloc: Global, source: &Source, matches: &ArgMatches) -> io::Result<Outcome> {
     let wish = FlowOptions {
         region: matches.get_str("region").unwrap_or("0"),

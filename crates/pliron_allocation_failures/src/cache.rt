@@ -1,4 +1,5 @@
-//! The cache, answers and lists of passes: after a refusal they are as before, or hold a first part.
+//! The cache, answers and lists of passes: after an allocation failure they are as before, or hold a first
+//! part.
 
 use crate::observation::Observation;
 use pliron_bench::Bench;

@@ -17,7 +17,7 @@ use pliron_pipeline::PassStep;
 use std::alloc::Global;
 
 /// A combinator, the text on which `sccp` and `dce` run in it, and the trees after some whole rewrites, the
-/// last of which is the answer. Of two dead constants either may go first.
+/// last of which is the answer. Of two dead constants either may be erased first.
 static CASES: &str = "\
 passes | func { b0(): a = const 1; b = const 2; c = add a b; ret c } \
     | func { b0(): v0 = const 1; v1 = const 2; v2 = add v0 v1; ret v2 } \

@@ -13,8 +13,8 @@ use pliron_notation::{print_text, read_text};
 use pliron_sccp::sccp;
 use std::alloc::Global;
 
-/// An optimisation, a text, and the trees that stand after some whole rewrites of it, worked by hand. The
-/// last one is the answer. Where rewrites may come in several orders, each order's trees are there.
+/// An optimisation, a text, and the trees after some whole rewrites of it, worked by hand. The last one is the
+/// answer. Where rewrites may come in several orders, each order's trees are there.
 static CASES: &str = "\
 sccp | func { b0(): z = const 0; br b1(z); b1(i): r = read; cbr r b1(i) b2(); b2(): ret i } \
     | func { b0(): v0 = const 0; br b1(v0); b1(v1): v2 = read; cbr v2 b1(v1) b2(); b2(): ret v1 } \

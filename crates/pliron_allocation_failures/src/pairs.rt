@@ -82,7 +82,7 @@ static BEFORE: &str = "func { b0(): v0, v1 = pair; sink v0 v1 v0 v1 v1; print v0
 static AFTER: &str =
     "func { b0(): v0 = const 1; v1 = const 2; v2, v3 = pair; sink v0 v1 v0 v1 v1; print v0; ret v1 v0 }";
 
-/// Folds a pair where it stands: constants are put for both results or, on allocation failure, for none.
+/// Folds a pair in place: constants are put for both results or, on allocation failure, for none.
 ///
 /// Asks that it is live in a block, is a pair, and has no operands and two results. Errors: allocation failure,
 /// after which the tree is as before, but for erased handles. Cost: the number of uses of its results.

@@ -14,7 +14,7 @@ use Rattle.pliron_laws.specs.Answers.{HeadPasses}
 use Rattle.pliron_theory.specs.Change.{IsWholeChange}
 use Rattle.pliron_cfg.specs.Folded.{FoldsAll, FoldsSome}
 
--- `Unchanged` says that the tree is the same but for erased handles, `Changed` that an operation went
+-- `Unchanged` says that the tree is the same but for erased handles, `Changed` that an operation was erased
 abbrev pub ReportsAnyErased : IRStatus → Tree → Tree → Type 0
 ReportsAnyErased Unchanged t u = IsSameTree t u
 ReportsAnyErased Changed t u = (k : ℕ) × IsLive t k × (head_of u k ≡ None)

@@ -29,7 +29,7 @@ abbrev pub MergesAll : Start → Meaning → (t t' : Tree) → IRStatus → Type
 MergesAll start m t t' Changed = HasPair start m t × MergesSome start m t t' × (HasPair start m t' → ⊥)
 MergesAll start m t t' Unchanged = (t' ≡ t) × (HasPair start m t → ⊥)
 
--- `Changed` says that an operation went
+-- `Changed` says that an operation was erased
 abbrev pub LosesOperation : IRStatus → (t t' : Tree) → Type 0
 LosesOperation Changed t t' = (k : ℕ) × IsLive t k × (head_of t' k ≡ None)
 LosesOperation Unchanged t t' = Unit {0}
@@ -44,6 +44,6 @@ pub record IsHalfMerged (start : Start) (m : Meaning) (u t' : Tree) : Type 0 whe
   pub n : ℕ
   pub forwarded : t' ≡ forwarded_uses u (take n (arguments_of u b)) values
 
--- what stands on allocation failure: some pairs are merged, and one more may be half merged
+-- the tree on allocation failure: some pairs are merged, and one more may be half merged
 abbrev pub MergesPartly : Start → Meaning → (t t' : Tree) → Type 0
 MergesPartly start m t t' = MergesSome start m t t' ⊎ ((u : Tree) × MergesSome start m t u × IsHalfMerged start m u t')

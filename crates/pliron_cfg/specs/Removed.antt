@@ -8,7 +8,7 @@ use Rattle.pliron_core.specs.Tree.{Tree, In, row_of, head_of, operands_of, succe
 use Rattle.pliron_core.specs.Erased.{StandsIn, IsBlockWithin, IsDefinedInBlock}
 use Rattle.pliron_cfg.specs.Visited.{Start, IsVisitedSsaRegion, IsCutOff, IsUnreachable}
 
--- the operation, the block goes with one of these blocks
+-- the operation, the block is erased with one of these blocks
 abbrev pub GoesWith : Tree → (ℕ → Type 0) → ℕ → Type 0
 GoesWith t Gone k = (b : ℕ) × Gone b × StandsIn t b k
 
@@ -16,7 +16,7 @@ abbrev pub BlockGoesWith : Tree → (ℕ → Type 0) → ℕ → Type 0
 BlockGoesWith t Gone c = (b : ℕ) × Gone b × IsBlockWithin t b c
 
 -- the second tree is the first one without these blocks and what is in them, and nothing else changed; the
--- blocks of a region stand in one order in every tree
+-- blocks of a region are in one order in every tree
 pub record IsWithout (t t' : Tree) (Gone : ℕ → Type 0) : Type 0 where
   pub gone : (k : ℕ) → GoesWith t Gone k → head_of t' k ≡ None
   pub gone_blocks : (c : ℕ) → BlockGoesWith t Gone c → block_parent_of t' c ≡ None
@@ -39,18 +39,18 @@ pub record HasLiveUse (t : Tree) (r : ℕ) : Type 0 where
   pub names : In value (operands_of t user)
   pub outside : (c : ℕ) → IsCutOff t r c → StandsIn t c user → ⊥
 
--- all unreachable blocks of some searched regions are gone, region by region
+-- all unreachable blocks of some searched regions are erased, region by region
 pub data RemovesSome (start : Start) (t : Tree) : Tree → Type 0 where
   Nothing : RemovesSome start t t
   Then : {u t' : Tree} (r b : ℕ) → RemovesSome start t u → IsVisitedSsaRegion start u r → IsCutOff u r b → IsWithout u t' (IsCutOff u r) → RemovesSome start t t'
 
--- exactly the unreachable blocks of the searched regions are gone, with what is in them, and nothing else
--- changed; they went region by region, and none is left; the answer says whether there were any
+-- exactly the unreachable blocks of the searched regions are erased, with what is in them, and nothing else
+-- changed; they were erased region by region, and none is left; the answer says whether there were any
 abbrev pub RemovesAll : Start → (t t' : Tree) → IRStatus → Type 0
 RemovesAll start t t' Changed = ((b : ℕ) × IsUnreachable start t b) × IsWithout t t' (IsUnreachable start t) × RemovesSome start t t' × ((b : ℕ) → IsUnreachable start t' b → ⊥)
 RemovesAll start t t' Unchanged = ((b : ℕ) → IsUnreachable start t b → ⊥) × (t' ≡ t)
 
--- why a removal gave up, and what stands then: a first part is done, and where values are in use that is so in
--- a region that was due
+-- why a removal gave up, and the tree then: a first part is done, and where values are in use that is so in a
+-- region that was due
 abbrev pub RemovalFails : Start → (t t' : Tree) → OptError → Type 0
 RemovalFails start t t' e = RemovesSome start t t' × ((e ≡ Memory) ⊎ ((e ≡ LiveUse) × ((r : ℕ) × IsVisitedSsaRegion start t' r × HasLiveUse t' r)))

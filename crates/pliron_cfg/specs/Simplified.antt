@@ -13,8 +13,8 @@ use Rattle.pliron_cfg.specs.Folded.{branches_of, FoldsAll, FoldsSome}
 use Rattle.pliron_cfg.specs.Removed.{RemovesAll, RemovalFails}
 use Rattle.pliron_cfg.specs.Merged.{HasPair, MergesAll, MergesPartly}
 
--- the branches were folded, then the unreachable blocks went, then blocks were merged; the answer says whether the
--- tree changed, and no unreachable block and no mergeable pair is left
+-- the branches were folded, then the unreachable blocks were erased, then blocks were merged; the answer says
+-- whether the tree changed, and no unreachable block and no mergeable pair is left
 pub record Simplifies (m : Meaning) (can_fold can_fold_branch : Head → Bool) (constants : Constants) (outcome : Outcome) (op : ℕ) (t t' : Tree) (status : IRStatus) : Type 0 where
   pub folded : Tree
   pub removed : Tree
@@ -29,7 +29,7 @@ pub record Simplifies (m : Meaning) (can_fold can_fold_branch : Head → Bool) (
   pub none_unreachable : (b : ℕ) → IsUnreachable (OfOperation op) t' b → ⊥
   pub no_pair : HasPair (OfOperation op) m t' → ⊥
 
--- all unreachable blocks went, and merging gave up
+-- all unreachable blocks were erased, and merging gave up
 pub record StopsAtMerging (m : Meaning) (op : ℕ) (u t' : Tree) : Type 0 where
   pub removed : Tree
   pub removal_status : IRStatus

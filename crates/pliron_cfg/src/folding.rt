@@ -1,7 +1,7 @@
 //! Branches are folded by what is known of their operands.
 //!
-//! It knows what every run reads of constants, and no dialect. Of the regions that are visited, of blocks
-//! that go or are joined and of passes it knows nothing.
+//! It knows what every run reads of constants, and no dialect. Of the regions that are visited, of blocks that
+//! are erased or merged and of passes it knows nothing.
 ghost use Rattle.std.specs.Prelude.{◌≡◌, ◌⊎◌, ◌++◌, ℕ, Some, None, OnOk, OnErr, IfOk, IsOkUnless};
 ghost use Rattle.pliron_core.specs.Tree.{IsLive, block_parent_of};
 ghost use Rattle.pliron_laws.specs.InPlace.{ReportsChange};
@@ -102,16 +102,16 @@ fn fold_one<D: Dialect, R: Rewriter + Room>(
 }
 
 /// Folds each branch inside the operation in place, by the dialect's own fold: first those that fold are
-/// collected in pre-order, then each is folded by the constants that are known of its operands. A constant
-/// is known of a value where what makes the value folds, and answers it with no operand known.
+/// collected in pre-order, then each is folded by the constants that are known of its operands. A constant is
+/// known of a value where what defines the value folds, and answers it with no operand known.
 ///
-/// Asks that the operation is live and is well linked. `Changed` exactly if the tree changed: a branch went
-/// then. Blocks stay.
+/// Asks that the operation is live and is well linked. `Changed` exactly if the tree changed: a branch was
+/// erased then. Blocks stay.
 ///
 /// Errors: allocation failure, after some of the folds, each of them whole.
 ///
-/// Cost: one step for each operation, block and region inside; for each branch that folds what the
-/// dialect's fold costs and, for each of its operands, what the dialect's answer for its maker costs.
+/// Cost: one step for each operation, block and region inside; for each branch that folds what the dialect's
+/// fold costs and, for each of its operands, what the dialect's answer for its definition costs.
 pub fn fold_branches<D: Dialect, R: Rewriter + Room>(
     alloc: Global,
     root: Ptr<Operation>,

@@ -1,7 +1,7 @@
-//! Unreachable blocks go: those of a region in one rewrite, nested regions first.
+//! Unreachable blocks are erased: those of a region in one rewrite, nested regions first.
 //!
-//! It knows which blocks the entry of a region leads to, and the rewrites of blocks. Of branches that fold,
-//! of blocks that are joined, of passes and of any dialect it knows nothing.
+//! It knows which blocks the entry of a region leads to, and the rewrites of blocks. Of branches that fold, of
+//! blocks that are merged, of passes and of any dialect it knows nothing.
 ghost use Rattle.std.specs.Prelude.{◌≡◌, ◌↔◌, ◌⊎◌, ℕ, Some, IfOk, IfErr};
 ghost use Rattle.pliron_core.specs.declared.attrs.IRStatus.TheVariants.{Unchanged};
 ghost use Rattle.pliron_core.specs.Tree.{IsLive, IsBlock, IsRegion, block_parent_operation_of, region_parent_of};
@@ -74,7 +74,7 @@ fn clear_regions<D: Dialect, R: Rewriter + Room>(
     Ok(status)
 }
 
-// What is unreachable in the scope goes.
+// What is unreachable in the scope is erased.
 fn remove_blocks_in<D: Dialect, R: Rewriter + Room>(
     alloc: Global,
     scope: &RemovalScope,
@@ -96,19 +96,19 @@ fn remove_blocks_in<D: Dialect, R: Rewriter + Room>(
     clear_regions::<D, R>(alloc, scope, ctx, regions, &reached, rewriter)
 }
 
-/// Removes the unreachable blocks of the regions with SSA dominance inside the operation: all of one region
-/// in one rewrite, those of nested regions first. What an unreachable block holds is not looked into, and a
+/// Removes the unreachable blocks of the regions with SSA dominance inside the operation: all of one region in
+/// one rewrite, those of nested regions first. The contents of an unreachable block are not visited, and a
 /// region without SSA dominance, which is entered through its first block alone, loses none.
 ///
-/// Asks that the operation is live and is well linked. Answers `Changed` exactly if a block went; no
+/// Asks that the operation is live and is well linked. Answers `Changed` exactly if a block was erased; no
 /// unreachable block of such a region is left.
 ///
 /// Errors: allocation failure; `LiveUse` where a value of an unreachable block is used outside the unreachable
 /// blocks of its region, of which none is removed then. The tree is then one after some whole rewrites:
 /// regions that came before are done.
 ///
-/// Cost: linear in the blocks, edges and operations that are visited and in what goes, with one table
-/// look-up for each of them and for each use of what goes.
+/// Cost: linear in the blocks, edges and operations that are visited and in what is erased, with one table
+/// look-up for each of them and for each use of what is erased.
 pub fn remove_blocks_inside_op<D: Dialect, R: Rewriter + Room>(
     alloc: Global,
     op: Ptr<Operation>,
@@ -128,7 +128,8 @@ pub fn remove_blocks_inside_op<D: Dialect, R: Rewriter + Room>(
 
 /// Removes the unreachable blocks of the regions with SSA dominance inside the operations of the block.
 ///
-/// Asks that the block is live and that what holds it is well linked; answers as [`remove_blocks_inside_op`].
+/// Asks that the block is live and that the parent operation is well linked; answers as
+/// [`remove_blocks_inside_op`].
 /// Errors: as [`remove_blocks_inside_op`]. Cost: as [`remove_blocks_inside_op`].
 pub fn remove_blocks_inside_block<D: Dialect, R: Rewriter + Room>(
     alloc: Global,
@@ -150,7 +151,8 @@ pub fn remove_blocks_inside_block<D: Dialect, R: Rewriter + Room>(
 /// Removes the unreachable blocks of the region, where it has SSA dominance, and of the regions with SSA
 /// dominance inside.
 ///
-/// Asks that the region is live and that what holds it is well linked; answers as [`remove_blocks_inside_op`].
+/// Asks that the region is live and that the parent operation is well linked; answers as
+/// [`remove_blocks_inside_op`].
 /// Errors: as [`remove_blocks_inside_op`]. Cost: as [`remove_blocks_inside_op`].
 pub fn remove_blocks_inside_region<D: Dialect, R: Rewriter + Room>(
     alloc: Global,

@@ -23,7 +23,7 @@ use pliron_laws::OptError;
 use pliron_pass::{BenchFactKind, Pass};
 use std::alloc::{AllocError, Global};
 
-/// What is wished of runs before and after passes.
+/// The options of runs before and after passes.
 #[derive(Clone, Copy)]
 pub struct CompareOptions<'w> {
     /// What the runs are given.

@@ -9,7 +9,7 @@ use pliron_graphviz::{Drawing, FlowOptions, text_flow, text_graph};
 use std::alloc::{AllocError, Global};
 
 /// Draws the control flow of a region of the text's operation in the dot language: its blocks with their operations,
-/// edges with the values that they forward, grey where the entry doesn't lead, and where it is wished a dotted edge
+/// edges with the values that they forward, grey where the entry doesn't lead, and where asked for a dotted edge
 /// from the immediate dominator of each block.
 ///
 /// Statuses: 0; 1 on allocation failure; 2 for an unreadable text, and where no region has the path. With 1 and

@@ -19,7 +19,7 @@ use pliron_opts::Notation;
 use pliron_pass::{BenchFactKind, Pass};
 use std::alloc::{AllocError, Global};
 
-/// What is wished of passes.
+/// The options of passes.
 #[derive(Clone, Copy)]
 pub struct OptOptions<'w> {
     /// The passes, as a word.
@@ -85,12 +85,16 @@ fn laid_out(alloc: Global, printed: String, is_pretty: bool) -> Result<Vec<u8>, 
 
 /// Whether something is missing in what was noted.
 fn is_short<N: Notation, C: Progress + Drop>(passes: &[Instrumented<N, C>]) -> bool {
-    passes.iter().any(|pass| pass.diary().is_short)
+    passes.iter().any(|pass| pass.run_record().is_short)
 }
 
 /// Whether verifying found something.
 fn has_fault<N: Notation, C: Progress + Drop>(passes: &[Instrumented<N, C>]) -> bool {
-    passes.iter().any(|pass| pass.diary().notes.iter().any(|note| note.fault.is_some()))
+    passes.iter().any(|pass| pass
+        .run_record()
+        .notes
+        .iter()
+        .any(|note| note.fault.is_some()))
 }
 
 /// What is told beside the answer.

@@ -32,7 +32,7 @@ fn notes_in_order<'s, N: Notation, C: Progress + Drop>(
 ) -> Result<Vec<Named<'s>>, AllocError> {
     let mut notes = Vec::new(alloc);
     for pass in passes {
-        for note in &pass.diary().notes {
+        for note in &pass.run_record().notes {
             notes.push(Named {
                 name: pass.pass_name(),
                 note,
@@ -143,11 +143,11 @@ fn write_times<N: Notation, C: Progress + Drop>(
     let mut whole: u128 = 0;
     let mut all: usize = 0;
     for pass in passes {
-        whole = whole.saturating_add(nanos_of(&pass.diary().rows));
+        whole = whole.saturating_add(nanos_of(&pass.run_record().rows));
     }
     report.push_str("pass             runs milliseconds  percent\n")?;
     for pass in passes {
-        let rows = &pass.diary().rows;
+        let rows = &pass.run_record().rows;
         let mut runs: usize = 0;
         for row in rows {
             runs = runs.saturating_add(row.runs);
@@ -164,7 +164,7 @@ pub fn write_refused<N: Notation, C: Progress + Drop>(
     passes: &[Instrumented<N, C>],
 ) -> Result<(), AllocError> {
     for pass in passes {
-        if pass.diary().refused.is_some() {
+        if pass.run_record().refused.is_some() {
             write!(report, "note: it was the pass {}\n", pass.pass_name())?;
         }
     }

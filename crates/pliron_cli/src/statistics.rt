@@ -43,7 +43,7 @@ static REWRITTEN: [&str; 8] = [
 /// How often the passes went over their operations.
 fn rounds<N: Notation, C: Progress + Drop>(passes: &[Instrumented<N, C>]) -> usize {
     match passes.first() {
-        Some(pass) => pass.diary().rows.len(),
+        Some(pass) => pass.run_record().rows.len(),
         None => 0,
     }
 }
@@ -56,7 +56,7 @@ fn work_in_order<'s, N: Notation, C: Progress + Drop>(
     let mut works = Vec::new(alloc);
     for i in 0..rounds(passes) {
         for pass in passes {
-            if let Some(row) = pass.diary().rows.get(i) {
+            if let Some(row) = pass.run_record().rows.get(i) {
                 works.push(PassWork {
                     round: i.saturating_add(1),
                     name: pass.pass_name(),

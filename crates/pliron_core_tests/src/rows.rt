@@ -1,12 +1,12 @@
-//! Calls on rows of no, one, two, three and ten items.
+//! Calls on lists of no, one, two, three and ten items.
 ghost use Rattle.std.specs.Prelude.{◌<◌, length};
 
 use pliron_core::InlineList;
 use std::alloc::Global;
 use std::process::Abort;
 
-// The calls on a new row, in turn, and its items in the end. A number is pushed; `set:4=7` writes 7 at
-// index 4; `remove:4` and `pop` take away; `extend:3` adds another row, of 0, 1 and 2. By hand.
+// The calls on a new list, in turn, and its items in the end. A number is pushed; `set:4=7` writes 7 at index
+// 4; `remove:4` and `pop` take away; `extend:3` adds another list, of 0, 1 and 2. By hand.
 static CALLS: &str = "\
 =>
 pop =>

@@ -211,8 +211,8 @@ fn push_operations(round: &mut Vec<DeadCandidate>, ops: &[Ptr<Operation>]) -> Re
     Ok(())
 }
 
-// The operations around what lost uses come into the round. Their set begins anew, since emptying one costs as much as it
-// ever held.
+// The operations around what lost uses come into the round. Their set begins anew, since emptying one costs as
+// much as it ever held.
 fn begin_around(alloc: Global, worklist: &mut Worklist) -> Result<(), AllocError>
     ensures kept { OnOk result ((x : Item) → Among x (items_of (pending_candidates worklist.old)) → Among x (items_of (pending_candidates worklist.new))) }
     ensures later { worklist.new.later ≡ worklist.old.later }

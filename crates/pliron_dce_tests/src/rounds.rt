@@ -1,7 +1,7 @@
-//! The dead of each text found by a plain fixpoint, and compared with what `dce` takes out.
+//! The dead of each text found by a plain fixpoint, and compared with what `dce` erases.
 //!
-//! Nothing is dead at first. Each round goes over everything in the text, and takes for dead what only
-//! dead things use, until a round finds nothing. Uses are found by going over all operands of all
+//! Nothing is dead at first. Each round goes over everything in the text, and takes for dead what only dead
+//! operations and arguments use, until a round finds nothing. Uses are found by going over all operands of all
 //! operations; the lists of uses that the tree keeps are never asked.
 ghost use Rattle.std.specs.Prelude.{◌≡◌, Some};
 ghost use Rattle.pliron_core.specs.Tree.{IsLive, IsBlock, IsDefined, block_parent_operation_of};
@@ -29,8 +29,7 @@ enum Thing {
     Argument(Value),
 }
 
-// All things within the root go to the list: the operations, each followed by the arguments of the blocks
-// that it holds.
+// All candidates within the root are listed: the operations, each followed by the arguments of its blocks.
 fn list_things(things: &mut Vec<Thing>, root: Ptr<Operation>, ctx: &Context) -> Result<(), Fail>
     requires { IsLive ctx.now.tree root }
 {
@@ -91,7 +90,7 @@ fn is_within(op: Ptr<Operation>, around: Ptr<Operation>, ctx: &Context) -> bool 
     op == around || (op.is_live(ctx) && op.is_inside(around, ctx))
 }
 
-// The operation that holds the block directly.
+// The parent operation of the block.
 fn parent_operation_of(block: Ptr<BasicBlock>, ctx: &Context) -> Ptr<Operation>
     requires { IsBlock ctx.now.tree block }
     ensures holder { block_parent_operation_of ctx.now.tree block ≡ Some result }
@@ -104,7 +103,7 @@ fn parent_operation_of(block: Ptr<BasicBlock>, ctx: &Context) -> Ptr<Operation>
     }
 }
 
-// The argument at this place of the block that the edge goes to.
+// The argument at this place of the block that the edge leads to.
 fn argument_at(user: Ptr<Operation>, edge: usize, j: usize, ctx: &Context) -> Option<Value>
     requires { IsLive ctx.now.tree user }
 {
@@ -144,8 +143,8 @@ fn forwarded_to(
     }
 }
 
-// Whether the use of the value by this operation keeps the thing: a use of the argument; a use of a
-// result of the operation, or one outside it of a value defined inside it.
+// Whether the use of the value by this operation keeps it alive: a use of the argument; a use of a result of
+// the operation, or one outside it of a value defined inside it.
 fn is_kept_by(thing: Thing, user: Ptr<Operation>, value: Value, ctx: &Context) -> bool
     requires { IsDefined ctx.now.tree value }
 {
@@ -186,7 +185,7 @@ fn is_dead_use(
     Ok(false)
 }
 
-// Whether a use by this operation keeps the thing.
+// Whether a use by this operation keeps it alive.
 fn keeps(
     alloc: Global,
     dead: &[Thing],
@@ -208,7 +207,7 @@ fn keeps(
     Ok(false)
 }
 
-// Whether some use keeps the thing.
+// Whether some use keeps it alive.
 fn is_kept(
     alloc: Global,
     things: &[Thing],
@@ -248,7 +247,7 @@ fn is_led_to_by_branches(things: &[Thing], block: Ptr<BasicBlock>, ctx: &Context
     true
 }
 
-// Whether the thing may go where nothing uses it.
+// Whether it may be erased where nothing uses it.
 fn may_go(things: &[Thing], root: Ptr<Operation>, thing: Thing, ctx: &Context) -> bool {
     match thing {
         Thing::Operation(op) => {
@@ -308,7 +307,7 @@ fn find_dead(
     Err(Fail::from("rounds without end"))
 }
 
-// Whether the thing is neither dead nor inside something dead.
+// Whether it is neither dead nor inside something dead.
 fn stays(dead: &[Thing], thing: Thing, ctx: &Context) -> bool {
     let site = match thing {
         Thing::Operation(op) => op,
@@ -361,7 +360,7 @@ fn compare(
     Ok(())
 }
 
-// For each thing whether it stays.
+// For each candidate whether it stays.
 fn list_left(
     alloc: Global,
     things: &[Thing],

@@ -128,7 +128,7 @@ fn left_around(
     left_of(rt, alloc, ctx, whole, root, IRStatus::Changed)
 }
 
-// Only what is inside the root goes.
+// Only what is inside the root is erased.
 fn nested_root(rt: &impl Abort, alloc: Global, ctx: &mut Context) -> Result<(), Fail> {
     let text = "func { b0(): k = const 4; box { b0(): sink k }; ret }";
     let Some(whole) = read_text(alloc, text.as_bytes(), ctx)? else {

@@ -1,5 +1,6 @@
-//! Blocks with many arguments that feed one another and go one by one: the first, the last, the second, the last but
-//! one, and so on. What is left was worked out by hand, and is the same for every number of arguments.
+//! Blocks with many arguments that feed one another and are removed one by one: the first, the last, the
+//! second, the last but one, and so on. What is left was worked out by hand, and is the same for every number
+//! of arguments.
 ghost use Rattle.std.specs.Prelude.{◌<◌};
 
 use super::texts::check;
@@ -33,7 +34,7 @@ func { b0(): o = const 1; br b1(%ones%, %ones%); b1(%front%, %back%): box { b0()
     => func { b0(): br b1(); b1(): br b1() }
 ";
 
-// How many arguments are in a half. A row of 64 is a short one, and one of 66 has an index.
+// How many arguments are in a half. A list of 64 is a short one, and one of 66 has an index.
 static HALVES: [u8; 4] = [3, 32, 33, 150];
 
 // The number of the value that a word names at this place, if it is not `o`.

@@ -1,4 +1,4 @@
-//! What people see of texts and runs: texts over several lines, marks under what is wrong, and how runs end.
+//! What users see of texts and runs: texts over several lines, marks under what is wrong, and how runs end.
 //!
 //! It knows the bench notation and runs; of passes, arguments, files and streams it knows nothing.
 #![tactic(auto)]

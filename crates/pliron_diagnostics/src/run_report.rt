@@ -1,4 +1,4 @@
-//! Runs, as people see them.
+//! Runs, as users see them.
 ghost use Rattle.std.specs.Prelude.{◌≡◌, map, IfOk};
 ghost use Rattle.pliron_laws.specs.Datum.{Number as NumberOf};
 ghost use Rattle.pliron_laws.specs.Machine.{run, sight_after as sight_seen};
@@ -119,7 +119,7 @@ pub enum End {
 pub struct RunReport {
     /// Its effects as they came, and how it ended.
     pub seen: String,
-    /// Its moves, where these are wished, and the mark under the operation that trapped.
+    /// Its moves, where the options ask for them, and the mark under the operation that trapped.
     pub report: String,
     pub end: End,
 }
@@ -239,7 +239,7 @@ fn run_text_in(
     Ok(Some(report_of_run(alloc, source, wish, root, ctx)?))
 }
 
-/// The notes that are wished.
+/// The notes that the options ask for.
 fn notes_for(alloc: Global, wish: &RunOptions) -> Notes {
     if wish.trace {
         Notes::of_all(alloc)

@@ -1,5 +1,5 @@
-//! The code of the pages for users: each block of code of docs/ and of the README stands here, or in another
-//! crate of tests, word for word. It has no function of its own.
+//! The code of the pages for users: each block of code of docs/ and of the README is here, or in another crate
+//! of tests, word for word. It has no function of its own.
 #![tactic(auto)]
 
 #[cfg(test)]

@@ -111,7 +111,7 @@ fn count_kind(root: Ptr<Operation>, kind: BenchKind, ctx: &Context) -> usize
     count
 }
 
-/// All uses of the operation's result go to `value`, and the operation goes.
+/// All uses of the operation's result become uses of `value`, and the operation is erased.
 fn replace(ctx: &mut Context, op: Ptr<Operation>, value: Value) -> Option<()> {
     let mut rewriter = IRRewriter::new();
     let old = first_result(op, ctx)?;

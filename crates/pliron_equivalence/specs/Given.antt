@@ -24,7 +24,8 @@ pub record IsAsGiven (m : Meaning) (t : Tree) (env : Environment) (k : ℕ) : Ty
   pub gives : m.act (shape_of m t operation) memo input ≡ Give given
   pub results : data_of env operation.results ≡ Some given
 
--- in a root that is fit to run, wherever a run comes to an operation behind one without successors, the results of
--- that one are what it gave on the data that its operands have there, whatever visits and effects it made
+-- in a root that is fit to run, wherever a run comes to an operation behind one without successors, the results
+-- of that one are what it gave on the data that its operands have there, whatever invocations and effects it
+-- made
 abbrev pub GivenLaw : Type 0
 GivenLaw = (m : Meaning) (t : Tree) (root k : ℕ) → IsTree t → IsFit m t root → IsInside t root k → successors_of t k ≡ [] → (u : ℕ) (rest : List ℕ) (s : State) → StandsBefore t k u → RunReaches m t root s → s.rest ≡ u ∷ rest → s.answer ≡ None → IsAsGiven m t s.environment k

@@ -1,4 +1,4 @@
--- All uses of an operation's results go to those of another, and it goes.
+-- All uses of an operation's results become uses of those of another, and it is erased.
 use Rattle.std.specs.Prelude.{◌≡◌, ℕ, Bool, List, [], ◌∷◌, Option, take}
 use Rattle.pliron_core.specs.Tree.{Tree, results_of}
 use Rattle.pliron_core.specs.Invariant.{IsTree}
@@ -8,21 +8,21 @@ use Rattle.pliron_laws.specs.Datum.{Head, Meaning}
 use Rattle.pliron_theory.specs.Keeps.{KeepsAllRuns}
 use Rattle.pliron_equivalence.specs.Twins.{IsTwin}
 
--- the uses of each of these values go to the one at its place among those
+-- the uses of each of these values become uses of the one at its place among those
 abbrev pub replaced_all : Tree → List ℕ → List ℕ → Tree
 replaced_all t [] ws = t
 replaced_all t (v ∷ vs) [] = t
 replaced_all t (v ∷ vs) (w ∷ ws) = replaced_all (after_replacing t v w) vs ws
 
--- the uses of the first n results of b go to those of a
+-- the uses of the first n results of b become uses of those of a
 abbrev pub partly_merged : Tree → (a b n : ℕ) → Tree
 partly_merged t a b n = replaced_all t (take n (results_of t b)) (take n (results_of t a))
 
--- the uses of some first results of b went to those of a
+-- the uses of some first results of b became uses of those of a
 abbrev pub IsPartlyMerged : (t t' : Tree) → (a b : ℕ) → Type 0
 IsPartlyMerged t t' a b = (n : ℕ) × (t' ≡ partly_merged t a b n)
 
--- the uses of all results of b go to those of a
+-- the uses of all results of b become uses of those of a
 abbrev pub results_merged : Tree → (a b : ℕ) → Tree
 results_merged t a b = replaced_all t (results_of t b) (results_of t a)
 

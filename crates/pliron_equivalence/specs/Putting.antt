@@ -8,8 +8,8 @@ use Rattle.pliron_theory.specs.Keeps.{IsFit, KeepsRuns}
 use Rattle.pliron_theory.specs.Renaming.{MayUse}
 use Rattle.pliron_theory.specs.Sweeping.{IsSwept, AreAway, GivesNow}
 
--- the tree t is t' with new operations in its blocks: they hold nothing, end no block that had operations before,
--- the dialect admits them and calls them no terminators, and they use what they may use there
+-- the tree t is t' with new operations in its blocks: they have no contents, end no block that had operations
+-- before, the dialect admits them and calls them no terminators, and they use what they may use there
 pub record AreInserted (m : Meaning) (t t' : Tree) (new : ℕ → Bool) : Type 0 where
   pub successors : (k : ℕ) → new k ≡ true → successors_of t k ≡ []
   pub regions : (k : ℕ) → new k ≡ true → regions_of t k ≡ []

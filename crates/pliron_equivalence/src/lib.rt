@@ -1,9 +1,11 @@
-//! What results still say where an operation stood before, and the rewrites that rest on it.
+//! Equivalent operations: what the results of an earlier operation still say, and the rewrites that rest on it.
 //!
 //! As in the theory of runs, a call here does nothing when it runs: its contract is a law, for every
 //! dialect that keeps the laws which it names.
 //!
 //! It knows the theory of runs and the laws of dialects, and no graph, no dialect and no optimisation.
+//!
+//! "Twins" are equivalent operations, and the leader of a twin is the one that dominates it.
 #![tactic(auto)]
 
 pub mod alike;
@@ -30,13 +32,13 @@ pub fn results_are_current()
     ensures { CurrentLaw }
 {}
 
-/// The uses of a result of an operation may go to the same result of one that stands before it and does the
-/// same.
+/// The uses of a result of an operation may become uses of the same result of one that dominates it and does
+/// the same.
 pub fn twins_stand_for_one_another<D: Dialect>()
     ensures { TwinLaw D.meaning D.side_effects }
 {}
 
-/// The uses of all results of an operation may go to those of one whose twin it is, and then nothing uses it.
+/// The uses of all results of an operation may become uses of those of its leader, and then nothing uses it.
 pub fn twins_merge<D: Dialect>()
     ensures { MergingLaw D.meaning D.side_effects }
 {}
@@ -46,13 +48,13 @@ pub fn operations_are_put()
     ensures { InsertingLaw }
 {}
 
-/// The uses of a result that is one of its operation's operands may go to the operand.
+/// The uses of a result that is one of its operation's operands may become uses of the operand.
 pub fn operands_stand_for_results()
     ensures { PassingLaw }
 {}
 
-/// The uses of a result may go to the same result of an operation that does the same, wherever the two stand,
-/// if that one stands before each of the uses.
+/// The uses of a result may become uses of the same result of an operation that does the same, wherever the two
+/// are, if that one dominates each of the uses.
 pub fn alike_results_stand_for_one_another<D: Dialect>()
     ensures { AlikeLaw D.meaning D.side_effects }
 {}

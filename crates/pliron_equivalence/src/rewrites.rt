@@ -1,4 +1,4 @@
-//! The whole rewrite that takes a twin out.
+//! The whole rewrite that merges a twin into its leader.
 ghost use Rattle.std.specs.Prelude.{◌≡◌, OnOk, OnErr, IsOkUnless};
 ghost use Rattle.pliron_theory.specs.Keeps.{KeepsAllRuns};
 ghost use Rattle.pliron_equivalence.specs.Twins.{IsTwin};
@@ -31,11 +31,11 @@ fn hand_over<D: Dialect, R: Rewriter>(
     Ok(())
 }
 
-/// Gives all uses of the results of an operation to those of its leader, which stands before it and does the
-/// same, and erases it.
+/// Gives all uses of the results of an operation to those of its leader, which dominates it and does the same,
+/// and erases it.
 ///
 /// Asks that it is a twin of the leader. The rewriter inserts where it did.
-/// Errors: allocation failure. The uses of some of its first results have moved then, and it stands.
+/// Errors: allocation failure. The uses of some of its first results have moved then, and it is live.
 /// Cost: the uses of its results, and its operands.
 pub fn merge_twin<D: Dialect, R: Rewriter + Room>(
     alloc: Global,

@@ -1,4 +1,7 @@
 //! The way from a root to an operation inside it.
+//!
+//! What is around a user is a set that the walk updates by one step at each operation, so the walk is linear
+//! however deep the nest is; climbing from each use would cost its depth.
 ghost use Rattle.std.specs.Prelude.{◌≡◌, ℕ, Some, OnOk, IsOkUnless, MatchOption};
 ghost use Rattle.pliron_core.specs.Tree.{In, IsLive, IsRegion, parent_operation_of};
 ghost use Rattle.pliron_core.specs.Changes.{HoldsRegion};

@@ -1,5 +1,5 @@
-//! Each operation with regions, of texts made at random, is fit to run exactly where the definition says so, and the functions of
-//! texts that are well defined by construction are.
+//! Each operation with regions, of texts made at random, is fit to run exactly where the definition says so,
+//! and the functions of texts that are well defined by construction are.
 use super::by_definition::{Use, all_of, all_uses, holders_among, is_fit_by_definition};
 use pliron_bench::Bench;
 use pliron_core::{Context, Operation, Ptr};

@@ -38,7 +38,7 @@ abbrev pub FindsNearest : (Inside : ℕ → ℕ → Type 0) (Among Meets : ℕ �
 FindsNearest Inside Among Meets None = (k : ℕ) → Among k → Meets k → ⊥
 FindsNearest Inside Among Meets (Some a) = IsNearest Inside Among Meets a
 
--- both stand in one block, a before b
+-- both are in one block, a before b
 pub record StrictlyPrecedes (t : Tree) (a b : ℕ) : Type 0 where
   pub block : ℕ
   pub first : ℕ

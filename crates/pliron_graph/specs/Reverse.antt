@@ -36,7 +36,7 @@ module _ {N : Type 0} (eq : N → N → Bool) (g : Digraph N) where
   abbrev pub IsLastListed : List N → N → Type 0
   IsLastListed nodes v = Contains nodes v × ((u : N) → Contains nodes u → number_in eq g.nodes u ≤ number_in eq g.nodes v)
 
-  -- u stands in an earlier component than v
+  -- u is in an earlier component than v
   abbrev pub IsInEarlier : List (Scc N) → N → N → Type 0
   IsInEarlier components u v = (i j : ℕ) × (c d : Scc N) × (i < j) × (slice_get components i ≡ Some c) × (slice_get components j ≡ Some d) × Contains c.nodes.items u × Contains d.nodes.items v
 
@@ -49,7 +49,8 @@ module _ {N : Type 0} (eq : N → N → Bool) (g : Digraph N) where
   abbrev pub ArePreSentinels : List N → Type 0
   ArePreSentinels starts = (components : List (Scc N)) × AreComponents eq g components × AreLastOfSinks components starts
 
--- what is kept of a graph's reverse: the graph, the pre-sentinels, its nodes, and of each its predecessors in the reverse graph
+-- what is kept of a graph's reverse: the graph, the pre-sentinels, its nodes, and of each its predecessors in
+-- the reverse graph
 pub record Reversed (G N : Type 0) : Type 0 where
   pub original : G
   pub pre_sentinels : List N

@@ -25,8 +25,8 @@ pub struct Scc<N> {
 /// The strongly connected components: two nodes share one exactly if each reaches the other.
 ///
 /// The numbers that follow are those of a depth-first search from the entry and then from each node in listed
-/// order. The components stand by falling greatest post-order number, so an edge between two of them goes
-/// from the earlier to the later. The nodes of each stand by falling pre-order number.
+/// order. The components are listed by falling greatest post-order number, so an edge between two of them goes
+/// from the earlier to the later. The nodes of each are listed by falling pre-order number.
 ///
 /// Two passes: a search gives the orders; then the nodes are taken by falling post-order number, and the
 /// nodes that lead to one over nodes without a component are its component.
@@ -66,7 +66,8 @@ pub(crate) fn find_components<C, G: ControlFlowGraph<C>, S: ListedSet<G::Node>>(
     take_components(alloc, ctx, graph, &pre, post)
 }
 
-// The components of nodes, by those of their numbers. Each list of numbers goes as its nodes are listed, so that the next takes its memory.
+// The components of nodes, by those of their numbers. Each list of numbers is dropped as its nodes are listed,
+// so that the next takes its memory.
 fn components_by_number<N: Copy>(
     alloc: Global,
     nodes: &[N],
@@ -105,7 +106,8 @@ fn roots<C, G: ControlFlowGraph<C>>(
     Ok(roots)
 }
 
-// The nodes in the order in which a search from the entry and then all nodes comes to them, and in the order in which it leaves them.
+// The nodes in the order in which a search from the entry and then all nodes comes to them, and in the order in
+// which it leaves them.
 fn search_all<C, G: ControlFlowGraph<C>, S: ListedSet<G::Node>>(
     alloc: Global,
     ctx: &C,

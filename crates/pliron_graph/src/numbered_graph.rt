@@ -7,7 +7,7 @@ use pliron_traversal::AdjacencyList;
 use std::alloc::{AllocError, Global};
 use std::collections::BTreeMap;
 
-/// A graph whose nodes have numbers. The nodes stand in the order of their lines.
+/// A graph whose nodes have numbers. The nodes are in the order of their lines.
 #[derive(Drop)]
 pub struct NumberedGraph {
     /// The number of each node.
@@ -133,7 +133,7 @@ fn places_of(
 /// blank; `None` for any other text, one in which a node has two lines, and one in which a successor has
 /// none.
 ///
-/// Errors: allocation failure. Cost: linear, but for an ordered map of the numbers, which strangers choose.
+/// Errors: allocation failure. Cost: linear, but for an ordered map of the numbers, which the input chooses.
 pub fn read_graph(alloc: Global, text: &[u8]) -> Result<Option<NumberedGraph>, OptError>
     ensures lawful { IfOk result (λ found. IfSome found (λ graph. AreInverse graph.edges)) }
     ensures numbered { IfOk result (λ found. IfSome found (λ graph. length graph.numbers.items ≡ length graph.edges.succ)) }

@@ -1,4 +1,8 @@
 //! Which component each node is of.
+//!
+//! Each node has an owner, the index of its component, in a table by the node's place; so whether an edge
+//! leaves a component is one read. The place is the number where a graph has numbers, and is looked up in one
+//! hashed table elsewhere.
 ghost use Rattle.std.specs.Prelude.{◌≡◌, IsTrue, Contains, IfOk, IsOkUnless, length};
 ghost use Rattle.std.specs.List.{All};
 ghost use Rattle.pliron_traversal.specs.Search.{IsListed};

@@ -1,4 +1,4 @@
-//! The nodes that the sentinel of a reverse graph stands in front of.
+//! Pre-sentinels: the nodes that the sentinel of a reverse graph leads to.
 ghost use Rattle.std.specs.Prelude.{◌≡◌, ◌↔◌, ◌<◌, ◌≤◌, IsTrue, Some, Contains, IfOk, IsOkUnless, length};
 ghost use Rattle.std.specs.List.{All, IsDistinct};
 ghost use Rattle.pliron_traversal.specs.Search.{number_in};
@@ -18,8 +18,8 @@ use std::alloc::Global;
 
 /// The last listed node of each component without an edge to another one, in the order of the components.
 ///
-/// Errors: allocation failure. Cost: that of the components, a few reads for each node and each edge of a graph that has
-/// numbers, as many look-ups in a hashed table of any other, and one more for each node that is found.
+/// Errors: allocation failure. Cost: that of the components, a few reads for each node and each edge of a graph
+/// that has numbers, as many look-ups in a hashed table of any other, and one more for each node that is found.
 pub(crate) fn find_pre_sentinels<C, G: ControlFlowGraph<C>>(
     alloc: Global,
     ctx: &C,
@@ -160,7 +160,7 @@ fn stays_inside<C, G: ControlFlowGraph<C>, S: ListedSet<G::Node>>(
     true
 }
 
-// That of the members which stands last among the nodes.
+// That of the members which is last among the nodes.
 fn last_listed<N: Eq + Copy, S: ListedSet<N>>(places: &S, members: &[N]) -> N
     requires not_empty { 0 < length members.now }
     ensures among { Contains members.now result }

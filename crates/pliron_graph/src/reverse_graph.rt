@@ -14,12 +14,13 @@ use pliron_traversal::{ControlFlowGraph, OrderIter};
 use std::alloc::Global;
 use std::marker::Model;
 
-/// The reverse of a graph: its entry is a sentinel, with an edge to each pre-sentinel, and each edge of the graph goes the other way.
+/// The reverse of a graph: its entry is a sentinel, with an edge to each pre-sentinel, and each edge of the
+/// graph goes the other way.
 ///
 /// A component without an edge to another one is a sink. Its last node in listed order is its pre-sentinel.
 ///
-/// It may be read where its original graph may be, in each context in which the edges of that graph are those that it had when the
-/// reverse graph was made.
+/// It may be read where its original graph may be, in each context in which the edges of that graph are those
+/// that it had when the reverse graph was made.
 #[derive(Drop)]
 pub struct ReverseGraph<'a, G: ControlFlowGraph<C>, C> {
     original: &'a G,

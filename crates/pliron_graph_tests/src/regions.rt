@@ -109,7 +109,7 @@ fn block(rt: &impl Abort, ctx: &mut Context, region: Ptr<Region>) -> Ptr<BasicBl
 }
 
 // Gives the region a block for each row, which leads to those of its row. The last block gets its edges first,
-// so that the uses of a block do not are in the region's order.
+// so that the uses of a block are not in the region's order.
 fn fill(rt: &impl Abort, alloc: Global, ctx: &mut Context, region: Ptr<Region>, rows: &[Vec<u32>]) {
     let mut blocks = Vec::new(alloc);
     for _ in rows {
@@ -120,7 +120,7 @@ fn fill(rt: &impl Abort, alloc: Global, ctx: &mut Context, region: Ptr<Region>, 
     }
 }
 
-// A region with these rows, which may be read as a graph: what a caller looks at for that.
+// A region with these rows, which may be read as a graph: what a caller tests for that.
 fn region_with(rt: &impl Abort, alloc: Global, ctx: &mut Context, rows: &str) -> Ptr<Region>
     ensures { IsLawfulRegion ctx.new.tree result }
 {

@@ -163,7 +163,7 @@ impl FlowPicture<'_> {
         Ok(())
     }
 
-    /// Draws all that is wished.
+    /// Draws all that is asked for.
     fn draw(
         &mut self,
         ctx: &Context,

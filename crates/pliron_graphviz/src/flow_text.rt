@@ -32,7 +32,7 @@ fn may_be_read(ctx: &Context, region: Ptr<Region>) -> bool
     edges_last(region.get_parent_op(ctx), ctx)
 }
 
-/// The picture of the region that is wished, in this empty context.
+/// The picture of the region that is asked for, in this empty context.
 fn flow_in(
     alloc: Global,
     text: &[u8],
@@ -56,7 +56,7 @@ fn flow_in(
 }
 
 /// The picture of a region of a text's operation in the dot language: its blocks with their operations, edges with the
-/// values that they forward, grey where the entry doesn't lead, and where it is wished a dotted edge from the immediate
+/// values that they forward, grey where the entry doesn't lead, and where asked for a dotted edge from the immediate
 /// dominator of each block.
 ///
 /// Errors: allocation failure. Cost: reading, and that of `graph_rows`.

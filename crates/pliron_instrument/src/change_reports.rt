@@ -14,7 +14,7 @@ fn steps_report_accurately<D: Dialect, E: Analyses + Drop>()
     ensures { IsAccurate ⟦<PassStep<D, E> as Pass>⟧.outcome }
 {}
 
-/// So is each where it is watched.
+/// So does each where it is instrumented.
 fn instrumented_report_accurately<N: Notation, C: Progress + Drop>()
     ensures { IsAccurate ⟦<Instrumented<N, C> as Pass>⟧.outcome }
 {

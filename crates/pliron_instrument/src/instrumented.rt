@@ -84,7 +84,7 @@ impl<N: Notation, C: Progress + Drop> Instrumented<N, C> {
         &self.diary
     }
 
-    /// What stands inside the operation, where it is wished to compare it.
+    /// What stands inside the operation, where the options ask for a comparison.
     fn snapshot(&mut self, alloc: Global, op: Ptr<Operation>, ctx: &Context) -> Option<Snapshot>
         requires { IsLive ctx.now.tree op }
         ensures { self.new.step ≡ self.old.step }
@@ -99,7 +99,7 @@ impl<N: Notation, C: Progress + Drop> Instrumented<N, C> {
         snapshot
     }
 
-    /// What verifying the operation finds and how it is printed, as far as they are wished.
+    /// What verifying the operation finds and how it is printed, as far as the options ask for it.
     fn is_instrumented(
         &self,
         alloc: Global,

@@ -1,8 +1,11 @@
 //! Who is told of runs of passes as they end.
+//!
+//! The library knows no stream, and a run can't be inspected while it lasts; so a clock is told of each run of
+//! a pass as it ends.
 use std::io;
 use std::time::{Clock, Duration};
 
-/// A clock that is told of each run of a pass as it ends, as one that shows people that something goes on.
+/// A clock that is told of each run of a pass as it ends, as one that shows users that something goes on.
 pub trait Progress: Clock {
     /// A run of the pass of this name ended, before which so many runs of passes began.
     fn pass_ended(&self, number: usize, name: &str);

@@ -24,7 +24,7 @@ pub struct RunNote {
     pub status: IRStatus,
     /// What verifying found after it.
     pub fault: Option<OptError>,
-    /// The operation after it, printed, where that is wished.
+    /// The operation after it, printed, where the options ask for it.
     pub printed: Option<String>,
 }
 

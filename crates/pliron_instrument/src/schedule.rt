@@ -22,7 +22,7 @@ pub type InstrumentedSchedule<N, C> = Either<
     Repeat<InstrumentedPipeline<N, C>>,
 >;
 
-/// What is wished to be visited around each run of a pass.
+/// What the options ask to be recorded around each run of a pass.
 #[derive(Clone, Copy)]
 pub struct InstrumentationOptions<'w> {
     /// Whether what stands inside the operation is compared before and after.

@@ -1,4 +1,4 @@
-//! What stands around each operation and each block, in each region.
+//! What is around each operation and each block, in each region.
 use super::texts::TEXTS;
 use super::trees::{all_of, blocks_of, holders_of};
 use pliron_bench::{Bench, BenchKind};

@@ -65,7 +65,8 @@ fn check_components<C, G: ControlFlowGraph<C>>(
     assert_eq!(rt; count, nodes);
 }
 
-/// A search and the tree of dominators reach the same nodes. The entry dominates each node, and only itself dominates the entry.
+/// A search and the tree of dominators reach the same nodes. The entry dominates each node, and only itself
+/// dominates the entry.
 fn check_dominators<C, G: ControlFlowGraph<C>>(
     rt: &impl Abort,
     alloc: Global,

@@ -36,8 +36,8 @@ fn check_readable(rt: &impl Abort, alloc: Global, text: &str) {
     check_again(rt, alloc, &mut ctx, text)
 }
 
-/// The whole is well linked, its line is read again and printed the same, and the answer reports accurately whether it is another one than
-/// before.
+/// The whole is well linked, its line is read again and printed the same, and the answer reports accurately
+/// whether it is another one than before.
 pub fn check_left(
     rt: &impl Abort,
     alloc: Global,

@@ -96,7 +96,7 @@ fn answer(
     answer_if_any(rt, told)
 }
 
-/// Calls it once, looks at its answer and at the whole, and says whether it answered.
+/// Calls it once, tests its answer and the whole, and says whether it answered.
 fn check_once(
     rt: &impl Abort,
     alloc: Global,

@@ -52,7 +52,8 @@ fn edges_fit(rt: &impl Abort, alloc: Global, op: Ptr<Operation>, ctx: &Context) 
     true
 }
 
-/// A fault is found exactly where a branch that may fold forwards another number of values than its block has arguments.
+/// A fault is found exactly where a branch that may fold forwards another number of values than its block has
+/// arguments.
 fn check_verified(rt: &impl Abort, alloc: Global, root: Ptr<Operation>, ctx: &Context) {
     let mut is_faultless = true;
     for op in &all_of(rt, alloc, root, ctx) {

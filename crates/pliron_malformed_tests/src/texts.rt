@@ -1,11 +1,12 @@
-//! Hostile texts, one a line.
+//! Malformed texts, one a line.
 //!
-//! In order: a use before its definition; of itself, with no way out; definitions round a loop that dominate nothing; the entry as a
-//! target, with too few values and too many; edges without values; uses across regions in both directions; a value that is defined
-//! inside the operation that takes it; regions without blocks, and a block without operations; blocks that nothing ends; what ends a
-//! block in its middle; a reached use of what isn't reached; unreachable blocks that lead to one another and out; branches that can't
-//! be followed by values; modules and scopes within one another; folds of what is never reached and of itself; arguments that go
-//! round a chain of pairs; a value of an unreachable block two regions away.
+//! In order: a use before its definition; of itself, with no way out; definitions round a loop that dominate
+//! nothing; the entry as a target, with too few values and too many; edges without values; uses across regions
+//! in both directions; a value that is defined inside the operation that takes it; regions without blocks, and
+//! a block without operations; blocks that nothing ends; what ends a block in its middle; a reached use of what
+//! isn't reached; unreachable blocks that lead to one another and out; branches that can't be followed by
+//! values; modules and scopes within one another; folds of what is never reached and of itself; arguments that
+//! go round a chain of pairs; a value of an unreachable block two regions away.
 
 pub static TEXTS: &str = "\
 func { b0(x): a = add b x; b = const 7; c = mul b a; print c; ret a }

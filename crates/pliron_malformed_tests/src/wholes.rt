@@ -45,8 +45,8 @@ static CALLS: [Call; 11] = [
     Call::Checked("simplify-cfg"),
 ];
 
-/// Whether a second call finds nothing more to do. Propagation makes its constants anew, and simplification may fold what its merging
-/// made known.
+/// Whether a second call finds nothing more to do. Propagation makes its constants anew, and simplification may
+/// fold what its merging made known.
 fn settles(call: Call) -> bool {
     matches!(
         call,

@@ -1,6 +1,6 @@
 //! Optimisations of trees of operations, and the program that runs them.
 //!
-//! The optimisations stand in crates below, beside one another; this one passes their names on and knows of
+//! The optimisations are in crates below, beside one another; this one passes their names on and knows of
 //! texts, arguments and streams.
 #![tactic(auto)]
 
@@ -79,15 +79,15 @@ fn answer_to_input<N: Notation, R: Read>(
 /// Runs the program over the texts of a notation, on the words after its name and these streams, and
 /// answers its status. `program` is its name in the line on how it is used.
 ///
-/// For every dialect that keeps its laws and every notation of it: an answer to a schedule of passes is a tree
-/// printed, and a line that says truly whether it changed. The tree is what these passes, run once as a whole,
-/// made of one that was read from the whole input, and every operation that was fit to run and is still live
-/// does as before.
+/// For every dialect that keeps its laws and every notation of it: an answer to a schedule of passes (a pass
+/// pipeline) is a tree printed, and an accurate line on whether it changed. The tree is what these passes, run
+/// once as a whole, made of one that was read from the whole input, and every operation that was fit to run and
+/// is still live does as before.
 ///
-/// Faults are found in this order: arguments, reading, text, passes and printing, writing. Nothing is
-/// written to `output` before the whole answer is known. Statuses: 0; 1 where memory or the passes were
-/// refused, with empty output; 2 for the rest; each but 0 with a line on `errors`. A failed write to
-/// `errors` is ignored. Cost: reading and printing, and that of the passes.
+/// Faults are found in this order: arguments, reading, text, passes and printing, writing. Nothing is written
+/// to `output` before the whole answer is known. Statuses: 0; 1 on allocation failure or where the passes gave
+/// up, with empty output; 2 for the rest; each but 0 with a line on `errors`. A failed write to `errors` is
+/// ignored. Cost: reading and printing, and that of the passes.
 pub fn run_optimiser<N: Notation, R: Read, W: Write, E: Write>(
     alloc: Global,
     program: &str,

@@ -1,4 +1,4 @@
-//! What every program has: words that ask for a list of passes, streams, and the ways to end without an answer.
+//! What every program has: words that ask for a pass pipeline, streams, and the ways to end without an answer.
 //!
 //! It knows no tree, no pass and no notation.
 mod failure;

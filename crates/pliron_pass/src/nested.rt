@@ -40,7 +40,7 @@ impl<P: Pass> NestedOpsPass<P> {
     }
 }
 
-// Runs a pass on one of the operations directly inside `holder`, which stays as it is but for the
+// Runs a pass on one of the operations directly inside the parent operation `holder`, which stays as it is but for the
 // inside of that one.
 fn run_held<P: Pass>(
     pass: &mut P,

@@ -1,4 +1,4 @@
-//! Guards with what stands under them, how often a repeated pass ran, and what managers share.
+//! Guards with what is under them, how often a repeated pass ran, and what managers share.
 ghost use Rattle.std.specs.Prelude.{true};
 
 use super::facts::Fact;

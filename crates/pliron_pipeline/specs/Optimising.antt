@@ -12,7 +12,7 @@ use Rattle.pliron_pass.specs.Optimising.{edge_kinds}
 use Rattle.pliron_pass.specs.declared.result.PassResult.{PassResult}
 use Rattle.pliron_pipeline.specs.declared.optimisation.Effect.{Effect}
 
--- what is told of two trees is so: `Unchanged` says that they are the same but for erased handles
+-- what is reported of two trees is so: `Unchanged` says that they are the same but for erased handles
 pub record IsAccurateAnswer (t u : Tree) (effect : Effect) : Type 0 where
   pub same : effect.status ≡ Unchanged → IsSameTree t u
   pub edges : effect.keeps_edges ≡ true → KeepsEdges t u

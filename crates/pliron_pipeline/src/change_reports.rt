@@ -10,22 +10,22 @@ fn steps_report_accurately<D: Dialect, E: Analyses + Drop>()
     ensures { IsAccurate ⟦<PassStep<D, E> as Pass>⟧.outcome }
 {}
 
-/// So is a list of them.
+/// A list of them does so too.
 fn lists_report_accurately<D: Dialect, E: Analyses + Drop>()
     ensures { IsAccurate ⟦<Passes<PassStep<D, E>> as Pass>⟧.outcome }
 {
     steps_report_accurately::<D, E>();
 }
 
-/// So is a list that is run on an operation itself, or on each operation directly inside it.
+/// So does a list that is run on an operation itself, or on each operation directly inside it.
 fn pipelines_report_accurately<D: Dialect, E: Analyses + Drop>()
     ensures { IsAccurate ⟦<Pipeline<D, E> as Pass>⟧.outcome }
 {
     lists_report_accurately::<D, E>();
 }
 
-/// Each schedule reports accurately: where it answers `Unchanged`, the tree is the same but for erased handles. A law: it
-/// does nothing. Cost: constant.
+/// Each schedule reports accurately: where it answers `Unchanged`, the tree is the same but for erased handles.
+/// A law: it does nothing. Cost: constant.
 pub fn schedules_report_accurately<D: Dialect, E: Analyses + Drop>()
     ensures { IsAccurate ⟦<Schedule<D, E> as Pass>⟧.outcome }
 {

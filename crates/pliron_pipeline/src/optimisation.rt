@@ -15,12 +15,12 @@ use std::alloc::Global;
 use std::hash::Hash;
 use std::marker::PhantomData;
 
-/// What an optimisation tells of the tree.
+/// What an optimisation reports of the tree.
 #[derive(Drop)]
 pub struct Effect {
     /// Whether the tree changed.
     pub status: IRStatus,
-    /// Whether the blocks and edges inside each operation that stands are as before.
+    /// Whether the blocks and edges inside each live operation are as before.
     pub keeps_edges: bool,
 }
 
@@ -37,8 +37,8 @@ pub trait Optimisation {
     fn name() -> &'static str
         ensures { result.now ≡ name };
 
-    /// Optimises the operation, and tells what changed. Asks that it is live and is well linked. Errors: those
-    /// of the optimisation.
+    /// Optimises the operation, and reports what changed. Asks that it is live and is well linked. Errors:
+    /// those of the optimisation.
     fn optimise(alloc: Global, op: Ptr<Operation>, ctx: &mut Context) -> Result<Effect, OptError>
         requires live { IsLive ctx.old.tree op }
         requires linked { IsWellLinked Self.D.meaning ctx.old.tree op }

@@ -26,7 +26,8 @@ impl Dice {
         self.generator.next_u64() % bound
     }
 
-    /// Whether a choice falls that falls once in so many times, and always where that is 0. Cost: constant.
+    /// Whether a choice is taken that is taken once in so many times, and always where that is 0. Cost:
+    /// constant.
     pub fn once_in(&mut self, times: u64) -> bool {
         times == 0 || self.below(times) == 0
     }

@@ -12,7 +12,7 @@ pub enum Kind {
     Defined,
     /// It is in the notation; uses and edges may be as they like.
     Hostile,
-    /// A text in which a few characters were changed.
+    /// A malformed text: a few characters were changed.
     Mangled,
 }
 
@@ -77,7 +77,7 @@ fn whole(alloc: Global, mut dice: Dice, kind: Kind) -> Result<(Dice, String), Al
     Ok((dice, text))
 }
 
-/// The text with up to three characters gone, doubled or others.
+/// The text with up to three characters removed, doubled or replaced.
 fn mangle(alloc: Global, dice: &mut Dice, text: &str) -> Result<String, AllocError> {
     let rare = (text.len() as u64).saturating_add(1) / 3;
     let mut result = String::new(alloc);

@@ -1,10 +1,10 @@
 //! Texts of functions, written by plans of their regions.
 //!
-//! A use of a well-defined text names a value that is made before it: by an earlier operation of its block,
-//! by an argument of it, or in a block that stands on every way to it, in its own region or one around it.
-//! Every edge of a branch forwards as many values as its target has arguments. Of a malformed text neither
-//! holds: a use names any value of the function that is known to be made, be it later, by the operation
-//! itself or in a region that is left.
+//! A use of a well-defined text names a value that is defined before it: by an earlier operation of its block,
+//! by an argument of it, or in a block that is on every path to it, in its own region or one around it. Every
+//! edge of a branch forwards as many values as its target has arguments. Of a malformed text neither holds: a
+//! use names any value of the function that is known to be defined, be it later, by the operation itself or in
+//! a region that is left.
 
 use crate::dice::Dice;
 use crate::names::Name;
@@ -331,7 +331,7 @@ impl Writer {
         Ok(self.dice.one_of(&names).unwrap_or(Name::Result(0, 0, 0)))
     }
 
-    /// The values that are made before what comes next, on every way to it.
+    /// The values that are defined before what comes next, on every path to it.
     fn names_before(&self) -> Result<Vec<Name>, AllocError> {
         let mut names = Vec::new(self.alloc);
         for frame in &self.frames {

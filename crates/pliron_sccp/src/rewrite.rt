@@ -236,7 +236,8 @@ pub fn fold_one<D: Dialect, R: Rewriter + Room>(
 ///
 /// Asks that the tree came from the first one by such steps, so that the lattice values still hold of the
 /// operations.
-/// Errors: allocation failure, after some of the folds, each of them whole. Cost: that of the dialect's `fold_in_place` for each.
+/// Errors: allocation failure, after some of the folds, each of them whole. Cost: that of the dialect's
+/// `fold_in_place` for each.
 pub fn fold_all<D: Dialect, R: Rewriter + Room>(
     alloc: Global,
     folds: &Folds,

@@ -3,7 +3,7 @@
 //!
 //! A case is the number of the operation that `sccp` is called on and the steps of a tree whose operation 0 is
 //! a root; and after ` => ` what each question reads then, in the order of making, a number where it is a
-//! constant's and `?` elsewhere, and what the root's run tells, the latest first, where `-` is `Empty`. The
+//! constant's and `?` elsewhere, and what the root's run emits, the latest first, where `-` is `Empty`. The
 //! world answers 1, 2, 3 and 4.
 use super::tiny::propagate_operation;
 use pliron_core::{AttrObj, Context, Def, Operation, Ptr, Value};
@@ -16,7 +16,7 @@ use std::process::Abort;
 
 const ENOUGH: usize = 200;
 
-/// Constants that fall into regions.
+/// Constants that are forwarded into regions.
 static REGIONS: &str =
     "0 / scope; block 0; const 7 @0; const 5 @0; both @0 v0 v1; block 3 1; block 3 1 1; ask @1 v2; ask @2 v3 => 5 ? / - 5
 0 / scope; block 0; const 7 @0; both @0 v0; block 2 1; block 2 1 1; ask @1 v1; ask @2 v2 => ? ? / - -
@@ -28,7 +28,7 @@ static REGIONS: &str =
 0 / scope; block 0; const 7 @0; both @0 v0 v0; block 2; block 2 1 1; twice @2 v1; block 3 1; ask @3 v2 => ? / - -
 0 / scope; block 0; const 7 @0; scope @0 v0; block 2 1; ask @1 v1 => ? / 7";
 
-/// Entry blocks that are also successors: the world's answers are used up.
+/// Entry blocks that are also successors: the environment's answers are used up.
 static SUCCESSORS: &str =
     "0 / scope; block 0; const 7 @0; twice @0 v0; block 2 1; const 9 @1; ask @1 v1; br @1 b1 v2 => ? / 9 9 9 9 7
 0 / scope; block 0; const 7 @0; twice @0 v0; block 2 1; const 7 @1; ask @1 v1; br @1 b1 v2 => 7 / 7 7 7 7 7
@@ -111,7 +111,7 @@ fn sight_of_root(rt: &impl Abort, alloc: Global, ctx: &Context, root: Ptr<Operat
     evaluate::<Tiny>(alloc, ctx, root, Vec::new(alloc), world, ENOUGH).expect(rt, "memory")
 }
 
-// What it tells, the latest first.
+// What it emits, the latest first.
 fn sight_text(rt: &impl Abort, alloc: Global, sight: &Sight) -> String {
     let effects = match sight {
         Sight::Ended(_, effects) => effects,

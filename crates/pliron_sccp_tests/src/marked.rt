@@ -319,8 +319,8 @@ fn propagates_in(rt: &impl Abort, alloc: Global, ctx: &mut Context) -> Result<()
     Ok(())
 }
 
-// Twice: each argument is a constant at first, and once made constants stand for them only the one that
-// gets the constant with the mark.
+// Twice: each argument is a constant at first, and once constants are put for them only the one that gets the
+// constant with the mark.
 #[test]
 fn made_constants_do_not_fold(rt: HostRuntime) -> Result<(), Fail> {
     let alloc = rt.alloc();

@@ -38,8 +38,8 @@ fn head_of<K: Kinds>(
 
 /// Builds the operation of a text, in no block.
 ///
-/// Errors: allocation failure, after which a part of the text may stand. Cost: linear in the text, with a step for
-/// each region around an operation.
+/// Errors: allocation failure, after which a part of the text may be live. Cost: linear in the text, with a
+/// step for each region around an operation.
 pub fn build<K: Kinds>(
     alloc: Global,
     syntax: &TableSyntax<K>,

@@ -17,9 +17,9 @@ use std::alloc::Global;
 /// Reads a text of the dialect of these kinds and builds its operation, which is in no block and is well
 /// linked. `None` is an unreadable text: one outside the grammar, after which nothing is made, or one with an
 /// operation that the dialect doesn't admit or an edge that isn't at the end of its block, after which its
-/// operations stand in the context.
+/// operations are live in the context.
 ///
-/// Errors: allocation failure, after which a part of the text may stand.
+/// Errors: allocation failure, after which a part of the text may be live.
 /// Cost: linear in the text, but for look-ups of names, each of which takes the logarithm of their number.
 pub fn read_text<K: Kinds + Word>(
     alloc: Global,

@@ -7,7 +7,7 @@ pub struct TableOperation<K> {
     pub kind: K,
     /// The number of a constant, or how many values the first edge of a branch forwards.
     pub attribute: Option<i64>,
-    /// The block that it stands in, if it isn't the whole text.
+    /// The block that it is in, if it isn't the whole text.
     pub block: Option<usize>,
     pub results: usize,
     pub regions: usize,
@@ -18,7 +18,7 @@ pub struct TableOperation<K> {
 /// What a text writes of a block.
 #[derive(Clone, Copy, Drop)]
 pub struct TableBlock {
-    /// The operation that holds it.
+    /// Its parent operation.
     pub holder: usize,
     /// The place of its region among those of the operation.
     pub region: usize,

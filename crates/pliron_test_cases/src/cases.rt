@@ -48,7 +48,7 @@ pub fn all_known(alloc: Global, words: &str) -> Result<Vec<Option<AttrObj>>, All
     Ok(all)
 }
 
-/// The operation of the text, in no block; none where the text is unreadable or memory is refused. Cost:
+/// The operation of the text, in no block; none where the text is unreadable or an allocation fails. Cost:
 /// linear in the text.
 pub fn read(alloc: Global, ctx: &mut Context, text: &str) -> Option<Ptr<Operation>>
     ensures live { IfSome result (λ root. IsLive ctx.new.tree root) }
@@ -57,7 +57,7 @@ pub fn read(alloc: Global, ctx: &mut Context, text: &str) -> Option<Ptr<Operatio
     read_text(alloc, text.as_bytes(), ctx).ok()?
 }
 
-/// The line of the operation; none where it doesn't stand or memory is refused. Cost: linear in the line.
+/// The line of the operation; none where it isn't live or an allocation fails. Cost: linear in the line.
 pub fn line(alloc: Global, ctx: &Context, root: Ptr<Operation>) -> Option<String> {
     if !root.is_live(ctx) {
         return None;

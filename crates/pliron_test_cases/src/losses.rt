@@ -3,9 +3,9 @@ use pliron_core::{BasicBlock, Context, Operation, Ptr, Value};
 use pliron_meaning::{Dialect, OptError, lose_forwarded};
 use std::alloc::Global;
 
-/// Takes out the value at place j that the branch forwards along edge i, and answers it; none where it
-/// forwards no such value. Errors: allocation failure, which changes nothing. Cost: linear in the values that the
-/// branch forwards, and the dialect's removal.
+/// Removes the value at place j that the branch forwards along edge i, and answers it; none where it forwards
+/// no such value. Errors: allocation failure, which changes nothing. Cost: linear in the values that the branch
+/// forwards, and the dialect's removal.
 pub fn lose<D: Dialect>(
     alloc: Global,
     ctx: &mut Context,

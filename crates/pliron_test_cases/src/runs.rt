@@ -14,8 +14,8 @@ fn data(alloc: Global, numbers: &[i128]) -> Result<Vec<Datum>, AllocError> {
     Ok(data)
 }
 
-/// What is seen of the run of the operation on these inputs, in the world with these answers, up to so many
-/// moves. Errors: allocation failure. Cost: that of `evaluate`, and linear in inputs and answers.
+/// What is seen of the run of the operation on these inputs, in the environment with these answers, up to so
+/// many transitions. Errors: allocation failure. Cost: that of `evaluate`, and linear in inputs and answers.
 pub fn sight_of_run(
     alloc: Global,
     ctx: &Context,
@@ -29,8 +29,8 @@ pub fn sight_of_run(
     evaluate::<Bench>(alloc, ctx, root, inputs, answers, most)
 }
 
-/// What is seen of three runs of the operation, up to so many moves each. Errors: allocation failure. Cost: that
-/// of three runs by `seen`.
+/// What is seen of three runs of the operation, up to so many transitions each. Errors: allocation failure.
+/// Cost: that of three runs by `seen`.
 pub fn sights(
     alloc: Global,
     ctx: &Context,
@@ -43,8 +43,8 @@ pub fn sights(
     Ok(Vec::from_array(alloc, [first, second, third])?)
 }
 
-/// Whether the same is seen of each run before and after. One that was cut short before may come further
-/// once it has fewer moves to make, so nothing is asked of it. Cost: linear in what is seen.
+/// Whether the same is seen of each run before and after. One that was cut short before may come further once
+/// it has fewer transitions to make, so nothing is asked of it. Cost: linear in what is seen.
 pub fn are_kept(before: &[Sight], after: &[Sight]) -> bool {
     if before.len() != after.len() {
         return false;

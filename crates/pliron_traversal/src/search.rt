@@ -8,7 +8,8 @@ use crate::{ControlFlowGraph, ListedSet};
 use pliron_laws::OptError;
 use std::alloc::Global;
 
-// Takes the successor at `i` of a node that was taken from the stack, or leaves the node where all its successors are done.
+// Takes the successor at `i` of a node that was taken from the stack, or leaves the node where all its
+// successors are done.
 fn step<C, G: ControlFlowGraph<C>, S: ListedSet<G::Node>>(
     ctx: &C,
     graph: &G,

@@ -35,8 +35,8 @@ impl<'a> Model for Children<'a> {
 }
 
 impl<'a> Children<'a> {
-    /// The operations directly inside `holder`. Asks that it is live (`is_live` tests it). Cost: one step for
-    /// each empty region and block before the first of them.
+    /// The operations directly inside `holder`, their parent operation. Asks that it is live (`is_live` tests
+    /// it). Cost: one step for each empty region and block before the first of them.
     pub fn new(holder: Ptr<Operation>, ctx: &'a Context) -> Self
         requires { IsLive ctx.now.tree holder }
         ensures { result ≡ children ctx.now.tree holder }

@@ -1,4 +1,4 @@
--- What stands while regions lose their unreachable blocks one after the other.
+-- What holds while regions lose their unreachable blocks one after the other.
 use Rattle.std.specs.Prelude.{◌≡◌, ◌⊎◌, ℕ, List}
 use Rattle.pliron_core.specs.declared.attrs.IRStatus.{IRStatus}
 use Rattle.pliron_core.specs.declared.attrs.IRStatus.TheVariants.{Changed, Unchanged}
@@ -26,7 +26,7 @@ ReportsLoss start t u Unchanged = u ≡ t
 abbrev pub Went : Start → (t u : Tree) → ℕ → Type 0
 Went start t u b = IsUnreachable start t b × (IsUnreachable start u b → ⊥)
 
--- of the regions rs those in `left` wait, and the others have lost their unreachable blocks
+-- of the regions rs those in `left` are still to be done, and the others have lost their unreachable blocks
 pub record AreCleared (m : Meaning) (t u : Tree) (scope : RemovalScope) (root : ℕ) (rs ks left : List ℕ) (status : IRStatus) : Type 0 where
   pub stands : ScopeStands u scope
   pub holder : IsHolder u scope root

@@ -16,11 +16,11 @@ pub record IsOnlyWay (m : Meaning) (t : Tree) (a b jump : ℕ) : Type 0 where
   pub single : length (preds_of t b) ≡ 1
   pub branch : HeadPasses m.is_branch t jump
 
--- these values stand
+-- these values are live
 abbrev pub AllDefined : Tree → List ℕ → Type 0
 AllDefined t values = (v : ℕ) → In v values → IsDefined t v
 
--- a pair where what holds it is well linked, and nothing uses an argument of the second block
+-- a pair where the parent operation is well linked, and nothing uses an argument of the second block
 pub record IsReadyToJoin (m : Meaning) (t : Tree) (a b jump : ℕ) : Type 0 where
   pub values : List ℕ
   pub pair : IsMergeable m t a b jump values

@@ -1,4 +1,4 @@
--- What a call looks into.
+-- What a call visits.
 use Rattle.std.specs.Prelude.{◌≡◌, ℕ, Some}
 use Rattle.pliron_core.specs.Tree.{Tree, IsLive, IsBlock, IsRegion, block_parent_operation_of, region_parent_of}
 use Rattle.pliron_cfg.specs.Visited.{Start, OfOperation, OfBlock, OfRegion}
@@ -11,13 +11,13 @@ start_of (Operation op) = OfOperation op
 start_of (Block block) = OfBlock block
 start_of (Region region) = OfRegion region
 
--- what it looks into stands
+-- what it visits is live
 abbrev pub ScopeStands : Tree → RemovalScope → Type 0
 ScopeStands t (Operation op) = IsLive t op
 ScopeStands t (Block block) = IsBlock t block
 ScopeStands t (Region region) = IsRegion t region
 
--- the operation itself, or the one that holds the block or the region
+-- the operation itself, or the parent operation of the block or the region
 abbrev pub IsHolder : Tree → RemovalScope → ℕ → Type 0
 IsHolder t (Operation op) k = op ≡ k
 IsHolder t (Block block) k = block_parent_operation_of t block ≡ Some k

@@ -67,7 +67,7 @@ fn known_of<D: Dialect>(
 
 /// The constants that are known of the operation's operands.
 ///
-/// Errors: allocation failure. Cost: for each operand, what the dialect's answer for its maker costs.
+/// Errors: allocation failure. Cost: for each operand, what the dialect's answer for its definition costs.
 pub(crate) fn known_operands<D: Dialect>(
     alloc: Global,
     op: Ptr<Operation>,

@@ -69,7 +69,7 @@ fn move_operations<R: Rewriter + Room>(
     }
 }
 
-// Joins the blocks of the pair, where nothing uses an argument of the second one.
+// Merges the blocks of the pair, where nothing uses an argument of the second one.
 fn join<D: Dialect, R: Rewriter + Room>(
     ctx: &mut Context,
     first: Ptr<BasicBlock>,

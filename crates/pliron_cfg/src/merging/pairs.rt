@@ -36,8 +36,8 @@ fn is_entry(block: Ptr<BasicBlock>, ctx: &Context) -> bool
     block.get_prev(ctx).is_none()
 }
 
-// Whether the block has one predecessor, if the jump leads to it alone. Since edges stand last, one
-// predecessor is one use then.
+// Whether the block has one predecessor, if the jump leads to it alone. Since edges are last in their blocks,
+// one predecessor is one use then.
 fn has_no_other_way(block: Ptr<BasicBlock>, jump: Ptr<Operation>, ctx: &Context) -> bool
     requires block { IsBlock ctx.now.tree block }
     requires goes { successors_of ctx.now.tree jump ≡ block ∷ [] }

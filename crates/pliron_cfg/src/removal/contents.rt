@@ -110,7 +110,7 @@ fn push_arguments(
     Ok(())
 }
 
-// The values that these operations and these blocks make.
+// The values that these operations and these blocks define.
 pub(crate) fn values_made(
     alloc: Global,
     ctx: &Context,

@@ -1,4 +1,4 @@
-//! What a call looks into.
+//! What a call visits.
 ghost use Rattle.std.specs.Prelude.{ℕ, IfOk, IsOkUnless};
 ghost use Rattle.pliron_laws.specs.Linked.{EdgesLast};
 ghost use Rattle.pliron_cfg.specs.Visits.{AreVisits};
@@ -18,7 +18,7 @@ pub(crate) enum RemovalScope {
 }
 
 impl RemovalScope {
-    // What a call looks at there.
+    // The regions and blocks that a call visits there.
     pub(crate) fn visits(&self, alloc: Global, ctx: &Context) -> Result<Visits, OptError>
         requires stands { ScopeStands ctx.now.tree self.now }
         requires edges { (holder : ℕ) → IsHolder ctx.now.tree self.now holder → EdgesLast ctx.now.tree holder }

@@ -17,7 +17,7 @@ use std::alloc::{AllocError, Global};
 use std::collections::{HashMap, VecDeque};
 use std::mem;
 
-/// An operation that waits for the end of a visit, with those after it in its block.
+/// An operation that waits for the end of an invocation, with those after it in its block.
 #[derive(Drop)]
 pub(super) struct Waiting {
     pub(super) rest: VecDeque<Ptr<Operation>>,
@@ -60,7 +60,7 @@ fn at_rest(state: State) -> State
     }
 }
 
-// A visit ends with these values, or the run where nothing waits.
+// An invocation ends with these values, or the run where no invocation is open.
 fn leave(mut state: State, values: Vec<Datum>) -> Next
     ensures { next_of_value result ≡ leave (state_of state) (map waiting_of state.waiting.items) (map datum_of_value values.items) }
 {
@@ -158,7 +158,7 @@ fn successor(ctx: &Context, op: Ptr<Operation>, i: usize) -> Option<Ptr<BasicBlo
     }
 }
 
-// The operation visits its region with this index, and waits.
+// The operation invokes its region with this index, and waits.
 fn visit(
     alloc: Global,
     ctx: &Context,
@@ -196,7 +196,7 @@ fn go_to(
     enter(alloc, ctx, state, successor(ctx, op, i), values)
 }
 
-// The effect is told, and the world answers, or the run makes no further move.
+// The effect is emitted, and the environment answers, or the run makes no further move.
 fn emit(alloc: Global, mut state: State, effect: Datum, memo: Datum) -> Result<Next, AllocError>
     ensures { IfOk result (λ next. next_of_value next ≡ emit (state_of state) (datum_of_value effect) (datum_of_value memo) (map datum_of_value state.world.items)) }
 {

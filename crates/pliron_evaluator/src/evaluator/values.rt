@@ -78,7 +78,7 @@ pub enum Move {
     Goto(usize, Vec<Datum>),
     /// Ends the visit that its block is in, with these values.
     Leave(Vec<Datum>),
-    /// Tells an effect, and leaves itself a memo.
+    /// Emits an effect, and leaves itself a memo.
     Emit(Datum, Datum),
     /// Makes no further move, nor does the run.
     Trap,

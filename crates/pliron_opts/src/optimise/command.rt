@@ -71,7 +71,7 @@ fn schedule<D: Dialect>(
     }
 }
 
-/// The schedule that the word plans, if each of its names is the name of a pass.
+/// The schedule (pass pipeline) that the word plans, if each of its names is the name of a pass.
 ///
 /// Errors: allocation failure. Cost: linear in the word.
 pub fn plan_schedule<D: Dialect>(

@@ -26,8 +26,8 @@ pub trait Notation {
     // the operation in the tree is printed so
     ghost prints: { Prints };
 
-    /// Reads a text. Its operation stands and is well linked. `None` is a text outside the notation. Asks
-    /// that the context is empty. Errors: allocation failure.
+    /// Reads a text. Its operation is live and well linked. `None` is a text outside the notation. Asks that
+    /// the context is empty. Errors: allocation failure.
     fn read(
         alloc: Global,
         text: &[u8],

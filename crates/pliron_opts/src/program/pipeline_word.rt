@@ -1,4 +1,4 @@
-//! Lists of passes as words.
+//! Pass pipelines as words.
 ghost use Rattle.std.specs.Prelude.{◌≡◌, ◌≤◌, ◌==◌, ◌++◌, ◌↔◌, map, codes, IsTrue, IfOk, IfSome};
 ghost use Rattle.std.specs.List.{slice_split};
 ghost use Rattle.std.specs.Fmt.{decimal};
@@ -9,7 +9,7 @@ use std::alloc::{AllocError, Global};
 /// The most times that a list may be run.
 const MAX_RUNS: usize = 64;
 
-/// What a word says of the passes that are to be run.
+/// What a word says of the pass pipeline.
 #[derive(Debug, Drop)]
 pub struct PipelineWord<'t> {
     /// The most runs of the list, where it is run until it changes nothing.

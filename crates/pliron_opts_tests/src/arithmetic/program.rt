@@ -1,11 +1,12 @@
-//! The program `arithmetic_opt` on texts, by the library call that its `main` is made of. Each answer is worked by hand.
+//! The program `arithmetic_opt` on texts, by the library call that its `main` is made of. Each answer is worked
+//! by hand.
 use pliron_arithmetic::ArithmeticKind;
 use pliron_opts::{KindNotation, run_optimiser};
 use std::alloc::Global;
 use std::process::Abort;
 
-// A list, a text, and how the program ends: its status, and what it writes, with the ends of lines as `|`. With status 0
-// it writes an answer, else a line on what is wrong.
+// A list, a text, and how the program ends: its status, and what it writes, with the ends of lines as `|`. With
+// status 0 it writes an answer, else a line on what is wrong.
 static CASES: &str = "\
 sccp,dce :: function { b0(): a = lit 6; b = lit 7; p = mul a b; n = neg p; return n } => 0 function { b0(): v0 = lit -42; return v0 }|changed|
 sccp :: function { b0(): a = lit 2; b = lit 3; l = less a b; return l } \

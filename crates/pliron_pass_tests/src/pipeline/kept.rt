@@ -96,7 +96,7 @@ fn operations(
     found
 }
 
-// Computes the facts of each of these that stands.
+// Computes the facts of each of these that is live.
 fn compute_all(
     rt: &impl Abort,
     ops: &[Ptr<Operation>],
@@ -165,7 +165,7 @@ fn compare_facts(
     count
 }
 
-// How many facts of these are cached: each that stands has those that are computed anew.
+// How many facts of these are cached: each that is live has those that are computed anew.
 fn fresh_facts(
     rt: &impl Abort,
     alloc: Global,

@@ -12,7 +12,7 @@ use pliron_pipeline::{PassStep, run_pipeline};
 use std::alloc::Global;
 
 /// Runs a list of the three passes on an operation that is fit to run. Whatever this answers, the operation
-/// does what it did, for all inputs and all answers of the world, and is fit to run.
+/// does what it did, for all inputs and all answers of the environment, and is fit to run.
 ///
 /// Asks that the operation is fit to run. Errors: those of the passes. Cost: that of the passes.
 pub fn optimised_alike(

@@ -20,4 +20,4 @@ returns-clause-components g c =
     IfOk-weaker c.components_by_number.result (λ r. AreNamed c.deref.result.now c.in_ok-found.found.items r.items) (λ r. AreComponents eq graph r.items)
     (λ r h. components_named eq g.met.G.Node.Eq.laws graph c.in-Some.lists.now lawful c.in-Some.ensures c.in_ok-found.found.items r.items c.in_ok-found.ensures.found
     (subst (λ ns. AreNamed ns c.in_ok-found.found.items r.items) nodes h))
-    c.components_by_number.ensures.components_by_number
+    c.components_by_number.ensures.named

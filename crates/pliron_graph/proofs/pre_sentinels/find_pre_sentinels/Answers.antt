@@ -27,7 +27,7 @@ index_nodes-requires-2 g c =
     let starts = c.in_ok-last.last.items in
     let found = c.in_ok-found.found.items in
     let nodes = c.deref-2.ensures.value ∙ c.in_ok-nodes.ensures.list in
-    let named = subst (λ ns. map Some found ≡ map (λ k. slice_get ns k) starts) nodes (subst (λ ks. map Some found ≡ map (λ k. slice_get c.deref-2.result.now k) ks) c.deref-3.ensures.value c.in_ok-found.ensures.nodes_by_number) in
+    let named = subst (λ ns. map Some found ≡ map (λ k. slice_get ns k) starts) nodes (subst (λ ks. map Some found ≡ map (λ k. slice_get c.deref-2.result.now k) ks) c.deref-3.ensures.value c.in_ok-found.ensures.named) in
     rw c.deref-4.ensures.value (starts_distinct eq lawful.same g.met.G.Node.Eq.laws.refl graph found
     (starts_named eq g.met.G.Node.Eq.laws graph c.in-Some.lists.now lawful c.in-Some.ensures starts c.in_ok-last.ensures.found found named))
 
@@ -39,7 +39,7 @@ returns-clause-found g c =
     let starts = c.in_ok-last.last.items in
     let found = c.in_ok-found.found.items in
     let nodes = c.deref-2.ensures.value ∙ c.in_ok-nodes.ensures.list in
-    let named = subst (λ ns. map Some found ≡ map (λ k. slice_get ns k) starts) nodes (subst (λ ks. map Some found ≡ map (λ k. slice_get c.deref-2.result.now k) ks) c.deref-3.ensures.value c.in_ok-found.ensures.nodes_by_number) in
+    let named = subst (λ ns. map Some found ≡ map (λ k. slice_get ns k) starts) nodes (subst (λ ks. map Some found ≡ map (λ k. slice_get c.deref-2.result.now k) ks) c.deref-3.ensures.value c.in_ok-found.ensures.named) in
     IfOk-weaker c.index_nodes-2.result (λ r. r.keys ≡ c.deref-4.result.now) (λ r. ArePreSentinels eq graph r.keys)
     (λ r h. subst (ArePreSentinels eq graph) (sym (h ∙ c.deref-4.ensures.value))
     (starts_named eq g.met.G.Node.Eq.laws graph c.in-Some.lists.now lawful c.in-Some.ensures starts c.in_ok-last.ensures.found found named))

@@ -17,7 +17,7 @@ returns-in_ok-answers-clause-ok g c =
     on_ok_weaker c.constrain_answers.result
     (λ p o e constants.
     let s = op_shows t c.args.op o e in
-    let answers = d.constants (shape_of g.D.HasMeaning.meaning t o) c.args.known_constant.now in
+    let answers = d.constants (shape_of g.D.HasMeaning.meaning t o) c.args.known.now in
     folding_asked constants d.can_fold answers o a b (sym (c.folds.ensures o.head s.head) ∙ c.if-folds.true)
     (subst (λ rs. Adds constants a b (ConstrainsAnswers rs answers)) s.results
     (subst (λ z. Adds constants a b (ConstrainsAnswers (results_of t c.args.op) z)) (c.in_ok-answers.ensures.ok o e) (p constants))))
@@ -32,6 +32,6 @@ returns-else-folds-clause-ok g c =
     on_ok_weaker c.constrain_unknown.result
     (λ p o e constants.
     let s = op_shows t c.args.op o e in
-    others_asked constants d.can_fold (d.constants (shape_of g.D.HasMeaning.meaning t o) c.args.known_constant.now) o a b (sym (c.folds.ensures o.head s.head) ∙ c.if-folds.false)
+    others_asked constants d.can_fold (d.constants (shape_of g.D.HasMeaning.meaning t o) c.args.known.now) o a b (sym (c.folds.ensures o.head s.head) ∙ c.if-folds.false)
     (subst (λ rs. Adds constants a b (λ now. (v : ℕ) → In v rs → now.lattice_value v ≡ NotAConstant)) s.results (p constants)))
     c.constrain_unknown.ensures.ok

@@ -32,7 +32,7 @@ returns-clause-follows g c = λ t₀ root f₀ s.
     let t = c.args.ctx.now.tree in
     let u = c.fold_in_place-done.new.ctx.tree in
     let outcome = g.D.ConstFoldInterface.outcome in
-    let done = either (λ a. outcome t u c.args.op c.args.known_constant.now a) c.fold_in_place-done.result c.fold_in_place-done.ensures.ok c.fold_in_place-done.ensures.refused in
+    let done = either (λ a. outcome t u c.args.op c.args.known.now a) c.fold_in_place-done.result c.fold_in_place-done.ensures.ok c.fold_in_place-done.ensures.refused in
     step_follows _ t₀ root f₀ t c.args.op _ s _ _ outcome _ d.folds_in_place d.answers_true d.answers_jumps d.forwards_operands.passes (names_well _ _ d.names_operands d.roots) d.makes_constants (constants_plain _ _ _ _ _ _ d.forwards_operands d.makes_constants) u done.0 done.1 c.well_formed-3.ensures.tree c.fold_in_place-done.ensures.longer
 
 pub returns-clause-stays : goal.returns-clause-stays
@@ -42,5 +42,5 @@ returns-clause-stays g c =
     let t = c.args.ctx.now.tree in
     let u = c.fold_in_place-done.new.ctx.tree in
     let outcome = g.D.ConstFoldInterface.outcome in
-    let done = either (λ a. outcome t u c.args.op c.args.known_constant.now a) c.fold_in_place-done.result c.fold_in_place-done.ensures.ok c.fold_in_place-done.ensures.refused in
+    let done = either (λ a. outcome t u c.args.op c.args.known.now a) c.fold_in_place-done.result c.fold_in_place-done.ensures.ok c.fold_in_place-done.ensures.refused in
     step_stays _ s.0 s.1 s.2 t c.args.op _ s.3 _ _ outcome _ d.folds_in_place u done.0 done.1

@@ -18,7 +18,7 @@ returns-clause-told g c =
     let t = c.args.ctx.now.tree in
     let u = c.replace_argument_by_constant-done.new.ctx.tree in
     let a = c.args.argument.now in
-    IfOk-weaker c.replace_argument_by_constant-done.result _ _ (λ status is. becomes_told d.accepts d.constant_head a.attr t u a.block s.3.known_constant.value status (is s.3.known_constant.value (argument_listed _ s.0 s.1 s.2 t a s.3))) c.replace_argument_by_constant-done.ensures.ok
+    IfOk-weaker c.replace_argument_by_constant-done.result _ _ (λ status is. becomes_told d.accepts d.constant_head a.attr t u a.block s.3.known.value status (is s.3.known.value (argument_listed _ s.0 s.1 s.2 t a s.3))) c.replace_argument_by_constant-done.ensures.ok
 
 pub returns-clause-stays : goal.returns-clause-stays
 returns-clause-stays g c =
@@ -27,8 +27,8 @@ returns-clause-stays g c =
     let t = c.args.ctx.now.tree in
     let u = c.replace_argument_by_constant-done.new.ctx.tree in
     let a = c.args.argument.now in
-    let done = either (Becomes d.accepts d.constant_head a.attr t u a.block s.3.known_constant.value) c.replace_argument_by_constant-done.result (IfOk-weaker c.replace_argument_by_constant-done.result _ _ (λ status is. is s.3.known_constant.value (argument_listed _ s.0 s.1 s.2 t a s.3)) c.replace_argument_by_constant-done.ensures.ok) c.replace_argument_by_constant-done.ensures.refused in
-    becomes_stays d.accepts d.constant_head a.attr t u a.block s.3.known_constant.value done.0 done.1
+    let done = either (Becomes d.accepts d.constant_head a.attr t u a.block s.3.known.value) c.replace_argument_by_constant-done.result (IfOk-weaker c.replace_argument_by_constant-done.result _ _ (λ status is. is s.3.known.value (argument_listed _ s.0 s.1 s.2 t a s.3)) c.replace_argument_by_constant-done.ensures.ok) c.replace_argument_by_constant-done.ensures.refused in
+    becomes_stays d.accepts d.constant_head a.attr t u a.block s.3.known.value done.0 done.1
 
 pub returns-clause-follows : goal.returns-clause-follows
 returns-clause-follows g c = λ t₀ root f₀ s.
@@ -37,5 +37,5 @@ returns-clause-follows g c = λ t₀ root f₀ s.
     let t = c.args.ctx.now.tree in
     let u = c.replace_argument_by_constant-done.new.ctx.tree in
     let a = c.args.argument.now in
-    let done = either (Becomes d.accepts d.constant_head a.attr t u a.block s.known_constant.value) c.replace_argument_by_constant-done.result (IfOk-weaker c.replace_argument_by_constant-done.result _ _ (λ status is. is s.known_constant.value (argument_listed _ t₀ root f₀ t a s)) c.replace_argument_by_constant-done.ensures.ok) c.replace_argument_by_constant-done.ensures.refused in
+    let done = either (Becomes d.accepts d.constant_head a.attr t u a.block s.known.value) c.replace_argument_by_constant-done.result (IfOk-weaker c.replace_argument_by_constant-done.result _ _ (λ status is. is s.known.value (argument_listed _ t₀ root f₀ t a s)) c.replace_argument_by_constant-done.ensures.ok) c.replace_argument_by_constant-done.ensures.refused in
     argument_follows _ t₀ root f₀ t a s law.answers_true law.answers_jumps law.forwards_operands.passes (names_well _ _ law.names_operands law.roots) d.accepts d.constant_head law.makes_constants (constants_plain _ _ _ _ _ _ law.forwards_operands law.makes_constants) u done.0 done.1 c.well_formed-2.ensures.tree c.replace_argument_by_constant-done.ensures.runs

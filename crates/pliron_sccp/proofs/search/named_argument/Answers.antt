@@ -11,5 +11,5 @@ returns-in-Some g c = λ o at. record {
   in_place = ap (λ z. slice_get z c.args.candidate.region) (sym (op_shows c.args.ctx.now.tree c.args.op o at).regions) ∙ c.get_region.ensures.region;
   first = sym c.in_ok-entry.ensures.first;
   is_argument = c.get_argument.ensures.argument;
-  names = sym (c.in-Some.ensures o at) ∙ ap (λ z. Some z) c.if-entry_candidates-place.true;
+  names = sym (c.in-Some.ensures o at) ∙ ap (λ z. Some z) c.if-named-place.true;
 }

@@ -22,7 +22,7 @@ step-requires-clause-targets g c =
     targets_numbered x c.args.ctx.now.tree c.args.root c.well_formed-2.ensures.tree c.requires.live c.requires.linked.edges c.loop-scratch.tables c.loop-scratch.delays c.loop-scratch.invariant.0.way
 
 pub step-requires-clause-blocks : goal.step-requires-clause-blocks
-step-requires-clause-blocks g c = λ b waits. inside_block c.args.ctx.now.tree c.well_formed-2.ensures.tree c.args.root b (c.loop-scratch.invariant.0.way.is_on_worklist.blocks b waits).0
+step-requires-clause-blocks g c = λ b waits. inside_block c.args.ctx.now.tree c.well_formed-2.ensures.tree c.args.root b (c.loop-scratch.invariant.0.way.waits.blocks b waits).0
 
 pub step-requires-clause-entered : goal.step-requires-clause-entered
 step-requires-clause-entered g c = c.loop-scratch.invariant.1

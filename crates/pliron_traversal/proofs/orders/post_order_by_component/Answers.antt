@@ -35,4 +35,4 @@ returns-clause-walks g c =
     let named = subst (λ ns. AreNamedLists ns (map (λ w. w.items) c.in_ok-found.found.items) (map (λ w. w.items) r.items)) nodes (subst (λ ws. AreNamedLists c.deref.result.now (map (λ w. w.items) ws) (map (λ w. w.items) r.items)) c.deref-2.ensures.value h) in
     let found = walks_named eq g.met.G.Node.Eq.laws graph c.in-Some.lists.now lawful c.in-Some.ensures (map (λ w. w.items) c.in_ok-found.found.items) (map (λ w. w.items) r.items) c.in_ok-found.ensures.found named in
     are_walks eq graph lawful.same g.met.G.Node.Eq.laws.refl found.0 (map (λ w. w.items) r.items) found.1)
-    c.named_walks.ensures.nodes_by_number
+    c.named_walks.ensures.named

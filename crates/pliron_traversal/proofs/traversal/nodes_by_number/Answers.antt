@@ -13,5 +13,5 @@ loop-number-preserved g c =
     let at : slice_get c.args.nodes.now (get_or c.args.numbers.now c.loop-number.number-index 0) ≡ Some c.index-nodes-number.result =
     slice_get_read nodes (length nodes) (get_or numbers i 0) c.index-nodes-number.result refl low c.index-nodes-number.is in
     rw (c.in_ok-push.ensures.items, take_more numbers i 0 within)
-    (map_push Some c.loop-number.nodes_by_number.items c.index-nodes-number.result ∙ ap (λ xs. xs ++ Some c.index-nodes-number.result ∷ []) c.loop-number.invariant
+    (map_push Some c.loop-number.named.items c.index-nodes-number.result ∙ ap (λ xs. xs ++ Some c.index-nodes-number.result ∷ []) c.loop-number.invariant
     ∙ ap (λ x. map (λ k. slice_get nodes k) (take i numbers) ++ x ∷ []) (sym at) ∙ sym (map_push (λ k. slice_get nodes k) (take i numbers) (get_or numbers i 0)))

@@ -40,7 +40,7 @@ invariant_of-self c =
     record {
       marked = s.marked;
       told = length-set cells n (Known c.len.result) ∙ s.told;
-      fallen = s.lowered_value;
+      fallen = s.fallen;
       block_numbers = s.block_numbers;
       value_numbers = s.value_numbers;
       blocks_wait = s.blocks_wait;
@@ -104,7 +104,7 @@ invariant_of-self-then-not-is_same c =
     record {
       marked = s.marked;
       told = length-set cells n Varying ∙ s.told;
-      fallen = s.lowered_value;
+      fallen = s.fallen;
       block_numbers = s.block_numbers;
       value_numbers = s.value_numbers;
       blocks_wait = s.blocks_wait;

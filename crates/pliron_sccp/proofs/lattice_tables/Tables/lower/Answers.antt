@@ -61,7 +61,7 @@ invariant_of-self c =
     record {
       marked = s.marked;
       told = length-set cells n new ∙ s.told;
-      fallen = s.lowered_value;
+      fallen = s.fallen;
       block_numbers = s.block_numbers;
       value_numbers = s.value_numbers;
       blocks_wait = s.blocks_wait;

@@ -33,7 +33,7 @@ invariant_of-self c =
     record {
       marked = length-set s.marks.items n Waiting ∙ s.marked;
       told = s.told;
-      fallen = s.lowered_value;
+      fallen = s.fallen;
       block_numbers = s.block_numbers;
       value_numbers = s.value_numbers;
       blocks_wait = λ q. ap (λ w. list_any (nat_eq q) w) c.push_reserved.ensures.items ∙ pushed_waits is_waiting NotExecutable Waiting s.marks.items s.block_worklist.items n lt refl s.blocks_wait q;

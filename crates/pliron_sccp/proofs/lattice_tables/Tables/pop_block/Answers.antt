@@ -26,7 +26,7 @@ invariant_of-self-2 c =
     record {
       marked = length-set s.marks.items n Visited ∙ s.marked;
       told = s.told;
-      fallen = s.lowered_value;
+      fallen = s.fallen;
       block_numbers = s.block_numbers;
       value_numbers = s.value_numbers;
       blocks_wait = popped_waits is_waiting NotExecutable Visited s.marks.items c.pop.new.self.items n lt refl once (λ q. ap (list_any (nat_eq q)) (sym items) ∙ s.blocks_wait q);
