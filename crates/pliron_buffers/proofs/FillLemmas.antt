@@ -9,10 +9,10 @@ use Rattle.pliron_buffers.specs.Fills.{Fills, Fills.Whole, Fills.Short, Fills.Fa
 use Rattle.pliron_buffers.specs.Optimises.{IsListed, Explains}
 
 -- each answer and each failure is one of these too
-pub fills_by : {A B : List ℕ → Type 0} {F G : Failure → Type 0} (before after : List ℕ) (needed : ℕ) (status : Status) → ((answer : List ℕ) → A answer → B answer) → ((failure : Failure) → F failure → G failure) → Fills A F before after needed status → Fills B G before after needed status
-fills_by before after needed status h k (Whole answer a s n l e) = Whole answer (h answer a) s n l e
-fills_by before after needed status h k (Short answer a s n l e) = Short answer (h answer a) s n l e
-fills_by before after needed status h k (Fails failure f s n e) = Fails failure (k failure f) s n e
+pub fills_by : {A B : List ℕ → Type 0} {F G : Failure → Type 0} (before after : List ℕ) (needed : ℕ) (status : Status) → Fills A F before after needed status → ((answer : List ℕ) → A answer → B answer) → ((failure : Failure) → F failure → G failure) → Fills B G before after needed status
+fills_by before after needed status (Whole answer a s n l e) h k = Whole answer (h answer a) s n l e
+fills_by before after needed status (Short answer a s n l e) h k = Short answer (h answer a) s n l e
+fills_by before after needed status (Fails failure f s n e) h k = Fails failure (k failure f) s n e
 
 pub of_ok : {T E : Type 0} (P : List ℕ → Type 0) (bytes : T → List ℕ) (r : Result T E) (answer : List ℕ) → IsOkAnd r (λ x. answer ≡ bytes x) → IfOk r (λ x. P (bytes x)) → P answer
 of_ok P bytes (Ok x) answer e p = subst P (sym e) p
@@ -22,9 +22,9 @@ pub of_err : {T E : Type 0} (P : E → Type 0) (r : Result T E) (failure : E) �
 of_err P (Ok x) failure e p = absurd (cc)
 of_err P (Err f) failure e p = let same : f ≡ failure = cc in subst P same p
 
-pub if_err : {T E : Type 0} {P Q : E → Type 0} (r : Result T E) → ((failure : E) → P failure → Q failure) → IfErr r P → IfErr r Q
-if_err (Ok x) h p = tt
-if_err (Err f) h p = h f p
+pub if_err : {T E : Type 0} {P Q : E → Type 0} (r : Result T E) → IfErr r P → ((failure : E) → P failure → Q failure) → IfErr r Q
+if_err (Ok x) p h = tt
+if_err (Err f) p h = h f p
 
 -- why there is no answer, of a list that isn't understood, and of one that is
 pub explains_list : (list : List ℕ) (failure : Failure) → (failure ≡ Arguments) ⊎ (failure ≡ Memory) → Explains list failure

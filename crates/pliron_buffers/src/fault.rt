@@ -48,13 +48,14 @@ fn fault_of(alloc: Global, text: &[u8]) -> Result<Option<Fault>, Failure>
             expected: format!(in alloc; "at most {MAX_TEXT} bytes")?,
         }));
     }
-    match find_text_fault(alloc, text)? {
-        Some(fault) => Ok(Some(Fault {
+    match find_text_fault(alloc, text) {
+        Ok(Some(fault)) => Ok(Some(Fault {
             start: fault.span.start,
             len: fault.span.len,
             expected: fault.expected.to_string(alloc)?,
         })),
-        None => Ok(None),
+        Ok(None) => Ok(None),
+        Err(error) => Err(Failure::of(error)),
     }
 }
 

@@ -14,9 +14,10 @@ fn answer_of_graph(alloc: Global, text: &[u8]) -> Result<String, Failure>
     if text.len() > MAX_TEXT {
         return Err(Failure::Text);
     }
-    match describe_graph(alloc, text)? {
-        Some(answer) => Ok(answer),
-        None => Err(Failure::Text),
+    match describe_graph(alloc, text) {
+        Ok(Some(answer)) => Ok(answer),
+        Ok(None) => Err(Failure::Text),
+        Err(error) => Err(Failure::of(error)),
     }
 }
 

@@ -42,9 +42,10 @@ fn answer_of<N: Notation>(
     if text.len() > MAX_TEXT {
         return Err(Failure::Text);
     }
-    match optimise_text::<N>(alloc, schedule, text)? {
-        Some(answer) => Ok(answer),
-        None => Err(Failure::Text),
+    match optimise_text::<N>(alloc, schedule, text) {
+        Ok(Some(answer)) => Ok(answer),
+        Ok(None) => Err(Failure::Text),
+        Err(error) => Err(Failure::of(error)),
     }
 }
 

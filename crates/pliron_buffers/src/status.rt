@@ -1,5 +1,5 @@
 //! What calls answer, and why no answer is known.
-ghost use Rattle.std.specs.Prelude.{◌≡◌};
+ghost use Rattle.std.specs.Prelude.{◌≡◌, ◌≢◌};
 ghost use Rattle.pliron_buffers.specs.declared.status.Failure.TheVariants.{Memory as ByMemory};
 
 use pliron_laws::OptError;
@@ -31,22 +31,6 @@ impl From<AllocError> for Failure {
     }
 }
 
-impl From<OptError> for Failure {
-    ghost use Rattle.pliron_buffers.specs.Statuses.{failure_of};
-
-    ghost from_gives = { λ error failure. failure ≡ failure_of error };
-
-    fn from(error: OptError) -> Failure {
-        match error {
-            OptError::Memory => Failure::Memory,
-            OptError::LiveUse
-            | OptError::VerifyBefore
-            | OptError::VerifyAfter
-            | OptError::Pass(_) => Failure::Refused,
-        }
-    }
-}
-
 /// What a call answers.
 #[derive(Clone, Copy, Debug, PartialEq, Eq)]
 pub enum Status {
@@ -65,7 +49,21 @@ pub enum Status {
 }
 
 impl Failure {
-    ghost use Rattle.pliron_buffers.specs.Statuses.{status_of};
+    ghost use Rattle.pliron_buffers.specs.Statuses.{failure_of, status_of};
+
+    /// The failure of a call that gave up so. Cost: constant.
+    pub fn of(error: OptError) -> Self
+        ensures value { result ≡ failure_of error }
+        ensures later { result ≢ Failure.Arguments }
+    {
+        match error {
+            OptError::Memory => Failure::Memory,
+            OptError::LiveUse
+            | OptError::VerifyBefore
+            | OptError::VerifyAfter
+            | OptError::Pass(_) => Failure::Refused,
+        }
+    }
 
     /// The status that tells it. Cost: constant.
     pub fn status(self) -> Status

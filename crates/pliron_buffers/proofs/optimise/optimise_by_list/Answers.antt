@@ -6,4 +6,5 @@ returns-in_err-schedule-clause-failure g c = explains_list c.args.list.now _ c.i
 
 pub returns-clause-failure : goal.returns-clause-failure
 returns-clause-failure g c =
-    if_err c.answer_of.result (λ failure other. explains_text c.args.list.now failure (lists c.args.list.now c.in_ok-schedule.schedule c.in_ok-schedule.ensures.planned) other) c.answer_of.ensures.failure
+    if_err c.answer_of.result c.answer_of.ensures.failure
+    (λ failure other. explains_text c.args.list.now failure (lists c.args.list.now c.in_ok-schedule.schedule c.in_ok-schedule.ensures.planned) other)
