@@ -1,6 +1,6 @@
-//! The work of each command of `plir`, the program for people, as functions from texts and wishes to texts.
+//! The work of each command of `plir`, the command-line program, as functions from texts and options to texts.
 //!
-//! It knows what people want to see of texts and runs, and of notations how to read, print and run their texts; of words,
+//! It knows what users want to see of texts and runs, and of notations how to read, print and run their texts; of words,
 //! files and streams it knows nothing.
 #![tactic(auto)]
 

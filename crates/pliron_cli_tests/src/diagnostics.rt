@@ -1,4 +1,4 @@
-//! Tests of what people see of texts, trees and runs. It has no function of its own.
+//! Tests of what users see of texts, trees and runs. It has no function of its own.
 #[cfg(test)]
 mod faults;
 #[cfg(test)]

@@ -1,4 +1,4 @@
-//! Tests of what the commands of the program for people do. It has no function of its own.
+//! Tests of what the commands of the command-line program do. It has no function of its own.
 #![tactic(auto)]
 
 #[cfg(test)]

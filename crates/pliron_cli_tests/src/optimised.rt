@@ -6,7 +6,7 @@ use pliron_opts::plir_run;
 use std::alloc::Global;
 use std::process::Abort;
 
-/// Passes that are watched so.
+/// Passes that are instrumented so.
 pub fn with_watch<'w>(pipeline: &'w str, watch: InstrumentationOptions<'w>) -> OptOptions<'w> {
     OptOptions {
         pipeline,

@@ -19,7 +19,7 @@ use Rattle.pliron_theory.specs.Dropping.{EdgesLose, AreEdgesTo}
 use Rattle.pliron_laws.proofs.Records.{op_shows, operation_of}
 use Rattle.pliron_theory.proofs.Keys.{not_is}
 use Rattle.pliron_laws.proofs.ShapeLemmas.{shape_head}
-use Rattle.pliron_theory.proofs.ShortenedBranches.{Among, lost, shape_operands, SameFrame, same_frame, Steps, Stays, ErasesItem, steps, frame_step, Untouched, untouched, user_live, AreListed, loses_one, branch_less, shape_less, stands_less}
+use Rattle.pliron_theory.proofs.ShortenedBranches.{Among, lost, shape_operands, SameFrame, same_frame, Steps, Stays, Goes, steps, frame_step, Untouched, untouched, user_live, AreListed, loses_one, branch_less, shape_less, stands_less}
 use Rattle.pliron_dce.proofs.PlaceLists.{map_remove, remove_none, pick_moved, in_others, picked_at, picked_none, distinct_remove, distinct_gone, distinct_range, range_in, pick_range}
 
 module _ (m : Meaning) (can_fold : Head → Bool) (SameTests : Head → Head → Type 0) (shortened : Shape → ℕ → ℕ → Head) (law : ForwardsOperands m can_fold SameTests shortened) (tests : (h h' : Head) → SameTests h h' → m.is_branch h' ≡ m.is_branch h) (t : Tree) (w : IsTree t) (block index : ℕ) where
@@ -209,7 +209,7 @@ module _ (m : Meaning) (can_fold : Head → Bool) (SameTests : Head → Head →
       same = λ q. grind arith;
       acts = λ u. let a = r.acts u in (a.0, subst (λ z. PlacesStill z e.user a.0 r.places (e.place ∷ r.done) u) (sym same) (still_stays u a.0 a.1 (none a.0 a.1.stands a.1.branch)));
     }
-    placed_own (ErasesItem o p oe at lt same) = record {
+    placed_own (Goes o p oe at lt same) = record {
       done = e.place ∷ r.done;
       sound = own_sound;
       pending = λ i s. own_pending i (r.pending i s);

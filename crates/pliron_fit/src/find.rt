@@ -1,4 +1,6 @@
 //! Whether an operation is fit to run.
+//!
+//! The check for dominance comes last, so it may rely on edges and uses.
 ghost use Rattle.std.specs.Prelude.{◌≡◌, ◌↔◌, ◌⊎◌, ◌∷◌, ◌++◌, ℕ, List, [], None, OnOk, IfOk, IfErr, IfSome, IsOkUnless, IsTrue};
 ghost use Rattle.pliron_core.specs.Tree.{In, IsLive, IsWithin, successors_of};
 ghost use Rattle.pliron_core.specs.Walks.{preorder};
@@ -126,7 +128,7 @@ pub fn is_fit<D: Dialect>(
     Ok(violation.is_none())
 }
 
-// The operation goes to the end of the list, if it stands and is fit to run.
+// The operation is appended to the list, if it is live and fit to run.
 fn add_if_fit<D: Dialect>(
     alloc: Global,
     root: Ptr<Operation>,

@@ -79,7 +79,7 @@ fn components_by_number<N: Copy>(
 {
     let mut all = Vec::with_capacity(alloc, components.len())?;
     for component in components {
-        let members = traversal::components_by_number(alloc, nodes, &component.nodes)?;
+        let members = traversal::nodes_by_number(alloc, nodes, &component.nodes)?;
         all.push(Scc {
             nodes: members,
             is_cyclic: component.is_cyclic,

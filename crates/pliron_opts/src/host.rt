@@ -23,8 +23,8 @@ fn words(rt: &HostRuntime) -> io::Result<Vec<String>> {
 /// The words after the program's name. A word that is no text is none that a program knows: there are no
 /// words then, which asks for nothing.
 ///
-/// No clause speaks of a process's words: this is read. Errors: for allocation failure the status of a program that
-/// memory was refused, once standard error says so. Cost: linear in the words.
+/// No clause speaks of a process's words: this is read. Errors: for allocation failure the status for
+/// allocation failure, once standard error says so. Cost: linear in the words.
 pub fn host_words(rt: &HostRuntime) -> Result<Vec<String>, ExitCode> {
     match words(rt) {
         Ok(words) => Ok(words),

@@ -83,6 +83,40 @@ pub fn counts_all(attrs: &Attrs, edges: usize, operands: usize) -> bool
     all < operands && all + 1 == operands
 }
 
+/// How many edges are few: among them, the one that an operand goes along is found at once.
+const FEW_EDGES: usize = 64;
+
+// The edge, of few, up to which the attributes count the operand at this place, behind what the branch decides by;
+// else how many edges there are.
+fn edge_up_to(attrs: &Attrs, operands: usize, edges: usize, place: usize) -> usize
+    ensures { result ≤ edges }
+{
+    let mut end: usize = 1;
+    for i in 0..edges.min(FEW_EDGES) {
+        end = end.saturating_add(count_at(attrs, edges, i, operands));
+        if place < end {
+            return i;
+        }
+    }
+    edges
+}
+
+/// The edge along which the operand at this place may go, where few edges have to be asked; else how many edges
+/// there are. Asks that the operation stands (`is_live` tests it). Cost: constant.
+pub fn edge_near<K: Roles>(op: Ptr<Operation>, ctx: &Context, place: usize) -> usize
+    requires { IsLive ctx.now.tree op }
+    ensures { result ≤ length (successors_of ctx.now.tree op) }
+{
+    let edges = op.num_successor(ctx);
+    match form_at::<K>(op, ctx) {
+        Some(Form::Jumps) => 0,
+        Some(Form::Chooses) => {
+            edge_up_to(&op.head(ctx).attrs, op.num_operand(ctx), edges, place)
+        }
+        _ => edges,
+    }
+}
+
 // The places of the operands that an edge of a branch with so many edges and operands forwards.
 fn branch_places(attrs: &Attrs, operands: usize, edges: usize, i: usize) -> EdgeRange
     ensures places { capped_places operands (counts_in edges attrs.now) i ≡ range_with_len result.first result.count }

@@ -20,13 +20,14 @@ pub mod ListedArguments
 pub mod FoundChange
 pub mod Going
 pub mod Numbered
+pub mod Preorder
 pub mod UserLists
 pub mod Reactions
 pub mod InsideLists
 pub mod DeferralSteps
 pub mod Stamps
 pub mod Stepping
-pub mod Deferred
+pub mod DeferredVisits
 pub mod ReactionSteps
 pub mod Accounting
 pub mod OnTheWay

@@ -84,6 +84,6 @@ flat_taken f xs i x before now more at so_far grown =
     add-one i = omega arith
 
 -- the first item of a list comes off a stack last that was put on it from its end
-pub stacked_next : (stack before whole rest left more : List ℕ) (x : ℕ) → stack ++ reverse rest ≡ before ++ reverse whole → rest ≡ left ++ x ∷ [] → more ≡ stack ++ x ∷ [] → more ++ reverse left ≡ before ++ reverse whole
+pub stacked_next : {A : Type 0} (stack before whole rest left more : List A) (x : A) → stack ++ reverse rest ≡ before ++ reverse whole → rest ≡ left ++ x ∷ [] → more ≡ stack ++ x ∷ [] → more ++ reverse left ≡ before ++ reverse whole
 stacked_next stack before whole rest left more x so_far e m =
     ap (λ xs. xs ++ reverse left) m ∙ append_assoc stack (x ∷ []) (reverse left) ∙ ap (λ xs. stack ++ xs) (sym (ap reverse e ∙ reverse-append left (x ∷ []))) ∙ so_far

@@ -40,7 +40,7 @@ use Rattle.pliron_sccp.proofs.InsideLists.{holds_listed}
 use Rattle.pliron_sccp.proofs.Settled.{entered_still, varies_still, closed_when_settled}
 use Rattle.pliron_sccp.proofs.Stepping.{entries_of, others_reached, entry_apart, entry_held, all_but_one, argument_but, below_but, unknown_but, below_same, IsSettledIn, AreSettledIn, settled_wider, through_settles, through_falls, looks_only, block_settles, look_starts, look_holds, look_known}
 use Rattle.pliron_sccp.proofs.Applied.{falls_trans}
-use Rattle.pliron_sccp.proofs.Deferred.{aside_block, aside_then, aside_values}
+use Rattle.pliron_sccp.proofs.DeferredVisits.{aside_block, aside_then, aside_values}
 use Rattle.pliron_sccp.proofs.ReactionSteps.{values_settle, reached_before, called_aside, called_starts, called_known, nothing_called}
 use Rattle.pliron_sccp.proofs.BestVisit.{PassesItsOperands}
 use Rattle.pliron_sccp.proofs.BestSteps.{start_best, step_best, aside_best, aside_kept, best_precise}

@@ -5,6 +5,15 @@
 //! folds no result, and no operand that it doesn't just forward was lowered), comes last. Eight operands cost
 //! at most seventeen visits, since each is lowered twice at most, so shorter operations are never deferred. The
 //! search ends since what can still be popped counts 2^64 times as much as what is deferred.
+//!
+//! A deferred visit is no lattice value, and this is no worklist of values or blocks. Each block that is entered and each
+//! value that is lowered waits in `Tables`, by its number, with the room reserved beforehand; it is popped there one by
+//! one, and counted, before an operation is visited for it or deferred. A visit pops nothing and is not counted, whether
+//! it was deferred or not.
+//!
+//! The sets are by key, and grow: operations have no numbers here, and a number for each would cost each text a table as
+//! long as itself, while few operations have so many operands. So deferring may fail to allocate. No rewrite was begun
+//! by then, so the tree is as before.
 ghost use Rattle.std.specs.Prelude.{◌≡◌, ◌<◌, ◌≤◌, ◌+◌, ℕ, [], IfNone, IfOk, IfSome, OnOk, IsOkUnless, IsTrue, Some, ◌↔◌, length, slice_get};
 ghost use Rattle.pliron_sccp.specs.Deferring.{HasFirst, Defers, PopsDeferred, deferred_operations};
 

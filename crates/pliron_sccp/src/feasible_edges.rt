@@ -4,6 +4,9 @@
 //! names operands. Where an operand is lowered, the one argument is then lowered at once. The visit still
 //! follows, so no invariant is owed: where folds are monotone a feasible edge stays feasible, and a candidate
 //! is tested before it is used. Four visits tell such a branch from one that one visit at the end serves.
+//!
+//! What is kept is derived from lattice values and is none; those stand in `Tables`, by number. The tables here are by
+//! key, and grow: a row for each operation, by number, would cost each text a table as long as itself.
 ghost use Rattle.std.specs.Prelude.{◌≡◌, ◌↔◌, false, ℕ, Some, OnOk, IsOkUnless, IsTrue};
 ghost use Rattle.indexmap.specs.IndexMap.{index_map_len};
 ghost use Rattle.pliron_core.specs.Tree.{IsLive};

@@ -44,7 +44,7 @@ use crate::constraints::{Constraint, Scratch, constrain_entries, constraints_of,
 use crate::deferred::DeferredOperations;
 use crate::entry_operands::EntryCandidate;
 use crate::feasible_edges::FeasibleEdges;
-use crate::inside::{all_blocks, block_numbers, value_numbers};
+use crate::inside::{all_blocks, block_numbers, count_values, value_numbers};
 use crate::lattice_tables::Tables;
 use indexmap::IndexSet;
 use pliron_core::{BasicBlock, Context, Operation, Ptr, Value};
@@ -62,7 +62,7 @@ fn initial_tables(alloc: Global, root: Ptr<Operation>, ctx: &Context) -> Result<
     ctx.well_formed();
     let blocks = all_blocks(alloc, root, ctx)?;
     let numbered = block_numbers(alloc, &blocks)?;
-    let values = value_numbers(alloc, &blocks, ctx)?;
+    let values = value_numbers(alloc, root, count_values(&blocks, ctx), ctx)?;
     Tables::over(alloc, numbered, values)
 }
 

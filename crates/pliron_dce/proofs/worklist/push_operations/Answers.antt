@@ -1,5 +1,5 @@
 use Rattle.std.proofs.Common.{◌≡◌, ◌++◌, ◌∷◌, [], ◌+◌, ◌≤◌, ◌∙◌, take, map, length, arith, ap, sym, append_assoc}
-use Rattle.std.proofs.lemmas.List.{take_more, erase_all_dead, map-append}
+use Rattle.std.proofs.lemmas.List.{take_more, take_all, map-append}
 use Rattle.pliron_dce.specs.declared.worklist.DeadCandidate.TheVariants.{Operation}
 use Rattle.pliron_dce.proofs.worklist.push_operations.Goals as goal
 
@@ -14,4 +14,4 @@ loop-op-preserved c =
 pub returns : goal.returns
 returns c =
     let all : length c.args.ops.now ≤ c.loop-op.op-index = omega (arith, c.loop-op-test.false) in
-    c.loop-op.invariant ∙ ap (λ z. c.args.round.now.items ++ map (λ k. Operation k) z) (erase_all_dead c.loop-op.op-index c.args.ops.now all)
+    c.loop-op.invariant ∙ ap (λ z. c.args.round.now.items ++ map (λ k. Operation k) z) (take_all c.loop-op.op-index c.args.ops.now all)

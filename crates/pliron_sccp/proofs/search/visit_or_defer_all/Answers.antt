@@ -2,7 +2,7 @@ use Rattle.std.proofs.Common.{◌≡◌, length, Some, slice_get, refl, arith}
 use Rattle.std.proofs.lemmas.Option.{slice_get_read}
 use Rattle.pliron_core.proofs.HoldingLemmas.{in_slice}
 use Rattle.pliron_theory.specs.LatticeValues.{Says}
-use Rattle.pliron_sccp.proofs.Deferred.{seeing_start, seeing_next, seeing_end}
+use Rattle.pliron_sccp.proofs.DeferredVisits.{seeing_start, seeing_next, seeing_end}
 use Rattle.pliron_sccp.proofs.Stepping.{targets_same}
 use Rattle.pliron_sccp.proofs.search.visit_or_defer_all.Goals as goal
 

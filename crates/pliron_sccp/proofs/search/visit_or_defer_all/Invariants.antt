@@ -1,7 +1,7 @@
 use Rattle.std.proofs.Common.{◌≤◌, length}
 use Rattle.pliron_sccp.specs.LatticeTables.{lattice_values_of}
 use Rattle.pliron_sccp.specs.Constraints.{AreEntriesExecutable}
-use Rattle.pliron_sccp.proofs.Deferred.{IsSeeing}
+use Rattle.pliron_sccp.proofs.DeferredVisits.{IsSeeing}
 use Rattle.pliron_sccp.proofs.search.visit_or_defer_all.Given as goal
 
 abbrev pub invariant-loop-i : goal.invariant-loop-i
