@@ -5,7 +5,7 @@ ghost use Rattle.pliron_buffers.specs.Fills.{Fills};
 use crate::status::{Failure, Status};
 
 /// Writes the answer to the start of the buffer, if it fits, and tells its length; of a failure it tells 0, and
-/// writes nothing.
+/// writes nothing. Cost: linear in the answer.
 pub fn fill(answer: Result<String, Failure>, output: &mut [u8], needed: &mut usize) -> Status
     ensures { Fills (λ bytes. IsOkAnd answer (λ text. bytes ≡ string_bytes text)) (λ failure. IsErrOf answer failure)
         output.old output.new needed.new result }
