@@ -1,5 +1,6 @@
 //! Marks under a part of a text.
-ghost use Rattle.std.specs.Prelude.{◌≡◌, ◌+◌, ◌≤◌, length, IfOk};
+ghost use Rattle.std.specs.Prelude.{◌≡◌, ◌+◌, ◌==◌, ◌≤◌, length, take, take_while, reverse, not, IfOk};
+ghost use Rattle.pliron_diagnostics.specs.Position.{is_line_end, line_behind, column_behind};
 
 use std::alloc::{AllocError, Global};
 
@@ -13,19 +14,28 @@ pub struct Position {
     pub column: usize,
 }
 
-/// Where the byte after so many stands. Cost: linear in these.
-pub fn position_of(text: &[u8], start: usize) -> Position {
-    let mut line: usize = 1;
-    let mut column: usize = 1;
-    for byte in text.iter().take(start) {
-        if *byte == b'\n' {
-            line = line.saturating_add(1);
-            column = 1;
-        } else {
-            column = column.saturating_add(1);
-        }
+/// How many bytes stand behind the last end of a line.
+fn last_line_len(text: &[u8]) -> usize
+    ensures { result ≡ length (take_while (λ byte. not (is_line_end byte)) (reverse text.now)) }
+{
+    let mut len = 0;
+    for byte in text {
+        len = if *byte == b'\n' { 0 } else { len + 1 };
     }
-    Position { line, column }
+    len
+}
+
+/// Where the byte after so many stands. Cost: linear in these.
+pub fn position_of(text: &[u8], start: usize) -> Position
+    ensures line { result.line ≡ line_behind (take start text.now) }
+    ensures column { result.column ≡ column_behind (take start text.now) }
+{
+    let before = &text[..start.min(text.len())];
+    let line_ends = before.iter().filter(|byte| **byte == b'\n').count();
+    Position {
+        line: 1 + line_ends,
+        column: 1 + last_line_len(before),
+    }
 }
 
 /// A text, and where it is from.

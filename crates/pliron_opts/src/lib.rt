@@ -17,10 +17,10 @@ mod host;
 mod optimise;
 mod program;
 
-use graph::describe_graph;
+pub use graph::describe_graph;
 pub use host::{host_words, optimise_host};
-pub use optimise::{BenchNotation, KindNotation, Notation};
-use optimise::{Command, optimise_text, read_command};
+pub use optimise::{BenchNotation, KindNotation, Notation, optimise_text, plan_schedule};
+use optimise::{Command, read_command};
 use pliron_bench::Bench;
 pub use pliron_cfg::{
     merge_inside_block, merge_inside_op, merge_inside_region, remove_blocks_inside_block,
@@ -33,7 +33,8 @@ pub use pliron_pipeline::{
     DCEPass, PassStep, Pipeline, SCCPPass, Schedule, SimplifyCFGPass, run_pipeline,
 };
 pub use pliron_sccp::{sccp, sccp_counted};
-use program::{Failure, MAX_TEXT, read_input, write_answer};
+pub use program::MAX_TEXT;
+use program::{Failure, read_input, write_answer};
 use std::alloc::Global;
 use std::io::{Read, Write};
 

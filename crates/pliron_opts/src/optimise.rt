@@ -4,5 +4,5 @@ mod command;
 mod notation;
 
 pub use answer::optimise_text;
-pub use command::{Command, read_command};
+pub use command::{Command, plan_schedule, read_command};
 pub use notation::{BenchNotation, KindNotation, Notation};

@@ -72,7 +72,9 @@ fn schedule<D: Dialect>(
 }
 
 /// The schedule (pass pipeline) that the word plans, if each of its names is the name of a pass.
-fn plan_schedule<D: Dialect>(
+///
+/// Errors: allocation failure. Cost: linear in the word.
+pub fn plan_schedule<D: Dialect>(
     alloc: Global,
     word: &str,
 ) -> Result<Option<Schedule<D, BenchFacts>>, AllocError>
