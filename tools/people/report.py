@@ -1,0 +1,152 @@
+#!/usr/bin/env python3
+"""plir report FILE PIPELINE -o report.html: what passes made of a text, as one page that stands alone.
+
+Before and after stand side by side, with what each run of a pass changed, the control flow as pictures where
+Graphviz is there, counts, and the reasons.
+"""
+import argparse
+import difflib
+import html
+import re
+import shutil
+import subprocess
+import sys
+from pathlib import Path
+
+sys.path.insert(0, str(Path(__file__).resolve().parent))
+import notation
+import program
+
+HEAD = re.compile(r"--- run (\d+), after (\S+?): (changed|unchanged)\n")
+
+STYLE = """
+body { font: 15px/1.45 system-ui, sans-serif; margin: 1.5em auto; max-width: 76em; padding: 0 1em; color: #1b1f24; }
+h1 { font-size: 1.5em; } h2 { font-size: 1.15em; margin-top: 2em; border-bottom: 1px solid #d0d7de; padding-bottom: .2em; }
+pre, table.sides td { font: 13px/1.5 ui-monospace, monospace; }
+table.sides { border-collapse: collapse; width: 100%; table-layout: fixed; }
+table.sides td { vertical-align: top; padding: 0 .6em; white-space: pre-wrap; overflow-wrap: anywhere; }
+table.sides td.number { width: 2.6em; color: #6e7781; text-align: right; user-select: none; }
+table.sides td.went { background: #ffebe9; } table.sides td.came { background: #dafbe1; }
+table.reasons { border-collapse: collapse; } table.reasons td { padding: .15em .8em .15em 0; vertical-align: top; }
+.pictures { display: flex; gap: 2em; flex-wrap: wrap; } .pictures figure { margin: 0; max-width: 100%; overflow-x: auto; }
+pre { background: #f6f8fa; padding: .7em 1em; overflow-x: auto; border-radius: 6px; }
+span.went { color: #b3261e; } span.came { color: #116329; }
+.place { color: #6e7781; font: 13px ui-monospace, monospace; }
+"""
+
+
+def cell(kind, line):
+    return f'<td class="{kind}">{html.escape(line)}</td>' if line is not None else "<td></td>"
+
+
+def sides(before, after):
+    """Both texts side by side, equal lines beside one another."""
+    rows = ["<tr><th></th><th>before</th><th></th><th>after</th></tr>"]
+    matcher = difflib.SequenceMatcher(a=before, b=after, autojunk=False)
+    for tag, a, b, c, d in matcher.get_opcodes():
+        for at in range(max(b - a, d - c)):
+            old = before[a + at] if a + at < b else None
+            new = after[c + at] if c + at < d else None
+            same = tag == "equal"
+            rows.append(
+                f'<tr><td class="number">{a + at + 1 if old is not None else ""}</td>{cell("" if same else "went", old)}'
+                f'<td class="number">{c + at + 1 if new is not None else ""}</td>{cell("" if same else "came", new)}</tr>'
+            )
+    return f'<table class="sides">{"".join(rows)}</table>'
+
+
+def picture(plir, text, title, region):
+    """The control flow as SVG, where Graphviz is there, and else in its language."""
+    status, dot, _ = plir.run("dot", "--region", region, text=text)
+    if status:
+        return ""
+    caption = f"<figcaption>{html.escape(title)}</figcaption>"
+    if shutil.which("dot"):
+        drawn = subprocess.run(["dot", "-Tsvg"], input=dot, capture_output=True, text=True)
+        if drawn.returncode == 0:
+            return f"<figure>{caption}{drawn.stdout[drawn.stdout.index('<svg'):]}</figure>"
+    return f"<figure>{caption}<pre>{html.escape(dot)}</pre></figure>"
+
+
+def pictures(plir, before, after):
+    regions = re.findall(r"\{ ((?:\d+\.)+\d+) \}", plir.run("dot", text=before)[1])
+    shown = "".join(picture(plir, text, title, "0") for text, title in ((before, "before"), (after, "after")))
+    parts = [f'<div class="pictures">{shown}</div>']
+    for region in regions[:40]:
+        shown = "".join(
+            picture(plir, text, f"{title}, region {region}", region) for text, title in ((before, "before"), (after, "after"))
+        )
+        parts.append(f'<div class="pictures">{shown}</div>')
+    return "".join(parts)
+
+
+def reasons(lines):
+    rows = []
+    for line in lines:
+        place, found, rest = line.partition(" ")
+        if re.fullmatch(r"\d+:\d+", place):
+            rows.append(f'<tr><td class="place">{place}</td><td>{html.escape(rest)}</td></tr>')
+        else:
+            rows.append(f"<tr><td></td><td>{html.escape(line)}</td></tr>")
+    return f'<table class="reasons">{"".join(rows)}</table>'
+
+
+def changes(text, told):
+    """The lines that each run of a pass changed."""
+    parts = HEAD.split(told)
+    lines = []
+    for number, name, status, after in zip(parts[1::4], parts[2::4], parts[3::4], parts[4::4]):
+        new = after.rstrip("\n").split("\n")
+        lines.append(html.escape(f"run {number}, {name}: {status}"))
+        if status == "changed":
+            for line in list(difflib.unified_diff(text, new, n=2, lineterm=""))[2:]:
+                kind = {"-": "went", "+": "came"}.get(line[:1])
+                lines.append(f'<span class="{kind}">{html.escape(line)}</span>' if kind else html.escape(line))
+        text = new
+    return f"<pre>{chr(10).join(lines)}</pre>"
+
+
+def page(asked, plir, text):
+    status, after, told = plir.run("opt", "--pretty", asked.pipeline, text=text)
+    if status:
+        sys.stderr.write(told.replace("standard input", asked.file))
+        return status, ""
+    before = notation.written(notation.read(text))
+    stats = plir.run("opt", "--stats", asked.pipeline, text=text)[2]
+    runs = plir.run("opt", "--pretty", "--print-after-all", asked.pipeline, text=text)[2]
+    why = plir.run("explain", "-", asked.pipeline, text=text)[1]
+    unfit = plir.run("check", text=text)
+    title = f"{Path(asked.file).name}: {asked.pipeline}"
+    parts = [
+        f"<h1>{html.escape(title)}</h1>",
+        f"<p>{html.escape(unfit[1].strip() or 'not fit to run')}</p>" if not unfit[0] else f"<pre>{html.escape(unfit[2])}</pre>",
+        "<h2>Before and after</h2>",
+        sides(before.rstrip("\n").split("\n"), after.rstrip("\n").split("\n")),
+        "<h2>Control flow</h2>",
+        pictures(plir, before, after),
+        "<h2>What each run changed</h2>",
+        changes(before.rstrip("\n").split("\n"), runs),
+        "<h2>Reasons</h2>",
+        reasons(why.splitlines()),
+        "<h2>Counts</h2>",
+        f"<pre>{html.escape(stats)}</pre>",
+    ]
+    head = f'<!doctype html><html lang="en"><head><meta charset="utf-8"><title>{html.escape(title)}</title><style>{STYLE}</style></head>'
+    return 0, f"{head}<body>{''.join(parts)}</body></html>\n"
+
+
+def main():
+    about = argparse.ArgumentParser(prog="plir report", description=__doc__.split("\n\n")[1])
+    about.add_argument("file", metavar="FILE", help="the text")
+    about.add_argument("pipeline", metavar="PIPELINE", help="the passes, as for `plir opt`")
+    about.add_argument("-o", "--output", metavar="FILE", help="where to write; standard output, if left out")
+    asked = about.parse_args()
+    plir = program.Plir()
+    status, text = page(asked, plir, program.read(asked.file))
+    if not status:
+        program.write(asked.output, text)
+    return status
+
+
+if __name__ == "__main__":
+    sys.exit(main())
