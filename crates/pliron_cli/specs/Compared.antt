@@ -1,5 +1,5 @@
 -- What is seen of runs before and after passes.
-use Rattle.std.specs.Prelude.{◌≡◌, ◌⊎◌, ℕ, Bool, true, false, List, [], ◌∷◌, ◌++◌, codes}
+use Rattle.std.specs.Prelude.{◌≡◌, ◌⊎◌, ℕ, Bool, true, false, List, [], ◌∷◌, ◌++◌, codes, if◌then◌else◌}
 use Rattle.pliron_core.specs.Tree.{Tree}
 use Rattle.pliron_core.specs.declared.attrs.IRStatus.{IRStatus}
 use Rattle.pliron_laws.specs.Datum.{Datum, Meaning}
@@ -19,11 +19,9 @@ is_cut_off (Ended values effects) = false
 is_cut_off (Trapped effects) = false
 is_cut_off (Reached effects) = true
 
--- both runs ended or trapped, and the same is seen of them
-pub record AreSame (eq : Sight → Sight → Bool) (sights : Sights) : Type 0 where
-  pub equal : eq sights.before sights.after ≡ true
-  pub before_ended : is_cut_off sights.before ≡ false
-  pub after_ended : is_cut_off sights.after ≡ false
+-- whether both runs ended or trapped, and the same is seen of them
+abbrev pub are_same : (Sight → Sight → Bool) → Sights → Bool
+are_same eq sights = if is_cut_off sights.before then false else if is_cut_off sights.after then false else eq sights.before sights.after
 
 -- the last line of what is written
 abbrev pub same_line : List ℕ
@@ -56,14 +54,14 @@ module _ (reads : Reads) (m : Meaning) (inputs world : List Datum) (steps : ℕ)
   pub record AreToldSame (eq : Sight → Sight → Bool) (ran : ℕ → Tree → Tree → IRStatus → Type 0) (text output : List ℕ) : Type 0 where
     pub sights : Sights
     pub seen_so : AreSeen ran text sights
-    pub are_same : AreSame eq sights
+    pub same_sights : are_same eq sights ≡ true
     pub written : EndsWith same_line output
 
   -- they are not, and it is written that nothing differs so far, or that something does
   pub record AreToldOther (eq : Sight → Sight → Bool) (ran : ℕ → Tree → Tree → IRStatus → Type 0) (text output : List ℕ) : Type 0 where
     pub sights : Sights
     pub seen_so : AreSeen ran text sights
-    pub are_other : AreSame eq sights → ⊥
+    pub other_sights : are_same eq sights ≡ false
     pub written : EndsWith so_far_line output ⊎ EndsWith different_line output
 
   -- how comparing runs of a text around these passes ends

@@ -162,6 +162,7 @@ fn wrong_with<N: Shown>(alloc: Global, source: &Source) -> Result<Option<Option<
 }
 
 /// The same in this context.
+#[tactic(auto, using(crate::proofs::PeopleLemmas::fit_when, crate::proofs::PeopleLemmas::unfit_when))]
 fn wrong_in<N: Shown>(
     alloc: Global,
     source: &Source,
@@ -186,6 +187,7 @@ fn wrong_in<N: Shown>(
 /// Statuses: 0 where nothing keeps it; 1 where memory was refused; 2 for an unreadable text; 3 where something does.
 /// With all but 0 nothing is to be written to the output. Errors: allocation failure for what is told. Cost: reading, and
 /// that of `find_violation`.
+#[tactic(auto, using(crate::proofs::PeopleLemmas::says_fit, crate::proofs::PeopleLemmas::says_unfit))]
 pub fn check<N: Shown>(alloc: Global, source: &Source) -> Result<Outcome, AllocError>
     ensures { IfOk result (λ outcome. Ends (IsFitText N.reads N.D.meaning source.now.text.now × (outcome.output.items ≡ fit_line))
         (IsUnfitText N.reads N.D.meaning source.now.text.now × (outcome.output.items ≡ [])) outcome) }

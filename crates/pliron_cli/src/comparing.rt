@@ -4,8 +4,8 @@ ghost use Rattle.pliron_core.specs.Writes.{no_tree};
 ghost use Rattle.pliron_laws.specs.Datum.{Number as NumberOf};
 ghost use Rattle.pliron_opts.specs.Ran.{RunsAlone};
 ghost use Rattle.pliron_cli.specs.Asked.{EndsByPlan, EndsByWord};
-ghost use Rattle.pliron_cli.specs.Compared.{AreSeen, EndsCompared, EndsWith, is_cut_off as was_cut_off};
-ghost use Rattle.pliron_cli.specs.Likeness.{IsLikeness, IsTold, IsToldOther, last_line};
+ghost use Rattle.pliron_cli.specs.Compared.{AreSeen, EndsCompared, EndsWith, are_same, is_cut_off as was_cut_off};
+ghost use Rattle.pliron_cli.specs.Likeness.{IsLikeness, IsTold, IsToldOther, last_line, status_for};
 ghost use Rattle.pliron_cli.specs.Outcomes.{Ends};
 
 use crate::failure::CommandFailure;
@@ -74,19 +74,42 @@ fn is_cut_off(sight: &Sight) -> bool
     }
 }
 
+/// Whether both runs ended or trapped, and the same is seen of them.
+#[tactic(auto, using(crate::proofs::PeopleLemmas::cut_before, crate::proofs::PeopleLemmas::cut_after, crate::proofs::PeopleLemmas::compared_whole))]
+fn is_same(sights: &Sights) -> bool
+    ensures { result ≡ are_same ⟦<Sight as PartialEq>⟧.eq sights.now }
+{
+    if is_cut_off(&sights.before) {
+        return false;
+    }
+    if is_cut_off(&sights.after) {
+        return false;
+    }
+    sights.before == sights.after
+}
+
+/// Whether one run was cut off, and nothing that was seen until then differs.
+fn is_same_so_far(sights: &Sights) -> bool {
+    let (before, after) = (effects(&sights.before), effects(&sights.after));
+    match (is_cut_off(&sights.before), is_cut_off(&sights.after)) {
+        (false, false) => false,
+        (true, false) => begins_with(after, before),
+        (false, true) => begins_with(before, after),
+        (true, true) => begins_with(before, after) || begins_with(after, before),
+    }
+}
+
 /// What the runs have to do with one another.
 fn likeness_of(sights: &Sights) -> Likeness
     ensures { IsLikeness ⟦<Sight as PartialEq>⟧.eq sights.now result }
 {
-    let (before, after) = (effects(&sights.before), effects(&sights.after));
-    match (is_cut_off(&sights.before), is_cut_off(&sights.after)) {
-        (false, false) if sights.before == sights.after => Likeness::Same,
-        (false, false) => Likeness::Different,
-        (true, false) if begins_with(after, before) => Likeness::SoFar,
-        (false, true) if begins_with(before, after) => Likeness::SoFar,
-        (true, true) if begins_with(before, after) || begins_with(after, before) => Likeness::SoFar,
-        _ => Likeness::Different,
+    if is_same(sights) {
+        return Likeness::Same;
     }
+    if is_same_so_far(sights) {
+        return Likeness::SoFar;
+    }
+    Likeness::Different
 }
 
 /// Reads a text of any notation into the context, and answers what is seen of a run of its operation, and of one after the
@@ -151,27 +174,29 @@ fn comparison_text(
     Ok(text.into_bytes())
 }
 
+/// The status of a command that tells of it.
+fn status_of(likeness: Likeness) -> u8
+    ensures { result ≡ status_for likeness }
+{
+    match likeness {
+        Likeness::Same => 0,
+        Likeness::SoFar => 3,
+        Likeness::Different => 3,
+    }
+}
+
 /// The outcome of these runs.
-#[tactic(auto, using(crate::proofs::PeopleLemmas::told_same, crate::proofs::PeopleLemmas::told_so_far, crate::proofs::PeopleLemmas::told_different))]
+#[tactic(auto, using(crate::proofs::PeopleLemmas::told_likeness))]
 fn outcome_of(alloc: Global, sights: &Sights) -> Result<Outcome, AllocError>
     ensures { IfOk result (λ outcome. Ends (IsTold ⟦<Sight as PartialEq>⟧.eq sights.now outcome.output.items)
         (IsToldOther ⟦<Sight as PartialEq>⟧.eq sights.now outcome.output.items) outcome) }
 {
     let likeness = likeness_of(sights);
-    let output = comparison_text(alloc, sights, likeness)?;
-    let report = String::new(alloc);
-    match likeness {
-        Likeness::Same => Ok(Outcome {
-            output,
-            report,
-            status: 0,
-        }),
-        Likeness::SoFar | Likeness::Different => Ok(Outcome {
-            output,
-            report,
-            status: 3,
-        }),
-    }
+    Ok(Outcome {
+        output: comparison_text(alloc, sights, likeness)?,
+        report: String::new(alloc),
+        status: status_of(likeness),
+    })
 }
 
 /// Compares runs before and after the passes of the schedule.
