@@ -21,4 +21,5 @@ pub use optimising::{OptWish, misspelt, opt};
 pub use outcome::Outcome;
 pub use pliron_show::{RunWish, Source};
 pub use pliron_watch::{Progress, Wish};
+pub use report::{Wanted, report_of};
 pub use running::run;

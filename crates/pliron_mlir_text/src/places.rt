@@ -1,0 +1,25 @@
+//! Lines and columns.
+
+/// A place in a text by its line and column, counted from 1, columns by bytes.
+#[derive(Clone, Copy, Debug, PartialEq, Eq)]
+pub struct Place {
+    pub line: usize,
+    pub column: usize,
+}
+
+/// The line and the column of the byte with this index. Cost: linear in the text before it.
+pub fn place_of(text: &[u8], at: usize) -> Place {
+    let mut place = Place {
+        line: 1,
+        column: 1,
+    };
+    for byte in text.get(..at).unwrap_or(text) {
+        if *byte == b'\n' {
+            place.line = place.line.saturating_add(1);
+            place.column = 1;
+        } else {
+            place.column = place.column.saturating_add(1);
+        }
+    }
+    place
+}
