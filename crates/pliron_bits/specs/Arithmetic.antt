@@ -1,0 +1,110 @@
+-- What LLVM's operations on integers compute: none where the answer has no meaning, which LLVM calls poison, or where
+-- the operation must not be run. Operands are numbers of the width.
+use Rattle.std.specs.Prelude.{ℕ, ◌+◌, ◌-◌, ◌*◌, ◌/◌, ◌%◌, ◌^◌, min, max, nat_eq, nat_lt, nat_le, if◌then◌else◌, Bool, true, false, not, ◌&&◌, ◌||◌, Option, Some, None, ℤ, pos, neg_ℤ, ◌+ℤ◌, ◌-ℤ◌, ◌*ℤ◌, int_lt, int_le, int_div, int_rem, unsigned_abs, bit_and, bit_or, bit_xor}
+use Rattle.std.specs.Int.{int_div_euclid}
+use Rattle.pliron_bits.specs.declared.flags.Flags.{Flags}
+use Rattle.pliron_bits.specs.Numbers.{signed, is_signed, bits_of}
+
+-- a number, unless something speaks against it
+abbrev pub unless : Bool → ℕ → Option ℕ
+unless b n = if b then None else Some n
+
+-- ---- what may wrap: by the exact result read as signed, whether the unsigned one is exact, and the unsigned one
+
+abbrev pub wraps : Flags → (width : ℕ) → ℤ → Bool → Bool
+wraps f width z exact = (f.no_signed_wrap && not (is_signed width z)) || (f.no_unsigned_wrap && not exact)
+
+abbrev pub wrapped : Flags → (width : ℕ) → ℤ → Bool → ℕ → Option ℕ
+wrapped f width z exact n = unless (wraps f width z exact) (n % 2 ^ width)
+
+abbrev pub sum : Flags → (width a b : ℕ) → Option ℕ
+sum f width a b = wrapped f width (signed width a +ℤ signed width b) (nat_lt (a + b) (2 ^ width)) (a + b)
+
+abbrev pub difference : Flags → (width a b : ℕ) → Option ℕ
+difference f width a b = wrapped f width (signed width a -ℤ signed width b) (nat_le b a) (a + (2 ^ width - b))
+
+abbrev pub product : Flags → (width a b : ℕ) → Option ℕ
+product f width a b = wrapped f width (signed width a *ℤ signed width b) (nat_lt (a * b) (2 ^ width)) (a * b)
+
+-- a shift to the left is a product; one by the width or more has no meaning
+abbrev pub shifted_left : Flags → (width a b : ℕ) → Option ℕ
+shifted_left f width a b =
+    if nat_lt b width
+    then wrapped f width (signed width a *ℤ pos (2 ^ b)) (nat_lt (a * 2 ^ b) (2 ^ width)) (a * 2 ^ b)
+    else None
+
+abbrev pub truncated : Flags → (width to a : ℕ) → Option ℕ
+truncated f width to a = wrapped f to (signed width a) (nat_lt a (2 ^ to)) a
+
+-- ---- division: not by 0, not the least signed number by -1, and where it has to be exact without a remainder
+
+abbrev pub unsigned_quotient : Flags → (a b : ℕ) → Option ℕ
+unsigned_quotient f a b = unless (nat_eq b 0 || (f.exact && not (nat_eq (a % b) 0))) (a / b)
+
+abbrev pub unsigned_remainder : (a b : ℕ) → Option ℕ
+unsigned_remainder a b = unless (nat_eq b 0) (a % b)
+
+-- the signed quotient, which rounds to 0
+abbrev pub quotient_in : (width a b : ℕ) → ℤ
+quotient_in width a b = int_div (signed width a) (signed width b)
+
+abbrev pub remainder_in : (width a b : ℕ) → ℤ
+remainder_in width a b = int_rem (signed width a) (signed width b)
+
+abbrev pub divides : (width a b : ℕ) → Bool
+divides width a b = not (nat_eq b 0) && is_signed width (quotient_in width a b)
+
+abbrev pub signed_quotient : Flags → (width a b : ℕ) → Option ℕ
+signed_quotient f width a b =
+    unless (not (divides width a b) || (f.exact && not (nat_eq (unsigned_abs (remainder_in width a b)) 0))) (bits_of width (quotient_in width a b))
+
+abbrev pub signed_remainder : (width a b : ℕ) → Option ℕ
+signed_remainder width a b = unless (not (divides width a b)) (bits_of width (remainder_in width a b))
+
+-- ---- shifts to the right: quotients by a power of two that round down
+
+-- whether a shift to the right has no meaning: one by the width or more, or one that loses a bit where it must not
+abbrev pub shift_fails : Flags → (width a b : ℕ) → Bool
+shift_fails f width a b = nat_le width b || (f.exact && not (nat_eq (a % 2 ^ b) 0))
+
+abbrev pub logical_shift : Flags → (width a b : ℕ) → Option ℕ
+logical_shift f width a b = unless (shift_fails f width a b) (a / 2 ^ b)
+
+abbrev pub arithmetic_shift : Flags → (width a b : ℕ) → Option ℕ
+arithmetic_shift f width a b = unless (shift_fails f width a b) (bits_of width (int_div_euclid (signed width a) (pos (2 ^ b))))
+
+-- ---- bits
+
+abbrev pub conjunction : (a b : ℕ) → Option ℕ
+conjunction a b = Some (bit_and a b)
+
+abbrev pub disjunction : Flags → (a b : ℕ) → Option ℕ
+disjunction f a b = unless (f.disjoint && not (nat_eq (bit_and a b) 0)) (bit_or a b)
+
+abbrev pub exclusion : (a b : ℕ) → Option ℕ
+exclusion a b = Some (bit_xor a b)
+
+-- ---- order
+
+abbrev pub signed_less : (width a b : ℕ) → Bool
+signed_less width a b = int_lt (signed width a) (signed width b)
+
+abbrev pub unsigned_minimum : (a b : ℕ) → Option ℕ
+unsigned_minimum a b = Some (min a b)
+
+abbrev pub unsigned_maximum : (a b : ℕ) → Option ℕ
+unsigned_maximum a b = Some (max a b)
+
+abbrev pub signed_minimum : (width a b : ℕ) → Option ℕ
+signed_minimum width a b = Some (if signed_less width b a then b else a)
+
+abbrev pub signed_maximum : (width a b : ℕ) → Option ℕ
+signed_maximum width a b = Some (if signed_less width a b then b else a)
+
+-- ---- extensions
+
+abbrev pub zero_extended : Flags → (width a : ℕ) → Option ℕ
+zero_extended f width a = unless (f.nonnegative && nat_le (2 ^ (width - 1)) a) a
+
+abbrev pub sign_extended : (width to a : ℕ) → Option ℕ
+sign_extended width to a = Some (bits_of to (signed width a))

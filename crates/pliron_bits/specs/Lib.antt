@@ -1,0 +1,4 @@
+pub mod Numbers
+pub mod Flags
+pub mod Arithmetic
+pub mod Operators

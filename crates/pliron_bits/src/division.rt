@@ -1,0 +1,78 @@
+//! Quotients and remainders.
+ghost use Rattle.std.specs.Prelude.{◌≡◌, ◌≢◌, pos, ◌≤◌, ◌<◌, ◌^◌, ◌-◌, IfSome, IfErr, unsigned_abs};
+ghost use Rattle.pliron_bits.specs.Arithmetic.{unsigned_quotient as unsigned_quotient_of, unsigned_remainder as unsigned_remainder_of, signed_quotient as signed_quotient_of, signed_remainder as signed_remainder_of, divides as divides_by};
+
+use crate::flags::Flags;
+use crate::integers::{over, rest};
+use crate::readings::{bits, is_signed, signed};
+
+/// The quotient, which rounds down. None by 0, and with a remainder where it has to be exact. Cost: constant.
+pub fn unsigned_quotient(flags: Flags, a: u64, b: u64) -> Option<u64>
+    ensures { result ≡ unsigned_quotient_of flags a b }
+{
+    if b == 0 || (flags.exact && a % b != 0) {
+        None
+    } else {
+        Some(a / b)
+    }
+}
+
+/// The remainder. None by 0. Cost: constant.
+pub fn unsigned_remainder(a: u64, b: u64) -> Option<u64>
+    ensures { result ≡ unsigned_remainder_of a b }
+{
+    if b == 0 { None } else { Some(a % b) }
+}
+
+// Whether the signed quotient has a meaning.
+fn divides(width: u32, a: u64, b: u64) -> bool
+    requires at_least { 1 ≤ width }
+    requires at_most { width ≤ 64 }
+    requires first { a < 2 ^ width }
+    requires second { b < 2 ^ width }
+    ensures { result ≡ divides_by width a b }
+{
+    if b == 0 {
+        false
+    } else {
+        is_signed(width, over(signed(width, a), signed(width, b)))
+    }
+}
+
+/// The quotient of the numbers read as signed, which rounds to 0. None by 0, where it is past the signed numbers, and
+/// with a remainder where it has to be exact. Asks for a width from 1 to 64, and numbers of it. Cost: constant.
+pub fn signed_quotient(flags: Flags, width: u32, a: u64, b: u64) -> Option<u64>
+    requires at_least { 1 ≤ width }
+    requires at_most { width ≤ 64 }
+    requires first { a < 2 ^ width }
+    requires second { b < 2 ^ width }
+    ensures same { result ≡ signed_quotient_of flags width a b }
+    ensures number { IfSome result (λ n. n < 2 ^ width) }
+{
+    if !divides(width, a, b) {
+        return None;
+    }
+    let (first, second) = (signed(width, a), signed(width, b));
+    if flags.exact && rest(first, second) != 0 {
+        None
+    } else {
+        Some(bits(width, over(first, second)))
+    }
+}
+
+/// The remainder of the numbers read as signed, which has the sign of the first one. None by 0, and where the
+/// quotient is past the signed numbers. Asks for a width from 1 to 64, and numbers of it. Cost: constant.
+pub fn signed_remainder(width: u32, a: u64, b: u64) -> Option<u64>
+    requires at_least { 1 ≤ width }
+    requires at_most { width ≤ 64 }
+    requires first { a < 2 ^ width }
+    requires second { b < 2 ^ width }
+    ensures same { result ≡ signed_remainder_of width a b }
+    ensures number { IfSome result (λ n. n < 2 ^ width) }
+{
+    if divides(width, a, b) {
+        Some(bits(width, rest(signed(width, a), signed(width, b))))
+    } else {
+        None
+    }
+}

@@ -1,0 +1,165 @@
+-- The role of each class.
+use Rattle.std.proofs.Common.{◌≡◌, ℕ, zero, suc, ◌&&◌, nat_eq, if◌then◌else◌, Bool, true, false, List, [], ◌∷◌, Option, Some, None, refl, ap, ◌∙◌}
+use Rattle.std.specs.Prelude.{ℤ, pos, negsuc, slice_index_or}
+use Rattle.std.specs.Option.{option_map}
+use Rattle.pliron_core.specs.declared.attrs.Head.{Head}
+use Rattle.pliron_core.specs.declared.attrs.AttrObj.{AttrObj}
+use Rattle.pliron_laws.specs.Datum.{Datum, Empty, Number, Text, Join, Shape, Move, Give, Visit, Leave}
+use Rattle.pliron_laws.specs.Laws.{CountsFit}
+use Rattle.pliron_bits.specs.declared.operators.BinaryOperator.{BinaryOperator}
+use Rattle.pliron_bits.specs.declared.operators.Predicate.{Predicate}
+use Rattle.pliron_bits.specs.declared.operators.Cast.{Cast}
+use Rattle.pliron_bits.specs.Operators.{binary, compared, cast_to, predicate_of_number}
+use Rattle.pliron_mlir.specs.declared.kind.Class.{Class}
+use Rattle.pliron_mlir.specs.declared.kind.Class.TheVariants.{Constant as ConstantClass, Select, Opaque as OpaqueClass, Jump, Branch, Switch, Leave as LeaveClass, Unreachable, Effect, Regions, Root, Module, Fork, Compare, Cast as CastClass, Binary}
+use Rattle.pliron_roles.specs.Counted.{counted_by}
+use Rattle.pliron_roles.specs.Roles.{Interpretation, Role, Constant, Folds, Picks, Opaque, Jumps, Chooses, Leaves, Stops, Acts, Forks, Tables, KeepsTables, ActsFit, effect_act, region_act, fitted, has_some}
+use Rattle.pliron_roles.specs.CountLaws.{effect_fits, region_fits, at_fits, length-fitted}
+use Rattle.pliron_mlir.specs.ClassNumbers.{number_of_class, class_of_number, numbered}
+use Rattle.pliron_mlir.specs.Data.{is_width, bits_of_width, number, bits_at, truth, bit}
+use Rattle.pliron_mlir.specs.Heads.{attribute_at, width_at, flags_at}
+
+-- ---- integers
+
+-- what is computed of the bits, where they are known
+abbrev pub of_two : (ℕ → ℕ → Option ℕ) → Option ℕ → Option ℕ → Option ℕ
+of_two f (Some a) (Some b) = f a b
+of_two f _ _ = None
+
+abbrev pub of_one : (ℕ → Option ℕ) → Option ℕ → Option ℕ
+of_one f (Some a) = f a
+of_one f None = None
+
+-- the attributes of what computes are the width, the flags and the form
+abbrev pub computed_by : BinaryOperator → Head → List ℤ → Option ℤ
+computed_by operator h (a ∷ b ∷ []) =
+    let width = width_at h.attrs 0 in
+    option_map (number width) (of_two (binary operator (flags_at h.attrs 1) (bits_of_width width)) (bits_at width a) (bits_at width b))
+computed_by operator h _ = None
+
+-- those of a comparison are the width, the predicate and the form
+abbrev pub truth_of_two : Option Predicate → (width a b : ℕ) → Option ℕ
+truth_of_two None width a b = None
+truth_of_two (Some predicate) width a b = Some (bit (compared predicate width a b))
+
+abbrev pub compared_by : Head → List ℤ → Option ℤ
+compared_by h (a ∷ b ∷ []) =
+    let width = width_at h.attrs 0 in
+    option_map (number 1) (of_two (truth_of_two (predicate_of_number (attribute_at h.attrs 1)) (bits_of_width width)) (bits_at width a) (bits_at width b))
+compared_by h _ = None
+
+-- those of a cast are the width, the new one, the flags and the form
+abbrev pub cast_of : Cast → Head → ℕ → Option ℕ
+cast_of cast h a =
+    if is_width (width_at h.attrs 1)
+    then cast_to cast (flags_at h.attrs 2) (bits_of_width (width_at h.attrs 0)) (bits_of_width (width_at h.attrs 1)) a
+    else None
+
+abbrev pub cast_by : Cast → Head → List ℤ → Option ℤ
+cast_by cast h (a ∷ []) = option_map (number (width_at h.attrs 1)) (of_one (cast_of cast h) (bits_at (width_at h.attrs 0) a))
+cast_by cast h _ = None
+
+-- ---- branches
+
+-- a branch takes its first edge where the number is true
+abbrev pub edge_by_truth : Bool → ℕ
+edge_by_truth true = 0
+edge_by_truth false = 1
+
+abbrev pub branch_edge : ℕ → List AttrObj → ℤ → Option ℕ
+branch_edge kind rest c = option_map edge_by_truth (truth c)
+
+-- the edge behind the default one whose case is this number; the last attribute is the form, and no case
+abbrev pub edge_of_case : ℕ → List AttrObj → ℕ → ℕ
+edge_of_case i [] c = 0
+edge_of_case i (a ∷ rest) c = if has_some rest && nat_eq (counted_by a) c then i else edge_of_case (suc i) rest c
+
+-- behind the counts of a switch stand the width, the cases and the form
+abbrev pub switch_edge : ℕ → List AttrObj → ℤ → Option ℕ
+switch_edge kind [] c = None
+switch_edge kind (width ∷ cases) c = option_map (edge_of_case 1 cases) (bits_at (counted_by width) c)
+
+-- ---- what acts by itself
+
+abbrev pub any_regions : Head → ℕ → ℕ → ℕ → Bool
+any_regions h a b d = true
+
+abbrev pub no_regions : Head → ℕ → ℕ → ℕ → Bool
+no_regions h a b d = nat_eq d 0
+
+abbrev pub one_region : Head → ℕ → ℕ → ℕ → Bool
+one_region h a b d = nat_eq a 0 && (nat_eq b 0 && nat_eq d 1)
+
+-- a function visits its region once
+abbrev pub root_act : Shape → Datum → List Datum → Move
+root_act s Empty input = Visit 0 (fitted (slice_index_or s.entry_arguments 0 0) input) (Number (pos 1))
+root_act s (Number n) input = Leave input
+root_act s (Text t) input = Leave input
+root_act s (Join x y) input = Leave input
+
+root_fits : (s : Shape) (memo : Datum) (input : List Datum) → CountsFit false s (root_act s memo input)
+root_fits s Empty input = λ n at. at_fits s.entry_arguments 0 input n at
+root_fits s (Number n) input = tt
+root_fits s (Text t) input = tt
+root_fits s (Join x y) input = tt
+
+-- a module does nothing
+abbrev pub module_act : Shape → Datum → List Datum → Move
+module_act s memo input = Give (fitted s.results [])
+
+-- ---- the classes
+
+abbrev pub role_of_class : Class → Role
+role_of_class ConstantClass = Constant
+role_of_class Select = Picks truth
+role_of_class OpaqueClass = Opaque
+role_of_class Jump = Jumps
+role_of_class Branch = Chooses branch_edge
+role_of_class Switch = Chooses switch_edge
+role_of_class LeaveClass = Leaves
+role_of_class Unreachable = Stops
+role_of_class Effect = Acts no_regions effect_act
+role_of_class Regions = Acts any_regions region_act
+role_of_class Root = Acts one_region root_act
+role_of_class Module = Acts one_region module_act
+role_of_class Fork = Forks
+role_of_class Compare = Folds 2 compared_by
+role_of_class (CastClass cast) = Folds 1 (cast_by cast)
+role_of_class (Binary operator) = Folds 2 (computed_by operator)
+
+acts : (c : Class) → ActsFit (role_of_class c)
+acts ConstantClass = tt
+acts Select = tt
+acts OpaqueClass = tt
+acts Jump = tt
+acts Branch = tt
+acts Switch = tt
+acts LeaveClass = tt
+acts Unreachable = tt
+acts Effect = λ s h memo input. effect_fits false s memo input
+acts Regions = λ s h memo input. region_fits false s memo input
+acts Root = λ s h memo input. root_fits s memo input
+acts Module = λ s h memo input. length-fitted s.results []
+acts Fork = tt
+acts Compare = tt
+acts (CastClass cast) = tt
+acts (Binary operator) = tt
+
+-- the tables of kinds that are classes
+abbrev pub mlir : {K : Type 0} → (K → Class) → (Class → K) → Interpretation → Tables K
+mlir class_of kind value = record {
+  role_of = λ k. role_of_class (class_of k);
+  number_of = λ k. number_of_class (class_of k);
+  kind_of = λ n. option_map kind (class_of_number n);
+  constant = kind ConstantClass;
+  jump = kind Jump;
+  value = value;
+}
+
+pub keeps_mlir : {K : Type 0} (class_of : K → Class) (kind : Class → K) (value : Interpretation) → ((k : K) → kind (class_of k) ≡ k) → ((c : Class) → class_of (kind c) ≡ c) → KeepsTables (mlir class_of kind value)
+keeps_mlir class_of kind value back forth = record {
+  numbered = λ k. ap (option_map kind) (numbered (class_of k)) ∙ ap Some (back k);
+  constant = ap role_of_class (forth ConstantClass);
+  jump = ap role_of_class (forth Jump);
+  acts = λ k. acts (class_of k);
+}
