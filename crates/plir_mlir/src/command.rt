@@ -39,6 +39,11 @@ fn with_flags<'a>(command: Command<'a>, alloc: Global) -> Result<Command<'a>, Al
         .arg(flag(alloc, "stats", STATS))?
         .arg(flag(
             alloc,
+            "check",
+            "Read what is printed again, and tell whether it\nsays the same tree; nothing is written where not",
+        ))?
+        .arg(flag(
+            alloc,
             "verify-each",
             "Verify the operation after each run of a pass; a\nfault is told, and nothing written",
         ))?

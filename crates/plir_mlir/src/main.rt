@@ -82,12 +82,11 @@ fn outcome_of(rt: &HostRuntime, matches: &ArgMatches, source: &Source) -> io::Re
         counts: matches.get_flag("stats"),
         verifies: matches.get_flag("verify-each"),
         times: matches.get_flag("time"),
+        checks: matches.get_flag("check"),
     };
     let word = matches.get_str("pipeline").unwrap_or("");
     match planned(alloc, word) {
-        Ok(plan) => Ok(run_passes(alloc, source, &wish, &plan, Terminal {
-            rt,
-        })?),
+        Ok(plan) => Ok(run_passes(alloc, source, &wish, &plan, Terminal { rt })?),
         Err(PlanError::Word(fault)) => {
             let told = misspelt(alloc, word, &fault)?;
             Ok(refused(alloc, told.report, 2))
@@ -117,10 +116,7 @@ fn outcome(rt: &HostRuntime, matches: &ArgMatches) -> io::Result<Outcome> {
         let report = format!(in alloc; "{name}: expected a text of at most 256 MiB\n")?;
         return Ok(refused(alloc, report, 2));
     }
-    let source = Source {
-        name,
-        text: &text,
-    };
+    let source = Source { name, text: &text };
     outcome_of(rt, matches, &source)
 }
 

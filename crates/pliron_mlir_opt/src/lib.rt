@@ -4,11 +4,15 @@
 #![tactic(auto)]
 
 mod failure;
+mod fitness;
 mod notation;
 mod optimising;
 mod outcome;
+mod tally;
 
 pub use failure::Failure;
+pub use fitness::{Fitness, Unfit};
 pub use notation::GenericForm;
-pub use optimising::{Optimised, optimise};
+pub use optimising::{Asked, Counted, Optimised, optimise};
 pub use outcome::{ModuleWish, Outcome, Source, run_passes};
+pub use tally::Tally;

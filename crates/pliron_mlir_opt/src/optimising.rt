@@ -8,19 +8,42 @@ ghost use Rattle.pliron_opts.specs.Ran.{RunsAlone};
 ghost use Rattle.pliron_opts.specs.Read.{ReadsKinds, PrintsKinds};
 
 use crate::failure::Failure;
+use crate::fitness::{Fitness, fitness_of};
 use crate::notation::GenericForm;
+use crate::tally::Tally;
 use pliron_core::{Context, IRStatus};
-use pliron_laws::Dialect;
-use pliron_mlir_text::{Module, print_module, read_module};
+use pliron_laws::{Dialect, OptError};
+use pliron_mlir_text::{Fault, Module, Standing, is_same_module, print_module, read_module};
 use pliron_pass::{BenchFactKind, Pass};
 use pliron_watch::{Progress, WatchedSchedule, run_watched};
-use std::alloc::Global;
+use std::alloc::{AllocError, Global};
 
 /// What passes made of a module: it printed, and whether it changed.
 #[derive(Drop)]
 pub struct Optimised {
     pub printed: Vec<u8>,
     pub status: IRStatus,
+    /// Whether what was printed says the same tree when it is read again, where that was asked.
+    pub agrees: Option<bool>,
+    /// What stood and what stands, where that is asked.
+    pub counted: Option<Counted>,
+}
+
+/// How much of each class stood before and stands after, and which functions are fit to run.
+#[derive(Drop)]
+pub struct Counted {
+    pub before: Tally,
+    pub after: Tally,
+    pub fitness: Fitness,
+}
+
+/// What is asked beside the module.
+#[derive(Clone, Copy, Debug)]
+pub struct Asked {
+    /// Whether what is printed is read again and compared.
+    pub checks: bool,
+    /// Whether it is counted what stands before and after.
+    pub counts: bool,
 }
 
 /// What the passes make of the module that the text says, printed, and whether it changed.
@@ -33,13 +56,14 @@ pub fn optimise<D: Dialect, C: Progress + Drop>(
     alloc: Global,
     schedule: &mut WatchedSchedule<GenericForm<D>, C>,
     text: &[u8],
+    asked: Asked,
 ) -> Result<Optimised, Failure>
     ensures { IfOk result (λ made. IsOptimised (ReadsKinds D.meaning) PrintsKinds D.meaning
         (RunsAlone ⟦<BenchFactKind as PartialEq>⟧.eq ⟦<WatchedSchedule<GenericForm<D>, C> as Pass>⟧.outcome schedule.old) text.now
         (made.printed.items ++ status_line made.status)) }
 {
     let mut ctx = Context::new(alloc);
-    optimise_in(alloc, schedule, text, &mut ctx)
+    optimise_in(alloc, schedule, text, asked, &mut ctx)
 }
 
 /// The same in this context, which is empty.
@@ -47,6 +71,7 @@ fn optimise_in<D: Dialect, C: Progress + Drop>(
     alloc: Global,
     schedule: &mut WatchedSchedule<GenericForm<D>, C>,
     text: &[u8],
+    asked: Asked,
     ctx: &mut Context,
 ) -> Result<Optimised, Failure>
     requires { ctx.old.tree ≡ no_tree }
@@ -55,26 +80,97 @@ fn optimise_in<D: Dialect, C: Progress + Drop>(
         (made.printed.items ++ status_line made.status)) }
 {
     match read_module::<D>(alloc, text, ctx) {
-        Ok(module) => optimise_module(alloc, schedule, &module, ctx),
+        Ok(module) => optimise_module(alloc, schedule, &module, asked, ctx),
         Err(fault) => Err(Failure::from(fault)),
     }
+}
+
+/// Whether this text says the module as it stands.
+fn says<D: Dialect>(
+    alloc: Global,
+    text: &[u8],
+    loaded: &Module,
+    ctx: &Context,
+) -> Result<bool, AllocError> {
+    let mut again = Context::new(alloc);
+    is_said::<D>(alloc, text, loaded, ctx, &mut again)
+}
+
+/// The same, by reading it into another context.
+fn is_said<D: Dialect>(
+    alloc: Global,
+    text: &[u8],
+    loaded: &Module,
+    ctx: &Context,
+    again: &mut Context,
+) -> Result<bool, AllocError> {
+    let read = read_module::<D>(alloc, text, again);
+    match &read {
+        Ok(second) => is_same_module(alloc, standing(loaded, ctx), standing(second, again)),
+        Err(Fault::NoMemory) => Err(AllocError),
+        Err(_) => Ok(false),
+    }
+}
+
+fn standing<'m>(loaded: &'m Module, ctx: &'m Context) -> Standing<'m> {
+    Standing {
+        root: loaded.root,
+        sheet: &loaded.sheet,
+        ctx,
+    }
+}
+
+/// How much of each class stands, and which functions are fit to run.
+fn counted_before<D: Dialect>(
+    alloc: Global,
+    loaded: &Module,
+    ctx: &Context,
+) -> Result<(Tally, Fitness), OptError>
+    requires { IsLive ctx.now.tree loaded.now.root }
+{
+    let fitness = fitness_of::<D>(alloc, loaded, ctx)?;
+    Ok((Tally::of(loaded.root, ctx), fitness))
 }
 
 /// The same of a module that was read.
 fn optimise_module<D: Dialect, C: Progress + Drop>(
     alloc: Global,
     schedule: &mut WatchedSchedule<GenericForm<D>, C>,
-    module: &Module,
+    loaded: &Module,
+    asked: Asked,
     ctx: &mut Context,
 ) -> Result<Optimised, Failure>
-    requires live { IsLive ctx.old.tree module.now.root }
-    requires linked { IsWellLinked D.meaning ctx.old.tree module.now.root }
+    requires live { IsLive ctx.old.tree loaded.now.root }
+    requires linked { IsWellLinked D.meaning ctx.old.tree loaded.now.root }
     ensures { IfOk result (λ made. (text : List ℕ) → IsOptimised (ReadsKinds D.meaning) PrintsKinds D.meaning
         (RunsAlone ⟦<BenchFactKind as PartialEq>⟧.eq ⟦<WatchedSchedule<GenericForm<D>, C> as Pass>⟧.outcome schedule.old) text
         (made.printed.items ++ status_line made.status)) }
 {
-    let root = module.root;
+    let root = loaded.root;
+    let before = if asked.counts {
+        Some(counted_before::<D>(alloc, loaded, ctx)?)
+    } else {
+        None
+    };
     let status = run_watched(alloc, schedule, root, ctx)?;
-    let printed = print_module(alloc, root, &module.sheet, ctx)?;
-    Ok(Optimised { printed, status })
+    let printed = print_module(alloc, root, &loaded.sheet, ctx)?;
+    let counted = match before {
+        Some((before, fitness)) => Some(Counted {
+            before,
+            after: Tally::of(root, ctx),
+            fitness,
+        }),
+        None => None,
+    };
+    let agrees = if asked.checks {
+        Some(says::<D>(alloc, &printed, loaded, ctx)?)
+    } else {
+        None
+    };
+    Ok(Optimised {
+        printed,
+        status,
+        agrees,
+        counted,
+    })
 }

@@ -1,7 +1,9 @@
 //! How a run of the program ends.
 use crate::failure::Failure;
+use crate::fitness::write_fitness;
 use crate::notation::GenericForm;
-use crate::optimising::{Optimised, optimise};
+use crate::optimising::{Asked, Optimised, optimise};
+use crate::tally::write_tallies;
 use pliron_core::IRStatus;
 use pliron_mlir::{AnyMeaning, Mlir};
 use pliron_people::{Wanted, report_of};
@@ -34,6 +36,8 @@ pub struct ModuleWish {
     pub verifies: bool,
     /// Whether the time of each pass is told.
     pub times: bool,
+    /// Whether it is told that what is printed says the same tree when it is read again.
+    pub checks: bool,
 }
 
 // The outcome where the module isn't answered.
@@ -53,13 +57,28 @@ fn failed(
 }
 
 // The outcome of passes that came to an end.
-fn ended(alloc: Global, report: String, made: Optimised, has_fault: bool) -> Result<Outcome, AllocError> {
+fn ended(
+    alloc: Global,
+    source: &Source,
+    report: String,
+    made: Optimised,
+    has_fault: bool,
+) -> Result<Outcome, AllocError> {
     let mut report = report;
+    if let Some(counted) = &made.counted {
+        write_tallies(&mut report, &counted.before, &counted.after)?;
+        write_fitness(&mut report, &counted.fitness, source.name, source.text)?;
+    }
     report.push_str(match made.status {
         IRStatus::Changed => "changed\n",
         IRStatus::Unchanged => "unchanged\n",
     })?;
-    if has_fault {
+    match made.agrees {
+        Some(true) => report.push_str("checked: what is printed says the same tree\n")?,
+        Some(false) => report.push_str("error: what is printed says another tree\n")?,
+        None => {}
+    }
+    if has_fault || made.agrees == Some(false) {
         return Ok(Outcome {
             output: Vec::new(alloc),
             report,
@@ -80,7 +99,15 @@ fn run_scheduled<C: Progress + Copy + Drop>(
     wish: &ModuleWish,
     schedule: &mut WatchedSchedule<GenericForm<Mlir<AnyMeaning>>, C>,
 ) -> Result<Outcome, AllocError> {
-    let made = optimise::<Mlir<AnyMeaning>, C>(alloc, schedule, source.text);
+    let made = optimise::<Mlir<AnyMeaning>, C>(
+        alloc,
+        schedule,
+        source.text,
+        Asked {
+            checks: wish.checks,
+            counts: wish.counts,
+        },
+    );
     let passes = watched_passes(schedule);
     let wanted = Wanted {
         is_pretty: false,
@@ -89,9 +116,13 @@ fn run_scheduled<C: Progress + Copy + Drop>(
         times: wish.times,
     };
     let report = report_of(alloc, passes, &wanted)?;
-    let has_fault = passes.iter().any(|pass| pass.diary().notes.iter().any(|note| note.fault.is_some()));
+    let has_fault = passes.iter().any(|pass| pass
+        .diary()
+        .notes
+        .iter()
+        .any(|note| note.fault.is_some()));
     match made {
-        Ok(made) => ended(alloc, report, made, has_fault),
+        Ok(made) => ended(alloc, source, report, made, has_fault),
         Err(failure) => failed(alloc, source, report, failure),
     }
 }

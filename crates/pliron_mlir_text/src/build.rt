@@ -104,12 +104,7 @@ fn add_blocks(
 }
 
 // Notes the types of new values: those from the first one on, so many.
-fn add_types(
-    syntax: &Syntax,
-    sheet: &mut Sheet,
-    first: usize,
-    count: usize,
-) -> Result<(), Fault> {
+fn add_types(syntax: &Syntax, sheet: &mut Sheet, first: usize, count: usize) -> Result<(), Fault> {
     let end = first.saturating_add(count);
     for at in first..end {
         sheet.push_type(syntax.types.get(at).copied().unwrap_or(0))?;
@@ -128,7 +123,11 @@ fn add_operation(
     let (first, results) = text.results;
     let op = Operation::create(ctx, head, results, text.regions)?;
     if let Some(number) = text.block {
-        let block = built.blocks.get(number).copied().ok_or(no_tree(text.place))?;
+        let block = built
+            .blocks
+            .get(number)
+            .copied()
+            .ok_or(no_tree(text.place))?;
         append(ctx, block, op, text.place)?;
     }
     if !op.is_live(ctx) {
@@ -165,7 +164,11 @@ fn add_block(
     built: &mut Built,
     text: &BlockText,
 ) -> Result<(), Fault> {
-    let holder = built.operations.get(text.holder).copied().ok_or(no_tree(0))?;
+    let holder = built
+        .operations
+        .get(text.holder)
+        .copied()
+        .ok_or(no_tree(0))?;
     if !holder.is_live(ctx) || holder.num_region(ctx) <= text.region {
         return Err(no_tree(0));
     }
@@ -214,7 +217,11 @@ fn connect(
     number: usize,
     text: &OperationText,
 ) -> Result<(), Fault> {
-    let op = built.operations.get(number).copied().ok_or(no_tree(text.place))?;
+    let op = built
+        .operations
+        .get(number)
+        .copied()
+        .ok_or(no_tree(text.place))?;
     let (first, count) = text.operands;
     for at in first..first.saturating_add(count) {
         let value = syntax.operands.get(at).copied().unwrap_or(usize::MAX);

@@ -139,11 +139,7 @@ pub fn type_of_datum(
 }
 
 /// Writes a constant that folding made, behind the name of its result. Errors: want of memory. Cost: constant.
-pub fn write_constant(
-    datum: i128,
-    dialect: Dialect,
-    out: &mut Vec<u8>,
-) -> Result<(), AllocError> {
+pub fn write_constant(datum: i128, dialect: Dialect, out: &mut Vec<u8>) -> Result<(), AllocError> {
     let Some((width, bits)) = integer_of(datum) else {
         return Ok(());
     };

@@ -3,7 +3,9 @@ ghost use Rattle.std.specs.Prelude.{◌≤◌};
 
 use crate::cursor::Span;
 use crate::fault::Fault;
-use crate::numbers::{array_of, bits_of, dense_of, number_of, trimmed, typed_number_of, width_of_type};
+use crate::numbers::{
+    array_of, bits_of, dense_of, number_of, trimmed, typed_number_of, width_of_type,
+};
 use crate::reader::{Entry, Pending, Reader};
 use crate::sheet::Form;
 use pliron_bits::{Cast, Flags, Predicate};
@@ -104,9 +106,8 @@ impl Reader<'_> {
             Class::Cast(_) if from == 0 || to == 0 => Class::Opaque,
             Class::Select if from != 1 => Class::Opaque,
             Class::Branch if from != 1 => Class::Fork,
-            Class::Cast(Cast::SignExtend | Cast::ZeroExtend) if to.min(64) < from.min(64) => Class::Cast(
-                Cast::Truncate,
-            ),
+            Class::Cast(Cast::SignExtend | Cast::ZeroExtend) if to.min(64) < from.min(64) =>
+                Class::Cast(Cast::Truncate),
             class => class,
         }
     }
@@ -197,26 +198,38 @@ impl Reader<'_> {
         Ok((0, Vec::new(self.alloc)))
     }
 
+    // The entry of this index, of the property list or the attribute dictionary.
+    fn entry_at(&self, are_properties: bool, i: usize) -> Option<Entry> {
+        if are_properties {
+            self.properties.get(i).copied()
+        } else {
+            self.attributes.get(i).copied()
+        }
+    }
+
+    // Adds the entry to the others.
+    fn write_entry(&self, entry: Entry, text: &mut Vec<u8>) -> Result<(), Fault> {
+        if !text.is_empty() {
+            text.extend_from_slice(b", ")?;
+        }
+        text.extend_from_slice(self.cursor.bytes(entry.name))?;
+        if let Some(value) = entry.value {
+            text.extend_from_slice(b" = ")?;
+            text.extend_from_slice(self.cursor.bytes(value))?;
+        }
+        Ok(())
+    }
+
     // The entries but for those that count operands of edges.
     fn without_segments(&mut self, are_properties: bool) -> Result<usize, Fault> {
         let mut text = Vec::new(self.alloc);
-        let entries: &[Entry] = if are_properties {
-            &self.properties
-        } else {
-            &self.attributes
-        };
-        for entry in entries {
-            let name = self.cursor.bytes(entry.name);
-            if SEGMENTS.iter().any(|segment| *segment == unquoted(name)) {
-                continue;
-            }
-            if !text.is_empty() {
-                text.extend_from_slice(b", ")?;
-            }
-            text.extend_from_slice(name)?;
-            if let Some(value) = entry.value {
-                text.extend_from_slice(b" = ")?;
-                text.extend_from_slice(self.cursor.bytes(value))?;
+        for i in 0..self.properties.len().max(self.attributes.len()) {
+            let Some(entry) = self.entry_at(are_properties, i) else {
+                break;
+            };
+            let name = unquoted(self.cursor.bytes(entry.name));
+            if name != SEGMENTS[0] && name != SEGMENTS[1] {
+                self.write_entry(entry, &mut text)?;
             }
         }
         Ok(self.sheet.number(&text)?)
@@ -277,12 +290,7 @@ impl Reader<'_> {
         form: usize,
     ) -> Result<Head, Fault> {
         match (class, counts) {
-            (Class::Branch, [first, second]) => Ok(branch_head(
-                self.alloc,
-                *first,
-                *second,
-                form,
-            )?),
+            (Class::Branch, [first, second]) => Ok(branch_head(self.alloc, *first, *second, form)?),
             _ => {
                 let (width, cases) = self.cases(pending)?;
                 Ok(switch_head(self.alloc, counts, width, &cases, form)?)
@@ -295,13 +303,7 @@ impl Reader<'_> {
         let alloc = self.alloc;
         let width = self.operand_width(pending, 0);
         match class {
-            Class::Binary(operator) => Ok(binary_head(
-                alloc,
-                operator,
-                width,
-                self.flags(),
-                form,
-            )?),
+            Class::Binary(operator) => Ok(binary_head(alloc, operator, width, self.flags(), form)?),
             Class::Cast(cast) => Ok(cast_head(
                 alloc,
                 cast,

@@ -20,7 +20,7 @@ pub struct KnownNames {
     known: Vec<Known>,
 }
 
-fn known(name: &[u8]) -> Known {
+fn look_up(name: &[u8]) -> Known {
     let inner = match name.split_first() {
         Some((_, rest)) => rest.strip_suffix(b"\"".as_slice()).unwrap_or(rest),
         None => name,
@@ -46,7 +46,7 @@ impl KnownNames {
         if let Some(found) = self.known.get(number) {
             return Ok(*found);
         }
-        let found = known(name);
+        let found = look_up(name);
         self.known.push(found)?;
         Ok(found)
     }

@@ -98,11 +98,14 @@ impl Names {
             return Ok(false);
         }
         self.hidden.push((number, before))?;
-        self.set(number, Definition {
-            depth,
-            first,
-            count,
-        });
+        self.set(
+            number,
+            Definition {
+                depth,
+                first,
+                count,
+            },
+        );
         Ok(true)
     }
 

@@ -90,7 +90,14 @@ pub fn typed_number_of(text: &[u8]) -> Option<(Signed, &[u8])> {
             let number = number_of(text)?;
             let text = trimmed(text);
             let is_truth = text == b"true".as_slice() || text == b"false".as_slice();
-            Some((number, if is_truth { b"i1".as_slice() } else { b"i64".as_slice() }))
+            Some((
+                number,
+                if is_truth {
+                    b"i1".as_slice()
+                } else {
+                    b"i64".as_slice()
+                },
+            ))
         }
     }
 }

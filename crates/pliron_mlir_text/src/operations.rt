@@ -41,7 +41,9 @@ impl Reader<'_> {
             if !byte.is_ascii_digit() || number > 4_294_967_295 {
                 return Err(Fault::Expected(place, Expected::Number));
             }
-            number = number.saturating_mul(10).saturating_add((*byte - b'0') as usize);
+            number = number
+                .saturating_mul(10)
+                .saturating_add((*byte - b'0') as usize);
         }
         Ok(number)
     }
@@ -70,7 +72,9 @@ impl Reader<'_> {
         };
         let slot = self.syntax.operands.len();
         let place = name.start.saturating_sub(1);
-        let value = self.values.find(self.cursor.bytes(name), part, slot, place)?;
+        let value = self
+            .values
+            .find(self.cursor.bytes(name), part, slot, place)?;
         self.syntax.operands.push(value)?;
         self.syntax.operand_types.push(0)?;
         Ok(())
@@ -104,10 +108,7 @@ impl Reader<'_> {
     fn entries(&mut self, are_properties: bool) -> Result<Span, Fault> {
         let start = self.cursor.place();
         if self.cursor.accept(b'}') {
-            return Ok(Span {
-                start,
-                end: start,
-            });
+            return Ok(Span { start, end: start });
         }
         for _ in 0..self.cursor.left() {
             self.entry(are_properties)?;
@@ -174,11 +175,7 @@ impl Reader<'_> {
         }
         let number = self.syntax.operations.len();
         self.add_operation(place, named)?;
-        if self.keeps
-            && named == 0
-            && known.class == Some(Class::Root)
-            && self.is_kept(start)?
-        {
+        if self.keeps && named == 0 && known.class == Some(Class::Root) && self.is_kept(start)? {
             return self.keep(number, start);
         }
         let operands = self.syntax.operands.len();
@@ -191,7 +188,10 @@ impl Reader<'_> {
             place,
             name,
             known,
-            operands: (operands, self.syntax.operands.len().saturating_sub(operands)),
+            operands: (
+                operands,
+                self.syntax.operands.len().saturating_sub(operands),
+            ),
             successors: self.syntax.successors.len().saturating_sub(successors),
             named,
             regions: 0,
@@ -235,7 +235,9 @@ impl Reader<'_> {
         let before = self.cursor;
         let depth = self.whole_operation()?;
         let text = self.cursor.bytes(self.cursor.since(start));
-        let has_tags = text.windows(13).any(|part| part == b"llvm.blocktag".as_slice());
+        let has_tags = text
+            .windows(13)
+            .any(|part| part == b"llvm.blocktag".as_slice());
         self.cursor = before;
         Ok(depth > MAX_BRACKETS || has_tags)
     }
@@ -261,7 +263,9 @@ impl Reader<'_> {
     // Keeps the operation as it is written.
     fn keep(&mut self, number: usize, start: usize) -> Result<(), Fault> {
         self.whole_operation()?;
-        let name = self.sheet.number(self.cursor.bytes(self.cursor.since(start)))?;
+        let name = self
+            .sheet
+            .number(self.cursor.bytes(self.cursor.since(start)))?;
         let form = self.sheet.form_number(Form {
             name,
             properties: None,
@@ -297,11 +301,14 @@ impl Reader<'_> {
         self.cursor.step();
         let results = self.result_types(pending)?;
         let location = self.location()?;
-        self.finish(pending, &Tail {
-            attributes,
-            results,
-            location,
-        })
+        self.finish(
+            pending,
+            &Tail {
+                attributes,
+                results,
+                location,
+            },
+        )
     }
 
     fn operand_types(&mut self, pending: &Pending) -> Result<(), Fault> {

@@ -9,10 +9,7 @@ pub struct Place {
 
 /// The line and the column of the byte with this index. Cost: linear in the text before it.
 pub fn place_of(text: &[u8], at: usize) -> Place {
-    let mut place = Place {
-        line: 1,
-        column: 1,
-    };
+    let mut place = Place { line: 1, column: 1 };
     for byte in text.get(..at).unwrap_or(text) {
         if *byte == b'\n' {
             place.line = place.line.saturating_add(1);

@@ -201,7 +201,11 @@ impl Printer<'_> {
             return Ok(());
         }
         for i in 0..op.num_successor(ctx) {
-            self.text(if i > 0 { b", ".as_slice() } else { b"[".as_slice() })?;
+            self.text(if i > 0 {
+                b", ".as_slice()
+            } else {
+                b"[".as_slice()
+            })?;
             self.label(op.get_successor(ctx, i))?;
         }
         self.text(b"]")
@@ -276,7 +280,11 @@ impl Printer<'_> {
         if class_of_head(head) == Some(Class::Switch) {
             self.text(b"case_operand_segments = array<i32")?;
             for i in 1..edges {
-                self.text(if i > 1 { b", ".as_slice() } else { b": ".as_slice() })?;
+                self.text(if i > 1 {
+                    b", ".as_slice()
+                } else {
+                    b": ".as_slice()
+                })?;
                 self.number(edge_count(head, i))?;
             }
             self.text(b">, ")?;
@@ -369,7 +377,12 @@ impl Printer<'_> {
         Ok(())
     }
 
-    fn region_end(&mut self, op: Ptr<Operation>, i: usize, ctx: &Context) -> Result<(), AllocError> {
+    fn region_end(
+        &mut self,
+        op: Ptr<Operation>,
+        i: usize,
+        ctx: &Context,
+    ) -> Result<(), AllocError> {
         if !op.is_live(ctx) {
             return Ok(());
         }
@@ -421,10 +434,18 @@ impl Printer<'_> {
         self.label(block)?;
         let count = block.num_argument(ctx);
         for i in 0..count {
-            self.text(if i > 0 { b", ".as_slice() } else { b"(".as_slice() })?;
+            self.text(if i > 0 {
+                b", ".as_slice()
+            } else {
+                b"(".as_slice()
+            })?;
             self.argument(block.get_argument(ctx, i), ctx)?;
         }
-        self.text(if count > 0 { b"):\n".as_slice() } else { b":\n".as_slice() })
+        self.text(if count > 0 {
+            b"):\n".as_slice()
+        } else {
+            b":\n".as_slice()
+        })
     }
 
     fn argument(&mut self, argument: Value, ctx: &Context) -> Result<(), AllocError> {

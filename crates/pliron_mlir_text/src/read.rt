@@ -10,6 +10,7 @@ use crate::sheet::Sheet;
 use crate::syntax::Syntax;
 use pliron_core::{Context, Operation, Ptr};
 use pliron_laws::{Dialect, is_admitted, is_well_linked};
+use pliron_walks::Contents;
 use std::alloc::Global;
 
 /// A module: its operation, and what the text says beside the tree.
@@ -31,8 +32,8 @@ pub fn read_module<D: Dialect>(
     text: &[u8],
     ctx: &mut Context,
 ) -> Result<Module, Fault>
-    ensures stands { IfOk result (λ module. IsLive ctx.new.tree module.root) }
-    ensures linked { IfOk result (λ module. IsWellLinked D.meaning ctx.new.tree module.root) }
+    ensures stands { IfOk result (λ read. IsLive ctx.new.tree read.root) }
+    ensures linked { IfOk result (λ read. IsWellLinked D.meaning ctx.new.tree read.root) }
 {
     let (syntax, sheet) = match parse(alloc, text, false) {
         Err(Fault::KeptAsText) => parse(alloc, text, true)?,
@@ -74,8 +75,8 @@ fn built<D: Dialect>(
     mut sheet: Sheet,
     ctx: &mut Context,
 ) -> Result<Module, Fault>
-    ensures stands { IfOk result (λ module. IsLive ctx.new.tree module.root) }
-    ensures linked { IfOk result (λ module. IsWellLinked D.meaning ctx.new.tree module.root) }
+    ensures stands { IfOk result (λ read. IsLive ctx.new.tree read.root) }
+    ensures linked { IfOk result (λ read. IsWellLinked D.meaning ctx.new.tree read.root) }
 {
     match linked::<D>(alloc, &mut syntax, &mut sheet, ctx) {
         Ok(root) => Ok(Module { root, sheet }),
@@ -101,21 +102,31 @@ fn linked<D: Dialect>(
     }
 }
 
+// What the operation breaks of what is asked of well-linked trees, if anything.
+fn broken<D: Dialect>(op: Ptr<Operation>, ctx: &Context) -> Option<Expected> {
+    if !op.is_live(ctx) {
+        return None;
+    }
+    if !is_admitted::<D>(op, ctx) {
+        Some(Expected::Admitted)
+    } else if op.num_successor(ctx) > 0 && op.get_next(ctx).is_some() {
+        Some(Expected::LastOfBlock)
+    } else {
+        None
+    }
+}
+
 // The first operation that isn't admitted, or has successors and isn't the last of its block.
 fn unlinked<D: Dialect>(root: Ptr<Operation>, sheet: &Sheet, ctx: &Context) -> Fault
     requires { IsLive ctx.now.tree root }
 {
-    ctx.well_formed();
-    let mut at = Some(root);
-    while let Some(op) = at {
-        let place = sheet.place_of(op.key()).unwrap_or(0);
-        if !is_admitted::<D>(op, ctx) {
-            return Fault::Expected(place, Expected::Admitted);
+    if let Some(expected) = broken::<D>(root, ctx) {
+        return Fault::Expected(0, expected);
+    }
+    for op in Contents::new(root, ctx) {
+        if let Some(expected) = broken::<D>(op, ctx) {
+            return Fault::Expected(sheet.place_of(op.key()).unwrap_or(0), expected);
         }
-        if op.num_successor(ctx) > 0 && op.get_next(ctx).is_some() {
-            return Fault::Expected(place, Expected::LastOfBlock);
-        }
-        at = op.next_in_preorder(root, ctx);
     }
     Fault::Expected(0, Expected::LastOfBlock)
 }

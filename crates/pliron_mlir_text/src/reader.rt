@@ -91,6 +91,7 @@ impl<'t> Reader<'t> {
     pub fn read(&mut self) -> Result<(), Fault> {
         self.before()?;
         self.values.open()?;
+        self.blocks.open()?;
         self.operation()?;
         for _ in 0..self.cursor.left() {
             if self.open.is_empty() {
@@ -100,6 +101,9 @@ impl<'t> Reader<'t> {
         }
         if !self.open.is_empty() {
             return Err(self.cursor.fault(Expected::OperationOrEnd));
+        }
+        if let Some(place) = self.blocks.close(&mut self.syntax.successors) {
+            return Err(Fault::Expected(place, Expected::DefinedBlock));
         }
         if let Some(place) = self.values.close(&mut self.syntax.operands) {
             return Err(Fault::Expected(place, Expected::DefinedValue));
@@ -263,7 +267,10 @@ impl<'t> Reader<'t> {
     /// The name stands for the next values, so many. Errors: the region has defined it; want of memory. Cost: the length
     /// of the name.
     pub fn define(&mut self, name: Span, count: usize) -> Result<(), Fault> {
-        if !self.values.define(self.cursor.bytes(name), self.num_value, count)? {
+        if !self
+            .values
+            .define(self.cursor.bytes(name), self.num_value, count)?
+        {
             return Err(Fault::Expected(name.start.saturating_sub(1), Expected::NewValue));
         }
         self.num_value = self.num_value.saturating_add(count);

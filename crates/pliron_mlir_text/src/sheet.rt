@@ -17,23 +17,58 @@ pub struct Form {
     pub is_whole: bool,
 }
 
-// Whether a name of the type has no dialect, as aliases have none.
+// Whether the name that begins there has no dialect, as that of an alias has none.
+fn is_alias(text: &[u8], start: usize) -> bool {
+    for i in start..text.len() {
+        match text.get(i) {
+            Some(b'.') => return false,
+            Some(byte) if is_word(*byte) => {}
+            _ => return true,
+        }
+    }
+    true
+}
+
 fn has_alias(text: &[u8]) -> bool {
-    let mut names = text.split(|byte| *byte == b'!');
-    let _ = names.next();
-    names.any(|name| {
-        let end = name.iter().position(|byte| !is_word(*byte)).unwrap_or(name.len());
-        !name.iter().take(end).any(|byte| *byte == b'.')
-    })
+    for i in 0..text.len() {
+        if text.get(i) == Some(&b'!') && is_alias(text, i.saturating_add(1)) {
+            return true;
+        }
+    }
+    false
+}
+
+// The index of the first byte from this one on that isn't blank.
+fn solid_from(text: &[u8], start: usize) -> usize {
+    for i in start..text.len() {
+        if let Some(byte) = text.get(i) {
+            if !is_blank(*byte) {
+                return i;
+            }
+        }
+    }
+    text.len()
+}
+
+fn is_same_but_for_blanks(first: &[u8], second: &[u8]) -> bool {
+    let mut at = 0usize;
+    let mut other = 0usize;
+    // Each turn takes a byte of the first text, or is the last.
+    for _ in 0..first.len() {
+        at = solid_from(first, at);
+        other = solid_from(second, other);
+        if first.get(at) != second.get(other) {
+            return false;
+        }
+        at = at.saturating_add(1);
+        other = other.saturating_add(1);
+    }
+    solid_from(second, other) >= second.len()
 }
 
 // Whether the types are the same but for blanks, or one of them has an alias.
 fn may_be_same(first: &[u8], second: &[u8]) -> bool {
-    if has_alias(first) || has_alias(second) {
-        return true;
-    }
-    let first = first.iter().filter(|byte| !is_blank(**byte));
-    first.eq(second.iter().filter(|byte| !is_blank(**byte)))
+    has_alias(first) || has_alias(second) || is_same_but_for_blanks(first, second)
 }
 
 /// What a text says beside the tree: forms of operations, types of values, locations of arguments, and what stands before
@@ -137,7 +172,10 @@ impl Sheet {
     /// The location of the argument with this key, where the text said it. Cost: a logarithm of their number.
     pub fn location_of(&self, key: u64) -> Option<&[u8]> {
         let key = usize::try_from(key).ok()?;
-        let at = self.locations.binary_search_by(|entry| entry.0.cmp(&key)).ok()?;
+        let at = self
+            .locations
+            .binary_search_by(|entry| entry.0.cmp(&key))
+            .ok()?;
         let (_, number) = self.locations.get(at).copied()?;
         Some(self.texts.get(number))
     }

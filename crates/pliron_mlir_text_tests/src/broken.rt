@@ -27,7 +27,7 @@ fn expect_broken(rt: &impl Abort, alloc: Global, text: &str, wanted: &str, ctx: 
 
 /// Broken modules, and line, column and what was to stand there.
 static BROKEN: &str = "\
- => 1:1 the name of an operation in quotes; print with --mlir-print-op-generic
+// words => 1:9 the name of an operation in quotes; print with --mlir-print-op-generic
 module {|} => 1:1 the name of an operation in quotes; print with --mlir-print-op-generic
   func.func @f() {|} => 1:3 the name of an operation in quotes; print with --mlir-print-op-generic
 \"m|() : () -> () => 1:1 a string in quotes that ends on its line
