@@ -8,6 +8,7 @@ mod casts;
 mod division;
 mod flags;
 mod integers;
+pub mod laws;
 mod logic;
 mod operators;
 mod order;

@@ -6,6 +6,7 @@ use Rattle.pliron_core.specs.declared.attrs.Head.{Head}
 use Rattle.pliron_core.specs.declared.attrs.AttrObj.{AttrObj}
 use Rattle.pliron_laws.specs.Datum.{Datum, Empty, Number, Text, Join, Shape, Move, Give, Visit, Leave}
 use Rattle.pliron_laws.specs.Laws.{CountsFit}
+use Rattle.pliron_bits.specs.declared.flags.Flags.{Flags}
 use Rattle.pliron_bits.specs.declared.operators.BinaryOperator.{BinaryOperator}
 use Rattle.pliron_bits.specs.declared.operators.Predicate.{Predicate}
 use Rattle.pliron_bits.specs.declared.operators.Cast.{Cast}
@@ -33,8 +34,7 @@ of_one f None = None
 -- the attributes of what computes are the width, the flags and the form
 abbrev pub computed_by : BinaryOperator → Head → List ℤ → Option ℤ
 computed_by operator h (a ∷ b ∷ []) =
-    let width = width_at h.attrs 0 in
-    option_map (number width) (of_two (binary operator (flags_at h.attrs 1) (bits_of_width width)) (bits_at width a) (bits_at width b))
+    option_map (number (width_at h.attrs 0)) (of_two (binary operator (flags_at h.attrs 1) (bits_of_width (width_at h.attrs 0))) (bits_at (width_at h.attrs 0) a) (bits_at (width_at h.attrs 0) b))
 computed_by operator h _ = None
 
 -- those of a comparison are the width, the predicate and the form
@@ -44,19 +44,15 @@ truth_of_two (Some predicate) width a b = Some (bit (compared predicate width a 
 
 abbrev pub compared_by : Head → List ℤ → Option ℤ
 compared_by h (a ∷ b ∷ []) =
-    let width = width_at h.attrs 0 in
-    option_map (number 1) (of_two (truth_of_two (predicate_of_number (attribute_at h.attrs 1)) (bits_of_width width)) (bits_at width a) (bits_at width b))
+    option_map (number 1) (of_two (truth_of_two (predicate_of_number (attribute_at h.attrs 1)) (bits_of_width (width_at h.attrs 0))) (bits_at (width_at h.attrs 0) a) (bits_at (width_at h.attrs 0) b))
 compared_by h _ = None
 
 -- those of a cast are the width, the new one, the flags and the form
-abbrev pub cast_of : Cast → Head → ℕ → Option ℕ
-cast_of cast h a =
-    if is_width (width_at h.attrs 1)
-    then cast_to cast (flags_at h.attrs 2) (bits_of_width (width_at h.attrs 0)) (bits_of_width (width_at h.attrs 1)) a
-    else None
+abbrev pub cast_of : Cast → Flags → (width to a : ℕ) → Option ℕ
+cast_of cast flags width to a = if is_width to then cast_to cast flags (bits_of_width width) (bits_of_width to) a else None
 
 abbrev pub cast_by : Cast → Head → List ℤ → Option ℤ
-cast_by cast h (a ∷ []) = option_map (number (width_at h.attrs 1)) (of_one (cast_of cast h) (bits_at (width_at h.attrs 0) a))
+cast_by cast h (a ∷ []) = option_map (number (width_at h.attrs 1)) (of_one (cast_of cast (flags_at h.attrs 2) (width_at h.attrs 0) (width_at h.attrs 1)) (bits_at (width_at h.attrs 0) a))
 cast_by cast h _ = None
 
 -- ---- branches

@@ -1,5 +1,5 @@
 //! Data: integers that say their type, and other constants.
-ghost use Rattle.std.specs.Prelude.{◌≡◌, ◌≤◌, ◌<◌, ◌^◌, ◌×◌, IfSome, Some, ℤ};
+ghost use Rattle.std.specs.Prelude.{◌≡◌, ◌≤◌, ◌<◌, ◌^◌, IfSome, IsTrue};
 ghost use Rattle.pliron_mlir.specs.Data.{is_width as is_width_of, bits_of_width, number as number_of, bits_at as bits_in, width_in as width_said_by, other_constant as other_constant_of, form_in as form_said_by, truth as truth_of};
 
 use pliron_bits::size;
@@ -12,14 +12,17 @@ const ABOVE: u128 = 18_446_744_073_709_551_616;
 
 /// Whether it is a width: from 1 to 64, or that of `index`. Cost: constant.
 pub fn is_width(width: u32) -> bool
-    ensures { result ≡ is_width_of width }
+    ensures same { result ≡ is_width_of width }
+    ensures within { IsTrue result → (1 ≤ width) × (width ≤ 65) }
 {
     1 <= width && width <= INDEX
 }
 
-/// How many bits the width counts. Cost: constant.
+/// How many bits the width counts: 1 to 64. Cost: constant.
 pub fn counted_bits(width: u32) -> u32
-    ensures { result ≡ bits_of_width width }
+    ensures same { result ≡ bits_of_width width }
+    ensures some { 1 ≤ width → 1 ≤ result }
+    ensures most { width ≤ 65 → result ≤ 64 }
 {
     if width == INDEX { 64 } else { width }
 }
@@ -38,7 +41,7 @@ pub fn bits_at(width: u32, datum: i128) -> Option<u64>
     ensures below { IfSome result (λ bits. bits < 2 ^ bits_of_width width) }
     ensures width { IfSome result (λ bits. (1 ≤ width) × (width ≤ 65)) }
 {
-    if !is_width(width) || datum < 0 {
+    if width < 1 || width > INDEX || datum < 0 {
         return None;
     }
     let all = datum as u128;

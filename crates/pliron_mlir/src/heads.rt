@@ -25,11 +25,7 @@ fn head_with(alloc: Global, class: Class, numbers: &[i128]) -> Result<Head, Allo
 }
 
 /// The head of a constant with this datum. Errors: want of memory. Cost: constant.
-pub fn constant_head(
-    alloc: Global,
-    datum: i128,
-    form: usize,
-) -> Result<Head, AllocFailed<AttrObj>>
+pub fn constant_head(alloc: Global, datum: i128, form: usize) -> Result<Head, AllocFailed<AttrObj>>
     ensures { IfOk result (λ head. head ≡ constant_head_of datum form) }
 {
     head_with(alloc, Class::Constant, &[datum, form as i128])

@@ -144,16 +144,28 @@ fn is_pure(name: &[u8]) -> bool {
 fn is_pure_cast(name: &[u8]) -> bool {
     matches!(
         name,
-        b"bitcast" | b"inttoptr" | b"ptrtoint" | b"addrspacecast" | b"fptoui" | b"fptosi"
-            | b"uitofp" | b"sitofp" | b"fpext" | b"fptrunc"
+        b"bitcast"
+            | b"inttoptr"
+            | b"ptrtoint"
+            | b"addrspacecast"
+            | b"fptoui"
+            | b"fptosi"
+            | b"uitofp"
+            | b"sitofp"
+            | b"fpext"
+            | b"fptrunc"
     )
 }
 
 fn is_pure_aggregate(name: &[u8]) -> bool {
     matches!(
         name,
-        b"getelementptr" | b"insertvalue" | b"extractvalue" | b"insertelement"
-            | b"extractelement" | b"shufflevector"
+        b"getelementptr"
+            | b"insertvalue"
+            | b"extractvalue"
+            | b"insertelement"
+            | b"extractelement"
+            | b"shufflevector"
     )
 }
 
@@ -167,21 +179,61 @@ fn is_float_operation(name: &[u8]) -> bool {
 fn is_pure_integer(name: &[u8]) -> bool {
     matches!(
         name,
-        b"abs" | b"bswap" | b"bitreverse" | b"ctlz" | b"cttz" | b"ctpop" | b"fshl" | b"fshr"
-            | b"sadd.with.overflow" | b"uadd.with.overflow" | b"ssub.with.overflow"
-            | b"usub.with.overflow" | b"smul.with.overflow" | b"umul.with.overflow"
-            | b"sadd.sat" | b"uadd.sat" | b"ssub.sat" | b"usub.sat" | b"sshl.sat"
-            | b"ushl.sat" | b"expect" | b"expect.with.probability" | b"ptrmask"
+        b"abs"
+            | b"bswap"
+            | b"bitreverse"
+            | b"ctlz"
+            | b"cttz"
+            | b"ctpop"
+            | b"fshl"
+            | b"fshr"
+            | b"sadd.with.overflow"
+            | b"uadd.with.overflow"
+            | b"ssub.with.overflow"
+            | b"usub.with.overflow"
+            | b"smul.with.overflow"
+            | b"umul.with.overflow"
+            | b"sadd.sat"
+            | b"uadd.sat"
+            | b"ssub.sat"
+            | b"usub.sat"
+            | b"sshl.sat"
+            | b"ushl.sat"
+            | b"expect"
+            | b"expect.with.probability"
+            | b"ptrmask"
     )
 }
 
 fn is_pure_float(name: &[u8]) -> bool {
     matches!(
         name,
-        b"fabs" | b"sqrt" | b"sin" | b"cos" | b"exp" | b"exp2" | b"log" | b"log10" | b"log2"
-            | b"pow" | b"powi" | b"fma" | b"fmuladd" | b"floor" | b"ceil" | b"trunc" | b"rint"
-            | b"nearbyint" | b"round" | b"roundeven" | b"copysign" | b"minnum" | b"maxnum"
-            | b"minimum" | b"maximum" | b"is.fpclass"
+        b"fabs"
+            | b"sqrt"
+            | b"sin"
+            | b"cos"
+            | b"exp"
+            | b"exp2"
+            | b"log"
+            | b"log10"
+            | b"log2"
+            | b"pow"
+            | b"powi"
+            | b"fma"
+            | b"fmuladd"
+            | b"floor"
+            | b"ceil"
+            | b"trunc"
+            | b"rint"
+            | b"nearbyint"
+            | b"round"
+            | b"roundeven"
+            | b"copysign"
+            | b"minnum"
+            | b"maxnum"
+            | b"minimum"
+            | b"maximum"
+            | b"is.fpclass"
     )
 }
 
@@ -192,8 +244,18 @@ fn is_pure_vector(name: &[u8]) -> bool {
 // What asks the world. Other names are none of ours, and ask it too.
 fn llvm_effect(name: &[u8]) -> Option<Class> {
     match name {
-        b"mlir.undef" | b"mlir.poison" | b"freeze" | b"alloca" | b"load" | b"store" | b"call"
-        | b"fence" | b"atomicrmw" | b"cmpxchg" | b"inline_asm" | b"va_arg" => Some(Class::Effect),
+        b"mlir.undef"
+        | b"mlir.poison"
+        | b"freeze"
+        | b"alloca"
+        | b"load"
+        | b"store"
+        | b"call"
+        | b"fence"
+        | b"atomicrmw"
+        | b"cmpxchg"
+        | b"inline_asm"
+        | b"va_arg" => Some(Class::Effect),
         _ => None,
     }
 }

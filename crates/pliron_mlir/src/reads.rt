@@ -1,5 +1,5 @@
 //! What heads and data say, for code that prints operations.
-ghost use Rattle.std.specs.Prelude.{◌≡◌, ◌-◌, ◌×◌, ℕ, length, Some, None};
+ghost use Rattle.std.specs.Prelude.{◌≡◌, ◌-◌, ℕ, length, Some, None};
 ghost use Rattle.pliron_mlir.specs.ClassNumbers.{class_of_number};
 ghost use Rattle.pliron_mlir.specs.Data.{integer_in, form_in as form_said_by, other_constant as other_constant_of};
 ghost use Rattle.pliron_mlir.specs.Heads.{attribute_at as attribute_in, form_in as form_of_head};
@@ -68,5 +68,9 @@ pub fn other_constant(form: usize) -> i128
 pub fn form_of_constant(datum: i128) -> Option<u128>
     ensures { result ≡ form_said_by datum }
 {
-    if datum < 0 { Some((-1 - datum) as u128) } else { None }
+    if datum < 0 {
+        Some((-1 - datum) as u128)
+    } else {
+        None
+    }
 }
