@@ -106,7 +106,7 @@ fn is_said<D: Dialect>(
 ) -> Result<bool, AllocError> {
     let read = read_module::<D>(alloc, text, again);
     match &read {
-        Ok(second) => is_same_module(alloc, standing(loaded, ctx), standing(second, again)),
+        Ok(second) => is_same_module(alloc, &standing(loaded, ctx), &standing(second, again)),
         Err(Fault::NoMemory) => Err(AllocError),
         Err(_) => Ok(false),
     }

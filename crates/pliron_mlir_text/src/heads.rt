@@ -18,6 +18,10 @@ use pliron_mlir::{
 /// The most bytes of a constant that passes carry.
 const MAX_CONSTANT: usize = 256;
 
+/// The most edges of a switch that passes look into where its edges have operands: the place of an edge's operands is a sum
+/// over the edges before it.
+const MAX_EDGES: usize = 1024;
+
 /// The entries that say how many operands each edge has.
 static SEGMENTS: [&[u8]; 2] = [b"operandSegmentSizes", b"case_operand_segments"];
 
@@ -178,7 +182,8 @@ impl Reader<'_> {
         for count in &counts {
             sum = sum.saturating_add(*count);
         }
-        if counts.len() == pending.successors && sum == pending.operands.1 {
+        let is_wide = counts.len() > MAX_EDGES && sum > 1;
+        if counts.len() == pending.successors && sum == pending.operands.1 && !is_wide {
             Ok(Some(counts))
         } else {
             Ok(None)

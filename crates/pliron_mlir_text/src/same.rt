@@ -27,8 +27,12 @@ struct Twins {
 /// Two modules that are compared.
 #[derive(Clone, Copy)]
 struct Pair<'m> {
-    first: Standing<'m>,
-    second: Standing<'m>,
+    first_root: Ptr<Operation>,
+    first_sheet: &'m Sheet,
+    first_ctx: &'m Context,
+    second_root: Ptr<Operation>,
+    second_sheet: &'m Sheet,
+    second_ctx: &'m Context,
 }
 
 /// Whether both modules say the same tree, up to keys: operations of the same classes with the same forms, in the same blocks,
@@ -37,14 +41,21 @@ struct Pair<'m> {
 /// Errors: want of memory. Cost: linear in both.
 pub fn is_same_module<'m>(
     alloc: Global,
-    first: Standing<'m>,
-    second: Standing<'m>,
+    first: &Standing<'m>,
+    second: &Standing<'m>,
 ) -> Result<bool, AllocError> {
     let mut twins = Twins {
         values: HashMap::new(alloc),
         blocks: HashMap::new(alloc),
     };
-    let pair = Pair { first, second };
+    let pair = Pair {
+        first_root: first.root,
+        first_sheet: first.sheet,
+        first_ctx: first.ctx,
+        second_root: second.root,
+        second_sheet: second.sheet,
+        second_ctx: second.ctx,
+    };
     pair.is_same(&mut twins)
 }
 
@@ -80,8 +91,8 @@ impl Twins {
 
 impl Pair<'_> {
     fn is_same(&self, twins: &mut Twins) -> Result<bool, AllocError> {
-        let stand = self.first.root.is_live(self.first.ctx)
-            && self.second.root.is_live(self.second.ctx);
+        let stand = self.first_root.is_live(self.first_ctx)
+            && self.second_root.is_live(self.second_ctx);
         if !stand || !self.shapes_agree(twins)? {
             return Ok(false);
         }
@@ -90,15 +101,14 @@ impl Pair<'_> {
 
     // Goes over both in the order of the text: they have the same shapes. Asks that both stand.
     fn shapes_agree(&self, twins: &mut Twins) -> Result<bool, AllocError>
-        requires first { IsLive self.now.first.ctx.now.tree self.now.first.root }
-        requires second { IsLive self.now.second.ctx.now.tree self.now.second.root }
+        requires first { IsLive self.now.first_ctx.now.tree self.now.first_root }
+        requires second { IsLive self.now.second_ctx.now.tree self.now.second_root }
     {
-        let (first, second) = (self.first, self.second);
-        if !self.shape_agrees(twins, first.root, second.root)? {
+        if !self.shape_agrees(twins, self.first_root, self.second_root)? {
             return Ok(false);
         }
-        let mut others = Contents::new(second.root, second.ctx);
-        for one in Contents::new(first.root, first.ctx) {
+        let mut others = Contents::new(self.second_root, self.second_ctx);
+        for one in Contents::new(self.first_root, self.first_ctx) {
             let Some(other) = others.next() else {
                 return Ok(false);
             };
@@ -115,7 +125,7 @@ impl Pair<'_> {
         one: Ptr<Operation>,
         other: Ptr<Operation>,
     ) -> Result<bool, AllocError> {
-        let (first, second) = (self.first.ctx, self.second.ctx);
+        let (first, second) = (self.first_ctx, self.second_ctx);
         if !one.is_live(first) || !other.is_live(second) {
             return Ok(false);
         }
@@ -145,12 +155,12 @@ impl Pair<'_> {
         one: Ptr<Operation>,
         other: Ptr<Operation>,
     ) -> bool {
-        let (first, second) = (self.first.ctx, self.second.ctx);
+        let (first, second) = (self.first_ctx, self.second_ctx);
         if !one.is_live(first) || !other.is_live(second) {
             return false;
         }
-        if one == self.first.root {
-            return other == self.second.root;
+        if one == self.first_root {
+            return other == self.second_root;
         }
         match (one.get_parent_block(first), other.get_parent_block(second)) {
             (Some(block), Some(twin)) => twins.has_blocks(block, twin),
@@ -164,7 +174,7 @@ impl Pair<'_> {
         one: Ptr<Region>,
         other: Ptr<Region>,
     ) -> Result<bool, AllocError> {
-        let (first, second) = (self.first.ctx, self.second.ctx);
+        let (first, second) = (self.first_ctx, self.second_ctx);
         if !one.is_live(first) || !other.is_live(second) {
             return Ok(false);
         }
@@ -192,7 +202,7 @@ impl Pair<'_> {
         block: Ptr<BasicBlock>,
         twin: Ptr<BasicBlock>,
     ) -> Result<bool, AllocError> {
-        let (first, second) = (self.first.ctx, self.second.ctx);
+        let (first, second) = (self.first_ctx, self.second_ctx);
         if !block.is_live(first) || !twin.is_live(second) {
             return Ok(false);
         }
@@ -202,7 +212,7 @@ impl Pair<'_> {
         twins.blocks.insert(block.key(), twin.key())?;
         for i in 0..block.num_argument(first).min(twin.num_argument(second)) {
             let (one, other) = (block.get_argument(first, i), twin.get_argument(second, i));
-            if self.first.sheet.type_of(one.key()) != self.second.sheet.type_of(other.key()) {
+            if self.first_sheet.type_of(one.key()) != self.second_sheet.type_of(other.key()) {
                 return Ok(false);
             }
             twins.values.insert(one.key(), other.key())?;
@@ -212,15 +222,14 @@ impl Pair<'_> {
 
     // Goes over both once more: operands, successors and heads agree. Asks that both stand.
     fn edges_agree(&self, twins: &Twins) -> bool
-        requires first { IsLive self.now.first.ctx.now.tree self.now.first.root }
-        requires second { IsLive self.now.second.ctx.now.tree self.now.second.root }
+        requires first { IsLive self.now.first_ctx.now.tree self.now.first_root }
+        requires second { IsLive self.now.second_ctx.now.tree self.now.second_root }
     {
-        let (first, second) = (self.first, self.second);
-        if !self.operation_agrees(twins, first.root, second.root) {
+        if !self.operation_agrees(twins, self.first_root, self.second_root) {
             return false;
         }
-        let mut others = Contents::new(second.root, second.ctx);
-        for one in Contents::new(first.root, first.ctx) {
+        let mut others = Contents::new(self.second_root, self.second_ctx);
+        for one in Contents::new(self.first_root, self.first_ctx) {
             match others.next() {
                 Some(other) if self.operation_agrees(twins, one, other) => {}
                 _ => return false,
@@ -230,7 +239,7 @@ impl Pair<'_> {
     }
 
     fn operation_agrees(&self, twins: &Twins, one: Ptr<Operation>, other: Ptr<Operation>) -> bool {
-        let (first, second) = (self.first.ctx, self.second.ctx);
+        let (first, second) = (self.first_ctx, self.second_ctx);
         if !one.is_live(first) || !other.is_live(second) {
             return false;
         }
@@ -262,8 +271,8 @@ impl Pair<'_> {
             }
         }
         match (
-            form_of_head(one, self.first.sheet),
-            form_of_head(other, self.second.sheet),
+            form_of_head(one, self.first_sheet),
+            form_of_head(other, self.second_sheet),
         ) {
             (Some(form), Some(twin)) => self.forms_agree(form, twin),
             (None, _) => true,
@@ -275,8 +284,8 @@ impl Pair<'_> {
     fn numbers_agree(&self, one: Option<i128>, other: Option<i128>) -> bool {
         match (one, other) {
             (Some(one), Some(other)) if one < 0 || other < 0 => {
-                let form = form_of_datum(one, self.first.sheet);
-                match (form, form_of_datum(other, self.second.sheet)) {
+                let form = form_of_datum(one, self.first_sheet);
+                match (form, form_of_datum(other, self.second_sheet)) {
                     (Some(form), Some(twin)) => self.forms_agree(form, twin),
                     _ => false,
                 }
@@ -287,7 +296,7 @@ impl Pair<'_> {
 
     fn texts_agree(&self, one: Option<usize>, other: Option<usize>) -> bool {
         match (one, other) {
-            (Some(one), Some(other)) => self.first.sheet.text(one) == self.second.sheet.text(other),
+            (Some(one), Some(other)) => self.first_sheet.text(one) == self.second_sheet.text(other),
             (None, None) => true,
             _ => false,
         }
