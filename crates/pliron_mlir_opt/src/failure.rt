@@ -37,7 +37,8 @@ impl From<Fault> for Failure {
 }
 
 impl Failure {
-    /// The status that a program ends with: 1 where something was refused, 2 where the text can't be used. Cost: constant.
+    /// The status that a program ends with: 1 where something was refused, 2 where the text can't be used. Cost:
+    /// constant.
     pub fn status(self) -> u8 {
         match self {
             Failure::Refused(_) => 1,
@@ -45,7 +46,8 @@ impl Failure {
         }
     }
 
-    /// A line that says why, of a text that is called so. Errors: want of memory. Cost: linear in the text before the place.
+    /// A line that says why, of a text that is called so. Errors: want of memory. Cost: linear in the text before the
+    /// place.
     pub fn told(self, alloc: Global, name: &str, text: &[u8]) -> Result<String, AllocError> {
         match self {
             Failure::Text(at, expected) => {

@@ -1,8 +1,11 @@
 //! What passes make of a module.
-ghost use Rattle.std.specs.Prelude.{◌≡◌, ◌++◌, IfOk, ℕ, List};
+ghost use Rattle.std.specs.Prelude.{◌≡◌, ◌++◌, IfOk};
 ghost use Rattle.pliron_core.specs.Tree.{IsLive};
+ghost use Rattle.pliron_core.specs.Changes.{IsInsideChange, IsSameTree};
 ghost use Rattle.pliron_core.specs.Writes.{no_tree};
+ghost use Rattle.pliron_core.specs.declared.attrs.IRStatus.TheVariants.{Unchanged};
 ghost use Rattle.pliron_laws.specs.Linked.{IsWellLinked};
+ghost use Rattle.pliron_pass.specs.Headline.{DoAsBefore};
 ghost use Rattle.pliron_opts.specs.Answered.{IsOptimised, status_line};
 ghost use Rattle.pliron_opts.specs.Ran.{RunsAlone};
 ghost use Rattle.pliron_opts.specs.Read.{ReadsKinds, PrintsKinds};
@@ -48,10 +51,10 @@ pub struct Asked {
 
 /// What the passes make of the module that the text says, printed, and whether it changed.
 ///
-/// For every dialect that keeps its laws: the tree that is printed is what these passes, run once as a whole, made of the
-/// one that was read, every operation that was fit to run and still stands does as before, and `status` says truly whether
-/// it changed. Errors: the place where the text can't be used, and what was expected; those of the passes; want of memory.
-/// Cost: reading, the passes, what is looked at, and printing.
+/// For every dialect that keeps its laws: the tree that is printed is what these passes, run once as a whole, made of
+/// the one that was read, every operation that was fit to run and still stands does as before, and `status` says truly
+/// whether it changed. Errors: the place where the text can't be used, and what was expected; those of the passes; want
+/// of memory. Cost: reading, the passes, what is looked at, and printing.
 pub fn optimise<D: Dialect, C: Progress + Drop>(
     alloc: Global,
     schedule: &mut WatchedSchedule<GenericForm<D>, C>,
@@ -120,16 +123,75 @@ fn standing<'m>(loaded: &'m Module, ctx: &'m Context) -> Standing<'m> {
     }
 }
 
-/// How much of each class stands, and which functions are fit to run.
+/// Whether this text says the module as it stands, where that is asked.
+fn agreement<D: Dialect>(
+    alloc: Global,
+    text: &[u8],
+    loaded: &Module,
+    asked: Asked,
+    ctx: &Context,
+) -> Result<Option<bool>, AllocError> {
+    if asked.checks {
+        Ok(Some(says::<D>(alloc, text, loaded, ctx)?))
+    } else {
+        Ok(None)
+    }
+}
+
+/// What stood before and what stands, where it is known what stood.
+fn counted_after(
+    before: Option<(Tally, Fitness)>,
+    loaded: &Module,
+    ctx: &Context,
+) -> Option<Counted>
+    requires { IsLive ctx.now.tree loaded.now.root }
+{
+    match before {
+        Some((before, fitness)) => Some(Counted {
+            before,
+            after: Tally::of(loaded.root, ctx),
+            fitness,
+        }),
+        None => None,
+    }
+}
+
+/// The module printed, after passes that ended so.
+fn answered<D: Dialect>(
+    alloc: Global,
+    loaded: &Module,
+    status: IRStatus,
+    before: Option<(Tally, Fitness)>,
+    asked: Asked,
+    ctx: &Context,
+) -> Result<Optimised, Failure>
+    requires { IsLive ctx.now.tree loaded.now.root }
+    ensures { IfOk result (λ made. made.status ≡ status) }
+{
+    let printed = print_module(alloc, loaded.root, &loaded.sheet, ctx)?;
+    let agrees = agreement::<D>(alloc, &printed, loaded, asked, ctx)?;
+    Ok(Optimised {
+        printed,
+        status,
+        agrees,
+        counted: counted_after(before, loaded, ctx),
+    })
+}
+
+/// How much of each class stands, and which functions are fit to run, where that is asked.
 fn counted_before<D: Dialect>(
     alloc: Global,
     loaded: &Module,
+    asked: Asked,
     ctx: &Context,
-) -> Result<(Tally, Fitness), OptError>
+) -> Result<Option<(Tally, Fitness)>, OptError>
     requires { IsLive ctx.now.tree loaded.now.root }
 {
+    if !asked.counts {
+        return Ok(None);
+    }
     let fitness = fitness_of::<D>(alloc, loaded, ctx)?;
-    Ok((Tally::of(loaded.root, ctx), fitness))
+    Ok(Some((Tally::of(loaded.root, ctx), fitness)))
 }
 
 /// The same of a module that was read.
@@ -142,35 +204,15 @@ fn optimise_module<D: Dialect, C: Progress + Drop>(
 ) -> Result<Optimised, Failure>
     requires live { IsLive ctx.old.tree loaded.now.root }
     requires linked { IsWellLinked D.meaning ctx.old.tree loaded.now.root }
-    ensures { IfOk result (λ made. (text : List ℕ) → IsOptimised (ReadsKinds D.meaning) PrintsKinds D.meaning
-        (RunsAlone ⟦<BenchFactKind as PartialEq>⟧.eq ⟦<WatchedSchedule<GenericForm<D>, C> as Pass>⟧.outcome schedule.old) text
-        (made.printed.items ++ status_line made.status)) }
+    ensures same { DoAsBefore D.meaning ctx.old.tree ctx.new.tree }
+    ensures stands { IsLive ctx.new.tree loaded.now.root }
+    ensures links { IsWellLinked D.meaning ctx.new.tree loaded.now.root }
+    ensures inside { IsInsideChange ctx.old.tree ctx.new.tree loaded.now.root }
+    ensures ran { IfOk result (λ made. RunsAlone ⟦<BenchFactKind as PartialEq>⟧.eq ⟦<WatchedSchedule<GenericForm<D>, C> as Pass>⟧.outcome schedule.old
+        loaded.now.root ctx.old.tree ctx.new.tree made.status) }
+    ensures truly { IfOk result (λ made. made.status ≡ Unchanged → IsSameTree ctx.old.tree ctx.new.tree) }
 {
-    let root = loaded.root;
-    let before = if asked.counts {
-        Some(counted_before::<D>(alloc, loaded, ctx)?)
-    } else {
-        None
-    };
-    let status = run_watched(alloc, schedule, root, ctx)?;
-    let printed = print_module(alloc, root, &loaded.sheet, ctx)?;
-    let counted = match before {
-        Some((before, fitness)) => Some(Counted {
-            before,
-            after: Tally::of(root, ctx),
-            fitness,
-        }),
-        None => None,
-    };
-    let agrees = if asked.checks {
-        Some(says::<D>(alloc, &printed, loaded, ctx)?)
-    } else {
-        None
-    };
-    Ok(Optimised {
-        printed,
-        status,
-        agrees,
-        counted,
-    })
+    let before = counted_before::<D>(alloc, loaded, asked, ctx)?;
+    let status = run_watched(alloc, schedule, loaded.root, ctx)?;
+    answered::<D>(alloc, loaded, status, before, asked, ctx)
 }

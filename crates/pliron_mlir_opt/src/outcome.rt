@@ -130,8 +130,8 @@ fn run_scheduled<C: Progress + Copy + Drop>(
 /// Runs the passes that the plan asks for on the module that the text says, and answers the module that they leave.
 ///
 /// Statuses: 0; 1 where memory or the passes were refused; 2 for a text that can't be used; 3 where verifying found
-/// something. With all but 0 nothing is to be written to the output. Errors: want of memory for what is told. Cost: reading,
-/// the passes, what is looked at, and printing.
+/// something. With all but 0 nothing is to be written to the output. Errors: want of memory for what is told. Cost:
+/// reading, the passes, what is looked at, and printing.
 pub fn run_passes<C: Progress + Copy + Drop>(
     alloc: Global,
     source: &Source,

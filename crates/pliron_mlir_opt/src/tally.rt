@@ -45,8 +45,8 @@ impl Tally {
         *count = count.saturating_add(1);
     }
 
-    /// What the operation and all that stands inside it come to. Asks that it stands (`is_live` tests it). Cost: one step
-    /// for each operation.
+    /// What the operation and all that stands inside it come to. Asks that it stands (`is_live` tests it). Cost: one
+    /// step for each operation.
     pub fn of(root: Ptr<Operation>, ctx: &Context) -> Self
         requires { IsLive ctx.now.tree root }
     {

@@ -24,8 +24,8 @@ fn no_tree(place: usize) -> Fault {
 
 /// Builds the operation of a text, in no block, and notes the types of its values in the sheet.
 ///
-/// Errors: an operand's type isn't that of its definition; want of memory. A part of the text may stand then. Cost: linear
-/// in the text, with a step for each region around an operation.
+/// Errors: an operand's type isn't that of its definition; want of memory. A part of the text may stand then. Cost:
+/// linear in the text, with a step for each region around an operation.
 pub fn build(
     alloc: Global,
     syntax: &mut Syntax,

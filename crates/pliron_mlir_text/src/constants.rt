@@ -57,8 +57,8 @@ fn name_of<'s>(op: Ptr<Operation>, sheet: &'s Sheet, ctx: &Context) -> &'s [u8] 
     }
 }
 
-/// The dialect of the function around the operation, or of the next operation around it that is of the dialect `llvm`. Cost:
-/// the depth of the operation.
+/// The dialect of the function around the operation, or of the next operation around it that is of the dialect `llvm`.
+/// Cost: the depth of the operation.
 pub fn dialect_of(op: Ptr<Operation>, sheet: &Sheet, ctx: &Context) -> Dialect {
     let mut here = op;
     // An operation stands in at most so many.

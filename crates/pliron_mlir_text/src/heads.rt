@@ -18,8 +18,8 @@ use pliron_mlir::{
 /// The most bytes of a constant that passes carry.
 const MAX_CONSTANT: usize = 256;
 
-/// The most edges of a switch that passes look into where its edges have operands: the place of an edge's operands is a sum
-/// over the edges before it.
+/// The most edges of a switch that passes look into where its edges have operands: the place of an edge's operands is a
+/// sum over the edges before it.
 const MAX_EDGES: usize = 1024;
 
 /// The entries that say how many operands each edge has.
@@ -325,7 +325,7 @@ impl Reader<'_> {
         }
     }
 
-    /// The operation is known whole. Errors: want of memory.
+    /// The operation is known whole, and gets its head. Errors: want of memory. Cost: linear in its text.
     pub fn finish(&mut self, pending: &Pending, tail: &Tail) -> Result<(), Fault> {
         let class = self.class(pending);
         let counts = match class {
@@ -352,7 +352,7 @@ impl Reader<'_> {
         Ok(())
     }
 
-    /// The operation has this head.
+    /// The operation of this number has this head. Cost: constant.
     pub fn set_head(&mut self, number: usize, head: Head) {
         if let Some(place) = self.syntax.heads.get_mut(number) {
             *place = Some(head);

@@ -88,8 +88,8 @@ impl Names {
         }
     }
 
-    /// The name stands for so many things from the first one on, up to the end of the region. Answers whether the region
-    /// hasn't defined it before. Errors: want of memory. Cost: the length of the name.
+    /// The name stands for so many things from the first one on, up to the end of the region. Answers whether the
+    /// region hasn't defined it before. Errors: want of memory. Cost: the length of the name.
     pub fn define(&mut self, name: &[u8], first: usize, count: usize) -> Result<bool, Fault> {
         let number = self.number(name)?;
         let depth = self.scopes.len();
@@ -119,8 +119,8 @@ impl Names {
         }
     }
 
-    /// The thing that the name stands for, where its region has defined it; else the slot gets the answer at the end of a
-    /// region. Errors: want of memory. Cost: the length of the name.
+    /// The thing that the name stands for, where its region has defined it; else the slot gets the answer at the end of
+    /// a region. Errors: want of memory. Cost: the length of the name.
     pub fn find(
         &mut self,
         name: &[u8],
@@ -165,9 +165,9 @@ impl Names {
         self.waiting.truncate(kept);
     }
 
-    /// The region ends: uses get their answers in the slots, and its names stand for what they stood for before. Answers the
-    /// place of a use that still waits, for the region around. Cost: the uses that wait, and the names that the region
-    /// defined.
+    /// The region ends: uses get their answers in the slots, and its names stand for what they stood for before.
+    /// Answers the place of a use that still waits, for the region around. Cost: the uses that wait, and the names that
+    /// the region defined.
     pub fn close(&mut self, slots: &mut [usize]) -> Option<usize> {
         let scope = self.scopes.last().copied()?;
         self.settle(scope.waiting, slots);

@@ -225,8 +225,8 @@ fn elements(
     all_bits(alloc, &found, width)
 }
 
-/// The bits of so many elements of `dense<..> : vector<..>`, of this width, where the text is one that has them. Errors:
-/// want of memory. Cost: its length.
+/// The bits of so many elements of `dense<..> : vector<..>`, of this width, where the text is one that has them.
+/// Errors: want of memory. Cost: its length.
 pub fn dense_of(
     alloc: Global,
     text: &[u8],

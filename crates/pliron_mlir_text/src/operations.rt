@@ -157,7 +157,7 @@ impl Reader<'_> {
         Ok(Some(span))
     }
 
-    /// Goes over an operation, up to its first region where it has one. Errors: as `read`.
+    /// Goes over an operation, up to its first region where it has one. Errors: as `read`. Cost: linear in its text.
     pub fn operation(&mut self) -> Result<(), Fault> {
         self.cursor.skip();
         let place = self.cursor.place();
@@ -288,7 +288,8 @@ impl Reader<'_> {
         }
     }
 
-    /// Goes over what stands behind the regions of an operation, which is then known whole. Errors: as `read`.
+    /// Goes over what stands behind the regions of an operation, which is then known whole. Errors: as `read`. Cost:
+    /// linear in its text.
     pub fn tail(&mut self, pending: &Pending) -> Result<(), Fault> {
         let attributes = self.attribute_list()?;
         self.cursor.expect(b':', Expected::Colon)?;

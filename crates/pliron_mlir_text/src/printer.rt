@@ -29,8 +29,8 @@ struct Printer<'s> {
     items: Vec<Item>,
 }
 
-/// Prints a module as the sheet says: values and blocks are named by their keys, and what has no form, since folding made
-/// it, is printed in the dialect of the function around.
+/// Prints a module as the sheet says: values and blocks are named by their keys, and what has no form, since folding
+/// made it, is printed in the dialect of the function around.
 ///
 /// Errors: want of memory. Cost: linear in what is printed.
 pub fn print_module(

@@ -85,9 +85,9 @@ impl<'t> Reader<'t> {
         }
     }
 
-    /// Reads all of the text. Errors: where it leaves the grammar, and what was expected; want of memory. Cost: linear in
-    /// the text, but for uses that stand in regions inside the one that defines their value, which cost a step for each
-    /// region between.
+    /// Reads all of the text. Errors: where it leaves the grammar, and what was expected; want of memory. Cost: linear
+    /// in the text, but for uses that stand in regions inside the one that defines their value, which cost a step for
+    /// each region between.
     pub fn read(&mut self) -> Result<(), Fault> {
         self.before()?;
         self.values.open()?;
@@ -171,7 +171,7 @@ impl<'t> Reader<'t> {
         }
     }
 
-    // A region begins. Errors: none does; it stands in too many; want of memory.
+    /// A region of the operation begins. Errors: none does; it stands in too many; want of memory. Cost: constant.
     pub fn region(&mut self, mut pending: Pending) -> Result<(), Fault> {
         self.cursor.expect(b'{', Expected::OpenBrace)?;
         if self.open.len() >= MAX_DEPTH {
@@ -264,8 +264,8 @@ impl<'t> Reader<'t> {
         Ok(())
     }
 
-    /// The name stands for the next values, so many. Errors: the region has defined it; want of memory. Cost: the length
-    /// of the name.
+    /// The name stands for the next values, so many. Errors: the region has defined it; want of memory. Cost: the
+    /// length of the name.
     pub fn define(&mut self, name: Span, count: usize) -> Result<(), Fault> {
         if !self
             .values
@@ -283,8 +283,8 @@ impl<'t> Reader<'t> {
         self.cursor.word(Expected::Name)
     }
 
-    /// Goes over a location, if one is there, and answers the number of its text. Errors: as `raw`; want of memory. Cost:
-    /// its length.
+    /// Goes over a location, if one is there, and answers the number of its text. Errors: as `raw`; want of memory.
+    /// Cost: its length.
     pub fn location(&mut self) -> Result<Option<usize>, Fault> {
         self.cursor.skip();
         if self.cursor.peek() != Some(b'l') {

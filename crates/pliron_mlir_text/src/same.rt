@@ -35,8 +35,8 @@ struct Pair<'m> {
     second_ctx: &'m Context,
 }
 
-/// Whether both modules say the same tree, up to keys: operations of the same classes with the same forms, in the same blocks,
-/// with the same values and successors. What has no form, since folding made it, may have any that says it.
+/// Whether both modules say the same tree, up to keys: operations of the same classes with the same forms, in the same
+/// blocks, with the same values and successors. What has no form, since folding made it, may have any that says it.
 ///
 /// Errors: want of memory. Cost: linear in both.
 pub fn is_same_module<'m>(

@@ -71,8 +71,8 @@ fn may_be_same(first: &[u8], second: &[u8]) -> bool {
     has_alias(first) || has_alias(second) || is_same_but_for_blanks(first, second)
 }
 
-/// What a text says beside the tree: forms of operations, types of values, locations of arguments, and what stands before
-/// and behind the operation.
+/// What a text says beside the tree: forms of operations, types of values, locations of arguments, and what stands
+/// before and behind the operation.
 #[derive(Drop)]
 pub struct Sheet {
     texts: Texts,
@@ -139,8 +139,8 @@ impl Sheet {
         Some(self.texts.get(number))
     }
 
-    /// Whether the value with this key may have the type of this number: their texts are the same but for blanks, or one of
-    /// them has an alias. Cost: constant where they are equal, else their length.
+    /// Whether the value with this key may have the type of this number: their texts are the same but for blanks, or
+    /// one of them has an alias. Cost: constant where they are equal, else their length.
     pub fn has_type(&self, key: u64, number: usize) -> bool {
         match usize::try_from(key) {
             Ok(key) => match self.types.get(key).copied() {
