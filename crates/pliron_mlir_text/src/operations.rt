@@ -256,7 +256,10 @@ impl Reader<'_> {
         }
         self.cursor.expect(b':', Expected::Colon)?;
         self.cursor.any_type(self.alloc)?;
-        self.location()?;
+        let end = self.cursor;
+        if self.location()?.is_none() {
+            self.cursor = end;
+        }
         Ok(most)
     }
 
