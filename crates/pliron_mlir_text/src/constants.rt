@@ -95,7 +95,11 @@ pub fn write_signed(width: u32, bits: u64, out: &mut Vec<u8>) -> Result<(), Allo
             b"false".as_slice()
         });
     }
-    let unused = 64 - width.clamp(1, 64);
+    let unused = if width > 0 && width < 64 {
+        64 - width
+    } else {
+        0
+    };
     let signed = (bits << unused).cast_signed() >> unused;
     if signed < 0 {
         out.extend_from_slice(b"-")?;

@@ -105,7 +105,7 @@ pub fn typed_number_of(text: &[u8]) -> Option<(Signed, &[u8])> {
 // The largest number of so many bits.
 fn largest(width: u32) -> u64 {
     if width < 64 {
-        (1u64 << width) - 1
+        (1u64 << width).wrapping_sub(1)
     } else {
         u64::MAX
     }

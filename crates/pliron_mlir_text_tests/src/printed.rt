@@ -23,6 +23,7 @@ static PRINTED: &str = "\
 \"m\"() ({|^x:|}, {|  \"a\"() : () -> ()|}) : () -> () => \"m\"() ({|^bb0:|}, {|  \"a\"() : () -> ()|}) : () -> ()|
 %r:2 = \"a\"() ({| // words|^x(%z: i32 loc(\"a\"), %y : !llvm.struct<\"a b\", (i32)>):|  \"b\"(%y, %r#1)[^x] : (!llvm.struct<\"a b\", (i32)>, i64) -> ()|}) : () -> (i32, i64) loc(unknown) => %0, %1 = \"a\"() ({|^bb0(%2: i32 loc(\"a\"), %3: !llvm.struct<\"a b\", (i32)>):|  \"b\"(%3, %1)[^bb0] : (!llvm.struct<\"a b\", (i32)>, i64) -> ()|}) : () -> (i32, i64) loc(unknown)|
 \"m\"() ({|^x(%c: i1, %a: i32):|  \"llvm.cond_br\"(%c, %a)[^y, ^z] <{k, operandSegmentSizes = array<i32: 1, 1, 0>}> : (i1, i32) -> ()|^y(%b: i32):|  \"e\"() : () -> ()|^z:|  \"e\"() : () -> ()|}) : () -> () => \"m\"() ({|^bb0(%0: i1, %1: i32):|  \"llvm.cond_br\"(%0, %1)[^bb1, ^bb2] <{k, operandSegmentSizes = array<i32: 1, 1, 0>}> : (i1, i32) -> ()|^bb1(%2: i32):|  \"e\"() : () -> ()|^bb2:|  \"e\"() : () -> ()|}) : () -> ()|
+\"builtin.module\"() ({|  \"llvm.func\"() <{f}> ({|    \"llvm.blocktag\"() <{id = 1}> : () -> () // words|  }) : () -> ()|}) : () -> () => \"builtin.module\"() ({|  \"llvm.func\"() <{f}> ({|    \"llvm.blocktag\"() <{id = 1}> : () -> () // words|  }) : () -> ()|}) : () -> ()|
 #a = \"x\"|!b = i32|\"m\"() {v = #a} : () -> ()|{-# r: {} #-} => #a = \"x\"|!b = i32|\"m\"() {v = #a} : () -> ()|{-# r: {} #-}
 ";
 
