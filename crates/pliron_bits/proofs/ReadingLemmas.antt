@@ -6,7 +6,10 @@ use Rattle.pliron_bits.specs.Numbers.{signed, is_signed, bits_of}
 
 halves : (w : ℕ) → 1 ≤ w → 2 ^ w ≡ 2 ^ (w - 1) + 2 ^ (w - 1)
 halves zero le = absurd (omega (arith, le))
-halves (suc w) le = pow-suc 2 w ∙ omega arith
+halves (suc w) le =
+    let twice : 2 ^ w * 2 ≡ 2 ^ w + 2 ^ w = omega arith in
+    let back : w ≡ suc w - 1 = omega arith in
+    pow-suc 2 w ∙ twice ∙ ap (λ k. 2 ^ k + 2 ^ k) back
 
 below_by : (n m : ℕ) → n < m → pos n -ℤ pos m ≡ negsuc (m - n - 1)
 below_by n m lt = omega (arith, ints, lt)
@@ -37,22 +40,21 @@ signed_high w n le = ap (λ b. if b then pos n else pos n -ℤ pos (2 ^ w)) (no_
     no_less : (a b : ℕ) → b ≤ a → nat_lt a b ≡ false
     no_less a b h = grind (arith, tests)
 
-bound_above : (h n : ℕ) → IsTrue (is_signed (suc h) (pos n)) → n < 2 ^ h
-bound_above h n s = grind (arith, tests, ints)
+bound_above : (w n : ℕ) → IsTrue (is_signed w (pos n)) → n < 2 ^ (w - 1)
+bound_above w n s = grind (arith, tests, ints)
 
-bound_below : (h n : ℕ) → IsTrue (is_signed (suc h) (negsuc n)) → n < 2 ^ h
-bound_below h n s = grind (arith, tests, ints)
+bound_below : (w n : ℕ) → IsTrue (is_signed w (negsuc n)) → n < 2 ^ (w - 1)
+bound_below w n s = grind (arith, tests, ints)
 
 pub signed-bits : (w : ℕ) (z : ℤ) → 1 ≤ w → IsTrue (is_signed w z) → signed w (bits_of w z) ≡ z
-signed-bits zero z le s = absurd (omega (arith, le))
-signed-bits (suc h) (pos n) le s =
-    let lt : n < 2 ^ h = bound_above h n s in
-    let whole : 2 ^ suc h ≡ 2 ^ h + 2 ^ h = halves (suc h) le in
-    ap (signed (suc h)) (mod-eq_of_lt (omega (arith, lt, whole))) ∙ signed_low (suc h) n lt
-signed-bits (suc h) (negsuc n) le s =
-    let lt : n < 2 ^ h = bound_below h n s in
-    let whole : 2 ^ suc h ≡ 2 ^ h + 2 ^ h = halves (suc h) le in
-    ap (λ x. signed (suc h) (2 ^ suc h - 1 - x)) (mod-eq_of_lt (omega (arith, lt, whole)))
-    ∙ signed_high (suc h) (2 ^ suc h - 1 - n) (omega (arith, lt, whole))
-    ∙ below_by (2 ^ suc h - 1 - n) (2 ^ suc h) (omega (arith, lt, whole))
+signed-bits w (pos n) le s =
+    let lt : n < 2 ^ (w - 1) = bound_above w n s in
+    let whole : 2 ^ w ≡ 2 ^ (w - 1) + 2 ^ (w - 1) = halves w le in
+    ap (signed w) (mod-eq_of_lt (omega (arith, lt, whole))) ∙ signed_low w n lt
+signed-bits w (negsuc n) le s =
+    let lt : n < 2 ^ (w - 1) = bound_below w n s in
+    let whole : 2 ^ w ≡ 2 ^ (w - 1) + 2 ^ (w - 1) = halves w le in
+    ap (λ x. signed w (2 ^ w - 1 - x)) (mod-eq_of_lt (omega (arith, lt, whole)))
+    ∙ signed_high w (2 ^ w - 1 - n) (omega (arith, lt, whole))
+    ∙ below_by (2 ^ w - 1 - n) (2 ^ w) (omega (arith, lt, whole))
     ∙ ap negsuc (omega (arith, lt, whole))

@@ -1,5 +1,5 @@
 //! What the readings of numbers keep, as calls that do nothing when they run.
-ghost use Rattle.std.specs.Prelude.{◌≡◌, ℕ, ℤ, ◌<◌, ◌≤◌, ◌^◌, IsTrue};
+ghost use Rattle.std.specs.Prelude.{◌≡◌, ℕ, ℤ, ◌<◌, ◌≤◌, ◌+◌, ◌-◌, ◌%◌, ◌^◌, ◌+ℤ◌, ◌-ℤ◌, IsTrue};
 ghost use Rattle.pliron_bits.specs.Numbers.{signed, is_signed, bits_of};
 
 /// The bits of a number that is read as signed are that number, and a whole number that the signed ones reach is what
@@ -7,4 +7,10 @@ ghost use Rattle.pliron_bits.specs.Numbers.{signed, is_signed, bits_of};
 pub fn readings_are_inverse()
     ensures bits { (width n : ℕ) → n < 2 ^ width → bits_of width (signed width n) ≡ n }
     ensures signed { (width : ℕ) (z : ℤ) → 1 ≤ width → IsTrue (is_signed width z) → signed width (bits_of width z) ≡ z }
+{}
+
+/// Sums and differences of numbers read as signed have the bits of the unsigned ones. Cost: constant.
+pub fn signed_results_agree()
+    ensures sums { (width a b : ℕ) → bits_of width (signed width a +ℤ signed width b) ≡ (a + b) % 2 ^ width }
+    ensures differences { (width a b : ℕ) → b < 2 ^ width → bits_of width (signed width a -ℤ signed width b) ≡ (a + (2 ^ width - b)) % 2 ^ width }
 {}

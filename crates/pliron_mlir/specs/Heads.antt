@@ -73,8 +73,11 @@ switch_head counts width cases form = head_of Switch (naturals counts ++ pos wid
 abbrev pub last_behind : ℕ → List AttrObj → Option ℕ
 last_behind n attrs = if nat_lt n (length attrs) then Some (attribute_at attrs (length attrs - 1)) else None
 
--- a constant that folding made has its datum alone, a jump that folding made has no attributes
+-- how many attributes an operation has that folding made: a constant its datum, a jump none
+abbrev pub made_attributes : Class → ℕ
+made_attributes Constant = 1
+made_attributes _ = 0
+
 abbrev pub form_in : Option Class → List AttrObj → Option ℕ
 form_in None attrs = None
-form_in (Some Constant) attrs = last_behind 1 attrs
-form_in (Some _) attrs = last_behind 0 attrs
+form_in (Some class) attrs = last_behind (made_attributes class) attrs

@@ -2,12 +2,12 @@
 ghost use Rattle.std.specs.Prelude.{◌≡◌, ◌-◌, ℕ, length, Some, None};
 ghost use Rattle.pliron_mlir.specs.ClassNumbers.{class_of_number};
 ghost use Rattle.pliron_mlir.specs.Data.{integer_in, form_in as form_said_by, other_constant as other_constant_of};
-ghost use Rattle.pliron_mlir.specs.Heads.{attribute_at as attribute_in, form_in as form_of_head};
+ghost use Rattle.pliron_mlir.specs.Heads.{attribute_at as attribute_in, form_in as form_of_head, made_attributes as made_attributes_of, last_behind as last_behind_of};
 
 use crate::attributes::attribute_at;
 use crate::data::bits_at;
 use crate::kind::{Class, numbered_class};
-use pliron_core::Head;
+use pliron_core::{Attrs, Head};
 
 /// The class of an operation with this head, if it has one. Cost: constant.
 pub fn class_of_head(head: &Head) -> Option<Class>
@@ -16,20 +16,34 @@ pub fn class_of_head(head: &Head) -> Option<Class>
     numbered_class(head.kind)
 }
 
+// How many attributes an operation of the class has that folding made.
+fn made_attributes(class: Class) -> usize
+    ensures { result ≡ made_attributes_of class }
+{
+    match class {
+        Class::Constant => 1,
+        _ => 0,
+    }
+}
+
+// The last attribute, where there are more than so many.
+fn last_behind(least: usize, attrs: &Attrs) -> Option<u128>
+    ensures { result ≡ last_behind_of least attrs.now }
+{
+    if least < attrs.len() {
+        Some(attribute_at(attrs, attrs.len() - 1))
+    } else {
+        None
+    }
+}
+
 /// The form of the text of an operation with this head; none where folding made it. Cost: constant.
 pub fn form_of(head: &Head) -> Option<u128>
     ensures { result ≡ form_of_head (class_of_number head.now.kind) head.now.attrs }
 {
-    let least = match class_of_head(head) {
-        None => return None,
-        Some(Class::Constant) => 1,
-        Some(_) => 0,
-    };
-    let count = head.attrs.len();
-    if least < count {
-        Some(attribute_at(&head.attrs, count - 1))
-    } else {
-        None
+    match class_of_head(head) {
+        Some(class) => last_behind(made_attributes(class), &head.attrs),
+        None => None,
     }
 }
 

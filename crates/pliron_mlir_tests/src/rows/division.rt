@@ -140,7 +140,6 @@ llvm.srem - i1 1 0 => none
 llvm.srem - i16 1 32768 => 1
 llvm.srem - i64 2417219247666761024 7 => 4
 llvm.srem - i33 47 2328707502 => 47
-llvm.srem - i1 1 1 => 0
 llvm.srem - i16 1 39 => 1
 llvm.srem - i64 18446744073709551615 3177790841391446966 => 18446744073709551615
 llvm.srem - i2 3 0 => none
@@ -177,4 +176,5 @@ llvm.srem - i32 22 1132064412 => 22
 llvm.srem - i32 1611941379 4294967295 => 0
 llvm.srem - i2 3 1 => 0
 llvm.srem - i32 1 2 => 1
+llvm.srem - i8 255 1 => 0
 ";

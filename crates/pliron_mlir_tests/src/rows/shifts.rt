@@ -1,12 +1,11 @@
 //! Answers of LLVM's constant folder, by `tools/llvm_rows`.
 
 pub static ROWS: &str = "\
-llvm.shl - i8 255 1 => 254
-llvm.shl nuw,nsw i2 2 1 => none
-llvm.shl nuw i64 5543585524187172423 38 => none
-llvm.shl - i2 1 2 => none
-llvm.shl - i7 7 0 => 7
-llvm.shl nuw i63 1 10 => 1024
+llvm.shl - i63 0 37 => 0
+llvm.shl nuw i63 8807317512923390906 4611686018427387904 => none
+llvm.shl nuw i16 1 17 => none
+llvm.shl nuw i33 7 19 => 3670016
+llvm.shl nuw i2 2 1 => none
 llvm.shl nuw i16 7 1 => 14
 llvm.shl - i64 18446744073709551615 53 => 18437736874454810624
 llvm.shl nsw i64 9223372036854775808 2 => none
@@ -45,7 +44,7 @@ llvm.shl nuw i64 9223372036854775808 30 => none
 llvm.shl nuw,nsw i7 5 35 => none
 llvm.shl - i1 0 0 => 0
 llvm.shl - i31 0 25 => 0
-llvm.lshr - i8 128 127 => none
+llvm.shl - i8 128 127 => none
 llvm.lshr exact i33 4294967295 11 => none
 llvm.lshr - i33 3851078168 31 => 1
 llvm.lshr exact i3 7 1 => none
@@ -89,7 +88,7 @@ llvm.lshr exact i1 1 0 => 1
 llvm.lshr - i63 1 5128981943641648822 => none
 llvm.lshr - i7 2 3 => 0
 llvm.lshr - i16 7 9288 => none
-llvm.ashr - i31 28 2 => 7
+llvm.lshr - i31 28 2 => 7
 llvm.ashr exact i7 0 30 => none
 llvm.ashr exact i32 1 1 => none
 llvm.ashr - i63 4611686018427387904 46 => 9223372036854710272
@@ -133,4 +132,5 @@ llvm.ashr - i63 7757610588072859657 255257386454142293 => none
 llvm.ashr - i3 0 7 => none
 llvm.ashr - i1 1 0 => 1
 llvm.ashr exact i1 1 1 => none
+llvm.ashr exact i33 7 5 => none
 ";
