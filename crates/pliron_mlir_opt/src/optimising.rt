@@ -1,11 +1,8 @@
 //! What passes make of a module.
 ghost use Rattle.std.specs.Prelude.{◌≡◌, ◌++◌, IfOk};
 ghost use Rattle.pliron_core.specs.Tree.{IsLive};
-ghost use Rattle.pliron_core.specs.Changes.{IsInsideChange, IsSameTree};
 ghost use Rattle.pliron_core.specs.Writes.{no_tree};
-ghost use Rattle.pliron_core.specs.declared.attrs.IRStatus.TheVariants.{Unchanged};
 ghost use Rattle.pliron_laws.specs.Linked.{IsWellLinked};
-ghost use Rattle.pliron_pass.specs.Headline.{DoAsBefore};
 ghost use Rattle.pliron_opts.specs.Answered.{IsOptimised, status_line};
 ghost use Rattle.pliron_opts.specs.Ran.{RunsAlone};
 ghost use Rattle.pliron_opts.specs.Read.{ReadsKinds, PrintsKinds};
@@ -83,7 +80,7 @@ fn optimise_in<D: Dialect, C: Progress + Drop>(
         (made.printed.items ++ status_line made.status)) }
 {
     match read_module::<D>(alloc, text, ctx) {
-        Ok(module) => optimise_module(alloc, schedule, &module, asked, ctx),
+        Ok(module) => optimise_module(alloc, schedule, text, &module, asked, ctx),
         Err(fault) => Err(Failure::from(fault)),
     }
 }
@@ -194,25 +191,23 @@ fn counted_before<D: Dialect>(
     Ok(Some((Tally::of(loaded.root, ctx), fitness)))
 }
 
-/// The same of a module that was read.
+/// The same of a module that was read from the text, of which only the contract speaks.
 fn optimise_module<D: Dialect, C: Progress + Drop>(
     alloc: Global,
     schedule: &mut WatchedSchedule<GenericForm<D>, C>,
+    text: &[u8],
     loaded: &Module,
     asked: Asked,
     ctx: &mut Context,
 ) -> Result<Optimised, Failure>
     requires live { IsLive ctx.old.tree loaded.now.root }
     requires linked { IsWellLinked D.meaning ctx.old.tree loaded.now.root }
-    ensures same { DoAsBefore D.meaning ctx.old.tree ctx.new.tree }
-    ensures stands { IsLive ctx.new.tree loaded.now.root }
-    ensures links { IsWellLinked D.meaning ctx.new.tree loaded.now.root }
-    ensures inside { IsInsideChange ctx.old.tree ctx.new.tree loaded.now.root }
-    ensures ran { IfOk result (λ made. RunsAlone ⟦<BenchFactKind as PartialEq>⟧.eq ⟦<WatchedSchedule<GenericForm<D>, C> as Pass>⟧.outcome schedule.old
-        loaded.now.root ctx.old.tree ctx.new.tree made.status) }
-    ensures truly { IfOk result (λ made. made.status ≡ Unchanged → IsSameTree ctx.old.tree ctx.new.tree) }
+    ensures { IfOk result (λ made. IsOptimised (ReadsKinds D.meaning) PrintsKinds D.meaning
+        (RunsAlone ⟦<BenchFactKind as PartialEq>⟧.eq ⟦<WatchedSchedule<GenericForm<D>, C> as Pass>⟧.outcome schedule.old) text.now
+        (made.printed.items ++ status_line made.status)) }
 {
     let before = counted_before::<D>(alloc, loaded, asked, ctx)?;
     let status = run_watched(alloc, schedule, loaded.root, ctx)?;
-    answered::<D>(alloc, loaded, status, before, asked, ctx)
+    let made = answered::<D>(alloc, loaded, status, before, asked, ctx)?;
+    Ok(made)
 }
