@@ -4,7 +4,7 @@ ghost use Rattle.pliron_core.specs.Tree.{IsBlock, IsLive};
 ghost use Rattle.pliron_traversal.specs.Regions.{IsLawfulRegion};
 
 use crate::dot::{Attribute, Dot};
-use crate::graph_rows::{GraphRow, graph_rows};
+use crate::graph_row::{GraphRow, graph_rows};
 use crate::text_parts::{TextParts, forwarded_names, push_on_one_line, words_of};
 use pliron_core::{BasicBlock, Context, Operation, Ptr, Region};
 use pliron_laws::OptError;
