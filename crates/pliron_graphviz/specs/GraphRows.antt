@@ -3,7 +3,7 @@ use Rattle.std.specs.Prelude.{◌≡◌, ◌↔◌, IsTrue, IfSome, None, Some}
 use Rattle.std.specs.Option.{option_to_list}
 use Rattle.pliron_traversal.specs.Digraph.{Digraph, IsReached}
 use Rattle.pliron_dominance.specs.Dominance.{IsImmediate}
-use Rattle.pliron_graphviz.specs.declared.graph_rows.GraphRow.{GraphRow}
+use Rattle.pliron_graphviz.specs.declared.graph_row.GraphRow.{GraphRow}
 
 -- its edges, by index; whether the entry reaches it; and its immediate dominator, if it is reached and isn't the entry
 pub record IsRowOf {N : Type 0} (g : Digraph N) (row : GraphRow N) : Type 0 where

@@ -1,6 +1,6 @@
 use Rattle.pliron_graphviz.specs.GraphRows.{IsRowOf}
 use Rattle.pliron_graphviz.proofs.RowLemmas.{drawn_more, each_more}
-use Rattle.pliron_graphviz.proofs.graph_rows.graph_rows.Goals as goal
+use Rattle.pliron_graphviz.proofs.graph_row.graph_rows.Goals as goal
 use Rattle.std.proofs.Common.{rules}
 
 pub loop-node-preserved : goal.loop-node-preserved

@@ -1,7 +1,7 @@
 use Rattle.std.proofs.Common.{◌≡◌, map, take}
 use Rattle.std.specs.List.{All}
 use Rattle.pliron_graphviz.specs.GraphRows.{IsRowOf}
-use Rattle.pliron_graphviz.proofs.graph_rows.graph_rows.Given as goal
+use Rattle.pliron_graphviz.proofs.graph_row.graph_rows.Given as goal
 
 abbrev pub invariant-loop-node : goal.invariant-loop-node
 invariant-loop-node g l =
