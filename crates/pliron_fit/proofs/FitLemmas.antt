@@ -73,7 +73,7 @@ pub put_last : (P : ℕ → Type 0) (xs ys new : List ℕ) (y : ℕ) → new ≡
 put_last P xs ys new y e p c = subst (AreChosen P (xs ++ y ∷ [])) (sym e) (go xs ys c)
   where
     go : (xs ys : List ℕ) → AreChosen P xs ys → AreChosen P (xs ++ y ∷ []) (ys ++ y ∷ [])
-    go [] [] NoMore = Chosen p NoMore
+    go xs ys NoMore = Chosen p NoMore
     go (x ∷ xs) (z ∷ ys) (Chosen q c) = Chosen q (go xs ys c)
     go (x ∷ xs) ys (PassedOver q c) = PassedOver q (go xs ys c)
 

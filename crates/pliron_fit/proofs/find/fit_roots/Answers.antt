@@ -1,4 +1,4 @@
-use Rattle.std.proofs.Common.{◌≤◌, ◌+◌, ◌≡◌, ◌∙◌, ℕ, suc, List, length, take, arith, sym, ap, subst, refl}
+use Rattle.std.proofs.Common.{◌≤◌, ◌+◌, ◌≡◌, ◌∙◌, ℕ, suc, List, [], length, take, arith, sym, ap, subst, refl}
 use Rattle.std.proofs.lemmas.Option.{slice_get_read}
 use Rattle.std.proofs.lemmas.List.{take_all}
 use Rattle.pliron_core.proofs.ArgumentLemmas.{take_more}
@@ -11,7 +11,7 @@ add_one : (i : ℕ) → suc i ≡ i + 1
 add_one i = omega arith
 
 pub loop-root-init : goal.loop-root-init
-loop-root-init g c = NoMore
+loop-root-init g c = subst (AreChosen (IsFit g.D.HasMeaning.meaning c.args.ctx.now.tree) []) (sym c.new-found.ensures.items) NoMore
 
 pub loop-root-preserved : goal.loop-root-preserved
 loop-root-preserved g c =
