@@ -22,7 +22,7 @@ pub mod Going
 pub mod Numbered
 pub mod Preorder
 pub mod UserLists
-pub mod Reactions
+pub mod ReactionLemmas
 pub mod InsideLists
 pub mod DeferralSteps
 pub mod Stamps

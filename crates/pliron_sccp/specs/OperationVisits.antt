@@ -6,8 +6,8 @@ use Rattle.pliron_laws.specs.Tree.{Operation, op_at, shape_of}
 use Rattle.pliron_theory.specs.LatticeValues.{AtMost, LatticeValues, Says}
 use Rattle.pliron_sccp.specs.declared.constraints.Constraint.{Constraint}
 use Rattle.pliron_sccp.specs.declared.lattice_tables.Tables.{Tables}
-use Rattle.pliron_sccp.specs.declared.search.Reaction.{Reaction}
-use Rattle.pliron_sccp.specs.declared.search.Reaction.TheVariants.{Pass, Revisit, Ask}
+use Rattle.pliron_sccp.specs.declared.reactions.Reaction.{Reaction}
+use Rattle.pliron_sccp.specs.declared.reactions.Reaction.TheVariants.{Pass, Revisit, Ask}
 use Rattle.pliron_sccp.specs.LatticeTables.{known_constants, is_numbered, lattice_value_in, is_executable, is_block_on_worklist, is_value_on_worklist, lattice_values_of, visit_stamp, lowered_stamp, KeepsStamps, StampsLowered}
 use Rattle.pliron_sccp.specs.Constraints.{Constrains, SatisfiesAll}
 use Rattle.pliron_sccp.specs.Lowering.{IsApplied}

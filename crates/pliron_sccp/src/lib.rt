@@ -20,9 +20,10 @@
 //!    constraints that its transfer function puts on values and blocks, and lowers what doesn't satisfy them
 //!    (`constraints`). A block that becomes executable is put on one worklist, a value that is lowered on another
 //!    one; operations with many operands are deferred. This ends where both worklists are empty and nothing is
-//!    deferred: there the lattice values are a fixpoint (`search`).
+//!    deferred: there the lattice values are a fixpoint (`search`). What follows where an operand was lowered, and what
+//!    waits, is `reactions`.
 //! 3. List. In executable blocks, in pre-order, the operations that fold and the arguments that are constants
-//!    (`rewrite::find`).
+//!    (`search::find`).
 //! 4. Rewrite. Each listed operation is folded in place by the constants of its operands; then a constant is put for
 //!    each listed argument (`rewrite::rewrite`).
 //!
@@ -40,6 +41,7 @@ mod feasible_edges;
 mod inside;
 mod lattice_tables;
 mod propagation;
+mod reactions;
 mod rewrite;
 mod search;
 

@@ -7,7 +7,8 @@ ghost use Rattle.pliron_theory.specs.Change.{IsPassChange};
 ghost use Rattle.pliron_theory.specs.Edges.{KeepsEdges};
 ghost use Rattle.pliron_sccp.specs.Propagated.{IsPropagated, IsPartlyPropagated};
 
-use crate::rewrite::{find, rewrite};
+use crate::rewrite::rewrite;
+use crate::search::find;
 use pliron_core::{Context, IRRewriter, IRStatus, Operation, Ptr, Rewriter};
 use pliron_laws::{Dialect, OptError, Room};
 use pliron_theory::HasFolding;

@@ -7,7 +7,6 @@ ghost use Rattle.std.specs.Prelude.{◌≡◌, ◌≤◌, ◌<◌, ◌++◌, ℕ
 ghost use Rattle.pliron_core.specs.Tree.{Tree, IsLive, IsBlock, operands_of};
 ghost use Rattle.pliron_core.specs.Changes.{IsSameTree};
 ghost use Rattle.pliron_laws.specs.InPlace.{ReportsChange};
-ghost use Rattle.pliron_laws.specs.Linked.{IsWellLinked};
 ghost use Rattle.pliron_theory.specs.LatticeValues.{LatticeValues, operand_constants};
 ghost use Rattle.pliron_theory.specs.Following.{Follows};
 ghost use Rattle.pliron_theory.specs.Rewrites.{ReplacesArgument};
@@ -15,12 +14,10 @@ ghost use Rattle.pliron_sccp.specs.LatticeTables.{lattice_values_of};
 ghost use Rattle.pliron_sccp.specs.Listed.{is_folding, AddsFold, AreFolds, AddsKnown, AreArguments};
 ghost use Rattle.pliron_sccp.specs.RewriteSteps.{IsFoldStep, AreFoldSteps, ReportsCreated, IsArgumentStep, AreArgumentSteps, StandForEach, IsFound};
 ghost use Rattle.pliron_sccp.specs.Chain.{FoldsInTurn, FoldsPartly, KnownArgument, all_put, IsPartlyPut, IsRewritten, IsPartlyRewritten, known_arguments};
-ghost use Rattle.pliron_sccp.specs.Found.{HasFound};
 
 use crate::constraints::{add_known, known_constant};
 use crate::inside::all_blocks;
 use crate::lattice_tables::Tables;
-use crate::search::search;
 use pliron_core::{AttrObj, BasicBlock, Context, IRStatus, Operation, Ptr, Rewriter};
 use pliron_laws::{ConstFoldInterface, Dialect, OptError, Room};
 use pliron_theory::HasFolding;
@@ -117,7 +114,7 @@ fn add_fold<D: Dialect>(
 }
 
 /// The folds of the operations inside the root, in pre-order.
-fn all_folds<D: Dialect>(
+pub fn all_folds<D: Dialect>(
     alloc: Global,
     root: Ptr<Operation>,
     ctx: &Context,
@@ -162,7 +159,7 @@ fn add_arguments(
 }
 
 /// The constant arguments of the executable blocks inside the root, in pre-order.
-fn all_arguments(
+pub fn all_arguments(
     alloc: Global,
     root: Ptr<Operation>,
     ctx: &Context,
@@ -180,26 +177,6 @@ fn all_arguments(
         add_arguments(alloc, blocks[i], ctx, tables, &mut arguments)?;
     }
     Ok(arguments)
-}
-
-/// Finds a fixpoint of lattice values inside the root, and what they say is to be rewritten. Answers also how
-/// often the search popped something off a worklist.
-///
-/// Errors: allocation failure.
-pub(crate) fn find<D: Dialect>(
-    alloc: Global,
-    root: Ptr<Operation>,
-    ctx: &Context,
-) -> Result<(Found, u128), OptError>
-    requires live { IsLive ctx.now.tree root }
-    requires linked { IsWellLinked D.meaning ctx.now.tree root }
-    ensures ok { IfOk result (λ r. HasFound ⟦<D as HasFolding>⟧.folding D.can_fold ctx.now.tree root r.0 r.1) }
-    ensures memory { IsOkUnless result OptError.Memory }
-{
-    let searched = search::<D>(alloc, root, ctx)?;
-    let folds = all_folds::<D>(alloc, root, ctx, &searched.tables)?;
-    let arguments = all_arguments(alloc, root, ctx, &searched.tables)?;
-    Ok((Found { folds, arguments }, searched.pops))
 }
 
 /// Folds one operation in place by lattice values of the first tree.

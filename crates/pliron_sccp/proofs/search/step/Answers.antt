@@ -5,7 +5,7 @@ use Rattle.pliron_sccp.specs.Searching.TakesTurn.{Block, Values}
 use Rattle.pliron_sccp.proofs.Entered.{entered_same}
 use Rattle.pliron_sccp.proofs.Marked.{waits_reached}
 use Rattle.pliron_sccp.proofs.Stepping.{targets_same, targets_kept}
-use Rattle.pliron_sccp.proofs.Reactions.{takes_from}
+use Rattle.pliron_sccp.proofs.ReactionLemmas.{takes_from}
 use Rattle.pliron_sccp.proofs.Written.{none_of}
 use Rattle.pliron_sccp.proofs.search.step.Goals as goal
 

@@ -1,5 +1,5 @@
 use Rattle.pliron_theory.specs.LatticeValues.{Says}
-use Rattle.pliron_sccp.proofs.Reactions.{taking_start, taking_next, taking_end}
+use Rattle.pliron_sccp.proofs.ReactionLemmas.{taking_start, taking_next, taking_end}
 use Rattle.pliron_sccp.proofs.UserLists.{no_keys}
 use Rattle.pliron_sccp.proofs.Written.{none_of}
 use Rattle.pliron_sccp.proofs.search.take_values.Goals as goal

@@ -1,5 +1,5 @@
 use Rattle.pliron_sccp.specs.LatticeTables.{value_worklist_len}
-use Rattle.pliron_sccp.proofs.Reactions.{IsTaking}
+use Rattle.pliron_sccp.proofs.ReactionLemmas.{IsTaking}
 use Rattle.pliron_sccp.proofs.search.take_values.Given as goal
 
 abbrev pub invariant-loop-value : goal.invariant-loop-value

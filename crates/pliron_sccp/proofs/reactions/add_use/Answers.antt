@@ -1,9 +1,9 @@
 use Rattle.std.proofs.Common.{nat_eq, true≢false, subst, sym, ◌∙◌}
 use Rattle.pliron_theory.specs.LatticeValues.{Says}
 use Rattle.pliron_sccp.specs.OperationVisits.{IsReactionTo}
-use Rattle.pliron_sccp.proofs.Reactions.{use_passed, use_reads_nothing, use_ahead, use_ahead_of, use_asked, on_ok_then}
+use Rattle.pliron_sccp.proofs.ReactionLemmas.{use_passed, use_reads_nothing, use_ahead, use_ahead_of, use_asked, on_ok_then}
 use Rattle.pliron_sccp.proofs.UserLists.{key_added, and_true}
-use Rattle.pliron_sccp.proofs.search.add_use.Goals as goal
+use Rattle.pliron_sccp.proofs.reactions.add_use.Goals as goal
 
 pub returns-in_ok-mark_urgent-in-Revisit-clause-ok : goal.returns-in_ok-mark_urgent-in-Revisit-clause-ok
 returns-in_ok-mark_urgent-in-Revisit-clause-ok g c =

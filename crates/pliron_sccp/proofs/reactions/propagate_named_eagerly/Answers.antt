@@ -1,7 +1,7 @@
 use Rattle.std.proofs.Common.{[]}
 use Rattle.pliron_theory.specs.LatticeValues.{Says}
-use Rattle.pliron_sccp.proofs.Reactions.{none_ahead, both_ahead}
-use Rattle.pliron_sccp.proofs.search.propagate_named_eagerly.Goals as goal
+use Rattle.pliron_sccp.proofs.ReactionLemmas.{none_ahead, both_ahead}
+use Rattle.pliron_sccp.proofs.reactions.propagate_named_eagerly.Goals as goal
 
 pub loop-candidate-init : goal.loop-candidate-init
 loop-candidate-init g c =

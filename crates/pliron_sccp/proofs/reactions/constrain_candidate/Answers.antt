@@ -1,7 +1,7 @@
 use Rattle.std.proofs.Common.{[]}
 use Rattle.pliron_theory.specs.LatticeValues.{Says}
-use Rattle.pliron_sccp.proofs.Reactions.{named_ahead}
-use Rattle.pliron_sccp.proofs.search.constrain_candidate.Goals as goal
+use Rattle.pliron_sccp.proofs.ReactionLemmas.{named_ahead}
+use Rattle.pliron_sccp.proofs.reactions.constrain_candidate.Goals as goal
 
 pub returns-clause-ok : goal.returns-clause-ok
 returns-clause-ok g c = λ edges.

@@ -1,7 +1,7 @@
 use Rattle.std.proofs.Common.{[]}
 use Rattle.pliron_theory.specs.LatticeValues.{Says}
-use Rattle.pliron_sccp.proofs.Reactions.{both_ahead, on_ok_then}
-use Rattle.pliron_sccp.proofs.search.propagate_eagerly.Goals as goal
+use Rattle.pliron_sccp.proofs.ReactionLemmas.{both_ahead, on_ok_then}
+use Rattle.pliron_sccp.proofs.reactions.propagate_eagerly.Goals as goal
 
 pub returns-clause-ok : goal.returns-clause-ok
 returns-clause-ok g c =

@@ -3,7 +3,7 @@ use Rattle.pliron_laws.specs.declared.dialect.Interface.TheVariants.{RegionBranc
 use Rattle.pliron_laws.specs.Tree.{shape_of}
 use Rattle.pliron_laws.proofs.ShapeLemmas.{head_at}
 use Rattle.pliron_sccp.specs.OperationVisits.{either}
-use Rattle.pliron_sccp.proofs.search.reaction_to.Goals as goal
+use Rattle.pliron_sccp.proofs.reactions.reaction_to.Goals as goal
 
 neither : (a b c : Bool) → either a (either b c) ≡ false → (a ≡ false) × (b ≡ false) × (c ≡ false)
 neither true b c e = absurd (true≢false e)

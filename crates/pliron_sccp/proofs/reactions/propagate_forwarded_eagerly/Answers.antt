@@ -1,8 +1,8 @@
 use Rattle.std.proofs.Common.{inr, [], sym, ◌∙◌}
 use Rattle.pliron_laws.proofs.ShapeLemmas.{head_at}
 use Rattle.pliron_theory.specs.LatticeValues.{Says}
-use Rattle.pliron_sccp.proofs.Reactions.{one_ahead, on_ok_then}
-use Rattle.pliron_sccp.proofs.search.propagate_forwarded_eagerly.Goals as goal
+use Rattle.pliron_sccp.proofs.ReactionLemmas.{one_ahead, on_ok_then}
+use Rattle.pliron_sccp.proofs.reactions.propagate_forwarded_eagerly.Goals as goal
 
 pub returns-then-is_open-clause-ok : goal.returns-then-is_open-clause-ok
 returns-then-is_open-clause-ok g c =

@@ -1,8 +1,8 @@
 use Rattle.pliron_core.specs.Tree.{uses_of}
 use Rattle.pliron_sccp.specs.OperationVisits.{SchedulesUses}
-use Rattle.pliron_sccp.proofs.Reactions.{IsUseBefore}
+use Rattle.pliron_sccp.proofs.ReactionLemmas.{IsUseBefore}
 use Rattle.pliron_theory.specs.LatticeValues.{Says}
-use Rattle.pliron_sccp.proofs.search.add_uses.Given as goal
+use Rattle.pliron_sccp.proofs.reactions.add_uses.Given as goal
 
 abbrev pub invariant-loop-i : goal.invariant-loop-i
 invariant-loop-i g l =

@@ -1,8 +1,8 @@
 use Rattle.std.proofs.Common.{true≢false, sym, ◌∙◌, arith}
 use Rattle.pliron_core.specs.Tree.{uses_of}
 use Rattle.pliron_theory.specs.LatticeValues.{Says}
-use Rattle.pliron_sccp.proofs.Reactions.{uses_start, uses_next, uses_end, none_reads}
-use Rattle.pliron_sccp.proofs.search.add_uses.Goals as goal
+use Rattle.pliron_sccp.proofs.ReactionLemmas.{uses_start, uses_next, uses_end, none_reads}
+use Rattle.pliron_sccp.proofs.reactions.add_uses.Goals as goal
 
 pub loop-i-init : goal.loop-i-init
 loop-i-init g c =

@@ -1,6 +1,6 @@
 use Rattle.std.proofs.Common.{Some, slice_get, ap, sym, ◌∙◌}
 use Rattle.pliron_laws.proofs.Records.{op_shows}
-use Rattle.pliron_sccp.proofs.search.named_argument.Goals as goal
+use Rattle.pliron_sccp.proofs.reactions.named_argument.Goals as goal
 
 pub returns-in-Some : goal.returns-in-Some
 returns-in-Some g c = λ o at. record {

@@ -1,6 +1,6 @@
 use Rattle.pliron_theory.specs.LatticeValues.{Says}
 use Rattle.pliron_sccp.specs.OperationVisits.{ConstrainsEagerly}
-use Rattle.pliron_sccp.proofs.search.propagate_named_eagerly.Given as goal
+use Rattle.pliron_sccp.proofs.reactions.propagate_named_eagerly.Given as goal
 
 abbrev pub invariant-loop-candidate : goal.invariant-loop-candidate
 invariant-loop-candidate g l =
