@@ -7,12 +7,12 @@ use Rattle.pliron_core.specs.Tree.{Tree, IsLive}
 use Rattle.pliron_laws.specs.Datum.{Head, Meaning}
 use Rattle.pliron_laws.specs.Laws.{KeepsCounts, GivesAtOnce}
 use Rattle.pliron_laws.specs.Linked.{IsWellLinked}
-use Rattle.pliron_equivalence.specs.Merging.{after_merging, partly_merged, IsPartlyMerged}
+use Rattle.pliron_equivalence.specs.Merging.{after_merging, partly_merged}
 use Rattle.pliron_cse.specs.Left.{LeavesNoTwin, ReportsEquivalent}
-use Rattle.pliron_cse.specs.Steps.{IsOnWay, IsOrdered, IsTaking, LeadsOn, TakesOrStays, ReportsErased, status_after}
+use Rattle.pliron_cse.specs.Steps.{IsOnWay, IsOrdered, IsTaking, LeadsAt, LeadsOn, TakesInPart, TakesOrStays, ReportsErased, status_after}
 use Rattle.pliron_cse.specs.Taking.{IsPair, IsTakenSoFar, Pair, TakeInTurn}
 use Rattle.pliron_cse.proofs.Exact.{exact_start, exact_merged, exact_stays, exact_end}
-use Rattle.pliron_cse.proofs.OnWay.{way_start, way_more, way_merged, way_partly, ordered_merged, ordered_on, merged_gone, turn_more, so_far, part_within}
+use Rattle.pliron_cse.proofs.OnWay.{way_start, way_more, way_merged, way_partly, ordered_merged, ordered_on, merged_gone, pair_of, turn_more, part_within}
 
 pub tells_unchanged : (t0 t : Tree) (status : IRStatus) → ReportsErased t0 t status → status ≡ Unchanged → t ≡ t0
 tells_unchanged t0 t Unchanged told e = told
@@ -33,6 +33,9 @@ module _ (m : Meaning) (side_effects : Head → Option Bool) (counts : KeepsCoun
     live_now : IsLive t root
     live_now = h.way.change.stands
 
+    pair : (i : ℕ) → LeadsAt side_effects t ops ends i place → IsPair side_effects t root (get_or ops i 0) (get_or ops place 0)
+    pair i q = pair_of side_effects t w root ops ends i place (get_or ops i 0) (get_or ops place 0) h.ordered q.first low q.within refl refl q.live q.alike
+
     taken_one : (a : ℕ) → IsPair side_effects t root a (get_or ops place 0) → IsTree (after_merging t a (get_or ops place 0)) → ((key : List ℕ) → find' key ≡ find key) → IsTaking m side_effects t0 (after_merging t a (get_or ops place 0)) root ops ends (place + 1) find' Changed
     taken_one a p w' same = record {
       way = way_more m t0 t (after_merging t a b) root h.way (way_merged m side_effects counts free t a b root w live_now linked_now p w');
@@ -48,8 +51,8 @@ module _ (m : Meaning) (side_effects : Head → Option Bool) (counts : KeepsCoun
         lives : IsLive t (get_or ops place 0)
         lives = (w.joined.standing (get_or ops place 0) p.second.block p.second.in_block).0
 
-    pub taking_next : (t' : Tree) (taken : Bool) → IsTree t' → TakesOrStays side_effects root t t' (get_or ops place 0) taken → LeadsOn side_effects t ops ends place find find' taken → IsTaking m side_effects t0 t' root ops ends (place + 1) find' (status_after status taken)
-    taking_next t' true w' (a, p, is) same = subst (λ z. IsTaking m side_effects t0 z root ops ends (place + 1) find' Changed) (sym is) (taken_one a p (subst IsTree is w') same)
+    pub taking_next : (t' : Tree) (taken : Bool) → IsTree t' → TakesOrStays side_effects t t' ops ends place taken → LeadsOn side_effects t ops ends place find find' taken → IsTaking m side_effects t0 t' root ops ends (place + 1) find' (status_after status taken)
+    taking_next t' true w' (i, q, is) same = subst (λ z. IsTaking m side_effects t0 z root ops ends (place + 1) find' Changed) (sym is) (taken_one (get_or ops i 0) (pair i q) (subst IsTree is w') same)
     taking_next t' false w' is alone = subst (λ z. IsTaking m side_effects t0 z root ops ends (place + 1) find' status) (sym is) (record {
       way = h.way;
       taken = h.taken;
@@ -59,15 +62,15 @@ module _ (m : Meaning) (side_effects : Head → Option Bool) (counts : KeepsCoun
     })
 
     -- memory was refused
-    pub refused_way : (t' : Tree) → IsTree t' → (t' ≡ t) ⊎ ((a : ℕ) × IsPair side_effects t root a (get_or ops place 0) × IsPartlyMerged t t' a (get_or ops place 0)) → IsOnWay m t0 t' root
+    pub refused_way : (t' : Tree) → IsTree t' → TakesInPart side_effects t t' ops ends place → IsOnWay m t0 t' root
     refused_way t' w' (inl e) = subst (λ z. IsOnWay m t0 z root) (sym e) h.way
-    refused_way t' w' (inr (a, p, part)) = subst (λ z. IsOnWay m t0 z root) (sym part.1) (way_more m t0 t (partly_merged t a (get_or ops place 0) part.0) root h.way (way_partly m side_effects counts free t a (get_or ops place 0) root w live_now linked_now p part.0 (subst IsTree part.1 w')))
+    refused_way t' w' (inr (i, q, part)) = subst (λ z. IsOnWay m t0 z root) (sym part.1) (way_more m t0 t (partly_merged t (get_or ops i 0) (get_or ops place 0) part.0) root h.way (way_partly m side_effects counts free t (get_or ops i 0) (get_or ops place 0) root w live_now linked_now (pair i q) part.0 (subst IsTree part.1 w')))
 
-    pub refused_taken : (t' : Tree) → (t' ≡ t) ⊎ ((a : ℕ) × IsPair side_effects t root a (get_or ops place 0) × IsPartlyMerged t t' a (get_or ops place 0)) → (xs : List Pair) × IsTakenSoFar side_effects root xs t0 t'
+    pub refused_taken : (t' : Tree) → TakesInPart side_effects t t' ops ends place → (xs : List Pair) × IsTakenSoFar side_effects root xs t0 t'
     refused_taken t' (inl e) = (h.taken.0, (t, h.taken.1, inl e))
-    refused_taken t' (inr (a, p, part)) =
-        let k = part_within t a (get_or ops place 0) part.0 p.twin.alike.results in
-        (h.taken.0, (t, h.taken.1, inr (record { leader = a; twin = get_or ops place 0 }, k.0, p, k.1, part.1 ∙ k.2)))
+    refused_taken t' (inr (i, q, part)) =
+        let k = part_within t (get_or ops i 0) (get_or ops place 0) part.0 q.alike.alike.results in
+        (h.taken.0, (t, h.taken.1, inr (record { leader = get_or ops i 0; twin = get_or ops place 0 }, k.0, pair i q, k.1, part.1 ∙ k.2)))
 
   pub taking_end : (t : Tree) (place : ℕ) (find : List ℕ → Option ℕ) (status : IRStatus) → IsTree t → length ops ≤ place → IsTaking m side_effects t0 t root ops ends place find status → LeavesNoTwin side_effects t0 t root × ReportsEquivalent side_effects t0 root status
   taking_end t place find status w all h = exact_end side_effects t0 t w root ops ends place find status all h.ordered (tells_unchanged t0 t status h.tells) h.exact

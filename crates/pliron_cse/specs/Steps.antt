@@ -11,7 +11,7 @@ use Rattle.pliron_theory.specs.Edges.{KeepsEdges}
 use Rattle.pliron_theory.specs.Rewrites.{HasNoSideEffects}
 use Rattle.pliron_equivalence.specs.Standing.{StandsBefore}
 use Rattle.pliron_equivalence.specs.Twins.{AreAlike}
-use Rattle.pliron_equivalence.specs.Merging.{after_merging}
+use Rattle.pliron_equivalence.specs.Merging.{after_merging, IsPartlyMerged}
 use Rattle.pliron_order.specs.Seen.{IsSeen}
 use Rattle.pliron_cse.specs.Keys.{key_words, region_around}
 use Rattle.pliron_cse.specs.Left.{UsesAreBehind, HasTwins}
@@ -62,10 +62,14 @@ pub record IsOrdered (t : Tree) (root : ℕ) (ops ends : List ℕ) (place : ℕ)
   pub standing : (i j : ℕ) → i < length ops → j < length ops → IsLive t (get_or ops i 0) → IsLive t (get_or ops j 0) → ((i < j) × (j < get_or ends i 0)) ↔ StandsBefore t (get_or ops i 0) (get_or ops j 0)
   pub left : (j : ℕ) → place ≤ j → j < length ops → IsLive t (get_or ops j 0)
 
--- the operation went as a twin, or nothing changed
-abbrev pub TakesOrStays : (Head → Option Bool) → ℕ → (t t' : Tree) → ℕ → Bool → Type 0
-TakesOrStays side_effects root t t' b true = (a : ℕ) × IsPair side_effects t root a b × (t' ≡ after_merging t a b)
-TakesOrStays side_effects root t t' b false = t' ≡ t
+-- the operation at the place went as a twin of one before it, or nothing changed
+abbrev pub TakesOrStays : (Head → Option Bool) → (t t' : Tree) → (ops ends : List ℕ) → ℕ → Bool → Type 0
+TakesOrStays side_effects t t' ops ends place true = (i : ℕ) × LeadsAt side_effects t ops ends i place × (t' ≡ after_merging t (get_or ops i 0) (get_or ops place 0))
+TakesOrStays side_effects t t' ops ends place false = t' ≡ t
+
+-- nothing changed, or the uses of its first results became uses of those of one before it
+abbrev pub TakesInPart : (Head → Option Bool) → (t t' : Tree) → (ops ends : List ℕ) → ℕ → Type 0
+TakesInPart side_effects t t' ops ends place = (t' ≡ t) ⊎ ((i : ℕ) × LeadsAt side_effects t ops ends i place × IsPartlyMerged t t' (get_or ops i 0) (get_or ops place 0))
 
 -- what holds all the way from the tree t0
 pub record IsOnWay (m : Meaning) (t0 t : Tree) (root : ℕ) : Type 0 where

@@ -2,11 +2,10 @@
 ghost use Rattle.std.specs.Prelude.{◌≡◌, ◌⊎◌, ◌↔◌, ◌+◌, ◌<◌, ℕ, List, IfOk, OnOk, OnErr, IfSome, IfNone, Some, IsOkUnless, IsTrue, length, get_or};
 ghost use Rattle.pliron_core.specs.Tree.{IsLive};
 ghost use Rattle.pliron_laws.specs.Linked.{IsWellLinked};
-ghost use Rattle.pliron_equivalence.specs.Merging.{IsPartlyMerged};
 ghost use Rattle.pliron_cse.specs.Leaders.{leader_with};
 ghost use Rattle.pliron_cse.specs.Left.{LeavesNoTwin, ReportsEquivalent};
-ghost use Rattle.pliron_cse.specs.Steps.{AreNearAlike, IsOnWay, IsOrdered, LeadsAt, LeadsOn, MayRepeat, TakesOrStays, ReportsErased, status_after};
-ghost use Rattle.pliron_cse.specs.Taking.{IsPair, IsTakenSoFar, Pair, TakeInTurn};
+ghost use Rattle.pliron_cse.specs.Steps.{AreNearAlike, IsOnWay, IsOrdered, LeadsAt, LeadsOn, MayRepeat, TakesInPart, TakesOrStays, ReportsErased, status_after};
+ghost use Rattle.pliron_cse.specs.Taking.{IsTakenSoFar, Pair, TakeInTurn};
 
 use crate::keys::{key_of, region_of_operation};
 use crate::leaders::Leaders;
@@ -113,7 +112,6 @@ fn leader_of<D: Dialect>(
 // The operation at this place goes if it is a twin, and else it leads those behind it. Answers whether it went.
 fn take_at<D: Dialect, R: Rewriter + Room>(
     alloc: Global,
-    root: Ptr<Operation>,
     order: &DominanceOrder,
     place: usize,
     leaders: &mut Leaders,
@@ -121,11 +119,10 @@ fn take_at<D: Dialect, R: Rewriter + Room>(
     rewriter: &mut R,
 ) -> Result<bool, OptError>
     requires place { place < length order.now.operations.items }
-    requires ordered { IsOrdered ctx.old.tree root order.now.operations.items order.now.ends.items place }
-    ensures taken { IfOk result (λ taken. TakesOrStays D.side_effects root ctx.old.tree ctx.new.tree (get_or order.now.operations.items place 0) taken) }
+    requires ordered { (root : ℕ) × IsOrdered ctx.old.tree root order.now.operations.items order.now.ends.items place }
+    ensures taken { IfOk result (λ taken. TakesOrStays D.side_effects ctx.old.tree ctx.new.tree order.now.operations.items order.now.ends.items place taken) }
     ensures leaders { IfOk result (λ taken. LeadsOn D.side_effects ctx.old.tree order.now.operations.items order.now.ends.items place (λ key. leader_with leaders.old key) (λ key. leader_with leaders.new key) taken) }
-    ensures refused { OnErr result ((ctx.new.tree ≡ ctx.old.tree) ⊎ ((a : ℕ) × IsPair D.side_effects ctx.old.tree root a (get_or order.now.operations.items place 0)
-        × IsPartlyMerged ctx.old.tree ctx.new.tree a (get_or order.now.operations.items place 0))) }
+    ensures refused { OnErr result (TakesInPart D.side_effects ctx.old.tree ctx.new.tree order.now.operations.items order.now.ends.items place) }
     ensures memory { IsOkUnless result OptError.Memory }
 {
     ctx.well_formed();
@@ -174,7 +171,7 @@ pub fn take_all<D: Dialect, R: Rewriter + Room>(
     let mut status = IRStatus::Unchanged;
     for place in 0..order.operations.len() {
         ctx.well_formed();
-        let outcome = take_at::<D, R>(alloc, root, order, place, &mut leaders, ctx, rewriter);
+        let outcome = take_at::<D, R>(alloc, order, place, &mut leaders, ctx, rewriter);
         ctx.well_formed();
         let taken = outcome?;
         status = status_with(status, taken);
