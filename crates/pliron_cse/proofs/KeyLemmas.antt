@@ -139,14 +139,15 @@ alike_repeats side_effects t a b n = (
   record { regions = n.alike.no_regions; successors = n.alike.no_successors; harmless = n.alike.harmless },
 )
 
-attrs_next : (xs : List AttrObj) (i : ℕ) (x : AttrObj) → slice_get xs i ≡ Some x → attrs_words (take (i + 1) xs) ≡ attrs_words (take i xs) ++ attr_words x
+attrs_next : (xs : List AttrObj) (i : ℕ) (x : AttrObj) → slice_get xs i ≡ Some x → attrs_words (take (suc i) xs) ≡ attrs_words (take i xs) ++ attr_words x
 attrs_next [] i x e = absurd (cc e)
 attrs_next (y ∷ ys) zero x e = let same : y ≡ x = cc in append-nil (attr_words y) ∙ ap attr_words same
 attrs_next (y ∷ ys) (suc i) x e = ap (λ z. attr_words y ++ z) (attrs_next ys i x e) ∙ sym (append_assoc (attr_words y) (attrs_words (take i ys)) (attr_words x))
 
 pub one_more_attr : (old mid new : List ℕ) (xs : List AttrObj) (i : ℕ) (x : AttrObj) → slice_get xs i ≡ Some x → mid ≡ old ++ attrs_words (take i xs) → new ≡ mid ++ attr_words x → new ≡ old ++ attrs_words (take (i + 1) xs)
 one_more_attr old mid new xs i x at was push =
-    push ∙ ap (λ z. z ++ attr_words x) was ∙ append_assoc old (attrs_words (take i xs)) (attr_words x) ∙ ap (λ z. old ++ z) (sym (attrs_next xs i x at))
+    let plus : suc i ≡ i + 1 = omega arith in
+    push ∙ ap (λ z. z ++ attr_words x) was ∙ append_assoc old (attrs_words (take i xs)) (attr_words x) ∙ ap (λ z. old ++ z) (sym (attrs_next xs i x at)) ∙ ap (λ n. old ++ attrs_words (take n xs)) plus
 
 pub some_operand_words : (xs : List ℕ) (region : Option ℕ) (count : ℕ) (old mid new : List ℕ) → count ≡ length xs → count ≢ 0 → mid ≡ old ++ count ∷ [] → new ≡ mid ++ xs → new ≡ old ++ operand_words xs region
 some_operand_words [] region count old mid new is ne a b = absurd (ne is)
@@ -164,7 +165,7 @@ others_kept words other key value [] ne = ap (λ b. cond b (Some value) None) (a
     apart : (b : Bool) → pointwise nat_eq other (words key) ≡ b → pointwise nat_eq other (words key) ≡ false
     apart true e = absurd (ne (same_text other (words key) (sym e)))
     apart false e = e
-others_kept words other key value (e ∷ es) ne = go (pointwise nat_eq (words key) (words e.0)) refl
+others_kept words other key value (e ∷ es) ne = go (others_kept words other key value es ne) (pointwise nat_eq (words key) (words e.0)) refl
   where
     test : List ℕ → Bool
     test k = pointwise nat_eq other k
@@ -173,13 +174,14 @@ others_kept words other key value (e ∷ es) ne = go (pointwise nat_eq (words ke
     apart s true q = absurd (ne (same_text other (words e.0) (sym q) ∙ sym s))
     apart s false q = q
 
-    go : (b : Bool) → pointwise nat_eq (words key) (words e.0) ≡ b
+    go : lookup (λ k. pointwise nat_eq other (words k)) (insert_entry (λ x y. pointwise nat_eq (words x) (words y)) es key value) ≡ lookup (λ k. pointwise nat_eq other (words k)) es
+        → (b : Bool) → pointwise nat_eq (words key) (words e.0) ≡ b
         → lookup (λ k. pointwise nat_eq other (words k)) (if pointwise nat_eq (words key) (words e.0) then (e.0, value) ∷ es else e ∷ insert_entry (λ x y. pointwise nat_eq (words x) (words y)) es key value) ≡ lookup (λ k. pointwise nat_eq other (words k)) (e ∷ es)
-    go true q =
+    go rest true q =
         let off = apart (same_text (words key) (words e.0) (sym q)) (pointwise nat_eq other (words e.0)) refl in
         ap (λ b. lookup (λ k. pointwise nat_eq other (words k)) (if b then (e.0, value) ∷ es else e ∷ insert_entry (λ x y. pointwise nat_eq (words x) (words y)) es key value)) q
         ∙ ap (λ b. cond b (Some value) (lookup (λ k. pointwise nat_eq other (words k)) es)) off
         ∙ sym (ap (λ b. cond b (Some e.1) (lookup (λ k. pointwise nat_eq other (words k)) es)) off)
-    go false q =
+    go rest false q =
         ap (λ b. lookup (λ k. pointwise nat_eq other (words k)) (if b then (e.0, value) ∷ es else e ∷ insert_entry (λ x y. pointwise nat_eq (words x) (words y)) es key value)) q
-        ∙ ap (λ z. cond (pointwise nat_eq other (words e.0)) (Some e.1) z) (others_kept words other key value es ne)
+        ∙ ap (λ z. cond (pointwise nat_eq other (words e.0)) (Some e.1) z) rest

@@ -30,7 +30,7 @@ use Rattle.pliron_order.proofs.PreorderLemmas.{in_at, distinct_at}
 use Rattle.pliron_order.proofs.SeenLemmas.{seen_inside}
 use Rattle.pliron_cse.specs.Keys.{region_around}
 use Rattle.pliron_cse.specs.Steps.{AreNearAlike, IsOrdered, IsOnWay, ReportsErased, TakesOrStays}
-use Rattle.pliron_cse.specs.Taking.{IsNearTwin, IsPair, Pair, TakeInTurn, IsTakenSoFar}
+use Rattle.pliron_cse.specs.Taking.{IsNearTwin, IsPair, Pair, TakeInTurn}
 use Rattle.pliron_cse.proofs.Changing.{links_all, inside_all, changing}
 use Rattle.pliron_cse.proofs.ErasedEdges.{erased_alike}
 use Rattle.pliron_cse.proofs.Moved.{moved_regions, moved_successors, moved_stands, moved_seen, moved_alike, moved_live, moved_around, taken_pairs}
@@ -247,9 +247,6 @@ pair_of side_effects t w root ops ends i j a b o lt low within is_a is_b live ne
 pub turn_more : (side_effects : Head → Option Bool) (root : ℕ) (xs : List Pair) (x : Pair) (t u : Tree) → TakeInTurn side_effects root xs t u → IsPair side_effects u root x.leader x.twin → TakeInTurn side_effects root (xs ++ x ∷ []) t (after_merging u x.leader x.twin)
 turn_more side_effects root [] x t u e p = (subst (λ z. IsPair side_effects z root x.leader x.twin) e p, ap (λ z. after_merging z x.leader x.twin) e)
 turn_more side_effects root (y ∷ ys) x t u h p = (h.0, turn_more side_effects root ys x (after_merging t y.leader y.twin) u h.1 p)
-
-pub so_far : (side_effects : Head → Option Bool) (root : ℕ) (xs : List Pair) (t u : Tree) → TakeInTurn side_effects root xs t u → IsTakenSoFar side_effects root xs t u
-so_far side_effects root xs t u h = (u, h, inl refl)
 
 -- no more than all results move
 pub part_within : (t : Tree) (a b n : ℕ) → length (results_of t b) ≡ length (results_of t a) → (k : ℕ) × (k ≤ length (results_of t b)) × (partly_merged t a b n ≡ partly_merged t a b k)

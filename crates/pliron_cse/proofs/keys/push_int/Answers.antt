@@ -2,12 +2,12 @@ use Rattle.std.proofs.Common.{◌≡◌, ◌++◌, ◌∷◌, [], ap, sym, ◌�
 use Rattle.pliron_cse.specs.Keys.{int_words, size_words}
 use Rattle.pliron_cse.proofs.keys.push_int.Goals as goal
 
-pub returns-in_ok-push_size-clause-words : goal.returns-in_ok-push_size-clause-words
-returns-in_ok-push_size-clause-words c =
+pub returns-then-number-lt0-clause-words : goal.returns-then-number-lt0-clause-words
+returns-then-number-lt0-clause-words c =
     let old = c.args.words.now.items in
     c.in_ok-push_size.ensures.words ∙ ap (λ z. z ++ size_words c.size_below.result) c.in_ok-push.ensures.items ∙ append_assoc old (1 ∷ []) (size_words c.size_below.result) ∙ ap (λ z. old ++ int_words z) (sym c.size_below.ensures)
 
 pub returns-clause-words : goal.returns-clause-words
 returns-clause-words c =
     let old = c.args.words.now.items in
-    c.in_ok-push_size.ensures.words ∙ ap (λ z. z ++ size_words c.size_of.result) c.in_ok-push.ensures.items ∙ append_assoc old (0 ∷ []) (size_words c.size_of.result) ∙ ap (λ z. old ++ int_words z) (sym c.size_of.ensures)
+    c.in_ok-push_size-2.ensures.words ∙ ap (λ z. z ++ size_words c.size_of.result) c.in_ok-push-2.ensures.items ∙ append_assoc old (0 ∷ []) (size_words c.size_of.result) ∙ ap (λ z. old ++ int_words z) (sym c.size_of.ensures)

@@ -17,16 +17,25 @@ loop-place-preserved g c =
     let next = taking_next m se g.met.D.Dialect.keeps_counts g.met.D.Dialect.gives_at_once c.args.ctx.now.tree c.args.root c.requires.live c.requires.linked ops ends c.loop-place.ctx.tree c.loop-place.place (λ key. leader_with c.loop-place.leaders key) (λ key. leader_with c.take_at-outcome.new.leaders key) c.loop-place.status c.well_formed-in-loop-place.ensures.tree (omega (arith, c.loop-place-test.true, c.len-place-end.ensures)) c.loop-place.invariant c.take_at-outcome.new.ctx.tree c.in_ok-taken.taken c.well_formed-in-loop-place-2.ensures.tree c.in_ok-taken.ensures.taken c.in_ok-taken.ensures.leaders in
     subst (λ z. IsTaking m se c.args.ctx.now.tree c.take_at-outcome.new.ctx.tree c.args.root ops ends (c.loop-place.place + 1) (λ key. leader_with c.take_at-outcome.new.leaders key) z) (sym c.status_with.ensures) next
 
+pub take_at-outcome-requires-clause-ordered : goal.take_at-outcome-requires-clause-ordered
+take_at-outcome-requires-clause-ordered g c = (c.args.root, c.loop-place.invariant.ordered)
+
+pub returns-clause-way : goal.returns-clause-way
+returns-clause-way g c = c.loop-place.invariant.way
+
+pub returns-clause-tells : goal.returns-clause-tells
+returns-clause-tells g c = c.loop-place.invariant.tells
+
 pub returns-clause-taken : goal.returns-clause-taken
 returns-clause-taken g c =
     let h = c.loop-place.invariant.taken in
     (h.0, (c.loop-place.ctx.tree, h.1, inl refl), h.1)
 
 pub returns-clause-none : goal.returns-clause-none
-returns-clause-none g c = (taking_end g.D.HasMeaning.meaning g.D.SideEffects.side_effects g.met.D.Dialect.keeps_counts g.met.D.Dialect.gives_at_once c.args.ctx.now.tree c.args.root c.requires.live c.requires.linked c.args.order.now.operations.items c.args.order.now.ends.items c.loop-place.ctx.tree c.loop-place.place (λ key. leader_with c.loop-place.leaders key) c.loop-place.status c.well_formed.ensures.tree (omega (arith, c.loop-place-test.false, c.len-place-end.ensures)) c.loop-place.invariant).0
+returns-clause-none g c = (taking_end g.D.HasMeaning.meaning g.D.SideEffects.side_effects g.met.D.Dialect.keeps_counts g.met.D.Dialect.gives_at_once c.args.ctx.now.tree c.args.root c.requires.live c.requires.linked c.args.order.now.operations.items c.args.order.now.ends.items c.loop-place.ctx.tree c.loop-place.place (λ key. leader_with c.loop-place.leaders key) c.loop-place.status c.well_formed-2.ensures.tree (omega (arith, c.loop-place-test.false, c.len-place-end.ensures)) c.loop-place.invariant).0
 
 pub returns-clause-status : goal.returns-clause-status
-returns-clause-status g c = (taking_end g.D.HasMeaning.meaning g.D.SideEffects.side_effects g.met.D.Dialect.keeps_counts g.met.D.Dialect.gives_at_once c.args.ctx.now.tree c.args.root c.requires.live c.requires.linked c.args.order.now.operations.items c.args.order.now.ends.items c.loop-place.ctx.tree c.loop-place.place (λ key. leader_with c.loop-place.leaders key) c.loop-place.status c.well_formed.ensures.tree (omega (arith, c.loop-place-test.false, c.len-place-end.ensures)) c.loop-place.invariant).1
+returns-clause-status g c = (taking_end g.D.HasMeaning.meaning g.D.SideEffects.side_effects g.met.D.Dialect.keeps_counts g.met.D.Dialect.gives_at_once c.args.ctx.now.tree c.args.root c.requires.live c.requires.linked c.args.order.now.operations.items c.args.order.now.ends.items c.loop-place.ctx.tree c.loop-place.place (λ key. leader_with c.loop-place.leaders key) c.loop-place.status c.well_formed-2.ensures.tree (omega (arith, c.loop-place-test.false, c.len-place-end.ensures)) c.loop-place.invariant).1
 
 pub returns-in_err-taken-clause-way : goal.returns-in_err-taken-clause-way
 returns-in_err-taken-clause-way g c =

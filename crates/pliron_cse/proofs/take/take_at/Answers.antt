@@ -1,5 +1,6 @@
 use Rattle.std.proofs.Common.{◌≡◌, true≢false, sym, ap, ◌∙◌, subst, refl, inr, get_or, Some, IfNone, ℕ, arith}
 use Rattle.pliron_core.specs.Tree.{IsLive}
+use Rattle.pliron_laws.proofs.FoldLemmas.{on_err}
 use Rattle.pliron_cse.specs.Leaders.{leader_with}
 use Rattle.pliron_cse.specs.Steps.{LeadsAt}
 use Rattle.pliron_equivalence.specs.Twins.{IsTwin}
@@ -29,14 +30,14 @@ merge_twin-requires g c =
     let ops = c.args.order.now.operations.items in
     let ends = c.args.order.now.ends.items in
     let se = g.D.SideEffects.side_effects in
-    let w = c.well_formed.ensures.tree in
+    let w = c.well_formed-2.ensures.tree in
     let leads = c.in-Some.ensures.some in
     let twin = near_twin se t (get_or ops leads.0 0) (get_or ops c.args.place 0) w
     (pair_of se t w c.requires.ordered.0 ops ends leads.0 c.args.place (get_or ops leads.0 0) (get_or ops c.args.place 0) c.requires.ordered.1 leads.2.first c.requires.place leads.2.within refl refl leads.2.live leads.2.alike).twin in
     subst (λ z. IsTwin se t z c.operation_at-op.result) (sym leads.1) (subst (IsTwin se t (get_or ops leads.0 0)) (sym c.operation_at-op.ensures) twin)
 
-pub returns-in_ok-merge_twin-clause-taken : goal.returns-in_ok-merge_twin-clause-taken
-returns-in_ok-merge_twin-clause-taken g c =
+pub returns-in-Some-clause-taken : goal.returns-in-Some-clause-taken
+returns-in-Some-clause-taken g c =
     let leads = c.in-Some.ensures.some in
     (leads.0, leads.2, c.in_ok-merge_twin.ensures.ok ∙ ap (λ z. after_merging c.args.ctx.now.tree z c.operation_at-op.result) leads.1 ∙ ap (after_merging c.args.ctx.now.tree (get_or c.args.order.now.operations.items leads.0 0)) c.operation_at-op.ensures)
 
@@ -45,7 +46,7 @@ returns-in_err-merge_twin-clause-refused g c =
     let t = c.args.ctx.now.tree in
     let leads = c.in-Some.ensures.some in
     let part = subst (λ z. IsPartlyMerged t c.merge_twin.new.ctx.tree z c.operation_at-op.result) leads.1 c.in_err-merge_twin.ensures.err in
-    inr (leads.0, leads.2, subst (IsPartlyMerged t c.merge_twin.new.ctx.tree (get_or c.args.order.now.operations.items leads.0 0)) c.operation_at-op.ensures part)
+    on_err _ c.from_residual-in_err-merge_twin.result (inr (leads.0, leads.2, subst (IsPartlyMerged t c.merge_twin.new.ctx.tree (get_or c.args.order.now.operations.items leads.0 0)) c.operation_at-op.ensures part))
 
 pub returns-clause-leaders : goal.returns-clause-leaders
 returns-clause-leaders g c =
