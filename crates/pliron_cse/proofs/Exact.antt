@@ -1,9 +1,9 @@
 -- No twin is left, where uses are behind definitions.
-use Rattle.std.proofs.Common.{◌≡◌, ◌≢◌, ◌⊎◌, ◌↔◌, ℕ, zero, suc, ◌<◌, ◌≤◌, ◌+◌, Bool, List, [], ◌∷◌, ◌++◌, length, get_or, map, Option, Some, None, refl, sym, ap, ◌∙◌, subst, inl, inr, ⊎_elim, arith}
+use Rattle.std.proofs.Common.{◌≡◌, ◌≢◌, ◌⊎◌, ℕ, ◌<◌, ◌≤◌, ◌+◌, Bool, List, [], ◌∷◌, ◌++◌, length, get_or, map, Option, Some, refl, sym, ap, ◌∙◌, subst, inl, inr, ⊎_elim, arith}
 use Rattle.pliron_core.specs.declared.attrs.IRStatus.{IRStatus}
 use Rattle.pliron_core.specs.declared.attrs.IRStatus.TheVariants.{Changed, Unchanged}
 use Rattle.pliron_core.specs.Invariant.{IsTree}
-use Rattle.pliron_core.specs.Tree.{Tree, In, IsLive, head_of, operands_of, results_of, successors_of, regions_of, parent_of, block_parent_of, definition_of, up_from}
+use Rattle.pliron_core.specs.Tree.{Tree, In, IsLive, head_of, operands_of, results_of, successors_of, regions_of, block_parent_of, up_from}
 use Rattle.pliron_core.specs.Uses.{replace_target}
 use Rattle.pliron_core.specs.Writes.{after_replacing}
 use Rattle.pliron_core.specs.declared.context.Def.TheVariants.{Result}
@@ -16,13 +16,12 @@ use Rattle.pliron_equivalence.specs.Merging.{replaced_all, results_merged, after
 use Rattle.pliron_equivalence.proofs.Replaced.{target_cases, operands_replaced}
 use Rattle.pliron_equivalence.proofs.Merging.{results_same, rows_same}
 use Rattle.pliron_equivalence.proofs.Standing.{stands_trans}
-use Rattle.pliron_order.specs.Seen.{IsSeen}
 use Rattle.pliron_order.proofs.NumberLemmas.{at_in}
 use Rattle.pliron_order.proofs.PreorderLemmas.{in_at}
 use Rattle.pliron_cse.specs.Keys.{head_words_of, operand_words, key_words, region_around}
 use Rattle.pliron_cse.specs.Left.{HasTwins, UsesAreBehind, LeavesNoTwin, ReportsEquivalent}
 use Rattle.pliron_cse.specs.Steps.{MayRepeat, AreNearAlike, LeadsAt, AreFound, StaysAlone, AreNoTwins, IsOrdered, IsExact}
-use Rattle.pliron_cse.specs.Taking.{IsNearTwin, IsPair}
+use Rattle.pliron_cse.specs.Taking.{IsPair}
 use Rattle.pliron_cse.proofs.Moved.{moved_regions, moved_successors}
 use Rattle.pliron_cse.proofs.OnWay.{merged_stands, merged_seen, merged_gone, merged_fewer, row_of_merged, operands_of_merged, successors_of_merged, place_of_merged}
 

@@ -1,36 +1,33 @@
 -- What holds on the way, as one operation after the other goes.
-use Rattle.std.proofs.Common.{◌≡◌, ◌≢◌, ◌⊎◌, ◌↔◌, ℕ, ◌≤◌, ◌<◌, ◌+◌, suc, Bool, true, false, List, [], ◌∷◌, ◌++◌, length, get_or, take, Option, Some, None, IsSome, inl, inr, ⊎_elim, refl, sym, ap, ◌∙◌, subst, arith}
+use Rattle.std.proofs.Common.{◌≡◌, ◌≢◌, ◌⊎◌, ◌↔◌, ℕ, ◌≤◌, ◌<◌, ◌+◌, Bool, List, [], ◌∷◌, ◌++◌, length, get_or, take, Option, Some, None, IsSome, inl, ⊎_elim, refl, sym, ap, ◌∙◌, subst, arith}
 use Rattle.std.proofs.lemmas.List.{take_all}
-use Rattle.pliron_core.specs.Changes.{IsInsideChange}
-use Rattle.pliron_core.specs.Erased.{after_erasing, IsSelfContained}
+use Rattle.pliron_core.specs.Erased.{IsSelfContained}
 use Rattle.pliron_core.specs.Invariant.{IsTree}
 use Rattle.pliron_core.specs.Tree.{Tree, In, IsLive, IsInside, IsWithin, head_of, row_of, parent_operation_of, parent_of, block_parent_of, block_parent_operation_of, up_from, operands_of, regions_of, successors_of, results_of}
-use Rattle.pliron_core.proofs.HoldingLemmas.{some_is, some_of, not_none, outside_itself, inside_up, inside_by, not_itself, within_inside, holder_by, deeper}
-use Rattle.pliron_core.proofs.InsideLemmas.{inside_refl}
+use Rattle.pliron_core.proofs.HoldingLemmas.{some_is, some_of, not_none, inside_up, inside_by, not_itself, within_inside, holder_by}
 use Rattle.pliron_core.proofs.WithinLemmas.{is_within, block_holder_from}
 use Rattle.pliron_laws.specs.Datum.{Head, Meaning}
 use Rattle.pliron_laws.specs.Laws.{KeepsCounts, GivesAtOnce}
 use Rattle.pliron_laws.specs.Linked.{IsWellLinked, EdgesLast}
 use Rattle.pliron_block_laws.specs.Links.{KeepsLinks}
 use Rattle.pliron_block_laws.proofs.RewriteLinks.{erased_links}
-use Rattle.pliron_theory.specs.Change.{IsWholeChange}
 use Rattle.pliron_theory.specs.Edges.{KeepsEdges, EdgesAlike}
 use Rattle.pliron_theory.proofs.EdgeLemmas.{edges_alike, edges_transitive}
 use Rattle.pliron_theory.proofs.ErasedKeeps.{erased_gone}
 use Rattle.pliron_theory.proofs.WholeChanges.{whole_refl, whole_trans}
 use Rattle.pliron_equivalence.specs.Standing.{StandsBefore}
 use Rattle.pliron_equivalence.specs.Twins.{IsTwin}
-use Rattle.pliron_equivalence.specs.Merging.{replaced_all, partly_merged, results_merged, after_merging, IsPartlyMerged}
+use Rattle.pliron_equivalence.specs.Merging.{replaced_all, partly_merged, results_merged, after_merging}
 use Rattle.pliron_equivalence.proofs.Merging.{tree_all, own_pairs, contained_all, merged_lives, partly}
 use Rattle.pliron_equivalence.proofs.Standing.{stands_holder}
 use Rattle.pliron_order.specs.Order.{IsOrder}
 use Rattle.pliron_order.specs.Seen.{IsSeen}
 use Rattle.pliron_order.proofs.NumberLemmas.{at_in}
-use Rattle.pliron_order.proofs.PreorderLemmas.{in_at, distinct_at}
+use Rattle.pliron_order.proofs.PreorderLemmas.{distinct_at}
 use Rattle.pliron_order.proofs.SeenLemmas.{seen_inside}
 use Rattle.pliron_cse.specs.Keys.{region_around}
-use Rattle.pliron_cse.specs.Steps.{AreNearAlike, IsOrdered, IsOnWay, ReportsErased, TakesOrStays}
-use Rattle.pliron_cse.specs.Taking.{IsNearTwin, IsPair, Pair, TakeInTurn}
+use Rattle.pliron_cse.specs.Steps.{AreNearAlike, IsOrdered, IsOnWay}
+use Rattle.pliron_cse.specs.Taking.{IsPair, Pair, TakeInTurn}
 use Rattle.pliron_cse.proofs.Changing.{links_all, inside_all, changing}
 use Rattle.pliron_cse.proofs.ErasedEdges.{erased_alike}
 use Rattle.pliron_cse.proofs.Moved.{moved_regions, moved_successors, moved_stands, moved_seen, moved_alike, moved_live, moved_around, taken_pairs}

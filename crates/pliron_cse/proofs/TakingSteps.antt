@@ -1,5 +1,5 @@
 -- One operation after the other is visited.
-use Rattle.std.proofs.Common.{◌≡◌, ◌≢◌, ◌⊎◌, ◌↔◌, ℕ, ◌<◌, ◌≤◌, ◌+◌, Bool, true, false, List, [], ◌∷◌, ◌++◌, length, get_or, Option, Some, refl, sym, ap, ◌∙◌, subst, inl, inr, ⊎_elim, arith}
+use Rattle.std.proofs.Common.{◌≡◌, ◌↔◌, ℕ, ◌<◌, ◌≤◌, ◌+◌, Bool, true, false, List, [], ◌∷◌, ◌++◌, length, get_or, Option, refl, sym, ◌∙◌, subst, inl, inr}
 use Rattle.pliron_core.specs.declared.attrs.IRStatus.{IRStatus}
 use Rattle.pliron_core.specs.declared.attrs.IRStatus.TheVariants.{Changed, Unchanged}
 use Rattle.pliron_core.specs.Invariant.{IsTree}
@@ -10,7 +10,7 @@ use Rattle.pliron_laws.specs.Linked.{IsWellLinked}
 use Rattle.pliron_equivalence.specs.Merging.{after_merging, partly_merged}
 use Rattle.pliron_cse.specs.Left.{LeavesNoTwin, ReportsEquivalent}
 use Rattle.pliron_cse.specs.Steps.{IsOnWay, IsOrdered, IsTaking, LeadsAt, LeadsOn, TakesInPart, TakesOrStays, ReportsErased, status_after}
-use Rattle.pliron_cse.specs.Taking.{IsPair, IsTakenSoFar, Pair, TakeInTurn}
+use Rattle.pliron_cse.specs.Taking.{IsPair, IsTakenSoFar, Pair}
 use Rattle.pliron_cse.proofs.Exact.{exact_start, exact_merged, exact_stays, exact_end}
 use Rattle.pliron_cse.proofs.OnWay.{way_start, way_more, way_merged, way_partly, ordered_merged, ordered_on, merged_gone, pair_of, turn_more, part_within}
 

@@ -15,7 +15,7 @@ use Rattle.pliron_equivalence.specs.Merging.{after_merging, IsPartlyMerged}
 use Rattle.pliron_order.specs.Seen.{IsSeen}
 use Rattle.pliron_cse.specs.Keys.{key_words, region_around}
 use Rattle.pliron_cse.specs.Left.{UsesAreBehind, HasTwins}
-use Rattle.pliron_cse.specs.Taking.{IsPair, Pair, TakeInTurn}
+use Rattle.pliron_cse.specs.Taking.{Pair, TakeInTurn}
 
 -- the operation holds nothing, leads nowhere and has no side effects
 pub record MayRepeat (side_effects : Head → Option Bool) (t : Tree) (k : ℕ) : Type 0 where

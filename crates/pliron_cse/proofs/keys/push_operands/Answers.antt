@@ -1,7 +1,5 @@
-use Rattle.std.proofs.Common.{◌≡◌, ◌++◌, ◌∷◌, [], length, ap, sym, ◌∙◌, append_assoc, subst}
-use Rattle.std.specs.Option.{option_to_list}
 use Rattle.pliron_core.specs.Tree.{operands_of}
-use Rattle.pliron_cse.specs.Keys.{operand_words, region_around}
+use Rattle.pliron_cse.specs.Keys.{region_around}
 use Rattle.pliron_cse.proofs.KeyLemmas.{some_operand_words, no_operand_words}
 use Rattle.pliron_cse.proofs.keys.push_operands.Goals as goal
 

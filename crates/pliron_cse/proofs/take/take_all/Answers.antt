@@ -15,7 +15,7 @@ loop-place-preserved g c =
     let ops = c.args.order.now.operations.items in
     let ends = c.args.order.now.ends.items in
     let next = taking_next m se g.met.D.Dialect.keeps_counts g.met.D.Dialect.gives_at_once c.args.ctx.now.tree c.args.root c.requires.live c.requires.linked ops ends c.loop-place.ctx.tree c.loop-place.place (λ key. leader_with c.loop-place.leaders key) (λ key. leader_with c.take_at-outcome.new.leaders key) c.loop-place.status c.well_formed-in-loop-place.ensures.tree (omega (arith, c.loop-place-test.true, c.len-place-end.ensures)) c.loop-place.invariant c.take_at-outcome.new.ctx.tree c.in_ok-taken.taken c.well_formed-in-loop-place-2.ensures.tree c.in_ok-taken.ensures.taken c.in_ok-taken.ensures.leaders in
-    subst (λ z. IsTaking m se c.args.ctx.now.tree c.take_at-outcome.new.ctx.tree c.args.root ops ends (c.loop-place.place + 1) (λ key. leader_with c.take_at-outcome.new.leaders key) z) (sym c.status_with.ensures) next
+    subst (λ z. IsTaking m se c.args.ctx.now.tree c.take_at-outcome.new.ctx.tree c.args.root ops ends (c.loop-place.place + 1) (λ key. leader_with c.take_at-outcome.new.leaders key) z) (sym c.status_with-status.ensures) next
 
 pub take_at-outcome-requires-clause-ordered : goal.take_at-outcome-requires-clause-ordered
 take_at-outcome-requires-clause-ordered g c = (c.args.root, c.loop-place.invariant.ordered)

@@ -34,7 +34,7 @@ merge_twin-requires g c =
     let leads = c.in-Some.ensures.some in
     let twin = near_twin se t (get_or ops leads.0 0) (get_or ops c.args.place 0) w
     (pair_of se t w c.requires.ordered.0 ops ends leads.0 c.args.place (get_or ops leads.0 0) (get_or ops c.args.place 0) c.requires.ordered.1 leads.2.first c.requires.place leads.2.within refl refl leads.2.live leads.2.alike).twin in
-    subst (λ z. IsTwin se t z c.operation_at-op.result) (sym leads.1) (subst (IsTwin se t (get_or ops leads.0 0)) (sym c.operation_at-op.ensures) twin)
+    record { twin = subst (λ z. IsTwin se t z c.operation_at-op.result) (sym leads.1) (subst (IsTwin se t (get_or ops leads.0 0)) (sym c.operation_at-op.ensures) twin) }
 
 pub returns-in-Some-clause-taken : goal.returns-in-Some-clause-taken
 returns-in-Some-clause-taken g c =
