@@ -1,11 +1,11 @@
-//! Why a module isn't answer_of.
+//! Why a module isn't answered.
 ghost use Rattle.std.specs.Prelude.{◌≤◌};
 
 use pliron_laws::OptError;
 use pliron_mlir_text::{Expected, Fault, position_of};
 use std::alloc::{AllocError, Global};
 
-/// Why a module isn't answer_of.
+/// Why a module isn't answered.
 #[derive(Clone, Copy, Debug, Drop, PartialEq, Eq)]
 pub enum ModuleFailure {
     /// At this byte the text was to have something else.

@@ -90,7 +90,7 @@ fn optimise_in<D: Dialect, C: Progress + Drop>(
 }
 
 /// Whether this text says the module as it stands.
-fn says<D: Dialect>(
+fn reads_as<D: Dialect>(
     alloc: Global,
     text: &[u8],
     loaded: &Module,
@@ -116,7 +116,7 @@ fn reads_as_in<D: Dialect>(
     }
 }
 
-fn standing<'m>(loaded: &'m Module, ctx: &'m Context) -> ModuleView<'m> {
+fn view_of<'m>(loaded: &'m Module, ctx: &'m Context) -> ModuleView<'m> {
     ModuleView {
         root: loaded.root,
         sheet: &loaded.sheet,

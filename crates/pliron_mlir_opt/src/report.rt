@@ -4,7 +4,7 @@ use pliron_instrument::{ContentsCount, Instrumented, Progress, RoundRecord};
 use pliron_opts::Notation;
 use std::alloc::{AllocError, Global};
 
-/// Whether verifying found something.
+/// Whether verifying found something. Cost: linear in the runs.
 pub fn has_fault<N: Notation, C: Progress + Drop>(passes: &[Instrumented<N, C>]) -> bool {
     passes.iter().any(|pass| pass
         .run_record()
@@ -13,7 +13,7 @@ pub fn has_fault<N: Notation, C: Progress + Drop>(passes: &[Instrumented<N, C>])
         .any(|note| note.fault.is_some()))
 }
 
-/// Whether something is missing in what was noted, since memory was refused.
+/// Whether something is missing in what was noted, since memory was refused. Cost: linear in the passes.
 pub fn is_short<N: Notation, C: Progress + Drop>(passes: &[Instrumented<N, C>]) -> bool {
     passes.iter().any(|pass| pass.run_record().is_short)
 }

@@ -1,4 +1,5 @@
 //! Whether two modules say the same tree, up to keys.
+ghost use Rattle.std.specs.Prelude.{◌≡◌, ◌×◌, true, IfOk};
 ghost use Rattle.pliron_core.specs.Tree.{IsLive};
 
 use crate::constants::{form_of_datum, form_of_head};
@@ -43,7 +44,9 @@ pub fn is_same_module<'m>(
     alloc: Global,
     first: &ModuleView<'m>,
     second: &ModuleView<'m>,
-) -> Result<bool, AllocError> {
+) -> Result<bool, AllocError>
+    ensures { IfOk result (λ same. same ≡ true → (IsLive first.now.ctx.now.tree first.now.root) × (IsLive second.now.ctx.now.tree second.now.root)) }
+{
     let mut counterparts = Counterparts {
         values: HashMap::new(alloc),
         blocks: HashMap::new(alloc),
@@ -90,7 +93,10 @@ impl Counterparts {
 }
 
 impl Pair<'_> {
-    fn is_same(&self, counterparts: &mut Counterparts) -> Result<bool, AllocError> {
+    fn is_same(&self, counterparts: &mut Counterparts) -> Result<bool, AllocError>
+        ensures { IfOk result (λ same. same ≡ true → (IsLive self.now.first_ctx.now.tree self.now.first_root) ×
+            (IsLive self.now.second_ctx.now.tree self.now.second_root)) }
+    {
         let stand = self.first_root.is_live(self.first_ctx)
             && self.second_root.is_live(self.second_ctx);
         if !stand || !self.shapes_agree(counterparts)? {

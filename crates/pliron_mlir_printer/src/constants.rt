@@ -1,4 +1,7 @@
 //! How constants and jumps are printed that folding made.
+ghost use Rattle.std.specs.Prelude.{◌≡◌};
+ghost use Rattle.pliron_mlir_printer.specs.Names.{jump_name, constant_name};
+
 use itoa::Buffer;
 use pliron_core::{Context, Head, Operation, Ptr};
 use pliron_mlir::{form_of, form_of_constant, integer_of};
@@ -15,7 +18,9 @@ pub enum Dialect {
 
 impl Dialect {
     /// The name of a jump. Cost: constant.
-    pub fn jump(self) -> &'static [u8] {
+    pub fn jump(self) -> &'static [u8]
+        ensures { result.now ≡ jump_name self }
+    {
         match self {
             Dialect::Llvm => b"\"llvm.br\"",
             Dialect::Standard => b"\"cf.br\"",
@@ -23,7 +28,9 @@ impl Dialect {
     }
 
     /// The name of a constant. Cost: constant.
-    pub fn constant(self) -> &'static [u8] {
+    pub fn constant(self) -> &'static [u8]
+        ensures { result.now ≡ constant_name self }
+    {
         match self {
             Dialect::Llvm => b"\"llvm.mlir.constant\"",
             Dialect::Standard => b"\"arith.constant\"",

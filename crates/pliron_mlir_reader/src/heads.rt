@@ -1,5 +1,6 @@
 //! The head of an operation: its class, what the class reads of it, and its form.
-ghost use Rattle.std.specs.Prelude.{◌≤◌};
+ghost use Rattle.std.specs.Prelude.{◌≡◌, ◌≤◌, true, sum, None, IfOk, IfSome};
+ghost use Rattle.pliron_mlir_reader.specs.Classes.{ActsOnWorld, AreCounts};
 
 use crate::reader::{Entry, Pending, Reader};
 use pliron_bits::{Cast, Flags, Predicate};
@@ -41,6 +42,29 @@ fn without_quotes(name: &[u8]) -> &[u8] {
 
 fn contains_word(text: &[u8], word: &[u8]) -> bool {
     text.windows(word.len().max(1)).any(|part| part == word)
+}
+
+// How many operands these edges have together.
+fn total(counts: &[usize]) -> Option<usize>
+    ensures { IfSome result (λ total. total ≡ sum counts.now) }
+{
+    let mut total = 0usize;
+    for count in counts {
+        total = total.checked_add(*count)?;
+    }
+    Some(total)
+}
+
+// Whether the operation has as many edges, and as many operands behind the first; wide ones only without operands.
+fn fits(counts: &[usize], pending: &Pending) -> bool
+    ensures { result ≡ true → AreCounts pending.now counts.now }
+{
+    let Some(total) = total(counts) else {
+        return false;
+    };
+    let is_wide = counts.len() > MAX_EDGES && total > 0;
+    let (_, operands) = pending.operands;
+    !is_wide && counts.len() == pending.successors && total < operands && total == operands - 1
 }
 
 impl Reader<'_> {
@@ -114,7 +138,10 @@ impl Reader<'_> {
         }
     }
 
-    fn class(&self, pending: &Pending) -> Class {
+    // The class of the operation. One whose name isn't known acts on the world.
+    fn class(&self, pending: &Pending) -> Class
+        ensures { pending.now.known.class ≡ None → ActsOnWorld result }
+    {
         match pending.known.class {
             Some(class) if self.has_counts(class, pending) => self.class_by_widths(class, pending),
             _ if pending.successors > 0 => Class::Fork,
@@ -155,7 +182,9 @@ impl Reader<'_> {
     }
 
     // The operands of each edge of a branch or switch, where the text says them so that they are all but the first.
-    fn counts(&self, class: Class, pending: &Pending) -> Result<Option<Vec<usize>>, Fault> {
+    fn counts(&self, class: Class, pending: &Pending) -> Result<Option<Vec<usize>>, Fault>
+        ensures { IfOk result (λ found. IfSome found (λ counts. AreCounts pending.now counts.items)) }
+    {
         let Some(text) = self.value_of(SEGMENTS[0]) else {
             return Ok(None);
         };
@@ -176,12 +205,7 @@ impl Reader<'_> {
             };
             counts.extend_from_slice(&cases)?;
         }
-        let mut sum = 1usize;
-        for count in &counts {
-            sum = sum.saturating_add(*count);
-        }
-        let is_wide = counts.len() > MAX_EDGES && sum > 1;
-        if counts.len() == pending.successors && sum == pending.operands.1 && !is_wide {
+        if fits(&counts, pending) {
             Ok(Some(counts))
         } else {
             Ok(None)

@@ -10,6 +10,7 @@ use std::alloc::Global;
 /// text leaves the grammar or uses what isn't defined, and what was expected; allocation failure. Cost: linear in the
 /// text, but for uses that stand in regions inside the one that defines their value, which cost a step for each region
 /// between.
+#[doc(hidden)]
 pub fn parse(alloc: Global, text: &[u8]) -> Result<(Syntax, Sheet), Fault> {
     match parse_so(alloc, text, false) {
         Err(Fault::KeptAsText) => parse_so(alloc, text, true),

@@ -31,6 +31,7 @@ struct Scope {
 }
 
 /// Names, each with what it stands for in the regions that are open.
+#[doc(hidden)]
 #[derive(Drop)]
 pub struct Names {
     names: Texts,

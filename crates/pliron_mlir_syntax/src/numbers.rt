@@ -4,6 +4,7 @@ ghost use Rattle.std.specs.Prelude.{◌≤◌};
 use std::alloc::{AllocError, Global};
 
 /// A number with its sign.
+#[doc(hidden)]
 #[derive(Clone, Copy, Debug, PartialEq, Eq)]
 pub struct Signed {
     pub is_negative: bool,
@@ -11,11 +12,13 @@ pub struct Signed {
 }
 
 /// The text without the blanks around it. Cost: their number.
+#[doc(hidden)]
 pub fn trim_blanks(text: &[u8]) -> &[u8] {
     text.trim_ascii()
 }
 
 /// How many bits an integer type has, 65 for `index`, and 0 for another type. Cost: constant.
+#[doc(hidden)]
 pub fn width_of_type(text: &[u8]) -> u32
     ensures { result ≤ 65 }
 {
@@ -57,6 +60,7 @@ fn digits_of(text: &[u8], base: u64) -> Option<u64> {
 }
 
 /// The number that the text is: decimal, hexadecimal, or a truth. Cost: its length.
+#[doc(hidden)]
 pub fn number_of(text: &[u8]) -> Option<Signed> {
     let text = trim_blanks(text);
     if text == b"true".as_slice() || text == b"false".as_slice() {
@@ -80,6 +84,7 @@ pub fn number_of(text: &[u8]) -> Option<Signed> {
 }
 
 /// The number before a colon and the type behind it, which is `i64` where there is none. Cost: the length of the text.
+#[doc(hidden)]
 pub fn typed_number_of(text: &[u8]) -> Option<(Signed, &[u8])> {
     match text.iter().position(|byte| *byte == b':') {
         Some(at) => {
@@ -112,6 +117,7 @@ fn largest(width: u32) -> u64 {
 }
 
 /// The bits of the number in so many, where it fits, read as signed or unsigned. Cost: constant.
+#[doc(hidden)]
 pub fn bits_of(width: u32, number: Signed) -> Option<u64> {
     let most = largest(width);
     if width == 0 {
@@ -150,6 +156,7 @@ fn add_numbers(text: &[u8], found: &mut Vec<Signed>) -> Result<bool, AllocError>
 }
 
 /// The numbers of `array<i32: 1, 0>`, where the text is one. Errors: allocation failure. Cost: its length.
+#[doc(hidden)]
 pub fn array_of(alloc: Global, text: &[u8]) -> Result<Option<Vec<usize>>, AllocError> {
     let mut counts = Vec::new(alloc);
     let Some(inner) = text_between(text, b"array<", b">") else {
@@ -227,6 +234,7 @@ fn elements(
 
 /// The bits of so many elements of `dense<..> : vector<..>`, of this width, where the text is one that has them.
 /// Errors: allocation failure. Cost: its length.
+#[doc(hidden)]
 pub fn dense_of(
     alloc: Global,
     text: &[u8],

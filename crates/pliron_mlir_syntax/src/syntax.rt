@@ -3,9 +3,11 @@ use pliron_core::Head;
 use std::alloc::Global;
 
 /// The most regions that stand in one another.
+#[doc(hidden)]
 pub const MAX_DEPTH: usize = 64;
 
 /// An operation. Operations and blocks have numbers in the order of the text.
+#[doc(hidden)]
 #[derive(Clone, Copy, Debug)]
 pub struct OperationText {
     pub place: usize,
@@ -23,6 +25,7 @@ pub struct OperationText {
 }
 
 /// A block.
+#[doc(hidden)]
 #[derive(Clone, Copy, Debug)]
 pub struct BlockText {
     /// The number of its operation, and of the region there.
@@ -35,6 +38,7 @@ pub struct BlockText {
 }
 
 /// What a text says of a tree.
+#[doc(hidden)]
 #[derive(Drop)]
 pub struct Syntax {
     pub operations: Vec<OperationText>,

@@ -3,6 +3,7 @@ use indexmap::IndexSet;
 use std::alloc::{AllocError, Global};
 
 /// Distinct texts, which have numbers from 0 on in the order in which they came.
+#[doc(hidden)]
 #[derive(Drop)]
 pub struct Texts {
     alloc: Global,
