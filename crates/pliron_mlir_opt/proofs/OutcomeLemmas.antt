@@ -1,5 +1,5 @@
 -- How runs of the program end.
-use Rattle.std.proofs.Common.{◌≡◌, ◌×◌, ◌⊎◌, inl, inr, ℕ, Bool, List, [], ◌++◌, Option, Some, IfSome, Result, Ok, Err, IfOk, tt, sym, subst}
+use Rattle.std.proofs.Common.{◌≡◌, ◌⊎◌, inl, inr, ℕ, Bool, List, [], ◌++◌, Option, Some, IfSome, Result, Ok, Err, IfOk, sym, subst}
 use Rattle.pliron_core.specs.Tree.{Tree}
 use Rattle.pliron_core.specs.declared.attrs.IRStatus.{IRStatus}
 use Rattle.pliron_laws.specs.Datum.{Meaning}

@@ -1,5 +1,5 @@
 //! Whether two modules say the same tree, up to keys.
-ghost use Rattle.std.specs.Prelude.{◌≡◌, ◌×◌, true, IfOk};
+ghost use Rattle.std.specs.Prelude.{◌≡◌, true, IfOk};
 ghost use Rattle.pliron_core.specs.Tree.{IsLive};
 
 use crate::constants::{form_of_datum, form_of_head};

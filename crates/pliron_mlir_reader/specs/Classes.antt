@@ -1,5 +1,5 @@
 -- What an operation of a text is taken for.
-use Rattle.std.specs.Prelude.{◌≡◌, ◌+◌, ◌×◌, ◌⊎◌, ℕ, List, length, sum}
+use Rattle.std.specs.Prelude.{◌≡◌, ◌+◌, ◌⊎◌, ℕ, List, length, sum}
 use Rattle.pliron_mlir.specs.declared.kind.Class.{Class}
 use Rattle.pliron_mlir.specs.declared.kind.Class.TheVariants.{Effect, Regions, Fork}
 use Rattle.pliron_mlir_reader.specs.declared.reader.Pending.{Pending}

@@ -7,4 +7,4 @@ mod operations;
 mod parse;
 mod reader;
 
-pub use parse::parse;
+pub use parse::parse_text;

@@ -11,7 +11,7 @@ use std::alloc::Global;
 /// text, but for uses that stand in regions inside the one that defines their value, which cost a step for each region
 /// between.
 #[doc(hidden)]
-pub fn parse(alloc: Global, text: &[u8]) -> Result<(Syntax, Sheet), Fault> {
+pub fn parse_text(alloc: Global, text: &[u8]) -> Result<(Syntax, Sheet), Fault> {
     match parse_so(alloc, text, false) {
         Err(Fault::KeptAsText) => parse_so(alloc, text, true),
         parsed => parsed,

@@ -6,7 +6,7 @@ ghost use Rattle.pliron_laws.specs.Linked.{IsWellLinked};
 use crate::build::build;
 use pliron_core::{Context, Operation, Ptr};
 use pliron_laws::{Dialect, is_admitted, is_well_linked};
-use pliron_mlir_reader::parse;
+use pliron_mlir_reader::parse_text;
 use pliron_mlir_syntax::{Expected, Fault, Sheet, Syntax};
 use pliron_walks::Contents;
 use std::alloc::Global;
@@ -33,7 +33,7 @@ pub fn read_module<D: Dialect>(
     ensures stands { IfOk result (λ read. IsLive ctx.new.tree read.root) }
     ensures linked { IfOk result (λ read. IsWellLinked D.meaning ctx.new.tree read.root) }
 {
-    let (syntax, sheet) = parse(alloc, text)?;
+    let (syntax, sheet) = parse_text(alloc, text)?;
     build_module::<D>(alloc, syntax, sheet, ctx)
 }
 
