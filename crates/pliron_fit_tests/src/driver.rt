@@ -74,7 +74,7 @@ fn optimise_root(alloc: Global, root: Ptr<Operation>, ctx: &mut Context) -> Resu
     requires { IsLive ctx.old.tree root }
 {
     if let Some(violation) = find_violation::<Bench>(alloc, root, ctx)? {
-        return Ok(format!(in alloc; "{misfit}")?);
+        return Ok(format!(in alloc; "{violation}")?);
     }
     let mut passes = Passes::<PassStep<Bench, BenchFacts>>::new(alloc);
     for name in ["sccp", "simplify-cfg", "dce"] {

@@ -68,7 +68,7 @@ fn find_in_text<D: Dialect>(
     let fit = is_fit::<D>(alloc, root, ctx).expect(rt, "memory");
     assert_eq!(rt; fit, violation.is_none());
     match violation {
-        Some(violation) => format!(in alloc; "{misfit}").expect(rt, "memory"),
+        Some(violation) => format!(in alloc; "{violation}").expect(rt, "memory"),
         None => format!(in alloc; "fit").expect(rt, "memory"),
     }
 }
