@@ -1,6 +1,6 @@
 //! `plir`: texts of operations: runs, passes, marks under what is wrong, pictures, and why passes changed what.
 //!
-//! It knows words, files, streams and an exit status. What each command does stands in `pliron_cli` and `pliron_cli`.
+//! It knows words, files, streams and an exit status. What each command does stands in `pliron_cli`.
 #![tactic(auto)]
 
 mod command;
@@ -44,29 +44,29 @@ fn numbers(alloc: Global, matches: &ArgMatches, id: &str) -> io::Result<Vec<i64>
 }
 
 /// Runs the text so, before and after these passes.
-fn compare_wished<'w>(
+fn compare_as_asked<'w>(
     alloc: Global,
     source: &Source,
     run: RunOptions<'w>,
     pipeline: &'w str,
 ) -> io::Result<Outcome> {
-    let wish = CompareOptions { run, pipeline };
-    Ok(compare::<BenchNotation>(alloc, source, &wish)?)
+    let options = CompareOptions { run, pipeline };
+    Ok(compare::<BenchNotation>(alloc, source, &options)?)
 }
 
 /// Runs the text as the words ask, or before and after passes.
-fn run_wished(alloc: Global, source: &Source, matches: &ArgMatches) -> io::Result<Outcome> {
+fn run_as_asked(alloc: Global, source: &Source, matches: &ArgMatches) -> io::Result<Outcome> {
     let inputs = numbers(alloc, matches, "input")?;
     let world = numbers(alloc, matches, "world")?;
-    let wish = RunOptions {
+    let options = RunOptions {
         inputs: &inputs,
         world: &world,
         steps: matches.get_one::<usize>("steps").unwrap_or(100_000),
         trace: matches.get_flag("trace"),
     };
     match matches.get_str("compare") {
-        Some(pipeline) => compare_wished(alloc, source, wish, pipeline),
-        None => Ok(run(alloc, source, &wish)?),
+        Some(pipeline) => compare_as_asked(alloc, source, options, pipeline),
+        None => Ok(run(alloc, source, &options)?),
     }
 }
 
@@ -120,35 +120,35 @@ impl Progress for Terminal<'_> {
 }
 
 /// Runs these passes on the text, and looks so at what they do.
-fn opt_watched<'w>(
+fn opt_instrumented<'w>(
     rt: &HostRuntime,
     source: &Source,
     matches: &ArgMatches,
-    watch: InstrumentationOptions<'w>,
+    instrumentation: InstrumentationOptions<'w>,
     pipeline: &'w str,
 ) -> io::Result<Outcome> {
-    let wish = OptOptions {
+    let options = OptOptions {
         pipeline,
         is_pretty: is_pretty(rt, matches),
-        watch,
+        instrumentation,
         times: matches.get_flag("time"),
     };
     let start = rt.monotonic().unwrap_or(Duration::ZERO);
     let terminal = Terminal { rt, start };
-    Ok(opt::<BenchNotation, _>(rt.alloc(), source, &wish, terminal)?)
+    Ok(opt::<BenchNotation, _>(rt.alloc(), source, &options, terminal)?)
 }
 
 /// Runs the passes that the words ask for on the text.
-fn opt_wished(rt: &HostRuntime, source: &Source, matches: &ArgMatches) -> io::Result<Outcome> {
+fn opt_as_asked(rt: &HostRuntime, source: &Source, matches: &ArgMatches) -> io::Result<Outcome> {
     let prints = words(rt.alloc(), matches, "print-after")?;
-    let watch = InstrumentationOptions {
+    let instrumentation = InstrumentationOptions {
         counts: matches.get_flag("stats"),
         verifies: matches.get_flag("verify-each"),
         prints_all: matches.get_flag("print-after-all"),
         prints: &prints,
     };
     let pipeline = matches.get_str("pipeline").unwrap_or("");
-    opt_watched(rt, source, matches, watch, pipeline)
+    opt_instrumented(rt, source, matches, instrumentation, pipeline)
 }
 
 /// The outcome of a command whose input can't be read: its name is told, and why.
@@ -162,12 +162,12 @@ fn unreadable_input(alloc: Global, name: &str, error: &io::Error) -> io::Result<
 }
 
 /// Draws the region that the words ask for.
-fn draw_wished(alloc: Global, source: &Source, matches: &ArgMatches) -> io::Result<Outcome> {
-    let wish = FlowOptions {
+fn draw_as_asked(alloc: Global, source: &Source, matches: &ArgMatches) -> io::Result<Outcome> {
+    let options = FlowOptions {
         region: matches.get_str("region").unwrap_or("0"),
         dominators: matches.get_flag("dominators"),
     };
-    Ok(draw_flow(alloc, source, &wish)?)
+    Ok(draw_flow(alloc, source, &options)?)
 }
 
 /// What the command makes of its input.
@@ -184,11 +184,11 @@ fn outcome(rt: &HostRuntime, command: &str, matches: &ArgMatches) -> io::Result<
     };
     match command {
         "check" => Ok(check::<BenchNotation>(alloc, &source)?),
-        "opt" => opt_wished(rt, &source, matches),
-        "dot" => draw_wished(alloc, &source, matches),
+        "opt" => opt_as_asked(rt, &source, matches),
+        "dot" => draw_as_asked(alloc, &source, matches),
         "graph" => Ok(draw_graph(alloc, &source)?),
         "explain" => Ok(explain(alloc, &source, matches.get_str("pipeline").unwrap_or(""))?),
-        _ => run_wished(alloc, &source, matches),
+        _ => run_as_asked(alloc, &source, matches),
     }
 }
 

@@ -1,2 +1,2 @@
-pub mod PeopleLemmas
-pub mod DrawLemmas
+pub mod CommandLemmas
+pub mod EndingLemmas

@@ -1,4 +1,4 @@
--- What is said of a text whose operation is visited.
+-- What is said of a text whose operation is checked.
 use Rattle.std.specs.Prelude.{◌≡◌, ℕ, List, [], ◌∷◌, ◌++◌, codes}
 use Rattle.pliron_core.specs.Tree.{Tree}
 use Rattle.pliron_laws.specs.Datum.{Meaning}

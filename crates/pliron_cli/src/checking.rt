@@ -154,7 +154,8 @@ pub fn check_text<N: Notation>(
 /// What keeps the text's operation from being fit to run: `Some(None)` where nothing does, and `None` of an
 /// unreadable text. Errors: allocation failure. Cost: reading, and that of `find_violation`.
 fn wrong_with<N: Shown>(alloc: Global, source: &Source) -> Result<Option<Option<String>>, OptError>
-    ensures { IfOk result (λ found. IfSome found (λ wrong. MatchOption wrong (IsFitText N.reads N.D.meaning source.now.text.now)
+    ensures { IfOk result (λ found. IfSome found (λ wrong. MatchOption wrong
+        (IsFitText N.reads N.D.meaning source.now.text.now)
         (λ told. IsUnfitText N.reads N.D.meaning source.now.text.now))) }
 {
     let mut ctx = Context::new(alloc);
@@ -162,14 +163,15 @@ fn wrong_with<N: Shown>(alloc: Global, source: &Source) -> Result<Option<Option<
 }
 
 /// The same in this context.
-#[tactic(auto, using(crate::proofs::PeopleLemmas::fit_when, crate::proofs::PeopleLemmas::unfit_when))]
+#[tactic(auto, using(crate::proofs::CommandLemmas::fit_when, crate::proofs::CommandLemmas::unfit_when))]
 fn wrong_in<N: Shown>(
     alloc: Global,
     source: &Source,
     ctx: &mut Context,
 ) -> Result<Option<Option<String>>, OptError>
     requires { ctx.old.tree ≡ no_tree }
-    ensures { IfOk result (λ found. IfSome found (λ wrong. MatchOption wrong (IsFitText N.reads N.D.meaning source.now.text.now)
+    ensures { IfOk result (λ found. IfSome found (λ wrong. MatchOption wrong
+        (IsFitText N.reads N.D.meaning source.now.text.now)
         (λ told. IsUnfitText N.reads N.D.meaning source.now.text.now))) }
 {
     match check_text::<N>(alloc, source.text, ctx)? {
@@ -187,9 +189,10 @@ fn wrong_in<N: Shown>(
 /// Statuses: 0 where nothing keeps it; 1 where memory was refused; 2 for an unreadable text; 3 where something does.
 /// With all but 0 nothing is to be written to the output. Errors: allocation failure for what is told. Cost: reading, and
 /// that of `find_violation`.
-#[tactic(auto, using(crate::proofs::PeopleLemmas::says_fit, crate::proofs::PeopleLemmas::says_unfit))]
+#[tactic(auto, using(crate::proofs::CommandLemmas::says_fit, crate::proofs::CommandLemmas::says_unfit))]
 pub fn check<N: Shown>(alloc: Global, source: &Source) -> Result<Outcome, AllocError>
-    ensures { IfOk result (λ outcome. Ends (IsFitText N.reads N.D.meaning source.now.text.now × (outcome.output.items ≡ fit_line))
+    ensures { IfOk result (λ outcome. Ends (IsFitText N.reads N.D.meaning source.now.text.now ×
+        (outcome.output.items ≡ fit_line))
         (IsUnfitText N.reads N.D.meaning source.now.text.now × (outcome.output.items ≡ [])) outcome) }
 {
     match wrong_with::<N>(alloc, source) {

@@ -16,7 +16,7 @@ use std::alloc::{AllocError, Global};
 /// A notation of which people are shown where texts leave it, where operations stand in them, and how they run.
 pub trait Shown: Notation {
     /// What is told of a text outside the notation; `None` of one inside it. Errors: allocation failure.
-    fn fault_told(alloc: Global, source: &Source) -> Result<Option<String>, OptError>;
+    fn fault_message(alloc: Global, source: &Source) -> Result<Option<String>, OptError>;
 
     /// Where the operations of a text stand, in the order in which they are read. Errors: allocation failure.
     fn places(alloc: Global, text: &[u8]) -> Result<Vec<OperationRange>, AllocError>;
@@ -26,14 +26,15 @@ pub trait Shown: Notation {
         alloc: Global,
         root: Ptr<Operation>,
         ctx: &Context,
-        wish: &RunOptions,
+        options: &RunOptions,
     ) -> Result<Sight, AllocError>
-        ensures { IfOk result (λ sight. sight_of sight ≡ seen_of (run Self.D.meaning ctx.now.tree root (map NumberOf wish.now.inputs.now)
-            (map NumberOf wish.now.world.now) wish.now.steps)) };
+        ensures { IfOk result (λ sight. sight_of sight ≡ seen_of
+            (run Self.D.meaning ctx.now.tree root (map NumberOf options.now.inputs.now)
+            (map NumberOf options.now.world.now) options.now.steps)) };
 }
 
 impl Shown for BenchNotation {
-    fn fault_told(alloc: Global, source: &Source) -> Result<Option<String>, OptError> {
+    fn fault_message(alloc: Global, source: &Source) -> Result<Option<String>, OptError> {
         text_fault(alloc, source.name, source.text)
     }
 
@@ -45,8 +46,8 @@ impl Shown for BenchNotation {
         alloc: Global,
         root: Ptr<Operation>,
         ctx: &Context,
-        wish: &RunOptions,
+        options: &RunOptions,
     ) -> Result<Sight, AllocError> {
-        run_sight(alloc, root, ctx, wish, &mut Notes::of_last(alloc))
+        run_sight(alloc, root, ctx, options, &mut Notes::of_last(alloc))
     }
 }

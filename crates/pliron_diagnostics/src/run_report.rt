@@ -139,14 +139,16 @@ pub fn run_sight(
     alloc: Global,
     root: Ptr<Operation>,
     ctx: &Context,
-    wish: &RunOptions,
+    options: &RunOptions,
     notes: &mut Notes,
 ) -> Result<Sight, AllocError>
-    ensures { IfOk result (λ sight. sight_of sight ≡ sight_seen (run bench ctx.now.tree root (map NumberOf wish.now.inputs.now) (map NumberOf wish.now.world.now) wish.now.steps)) }
+    ensures { IfOk result (λ sight. sight_of sight ≡ sight_seen
+        (run bench ctx.now.tree root (map NumberOf options.now.inputs.now) (map NumberOf options.now.world.now)
+        options.now.steps)) }
 {
-    let inputs = data(alloc, wish.inputs)?;
-    let world = data(alloc, wish.world)?;
-    evaluate_noting::<Bench>(alloc, ctx, root, inputs, world, wish.steps, notes)
+    let inputs = data(alloc, options.inputs)?;
+    let world = data(alloc, options.world)?;
+    evaluate_noting::<Bench>(alloc, ctx, root, inputs, world, options.steps, notes)
 }
 
 /// Writes each move: where its operation stands, how it is written, and the data that it takes.
@@ -220,28 +222,28 @@ fn report_of(
 pub fn run_text(
     alloc: Global,
     source: &Source,
-    wish: &RunOptions,
+    options: &RunOptions,
 ) -> Result<Option<RunReport>, OptError> {
     let mut ctx = Context::new(alloc);
-    run_text_in(alloc, source, wish, &mut ctx)
+    run_text_in(alloc, source, options, &mut ctx)
 }
 
 /// The same in this context.
 fn run_text_in(
     alloc: Global,
     source: &Source,
-    wish: &RunOptions,
+    options: &RunOptions,
     ctx: &mut Context,
 ) -> Result<Option<RunReport>, OptError> {
     let Some(root) = read_text(alloc, source.text, ctx)? else {
         return Ok(None);
     };
-    Ok(Some(report_of_run(alloc, source, wish, root, ctx)?))
+    Ok(Some(report_of_run(alloc, source, options, root, ctx)?))
 }
 
 /// The notes that the options ask for.
-fn notes_for(alloc: Global, wish: &RunOptions) -> Notes {
-    if wish.trace {
+fn notes_for(alloc: Global, options: &RunOptions) -> Notes {
+    if options.trace {
         Notes::of_all(alloc)
     } else {
         Notes::of_last(alloc)
@@ -252,12 +254,12 @@ fn notes_for(alloc: Global, wish: &RunOptions) -> Notes {
 fn report_of_run(
     alloc: Global,
     source: &Source,
-    wish: &RunOptions,
+    options: &RunOptions,
     root: Ptr<Operation>,
     ctx: &Context,
 ) -> Result<RunReport, AllocError> {
-    let mut notes = notes_for(alloc, wish);
-    let sight = run_sight(alloc, root, ctx, wish, &mut notes)?;
+    let mut notes = notes_for(alloc, options);
+    let sight = run_sight(alloc, root, ctx, options, &mut notes)?;
     let end = end_of(&sight);
     let report = report_of(alloc, source, root, &notes, end)?;
     let seen = sight_text(alloc, &sight)?;

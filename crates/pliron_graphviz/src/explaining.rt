@@ -7,7 +7,7 @@ ghost use Rattle.pliron_bench.specs.BenchMoves.{bench};
 
 use crate::pass_list::{PassList, PassName};
 use crate::reasons::{Reasons, Rewrite};
-use crate::text_parts::{TextParts, words_of};
+use crate::text_parts::{TextParts, parts_of};
 use crate::tree_state::{TreeState, tree_state};
 use pliron_bench::Bench;
 use pliron_cfg::{fold_branches, merge_inside_op, remove_blocks_inside_op};
@@ -191,7 +191,7 @@ fn subjects(
 }
 
 /// What the list did to the text, in this empty context; `None` of an unreadable text.
-fn explained_in(
+fn explain_in(
     alloc: Global,
     text: &[u8],
     list: &PassList,
@@ -202,7 +202,7 @@ fn explained_in(
     let Some(root) = read_text(alloc, text, ctx)? else {
         return Ok(None);
     };
-    let words = words_of(alloc, text)?;
+    let words = parts_of(alloc, text)?;
     let operations = subjects(alloc, list, root, ctx)?;
     let mut explaining = Explaining {
         alloc,
@@ -228,5 +228,5 @@ pub fn explain_changes(
     list: &PassList,
 ) -> Result<Option<String>, OptError> {
     let mut ctx = Context::new(alloc);
-    explained_in(alloc, text, list, &mut ctx)
+    explain_in(alloc, text, list, &mut ctx)
 }

@@ -197,7 +197,7 @@ impl TextScan {
 }
 
 /// The parts of a text that the notation has. Errors: allocation failure. Cost: linear in the text.
-pub fn words_of(alloc: Global, text: &[u8]) -> Result<TextParts, AllocError> {
+pub fn parts_of(alloc: Global, text: &[u8]) -> Result<TextParts, AllocError> {
     let mut words = TextParts {
         operations: Vec::new(alloc),
         blocks: Vec::new(alloc),

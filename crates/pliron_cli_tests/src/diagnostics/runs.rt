@@ -5,13 +5,13 @@ use pliron_diagnostics::{End, RunOptions, Source, run_text};
 use std::alloc::Global;
 use std::process::Abort;
 
-fn expect_run(rt: &impl Abort, alloc: Global, text: &str, wanted: &str, wish: &RunOptions) {
+fn expect_run(rt: &impl Abort, alloc: Global, text: &str, wanted: &str, options: &RunOptions) {
     let wanted = with_lines(alloc, wanted).expect(rt, "memory");
     let source = Source {
         name: "in.plir",
         text: text.as_bytes(),
     };
-    let told = run_text(alloc, &source, wish)
+    let told = run_text(alloc, &source, options)
         .expect(rt, "memory")
         .expect(rt, "a readable text");
     assert!(rt;
@@ -32,7 +32,7 @@ func { b0(x, y): z = const 0; w = div x z; ret w } => trapped|";
 
 #[test]
 fn runs_are_seen(rt: HostRuntime) {
-    let wish = RunOptions {
+    let options = RunOptions {
         inputs: &[3, 4],
         world: &[7, 8],
         steps: 20,
@@ -40,7 +40,7 @@ fn runs_are_seen(rt: HostRuntime) {
     };
     for case in RUNS.lines() {
         let (text, wanted) = case.split_once(" => ").expect(&rt, "a case");
-        expect_run(&rt, rt.alloc(), text, wanted, &wish);
+        expect_run(&rt, rt.alloc(), text, wanted, &options);
     }
 }
 
@@ -77,13 +77,13 @@ fn moves_and_traps_are_told(rt: HostRuntime) {
         name: "in.plir",
         text: TURNS.as_bytes(),
     };
-    let wish = RunOptions {
+    let options = RunOptions {
         inputs: &[1],
         world: &[],
         steps: 100,
         trace: true,
     };
-    let told = run_text(rt.alloc(), &source, &wish)
+    let told = run_text(rt.alloc(), &source, &options)
         .expect(&rt, "memory")
         .expect(&rt, "a readable text");
     assert!(rt; told.report.as_str() == TURNS_TOLD, "{}", told.report);
