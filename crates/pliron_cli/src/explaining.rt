@@ -69,8 +69,8 @@ fn explain_by(alloc: Global, source: &Source, plan: &PipelineText) -> Result<Out
     }
 }
 
-/// Tells, for each operation and argument of the text that changed or went when the passes were run that the word asks
-/// for, where it stands, and why.
+/// Tells what changed in a text: for each operation and argument that changed or went when the passes were run that the
+/// word asks for, where it stands, and why.
 ///
 /// Statuses: 0; 1 where memory or the passes were refused; 2 for an unreadable text, or a word that asks for no passes.
 /// With 1 and 2 nothing is to be written to the output. Errors: allocation failure for what is told. Cost: that of

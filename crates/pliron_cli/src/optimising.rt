@@ -127,20 +127,21 @@ fn refusal_outcome<N: Shown, C: Progress + Drop>(
     })
 }
 
-/// What these passes make of the text.
+/// What these passes make of the text; the report begins with this one.
 #[tactic(auto, using(crate::proofs::CommandLemmas::is_made))]
 fn opt_with<N: Shown, C: Progress + Copy + Drop>(
     alloc: Global,
     source: &Source,
     options: &OptOptions,
     schedule: &mut InstrumentedSchedule<N, C>,
+    mut report: String,
 ) -> Result<Outcome, AllocError>
     ensures { IfOk result (EndsOptimised N.reads N.prints N.D.meaning (RunsAlone ⟦<BenchFactKind as PartialEq>⟧.eq
         ⟦<InstrumentedSchedule<N, C> as Pass>⟧.outcome schedule.old) source.now.text.now) }
 {
     let made = optimise(alloc, schedule, source.text);
     let passes = instrumented_passes(schedule);
-    let report = report_of(alloc, passes, &report_options(options))?;
+    report.push_str(report_of(alloc, passes, &report_options(options))?.as_str())?;
     match made {
         Ok(Some(_)) if is_short(passes) => refusal_outcome(
             alloc,
@@ -164,7 +165,7 @@ fn opt_with<N: Shown, C: Progress + Copy + Drop>(
     }
 }
 
-/// What the passes that the plan asks for make of the text.
+/// What the passes that the plan asks for make of the text; the report begins with this one.
 #[tactic(auto, using(crate::proofs::CommandLemmas::is_planned, crate::proofs::CommandLemmas::no_passes))]
 fn opt_by<N: Shown, C: Progress + Copy + Drop>(
     alloc: Global,
@@ -172,6 +173,7 @@ fn opt_by<N: Shown, C: Progress + Copy + Drop>(
     options: &OptOptions,
     plan: &PipelineText,
     clock: C,
+    report: String,
 ) -> Result<Outcome, AllocError>
     ensures { IfOk result (EndsByPlan ⟦<Instrumented<N, C> as Pass>⟧.name
         (λ schedule. EndsOptimised N.reads N.prints N.D.meaning
@@ -180,8 +182,34 @@ fn opt_by<N: Shown, C: Progress + Copy + Drop>(
         plan.now.nested (map (λ name. name.now) plan.now.names.items)) }
 {
     match build_schedule::<N, C>(alloc, plan, &options.instrumentation, clock)? {
-        Some(mut schedule) => opt_with(alloc, source, options, &mut schedule),
+        Some(mut schedule) => opt_with(alloc, source, options, &mut schedule, report),
         None => failure_outcome::<N>(alloc, CommandFailure::Text, source),
+    }
+}
+
+/// What the passes that the word asks for make of the text; the report begins with this one.
+#[tactic(auto, using(crate::proofs::CommandLemmas::is_asked, crate::proofs::CommandLemmas::no_plan))]
+pub(crate) fn opt_after<N: Shown, C: Progress + Copy + Drop>(
+    alloc: Global,
+    source: &Source,
+    options: &OptOptions,
+    clock: C,
+    report: String,
+) -> Result<Outcome, AllocError>
+    ensures { IfOk result (EndsByWord ⟦<Instrumented<N, C> as Pass>⟧.name
+        (λ schedule. EndsOptimised N.reads N.prints N.D.meaning
+        (RunsAlone ⟦<BenchFactKind as PartialEq>⟧.eq ⟦<InstrumentedSchedule<N, C> as Pass>⟧.outcome schedule)
+        source.now.text.now)
+        options.now.pipeline.now) }
+{
+    match PipelineText::read(alloc, options.pipeline) {
+        Ok(plan) => opt_by::<N, C>(alloc, source, options, &plan, clock, report),
+        Err(PlanError::Word(fault)) => misspelling_outcome(alloc, options.pipeline, &fault),
+        Err(PlanError::Memory) => failure_outcome::<N>(
+            alloc,
+            CommandFailure::Refused(OptError::Memory),
+            source,
+        ),
     }
 }
 
@@ -190,7 +218,6 @@ fn opt_by<N: Shown, C: Progress + Copy + Drop>(
 /// Statuses: 0; 1 where memory or the passes were refused; 2 for a word that asks for no passes or an unreadable text;
 /// 3 where verifying found something. With all but 0 nothing is to be written to the output. Errors: allocation failure for
 /// what is told. Cost: reading, the passes, what is recorded, and printing.
-#[tactic(auto, using(crate::proofs::CommandLemmas::is_asked, crate::proofs::CommandLemmas::no_plan))]
 pub fn opt<N: Shown, C: Progress + Copy + Drop>(
     alloc: Global,
     source: &Source,
@@ -203,13 +230,5 @@ pub fn opt<N: Shown, C: Progress + Copy + Drop>(
         source.now.text.now)
         options.now.pipeline.now) }
 {
-    match PipelineText::read(alloc, options.pipeline) {
-        Ok(plan) => opt_by::<N, C>(alloc, source, options, &plan, clock),
-        Err(PlanError::Word(fault)) => misspelling_outcome(alloc, options.pipeline, &fault),
-        Err(PlanError::Memory) => failure_outcome::<N>(
-            alloc,
-            CommandFailure::Refused(OptError::Memory),
-            source,
-        ),
-    }
+    opt_after::<N, C>(alloc, source, options, clock, String::new(alloc))
 }

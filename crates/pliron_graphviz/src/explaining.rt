@@ -216,8 +216,8 @@ fn explain_in(
     Ok(Some(explaining.lines))
 }
 
-/// For each operation and argument of the text that changed or went when these passes were run, a line with its place
-/// and the reason; `None` of an unreadable text.
+/// What changed in a text: for each operation and argument that changed or went when these passes were run, a line with
+/// its place and the reason; `None` of an unreadable text.
 ///
 /// Each pass is made of its own calls, what stood before each is compared with what stands after it, and the reason is what
 /// that call does. Errors: allocation failure, and those of the passes. Cost: reading, and for each pass its own cost and a step

@@ -16,7 +16,7 @@ pub type InstrumentedPipeline<N, C> = Either<
     NestedOpsPass<Passes<Instrumented<N, C>>>,
 >;
 
-/// A pipeline that is run once (`Left`), or again and again until it changes nothing, at most so many times.
+/// A pipeline that is run once (`Left`), or until it changes nothing, at most so many times.
 pub type InstrumentedSchedule<N, C> = Either<
     InstrumentedPipeline<N, C>,
     Repeat<InstrumentedPipeline<N, C>>,
@@ -111,7 +111,7 @@ fn schedule<N: Notation, C: Progress + Copy + Drop>(
     }
 }
 
-/// The instrumented passes that the plan asks for, if each of its names is that of a pass.
+/// The instrumented passes that the plan asks for: `None` where one of its names is that of no pass.
 ///
 /// Errors: allocation failure. Cost: linear in the plan.
 pub fn build_schedule<N: Notation, C: Progress + Copy + Drop>(
