@@ -13,7 +13,7 @@ fn output<'a>(alloc: Global) -> Arg<'a> {
         .short('o')
         .long("output")
         .value_name("FILE")
-        .help("Where to write; standard output, if left out")
+        .help("Where to write; standard output, if it is `-` or\nleft out")
 }
 
 fn flag<'a>(alloc: Global, name: &'a str, help: &'a str) -> Arg<'a> {
@@ -91,7 +91,7 @@ static PASSES: [&str; 3] = ["sccp", "dce", "simplify-cfg"];
 static OPT_STATUSES: &str = "\
 Statuses: 0 where the answer is written; 1 where memory or the passes were
 refused; 2 for words, files and texts that can't be used; 3 where verifying
-found a fault.";
+found a fault, or with --strict the text isn't fit to run.";
 
 /// What `PIPELINE` may be.
 static PIPELINE: &str = "\
@@ -142,6 +142,11 @@ fn with_reports<'a>(command: Command<'a>, alloc: Global) -> Result<Command<'a>, 
             "Tell the operation after each run of a pass, on\nstandard error",
         ))?
         .arg(print_after(alloc))?
+        .arg(flag(
+            alloc,
+            "strict",
+            "Run no pass where the text isn't fit to run, as\n`plir check` finds it; without it that is a warning",
+        ))?
         .arg(flag(
             alloc,
             "verify-each",
@@ -229,13 +234,8 @@ fn explain<'a>(alloc: Global) -> Result<Command<'a>, AllocError> {
     Command::new(alloc, "explain")
         .about("Tells why passes changed or took out operations and arguments")
         .after_help(EXPLAIN_STATUSES)
-        .arg(
-            Arg::new(alloc, "file")
-                .value_name("FILE")
-                .required(true)
-                .help("The text; standard input, where it is `-`"),
-        )?
         .arg(pipeline(alloc))?
+        .arg(file(alloc))?
         .arg(output(alloc))
 }
 

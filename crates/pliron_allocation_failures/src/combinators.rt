@@ -91,7 +91,7 @@ fn run(
 }
 
 /// Checks the case in this context and cache, which are empty.
-fn checked_in(
+fn check_in(
     alloc: Global,
     case: &str,
     ctx: &mut Context,
@@ -120,7 +120,7 @@ fn checked_in(
 fn check_case(alloc: Global, case: &str) -> Result<Observation, OptError> {
     let mut ctx = Context::new(alloc);
     let mut analyses = AnalysisManager::new(alloc);
-    checked_in(alloc, case, &mut ctx, &mut analyses)
+    check_in(alloc, case, &mut ctx, &mut analyses)
 }
 
 /// What is seen of the combinator of the case with this number; none past the last one. Errors: allocation

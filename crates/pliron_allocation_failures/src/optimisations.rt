@@ -90,7 +90,7 @@ pub fn seen_of<T>(answer: &Result<T, OptError>, trees: &str, line: &str) -> Obse
 }
 
 /// Checks the case in this context, which is empty.
-fn checked_in(alloc: Global, case: &str, ctx: &mut Context) -> Result<Observation, OptError> {
+fn check_in(alloc: Global, case: &str, ctx: &mut Context) -> Result<Observation, OptError> {
     let Some((name, rest)) = case.split_once(" | ") else {
         return Ok(Observation::Wrong);
     };
@@ -110,7 +110,7 @@ fn checked_in(alloc: Global, case: &str, ctx: &mut Context) -> Result<Observatio
 
 fn check_case(alloc: Global, case: &str) -> Result<Observation, OptError> {
     let mut ctx = Context::new(alloc);
-    checked_in(alloc, case, &mut ctx)
+    check_in(alloc, case, &mut ctx)
 }
 
 /// What is seen of the optimisation of the case with this number; none past the last one. Errors: allocation

@@ -92,7 +92,8 @@ fn fold_pair(alloc: Global, pair: Ptr<Operation>, ctx: &mut Context) -> Result<I
     requires folds { HeadPasses (λ h. is_of_bench_kind h Pair) ctx.old.tree pair }
     requires operands { length (operands_of ctx.old.tree pair) ≡ 0 }
     requires results { length (results_of ctx.old.tree pair) ≡ 2 }
-    ensures both { OnOk result ((first : ℕ) × (second : ℕ) × (results_of ctx.old.tree pair ≡ first ∷ second ∷ []) × (ctx.new.tree ≡
+    ensures both { OnOk result ((first : ℕ) × (second : ℕ) × (results_of ctx.old.tree pair ≡ first ∷ second ∷ []) ×
+        (ctx.new.tree ≡
         both_put ctx.old.tree pair first second)) }
     ensures none { OnErr result (IsSameTree ctx.old.tree ctx.new.tree) }
     ensures memory { IsOkUnless result OptError.Memory }
@@ -118,7 +119,7 @@ fn fold_first(
     Some(fold_pair(alloc, pair, ctx))
 }
 
-fn checked_in(alloc: Global, ctx: &mut Context) -> Result<Observation, OptError> {
+fn check_in(alloc: Global, ctx: &mut Context) -> Result<Observation, OptError> {
     let Some(root) = read_text(alloc, BEFORE.as_bytes(), ctx)? else {
         return Ok(Observation::Wrong);
     };
@@ -140,5 +141,5 @@ fn checked_in(alloc: Global, ctx: &mut Context) -> Result<Observation, OptError>
 /// was. Errors: allocation failure beside the fold. Cost: constant.
 pub fn check_folding(alloc: Global) -> Result<Observation, OptError> {
     let mut ctx = Context::new(alloc);
-    checked_in(alloc, &mut ctx)
+    check_in(alloc, &mut ctx)
 }

@@ -1,2 +1,3 @@
-pub mod PeopleLemmas
-pub mod DrawLemmas
+pub mod CommandLemmas
+pub mod EndingLemmas
+pub mod StrictLemmas

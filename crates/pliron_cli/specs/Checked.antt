@@ -1,4 +1,4 @@
--- What is said of a text whose operation is visited.
+-- What is said of a text whose operation is checked.
 use Rattle.std.specs.Prelude.{◌≡◌, ℕ, List, [], ◌∷◌, ◌++◌, codes}
 use Rattle.pliron_core.specs.Tree.{Tree}
 use Rattle.pliron_laws.specs.Datum.{Meaning}
@@ -8,6 +8,7 @@ use Rattle.pliron_fit.specs.Violation.{IsViolation}
 use Rattle.pliron_fit.specs.declared.violation.Violation.{Violation}
 use Rattle.pliron_cli.specs.declared.checking.Checked.{Checked}
 use Rattle.pliron_cli.specs.declared.checking.Checked.TheVariants.{Unreadable, Fit, Unfit}
+use Rattle.pliron_cli.specs.declared.outcome.Outcome.{Outcome}
 
 -- what is written of a text whose operation is fit to run
 abbrev pub fit_line : List ℕ
@@ -34,3 +35,9 @@ module _ (reads : Reads) (m : Meaning) (text : List ℕ) where
   IsChecked Unreadable = Unit {0}
   IsChecked Fit = IsFitText
   IsChecked (Unfit root violation) = (tree : Tree) × reads text tree root × IsViolation m tree root violation
+
+  -- something keeps it from being fit to run, and nothing is to be written
+  pub record IsRejected (o : Outcome) : Type 0 where
+    pub unfit : IsUnfitText
+    pub denied : o.status ≡ 3
+    pub empty : o.output.items ≡ []

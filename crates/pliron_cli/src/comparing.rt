@@ -75,7 +75,7 @@ fn is_cut_off(sight: &Sight) -> bool
 }
 
 /// Whether both runs ended or trapped, and the same is seen of them.
-#[tactic(auto, using(crate::proofs::PeopleLemmas::cut_before, crate::proofs::PeopleLemmas::cut_after, crate::proofs::PeopleLemmas::compared_whole))]
+#[tactic(auto, using(crate::proofs::CommandLemmas::cut_before, crate::proofs::CommandLemmas::cut_after, crate::proofs::CommandLemmas::compared_whole))]
 fn is_same(sights: &Sights) -> bool
     ensures { result ≡ are_same ⟦<Sight as PartialEq>⟧.eq sights.now }
 {
@@ -116,24 +116,26 @@ fn likeness_of(sights: &Sights) -> Likeness
 /// passes of the schedule; `None` of an unreadable text.
 ///
 /// Asks that the context is empty. Errors: those of the passes; allocation failure. Cost: reading, two runs, and the passes.
-#[tactic(auto, using(crate::proofs::PeopleLemmas::are_seen))]
+#[tactic(auto, using(crate::proofs::CommandLemmas::are_seen))]
 pub fn compare_text<N: Shown>(
     alloc: Global,
     text: &[u8],
-    wish: &RunOptions,
+    options: &RunOptions,
     schedule: &mut InstrumentedSchedule<N, Timeless>,
     ctx: &mut Context,
 ) -> Result<Option<Sights>, OptError>
     requires { ctx.old.tree ≡ no_tree }
-    ensures { IfOk result (λ found. IfSome found (AreSeen N.reads N.D.meaning (map NumberOf wish.now.inputs.now) (map NumberOf wish.now.world.now)
-        wish.now.steps (RunsAlone ⟦<BenchFactKind as PartialEq>⟧.eq ⟦<InstrumentedSchedule<N, Timeless> as Pass>⟧.outcome schedule.old) text.now)) }
+    ensures { IfOk result (λ found. IfSome found (AreSeen N.reads N.D.meaning (map NumberOf options.now.inputs.now)
+        (map NumberOf options.now.world.now)
+        options.now.steps (RunsAlone ⟦<BenchFactKind as PartialEq>⟧.eq
+        ⟦<InstrumentedSchedule<N, Timeless> as Pass>⟧.outcome schedule.old) text.now)) }
 {
     let Some(root) = N::read(alloc, text, ctx)? else {
         return Ok(None);
     };
-    let before = N::run_sight(alloc, root, ctx, wish)?;
+    let before = N::run_sight(alloc, root, ctx, options)?;
     let _status = run_instrumented(alloc, schedule, root, ctx)?;
-    let after = N::run_sight(alloc, root, ctx, wish)?;
+    let after = N::run_sight(alloc, root, ctx, options)?;
     Ok(Some(Sights { before, after }))
 }
 
@@ -161,7 +163,7 @@ fn seen_text(alloc: Global, sights: &Sights, likeness: Likeness) -> Result<Strin
 }
 
 /// What is written of the runs: what is seen, and whether it is the same.
-#[tactic(auto, using(crate::proofs::PeopleLemmas::ends_with))]
+#[tactic(auto, using(crate::proofs::CommandLemmas::ends_with))]
 fn comparison_text(
     alloc: Global,
     sights: &Sights,
@@ -186,7 +188,7 @@ fn status_of(likeness: Likeness) -> u8
 }
 
 /// The outcome of these runs.
-#[tactic(auto, using(crate::proofs::PeopleLemmas::told_likeness))]
+#[tactic(auto, using(crate::proofs::CommandLemmas::told_likeness))]
 fn outcome_of(alloc: Global, sights: &Sights) -> Result<Outcome, AllocError>
     ensures { IfOk result (λ outcome. Ends (IsTold ⟦<Sight as PartialEq>⟧.eq sights.now outcome.output.items)
         (IsToldOther ⟦<Sight as PartialEq>⟧.eq sights.now outcome.output.items) outcome) }
@@ -200,20 +202,22 @@ fn outcome_of(alloc: Global, sights: &Sights) -> Result<Outcome, AllocError>
 }
 
 /// Compares runs before and after the passes of the schedule.
-#[tactic(auto, using(crate::proofs::PeopleLemmas::are_compared))]
+#[tactic(auto, using(crate::proofs::CommandLemmas::are_compared))]
 fn compare_in<N: Shown>(
     alloc: Global,
     source: &Source,
-    wish: &RunOptions,
+    options: &RunOptions,
     schedule: &mut InstrumentedSchedule<N, Timeless>,
     ctx: &mut Context,
 ) -> Result<Outcome, AllocError>
     requires { ctx.old.tree ≡ no_tree }
-    ensures { IfOk result (EndsCompared N.reads N.D.meaning (map NumberOf wish.now.inputs.now) (map NumberOf wish.now.world.now) wish.now.steps
-        ⟦<Sight as PartialEq>⟧.eq (RunsAlone ⟦<BenchFactKind as PartialEq>⟧.eq ⟦<InstrumentedSchedule<N, Timeless> as Pass>⟧.outcome schedule.old)
+    ensures { IfOk result (EndsCompared N.reads N.D.meaning (map NumberOf options.now.inputs.now)
+        (map NumberOf options.now.world.now) options.now.steps
+        ⟦<Sight as PartialEq>⟧.eq (RunsAlone ⟦<BenchFactKind as PartialEq>⟧.eq
+        ⟦<InstrumentedSchedule<N, Timeless> as Pass>⟧.outcome schedule.old)
         source.now.text.now) }
 {
-    match compare_text(alloc, source.text, wish, schedule, ctx) {
+    match compare_text(alloc, source.text, options, schedule, ctx) {
         Ok(Some(sights)) => outcome_of(alloc, &sights),
         Ok(None) => failure_outcome::<N>(alloc, CommandFailure::Text, source),
         Err(error) => failure_outcome::<N>(alloc, CommandFailure::Refused(error), source),
@@ -224,28 +228,32 @@ fn compare_in<N: Shown>(
 fn compare_with<N: Shown>(
     alloc: Global,
     source: &Source,
-    wish: &RunOptions,
+    options: &RunOptions,
     schedule: &mut InstrumentedSchedule<N, Timeless>,
 ) -> Result<Outcome, AllocError>
-    ensures { IfOk result (EndsCompared N.reads N.D.meaning (map NumberOf wish.now.inputs.now) (map NumberOf wish.now.world.now) wish.now.steps
-        ⟦<Sight as PartialEq>⟧.eq (RunsAlone ⟦<BenchFactKind as PartialEq>⟧.eq ⟦<InstrumentedSchedule<N, Timeless> as Pass>⟧.outcome schedule.old)
+    ensures { IfOk result (EndsCompared N.reads N.D.meaning (map NumberOf options.now.inputs.now)
+        (map NumberOf options.now.world.now) options.now.steps
+        ⟦<Sight as PartialEq>⟧.eq (RunsAlone ⟦<BenchFactKind as PartialEq>⟧.eq
+        ⟦<InstrumentedSchedule<N, Timeless> as Pass>⟧.outcome schedule.old)
         source.now.text.now) }
 {
     let mut ctx = Context::new(alloc);
-    compare_in(alloc, source, wish, schedule, &mut ctx)
+    compare_in(alloc, source, options, schedule, &mut ctx)
 }
 
 /// Compares runs before and after the passes that the plan asks for.
-#[tactic(auto, using(crate::proofs::PeopleLemmas::is_planned, crate::proofs::PeopleLemmas::no_passes))]
+#[tactic(auto, using(crate::proofs::CommandLemmas::is_planned, crate::proofs::CommandLemmas::no_passes))]
 fn compare_by<N: Shown>(
     alloc: Global,
     source: &Source,
-    wish: &RunOptions,
+    options: &RunOptions,
     plan: &PipelineText,
 ) -> Result<Outcome, AllocError>
-    ensures { IfOk result (EndsByPlan ⟦<Instrumented<N, Timeless> as Pass>⟧.name (λ schedule. EndsCompared N.reads N.D.meaning (map NumberOf wish.now.inputs.now)
-        (map NumberOf wish.now.world.now) wish.now.steps ⟦<Sight as PartialEq>⟧.eq
-        (RunsAlone ⟦<BenchFactKind as PartialEq>⟧.eq ⟦<InstrumentedSchedule<N, Timeless> as Pass>⟧.outcome schedule) source.now.text.now)
+    ensures { IfOk result (EndsByPlan ⟦<Instrumented<N, Timeless> as Pass>⟧.name
+        (λ schedule. EndsCompared N.reads N.D.meaning (map NumberOf options.now.inputs.now)
+        (map NumberOf options.now.world.now) options.now.steps ⟦<Sight as PartialEq>⟧.eq
+        (RunsAlone ⟦<BenchFactKind as PartialEq>⟧.eq ⟦<InstrumentedSchedule<N, Timeless> as Pass>⟧.outcome schedule)
+        source.now.text.now)
         plan.now.runs plan.now.nested (map (λ name. name.now) plan.now.names.items)) }
 {
     let nothing = InstrumentationOptions {
@@ -255,7 +263,7 @@ fn compare_by<N: Shown>(
         prints: &[],
     };
     match build_schedule(alloc, plan, &nothing, Timeless)? {
-        Some(mut schedule) => compare_with::<N>(alloc, source, wish, &mut schedule),
+        Some(mut schedule) => compare_with::<N>(alloc, source, options, &mut schedule),
         None => failure_outcome::<N>(alloc, CommandFailure::Text, source),
     }
 }
@@ -267,20 +275,22 @@ fn compare_by<N: Shown>(
 /// 2 for a word that asks for no passes or an unreadable text; 3 where a run was cut off or something differs. With 1 and
 /// 2 nothing is to be written to the output. Errors: allocation failure for what is told. Cost: reading, two runs by
 /// `evaluate_noting`, and the passes.
-#[tactic(auto, using(crate::proofs::PeopleLemmas::is_asked, crate::proofs::PeopleLemmas::no_plan))]
+#[tactic(auto, using(crate::proofs::CommandLemmas::is_asked, crate::proofs::CommandLemmas::no_plan))]
 pub fn compare<N: Shown>(
     alloc: Global,
     source: &Source,
-    wish: &CompareOptions,
+    options: &CompareOptions,
 ) -> Result<Outcome, AllocError>
-    ensures { IfOk result (EndsByWord ⟦<Instrumented<N, Timeless> as Pass>⟧.name (λ schedule. EndsCompared N.reads N.D.meaning (map NumberOf wish.now.run.inputs.now)
-        (map NumberOf wish.now.run.world.now) wish.now.run.steps ⟦<Sight as PartialEq>⟧.eq
-        (RunsAlone ⟦<BenchFactKind as PartialEq>⟧.eq ⟦<InstrumentedSchedule<N, Timeless> as Pass>⟧.outcome schedule) source.now.text.now)
-        wish.now.pipeline.now) }
+    ensures { IfOk result (EndsByWord ⟦<Instrumented<N, Timeless> as Pass>⟧.name
+        (λ schedule. EndsCompared N.reads N.D.meaning (map NumberOf options.now.run.inputs.now)
+        (map NumberOf options.now.run.world.now) options.now.run.steps ⟦<Sight as PartialEq>⟧.eq
+        (RunsAlone ⟦<BenchFactKind as PartialEq>⟧.eq ⟦<InstrumentedSchedule<N, Timeless> as Pass>⟧.outcome schedule)
+        source.now.text.now)
+        options.now.pipeline.now) }
 {
-    match PipelineText::read(alloc, wish.pipeline) {
-        Ok(plan) => compare_by::<N>(alloc, source, &wish.run, &plan),
-        Err(PlanError::Word(fault)) => misspelling_outcome(alloc, wish.pipeline, &fault),
+    match PipelineText::read(alloc, options.pipeline) {
+        Ok(plan) => compare_by::<N>(alloc, source, &options.run, &plan),
+        Err(PlanError::Word(fault)) => misspelling_outcome(alloc, options.pipeline, &fault),
         Err(PlanError::Memory) => failure_outcome::<N>(
             alloc,
             CommandFailure::Refused(OptError::Memory),

@@ -3,7 +3,7 @@ ghost use Rattle.std.specs.Prelude.{⊤, IfOk};
 ghost use Rattle.pliron_cli.specs.Outcomes.{Ends};
 ghost use Rattle.pliron_graphviz.specs.Drawn.{IsFlowText};
 
-use crate::ending::{Wrong, ended_badly, ended_with};
+use crate::ending::{DrawFailure, draw_failure_outcome, success_outcome};
 use crate::{CommandFailure, Outcome, Source};
 use pliron_graphviz::{Drawing, FlowOptions, text_flow, text_graph};
 use std::alloc::{AllocError, Global};
@@ -15,14 +15,30 @@ use std::alloc::{AllocError, Global};
 /// Statuses: 0; 1 on allocation failure; 2 for an unreadable text, and where no region has the path. With 1 and
 /// 2 nothing is to be written to the output. Errors: allocation failure for what is told. Cost: reading, and
 /// that of `graph_rows`.
-pub fn draw_flow(alloc: Global, source: &Source, wish: &FlowOptions) -> Result<Outcome, AllocError>
+pub fn draw_flow(
+    alloc: Global,
+    source: &Source,
+    options: &FlowOptions,
+) -> Result<Outcome, AllocError>
     ensures { IfOk result (Ends IsFlowText ⊥) }
 {
-    match text_flow(alloc, source.text, wish) {
-        Ok(Drawing::Drawn(picture)) => Ok(ended_with(alloc, picture)),
-        Ok(Drawing::Unreadable) => ended_badly(alloc, Wrong::Failed(CommandFailure::Text), source),
-        Ok(Drawing::NoRegion) => ended_badly(alloc, Wrong::Region(wish.region), source),
-        Err(error) => ended_badly(alloc, Wrong::Failed(CommandFailure::Refused(error)), source),
+    match text_flow(alloc, source.text, options) {
+        Ok(Drawing::Drawn(picture)) => Ok(success_outcome(alloc, picture)),
+        Ok(Drawing::Unreadable) => draw_failure_outcome(
+            alloc,
+            DrawFailure::Failed(CommandFailure::Text),
+            source,
+        ),
+        Ok(Drawing::NoRegion) => draw_failure_outcome(
+            alloc,
+            DrawFailure::Region(options.region),
+            source,
+        ),
+        Err(error) => draw_failure_outcome(
+            alloc,
+            DrawFailure::Failed(CommandFailure::Refused(error)),
+            source,
+        ),
     }
 }
 
@@ -37,8 +53,12 @@ pub fn draw_graph(alloc: Global, source: &Source) -> Result<Outcome, AllocError>
     ensures { IfOk result (Ends ⊤ ⊥) }
 {
     match text_graph(alloc, source.text) {
-        Ok(Some(picture)) => Ok(ended_with(alloc, picture)),
-        Ok(None) => ended_badly(alloc, Wrong::Graph, source),
-        Err(error) => ended_badly(alloc, Wrong::Failed(CommandFailure::Refused(error)), source),
+        Ok(Some(picture)) => Ok(success_outcome(alloc, picture)),
+        Ok(None) => draw_failure_outcome(alloc, DrawFailure::Graph, source),
+        Err(error) => draw_failure_outcome(
+            alloc,
+            DrawFailure::Failed(CommandFailure::Refused(error)),
+            source,
+        ),
     }
 }

@@ -7,7 +7,7 @@ use std::alloc::{AllocError, Global};
 
 /// Why a command ends without an answer.
 #[derive(Clone, Copy)]
-pub enum Wrong<'w> {
+pub enum DrawFailure<'w> {
     /// As any command may fail.
     Failed(CommandFailure),
     /// The text of a graph is none.
@@ -16,25 +16,25 @@ pub enum Wrong<'w> {
     Region(&'w str),
 }
 
-impl Wrong<'_> {
+impl DrawFailure<'_> {
     /// The status that it ends with: 1 where something was refused, and else 2.
     fn status(self) -> u8
         ensures { (result ≡ 1) ⊎ (result ≡ 2) }
     {
         match self {
-            Wrong::Failed(failure) => failure.status(),
-            Wrong::Graph | Wrong::Region(_) => 2,
+            DrawFailure::Failed(failure) => failure.status(),
+            DrawFailure::Graph | DrawFailure::Region(_) => 2,
         }
     }
 
     /// What is told of it.
     fn message(self, alloc: Global, source: &Source) -> Result<String, AllocError> {
         match self {
-            Wrong::Failed(failure) => failure.message(alloc, source),
-            Wrong::Graph => format!(in alloc;
+            DrawFailure::Failed(failure) => failure.message(alloc, source),
+            DrawFailure::Graph => format!(in alloc;
                 "error: unreadable graph\nhelp: write a line for each node, as `0: 1 2`: its number and its successors\n"
             ),
-            Wrong::Region(path) => format!(in alloc;
+            DrawFailure::Region(path) => format!(in alloc;
                 "error: no region `{path}`\nhelp: `0.2.0` is region 0 of operation 2 of region 0 of the text's operation\n"
             ),
         }
@@ -43,8 +43,12 @@ impl Wrong<'_> {
 
 /// The outcome of a command without an answer: nothing is to be written, and what went wrong is told. Errors: allocation
 /// failure. Cost: that of reading the text.
-#[tactic(auto, using(crate::proofs::DrawLemmas::ends_badly_by))]
-pub fn ended_badly(alloc: Global, wrong: Wrong, source: &Source) -> Result<Outcome, AllocError>
+#[tactic(auto, using(crate::proofs::EndingLemmas::ends_badly_by))]
+pub fn draw_failure_outcome(
+    alloc: Global,
+    wrong: DrawFailure,
+    source: &Source,
+) -> Result<Outcome, AllocError>
     ensures { IfOk result EndsBadly }
 {
     let report = wrong.message(alloc, source)?;
@@ -56,7 +60,7 @@ pub fn ended_badly(alloc: Global, wrong: Wrong, source: &Source) -> Result<Outco
 }
 
 /// The outcome of a command with this answer. Cost: constant.
-pub fn ended_with(alloc: Global, output: Vec<u8>) -> Outcome
+pub fn success_outcome(alloc: Global, output: Vec<u8>) -> Outcome
     ensures status { result.status ≡ 0 }
     ensures output { result.output.items ≡ output.items }
 {

@@ -2,7 +2,7 @@
 ghost use Rattle.std.specs.Prelude.{◌≡◌, ⊤, length, IfOk, IfSome};
 ghost use Rattle.pliron_cli.specs.Outcomes.{Ends};
 
-use crate::ending::{Wrong, ended_badly, ended_with};
+use crate::ending::{DrawFailure, draw_failure_outcome, success_outcome};
 use crate::{CommandFailure, Outcome, Source, misspelling_outcome};
 use pliron_graphviz::{PassList, PassName, explain_changes};
 use pliron_instrument::{PipelineText, PlanError};
@@ -10,14 +10,14 @@ use pliron_laws::OptError;
 use std::alloc::{AllocError, Global};
 
 /// The outcome for these lines.
-fn ended_with_lines(alloc: Global, lines: String) -> Result<Outcome, AllocError>
+fn explanation_outcome(alloc: Global, lines: String) -> Result<Outcome, AllocError>
     ensures { IfOk result (λ outcome. outcome.status ≡ 0) }
 {
     if lines.is_empty() {
         let none = Vec::from_slice(alloc, b"nothing of the text changed or went\n")?;
-        Ok(ended_with(alloc, none))
+        Ok(success_outcome(alloc, none))
     } else {
-        Ok(ended_with(alloc, lines.into_bytes()))
+        Ok(success_outcome(alloc, lines.into_bytes()))
     }
 }
 
@@ -38,7 +38,8 @@ fn passes_of(alloc: Global, names: &[&str]) -> Result<Option<Vec<PassName>>, All
 /// The passes that the plan asks for, if each of its names is that of one.
 fn list_of(alloc: Global, plan: &PipelineText) -> Result<Option<PassList>, AllocError>
     ensures nested { IfOk result (λ found. IfSome found (λ list. list.is_nested ≡ plan.now.nested)) }
-    ensures passes { IfOk result (λ found. IfSome found (λ list. length list.passes.items ≡ length plan.now.names.items)) }
+    ensures passes { IfOk result (λ found. IfSome found
+        (λ list. length list.passes.items ≡ length plan.now.names.items)) }
 {
     match passes_of(alloc, &plan.names)? {
         Some(passes) => Ok(Some(PassList {
@@ -55,17 +56,21 @@ fn explain_by(alloc: Global, source: &Source, plan: &PipelineText) -> Result<Out
     ensures { IfOk result (Ends ⊤ ⊥) }
 {
     let Some(list) = list_of(alloc, plan)? else {
-        return ended_badly(alloc, Wrong::Failed(CommandFailure::Text), source);
+        return draw_failure_outcome(alloc, DrawFailure::Failed(CommandFailure::Text), source);
     };
     match explain_changes(alloc, source.text, &list) {
-        Ok(Some(lines)) => ended_with_lines(alloc, lines),
-        Ok(None) => ended_badly(alloc, Wrong::Failed(CommandFailure::Text), source),
-        Err(error) => ended_badly(alloc, Wrong::Failed(CommandFailure::Refused(error)), source),
+        Ok(Some(lines)) => explanation_outcome(alloc, lines),
+        Ok(None) => draw_failure_outcome(alloc, DrawFailure::Failed(CommandFailure::Text), source),
+        Err(error) => draw_failure_outcome(
+            alloc,
+            DrawFailure::Failed(CommandFailure::Refused(error)),
+            source,
+        ),
     }
 }
 
-/// Tells, for each operation and argument of the text that changed or went when the passes were run that the word asks
-/// for, where it stands, and why.
+/// Tells what changed in a text: for each operation and argument that changed or went when the passes were run that the
+/// word asks for, where it stands, and why.
 ///
 /// Statuses: 0; 1 where memory or the passes were refused; 2 for an unreadable text, or a word that asks for no passes.
 /// With 1 and 2 nothing is to be written to the output. Errors: allocation failure for what is told. Cost: that of
@@ -77,9 +82,9 @@ pub fn explain(alloc: Global, source: &Source, pipeline: &str) -> Result<Outcome
         Ok(plan) => explain_by(alloc, source, &plan),
         Err(PlanError::Word(fault)) => misspelling_outcome(alloc, pipeline, &fault),
         Err(PlanError::Memory) => {
-            ended_badly(
+            draw_failure_outcome(
                 alloc,
-                Wrong::Failed(CommandFailure::Refused(OptError::Memory)),
+                DrawFailure::Failed(CommandFailure::Refused(OptError::Memory)),
                 source,
             )
         }

@@ -32,13 +32,17 @@ impl CommandFailure {
     /// What is told of it: of an unreadable text the first place where it leaves the notation of `Bench`, with its line
     /// and a mark under it. Errors: allocation failure. Cost: that of reading the text.
     pub fn message(self, alloc: Global, source: &Source) -> Result<String, AllocError> {
-        self.told_in::<BenchNotation>(alloc, source)
+        self.message_in::<BenchNotation>(alloc, source)
     }
 
     /// The same of a text of this notation. Errors: allocation failure. Cost: that of reading the text.
-    pub fn told_in<N: Shown>(self, alloc: Global, source: &Source) -> Result<String, AllocError> {
+    pub fn message_in<N: Shown>(
+        self,
+        alloc: Global,
+        source: &Source,
+    ) -> Result<String, AllocError> {
         match self {
-            CommandFailure::Text => match N::fault_told(alloc, source) {
+            CommandFailure::Text => match N::fault_message(alloc, source) {
                 Ok(Some(told)) => Ok(told),
                 _ => format!(in alloc; "error: unreadable text\n"),
             },

@@ -26,14 +26,14 @@ pub struct OptOptions<'w> {
     pub pipeline: &'w str,
     /// Whether each operation is to stand on a line of its own.
     pub is_pretty: bool,
-    /// What is visited around each run of a pass.
-    pub watch: InstrumentationOptions<'w>,
+    /// What is recorded around each run of a pass.
+    pub instrumentation: InstrumentationOptions<'w>,
     /// Whether the time of each pass is told.
     pub times: bool,
 }
 
 /// What is told of a word that plans no passes.
-fn fault_message(alloc: Global, word: &str, fault: &WordFault) -> Result<String, AllocError> {
+fn misspelling_message(alloc: Global, word: &str, fault: &WordFault) -> Result<String, AllocError> {
     let label = format!(in alloc; "expected {}", fault.expected)?;
     let mark = SourceMark {
         message: "no such passes",
@@ -54,7 +54,7 @@ pub fn misspelling_outcome(
 ) -> Result<Outcome, AllocError>
     ensures { IfOk result EndsBadly }
 {
-    let report = fault_message(alloc, word, fault)?;
+    let report = misspelling_message(alloc, word, fault)?;
     Ok(Outcome {
         output: Vec::new(alloc),
         report,
@@ -63,7 +63,7 @@ pub fn misspelling_outcome(
 }
 
 /// The text with each operation on a line of its own, or as it is.
-fn over_lines(alloc: Global, printed: String, is_pretty: bool) -> Result<Vec<u8>, AllocError>
+fn break_lines(alloc: Global, printed: String, is_pretty: bool) -> Result<Vec<u8>, AllocError>
     ensures { IfOk result (λ output. IsLaidOut (string_bytes printed) output.items) }
 {
     if is_pretty {
@@ -74,11 +74,11 @@ fn over_lines(alloc: Global, printed: String, is_pretty: bool) -> Result<Vec<u8>
 }
 
 /// The same and an end of a line.
-#[tactic(auto, using(crate::proofs::PeopleLemmas::ended))]
-fn laid_out(alloc: Global, printed: String, is_pretty: bool) -> Result<Vec<u8>, AllocError>
+#[tactic(auto, using(crate::proofs::CommandLemmas::ended))]
+fn lay_out(alloc: Global, printed: String, is_pretty: bool) -> Result<Vec<u8>, AllocError>
     ensures { IfOk result (λ output. IsLaidOut (string_bytes printed) output.items) }
 {
-    let mut output = over_lines(alloc, printed, is_pretty)?;
+    let mut output = break_lines(alloc, printed, is_pretty)?;
     output.push(b'\n')?;
     Ok(output)
 }
@@ -98,12 +98,12 @@ fn has_fault<N: Notation, C: Progress + Drop>(passes: &[Instrumented<N, C>]) -> 
 }
 
 /// What is told beside the answer.
-fn report_options(wish: &OptOptions) -> ReportOptions {
+fn report_options(options: &OptOptions) -> ReportOptions {
     ReportOptions {
-        is_pretty: wish.is_pretty,
-        faults: wish.watch.verifies,
-        counts: wish.watch.counts,
-        times: wish.times,
+        is_pretty: options.is_pretty,
+        faults: options.instrumentation.verifies,
+        counts: options.instrumentation.counts,
+        times: options.times,
     }
 }
 
@@ -118,7 +118,7 @@ fn refusal_outcome<N: Shown, C: Progress + Drop>(
     ensures { IfOk result EndsBadly }
 {
     let failure = CommandFailure::Refused(error);
-    report.push_str(failure.told_in::<N>(alloc, source)?.as_str())?;
+    report.push_str(failure.message_in::<N>(alloc, source)?.as_str())?;
     write_refused(&mut report, passes)?;
     Ok(Outcome {
         output: Vec::new(alloc),
@@ -127,20 +127,21 @@ fn refusal_outcome<N: Shown, C: Progress + Drop>(
     })
 }
 
-/// What these passes make of the text.
-#[tactic(auto, using(crate::proofs::PeopleLemmas::is_made))]
+/// What these passes make of the text; the report begins with this one.
+#[tactic(auto, using(crate::proofs::CommandLemmas::is_made))]
 fn opt_with<N: Shown, C: Progress + Copy + Drop>(
     alloc: Global,
     source: &Source,
-    wish: &OptOptions,
+    options: &OptOptions,
     schedule: &mut InstrumentedSchedule<N, C>,
+    mut report: String,
 ) -> Result<Outcome, AllocError>
     ensures { IfOk result (EndsOptimised N.reads N.prints N.D.meaning (RunsAlone ⟦<BenchFactKind as PartialEq>⟧.eq
         ⟦<InstrumentedSchedule<N, C> as Pass>⟧.outcome schedule.old) source.now.text.now) }
 {
     let made = optimise(alloc, schedule, source.text);
     let passes = instrumented_passes(schedule);
-    let report = report_of(alloc, passes, &report_options(wish))?;
+    report.push_str(report_of(alloc, passes, &report_options(options))?.as_str())?;
     match made {
         Ok(Some(_)) if is_short(passes) => refusal_outcome(
             alloc,
@@ -155,7 +156,7 @@ fn opt_with<N: Shown, C: Progress + Copy + Drop>(
             status: 3,
         }),
         Ok(Some(made)) => Ok(Outcome {
-            output: laid_out(alloc, made.printed, wish.is_pretty)?,
+            output: lay_out(alloc, made.printed, options.is_pretty)?,
             report,
             status: 0,
         }),
@@ -164,22 +165,51 @@ fn opt_with<N: Shown, C: Progress + Copy + Drop>(
     }
 }
 
-/// What the passes that the plan asks for make of the text.
-#[tactic(auto, using(crate::proofs::PeopleLemmas::is_planned, crate::proofs::PeopleLemmas::no_passes))]
+/// What the passes that the plan asks for make of the text; the report begins with this one.
+#[tactic(auto, using(crate::proofs::CommandLemmas::is_planned, crate::proofs::CommandLemmas::no_passes))]
 fn opt_by<N: Shown, C: Progress + Copy + Drop>(
     alloc: Global,
     source: &Source,
-    wish: &OptOptions,
+    options: &OptOptions,
     plan: &PipelineText,
     clock: C,
+    report: String,
 ) -> Result<Outcome, AllocError>
-    ensures { IfOk result (EndsByPlan ⟦<Instrumented<N, C> as Pass>⟧.name (λ schedule. EndsOptimised N.reads N.prints N.D.meaning
-        (RunsAlone ⟦<BenchFactKind as PartialEq>⟧.eq ⟦<InstrumentedSchedule<N, C> as Pass>⟧.outcome schedule) source.now.text.now) plan.now.runs
+    ensures { IfOk result (EndsByPlan ⟦<Instrumented<N, C> as Pass>⟧.name
+        (λ schedule. EndsOptimised N.reads N.prints N.D.meaning
+        (RunsAlone ⟦<BenchFactKind as PartialEq>⟧.eq ⟦<InstrumentedSchedule<N, C> as Pass>⟧.outcome schedule)
+        source.now.text.now) plan.now.runs
         plan.now.nested (map (λ name. name.now) plan.now.names.items)) }
 {
-    match build_schedule::<N, C>(alloc, plan, &wish.watch, clock)? {
-        Some(mut schedule) => opt_with(alloc, source, wish, &mut schedule),
+    match build_schedule::<N, C>(alloc, plan, &options.instrumentation, clock)? {
+        Some(mut schedule) => opt_with(alloc, source, options, &mut schedule, report),
         None => failure_outcome::<N>(alloc, CommandFailure::Text, source),
+    }
+}
+
+/// What the passes that the word asks for make of the text; the report begins with this one.
+#[tactic(auto, using(crate::proofs::CommandLemmas::is_asked, crate::proofs::CommandLemmas::no_plan))]
+pub(crate) fn opt_after<N: Shown, C: Progress + Copy + Drop>(
+    alloc: Global,
+    source: &Source,
+    options: &OptOptions,
+    clock: C,
+    report: String,
+) -> Result<Outcome, AllocError>
+    ensures { IfOk result (EndsByWord ⟦<Instrumented<N, C> as Pass>⟧.name
+        (λ schedule. EndsOptimised N.reads N.prints N.D.meaning
+        (RunsAlone ⟦<BenchFactKind as PartialEq>⟧.eq ⟦<InstrumentedSchedule<N, C> as Pass>⟧.outcome schedule)
+        source.now.text.now)
+        options.now.pipeline.now) }
+{
+    match PipelineText::read(alloc, options.pipeline) {
+        Ok(plan) => opt_by::<N, C>(alloc, source, options, &plan, clock, report),
+        Err(PlanError::Word(fault)) => misspelling_outcome(alloc, options.pipeline, &fault),
+        Err(PlanError::Memory) => failure_outcome::<N>(
+            alloc,
+            CommandFailure::Refused(OptError::Memory),
+            source,
+        ),
     }
 }
 
@@ -187,25 +217,18 @@ fn opt_by<N: Shown, C: Progress + Copy + Drop>(
 ///
 /// Statuses: 0; 1 where memory or the passes were refused; 2 for a word that asks for no passes or an unreadable text;
 /// 3 where verifying found something. With all but 0 nothing is to be written to the output. Errors: allocation failure for
-/// what is told. Cost: reading, the passes, what is visited, and printing.
-#[tactic(auto, using(crate::proofs::PeopleLemmas::is_asked, crate::proofs::PeopleLemmas::no_plan))]
+/// what is told. Cost: reading, the passes, what is recorded, and printing.
 pub fn opt<N: Shown, C: Progress + Copy + Drop>(
     alloc: Global,
     source: &Source,
-    wish: &OptOptions,
+    options: &OptOptions,
     clock: C,
 ) -> Result<Outcome, AllocError>
-    ensures { IfOk result (EndsByWord ⟦<Instrumented<N, C> as Pass>⟧.name (λ schedule. EndsOptimised N.reads N.prints N.D.meaning
-        (RunsAlone ⟦<BenchFactKind as PartialEq>⟧.eq ⟦<InstrumentedSchedule<N, C> as Pass>⟧.outcome schedule) source.now.text.now)
-        wish.now.pipeline.now) }
+    ensures { IfOk result (EndsByWord ⟦<Instrumented<N, C> as Pass>⟧.name
+        (λ schedule. EndsOptimised N.reads N.prints N.D.meaning
+        (RunsAlone ⟦<BenchFactKind as PartialEq>⟧.eq ⟦<InstrumentedSchedule<N, C> as Pass>⟧.outcome schedule)
+        source.now.text.now)
+        options.now.pipeline.now) }
 {
-    match PipelineText::read(alloc, wish.pipeline) {
-        Ok(plan) => opt_by::<N, C>(alloc, source, wish, &plan, clock),
-        Err(PlanError::Word(fault)) => misspelling_outcome(alloc, wish.pipeline, &fault),
-        Err(PlanError::Memory) => failure_outcome::<N>(
-            alloc,
-            CommandFailure::Refused(OptError::Memory),
-            source,
-        ),
-    }
+    opt_after::<N, C>(alloc, source, options, clock, String::new(alloc))
 }

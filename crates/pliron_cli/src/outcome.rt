@@ -27,7 +27,7 @@ pub fn failure_outcome<N: Shown>(
 ) -> Result<Outcome, AllocError>
     ensures { IfOk result EndsBadly }
 {
-    let report = failure.told_in::<N>(alloc, source)?;
+    let report = failure.message_in::<N>(alloc, source)?;
     Ok(Outcome {
         output: Vec::new(alloc),
         report,

@@ -20,8 +20,8 @@ fn expect_compared(rt: &impl Abort, alloc: Global, pipeline: &str, text: &str, w
         steps: 20,
         trace: false,
     };
-    let wish = before_and_after(run, pipeline);
-    let outcome = compare::<BenchNotation>(alloc, &source, &wish).expect(rt, "memory");
+    let options = before_and_after(run, pipeline);
+    let outcome = compare::<BenchNotation>(alloc, &source, &options).expect(rt, "memory");
     let (status, output) = wanted.split_once(' ').expect(rt, "a status");
     let found = in_one_line(alloc, &outcome.output).expect(rt, "memory");
     assert!(rt; found.as_str() == output, "{text} => {found}");

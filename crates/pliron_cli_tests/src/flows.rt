@@ -14,11 +14,11 @@ fn draw_region(rt: &impl Abort, alloc: Global, region: &str, text: &str) -> Outc
         name: "text",
         text: text.as_bytes(),
     };
-    let wish = FlowOptions {
+    let options = FlowOptions {
         region: region.trim_start_matches('!'),
         dominators: region.starts_with('!'),
     };
-    draw_flow(alloc, &source, &wish).expect(rt, "memory")
+    draw_flow(alloc, &source, &options).expect(rt, "memory")
 }
 
 /// The lines in the order of the picture, each behind a bar, where `'` stands for a quote and `/` for a backslash.

@@ -20,4 +20,6 @@ mod reasons;
 #[cfg(test)]
 mod reports;
 #[cfg(test)]
+mod unfit;
+#[cfg(test)]
 mod words;

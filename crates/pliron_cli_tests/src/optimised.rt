@@ -7,37 +7,40 @@ use std::alloc::Global;
 use std::process::Abort;
 
 /// Passes that are instrumented so.
-pub fn with_watch<'w>(pipeline: &'w str, watch: InstrumentationOptions<'w>) -> OptOptions<'w> {
+pub fn with_instrumentation<'w>(
+    pipeline: &'w str,
+    instrumentation: InstrumentationOptions<'w>,
+) -> OptOptions<'w> {
     OptOptions {
         pipeline,
         is_pretty: false,
-        watch,
+        instrumentation,
         times: false,
     }
 }
 
 /// Passes alone.
 pub fn plain(pipeline: &str) -> OptOptions<'_> {
-    let watch = InstrumentationOptions {
+    let instrumentation = InstrumentationOptions {
         counts: false,
         verifies: false,
         prints_all: false,
         prints: &[],
     };
-    with_watch(pipeline, watch)
+    with_instrumentation(pipeline, instrumentation)
 }
 
 /// The same with all that can be told.
 pub fn all_options(pipeline: &str) -> OptOptions<'_> {
-    let watch = InstrumentationOptions {
+    let instrumentation = InstrumentationOptions {
         counts: true,
         verifies: true,
         prints_all: true,
         prints: &[],
     };
-    let mut wish = with_watch(pipeline, watch);
-    wish.times = true;
-    wish
+    let mut options = with_instrumentation(pipeline, instrumentation);
+    options.times = true;
+    options
 }
 
 /// Words that say the same, `plir_opt`'s first.
@@ -70,7 +73,7 @@ func { b0(): z = const 0; br b1(z); b1(p): cbr p b3() b2(); b2(): o = const 1; b
 
 /// `plir opt` on a word writes what `plir_opt` does on another, but for the line that says whether the tree changed, and
 /// ends with the same status.
-fn expect_same(rt: &impl Abort, alloc: Global, list: &str, wish: &OptOptions, text: &str) {
+fn expect_same(rt: &impl Abort, alloc: Global, list: &str, options: &OptOptions, text: &str) {
     let mut words = Vec::new(alloc);
     words
         .push(String::from_str(alloc, list).expect(rt, "memory"))
@@ -83,7 +86,7 @@ fn expect_same(rt: &impl Abort, alloc: Global, list: &str, wish: &OptOptions, te
         name: "in.plir",
         text: text.as_bytes(),
     };
-    let outcome = opt::<BenchNotation, _>(alloc, &source, wish, Timeless).expect(rt, "memory");
+    let outcome = opt::<BenchNotation, _>(alloc, &source, options, Timeless).expect(rt, "memory");
     assert!(rt; outcome.status == status, "{list}: {text}");
     let wanted = std::str::from_utf8(&written).unwrap_or("");
     let line = wanted.split_once('\n').unwrap_or(("", "")).0;
@@ -118,9 +121,9 @@ fn over_several_lines(rt: HostRuntime) {
         name: "in.plir",
         text: text.as_bytes(),
     };
-    let mut wish = plain("dce");
-    wish.is_pretty = true;
-    let outcome = opt::<BenchNotation, _>(alloc, &source, &wish, Timeless).expect(&rt, "memory");
+    let mut options = plain("dce");
+    options.is_pretty = true;
+    let outcome = opt::<BenchNotation, _>(alloc, &source, &options, Timeless).expect(&rt, "memory");
     let lines = with_lines(alloc, wanted).expect(&rt, "memory");
     assert!(rt; outcome.output.as_slice() == lines.as_bytes());
     assert!(rt; outcome.report.is_empty());

@@ -1,6 +1,6 @@
 //! What `plir opt` tells beside its answer, worked by hand. `|` stands for the end of a line.
 use crate::lines::in_one_line;
-use crate::optimised::{all_options, plain, with_watch};
+use crate::optimised::{all_options, plain, with_instrumentation};
 use pliron_cli::{
     BenchNotation, InstrumentationOptions, OptOptions, Outcome, Progress, Source, opt,
 };
@@ -28,16 +28,16 @@ impl Progress for Broken {
 }
 
 /// What is told of the passes on the text.
-fn report_on(rt: &impl Abort, alloc: Global, text: &str, wish: &OptOptions) -> Outcome {
+fn report_on(rt: &impl Abort, alloc: Global, text: &str, options: &OptOptions) -> Outcome {
     let source = Source {
         name: "in.plir",
         text: text.as_bytes(),
     };
-    opt::<BenchNotation, _>(alloc, &source, wish, Broken).expect(rt, "memory")
+    opt::<BenchNotation, _>(alloc, &source, options, Broken).expect(rt, "memory")
 }
 
-fn expect_report(rt: &impl Abort, alloc: Global, text: &str, wish: &OptOptions, wanted: &str) {
-    let outcome = report_on(rt, alloc, text, wish);
+fn expect_report(rt: &impl Abort, alloc: Global, text: &str, options: &OptOptions, wanted: &str) {
+    let outcome = report_on(rt, alloc, text, options);
     let found = in_one_line(alloc, outcome.report.as_bytes()).expect(rt, "memory");
     assert!(rt; found.as_str() == wanted, "{text} => {found}");
 }
@@ -53,14 +53,14 @@ static TREES: &str = "\
 
 #[test]
 fn trees_after_a_pass(rt: HostRuntime) {
-    let watch = InstrumentationOptions {
+    let instrumentation = InstrumentationOptions {
         counts: false,
         verifies: false,
         prints_all: false,
         prints: &["dce"],
     };
-    let wish = with_watch("nested(sccp,dce)", watch);
-    expect_report(&rt, rt.alloc(), TWO, &wish, TREES);
+    let options = with_instrumentation("nested(sccp,dce)", instrumentation);
+    expect_report(&rt, rt.alloc(), TWO, &options, TREES);
 }
 
 /// Counts over both functions, with 4 and 3 operations, 3 blocks, 2 arguments and one edge: propagation makes a constant
@@ -76,9 +76,9 @@ round  pass          runs  changed  operations  blocks  arguments   edges\
 
 #[test]
 fn counts_over_functions(rt: HostRuntime) {
-    let mut wish = plain("nested(sccp,dce)");
-    wish.watch.counts = true;
-    expect_report(&rt, rt.alloc(), TWO, &wish, COUNTS);
+    let mut options = plain("nested(sccp,dce)");
+    options.instrumentation.counts = true;
+    expect_report(&rt, rt.alloc(), TWO, &options, COUNTS);
 }
 
 /// Rounds until nothing changes.
@@ -93,10 +93,10 @@ round  pass          runs  changed  operations  blocks  arguments   edges\
 
 #[test]
 fn rounds_of_a_repetition(rt: HostRuntime) {
-    let mut wish = plain("repeat<5>(dce)");
-    wish.watch.counts = true;
+    let mut options = plain("repeat<5>(dce)");
+    options.instrumentation.counts = true;
     let text = "func { b0(): a = const 2; b = mul a a; ret }";
-    expect_report(&rt, rt.alloc(), text, &wish, ROUNDS);
+    expect_report(&rt, rt.alloc(), text, &options, ROUNDS);
 }
 
 /// The rows of what was rewritten, without rounds.
@@ -133,9 +133,9 @@ fn what_was_rewritten(rt: HostRuntime) {
     for case in REWRITTEN.lines() {
         let (pipeline, rest) = case.split_once(" | ").expect(&rt, "passes");
         let (text, wanted) = rest.split_once(" => ").expect(&rt, "a case");
-        let mut wish = plain(pipeline);
-        wish.watch.counts = true;
-        let outcome = report_on(&rt, alloc, text, &wish);
+        let mut options = plain(pipeline);
+        options.instrumentation.counts = true;
+        let outcome = report_on(&rt, alloc, text, &options);
         let found = rewritten_rows(&rt, alloc, outcome.report.as_str());
         assert!(rt; found.as_str().trim_end() == wanted, "{text} => {found}");
     }
@@ -144,15 +144,15 @@ fn what_was_rewritten(rt: HostRuntime) {
 #[test]
 fn verifying_and_times(rt: HostRuntime) {
     let alloc = rt.alloc();
-    let mut wish = plain("sccp,dce");
-    wish.watch.verifies = true;
+    let mut options = plain("sccp,dce");
+    options.instrumentation.verifies = true;
     let wanted = "verified after each of 2 runs of passes: 2 without a fault|";
-    expect_report(&rt, alloc, "func { b0(): ret }", &wish, wanted);
-    let mut wish = plain("dce,simplify-cfg");
-    wish.times = true;
+    expect_report(&rt, alloc, "func { b0(): ret }", &options, wanted);
+    let mut options = plain("dce,simplify-cfg");
+    options.times = true;
     let wanted =
         "pass             runs milliseconds  percent|dce                 1        0.000    0.0|simplify-cfg        1        0.000    0.0|all                 2        0.000    0.0|";
-    expect_report(&rt, alloc, "func { b0(): ret }", &wish, wanted);
+    expect_report(&rt, alloc, "func { b0(): ret }", &options, wanted);
 }
 
 /// What is told where a pass is refused.
@@ -168,6 +168,6 @@ fn refusals_name_the_pass(rt: HostRuntime) {
     let found = in_one_line(alloc, outcome.report.as_bytes()).expect(&rt, "memory");
     assert!(rt; found.as_str() == REFUSED, "{found}");
     assert!(rt; outcome.status == 1 && outcome.output.is_empty());
-    let watched = report_on(&rt, alloc, text, &all_options("dce,simplify-cfg"));
-    assert!(rt; watched.status == 1 && watched.report.as_str().contains("--- run 1, after dce"));
+    let outcome = report_on(&rt, alloc, text, &all_options("dce,simplify-cfg"));
+    assert!(rt; outcome.status == 1 && outcome.report.as_str().contains("--- run 1, after dce"));
 }

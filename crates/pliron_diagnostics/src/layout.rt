@@ -61,7 +61,8 @@ impl Layout {
     /// Takes in the next byte, with which the rest of the text begins.
     #[tactic(auto, using(crate::proofs::LayoutLemmas::byte_added))]
     fn take(&mut self, byte: u8, rest: &[u8]) -> Result<(), AllocError>
-        ensures { OnOk result (without_blanks self.new.text.items ≡ without_blanks self.old.text.items ++ without_blanks (byte ∷ [])) }
+        ensures { OnOk result (without_blanks self.new.text.items ≡ without_blanks self.old.text.items ++ without_blanks
+            (byte ∷ [])) }
     {
         match byte {
             b' ' | b'\n' | b'\t' | b'\r' => self.parts = true,

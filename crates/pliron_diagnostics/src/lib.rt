@@ -8,9 +8,10 @@ mod layout;
 mod operation_ranges;
 mod run_report;
 mod source_mark;
+mod trap_reason;
 
 pub use fault::text_fault;
 pub use layout::pretty;
 pub use operation_ranges::{OperationRange, operation_places, place_of};
 pub use run_report::{End, RunOptions, RunReport, end_of, run_sight, run_text, sight_text};
-pub use source_mark::{Position, Source, SourceMark, mark_source, position_of};
+pub use source_mark::{Position, Source, SourceMark, mark_source, mark_source_as, position_of};

@@ -82,8 +82,8 @@ pub fn operation_places(alloc: Global, text: &[u8]) -> Result<Vec<OperationRange
     Ok(places)
 }
 
-/// Where the operation stands in a text, of whose operations these are the places and this is the root, if it was
-/// read from it. Cost: constant.
+/// Where the operation stands in a text. These are the places of the text's operations, and this is the root; `None` of
+/// an operation that wasn't read from it. Cost: constant.
 pub fn place_of(
     places: &[OperationRange],
     root: Ptr<Operation>,

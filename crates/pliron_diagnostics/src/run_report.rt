@@ -6,7 +6,8 @@ ghost use Rattle.pliron_bench.specs.BenchMoves.{bench};
 ghost use Rattle.pliron_evaluator.specs.Evaluator.{datum_of_value, sight_of};
 
 use crate::operation_ranges::{OperationRange, operation_places, place_of};
-use crate::source_mark::{Source, SourceMark, mark_source, push_bytes};
+use crate::source_mark::{Source, SourceMark, mark_source_as, push_bytes};
+use crate::trap_reason::{TrapReason, reason_by_kind, reason_of};
 use pliron_bench::Bench;
 use pliron_core::{Context, Operation, Ptr};
 use pliron_evaluator::evaluator::{Datum, Noted, Notes, Sight, evaluate_noting};
@@ -119,7 +120,8 @@ pub enum End {
 pub struct RunReport {
     /// Its effects as they came, and how it ended.
     pub seen: String,
-    /// Its moves, where the options ask for them, and the mark under the operation that trapped.
+    /// Its moves, where the options ask for them, and a mark under the operation that made the last one where the run didn't
+    /// end with values: why it trapped, or what cut it off.
     pub report: String,
     pub end: End,
 }
@@ -139,14 +141,16 @@ pub fn run_sight(
     alloc: Global,
     root: Ptr<Operation>,
     ctx: &Context,
-    wish: &RunOptions,
+    options: &RunOptions,
     notes: &mut Notes,
 ) -> Result<Sight, AllocError>
-    ensures { IfOk result (λ sight. sight_of sight ≡ sight_seen (run bench ctx.now.tree root (map NumberOf wish.now.inputs.now) (map NumberOf wish.now.world.now) wish.now.steps)) }
+    ensures { IfOk result (λ sight. sight_of sight ≡ sight_seen
+        (run bench ctx.now.tree root (map NumberOf options.now.inputs.now) (map NumberOf options.now.world.now)
+        options.now.steps)) }
 {
-    let inputs = data(alloc, wish.inputs)?;
-    let world = data(alloc, wish.world)?;
-    evaluate_noting::<Bench>(alloc, ctx, root, inputs, world, wish.steps, notes)
+    let inputs = data(alloc, options.inputs)?;
+    let world = data(alloc, options.world)?;
+    evaluate_noting::<Bench>(alloc, ctx, root, inputs, world, options.steps, notes)
 }
 
 /// Writes each move: where its operation stands, how it is written, and the data that it takes.
@@ -174,74 +178,129 @@ fn write_moves(
     Ok(())
 }
 
-/// Marks the operation that trapped.
-fn write_trap(
-    alloc: Global,
-    report: &mut String,
-    source: &Source,
-    place: OperationRange,
-) -> Result<(), AllocError> {
-    let mark = SourceMark {
-        message: "the run trapped",
-        label: "at this operation",
-        name: source.name,
-        start: place.start,
-        len: place.len,
-    };
-    report.push_str(mark_source(alloc, source.text, &mark)?.as_str())
+/// The most moves that are noted to find why the last one trapped.
+const MOST_NOTED: usize = 300_000;
+
+/// A run: its operation, which was read from the source, and what was asked, noted and seen.
+#[derive(Clone, Copy)]
+struct FinishedRun<'r> {
+    source: &'r Source<'r>,
+    root: Ptr<Operation>,
+    options: &'r RunOptions<'r>,
+    notes: &'r Notes,
+    sight: &'r Sight,
 }
 
-/// What is told beside what is seen: the moves that are noted, and the mark under the operation that trapped.
-fn report_of(
-    alloc: Global,
-    source: &Source,
-    root: Ptr<Operation>,
-    notes: &Notes,
-    end: End,
-) -> Result<String, AllocError> {
-    let places = operation_places(alloc, source.text)?;
-    let mut report = String::new(alloc);
-    write_moves(&mut report, source, root, &places, &notes.moves)?;
-    match (end, notes.last) {
-        (End::Trapped, Some(op)) => match place_of(&places, root, op) {
-            Some(place) => {
-                write_trap(alloc, &mut report, source, place)?;
-                Ok(report)
-            }
-            None => Ok(report),
-        },
-        _ => Ok(report),
+/// What is told of the last move of a run that didn't end with values.
+#[derive(Drop)]
+struct LastMove {
+    severity: &'static str,
+    message: &'static str,
+    label: String,
+}
+
+/// Why the run trapped: its moves are noted, or else it is run again to note them.
+fn trap_reason(alloc: Global, ctx: &Context, run: &FinishedRun) -> Result<TrapReason, OptError> {
+    if run.options.trace {
+        return reason_of(alloc, ctx, &run.notes.moves);
     }
+    let mut notes = Notes::of_all(alloc);
+    let options = RunOptions {
+        steps: run.options.steps.min(MOST_NOTED),
+        ..*run.options
+    };
+    match run_sight(alloc, run.root, ctx, &options, &mut notes)? {
+        Sight::Trapped(_) => reason_of(alloc, ctx, &notes.moves),
+        _ => Ok(match run.notes.last {
+            Some(op) => reason_by_kind(ctx, op),
+            None => TrapReason::Unknown,
+        }),
+    }
+}
+
+/// What is told of the run's last move, where the run didn't end with values.
+fn last_move(
+    alloc: Global,
+    ctx: &Context,
+    run: &FinishedRun,
+) -> Result<Option<LastMove>, OptError> {
+    Ok(match run.sight {
+        Sight::Ended(_, _) => None,
+        Sight::Trapped(_) => Some(LastMove {
+            severity: "error",
+            message: "the run trapped",
+            label: trap_reason(alloc, ctx, run)?.label(alloc)?,
+        }),
+        Sight::Reached(effects) if effects.len() > run.options.world.len() => Some(LastMove {
+            severity: "note",
+            message: "the run was cut off",
+            label: format!(in alloc; "the world has no answer to effect {}", effects.len())?,
+        }),
+        Sight::Reached(_) => Some(LastMove {
+            severity: "note",
+            message: "the run was cut off",
+            label: format!(in alloc;
+                "the {} moves that it may make were made",
+                run.options.steps
+            )?,
+        }),
+    })
+}
+
+/// What is told beside what is seen: the moves that are noted, and a mark under the operation that made the last one where the
+/// run didn't end with values.
+fn report_of(alloc: Global, ctx: &Context, run: &FinishedRun) -> Result<String, OptError> {
+    let places = operation_places(alloc, run.source.text)?;
+    let mut report = String::new(alloc);
+    write_moves(&mut report, run.source, run.root, &places, &run.notes.moves)?;
+    let place = match run.notes.last {
+        Some(op) => place_of(&places, run.root, op),
+        None => None,
+    };
+    if let Some(last) = last_move(alloc, ctx, run)?
+        && let Some(place) = place
+    {
+        let mark = SourceMark {
+            message: last.message,
+            label: last.label.as_str(),
+            name: run.source.name,
+            start: place.start,
+            len: place.len,
+        };
+        let marked = mark_source_as(alloc, last.severity, run.source.text, &mark)?;
+        report.push_str(marked.as_str())?;
+    }
+    Ok(report)
 }
 
 /// What is told of the run of a text's operation; `None` of an unreadable text.
 ///
-/// Errors: allocation failure. Cost: reading, and that of `evaluate_noting`.
+/// Errors: allocation failure. Cost: reading, and that of `evaluate_noting`, twice where the run trapped.
 pub fn run_text(
     alloc: Global,
     source: &Source,
-    wish: &RunOptions,
+    options: &RunOptions,
 ) -> Result<Option<RunReport>, OptError> {
     let mut ctx = Context::new(alloc);
-    run_text_in(alloc, source, wish, &mut ctx)
+    run_text_in(alloc, source, options, &mut ctx)
 }
 
 /// The same in this context.
 fn run_text_in(
     alloc: Global,
     source: &Source,
-    wish: &RunOptions,
+    options: &RunOptions,
     ctx: &mut Context,
 ) -> Result<Option<RunReport>, OptError> {
     let Some(root) = read_text(alloc, source.text, ctx)? else {
         return Ok(None);
     };
-    Ok(Some(report_of_run(alloc, source, wish, root, ctx)?))
+    Ok(Some(report_of_run(alloc, source, options, root, ctx)?))
 }
 
 /// The notes that the options ask for.
-fn notes_for(alloc: Global, wish: &RunOptions) -> Notes {
-    if wish.trace {
+fn notes_for(alloc: Global, options: &RunOptions) -> Notes {
+    if options.trace {
         Notes::of_all(alloc)
     } else {
         Notes::of_last(alloc)
@@ -252,14 +311,24 @@ fn notes_for(alloc: Global, wish: &RunOptions) -> Notes {
 fn report_of_run(
     alloc: Global,
     source: &Source,
-    wish: &RunOptions,
+    options: &RunOptions,
     root: Ptr<Operation>,
     ctx: &Context,
-) -> Result<RunReport, AllocError> {
-    let mut notes = notes_for(alloc, wish);
-    let sight = run_sight(alloc, root, ctx, wish, &mut notes)?;
-    let end = end_of(&sight);
-    let report = report_of(alloc, source, root, &notes, end)?;
+) -> Result<RunReport, OptError> {
+    let mut notes = notes_for(alloc, options);
+    let sight = run_sight(alloc, root, ctx, options, &mut notes)?;
+    let run = FinishedRun {
+        source,
+        root,
+        options,
+        notes: &notes,
+        sight: &sight,
+    };
+    let report = report_of(alloc, ctx, &run)?;
     let seen = sight_text(alloc, &sight)?;
-    Ok(RunReport { seen, report, end })
+    Ok(RunReport {
+        seen,
+        report,
+        end: end_of(&sight),
+    })
 }

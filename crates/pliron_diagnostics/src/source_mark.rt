@@ -100,6 +100,14 @@ fn line_around(text: &[u8], start: usize) -> (usize, usize)
     (first, at - first + behind)
 }
 
+/// The line without the carriage return at its end, if there is one.
+fn without_return(line: &[u8]) -> &[u8] {
+    match line.last() {
+        Some(b'\r') => &line[..line.len().saturating_sub(1)],
+        _ => line,
+    }
+}
+
 /// The same blanks or marks over and over.
 fn push_times(text: &mut String, mark: &str, times: usize) -> Result<(), AllocError> {
     for _ in 0..times {
@@ -113,16 +121,26 @@ fn push_times(text: &mut String, mark: &str, times: usize) -> Result<(), AllocEr
 ///
 /// Errors: allocation failure. Cost: linear in the text before the part, and in what is shown.
 pub fn mark_source(alloc: Global, text: &[u8], mark: &SourceMark) -> Result<String, AllocError> {
+    mark_source_as(alloc, "error", text, mark)
+}
+
+/// The same of a severity: `error`, `warning` or `note`. Errors: allocation failure. Cost: that of `mark_source`.
+pub fn mark_source_as(
+    alloc: Global,
+    severity: &str,
+    text: &[u8],
+    mark: &SourceMark,
+) -> Result<String, AllocError> {
     let place = position_of(text, mark.start);
     let (first, len) = line_around(text, mark.start);
-    let line = &text[first..first + len];
+    let line = without_return(&text[first..first + len]);
     let column = place.column.saturating_sub(1).min(line.len());
     let from = column.saturating_sub(AROUND);
     let to = column
         .saturating_add(mark.len.max(1))
         .saturating_add(AROUND)
         .min(line.len());
-    let mut told = format!(in alloc; "error: {}\n", mark.message)?;
+    let mut told = format!(in alloc; "{severity}: {}\n", mark.message)?;
     let number = format!(in alloc; "{}", place.line)?;
     push_times(&mut told, " ", number.len())?;
     write!(told, "--> {}:{}:{}\n", mark.name, place.line, place.column)?;

@@ -11,10 +11,10 @@ fn print_if_read(alloc: Global, text: &str) -> Result<Option<String>, OptError>
     ensures { IsOkUnless result OptError.Memory }
 {
     let mut ctx = Context::new(alloc);
-    printed_in(alloc, text, &mut ctx)
+    print_in(alloc, text, &mut ctx)
 }
 
-fn printed_in(alloc: Global, text: &str, ctx: &mut Context) -> Result<Option<String>, OptError>
+fn print_in(alloc: Global, text: &str, ctx: &mut Context) -> Result<Option<String>, OptError>
     ensures { IsOkUnless result OptError.Memory }
 {
     match read_text(alloc, text.as_bytes(), ctx)? {

@@ -7,7 +7,7 @@ ghost use Rattle.pliron_bench.specs.BenchMoves.{bench};
 
 use crate::pass_list::{PassList, PassName};
 use crate::reasons::{Reasons, Rewrite};
-use crate::text_parts::{TextParts, words_of};
+use crate::text_parts::{TextParts, parts_of};
 use crate::tree_state::{TreeState, tree_state};
 use pliron_bench::Bench;
 use pliron_cfg::{fold_branches, merge_inside_op, remove_blocks_inside_op};
@@ -191,7 +191,7 @@ fn subjects(
 }
 
 /// What the list did to the text, in this empty context; `None` of an unreadable text.
-fn explained_in(
+fn explain_in(
     alloc: Global,
     text: &[u8],
     list: &PassList,
@@ -202,7 +202,7 @@ fn explained_in(
     let Some(root) = read_text(alloc, text, ctx)? else {
         return Ok(None);
     };
-    let words = words_of(alloc, text)?;
+    let words = parts_of(alloc, text)?;
     let operations = subjects(alloc, list, root, ctx)?;
     let mut explaining = Explaining {
         alloc,
@@ -216,8 +216,8 @@ fn explained_in(
     Ok(Some(explaining.lines))
 }
 
-/// For each operation and argument of the text that changed or went when these passes were run, a line with its place
-/// and the reason; `None` of an unreadable text.
+/// What changed in a text: for each operation and argument that changed or went when these passes were run, a line with
+/// its place and the reason; `None` of an unreadable text.
 ///
 /// Each pass is made of its own calls, what stood before each is compared with what stands after it, and the reason is what
 /// that call does. Errors: allocation failure, and those of the passes. Cost: reading, and for each pass its own cost and a step
@@ -228,5 +228,5 @@ pub fn explain_changes(
     list: &PassList,
 ) -> Result<Option<String>, OptError> {
     let mut ctx = Context::new(alloc);
-    explained_in(alloc, text, list, &mut ctx)
+    explain_in(alloc, text, list, &mut ctx)
 }

@@ -5,7 +5,7 @@ ghost use Rattle.pliron_traversal.specs.Regions.{IsLawfulRegion};
 
 use crate::dot::{Attribute, Dot};
 use crate::graph_row::{GraphRow, graph_rows};
-use crate::text_parts::{TextParts, forwarded_names, push_on_one_line, words_of};
+use crate::text_parts::{TextParts, forwarded_names, parts_of, push_on_one_line};
 use pliron_core::{BasicBlock, Context, Operation, Ptr, Region};
 use pliron_laws::OptError;
 use pliron_laws::reads::all_operations;
@@ -207,19 +207,19 @@ pub fn flow_picture(
     text: &[u8],
     ctx: &Context,
     region: Ptr<Region>,
-    wish: &FlowOptions,
+    options: &FlowOptions,
 ) -> Result<Vec<u8>, OptError>
     requires { IsLawfulRegion ctx.now.tree region }
 {
     let rows = graph_rows(alloc, ctx, &region)?;
-    let words = words_of(alloc, text)?;
+    let words = parts_of(alloc, text)?;
     let mut picture = FlowPicture {
         alloc,
         text,
         words: &words,
-        path: wish.region,
+        path: options.region,
         dot: Dot::new(alloc, "flow")?,
     };
-    picture.draw(ctx, &rows, wish.dominators)?;
+    picture.draw(ctx, &rows, options.dominators)?;
     Ok(picture.dot.end()?)
 }

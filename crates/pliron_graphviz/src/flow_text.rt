@@ -36,7 +36,7 @@ fn may_be_read(ctx: &Context, region: Ptr<Region>) -> bool
 fn flow_in(
     alloc: Global,
     text: &[u8],
-    wish: &FlowOptions,
+    options: &FlowOptions,
     ctx: &mut Context,
 ) -> Result<Drawing, OptError>
     requires { ctx.old.tree ≡ no_tree }
@@ -45,13 +45,13 @@ fn flow_in(
     let Some(root) = read_text(alloc, text, ctx)? else {
         return Ok(Drawing::Unreadable);
     };
-    let Some(region) = region_at(alloc, ctx, root, wish.region)? else {
+    let Some(region) = region_at(alloc, ctx, root, options.region)? else {
         return Ok(Drawing::NoRegion);
     };
     if !may_be_read(ctx, region) {
         return Ok(Drawing::NoRegion);
     }
-    let picture = flow_picture(alloc, text, ctx, region, wish)?;
+    let picture = flow_picture(alloc, text, ctx, region, options)?;
     Ok(Drawing::Drawn(picture))
 }
 
@@ -60,9 +60,9 @@ fn flow_in(
 /// dominator of each block.
 ///
 /// Errors: allocation failure. Cost: reading, and that of `graph_rows`.
-pub fn text_flow(alloc: Global, text: &[u8], wish: &FlowOptions) -> Result<Drawing, OptError>
+pub fn text_flow(alloc: Global, text: &[u8], options: &FlowOptions) -> Result<Drawing, OptError>
     ensures { IfOk result IsDrawing }
 {
     let mut ctx = Context::new(alloc);
-    flow_in(alloc, text, wish, &mut ctx)
+    flow_in(alloc, text, options, &mut ctx)
 }

@@ -96,7 +96,8 @@ fn draw_reached(
     dot: &mut Dot,
 ) -> Result<(), AllocError>
     requires lawful { AreInverse graph.now.edges }
-    requires search { IsSearch nat_eq (graph_of graph.now.edges) (option_to_list (graph_of graph.now.edges).entry) search.now }
+    requires search { IsSearch nat_eq (graph_of graph.now.edges) (option_to_list (graph_of graph.now.edges).entry)
+        search.now }
     requires member { Contains (graph_of graph.now.edges).nodes node }
     requires reached { IsListed nat_eq search.now.pre node }
 {

@@ -28,7 +28,8 @@ pub struct GraphRow<N> {
 /// The immediate dominator of a node, if it is reached and has one.
 fn dominator_of<N: Eq + Hash + Copy>(tree: &DominatorTree<N>, node: N) -> Option<N>
     ensures immediate { (g : Digraph N) → TellsDominance N.eq g tree.now → IfSome result (λ d. IsImmediate g d node) }
-    ensures alone { (g : Digraph N) → TellsDominance N.eq g tree.now → IsListed N.eq tree.now.nodes node → ((result ≡ None) ↔ (g.entry ≡ Some node)) }
+    ensures alone { (g : Digraph N) → TellsDominance N.eq g tree.now → IsListed N.eq tree.now.nodes node →
+        ((result ≡ None) ↔ (g.entry ≡ Some node)) }
 {
     if tree.is_reached(&node) {
         tree.immediate_dominator(&node)

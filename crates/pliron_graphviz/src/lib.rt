@@ -23,3 +23,4 @@ pub use flow_text::{Drawing, text_flow};
 pub use graph_picture::text_graph;
 pub use graph_row::{GraphRow, graph_rows};
 pub use pass_list::{PassList, PassName};
+pub use text_parts::{TextPart, TextParts, ValueName, parts_of};

@@ -56,10 +56,10 @@ enum PathStep {
 fn further(
     alloc: Global,
     ctx: &Context,
-    way: PathStep,
+    step: PathStep,
     number: usize,
 ) -> Result<Option<PathStep>, AllocError> {
-    Ok(match way {
+    Ok(match step {
         PathStep::Operation(op) => region_of(ctx, op, number).map(|region| PathStep::Region(
             region,
         )),
@@ -80,17 +80,17 @@ pub fn region_at(
 ) -> Result<Option<Ptr<Region>>, AllocError>
     ensures { IfOk result (λ found. IfSome found (λ region. IsRegion ctx.now.tree region)) }
 {
-    let mut way = PathStep::Operation(root);
+    let mut step = PathStep::Operation(root);
     for word in path.split('.') {
         let Ok(number) = word.parse::<usize>() else {
             return Ok(None);
         };
-        let Some(next) = further(alloc, ctx, way, number)? else {
+        let Some(next) = further(alloc, ctx, step, number)? else {
             return Ok(None);
         };
-        way = next;
+        step = next;
     }
-    match way {
+    match step {
         PathStep::Region(region) if region.is_live(ctx) => Ok(Some(region)),
         _ => Ok(None),
     }

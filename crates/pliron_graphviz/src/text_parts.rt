@@ -29,8 +29,8 @@ pub struct ValueName {
     pub block: Option<usize>,
 }
 
-/// The parts of a text that the notation has, each kind in the order in which they are written, which is the order
-/// in which `read_text` makes what they name: so the number of each is its key in the tree that was read.
+/// The parts of a text. It is one that the notation has, and each kind stands in the order in which it is written, which
+/// is the order in which `read_text` makes what they name: so the number of each is its key in the tree that was read.
 #[derive(Drop)]
 pub struct TextParts {
     /// The operations, up to their regions.
@@ -179,10 +179,14 @@ impl TextParts {
         self.values.get(usize::try_from(number).ok()?).copied()
     }
 
+    /// Where the head of the block with this number stands, if the text has it. Cost: constant.
+    pub fn block_part(&self, number: u64) -> Option<TextPart> {
+        self.blocks.get(usize::try_from(number).ok()?).copied()
+    }
+
     /// The head of the block with this number, if the text has it. Cost: constant.
     pub fn block<'t>(&self, text: &'t [u8], number: u64) -> Option<&'t [u8]> {
-        let part = self.blocks.get(usize::try_from(number).ok()?)?;
-        Some(part.of(text))
+        Some(self.block_part(number)?.of(text))
     }
 }
 
@@ -196,8 +200,8 @@ impl TextScan {
     }
 }
 
-/// The parts of a text that the notation has. Errors: allocation failure. Cost: linear in the text.
-pub fn words_of(alloc: Global, text: &[u8]) -> Result<TextParts, AllocError> {
+/// The parts of a text. Asks that the notation has it. Errors: allocation failure. Cost: linear in the text.
+pub fn parts_of(alloc: Global, text: &[u8]) -> Result<TextParts, AllocError> {
     let mut words = TextParts {
         operations: Vec::new(alloc),
         blocks: Vec::new(alloc),

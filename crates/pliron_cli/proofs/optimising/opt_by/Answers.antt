@@ -1,4 +1,4 @@
-use Rattle.pliron_cli.proofs.PeopleLemmas.{is_planned}
+use Rattle.pliron_cli.proofs.CommandLemmas.{is_planned}
 use Rattle.pliron_cli.proofs.optimising.opt_by.Goals as goal
 
 pub returns-in-Some : goal.returns-in-Some
