@@ -29,7 +29,7 @@ use std::collections::HashSet;
 
 /// Whether the operation is in an executable block that was visited.
 #[inline(always)]
-pub fn is_visited(op: Ptr<Operation>, ctx: &Context, tables: &Tables) -> bool
+pub(crate) fn is_visited(op: Ptr<Operation>, ctx: &Context, tables: &Tables) -> bool
     requires { IsLive ctx.now.tree op }
     ensures { IsTrue result ↔ WasVisited ctx.now.tree tables.now op }
 {
@@ -101,7 +101,7 @@ fn constrain_argument(
 }
 
 /// How many operands are few. What has more is deferred, and visited where nothing else is left to visit.
-pub const FEW_OPERANDS: usize = 8;
+pub(crate) const FEW_OPERANDS: usize = 8;
 
 /// Whether the block is executable, and kept as one that the operation may go to.
 fn is_open(
@@ -328,7 +328,7 @@ fn add_use<D: Dialect>(
 }
 
 /// Schedules the uses of the value by operations in blocks that were visited.
-pub fn add_uses<D: Dialect>(
+pub(crate) fn add_uses<D: Dialect>(
     value: Value,
     ctx: &Context,
     tables: &Tables,

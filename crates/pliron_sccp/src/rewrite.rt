@@ -114,7 +114,7 @@ fn add_fold<D: Dialect>(
 }
 
 /// The folds of the operations inside the root, in pre-order.
-pub fn all_folds<D: Dialect>(
+pub(crate) fn all_folds<D: Dialect>(
     alloc: Global,
     root: Ptr<Operation>,
     ctx: &Context,
@@ -159,7 +159,7 @@ fn add_arguments(
 }
 
 /// The constant arguments of the executable blocks inside the root, in pre-order.
-pub fn all_arguments(
+pub(crate) fn all_arguments(
     alloc: Global,
     root: Ptr<Operation>,
     ctx: &Context,

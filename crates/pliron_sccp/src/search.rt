@@ -459,7 +459,7 @@ pub fn search<D: Dialect>(
 /// often the search popped something off a worklist.
 ///
 /// Errors: allocation failure.
-pub fn find<D: Dialect>(
+pub(crate) fn find<D: Dialect>(
     alloc: Global,
     root: Ptr<Operation>,
     ctx: &Context,
