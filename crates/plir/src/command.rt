@@ -85,7 +85,7 @@ fn compare<'a>(alloc: Global) -> Result<Arg<'a>, AllocError> {
 }
 
 /// The names of the passes.
-static PASSES: [&str; 3] = ["sccp", "dce", "simplify-cfg"];
+static PASSES: [&str; 4] = ["sccp", "dce", "simplify-cfg", "cse"];
 
 /// The statuses of `opt`.
 static OPT_STATUSES: &str = "\
@@ -97,10 +97,11 @@ found a fault, or with --strict the text isn't fit to run.";
 static PIPELINE: &str = "\
 The passes, joined by commas: `sccp` (constant propagation), `dce`
 (dead code elimination), `simplify-cfg` (simplification of control
-flow). `nested(LIST)` runs them on each operation directly inside,
-`repeat<N>(..)` until nothing changes, at most N times, from 1 to
-64: `repeat<8>(nested(sccp,dce))`. `nested:LIST` and `repeat:N:..`
-say the same, as for `plir_opt`";
+flow), `cse` (common subexpression elimination). `nested(LIST)`
+runs them on each operation directly inside, `repeat<N>(..)` until
+nothing changes, at most N times, from 1 to 64:
+`repeat<8>(nested(sccp,dce))`. `nested:LIST` and `repeat:N:..` say
+the same, as for `plir_opt`, which has no `cse`";
 
 fn pipeline<'a>(alloc: Global) -> Arg<'a> {
     Arg::new(alloc, "pipeline")
@@ -117,7 +118,7 @@ fn print_after<'a>(alloc: Global) -> Arg<'a> {
         .value_parser(PASSES.as_slice())
         .hide_possible_values(true)
         .help(
-            "Tell the operation after each run of this pass, on\nstandard error: `sccp`, `dce` or `simplify-cfg`;\nonce for each pass",
+            "Tell the operation after each run of this pass, on\nstandard error: `sccp`, `dce`, `simplify-cfg`\nor `cse`; once for each pass",
         )
 }
 

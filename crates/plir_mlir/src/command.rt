@@ -23,10 +23,10 @@ found a fault.";
 static PIPELINE: &str = "\
 The passes, joined by commas: `sccp` (constant propagation), `dce`
 (dead code elimination), `simplify-cfg` (simplification of control
-flow); `repeat:N:LIST` runs them until nothing changes, at most N
-times, from 1 to 64, `nested:LIST` on each operation directly
-inside: `repeat:8:sccp,simplify-cfg,dce`. An empty word, `''`, runs
-none";
+flow), `cse` (common subexpression elimination); `repeat:N:LIST`
+runs them until nothing changes, at most N times, from 1 to 64,
+`nested:LIST` on each operation directly inside:
+`repeat:8:sccp,cse,simplify-cfg,dce`. An empty word, `''`, runs none";
 
 /// What `--stats` tells.
 static STATS: &str = "\

@@ -86,7 +86,13 @@ fn outcome_of(rt: &HostRuntime, matches: &ArgMatches, source: &Source) -> io::Re
     };
     let word = matches.get_str("pipeline").unwrap_or("");
     match plan_passes(alloc, word) {
-        Ok(plan) => Ok(run_passes::<Mlir<AnyMeaning>, Terminal>(alloc, source, &options, &plan, Terminal { rt })?),
+        Ok(plan) => Ok(run_passes::<Mlir<AnyMeaning>, Terminal>(
+            alloc,
+            source,
+            &options,
+            &plan,
+            Terminal { rt },
+        )?),
         Err(PlanError::Word(fault)) => Ok(misspelling_outcome(alloc, word, &fault)?),
         Err(PlanError::Memory) => Ok(refusal_outcome(
             alloc,

@@ -25,28 +25,28 @@ fn expect_fault(rt: &impl Abort, alloc: Global, word: &str, column: &str, label:
 
 /// Words that plan nothing, the column of what is wrong, and what was to stand there.
 static FAULTS: &str = "\
-passes => 1 `sccp`, `dce` or `simplify-cfg`
-sccp, dce => 6 `sccp`, `dce` or `simplify-cfg`
-sccp,,dce => 6 `sccp`, `dce` or `simplify-cfg`
-sccp,dce, => 10 `sccp`, `dce` or `simplify-cfg`
-DCE => 1 `sccp`, `dce` or `simplify-cfg`
-nested => 1 `sccp`, `dce` or `simplify-cfg`
-nested: => 8 `sccp`, `dce` or `simplify-cfg`
-nested:sccp,cse => 13 `sccp`, `dce` or `simplify-cfg`
+passes => 1 `sccp`, `dce`, `simplify-cfg` or `cse`
+sccp, dce => 6 `sccp`, `dce`, `simplify-cfg` or `cse`
+sccp,,dce => 6 `sccp`, `dce`, `simplify-cfg` or `cse`
+sccp,dce, => 10 `sccp`, `dce`, `simplify-cfg` or `cse`
+DCE => 1 `sccp`, `dce`, `simplify-cfg` or `cse`
+nested => 1 `sccp`, `dce`, `simplify-cfg` or `cse`
+nested: => 8 `sccp`, `dce`, `simplify-cfg` or `cse`
+nested:sccp,cs => 13 `sccp`, `dce`, `simplify-cfg` or `cse`
 nested(sccp => 12 `)`
-nested(sccp)) => 8 `sccp`, `dce` or `simplify-cfg`
-nested(nested(sccp)) => 8 `sccp`, `dce` or `simplify-cfg`
-sccp,nested(dce) => 6 `sccp`, `dce` or `simplify-cfg`
+nested(sccp)) => 8 `sccp`, `dce`, `simplify-cfg` or `cse`
+nested(nested(sccp)) => 8 `sccp`, `dce`, `simplify-cfg` or `cse`
+sccp,nested(dce) => 6 `sccp`, `dce`, `simplify-cfg` or `cse`
 repeat:sccp => 8 a number from 1 to 64, a colon and a list
 repeat:0:sccp => 8 a number from 1 to 64
 repeat:65:sccp => 8 a number from 1 to 64
 repeat:08:sccp => 8 a number from 1 to 64
-repeat:12:nested:x => 18 `sccp`, `dce` or `simplify-cfg`
+repeat:12:nested:x => 18 `sccp`, `dce`, `simplify-cfg` or `cse`
 repeat<8>sccp => 8 a number from 1 to 64, `>(` and a list
 repeat<x>(sccp) => 8 a number from 1 to 64
 repeat<8>(sccp => 15 `)`
 repeat<8>(nested(sccp) => 22 `)`
-repeat<64>(nested(sccp,y)) => 24 `sccp`, `dce` or `simplify-cfg`";
+repeat<64>(nested(sccp,y)) => 24 `sccp`, `dce`, `simplify-cfg` or `cse`";
 
 #[test]
 fn words_without_passes(rt: HostRuntime) {
@@ -55,7 +55,13 @@ fn words_without_passes(rt: HostRuntime) {
         let (column, label) = wanted.split_once(' ').expect(&rt, "a column");
         expect_fault(&rt, rt.alloc(), word, column, label);
     }
-    expect_fault(&rt, rt.alloc(), "", "1", "`sccp`, `dce` or `simplify-cfg`");
+    expect_fault(
+        &rt,
+        rt.alloc(),
+        "",
+        "1",
+        "`sccp`, `dce`, `simplify-cfg` or `cse`",
+    );
 }
 
 /// Words, and the runs, whether they are for each operation inside, and the passes that they plan.

@@ -7,6 +7,7 @@
 mod answer;
 mod runs;
 mod settled;
+mod subexpressions;
 mod tally;
 mod texts;
 mod verdict;

@@ -4,6 +4,7 @@ ghost use Rattle.std.specs.Prelude.{◌≡◌, IfOk, IsOkUnless};
 use crate::answer::{Answer, answer_to};
 use crate::runs::runs_are_kept;
 use crate::settled::{is_settled, is_simple_after};
+use crate::subexpressions::subexpressions_are_right;
 use crate::texts::is_printed;
 use pliron_laws::OptError;
 use pliron_random_text::{Kind, Subject};
@@ -31,6 +32,8 @@ pub enum AnswerFault {
     Blocks,
     #[error("a run isn't as before")]
     Run,
+    #[error("common subexpression elimination leaves some, or changes a run")]
+    Subexpressions,
 }
 
 /// What came of a text.
@@ -93,6 +96,12 @@ fn fault_of_passes(
     }
     if subject.kind == Kind::Defined && !runs_are_kept(alloc, &subject.text, line)? {
         return Ok(Some(AnswerFault::Run));
+    }
+    let is_defined = subject.kind == Kind::Defined;
+    if !subexpressions_are_right(alloc, &subject.text, is_defined)?
+        || !subexpressions_are_right(alloc, line, is_defined)?
+    {
+        return Ok(Some(AnswerFault::Subexpressions));
     }
     Ok(None)
 }

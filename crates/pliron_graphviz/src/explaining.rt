@@ -12,6 +12,7 @@ use crate::tree_state::{TreeState, tree_state};
 use pliron_bench::Bench;
 use pliron_cfg::{fold_branches, merge_inside_op, remove_blocks_inside_op};
 use pliron_core::{Context, IRRewriter, IRStatus, Operation, Ptr};
+use pliron_cse::cse;
 use pliron_dce::dce;
 use pliron_laws::{OptError, is_well_linked};
 use pliron_notation::read_text;
@@ -25,6 +26,7 @@ fn rewrites_of(pass: PassName) -> &'static [Rewrite] {
         PassName::Sccp => &[Rewrite::Constants],
         PassName::Dce => &[Rewrite::DeadCode],
         PassName::SimplifyCfg => &[Rewrite::Branches, Rewrite::Unreachable, Rewrite::Joining],
+        PassName::Cse => &[Rewrite::Subexpressions],
     }
 }
 
@@ -34,6 +36,7 @@ fn name_of(pass: PassName) -> &'static str {
         PassName::Sccp => "sccp",
         PassName::Dce => "dce",
         PassName::SimplifyCfg => "simplify-cfg",
+        PassName::Cse => "cse",
     }
 }
 
@@ -56,6 +59,7 @@ fn make_rewrite(
             remove_blocks_inside_op::<Bench, IRRewriter>(alloc, op, ctx, &mut rewriter)
         }
         Rewrite::Joining => merge_inside_op::<Bench, IRRewriter>(alloc, op, ctx, &mut rewriter),
+        Rewrite::Subexpressions => cse::<Bench>(alloc, op, ctx),
     }
 }
 

@@ -1,11 +1,12 @@
 //! The passes of which it is told what they did.
 
-/// One of the three passes.
+/// One of the four passes.
 #[derive(Clone, Copy, Debug, Drop, PartialEq, Eq)]
 pub enum PassName {
     Sccp,
     Dce,
     SimplifyCfg,
+    Cse,
 }
 
 impl PassName {
@@ -15,6 +16,7 @@ impl PassName {
             "sccp" => Some(PassName::Sccp),
             "dce" => Some(PassName::Dce),
             "simplify-cfg" => Some(PassName::SimplifyCfg),
+            "cse" => Some(PassName::Cse),
             _ => None,
         }
     }

@@ -22,6 +22,8 @@ pub enum Rewrite {
     Unreachable,
     /// Blocks are joined.
     Joining,
+    /// Operations go that did what one before them did.
+    Subexpressions,
 }
 
 /// What is told of one operation or argument.
@@ -44,6 +46,8 @@ pub struct Reasons<'t> {
     rewrite: Rewrite,
     /// The constants that were put for values.
     constants: HashMap<Value, i128>,
+    /// The values that stand for results of operations that went.
+    replacements: HashMap<Value, Value>,
     /// By the number of its state, the branch that led to a block and went.
     branches: HashMap<Ptr<BasicBlock>, usize>,
     pub reasons: Vec<Reason>,
@@ -95,6 +99,7 @@ impl<'t> Reasons<'t> {
             words,
             rewrite,
             constants: HashMap::new(alloc),
+            replacements: HashMap::new(alloc),
             branches: HashMap::new(alloc),
             reasons: Vec::new(alloc),
         }
@@ -179,16 +184,49 @@ impl Reasons<'_> {
         Ok(())
     }
 
+    /// Notes the values that operands of the operation name now in place of others.
+    fn note_replacements(&mut self, ctx: &Context, state: &OperationState) -> Result<(), AllocError>
+        requires { IsLive ctx.now.tree state.now.op }
+    {
+        let count = state.op.num_operand(ctx).min(state.operands.len());
+        for i in 0..count {
+            let (old, new) = (state.operands[i], state.op.get_operand(ctx, i));
+            if old != new {
+                self.replacements.insert(old, new)?;
+            }
+        }
+        Ok(())
+    }
+
     /// Notes what the reasons of others need.
     fn note(&mut self, ctx: &Context, before: &TreeState) -> Result<(), AllocError> {
         for i in 0..before.operations.len() {
             let state = &before.operations[i];
             match (self.rewrite, state.op.is_live(ctx), state.successor) {
                 (Rewrite::Constants, true, _) => self.note_constants(ctx, state)?,
+                (Rewrite::Subexpressions, true, _) => self.note_replacements(ctx, state)?,
                 (Rewrite::Joining, false, Some(target)) => {
                     self.branches.insert(target, i)?;
                 }
                 _ => {}
+            }
+        }
+        Ok(())
+    }
+
+    /// Adds what computed before what an operation computed that went.
+    fn push_leader(
+        &self,
+        ctx: &Context,
+        state: &OperationState,
+        why: &mut String,
+    ) -> Result<(), AllocError> {
+        why.push_str("computed already")?;
+        for value in &state.results {
+            if let Some(leader) = self.replacements.get(value) {
+                let leader = *leader;
+                why.push_str(", as ")?;
+                return self.push_value(ctx, why, leader);
             }
         }
         Ok(())
@@ -202,6 +240,7 @@ impl Reasons<'_> {
                 why.push_str("inside an operation that went")?;
             }
             (Rewrite::DeadCode, _, _, _) => why.push_str("unused")?,
+            (Rewrite::Subexpressions, _, _, _) => self.push_leader(ctx, state, &mut why)?,
             (Rewrite::Unreachable, _, _, _) => why.push_str("unreachable")?,
             (Rewrite::Branches, _, Some(block), _) if block.is_live(ctx) => {
                 if let Some(target) = jump_target(ctx, block) {

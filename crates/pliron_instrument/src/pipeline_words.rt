@@ -156,7 +156,7 @@ fn read_nesting<'w>(rest: RestOfWord<'w>) -> Result<(bool, RestOfWord<'w>), Plan
 
 /// Whether a pass has this name.
 fn is_pass(name: &str) -> bool {
-    matches!(name, "sccp" | "dce" | "simplify-cfg")
+    matches!(name, "sccp" | "dce" | "simplify-cfg" | "cse")
 }
 
 /// The names that commas set apart. Errors: one that no pass has; allocation failure.
@@ -167,7 +167,7 @@ fn names<'w>(alloc: Global, list: RestOfWord<'w>) -> Result<Vec<&'w str>, PlanEr
     let mut start = list.start;
     for name in list.text.split(',') {
         if !is_pass(name) {
-            return fault(start, name.len(), "`sccp`, `dce` or `simplify-cfg`");
+            return fault(start, name.len(), "`sccp`, `dce`, `simplify-cfg` or `cse`");
         }
         start = start.saturating_add(name.len()).saturating_add(1);
         if names.push(name).is_err() {

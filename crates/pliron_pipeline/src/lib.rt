@@ -4,6 +4,7 @@
 #![tactic(auto)]
 
 mod change_reports;
+mod common_subexpressions;
 mod constants;
 mod control_flow;
 mod dead_code;
@@ -11,6 +12,7 @@ mod optimisation;
 mod step;
 
 pub use change_reports::schedules_report_accurately;
+pub use common_subexpressions::{CSEPass, CommonSubexpressions};
 pub use constants::{Constants, SCCPPass};
 pub use control_flow::{ControlFlow, SimplifyCFGPass};
 pub use dead_code::{DCEPass, DeadCode};

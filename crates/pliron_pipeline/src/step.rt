@@ -1,8 +1,9 @@
 //! One of the passes here, and lists of them.
 ghost use Rattle.std.specs.Prelude.{◌≡◌, true, false, IfSome, IfNone};
 ghost use Rattle.pliron_pipeline.specs.PassSteps.{step_name, IsNoStep};
-ghost use Rattle.pliron_pipeline.specs.declared.step.PassStep.TheVariants.{Sccp as ASccp, Dce as ADce, SimplifyCfg as ASimplifyCfg};
+ghost use Rattle.pliron_pipeline.specs.declared.step.PassStep.TheVariants.{Sccp as ASccp, Dce as ADce, SimplifyCfg as ASimplifyCfg, Cse as ACse};
 
+use crate::common_subexpressions::CSEPass;
 use crate::constants::SCCPPass;
 use crate::control_flow::SimplifyCFGPass;
 use crate::dead_code::DCEPass;
@@ -14,16 +15,17 @@ use pliron_pass::{
 };
 use std::alloc::Global;
 
-/// One of the three passes, for a list of different ones.
+/// One of the four passes, for a list of different ones.
 #[derive(Drop)]
 pub enum PassStep<D: Dialect, E: Analyses + Drop> {
     Sccp(SCCPPass<D, E>),
     Dce(DCEPass<D, E>),
     SimplifyCfg(SimplifyCFGPass<D, E>),
+    Cse(CSEPass<D, E>),
 }
 
 impl<D: Dialect, E: Analyses + Drop> PassStep<D, E> {
-    /// The pass of this name: `sccp`, `dce` or `simplify-cfg`. Cost: constant.
+    /// The pass of this name: `sccp`, `dce`, `simplify-cfg` or `cse`. Cost: constant.
     pub fn from_name(name: &str) -> Option<Self>
         ensures named { IfSome result (λ step. step_name step ≡ name.now) }
         ensures unknown { IfNone result (IsNoStep name.now) }
@@ -32,6 +34,7 @@ impl<D: Dialect, E: Analyses + Drop> PassStep<D, E> {
             "sccp" => Some(PassStep::Sccp(SCCPPass::new())),
             "dce" => Some(PassStep::Dce(DCEPass::new())),
             "simplify-cfg" => Some(PassStep::SimplifyCfg(SimplifyCFGPass::new())),
+            "cse" => Some(PassStep::Cse(CSEPass::new())),
             _ => None,
         }
     }
@@ -51,16 +54,25 @@ impl<D: Dialect, E: Analyses + Drop> Pass for PassStep<D, E> {
         | ASccp q ↦ ⟦<SCCPPass<D, E> as Pass>⟧.outcome p q
         | ADce q ↦ λ op s s' r. ⊥
         | ASimplifyCfg q ↦ λ op s s' r. ⊥
+        | ACse q ↦ λ op s s' r. ⊥
       ]
       | ADce p ↦ elim [
         | ASccp q ↦ λ op s s' r. ⊥
         | ADce q ↦ ⟦<DCEPass<D, E> as Pass>⟧.outcome p q
         | ASimplifyCfg q ↦ λ op s s' r. ⊥
+        | ACse q ↦ λ op s s' r. ⊥
       ]
       | ASimplifyCfg p ↦ elim [
         | ASccp q ↦ λ op s s' r. ⊥
         | ADce q ↦ λ op s s' r. ⊥
         | ASimplifyCfg q ↦ ⟦<SimplifyCFGPass<D, E> as Pass>⟧.outcome p q
+        | ACse q ↦ λ op s s' r. ⊥
+      ]
+      | ACse p ↦ elim [
+        | ASccp q ↦ λ op s s' r. ⊥
+        | ADce q ↦ λ op s s' r. ⊥
+        | ASimplifyCfg q ↦ λ op s s' r. ⊥
+        | ACse q ↦ ⟦<CSEPass<D, E> as Pass>⟧.outcome p q
       ]
     ] };
 
@@ -69,6 +81,7 @@ impl<D: Dialect, E: Analyses + Drop> Pass for PassStep<D, E> {
             PassStep::Sccp(pass) => pass.name(),
             PassStep::Dce(pass) => pass.name(),
             PassStep::SimplifyCfg(pass) => pass.name(),
+            PassStep::Cse(pass) => pass.name(),
         }
     }
 
@@ -83,6 +96,7 @@ impl<D: Dialect, E: Analyses + Drop> Pass for PassStep<D, E> {
             PassStep::Sccp(pass) => pass.run(alloc, op, ctx, analyses),
             PassStep::Dce(pass) => pass.run(alloc, op, ctx, analyses),
             PassStep::SimplifyCfg(pass) => pass.run(alloc, op, ctx, analyses),
+            PassStep::Cse(pass) => pass.run(alloc, op, ctx, analyses),
         }
     }
 

@@ -19,6 +19,11 @@ pub enum Command<D: Dialect> {
     Graph,
 }
 
+/// Whether the word is the name of a pass in the words of the program, which are fixed: a pipeline of the library has more.
+fn is_word(name: &str) -> bool {
+    matches!(name, "sccp" | "dce" | "simplify-cfg")
+}
+
 /// The passes of these names in turn, if each is the name of one.
 fn passes<D: Dialect>(
     alloc: Global,
@@ -28,6 +33,9 @@ fn passes<D: Dialect>(
 {
     let mut passes = Passes::new(alloc);
     for name in names {
+        if !is_word(name) {
+            return Ok(None);
+        }
         let Some(step) = PassStep::from_name(name) else {
             return Ok(None);
         };

@@ -8,3 +8,6 @@ returns-in-Dce-clause-outcome g c = rw c.in-Dce.is c.run-in-Dce.ensures.outcome
 
 pub returns-in-SimplifyCfg-clause-outcome : goal.returns-in-SimplifyCfg-clause-outcome
 returns-in-SimplifyCfg-clause-outcome g c = rw c.in-SimplifyCfg.is c.run-in-SimplifyCfg.ensures.outcome
+
+pub returns-in-Cse-clause-outcome : goal.returns-in-Cse-clause-outcome
+returns-in-Cse-clause-outcome g c = rw c.in-Cse.is c.run-in-Cse.ensures.outcome

@@ -1,14 +1,10 @@
 //! Common subexpression elimination as a pass.
-//!
-//! It knows the optimisation and what a pass asks of one, and no dialect and no text.
-#![tactic(auto)]
+ghost use Rattle.pliron_pipeline.specs.CommonSubexpressions.{EliminatesTwins, cse_name};
 
-ghost use Rattle.pliron_cse_pass.specs.CommonSubexpressions.{EliminatesTwins, cse_name};
-
+use crate::optimisation::{Effect, Optimisation, OptimisingPass};
 use pliron_core::{Context, Operation, Ptr};
 use pliron_cse::cse;
 use pliron_laws::{Dialect, OptError};
-use pliron_pipeline::{Effect, Optimisation, OptimisingPass};
 use std::alloc::Global;
 use std::marker::PhantomData;
 
