@@ -21,7 +21,11 @@ struct Left {
     is_changed_again: bool,
 }
 
-fn left_in(alloc: Global, text: &str, ctx: &mut Context) -> Result<Option<Left>, OptError>
+fn eliminate_twice_in(
+    alloc: Global,
+    text: &str,
+    ctx: &mut Context,
+) -> Result<Option<Left>, OptError>
     requires { ctx.old.tree ≡ no_tree }
     ensures { IsOkUnless result OptError.Memory }
 {
@@ -40,11 +44,11 @@ fn left_in(alloc: Global, text: &str, ctx: &mut Context) -> Result<Option<Left>,
     }))
 }
 
-fn left(alloc: Global, text: &str) -> Result<Option<Left>, OptError>
+fn eliminate_twice(alloc: Global, text: &str) -> Result<Option<Left>, OptError>
     ensures { IsOkUnless result OptError.Memory }
 {
     let mut ctx = Context::new(alloc);
-    left_in(alloc, text, &mut ctx)
+    eliminate_twice_in(alloc, text, &mut ctx)
 }
 
 /// Whether common subexpression elimination leaves a text that is read again and printed the same, tells truly whether
@@ -59,7 +63,7 @@ pub fn subexpressions_are_right(
 ) -> Result<bool, OptError>
     ensures { IsOkUnless result OptError.Memory }
 {
-    let Some(left) = left(alloc, text)? else {
+    let Some(left) = eliminate_twice(alloc, text)? else {
         return Ok(true);
     };
     if left.is_changed == (left.before == left.after)
