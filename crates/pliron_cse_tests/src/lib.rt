@@ -4,6 +4,8 @@
 #[cfg(test)]
 mod cases;
 #[cfg(test)]
+mod passes;
+#[cfg(test)]
 mod random;
 #[cfg(test)]
 mod runs;

@@ -7,29 +7,38 @@ use super::cases::{BACKWARDS, ROWS};
 use super::random::RANDOM;
 use pliron_bench::Bench;
 use pliron_core::{Context, IRStatus, Operation, Ptr};
-use pliron_cse::cse;
+use pliron_cse::{cse, cse_through};
 use pliron_notation::{print_text, read_text};
 use pliron_test_cases::cases::operation_at;
+use pliron_test_cases::listener::Counting;
 use std::alloc::Global;
 use std::process::Abort;
 use std::test::Fail;
 
-// What is printed of the operation, after `cse` on the root answered this, and this right after.
+// What `cse` should answer, and whether a second call should answer `Unchanged`.
+#[derive(Clone, Copy, Drop)]
+struct Expected {
+    status: IRStatus,
+    settled: bool,
+}
+
+// What is printed of the operation, after `cse` on the root answered as expected and asked for room before each change.
 fn left_of(
     rt: &impl Abort,
     alloc: Global,
     ctx: &mut Context,
     whole: Ptr<Operation>,
     root: Ptr<Operation>,
-    status: IRStatus,
-    settled: bool,
+    expected: Expected,
 ) -> Result<String, Fail>
     requires live { IsLive ctx.old.tree root }
     requires linked { IsWellLinked bench ctx.old.tree root }
 {
-    let first = cse::<Bench>(alloc, root, ctx)?;
-    assert!(rt; first == status);
-    if settled {
+    let mut rewriter = Counting::new();
+    let first = cse_through::<Bench, Counting>(alloc, root, ctx, &mut rewriter)?;
+    assert!(rt; first == expected.status);
+    assert!(rt; rewriter.had_room());
+    if expected.settled {
         let again = cse::<Bench>(alloc, root, ctx)?;
         assert!(rt; again == IRStatus::Unchanged);
     }
@@ -45,13 +54,12 @@ fn check_in(
     ctx: &mut Context,
     text: &str,
     after: &str,
-    status: IRStatus,
-    settled: bool,
+    expected: Expected,
 ) -> Result<(), Fail> {
     let Some(root) = read_text(alloc, text.as_bytes(), ctx)? else {
         return Err(Fail::from("unreadable"));
     };
-    let printed = left_of(rt, alloc, ctx, root, root, status, settled)?;
+    let printed = left_of(rt, alloc, ctx, root, root, expected)?;
     assert_eq!(rt; printed.as_str(), after, "{text}");
     Ok(())
 }
@@ -61,11 +69,10 @@ fn check(
     alloc: Global,
     text: &str,
     after: &str,
-    status: IRStatus,
-    settled: bool,
+    expected: Expected,
 ) -> Result<(), Fail> {
     let mut ctx = Context::new(alloc);
-    check_in(rt, alloc, &mut ctx, text, after, status, settled)
+    check_in(rt, alloc, &mut ctx, text, after, expected)
 }
 
 fn check_all(rt: &impl Abort, alloc: Global, cases: &str, settled: bool) -> Result<(), Fail> {
@@ -84,7 +91,8 @@ fn check_all(rt: &impl Abort, alloc: Global, cases: &str, settled: bool) -> Resu
         } else {
             IRStatus::Unchanged
         };
-        check(rt, alloc, text, after, status, settled)?;
+        let expected = Expected { status, settled };
+        check(rt, alloc, text, after, expected)?;
     }
     Ok(())
 }
@@ -120,7 +128,11 @@ fn left_around(
     if !root.is_inside(whole, ctx) {
         return Err(Fail::from("not inside"));
     }
-    left_of(rt, alloc, ctx, whole, root, IRStatus::Changed, true)
+    let expected = Expected {
+        status: IRStatus::Changed,
+        settled: true,
+    };
+    left_of(rt, alloc, ctx, whole, root, expected)
 }
 
 // Only what is inside the root goes, and only operations inside it lead.
