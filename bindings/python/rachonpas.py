@@ -127,7 +127,7 @@ def optimise(pipeline: str, text: Text) -> Answer:
                         lambda *buffer: _LIBRARY.plir_optimise(words, len(words), read, len(read), *buffer))
     except TextError:
         raise TextError(find_fault(read)) from None
-    left, word = lines.splitlines()
+    left, word, _behind = lines.split("\n")
     return Answer(left, word == "changed")
 
 

@@ -44,8 +44,8 @@ pub extern "C" fn plir_optimise(
     needed: &mut usize,
 ) -> u32
     ensures { FillsBy (Optimises ReadsBench PrintsBench bench
-        (RunsAlone ⟦<BenchFactKind as PartialEq>⟧.eq ⟦<Schedule<Bench, BenchFacts> as Pass>⟧.outcome) pipeline.now text.now) (Explains pipeline.now)
-        output.old output.new needed.new result }
+        (RunsAlone ⟦<BenchFactKind as PartialEq>⟧.eq ⟦<Schedule<Bench, BenchFacts> as Pass>⟧.outcome)
+        pipeline.now text.now) (Explains pipeline.now) output.old output.new needed.new result }
 {
     optimise_into::<BenchNotation>(alloc, pipeline, text, output, needed).number()
 }
@@ -70,7 +70,7 @@ pub extern "C" fn plir_graph(
 /// Tells where a text of the bench notation leaves it, or is too long, and puts what was to stand there into the buffer;
 /// of a text that is read the place is all zeros, and nothing is put. Answers and tells as `plir_optimise` does.
 ///
-/// Nothing is written to the buffer unless all fits. Cost: that of reading.
+/// Nothing is written to the buffer unless all fits. It fails on allocation failure alone. Cost: that of reading.
 #[unsafe(no_mangle)]
 pub extern "C" fn plir_find_fault(
     alloc: Global,
@@ -79,8 +79,8 @@ pub extern "C" fn plir_find_fault(
     needed: &mut usize,
     place: &mut Place,
 ) -> u32
-    ensures fills { FillsBy (λ expected. place.new ≡ nowhere → expected ≡ []) (λ failure. place.new ≡ nowhere)
-        output.old output.new needed.new result }
+    ensures fills { FillsBy (λ expected. place.new ≡ nowhere → expected ≡ [])
+        (λ failure. (failure ≡ Failure.Memory) × (place.new ≡ nowhere)) output.old output.new needed.new result }
     ensures place { IsFaultPlace text.now place.new }
 {
     find_fault_into(alloc, text, output, needed, place).number()

@@ -1,5 +1,5 @@
 //! Where a text leaves the notation.
-ghost use Rattle.std.specs.Prelude.{◌≡◌, ◌+◌, ◌≤◌, [], length, IfOk, IfSome};
+ghost use Rattle.std.specs.Prelude.{◌≡◌, ◌+◌, ◌≤◌, [], length, IfOk, IfErr, IfSome};
 ghost use Rattle.pliron_buffers.specs.Fills.{Fills};
 ghost use Rattle.pliron_buffers.specs.Faults.{nowhere, IsPartOf, IsFaultPlace};
 
@@ -39,7 +39,8 @@ struct Fault {
 
 /// The first place at which the text leaves the notation or is too long. Errors: allocation failure.
 fn fault_of(alloc: Global, text: &[u8]) -> Result<Option<Fault>, Failure>
-    ensures { IfOk result (λ found. IfSome found (λ fault. fault.start + fault.len ≤ length text.now)) }
+    ensures within { IfOk result (λ found. IfSome found (λ fault. fault.start + fault.len ≤ length text.now)) }
+    ensures memory { IfErr result (λ failure. failure ≡ Failure.Memory) }
 {
     if text.len() > MAX_TEXT {
         return Ok(Some(Fault {
@@ -76,7 +77,7 @@ fn place_in(text: &[u8], start: usize, len: usize) -> Place
 /// Tells where a text of the bench notation leaves it, or is too long, and puts what was to stand there into the buffer;
 /// of a text that is read the place is no part, and nothing is put.
 ///
-/// Nothing is written to the buffer unless all fits. Cost: that of reading.
+/// Nothing is written to the buffer unless all fits. It fails on allocation failure alone. Cost: that of reading.
 pub fn find_fault_into(
     alloc: Global,
     text: &[u8],
@@ -84,7 +85,8 @@ pub fn find_fault_into(
     needed: &mut usize,
     place: &mut Place,
 ) -> Status
-    ensures fills { Fills (λ expected. place.new ≡ nowhere → expected ≡ []) (λ failure. place.new ≡ nowhere) output.old output.new needed.new result }
+    ensures fills { Fills (λ expected. place.new ≡ nowhere → expected ≡ [])
+        (λ failure. (failure ≡ Failure.Memory) × (place.new ≡ nowhere)) output.old output.new needed.new result }
     ensures place { IsFaultPlace text.now place.new }
 {
     match fault_of(alloc, text) {

@@ -36,7 +36,8 @@ fn answer_of<N: Notation>(
     text: &[u8],
 ) -> Result<String, Failure>
     ensures answer { IfOk result (λ answer. IsOptimised N.reads N.prints N.D.meaning
-        (RunsAlone ⟦<BenchFactKind as PartialEq>⟧.eq ⟦<Schedule<N::D, BenchFacts> as Pass>⟧.outcome schedule) text.now (string_bytes answer)) }
+        (RunsAlone ⟦<BenchFactKind as PartialEq>⟧.eq ⟦<Schedule<N::D, BenchFacts> as Pass>⟧.outcome schedule)
+        text.now (string_bytes answer)) }
     ensures failure { IfErr result (λ failure. failure ≢ Failure.Arguments) }
 {
     if text.len() > MAX_TEXT {
@@ -60,7 +61,8 @@ pub fn optimise_by_list<N: Notation>(
     text: &[u8],
 ) -> Result<String, Failure>
     ensures answer { IfOk result (λ answer. Optimises N.reads N.prints N.D.meaning
-        (RunsAlone ⟦<BenchFactKind as PartialEq>⟧.eq ⟦<Schedule<N::D, BenchFacts> as Pass>⟧.outcome) list.now text.now (string_bytes answer)) }
+        (RunsAlone ⟦<BenchFactKind as PartialEq>⟧.eq ⟦<Schedule<N::D, BenchFacts> as Pass>⟧.outcome)
+        list.now text.now (string_bytes answer)) }
     ensures failure { IfErr result (Explains list.now) }
 {
     let schedule = schedule_of(alloc, list)?;
@@ -78,8 +80,8 @@ pub fn optimise_into<N: Notation>(
     needed: &mut usize,
 ) -> Status
     ensures { Fills (Optimises N.reads N.prints N.D.meaning
-        (RunsAlone ⟦<BenchFactKind as PartialEq>⟧.eq ⟦<Schedule<N::D, BenchFacts> as Pass>⟧.outcome) list.now text.now) (Explains list.now)
-        output.old output.new needed.new result }
+        (RunsAlone ⟦<BenchFactKind as PartialEq>⟧.eq ⟦<Schedule<N::D, BenchFacts> as Pass>⟧.outcome)
+        list.now text.now) (Explains list.now) output.old output.new needed.new result }
 {
     fill(optimise_by_list::<N>(alloc, list, text), output, needed)
 }

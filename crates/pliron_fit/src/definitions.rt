@@ -29,8 +29,10 @@ pub(crate) fn is_defined_before(
     ctx: &Context,
 ) -> bool
     requires value { IsDefined ctx.now.tree value }
-    requires inside { (root : ℕ) × (contents.now.keys ≡ preorder ctx.now.tree root) × IsInside ctx.now.tree root around }
-    ensures { (block : ℕ) → parent_of ctx.now.tree around ≡ Some block → defining_block ctx.now.tree (definition_of ctx.now.tree value) ≡ Some block →
+    requires inside { (root : ℕ) × (contents.now.keys ≡ preorder ctx.now.tree root)
+        × IsInside ctx.now.tree root around }
+    ensures { (block : ℕ) → parent_of ctx.now.tree around ≡ Some block →
+        defining_block ctx.now.tree (definition_of ctx.now.tree value) ≡ Some block →
         (IsTrue result ↔ IsDefinedBefore ctx.now.tree (definition_of ctx.now.tree value) block around) }
 {
     ctx.well_formed();

@@ -135,8 +135,8 @@ fn add_if_fit<D: Dialect>(
     found: &mut Vec<Ptr<Operation>>,
     ctx: &Context,
 ) -> Result<(), OptError>
-    ensures added { OnOk result ((roots : List ℕ) → AreChosen (IsFit D.meaning ctx.now.tree) roots found.old.items → AreChosen
-        (IsFit D.meaning ctx.now.tree) (roots ++ root ∷ []) found.new.items) }
+    ensures added { OnOk result ((roots : List ℕ) → AreChosen (IsFit D.meaning ctx.now.tree) roots found.old.items
+        → AreChosen (IsFit D.meaning ctx.now.tree) (roots ++ root ∷ []) found.new.items) }
     ensures memory { IsOkUnless result OptError.Memory }
 {
     if !root.is_live(ctx) {

@@ -20,7 +20,8 @@ pub(crate) fn lead_to(
 ) -> Result<(), OptError>
     requires live { IsLive ctx.now.tree op }
     requires held { (h : ℕ) × (parent_operation_of ctx.now.tree op ≡ Some h) × In h way.old.keys }
-    ensures led { OnOk result ((root at : ℕ) → IsWay ctx.now.tree root at way.old.keys → IsWay ctx.now.tree root op way.new.keys) }
+    ensures led { OnOk result ((root at : ℕ) → IsWay ctx.now.tree root at way.old.keys
+        → IsWay ctx.now.tree root op way.new.keys) }
     ensures memory { IsOkUnless result OptError.Memory }
 {
     ctx.well_formed();
@@ -52,7 +53,8 @@ pub(crate) fn find_around(
 ) -> Option<BlockPlace>
     requires region { IsRegion ctx.now.tree region }
     requires way { (root : ℕ) × (user : ℕ) × IsWay ctx.now.tree root user way.now.keys }
-    ensures { (root user : ℕ) → IsWay ctx.now.tree root user way.now.keys → HoldsRegion ctx.now.tree root region → MatchOption result
+    ensures { (root user : ℕ) → IsWay ctx.now.tree root user way.now.keys → HoldsRegion ctx.now.tree root region →
+        MatchOption result
         ((a b : ℕ) → IsAround ctx.now.tree user region a b → ⊥)
         (λ place. IsAround ctx.now.tree user region place.op place.block) }
 {

@@ -82,7 +82,8 @@ fn check_unused<D: Dialect>(
 ) -> Result<(), Stop>
     requires live { IsLive ctx.now.tree op }
     requires inside { IsInside ctx.now.tree root op }
-    ensures ok { OnOk result ((v user : ℕ) → successors_of ctx.now.tree op ≢ [] → In v (results_of ctx.now.tree op) → In v (operands_of ctx.now.tree user) → ⊥) }
+    ensures ok { OnOk result ((v user : ℕ) → successors_of ctx.now.tree op ≢ [] → In v (results_of ctx.now.tree op)
+        → In v (operands_of ctx.now.tree user) → ⊥) }
     ensures err { IfErr result (λ e. IsStop D.meaning ctx.now.tree root e) }
 {
     ctx.well_formed();

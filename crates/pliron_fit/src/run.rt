@@ -74,10 +74,11 @@ pub fn run_checked<P: Pass>(
     ensures inside { IsInsideChange ctx.old.tree ctx.new.tree op }
     ensures fresh { OnOk result (IsFresh P.E.Kind.eq P.E.kind P.E.holds ctx.old.tree analyses.old.cache.entries →
         IsFresh P.E.Kind.eq P.E.kind P.E.holds ctx.new.tree analyses.new.cache.entries) }
-    ensures outcome { IsWellLinked P.D.meaning ctx.old.tree op → RunsOnce P.E.Kind.eq ⟦<P as Managed>⟧.runs pass.old pass.new op
-        (stage ctx.old analyses.old) (stage ctx.new analyses.new) result }
+    ensures outcome { IsWellLinked P.D.meaning ctx.old.tree op → RunsOnce P.E.Kind.eq ⟦<P as Managed>⟧.runs
+        pass.old pass.new op (stage ctx.old analyses.old) (stage ctx.new analyses.new) result }
     ensures refused { (result ≡ Err NotLinked) ↔ (IsWellLinked P.D.meaning ctx.old.tree op → ⊥) }
-    ensures untouched { (IsWellLinked P.D.meaning ctx.old.tree op → ⊥) → (ctx.new ≡ ctx.old) × (pass.new ≡ pass.old) × (analyses.new ≡ analyses.old) }
+    ensures untouched { (IsWellLinked P.D.meaning ctx.old.tree op → ⊥) → (ctx.new ≡ ctx.old) × (pass.new ≡ pass.old)
+        × (analyses.new ≡ analyses.old) }
     ensures change { IsWellLinked P.D.meaning ctx.old.tree op → IsPassChange P.D.meaning ctx.old.tree ctx.new.tree op }
 {
     check_linked::<P::D>(op, ctx)?;
@@ -118,10 +119,11 @@ pub fn run_checked_for<P: Pass>(
     ensures inside { IsInsideChange ctx.old.tree ctx.new.tree op }
     ensures fresh { OnOk result (IsFresh P.E.Kind.eq P.E.kind P.E.holds ctx.old.tree analyses.old.cache.entries →
         IsFresh P.E.Kind.eq P.E.kind P.E.holds ctx.new.tree analyses.new.cache.entries) }
-    ensures outcome { IsWellLinked P.D.meaning ctx.old.tree op → RunsOnceFor P.E.Kind.eq ⟦<P as Managed>⟧.runs pass.old pass.new op
-        (stage ctx.old analyses.old) (stage ctx.new analyses.new) result }
+    ensures outcome { IsWellLinked P.D.meaning ctx.old.tree op → RunsOnceFor P.E.Kind.eq ⟦<P as Managed>⟧.runs
+        pass.old pass.new op (stage ctx.old analyses.old) (stage ctx.new analyses.new) result }
     ensures refused { (result ≡ Err NotLinked) ↔ (IsWellLinked P.D.meaning ctx.old.tree op → ⊥) }
-    ensures untouched { (IsWellLinked P.D.meaning ctx.old.tree op → ⊥) → (ctx.new ≡ ctx.old) × (pass.new ≡ pass.old) × (analyses.new ≡ analyses.old) }
+    ensures untouched { (IsWellLinked P.D.meaning ctx.old.tree op → ⊥) → (ctx.new ≡ ctx.old) × (pass.new ≡ pass.old)
+        × (analyses.new ≡ analyses.old) }
     ensures change { IsWellLinked P.D.meaning ctx.old.tree op → IsPassChange P.D.meaning ctx.old.tree ctx.new.tree op }
 {
     check_linked::<P::D>(op, ctx)?;

@@ -4,5 +4,5 @@ use Rattle.pliron_buffers.proofs.optimise.optimise_into.Goals as goal
 
 pub returns : goal.returns
 returns g c =
-    fills_by _ _ _ _ c.fill.ensures (λ answer told. of_ok _ string_bytes c.optimise_by_list.result answer told c.optimise_by_list.ensures.answer)
-    (λ failure e. of_err _ c.optimise_by_list.result failure e c.optimise_by_list.ensures.failure)
+    fills_by _ _ _ _ c.fill.ensures (of_ok _ string_bytes c.optimise_by_list.result c.optimise_by_list.ensures.answer)
+    (of_err _ c.optimise_by_list.result c.optimise_by_list.ensures.failure)
