@@ -14,7 +14,7 @@ use pliron_pipeline::PassStep;
 use std::alloc::{AllocError, Global};
 use std::time::Clock;
 
-/// What is visited around each run of a pass.
+/// What is recorded around each run of a pass.
 #[derive(Clone, Copy, Debug, Drop)]
 pub struct Instrumentation {
     /// Whether what stands inside the operation is compared before and after.
@@ -29,9 +29,9 @@ pub struct Instrumentation {
 #[derive(Drop)]
 pub struct Instrumented<N: Notation, C: Progress + Drop> {
     step: PassStep<N::D, BenchFacts>,
-    watch: Instrumentation,
+    instrumentation: Instrumentation,
     clock: C,
-    diary: InstrumentationRecord,
+    records: InstrumentationRecord,
 }
 
 /// What stood inside the operation, what stands there, and what was rewritten, where it is known what stood.
@@ -57,16 +57,16 @@ impl<N: Notation, C: Progress + Drop> Instrumented<N, C> {
     pub fn new(
         alloc: Global,
         step: PassStep<N::D, BenchFacts>,
-        watch: Instrumentation,
+        instrumentation: Instrumentation,
         clock: C,
     ) -> Self
         ensures { result.step ≡ step }
     {
         Instrumented {
             step,
-            watch,
+            instrumentation,
             clock,
-            diary: InstrumentationRecord::new(alloc),
+            records: InstrumentationRecord::new(alloc),
         }
     }
 
@@ -79,9 +79,9 @@ impl<N: Notation, C: Progress + Drop> Instrumented<N, C> {
 
     /// What was noted of its runs. Cost: constant.
     pub fn run_record(&self) -> &InstrumentationRecord
-        ensures { result.now ≡ self.now.diary }
+        ensures { result.now ≡ self.now.records }
     {
-        &self.diary
+        &self.records
     }
 
     /// What stands inside the operation, where the options ask for a comparison.
@@ -89,18 +89,18 @@ impl<N: Notation, C: Progress + Drop> Instrumented<N, C> {
         requires { IsLive ctx.now.tree op }
         ensures { self.new.step ≡ self.old.step }
     {
-        if !self.watch.counts {
+        if !self.instrumentation.counts {
             return None;
         }
         let snapshot = Snapshot::of(alloc, op, ctx).ok();
         if snapshot.is_none() {
-            self.diary.is_short = true;
+            self.records.is_short = true;
         }
         snapshot
     }
 
     /// What verifying the operation finds and how it is printed, as far as the options ask for it.
-    fn is_instrumented(
+    fn verify_and_print(
         &self,
         alloc: Global,
         op: Ptr<Operation>,
@@ -108,12 +108,12 @@ impl<N: Notation, C: Progress + Drop> Instrumented<N, C> {
     ) -> Result<(Option<OptError>, Option<String>), OptError>
         requires { IsLive ctx.now.tree op }
     {
-        let fault = if self.watch.verifies {
+        let fault = if self.instrumentation.verifies {
             verify_operation::<N::D>(alloc, op, ctx).err()
         } else {
             None
         };
-        let printed = if self.watch.prints {
+        let printed = if self.instrumentation.prints {
             Some(N::print(alloc, op, ctx)?)
         } else {
             None
@@ -132,10 +132,10 @@ impl<N: Notation, C: Progress + Drop> Instrumented<N, C> {
         requires { IsLive ctx.now.tree run.now.op }
         ensures { self.new.step ≡ self.old.step }
     {
-        self.diary.add_run(run)?;
-        if self.watch.verifies || self.watch.prints {
-            let (fault, printed) = self.is_instrumented(alloc, run.op, ctx)?;
-            self.diary.notes.push(RunNote {
+        self.records.add_run(run)?;
+        if self.instrumentation.verifies || self.instrumentation.prints {
+            let (fault, printed) = self.verify_and_print(alloc, run.op, ctx)?;
+            self.records.notes.push(RunNote {
                 number,
                 status: run.status,
                 fault,
@@ -182,10 +182,10 @@ impl<N: Notation, C: Progress + Drop> Pass for Instrumented<N, C> {
                     nanos,
                 };
                 if self.note(alloc, number, &run, ctx).is_err() {
-                    self.diary.is_short = true;
+                    self.records.is_short = true;
                 }
             }
-            Err(error) => self.diary.refused = Some(*error),
+            Err(error) => self.records.refused = Some(*error),
         }
         self.clock.pass_ended(number, self.step.name());
         answer

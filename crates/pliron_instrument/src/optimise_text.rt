@@ -29,7 +29,7 @@ pub struct Optimised {
 /// Runs the passes once on the operation, with nothing configured and nothing cached.
 ///
 /// Asks that the operation stands and is well linked. Errors: those of the passes; allocation failure, after some whole
-/// rewrites. Cost: that of the passes, and of what is visited.
+/// rewrites. Cost: that of the passes, and of what is recorded.
 pub fn run_instrumented<N: Notation, C: Progress + Drop>(
     alloc: Global,
     schedule: &mut InstrumentedSchedule<N, C>,
@@ -42,7 +42,8 @@ pub fn run_instrumented<N: Notation, C: Progress + Drop>(
     ensures stands { IsLive ctx.new.tree root }
     ensures links { IsWellLinked N.D.meaning ctx.new.tree root }
     ensures inside { IsInsideChange ctx.old.tree ctx.new.tree root }
-    ensures ran { IfOk result (λ status. RunsAlone ⟦<BenchFactKind as PartialEq>⟧.eq ⟦<InstrumentedSchedule<N, C> as Pass>⟧.outcome schedule.old root
+    ensures ran { IfOk result (λ status. RunsAlone ⟦<BenchFactKind as PartialEq>⟧.eq
+        ⟦<InstrumentedSchedule<N, C> as Pass>⟧.outcome schedule.old root
         ctx.old.tree ctx.new.tree status) }
     ensures truly { IfOk result (λ status. status ≡ Unchanged → IsSameTree ctx.old.tree ctx.new.tree) }
 {
@@ -53,14 +54,15 @@ pub fn run_instrumented<N: Notation, C: Progress + Drop>(
 
 /// What the passes make of the text, printed, and whether it changed; `None` for a text outside the notation.
 ///
-/// Errors: those of the passes and of the notation. Cost: reading, the passes, what is visited, and printing.
+/// Errors: those of the passes and of the notation. Cost: reading, the passes, what is recorded, and printing.
 pub fn optimise<N: Notation, C: Progress + Drop>(
     alloc: Global,
     schedule: &mut InstrumentedSchedule<N, C>,
     text: &[u8],
 ) -> Result<Option<Optimised>, OptError>
     ensures { IfOk result (λ found. IfSome found (λ made. IsOptimised N.reads N.prints N.D.meaning
-        (RunsAlone ⟦<BenchFactKind as PartialEq>⟧.eq ⟦<InstrumentedSchedule<N, C> as Pass>⟧.outcome schedule.old) text.now
+        (RunsAlone ⟦<BenchFactKind as PartialEq>⟧.eq ⟦<InstrumentedSchedule<N, C> as Pass>⟧.outcome schedule.old)
+        text.now
         (string_bytes made.printed ++ status_line made.status))) }
 {
     let mut ctx = Context::new(alloc);
@@ -76,7 +78,8 @@ fn optimise_in<N: Notation, C: Progress + Drop>(
 ) -> Result<Option<Optimised>, OptError>
     requires { ctx.old.tree ≡ no_tree }
     ensures { IfOk result (λ found. IfSome found (λ made. IsOptimised N.reads N.prints N.D.meaning
-        (RunsAlone ⟦<BenchFactKind as PartialEq>⟧.eq ⟦<InstrumentedSchedule<N, C> as Pass>⟧.outcome schedule.old) text.now
+        (RunsAlone ⟦<BenchFactKind as PartialEq>⟧.eq ⟦<InstrumentedSchedule<N, C> as Pass>⟧.outcome schedule.old)
+        text.now
         (string_bytes made.printed ++ status_line made.status))) }
 {
     let Some(root) = N::read(alloc, text, ctx)? else {

@@ -5,7 +5,7 @@
 use std::io;
 use std::time::{Clock, Duration};
 
-/// A clock that is told of each run of a pass as it ends, as one that shows users that something goes on.
+/// A clock that is told of each run of a pass as it ends. One may show users that something goes on.
 pub trait Progress: Clock {
     /// A run of the pass of this name ended, before which so many runs of passes began.
     fn pass_ended(&self, number: usize, name: &str);

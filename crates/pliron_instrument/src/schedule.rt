@@ -16,7 +16,7 @@ pub type InstrumentedPipeline<N, C> = Either<
     NestedOpsPass<Passes<Instrumented<N, C>>>,
 >;
 
-/// A pipeline that is run once (`Left`), or again and again until it changes nothing, at most so many times.
+/// A pipeline that is run once (`Left`), or until it changes nothing, at most so many times.
 pub type InstrumentedSchedule<N, C> = Either<
     InstrumentedPipeline<N, C>,
     Repeat<InstrumentedPipeline<N, C>>,
@@ -36,12 +36,12 @@ pub struct InstrumentationOptions<'w> {
 }
 
 impl<'w> InstrumentationOptions<'w> {
-    /// What is visited around the runs of the pass of this name.
+    /// What is recorded around the runs of the pass of this name.
     fn instrumentation(&self, name: &str) -> Instrumentation {
         Instrumentation {
             counts: self.counts,
             verifies: self.verifies,
-            prints: self.prints_all || self.prints.iter().any(|wished| *wished == name),
+            prints: self.prints_all || self.prints.iter().any(|wanted| *wanted == name),
         }
     }
 }
@@ -49,11 +49,11 @@ impl<'w> InstrumentationOptions<'w> {
 /// The instrumented pass comes last.
 fn add<N: Notation, C: Progress + Copy + Drop>(
     passes: &mut Passes<Instrumented<N, C>>,
-    watched: Instrumented<N, C>,
+    instrumented: Instrumented<N, C>,
 ) -> Result<(), AllocError>
-    ensures { OnOk result (passes.new.passes.items ≡ passes.old.passes.items ++ watched ∷ []) }
+    ensures { OnOk result (passes.new.passes.items ≡ passes.old.passes.items ++ instrumented ∷ []) }
 {
-    if passes.add_pass(watched).is_err() {
+    if passes.add_pass(instrumented).is_err() {
         return Err(AllocError);
     }
     Ok(())
@@ -63,10 +63,11 @@ fn add<N: Notation, C: Progress + Copy + Drop>(
 fn passes<N: Notation, C: Progress + Copy + Drop>(
     alloc: Global,
     names: &[&str],
-    wish: &InstrumentationOptions,
+    options: &InstrumentationOptions,
     clock: C,
 ) -> Result<Option<Passes<Instrumented<N, C>>>, AllocError>
-    ensures { IfOk result (λ found. IfSome found (λ passes. map ⟦<Instrumented<N, C> as Pass>⟧.name passes.passes.items ≡ map (λ name. name.now) names.now)) }
+    ensures { IfOk result (λ found. IfSome found (λ passes. map ⟦<Instrumented<N, C> as Pass>⟧.name passes.passes.items
+        ≡ map (λ name. name.now) names.now)) }
 {
     let mut passes = Passes::new(alloc);
     for name in names {
@@ -75,7 +76,7 @@ fn passes<N: Notation, C: Progress + Copy + Drop>(
         };
         add(
             &mut passes,
-            Instrumented::new(alloc, step, wish.instrumentation(name), clock),
+            Instrumented::new(alloc, step, options.instrumentation(name), clock),
         )?;
     }
     Ok(Some(passes))
@@ -110,19 +111,20 @@ fn schedule<N: Notation, C: Progress + Copy + Drop>(
     }
 }
 
-/// The instrumented passes that the plan asks for, if each of its names is that of a pass.
+/// The instrumented passes that the plan asks for: `None` where one of its names is that of no pass.
 ///
 /// Errors: allocation failure. Cost: linear in the plan.
 pub fn build_schedule<N: Notation, C: Progress + Copy + Drop>(
     alloc: Global,
     plan: &PipelineText,
-    wish: &InstrumentationOptions,
+    options: &InstrumentationOptions,
     clock: C,
 ) -> Result<Option<InstrumentedSchedule<N, C>>, AllocError>
-    ensures { IfOk result (λ found. IfSome found (λ schedule. IsPlanned ⟦<Instrumented<N, C> as Pass>⟧.name plan.now.runs plan.now.nested
+    ensures { IfOk result (λ found. IfSome found (λ schedule. IsPlanned ⟦<Instrumented<N, C> as Pass>⟧.name
+        plan.now.runs plan.now.nested
         (map (λ name. name.now) plan.now.names.items) schedule)) }
 {
-    match passes(alloc, &plan.names, wish, clock)? {
+    match passes(alloc, &plan.names, options, clock)? {
         Some(passes) => Ok(Some(schedule(plan.runs, pipeline(plan.nested, passes)))),
         None => Ok(None),
     }
