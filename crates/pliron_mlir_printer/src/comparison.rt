@@ -193,6 +193,9 @@ impl Pair<'_> {
         for _ in 0..u64::MAX {
             match (block, twin) {
                 (Some(here), Some(there)) => {
+                    if !here.is_live(first) || !there.is_live(second) {
+                        return Ok(false);
+                    }
                     if !self.arguments_agree(counterparts, here, there)? {
                         return Ok(false);
                     }
