@@ -1,5 +1,6 @@
 //! Passes on texts that may be unfit to run.
 ghost use Rattle.std.specs.Prelude.{◌≡◌, ◌⊎◌, IfOk, IsTrue};
+ghost use Rattle.pliron_core.specs.Writes.{no_tree};
 ghost use Rattle.pliron_opts.specs.Ran.{RunsAlone};
 ghost use Rattle.pliron_cli.specs.Asked.{EndsByWord};
 ghost use Rattle.pliron_cli.specs.Checked.{IsFitText, IsRejected};
@@ -79,12 +80,14 @@ impl Unchecked {
 }
 
 /// A warning of what keeps the text's operation from being fit to run, or, of a `mod`, one of its functions; empty where
-/// nothing does, and of an unreadable text. Errors: allocation failure.
+/// nothing does, and of an unreadable text. Asks that the context is empty. Errors: allocation failure.
 fn warning_in<N: Shown>(
     alloc: Global,
     source: &Source,
     ctx: &mut Context,
-) -> Result<String, OptError> {
+) -> Result<String, OptError>
+    requires { ctx.old.tree ≡ no_tree }
+{
     let mut unchecked = Unchecked {
         alloc,
         operations: Vec::new(alloc),

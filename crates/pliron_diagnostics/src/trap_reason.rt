@@ -54,13 +54,23 @@ fn number_at(input: &[Datum], index: usize) -> Option<i128> {
     }
 }
 
-/// Whether one of the moves was made by the operation that defines the value, or in the block whose argument it is.
+/// The moves before the last one.
+fn earlier_moves(moves: &[Noted]) -> &[Noted] {
+    moves.get(..moves.len().saturating_sub(1)).unwrap_or(moves)
+}
+
+/// Whether one of the moves before the last one was made by the operation that defines the value, or one of all in the block
+/// whose argument it is.
 fn is_defined_by(ctx: &Context, moves: &[Noted], value: Value) -> bool {
     if !value.is_live(ctx) {
         return false;
     }
     match value.def(ctx) {
-        Def::Result(definition, _) => moves.iter().any(|noted| noted.op == definition),
+        Def::Result(definition, _) => {
+            earlier_moves(moves)
+                .iter()
+                .any(|noted| noted.op == definition)
+        }
         Def::Argument(block, _) => {
             moves.iter().any(|noted| noted.op.is_live(ctx)
                 && noted.op.get_parent_block(ctx) == Some(block))
@@ -72,9 +82,8 @@ fn is_defined_by(ctx: &Context, moves: &[Noted], value: Value) -> bool {
 fn undefined_operand(ctx: &Context, op: Ptr<Operation>, moves: &[Noted]) -> TrapReason
     requires { IsLive ctx.now.tree op }
 {
-    let before = moves.get(..moves.len().saturating_sub(1)).unwrap_or(moves);
     for index in 0..op.num_operand(ctx) {
-        if !is_defined_by(ctx, before, op.get_operand(ctx, index)) {
+        if !is_defined_by(ctx, moves, op.get_operand(ctx, index)) {
             return TrapReason::Undefined(index);
         }
     }
