@@ -5,11 +5,10 @@ ghost use Rattle.pliron_laws.specs.Linked.{IsWellLinked};
 
 use pliron_bench::Bench;
 use pliron_core::{Context, Operation, Ptr};
-use pliron_cse_pass::CSEPass;
 use pliron_laws::OptError;
 use pliron_notation::print_text;
 use pliron_pass::{AnalysisManager, BenchFacts, Pass, Passes};
-use pliron_pipeline::run_pipeline;
+use pliron_pipeline::{CSEPass, run_pipeline};
 use pliron_test_cases::cases::read;
 use std::alloc::Global;
 use std::process::Abort;
