@@ -11,6 +11,7 @@ dce => func { b0(c): br b1(c); b1(p): ret } => 1:15 br b1(c): passes c no more (
 dce => func { b0(): box { b1(): x = const 1 }; ret } => 1:14 box: unused (dce)|1:26 x = const 1: inside an operation that went (dce)
 sccp => func { b0(): a = const 2; b = add a a; ret b } => 1:27 b = add a a: folded to 4 by its operands (sccp)|1:40 ret b: takes 4 for b (sccp)
 simplify-cfg => func { b0(): c = const 0; cbr c b1() b2(); b1(): ret; b2(): print c; ret } => 1:27 cbr c b1() b2(): always goes to b2 (simplify-cfg)|1:50 ret: unreachable (simplify-cfg)|1:61 print c: merged into b0 (simplify-cfg)|1:70 ret: merged into b0 (simplify-cfg)
+cse => func { b0(x): a = add x x; b = add x x; print b; ret a } => 1:28 b = add x x: computed already, as a (cse)|1:41 print b: takes a for b (cse)
 simplify-cfg => func { b0(x): br b1(x); b1(y): ret y } => 1:15 br b1(x): b1 was merged into its block (simplify-cfg)|1:28 argument y of b1: merged, it is x (simplify-cfg)|1:32 ret y: merged into b0, takes x for y (simplify-cfg)
 repeat:3:nested:sccp,dce => mod { m(): func { b0(): a = const 2; b = mul a a; ret b } } => 1:38 b = mul a a: folded to 4 by its operands (sccp, run 1)|1:51 ret b: takes 4 for b (sccp, run 1)|1:25 a = const 2: unused (dce, run 1)|1:38 b = mul a a: unused (dce, run 1)
 repeat<3>(nested(sccp,dce)) => mod { m(): func { b0(): a = const 2; b = mul a a; ret b } } => 1:38 b = mul a a: folded to 4 by its operands (sccp, run 1)|1:51 ret b: takes 4 for b (sccp, run 1)|1:25 a = const 2: unused (dce, run 1)|1:38 b = mul a a: unused (dce, run 1)";
