@@ -13,7 +13,7 @@ pub struct Leaders {
 }
 
 impl Leaders {
-    /// No operation leads. Takes no memory. Cost: constant.
+    /// No operation leads. Cost: constant.
     pub fn new(alloc: Global) -> Leaders
         ensures { (key : List ℕ) → leader_with result key ≡ None }
     {
