@@ -153,23 +153,28 @@ fn counts_after(before: Option<(Tally, Fitness)>, loaded: &Module, ctx: &Context
     }
 }
 
-/// The module printed, after passes that ended so.
+/// What is answered of a module beside its status.
+#[derive(Drop)]
+struct Answer {
+    printed: Vec<u8>,
+    agrees: Option<bool>,
+    counts: Option<Counts>,
+}
+
+/// The module printed, and what is asked for beside it.
 fn answer_of<D: Dialect>(
     alloc: Global,
     loaded: &Module,
-    status: IRStatus,
     before: Option<(Tally, Fitness)>,
     options: &ModuleOptions,
     ctx: &Context,
-) -> Result<Optimised, ModuleFailure>
+) -> Result<Answer, ModuleFailure>
     requires { IsLive ctx.now.tree loaded.now.root }
-    ensures { IfOk result (λ made. made.status ≡ status) }
 {
     let printed = print_module(alloc, loaded.root, &loaded.sheet, ctx)?;
     let agrees = agreement::<D>(alloc, &printed, loaded, options, ctx)?;
-    Ok(Optimised {
+    Ok(Answer {
         printed,
-        status,
         agrees,
         counts: counts_after(before, loaded, ctx),
     })
@@ -208,6 +213,15 @@ fn optimise_module<D: Dialect, C: Progress + Drop>(
 {
     let before = counts_before::<D>(alloc, loaded, options, ctx)?;
     let status = run_instrumented(alloc, schedule, loaded.root, ctx)?;
-    let made = answer_of::<D>(alloc, loaded, status, before, options, ctx)?;
-    Ok(made)
+    let Answer {
+        printed,
+        agrees,
+        counts,
+    } = answer_of::<D>(alloc, loaded, before, options, ctx)?;
+    Ok(Optimised {
+        printed,
+        status,
+        agrees,
+        counts,
+    })
 }
