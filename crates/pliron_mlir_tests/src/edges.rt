@@ -17,12 +17,12 @@ fn switched(alloc: Global, width: u32, value: u64, cases: &[u64]) -> Option<usiz
     }
     let form = usize::try_from(value).ok()?;
     let head = switch_head(alloc, &counts, width, cases, form).ok()?;
-    kind(Class::Switch).chosen(&head, counts.len(), number(width, value))
+    kind(Class::Switch).choose_edge(&head, counts.len(), number(width, value))
 }
 
 fn branched(alloc: Global, value: u64) -> Option<usize> {
     let head = branch_head(alloc, 0, 0, 1).ok()?;
-    kind(Class::Branch).chosen(&head, 2, number(1, value))
+    kind(Class::Branch).choose_edge(&head, 2, number(1, value))
 }
 
 fn selected(value: u64) -> Option<usize> {

@@ -62,11 +62,11 @@ pub fn kind(class: Class) -> MlirKind<AnyMeaning> {
 // What the table says of two operands.
 fn of_two(class: Class, head: &Head, width: u32, a: &str, b: &str) -> Option<Option<i128>> {
     let numbers = [datum(width, a)?, datum(width, b)?];
-    Some(kind(class).folded(head, &numbers))
+    Some(kind(class).fold_numbers(head, &numbers))
 }
 
 // What the table says of an operation, where the words can be read.
-fn folded(alloc: Global, words: &[&str]) -> Option<Option<i128>> {
+fn fold_row(alloc: Global, words: &[&str]) -> Option<Option<i128>> {
     let [name, how, from, a, b] = words else {
         return None;
     };
@@ -83,7 +83,7 @@ fn folded(alloc: Global, words: &[&str]) -> Option<Option<i128>> {
         }
         Class::Cast(cast) => {
             let head = cast_head(alloc, cast, width_from, width(a)?, flags(how), 3).ok()?;
-            Some(kind(class).folded(&head, &[datum(width_from, b)?]))
+            Some(kind(class).fold_numbers(&head, &[datum(width_from, b)?]))
         }
         _ => None,
     }
@@ -102,7 +102,7 @@ fn agrees(alloc: Global, row: &str) -> bool {
     let Ok(words) = asked.split(' ').collect::<Vec<&str>>(alloc) else {
         return false;
     };
-    match folded(alloc, &words) {
+    match fold_row(alloc, &words) {
         Some(Some(datum)) => match integer_of(datum) {
             Some((_, bits)) => wanted(answer) == Some(bits),
             None => false,
