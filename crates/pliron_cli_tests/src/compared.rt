@@ -53,7 +53,7 @@ fn runs_are_compared(rt: HostRuntime) {
 fn texts_and_words_are_read(rt: HostRuntime) {
     let alloc = rt.alloc();
     expect_compared(&rt, alloc, "sccp", "func { b0(): ret", "2 ");
-    expect_compared(&rt, alloc, "cse", "func { b0(): ret }", "2 ");
+    expect_compared(&rt, alloc, "inline", "func { b0(): ret }", "2 ");
     let used =
         "func { b0(x): c = const 0; cbr c b1() b2(); b1(): v = const 1; br b2(); b2(): print v; ret }";
     expect_compared(&rt, alloc, "simplify-cfg", used, "1 ");
