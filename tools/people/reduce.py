@@ -14,10 +14,10 @@ import notation
 import program
 
 KINDS = {
-    "dominance": "isn't made on each way",
+    "dominance": "isn't defined on each way",
     "visible": "isn't visible",
     "edge": "another number of values",
-    "outside": "made outside",
+    "outside": "defined outside",
     "last": "isn't its last one",
 }
 

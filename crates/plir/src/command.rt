@@ -13,7 +13,7 @@ fn output<'a>(alloc: Global) -> Arg<'a> {
         .short('o')
         .long("output")
         .value_name("FILE")
-        .help("Where to write; standard output, if left out")
+        .help("Where to write; standard output, if it is `-` or\nleft out")
 }
 
 fn flag<'a>(alloc: Global, name: &'a str, help: &'a str) -> Arg<'a> {
@@ -85,22 +85,23 @@ fn compare<'a>(alloc: Global) -> Result<Arg<'a>, AllocError> {
 }
 
 /// The names of the passes.
-static PASSES: [&str; 3] = ["sccp", "dce", "simplify-cfg"];
+static PASSES: [&str; 4] = ["sccp", "dce", "simplify-cfg", "cse"];
 
 /// The statuses of `opt`.
 static OPT_STATUSES: &str = "\
 Statuses: 0 where the answer is written; 1 where memory or the passes were
 refused; 2 for words, files and texts that can't be used; 3 where verifying
-found a fault.";
+found a fault, or with --strict the text isn't fit to run.";
 
 /// What `PIPELINE` may be.
 static PIPELINE: &str = "\
 The passes, joined by commas: `sccp` (constant propagation), `dce`
 (dead code elimination), `simplify-cfg` (simplification of control
-flow). `nested(LIST)` runs them on each operation directly inside,
-`repeat<N>(..)` until nothing changes, at most N times, from 1 to
-64: `repeat<8>(nested(sccp,dce))`. `nested:LIST` and `repeat:N:..`
-say the same, as for `plir_opt`";
+flow), `cse` (common subexpression elimination). `nested(LIST)`
+runs them on each operation directly inside, `repeat<N>(..)` until
+nothing changes, at most N times, from 1 to 64:
+`repeat<8>(nested(sccp,dce))`. `nested:LIST` and `repeat:N:..` say
+the same, as for `plir_opt`, which has no `cse`";
 
 fn pipeline<'a>(alloc: Global) -> Arg<'a> {
     Arg::new(alloc, "pipeline")
@@ -117,7 +118,7 @@ fn print_after<'a>(alloc: Global) -> Arg<'a> {
         .value_parser(PASSES.as_slice())
         .hide_possible_values(true)
         .help(
-            "Tell the operation after each run of this pass, on\nstandard error: `sccp`, `dce` or `simplify-cfg`;\nonce for each pass",
+            "Tell the operation after each run of this pass, on\nstandard error: `sccp`, `dce`, `simplify-cfg`\nor `cse`; once for each pass",
         )
 }
 
@@ -142,6 +143,11 @@ fn with_reports<'a>(command: Command<'a>, alloc: Global) -> Result<Command<'a>, 
             "Tell the operation after each run of a pass, on\nstandard error",
         ))?
         .arg(print_after(alloc))?
+        .arg(flag(
+            alloc,
+            "strict",
+            "Run no pass where the text isn't fit to run, as\n`plir check` finds it; without it that is a warning",
+        ))?
         .arg(flag(
             alloc,
             "verify-each",
@@ -229,13 +235,8 @@ fn explain<'a>(alloc: Global) -> Result<Command<'a>, AllocError> {
     Command::new(alloc, "explain")
         .about("Tells why passes changed or took out operations and arguments")
         .after_help(EXPLAIN_STATUSES)
-        .arg(
-            Arg::new(alloc, "file")
-                .value_name("FILE")
-                .required(true)
-                .help("The text; standard input, where it is `-`"),
-        )?
         .arg(pipeline(alloc))?
+        .arg(file(alloc))?
         .arg(output(alloc))
 }
 
@@ -264,8 +265,8 @@ fn command<'a>(alloc: Global) -> Result<Command<'a>, AllocError> {
     with(plir, explain(alloc))
 }
 
-/// What the words ask for. Errors: words that the program doesn't have, or asking for help; want of memory. Cost:
+/// What the words ask for. Errors: words that the program doesn't have, or asking for help; allocation failure. Cost:
 /// linear in the words.
-pub fn parsed<'a>(alloc: Global, words: &'a [String]) -> Result<ArgMatches<'a>, Error> {
+pub fn parse_arguments<'a>(alloc: Global, words: &'a [String]) -> Result<ArgMatches<'a>, Error> {
     command(alloc)?.try_get_matches_from(words)
 }

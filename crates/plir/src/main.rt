@@ -1,18 +1,23 @@
-//! `plir`: texts of operations, for people: runs, passes, marks under what is wrong, pictures, and why passes changed what.
+//! `plir`: texts of operations: runs, passes, marks under what is wrong, pictures, and why passes changed what.
 //!
-//! It knows words, files, streams and an exit status. What each command does stands in `pliron_people` and `pliron_draw`.
+//! It knows words, files, streams and an exit status. What each command does stands in `pliron_cli`.
 #![tactic(auto)]
 
 mod command;
+mod output;
+mod pipeline;
 
-use clap::ArgMatches;
-use command::parsed;
-use pliron_draw::{FlowWish, draw_flow, draw_graph, explain};
-use pliron_people::{
-    CompareWish, OptWish, Outcome, Progress, RunWish, Source, Wish, check, compare, opt, run,
+use clap::{ArgMatches, Error};
+use command::parse_arguments;
+use output::{write_answer, write_file, write_report};
+use pipeline::{pipeline_and_file, without_blanks};
+use pliron_cli::{
+    BenchNotation, CompareOptions, FlowOptions, InstrumentationOptions, OptOptions, Outcome,
+    Progress, RunOptions, Source, check, compare, draw_flow, draw_graph, explain, opt_with_check,
+    run,
 };
 use std::alloc::Global;
-use std::io::{self, IsTerminal, Read, Write};
+use std::io::{self, ErrorKind, IsTerminal, Read};
 use std::process::ExitCode;
 use std::time::{Clock, Duration};
 use std::{env, fs};
@@ -27,8 +32,8 @@ fn text_of(rt: &HostRuntime, name: &str) -> io::Result<Vec<u8>> {
     Ok(text)
 }
 
-/// What people call the input.
-fn called(name: &str) -> &str {
+/// What users call the input.
+fn input_name(name: &str) -> &str {
     if name == "-" { "standard input" } else { name }
 }
 
@@ -44,35 +49,47 @@ fn numbers(alloc: Global, matches: &ArgMatches, id: &str) -> io::Result<Vec<i64>
 }
 
 /// Runs the text so, before and after these passes.
-fn compare_wished<'w>(
+fn compare_as_asked<'w>(
     alloc: Global,
     source: &Source,
-    run: RunWish<'w>,
+    run: RunOptions<'w>,
     pipeline: &'w str,
 ) -> io::Result<Outcome> {
-    let wish = CompareWish { run, pipeline };
-    Ok(compare(alloc, source, &wish)?)
+    let pipeline = without_blanks(alloc, pipeline)?;
+    let options = CompareOptions {
+        run,
+        pipeline: pipeline.as_str(),
+    };
+    Ok(compare::<BenchNotation>(alloc, source, &options)?)
 }
 
-/// Runs the text as the words wish, or before and after passes.
-fn run_wished(alloc: Global, source: &Source, matches: &ArgMatches) -> io::Result<Outcome> {
+/// Runs the text as the words ask, or before and after passes.
+fn run_as_asked(alloc: Global, source: &Source, matches: &ArgMatches) -> io::Result<Outcome> {
     let inputs = numbers(alloc, matches, "input")?;
     let world = numbers(alloc, matches, "world")?;
-    let wish = RunWish {
+    let options = RunOptions {
         inputs: &inputs,
         world: &world,
         steps: matches.get_one::<usize>("steps").unwrap_or(100_000),
         trace: matches.get_flag("trace"),
     };
     match matches.get_str("compare") {
-        Some(pipeline) => compare_wished(alloc, source, wish, pipeline),
-        None => Ok(run(alloc, source, &wish)?),
+        Some(pipeline) => compare_as_asked(alloc, source, options, pipeline),
+        None => Ok(run(alloc, source, &options)?),
     }
 }
 
-/// Whether each operation is to stand on a line of its own: where that is wished, and on a terminal.
+/// The file that the answer goes to, where it isn't standard output.
+fn output_file<'a>(matches: &ArgMatches<'a>) -> Option<&'a str> {
+    match matches.get_str("output") {
+        Some("-") => None,
+        file => file,
+    }
+}
+
+/// Whether each operation is to stand on a line of its own: where the options ask for it, and on a terminal.
 fn is_pretty(rt: &HostRuntime, matches: &ArgMatches) -> bool {
-    let on_terminal = rt.stdout().is_terminal() && matches.get_str("output").is_none();
+    let on_terminal = rt.stdout().is_terminal() && output_file(matches).is_none();
     matches.get_flag("pretty") || (on_terminal && !matches.get_flag("one-line"))
 }
 
@@ -120,39 +137,40 @@ impl Progress for Terminal<'_> {
 }
 
 /// Runs these passes on the text, and looks so at what they do.
-fn opt_watched<'w>(
+fn opt_instrumented<'w>(
     rt: &HostRuntime,
     source: &Source,
     matches: &ArgMatches,
-    watch: Wish<'w>,
+    instrumentation: InstrumentationOptions<'w>,
     pipeline: &'w str,
 ) -> io::Result<Outcome> {
-    let wish = OptWish {
+    let options = OptOptions {
         pipeline,
         is_pretty: is_pretty(rt, matches),
-        watch,
+        instrumentation,
         times: matches.get_flag("time"),
     };
     let start = rt.monotonic().unwrap_or(Duration::ZERO);
     let terminal = Terminal { rt, start };
-    Ok(opt(rt.alloc(), source, &wish, terminal)?)
+    let is_strict = matches.get_flag("strict");
+    Ok(opt_with_check::<BenchNotation, _>(rt.alloc(), source, &options, is_strict, terminal)?)
 }
 
 /// Runs the passes that the words ask for on the text.
-fn opt_wished(rt: &HostRuntime, source: &Source, matches: &ArgMatches) -> io::Result<Outcome> {
+fn opt_as_asked(rt: &HostRuntime, source: &Source, matches: &ArgMatches) -> io::Result<Outcome> {
     let prints = words(rt.alloc(), matches, "print-after")?;
-    let watch = Wish {
+    let instrumentation = InstrumentationOptions {
         counts: matches.get_flag("stats"),
         verifies: matches.get_flag("verify-each"),
         prints_all: matches.get_flag("print-after-all"),
         prints: &prints,
     };
-    let pipeline = matches.get_str("pipeline").unwrap_or("");
-    opt_watched(rt, source, matches, watch, pipeline)
+    let pipeline = without_blanks(rt.alloc(), matches.get_str("pipeline").unwrap_or(""))?;
+    opt_instrumented(rt, source, matches, instrumentation, pipeline.as_str())
 }
 
 /// The outcome of a command whose input can't be read: its name is told, and why.
-fn unread(alloc: Global, name: &str, error: &io::Error) -> io::Result<Outcome> {
+fn unreadable_input(alloc: Global, name: &str, error: &io::Error) -> io::Result<Outcome> {
     let report = format!(in alloc; "error: cannot read {name}: {error}\n")?;
     Ok(Outcome {
         output: Vec::new(alloc),
@@ -161,84 +179,126 @@ fn unread(alloc: Global, name: &str, error: &io::Error) -> io::Result<Outcome> {
     })
 }
 
-/// Draws the region that the words wish.
-fn draw_wished(alloc: Global, source: &Source, matches: &ArgMatches) -> io::Result<Outcome> {
-    let wish = FlowWish {
+/// Draws the region that the words ask for.
+fn draw_as_asked(alloc: Global, source: &Source, matches: &ArgMatches) -> io::Result<Outcome> {
+    let options = FlowOptions {
         region: matches.get_str("region").unwrap_or("0"),
         dominators: matches.get_flag("dominators"),
     };
-    Ok(draw_flow(alloc, source, &wish)?)
+    Ok(draw_flow(alloc, source, &options)?)
+}
+
+/// Tells what the passes did.
+fn explain_as_asked(alloc: Global, source: &Source, pipeline: &str) -> io::Result<Outcome> {
+    let pipeline = without_blanks(alloc, pipeline)?;
+    Ok(explain(alloc, source, pipeline.as_str())?)
 }
 
 /// What the command makes of its input.
 fn outcome(rt: &HostRuntime, command: &str, matches: &ArgMatches) -> io::Result<Outcome> {
     let alloc = rt.alloc();
-    let name = matches.get_str("file").unwrap_or("-");
+    let (pipeline, name) = pipeline_and_file(alloc, matches)?;
     let text = match text_of(rt, name) {
         Ok(text) => text,
-        Err(error) => return unread(alloc, called(name), &error),
+        Err(error) => return unreadable_input(alloc, input_name(name), &error),
     };
     let source = Source {
-        name: called(name),
+        name: input_name(name),
         text: &text,
     };
     match command {
-        "check" => Ok(check(alloc, &source)?),
-        "opt" => opt_wished(rt, &source, matches),
-        "dot" => draw_wished(alloc, &source, matches),
+        "check" => Ok(check::<BenchNotation>(alloc, &source)?),
+        "opt" => opt_as_asked(rt, &source, matches),
+        "dot" => draw_as_asked(alloc, &source, matches),
         "graph" => Ok(draw_graph(alloc, &source)?),
-        "explain" => Ok(explain(alloc, &source, matches.get_str("pipeline").unwrap_or(""))?),
-        _ => run_wished(alloc, &source, matches),
+        "explain" => explain_as_asked(alloc, &source, pipeline),
+        _ => run_as_asked(alloc, &source, matches),
     }
 }
 
-/// Writes what the command leaves: to the file that is named, where there is an answer, or to standard output.
-fn write(rt: &HostRuntime, outcome: &Outcome, file: Option<&str>) -> io::Result<()> {
-    eprint!(rt; "{}", outcome.report)?;
-    match file {
-        Some(file) if outcome.status == 0 || outcome.status == 3 => fs::write(
-            rt,
-            file,
-            &outcome.output,
-        ),
-        _ => rt.stdout().write_all(&outcome.output),
+/// Writes the answer of the command, and answers the status: to the file that is named, or to standard output. A file
+/// that is named is left as it is where there is no answer.
+fn write_outcome(rt: &HostRuntime, outcome: &Outcome, file: Option<&str>) -> io::Result<u8> {
+    let Some(file) = file else {
+        write_answer(rt, &outcome.output)?;
+        return Ok(outcome.status);
+    };
+    if outcome.status != 0 && outcome.output.is_empty() {
+        return Ok(outcome.status);
+    }
+    match write_file(rt, file, &outcome.output) {
+        Ok(()) => Ok(outcome.status),
+        Err(error) => {
+            let report = format!(in rt.alloc(); "error: cannot write {file}: {error}\n")?;
+            write_report(rt, report.as_str());
+            Ok(2)
+        }
     }
 }
 
 /// Does what the command asks for, and answers its status.
 fn act(rt: &HostRuntime, command: &str, matches: &ArgMatches) -> io::Result<u8> {
     let outcome = outcome(rt, command, matches)?;
-    let file = if command == "check" {
-        None
-    } else {
-        matches.get_str("output")
-    };
-    write(rt, &outcome, file)?;
-    Ok(outcome.status)
+    write_report(rt, outcome.report.as_str());
+    write_outcome(rt, &outcome, output_file(matches))
 }
 
 /// Does what the words ask for, and answers its status.
-fn act_on(rt: &HostRuntime, matches: &ArgMatches) -> io::Result<u8> {
+fn act_on(rt: &HostRuntime, matches: &ArgMatches) -> u8 {
     let Some((command, inner)) = matches.subcommand() else {
-        return Ok(2);
+        return 2;
     };
     match act(rt, command, inner) {
-        Ok(status) => Ok(status),
+        Ok(status) => status,
         Err(error) => {
-            eprintln!(rt; "error: {error}")?;
-            Ok(2)
+            let _ = eprintln!(rt; "error: {error}");
+            if error.kind() == ErrorKind::OutOfMemory {
+                1
+            } else {
+                2
+            }
         }
     }
 }
 
-fn main(rt: HostRuntime) -> io::Result<ExitCode> {
+/// Writes what is wrong with the words, or the help that they ask for, and answers the status.
+fn write_usage(rt: &HostRuntime, error: &Error) -> io::Result<u8> {
+    let text = format!(in rt.alloc(); "{error}")?;
+    if error.use_stderr() {
+        write_report(rt, text.as_str());
+        return Ok(2);
+    }
+    write_answer(rt, text.as_bytes())?;
+    Ok(0)
+}
+
+/// The words of the program, of which the first is its name. Errors: a word that isn't UTF-8; allocation failure.
+fn program_words(rt: &HostRuntime) -> io::Result<Vec<String>> {
     let alloc = rt.alloc();
-    let words: Vec<String> = env::args(&rt)?.collect(alloc)?;
-    match parsed(alloc, words.as_slice()) {
-        Ok(matches) => Ok(ExitCode::from(act_on(&rt, &matches)?)),
-        Err(error) => {
-            error.print(&rt)?;
-            Ok(ExitCode::from(if error.exit_code() == 0 { 0 } else { 2 }))
+    let mut words = Vec::new(alloc);
+    words.push(String::from_str(alloc, "plir")?)?;
+    let mut given = env::args(rt)?;
+    let _ = given.next();
+    for word in given {
+        words.push(word)?;
+    }
+    Ok(words)
+}
+
+fn main(rt: HostRuntime) -> io::Result<ExitCode> {
+    let words = match program_words(&rt) {
+        Ok(words) => words,
+        Err(error) if error.kind() == ErrorKind::InvalidData => {
+            write_report(
+                &rt,
+                "error: a word isn't UTF-8\nhelp: give the text on standard input, or the file another name\n",
+            );
+            return Ok(ExitCode::from(2));
         }
+        Err(error) => return Err(error),
+    };
+    match parse_arguments(rt.alloc(), words.as_slice()) {
+        Ok(matches) => Ok(ExitCode::from(act_on(&rt, &matches))),
+        Err(error) => Ok(ExitCode::from(write_usage(&rt, &error)?)),
     }
 }

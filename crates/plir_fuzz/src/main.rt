@@ -7,7 +7,7 @@
 
 use pliron_fuzz::{Tally, Verdict, judge};
 use pliron_laws::OptError;
-use pliron_random::Subject;
+use pliron_random_text::Subject;
 use std::alloc::Global;
 use std::env;
 use std::process::ExitCode;

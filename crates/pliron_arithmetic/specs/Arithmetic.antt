@@ -8,30 +8,30 @@ use Rattle.pliron_laws.specs.Laws.{CountsFit}
 use Rattle.pliron_dialects.specs.Numbers.{nth_number, wrapped_sum, wrapped_product, less, is_zero}
 use Rattle.pliron_dialects.specs.Forms.{edge_by_condition}
 use Rattle.pliron_dialects.specs.Roles.{Role, Tables, KeepsTables, ActsFit, condition_of, Constant, Computes, Jumps, Branches, Leaves, Acts}
-use Rattle.pliron_dialects.specs.Visits.{once, fitted, visit_of, length-fitted, visit_fits, once_fits}
+use Rattle.pliron_dialects.specs.Visits.{once, fit_data, visit_of, length-fitted, visit_fits, once_fits}
 
--- a function has one region, visits it once with its inputs, and leaves with what the visit gives
+-- a function has one region, invokes it once with its inputs, and leaves with what the invocation gives
 abbrev pub function_takes : ℕ → ℕ → ℕ → Bool
 function_takes operands results regions = nat_eq operands 0 && nat_eq results 0 && nat_eq regions 1
 
 abbrev pub function_act : Shape → Datum → List Datum → Move
 function_act s memo input = once memo (visit_of 0 s input) (Leave input)
 
--- an `if` visits its first region unless its first operand is 0, else its second, with the other operands, and
--- gives what the visit gives
+-- an `if` invokes its first region unless its first operand is 0, else its second, with the other operands, and
+-- gives what the invocation gives
 abbrev pub if_takes : ℕ → ℕ → ℕ → Bool
 if_takes operands results regions = nat_eq regions 2
 
 abbrev pub if_act : Shape → Datum → List Datum → Move
-if_act s memo input = once memo (visit_of (edge_by_condition (condition_of input)) s (drop 1 input)) (Give (fitted s.results input))
+if_act s memo input = once memo (visit_of (edge_by_condition (condition_of input)) s (drop 1 input)) (Give (fit_data s.results input))
 
--- a `while` visits its region with its operands, and again with the values of each visit until the first of them
--- is 0; then it gives the others
+-- a `while` invokes its region with its operands, and again with the values of each invocation until the first
+-- of them is 0; then it gives the others
 abbrev pub while_takes : ℕ → ℕ → ℕ → Bool
 while_takes operands results regions = nat_eq regions 1
 
 abbrev pub again_unless : Bool → Shape → List Datum → Move
-again_unless true s values = Give (fitted s.results values)
+again_unless true s values = Give (fit_data s.results values)
 again_unless false s values = visit_of 0 s values
 
 abbrev pub while_act : Shape → Datum → List Datum → Move
@@ -104,7 +104,7 @@ again_fits : (b : Bool) (s : Shape) (values : List Datum) → CountsFit false s 
 again_fits true s values = length-fitted s.results values
 again_fits false s values = visit_fits false 0 s values
 
--- own moves pass as many values as there are places for; a line for each kind that acts by its own tables
+-- own transitions pass as many values as there are places for; a line for each kind that acts by its own tables
 acts : (k : ArithmeticKind) → ActsFit (arithmetic_role_of k)
 acts Function = λ s h memo input. once_fits false s memo (visit_of 0 s input) (Leave input) (visit_fits false 0 s input) tt
 acts Lit = tt
@@ -115,7 +115,7 @@ acts Less = tt
 acts Jump = tt
 acts Branch = tt
 acts Return = tt
-acts If = λ s h memo input. once_fits false s memo (visit_of (edge_by_condition (condition_of input)) s (drop 1 input)) (Give (fitted s.results input)) (visit_fits false (edge_by_condition (condition_of input)) s (drop 1 input)) (length-fitted s.results input)
+acts If = λ s h memo input. once_fits false s memo (visit_of (edge_by_condition (condition_of input)) s (drop 1 input)) (Give (fit_data s.results input)) (visit_fits false (edge_by_condition (condition_of input)) s (drop 1 input)) (length-fitted s.results input)
 acts While = λ s h memo input. once_fits false s memo (visit_of 0 s input) (again_unless (is_zero (condition_of input)) s (drop 1 input)) (visit_fits false 0 s input) (again_fits (is_zero (condition_of input)) s (drop 1 input))
 
 pub keeps_arithmetic : KeepsTables arithmetic

@@ -15,7 +15,7 @@ use pliron_dialects::ByKinds;
 ///
 /// | Kind | What it does |
 /// |---|---|
-/// | `function` | visits its region once with its inputs, and ends with the visit's values |
+/// | `function` | invokes its region once with its inputs, and ends with the invocation's values |
 /// | `lit` | gives its number |
 /// | `add`, `mul` | give the wrapped sum, product |
 /// | `neg` | gives its operand subtracted from 0, wrapped |
@@ -23,8 +23,10 @@ use pliron_dialects::ByKinds;
 /// | `jump` | goes to its block with its operands |
 /// | `branch` | goes to its first block unless its first operand is 0, else to its second |
 /// | `return` | leaves the region with its operands |
-/// | `if` | visits its first region unless its first operand is 0, else its second, with the other operands, and gives what the visit gives |
-/// | `while` | visits its region with its operands, and again with the values of each visit until the first of them is 0; then gives the others |
+/// | `if` | invokes its first region unless its first operand is 0, else its second, with the other operands,
+/// and gives what the invocation gives |
+/// | `while` | invokes its region with its operands, and again with the values of each invocation until the
+/// first of them is 0; then gives the others |
 ///
 /// Where an operation passes or gives more values than there are places for, the last ones are cut; where it has
 /// fewer, the others are 0.

@@ -8,7 +8,7 @@ ghost use Rattle.pliron_arithmetic.specs.Arithmetic.{if_act, while_act, again_un
 
 use crate::kind::ArithmeticKind;
 use pliron_evaluator::evaluator::own_moves::{
-    Counts, OwnMoves, behind_first, chosen, give, is_over, visit, visit_and_leave,
+    OwnMoves, ShapeCounts, behind_first, choice_by_input, give, is_over, visit, visit_and_leave,
 };
 use pliron_evaluator::evaluator::{Datum, Move};
 use std::alloc::{AllocError, Global};
@@ -16,13 +16,13 @@ use std::alloc::{AllocError, Global};
 // A choice between two regions.
 fn if_move(
     alloc: Global,
-    counts: &Counts,
+    counts: &ShapeCounts,
     memo: &Datum,
     input: &[Datum],
 ) -> Result<Move, AllocError>
     ensures { IfOk result (λ next. MovesBy counts.now (move_of next) (λ s. if_act s (datum_of_value memo.now) (map datum_of_value input.now))) }
 {
-    let region = chosen(input);
+    let region = choice_by_input(input);
     let rest = behind_first(input);
     match memo {
         Datum::Empty => visit(alloc, counts, region, rest),
@@ -31,7 +31,7 @@ fn if_move(
 }
 
 // The region once more, unless the first value says that it is over.
-fn again_move(alloc: Global, counts: &Counts, input: &[Datum]) -> Result<Move, AllocError>
+fn again_move(alloc: Global, counts: &ShapeCounts, input: &[Datum]) -> Result<Move, AllocError>
     ensures { IfOk result (λ next. MovesBy counts.now (move_of next) (λ s. again_unless (is_zero (condition_of (map datum_of_value input.now))) s (drop 1
         (map datum_of_value input.now)))) }
 {
@@ -46,7 +46,7 @@ fn again_move(alloc: Global, counts: &Counts, input: &[Datum]) -> Result<Move, A
 // A region again and again.
 fn while_move(
     alloc: Global,
-    counts: &Counts,
+    counts: &ShapeCounts,
     memo: &Datum,
     input: &[Datum],
 ) -> Result<Move, AllocError>
@@ -62,7 +62,7 @@ impl OwnMoves for ArithmeticKind {
     fn own_move(
         self,
         alloc: Global,
-        counts: &Counts,
+        counts: &ShapeCounts,
         memo: &Datum,
         input: &[Datum],
     ) -> Result<Move, AllocError> {

@@ -8,7 +8,7 @@ use Rattle.std.proofs.lemmas.Option.{same_Some, slice_get_past}
 use Rattle.pliron_core.specs.declared.attrs.AttrObj.{AttrObj}
 use Rattle.pliron_core.specs.declared.attrs.IRStatus.{IRStatus}
 use Rattle.pliron_core.specs.declared.attrs.IRStatus.TheVariants.{Unchanged}
-use Rattle.pliron_laws.specs.InPlace.{materialising}
+use Rattle.pliron_laws.specs.InPlace.{materialising_outcome}
 use Rattle.pliron_bench.specs.BenchOutcomes.{kind_in, fold_of, bench_outcome}
 use Rattle.pliron_core.specs.Tree.{Tree, IsLive, head_of, operands_of, successors_of}
 use Rattle.pliron_bench.specs.declared.kind.BenchKind.{BenchKind}
@@ -21,7 +21,7 @@ use Rattle.pliron_bench.specs.Bench.{by_kind, kind_of}
 use Rattle.pliron_bench.specs.BenchBranches.{distinct}
 use Rattle.pliron_bench.specs.BenchNumbers.{known_at}
 use Rattle.pliron_bench.specs.BenchMoves.{bench, places_in, no_places_in, places_of, no_places}
-use Rattle.pliron_bench.specs.BenchAnswers.{bench_folds, bench_constants, bench_accepts, bench_constant_head, is_const_kind, bench_folds_branch, bench_feasible, folds_of, folds_branch_of, answer_of, constants_of, no_constants, feasible_of, no_jump, taken, entry_operand_of, no_operand, bench_entry_operands}
+use Rattle.pliron_bench.specs.BenchAnswers.{bench_folds, bench_constants, bench_accepts, bench_constant_head, is_const_kind, bench_folds_branch, bench_feasible, folds_of, folds_branch_of, answer_of, constants_of, no_constants, feasible_of, no_jump, edges_taken, entry_operand_of, no_operand, bench_entry_operands}
 use Rattle.pliron_laws.proofs.ShapeLemmas.{head_at, operands_at}
 
 same_head : (t : Tree) (op : ℕ) (h : Head) (o : Operation) → head_of t op ≡ Some h → op_at t op ≡ Some o → h ≡ o.head
@@ -56,18 +56,18 @@ successors_with t op o at = go (head_of t op) at
     go None e = grind arith
     go (Some h) e = sym (ap (λ z. z.successors) (same_Some _ o e))
 
-kind_taken : (k : BenchKind) (targets : List ℕ) (known : List (Option AttrObj)) → IsTrue (folds_branch_of k) → taken targets (known_at known 0) ≡ feasible_of k targets known
+kind_taken : (k : BenchKind) (targets : List ℕ) (known : List (Option AttrObj)) → IsTrue (folds_branch_of k) → edges_taken targets (known_at known 0) ≡ feasible_of k targets known
 kind_taken Cbr targets known f = refl
 kind_taken _ targets known f = grind arith
 
-branch_taken : (o : Option BenchKind) (targets : List ℕ) (known : List (Option AttrObj)) → IsTrue (by_kind false folds_branch_of o) → taken targets (known_at known 0) ≡ by_kind no_jump feasible_of o targets known
+branch_taken : (o : Option BenchKind) (targets : List ℕ) (known : List (Option AttrObj)) → IsTrue (by_kind false folds_branch_of o) → edges_taken targets (known_at known 0) ≡ by_kind no_jump feasible_of o targets known
 branch_taken None targets known f = grind arith
 branch_taken (Some k) targets known f = kind_taken k targets known f
 
-pub taken_read : (t : Tree) (op : ℕ) (known : List (Option AttrObj)) (items : List ℕ) → HeadPasses bench_folds_branch t op → items ≡ taken (successors_of t op) (known_at known 0) → ReadsEdges bench (λ s targets. bench_feasible s targets known) t op items
+pub taken_read : (t : Tree) (op : ℕ) (known : List (Option AttrObj)) (items : List ℕ) → HeadPasses bench_folds_branch t op → items ≡ edges_taken (successors_of t op) (known_at known 0) → ReadsEdges bench (λ s targets. bench_feasible s targets known) t op items
 unfolding bench_folds_branch bench_feasible shape_of
 taken_read t op known items g i = λ o at.
-    i ∙ ap (λ z. taken z (known_at known 0)) (sym (successors_with t op o at)) ∙ branch_taken (kind_of o.head.kind) o.successors known (g o.head (head_at t op o at))
+    i ∙ ap (λ z. edges_taken z (known_at known 0)) (sym (successors_with t op o at)) ∙ branch_taken (kind_of o.head.kind) o.successors known (g o.head (head_at t op o at))
 
 -- ---- places
 
@@ -126,7 +126,7 @@ kind_stays : (k : Option BenchKind) (t : Tree) (op : ℕ) (known : List (Option 
 kind_stays (Some Const) t op known e = (refl, refl)
 kind_stays _ t op known e = grind arith
 
-kind_folds : (k : Option BenchKind) (t u : Tree) (op : ℕ) (known : List (Option AttrObj)) (answer : Option IRStatus) → is_const_kind k ≡ false → materialising bench bench_constants bench_accepts bench_constant_head t u op known answer → fold_of k t u op known answer
+kind_folds : (k : Option BenchKind) (t u : Tree) (op : ℕ) (known : List (Option AttrObj)) (answer : Option IRStatus) → is_const_kind k ≡ false → materialising_outcome bench bench_constants bench_accepts bench_constant_head t u op known answer → fold_of k t u op known answer
 kind_folds (Some Const) t u op known answer e m = grind arith
 kind_folds _ t u op known answer e m = m
 
@@ -138,7 +138,7 @@ pub constant_stays : (t : Tree) (op : ℕ) (known : List (Option AttrObj)) (b : 
 unfolding bench_outcome
 constant_stays t op known b live r e = kind_stays (kind_in (head_of t op)) t op known (sym (head_kind t op b (head_of t op) live refl r) ∙ e)
 
-pub others_fold : (t u : Tree) (op : ℕ) (known : List (Option AttrObj)) (b : Bool) (answer : Option IRStatus) → IsLive t op → ReadsHead (λ h. is_const_kind (kind_of h.kind)) t op b → b ≡ false → materialising bench bench_constants bench_accepts bench_constant_head t u op known answer → bench_outcome t u op known answer
+pub others_fold : (t u : Tree) (op : ℕ) (known : List (Option AttrObj)) (b : Bool) (answer : Option IRStatus) → IsLive t op → ReadsHead (λ h. is_const_kind (kind_of h.kind)) t op b → b ≡ false → materialising_outcome bench bench_constants bench_accepts bench_constant_head t u op known answer → bench_outcome t u op known answer
 unfolding bench_outcome
 others_fold t u op known b answer live r e m = kind_folds (kind_in (head_of t op)) t u op known answer (sym (head_kind t op b (head_of t op) live refl r) ∙ e) m
 

@@ -10,10 +10,10 @@ use Rattle.pliron_bench.specs.declared.kind.BenchKind.TheVariants.{Const, Br}
 use Rattle.pliron_laws.specs.Datum.{Head, Meaning}
 use Rattle.pliron_laws.specs.Tree.{Operation, shape_of}
 use Rattle.pliron_laws.specs.Folding.{Constants}
-use Rattle.pliron_laws.specs.Outcomes.{materialised, Materialises}
+use Rattle.pliron_laws.specs.Outcomes.{after_materialising, Materialises}
 use Rattle.pliron_laws.specs.Outcomes.Materialises.{Finished, Unanswered, Unknown, PassedOver, Put}
 use Rattle.pliron_laws.specs.Replacing.{branch_replaced}
-use Rattle.pliron_laws.specs.InPlace.{IsSingle, TellsChange, materialising}
+use Rattle.pliron_laws.specs.InPlace.{IsSingle, ReportsChange, materialising_outcome}
 use Rattle.pliron_bench.specs.Bench.{plain_head}
 use Rattle.pliron_bench.specs.BenchMoves.{bench}
 use Rattle.pliron_bench.specs.BenchAnswers.{bench_constants, bench_accepts, bench_constant_head}
@@ -27,7 +27,7 @@ unfoldable pub put_all : (accepts : AttrObj → Bool) (head : AttrObj → Head) 
 put_all accepts head op [] answers t = t
 put_all accepts head op (v ∷ vs) [] t = t
 put_all accepts head op (v ∷ vs) (None ∷ answers) t = put_all accepts head op vs answers t
-put_all accepts head op (v ∷ vs) (Some attr ∷ answers) t = if accepts attr then put_all accepts head op vs answers (materialised t op v (head attr)) else put_all accepts head op vs answers t
+put_all accepts head op (v ∷ vs) (Some attr ∷ answers) t = if accepts attr then put_all accepts head op vs answers (after_materialising t op v (head attr)) else put_all accepts head op vs answers t
 
 module _ (accepts : AttrObj → Bool) (head : AttrObj → Head) (op : ℕ) where
   put_none : (vs : List ℕ) (t : Tree) → t ≡ put_all accepts head op vs [] t
@@ -41,22 +41,22 @@ module _ (accepts : AttrObj → Bool) (head : AttrObj → Head) (op : ℕ) where
   put_is vs answers t u Unanswered = put_none _ _
   put_is vs answers t u (Unknown m) = put_is _ _ _ _ m
   put_is vs answers t u (PassedOver {v = v} {vs = ws} {attr = attr} {answers = more} {t = now} over m) =
-      put_is _ _ _ _ m ∙ sym (ap (λ b. if b then put_all accepts head op ws more (materialised now op v (head attr)) else put_all accepts head op ws more now) over)
+      put_is _ _ _ _ m ∙ sym (ap (λ b. if b then put_all accepts head op ws more (after_materialising now op v (head attr)) else put_all accepts head op ws more now) over)
   put_is vs answers t u (Put {v = v} {vs = ws} {attr = attr} {answers = more} {t = now} accepted m) =
-      put_is _ _ _ _ m ∙ sym (ap (λ b. if b then put_all accepts head op ws more (materialised now op v (head attr)) else put_all accepts head op ws more now) accepted)
+      put_is _ _ _ _ m ∙ sym (ap (λ b. if b then put_all accepts head op ws more (after_materialising now op v (head attr)) else put_all accepts head op ws more now) accepted)
 
 -- the answer tells of the tree
-one_answer : (a b : IRStatus) (t u : Tree) → TellsChange (Some a) t u → TellsChange (Some b) t u → a ≡ b
+one_answer : (a b : IRStatus) (t u : Tree) → ReportsChange (Some a) t u → ReportsChange (Some b) t u → a ≡ b
 one_answer Changed Changed t u x y = refl
 one_answer Changed Unchanged t u x y = absurd (x y)
 one_answer Unchanged Changed t u x y = absurd (y x)
 one_answer Unchanged Unchanged t u x y = refl
 
-put_single : (m : Meaning) (constants : Constants) (accepts : AttrObj → Bool) (head : AttrObj → Head) → IsSingle (materialising m constants accepts head)
+put_single : (m : Meaning) (constants : Constants) (accepts : AttrObj → Bool) (head : AttrObj → Head) → IsSingle (materialising_outcome m constants accepts head)
 put_single m constants accepts head t u u' op known o a b at x y =
     let all = constants (shape_of m t o) known in
     let same : u ≡ u' = put_is accepts head op o.results all t u (x.0 o at) ∙ sym (put_is accepts head op o.results all t u' (y.0 o at)) in
-    (same, one_answer a b t u x.1 (subst (TellsChange (Some b) t) (sym same) y.1))
+    (same, one_answer a b t u x.1 (subst (ReportsChange (Some b) t) (sym same) y.1))
 
 kind_single : (k : Option BenchKind) → IsSingle (fold_of k)
 kind_single (Some Const) t u u' op known o a b at x y = (x.0 ∙ sym y.0, same_Some a b (x.1 ∙ sym y.1))

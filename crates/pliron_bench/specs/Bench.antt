@@ -146,6 +146,6 @@ count_of (Words s) = 0
 abbrev pub first_edge_count : List AttrObj → ℕ
 first_edge_count attrs = count_of (first_attribute attrs)
 
--- operations of the kind stand alone
+-- operations of the kind are in no block
 abbrev pub IsTopKind : BenchKind → Type 0
 IsTopKind kind = (kind ≡ Mod) ⊎ (kind ≡ Func)

@@ -103,12 +103,12 @@ abbrev pub only : Option ℕ → List ℕ
 only None = []
 only (Some b) = b ∷ []
 
-abbrev pub taken : List ℕ → Option ℤ → List ℕ
-taken targets None = targets
-taken targets (Some c) = only (slice_get targets (edge_of c))
+abbrev pub edges_taken : List ℕ → Option ℤ → List ℕ
+edges_taken targets None = targets
+edges_taken targets (Some c) = only (slice_get targets (edge_of c))
 
 abbrev pub feasible_of : BenchKind → List ℕ → List (Option AttrObj) → List ℕ
-feasible_of Cbr targets known = taken targets (known_at known 0)
+feasible_of Cbr targets known = edges_taken targets (known_at known 0)
 feasible_of _ targets known = targets
 
 abbrev pub no_jump : List ℕ → List (Option AttrObj) → List ℕ
@@ -117,7 +117,7 @@ no_jump targets known = targets
 unfoldable pub bench_feasible : Shape → List ℕ → List (Option AttrObj) → List ℕ
 bench_feasible s targets known = by_kind no_jump feasible_of (kind_of s.head.kind) targets known
 
--- a visit passes as each argument the operand of its index, where there is one among so many
+-- an invocation passes as each argument the operand of its index, where there is one among so many
 abbrev pub entry_operand_of : BenchKind → ℕ → ℕ → Option ℕ
 entry_operand_of Scope operands j = if nat_lt j operands then Some j else None
 entry_operand_of _ operands j = None

@@ -86,7 +86,7 @@ distinct (Some k) s i j u v p br e f = kind_distinct k s i j u v p br e f
 
 -- ---- what a jump passes
 
--- where the move is a jump, it passes the data at these places of its edge
+-- where the transition is a jump, it passes the data at these places of its edge
 abbrev pub PassesAt : (ℕ → List ℕ) → List Datum → Move → Type 0
 PassesAt places first (Goto i ds) = map Some ds ≡ pick (places i) first
 PassesAt places first (Give ds) = Unit {0}

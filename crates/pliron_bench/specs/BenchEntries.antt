@@ -1,4 +1,4 @@
--- The dialect keeps the laws on operands that every visit passes, and on roots.
+-- The dialect keeps the laws on operands that every invocation passes, and on roots.
 use Rattle.std.proofs.Common.{◌≡◌, ℕ, zero, suc, ◌<◌, Bool, true, false, if◌then◌else◌, nat_lt, List, [], ◌∷◌, Option, Some, None, length, slice_get, IsTrue, refl, ap, sym, ◌∙◌, subst, arith}
 use Rattle.std.proofs.lemmas.Option.{same_Some}
 use Rattle.pliron_bench.specs.declared.kind.BenchKind.{BenchKind}
@@ -9,7 +9,7 @@ use Rattle.pliron_laws.specs.Acting.{Act, Comes}
 use Rattle.pliron_laws.specs.Acting.Comes.{Begins, Answered, Told}
 use Rattle.pliron_laws.specs.Entries.{NamesOperands, RootsNameNone}
 use Rattle.pliron_bench.specs.Bench.{by_kind, kind_of}
-use Rattle.pliron_bench.specs.BenchMoves.{done, once, fitted, visit_once, act_of, no_act, passes_operands, bench}
+use Rattle.pliron_bench.specs.BenchMoves.{memo_when_done, once, fit_data, visit_once, act_of, no_act, passes_operands, bench}
 use Rattle.pliron_bench.specs.BenchAnswers.{entry_operand_of, no_operand, bench_entry_operands, has_bench_interface}
 use Rattle.pliron_bench.specs.BenchParts.{below}
 
@@ -33,22 +33,22 @@ named None n j k e = absurd (unsaid e)
 named (Some Scope) n j k e = let c = in_case (nat_lt j n) j k e in (refl, c.1, below j n c.0)
 named (Some kind) n j k e = absurd (unsaid e)
 
--- ---- what visits once
+-- ---- what invokes its region once
 
--- a visit is the first move
-at_first : (memo : Datum) (values : List Datum) (i : ℕ) (ds : List Datum) (next : Datum) → once memo (Visit 0 values done) (Give []) ≡ Visit i ds next → (memo ≡ Empty) × (values ≡ ds) × (next ≡ done)
+-- an invocation is the first transition
+at_first : (memo : Datum) (values : List Datum) (i : ℕ) (ds : List Datum) (next : Datum) → once memo (Visit 0 values memo_when_done) (Give []) ≡ Visit i ds next → (memo ≡ Empty) × (values ≡ ds) × (next ≡ memo_when_done)
 at_first Empty values i ds next e = (refl, cc, cc)
 at_first (Number n) values i ds next e = grind arith
 at_first (Text w) values i ds next e = grind arith
 at_first (Join x y) values i ds next e = grind arith
 
-no_effect : (memo : Datum) (values : List Datum) (effect next : Datum) → once memo (Visit 0 values done) (Give []) ≡ Emit effect next → ⊥
+no_effect : (memo : Datum) (values : List Datum) (effect next : Datum) → once memo (Visit 0 values memo_when_done) (Give []) ≡ Emit effect next → ⊥
 no_effect Empty values effect next e = cc
 no_effect (Number n) values effect next e = cc
 no_effect (Text w) values effect next e = cc
 no_effect (Join x y) values effect next e = cc
 
-not_done : (next : Datum) → next ≡ done → next ≡ Empty → ⊥
+not_done : (next : Datum) → next ≡ memo_when_done → next ≡ Empty → ⊥
 not_done next e f = cc
 
 -- with an empty memo its input is the first one
@@ -57,7 +57,7 @@ first_alone act s acts first later memo input Begins e = refl
 first_alone act s acts first later memo input (Answered i ds next answer c move) e = absurd (not_done next (at_first _ _ i ds next (sym (acts _ _) ∙ move)).2 e)
 first_alone act s acts first later memo input (Told effect next answer c move) e = absurd (no_effect _ _ effect next (sym (acts _ _) ∙ move))
 
-fitted_at : (n : ℕ) (ds : List Datum) (j : ℕ) (d : Datum) → j < length ds → slice_get (fitted n ds) j ≡ Some d → slice_get ds j ≡ Some d
+fitted_at : (n : ℕ) (ds : List Datum) (j : ℕ) (d : Datum) → j < length ds → slice_get (fit_data n ds) j ≡ Some d → slice_get ds j ≡ Some d
 fitted_at zero ds j d lt e = grind arith
 fitted_at (suc n) [] j d lt e = absurd (omega (arith, lt))
 fitted_at (suc n) (x ∷ ds) zero d lt e = e

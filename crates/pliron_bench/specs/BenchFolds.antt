@@ -14,7 +14,7 @@ use Rattle.pliron_laws.specs.Folding.{AnswersTrue, AnswersJumps, KnowsMore, Fold
 use Rattle.pliron_bench.specs.Bench.{by_kind, kind_of, result_count}
 use Rattle.pliron_bench.specs.BenchNumbers.{as_number, number_at, sum, product, quotient, known_as, known_at, known_sum, zero_only, known_product, known_quotient}
 use Rattle.pliron_bench.specs.BenchMoves.{give_or_trap, edge_of, act_of, no_act, branches, bench}
-use Rattle.pliron_bench.specs.BenchAnswers.{folds_of, bench_folds, as_constant, constants_of, no_constants, bench_constants, folds_branch_of, bench_folds_branch, only, taken as taken_of, feasible_of, no_jump, bench_feasible}
+use Rattle.pliron_bench.specs.BenchAnswers.{folds_of, bench_folds, as_constant, constants_of, no_constants, bench_constants, folds_branch_of, bench_folds_branch, only, edges_taken as taken_of, feasible_of, no_jump, bench_feasible}
 use Rattle.pliron_bench.specs.BenchParts.{Admits, of_kind, IsQuiet, comes_first}
 
 -- ---- numbers that are known
@@ -50,7 +50,7 @@ product_zero a = ap (int_wrap w64) (times_zero a) ∙ wrapped_zero
 
 -- ---- constants
 
--- where the move gives results, they are the known constants
+-- where the transition gives results, they are the known constants
 abbrev GivesKnown : List (Option AttrObj) → Move → Type 0
 GivesKnown cs (Give ds) = Known cs ds
 GivesKnown cs (Visit i ds memo) = Unit {0}
@@ -81,7 +81,7 @@ product_known (Some m) None a b e f = zero_left m a b e
 product_known None (Some n) a b e f = zero_right n a b f
 product_known None None a b e f = tt
 
--- an answer that is that of the move itself
+-- an answer that is that of the transition itself
 trap_known : (q r : Option ℤ) → q ≡ r → GivesKnown (as_constant q ∷ []) (give_or_trap r)
 trap_known None None e = tt
 trap_known (Some m) None e = tt
@@ -175,7 +175,7 @@ feasible_in : (o : Option BenchKind) (targets : List ℕ) (known : List (Option 
 feasible_in None targets known b h = h
 feasible_in (Some k) targets known b h = kind_in k targets known b h
 
--- where the move is a jump, it is one to one of these successors
+-- where the transition is a jump, it is one to one of these successors
 abbrev JumpsWithin : List ℕ → List ℕ → Move → Type 0
 JumpsWithin targets blocks (Goto i ds) = (b : ℕ) → slice_get targets i ≡ Some b → In b blocks
 JumpsWithin targets blocks (Give ds) = Unit {0}

@@ -6,8 +6,8 @@ use Rattle.pliron_core.specs.declared.attrs.AttrObj.{AttrObj}
 use Rattle.pliron_core.specs.declared.attrs.IRStatus.{IRStatus}
 use Rattle.pliron_core.specs.declared.attrs.IRStatus.TheVariants.{Unchanged}
 use Rattle.pliron_core.specs.Tree.{Tree, no_entry, row_of, head_of, parent_of}
-use Rattle.pliron_core.specs.Writes.{created, put_next_to, taken_from, taken_out}
-use Rattle.pliron_core.specs.Erased.{erased, is_met_above}
+use Rattle.pliron_core.specs.Writes.{after_creating, put_next_to, taken_from, taken_out}
+use Rattle.pliron_core.specs.Erased.{after_erasing, is_met_above}
 use Rattle.pliron_core.specs.Changes.{IsSameTree}
 use Rattle.pliron_core.proofs.SameTreeLemmas.{same_refl}
 use Rattle.pliron_core.proofs.HoldingLemmas.{past_live}
@@ -23,7 +23,7 @@ use Rattle.pliron_laws.specs.Outcomes.MaterialisesSome.{Rest}
 use Rattle.pliron_laws.specs.OutcomeLaws.{folds_by_constants}
 use Rattle.pliron_laws.specs.Replacing.{FoldsBranch, ReplacesBranch, JumpsTo, branch_shape, branch_replaced, with_edges}
 use Rattle.pliron_laws.specs.Replacing.FoldsBranch.{Kept, Replaced}
-use Rattle.pliron_laws.specs.InPlace.{FoldsInPlace, TellsChange}
+use Rattle.pliron_laws.specs.InPlace.{FoldsInPlace, ReportsChange}
 use Rattle.pliron_bench.specs.Bench.{by_kind, kind_of, first_edge_count, plain_head}
 use Rattle.pliron_bench.specs.BenchNumbers.{number_at, known_at}
 use Rattle.pliron_bench.specs.BenchMoves.{edge_of, edge_values, act_of, no_act, branches, places_of, no_places, bench}
@@ -40,8 +40,8 @@ same_tree t u e = subst (IsSameTree t) (sym e) (same_refl t)
 
 -- ---- constants
 
-kind_within : (k : Option BenchKind) (t t' : Tree) (op : ℕ) (known : List (Option AttrObj)) (answer : Option IRStatus) (o : Operation) → op_at t op ≡ Some o → fold_of k t t' op known answer → MaterialisesSome bench_accepts bench_constant_head op o.results (bench_constants (shape_of bench t o) known) t t' × TellsChange answer t t'
-kind_within (Some Const) t t' op known answer o at h = (Rest (same_tree t t' h.0), subst (λ a. TellsChange a t t') (sym h.1) (same_tree t t' h.0))
+kind_within : (k : Option BenchKind) (t t' : Tree) (op : ℕ) (known : List (Option AttrObj)) (answer : Option IRStatus) (o : Operation) → op_at t op ≡ Some o → fold_of k t t' op known answer → MaterialisesSome bench_accepts bench_constant_head op o.results (bench_constants (shape_of bench t o) known) t t' × ReportsChange answer t t'
+kind_within (Some Const) t t' op known answer o at h = (Rest (same_tree t t' h.0), subst (λ a. ReportsChange a t t') (sym h.1) (same_tree t t' h.0))
 kind_within _ t t' op known answer o at h = folds_by_constants bench bench_constants bench_accepts bench_constant_head t t' op known answer o at h
 
 -- ---- branches
@@ -86,18 +86,18 @@ taken_rows : (t : Tree) (op : ℕ) (o : Option ℕ) → (taken_from t op o).oper
 taken_rows t op None = refl
 taken_rows t op (Some b) = refl
 
--- what is erased has no row
-gone : (t : Tree) (op : ℕ) → op < length t.operations → row_of (erased t op) op ≡ no_entry
+-- what is erased has no entry
+gone : (t : Tree) (op : ℕ) → op < length t.operations → row_of (after_erasing t op) op ≡ no_entry
 gone t op lt = blanked_gone (λ k. is_met_above (taken_out t op) (nat_eq op) (Some k)) no_entry (taken_out t op).operations op (met_itself (taken_out t op) op (subst (λ z. op < length z) (sym (taken_rows t op (parent_of t op))) lt))
 
 longer : {A : Type 0} (xs : List A) (y : A) (k : ℕ) → k < length xs → k < length (xs ++ y ∷ [])
 longer xs y k lt = omega (arith, length-append xs (y ∷ []), lt)
 
--- the branch that was replaced stands no more
+-- the branch that was replaced is erased
 replaced_gone : (t : Tree) (op : ℕ) (head : Head) (operands successors : List ℕ) → op < length t.operations → row_of (branch_replaced t op head operands successors) op ≡ no_entry
 replaced_gone t op head operands successors lt =
-    gone (put_next_to (with_edges (created t head 0 0) (next_op t) operands successors) (next_op t) op (parent_of t op)) op
-    (subst (λ z. op < length z) (sym (put_rows (with_edges (created t head 0 0) (next_op t) operands successors) (next_op t) op (parent_of t op))) (longer t.operations _ op lt))
+    gone (put_next_to (with_edges (after_creating t head 0 0) (next_op t) operands successors) (next_op t) op (parent_of t op)) op
+    (subst (λ z. op < length z) (sym (put_rows (with_edges (after_creating t head 0 0) (next_op t) operands successors) (next_op t) op (parent_of t op))) (longer t.operations _ op lt))
 
 head_with : (t : Tree) (k : ℕ) (o : Operation) (h : Option Head) → op_with t k h ≡ Some o → h ≡ Some o.head
 head_with t k o None e = grind arith
@@ -120,14 +120,14 @@ jump_within t t' op known o s c at e f h k j =
       differs t t' op o.head (head_at t op o at) (ap (λ z. row_of z op) j.tree ∙ replaced_gone t op (plain_head Br) j.values (j.block ∷ []) (stands t op o.head (head_at t op o at))),
     )
 
-kept_within : (t t' : Tree) (op : ℕ) (known : List (Option AttrObj)) (status : IRStatus) → t' ≡ t → status ≡ Unchanged → FoldsBranch bench op known t t' × TellsChange (Some status) t t'
-kept_within t t' op known status e f = (Kept (same_tree t t' e), subst (λ a. TellsChange (Some a) t t') (sym f) (same_tree t t' e))
+kept_within : (t t' : Tree) (op : ℕ) (known : List (Option AttrObj)) (status : IRStatus) → t' ≡ t → status ≡ Unchanged → FoldsBranch bench op known t t' × ReportsChange (Some status) t t'
+kept_within t t' op known status e f = (Kept (same_tree t t' e), subst (λ a. ReportsChange (Some a) t t') (sym f) (same_tree t t' e))
 
-edge_within : (k : Option BenchKind) (a : Bool) (q : Option ℤ) (t t' : Tree) (op : ℕ) (known : List (Option AttrObj)) (o : Operation) (answer : Option IRStatus) → op_at t op ≡ Some o → kind_of (shape_of bench t o).head.kind ≡ k → admits_shape (shape_of bench t o) ≡ a → known_at known 0 ≡ q → JumpsWhereKnown (known_edge k a q) t t' op o answer → FoldsBranch bench op known t t' × TellsChange answer t t'
+edge_within : (k : Option BenchKind) (a : Bool) (q : Option ℤ) (t t' : Tree) (op : ℕ) (known : List (Option AttrObj)) (o : Operation) (answer : Option IRStatus) → op_at t op ≡ Some o → kind_of (shape_of bench t o).head.kind ≡ k → admits_shape (shape_of bench t o) ≡ a → known_at known 0 ≡ q → JumpsWhereKnown (known_edge k a q) t t' op o answer → FoldsBranch bench op known t t' × ReportsChange answer t t'
 edge_within k a q t t' op known o None at e f g j = (Kept j, tt)
 edge_within (Some Cbr) true (Some c) t t' op known o (Some status) at e f g j =
     let w = jump_within t t' op known o (shape_of bench t o) c at refl e f g j.0 in
-    (w.0, subst (λ z. TellsChange (Some z) t t') (sym j.1) w.1)
+    (w.0, subst (λ z. ReportsChange (Some z) t t') (sym j.1) w.1)
 edge_within (Some Cbr) true None t t' op known o (Some status) at e f g j = kept_within t t' op known status j.0 j.1
 edge_within (Some Cbr) false q t t' op known o (Some status) at e f g j = kept_within t t' op known status j.0 j.1
 edge_within _ a q t t' op known o (Some status) at e f g j = kept_within t t' op known status j.0 j.1

@@ -13,7 +13,7 @@ use Rattle.pliron_laws.specs.Laws.{CountsFit, KeepsCounts, IsGive, GivesAtOnce, 
 use Rattle.pliron_laws.specs.Folding.{MakesConstant, MakesConstants}
 use Rattle.pliron_bench.specs.Bench.{by_kind, kind_of, result_count, successor_count, attribute_head, is_number}
 use Rattle.pliron_bench.specs.BenchNumbers.{fits, quotient, number_at, datum_at}
-use Rattle.pliron_bench.specs.BenchMoves.{once, fitted, give_or_trap, edge_of, argument_count, act_of, no_act, ends_block, branches, bench}
+use Rattle.pliron_bench.specs.BenchMoves.{once, fit_data, give_or_trap, edge_of, argument_count, act_of, no_act, ends_block, branches, bench}
 use Rattle.pliron_bench.specs.BenchAnswers.{effects_of, bench_side_effects, removable_of, no_removal, bench_removable, bench_accepts, bench_constant_head}
 use Rattle.pliron_bench.specs.BenchParts.{Admits, of_kind}
 
@@ -30,12 +30,12 @@ ends : (o : Option BenchKind) (s : Shape) → Admits o s → 0 < s.successors �
 ends None s h lt = grind arith
 ends (Some k) s h lt = kind_ends k (subst (λ c. 0 < c) (of_kind k s h).successors lt)
 
-length-fitted : (n : ℕ) (ds : List Datum) → length (fitted n ds) ≡ n
+length-fitted : (n : ℕ) (ds : List Datum) → length (fit_data n ds) ≡ n
 length-fitted zero ds = refl
 length-fitted (suc n) [] = ap suc (length-fitted n [])
 length-fitted (suc n) (d ∷ ds) = ap suc (length-fitted n ds)
 
-visit_fits : (counts : List ℕ) (input : List Datum) (n : ℕ) → slice_get counts 0 ≡ Some n → length (fitted (slice_index_or counts 0 0) input) ≡ n
+visit_fits : (counts : List ℕ) (input : List Datum) (n : ℕ) → slice_get counts 0 ≡ Some n → length (fit_data (slice_index_or counts 0 0) input) ≡ n
 visit_fits [] input n e = grind arith
 visit_fits (c ∷ counts) input n e = length-fitted c input ∙ same_Some c n e
 

@@ -9,11 +9,11 @@ use Rattle.pliron_laws.specs.Datum.{Datum, Empty, Number, Text, Join, datum_of, 
 use Rattle.pliron_bench.specs.Bench.{by_kind, kind_of, takes, first_attribute, first_edge_count}
 use Rattle.pliron_bench.specs.BenchNumbers.{datum_at, number_at, is_zero, sum, product, quotient}
 
--- the memo after a visit or an effect
-abbrev pub done : Datum
-done = Number (pos 1)
+-- the memo after an invocation or an effect
+abbrev pub memo_when_done : Datum
+memo_when_done = Number (pos 1)
 
--- one move first, the other one when it is done
+-- one transition first, the other one when it is done
 abbrev pub once : Datum → Move → Move → Move
 once Empty move after = move
 once (Number n) move after = after
@@ -21,14 +21,14 @@ once (Text s) move after = after
 once (Join a b) move after = after
 
 -- so many data: cut, or filled with 0
-abbrev pub fitted : ℕ → List Datum → List Datum
-fitted zero ds = []
-fitted (suc n) [] = Number (pos 0) ∷ fitted n []
-fitted (suc n) (d ∷ ds) = d ∷ fitted n ds
+abbrev pub fit_data : ℕ → List Datum → List Datum
+fit_data zero ds = []
+fit_data (suc n) [] = Number (pos 0) ∷ fit_data n []
+fit_data (suc n) (d ∷ ds) = d ∷ fit_data n ds
 
--- the first region is visited with the input, as far as its entry has arguments
+-- the first region is invoked with the input, as far as its entry has arguments
 abbrev pub visit_once : Datum → List ℕ → List Datum → Move → Move
-visit_once memo entry_arguments input after = once memo (Visit 0 (fitted (slice_index_or entry_arguments 0 0) input) done) after
+visit_once memo entry_arguments input after = once memo (Visit 0 (fit_data (slice_index_or entry_arguments 0 0) input) memo_when_done) after
 
 -- `read` and `print` as texts
 abbrev pub read_word : Datum
@@ -55,7 +55,7 @@ abbrev pub argument_count : Option (List ℕ) → ℕ → ℕ
 argument_count None i = 0
 argument_count (Some counts) i = slice_index_or counts i 0
 
--- the move of an operation of the kind with this memo on this input
+-- the transition of an operation of the kind with this memo on this input
 abbrev pub act_of : BenchKind → Shape → Datum → List Datum → Move
 act_of Mod s memo input = Give []
 act_of Func s memo input = visit_once memo s.entry_arguments input (Leave input)
@@ -63,8 +63,8 @@ act_of Const s memo input = Give (datum_of (first_attribute s.head.attrs) ∷ []
 act_of Add s memo input = Give (Number (sum (number_at input 0) (number_at input 1)) ∷ [])
 act_of Mul s memo input = Give (Number (product (number_at input 0) (number_at input 1)) ∷ [])
 act_of Div s memo input = give_or_trap (quotient (number_at input 0) (number_at input 1))
-act_of Read s memo input = once memo (Emit read_word done) (Give (datum_at input 0 ∷ []))
-act_of Print s memo input = once memo (Emit (Join print_word (datum_at input 0)) done) (Give [])
+act_of Read s memo input = once memo (Emit read_word memo_when_done) (Give (datum_at input 0 ∷ []))
+act_of Print s memo input = once memo (Emit (Join print_word (datum_at input 0)) memo_when_done) (Give [])
 act_of Pair s memo input = Give (Number (pos 1) ∷ Number (pos 2) ∷ [])
 act_of Sink s memo input = Give []
 act_of Scope s memo input = visit_once memo s.entry_arguments input (Give [])
@@ -91,7 +91,7 @@ branches Br = true
 branches Cbr = true
 branches _ = false
 
--- what visits its region with its operands
+-- what invokes its region with its operands
 abbrev pub passes_operands : BenchKind → Bool
 passes_operands Scope = true
 passes_operands _ = false

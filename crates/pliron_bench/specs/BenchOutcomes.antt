@@ -10,7 +10,7 @@ use Rattle.pliron_bench.specs.declared.kind.BenchKind.TheVariants.{Const, Br, Cb
 use Rattle.pliron_laws.specs.Datum.{Head, Shape}
 use Rattle.pliron_laws.specs.Tree.{Operation, op_at, shape_of}
 use Rattle.pliron_laws.specs.Acting.{pick}
-use Rattle.pliron_laws.specs.InPlace.{Outcome, materialising}
+use Rattle.pliron_laws.specs.InPlace.{Outcome, materialising_outcome}
 use Rattle.pliron_laws.specs.Replacing.{branch_replaced}
 use Rattle.pliron_bench.specs.Bench.{kind_of, by_kind, takes, plain_head}
 use Rattle.pliron_bench.specs.BenchNumbers.{known_at}
@@ -24,7 +24,7 @@ kind_in (Some h) = kind_of h.kind
 -- a constant stays as it is, for all else constants are put
 abbrev pub fold_of : Option BenchKind → Outcome
 fold_of (Some Const) t t' op known answer = (t' ≡ t) × (answer ≡ Some Unchanged)
-fold_of _ t t' op known answer = materialising bench bench_constants bench_accepts bench_constant_head t t' op known answer
+fold_of _ t t' op known answer = materialising_outcome bench bench_constants bench_accepts bench_constant_head t t' op known answer
 
 unfoldable pub bench_outcome : Outcome
 bench_outcome t t' op known answer = fold_of (kind_in (head_of t op)) t t' op known answer
@@ -40,7 +40,7 @@ admits_shape s = by_kind false (takes s.head s.operands s.results s.successors (
 abbrev pub edge_under : Shape → List (Option AttrObj) → Option ℕ
 edge_under s known = known_edge (kind_of s.head.kind) (admits_shape s) (known_at known 0)
 
--- a `br` to the target of this edge, with the values that the edge forwards, stands in the place of op
+-- a `br` to the target of this edge, with the values that the edge forwards, takes the place of op
 pub record BecomesJump (t t' : Tree) (op : ℕ) (o : Operation) (edge : ℕ) : Type 0 where
   pub block : ℕ
   pub values : List ℕ
@@ -48,8 +48,8 @@ pub record BecomesJump (t t' : Tree) (op : ℕ) (o : Operation) (edge : ℕ) : T
   pub forwarded : map Some values ≡ pick (bench.forwarded (shape_of bench t o) edge) o.operands
   pub tree : t' ≡ branch_replaced t op (plain_head Br) values (block ∷ [])
 
--- where memory was refused the tree is as before, but for spent keys; else the branch stays, or becomes
--- a jump where its edge is known
+-- on allocation failure the tree is as before, but for erased handles; else the branch stays, or becomes a jump
+-- where its edge is known
 abbrev pub JumpsWhereKnown : Option ℕ → Tree → Tree → ℕ → Operation → Option IRStatus → Type 0
 JumpsWhereKnown edge t t' op o None = IsSameTree t t'
 JumpsWhereKnown None t t' op o (Some status) = (t' ≡ t) × (status ≡ Unchanged)

@@ -56,7 +56,7 @@ count_below (Int (negsuc n) ∷ x ∷ attrs) a h = grind arith
 count_below (Words w ∷ []) a h = grind arith
 count_below (Words w ∷ x ∷ attrs) a h = grind arith
 
--- the move asks nothing of others
+-- the transition neither invokes a region nor emits an effect
 abbrev pub IsQuiet : Move → Type 0
 IsQuiet (Give ds) = Unit {0}
 IsQuiet (Visit i ds memo) = ⊥
@@ -65,7 +65,7 @@ IsQuiet (Leave ds) = Unit {0}
 IsQuiet (Emit e memo) = ⊥
 IsQuiet Trap = Unit {0}
 
--- an operation that asks nothing of others comes to no more than its first input
+-- an operation that neither invokes a region nor emits an effect comes to no more than its first input
 pub record IsFirst (first : List Datum) (later : Bool) (memo : Datum) (input : List Datum) : Type 0 where
   pub once : later ≡ false
   pub no_memo : memo ≡ Empty

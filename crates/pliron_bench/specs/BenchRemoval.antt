@@ -58,7 +58,7 @@ second_edges c n j p zero e = let a = range_at (suc c) (n - suc c) j p e in sym 
 second_edges c n j p (suc zero) e = second_without c (n - suc c) n j p refl e
 second_edges c n j p (suc (suc k)) e = nothing_without (nat_eq (suc (suc k)) 1) p j
 
--- ---- moves
+-- ---- transitions
 
 first_loses : (c c' j p : ℕ) (b : Bool) (first : List Datum) → suc c' ≡ c → p ≡ 1 + j → j ≤ c' → c < length first → MovesAlike PassesSame (JumpsLess 0 j) (Goto (if b then 1 else 0) (edge_values c (if b then 1 else 0) (drop 1 first))) (Goto (if b then 1 else 0) (edge_values c' (if b then 1 else 0) (drop 1 (remove first p))))
 first_loses c c' j p b [] e f le lt = absurd (omega (arith, lt))
@@ -77,7 +77,7 @@ condition_kept first zero lt = absurd (omega (arith, lt))
 condition_kept [] (suc p) lt = refl
 condition_kept (d ∷ ds) (suc p) lt = refl
 
--- what acts alike at its first move acts alike, where a branch goes on at once
+-- what acts alike at its first transition acts alike, where a branch goes on at once
 alike_at_once : (s s' : Shape) (first first' : List Datum) (i j : ℕ) → IsTrue (bench.is_branch s.head) → MovesAlike PassesSame (JumpsLess i j) (bench.act s Empty first) (bench.act s' Empty first') → ActAlike bench.act PassesSame (JumpsLess i j) s s' first first'
 unfolding bench
 alike_at_once s s' first first' i j br begin = record {

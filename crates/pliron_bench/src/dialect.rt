@@ -33,23 +33,23 @@ use std::alloc::Global;
 ///
 /// | Kind | What it does | Side effects | Folds |
 /// |---|---|---|---|
-/// | `mod` | gives nothing; its region is without SSA dominance and never visited | no answer | no |
-/// | `func` | visits its region once with its inputs, and ends with the visit's values | no answer | no |
+/// | `mod` | gives nothing; its region is without SSA dominance and never invoked | no answer | no |
+/// | `func` | invokes its region once with its inputs, and ends with the invocation's values | no answer | no |
 /// | `const` | gives its number | no | to it; stays in place |
 /// | `add`, `mul` | give the wrapped sum, product | no | where both are known; a product also where one is 0 |
 /// | `div` | gives the quotient cut toward zero; traps by 0, or where it doesn't fit | yes | where both are known and it doesn't trap |
-/// | `read` | asks the outside world, and gives the answer | yes | no |
-/// | `print` | tells its operand, and gives nothing | yes | no |
+/// | `read` | asks the environment, and gives the answer | yes | no |
+/// | `print` | emits its operand, and gives nothing | yes | no |
 /// | `pair` | gives 1 and 2 | no | no |
 /// | `sink` | gives nothing, of any operands | no | no |
-/// | `scope` | visits its region once with its operands, and gives nothing | yes | no |
-/// | `box` | gives nothing; its region is never visited | no | no |
+/// | `scope` | invokes its region once with its operands, and gives nothing | yes | no |
+/// | `box` | gives nothing; its region is never invoked | no | no |
 /// | `br` | goes to its block with its operands | no answer | no |
 /// | `cbr` | goes to its first block if its first operand isn't 0, else to its second, with that edge's operands | no answer | as a branch |
 /// | `ret` | leaves the region with its operands | no answer | no |
 /// | `fork` | goes as `cbr` does, and each argument of the block receives its operand | no answer | no |
 ///
-/// A visit passes as many values as the entry has arguments: the inputs or operands are cut, or filled
+/// An invocation passes as many values as the entry has arguments: the inputs or operands are cut, or filled
 /// with 0. A `cbr` counts the values of its first edge in its attribute.
 pub struct Bench;
 
@@ -126,7 +126,7 @@ impl ConstFoldInterface for Bench {
     /// The number of a `const`; the wrapped sum of two known operands; the wrapped product, also where
     /// one of them is known to be 0; the quotient, unless the division traps.
     ///
-    /// Errors: want of memory. Cost: constant, but for a copy of the attribute of a `const`.
+    /// Errors: allocation failure. Cost: constant, but for a copy of the attribute of a `const`.
     #[inline(always)]
     fn check_fold(
         alloc: Global,
@@ -147,7 +147,7 @@ impl ConstFoldInterface for Bench {
     /// A `const` stays as it is. For all else that folds, a `const` is put for the result where it is
     /// known.
     ///
-    /// Errors: want of memory. Cost: one step for each use of the result.
+    /// Errors: allocation failure. Cost: one step for each use of the result.
     fn fold_in_place<R: Rewriter + Room>(
         alloc: Global,
         op: Ptr<Operation>,
@@ -162,7 +162,7 @@ impl ConstFoldInterface for Bench {
         }
     }
 
-    /// A `const` for a whole number within 64 signed bits. Errors: want of memory. Cost: constant.
+    /// A `const` for a whole number within 64 signed bits. Errors: allocation failure. Cost: constant.
     #[tactic(auto, unfolding(crate::specs::BenchAnswers::bench_accepts, crate::specs::BenchAnswers::bench_constant_head))]
     #[inline(always)]
     fn materialize(
@@ -203,7 +203,7 @@ impl BranchOpFoldInterface for Bench {
     /// Where the condition is known, the one block that the branch takes: the second one if the
     /// condition counts as 0, else the first one. Both blocks where it is unknown.
     ///
-    /// Errors: want of memory. Cost: constant.
+    /// Errors: allocation failure. Cost: constant.
     fn check_fold(
         alloc: Global,
         op: Ptr<Operation>,
@@ -226,7 +226,7 @@ impl BranchOpFoldInterface for Bench {
     /// An admitted `cbr` with a known condition becomes a `br` to the block that it takes, with the
     /// values that this edge forwards; anything else stays.
     ///
-    /// Errors: want of memory, after which the tree is as it was, but for spent keys. Cost: one step for
+    /// Errors: allocation failure, after which the tree is as it was, but for erased handles. Cost: one step for
     /// each operand.
     fn fold_in_place<R: Rewriter + Room>(
         alloc: Global,
@@ -353,7 +353,7 @@ impl Dialect for Bench {
     /// Of a `br` all operands. Of those of a `cbr` behind the condition, the first edge forwards as many as
     /// the attribute counts, and the second edge the others.
     ///
-    /// Errors: want of memory. Cost: one step for each value.
+    /// Errors: allocation failure. Cost: one step for each value.
     fn successor_operands(
         alloc: Global,
         op: Ptr<Operation>,

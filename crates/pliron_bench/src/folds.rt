@@ -34,7 +34,7 @@ fn constant(number: Option<i64>) -> Option<AttrObj>
     }
 }
 
-/// The constant of the result of an operation that folds, where it is known. Errors: want of memory. Cost:
+/// The constant of the result of an operation that folds, where it is known. Errors: allocation failure. Cost:
 /// constant, but for the copy of a `const`'s attribute.
 #[inline(always)]
 pub fn answer_of(
@@ -63,7 +63,7 @@ pub fn answer_of(
     }
 }
 
-/// The answer for an operation with one result. Errors: want of memory. Cost: constant.
+/// The answer for an operation with one result. Errors: allocation failure. Cost: constant.
 #[inline(always)]
 pub fn one_answer(
     alloc: Global,
@@ -76,7 +76,7 @@ pub fn one_answer(
     Ok(answers)
 }
 
-/// Whether the operation is a `const`. Asks that the operation stands (`is_live` tests it). Cost: constant.
+/// Whether the operation is a `const`. Asks that the operation is live (`is_live` tests it). Cost: constant.
 pub fn makes_constant(op: Ptr<Operation>, ctx: &Context) -> bool
     requires { IsLive ctx.now.tree op }
     ensures { ReadsHead (λ h. is_const_kind (kind_of h.kind)) ctx.now.tree op result }

@@ -18,7 +18,7 @@ pub fn plain_head(alloc: Global, kind: BenchKind) -> Head
     }
 }
 
-/// The head of an operation with one attribute. Errors: want of memory. Cost: constant.
+/// The head of an operation with one attribute. Errors: allocation failure. Cost: constant.
 #[inline(always)]
 pub fn attribute_head(
     alloc: Global,

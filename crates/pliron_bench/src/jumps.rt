@@ -18,7 +18,7 @@ use crate::tables::kind_at;
 use pliron_core::{AttrObj, Attrs, BasicBlock, Context, Operation, Ptr, Value};
 use std::alloc::{AllocFailed, Global};
 
-/// Places in a row: the first one, and how many there are.
+/// Consecutive places: the first one, and how many there are.
 #[derive(Clone, Copy)]
 pub struct Places {
     pub first: usize,
@@ -77,7 +77,7 @@ fn places_in_kind(kind: BenchKind, attrs: &Attrs, operands: usize, i: usize) -> 
     }
 }
 
-/// The places of the operands that an edge forwards. Asks that the operation stands (`is_live` tests it).
+/// The places of the operands that an edge forwards. Asks that the operation is live (`is_live` tests it).
 /// Cost: constant.
 pub fn places_at(op: Ptr<Operation>, ctx: &Context, i: usize) -> Places
     requires { IsLive ctx.now.tree op }
@@ -92,8 +92,8 @@ pub fn places_at(op: Ptr<Operation>, ctx: &Context, i: usize) -> Places
     }
 }
 
-/// The operands at these places. Asks that the operation stands and has operands at them, and that the place
-/// after the last is a `usize`. Errors: want of memory. Cost: the number of places.
+/// The operands at these places. Asks that the operation is live and has operands at them, and that the place
+/// after the last is a `usize`. Errors: allocation failure. Cost: the number of places.
 pub fn operands_at(
     alloc: Global,
     op: Ptr<Operation>,
@@ -112,8 +112,8 @@ pub fn operands_at(
     Ok(values)
 }
 
-/// The operand at place `j` of these, if there are so many. Asks that the operation stands and has operands
-/// at them, and that the place after the last is a `usize`. Cost: constant.
+/// The operand at place `j` of these, if there are so many. Asks that the operation is live and has operands at
+/// them, and that the place after the last is a `usize`. Cost: constant.
 pub fn operand_among(op: Ptr<Operation>, ctx: &Context, places: Places, j: usize) -> Option<Value>
     requires live { IsLive ctx.now.tree op }
     requires within { (k : ℕ) → k < places.count → places.first + k < length (operands_of ctx.now.tree op) }
@@ -127,7 +127,7 @@ pub fn operand_among(op: Ptr<Operation>, ctx: &Context, places: Places, j: usize
     }
 }
 
-/// Which of these places in a row this one is, if it is one. Cost: constant.
+/// Which of these consecutive places this one is, if it is one. Cost: constant.
 pub fn place_among(places: Places, place: usize) -> Option<usize>
     ensures { IfSome result (λ j. (place ≡ places.first + j) × (j < places.count)) }
 {
@@ -142,7 +142,7 @@ pub fn place_among(places: Places, place: usize) -> Option<usize>
     }
 }
 
-/// The successors, in order. Asks that the operation stands (`is_live` tests it). Errors: want of memory.
+/// The successors, in order. Asks that the operation is live (`is_live` tests it). Errors: allocation failure.
 /// Cost: the number of successors.
 pub fn all_successors(
     alloc: Global,
@@ -159,8 +159,8 @@ pub fn all_successors(
     Ok(blocks)
 }
 
-/// The successor at this index alone, if there is one. Asks that the operation stands (`is_live` tests it).
-/// Errors: want of memory. Cost: constant.
+/// The successor at this index alone, if there is one. Asks that the operation is live (`is_live` tests it).
+/// Errors: allocation failure. Cost: constant.
 pub fn only_successor(
     alloc: Global,
     op: Ptr<Operation>,
@@ -193,8 +193,8 @@ fn one_fewer(attr: &AttrObj) -> AttrObj
     }
 }
 
-/// A `cbr` counts one operand fewer, if this is its first edge; another operation stays as it is. Asks that
-/// the operation stands (`is_live` tests it). Cost: constant.
+/// A `cbr` counts one operand fewer, if this is its first edge; another operation stays as it is. Asks that the
+/// operation is live (`is_live` tests it). Cost: constant.
 pub fn shorten(op: Ptr<Operation>, ctx: &mut Context, i: usize)
     requires { IsLive ctx.old.tree op }
     ensures head { (h : HeadOf) → head_of ctx.old.tree op ≡ Some h → ctx.new.tree ≡

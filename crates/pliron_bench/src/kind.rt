@@ -164,7 +164,7 @@ impl BenchKind {
         }
     }
 
-    /// Whether operations of the kind stand in a `mod` or alone. Cost: constant.
+    /// Whether operations of the kind are in a `mod` or in no block. Cost: constant.
     pub fn is_top(self) -> bool
         ensures { IsTrue result → IsTopKind self }
     {

@@ -11,7 +11,7 @@ pub fn folds_are_monotone()
     ensures { FoldsMonotonely bench bench_folds bench_folds_branch bench_constants bench_feasible }
 {}
 
-/// Where memory is not refused, folding in place comes to one tree and one answer.
+/// Without allocation failure, folding in place comes to one tree and one answer.
 pub fn folds_have_one_outcome()
     ensures constants { IsSingle bench_outcome }
     ensures branches { IsSingle bench_branch_outcome }

@@ -10,7 +10,7 @@ use pliron_core::AttrObj;
 
 /// What is left of the number in 64 signed bits. Cost: constant.
 #[inline(always)]
-pub fn wrapped(number: i128) -> i64
+pub fn wrap(number: i128) -> i64
     ensures { result ≡ int_wrap w64 number }
 {
     let bits = number.rem_euclid(18_446_744_073_709_551_616);
@@ -31,7 +31,7 @@ fn as_number(attr: &AttrObj) -> i64
     ensures { result ≡ number_in (datum_of attr.now) }
 {
     match attr {
-        AttrObj::Int(number) => wrapped(*number),
+        AttrObj::Int(number) => wrap(*number),
         AttrObj::Text(_) => 0,
     }
 }

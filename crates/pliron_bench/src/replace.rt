@@ -1,8 +1,8 @@
-//! A branch that becomes a jump.
+//! Replacing a branch by a jump.
 ghost use Rattle.std.specs.Prelude.{◌≡◌, ℕ, List, ◌∷◌, ◌<◌, ◌≤◌, [], Some, None, IsSome, OnOk, OnErr, length, IsOkUnless};
 ghost use Rattle.pliron_core.specs.declared.rewriter.OpInsertionPoint.TheVariants.{BeforeOperation};
 ghost use Rattle.pliron_core.specs.Tree.{In, IsLive, IsBlock, IsDefined, operands_of, successors_of, results_of, regions_of, parent_of};
-ghost use Rattle.pliron_core.specs.Insertion.{IsPointFor, inserted};
+ghost use Rattle.pliron_core.specs.Insertion.{IsPointFor, after_inserting};
 ghost use Rattle.pliron_core.specs.Changes.{IsSameTree};
 ghost use Rattle.pliron_laws.specs.Tree.{Operation as OperationOf, op_at};
 ghost use Rattle.pliron_laws.specs.Replacing.{with_edges};
@@ -15,8 +15,7 @@ use pliron_core::{BasicBlock, Context, NoMemory, Operation, Ptr, Rewriter, Value
 use pliron_laws::{OptError, Room};
 use std::alloc::Global;
 
-// The new operation gets these operands and this successor. Where memory is refused it has some of
-// them.
+// The new operation gets these operands and this successor. On allocation failure it has some of them.
 fn add_edge(
     ctx: &mut Context,
     jump: Ptr<Operation>,
@@ -39,8 +38,8 @@ fn add_edge(
     Ok(())
 }
 
-// The new operation gets these operands and this successor, and goes where the rewriter inserts. Where
-// memory is refused it stands nowhere.
+// The new operation gets these operands and this successor, and is inserted at the rewriter's insertion point.
+// On allocation failure it is in no block.
 fn put_jump<R: Rewriter>(
     ctx: &mut Context,
     jump: Ptr<Operation>,
@@ -55,7 +54,7 @@ fn put_jump<R: Rewriter>(
     requires target { IsBlock ctx.old.tree target }
     requires free { parent_of ctx.old.tree jump ≡ None }
     requires point { IsPointFor ctx.old.tree (R.point rewriter.old) jump }
-    ensures ok { OnOk result (ctx.new.tree ≡ inserted (with_edges ctx.old.tree jump values.now (target ∷ [])) (R.point rewriter.old) jump) }
+    ensures ok { OnOk result (ctx.new.tree ≡ after_inserting (with_edges ctx.old.tree jump values.now (target ∷ [])) (R.point rewriter.old) jump) }
     ensures err { OnErr result ((given blocks : List ℕ) × (ctx.new.tree ≡ with_edges ctx.old.tree jump given blocks)) }
     ensures point { R.point rewriter.new ≡ R.point rewriter.old }
 {
@@ -64,12 +63,12 @@ fn put_jump<R: Rewriter>(
     Ok(())
 }
 
-/// A `br` to the target of this edge, with the values that the edge forwards, comes in the place of the
-/// operation: wholly or not at all.
+/// A `br` to the target of this edge, with the values that the edge forwards, takes the place of the operation:
+/// a whole rewrite, or none.
 ///
-/// Asks that the operation stands in a block, has such an edge, and has no results and no regions, and that
-/// the rewriter inserts before it. Errors: want of memory, which leaves the tree as it was but for spent
-/// keys. Cost: linear in the operation's operands and successors, and what the rewriter's listener costs.
+/// Asks that the operation is live in a block, has such an edge, and has no results and no regions, and that
+/// the rewriter inserts before it. Errors: allocation failure, which leaves the tree as it was but for erased
+/// handles. Cost: linear in the operation's operands and successors, and what the rewriter's listener costs.
 pub fn jump_in_place<R: Rewriter + Room>(
     alloc: Global,
     op: Ptr<Operation>,

@@ -11,7 +11,7 @@ use crate::numbers::is_number;
 use pliron_core::{AttrObj, Attrs, BasicBlock, Context, Head, Operation, Ptr};
 use pliron_laws::Interface;
 
-/// The kind of the operation, if it is one of this dialect. Asks that the operation stands (`is_live` tests
+/// The kind of the operation, if it is one of this dialect. Asks that the operation is live (`is_live` tests
 /// it). Cost: constant.
 pub fn kind_at(op: Ptr<Operation>, ctx: &Context) -> Option<BenchKind>
     requires { IsLive ctx.now.tree op }
@@ -166,14 +166,14 @@ impl BenchKind {
         matches!(self, BenchKind::Cbr)
     }
 
-    // Whether an operation of the kind visits its region with its operands.
+    // Whether an operation of the kind invokes its region with its operands.
     pub(super) fn passes_operands(self) -> bool
         ensures { result ≡ is_passing self }
     {
         matches!(self, BenchKind::Scope)
     }
 
-    // The operand, of so many, that every visit passes as the argument with this index.
+    // The operand, of so many, that every invocation passes as the argument with this index.
     pub(super) fn entry_operand(self, operands: usize, arg: usize) -> Option<usize>
         ensures { result ≡ entry_operand_of self operands arg }
     {

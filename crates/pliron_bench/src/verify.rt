@@ -20,7 +20,7 @@ fn edge_fits(op: Ptr<Operation>, ctx: &Context, i: usize) -> bool
     places_at(op, ctx, i).count == target.num_argument(ctx)
 }
 
-/// Whether the operation is no `cbr`, or each of its edges fits. Asks that the operation stands (`is_live`
+/// Whether the operation is no `cbr`, or each of its edges fits. Asks that the operation is live (`is_live`
 /// tests it). Cost: the number of its successors.
 pub fn edges_fit(op: Ptr<Operation>, ctx: &Context) -> bool
     requires { IsLive ctx.now.tree op }

@@ -2,7 +2,7 @@
 use Rattle.std.proofs.Common.{◌≡◌, ℕ, zero, suc, ◌+◌, ◌-◌, ◌%◌, ◌^◌, ◌<◌, ◌≤◌, ◌⊎◌, inl, inr, Bool, true, false, nat_lt, if◌then◌else◌, refl, ap, sym, ◌∙◌, arith, ℤ, pos, negsuc, ◌+ℤ◌, ◌-ℤ◌}
 use Rattle.std.proofs.Math.Nat.{mod-eq_of_lt, mod-eq-sub-mod}
 use Rattle.std.proofs.lemmas.Int.{ints}
-use Rattle.pliron_bits.specs.Numbers.{signed, bits_of}
+use Rattle.pliron_bits.specs.Numbers.{signed_value, bits_of}
 
 order : (n m : ℕ) → (n < m) ⊎ (m ≤ n)
 order n zero = inr (omega arith)
@@ -36,7 +36,7 @@ less_once w (negsuc n) =
     ap (bits_of w) (further n (2 ^ w))
     ∙ ap (λ x. 2 ^ w - 1 - x) (mod-eq-sub-mod (omega arith) ∙ ap (λ x. x % 2 ^ w) (omega arith))
 
-pub sums_agree : (w a b : ℕ) → bits_of w (signed w a +ℤ signed w b) ≡ (a + b) % 2 ^ w
+pub sums_agree : (w a b : ℕ) → bits_of w (signed_value w a +ℤ signed_value w b) ≡ (a + b) % 2 ^ w
 sums_agree w a b = of_bools (nat_lt a (2 ^ (w - 1))) (nat_lt b (2 ^ (w - 1)))
   where
     of_bools : (x y : Bool) → bits_of w ((if x then pos a else pos a -ℤ pos (2 ^ w)) +ℤ (if y then pos b else pos b -ℤ pos (2 ^ w))) ≡ (a + b) % 2 ^ w
@@ -51,7 +51,7 @@ sums_agree w a b = of_bools (nat_lt a (2 ^ (w - 1))) (nat_lt b (2 ^ (w - 1)))
         let e : (pos a -ℤ pos (2 ^ w)) +ℤ (pos b -ℤ pos (2 ^ w)) ≡ (pos (a + b) -ℤ pos (2 ^ w)) -ℤ pos (2 ^ w) = omega (arith, ints) in
         ap (bits_of w) e ∙ less_once w (pos (a + b) -ℤ pos (2 ^ w)) ∙ less_once w (pos (a + b))
 
-pub differences_agree : (w a b : ℕ) → b < 2 ^ w → bits_of w (signed w a -ℤ signed w b) ≡ (a + (2 ^ w - b)) % 2 ^ w
+pub differences_agree : (w a b : ℕ) → b < 2 ^ w → bits_of w (signed_value w a -ℤ signed_value w b) ≡ (a + (2 ^ w - b)) % 2 ^ w
 differences_agree w a b lt = of_bools (nat_lt a (2 ^ (w - 1))) (nat_lt b (2 ^ (w - 1)))
   where
     of_bools : (x y : Bool) → bits_of w ((if x then pos a else pos a -ℤ pos (2 ^ w)) -ℤ (if y then pos b else pos b -ℤ pos (2 ^ w))) ≡ (a + (2 ^ w - b)) % 2 ^ w

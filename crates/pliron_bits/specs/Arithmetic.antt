@@ -3,7 +3,7 @@
 use Rattle.std.specs.Prelude.{ℕ, ◌+◌, ◌-◌, ◌*◌, ◌/◌, ◌%◌, ◌^◌, min, max, nat_eq, nat_lt, nat_le, if◌then◌else◌, Bool, true, false, not, ◌&&◌, ◌||◌, Option, Some, None, ℤ, pos, neg_ℤ, ◌+ℤ◌, ◌-ℤ◌, ◌*ℤ◌, int_lt, int_le, int_div, int_rem, unsigned_abs, bit_and, bit_or, bit_xor}
 use Rattle.std.specs.Int.{int_div_euclid}
 use Rattle.pliron_bits.specs.declared.flags.Flags.{Flags}
-use Rattle.pliron_bits.specs.Numbers.{signed, is_signed, bits_of}
+use Rattle.pliron_bits.specs.Numbers.{signed_value, is_signed, bits_of}
 
 -- a number, unless something speaks against it
 abbrev pub unless : Bool → ℕ → Option ℕ
@@ -14,27 +14,27 @@ unless b n = if b then None else Some n
 abbrev pub wraps : Flags → (width : ℕ) → ℤ → Bool → Bool
 wraps f width z exact = (f.no_signed_wrap && not (is_signed width z)) || (f.no_unsigned_wrap && not exact)
 
-abbrev pub wrapped : Flags → (width : ℕ) → ℤ → Bool → ℕ → Option ℕ
-wrapped f width z exact n = unless (wraps f width z exact) (n % 2 ^ width)
+abbrev pub wrap : Flags → (width : ℕ) → ℤ → Bool → ℕ → Option ℕ
+wrap f width z exact n = unless (wraps f width z exact) (n % 2 ^ width)
 
 abbrev pub sum : Flags → (width a b : ℕ) → Option ℕ
-sum f width a b = wrapped f width (signed width a +ℤ signed width b) (nat_lt (a + b) (2 ^ width)) (a + b)
+sum f width a b = wrap f width (signed_value width a +ℤ signed_value width b) (nat_lt (a + b) (2 ^ width)) (a + b)
 
 abbrev pub difference : Flags → (width a b : ℕ) → Option ℕ
-difference f width a b = wrapped f width (signed width a -ℤ signed width b) (nat_le b a) (a + (2 ^ width - b))
+difference f width a b = wrap f width (signed_value width a -ℤ signed_value width b) (nat_le b a) (a + (2 ^ width - b))
 
 abbrev pub product : Flags → (width a b : ℕ) → Option ℕ
-product f width a b = wrapped f width (signed width a *ℤ signed width b) (nat_lt (a * b) (2 ^ width)) (a * b)
+product f width a b = wrap f width (signed_value width a *ℤ signed_value width b) (nat_lt (a * b) (2 ^ width)) (a * b)
 
 -- a shift to the left is a product; one by the width or more has no meaning
 abbrev pub shifted_left : Flags → (width a b : ℕ) → Option ℕ
 shifted_left f width a b =
     if nat_lt b width
-    then wrapped f width (signed width a *ℤ pos (2 ^ b)) (nat_lt (a * 2 ^ b) (2 ^ width)) (a * 2 ^ b)
+    then wrap f width (signed_value width a *ℤ pos (2 ^ b)) (nat_lt (a * 2 ^ b) (2 ^ width)) (a * 2 ^ b)
     else None
 
-abbrev pub truncated : Flags → (width to a : ℕ) → Option ℕ
-truncated f width to a = wrapped f to (signed width a) (nat_lt a (2 ^ to)) a
+abbrev pub truncation : Flags → (width to a : ℕ) → Option ℕ
+truncation f width to a = wrap f to (signed_value width a) (nat_lt a (2 ^ to)) a
 
 -- ---- division: not by 0, not the least signed number by -1, and where it has to be exact without a remainder
 
@@ -46,10 +46,10 @@ unsigned_remainder a b = unless (nat_eq b 0) (a % b)
 
 -- the signed quotient, which rounds to 0
 abbrev pub quotient_in : (width a b : ℕ) → ℤ
-quotient_in width a b = int_div (signed width a) (signed width b)
+quotient_in width a b = int_div (signed_value width a) (signed_value width b)
 
 abbrev pub remainder_in : (width a b : ℕ) → ℤ
-remainder_in width a b = int_rem (signed width a) (signed width b)
+remainder_in width a b = int_rem (signed_value width a) (signed_value width b)
 
 abbrev pub divides : (width a b : ℕ) → Bool
 divides width a b = not (nat_eq b 0) && is_signed width (quotient_in width a b)
@@ -71,7 +71,7 @@ abbrev pub logical_shift : Flags → (width a b : ℕ) → Option ℕ
 logical_shift f width a b = unless (shift_fails f width a b) (a / 2 ^ b)
 
 abbrev pub arithmetic_shift : Flags → (width a b : ℕ) → Option ℕ
-arithmetic_shift f width a b = unless (shift_fails f width a b) (bits_of width (int_div_euclid (signed width a) (pos (2 ^ b))))
+arithmetic_shift f width a b = unless (shift_fails f width a b) (bits_of width (int_div_euclid (signed_value width a) (pos (2 ^ b))))
 
 -- ---- bits
 
@@ -87,7 +87,7 @@ exclusion a b = Some (bit_xor a b)
 -- ---- order
 
 abbrev pub signed_less : (width a b : ℕ) → Bool
-signed_less width a b = int_lt (signed width a) (signed width b)
+signed_less width a b = int_lt (signed_value width a) (signed_value width b)
 
 abbrev pub unsigned_minimum : (a b : ℕ) → Option ℕ
 unsigned_minimum a b = Some (min a b)
@@ -107,4 +107,4 @@ abbrev pub zero_extended : Flags → (width a : ℕ) → Option ℕ
 zero_extended f width a = unless (f.nonnegative && nat_le (2 ^ (width - 1)) a) a
 
 abbrev pub sign_extended : (width to a : ℕ) → Option ℕ
-sign_extended width to a = Some (bits_of to (signed width a))
+sign_extended width to a = Some (bits_of to (signed_value width a))

@@ -2,8 +2,8 @@
 use Rattle.std.specs.Prelude.{ℕ, ◌-◌, ◌%◌, ◌^◌, nat_lt, if◌then◌else◌, Bool, ◌&&◌, ℤ, pos, negsuc, neg_ℤ, ◌-ℤ◌, int_lt, int_le}
 
 -- the number read as signed: those of the upper half are negative
-abbrev pub signed : (width n : ℕ) → ℤ
-signed width n = if nat_lt n (2 ^ (width - 1)) then pos n else pos n -ℤ pos (2 ^ width)
+abbrev pub signed_value : (width n : ℕ) → ℤ
+signed_value width n = if nat_lt n (2 ^ (width - 1)) then pos n else pos n -ℤ pos (2 ^ width)
 
 -- whether the signed numbers of this width reach so far
 abbrev pub is_signed : ℕ → ℤ → Bool

@@ -7,7 +7,7 @@ use Rattle.pliron_bits.specs.declared.operators.Predicate.{Predicate}
 use Rattle.pliron_bits.specs.declared.operators.Predicate.TheVariants.{Equal, NotEqual, SignedLess, SignedLessEqual, SignedGreater, SignedGreaterEqual, UnsignedLess, UnsignedLessEqual, UnsignedGreater, UnsignedGreaterEqual}
 use Rattle.pliron_bits.specs.declared.operators.Cast.{Cast}
 use Rattle.pliron_bits.specs.declared.operators.Cast.TheVariants.{ZeroExtend, SignExtend, Truncate}
-use Rattle.pliron_bits.specs.Arithmetic.{sum, difference, product, shifted_left, truncated, unsigned_quotient, unsigned_remainder, signed_quotient, signed_remainder, logical_shift, arithmetic_shift, conjunction, disjunction, exclusion, signed_less, unsigned_minimum, unsigned_maximum, signed_minimum, signed_maximum, zero_extended, sign_extended}
+use Rattle.pliron_bits.specs.Arithmetic.{sum, difference, product, shifted_left, truncation, unsigned_quotient, unsigned_remainder, signed_quotient, signed_remainder, logical_shift, arithmetic_shift, conjunction, disjunction, exclusion, signed_less, unsigned_minimum, unsigned_maximum, signed_minimum, signed_maximum, zero_extended, sign_extended}
 
 abbrev pub binary : BinaryOperator → Flags → (width a b : ℕ) → Option ℕ
 binary Add f width a b = sum f width a b
@@ -28,23 +28,23 @@ binary SignedMinimum f width a b = signed_minimum width a b
 binary UnsignedMaximum f width a b = unsigned_maximum a b
 binary SignedMaximum f width a b = signed_maximum width a b
 
-abbrev pub compared : Predicate → (width a b : ℕ) → Bool
-compared Equal width a b = nat_eq a b
-compared NotEqual width a b = not (nat_eq a b)
-compared SignedLess width a b = signed_less width a b
-compared SignedLessEqual width a b = not (signed_less width b a)
-compared SignedGreater width a b = signed_less width b a
-compared SignedGreaterEqual width a b = not (signed_less width a b)
-compared UnsignedLess width a b = nat_lt a b
-compared UnsignedLessEqual width a b = nat_le a b
-compared UnsignedGreater width a b = nat_lt b a
-compared UnsignedGreaterEqual width a b = nat_le b a
+abbrev pub comparison : Predicate → (width a b : ℕ) → Bool
+comparison Equal width a b = nat_eq a b
+comparison NotEqual width a b = not (nat_eq a b)
+comparison SignedLess width a b = signed_less width a b
+comparison SignedLessEqual width a b = not (signed_less width b a)
+comparison SignedGreater width a b = signed_less width b a
+comparison SignedGreaterEqual width a b = not (signed_less width a b)
+comparison UnsignedLess width a b = nat_lt a b
+comparison UnsignedLessEqual width a b = nat_le a b
+comparison UnsignedGreater width a b = nat_lt b a
+comparison UnsignedGreaterEqual width a b = nat_le b a
 
 -- an extension goes to no narrower type, a truncation to no wider one
 abbrev pub cast_to : Cast → Flags → (width to a : ℕ) → Option ℕ
 cast_to ZeroExtend f width to a = if nat_le width to then zero_extended f width a else None
 cast_to SignExtend f width to a = if nat_le width to then sign_extended width to a else None
-cast_to Truncate f width to a = if nat_le to width then truncated f width to a else None
+cast_to Truncate f width to a = if nat_le to width then truncation f width to a else None
 
 -- ---- numbers of names
 

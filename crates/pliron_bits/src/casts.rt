@@ -1,10 +1,10 @@
 //! Numbers at another width.
 ghost use Rattle.std.specs.Prelude.{◌≡◌, ◌≤◌, ◌<◌, ◌^◌, IfSome};
-ghost use Rattle.pliron_bits.specs.Arithmetic.{zero_extended, sign_extended, truncated};
+ghost use Rattle.pliron_bits.specs.Arithmetic.{zero_extended, sign_extended, truncation};
 
 use crate::flags::Flags;
-use crate::readings::{bits, signed, size};
-use crate::wrapping::wrapped;
+use crate::readings::{bits, signed_value, size};
+use crate::wrapping::wrap;
 
 /// The number at a width that isn't less. None where it must not be negative and is. Asks for a width from 1 to 64.
 /// Cost: constant.
@@ -30,7 +30,7 @@ pub fn sign_extend(width: u32, to: u32, a: u64) -> Option<u64>
     ensures same { result ≡ sign_extended width to a }
     ensures below { IfSome result (λ n. n < 2 ^ to) }
 {
-    Some(bits(to, signed(width, a)))
+    Some(bits(to, signed_value(width, a)))
 }
 
 /// What is left of the number at a width that isn't greater. None where it must not wrap and does. Asks for widths
@@ -41,9 +41,9 @@ pub fn truncate(flags: Flags, width: u32, to: u32, a: u64) -> Option<u64>
     requires target { 1 ≤ to }
     requires narrow { to ≤ 64 }
     requires number { a < 2 ^ width }
-    ensures same { result ≡ truncated flags width to a }
+    ensures same { result ≡ truncation flags width to a }
     ensures below { IfSome result (λ n. n < 2 ^ to) }
 {
     let all = a as u128;
-    wrapped(flags, to, signed(width, a), all < size(to), all)
+    wrap(flags, to, signed_value(width, a), all < size(to), all)
 }

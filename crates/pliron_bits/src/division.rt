@@ -4,7 +4,7 @@ ghost use Rattle.pliron_bits.specs.Arithmetic.{unsigned_quotient as unsigned_quo
 
 use crate::flags::Flags;
 use crate::integers::{over, rest};
-use crate::readings::{bits, is_signed, signed};
+use crate::readings::{bits, is_signed, signed_value};
 
 /// The quotient, which rounds down. None by 0, and with a remainder where it has to be exact. Cost: constant.
 pub fn unsigned_quotient(flags: Flags, a: u64, b: u64) -> Option<u64>
@@ -35,7 +35,7 @@ fn divides(width: u32, a: u64, b: u64) -> bool
     if b == 0 {
         false
     } else {
-        is_signed(width, over(signed(width, a), signed(width, b)))
+        is_signed(width, over(signed_value(width, a), signed_value(width, b)))
     }
 }
 
@@ -52,7 +52,7 @@ pub fn signed_quotient(flags: Flags, width: u32, a: u64, b: u64) -> Option<u64>
     if !divides(width, a, b) {
         return None;
     }
-    let (first, second) = (signed(width, a), signed(width, b));
+    let (first, second) = (signed_value(width, a), signed_value(width, b));
     if flags.exact && rest(first, second) != 0 {
         None
     } else {
@@ -71,7 +71,7 @@ pub fn signed_remainder(width: u32, a: u64, b: u64) -> Option<u64>
     ensures number { IfSome result (λ n. n < 2 ^ width) }
 {
     if divides(width, a, b) {
-        Some(bits(width, rest(signed(width, a), signed(width, b))))
+        Some(bits(width, rest(signed_value(width, a), signed_value(width, b))))
     } else {
         None
     }

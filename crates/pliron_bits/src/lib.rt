@@ -22,6 +22,6 @@ pub use flags::Flags;
 pub use logic::{and, or, xor};
 pub use operators::{BinaryOperator, Cast, Predicate, compare, compute, convert};
 pub use order::{signed_maximum, signed_minimum, unsigned_maximum, unsigned_minimum};
-pub use readings::{bits, is_signed, signed, size};
+pub use readings::{bits, is_signed, signed_value, size};
 pub use shifts::{arithmetic_shift_right, logical_shift_right, shift_left};
 pub use wrapping::{difference, product, sum};

@@ -1,6 +1,6 @@
 //! The operations by name.
 ghost use Rattle.std.specs.Prelude.{◌≡◌, ◌≤◌, ◌<◌, ◌^◌, Some, IfSome};
-ghost use Rattle.pliron_bits.specs.Operators.{binary, compared, cast_to, number_of_operator, operator_of_number, number_of_predicate, predicate_of_number};
+ghost use Rattle.pliron_bits.specs.Operators.{binary, comparison, cast_to, number_of_operator, operator_of_number, number_of_predicate, predicate_of_number};
 
 use crate::casts::{sign_extend, truncate, zero_extend};
 use crate::division::{signed_quotient, signed_remainder, unsigned_quotient, unsigned_remainder};
@@ -185,7 +185,7 @@ pub fn compare(predicate: Predicate, width: u32, a: u64, b: u64) -> bool
     requires at_most { width ≤ 64 }
     requires first { a < 2 ^ width }
     requires second { b < 2 ^ width }
-    ensures { result ≡ compared predicate width a b }
+    ensures { result ≡ comparison predicate width a b }
 {
     match predicate {
         Predicate::Equal => a == b,

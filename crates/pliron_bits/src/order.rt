@@ -2,7 +2,7 @@
 ghost use Rattle.std.specs.Prelude.{◌≡◌, ◌≤◌, ◌<◌, ◌^◌};
 ghost use Rattle.pliron_bits.specs.Arithmetic.{signed_less as signed_less_by, unsigned_minimum as unsigned_minimum_of, unsigned_maximum as unsigned_maximum_of, signed_minimum as signed_minimum_of, signed_maximum as signed_maximum_of};
 
-use crate::readings::signed;
+use crate::readings::signed_value;
 
 /// Whether the first number is less, read as signed. Asks for a width from 1 to 64, and numbers of it. Cost: constant.
 pub fn signed_less(width: u32, a: u64, b: u64) -> bool
@@ -12,7 +12,7 @@ pub fn signed_less(width: u32, a: u64, b: u64) -> bool
     requires second { b < 2 ^ width }
     ensures { result ≡ signed_less_by width a b }
 {
-    signed(width, a) < signed(width, b)
+    signed_value(width, a) < signed_value(width, b)
 }
 
 /// The less of the two. Cost: constant.

@@ -1,6 +1,6 @@
 //! Readings of numbers of a width.
 ghost use Rattle.std.specs.Prelude.{◌≡◌, ◌≤◌, ◌<◌, ◌^◌, ◌-◌, pos, unsigned_abs};
-ghost use Rattle.pliron_bits.specs.Numbers.{signed as signed_of, is_signed as is_signed_of, bits_of};
+ghost use Rattle.pliron_bits.specs.Numbers.{signed_value as signed_of, is_signed as is_signed_of, bits_of};
 
 /// Two to the width. Asks for a width of at most 64. Cost: constant.
 pub fn size(width: u32) -> u128
@@ -12,7 +12,7 @@ pub fn size(width: u32) -> u128
 }
 
 /// The number as a signed one. Asks for a width from 1 to 64, and a number of it. Cost: constant.
-pub fn signed(width: u32, n: u64) -> i128
+pub fn signed_value(width: u32, n: u64) -> i128
     requires at_least { 1 ≤ width }
     requires at_most { width ≤ 64 }
     requires number { n < 2 ^ width }

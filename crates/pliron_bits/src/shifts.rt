@@ -4,8 +4,8 @@ ghost use Rattle.pliron_bits.specs.Arithmetic.{shifted_left, shift_fails as shif
 
 use crate::flags::Flags;
 use crate::integers::{floor, times};
-use crate::readings::{bits, signed, size};
-use crate::wrapping::wrapped;
+use crate::readings::{bits, signed_value, size};
+use crate::wrapping::wrap;
 
 /// The number shifted to the left: its product with two to the second one. None by the width or more, and where it
 /// must not wrap and does. Asks for a width from 1 to 64, and numbers of it. Cost: constant.
@@ -19,9 +19,9 @@ pub fn shift_left(flags: Flags, width: u32, a: u64, b: u64) -> Option<u64>
 {
     if b < width as u64 {
         let factor = size(b as u32);
-        let exact = times(signed(width, a), factor as i128);
+        let exact = times(signed_value(width, a), factor as i128);
         let all = a as u128 * factor;
-        wrapped(flags, width, exact, all < size(width), all)
+        wrap(flags, width, exact, all < size(width), all)
     } else {
         None
     }
@@ -67,7 +67,7 @@ pub fn arithmetic_shift_right(flags: Flags, width: u32, a: u64, b: u64) -> Optio
     if shift_fails(flags, width, a, b) {
         None
     } else {
-        let quotient = floor(signed(width, a), size(b as u32) as i128);
+        let quotient = floor(signed_value(width, a), size(b as u32) as i128);
         Some(bits(width, quotient))
     }
 }

@@ -3,9 +3,9 @@ use Rattle.std.proofs.Common.{◌≡◌, ◌⊎◌, inl, inr, ⊎_elim, ℕ, zer
 use Rattle.std.proofs.lemmas.Bool.{cases_eq, eq-eqb, false_from_ne_true}
 use Rattle.std.proofs.lemmas.Bool.Decides.{eqb_tells}
 use Rattle.std.proofs.lemmas.List.{get_or-set_other, length-set}
-use Rattle.pliron_core.specs.Tree.{Tree, In, IsLive, IsRegion, IsInside, IsInside.Directly, IsInside.Deeper, IsWithin, no_entry, head_of, parent_of, block_parent_of, region_parent_of, block_holder_of, holder_of, op_of_slot}
-use Rattle.pliron_core.specs.Joined.{IsTree}
-use Rattle.pliron_core.specs.Erased.{is_met, is_met_above, blanked, stands_in, StandsIn, block_emptied, block_taken_from, block_erased}
+use Rattle.pliron_core.specs.Tree.{Tree, In, IsLive, IsRegion, IsInside, IsInside.Directly, IsInside.Deeper, IsWithin, no_entry, head_of, parent_of, block_parent_of, region_parent_of, block_parent_operation_of, parent_operation_of, op_of_slot}
+use Rattle.pliron_core.specs.Invariant.{IsTree}
+use Rattle.pliron_core.specs.Erased.{is_met, is_met_above, blank_at, stands_in, StandsIn, block_emptied, block_taken_from, block_erased}
 use Rattle.pliron_core.proofs.TreeLemmas.{live-within}
 use Rattle.pliron_core.proofs.BlankLemmas.{length-blanked, blanked_gone, blanked_kept}
 use Rattle.pliron_core.proofs.ClearingLemmas.{IsClearing, clearing_none, clearing_trans, set_kept}
@@ -47,21 +47,21 @@ one_stands t (c ∷ bs) x e = go (stands_in t c x) refl e (λ f. one_stands t bs
 pub nothing_met : (t : Tree) (p : ℕ → Bool) → is_met_above t p None ≡ false
 nothing_met t p = none (length t.operations)
   where
-    none : (n : ℕ) → is_met (holder_of t) p n None ≡ false
+    none : (n : ℕ) → is_met (parent_operation_of t) p n None ≡ false
     none zero = refl
     none (suc n) = refl
 
 -- a block goes if it is listed or what holds it goes
-pub block_cases : (t : Tree) (bs : List ℕ) (c : ℕ) → cut_block t bs c ≡ true → In c bs ⊎ ((q : ℕ) × (block_holder_of t c ≡ Some q) × (cut_op t bs q ≡ true))
+pub block_cases : (t : Tree) (bs : List ℕ) (c : ℕ) → cut_block t bs c ≡ true → In c bs ⊎ ((q : ℕ) × (block_parent_operation_of t c ≡ Some q) × (cut_op t bs q ≡ true))
 block_cases t bs c e = go (is_listed bs c) refl e
   where
-    above : (o : Option ℕ) → block_holder_of t c ≡ o → is_met_above t (stands_in_one t bs) o ≡ true → (q : ℕ) × (block_holder_of t c ≡ Some q) × (cut_op t bs q ≡ true)
+    above : (o : Option ℕ) → block_parent_operation_of t c ≡ o → is_met_above t (stands_in_one t bs) o ≡ true → (q : ℕ) × (block_parent_operation_of t c ≡ Some q) × (cut_op t bs q ≡ true)
     above None f g = absurd (true≢false (sym g ∙ nothing_met t (stands_in_one t bs)))
     above (Some q) f g = (q, f, g)
 
-    go : (z : Bool) → is_listed bs c ≡ z → (if z then true else is_met_above t (stands_in_one t bs) (block_holder_of t c)) ≡ true → In c bs ⊎ ((q : ℕ) × (block_holder_of t c ≡ Some q) × (cut_op t bs q ≡ true))
+    go : (z : Bool) → is_listed bs c ≡ z → (if z then true else is_met_above t (stands_in_one t bs) (block_parent_operation_of t c)) ≡ true → In c bs ⊎ ((q : ℕ) × (block_parent_operation_of t c ≡ Some q) × (cut_op t bs q ≡ true))
     go true l g = inl (is_listed_in bs c l)
-    go false l g = inr (above (block_holder_of t c) refl g)
+    go false l g = inr (above (block_parent_operation_of t c) refl g)
 
 module _ (t : Tree) (w : IsTree t) (region : ℕ) (bs : List ℕ) (own : (b : ℕ) → In b bs → block_parent_of t b ≡ Some region) where
   abbrev ops : ℕ → Bool
@@ -78,10 +78,10 @@ module _ (t : Tree) (w : IsTree t) (region : ℕ) (bs : List ℕ) (own : (b : �
     region_parent_same : (r : ℕ) → region_parent_of u r ≡ region_parent_of t r
     region_parent_same r = ap (λ z. op_of_slot (slice_get z r)) c.slots
 
-    block_holder_was : (x y : ℕ) → block_holder_of u x ≡ Some y → block_holder_of t x ≡ Some y
+    block_holder_was : (x y : ℕ) → block_parent_operation_of u x ≡ Some y → block_parent_operation_of t x ≡ Some y
     block_holder_was x y e = let s = block_steps u x y e in block_holder_from t x s.0 (c.placed x s.0 s.1) ∙ sym (region_parent_same s.0) ∙ s.2
 
-    holder_was : (x y : ℕ) → holder_of u x ≡ Some y → holder_of t x ≡ Some y
+    holder_was : (x y : ℕ) → parent_operation_of u x ≡ Some y → parent_operation_of t x ≡ Some y
     holder_was x y e =
         let s = holder_steps u x y e in
         let k = c.stays x (wu.joined.standing x s.0 s.1).0 in
@@ -104,9 +104,9 @@ module _ (t : Tree) (w : IsTree t) (region : ℕ) (bs : List ℕ) (own : (b : �
     sound_op : (k : ℕ) → is_met_above u (stands_in u b) (Some k) ≡ true → ops k ≡ true
     sound_op k e = sound k (in_block_is u b k e)
 
-    sound_block : (x : ℕ) → is_met_above u (stands_in u b) (block_holder_of u x) ≡ true → blocks x ≡ true
+    sound_block : (x : ℕ) → is_met_above u (stands_in u b) (block_parent_operation_of u x) ≡ true → blocks x ≡ true
     sound_block x e =
-        let y = met_block u b (block_holder_of u x) e in
+        let y = met_block u b (block_parent_operation_of u x) e in
         ap (λ o. if is_listed bs x then true else is_met_above t (stands_in_one t bs) o) (block_holder_was x y.0 y.1) ∙ ap (λ z. if is_listed bs x then true else z) (sound y.0 y.2) ∙ or_true (is_listed bs x)
 
     sound_region : (r : ℕ) → is_met_above u (stands_in u b) (region_parent_of u r) ≡ true → regions r ≡ true
@@ -117,14 +117,14 @@ module _ (t : Tree) (w : IsTree t) (region : ℕ) (bs : List ℕ) (own : (b : �
     kept_op : (k : ℕ) → ops k ≡ false → is_met_above u (stands_in u b) (Some k) ≡ false
     kept_op k e = false_from_ne_true _ (λ f. true≢false (sym (sound_op k f) ∙ e))
 
-    kept_block : (x : ℕ) → blocks x ≡ false → is_met_above u (stands_in u b) (block_holder_of u x) ≡ false
+    kept_block : (x : ℕ) → blocks x ≡ false → is_met_above u (stands_in u b) (block_parent_operation_of u x) ≡ false
     kept_block x e = false_from_ne_true _ (λ f. true≢false (sym (sound_block x f) ∙ e))
 
     kept_region : (r : ℕ) → regions r ≡ false → is_met_above u (stands_in u b) (region_parent_of u r) ≡ false
     kept_region r e = false_from_ne_true _ (λ f. true≢false (sym (sound_region r f) ∙ e))
 
     b_cut : blocks b ≡ true
-    b_cut = ap (λ z. if z then true else is_met_above t (stands_in_one t bs) (block_holder_of t b)) (listed bs b i)
+    b_cut = ap (λ z. if z then true else is_met_above t (stands_in_one t bs) (block_parent_operation_of t b)) (listed bs b i)
 
     region_cut : regions region ≡ true
     region_cut = ap (λ z. if z then true else is_met_above t (stands_in_one t bs) (region_parent_of t region)) (eq-eqb region region refl)
@@ -136,21 +136,21 @@ module _ (t : Tree) (w : IsTree t) (region : ℕ) (bs : List ℕ) (own : (b : �
     live_kept k true e l = absurd (true≢false (sym l ∙ ap (λ r. is_some r.head) (blanked_gone _ no_entry u.operations k e)))
     live_kept k false e l = (subst (λ r. is_some r.head ≡ true) (blanked_kept _ no_entry u.operations k e) l, blanked_kept _ None u.parents k e)
 
-    placed_kept : (x r : ℕ) (z : Bool) → is_met_above u (stands_in u b) (block_holder_of u x) ≡ z → block_parent_of emptied x ≡ Some r → block_parent_of u x ≡ Some r
+    placed_kept : (x r : ℕ) (z : Bool) → is_met_above u (stands_in u b) (block_parent_operation_of u x) ≡ z → block_parent_of emptied x ≡ Some r → block_parent_of u x ≡ Some r
     placed_kept x r true e f = absurd (not_none (sym (blanked_gone _ None u.block_parents x e) ∙ f))
     placed_kept x r false e f = sym (blanked_kept _ None u.block_parents x e) ∙ f
 
     emptied_clearing : IsClearing ops blocks blocks regions u emptied
     emptied_clearing = record {
       count = length-blanked _ no_entry u.operations;
-      block_count = length-set (blanked _ [] u.bodies) b [] ∙ length-blanked _ [] u.bodies;
+      block_count = length-set (blank_at _ [] u.bodies) b [] ∙ length-blanked _ [] u.bodies;
       slots = refl;
       definitions = refl;
       rows = λ k e. blanked_kept _ no_entry u.operations k (kept_op k e);
       operands = λ k e. blanked_kept _ [] u.operands k (kept_op k e);
       successors = λ k e. blanked_kept _ [] u.successors k (kept_op k e);
       parents = λ k e. blanked_kept _ None u.parents k (kept_op k e);
-      contents = λ x e. set_kept (blanked _ [] u.bodies) [] blocks b [] x b_cut e ∙ blanked_kept _ [] u.bodies x (kept_block x e);
+      contents = λ x e. set_kept (blank_at _ [] u.bodies) [] blocks b [] x b_cut e ∙ blanked_kept _ [] u.bodies x (kept_block x e);
       arguments = λ x e. blanked_kept _ [] u.arguments x (kept_block x e);
       block_parents = λ x e. blanked_kept _ None u.block_parents x (kept_block x e);
       layouts = λ r e. blanked_kept _ [] u.layouts r (kept_region r e);
@@ -220,11 +220,11 @@ module _ (t : Tree) (w : IsTree t) (region : ℕ) (bs : List ℕ) (own : (b : �
     same_parent : (r : ℕ) → region_parent_of v r ≡ region_parent_of t r
     same_parent r = ap (λ z. op_of_slot (slice_get z r)) f.clearing.slots
 
-    was_held : (x y : ℕ) → block_holder_of v x ≡ Some y → block_holder_of t x ≡ Some y
+    was_held : (x y : ℕ) → block_parent_operation_of v x ≡ Some y → block_parent_operation_of t x ≡ Some y
     was_held x y e = let s = block_steps v x y e in block_holder_from t x s.0 (f.clearing.placed x s.0 s.1) ∙ sym (same_parent s.0) ∙ s.2
 
     -- what is left stands in what is left
-    holder_left : (x y : ℕ) → IsLive v x → holder_of t x ≡ Some y → IsLive v y
+    holder_left : (x y : ℕ) → IsLive v x → parent_operation_of t x ≡ Some y → IsLive v y
     holder_left x y l e =
         let s = holder_steps t x y e in
         let at : parent_of v x ≡ Some s.0 = (f.clearing.stays x l).1 ∙ s.1 in
@@ -259,10 +259,10 @@ module _ (t : Tree) (w : IsTree t) (region : ℕ) (bs : List ℕ) (own : (b : �
     block_dead : (c r : ℕ) → cut_block t bs c ≡ true → block_parent_of v c ≡ Some r → ⊥
     block_dead c r e at = go (is_listed bs c) refl e
       where
-        held : (q k : ℕ) × (block_parent_of v c ≡ Some q) × IsRegion v q × (region_parent_of v q ≡ Some k) × (block_holder_of v c ≡ Some k) × IsLive v k
+        held : (q k : ℕ) × (block_parent_of v c ≡ Some q) × IsRegion v q × (region_parent_of v q ≡ Some k) × (block_parent_operation_of v c ≡ Some k) × IsLive v k
         held = block_held v c f.tree.joined (ap is_some at)
 
-        go : (z : Bool) → is_listed bs c ≡ z → (if z then true else is_met_above t (stands_in_one t bs) (block_holder_of t c)) ≡ true → ⊥
+        go : (z : Bool) → is_listed bs c ≡ z → (if z then true else is_met_above t (stands_in_one t bs) (block_parent_operation_of t c)) ≡ true → ⊥
         go true l m = not_none (sym (f.gone c (is_listed_in bs c l)) ∙ at)
         go false l m = cut_dead held.1 (ap (is_met_above t (stands_in_one t bs)) (sym (was_held c held.1 held.5)) ∙ m) held.6
 

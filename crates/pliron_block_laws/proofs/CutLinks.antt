@@ -2,8 +2,8 @@
 use Rattle.std.proofs.Common.{◌≡◌, inl, inr, ⊎_elim, ℕ, true, false, refl, true≢false, List, length, Some, None, IsSome, is_some, sym, ap, ◌∙◌, subst}
 use Rattle.std.proofs.lemmas.Bool.{false_from_ne_true}
 use Rattle.pliron_core.specs.Changes.{IsOutside, IsBlockOutside, IsRegionOutside, IsInsideChange}
-use Rattle.pliron_core.specs.Tree.{Tree, In, last_of, IsLive, IsBlock, IsInside, IsInside.Directly, successors_of, regions_of, parent_of, block_parent_of, region_parent_of, block_holder_of, holder_of, layout_of}
-use Rattle.pliron_core.specs.Joined.{IsTree}
+use Rattle.pliron_core.specs.Tree.{Tree, In, last_of, IsLive, IsBlock, IsInside, IsInside.Directly, successors_of, regions_of, parent_of, block_parent_of, region_parent_of, block_parent_operation_of, parent_operation_of, layout_of}
+use Rattle.pliron_core.specs.Invariant.{IsTree}
 use Rattle.pliron_core.specs.Erased.{is_met_above}
 use Rattle.pliron_core.proofs.WithinLemmas.{holder_steps, block_holder_from, met_within}
 use Rattle.pliron_core.proofs.HoldingLemmas.{slot_is, region_parent_is, holder_by, within_inside}
@@ -32,10 +32,10 @@ module _ (t v : Tree) (region : ℕ) (bs : List ℕ) (w : IsTree t) (wv : IsTree
   parents_left : (b : ℕ) → IsBlock v b → block_parent_of v b ≡ block_parent_of t b
   parents_left b is = c.block_parents b (block_left b is)
 
-  abbrev blocks_were : (b k : ℕ) → block_holder_of v b ≡ Some k → block_holder_of t b ≡ Some k
+  abbrev blocks_were : (b k : ℕ) → block_parent_operation_of v b ≡ Some k → block_parent_operation_of t b ≡ Some k
   blocks_were = block_was t v w wv regions_left parents_left
 
-  holder_was : (x y : ℕ) → holder_of v x ≡ Some y → holder_of t x ≡ Some y
+  holder_was : (x y : ℕ) → parent_operation_of v x ≡ Some y → parent_operation_of t x ≡ Some y
   holder_was x y e =
       let s = holder_steps v x y e in
       let live = (wv.joined.standing x s.0 s.1).0 in
@@ -59,7 +59,7 @@ module _ (t v : Tree) (region : ℕ) (bs : List ℕ) (w : IsTree t) (wv : IsTree
       let row = c.rows k left in
       admitted_same m t v k (ap (λ z. z.head) row) (ap length (c.operands k left)) (ap (λ z. length z.results) row) (ap length (c.successors k left)) (ap (λ z. length z.regions) row) a x e
 
-  -- what stands outside the holder of the region is not cut
+  -- what stands outside the parent operation of the region is not cut
   module _ (holder : ℕ) (held : region_parent_of t region ≡ Some holder) (own : (b : ℕ) → In b bs → block_parent_of t b ≡ Some region) where
     cut_within : (x : ℕ) → cut_op t bs x ≡ true → IsInside t holder x
     cut_within x e =

@@ -2,10 +2,10 @@
 use Rattle.std.proofs.Common.{◌≡◌, ◌≢◌, ◌⊎◌, inl, inr, ⊎_elim, ℕ, List, [], ◌∷◌, ◌++◌, Option, Some, None, IsSome, slice_get, refl, sym, ap, ◌∙◌, subst, arith}
 use Rattle.std.proofs.lemmas.Bool.{cases_eq}
 use Rattle.pliron_core.specs.declared.context.Def.TheVariants.{Result, Argument}
-use Rattle.pliron_core.specs.Changes.{IsMakerInside}
-use Rattle.pliron_core.specs.Tree.{Tree, In, first_of, IsInside, IsWithin, operands_of, successors_of, results_of, parent_of, body_of, arguments_of, block_parent_of, layout_of, region_parent_of, block_holder_of, holder_of, definition_of, up_from, op_of_slot}
+use Rattle.pliron_core.specs.Changes.{IsDefiningOperationInside}
+use Rattle.pliron_core.specs.Tree.{Tree, In, first_of, IsInside, IsWithin, operands_of, successors_of, results_of, parent_of, body_of, arguments_of, block_parent_of, layout_of, region_parent_of, block_parent_operation_of, parent_operation_of, definition_of, up_from, op_of_slot}
 use Rattle.pliron_core.specs.Edges.{succs_from}
-use Rattle.pliron_core.specs.Joined.{IsTree}
+use Rattle.pliron_core.specs.Invariant.{IsTree}
 use Rattle.pliron_core.proofs.ListLemmas.{In-right, decide_in}
 use Rattle.pliron_core.proofs.HoldingLemmas.{some_is, not_none, in_slice, slice_in, holder_by, inside_up, inside_by, deeper, within_inside, not_itself}
 use Rattle.pliron_laws.specs.Datum.{Datum, Empty, Meaning, Move, Visit, Goto, Emit}
@@ -18,7 +18,7 @@ use Rattle.pliron_laws.specs.Linked.{EndsBlock}
 use Rattle.pliron_theory.specs.Keeps.{IsFit}
 use Rattle.pliron_theory.specs.Renaming.{RunReaches}
 use Rattle.pliron_theory.specs.Splicing.{JumpsNow}
-use Rattle.pliron_theory.proofs.Frames.{Facts, Makes, Rules, Below, Holding, holding_kept}
+use Rattle.pliron_theory.proofs.Frames.{LatticeValues, Makes, Rules, Below, Holding, holding_kept}
 use Rattle.pliron_laws.proofs.Records.{op_shows, block_shows, entry_shows, ShowsEntry}
 use Rattle.pliron_theory.proofs.Alike.{data_long}
 use Rattle.pliron_theory.proofs.Bound.{IsPlaced, IsAt, HasAnswer, has_some, places, place_rules, placed_parent, placed_holder, placed_inside}
@@ -67,19 +67,19 @@ module _ (m : Meaning) (t : Tree) (w : IsTree t) (a b jump : ℕ) (front : List 
   once j x = let e : Argument b j ≡ Argument b i = some_is (sym (w.joined.arguments b j p x) ∙ made) in cc
 
   -- how the value dominates the jump
-  v_made : IsMakerInside t root (definition_of t v)
+  v_made : IsDefiningOperationInside t root (definition_of t v)
   v_made = f.defined.own_values jump v inside used
 
   d : IsDominated t jump v
   d = f.defined.dominated jump v used v_made
 
-  home : (x : ℕ) × (region_parent_of t d.region ≡ Some x) × (block_holder_of t d.block ≡ Some x) × (holder_of t d.around ≡ Some x)
+  home : (x : ℕ) × (region_parent_of t d.region ≡ Some x) × (block_parent_operation_of t d.block ≡ Some x) × (parent_operation_of t d.around ≡ Some x)
   home = home_held t w a b jump front h m i p v at used jump v d
 
-  -- the holder of the region that makes the value stands around the blocks, or is their holder
+  -- the parent operation of the region that makes the value stands around the blocks, or is their holder
   holder_above : (home.0 ≡ top) ⊎ IsInside t home.0 top
   holder_above = ⊎_elim
-      (λ s. inl (some_is (sym home.3 ∙ ap (holder_of t) (sym s) ∙ jump_holder t w a b jump front h)))
+      (λ s. inl (some_is (sym home.3 ∙ ap (parent_operation_of t) (sym s) ∙ jump_holder t w a b jump front h)))
       (λ y.
       let u = inside_up y in
       let s : u.0 ≡ top = some_is (sym u.1 ∙ jump_holder t w a b jump front h) in
@@ -90,7 +90,7 @@ module _ (m : Meaning) (t : Tree) (w : IsTree t) (a b jump : ℕ) (front : List 
   abbrev Here : ℕ → Type 0
   Here k = (c : ℕ) × (parent_of t k ≡ Some c) × (block_parent_of t c ≡ Some here)
 
-  held_here : (k : ℕ) → Here k → holder_of t k ≡ Some top
+  held_here : (k : ℕ) → Here k → parent_operation_of t k ≡ Some top
   held_here k x = holder_by t k x.0 top x.1 (ap (λ o. up_from o (λ r. region_parent_of t r)) x.2 ∙ (held t w a b jump front h).4)
 
   -- does not stand around what makes the value, nor around the blocks
@@ -103,17 +103,17 @@ module _ (m : Meaning) (t : Tree) (w : IsTree t) (a b jump : ℕ) (front : List 
   not_around k x y = not_itself w.joined.rooted (within_inside (inside_by top (held_here k x) (inl refl)) y)
 
   -- where the value is made
-  by_result : (k : ℕ) → In v (results_of t k) → holder_of t k ≡ Some home.0
+  by_result : (k : ℕ) → In v (results_of t k) → parent_operation_of t k ≡ Some home.0
   by_result k x =
       let j = slice_in (results_of t k) v x in
       let e : up_from (parent_of t k) (λ c. block_parent_of t c) ≡ Some d.region = ap (λ z. up_from (defining_block t z) (λ c. block_parent_of t c)) (sym (w.joined.results k j.0 v j.1)) ∙ d.defined in
       go (parent_of t k) e
     where
-      go : (o : Option ℕ) → up_from o (λ c. block_parent_of t c) ≡ Some d.region → up_from o (λ c. block_holder_of t c) ≡ Some home.0
+      go : (o : Option ℕ) → up_from o (λ c. block_parent_of t c) ≡ Some d.region → up_from o (λ c. block_parent_operation_of t c) ≡ Some home.0
       go None e = absurd (not_none e)
       go (Some c) e = ap (λ o. up_from o (λ r. region_parent_of t r)) e ∙ home.1
 
-  by_argument : (c : ℕ) → In v (arguments_of t c) → block_holder_of t c ≡ Some home.0
+  by_argument : (c : ℕ) → In v (arguments_of t c) → block_parent_operation_of t c ≡ Some home.0
   by_argument c x =
       let j = slice_in (arguments_of t c) v x in
       let e : block_parent_of t c ≡ Some d.region = ap (λ z. up_from (defining_block t z) (λ c. block_parent_of t c)) (sym (w.joined.arguments c j.0 v j.1)) ∙ d.defined in
@@ -188,7 +188,7 @@ module _ (m : Meaning) (t : Tree) (w : IsTree t) (a b jump : ℕ) (front : List 
   abbrev pub Unmoved : List ℕ → Datum → Option (List Datum) → Type 0
   Unmoved rest memo answer = (others : List ℕ) → rest ≡ jump ∷ others → (memo ≡ Empty) × (answer ≡ None)
 
-  abbrev pub facts : Facts
+  abbrev pub facts : LatticeValues
   facts = record {
     Always = λ env. Unit {0};
     Moves = λ env g rest memo answer. IsAt t root env g rest × HasAnswer g answer × OfPlace env g rest × Unmoved rest memo answer;
@@ -343,7 +343,7 @@ module _ (m : Meaning) (t : Tree) (w : IsTree t) (a b jump : ℕ) (front : List 
       emit_goes : {told next : Datum} {values : List Datum} → Emit told next ≡ Goto 0 values → ⊥
       emit_goes e = cc
 
-      -- what is made inside an operation of the blocks' region is neither value
+      -- what is defined inside an operation of the blocks' region is neither value
       deep_result : (j k : ℕ) → IsInside t j k → Here j → In v (results_of t k) → ⊥
       deep_result j k dj hj i' =
           let u = inside_up dj in
@@ -360,7 +360,7 @@ module _ (m : Meaning) (t : Tree) (w : IsTree t) (a b jump : ℕ) (front : List 
       deep_target : (env : Environment) (g k : ℕ) (rest : List ℕ) (j c : ℕ) → IsPlaced t root env g (k ∷ rest) → IsInside t j k → Here j → In c (successors_of t k) → In v (arguments_of t c) → ⊥
       deep_target env g k rest j c q dj hj ce i' =
           let ends = f.linked.edges k c ce (inl (placed_inside t w root env g k rest q)) in
-          let up : holder_of t k ≡ Some home.0 = ap (λ o. up_from o (λ z. block_holder_of t z)) ends.in_block ∙ ap (λ o. up_from o (λ r. region_parent_of t r)) (sym (ends.own_region c ce)) ∙ by_argument c i' in
+          let up : parent_operation_of t k ≡ Some home.0 = ap (λ o. up_from o (λ z. block_parent_operation_of t z)) ends.in_block ∙ ap (λ o. up_from o (λ r. region_parent_of t r)) (sym (ends.own_region c ce)) ∙ by_argument c i' in
           let u = inside_up dj in
           let s : u.0 ≡ home.0 = some_is (sym u.1 ∙ up) in
           not_home j hj (subst (IsWithin t j) s u.2)

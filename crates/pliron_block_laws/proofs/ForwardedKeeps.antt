@@ -1,8 +1,8 @@
 -- The uses of an argument may go to the value that is forwarded to it.
 use Rattle.std.proofs.Common.{arith, false, ◌≡◌, inr, ℕ, zero, suc, Bool, List, [], ◌∷◌, map, Some, None, slice_get, refl, sym, ap, ◌∙◌}
 use Rattle.pliron_core.specs.Tree.{Tree, In, first_of, IsInside, head_of, operands_of, arguments_of, layout_of}
-use Rattle.pliron_core.specs.Joined.{IsTree}
-use Rattle.pliron_core.specs.Writes.{replaced}
+use Rattle.pliron_core.specs.Invariant.{IsTree}
+use Rattle.pliron_core.specs.Writes.{after_replacing}
 use Rattle.pliron_core.proofs.HoldingLemmas.{some_is, not_none, in_slice, some_of}
 use Rattle.pliron_laws.specs.Datum.{Datum, Empty, Head, Shape, Meaning}
 use Rattle.pliron_laws.specs.Tree.{Operation, op_at, shape_of}
@@ -68,7 +68,7 @@ module _ (m : Meaning) (can_fold : Head → Bool) (SameTests : Head → Head →
           go (d ∷ ds) (x ∷ places) zero e f = let g : Some d ≡ slice_get first x = cc in g ∙ ap (slice_get first) (some_is e)
           go (d ∷ ds) (x ∷ places) (suc n) e f = let g : map Some ds ≡ pick places first = cc in go ds places n e g
 
-  pub forwarded_keeps : KeepsRuns m t (replaced t p v)
+  pub forwarded_keeps : KeepsRuns m t (after_replacing t p v)
   forwarded_keeps = replaced_keeps m t p v
       (λ root f user uses. may_use t w a b jump front h m i p v at used root f user uses)
       (λ root f f' s s' k rest r r' same e e' none none' uses.

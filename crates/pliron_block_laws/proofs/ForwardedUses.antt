@@ -2,10 +2,10 @@
 use Rattle.std.proofs.Common.{◌≡◌, inl, inr, ⊎_elim, ℕ, List, [], ◌∷◌, ◌++◌, Option, Some, None, IsSome, slice_get, refl, sym, ap, ◌∙◌, subst}
 use Rattle.pliron_core.specs.declared.context.Def.{Def}
 use Rattle.pliron_core.specs.declared.context.Def.TheVariants.{Result, Argument}
-use Rattle.pliron_core.specs.Changes.{IsMakerInside}
-use Rattle.pliron_core.specs.Tree.{Tree, In, first_of, last_of, IsInside, IsWithin, HoldsBlock, IsRegion, IsLive, operands_of, parent_of, body_of, arguments_of, block_parent_of, layout_of, region_parent_of, block_holder_of, holder_of, definition_of, up_from}
+use Rattle.pliron_core.specs.Changes.{IsDefiningOperationInside}
+use Rattle.pliron_core.specs.Tree.{Tree, In, first_of, last_of, IsInside, IsWithin, HoldsBlock, IsRegion, IsLive, operands_of, parent_of, body_of, arguments_of, block_parent_of, layout_of, region_parent_of, block_parent_operation_of, parent_operation_of, definition_of, up_from}
 use Rattle.pliron_core.specs.Edges.{succs_from}
-use Rattle.pliron_core.specs.Joined.{IsTree}
+use Rattle.pliron_core.specs.Invariant.{IsTree}
 use Rattle.pliron_core.proofs.ListLemmas.{In-left, In-right}
 use Rattle.pliron_core.proofs.NeighbourLemmas.{last_of-In}
 use Rattle.pliron_core.proofs.HoldingLemmas.{some_is, block_held, holder_by, inside_up, inside_by, within_inside}
@@ -22,7 +22,7 @@ module _ (t : Tree) (w : IsTree t) (a b jump : ℕ) (front : List ℕ) (h : Lead
   pub jump_in : parent_of t jump ≡ Some a
   jump_in = w.bodies.owned jump a (subst (In jump) (sym h.split) (In-right jump front (jump ∷ []) (inl refl)))
 
-  pub held : (r k : ℕ) × (block_parent_of t a ≡ Some r) × IsRegion t r × (region_parent_of t r ≡ Some k) × (block_holder_of t a ≡ Some k) × IsLive t k
+  pub held : (r k : ℕ) × (block_parent_of t a ≡ Some r) × IsRegion t r × (region_parent_of t r ≡ Some k) × (block_parent_operation_of t a ≡ Some k) × IsLive t k
   held = block_held t a w.joined (w.joined.standing jump a jump_in).1
 
   -- the region of the two blocks, and what holds it
@@ -32,13 +32,13 @@ module _ (t : Tree) (w : IsTree t) (a b jump : ℕ) (front : List ℕ) (h : Lead
   abbrev pub outer : ℕ
   outer = held.1
 
-  pub jump_holder : holder_of t jump ≡ Some outer
+  pub jump_holder : parent_operation_of t jump ≡ Some outer
   jump_holder = holder_by t jump a outer jump_in held.5
 
   pub b_region : block_parent_of t b ≡ Some region
   b_region = h.beside ∙ held.2
 
-  pub b_holder : block_holder_of t b ≡ Some outer
+  pub b_holder : block_parent_operation_of t b ≡ Some outer
   b_holder = ap (λ o. up_from o (λ r. region_parent_of t r)) b_region ∙ held.4
 
   pub leads_only : (c : ℕ) → Leads t c b → c ≡ a
@@ -67,20 +67,20 @@ module _ (t : Tree) (w : IsTree t) (a b jump : ℕ) (front : List ℕ) (h : Lead
           let s : u.0 ≡ outer = some_is (sym u.1 ∙ jump_holder) in
           (outer, b_holder, subst (IsWithin t root) s u.2)
 
-      pub p_inside : IsInside t root jump → IsMakerInside t root (definition_of t p)
-      p_inside x = subst (IsMakerInside t root) (sym p_made) (b_of_jump x)
+      pub p_inside : IsInside t root jump → IsDefiningOperationInside t root (definition_of t p)
+      p_inside x = subst (IsDefiningOperationInside t root) (sym p_made) (b_of_jump x)
 
-      pub b_of_p : IsMakerInside t root (definition_of t p) → HoldsBlock t root b
-      b_of_p x = subst (IsMakerInside t root) p_made x
+      pub b_of_p : IsDefiningOperationInside t root (definition_of t p) → HoldsBlock t root b
+      b_of_p x = subst (IsDefiningOperationInside t root) p_made x
 
     -- what a use's dominance says of the region of its definition
-    pub home_held : (user u : ℕ) (d : IsDominated t user u) → (x : ℕ) × (region_parent_of t d.region ≡ Some x) × (block_holder_of t d.block ≡ Some x) × (holder_of t d.around ≡ Some x)
+    pub home_held : (user u : ℕ) (d : IsDominated t user u) → (x : ℕ) × (region_parent_of t d.region ≡ Some x) × (block_parent_operation_of t d.block ≡ Some x) × (parent_operation_of t d.around ≡ Some x)
     home_held user u d =
         let x = block_held t d.block w.joined (subst IsSome (sym d.in_region) refl) in
         let s : x.0 ≡ d.region = some_is (sym x.2 ∙ d.in_region) in
         (x.1, ap (region_parent_of t) (sym s) ∙ x.4, x.5, holder_by t d.around d.block x.1 d.in_block x.5)
 
-    pub jump_of_v : (root : ℕ) (f : IsFit m t root) → IsMakerInside t root (definition_of t v) → IsInside t root jump
+    pub jump_of_v : (root : ℕ) (f : IsFit m t root) → IsDefiningOperationInside t root (definition_of t v) → IsInside t root jump
     jump_of_v root f made =
         let d = f.defined.dominated jump v used made in
         let x = home_held jump v d in
@@ -101,7 +101,7 @@ module _ (t : Tree) (w : IsTree t) (a b jump : ℕ) (front : List ℕ) (h : Lead
         p_home : e.region ≡ region
         p_home = some_is (sym e.defined ∙ ap (λ z. up_from (defining_block t z) (λ c. block_parent_of t c)) p_made ∙ b_region)
 
-        e_holder : holder_of t e.around ≡ Some outer
+        e_holder : parent_operation_of t e.around ≡ Some outer
         e_holder =
             let x = home_held user p e in
             x.3 ∙ sym x.1 ∙ ap (region_parent_of t) p_home ∙ held.4

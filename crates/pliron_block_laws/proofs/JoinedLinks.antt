@@ -2,8 +2,8 @@
 use Rattle.std.proofs.Common.{◌≡◌, ◌≢◌, ◌⊎◌, inl, inr, ⊎_elim, ℕ, List, [], ◌∷◌, length, Option, Some, None, IsSome, is_some, refl, sym, ap, ◌∙◌, subst}
 use Rattle.std.proofs.lemmas.Bool.{cases_eq}
 use Rattle.pliron_core.specs.Changes.{IsOutside, IsBlockOutside, IsRegionOutside, IsInsideChange}
-use Rattle.pliron_core.specs.Tree.{Tree, In, last_of, IsLive, IsBlock, IsInside.Directly, head_of, successors_of, regions_of, parent_of, body_of, block_parent_of, layout_of, region_parent_of, block_holder_of, holder_of, up_from}
-use Rattle.pliron_core.specs.Joined.{IsTree}
+use Rattle.pliron_core.specs.Tree.{Tree, In, last_of, IsLive, IsBlock, IsInside.Directly, head_of, successors_of, regions_of, parent_of, body_of, block_parent_of, layout_of, region_parent_of, block_parent_operation_of, parent_operation_of, up_from}
+use Rattle.pliron_core.specs.Invariant.{IsTree}
 use Rattle.pliron_core.proofs.EditLemmas.{without-out}
 use Rattle.pliron_core.proofs.RowLemmas.{last_of-append}
 use Rattle.pliron_core.proofs.NeighbourLemmas.{last_of-In}
@@ -33,7 +33,7 @@ module _ (t v : Tree) (a b jump : ℕ) (front : List ℕ) (w : IsTree t) (wv : I
   parents_left : (c : ℕ) → IsBlock v c → block_parent_of v c ≡ block_parent_of t c
   parents_left c is = h.block_parents c (block_left c is)
 
-  abbrev blocks_were : (c k : ℕ) → block_holder_of v c ≡ Some k → block_holder_of t c ≡ Some k
+  abbrev blocks_were : (c k : ℕ) → block_parent_operation_of v c ≡ Some k → block_parent_operation_of t c ≡ Some k
   blocks_were = block_was t v w wv regions_left parents_left
 
   -- where an operation that is left stood
@@ -47,16 +47,16 @@ module _ (t v : Tree) (a b jump : ℕ) (front : List ℕ) (w : IsTree t) (wv : I
           (λ nb. inl (sym (h.parents k ne (λ q. nb (some_is (sym f ∙ q)))) ∙ e))
           (cases_eq d b)
 
-  beside : block_holder_of t b ≡ block_holder_of t a
+  beside : block_parent_operation_of t b ≡ block_parent_operation_of t a
   beside = ap (λ o. up_from o (λ r. region_parent_of t r)) h.beside
 
-  holder_was : (x y : ℕ) → holder_of v x ≡ Some y → holder_of t x ≡ Some y
+  holder_was : (x y : ℕ) → parent_operation_of v x ≡ Some y → parent_operation_of t x ≡ Some y
   holder_was x y e =
       let s = holder_steps v x y e in
       let ne = op_left x (wv.joined.standing x s.0 s.1).0 in
       ⊎_elim
       (λ p. holder_by t x s.0 y p (blocks_were s.0 y s.2))
-      (λ p. holder_by t x b y p.0 (beside ∙ ap (block_holder_of t) (sym p.1) ∙ blocks_were s.0 y s.2))
+      (λ p. holder_by t x b y p.0 (beside ∙ ap (block_parent_operation_of t) (sym p.1) ∙ blocks_were s.0 y s.2))
       (stood x s.0 ne s.1)
 
   jump_last : last_of None (body_of t a) ≡ Some jump
@@ -95,22 +95,22 @@ module _ (t v : Tree) (a b jump : ℕ) (front : List ℕ) (w : IsTree t) (wv : I
       let row = h.rows k ne in
       admitted_same m t v k (ap (λ z. z.head) row) (ap length (h.operands k ne)) (ap (λ z. length z.results) row) (ap length (h.successors k ne)) (ap (λ z. length z.regions) row) q x e
 
-  -- what stands outside the holder of the blocks stays
-  module _ (holder : ℕ) (held : block_holder_of t a ≡ Some holder) where
+  -- what stands outside the parent operation of the blocks stays
+  module _ (holder : ℕ) (held : block_parent_operation_of t a ≡ Some holder) where
     in_a : parent_of t jump ≡ Some a
     in_a = w.bodies.owned jump a (last_of-In jump (body_of t a) jump_last)
 
     out_jump : (x : ℕ) → IsOutside t holder x → x ≢ jump
-    out_jump x o e = o.1 (Directly (ap (holder_of t) e ∙ holder_by t jump a holder in_a held))
+    out_jump x o e = o.1 (Directly (ap (parent_operation_of t) e ∙ holder_by t jump a holder in_a held))
 
     out_b : (x : ℕ) → IsOutside t holder x → parent_of t x ≢ Some b
     out_b x o e = o.1 (Directly (holder_by t x b holder e (beside ∙ held)))
 
     block_out_a : (c : ℕ) → IsBlockOutside t holder c → c ≢ a
-    block_out_a c o e = o.1 (holder, ap (block_holder_of t) e ∙ held, inl refl)
+    block_out_a c o e = o.1 (holder, ap (block_parent_operation_of t) e ∙ held, inl refl)
 
     block_out_b : (c : ℕ) → IsBlockOutside t holder c → c ≢ b
-    block_out_b c o e = o.1 (holder, ap (block_holder_of t) e ∙ beside ∙ held, inl refl)
+    block_out_b c o e = o.1 (holder, ap (block_parent_operation_of t) e ∙ beside ∙ held, inl refl)
 
     layout_out : (r : ℕ) → IsRegionOutside t holder r → layout_of v r ≡ layout_of t r
     layout_out r o = h.layouts r ∙ without-out b (layout_of t r) (λ i. o.1 (holder, sym (block_holder_from t b r (w.layouts.owned b r i)) ∙ beside ∙ held, inl refl))

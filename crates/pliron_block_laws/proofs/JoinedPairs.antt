@@ -5,9 +5,9 @@ use Rattle.std.proofs.lemmas.List.{get_or_past}
 use Rattle.pliron_core.specs.declared.context.Def.{Def}
 use Rattle.pliron_core.specs.declared.context.Def.TheVariants.{Result, Argument}
 use Rattle.pliron_core.specs.Lists.{IsDistinct, without}
-use Rattle.pliron_core.specs.Tree.{Tree, In, IsLive, IsInside, IsInside.Directly, IsInside.Deeper, IsWithin, IsMadeWithin, IsMadeBy, row_of, head_of, operands_of, successors_of, results_of, regions_of, parent_of, body_of, arguments_of, block_parent_of, layout_of, block_holder_of, definition_of}
-use Rattle.pliron_core.specs.Joined.{IsTree}
-use Rattle.pliron_core.specs.Erased.{is_met_above, erased, IsSelfContained}
+use Rattle.pliron_core.specs.Tree.{Tree, In, IsLive, IsInside, IsInside.Directly, IsInside.Deeper, IsWithin, IsDefinedWithin, IsMadeBy, row_of, head_of, operands_of, successors_of, results_of, regions_of, parent_of, body_of, arguments_of, block_parent_of, layout_of, block_parent_operation_of, definition_of}
+use Rattle.pliron_core.specs.Invariant.{IsTree}
+use Rattle.pliron_core.specs.Erased.{is_met_above, after_erasing, IsSelfContained}
 use Rattle.pliron_core.proofs.TreeLemmas.{live-within}
 use Rattle.pliron_core.proofs.EditLemmas.{In-without_other, In-without_exactly}
 use Rattle.pliron_core.proofs.ListLemmas.{distinct-apart}
@@ -28,7 +28,7 @@ use Rattle.pliron_theory.proofs.ErasedKeeps.{op_erased, block_erased_with, erase
 use Rattle.pliron_theory.proofs.JumpsNow.{jumps_now}
 use Rattle.pliron_theory.proofs.SplicedStays.{spliced_keeps}
 use Rattle.pliron_block_laws.specs.Forwarding.{LeadsAlone}
-use Rattle.pliron_block_laws.specs.Pairs.{IsMergeable, all_moved_last, joined}
+use Rattle.pliron_block_laws.specs.Pairs.{IsMergeable, all_moved_last, after_joining}
 use Rattle.pliron_block_laws.proofs.PairEdges.{leads_alone}
 use Rattle.pliron_block_laws.specs.Cutting.{is_listed, stands_in_one, cut_op, cut_block, ErasesAll.Done, ErasesAll.Then, AreCut}
 use Rattle.pliron_block_laws.proofs.CutBlocks.{nothing_met, listed, is_listed_in, one_stands, cut_all}
@@ -47,15 +47,15 @@ block_in t w c r e = go (cases c (length t.block_parents))
     go (inl lt) = let k = w.keys.block_parents in omega (arith, lt, k)
     go (inr le) = absurd (not_none (sym (get_or_past t.block_parents c None le) ∙ e))
 
-module _ (m : Meaning) (can_fold : Head → Bool) (SameTests : Head → Head → Type 0) (shortened : Shape → ℕ → ℕ → Head) (law : ForwardsOperands m can_fold SameTests shortened) (t : Tree) (holder a b jump : ℕ) (values : List ℕ) (w : IsTree t) (w1 : IsTree (erased t jump)) (w2 : IsTree (all_moved_last (erased t jump) (body_of t b) a)) (w3 : IsTree (joined t a b jump)) (edges : EdgesLast t holder) (held : block_holder_of t a ≡ Some holder) (h : IsMergeable m t a b jump values) (childless : regions_of t jump ≡ []) (no_results : results_of t jump ≡ []) (unused : (k v : ℕ) → In v (operands_of t k) → In v (arguments_of t b) → ⊥) where
+module _ (m : Meaning) (can_fold : Head → Bool) (SameTests : Head → Head → Type 0) (shortened : Shape → ℕ → ℕ → Head) (law : ForwardsOperands m can_fold SameTests shortened) (t : Tree) (holder a b jump : ℕ) (values : List ℕ) (w : IsTree t) (w1 : IsTree (after_erasing t jump)) (w2 : IsTree (all_moved_last (after_erasing t jump) (body_of t b) a)) (w3 : IsTree (after_joining t a b jump)) (edges : EdgesLast t holder) (held : block_parent_operation_of t a ≡ Some holder) (h : IsMergeable m t a b jump values) (childless : regions_of t jump ≡ []) (no_results : results_of t jump ≡ []) (unused : (k v : ℕ) → In v (operands_of t k) → In v (arguments_of t b) → ⊥) where
   abbrev t1 : Tree
-  t1 = erased t jump
+  t1 = after_erasing t jump
 
   abbrev t2 : Tree
-  t2 = all_moved_last (erased t jump) (body_of t b) a
+  t2 = all_moved_last (after_erasing t jump) (body_of t b) a
 
   abbrev t3 : Tree
-  t3 = joined t a b jump
+  t3 = after_joining t a b jump
 
   leads : (front : List ℕ) × LeadsAlone t a b jump front
   leads = leads_alone m t holder a b jump values w edges held h
@@ -70,7 +70,7 @@ module _ (m : Meaning) (can_fold : Head → Bool) (SameTests : Head → Head →
   apart e = h.apart (sym e)
 
   -- nothing stands inside the jump, and it makes nothing
-  no_block : (c : ℕ) → block_holder_of t c ≡ Some jump → ⊥
+  no_block : (c : ℕ) → block_parent_operation_of t c ≡ Some jump → ⊥
   no_block c e =
       let x = block_held t c w.joined (held_block t c jump e) in
       let s = slot_is t x.0 x.3 in
@@ -81,10 +81,10 @@ module _ (m : Meaning) (can_fold : Head → Bool) (SameTests : Head → Head →
   nothing_inside x (Directly e) = let y = holder_is t x jump e in no_block y.0 y.2
   nothing_inside x (Deeper q e i) = nothing_inside q i
 
-  not_held : (c : ℕ) → (k : ℕ) × (block_holder_of t c ≡ Some k) × IsWithin t jump k → ⊥
+  not_held : (c : ℕ) → (k : ℕ) × (block_parent_operation_of t c ≡ Some k) × IsWithin t jump k → ⊥
   not_held c y = ⊎_elim (λ e. no_block c (y.1 ∙ ap Some e)) (λ i. nothing_inside y.0 i) y.2
 
-  not_made : (v : ℕ) (d : Option Def) → IsMadeBy t v d → IsMadeWithin t jump d → ⊥
+  not_made : (v : ℕ) (d : Option Def) → IsMadeBy t v d → IsDefinedWithin t jump d → ⊥
   not_made v None by i = i
   not_made v (Some (Result k j)) by i = ⊎_elim (λ e. not_none (sym (ap (λ l. slice_get l j) (ap (results_of t) e ∙ no_results)) ∙ by)) (λ z. nothing_inside k z) i
   not_made v (Some (Argument c j)) by i = not_held c i
@@ -99,7 +99,7 @@ module _ (m : Meaning) (can_fold : Head → Bool) (SameTests : Head → Head →
   alive k ne = false_from_ne_true _ (λ e. ⊎_elim (λ s. ne s) (λ i. nothing_inside k i) (within_is t jump k e))
 
   block_alive : (c : ℕ) → block_erased_with t jump c ≡ false
-  block_alive c = false_from_ne_true _ (λ e. not_held c (met_above t jump (block_holder_of t c) e))
+  block_alive c = false_from_ne_true _ (λ e. not_held c (met_above t jump (block_parent_operation_of t c) e))
 
   jump_dead : op_erased t jump jump ≡ true
   jump_dead = is_within t jump jump w.joined live (inl refl)
@@ -150,7 +150,7 @@ module _ (m : Meaning) (can_fold : Head → Bool) (SameTests : Head → Head →
       subst (In y.0) moving.at_b (w2.bodies.listed y.0 b (c.2 ∙ ap Some same)))
 
   block_kept : (c : ℕ) → c ≢ b → cut_block t2 (b ∷ []) c ≡ false
-  block_kept c ne = false_from_ne_true _ (λ e. go (is_listed (b ∷ []) c) refl (block_holder_of t2 c) e)
+  block_kept c ne = false_from_ne_true _ (λ e. go (is_listed (b ∷ []) c) refl (block_parent_operation_of t2 c) e)
     where
       go : (z : Bool) → is_listed (b ∷ []) c ≡ z → (o : Option ℕ) → (if z then true else is_met_above t2 (stands_in_one t2 (b ∷ [])) o) ≡ true → ⊥
       go true l o f = ⊎_elim (λ s. ne s) (λ z. z) (is_listed_in (b ∷ []) c l)
@@ -161,7 +161,7 @@ module _ (m : Meaning) (can_fold : Head → Bool) (SameTests : Head → Head →
   block_parents c ne = cut.block_parents c (block_kept c ne) ∙ ap (λ (z : Tree). block_parent_of z c) moving.shape ∙ sw.block_parents c (block_alive c)
 
   gone_block : block_parent_of t3 b ≡ None
-  gone_block = cut.gone_blocks b (ap (λ z. if z then true else is_met_above t2 (stands_in_one t2 (b ∷ [])) (block_holder_of t2 b)) (listed (b ∷ []) b (inl refl)))
+  gone_block = cut.gone_blocks b (ap (λ z. if z then true else is_met_above t2 (stands_in_one t2 (b ∷ [])) (block_parent_operation_of t2 b)) (listed (b ∷ []) b (inl refl)))
 
   layouts : (r : ℕ) → layout_of t3 r ≡ without b (layout_of t r)
   layouts r = rising_same (layout_of t3 r) (without b (layout_of t r)) (w3.joined.ordered r) (without_rising b (layout_of t r) (w.joined.ordered r)) forth back

@@ -2,8 +2,8 @@
 use Rattle.std.proofs.Common.{◌≡◌, ◌≢◌, inl, ⊎_elim, ℕ, List, [], ◌∷◌, ◌++◌, Option, Some, None, refl, sym, ap, ◌∙◌, subst, append-nil}
 use Rattle.std.proofs.lemmas.Bool.{cases_eq}
 use Rattle.pliron_core.specs.Lists.{IsDistinct}
-use Rattle.pliron_core.specs.Tree.{Tree, In, last_of, IsInside.Directly, successors_of, parent_of, body_of, block_holder_of}
-use Rattle.pliron_core.specs.Joined.{IsTree}
+use Rattle.pliron_core.specs.Tree.{Tree, In, last_of, IsInside.Directly, successors_of, parent_of, body_of, block_parent_operation_of}
+use Rattle.pliron_core.specs.Invariant.{IsTree}
 use Rattle.pliron_core.specs.Edges.{succs_of, succs_from}
 use Rattle.pliron_core.proofs.ListLemmas.{In-left, In-right, distinct-apart}
 use Rattle.pliron_core.proofs.NeighbourLemmas.{last_of-In}
@@ -14,7 +14,7 @@ use Rattle.pliron_laws.specs.Paths.{Path, Leads}
 use Rattle.pliron_theory.specs.Splicing.{IsSpliced}
 use Rattle.pliron_block_laws.specs.Reaching.{LeadsTo, ReachingLaw}
 
-module _ (t t' : Tree) (holder a b jump : ℕ) (front : List ℕ) (w : IsTree t) (w' : IsTree t') (edges : EdgesLast t holder) (held : block_holder_of t a ≡ Some holder) (h : IsSpliced t t' a b jump front) where
+module _ (t t' : Tree) (holder a b jump : ℕ) (front : List ℕ) (w : IsTree t) (w' : IsTree t') (edges : EdgesLast t holder) (held : block_parent_operation_of t a ≡ Some holder) (h : IsSpliced t t' a b jump front) where
   in_a : parent_of t jump ≡ Some a
   in_a = w.bodies.owned jump a (subst (In jump) (sym h.split) (In-right jump front (jump ∷ []) (inl refl)))
 

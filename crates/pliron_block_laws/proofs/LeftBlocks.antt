@@ -1,8 +1,8 @@
 -- The unreachable blocks of a region go in one rewrite.
 use Rattle.std.proofs.Common.{◌≡◌, inl, inr, ⊎_elim, ℕ, Bool, true, false, true≢false, if◌then◌else◌, List, [], ◌∷◌, length, Some, None, refl, sym, ap, ◌∙◌, subst, arith}
 use Rattle.std.proofs.lemmas.Bool.{false_from_ne_true}
-use Rattle.pliron_core.specs.Tree.{Tree, In, first_of, IsInside.Directly, IsWithin, HoldsBlock, row_of, successors_of, regions_of, parent_of, body_of, arguments_of, block_parent_of, layout_of, region_parent_of, block_holder_of, holder_of, up_from, op_of_slot}
-use Rattle.pliron_core.specs.Joined.{IsTree}
+use Rattle.pliron_core.specs.Tree.{Tree, In, first_of, IsInside.Directly, IsWithin, HoldsBlock, row_of, successors_of, regions_of, parent_of, body_of, arguments_of, block_parent_of, layout_of, region_parent_of, block_parent_operation_of, parent_operation_of, up_from, op_of_slot}
+use Rattle.pliron_core.specs.Invariant.{IsTree}
 use Rattle.pliron_core.specs.Edges.{succs_from}
 use Rattle.pliron_core.specs.Erased.{is_met_above, stands_in, uses_dropped}
 use Rattle.pliron_core.proofs.TreeLemmas.{live-within}
@@ -79,9 +79,9 @@ module _ (m : Meaning) (t u v : Tree) (holder region : ℕ) (bs : List ℕ) (w :
   }
 
   listed_dead : (c : ℕ) → In c bs → dead_block c ≡ true
-  listed_dead c i = ap (λ z. if z then true else is_met_above t (stands_in_one t bs) (block_holder_of t c)) (listed bs c i)
+  listed_dead c i = ap (λ z. if z then true else is_met_above t (stands_in_one t bs) (block_parent_operation_of t c)) (listed bs c i)
 
-  held_dead : (c q : ℕ) → block_holder_of t c ≡ Some q → dead q ≡ true → dead_block c ≡ true
+  held_dead : (c q : ℕ) → block_parent_operation_of t c ≡ Some q → dead q ≡ true → dead_block c ≡ true
   held_dead c q e d = ap (λ o. if is_listed bs c then true else is_met_above t (stands_in_one t bs) o) e ∙ ap (λ z. if is_listed bs c then true else z) d ∙ or_true (is_listed bs c)
 
   -- what a dead operation stands in
@@ -99,7 +99,7 @@ module _ (m : Meaning) (t u v : Tree) (holder region : ℕ) (bs : List ℕ) (w :
       (λ j. let z = inside_up j in held_dead b z.0 (sym (holder_from t k b e) ∙ z.1) (within_dead y.1 y.0 z.0 y.2 y.3 z.2))
       y.4
 
-  below_dead : (k q : ℕ) → holder_of t k ≡ Some q → dead q ≡ true → dead k ≡ true
+  below_dead : (k q : ℕ) → parent_operation_of t k ≡ Some q → dead q ≡ true → dead k ≡ true
   below_dead k q e d = met_below t (stands_in_one t bs) w.joined k q e d
 
   held_by : (k r : ℕ) → In r (regions_of t k) → region_parent_of t r ≡ Some k
@@ -122,13 +122,13 @@ module _ (m : Meaning) (t u v : Tree) (holder region : ℕ) (bs : List ℕ) (w :
           let ends = edges k b j (inr holds) in
           may.closed ends.block b (sym (ends.own_region b j) ∙ may.own b i) (λ c. true≢false (sym (direct ends.block k c ends.in_block) ∙ l)) (subst (λ o. In b (succs_from t o)) (sym ends.last) j) i
 
-      inner_target : (q : ℕ) × (block_holder_of t b ≡ Some q) × (dead q ≡ true) → ⊥
+      inner_target : (q : ℕ) × (block_parent_operation_of t b ≡ Some q) × (dead q ≡ true) → ⊥
       inner_target y =
           let x = dead_in y.0 y.2 in
-          let up : holder_of t x.0 ≡ Some holder = holder_by t x.0 x.1 holder x.3 (ap (λ o. up_from o (λ z. region_parent_of t z)) (may.own x.1 x.2) ∙ held) in
+          let up : parent_operation_of t x.0 ≡ Some holder = holder_by t x.0 x.1 holder x.3 (ap (λ o. up_from o (λ z. region_parent_of t z)) (may.own x.1 x.2) ∙ held) in
           let holds : HoldsBlock t holder b = (y.0, y.1, inr (within_inside (Directly up) x.4)) in
           let ends = edges k b j (inr holds) in
-          let above : holder_of t k ≡ Some y.0 = holder_from t k ends.block ends.in_block ∙ ap (λ o. up_from o (λ z. region_parent_of t z)) (sym (ends.own_region b j)) ∙ y.1 in
+          let above : parent_operation_of t k ≡ Some y.0 = holder_from t k ends.block ends.in_block ∙ ap (λ o. up_from o (λ z. region_parent_of t z)) (sym (ends.own_region b j)) ∙ y.1 in
           true≢false (sym (below_dead k y.0 above y.2) ∙ l)
 
   parent_left : (k b : ℕ) → parent_of t k ≡ Some b → dead k ≡ false → dead_block b ≡ false

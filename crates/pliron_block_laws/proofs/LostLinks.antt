@@ -3,7 +3,7 @@ use Rattle.std.proofs.Common.{◌≡◌, ◌≢◌, inl, inr, ℕ, suc, Bool, Li
 use Rattle.std.proofs.lemmas.Bool.{cases_eq}
 use Rattle.pliron_core.specs.declared.uses.Use.{Use}
 use Rattle.pliron_core.specs.Tree.{Tree, In, IsLive, successors_of}
-use Rattle.pliron_core.specs.Joined.{IsTree}
+use Rattle.pliron_core.specs.Invariant.{IsTree}
 use Rattle.pliron_core.specs.Writes.{argument_removed}
 use Rattle.pliron_core.proofs.HoldingLemmas.{some_is, in_slice}
 use Rattle.pliron_laws.specs.Datum.{Head, Shape, Meaning}

@@ -4,11 +4,11 @@ use Rattle.std.proofs.lemmas.Bool.{cases_eq}
 use Rattle.std.proofs.lemmas.Bool.Decides.{eqb_tells}
 use Rattle.pliron_core.specs.declared.context.Def.TheVariants.{Argument}
 use Rattle.pliron_core.specs.Uses.{replace_target}
-use Rattle.pliron_core.specs.Tree.{Tree, In, first_of, last_of, IsBlock, head_of, operands_of, successors_of, parent_of, body_of, arguments_of, block_parent_of, block_holder_of, layout_of}
-use Rattle.pliron_core.specs.Joined.{IsTree}
+use Rattle.pliron_core.specs.Tree.{Tree, In, first_of, last_of, IsBlock, head_of, operands_of, successors_of, parent_of, body_of, arguments_of, block_parent_of, block_parent_operation_of, layout_of}
+use Rattle.pliron_core.specs.Invariant.{IsTree}
 use Rattle.pliron_core.specs.Edges.{succs_from, preds_of}
 use Rattle.pliron_core.specs.EdgeUses.{IsSource}
-use Rattle.pliron_core.specs.Writes.{replaced}
+use Rattle.pliron_core.specs.Writes.{after_replacing}
 use Rattle.pliron_core.proofs.NeighbourLemmas.{last_of-In}
 use Rattle.pliron_core.proofs.RowLemmas.{last_of-append}
 use Rattle.pliron_core.proofs.EdgeLemmas.{source-pred, pred-source, preds-distinct}
@@ -129,7 +129,7 @@ module _ (m : Meaning) (t t' : Tree) (a b jump c d j : ℕ) (front values : List
 pub no_new_pair : NoNewPair
 no_new_pair m t t' a b jump c d j front values w w' h ne besides q = pair_before m t t' a b jump c d j front values w w' h ne besides q
 
-module _ (m : Meaning) (t : Tree) (holder a b jump i p v c d j : ℕ) (values others : List ℕ) (w : IsTree t) (edges : EdgesLast t holder) (held : block_holder_of t a ≡ Some holder) (h : IsMergeable m t a b jump values) (at : slice_get (arguments_of t b) i ≡ Some p) (there : slice_get values i ≡ Some v) (ne : c ≢ a) (besides : block_parent_of t d ≡ block_parent_of t c) (q : IsMergeable m (replaced t p v) c d j others) where
+module _ (m : Meaning) (t : Tree) (holder a b jump i p v c d j : ℕ) (values others : List ℕ) (w : IsTree t) (edges : EdgesLast t holder) (held : block_parent_operation_of t a ≡ Some holder) (h : IsMergeable m t a b jump values) (at : slice_get (arguments_of t b) i ≡ Some p) (there : slice_get values i ≡ Some v) (ne : c ≢ a) (besides : block_parent_of t d ≡ block_parent_of t c) (q : IsMergeable m (after_replacing t p v) c d j others) where
   j_there : parent_of t j ≡ Some c
   j_there = w.bodies.owned j c (last_of-In j (body_of t c) q.ends)
 
@@ -186,9 +186,9 @@ module _ (m : Meaning) (t : Tree) (holder a b jump i p v c d j : ℕ) (values ot
   was_forwarded : (us : List ℕ) × (map Some us ≡ pick (m.forwarded (shape_of m t old) 0) (operands_of t j)) × (map (replace_target p v) us ≡ others)
   was_forwarded =
       let r = replaced_renamed t p v in
-      let e = op_renamed t (replaced t p v) (replace_target p v) r j old old_at in
+      let e = op_renamed t (after_replacing t p v) (replace_target p v) r j old old_at in
       let f = q.forwarded (record old { operands = map (replace_target p v) (operands_of t j) }) e in
-      unpicked (m.forwarded (shape_of m t old) 0) (operands_of t j) others (f ∙ ap (λ z. pick (m.forwarded z 0) (map (replace_target p v) (operands_of t j))) (sym (shape_renamed t (replaced t p v) (replace_target p v) r m old)))
+      unpicked (m.forwarded (shape_of m t old) 0) (operands_of t j) others (f ∙ ap (λ z. pick (m.forwarded z 0) (map (replace_target p v) (operands_of t j))) (sym (shape_renamed t (after_replacing t p v) (replace_target p v) r m old)))
 
   member : (xs : List ℕ) (x : ℕ) → In x xs → In (replace_target p v x) (map (replace_target p v) xs)
   member [] x k = absurd k

@@ -2,10 +2,10 @@
 use Rattle.std.proofs.Common.{◌≡◌, ◌≢◌, ◌⊎◌, inl, inr, ⊎_elim, ℕ, zero, suc, Bool, List, [], ◌∷◌, map, Some, None, slice_get, refl, sym, ap, ◌∙◌, subst, arith, if◌then◌else◌}
 use Rattle.std.proofs.lemmas.Bool.Decides.{eqb_tells}
 use Rattle.pliron_core.specs.Uses.{replace_target}
-use Rattle.pliron_core.specs.Tree.{Tree, In, last_of, HoldsBlock, IsInside, IsInside.Directly, IsBlock, head_of, operands_of, successors_of, parent_of, body_of, arguments_of, block_parent_of, block_holder_of, region_parent_of, up_from}
-use Rattle.pliron_core.specs.Joined.{IsTree}
+use Rattle.pliron_core.specs.Tree.{Tree, In, last_of, HoldsBlock, IsInside, IsInside.Directly, IsBlock, head_of, operands_of, successors_of, parent_of, body_of, arguments_of, block_parent_of, block_parent_operation_of, region_parent_of, up_from}
+use Rattle.pliron_core.specs.Invariant.{IsTree}
 use Rattle.pliron_core.specs.Edges.{succs_from, preds_of}
-use Rattle.pliron_core.specs.Writes.{replaced}
+use Rattle.pliron_core.specs.Writes.{after_replacing}
 use Rattle.pliron_core.specs.EdgeUses.{IsSource}
 use Rattle.pliron_core.proofs.LastLemmas.{last_front}
 use Rattle.pliron_core.proofs.NeighbourLemmas.{last_of-In}
@@ -27,7 +27,7 @@ use Rattle.pliron_block_laws.proofs.ForwardedKeeps.{forwarding}
 use Rattle.pliron_block_laws.specs.Pairs.{IsMergeable}
 use Rattle.pliron_block_laws.specs.PairLaws.{PairLeads, ReplacesOne, ReplacingOne}
 
-module _ (m : Meaning) (t : Tree) (holder a b jump : ℕ) (values : List ℕ) (w : IsTree t) (edges : EdgesLast t holder) (held : block_holder_of t a ≡ Some holder) (h : IsMergeable m t a b jump values) where
+module _ (m : Meaning) (t : Tree) (holder a b jump : ℕ) (values : List ℕ) (w : IsTree t) (edges : EdgesLast t holder) (held : block_parent_operation_of t a ≡ Some holder) (h : IsMergeable m t a b jump values) where
   in_a : parent_of t jump ≡ Some a
   in_a = w.bodies.owned jump a (last_of-In jump (body_of t a) h.ends)
 
@@ -109,17 +109,17 @@ module _ (m : Meaning) (t : Tree) (holder a b jump : ℕ) (values : List ℕ) (w
     values_kept : map (replace_target p v) values ≡ values
     values_kept = all_kept values (λ x j e. h.no_argument x j (subst (λ z. In z (arguments_of t b)) (sym e) p_in))
 
-    forwarded_still : AreForwarded m (replaced t p v) jump 0 values
+    forwarded_still : AreForwarded m (after_replacing t p v) jump 0 values
     forwarded_still o e =
         let live = some_of (head_of t jump) (w.joined.standing jump a in_a).0 in
         let old = operation_of t jump live.0 in
         let there_old = make_op t jump live.0 live.1 in
-        let same : record old { operands = map (replace_target p v) (operands_of t jump) } ≡ o = some_is (sym (op_renamed t (replaced t p v) (replace_target p v) (replaced_renamed t p v) jump old there_old) ∙ e) in
-        let shapes = shape_renamed t (replaced t p v) (replace_target p v) (replaced_renamed t p v) m old in
+        let same : record old { operands = map (replace_target p v) (operands_of t jump) } ≡ o = some_is (sym (op_renamed t (after_replacing t p v) (replace_target p v) (replaced_renamed t p v) jump old there_old) ∙ e) in
+        let shapes = shape_renamed t (after_replacing t p v) (replace_target p v) (replaced_renamed t p v) m old in
         let base = picked (m.forwarded (shape_of m t old) 0) (operands_of t jump) values (h.forwarded old there_old) in
-        ap (map Some) (sym values_kept) ∙ base ∙ ap (λ z. pick (m.forwarded z 0) (map (replace_target p v) (operands_of t jump))) shapes ∙ ap (λ z. pick (m.forwarded (shape_of m (replaced t p v) z) 0) z.operands) same
+        ap (map Some) (sym values_kept) ∙ base ∙ ap (λ z. pick (m.forwarded z 0) (map (replace_target p v) (operands_of t jump))) shapes ∙ ap (λ z. pick (m.forwarded (shape_of m (after_replacing t p v) z) 0) z.operands) same
 
-    pub still : IsMergeable m (replaced t p v) a b jump values
+    pub still : IsMergeable m (after_replacing t p v) a b jump values
     still = record { goes = h.goes; ends = h.ends; apart = h.apart; no_entry = h.no_entry; single = h.single; branch = h.branch; forwarded = forwarded_still; counts = h.counts; no_argument = h.no_argument }
 
     from_map : (xs : List ℕ) (x : ℕ) → In x (map (replace_target p v) xs) → (y : ℕ) × In y xs × (replace_target p v y ≡ x)
@@ -127,7 +127,7 @@ module _ (m : Meaning) (t : Tree) (holder a b jump : ℕ) (values : List ℕ) (w
     from_map (y ∷ xs) x (inl e) = (y, inl refl, sym e)
     from_map (y ∷ xs) x (inr j) = let r = from_map xs x j in (r.0, inr r.1, r.2)
 
-    old_use : (k x : ℕ) → In x (operands_of (replaced t p v) k) → (y : ℕ) × In y (operands_of t k) × (replace_target p v y ≡ x)
+    old_use : (k x : ℕ) → In x (operands_of (after_replacing t p v) k) → (y : ℕ) × In y (operands_of t k) × (replace_target p v y ≡ x)
     old_use k x j = from_map (operands_of t k) x (subst (In x) (get_map (map (replace_target p v)) refl t.operands k) j)
 
     pub replaces_one : ReplacesOne m t a b jump p v values

@@ -2,8 +2,8 @@
 use Rattle.std.proofs.Common.{◌≡◌, ◌≢◌, inl, inr, ℕ, List, [], ◌∷◌, Some, None, IsSome, is_some, refl, sym, ap, ◌∙◌, subst}
 use Rattle.std.proofs.lemmas.Bool.{cases_eq}
 use Rattle.pliron_core.specs.Changes.{IsOutside, IsBlockOutside, IsInsideChange}
-use Rattle.pliron_core.specs.Tree.{Tree, In, row_of, head_of, regions_of, IsLive, IsBlock, IsInside, IsInside.Directly, IsInside.Deeper, IsWithin, parent_of, body_of, block_parent_of, block_holder_of, holder_of}
-use Rattle.pliron_core.specs.Joined.{IsTree}
+use Rattle.pliron_core.specs.Tree.{Tree, In, row_of, head_of, regions_of, IsLive, IsBlock, IsInside, IsInside.Directly, IsInside.Deeper, IsWithin, parent_of, body_of, block_parent_of, block_parent_operation_of, parent_operation_of}
+use Rattle.pliron_core.specs.Invariant.{IsTree}
 use Rattle.pliron_core.proofs.ListLemmas.{In-right}
 use Rattle.pliron_core.proofs.WithinLemmas.{holder_steps}
 use Rattle.pliron_core.proofs.HoldingLemmas.{some_is, not_none, some_of, holder_by, holder_is, holder_live, block_held}
@@ -33,13 +33,13 @@ module _ (t v : Tree) (a op new : ℕ) (front : List ℕ) (w : IsTree t) (wv : I
     | inr ne ↦ ap (λ z. z.regions) (h.rows k (not_op k l) ne)
   ]
 
-  block_stays : (b k : ℕ) → IsBlock v b → block_holder_of t b ≡ Some k → block_holder_of v b ≡ Some k
+  block_stays : (b k : ℕ) → IsBlock v b → block_parent_operation_of t b ≡ Some k → block_parent_operation_of v b ≡ Some k
   block_stays = block_still t v w wv regions_left (λ b is. h.block_parents b)
 
   stands : (x b : ℕ) → parent_of t x ≡ Some b → IsBlock v b
   stands x b e = subst IsSome (sym (h.block_parents b)) (w.joined.standing x b e).1
 
-  holder_stays : (x p : ℕ) → x ≢ op → x ≢ new → holder_of t x ≡ Some p → holder_of v x ≡ Some p
+  holder_stays : (x p : ℕ) → x ≢ op → x ≢ new → parent_operation_of t x ≡ Some p → parent_operation_of v x ≡ Some p
   holder_stays x p other old e =
       let s = holder_steps t x p e in
       holder_by v x s.0 p (h.parents x other old ∙ s.1) (block_stays s.0 p (stands x s.0 s.1) s.2)
@@ -55,15 +55,15 @@ module _ (t v : Tree) (a op new : ℕ) (front : List ℕ) (w : IsTree t) (wv : I
   within_stays k x l old (inl e) = inl e
   within_stays k x l old (inr i) = inr (inside_stays k x l old i)
 
-  module _ (holder : ℕ) (held : block_holder_of t a ≡ Some holder) where
+  module _ (holder : ℕ) (held : block_parent_operation_of t a ≡ Some holder) where
     out_op : (x : ℕ) → IsOutside t holder x → x ≢ op
-    out_op x o e = o.1 (Directly (ap (holder_of t) e ∙ holder_by t op a holder in_a held))
+    out_op x o e = o.1 (Directly (ap (parent_operation_of t) e ∙ holder_by t op a holder in_a held))
 
     out_a : (c : ℕ) → IsBlockOutside t holder c → c ≢ a
-    out_a c o e = o.1 (holder, ap (block_holder_of t) e ∙ held, inl refl)
+    out_a c o e = o.1 (holder, ap (block_parent_operation_of t) e ∙ held, inl refl)
 
     out_new : (x : ℕ) → IsOutside v holder x → x ≢ new
-    out_new x o e = o.1 (Directly (ap (holder_of v) e ∙ holder_by v new a holder new_in_a (block_stays a holder (stands op a in_a) held)))
+    out_new x o e = o.1 (Directly (ap (parent_operation_of v) e ∙ holder_by v new a holder new_in_a (block_stays a holder (stands op a in_a) held)))
 
     rows_kept : (x : ℕ) → IsOutside t holder x → row_of v x ≡ row_of t x
     rows_kept x o = h.rows x (out_op x o) (not_new x o.0)
@@ -100,8 +100,8 @@ pub rebranched_inside : RebranchedInsideLaw
 rebranched_inside t v root a op new front w wv (Directly e) h =
     let s = holder_is t op root e in
     let here = some_is (sym s.1 ∙ in_a t v a op new front w wv h) in
-    inside_alone t v a op new front w wv h root (ap (block_holder_of t) (sym here) ∙ s.2)
+    inside_alone t v a op new front w wv h root (ap (block_parent_operation_of t) (sym here) ∙ s.2)
 rebranched_inside t v root a op new front w wv (Deeper p e i) h =
     let s = holder_is t op p e in
     let here = some_is (sym s.1 ∙ in_a t v a op new front w wv h) in
-    widen t v root p w.joined i (inside_alone t v a op new front w wv h p (ap (block_holder_of t) (sym here) ∙ s.2))
+    widen t v root p w.joined i (inside_alone t v a op new front w wv h p (ap (block_parent_operation_of t) (sym here) ∙ s.2))

@@ -1,8 +1,8 @@
 -- Trees stay well linked where another branch stands in the place of a branch.
 use Rattle.std.proofs.Common.{◌≡◌, ◌≢◌, ◌⊎◌, inl, inr, ℕ, List, [], ◌∷◌, length, Some, None, is_some, sym, ap, ◌∙◌, subst}
 use Rattle.std.proofs.lemmas.Bool.{cases_eq}
-use Rattle.pliron_core.specs.Tree.{Tree, In, last_of, IsLive, IsInside, IsInside.Directly, IsInside.Deeper, IsWithin, HoldsBlock, successors_of, regions_of, body_of, block_parent_of, block_holder_of, holder_of}
-use Rattle.pliron_core.specs.Joined.{IsTree}
+use Rattle.pliron_core.specs.Tree.{Tree, In, last_of, IsLive, IsInside, IsInside.Directly, IsInside.Deeper, IsWithin, HoldsBlock, successors_of, regions_of, body_of, block_parent_of, block_parent_operation_of, parent_operation_of}
+use Rattle.pliron_core.specs.Invariant.{IsTree}
 use Rattle.pliron_core.proofs.RowLemmas.{last_of-append}
 use Rattle.pliron_core.proofs.WithinLemmas.{holder_steps}
 use Rattle.pliron_core.proofs.HoldingLemmas.{some_is, in_slice, holder_by}
@@ -25,22 +25,22 @@ module _ (m : Meaning) (t v : Tree) (a op new : ℕ) (front : List ℕ) (w : IsT
     | inr ne ↦ ap (λ z. z.regions) (h.rows k (not_op k l) ne)
   ]
 
-  abbrev blocks_were : (b k : ℕ) → block_holder_of v b ≡ Some k → block_holder_of t b ≡ Some k
+  abbrev blocks_were : (b k : ℕ) → block_parent_operation_of v b ≡ Some k → block_parent_operation_of t b ≡ Some k
   blocks_were = block_was t v w wv regions_left (λ b is. h.block_parents b)
 
   -- the new operation holds nothing
-  holds_none : (b : ℕ) → block_holder_of v b ≡ Some new → ⊥
+  holds_none : (b : ℕ) → block_parent_operation_of v b ≡ Some new → ⊥
   holds_none b e =
       let p = block_place_of v wv b new e in
       absurd (subst (In p.region) h.new_childless (in_slice (regions_of v new) p.index p.region p.listed))
 
-  holds_other : (b k : ℕ) → block_holder_of v b ≡ Some k → k ≢ new
+  holds_other : (b k : ℕ) → block_parent_operation_of v b ≡ Some k → k ≢ new
   holds_other b k e s = holds_none b (e ∙ ap Some s)
 
-  above_other : (x y : ℕ) → holder_of v x ≡ Some y → y ≢ new
+  above_other : (x y : ℕ) → parent_operation_of v x ≡ Some y → y ≢ new
   above_other x y e = let s = holder_steps v x y e in holds_other s.0 y s.2
 
-  holder_was : (x y : ℕ) → x ≢ new → holder_of v x ≡ Some y → holder_of t x ≡ Some y
+  holder_was : (x y : ℕ) → x ≢ new → parent_operation_of v x ≡ Some y → parent_operation_of t x ≡ Some y
   holder_was x y ne e =
       let s = holder_steps v x y e in
       let l = (wv.joined.standing x s.0 s.1).0 in
@@ -55,11 +55,11 @@ module _ (m : Meaning) (t v : Tree) (a op new : ℕ) (front : List ℕ) (w : IsT
   within_was root x ne (inr i) = inr (inside_was root x ne i)
 
   -- the old branch stood where the new one stands
-  old_holder : (y : ℕ) → holder_of v new ≡ Some y → holder_of t op ≡ Some y
+  old_holder : (y : ℕ) → parent_operation_of v new ≡ Some y → parent_operation_of t op ≡ Some y
   old_holder y e =
       let s = holder_steps v new y e in
       let same : s.0 ≡ a = some_is (sym s.1 ∙ new_in m t v a op new front w wv h) in
-      holder_by t op a y (op_in m t v a op new front w wv h) (blocks_were a y (subst (λ z. block_holder_of v z ≡ Some y) same s.2))
+      holder_by t op a y (op_in m t v a op new front w wv h) (blocks_were a y (subst (λ z. block_parent_operation_of v z ≡ Some y) same s.2))
 
   old_inside : (root : ℕ) → IsInside v root new → IsInside t root op
   old_inside root (Directly e) = Directly (old_holder root e)

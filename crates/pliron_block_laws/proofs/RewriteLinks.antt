@@ -3,9 +3,9 @@ use Rattle.std.proofs.Common.{◌≡◌, ℕ, Bool, false, length, None, is_some
 use Rattle.std.proofs.lemmas.List.{length-map}
 use Rattle.pliron_core.specs.Uses.{replace_target}
 use Rattle.pliron_core.specs.Tree.{Tree, In, last_of, operands_of, successors_of, body_of}
-use Rattle.pliron_core.specs.Joined.{IsTree}
-use Rattle.pliron_core.specs.Writes.{replaced}
-use Rattle.pliron_core.specs.Erased.{erased}
+use Rattle.pliron_core.specs.Invariant.{IsTree}
+use Rattle.pliron_core.specs.Writes.{after_replacing}
+use Rattle.pliron_core.specs.Erased.{after_erasing}
 use Rattle.pliron_laws.specs.Datum.{Meaning}
 use Rattle.pliron_theory.specs.Sweeping.{IsSwept, AreGone, AreAway}
 use Rattle.pliron_theory.proofs.SweptLists.{last_swept}
@@ -22,7 +22,7 @@ renamed_links m t v rename h =
     admitted_same m t v k (ap (λ z. z.head) (h.rows k)) (ap length (h.operands k) ∙ length-map (operands_of t k) rename) (ap (λ z. length z.results) (h.rows k)) (ap length (h.successors k)) (ap (λ z. length z.regions) (h.rows k)) a)
 
 pub replaced_links : ReplacedLinksLaw
-replaced_links m t old new = renamed_links m t (replaced t old new) (replace_target old new) (replaced_renamed t old new)
+replaced_links m t old new = renamed_links m t (after_replacing t old new) (replace_target old new) (replaced_renamed t old new)
 
 module _ (m : Meaning) (t v : Tree) (dead dead_block : ℕ → Bool) (w : IsTree t) (wv : IsTree v) (h : IsSwept t v dead dead_block) (g : AreGone v dead dead_block) where
   away : AreAway v dead dead_block
@@ -58,4 +58,4 @@ pub swept_links : SweptLinksLaw
 swept_links m t v dead dead_block w wv h g = links_swept m t v dead dead_block w wv h g
 
 pub erased_links : ErasedLinksLaw
-erased_links m t op w wv live contained = links_swept m t (erased t op) (λ k. op_erased t op k) (λ b. block_erased_with t op b) w wv (erased_swept t op w live contained) (erased_gone t op w live contained)
+erased_links m t op w wv live contained = links_swept m t (after_erasing t op) (λ k. op_erased t op k) (λ b. block_erased_with t op b) w wv (erased_swept t op w live contained) (erased_gone t op w live contained)

@@ -3,8 +3,8 @@ use Rattle.std.proofs.Common.{◌≡◌, ◌⊎◌, inl, inr, ℕ, Option, Some,
 use Rattle.pliron_core.specs.declared.context.Def.{Def}
 use Rattle.pliron_core.specs.declared.context.Def.TheVariants.{Result, Argument}
 use Rattle.pliron_core.specs.Changes.{IsOutside, IsBlockOutside, IsRegionOutside, IsValueOutside}
-use Rattle.pliron_core.specs.Tree.{Tree, In, last_of, row_of, arguments_of, definition_of, IsMadeBy, IsLive, IsBlock, IsInside, IsInside.Directly, IsInside.Deeper, IsWithin, HoldsBlock, head_of, successors_of, regions_of, parent_of, body_of, block_parent_of, slot_of, region_parent_of, block_holder_of, holder_of, up_from, op_of_slot}
-use Rattle.pliron_core.specs.Joined.{IsTree}
+use Rattle.pliron_core.specs.Tree.{Tree, In, last_of, row_of, arguments_of, definition_of, IsMadeBy, IsLive, IsBlock, IsInside, IsInside.Directly, IsInside.Deeper, IsWithin, HoldsBlock, head_of, successors_of, regions_of, parent_of, body_of, block_parent_of, slot_of, region_parent_of, block_parent_operation_of, parent_operation_of, up_from, op_of_slot}
+use Rattle.pliron_core.specs.Invariant.{IsTree}
 use Rattle.pliron_core.proofs.WithinLemmas.{block_holder_from, parent_holder}
 use Rattle.pliron_core.proofs.HoldingLemmas.{some_is, some_of, slot_is, maker_is, region_live, region_parent_is, block_held, held_block, holder_is, holder_by, holder_live, inside_more, within_more}
 use Rattle.pliron_core.proofs.InsideLemmas.{region_holder_outside, result_outside, argument_outside}
@@ -22,7 +22,7 @@ live_by v wv k s i = go (head_of v k) refl
 
 module _ (t v : Tree) (w : IsTree t) (wv : IsTree v) (regions : (k : ℕ) → IsLive v k → regions_of v k ≡ regions_of t k) (block_parents : (b : ℕ) → IsBlock v b → block_parent_of v b ≡ block_parent_of t b) where
   -- what holds a block held it
-  pub block_was : (b k : ℕ) → block_holder_of v b ≡ Some k → block_holder_of t b ≡ Some k
+  pub block_was : (b k : ℕ) → block_parent_operation_of v b ≡ Some k → block_parent_operation_of t b ≡ Some k
   block_was b k e =
       let is = held_block v b k e in
       let x = block_held v b wv.joined is in
@@ -32,19 +32,19 @@ module _ (t v : Tree) (w : IsTree t) (wv : IsTree v) (regions : (k : ℕ) → Is
       let up : region_parent_of t x.0 ≡ Some k = region_parent_is t x.0 s.0 there ∙ sym (region_parent_is v x.0 s.0 s.1) ∙ x.4 ∙ sym x.5 ∙ e in
       block_holder_from t b x.0 (sym (block_parents b is) ∙ x.2) ∙ up
 
-  pub block_still : (b k : ℕ) → IsBlock v b → block_holder_of t b ≡ Some k → block_holder_of v b ≡ Some k
+  pub block_still : (b k : ℕ) → IsBlock v b → block_parent_operation_of t b ≡ Some k → block_parent_operation_of v b ≡ Some k
   block_still b k is e =
       let x = block_held v b wv.joined is in
       x.5 ∙ sym (block_was b x.1 x.5) ∙ e
 
   -- where what stands stood before, and inside the same, nothing new stands outside
-  module _ (lives : (x : ℕ) → IsLive v x → IsLive t x) (holders : (x y : ℕ) → holder_of v x ≡ Some y → holder_of t x ≡ Some y) (placed : (x d : ℕ) → IsLive v x → parent_of t x ≡ Some d → IsSome (parent_of v x)) where
-    holder_still : (x p : ℕ) → IsLive v x → holder_of t x ≡ Some p → holder_of v x ≡ Some p
+  module _ (lives : (x : ℕ) → IsLive v x → IsLive t x) (holders : (x y : ℕ) → parent_operation_of v x ≡ Some y → parent_operation_of t x ≡ Some y) (placed : (x d : ℕ) → IsLive v x → parent_of t x ≡ Some d → IsSome (parent_of v x)) where
+    holder_still : (x p : ℕ) → IsLive v x → parent_operation_of t x ≡ Some p → parent_operation_of v x ≡ Some p
     holder_still x p l e =
         let h = holder_is t x p e in
         let at = some_of (parent_of v x) (placed x h.0 l h.1) in
         let up = parent_holder v x at.0 wv.joined at.1 in
-        let now : holder_of v x ≡ Some up.0 = holder_by v x at.0 up.0 at.1 up.1 in
+        let now : parent_operation_of v x ≡ Some up.0 = holder_by v x at.0 up.0 at.1 up.1 in
         now ∙ sym (holders x up.0 now) ∙ e
 
     inside_still : (op x : ℕ) → IsLive v x → IsInside t op x → IsInside v op x
@@ -79,8 +79,8 @@ module _ (t v : Tree) (op : ℕ) (w : IsTree t) (wv : IsTree v) (rows : (x : ℕ
 module _ (m : Meaning) (t v : Tree) where
   -- what stands stood inside the same, no edge is new, what ended its block does so, and what was admitted is
   pub record LinksStay : Type 0 where
-    pub holders : (x y : ℕ) → holder_of v x ≡ Some y → holder_of t x ≡ Some y
-    pub block_holders : (b y : ℕ) → block_holder_of v b ≡ Some y → block_holder_of t b ≡ Some y
+    pub holders : (x y : ℕ) → parent_operation_of v x ≡ Some y → parent_operation_of t x ≡ Some y
+    pub block_holders : (b y : ℕ) → block_parent_operation_of v b ≡ Some y → block_parent_operation_of t b ≡ Some y
     pub targets : (k s : ℕ) → In s (successors_of v k) → In s (successors_of t k)
     pub ends : (k s : ℕ) → In s (successors_of v k) → EndsBlock t k → EndsBlock v k
     pub admits : (k : ℕ) → IsAdmitted m t k → IsAdmitted m v k
@@ -97,17 +97,17 @@ module _ (m : Meaning) (t v : Tree) where
 
   -- where everything stands where it stood
   module _ (successors : (k : ℕ) → successors_of v k ≡ successors_of t k) (parents : (k : ℕ) → parent_of v k ≡ parent_of t k) (bodies : (b : ℕ) → body_of v b ≡ body_of t b) (block_parents : (b : ℕ) → block_parent_of v b ≡ block_parent_of t b) (slots : (r : ℕ) → slot_of v r ≡ slot_of t r) (admits : (k : ℕ) → IsAdmitted m t k → IsAdmitted m v k) where
-    same_block_holder : (b : ℕ) → block_holder_of v b ≡ block_holder_of t b
+    same_block_holder : (b : ℕ) → block_parent_operation_of v b ≡ block_parent_operation_of t b
     same_block_holder b = ap (λ o. up_from o (λ r. region_parent_of v r)) (block_parents b) ∙ go (block_parent_of t b)
       where
         go : (o : Option ℕ) → up_from o (λ r. region_parent_of v r) ≡ up_from o (λ r. region_parent_of t r)
         go None = refl
         go (Some r) = ap op_of_slot (slots r)
 
-    same_holder : (x : ℕ) → holder_of v x ≡ holder_of t x
-    same_holder x = ap (λ o. up_from o (λ b. block_holder_of v b)) (parents x) ∙ go (parent_of t x)
+    same_holder : (x : ℕ) → parent_operation_of v x ≡ parent_operation_of t x
+    same_holder x = ap (λ o. up_from o (λ b. block_parent_operation_of v b)) (parents x) ∙ go (parent_of t x)
       where
-        go : (o : Option ℕ) → up_from o (λ b. block_holder_of v b) ≡ up_from o (λ b. block_holder_of t b)
+        go : (o : Option ℕ) → up_from o (λ b. block_parent_operation_of v b) ≡ up_from o (λ b. block_parent_operation_of t b)
         go None = refl
         go (Some b) = same_block_holder b
 

@@ -1,31 +1,31 @@
 -- Blocks of one region that are erased one after the other.
 use Rattle.std.specs.Prelude.{◌≡◌, ℕ, Bool, true, false, nat_eq, if◌then◌else◌, List, [], ◌∷◌, length, Some, None}
-use Rattle.pliron_core.specs.Tree.{Tree, In, IsBlock, row_of, head_of, operands_of, successors_of, parent_of, body_of, arguments_of, block_parent_of, layout_of, block_holder_of, region_parent_of}
-use Rattle.pliron_core.specs.Joined.{IsTree}
+use Rattle.pliron_core.specs.Tree.{Tree, In, IsBlock, row_of, head_of, operands_of, successors_of, parent_of, body_of, arguments_of, block_parent_of, layout_of, block_parent_operation_of, region_parent_of}
+use Rattle.pliron_core.specs.Invariant.{IsTree}
 use Rattle.pliron_core.specs.Erased.{is_met_above, stands_in, block_erased}
 
 abbrev pub is_listed : List ℕ → ℕ → Bool
 is_listed [] c = false
 is_listed (b ∷ bs) c = if nat_eq b c then true else is_listed bs c
 
--- whether the operation stands directly in one of the blocks
+-- whether the operation is directly in one of the blocks
 abbrev pub stands_in_one : Tree → List ℕ → ℕ → Bool
 stands_in_one t [] x = false
 stands_in_one t (b ∷ bs) x = if stands_in t b x then true else stands_in_one t bs x
 
--- what goes with the blocks
+-- what is erased with the blocks
 abbrev pub cut_op : Tree → List ℕ → ℕ → Bool
 cut_op t bs k = is_met_above t (stands_in_one t bs) (Some k)
 
 abbrev pub cut_block : Tree → List ℕ → ℕ → Bool
-cut_block t bs c = if is_listed bs c then true else is_met_above t (stands_in_one t bs) (block_holder_of t c)
+cut_block t bs c = if is_listed bs c then true else is_met_above t (stands_in_one t bs) (block_parent_operation_of t c)
 
 -- the blocks were erased one after the other
 pub data ErasesAll : List ℕ → Tree → Tree → Type 0 where
   Done : {u : Tree} → ErasesAll [] u u
   Then : {u v : Tree} (b : ℕ) (bs : List ℕ) → IsBlock u b → IsTree (block_erased u b) → ErasesAll bs (block_erased u b) v → ErasesAll (b ∷ bs) u v
 
--- what does not go with the blocks stays as it was, and what goes stands no more
+-- what is not in the blocks stays as it was, and what is in them is erased
 pub record AreCut (t v : Tree) (region : ℕ) (bs : List ℕ) : Type 0 where
   pub count : length v.operations ≡ length t.operations
   pub gone : (k : ℕ) → cut_op t bs k ≡ true → head_of v k ≡ None

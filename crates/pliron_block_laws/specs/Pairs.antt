@@ -2,8 +2,8 @@
 use Rattle.std.specs.Prelude.{◌≡◌, ◌≢◌, ℕ, List, [], ◌∷◌, Some, None, length}
 use Rattle.pliron_core.specs.Tree.{Tree, In, first_of, last_of, body_of, arguments_of, layout_of}
 use Rattle.pliron_core.specs.Edges.{succs_of, preds_of}
-use Rattle.pliron_core.specs.Writes.{replaced, moved_last}
-use Rattle.pliron_core.specs.Erased.{erased, block_erased}
+use Rattle.pliron_core.specs.Writes.{after_replacing, moved_last}
+use Rattle.pliron_core.specs.Erased.{after_erasing, block_erased}
 use Rattle.pliron_laws.specs.Datum.{Meaning}
 use Rattle.pliron_laws.specs.Answers.{HeadPasses, AreForwarded}
 
@@ -24,16 +24,16 @@ pub record IsMergeable (m : Meaning) (t : Tree) (a b jump : ℕ) (values : List 
 abbrev pub forwarded_uses : Tree → (arguments values : List ℕ) → Tree
 forwarded_uses t [] vs = t
 forwarded_uses t (p ∷ ps) [] = t
-forwarded_uses t (p ∷ ps) (v ∷ vs) = forwarded_uses (replaced t p v) ps vs
+forwarded_uses t (p ∷ ps) (v ∷ vs) = forwarded_uses (after_replacing t p v) ps vs
 
 -- these operations become the last of the block, one after the other
 abbrev pub all_moved_last : Tree → List ℕ → ℕ → Tree
 all_moved_last t [] block = t
 all_moved_last t (k ∷ ks) block = all_moved_last (moved_last t k block) ks block
 
--- the last operation of a is gone, and so is b, whose operations are the last of a
-abbrev pub joined : Tree → (a b jump : ℕ) → Tree
-joined t a b jump = block_erased (all_moved_last (erased t jump) (body_of t b) a) b
+-- the last operation of a is erased, and so is b, whose operations are the last of a
+abbrev pub after_joining : Tree → (a b jump : ℕ) → Tree
+after_joining t a b jump = block_erased (all_moved_last (after_erasing t jump) (body_of t b) a) b
 
-abbrev pub merged : Tree → (a b jump : ℕ) → List ℕ → Tree
-merged t a b jump values = joined (forwarded_uses t (arguments_of t b) values) a b jump
+abbrev pub after_merging : Tree → (a b jump : ℕ) → List ℕ → Tree
+after_merging t a b jump values = after_joining (forwarded_uses t (arguments_of t b) values) a b jump

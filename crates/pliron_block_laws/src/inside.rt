@@ -1,24 +1,23 @@
-//! Changes that keep to what holds the blocks.
+//! Changes that stay inside the parent operation of the blocks.
 ghost use Rattle.pliron_block_laws.specs.Inside.{CutInsideLaw, JoinedInsideLaw, RebranchedInsideLaw, ReplacedInsideLaw};
 
-/// Where blocks of a region went, nothing changed outside the operation that holds the region.
+/// Where blocks of a region were erased, nothing changed outside the parent operation of the region.
 pub fn removing_changes_inside()
     ensures { CutInsideLaw }
 {}
 
-/// Where two blocks became one, nothing changed outside the operation that holds them.
+/// Where two blocks were merged, nothing changed outside their parent operation.
 pub fn joining_changes_inside()
     ensures { JoinedInsideLaw }
 {}
 
-/// Where the uses of a block's argument went to another value, nothing changed outside an operation that
-/// holds the block, but for operands that named the argument.
+/// Where the uses of a block's argument became uses of another value, nothing changed outside an operation
+/// around the block, but for operands that named the argument.
 pub fn replacing_changes_inside()
     ensures { ReplacedInsideLaw }
 {}
 
-/// Where another branch stands in the place of a branch, nothing changed outside an operation that the
-/// branch is inside.
+/// Where a branch was replaced by another one, nothing changed outside an operation that the branch is inside.
 pub fn replacing_branches_changes_inside()
     ensures { RebranchedInsideLaw }
 {}

@@ -1,4 +1,4 @@
-//! Two blocks that become one.
+//! Two blocks that are merged.
 ghost use Rattle.pliron_block_laws.specs.Joining.{JoiningLaw};
 ghost use Rattle.pliron_block_laws.specs.Reaching.{ReachingLaw};
 
@@ -10,7 +10,7 @@ pub fn pairs_are_joined<D: Dialect>()
     ensures { JoiningLaw D.meaning }
 {}
 
-/// Joining two blocks keeps which blocks lead to which, but for the one that goes.
+/// Merging two blocks keeps which blocks lead to which, but for the erased one.
 pub fn reach_is_kept()
     ensures { ReachingLaw }
 {}

@@ -1,4 +1,4 @@
-//! The theory of rewrites of blocks: what forwarding, removing and joining keep.
+//! The theory of rewrites of blocks: what forwarding, erasing and merging keep.
 //!
 //! As in the theory of runs, a call here does nothing when it runs: its contract is a law, for every
 //! dialect that keeps the laws which it names.

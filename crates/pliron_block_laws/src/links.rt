@@ -3,25 +3,25 @@ ghost use Rattle.pliron_block_laws.specs.Links.{RenamedLinksLaw, ReplacedLinksLa
 
 use pliron_laws::Dialect;
 
-/// A tree that is well linked at a root is so after operands went to other values, whatever these are.
+/// A tree that is well linked at a root is so after operands were replaced by other values, whatever these are.
 pub fn renaming_keeps_links()
     ensures renamed { RenamedLinksLaw }
     ensures replaced { ReplacedLinksLaw }
 {}
 
-/// A tree that is well linked at a root is so after operations and blocks went that nothing which is left
-/// names: an operation with its contents, or any of them.
+/// A tree that is well linked at a root is so after the erasure of operations and blocks that nothing which is
+/// left names: an operation with its contents, or any of them.
 pub fn erasing_keeps_links()
     ensures swept { SweptLinksLaw }
     ensures erased { ErasedLinksLaw }
 {}
 
-/// A tree that is well linked at a root is so after blocks went with their contents.
+/// A tree that is well linked at a root is so after blocks were erased with their contents.
 pub fn removing_keeps_links()
     ensures { CutLinksLaw }
 {}
 
-/// A tree that is well linked at a root is so after a block joined the end of its only predecessor.
+/// A tree that is well linked at a root is so after a block was merged into the end of its only predecessor.
 pub fn joining_keeps_links()
     ensures { JoinedLinksLaw }
 {}
@@ -33,7 +33,7 @@ pub fn replacing_branches_keeps_links()
 {}
 
 /// A tree that is well linked at a root is so after edges to a block, to which branches alone lead, lost
-/// operands that they forward, and after the argument went to which these were forwarded.
+/// operands that they forward, and after the argument to which these were forwarded was removed.
 pub fn losing_keeps_links<D: Dialect>()
     ensures { LosingLinks D.meaning D.shortened }
 {}

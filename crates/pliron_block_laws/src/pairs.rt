@@ -8,8 +8,8 @@ pub fn pairs_lead_alone()
     ensures { PairLeads }
 {}
 
-/// The uses of an argument of the second block may go to the value that is forwarded to it, and the pair
-/// stays mergeable.
+/// The uses of an argument of the second block may become uses of the value that is forwarded to it, and the
+/// pair stays mergeable.
 pub fn arguments_are_replaced<D: Dialect>()
     ensures { ReplacingOne D.meaning }
 {}

@@ -1,8 +1,8 @@
 -- Where a call on a block starts, and that this stays.
 use Rattle.std.proofs.Common.{◌≡◌, ◌≢◌, inl, inr, ⊎_elim, ℕ, List, Option, Some, None, refl, sym, ap, ◌∙◌, subst}
 use Rattle.std.proofs.lemmas.Bool.{cases_eq}
-use Rattle.pliron_core.specs.Tree.{Tree, In, IsInside.Directly, IsWithin, regions_of, parent_of, block_parent_of, block_holder_of, region_parent_of}
-use Rattle.pliron_core.specs.Joined.{IsTree}
+use Rattle.pliron_core.specs.Tree.{Tree, In, IsInside.Directly, IsWithin, regions_of, parent_of, block_parent_of, block_parent_operation_of, region_parent_of}
+use Rattle.pliron_core.specs.Invariant.{IsTree}
 use Rattle.pliron_core.proofs.HoldingLemmas.{some_is, not_none, slice_in, holder_by, inside_by, not_itself, region_parent_is, region_by}
 use Rattle.pliron_core.proofs.WithinLemmas.{block_holder_from}
 use Rattle.pliron_laws.specs.Linked.{EdgesLast}
@@ -12,7 +12,7 @@ use Rattle.pliron_cfg.proofs.RegionReach.{IsHeld, visited_held, entered_in}
 use Rattle.pliron_cfg.proofs.VisitsKept.{spliced_regions}
 use Rattle.pliron_cfg.proofs.Opens.{IsLasting}
 
-pub block_starts : (t : Tree) → IsTree t → (block root : ℕ) → block_holder_of t block ≡ Some root → (r : ℕ) → OfBlock block t r → IsHeld t root r
+pub block_starts : (t : Tree) → IsTree t → (block root : ℕ) → block_parent_operation_of t block ≡ Some root → (r : ℕ) → OfBlock block t r → IsHeld t root r
 block_starts t w block root held r (k, at, i) =
     let x = slice_in (regions_of t k) r i in
     let slot = w.joined.regions k x.0 r x.1 in

@@ -3,7 +3,7 @@ use Rattle.std.proofs.Common.{◌≡◌, ℕ, ◌-◌, ◌<◌, List, [], ◌∷
 use Rattle.pliron_core.specs.Lists.{In, IsDistinct, first_of, next_in}
 use Rattle.pliron_core.specs.Tree.{Tree, IsLive, body_of, up_from}
 use Rattle.pliron_core.specs.Reads.{next_of}
-use Rattle.pliron_core.specs.Joined.{IsTree}
+use Rattle.pliron_core.specs.Invariant.{IsTree}
 use Rattle.pliron_core.proofs.ListLemmas.{In-right, distinct-apart, next_in-split}
 
 -- these operations were listed, and this is the next one

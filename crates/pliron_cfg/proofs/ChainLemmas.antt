@@ -5,8 +5,8 @@ use Rattle.pliron_core.specs.declared.attrs.IRStatus.{IRStatus}
 use Rattle.pliron_core.specs.declared.attrs.IRStatus.TheVariants.{Changed, Unchanged}
 use Rattle.pliron_core.specs.Status.{changed_by_either}
 use Rattle.pliron_core.specs.Edges.{blocks_in}
-use Rattle.pliron_core.specs.Tree.{Tree, In, IsBlock, arguments_of, block_parent_of, block_holder_of}
-use Rattle.pliron_core.specs.Joined.{IsTree}
+use Rattle.pliron_core.specs.Tree.{Tree, In, IsBlock, arguments_of, block_parent_of, block_parent_operation_of}
+use Rattle.pliron_core.specs.Invariant.{IsTree}
 use Rattle.pliron_core.proofs.HoldingLemmas.{some_is, not_none}
 use Rattle.pliron_laws.specs.Datum.{Head, Shape, Meaning}
 use Rattle.pliron_laws.specs.Laws.{ForwardsOperands}
@@ -15,20 +15,20 @@ use Rattle.pliron_theory.specs.Keeps.{KeepsAllRuns}
 use Rattle.pliron_theory.proofs.WholeChanges.{all_refl, all_trans}
 use Rattle.pliron_block_laws.specs.Links.{KeepsLinks}
 use Rattle.pliron_block_laws.specs.Joining.{JoinsWell}
-use Rattle.pliron_block_laws.specs.Pairs.{IsMergeable, forwarded_uses, merged}
-use Rattle.pliron_cfg.specs.Internal.Chains.{MergesAmong, MergesAmong.Nothing, MergesAmong.Then, HasNoPairAmong, TellsMerged, MergesAmongPartly}
+use Rattle.pliron_block_laws.specs.Pairs.{IsMergeable, forwarded_uses, after_merging}
+use Rattle.pliron_cfg.specs.Internal.Chains.{MergesAmong, MergesAmong.Nothing, MergesAmong.Then, HasNoPairAmong, ReportsMerged, MergesAmongPartly}
 use Rattle.pliron_cfg.proofs.PairLemmas.{second_beside, way_jump, way_of_pair}
 use Rattle.pliron_cfg.proofs.MergedTrees.{IsMerge, merges, first_held}
 
 -- what holds these blocks is well linked
 abbrev pub AreLinked : Meaning → List ℕ → Tree → Type 0
-AreLinked m blocks t = (c holder : ℕ) → In c blocks → block_holder_of t c ≡ Some holder → IsWellLinked m t holder
+AreLinked m blocks t = (c holder : ℕ) → In c blocks → block_parent_operation_of t c ≡ Some holder → IsWellLinked m t holder
 
 pub record ChainKeeps (m : Meaning) (t u : Tree) : Type 0 where
   pub tree : IsTree u
   pub runs : KeepsAllRuns m t u
   pub links : KeepsLinks m t u
-  pub blocks : (c k : ℕ) → block_holder_of u c ≡ Some k → block_holder_of t c ≡ Some k
+  pub blocks : (c k : ℕ) → block_parent_operation_of u c ≡ Some k → block_parent_operation_of t c ≡ Some k
 
 pub linked_still : (m : Meaning) (t u : Tree) (blocks : List ℕ) → ChainKeeps m t u → AreLinked m blocks t → AreLinked m blocks u
 linked_still m t u blocks k linked c holder i e = k.links holder (linked c holder i (k.blocks c holder e))
@@ -39,7 +39,7 @@ longer m blocks few t u v more way (Then {u = x} a b jump values before listed p
 
 module _ (m : Meaning) (can_fold : Head → Bool) (SameTests : Head → Head → Type 0) (shortened : Shape → ℕ → ℕ → Head) (law : ForwardsOperands m can_fold SameTests shortened) (blocks : List ℕ) where
   -- one more merge
-  pub one_merge : (t u : Tree) → AreLinked m blocks t → ChainKeeps m t u → (a b jump : ℕ) (values : List ℕ) → In a blocks → IsMergeable m u a b jump values → IsTree (merged u a b jump values) → JoinsWell m (forwarded_uses u (arguments_of u b) values) a b jump → IsMerge m u (merged u a b jump values) a b
+  pub one_merge : (t u : Tree) → AreLinked m blocks t → ChainKeeps m t u → (a b jump : ℕ) (values : List ℕ) → In a blocks → IsMergeable m u a b jump values → IsTree (after_merging u a b jump values) → JoinsWell m (forwarded_uses u (arguments_of u b) values) a b jump → IsMerge m u (after_merging u a b jump values) a b
   one_merge t u linked k a b jump values listed pair tree well =
       merges m can_fold SameTests shortened law a b jump values u k.tree pair (λ holder e. linked_still m t u blocks k linked a holder listed e) well tree
 
@@ -50,7 +50,7 @@ module _ (m : Meaning) (can_fold : Head → Bool) (SameTests : Head → Head →
       let o = one_merge t x linked k a b jump values listed pair tree well in
       record {
         tree = tree;
-        runs = all_trans m t x (merged x a b jump values) k.runs o.runs;
+        runs = all_trans m t x (after_merging x a b jump values) k.runs o.runs;
         links = λ root l. o.links root (k.links root l);
         blocks = λ c j e. k.blocks c j (o.blocks c j e);
       }
@@ -65,20 +65,20 @@ module _ (m : Meaning) (can_fold : Head → Bool) (SameTests : Head → Head →
       λ c d j vs i q. ⊎_elim
       (λ e. there a b jump values (subst (λ z. In z done) e i) pair)
       (λ ne.
-      let is = first_held m (merged x a b jump values) tree c d j vs q in
-      let all = (λ (holder : ℕ) (e : block_holder_of (merged x a b jump values) c ≡ Some holder). (o.links holder (k.links holder (held c holder i (k.blocks c holder (o.blocks c holder e))))).edges) in
-      let z = way_jump m (merged x a b jump values) c d j j (way_of_pair m (merged x a b jump values) c d j vs q) (sym q.ends) in
-      let beside = second_beside (merged x a b jump values) tree c d j (ap is_some is.2) all (sym q.ends) z.1 in
+      let is = first_held m (after_merging x a b jump values) tree c d j vs q in
+      let all = (λ (holder : ℕ) (e : block_parent_operation_of (after_merging x a b jump values) c ≡ Some holder). (o.links holder (k.links holder (held c holder i (k.blocks c holder (o.blocks c holder e))))).edges) in
+      let z = way_jump m (after_merging x a b jump values) c d j j (way_of_pair m (after_merging x a b jump values) c d j vs q) (sym q.ends) in
+      let beside = second_beside (after_merging x a b jump values) tree c d j (ap is_some is.2) all (sym q.ends) z.1 in
       let y = o.before c d j vs ne beside q in
       there c d j y.0 i y.1)
       (cases_eq c a)
 
-pub tells_more : (m : Meaning) (blocks few : List ℕ) (t u v : Tree) (s r : IRStatus) → ((c : ℕ) → In c few → In c blocks) → TellsMerged m blocks t u s → TellsMerged m few u v r → TellsMerged m blocks t v (changed_by_either s r)
+pub tells_more : (m : Meaning) (blocks few : List ℕ) (t u v : Tree) (s r : IRStatus) → ((c : ℕ) → In c few → In c blocks) → ReportsMerged m blocks t u s → ReportsMerged m few u v r → ReportsMerged m blocks t v (changed_by_either s r)
 tells_more m blocks few t u v Changed r more x y = x
 tells_more m blocks few t u v Unchanged Changed more x y = (y.0, y.1, y.2, y.3, more y.0 y.4, subst (λ (z : Tree). IsMergeable m z y.0 y.1 y.2 y.3) x y.5)
 tells_more m blocks few t u v Unchanged Unchanged more x y = y ∙ x
 
-pub tells_pair : (m : Meaning) (blocks : List ℕ) (t u v : Tree) (s : IRStatus) (a b jump : ℕ) (values : List ℕ) → TellsMerged m blocks t u s → In a blocks → IsMergeable m u a b jump values → TellsMerged m blocks t v Changed
+pub tells_pair : (m : Meaning) (blocks : List ℕ) (t u v : Tree) (s : IRStatus) (a b jump : ℕ) (values : List ℕ) → ReportsMerged m blocks t u s → In a blocks → IsMergeable m u a b jump values → ReportsMerged m blocks t v Changed
 tells_pair m blocks t u v Changed a b jump values x i q = x
 tells_pair m blocks t u v Unchanged a b jump values x i q = (a, b, jump, values, i, subst (λ (z : Tree). IsMergeable m z a b jump values) x q)
 
@@ -117,47 +117,47 @@ pub half_among : (m : Meaning) (blocks few : List ℕ) (t u v : Tree) → ((c : 
 half_among m blocks few t u v more way (inl x) = inl (longer m blocks few t u v more way x)
 half_among m blocks few t u v more way (inr x) = inr (x.0, longer m blocks few t u x.0 more way x.1, record { a = x.2.a; b = x.2.b; jump = x.2.jump; values = x.2.values; listed = more x.2.a x.2.listed; pair = x.2.pair; n = x.2.n; forwarded = x.2.forwarded })
 
-pub linked_one : (m : Meaning) (t : Tree) (first : ℕ) → ((holder : ℕ) → block_holder_of t first ≡ Some holder → IsWellLinked m t holder) → AreLinked m (first ∷ []) t
-linked_one m t first linked c holder (inl e) h = linked holder (ap (block_holder_of t) (sym e) ∙ h)
+pub linked_one : (m : Meaning) (t : Tree) (first : ℕ) → ((holder : ℕ) → block_parent_operation_of t first ≡ Some holder → IsWellLinked m t holder) → AreLinked m (first ∷ []) t
+linked_one m t first linked c holder (inl e) h = linked holder (ap (block_parent_operation_of t) (sym e) ∙ h)
 linked_one m t first linked c holder (inr i) h = absurd i
 
 -- one more merge at a block
 pub record IsStep (m : Meaning) (first : ℕ) (t u v : Tree) : Type 0 where
   pub way : MergesAmong m (first ∷ []) t v
-  pub tells : TellsMerged m (first ∷ []) t v Changed
+  pub tells : ReportsMerged m (first ∷ []) t v Changed
   pub block : IsBlock v first
-  pub linked : (holder : ℕ) → block_holder_of v first ≡ Some holder → IsWellLinked m v holder
+  pub linked : (holder : ℕ) → block_parent_operation_of v first ≡ Some holder → IsWellLinked m v holder
   pub smaller : length (blocks_in v (block_parent_of v first)) < length (blocks_in u (block_parent_of u first))
 
 module _ (m : Meaning) (can_fold : Head → Bool) (SameTests : Head → Head → Type 0) (shortened : Shape → ℕ → ℕ → Head) (law : ForwardsOperands m can_fold SameTests shortened) (first : ℕ) where
-  step_here : (t u : Tree) (s : IRStatus) (b jump : ℕ) (values : List ℕ) → IsTree t → AreLinked m (first ∷ []) t → MergesAmong m (first ∷ []) t u → TellsMerged m (first ∷ []) t u s → IsMergeable m u first b jump values → IsTree (merged u first b jump values) → JoinsWell m (forwarded_uses u (arguments_of u b) values) first b jump → IsStep m first t u (merged u first b jump values)
+  step_here : (t u : Tree) (s : IRStatus) (b jump : ℕ) (values : List ℕ) → IsTree t → AreLinked m (first ∷ []) t → MergesAmong m (first ∷ []) t u → ReportsMerged m (first ∷ []) t u s → IsMergeable m u first b jump values → IsTree (after_merging u first b jump values) → JoinsWell m (forwarded_uses u (arguments_of u b) values) first b jump → IsStep m first t u (after_merging u first b jump values)
   step_here t u s b jump values w linked way tells pair tree well =
       let k = chain m can_fold SameTests shortened law (first ∷ []) t u w linked way in
       let o = one_merge m can_fold SameTests shortened law (first ∷ []) t u linked k first b jump values (inl refl) pair tree well in
       record {
         way = Then first b jump values way (inl refl) pair tree well;
-        tells = tells_pair m (first ∷ []) t u (merged u first b jump values) s first b jump values tells (inl refl) pair;
+        tells = tells_pair m (first ∷ []) t u (after_merging u first b jump values) s first b jump values tells (inl refl) pair;
         block = ap is_some (o.first ∙ o.in_region);
         linked = λ holder e. o.links holder (k.links holder (linked first holder (inl refl) (k.blocks first holder (o.blocks first holder e))));
-        smaller = fewer_blocks m u (merged u first b jump values) first b o;
+        smaller = fewer_blocks m u (after_merging u first b jump values) first b o;
       }
 
-  pub step_at : (t u v : Tree) (s : IRStatus) (a b jump : ℕ) (values : List ℕ) → IsTree t → AreLinked m (first ∷ []) t → MergesAmong m (first ∷ []) t u → TellsMerged m (first ∷ []) t u s → IsMergeable m u first b jump values × (a ≡ first) → IsTree v → v ≡ merged u a b jump values → JoinsWell m (forwarded_uses u (arguments_of u b) values) a b jump → IsStep m first t u v
+  pub step_at : (t u v : Tree) (s : IRStatus) (a b jump : ℕ) (values : List ℕ) → IsTree t → AreLinked m (first ∷ []) t → MergesAmong m (first ∷ []) t u → ReportsMerged m (first ∷ []) t u s → IsMergeable m u first b jump values × (a ≡ first) → IsTree v → v ≡ after_merging u a b jump values → JoinsWell m (forwarded_uses u (arguments_of u b) values) a b jump → IsStep m first t u v
   step_at t u v s a b jump values w linked way tells found wv e well =
-      let whole : v ≡ merged u first b jump values = e ∙ ap (λ z. merged u z b jump values) found.1 in
+      let whole : v ≡ after_merging u first b jump values = e ∙ ap (λ z. after_merging u z b jump values) found.1 in
       subst (IsStep m first t u) (sym whole) (step_here t u s b jump values w linked way tells found.0 (subst IsTree whole wv) (subst (λ z. JoinsWell m (forwarded_uses u (arguments_of u b) values) z b jump) found.1 well))
 
 -- one block more is done
 pub record IsDone (m : Meaning) (blocks : List ℕ) (n : ℕ) (t u : Tree) (s : IRStatus) : Type 0 where
   pub way : MergesAmong m blocks t u
-  pub tells : TellsMerged m blocks t u s
+  pub tells : ReportsMerged m blocks t u s
   pub none : HasNoPairAmong m (take (suc n) blocks) u
 
 pub moved_to : (m : Meaning) (blocks : List ℕ) (n : ℕ) (t u v : Tree) (s r : IRStatus) → IsDone m blocks n t u s → v ≡ u → r ≡ s → IsDone m blocks n t v r
 moved_to m blocks n t u v s r d e f = subst (λ (z : Tree). IsDone m blocks n t z r) (sym e) (subst (λ z. IsDone m blocks n t u z) (sym f) d)
 
 -- a block that stands no more is no first of a pair
-pub done_dead : (m : Meaning) (blocks : List ℕ) (n c : ℕ) (t u : Tree) (s : IRStatus) → IsTree u → slice_get blocks n ≡ Some c → (IsBlock u c → ⊥) → MergesAmong m blocks t u → TellsMerged m blocks t u s → HasNoPairAmong m (take n blocks) u → IsDone m blocks n t u s
+pub done_dead : (m : Meaning) (blocks : List ℕ) (n c : ℕ) (t u : Tree) (s : IRStatus) → IsTree u → slice_get blocks n ≡ Some c → (IsBlock u c → ⊥) → MergesAmong m blocks t u → ReportsMerged m blocks t u s → HasNoPairAmong m (take n blocks) u → IsDone m blocks n t u s
 done_dead m blocks n c t u s w at dead way tells none = record {
   way = way;
   tells = tells;
@@ -165,7 +165,7 @@ done_dead m blocks n c t u s w at dead way tells none = record {
 }
 
 module _ (m : Meaning) (can_fold : Head → Bool) (SameTests : Head → Head → Type 0) (shortened : Shape → ℕ → ℕ → Head) (law : ForwardsOperands m can_fold SameTests shortened) where
-  pub done_more : (blocks : List ℕ) (n c : ℕ) (t u v : Tree) (s r : IRStatus) → IsTree t → AreLinked m blocks t → IsTree u → slice_get blocks n ≡ Some c → In c blocks → MergesAmong m blocks t u → TellsMerged m blocks t u s → HasNoPairAmong m (take n blocks) u → MergesAmong m (c ∷ []) u v → HasNoPairAmong m (c ∷ []) v → TellsMerged m (c ∷ []) u v r → IsDone m blocks n t v (changed_by_either s r)
+  pub done_more : (blocks : List ℕ) (n c : ℕ) (t u v : Tree) (s r : IRStatus) → IsTree t → AreLinked m blocks t → IsTree u → slice_get blocks n ≡ Some c → In c blocks → MergesAmong m blocks t u → ReportsMerged m blocks t u s → HasNoPairAmong m (take n blocks) u → MergesAmong m (c ∷ []) u v → HasNoPairAmong m (c ∷ []) v → ReportsMerged m (c ∷ []) u v r → IsDone m blocks n t v (changed_by_either s r)
   done_more blocks n c t u v s r w linked wu at listed way tells none more here told =
       let k = chain m can_fold SameTests shortened law blocks t u w linked way in
       let all = linked_still m t u blocks k linked in

@@ -11,7 +11,7 @@ use Rattle.std.proofs.Common.{zero, suc}
 use Rattle.pliron_cfg.proofs.ListLemmas.{item_in}
 use Rattle.pliron_cfg.proofs.Growing.{distinct_push}
 use Rattle.pliron_core.specs.Tree.{View, In, IsDistinct, operands_of, uses_of}
-use Rattle.pliron_core.specs.Joined.{HaveUses}
+use Rattle.pliron_core.specs.Invariant.{HaveUses}
 use Rattle.pliron_core.proofs.ListLemmas.{In-left, In-right, In-cases}
 use Rattle.pliron_core.proofs.MemberLemmas.{in_slice, in_at}
 use Rattle.pliron_cfg.specs.Internal.Contents.{IsUsedWithin}

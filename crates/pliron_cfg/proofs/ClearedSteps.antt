@@ -3,7 +3,7 @@ use Rattle.std.proofs.Common.{◌≡◌, ◌↔◌, ◌⊎◌, inl, inr, ⊎_eli
 use Rattle.pliron_core.specs.declared.attrs.IRStatus.{IRStatus}
 use Rattle.pliron_core.specs.declared.attrs.IRStatus.TheVariants.{Changed, Unchanged}
 use Rattle.pliron_core.specs.Tree.{Tree, In, IsLive, block_parent_of, region_parent_of}
-use Rattle.pliron_core.specs.Joined.{IsTree}
+use Rattle.pliron_core.specs.Invariant.{IsTree}
 use Rattle.pliron_core.specs.Erased.{StandsIn}
 use Rattle.pliron_core.specs.Changes.{IsInsideChange}
 use Rattle.pliron_core.specs.ChangeLaws.{InsideChangeLaws}
@@ -13,7 +13,7 @@ use Rattle.pliron_laws.specs.Datum.{Meaning}
 use Rattle.pliron_laws.specs.Linked.{IsWellLinked}
 use Rattle.pliron_theory.specs.Change.{IsWholeChange}
 use Rattle.pliron_theory.specs.Whole.{WholeLaws}
-use Rattle.pliron_search.specs.Regions.{IsLawfulRegion}
+use Rattle.pliron_traversal.specs.Regions.{IsLawfulRegion}
 use Rattle.pliron_block_laws.specs.Links.{KeepsLinks, CutLinksLaw}
 use Rattle.pliron_block_laws.specs.Inside.{CutInsideLaw}
 use Rattle.pliron_cfg.specs.Visited.{Start, IsVisitedSsaRegion, IsCutOff, IsUnreachable, IsReachedIn}
@@ -22,16 +22,16 @@ use Rattle.pliron_cfg.proofs.Lawful.{visited_lawful, reached_in}
 use Rattle.pliron_cfg.specs.Removed.{IsWithout, RemovesSome.Nothing, RemovesSome.Then, RemovesAll, RemovalFails, HasLiveUse}
 use Rattle.pliron_laws.specs.declared.fault.OptError.{OptError}
 use Rattle.pliron_laws.specs.declared.fault.OptError.TheVariants.{Memory, LiveUse}
-use Rattle.pliron_cfg.specs.declared.removal.scope.Scope.{Scope}
+use Rattle.pliron_cfg.specs.declared.removal.scope.RemovalScope.{RemovalScope}
 use Rattle.pliron_cfg.specs.Internal.Scopes.{start_of, ScopeStands, IsHolder}
 use Rattle.pliron_cfg.proofs.ScopeLemmas.{start_lawful, top_held, top_apart, within_root, root_row, start_to, start_from, stands_still, holder_still}
 use Rattle.pliron_cfg.specs.Internal.Clears.{LosesCutOff, ClearsRegion}
-use Rattle.pliron_cfg.specs.Internal.Cleared.{status_after, TellsLoss, AreCleared, Went}
+use Rattle.pliron_cfg.specs.Internal.Cleared.{status_after, ReportsLoss, AreCleared, Went}
 use Rattle.pliron_cfg.proofs.Without.{is_without}
 use Rattle.pliron_cfg.proofs.Composed.{none_go, gone_alike, gone_in_turn}
 use Rattle.pliron_cfg.proofs.Stability.{visits_still, cut_off_was, cut_off_still, none_left}
 
-module _ (m : Meaning) (t u v : Tree) (scope : Scope) (root r : ℕ) (rs ks rest : List ℕ) (laws : WholeLaws) (cut_links : CutLinksLaw) (cut_inside : CutInsideLaw) (inside_laws : InsideChangeLaws) (w : IsTree u) (wv : IsTree v) where
+module _ (m : Meaning) (t u v : Tree) (scope : RemovalScope) (root r : ℕ) (rs ks rest : List ℕ) (laws : WholeLaws) (cut_links : CutLinksLaw) (cut_inside : CutInsideLaw) (inside_laws : InsideChangeLaws) (w : IsTree u) (wv : IsTree v) where
   left_cases : (q : ℕ) → In q (rest ++ r ∷ []) → In q rest ⊎ (q ≡ r)
   left_cases q i = ⊎_elim (λ a. inl a) (λ a. ⊎_elim (λ s. inr s) (λ z. absurd z) a) (In-cases q rest (r ∷ []) i)
 
@@ -144,7 +144,7 @@ module _ (m : Meaning) (t u v : Tree) (scope : Scope) (root r : ℕ) (rs ks rest
           went_now
           went_either
 
-      tells_next : (s : IRStatus) → TellsLoss (start_of scope) t u s → TellsLoss (start_of scope) t v Changed
+      tells_next : (s : IRStatus) → ReportsLoss (start_of scope) t u s → ReportsLoss (start_of scope) t v Changed
       tells_next Changed x = x
       tells_next Unchanged x = subst (λ z. (b : ℕ) × IsUnreachable (start_of scope) z b) x (l.one, (r, searched, (l.exact l.one).0 l.listed))
 
@@ -174,7 +174,7 @@ module _ (m : Meaning) (t u v : Tree) (scope : Scope) (root r : ℕ) (rs ks rest
     next Changed l = less_next l
     next Unchanged e = subst (λ z. AreCleared m t z scope root rs ks rest status) (sym e.1) (same_next e.0)
 
-pub none_cleared : (m : Meaning) (t : Tree) (scope : Scope) (root : ℕ) (rs ks : List ℕ) → WholeLaws → IsTree t → ScopeStands t scope → IsHolder t scope root → IsLive t root → IsWellLinked m t root → AreVisits t (start_of scope t) rs ks → AreCleared m t t scope root rs ks rs Unchanged
+pub none_cleared : (m : Meaning) (t : Tree) (scope : RemovalScope) (root : ℕ) (rs ks : List ℕ) → WholeLaws → IsTree t → ScopeStands t scope → IsHolder t scope root → IsLive t root → IsWellLinked m t root → AreVisits t (start_of scope t) rs ks → AreCleared m t t scope root rs ks rs Unchanged
 none_cleared m t scope root rs ks laws w stands holder live linked visits = record {
   stands = stands;
   holder = holder;
@@ -190,13 +190,13 @@ none_cleared m t scope root rs ks laws w stands holder live linked visits = reco
   tells = refl;
 }
 
-pub all_cleared : (m : Meaning) (t u : Tree) (scope : Scope) (root : ℕ) (rs ks : List ℕ) (status : IRStatus) → AreCleared m t u scope root rs ks [] status → RemovesAll (start_of scope) t u status
+pub all_cleared : (m : Meaning) (t u : Tree) (scope : RemovalScope) (root : ℕ) (rs ks : List ℕ) (status : IRStatus) → AreCleared m t u scope root rs ks [] status → RemovesAll (start_of scope) t u status
 all_cleared m t u scope root rs ks status h = go status h.tells
   where
     none : (b : ℕ) → IsUnreachable (start_of scope) u b → ⊥
     none b x = ⊎_elim (λ i. i) (λ n. n b x.2) (h.cleared x.0 ((h.visits.regions x.0).1 x.1))
 
-    go : (s : IRStatus) → TellsLoss (start_of scope) t u s → RemovesAll (start_of scope) t u s
+    go : (s : IRStatus) → ReportsLoss (start_of scope) t u s → RemovesAll (start_of scope) t u s
     go Changed x = (x, gone_alike t u (Went (start_of scope) t u) (IsUnreachable (start_of scope) t) (λ b y. y.0) (λ b y. (y, none b)) h.without, h.some, none)
     go Unchanged e = (subst (λ z. (b : ℕ) → IsUnreachable (start_of scope) z b → ⊥) e none, e)
 
@@ -207,7 +207,7 @@ visits_as t A rs bs ks same a = record {
   blocks = λ b. (λ i. (a.blocks b).0 ((same b).0 i), λ x. (same b).1 ((a.blocks b).1 x));
 }
 
--- the answer is honest
+-- the answer reports accurately
 pub honest : (start : Start) (t v : Tree) (status : IRStatus) → RemovesAll start t v status → (status ≡ Unchanged) ↔ (v ≡ t)
 honest start t v Changed x = ((λ e. absurd (cc)), (λ e. absurd (x.3 x.0.0 (subst (λ z. IsUnreachable start z x.0.0) (sym e) x.0.1))))
 honest start t v Unchanged x = ((λ e. x.1), (λ e. refl))

@@ -1,8 +1,8 @@
 -- Blocks that go after others are gone as if all had gone at once.
 use Rattle.std.proofs.Common.{◌≡◌, ◌⊎◌, inl, inr, ⊎_elim, ℕ, Option, Some, None, refl, sym, ap, ◌∙◌, subst}
 use Rattle.pliron_core.specs.declared.attrs.Head.{Head}
-use Rattle.pliron_core.specs.Tree.{Tree, In, IsLive, IsInside, IsInside.Directly, IsInside.Deeper, IsWithin, head_of, regions_of, parent_of, block_parent_of, block_holder_of, holder_of}
-use Rattle.pliron_core.specs.Joined.{IsTree}
+use Rattle.pliron_core.specs.Tree.{Tree, In, IsLive, IsInside, IsInside.Directly, IsInside.Deeper, IsWithin, head_of, regions_of, parent_of, block_parent_of, block_parent_operation_of, parent_operation_of}
+use Rattle.pliron_core.specs.Invariant.{IsTree}
 use Rattle.pliron_core.specs.Erased.{StandsIn, IsBlockWithin}
 use Rattle.pliron_core.proofs.WithinLemmas.{block_steps, block_holder_from, holder_steps, holder_from, region_parent_live}
 use Rattle.pliron_core.proofs.HoldingLemmas.{not_none, some_of, within_inside}
@@ -75,7 +75,7 @@ module _ (t u : Tree) (w : IsTree t) (wu : IsTree u) (A : ℕ → Type 0) (h : I
   live_stays k live y = not_none (sym (h.gone k y) ∙ (some_of (head_of u k) live).1)
 
   -- what holds a block or an operation after held it before
-  block_holder_was : (c x : ℕ) → block_holder_of u c ≡ Some x → block_holder_of t c ≡ Some x
+  block_holder_was : (c x : ℕ) → block_parent_operation_of u c ≡ Some x → block_parent_operation_of t c ≡ Some x
   block_holder_was c x e =
       let s = block_steps u c x e in
       let is = wu.joined.placed c s.0 s.1 in
@@ -86,7 +86,7 @@ module _ (t u : Tree) (w : IsTree t) (wu : IsTree u) (A : ℕ → Type 0) (h : I
   parent_was : (k b : ℕ) → parent_of u k ≡ Some b → parent_of t k ≡ Some b
   parent_was k b e = sym (h.parents k (live_stays k (wu.joined.standing k b e).0)) ∙ e
 
-  holder_was : (k x : ℕ) → holder_of u k ≡ Some x → holder_of t k ≡ Some x
+  holder_was : (k x : ℕ) → parent_operation_of u k ≡ Some x → parent_operation_of t k ≡ Some x
   holder_was k x e = let s = holder_steps u k x e in holder_from t k s.0 (parent_was k s.0 s.1) ∙ block_holder_was s.0 x s.2
 
   inside_was : (x k : ℕ) → IsInside u x k → IsInside t x k
@@ -112,7 +112,7 @@ module _ (t u : Tree) (w : IsTree t) (wu : IsTree u) (A : ℕ → Type 0) (h : I
   within_goes x k (inl e) y = subst (GoesWith t A) (sym e) y
   within_goes x k (inr i) y = inside_goes x k i y
 
-  holder_goes : (c x : ℕ) → block_holder_of t c ≡ Some x → GoesWith t A x → BlockGoesWith t A c
+  holder_goes : (c x : ℕ) → block_parent_operation_of t c ≡ Some x → GoesWith t A x → BlockGoesWith t A c
   holder_goes c x e y = (y.0, y.1, inr (x, e, y.2))
 
   in_block_goes : (c k : ℕ) → parent_of t k ≡ Some c → BlockGoesWith t A c → GoesWith t A k
@@ -122,13 +122,13 @@ module _ (t u : Tree) (w : IsTree t) (wu : IsTree u) (A : ℕ → Type 0) (h : I
       y.2
 
   -- what holds what stays holds it after
-  block_holder_still : (c x : ℕ) → (BlockGoesWith t A c → ⊥) → block_holder_of t c ≡ Some x → block_holder_of u c ≡ Some x
+  block_holder_still : (c x : ℕ) → (BlockGoesWith t A c → ⊥) → block_parent_operation_of t c ≡ Some x → block_parent_operation_of u c ≡ Some x
   block_holder_still c x n e =
       let s = block_steps t c x e in
       let listed : In s.0 (regions_of u x) = subst (λ z. In s.0 z.regions) (sym (h.rows x (λ y. n (holder_goes c x e y)))) (listed_by t w x s.0 (w.joined.placed c s.0 s.1) s.2) in
       block_holder_from u c s.0 (h.block_parents c n ∙ s.1) ∙ held_by u wu x s.0 listed
 
-  holder_still : (k x : ℕ) → (GoesWith t A k → ⊥) → holder_of t k ≡ Some x → holder_of u k ≡ Some x
+  holder_still : (k x : ℕ) → (GoesWith t A k → ⊥) → parent_operation_of t k ≡ Some x → parent_operation_of u k ≡ Some x
   holder_still k x n e =
       let s = holder_steps t k x e in
       holder_from u k s.0 (h.parents k n ∙ s.1) ∙ block_holder_still s.0 x (λ y. n (in_block_goes s.0 k s.1 y)) s.2

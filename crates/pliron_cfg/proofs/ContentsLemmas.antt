@@ -3,10 +3,10 @@ use Rattle.std.proofs.Common.{◌≡◌, inl, inr, ⊎_elim, ℕ, List, ◌++◌
 use Rattle.std.specs.List.{flat_map, slice_get}
 use Rattle.pliron_core.specs.declared.context.Def.{Def}
 use Rattle.pliron_core.specs.declared.context.Def.TheVariants.{Result, Argument}
-use Rattle.pliron_core.specs.Tree.{Tree, In, IsLive, IsBlock, IsDefined, IsMadeBy, results_of, regions_of, body_of, arguments_of, layout_of, region_parent_of, block_holder_of, definition_of, op_of_slot}
-use Rattle.pliron_core.specs.Joined.{IsTree}
+use Rattle.pliron_core.specs.Tree.{Tree, In, IsLive, IsBlock, IsDefined, IsMadeBy, results_of, regions_of, body_of, arguments_of, layout_of, region_parent_of, block_parent_operation_of, definition_of, op_of_slot}
+use Rattle.pliron_core.specs.Invariant.{IsTree}
 use Rattle.pliron_core.specs.Walks.{preorder}
-use Rattle.pliron_core.specs.Erased.{StandsIn, IsBlockWithin, IsMadeInBlock}
+use Rattle.pliron_core.specs.Erased.{StandsIn, IsBlockWithin, IsDefinedInBlock}
 use Rattle.pliron_core.proofs.FlatLemmas.{In-flat_map, flat_map-In}
 use Rattle.pliron_core.proofs.ListLemmas.{In-left, In-right, In-cases}
 use Rattle.pliron_core.proofs.WalkLemmas.{In-preorder, within_live}
@@ -42,13 +42,13 @@ module _ (t : Tree) (w : IsTree t) (bs : List ℕ) where
   held_by k r i = let x = slice_in (regions_of t k) r i in ap op_of_slot (w.joined.regions k x.0 r x.1)
 
   -- a block directly in an operation
-  below_held : (k c : ℕ) → In c (blocks_directly_in t k) → (block_holder_of t c ≡ Some k) × IsBlock t c
+  below_held : (k c : ℕ) → In c (blocks_directly_in t k) → (block_parent_operation_of t c ≡ Some k) × IsBlock t c
   below_held k c i =
       let r = flat_map-In (λ r. layout_of t r) (regions_of t k) c i in
       let p = w.layouts.owned c r.0 r.2 in
       (block_holder_from t c r.0 p ∙ held_by k r.0 r.1, subst IsSome (sym p) refl)
 
-  held_below : (k c : ℕ) → block_holder_of t c ≡ Some k → In c (blocks_directly_in t k)
+  held_below : (k c : ℕ) → block_parent_operation_of t c ≡ Some k → In c (blocks_directly_in t k)
   held_below k c e =
       let s = block_steps t c k e in
       let slot = slot_is t s.0 (w.joined.placed c s.0 s.1) in
@@ -77,10 +77,10 @@ module _ (t : Tree) (w : IsTree t) (bs : List ℕ) where
   abbrev pub values : List ℕ
   values = values_made_by t ops all
 
-  pub value_made : (v : ℕ) → In v values → (b : ℕ) × In b bs × IsMadeInBlock t b (definition_of t v)
+  pub value_made : (v : ℕ) → In v values → (b : ℕ) × In b bs × IsDefinedInBlock t b (definition_of t v)
   value_made v i = ⊎_elim
-      (λ j. let k = flat_map-In (λ k. results_of t k) ops v j in let b = op_stands k.0 k.1 in let d = result_made k.0 v k.2 in (b.0, b.1, subst (IsMadeInBlock t b.0) (sym d.1) b.2))
-      (λ j. let c = flat_map-In (λ c. arguments_of t c) all v j in let b = block_within c.0 c.1 in let d = argument_made c.0 v c.2 in (b.0, b.1, subst (IsMadeInBlock t b.0) (sym d.1) b.2))
+      (λ j. let k = flat_map-In (λ k. results_of t k) ops v j in let b = op_stands k.0 k.1 in let d = result_made k.0 v k.2 in (b.0, b.1, subst (IsDefinedInBlock t b.0) (sym d.1) b.2))
+      (λ j. let c = flat_map-In (λ c. arguments_of t c) all v j in let b = block_within c.0 c.1 in let d = argument_made c.0 v c.2 in (b.0, b.1, subst (IsDefinedInBlock t b.0) (sym d.1) b.2))
       (In-cases v (flat_map (λ k. results_of t k) ops) (flat_map (λ c. arguments_of t c) all) i)
 
   pub value_defined : (v : ℕ) → In v values → IsDefined t v
@@ -89,12 +89,12 @@ module _ (t : Tree) (w : IsTree t) (bs : List ℕ) where
       (λ j. let c = flat_map-In (λ c. arguments_of t c) all v j in let d = argument_made c.0 v c.2 in subst (IsMadeBy t v) (sym d.1) d.2)
       (In-cases v (flat_map (λ k. results_of t k) ops) (flat_map (λ c. arguments_of t c) all) i)
 
-  made_listed : (v b : ℕ) (d : Def) → In b bs → IsMadeBy t v (Some d) → IsMadeInBlock t b (Some d) → In v values
+  made_listed : (v b : ℕ) (d : Def) → In b bs → IsMadeBy t v (Some d) → IsDefinedInBlock t b (Some d) → In v values
   made_listed v b (Result k i) j m s = In-left v (flat_map (λ k. results_of t k) ops) (flat_map (λ c. arguments_of t c) all) (In-flat_map (λ k. results_of t k) ops k v (stands_op k b j s) (in_slice (results_of t k) i v m))
   made_listed v b (Argument c i) j m s = In-right v (flat_map (λ k. results_of t k) ops) (flat_map (λ c. arguments_of t c) all) (In-flat_map (λ c. arguments_of t c) all c v (within_block c b j s) (in_slice (arguments_of t c) i v m))
 
-  pub made_value : (v b : ℕ) → IsDefined t v → In b bs → IsMadeInBlock t b (definition_of t v) → In v values
-  made_value v b is j s = let d = maker_is t v is in made_listed v b d.0 j d.2 (subst (IsMadeInBlock t b) d.1 s)
+  pub made_value : (v b : ℕ) → IsDefined t v → In b bs → IsDefinedInBlock t b (definition_of t v) → In v values
+  made_value v b is j s = let d = maker_is t v is in made_listed v b d.0 j d.2 (subst (IsDefinedInBlock t b) d.1 s)
 
   -- the checks say what is asked
   pub no_other_use : (inside : List ℕ) → ((k : ℕ) → In k inside → In k ops) → ((v : ℕ) → In v values → IsUsedWithin t inside v) → HaveNoOtherUse t bs

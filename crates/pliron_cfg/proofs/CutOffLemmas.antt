@@ -3,15 +3,15 @@ use Rattle.std.proofs.Common.{◌≡◌, ◌↔◌, ◌⊎◌, inl, inr, ⊎_eli
 use Rattle.pliron_core.specs.declared.context.Def.{Def}
 use Rattle.pliron_core.specs.declared.context.Def.TheVariants.{Result, Argument}
 use Rattle.pliron_core.specs.Tree.{Tree, In, operands_of, block_parent_of, layout_of, definition_of}
-use Rattle.pliron_core.specs.Joined.{IsTree}
+use Rattle.pliron_core.specs.Invariant.{IsTree}
 use Rattle.pliron_core.specs.Edges.{succs_of}
-use Rattle.pliron_core.specs.Erased.{StandsIn, IsBlockWithin, IsMadeInBlock}
+use Rattle.pliron_core.specs.Erased.{StandsIn, IsBlockWithin, IsDefinedInBlock}
 use Rattle.pliron_core.proofs.TreeLemmas.{live-within}
 use Rattle.pliron_core.proofs.WithinLemmas.{within_met, met_within}
 use Rattle.pliron_theory.specs.Sweeping.{is_maker_dead}
-use Rattle.pliron_search.specs.Digraph.{IsPath, Digraph}
-use Rattle.pliron_search.specs.Regions.{graph_of_region}
-use Rattle.pliron_search.specs.Internal.RegionLawful.{keys_have}
+use Rattle.pliron_traversal.specs.Digraph.{IsPath, Digraph}
+use Rattle.pliron_traversal.specs.Regions.{graph_of_region}
+use Rattle.pliron_traversal.specs.Internal.RegionLawful.{keys_have}
 use Rattle.pliron_block_laws.specs.Cutting.{stands_in_one, cut_op, cut_block}
 use Rattle.pliron_block_laws.specs.Leaving.{BlocksMayGo}
 use Rattle.pliron_block_laws.proofs.CutBlocks.{block_cases, stands_one, one_stands}
@@ -39,7 +39,7 @@ module _ (t : Tree) (w : IsTree t) (bs : List ℕ) where
   pub block_in : (c : ℕ) → cut_block t bs c ≡ true → (b : ℕ) × In b bs × IsBlockWithin t b c
   block_in c e = ⊎_elim (λ i. (c, i, inl refl)) (λ y. let b = cut_in y.0 y.2 in (b.0, b.1, inr (y.0, y.1, b.2))) (block_cases t bs c e)
 
-  made_in : (o : Option Def) → is_maker_dead (λ j. cut_op t bs j) (λ c. cut_block t bs c) o ≡ true → (b : ℕ) × In b bs × IsMadeInBlock t b o
+  made_in : (o : Option Def) → is_maker_dead (λ j. cut_op t bs j) (λ c. cut_block t bs c) o ≡ true → (b : ℕ) × In b bs × IsDefinedInBlock t b o
   made_in None e = absurd (cc)
   made_in (Some (Result k i)) e = cut_in k e
   made_in (Some (Argument c i)) e = block_in c e

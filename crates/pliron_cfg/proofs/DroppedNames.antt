@@ -3,10 +3,10 @@ use Rattle.std.proofs.Common.{◌≡◌, inl, inr, ⊎_elim, ℕ, Bool, true, if
 use Rattle.std.specs.List.{slice_get}
 use Rattle.pliron_core.specs.declared.context.Def.{Def}
 use Rattle.pliron_core.specs.declared.context.Def.TheVariants.{Result, Argument}
-use Rattle.pliron_core.specs.Tree.{Tree, In, IsInside.Directly, IsWithin, HoldsBlock, operands_of, successors_of, parent_of, block_parent_of, block_holder_of, region_parent_of, holder_of, definition_of, up_from}
-use Rattle.pliron_core.specs.Joined.{IsTree}
+use Rattle.pliron_core.specs.Tree.{Tree, In, IsInside.Directly, IsWithin, HoldsBlock, operands_of, successors_of, parent_of, block_parent_of, block_parent_operation_of, region_parent_of, parent_operation_of, definition_of, up_from}
+use Rattle.pliron_core.specs.Invariant.{IsTree}
 use Rattle.pliron_core.specs.Edges.{succs_from}
-use Rattle.pliron_core.specs.Erased.{is_met_above, stands_in, StandsIn, IsBlockWithin, IsMadeInBlock, uses_dropped, names_dropped}
+use Rattle.pliron_core.specs.Erased.{is_met_above, stands_in, StandsIn, IsBlockWithin, IsDefinedInBlock, uses_dropped, names_dropped}
 use Rattle.pliron_core.proofs.TreeLemmas.{live-within}
 use Rattle.pliron_core.proofs.ClearedLemmas.{told}
 use Rattle.pliron_core.proofs.DropLemmas.{IsNamesOnly, IsBare, names_none, names_trans, names_of_dropped, dropped_gone, dropped_kept}
@@ -69,18 +69,18 @@ module _ (t u : Tree) (holder region : ℕ) (bs : List ℕ) (w : IsTree t) (wu :
   stands_was : (b k : ℕ) → StandsIn u b k → StandsIn t b k
   stands_was b k s = in_block_is t b k (sym (ap (λ (z : Tree). is_met_above z (stands_in z b) (Some k)) names.shape) ∙ is_in_block u b k wu.joined s)
 
-  holder_was : (c k : ℕ) → block_holder_of u c ≡ Some k → block_holder_of t c ≡ Some k
-  holder_was c k e = sym (ap (λ (z : Tree). block_holder_of z c) names.shape) ∙ e
+  holder_was : (c k : ℕ) → block_parent_operation_of u c ≡ Some k → block_parent_operation_of t c ≡ Some k
+  holder_was c k e = sym (ap (λ (z : Tree). block_parent_operation_of z c) names.shape) ∙ e
 
   stands_dead : (b k : ℕ) → In b bs → StandsIn t b k → cut_op t bs k ≡ true
   stands_dead b k i s = within_dead b s.0 k i s.1 s.2
 
   block_dead : (b c : ℕ) → In b bs → IsBlockWithin u b c → cut_block t bs c ≡ true
-  block_dead b c i (inl e) = ap (λ z. if z then true else is_met_above t (stands_in_one t bs) (block_holder_of t c)) (listed bs c (subst (λ z. In z bs) (sym e) i))
+  block_dead b c i (inl e) = ap (λ z. if z then true else is_met_above t (stands_in_one t bs) (block_parent_operation_of t c)) (listed bs c (subst (λ z. In z bs) (sym e) i))
   block_dead b c i (inr y) =
       ap (λ o. if is_listed bs c then true else is_met_above t (stands_in_one t bs) o) (holder_was c y.0 y.1) ∙ ap (λ z. if is_listed bs c then true else z) (stands_dead b y.0 i (stands_was b y.0 y.2)) ∙ or_true (is_listed bs c)
 
-  maker_dead : (b : ℕ) (o : Option Def) → In b bs → IsMadeInBlock u b o → is_maker_dead (λ j. cut_op t bs j) (λ c. cut_block t bs c) o ≡ true
+  maker_dead : (b : ℕ) (o : Option Def) → In b bs → IsDefinedInBlock u b o → is_maker_dead (λ j. cut_op t bs j) (λ c. cut_block t bs c) o ≡ true
   maker_dead b None i m = absurd m
   maker_dead b (Some (Result k n)) i m = stands_dead b k i (stands_was b k m)
   maker_dead b (Some (Argument c n)) i m = block_dead b c i m
@@ -95,20 +95,20 @@ module _ (t u : Tree) (holder region : ℕ) (bs : List ℕ) (w : IsTree t) (wu :
           let ends = edges k c j (inr holds) in
           may.closed ends.block c (sym (ends.own_region c j) ∙ may.own c i) (λ a. l (within_dead ends.block k k a ends.in_block (inl refl))) (subst (λ o. In c (succs_from t o)) (sym ends.last) j) i
 
-      inner : (q : ℕ) × (block_holder_of t c ≡ Some q) × (cut_op t bs q ≡ true) → ⊥
+      inner : (q : ℕ) × (block_parent_operation_of t c ≡ Some q) × (cut_op t bs q ≡ true) → ⊥
       inner y =
           let x = dead_in y.0 y.2 in
-          let up : holder_of t x.0 ≡ Some holder = holder_by t x.0 x.1 holder x.3 (ap (λ o. up_from o (λ z. region_parent_of t z)) (may.own x.1 x.2) ∙ held) in
+          let up : parent_operation_of t x.0 ≡ Some holder = holder_by t x.0 x.1 holder x.3 (ap (λ o. up_from o (λ z. region_parent_of t z)) (may.own x.1 x.2) ∙ held) in
           let holds : HoldsBlock t holder c = (y.0, y.1, inr (within_inside (Directly up) x.4)) in
           let ends = edges k c j (inr holds) in
-          let above : holder_of t k ≡ Some y.0 = holder_from t k ends.block ends.in_block ∙ ap (λ o. up_from o (λ z. region_parent_of t z)) (sym (ends.own_region c j)) ∙ y.1 in
+          let above : parent_operation_of t k ≡ Some y.0 = holder_from t k ends.block ends.in_block ∙ ap (λ o. up_from o (λ z. region_parent_of t z)) (sym (ends.own_region c j)) ∙ y.1 in
           l (met_below t (stands_in_one t bs) w.joined k y.0 above y.2)
 
   pub unnamed : (b : ℕ) → In b bs → IsUnnamedBlock u b
   unnamed b i = record {
     values = λ x v j m.
         let was = names_were t x bs t u drops in
-        let d : cut_op t bs x ≡ true = may.unused x v (was.0 v j) (maker_dead b (definition_of t v) i (subst (λ z. IsMadeInBlock u b (slice_get z v)) (ap (λ (z : Tree). z.definitions) names.shape) m)) in
+        let d : cut_op t bs x ≡ true = may.unused x v (was.0 v j) (maker_dead b (definition_of t v) i (subst (λ z. IsDefinedInBlock u b (slice_get z v)) (ap (λ (z : Tree). z.definitions) names.shape) m)) in
         subst (In v) (dead_bare x d).0 j;
     blocks = λ x c j m.
         let was = names_were t x bs t u drops in

@@ -5,9 +5,9 @@ use Rattle.std.proofs.lemmas.Bool.{false_from_ne_true}
 use Rattle.std.proofs.lemmas.List.{get_or-set_other}
 use Rattle.pliron_core.specs.declared.context.Def.{Def}
 use Rattle.pliron_core.specs.declared.context.Def.TheVariants.{Result, Argument}
-use Rattle.pliron_core.specs.Tree.{Tree, In, IsDistinct, IsBlock, IsInside, IsInside.Directly, IsInside.Deeper, IsWithin, operands_of, successors_of, block_parent_of, region_parent_of, block_holder_of, holder_of, op_of_slot, definition_of}
-use Rattle.pliron_core.specs.Joined.{IsTree}
-use Rattle.pliron_core.specs.Erased.{is_met_above, blanked, stands_in, StandsIn, IsBlockWithin, IsMadeInBlock, IsSelfContainedBlock, block_emptied, block_taken_from, block_erased}
+use Rattle.pliron_core.specs.Tree.{Tree, In, IsDistinct, IsBlock, IsInside, IsInside.Directly, IsInside.Deeper, IsWithin, operands_of, successors_of, block_parent_of, region_parent_of, block_parent_operation_of, parent_operation_of, op_of_slot, definition_of}
+use Rattle.pliron_core.specs.Invariant.{IsTree}
+use Rattle.pliron_core.specs.Erased.{is_met_above, blank_at, stands_in, StandsIn, IsBlockWithin, IsDefinedInBlock, IsSelfContainedBlock, block_emptied, block_taken_from, block_erased}
 use Rattle.pliron_core.proofs.BlankLemmas.{blanked_kept, get_blanked}
 use Rattle.pliron_core.proofs.ClearingLemmas.{IsClearing, clearing_none}
 use Rattle.pliron_core.proofs.ClearedLemmas.{met_block}
@@ -24,12 +24,12 @@ erases_more (x ∷ xs) t u b (Then _ _ stands next more) is w = Then x (xs ++ b 
 -- erasing a block leaves those beside it
 module _ (u : Tree) (w : IsTree u) (a b r : ℕ) (ea : block_parent_of u a ≡ Some r) (eb : block_parent_of u b ≡ Some r) where
   abbrev gone : ℕ → Bool
-  gone c = is_met_above u (stands_in u a) (block_holder_of u c)
+  gone c = is_met_above u (stands_in u a) (block_parent_operation_of u c)
 
   not_met : (c : ℕ) → block_parent_of u c ≡ Some r → gone c ≡ false
   not_met c ec = false_from_ne_true _ (λ e.
-      let x = met_block u a (block_holder_of u c) e in
-      let up : holder_of u x.2.0 ≡ Some x.0 = holder_from u x.2.0 a x.2.1 ∙ block_holder_from u a r ea ∙ sym (block_holder_from u c r ec) ∙ x.1 in
+      let x = met_block u a (block_parent_operation_of u c) e in
+      let up : parent_operation_of u x.2.0 ≡ Some x.0 = holder_from u x.2.0 a x.2.1 ∙ block_holder_from u a r ea ∙ sym (block_holder_from u c r ec) ∙ x.1 in
       not_itself w.joined.rooted (inside_by {t = u} x.0 up x.2.2))
 
   pub left_beside : b ≢ a → block_parent_of (block_erased u a) b ≡ Some r
@@ -47,7 +47,7 @@ taken_successors : (e : Tree) (b : ℕ) (o : Option ℕ) → (block_taken_from e
 taken_successors e b None = refl
 taken_successors e b (Some r) = refl
 
-in_blanked : (gone : ℕ → Bool) (xss : List (List ℕ)) (k v : ℕ) → In v (get_or (blanked gone [] xss) k []) → In v (get_or xss k [])
+in_blanked : (gone : ℕ → Bool) (xss : List (List ℕ)) (k v : ℕ) → In v (get_or (blank_at gone [] xss) k []) → In v (get_or xss k [])
 in_blanked gone xss k v i = go (gone k) (subst (In v) (get_blanked gone [] xss k) i)
   where
     go : (z : Bool) → In v (if z then [] else get_or xss k []) → In v (get_or xss k [])
@@ -94,10 +94,10 @@ module _ (t u : Tree) (w : IsTree t) (region : ℕ) (bs front rest : List ℕ) (
   region_parent_same : (r : ℕ) → region_parent_of u r ≡ region_parent_of t r
   region_parent_same r = ap (λ z. op_of_slot (slice_get z r)) h.clearing.slots
 
-  block_holder_was : (x y : ℕ) → block_holder_of u x ≡ Some y → block_holder_of t x ≡ Some y
+  block_holder_was : (x y : ℕ) → block_parent_operation_of u x ≡ Some y → block_parent_operation_of t x ≡ Some y
   block_holder_was x y e = let s = block_steps u x y e in block_holder_from t x s.0 (h.clearing.placed x s.0 s.1) ∙ sym (region_parent_same s.0) ∙ s.2
 
-  holder_was : (x y : ℕ) → holder_of u x ≡ Some y → holder_of t x ≡ Some y
+  holder_was : (x y : ℕ) → parent_operation_of u x ≡ Some y → parent_operation_of t x ≡ Some y
   holder_was x y e =
       let s = holder_steps u x y e in
       let k = h.clearing.stays x (h.tree.joined.standing x s.0 s.1).0 in
@@ -120,14 +120,14 @@ module _ (t u : Tree) (w : IsTree t) (region : ℕ) (bs front rest : List ℕ) (
   block_was c (inl e) = inl e
   block_was c (inr y) = inr (y.0, block_holder_was c y.0 y.1, stands_was y.0 y.2)
 
-  made_was : (o : Option Def) → IsMadeInBlock u b o → IsMadeInBlock t b o
+  made_was : (o : Option Def) → IsDefinedInBlock u b o → IsDefinedInBlock t b o
   made_was None m = m
   made_was (Some (Result k i)) m = stands_was k m
   made_was (Some (Argument c i)) m = block_was c m
 
   pub next_contained : IsUnnamedBlock t b → IsSelfContainedBlock u b
   next_contained n = record {
-    values = λ x v i m. absurd (n.values x v (h.operands x v i) (subst (λ z. IsMadeInBlock t b (slice_get z v)) h.clearing.definitions (made_was (definition_of u v) m)));
+    values = λ x v i m. absurd (n.values x v (h.operands x v i) (subst (λ z. IsDefinedInBlock t b (slice_get z v)) h.clearing.definitions (made_was (definition_of u v) m)));
     blocks = λ x c i m. absurd (n.blocks x c (h.successors x c i) (block_was c m));
   }
 

@@ -6,7 +6,7 @@ use Rattle.pliron_core.specs.declared.attrs.IRStatus.TheVariants.{Changed, Uncha
 use Rattle.pliron_core.specs.Status.{changed_by_either}
 use Rattle.pliron_core.specs.Lists.{IsDistinct}
 use Rattle.pliron_core.specs.Tree.{Tree, In, IsLive, IsInside, head_of, operands_of, parent_of, definition_of}
-use Rattle.pliron_core.specs.Joined.{IsTree}
+use Rattle.pliron_core.specs.Invariant.{IsTree}
 use Rattle.pliron_core.specs.Changes.{IsSameTree}
 use Rattle.pliron_core.specs.Walks.{contents}
 use Rattle.pliron_core.proofs.FilterLemmas.{In-filter, distinct-filter}
@@ -21,7 +21,7 @@ use Rattle.pliron_core.proofs.WalkLemmas.{inside_step}
 use Rattle.pliron_laws.specs.declared.fault.OptError.{OptError}
 use Rattle.pliron_laws.specs.Datum.{Head, Meaning}
 use Rattle.pliron_laws.specs.Folding.{Constants}
-use Rattle.pliron_laws.specs.InPlace.{Outcome, TellsChange}
+use Rattle.pliron_laws.specs.InPlace.{Outcome, ReportsChange}
 use Rattle.pliron_laws.specs.Linked.{IsWellLinked}
 use Rattle.pliron_laws.specs.Tree.{Operation, op_at, shape_of}
 use Rattle.pliron_core.specs.declared.context.Def.{Def}
@@ -37,7 +37,7 @@ use Rattle.pliron_theory.proofs.ChangeLemmas.{links_stay}
 use Rattle.pliron_theory.proofs.WholeChanges.{whole_refl, whole_trans}
 use Rattle.pliron_block_laws.proofs.RebranchedInside.{rebranched_inside, inside_stays}
 use Rattle.pliron_cfg.specs.Folded.{has_passing_head, branches_of, answered_if, known_of, known_operands, FoldsAll, FoldsAll.NoMore, FoldsAll.Next, FoldsSome, FoldsSome.Stopped, FoldsSome.Refused, FoldsSome.After}
-use Rattle.pliron_cfg.specs.FoldSteps.{TellsErased, IsBranchInside, IsBranchFoldStep, IsFoldingBranches}
+use Rattle.pliron_cfg.specs.FoldSteps.{ReportsAnyErased, IsBranchInside, IsBranchFoldStep, IsFoldingBranches}
 use Rattle.pliron_cfg.proofs.KnownLemmas.{known_read}
 
 -- what is inside something stands in a block
@@ -96,7 +96,7 @@ module _ (m : Meaning) (can_fold can_fold_branch : Head → Bool) (constants : C
     root_stands : Shape → IsLive u root
     root_stands s = stands s root (λ e. not_inside-itself t w root (subst (IsInside t root) (sym e) branch.0)) root_live
 
-    pub told : Shape → (status : IRStatus) → TellsChange (Some status) t u → TellsErased status t u
+    pub told : Shape → (status : IRStatus) → ReportsChange (Some status) t u → ReportsAnyErased status t u
     told s Unchanged is = is
     told (inl s) Changed is = absurd (is s)
     told (inr (a, new, front, h)) Changed is = (op, inside_live t w root op branch.0, h.gone)
@@ -123,7 +123,7 @@ module _ (m : Meaning) (can_fold can_fold_branch : Head → Bool) (constants : C
 
 -- one answer after the other
 module _ (t u v : Tree) (w : IsTree t) (wu : IsTree u) (gone : (k : ℕ) → IsLive t k → head_of u k ≡ None → head_of v k ≡ None) where
-  pub told_then : (a b : IRStatus) → TellsErased a t u → TellsErased b u v → TellsErased (changed_by_either a b) t v
+  pub told_then : (a b : IRStatus) → ReportsAnyErased a t u → ReportsAnyErased b u v → ReportsAnyErased (changed_by_either a b) t v
   told_then Unchanged Unchanged p q = same_trans t u v p q
   told_then Unchanged Changed p (k, live, none) = (k, (same_live t u w.joined wu.joined p k).1 live, none)
   told_then Changed Unchanged (k, live, none) q = (k, live, gone k live none)
@@ -180,7 +180,7 @@ module _ (m : Meaning) (can_fold can_fold_branch : Head → Bool) (constants : C
       apart : IsDistinct (op ∷ drop (i + 1) branches)
       apart = subst IsDistinct (drop_at branches i op at) on.distinct
 
-      pub folding_next : (next : Tree) (one : IRStatus) → outcome now next op (known_operands m can_fold constants now op) (Some one) → TellsErased one now next → IsBranchFoldStep m can_fold_branch now next root op → IsOn branches (i + 1) (changed_by_either status one) next
+      pub folding_next : (next : Tree) (one : IRStatus) → outcome now next op (known_operands m can_fold constants now op) (Some one) → ReportsAnyErased one now next → IsBranchFoldStep m can_fold_branch now next root op → IsOn branches (i + 1) (changed_by_either status one) next
       folding_next next one is told step = record {
         tree = step.tree;
         change = whole_trans m start now next root on.change step.change;
@@ -202,8 +202,8 @@ module _ (m : Meaning) (can_fold can_fold_branch : Head → Bool) (constants : C
     pub folding_end : drop i branches ≡ [] → FoldsAll m can_fold constants outcome branches start now status
     folding_end none = subst (FoldsAll m can_fold constants outcome branches start now) (either_unchanged status) (on.all now Unchanged (subst (λ l. FoldsAll m can_fold constants outcome l now now Unchanged) (sym none) NoMore))
 
--- the answer is honest
-pub told_honestly : (t u : Tree) (status : IRStatus) → TellsErased status t u → TellsChange (Some status) t u
+-- the answer reports accurately
+pub told_honestly : (t u : Tree) (status : IRStatus) → ReportsAnyErased status t u → ReportsChange (Some status) t u
 told_honestly t u Unchanged told = told
 told_honestly t u Changed (k, live, none) = λ same. let y = some_of (head_of t k) live in not_none (sym none ∙ ap (λ z. z.head) (same.operations k) ∙ y.1)
 

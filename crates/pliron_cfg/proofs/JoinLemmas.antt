@@ -3,10 +3,10 @@ use Rattle.std.proofs.Common.{◌≡◌, ◌≢◌, inl, inr, ⊎_elim, ℕ, zer
 use Rattle.pliron_core.specs.declared.context.Def.{Def}
 use Rattle.pliron_core.specs.declared.context.Def.TheVariants.{Argument, Result}
 use Rattle.pliron_core.specs.Lists.{next_in}
-use Rattle.pliron_core.specs.Tree.{Tree, In, IsLive, IsBlock, IsRegion, IsDefined, IsMadeBy, IsInside.Directly, HoldsBlock, first_of, up_from, parent_of, body_of, arguments_of, block_parent_of, block_holder_of, region_parent_of, holder_of, definition_of}
-use Rattle.pliron_core.specs.Joined.{IsTree}
+use Rattle.pliron_core.specs.Tree.{Tree, In, IsLive, IsBlock, IsRegion, IsDefined, IsMadeBy, IsInside.Directly, HoldsBlock, first_of, up_from, parent_of, body_of, arguments_of, block_parent_of, block_parent_operation_of, region_parent_of, parent_operation_of, definition_of}
+use Rattle.pliron_core.specs.Invariant.{IsTree}
 use Rattle.pliron_core.specs.Reads.{next_of}
-use Rattle.pliron_core.specs.Writes.{replaced, moved_last}
+use Rattle.pliron_core.specs.Writes.{after_replacing, moved_last}
 use Rattle.pliron_core.specs.WalkSteps.{rest_from}
 use Rattle.pliron_core.specs.Edges.{succs_from}
 use Rattle.pliron_core.proofs.ListLemmas.{distinct-length}
@@ -38,7 +38,7 @@ rest_step t w block k o i e = ap length (rest_from-step (body_of t block) k o (w
 -- a block and one beside it: what stands directly in the one does not hold the other
 pub holds_none_beside : (t : Tree) → IsTree t → (a b k : ℕ) → parent_of t k ≡ Some b → block_parent_of t b ≡ block_parent_of t a → HoldsBlock t k a → ⊥
 holds_none_beside t w a b k at beside h =
-    let up : block_holder_of t b ≡ Some h.0 = ap (λ o. up_from o (λ r. region_parent_of t r)) beside ∙ h.1 in
+    let up : block_parent_operation_of t b ≡ Some h.0 = ap (λ o. up_from o (λ r. region_parent_of t r)) beside ∙ h.1 in
     let held = holder_by t k b h.0 at up in
     ⊎_elim
     (λ e. not_itself {t = t} w.joined.rooted (Directly (held ∙ ap Some e)))
@@ -72,17 +72,17 @@ no_head (x ∷ xs) e = absurd (not_none e)
 pub forwarded_shape : (t : Tree) (ps vs : List ℕ) → forwarded_uses t ps vs ≡ record t { operands = (forwarded_uses t ps vs).operands }
 forwarded_shape t [] vs = refl
 forwarded_shape t (p ∷ ps) [] = refl
-forwarded_shape t (p ∷ ps) (v ∷ vs) = forwarded_shape (replaced t p v) ps vs
+forwarded_shape t (p ∷ ps) (v ∷ vs) = forwarded_shape (after_replacing t p v) ps vs
 
-pub forwarded_more : (t : Tree) (ps vs : List ℕ) (i p v : ℕ) → slice_get ps i ≡ Some p → slice_get vs i ≡ Some v → replaced (forwarded_uses t (take i ps) vs) p v ≡ forwarded_uses t (take (suc i) ps) vs
+pub forwarded_more : (t : Tree) (ps vs : List ℕ) (i p v : ℕ) → slice_get ps i ≡ Some p → slice_get vs i ≡ Some v → after_replacing (forwarded_uses t (take i ps) vs) p v ≡ forwarded_uses t (take (suc i) ps) vs
 forwarded_more t [] vs i p v e f = absurd (not_none e)
 forwarded_more t (q ∷ ps) [] i p v e f = absurd (not_none f)
-forwarded_more t (q ∷ ps) (u ∷ vs) zero p v e f = ap (λ z. replaced t z v) (sym (some_is e)) ∙ ap (λ z. replaced t q z) (sym (some_is f)) ∙ sym (none (replaced t q u) ps vs)
+forwarded_more t (q ∷ ps) (u ∷ vs) zero p v e f = ap (λ z. after_replacing t z v) (sym (some_is e)) ∙ ap (λ z. after_replacing t q z) (sym (some_is f)) ∙ sym (none (after_replacing t q u) ps vs)
   where
     none : (t : Tree) (ps vs : List ℕ) → forwarded_uses t (take 0 ps) vs ≡ t
     none t [] vs = refl
     none t (x ∷ xs) vs = refl
-forwarded_more t (q ∷ ps) (u ∷ vs) (suc i) p v e f = forwarded_more (replaced t q u) ps vs i p v e f
+forwarded_more t (q ∷ ps) (u ∷ vs) (suc i) p v e f = forwarded_more (after_replacing t q u) ps vs i p v e f
 
 pub one_less : (xs ys : List ℕ) (k : ℕ) (rest : List ℕ) → ys ≡ k ∷ rest → xs ≡ rest → length xs < length ys
 one_less xs ys k rest e f = let a = ap length e in let b = ap length f in omega (arith, a, b)
@@ -129,23 +129,23 @@ length_take (suc n) [] = omega arith
 length_take (suc n) (y ∷ ys) = let r = length_take n ys in omega (arith, r)
 
 -- the jump, what it leads to and what holds the block are fewer than there are keys
-pub moves_fit : (m : Meaning) (t : Tree) → IsTree t → (a b jump : ℕ) (values : List ℕ) → IsMergeable m t a b jump values → ((holder : ℕ) → block_holder_of t a ≡ Some holder → IsWellLinked m t holder) → suc (suc (length (body_of t b))) ≤ length t.operations
+pub moves_fit : (m : Meaning) (t : Tree) → IsTree t → (a b jump : ℕ) (values : List ℕ) → IsMergeable m t a b jump values → ((holder : ℕ) → block_parent_operation_of t a ≡ Some holder → IsWellLinked m t holder) → suc (suc (length (body_of t b))) ≤ length t.operations
 moves_fit m t w a b jump values h linked =
     distinct-length (length t.operations) (held.1 ∷ jump ∷ body_of t b) (not_holder, (not_jump, w.bodies.distinct b)) below
   where
     in_a : parent_of t jump ≡ Some a
     in_a = w.bodies.owned jump a (last_of-In jump (body_of t a) h.ends)
 
-    held : (r k : ℕ) × (block_parent_of t a ≡ Some r) × IsRegion t r × (region_parent_of t r ≡ Some k) × (block_holder_of t a ≡ Some k) × IsLive t k
+    held : (r k : ℕ) × (block_parent_of t a ≡ Some r) × IsRegion t r × (region_parent_of t r ≡ Some k) × (block_parent_operation_of t a ≡ Some k) × IsLive t k
     held = block_held t a w.joined (w.joined.standing jump a in_a).1
 
-    jump_held : holder_of t jump ≡ Some held.1
+    jump_held : parent_operation_of t jump ≡ Some held.1
     jump_held = holder_by t jump a held.1 in_a held.5
 
     beside : block_parent_of t b ≡ block_parent_of t a
     beside = (leads_alone m t held.1 a b jump values w (linked held.1 held.5).edges held.5 h).1.beside
 
-    in_b : (k : ℕ) → In k (body_of t b) → holder_of t k ≡ Some held.1
+    in_b : (k : ℕ) → In k (body_of t b) → parent_operation_of t k ≡ Some held.1
     in_b k i = holder_by t k b held.1 (w.bodies.owned k b i) (ap (λ o. up_from o (λ r. region_parent_of t r)) beside ∙ held.5)
 
     not_holder : In held.1 (jump ∷ body_of t b) → ⊥

@@ -4,9 +4,9 @@ use Rattle.std.proofs.lemmas.Bool.{false_from_ne_true}
 use Rattle.std.proofs.lemmas.List.{length-map}
 use Rattle.pliron_core.specs.declared.context.Def.{Def}
 use Rattle.pliron_core.specs.declared.context.Def.TheVariants.{Argument, Result}
-use Rattle.pliron_core.specs.Tree.{Tree, In, IsLive, IsBlock, IsRegion, IsMadeBy, IsMadeWithin, IsInside.Directly, head_of, successors_of, operands_of, results_of, regions_of, parent_of, body_of, arguments_of, block_parent_of, block_holder_of, region_parent_of, definition_of}
-use Rattle.pliron_core.specs.Joined.{IsTree}
-use Rattle.pliron_core.specs.Erased.{erased, IsSelfContained, IsSelfContainedBlock, StandsIn, IsBlockWithin, IsMadeInBlock}
+use Rattle.pliron_core.specs.Tree.{Tree, In, IsLive, IsBlock, IsRegion, IsMadeBy, IsDefinedWithin, IsInside.Directly, head_of, successors_of, operands_of, results_of, regions_of, parent_of, body_of, arguments_of, block_parent_of, block_parent_operation_of, region_parent_of, definition_of}
+use Rattle.pliron_core.specs.Invariant.{IsTree}
+use Rattle.pliron_core.specs.Erased.{after_erasing, IsSelfContained, IsSelfContainedBlock, StandsIn, IsBlockWithin, IsDefinedInBlock}
 use Rattle.pliron_core.proofs.TreeLemmas.{live-within, block-within}
 use Rattle.pliron_core.proofs.NeighbourLemmas.{last_of-In}
 use Rattle.pliron_core.proofs.WithinLemmas.{within_is, is_within}
@@ -26,7 +26,7 @@ use Rattle.pliron_theory.proofs.ErasedKeeps.{op_erased, block_erased_with, erase
 use Rattle.pliron_theory.proofs.SweptKeeps.{admitted_shape}
 use Rattle.pliron_block_laws.specs.Forwarding.{LeadsAlone}
 use Rattle.pliron_block_laws.specs.Joining.{JoinsWell}
-use Rattle.pliron_block_laws.specs.Pairs.{all_moved_last, joined}
+use Rattle.pliron_block_laws.specs.Pairs.{all_moved_last, after_joining}
 use Rattle.pliron_block_laws.proofs.PairEdges.{leads_alone}
 use Rattle.pliron_block_laws.proofs.JoinedPairs.{joining}
 use Rattle.pliron_block_laws.proofs.MovedBodies.{IsMoving, all_moved}
@@ -47,10 +47,10 @@ bare_branch m can_fold SameTests shortened law t k live admitted branch =
 
 module _ (m : Meaning) (can_fold : Head → Bool) (SameTests : Head → Head → Type 0) (shortened : Shape → ℕ → ℕ → Head) (law : ForwardsOperands m can_fold SameTests shortened) (t : Tree) (a b jump : ℕ) (w : IsTree t) (h : IsReadyToJoin m t a b jump) where
   abbrev t1 : Tree
-  t1 = erased t jump
+  t1 = after_erasing t jump
 
   abbrev t2 : Tree
-  t2 = all_moved_last (erased t jump) (body_of t b) a
+  t2 = all_moved_last (after_erasing t jump) (body_of t b) a
 
   in_a : parent_of t jump ≡ Some a
   in_a = w.bodies.owned jump a (last_of-In jump (body_of t a) h.pair.ends)
@@ -58,7 +58,7 @@ module _ (m : Meaning) (can_fold : Head → Bool) (SameTests : Head → Head →
   pub live : IsLive t jump
   live = (w.joined.standing jump a in_a).0
 
-  held : (r k : ℕ) × (block_parent_of t a ≡ Some r) × IsRegion t r × (region_parent_of t r ≡ Some k) × (block_holder_of t a ≡ Some k) × IsLive t k
+  held : (r k : ℕ) × (block_parent_of t a ≡ Some r) × IsRegion t r × (region_parent_of t r ≡ Some k) × (block_parent_operation_of t a ≡ Some k) × IsLive t k
   held = block_held t a w.joined (w.joined.standing jump a in_a).1
 
   linked : IsWellLinked m t held.1
@@ -74,7 +74,7 @@ module _ (m : Meaning) (can_fold : Head → Bool) (SameTests : Head → Head →
   apart e = h.pair.apart (sym e)
 
   -- nothing stands inside the jump, and it makes nothing
-  not_made : (v : ℕ) (d : Option Def) → IsMadeBy t v d → IsMadeWithin t jump d → ⊥
+  not_made : (v : ℕ) (d : Option Def) → IsMadeBy t v d → IsDefinedWithin t jump d → ⊥
   not_made v None by i = i
   not_made v (Some (Result k j)) by i = ⊎_elim (λ e. not_none (sym (ap (λ l. slice_get l j) (ap (results_of t) e ∙ bare.1)) ∙ by)) (λ z. insideless t w jump k bare.0 z) i
   not_made v (Some (Argument c j)) by i = blockless t w jump c bare.0 i
@@ -89,7 +89,7 @@ module _ (m : Meaning) (can_fold : Head → Bool) (SameTests : Head → Head →
   alive k ne = false_from_ne_true _ (λ e. ⊎_elim (λ s. ne s) (λ i. insideless t w jump k bare.0 i) (within_is t jump k e))
 
   block_alive : (c : ℕ) → block_erased_with t jump c ≡ false
-  block_alive c = false_from_ne_true _ (λ e. blockless t w jump c bare.0 (met_above t jump (block_holder_of t c) e))
+  block_alive c = false_from_ne_true _ (λ e. blockless t w jump c bare.0 (met_above t jump (block_parent_operation_of t c) e))
 
   parents1 : (c : ℕ) → block_parent_of t1 c ≡ block_parent_of t c
   parents1 c = sw.block_parents c (block_alive c)
@@ -107,7 +107,7 @@ module _ (m : Meaning) (can_fold : Head → Bool) (SameTests : Head → Head →
   still_beside = parents1 b ∙ leads.1.beside ∙ sym (parents1 a)
 
   -- all has moved
-  pub moves_from : (s u : Tree) → s ≡ erased t jump → u ≡ all_moved_last s (body_of s b) a → u ≡ all_moved_last (erased t jump) (body_of t b) a
+  pub moves_from : (s u : Tree) → s ≡ after_erasing t jump → u ≡ all_moved_last s (body_of s b) a → u ≡ all_moved_last (after_erasing t jump) (body_of t b) a
   moves_from s u e f = f ∙ ap (λ (z : Tree). all_moved_last z (body_of z b) a) e ∙ ap (λ l. all_moved_last t1 l a) body1
 
   module _ (w1 : IsTree t1) (w2 : IsTree t2) where
@@ -150,7 +150,7 @@ module _ (m : Meaning) (can_fold : Head → Bool) (SameTests : Head → Head →
     arguments2 : arguments_of t2 b ≡ arguments_of t b
     arguments2 = ap (λ (z : Tree). arguments_of z b) moving.shape ∙ sw.arguments b (block_alive b)
 
-    value : (x v : ℕ) (d : Option Def) → IsMadeBy t2 v d → In v (operands_of t2 x) → IsMadeInBlock t2 b d → ⊥
+    value : (x v : ℕ) (d : Option Def) → IsMadeBy t2 v d → In v (operands_of t2 x) → IsDefinedInBlock t2 b d → ⊥
     value x v None by i z = z
     value x v (Some (Result k j)) by i z = empty k z
     value x v (Some (Argument c j)) by i (inl e) = h.unused x v (operand x v i) (subst (In v) arguments2 (in_slice (arguments_of t2 b) j v (ap (λ q. slice_get (arguments_of t2 q) j) (sym e) ∙ by)))
@@ -163,5 +163,5 @@ module _ (m : Meaning) (can_fold : Head → Bool) (SameTests : Head → Head →
     pub contained_block : IsSelfContainedBlock t2 b
     contained_block = record { values = λ x v i y. absurd (value x v (definition_of t2 v) (w2.joined.operands x v i) i y); blocks = λ x c i y. absurd (block x c i y) }
 
-    pub joins : IsTree (joined t a b jump) → JoinsWell m t a b jump
+    pub joins : IsTree (after_joining t a b jump) → JoinsWell m t a b jump
     joins w3 = joining m can_fold SameTests shortened law t held.1 a b jump h.values w w1 w2 w3 linked.edges held.5 h.pair bare.0 bare.1 h.unused

@@ -5,7 +5,7 @@ use Rattle.pliron_core.proofs.ArgumentLemmas.{take_more}
 use Rattle.pliron_core.specs.declared.attrs.AttrObj.{AttrObj}
 use Rattle.pliron_core.specs.declared.context.Def.{Def}
 use Rattle.pliron_core.specs.declared.context.Def.TheVariants.{Result, Argument}
-use Rattle.pliron_core.specs.Joined.{IsTree}
+use Rattle.pliron_core.specs.Invariant.{IsTree}
 use Rattle.pliron_core.proofs.HoldingLemmas.{some_is, some_of, not_none, in_slice, maker_is}
 use Rattle.pliron_core.specs.Tree.{Tree, IsLive, IsDefined, IsMadeBy, head_of, operands_of, results_of, definition_of}
 use Rattle.pliron_laws.specs.Datum.{Head, Meaning}

@@ -2,8 +2,8 @@
 use Rattle.std.proofs.Common.{◌≡◌, inl, inr, ℕ, ◌<◌, ◌≤◌, ◌+◌, ◌-◌, arith, length, Bool, true, false, List, [], ◌∷◌, Some, Contains, IsSome, refl, sym, ap, ◌∙◌, subst}
 use Rattle.std.proofs.lemmas.Option.{slice_get_within}
 use Rattle.pliron_core.specs.Lists.{IsDistinct}
-use Rattle.pliron_core.specs.Tree.{Tree, In, IsBlock, IsRegion, IsInside, IsInside.Directly, regions_of, body_of, block_parent_of, layout_of, block_holder_of, region_parent_of, op_of_slot}
-use Rattle.pliron_core.specs.Joined.{IsTree}
+use Rattle.pliron_core.specs.Tree.{Tree, In, IsBlock, IsRegion, IsInside, IsInside.Directly, regions_of, body_of, block_parent_of, layout_of, block_parent_operation_of, region_parent_of, op_of_slot}
+use Rattle.pliron_core.specs.Invariant.{IsTree}
 use Rattle.pliron_core.specs.Reads.{has_ssa}
 use Rattle.std.specs.List.{flat_map}
 use Rattle.pliron_core.proofs.FlatLemmas.{flat_map-In}
@@ -12,9 +12,9 @@ use Rattle.pliron_core.proofs.NeighbourLemmas.{first_of-In}
 use Rattle.pliron_core.proofs.WithinLemmas.{block_holder_from}
 use Rattle.pliron_core.proofs.HoldingLemmas.{slice_in, slot_is, region_by, region_parent_is, block_held, holder_by, deeper, holds_deeper}
 use Rattle.pliron_laws.specs.Linked.{EdgesLast}
-use Rattle.pliron_search.specs.Digraph.{IsPath}
-use Rattle.pliron_search.specs.Regions.{graph_of_region, IsLawfulRegion}
-use Rattle.pliron_search.specs.Internal.RegionLawful.{in_keys, keys_have, region_lawful, same_key}
+use Rattle.pliron_traversal.specs.Digraph.{IsPath}
+use Rattle.pliron_traversal.specs.Regions.{graph_of_region, IsLawfulRegion}
+use Rattle.pliron_traversal.specs.Internal.RegionLawful.{in_keys, keys_have, region_lawful, same_key}
 use Rattle.pliron_cfg.specs.Visited.{IsVisited, IsVisited.Starts, IsVisited.Nested, IsLookedInto, IsLookedIntoIf, IsReachedIn}
 
 module _ (t : Tree) (w : IsTree t) (r : ℕ) (l : IsLawfulRegion t r) where
@@ -65,7 +65,7 @@ pub fewer_left : (a x y rest s waiting : ℕ) → s ≤ a → y ≤ a → x + s 
 fewer_left a x y rest s waiting h k e f = omega (arith, h, k, e, f)
 
 -- what a call on a block, on a region starts with may be read as a graph
-pub region_in_block : (t : Tree) → IsTree t → (block r : ℕ) → IsBlock t block → ((holder : ℕ) → block_holder_of t block ≡ Some holder → EdgesLast t holder) → In r (flat_map (λ k. regions_of t k) (body_of t block)) → IsLawfulRegion t r
+pub region_in_block : (t : Tree) → IsTree t → (block r : ℕ) → IsBlock t block → ((holder : ℕ) → block_parent_operation_of t block ≡ Some holder → EdgesLast t holder) → In r (flat_map (λ k. regions_of t k) (body_of t block)) → IsLawfulRegion t r
 region_in_block t w block r stands edges i =
     let up = block_held t block w.joined stands in
     let k = flat_map-In (λ k. regions_of t k) (body_of t block) r i in

@@ -1,7 +1,7 @@
 -- What a merge leaves.
 use Rattle.std.proofs.Common.{◌≡◌, ◌≢◌, ℕ, ◌<◌, Bool, List, length, Some, is_some, refl, sym, ap, ◌∙◌, subst, arith}
-use Rattle.pliron_core.specs.Tree.{Tree, In, without, IsLive, IsBlock, IsRegion, head_of, layout_of, arguments_of, body_of, block_parent_of, block_holder_of, region_parent_of}
-use Rattle.pliron_core.specs.Joined.{IsTree}
+use Rattle.pliron_core.specs.Tree.{Tree, In, without, IsLive, IsBlock, IsRegion, head_of, layout_of, arguments_of, body_of, block_parent_of, block_parent_operation_of, region_parent_of}
+use Rattle.pliron_core.specs.Invariant.{IsTree}
 use Rattle.pliron_core.proofs.NeighbourLemmas.{last_of-In}
 use Rattle.pliron_core.proofs.HoldingLemmas.{some_is, not_none, some_of, block_held}
 use Rattle.pliron_core.proofs.EditLemmas.{length-without}
@@ -14,7 +14,7 @@ use Rattle.pliron_theory.specs.Keeps.{KeepsAllRuns}
 use Rattle.pliron_theory.proofs.WholeChanges.{all_trans}
 use Rattle.pliron_block_laws.specs.Links.{KeepsLinks}
 use Rattle.pliron_block_laws.specs.Joining.{JoinsWell}
-use Rattle.pliron_block_laws.specs.Pairs.{IsMergeable, forwarded_uses, merged}
+use Rattle.pliron_block_laws.specs.Pairs.{IsMergeable, forwarded_uses, after_merging}
 use Rattle.pliron_block_laws.proofs.StandingLemmas.{block_was}
 use Rattle.pliron_block_laws.proofs.NoNewPairs.{no_new_pair}
 use Rattle.pliron_block_laws.proofs.JoinedLinks.{joined_links, joined_inside}
@@ -23,7 +23,7 @@ use Rattle.pliron_cfg.proofs.Forwarded.{IsForwarded, forwarded_all}
 use Rattle.pliron_cfg.proofs.JoinLemmas.{forwarded_arguments, forwarded_shape}
 
 -- the first block of a pair is held
-pub first_held : (m : Meaning) (t : Tree) → IsTree t → (a b jump : ℕ) (values : List ℕ) → IsMergeable m t a b jump values → (r k : ℕ) × (block_parent_of t a ≡ Some r) × IsRegion t r × (region_parent_of t r ≡ Some k) × (block_holder_of t a ≡ Some k) × IsLive t k
+pub first_held : (m : Meaning) (t : Tree) → IsTree t → (a b jump : ℕ) (values : List ℕ) → IsMergeable m t a b jump values → (r k : ℕ) × (block_parent_of t a ≡ Some r) × IsRegion t r × (region_parent_of t r ≡ Some k) × (block_parent_operation_of t a ≡ Some k) × IsLive t k
 first_held m t w a b jump values h = block_held t a w.joined (w.joined.standing jump a (w.bodies.owned jump a (last_of-In jump (body_of t a) h.ends))).1
 
 -- what merging b into a leaves
@@ -31,15 +31,15 @@ pub record IsMerge (m : Meaning) (t v : Tree) (a b : ℕ) : Type 0 where
   pub tree : IsTree v
   pub runs : KeepsAllRuns m t v
   pub links : KeepsLinks m t v
-  pub inside : (holder : ℕ) → block_holder_of t a ≡ Some holder → IsInsideChange t v holder
-  pub blocks : (c k : ℕ) → block_holder_of v c ≡ Some k → block_holder_of t c ≡ Some k
+  pub inside : (holder : ℕ) → block_parent_operation_of t a ≡ Some holder → IsInsideChange t v holder
+  pub blocks : (c k : ℕ) → block_parent_operation_of v c ≡ Some k → block_parent_operation_of t c ≡ Some k
   pub before : (c d j : ℕ) (others : List ℕ) → c ≢ a → block_parent_of v d ≡ block_parent_of v c → IsMergeable m v c d j others → (vs : List ℕ) × IsMergeable m t c d j vs
   pub first : block_parent_of v a ≡ block_parent_of t a
   pub region : ℕ
   pub in_region : block_parent_of t a ≡ Some region
   pub shorter : length (layout_of v region) < length (layout_of t region)
 
-module _ (m : Meaning) (can_fold : Head → Bool) (SameTests : Head → Head → Type 0) (shortened : Shape → ℕ → ℕ → Head) (law : ForwardsOperands m can_fold SameTests shortened) (a b jump : ℕ) (values : List ℕ) (t : Tree) (w : IsTree t) (h : IsMergeable m t a b jump values) (linked : (holder : ℕ) → block_holder_of t a ≡ Some holder → IsWellLinked m t holder) where
+module _ (m : Meaning) (can_fold : Head → Bool) (SameTests : Head → Head → Type 0) (shortened : Shape → ℕ → ℕ → Head) (law : ForwardsOperands m can_fold SameTests shortened) (a b jump : ℕ) (values : List ℕ) (t : Tree) (w : IsTree t) (h : IsMergeable m t a b jump values) (linked : (holder : ℕ) → block_parent_operation_of t a ≡ Some holder → IsWellLinked m t holder) where
   pub ready : IsReadyToJoin m (forwarded_uses t (arguments_of t b) values) a b jump
   ready =
       let x = first_held m t w a b jump values h in
@@ -52,14 +52,14 @@ module _ (m : Meaning) (can_fold : Head → Bool) (SameTests : Head → Head →
       }
 
   -- the whole merge
-  module _ (well : JoinsWell m (forwarded_uses t (arguments_of t b) values) a b jump) (wv : IsTree (merged t a b jump values)) where
+  module _ (well : JoinsWell m (forwarded_uses t (arguments_of t b) values) a b jump) (wv : IsTree (after_merging t a b jump values)) where
     abbrev u : Tree
     u = forwarded_uses t (arguments_of t b) values
 
     abbrev v : Tree
-    v = merged t a b jump values
+    v = after_merging t a b jump values
 
-    held : (r k : ℕ) × (block_parent_of t a ≡ Some r) × IsRegion t r × (region_parent_of t r ≡ Some k) × (block_holder_of t a ≡ Some k) × IsLive t k
+    held : (r k : ℕ) × (block_parent_of t a ≡ Some r) × IsRegion t r × (region_parent_of t r ≡ Some k) × (block_parent_operation_of t a ≡ Some k) × IsLive t k
     held = first_held m t w a b jump values h
 
     f : IsForwarded m t (forwarded_uses t (arguments_of t b) values) held.1 a b jump values (arguments_of t b)
@@ -74,10 +74,10 @@ module _ (m : Meaning) (can_fold : Head → Bool) (SameTests : Head → Head →
     block_left : (c : ℕ) → IsBlock v c → c ≢ b
     block_left c is e = let x = some_of (block_parent_of v c) is in not_none (sym well.spliced.gone_block ∙ ap (block_parent_of v) (sym e) ∙ x.1)
 
-    block_was_there : (c k : ℕ) → block_holder_of v c ≡ Some k → block_holder_of t c ≡ Some k
+    block_was_there : (c k : ℕ) → block_parent_operation_of v c ≡ Some k → block_parent_operation_of t c ≡ Some k
     block_was_there c k e =
         let x = block_was u v f.tree wv (λ j live. ap (λ z. z.regions) (well.spliced.rows j (op_left j live))) (λ d is. well.spliced.block_parents d (block_left d is)) c k e in
-        subst (λ (z : Tree). block_holder_of z c ≡ Some k) shape x
+        subst (λ (z : Tree). block_parent_operation_of z c ≡ Some k) shape x
 
     parent_was : (c : ℕ) → c ≢ b → block_parent_of v c ≡ block_parent_of t c
     parent_was c ne = well.spliced.block_parents c ne ∙ ap (λ (z : Tree). block_parent_of z c) shape

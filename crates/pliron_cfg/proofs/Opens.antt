@@ -1,7 +1,7 @@
 -- Blocks whose pairs are due, before and after merges.
 use Rattle.std.proofs.Common.{◌≡◌, ◌≢◌, inl, inr, ℕ, Bool, true, List, [], ◌∷◌, Some, None, is_some, refl, sym, ap, ◌∙◌, subst}
-use Rattle.pliron_core.specs.Tree.{Tree, In, head_of, IsLive, IsBlock, IsInside, IsInside.Directly, IsInside.Deeper, IsWithin, arguments_of, block_parent_of, block_holder_of}
-use Rattle.pliron_core.specs.Joined.{IsTree}
+use Rattle.pliron_core.specs.Tree.{Tree, In, head_of, IsLive, IsBlock, IsInside, IsInside.Directly, IsInside.Deeper, IsWithin, arguments_of, block_parent_of, block_parent_operation_of}
+use Rattle.pliron_core.specs.Invariant.{IsTree}
 use Rattle.pliron_core.specs.Changes.{IsInsideChange}
 use Rattle.pliron_core.proofs.HoldingLemmas.{some_is, not_none, some_of, outside_itself}
 use Rattle.pliron_core.proofs.ListLemmas.{In-right}
@@ -15,7 +15,7 @@ use Rattle.pliron_theory.specs.Splicing.{IsSpliced}
 use Rattle.pliron_theory.proofs.ChangeLemmas.{linked_inside}
 use Rattle.pliron_cfg.specs.Visited.{Start, IsReachedIn, IsVisited, IsVisitedSsaRegion, IsUnreachable}
 use Rattle.pliron_block_laws.specs.Joining.{JoinsWell}
-use Rattle.pliron_block_laws.specs.Pairs.{IsMergeable, forwarded_uses, merged}
+use Rattle.pliron_block_laws.specs.Pairs.{IsMergeable, forwarded_uses, after_merging}
 use Rattle.pliron_block_laws.proofs.JoinedLinks.{joined_inside}
 use Rattle.pliron_cfg.specs.Merged.{IsDue}
 use Rattle.pliron_cfg.proofs.Forwarded.{IsForwarded, forwarded_all}
@@ -58,9 +58,9 @@ pub record IsKept (m : Meaning) (start : Start) (t v : Tree) (root : ℕ) : Type
   pub change : IsWholeChange m t v root
 
 module _ (m : Meaning) (can_fold : Head → Bool) (SameTests : Head → Head → Type 0) (shortened : Shape → ℕ → ℕ → Head) (law : ForwardsOperands m can_fold SameTests shortened) (start : Start) (root : ℕ) (lasting : IsLasting start root) where
-  module _ (t : Tree) (a b jump : ℕ) (values : List ℕ) (w : IsTree t) (live : IsLive t root) (linked : IsWellLinked m t root) (starts : (r : ℕ) → start t r → IsHeld t root r) (opened : IsOpen start t a) (h : IsMergeable m t a b jump values) (well : JoinsWell m (forwarded_uses t (arguments_of t b) values) a b jump) (wv : IsTree (merged t a b jump values)) where
+  module _ (t : Tree) (a b jump : ℕ) (values : List ℕ) (w : IsTree t) (live : IsLive t root) (linked : IsWellLinked m t root) (starts : (r : ℕ) → start t r → IsHeld t root r) (opened : IsOpen start t a) (h : IsMergeable m t a b jump values) (well : JoinsWell m (forwarded_uses t (arguments_of t b) values) a b jump) (wv : IsTree (after_merging t a b jump values)) where
     abbrev v : Tree
-    v = merged t a b jump values
+    v = after_merging t a b jump values
 
     abbrev xs : List (List ℕ)
     xs = (forwarded_uses t (arguments_of t b) values).operands
@@ -74,7 +74,7 @@ module _ (m : Meaning) (can_fold : Head → Bool) (SameTests : Head → Head →
     holds : IsHeld t root opened.region
     holds = visited_held t w root linked.edges (start t) starts opened.region opened.searched.0
 
-    held : block_holder_of t a ≡ Some holds.holder
+    held : block_parent_operation_of t a ≡ Some holds.holder
     held = block_holder_from t a opened.region opened.in_region ∙ holds.held
 
     near : IsWellLinked m t holds.holder

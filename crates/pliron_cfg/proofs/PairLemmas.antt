@@ -4,8 +4,8 @@ use Rattle.std.proofs.lemmas.Bool.{false≢true}
 use Rattle.pliron_core.specs.declared.context.Def.{Def}
 use Rattle.pliron_core.specs.declared.context.Def.TheVariants.{Argument, Result}
 use Rattle.pliron_core.specs.declared.uses.Use.{Use}
-use Rattle.pliron_core.specs.Tree.{Tree, View, In, first_of, last_of, IsBlock, IsDefined, IsMadeBy, IsInside.Directly, uses_of, successors_of, operands_of, body_of, arguments_of, block_parent_of, block_holder_of, region_parent_of, layout_of, definition_of, head_of, up_from}
-use Rattle.pliron_core.specs.Joined.{IsTree, HaveUses}
+use Rattle.pliron_core.specs.Tree.{Tree, View, In, first_of, last_of, IsBlock, IsDefined, IsMadeBy, IsInside.Directly, uses_of, successors_of, operands_of, body_of, arguments_of, block_parent_of, block_parent_operation_of, region_parent_of, layout_of, definition_of, head_of, up_from}
+use Rattle.pliron_core.specs.Invariant.{IsTree, HaveUses}
 use Rattle.pliron_core.specs.Reads.{prev_block_of}
 use Rattle.pliron_core.specs.Lists.{prev_in}
 use Rattle.pliron_core.specs.Edges.{succs_from, preds_of}
@@ -59,7 +59,7 @@ one_item (y ∷ []) x l e = ap (λ z. z ∷ []) (some_is e)
 one_item (y ∷ z ∷ ys) x l e = absurd (omega (arith, l))
 
 -- the block to which a jump leads alone
-module _ (v : View) (block jump : ℕ) (w : IsTree v.tree) (u : HaveUses v) (is : IsBlock v.tree block) (goes : successors_of v.tree jump ≡ block ∷ []) (edges : (holder : ℕ) → block_holder_of v.tree block ≡ Some holder → EdgesLast v.tree holder) where
+module _ (v : View) (block jump : ℕ) (w : IsTree v.tree) (u : HaveUses v) (is : IsBlock v.tree block) (goes : successors_of v.tree jump ≡ block ∷ []) (edges : (holder : ℕ) → block_parent_operation_of v.tree block ≡ Some holder → EdgesLast v.tree holder) where
   ends : (k : ℕ) → In block (successors_of v.tree k) → EndsBlock v.tree k
   ends k i =
       let h = block_held v.tree block w.joined is in
@@ -110,7 +110,7 @@ pub way_jump : (m : Meaning) (t : Tree) (a b j jump : ℕ) → IsOnlyWay m t a b
 way_jump m t a b j jump h e = (some_is (sym h.ends ∙ sym e), ap (succs_from t) e ∙ h.goes)
 
 -- where edges stand last, a block's only successor stands beside it
-pub second_beside : (t : Tree) → IsTree t → (a b jump : ℕ) → IsBlock t a → ((holder : ℕ) → block_holder_of t a ≡ Some holder → EdgesLast t holder) → Some jump ≡ last_of None (body_of t a) → successors_of t jump ≡ b ∷ [] → block_parent_of t b ≡ block_parent_of t a
+pub second_beside : (t : Tree) → IsTree t → (a b jump : ℕ) → IsBlock t a → ((holder : ℕ) → block_parent_operation_of t a ≡ Some holder → EdgesLast t holder) → Some jump ≡ last_of None (body_of t a) → successors_of t jump ≡ b ∷ [] → block_parent_of t b ≡ block_parent_of t a
 second_beside t w a b jump is edges e goes =
     let h = block_held t a w.joined is in
     let in_a = w.bodies.owned jump a (last_of-In jump (body_of t a) (sym e)) in
@@ -118,7 +118,7 @@ second_beside t w a b jump is edges e goes =
     let x = edges h.1 h.5 jump b b_in (inl (Directly (holder_by t jump a h.1 in_a h.5))) in
     x.own_region b b_in ∙ ap (block_parent_of t) (some_is (sym x.in_block ∙ in_a))
 
-pub same_holder_beside : (t : Tree) (a b : ℕ) → block_parent_of t b ≡ block_parent_of t a → block_holder_of t b ≡ block_holder_of t a
+pub same_holder_beside : (t : Tree) (a b : ℕ) → block_parent_of t b ≡ block_parent_of t a → block_parent_operation_of t b ≡ block_parent_operation_of t a
 same_holder_beside t a b e = ap (λ o. up_from o (λ r. region_parent_of t r)) e
 
 -- an argument of a block is told by what makes it

@@ -1,7 +1,7 @@
 -- Reach in a region, by paths of the graph and by paths of the tree.
 use Rattle.std.proofs.Common.{◌≡◌, inl, inr, ℕ, Bool, true, false, List, [], ◌∷◌, ◌++◌, Option, Some, None, Contains, refl, sym, ap, ◌∙◌, subst}
 use Rattle.pliron_core.specs.Tree.{Tree, In, first_of, last_of, IsLive, IsRegion, IsWithin, regions_of, parent_of, body_of, block_parent_of, region_parent_of, layout_of}
-use Rattle.pliron_core.specs.Joined.{IsTree}
+use Rattle.pliron_core.specs.Invariant.{IsTree}
 use Rattle.pliron_core.specs.Edges.{succs_of, succs_from}
 use Rattle.pliron_core.specs.Reads.{has_ssa}
 use Rattle.pliron_core.specs.Changes.{IsInsideChange}
@@ -10,9 +10,9 @@ use Rattle.pliron_core.proofs.WithinLemmas.{block_holder_from}
 use Rattle.pliron_core.proofs.HoldingLemmas.{some_is, slice_in, holder_by, inside_by, inside_or, region_parent_is, region_by}
 use Rattle.pliron_laws.specs.Linked.{EdgesLast}
 use Rattle.pliron_laws.specs.Paths.{Path, Leads}
-use Rattle.pliron_search.specs.Digraph.{Reaches, IsPath}
-use Rattle.pliron_search.specs.Regions.{graph_of_region}
-use Rattle.pliron_search.specs.Internal.RegionLawful.{in_keys, keys_have}
+use Rattle.pliron_traversal.specs.Digraph.{Reaches, IsPath}
+use Rattle.pliron_traversal.specs.Regions.{graph_of_region}
+use Rattle.pliron_traversal.specs.Internal.RegionLawful.{in_keys, keys_have}
 use Rattle.pliron_cfg.specs.Visited.{IsReachedIn, IsLookedIntoIf, IsLookedInto, IsVisited, IsVisited.Starts, IsVisited.Nested}
 use Rattle.pliron_block_laws.specs.Reaching.{LeadsTo}
 

@@ -2,19 +2,19 @@
 -- region are gone, the start is the same.
 use Rattle.std.proofs.Common.{◌≡◌, inl, inr, ⊎_elim, ℕ, true, false, true≢false, List, Some, refl, sym, ap, ◌∙◌, subst, is_some, IsSome}
 use Rattle.std.proofs.lemmas.Bool.{false_from_ne_true}
-use Rattle.pliron_core.specs.Tree.{Tree, In, IsLive, IsRegion, IsInside, IsInside.Directly, IsWithin, row_of, regions_of, parent_of, block_parent_of, region_parent_of, holder_of, op_of_slot}
-use Rattle.pliron_core.specs.Joined.{IsTree}
+use Rattle.pliron_core.specs.Tree.{Tree, In, IsLive, IsRegion, IsInside, IsInside.Directly, IsWithin, row_of, regions_of, parent_of, block_parent_of, region_parent_of, parent_operation_of, op_of_slot}
+use Rattle.pliron_core.specs.Invariant.{IsTree}
 use Rattle.pliron_core.specs.Erased.{StandsIn}
 use Rattle.pliron_core.proofs.WithinLemmas.{block_holder_from, block_steps, holder_from, region_has, region_parent_live}
 use Rattle.pliron_core.proofs.HoldingLemmas.{some_is, block_held, in_slice, slice_in, slot_is, region_by, region_parent_is, holder_by, inside_by, inside_up, not_itself, within_inside}
 use Rattle.pliron_laws.specs.Linked.{EdgesLast}
-use Rattle.pliron_search.specs.Regions.{IsLawfulRegion}
+use Rattle.pliron_traversal.specs.Regions.{IsLawfulRegion}
 use Rattle.pliron_block_laws.specs.Cutting.{cut_op, cut_block, AreCut}
 use Rattle.pliron_block_laws.proofs.CutBlocks.{block_cases}
 use Rattle.pliron_cfg.specs.Visited.{IsVisited, IsVisited.Starts, IsVisited.Nested}
 use Rattle.pliron_cfg.proofs.Lawful.{edges_held, visited_lawful, entered_in}
-use Rattle.pliron_cfg.specs.declared.removal.scope.Scope.{Scope}
-use Rattle.pliron_cfg.specs.declared.removal.scope.Scope.TheVariants.{Operation, Block, Region}
+use Rattle.pliron_cfg.specs.declared.removal.scope.RemovalScope.{RemovalScope}
+use Rattle.pliron_cfg.specs.declared.removal.scope.RemovalScope.TheVariants.{Operation, Block, Region}
 use Rattle.pliron_cfg.specs.Internal.Scopes.{start_of, ScopeStands, IsHolder}
 use Rattle.pliron_cfg.proofs.CutOffLemmas.{cut_in}
 
@@ -32,23 +32,23 @@ module _ (t : Tree) (w : IsTree t) where
       subst (λ z. In r (regions_of t z)) (some_is (sym (region_parent_is t r s.0 s.1) ∙ e)) (in_slice (regions_of t s.0.op) s.0.index r s.2)
 
 -- an operation with whose regions the call starts
-abbrev pub IsTop : Tree → Scope → ℕ → Type 0
+abbrev pub IsTop : Tree → RemovalScope → ℕ → Type 0
 IsTop t (Operation op) k = k ≡ op
 IsTop t (Block block) k = parent_of t k ≡ Some block
 IsTop t (Region region) k = region_parent_of t region ≡ Some k
 
-pub top_within : (t : Tree) (s : Scope) (root top : ℕ) → IsHolder t s root → IsTop t s top → IsWithin t root top
+pub top_within : (t : Tree) (s : RemovalScope) (root top : ℕ) → IsHolder t s root → IsTop t s top → IsWithin t root top
 top_within t (Operation op) root top h x = inl (x ∙ h)
 top_within t (Block block) root top h x = inr (Directly (holder_by t top block root x h))
 top_within t (Region region) root top h x = inl (some_is (sym x ∙ h))
 
-pub top_held : (t : Tree) → IsTree t → (s : Scope) (r : ℕ) → ScopeStands t s → start_of s t r → (h : ℕ) × IsTop t s h × (region_parent_of t r ≡ Some h) × IsRegion t r
+pub top_held : (t : Tree) → IsTree t → (s : RemovalScope) (r : ℕ) → ScopeStands t s → start_of s t r → (h : ℕ) × IsTop t s h × (region_parent_of t r ≡ Some h) × IsRegion t r
 top_held t w (Operation op) r is i = (op, refl, held_by t w op r i, stands_by t w op r i)
 top_held t w (Block block) r is (k, at, i) = (k, at, held_by t w k r i, stands_by t w k r i)
 top_held t w (Region region) r is e = let h = region_has t region is in (h.0, h.1, ap (region_parent_of t) e ∙ h.1, subst (IsRegion t) (sym e) is)
 
 -- none of them is inside another
-tops_apart : (t : Tree) → IsTree t → (s : Scope) (root a b : ℕ) → IsHolder t s root → IsTop t s a → IsTop t s b → IsInside t b a → ⊥
+tops_apart : (t : Tree) → IsTree t → (s : RemovalScope) (root a b : ℕ) → IsHolder t s root → IsTop t s a → IsTop t s b → IsInside t b a → ⊥
 tops_apart t w (Operation op) root a b h x y i = not_itself {t = t} w.joined.rooted (subst (λ z. IsInside t z a) (y ∙ sym x) i)
 tops_apart t w (Block block) root a b h x y i =
     let up = inside_up i in
@@ -57,7 +57,7 @@ tops_apart t w (Block block) root a b h x y i =
     not_itself {t = t} w.joined.rooted (within_inside inside (subst (IsWithin t b) same up.2))
 tops_apart t w (Region region) root a b h x y i = not_itself {t = t} w.joined.rooted (subst (λ z. IsInside t z a) (some_is (sym y ∙ x)) i)
 
-module _ (t : Tree) (w : IsTree t) (s : Scope) (root : ℕ) (stands : ScopeStands t s) (holder : IsHolder t s root) (edges : EdgesLast t root) where
+module _ (t : Tree) (w : IsTree t) (s : RemovalScope) (root : ℕ) (stands : ScopeStands t s) (holder : IsHolder t s root) (edges : EdgesLast t root) where
   pub start_lawful : (r : ℕ) → start_of s t r → IsLawfulRegion t r
   start_lawful r x =
       let top = top_held t w s r stands x in
@@ -78,7 +78,7 @@ module _ (t : Tree) (w : IsTree t) (s : Scope) (root : ℕ) (stands : ScopeStand
   below r (Nested outer b k v ent p i) h e =
       let l = lawful outer v in
       let same : h ≡ k = some_is (sym e ∙ held_by t w k r i) in
-      let up : holder_of t k ≡ Some l.holder = holder_from t k b p ∙ block_holder_from t b outer (entered_in t w outer l b ent) ∙ l.held in
+      let up : parent_operation_of t k ≡ Some l.holder = holder_from t k b p ∙ block_holder_from t b outer (entered_in t w outer l b ent) ∙ l.held in
       let x = below outer v l.holder l.held in
       (x.0, x.1, inr (subst (IsInside t x.0) (sym same) (inside_by {t = t} l.holder up x.2)))
 
@@ -90,7 +90,7 @@ module _ (t : Tree) (w : IsTree t) (s : Scope) (root : ℕ) (stands : ScopeStand
   -- what stands in a block of a visited region is inside what holds the region
   in_block : (r b k : ℕ) (v : IsVisited t (start_of s t) r) → block_parent_of t b ≡ Some r → StandsIn t b k → (l : IsLawfulRegion t r) → (top : ℕ) → IsWithin t top l.holder → IsInside t top k
   in_block r b k v p y l top within =
-      let up : holder_of t y.0 ≡ Some l.holder = holder_from t y.0 b y.1 ∙ block_holder_from t b r p ∙ l.held in
+      let up : parent_operation_of t y.0 ≡ Some l.holder = holder_from t y.0 b y.1 ∙ block_holder_from t b r p ∙ l.held in
       within_inside (inside_by {t = t} l.holder up within) y.2
 
   -- so neither the root nor where the call starts stands there
@@ -118,7 +118,7 @@ module _ (t v : Tree) (w : IsTree t) (wv : IsTree v) (root r : ℕ) (bs : List �
   stood : (k : ℕ) → IsLive v k → cut_op t bs k ≡ false
   stood k live = false_from_ne_true _ (λ e. true≢false (sym live ∙ ap is_some (cut.gone k e)))
 
-  module _ (s : Scope) (stands : ScopeStands t s) (holder : IsHolder t s root) (edges : EdgesLast t root) (visited : IsVisited t (start_of s t) r) where
+  module _ (s : RemovalScope) (stands : ScopeStands t s) (holder : IsHolder t s root) (edges : EdgesLast t root) (visited : IsVisited t (start_of s t) r) where
     pub root_left : cut_op t bs root ≡ false
     root_left = left_of root (λ b i y. root_apart t w s root stands holder edges r b visited (own b i) y)
 
@@ -138,26 +138,26 @@ module _ (t v : Tree) (w : IsTree t) (wv : IsTree v) (root r : ℕ) (bs : List �
       (λ q. true≢false (sym q.2 ∙ ap (cut_op t bs) (some_is (sym q.1 ∙ holder)) ∙ root_left (Block block) stands holder edges visited))
       (block_cases t bs block e))
 
-  pub start_to : (s : Scope) (stands : ScopeStands t s) (holder : IsHolder t s root) → EdgesLast t root → IsVisited t (start_of s t) r → (q : ℕ) → start_of s t q → start_of s v q
+  pub start_to : (s : RemovalScope) (stands : ScopeStands t s) (holder : IsHolder t s root) → EdgesLast t root → IsVisited t (start_of s t) r → (q : ℕ) → start_of s t q → start_of s v q
   start_to (Operation op) stands holder edges visited q i = subst (λ z. In q z.regions) (sym (cut.rows op (top_left (Operation op) stands holder edges visited op refl))) i
   start_to (Block block) stands holder edges visited q (k, at, i) =
       let left = top_left (Block block) stands holder edges visited k at in
       (k, cut.parents k left ∙ at, subst (λ z. In q z.regions) (sym (cut.rows k left)) i)
   start_to (Region region) stands holder edges visited q e = e
 
-  pub start_from : (s : Scope) (stands : ScopeStands t s) (holder : IsHolder t s root) → EdgesLast t root → IsVisited t (start_of s t) r → (q : ℕ) → start_of s v q → start_of s t q
+  pub start_from : (s : RemovalScope) (stands : ScopeStands t s) (holder : IsHolder t s root) → EdgesLast t root → IsVisited t (start_of s t) r → (q : ℕ) → start_of s v q → start_of s t q
   start_from (Operation op) stands holder edges visited q i = subst (λ z. In q z.regions) (cut.rows op (top_left (Operation op) stands holder edges visited op refl)) i
   start_from (Block block) stands holder edges visited q (k, at, i) =
       let left = stood k (wv.joined.standing k block at).0 in
       (k, sym (cut.parents k left) ∙ at, subst (λ z. In q z.regions) (cut.rows k left) i)
   start_from (Region region) stands holder edges visited q e = e
 
-  pub stands_still : (s : Scope) (stands : ScopeStands t s) (holder : IsHolder t s root) → EdgesLast t root → IsVisited t (start_of s t) r → ScopeStands v s
+  pub stands_still : (s : RemovalScope) (stands : ScopeStands t s) (holder : IsHolder t s root) → EdgesLast t root → IsVisited t (start_of s t) r → ScopeStands v s
   stands_still (Operation op) stands holder edges visited = subst (λ z. is_some z.head ≡ true) (sym (cut.rows op (top_left (Operation op) stands holder edges visited op refl))) stands
   stands_still (Block block) stands holder edges visited = subst IsSome (sym (cut.block_parents block (block_left block stands holder edges visited))) stands
   stands_still (Region region) stands holder edges visited = stands_by v wv root region (listed_still (root_row (Region region) stands holder edges visited) region stands holder)
 
-  pub holder_still : (s : Scope) (stands : ScopeStands t s) (holder : IsHolder t s root) → EdgesLast t root → IsVisited t (start_of s t) r → IsHolder v s root
+  pub holder_still : (s : RemovalScope) (stands : ScopeStands t s) (holder : IsHolder t s root) → EdgesLast t root → IsVisited t (start_of s t) r → IsHolder v s root
   holder_still (Operation op) stands holder edges visited = holder
   holder_still (Block block) stands holder edges visited =
       let x = block_steps t block root holder in
@@ -166,12 +166,12 @@ module _ (t v : Tree) (w : IsTree t) (wv : IsTree v) (root r : ℕ) (bs : List �
   holder_still (Region region) stands holder edges visited = held_by v wv root region (listed_still (root_row (Region region) stands holder edges visited) region stands holder)
 
 -- one operation alone holds it
-pub one_holder : (t : Tree) (s : Scope) (a b : ℕ) → IsHolder t s a → IsHolder t s b → a ≡ b
+pub one_holder : (t : Tree) (s : RemovalScope) (a b : ℕ) → IsHolder t s a → IsHolder t s b → a ≡ b
 one_holder t (Operation op) a b x y = sym x ∙ y
 one_holder t (Block block) a b x y = some_is (sym x ∙ y)
 one_holder t (Region region) a b x y = some_is (sym x ∙ y)
 
-pub holder_is : (t : Tree) → IsTree t → (s : Scope) → ScopeStands t s → (root : ℕ) × IsHolder t s root × IsLive t root
+pub holder_is : (t : Tree) → IsTree t → (s : RemovalScope) → ScopeStands t s → (root : ℕ) × IsHolder t s root × IsLive t root
 holder_is t w (Operation op) is = (op, refl, is)
 holder_is t w (Block block) is = let x = block_held t block w.joined is in (x.1, x.5, x.6)
 holder_is t w (Region region) is = let x = region_has t region is in (x.0, x.1, region_parent_live t region x.0 w.joined is x.1)

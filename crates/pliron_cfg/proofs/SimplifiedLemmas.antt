@@ -9,12 +9,12 @@ use Rattle.pliron_core.proofs.HoldingLemmas.{not_none, some_of}
 use Rattle.pliron_core.proofs.TreeLemmas.{live-within}
 use Rattle.pliron_laws.specs.Datum.{Head, Meaning}
 use Rattle.pliron_laws.specs.Folding.{Constants}
-use Rattle.pliron_laws.specs.InPlace.{Outcome, TellsChange}
+use Rattle.pliron_laws.specs.InPlace.{Outcome, ReportsChange}
 use Rattle.pliron_theory.specs.Change.{IsWholeChange}
 use Rattle.pliron_theory.proofs.WholeChanges.{whole_trans}
 use Rattle.pliron_cfg.specs.Visited.{Start, OfOperation, IsUnreachable, IsCutOff}
 use Rattle.pliron_cfg.specs.Folded.{branches_of, FoldsAll}
-use Rattle.pliron_cfg.specs.FoldSteps.{TellsErased}
+use Rattle.pliron_cfg.specs.FoldSteps.{ReportsAnyErased}
 use Rattle.pliron_cfg.specs.Removed.{IsWithout, BlockGoesWith, RemovesSome, RemovesSome.Nothing, RemovesSome.Then, RemovesAll}
 use Rattle.pliron_cfg.specs.Merged.{MergesAll, LosesOperation, HasPair}
 use Rattle.pliron_cfg.specs.Simplified.{Simplifies}
@@ -76,7 +76,7 @@ module _ (m : Meaning) (op : ℕ) (t u v w : Tree) (first : IsWholeChange m t u 
       go None e = e
       go (Some r) e = let y = some_of (block_parent_of v b) (no_block b (ap is_some e)) in absurd (not_none (sym none ∙ y.1))
 
-  pub honest : (a b c : IRStatus) → TellsErased a t u → RemovesAll (OfOperation op) u v b → MergesAll (OfOperation op) m v w c → LosesOperation c v w → TellsChange (Some (changed_by_either (changed_by_either a b) c)) t w
+  pub honest : (a b c : IRStatus) → ReportsAnyErased a t u → RemovesAll (OfOperation op) u v b → MergesAll (OfOperation op) m v w c → LosesOperation c v w → ReportsChange (Some (changed_by_either (changed_by_either a b) c)) t w
   honest Changed b c (k, live, none) removes merges told = operation_tells t w k live (gone_stays m t u w op first (whole_trans m u v w op second third) k live none)
   honest Unchanged Changed c same removes merges told = ⊎_elim
       (λ e. absurd (none_there Changed removes removes.0.0 (subst (λ (z : Tree). IsUnreachable (OfOperation op) z removes.0.0) (sym e) removes.0.1)))
@@ -85,7 +85,7 @@ module _ (m : Meaning) (op : ℕ) (t u v w : Tree) (first : IsWholeChange m t u 
   honest Unchanged Unchanged Changed same (none, stays) merges (k, live, gone) = operation_tells t w k (subst (λ z. is_some z.head ≡ true) (same.operations k) (subst (λ (z : Tree). IsLive z k) stays live)) gone
   honest Unchanged Unchanged Unchanged same (none, stays) (still, pairs) told = subst (λ (z : Tree). IsSameTree t z) (sym (still ∙ stays)) same
 
-  pub simplified : (can_fold can_fold_branch : Head → Bool) (constants : Constants) (outcome : Outcome) (a b c status : IRStatus) → FoldsAll m can_fold constants outcome (branches_of can_fold_branch t op) t u a → TellsErased a t u → RemovesAll (OfOperation op) u v b → MergesAll (OfOperation op) m v w c → LosesOperation c v w → status ≡ changed_by_either (changed_by_either a b) c → Simplifies m can_fold can_fold_branch constants outcome op t w status
+  pub simplified : (can_fold can_fold_branch : Head → Bool) (constants : Constants) (outcome : Outcome) (a b c status : IRStatus) → FoldsAll m can_fold constants outcome (branches_of can_fold_branch t op) t u a → ReportsAnyErased a t u → RemovesAll (OfOperation op) u v b → MergesAll (OfOperation op) m v w c → LosesOperation c v w → status ≡ changed_by_either (changed_by_either a b) c → Simplifies m can_fold can_fold_branch constants outcome op t w status
   simplified can_fold can_fold_branch constants outcome a b c status folds told removes merges lost is = record {
     folded = u;
     removed = v;
@@ -96,7 +96,7 @@ module _ (m : Meaning) (op : ℕ) (t u v w : Tree) (first : IsWholeChange m t u 
     removes = removes;
     merges = merges;
     answer = is;
-    honest = subst (λ s. TellsChange (Some s) t w) (sym is) (honest a b c told removes merges lost);
+    honest = subst (λ s. ReportsChange (Some s) t w) (sym is) (honest a b c told removes merges lost);
     none_unreachable = none_left b removes;
     no_pair = no_pair_left c merges;
   }

@@ -3,8 +3,8 @@
 use Rattle.std.proofs.Common.{◌≡◌, ◌↔◌, ◌<◌, inl, ⊎_elim, ℕ, Bool, true, false, true≢false, List, [], ◌∷◌, Option, Some, None, IsTrue, Contains, refl, sym, ap, ◌∙◌, subst, arith, is_some}
 use Rattle.std.specs.List.{slice_get}
 use Rattle.std.proofs.lemmas.Bool.{false_from_ne_true}
-use Rattle.pliron_core.specs.Tree.{Tree, In, IsRising, IsLive, first_of, last_of, row_of, regions_of, parent_of, body_of, block_parent_of, layout_of, region_parent_of, block_holder_of, holder_of, op_of_slot}
-use Rattle.pliron_core.specs.Joined.{IsTree}
+use Rattle.pliron_core.specs.Tree.{Tree, In, IsRising, IsLive, first_of, last_of, row_of, regions_of, parent_of, body_of, block_parent_of, layout_of, region_parent_of, block_parent_operation_of, parent_operation_of, op_of_slot}
+use Rattle.pliron_core.specs.Invariant.{IsTree}
 use Rattle.pliron_core.specs.Reads.{has_ssa, has_ssa_at, ssa_in}
 use Rattle.pliron_core.specs.Edges.{succs_of, succs_from}
 use Rattle.pliron_core.specs.Erased.{StandsIn}
@@ -13,9 +13,9 @@ use Rattle.pliron_core.proofs.ReadLemmas.{In-last}
 use Rattle.pliron_core.proofs.NeighbourLemmas.{first_of-In}
 use Rattle.pliron_core.proofs.WithinLemmas.{block_holder_from, holder_from}
 use Rattle.pliron_core.proofs.HoldingLemmas.{some_is, not_none, in_slice, slice_in, slot_is, region_parent_is, inside_up}
-use Rattle.pliron_search.specs.Digraph.{IsPath}
-use Rattle.pliron_search.specs.Regions.{graph_of_region, IsLawfulRegion}
-use Rattle.pliron_search.specs.Internal.RegionLawful.{in_keys}
+use Rattle.pliron_traversal.specs.Digraph.{IsPath}
+use Rattle.pliron_traversal.specs.Regions.{graph_of_region, IsLawfulRegion}
+use Rattle.pliron_traversal.specs.Internal.RegionLawful.{in_keys}
 use Rattle.std.proofs.Common.{if◌then◌else◌}
 use Rattle.pliron_core.specs.Erased.{is_met_above}
 use Rattle.pliron_block_laws.specs.Cutting.{stands_in_one, cut_op, cut_block, AreCut}
@@ -40,7 +40,7 @@ first_same (a ∷ xs) (b ∷ ys) x rx ry e sub i =
     (sub b (inl refl)))
 
 in_cut_listed : (t : Tree) (bs : List ℕ) (b : ℕ) → In b bs → cut_block t bs b ≡ true
-in_cut_listed t bs b i = ap (λ z. if z then true else is_met_above t (stands_in_one t bs) (block_holder_of t b)) (listed bs b i)
+in_cut_listed t bs b i = ap (λ z. if z then true else is_met_above t (stands_in_one t bs) (block_parent_operation_of t b)) (listed bs b i)
 
 -- a region is one of its operation's
 region_listed : (t : Tree) (r : ℕ) (l : IsLawfulRegion t r) → In r (regions_of t l.holder)
@@ -79,7 +79,7 @@ module _ (t v : Tree) (w : IsTree t) (wv : IsTree v) (r0 : ℕ) (bs : List ℕ) 
       (λ s. entered_left outer c (has_ssa t outer) (law outer x) ent (subst (λ z. In z bs) (some_is (sym y.1 ∙ ap (parent_of t) (sym s) ∙ ap (parent_of t) same ∙ p)) i))
       (λ inner.
       let up = inside_up inner in
-      let above : region_parent_of t outer ≡ Some up.0 = sym (holder_from t k c p ∙ block_holder_from t c outer (entered_in t w outer (law outer x) c ent)) ∙ ap (holder_of t) (sym same) ∙ up.1 in
+      let above : region_parent_of t outer ≡ Some up.0 = sym (holder_from t k c p ∙ block_holder_from t c outer (entered_in t w outer (law outer x) c ent)) ∙ ap (parent_operation_of t) (sym same) ∙ up.1 in
       never outer x up.0 above b i (y.0, y.1, up.2))
       y.2
     where

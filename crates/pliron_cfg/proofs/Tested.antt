@@ -4,8 +4,8 @@ use Rattle.std.specs.List.{list_any}
 use Rattle.std.specs.Option.{option_to_list}
 use Rattle.std.proofs.lemmas.Bool.{cases_Bool, eq-eqb, false≢true, or_cases}
 use Rattle.pliron_core.specs.Tree.{Tree, In, first_of, layout_of}
-use Rattle.pliron_search.specs.Search.{Orders, IsSearch}
-use Rattle.pliron_search.specs.Internal.RegionLawful.{in_keys, keys_have, same_key}
+use Rattle.pliron_traversal.specs.Search.{Orders, IsSearch}
+use Rattle.pliron_traversal.specs.Internal.RegionLawful.{in_keys, keys_have, same_key}
 use Rattle.pliron_cfg.specs.Visited.{IsReachedIn}
 use Rattle.pliron_cfg.specs.Internal.LastFirst.{last_first, reached_alike, alike_reached}
 

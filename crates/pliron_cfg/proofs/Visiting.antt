@@ -3,7 +3,7 @@ use Rattle.std.proofs.Common.{◌≡◌, ◌↔◌, ◌⊎◌, inl, inr, ⊎_eli
 use Rattle.std.specs.List.{flat_map}
 use Rattle.pliron_core.specs.Lists.{IsDistinct}
 use Rattle.pliron_core.specs.Tree.{Tree, In, regions_of, parent_of, body_of}
-use Rattle.pliron_core.specs.Joined.{IsTree}
+use Rattle.pliron_core.specs.Invariant.{IsTree}
 use Rattle.pliron_core.specs.Reads.{has_ssa}
 use Rattle.pliron_core.proofs.FlatLemmas.{In-flat_map, flat_map-In}
 use Rattle.pliron_core.proofs.ListLemmas.{In-left, In-right, In-cases}

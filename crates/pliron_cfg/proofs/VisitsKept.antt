@@ -3,8 +3,8 @@ use Rattle.std.proofs.Common.{◌≡◌, ◌≢◌, inl, ⊎_elim, ℕ, Bool, tr
 use Rattle.std.proofs.lemmas.Bool.{cases_eq, false≢true}
 use Rattle.std.proofs.lemmas.Bool.Decides.{eqb_tells}
 use Rattle.std.proofs.Common.{if◌then◌else◌}
-use Rattle.pliron_core.specs.Tree.{Tree, In, first_of, last_of, without, IsLive, IsRegion, regions_of, parent_of, body_of, block_parent_of, block_holder_of, region_parent_of, slot_of, layout_of, op_of_slot}
-use Rattle.pliron_core.specs.Joined.{IsTree}
+use Rattle.pliron_core.specs.Tree.{Tree, In, first_of, last_of, without, IsLive, IsRegion, regions_of, parent_of, body_of, block_parent_of, block_parent_operation_of, region_parent_of, slot_of, layout_of, op_of_slot}
+use Rattle.pliron_core.specs.Invariant.{IsTree}
 use Rattle.pliron_core.specs.Edges.{succs_of, succs_from}
 use Rattle.pliron_core.specs.Reads.{has_ssa, has_ssa_at, ssa_in}
 use Rattle.pliron_core.specs.Changes.{IsInsideChange}
@@ -39,7 +39,7 @@ spliced_regions u v wv a b jump front s k = ⊎_elim
     (λ ne. ap (λ z. z.regions) (s.rows k ne))
     (cases_eq k jump)
 
-module _ (u v : Tree) (w : IsTree u) (wv : IsTree v) (root holder a b jump : ℕ) (front : List ℕ) (s : IsSpliced u v a b jump front) (edges : EdgesLast u root) (edges_v : EdgesLast v root) (near : EdgesLast u holder) (held : block_holder_of u a ≡ Some holder) (inside : IsInsideChange u v root) where
+module _ (u v : Tree) (w : IsTree u) (wv : IsTree v) (root holder a b jump : ℕ) (front : List ℕ) (s : IsSpliced u v a b jump front) (edges : EdgesLast u root) (edges_v : EdgesLast v root) (near : EdgesLast u holder) (held : block_parent_operation_of u a ≡ Some holder) (inside : IsInsideChange u v root) where
   not_jump : (k r : ℕ) → In r (regions_of u k) → k ≢ jump
   not_jump k r i e = subst (In r) (ap (regions_of u) e ∙ s.childless) i
 

@@ -2,8 +2,8 @@
 use Rattle.std.proofs.Common.{◌≡◌, ◌⊎◌, ⊎_elim, inl, inr, ℕ, Bool, List, take, Some, None, is_some, IfOk, OnOk, OnErr, Result, Ok, Err, refl, sym, ap, ◌∙◌, subst}
 use Rattle.pliron_core.specs.declared.attrs.IRStatus.{IRStatus}
 use Rattle.pliron_core.specs.declared.attrs.IRStatus.TheVariants.{Changed, Unchanged}
-use Rattle.pliron_core.specs.Tree.{Tree, In, head_of, IsLive, IsBlock, IsRegion, regions_of, arguments_of, block_holder_of, region_parent_of}
-use Rattle.pliron_core.specs.Joined.{IsTree}
+use Rattle.pliron_core.specs.Tree.{Tree, In, head_of, IsLive, IsBlock, IsRegion, regions_of, arguments_of, block_parent_operation_of, region_parent_of}
+use Rattle.pliron_core.specs.Invariant.{IsTree}
 use Rattle.pliron_core.specs.Changes.{IsInsideChange}
 use Rattle.pliron_core.proofs.HoldingLemmas.{some_is, slice_in, region_parent_is, region_by, outside_itself}
 use Rattle.pliron_core.proofs.WithinLemmas.{block_holder_from}
@@ -17,9 +17,9 @@ use Rattle.pliron_theory.proofs.WholeChanges.{whole_trans, whole_refl}
 use Rattle.pliron_cfg.specs.Visited.{Start, OfOperation, OfRegion, IsVisited, IsUnreachable}
 use Rattle.pliron_cfg.specs.Visits.{AreVisits}
 use Rattle.pliron_block_laws.specs.Links.{KeepsLinks}
-use Rattle.pliron_block_laws.specs.Pairs.{IsMergeable, forwarded_uses, merged}
+use Rattle.pliron_block_laws.specs.Pairs.{IsMergeable, forwarded_uses, after_merging}
 use Rattle.pliron_cfg.specs.Merged.{MergesSome, MergesSome.Nothing as NoneMerged, MergesSome.Then as OneMerged, MergesAll, MergesPartly, IsHalfMerged, LosesOperation}
-use Rattle.pliron_cfg.specs.Internal.Chains.{MergesAmong, MergesAmong.Nothing, MergesAmong.Then, HasNoPairAmong, TellsMerged, IsHalfMergedAmong, MergesAmongPartly}
+use Rattle.pliron_cfg.specs.Internal.Chains.{MergesAmong, MergesAmong.Nothing, MergesAmong.Then, HasNoPairAmong, ReportsMerged, IsHalfMergedAmong, MergesAmongPartly}
 use Rattle.pliron_cfg.proofs.Forwarded.{forwarded_first}
 use Rattle.pliron_cfg.proofs.MergedTrees.{first_held}
 use Rattle.pliron_cfg.proofs.ChainLemmas.{AreLinked, chain}
@@ -97,7 +97,7 @@ module _ (m : Meaning) (can_fold : Head → Bool) (SameTests : Head → Head →
         were = λ c is. r.were c (k.were c is);
         lives = λ j l. r.lives j (k.lives j l);
         went = inr (jump, r.lives jump (jump_live m can_fold SameTests shortened law start root lasting x a b jump values r.tree r.change.stands r.change.linked r.begins opened pair well tree), jump_gone m can_fold SameTests shortened law start root lasting x a b jump values r.tree r.change.stands r.change.linked r.begins opened pair well tree);
-        change = whole_trans m t x (merged x a b jump values) root r.change k.change;
+        change = whole_trans m t x (after_merging x a b jump values) root r.change k.change;
       }
 
   -- no unreachable block and no block is new
@@ -108,7 +108,7 @@ module _ (m : Meaning) (can_fold : Head → Bool) (SameTests : Head → Head →
   no_block_new u way = (whole u way).were
 
   -- where there was a pair, a branch went
-  pub branch_went : (u : Tree) (s : IRStatus) → MergesAmong m blocks t u × HasNoPairAmong m blocks u × TellsMerged m blocks t u s → LosesOperation s t u
+  pub branch_went : (u : Tree) (s : IRStatus) → MergesAmong m blocks t u × HasNoPairAmong m blocks u × ReportsMerged m blocks t u s → LosesOperation s t u
   branch_went u Unchanged x = tt
   branch_went u Changed (way, none, tells) = ⊎_elim (λ same. absurd (none tells.0 tells.1 tells.2 tells.3 tells.4 (subst (λ (z : Tree). IsMergeable m z tells.0 tells.1 tells.2 tells.3) (sym same) tells.5))) (λ y. y) (whole u way).went
 
@@ -118,7 +118,7 @@ module _ (m : Meaning) (can_fold : Head → Bool) (SameTests : Head → Head →
       let r = whole u way in
       let opened = r.forth x.a x.listed (ap is_some (first_held m u r.tree x.a x.b x.jump x.values x.pair).2) in
       let h = visited_held u r.tree root r.change.linked.edges (start u) r.begins opened.region opened.searched.0 in
-      let there : block_holder_of u x.a ≡ Some h.holder = block_holder_from u x.a opened.region opened.in_region ∙ h.held in
+      let there : block_parent_operation_of u x.a ≡ Some h.holder = block_holder_from u x.a opened.region opened.in_region ∙ h.held in
       let close : IsWellLinked m u h.holder = elim h.within [ inl e ↦ subst (IsWellLinked m u) (sym e) r.change.linked | inr i ↦ linked_inside m u root h.holder i r.change.linked ] in
       let f = forwarded_first m can_fold SameTests shortened law h.holder x.a x.b x.jump x.values u x.n r.tree close there x.pair in
       let wide : IsInsideChange u (forwarded_uses u (take x.n (arguments_of u x.b)) x.values) root = elim h.within [ inl e ↦ subst (IsInsideChange u (forwarded_uses u (take x.n (arguments_of u x.b)) x.values)) e f.inside | inr i ↦ widen u (forwarded_uses u (take x.n (arguments_of u x.b)) x.values) root h.holder r.tree.joined i f.inside ] in
@@ -137,14 +137,14 @@ module _ (m : Meaning) (can_fold : Head → Bool) (SameTests : Head → Head →
   partly_links v (inl way) = (chain m can_fold SameTests shortened law blocks t v w all_linked way).links
   partly_links v (inr (u, way, x)) = λ r l. (half u v way x).2 r ((chain m can_fold SameTests shortened law blocks t u w all_linked way).links r l)
 
-  pub all_merged : (v : Tree) (s : IRStatus) → MergesAmong m blocks t v × HasNoPairAmong m blocks v × TellsMerged m blocks t v s → MergesAll start m t v s
+  pub all_merged : (v : Tree) (s : IRStatus) → MergesAmong m blocks t v × HasNoPairAmong m blocks v × ReportsMerged m blocks t v s → MergesAll start m t v s
   all_merged v Changed (way, none, tells) =
       let r = whole v way in
       ((tells.0, tells.1, tells.2, tells.3, due_of start m t tells.0 tells.1 tells.2 tells.3 (open_of tells.0 tells.4) tells.5), r.some, λ p. none p.0 p.1 p.2 p.3 (r.back p.0 (record { region = p.4.region; searched = p.4.searched; in_region = p.4.in_region; reached = p.4.reached })) p.4.pair)
   all_merged v Unchanged (way, none, tells) = (tells, λ p. none p.0 p.1 p.2 p.3 (listed_of p.0 (record { region = p.4.region; searched = p.4.searched; in_region = p.4.in_region; reached = p.4.reached })) (subst (λ (z : Tree). IsMergeable m z p.0 p.1 p.2 p.3) (sym tells) p.4.pair))
 
 -- what stands, whatever the answer
-pub either_way : {E : Type 0} (m : Meaning) (blocks : List ℕ) (t v : Tree) (r : Result IRStatus E) → IfOk r (λ s. MergesAmong m blocks t v × HasNoPairAmong m blocks v × TellsMerged m blocks t v s) → OnErr r (MergesAmongPartly m blocks t v) → MergesAmongPartly m blocks t v
+pub either_way : {E : Type 0} (m : Meaning) (blocks : List ℕ) (t v : Tree) (r : Result IRStatus E) → IfOk r (λ s. MergesAmong m blocks t v × HasNoPairAmong m blocks v × ReportsMerged m blocks t v s) → OnErr r (MergesAmongPartly m blocks t v) → MergesAmongPartly m blocks t v
 either_way m blocks t v (Ok s) x y = inl x.0
 either_way m blocks t v (Err e) x y = y
 

@@ -1,8 +1,8 @@
 -- A tree without the unreachable blocks of a region, by places at any depth.
 use Rattle.std.proofs.Common.{◌≡◌, ◌↔◌, inl, inr, ℕ, true, false, if◌then◌else◌, List, sym, ap, ◌∙◌, subst}
 use Rattle.std.proofs.lemmas.Bool.{false_from_ne_true}
-use Rattle.pliron_core.specs.Tree.{Tree, In, block_holder_of}
-use Rattle.pliron_core.specs.Joined.{IsTree}
+use Rattle.pliron_core.specs.Tree.{Tree, In, block_parent_operation_of}
+use Rattle.pliron_core.specs.Invariant.{IsTree}
 use Rattle.pliron_core.specs.Erased.{is_met_above, IsBlockWithin}
 use Rattle.pliron_core.proofs.HoldingLemmas.{not_none}
 use Rattle.pliron_block_laws.specs.Cutting.{is_listed, stands_in_one, cut_op, cut_block, AreCut}
@@ -12,7 +12,7 @@ use Rattle.pliron_cfg.specs.Removed.{IsWithout, GoesWith, BlockGoesWith}
 use Rattle.pliron_cfg.proofs.CutOffLemmas.{cut_in, in_cut, block_in}
 
 pub in_cut_block : (t : Tree) → IsTree t → (bs : List ℕ) (c b : ℕ) → In b bs → IsBlockWithin t b c → cut_block t bs c ≡ true
-in_cut_block t w bs c b i (inl e) = ap (λ z. if z then true else is_met_above t (stands_in_one t bs) (block_holder_of t c)) (listed bs c (subst (λ z. In z bs) (sym e) i))
+in_cut_block t w bs c b i (inl e) = ap (λ z. if z then true else is_met_above t (stands_in_one t bs) (block_parent_operation_of t c)) (listed bs c (subst (λ z. In z bs) (sym e) i))
 in_cut_block t w bs c b i (inr y) =
     ap (λ o. if is_listed bs c then true else is_met_above t (stands_in_one t bs) o) y.1 ∙ ap (λ z. if is_listed bs c then true else z) (in_cut t w bs y.0 b i y.2) ∙ or_true (is_listed bs c)
 

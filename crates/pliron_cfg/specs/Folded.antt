@@ -36,7 +36,8 @@ abbrev pub answered_if : Bool → Meaning → Constants → Tree → Option Oper
 answered_if false m constants t o i = None
 answered_if true m constants t o i = answered_for m constants t o i
 
--- the constant that is known of what is made so: what makes it folds, and answers it with no operand known
+-- the constant that is known of a value with this definition: what defines it folds, and answers it with no
+-- operand known
 abbrev pub known_of : Meaning → (Head → Bool) → Constants → Tree → Option Def → Option AttrObj
 known_of m can_fold constants t None = None
 known_of m can_fold constants t (Some (Argument block i)) = None
@@ -51,8 +52,8 @@ pub data FoldsAll (m : Meaning) (can_fold : Head → Bool) (constants : Constant
   NoMore : {t : Tree} → FoldsAll m can_fold constants outcome [] t t Unchanged
   Next : {t u t' : Tree} {ops : List ℕ} {rest : IRStatus} (op : ℕ) (first : IRStatus) → outcome t u op (known_operands m can_fold constants t op) (Some first) → FoldsAll m can_fold constants outcome ops u t' rest → FoldsAll m can_fold constants outcome (op ∷ ops) t t' (changed_by_either first rest)
 
--- a first part of them was folded, each wholly, until memory was refused; where that was in a fold, it left what the
--- dialect says that it may leave: one whole rewrite, or none
+-- a first part of them was folded, each wholly, until allocation failed; where that was in a fold, it left what
+-- the dialect says that it may leave: one whole rewrite, or none
 pub data FoldsSome (m : Meaning) (can_fold : Head → Bool) (constants : Constants) (outcome : Outcome) : List ℕ → (t t' : Tree) → Type 0 where
   Stopped : {t : Tree} {ops : List ℕ} → FoldsSome m can_fold constants outcome ops t t
   Refused : {t t' : Tree} {ops : List ℕ} (op : ℕ) → outcome t t' op (known_operands m can_fold constants t op) None → FoldsSome m can_fold constants outcome (op ∷ ops) t t'

@@ -5,18 +5,18 @@ use Rattle.pliron_core.specs.declared.attrs.IRStatus.TheVariants.{Changed, Uncha
 use Rattle.pliron_laws.specs.declared.fault.OptError.{OptError}
 use Rattle.pliron_laws.specs.declared.fault.OptError.TheVariants.{Memory, LiveUse}
 use Rattle.pliron_core.specs.Tree.{Tree, In, row_of, head_of, operands_of, successors_of, parent_of, body_of, arguments_of, block_parent_of, layout_of, definition_of}
-use Rattle.pliron_core.specs.Erased.{StandsIn, IsBlockWithin, IsMadeInBlock}
+use Rattle.pliron_core.specs.Erased.{StandsIn, IsBlockWithin, IsDefinedInBlock}
 use Rattle.pliron_cfg.specs.Visited.{Start, IsVisitedSsaRegion, IsCutOff, IsUnreachable}
 
--- the operation, the block goes with one of these blocks
+-- the operation, the block is erased with one of these blocks
 abbrev pub GoesWith : Tree → (ℕ → Type 0) → ℕ → Type 0
 GoesWith t Gone k = (b : ℕ) × Gone b × StandsIn t b k
 
 abbrev pub BlockGoesWith : Tree → (ℕ → Type 0) → ℕ → Type 0
 BlockGoesWith t Gone c = (b : ℕ) × Gone b × IsBlockWithin t b c
 
--- the second tree is the first one without these blocks and what stands in them, and nothing else changed;
--- the blocks of a region stand in one order in every tree
+-- the second tree is the first one without these blocks and what is in them, and nothing else changed; the
+-- blocks of a region are in one order in every tree
 pub record IsWithout (t t' : Tree) (Gone : ℕ → Type 0) : Type 0 where
   pub gone : (k : ℕ) → GoesWith t Gone k → head_of t' k ≡ None
   pub gone_blocks : (c : ℕ) → BlockGoesWith t Gone c → block_parent_of t' c ≡ None
@@ -29,28 +29,28 @@ pub record IsWithout (t t' : Tree) (Gone : ℕ → Type 0) : Type 0 where
   pub block_parents : (c : ℕ) → (BlockGoesWith t Gone c → ⊥) → block_parent_of t' c ≡ block_parent_of t c
   pub layouts : (r c : ℕ) → In c (layout_of t' r) ↔ (In c (layout_of t r) × (BlockGoesWith t Gone c → ⊥))
 
--- an operation outside the region's unreachable blocks uses a value that is made in one of them
+-- an operation outside the region's unreachable blocks uses a value that is defined in one of them
 pub record HasLiveUse (t : Tree) (r : ℕ) : Type 0 where
   pub block : ℕ
   pub cut_off : IsCutOff t r block
   pub value : ℕ
-  pub made : IsMadeInBlock t block (definition_of t value)
+  pub made : IsDefinedInBlock t block (definition_of t value)
   pub user : ℕ
   pub names : In value (operands_of t user)
   pub outside : (c : ℕ) → IsCutOff t r c → StandsIn t c user → ⊥
 
--- all unreachable blocks of some searched regions are gone, region by region
+-- all unreachable blocks of some searched regions are erased, region by region
 pub data RemovesSome (start : Start) (t : Tree) : Tree → Type 0 where
   Nothing : RemovesSome start t t
   Then : {u t' : Tree} (r b : ℕ) → RemovesSome start t u → IsVisitedSsaRegion start u r → IsCutOff u r b → IsWithout u t' (IsCutOff u r) → RemovesSome start t t'
 
--- exactly the unreachable blocks of the searched regions are gone, with what stands in them, and nothing else
--- changed; they went region by region, and none is left; the answer says whether there were any
+-- exactly the unreachable blocks of the searched regions are erased, with what is in them, and nothing else
+-- changed; they were erased region by region, and none is left; the answer says whether there were any
 abbrev pub RemovesAll : Start → (t t' : Tree) → IRStatus → Type 0
 RemovesAll start t t' Changed = ((b : ℕ) × IsUnreachable start t b) × IsWithout t t' (IsUnreachable start t) × RemovesSome start t t' × ((b : ℕ) → IsUnreachable start t' b → ⊥)
 RemovesAll start t t' Unchanged = ((b : ℕ) → IsUnreachable start t b → ⊥) × (t' ≡ t)
 
--- why a removal gave up, and what stands then: a first part is done, and where values are in use that is so in
--- a region that was due
+-- why a removal gave up, and the tree then: a first part is done, and where values are in use that is so in a
+-- region that was due
 abbrev pub RemovalFails : Start → (t t' : Tree) → OptError → Type 0
 RemovalFails start t t' e = RemovesSome start t t' × ((e ≡ Memory) ⊎ ((e ≡ LiveUse) × ((r : ℕ) × IsVisitedSsaRegion start t' r × HasLiveUse t' r)))

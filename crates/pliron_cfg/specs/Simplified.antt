@@ -7,14 +7,14 @@ use Rattle.pliron_laws.specs.declared.fault.OptError.{OptError}
 use Rattle.pliron_laws.specs.declared.fault.OptError.TheVariants.{Memory}
 use Rattle.pliron_laws.specs.Datum.{Head, Meaning}
 use Rattle.pliron_laws.specs.Folding.{Constants}
-use Rattle.pliron_laws.specs.InPlace.{Outcome, TellsChange}
+use Rattle.pliron_laws.specs.InPlace.{Outcome, ReportsChange}
 use Rattle.pliron_cfg.specs.Visited.{OfOperation, IsUnreachable}
 use Rattle.pliron_cfg.specs.Folded.{branches_of, FoldsAll, FoldsSome}
 use Rattle.pliron_cfg.specs.Removed.{RemovesAll, RemovalFails}
 use Rattle.pliron_cfg.specs.Merged.{HasPair, MergesAll, MergesPartly}
 
--- the branches were folded, then the unreachable blocks went, then blocks were merged; the answer says whether the
--- tree changed, and no unreachable block and no mergeable pair is left
+-- the branches were folded, then the unreachable blocks were erased, then blocks were merged; the answer says
+-- whether the tree changed, and no unreachable block and no mergeable pair is left
 pub record Simplifies (m : Meaning) (can_fold can_fold_branch : Head → Bool) (constants : Constants) (outcome : Outcome) (op : ℕ) (t t' : Tree) (status : IRStatus) : Type 0 where
   pub folded : Tree
   pub removed : Tree
@@ -25,11 +25,11 @@ pub record Simplifies (m : Meaning) (can_fold can_fold_branch : Head → Bool) (
   pub removes : RemovesAll (OfOperation op) folded removed removal_status
   pub merges : MergesAll (OfOperation op) m removed t' merge_status
   pub answer : status ≡ changed_by_either (changed_by_either fold_status removal_status) merge_status
-  pub honest : TellsChange (Some status) t t'
+  pub honest : ReportsChange (Some status) t t'
   pub none_unreachable : (b : ℕ) → IsUnreachable (OfOperation op) t' b → ⊥
   pub no_pair : HasPair (OfOperation op) m t' → ⊥
 
--- all unreachable blocks went, and merging gave up
+-- all unreachable blocks were erased, and merging gave up
 pub record StopsAtMerging (m : Meaning) (op : ℕ) (u t' : Tree) : Type 0 where
   pub removed : Tree
   pub removal_status : IRStatus

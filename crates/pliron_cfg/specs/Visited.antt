@@ -1,9 +1,9 @@
--- Which regions a call looks at, and which of their blocks nothing leads to.
+-- Which regions a call visits, and which of their blocks are unreachable.
 use Rattle.std.specs.Prelude.{◌≡◌, ℕ, Bool, true, false, Some, None, IsTrue}
 use Rattle.pliron_core.specs.Tree.{Tree, In, first_of, regions_of, parent_of, block_parent_of, layout_of}
 use Rattle.pliron_core.specs.Reads.{has_ssa}
-use Rattle.pliron_search.specs.Digraph.{Reaches}
-use Rattle.pliron_search.specs.Regions.{graph_of_region}
+use Rattle.pliron_traversal.specs.Digraph.{Reaches}
+use Rattle.pliron_traversal.specs.Regions.{graph_of_region}
 
 -- the entry of the region reaches the block
 abbrev pub IsReachedIn : Tree → (r b : ℕ) → Type 0
@@ -13,12 +13,12 @@ abbrev pub IsLookedIntoIf : Bool → Tree → (r b : ℕ) → Type 0
 IsLookedIntoIf true t r b = IsReachedIn t r b
 IsLookedIntoIf false t r b = first_of (layout_of t r) None ≡ Some b
 
--- what looks at the region looks into the operations of this block: of each that the entry reaches, or
--- of the head alone where the region has no SSA dominance
+-- a call that visits the region visits the operations of this block: of each that the entry reaches, or of the
+-- first alone where the region has no SSA dominance
 abbrev pub IsLookedInto : Tree → (r b : ℕ) → Type 0
 IsLookedInto t r b = IsLookedIntoIf (has_ssa t r) t r b
 
--- the regions that a call looks at, from those on where it starts
+-- the regions that a call visits, from those on where it starts
 pub data IsVisited (t : Tree) (Start : ℕ → Type 0) : ℕ → Type 0 where
   Starts : {r : ℕ} → Start r → IsVisited t Start r
   Nested : {r : ℕ} (outer b k : ℕ) → IsVisited t Start outer → IsLookedInto t outer b → parent_of t k ≡ Some b → In r (regions_of t k) → IsVisited t Start r

@@ -1,14 +1,14 @@
 //! Branches are folded by what is known of their operands.
 //!
-//! It knows what every run reads of constants, and no dialect. Of the regions that are looked at, of blocks
-//! that go or are joined and of passes it knows nothing.
+//! It knows what every run reads of constants, and no dialect. Of the regions that are visited, of blocks that
+//! are erased or merged and of passes it knows nothing.
 ghost use Rattle.std.specs.Prelude.{◌≡◌, ◌⊎◌, ◌++◌, ℕ, Some, None, OnOk, OnErr, IfOk, IsOkUnless};
 ghost use Rattle.pliron_core.specs.Tree.{IsLive, block_parent_of};
-ghost use Rattle.pliron_laws.specs.InPlace.{TellsChange};
+ghost use Rattle.pliron_laws.specs.InPlace.{ReportsChange};
 ghost use Rattle.pliron_laws.specs.Linked.{IsWellLinked};
 ghost use Rattle.pliron_theory.specs.Change.{IsWholeChange};
 ghost use Rattle.pliron_cfg.specs.Folded.{branch_at, branches_of, known_operands as constants_of, FoldsAll, FoldsSome};
-ghost use Rattle.pliron_cfg.specs.FoldSteps.{IsBranchInside, IsBranchFoldStep, TellsErased};
+ghost use Rattle.pliron_cfg.specs.FoldSteps.{IsBranchInside, IsBranchFoldStep, ReportsAnyErased};
 
 mod known;
 
@@ -68,7 +68,7 @@ fn fold_known<D: Dialect, R: Rewriter + Room>(
     ensures refused { OnErr result (D.BranchOpFoldInterface.outcome ctx.old.tree ctx.new.tree op
         (constants_of D.meaning D.can_fold D.constants ctx.old.tree op) None) }
     ensures memory { IsOkUnless result OptError.Memory }
-    ensures told { IfOk result (λ status. TellsErased status ctx.old.tree ctx.new.tree) }
+    ensures told { IfOk result (λ status. ReportsAnyErased status ctx.old.tree ctx.new.tree) }
     ensures step { (root : ℕ) → IsWellLinked D.meaning ctx.old.tree root → IsBranchInside D.can_fold_branch ctx.old.tree root op →
         IsBranchFoldStep D.meaning D.can_fold_branch ctx.old.tree ctx.new.tree root op }
 {
@@ -92,7 +92,7 @@ fn fold_one<D: Dialect, R: Rewriter + Room>(
     ensures refused { OnErr result (ctx.new.tree ≡ ctx.old.tree ⊎ D.BranchOpFoldInterface.outcome ctx.old.tree ctx.new.tree op
         (constants_of D.meaning D.can_fold D.constants ctx.old.tree op) None) }
     ensures memory { IsOkUnless result OptError.Memory }
-    ensures told { IfOk result (λ status. TellsErased status ctx.old.tree ctx.new.tree) }
+    ensures told { IfOk result (λ status. ReportsAnyErased status ctx.old.tree ctx.new.tree) }
     ensures step { (root : ℕ) → IsWellLinked D.meaning ctx.old.tree root → IsBranchInside D.can_fold_branch ctx.old.tree root op →
         IsBranchFoldStep D.meaning D.can_fold_branch ctx.old.tree ctx.new.tree root op }
 {
@@ -102,16 +102,16 @@ fn fold_one<D: Dialect, R: Rewriter + Room>(
 }
 
 /// Folds each branch inside the operation in place, by the dialect's own fold: first those that fold are
-/// collected in pre-order, then each is folded by the constants that are known of its operands. A constant
-/// is known of a value where what makes the value folds, and answers it with no operand known.
+/// collected in pre-order, then each is folded by the constants that are known of its operands. A constant is
+/// known of a value where what defines the value folds, and answers it with no operand known.
 ///
-/// Asks that the operation stands and is well linked. `Changed` exactly if the tree changed: a branch went
-/// then. Blocks stay.
+/// Asks that the operation is live and is well linked. `Changed` exactly if the tree changed: a branch was
+/// erased then. Blocks stay.
 ///
-/// Errors: want of memory, after some of the folds, each of them whole.
+/// Errors: allocation failure, after some of the folds, each of them whole.
 ///
-/// Cost: one step for each operation, block and region inside; for each branch that folds what the
-/// dialect's fold costs and, for each of its operands, what the dialect's answer for its maker costs.
+/// Cost: one step for each operation, block and region inside; for each branch that folds what the dialect's
+/// fold costs and, for each of its operands, what the dialect's answer for its definition costs.
 pub fn fold_branches<D: Dialect, R: Rewriter + Room>(
     alloc: Global,
     root: Ptr<Operation>,
@@ -122,8 +122,8 @@ pub fn fold_branches<D: Dialect, R: Rewriter + Room>(
     requires linked { IsWellLinked D.meaning ctx.old.tree root }
     ensures folds { IfOk result (λ status. FoldsAll D.meaning D.can_fold D.constants D.BranchOpFoldInterface.outcome
         (branches_of D.can_fold_branch ctx.old.tree root) ctx.old.tree ctx.new.tree status) }
-    ensures tells { IfOk result (λ status. TellsChange (Some status) ctx.old.tree ctx.new.tree) }
-    ensures told { IfOk result (λ status. TellsErased status ctx.old.tree ctx.new.tree) }
+    ensures tells { IfOk result (λ status. ReportsChange (Some status) ctx.old.tree ctx.new.tree) }
+    ensures told { IfOk result (λ status. ReportsAnyErased status ctx.old.tree ctx.new.tree) }
     ensures blocks { OnOk result ((b : ℕ) → block_parent_of ctx.new.tree b ≡ block_parent_of ctx.old.tree b) }
     ensures refused { OnErr result (FoldsSome D.meaning D.can_fold D.constants D.BranchOpFoldInterface.outcome
         (branches_of D.can_fold_branch ctx.old.tree root) ctx.old.tree ctx.new.tree) }

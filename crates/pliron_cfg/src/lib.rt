@@ -1,8 +1,8 @@
-//! Simplifying the control flow of a tree: branches are folded, blocks that nothing leads to are removed,
-//! and blocks that need not be apart are merged.
+//! Simplifying the control flow of a tree: branches are folded, unreachable blocks are removed, and pairs of
+//! blocks that need not be apart are merged.
 //!
 //! `folding`, `removal` and `merging` are one each, and know nothing of one another; `visits` says which
-//! regions and blocks removal and merging look at. The crate puts the three together.
+//! regions and blocks removal and merging visit. The crate puts the three together.
 //!
 //! It knows regions as graphs, the rewrites of blocks and what runs read of constants. Of the other
 //! optimisations, of passes, of any dialect and of the program it knows nothing.
@@ -32,15 +32,15 @@ use std::alloc::Global;
 /// their operands, as [`fold_branches`], then removes unreachable blocks, as
 /// [`remove_blocks_inside_op`], then merges blocks, as [`merge_inside_op`].
 ///
-/// Asks that the operation stands and is well linked. `Changed` exactly if the tree changed. No unreachable
-/// block and no mergeable pair is left where it looks. Runs are kept of every root that is otherwise fit to
+/// Asks that the operation is live and is well linked. `Changed` exactly if the tree changed. No unreachable
+/// block and no mergeable pair is left in what it visits. Runs are kept of every root that is otherwise fit to
 /// run, also of one whose head may not be a root's; so it is for the six calls on regions.
 ///
-/// Errors: want of memory; `LiveUse` where a value of an unreachable block is used outside the unreachable
+/// Errors: allocation failure; `LiveUse` where a value of an unreachable block is used outside the unreachable
 /// blocks of its region. The tree is then one after some whole rewrites: some folds; all of them, and some
 /// regions without their unreachable blocks; all of both, and some merges.
 ///
-/// Cost: that of the three calls, each linear in what it looks at and takes out.
+/// Cost: that of the three calls, each linear in what it visits and erases.
 pub fn simplify_cfg<D: Dialect>(
     alloc: Global,
     op: Ptr<Operation>,

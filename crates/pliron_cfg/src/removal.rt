@@ -1,10 +1,10 @@
-//! Unreachable blocks go: those of a region in one rewrite, nested regions first.
+//! Unreachable blocks are erased: those of a region in one rewrite, nested regions first.
 //!
-//! It knows which blocks the entry of a region leads to, and the rewrites of blocks. Of branches that fold,
-//! of blocks that are joined, of passes and of any dialect it knows nothing.
+//! It knows which blocks the entry of a region leads to, and the rewrites of blocks. Of branches that fold, of
+//! blocks that are merged, of passes and of any dialect it knows nothing.
 ghost use Rattle.std.specs.Prelude.{◌≡◌, ◌↔◌, ◌⊎◌, ℕ, Some, IfOk, IfErr};
 ghost use Rattle.pliron_core.specs.declared.attrs.IRStatus.TheVariants.{Unchanged};
-ghost use Rattle.pliron_core.specs.Tree.{IsLive, IsBlock, IsRegion, block_holder_of, region_parent_of};
+ghost use Rattle.pliron_core.specs.Tree.{IsLive, IsBlock, IsRegion, block_parent_operation_of, region_parent_of};
 ghost use Rattle.pliron_laws.specs.Linked.{IsWellLinked};
 ghost use Rattle.pliron_theory.specs.Change.{IsWholeChange};
 ghost use Rattle.pliron_block_laws.specs.Links.{KeepsLinks};
@@ -22,7 +22,7 @@ mod uses;
 
 use crate::removal::contents::set_of_blocks;
 use crate::removal::region::clear_region;
-use crate::removal::scope::Scope;
+use crate::removal::scope::RemovalScope;
 use crate::visits::Visits;
 use indexmap::IndexSet;
 use pliron_block_laws::inside::removing_changes_inside;
@@ -45,7 +45,7 @@ fn with_more(status: IRStatus, more: IRStatus) -> IRStatus
 // The regions lose their unreachable blocks, the last one first.
 fn clear_regions<D: Dialect, R: Rewriter + Room>(
     alloc: Global,
-    scope: &Scope,
+    scope: &RemovalScope,
     ctx: &mut Context,
     mut regions: Vec<Ptr<Region>>,
     reached: &IndexSet<Ptr<BasicBlock>>,
@@ -74,10 +74,10 @@ fn clear_regions<D: Dialect, R: Rewriter + Room>(
     Ok(status)
 }
 
-// What is unreachable in the scope goes.
+// What is unreachable in the scope is erased.
 fn remove_blocks_in<D: Dialect, R: Rewriter + Room>(
     alloc: Global,
-    scope: &Scope,
+    scope: &RemovalScope,
     ctx: &mut Context,
     rewriter: &mut R,
 ) -> Result<IRStatus, OptError>
@@ -96,19 +96,19 @@ fn remove_blocks_in<D: Dialect, R: Rewriter + Room>(
     clear_regions::<D, R>(alloc, scope, ctx, regions, &reached, rewriter)
 }
 
-/// Removes the unreachable blocks of the regions with SSA dominance inside the operation: all of one region
-/// in one rewrite, those of nested regions first. What an unreachable block holds is not looked into, and a
+/// Removes the unreachable blocks of the regions with SSA dominance inside the operation: all of one region in
+/// one rewrite, those of nested regions first. The contents of an unreachable block are not visited, and a
 /// region without SSA dominance, which is entered through its first block alone, loses none.
 ///
-/// Asks that the operation stands and is well linked. Answers `Changed` exactly if a block went; no
+/// Asks that the operation is live and is well linked. Answers `Changed` exactly if a block was erased; no
 /// unreachable block of such a region is left.
 ///
-/// Errors: want of memory; `LiveUse` where a value of an unreachable block is used outside the unreachable
+/// Errors: allocation failure; `LiveUse` where a value of an unreachable block is used outside the unreachable
 /// blocks of its region, of which none is removed then. The tree is then one after some whole rewrites:
 /// regions that came before are done.
 ///
-/// Cost: linear in the blocks, edges and operations that are visited and in what goes, with one table
-/// look-up for each of them and for each use of what goes.
+/// Cost: linear in the blocks, edges and operations that are visited and in what is erased, with one table
+/// look-up for each of them and for each use of what is erased.
 pub fn remove_blocks_inside_op<D: Dialect, R: Rewriter + Room>(
     alloc: Global,
     op: Ptr<Operation>,
@@ -123,12 +123,13 @@ pub fn remove_blocks_inside_op<D: Dialect, R: Rewriter + Room>(
     ensures change { IsWholeChange D.meaning ctx.old.tree ctx.new.tree op }
     ensures links { KeepsLinks D.meaning ctx.old.tree ctx.new.tree }
 {
-    remove_blocks_in::<D, R>(alloc, &Scope::Operation(op), ctx, rewriter)
+    remove_blocks_in::<D, R>(alloc, &RemovalScope::Operation(op), ctx, rewriter)
 }
 
 /// Removes the unreachable blocks of the regions with SSA dominance inside the operations of the block.
 ///
-/// Asks that the block stands and that what holds it is well linked; answers as [`remove_blocks_inside_op`].
+/// Asks that the block is live and that the parent operation is well linked; answers as
+/// [`remove_blocks_inside_op`].
 /// Errors: as [`remove_blocks_inside_op`]. Cost: as [`remove_blocks_inside_op`].
 pub fn remove_blocks_inside_block<D: Dialect, R: Rewriter + Room>(
     alloc: Global,
@@ -137,20 +138,21 @@ pub fn remove_blocks_inside_block<D: Dialect, R: Rewriter + Room>(
     rewriter: &mut R,
 ) -> Result<IRStatus, OptError>
     requires block { IsBlock ctx.old.tree block }
-    requires linked { (holder : ℕ) → block_holder_of ctx.old.tree block ≡ Some holder → IsWellLinked D.meaning ctx.old.tree holder }
+    requires linked { (holder : ℕ) → block_parent_operation_of ctx.old.tree block ≡ Some holder → IsWellLinked D.meaning ctx.old.tree holder }
     ensures ok { IfOk result (λ status. RemovesAll (OfBlock block) ctx.old.tree ctx.new.tree status) }
     ensures err { IfErr result (λ e. RemovalFails (OfBlock block) ctx.old.tree ctx.new.tree e) }
     ensures tells { IfOk result (λ a. (a ≡ Unchanged) ↔ (ctx.new.tree ≡ ctx.old.tree)) }
-    ensures change { (holder : ℕ) → block_holder_of ctx.old.tree block ≡ Some holder → IsWholeChange D.meaning ctx.old.tree ctx.new.tree holder }
+    ensures change { (holder : ℕ) → block_parent_operation_of ctx.old.tree block ≡ Some holder → IsWholeChange D.meaning ctx.old.tree ctx.new.tree holder }
     ensures links { KeepsLinks D.meaning ctx.old.tree ctx.new.tree }
 {
-    remove_blocks_in::<D, R>(alloc, &Scope::Block(block), ctx, rewriter)
+    remove_blocks_in::<D, R>(alloc, &RemovalScope::Block(block), ctx, rewriter)
 }
 
 /// Removes the unreachable blocks of the region, where it has SSA dominance, and of the regions with SSA
 /// dominance inside.
 ///
-/// Asks that the region stands and that what holds it is well linked; answers as [`remove_blocks_inside_op`].
+/// Asks that the region is live and that the parent operation is well linked; answers as
+/// [`remove_blocks_inside_op`].
 /// Errors: as [`remove_blocks_inside_op`]. Cost: as [`remove_blocks_inside_op`].
 pub fn remove_blocks_inside_region<D: Dialect, R: Rewriter + Room>(
     alloc: Global,
@@ -166,5 +168,5 @@ pub fn remove_blocks_inside_region<D: Dialect, R: Rewriter + Room>(
     ensures change { (holder : ℕ) → region_parent_of ctx.old.tree region ≡ Some holder → IsWholeChange D.meaning ctx.old.tree ctx.new.tree holder }
     ensures links { KeepsLinks D.meaning ctx.old.tree ctx.new.tree }
 {
-    remove_blocks_in::<D, R>(alloc, &Scope::Region(region), ctx, rewriter)
+    remove_blocks_in::<D, R>(alloc, &RemovalScope::Region(region), ctx, rewriter)
 }

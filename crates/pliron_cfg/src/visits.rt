@@ -1,11 +1,11 @@
-//! Which regions and blocks the simplification of control flow looks at.
+//! Which regions and blocks the simplification of control flow visits.
 //!
 //! It knows regions as graphs, and nothing of rewrites or dialects.
 ghost use Rattle.std.specs.Prelude.{Some, ◌≡◌, ◌↔◌, ◌++◌, [], ℕ, IfOk, OnOk, IsOkUnless, IsTrue};
 ghost use Rattle.std.specs.List.{flat_map};
-ghost use Rattle.pliron_core.specs.Tree.{In, IsLive, IsBlock, IsRegion, body_of, regions_of, block_holder_of, region_parent_of};
+ghost use Rattle.pliron_core.specs.Tree.{In, IsLive, IsBlock, IsRegion, body_of, regions_of, block_parent_operation_of, region_parent_of};
 ghost use Rattle.pliron_laws.specs.Linked.{EdgesLast};
-ghost use Rattle.pliron_search.specs.Regions.{IsLawfulRegion};
+ghost use Rattle.pliron_traversal.specs.Regions.{IsLawfulRegion};
 ghost use Rattle.pliron_cfg.specs.Visited.{IsReachedIn, IsLookedInto, OfOperation, OfBlock, OfRegion};
 ghost use Rattle.pliron_cfg.specs.Visits.{AreVisits};
 ghost use Rattle.pliron_cfg.specs.Internal.Seen.{HasGrown, blocks_postponed};
@@ -17,19 +17,19 @@ use indexmap::IndexSet;
 use pliron_core::{BasicBlock, Context, Operation, Ptr, Region};
 use pliron_laws::OptError;
 use pliron_laws::reads::all_operations;
-use pliron_search::DFSTraversal;
+use pliron_traversal::DFSTraversal;
 use std::alloc::{AllocError, Global};
 
-/// What a call looks at: the visited regions with SSA dominance, each before those that are nested in it,
-/// and the blocks that their entries reach, each before those of the regions nested in it, and these before
-/// the blocks that the search comes to after it.
+/// What a call visits: the visited regions with SSA dominance, each before those that are nested in it, and the
+/// blocks that their entries reach, each before those of the regions nested in it, and these before the blocks
+/// that the search comes to after it.
 #[derive(Drop)]
 pub struct Visits {
     pub regions: Vec<Ptr<Region>>,
     pub blocks: Vec<Ptr<BasicBlock>>,
 }
 
-// A block that is listed once so many regions wait, and no more.
+// A block that is listed once so many regions are on the worklist, and no more.
 #[derive(Clone, Copy)]
 struct Postponed {
     block: Ptr<BasicBlock>,
@@ -100,7 +100,7 @@ fn reached_blocks(
     Ok(in_visiting_order(alloc, &search)?)
 }
 
-// The blocks that are looked into where the region is visited.
+// The blocks whose operations are visited where the region is.
 fn entered_blocks(
     alloc: Global,
     ctx: &Context,
@@ -120,7 +120,7 @@ fn entered_blocks(
     Ok(blocks)
 }
 
-// The regions that were not seen are seen, and wait.
+// The regions that were not seen are marked seen, and put on the worklist.
 fn push_new(
     regions: &[Ptr<Region>],
     seen: &mut IndexSet<Ptr<Region>>,
@@ -137,8 +137,8 @@ fn push_new(
     Ok(())
 }
 
-// The regions nested in these blocks wait. Where the blocks are to be listed, each is postponed until those
-// nested in it and in the blocks after it are visited.
+// The regions nested in these blocks are put on the worklist. Where the blocks are to be listed, each is
+// postponed until those nested in it and in the blocks after it are visited.
 fn enter(
     alloc: Global,
     ctx: &Context,
@@ -169,7 +169,7 @@ fn enter(
     Ok(())
 }
 
-// The last of the postponed blocks are listed, all those for which no region waits that comes before them.
+// The last of the postponed blocks are listed, all those for which no region on the worklist comes before them.
 fn list_postponed(
     postponed: &mut Vec<Postponed>,
     waiting: usize,
@@ -225,11 +225,11 @@ fn visit(alloc: Global, ctx: &Context, starts: &[Ptr<Region>]) -> Result<Visits,
     Ok(Visits { regions, blocks })
 }
 
-/// What a call on the operation looks at.
+/// What a call on the operation visits.
 ///
-/// Asks that the operation stands and that edges stand last in it. Errors: want of memory. Cost: linear in
-/// the blocks, edges and operations that it looks at, with one table look-up for each edge and each visited
-/// region.
+/// Asks that the operation is live and that edges are last in its blocks. Errors: allocation failure. Cost:
+/// linear in the blocks, edges and operations that it visits, with one table look-up for each edge and each
+/// visited region.
 pub fn visits_inside_op(
     alloc: Global,
     ctx: &Context,
@@ -246,9 +246,10 @@ pub fn visits_inside_op(
     visit(alloc, ctx, &starts)
 }
 
-/// What a call on the block looks at: the regions of its operations, and so on down.
+/// What a call on the block visits: the regions of its operations, and so on down.
 ///
-/// Asks that the block stands and that edges stand last in what holds it. Errors: as [`visits_inside_op`].
+/// Asks that the block is live and that edges are last in the blocks of its parent operation. Errors: as
+/// [`visits_inside_op`].
 /// Cost: as [`visits_inside_op`].
 pub fn visits_inside_block(
     alloc: Global,
@@ -256,7 +257,7 @@ pub fn visits_inside_block(
     block: Ptr<BasicBlock>,
 ) -> Result<Visits, OptError>
     requires block { IsBlock ctx.now.tree block }
-    requires edges { (holder : ℕ) → block_holder_of ctx.now.tree block ≡ Some holder → EdgesLast ctx.now.tree holder }
+    requires edges { (holder : ℕ) → block_parent_operation_of ctx.now.tree block ≡ Some holder → EdgesLast ctx.now.tree holder }
     ensures visits { IfOk result (λ v. AreVisits ctx.now.tree (OfBlock block ctx.now.tree) v.regions.items v.blocks.items) }
     ensures memory { IsOkUnless result OptError.Memory }
 {
@@ -266,9 +267,10 @@ pub fn visits_inside_block(
     visit(alloc, ctx, &starts)
 }
 
-/// What a call on the region looks at: the region itself, and so on down.
+/// What a call on the region visits: the region itself, and so on down.
 ///
-/// Asks that the region stands and that edges stand last in what holds it. Errors: as [`visits_inside_op`].
+/// Asks that the region is live and that edges are last in the blocks of its parent operation. Errors: as
+/// [`visits_inside_op`].
 /// Cost: as [`visits_inside_op`].
 pub fn visits_inside_region(
     alloc: Global,

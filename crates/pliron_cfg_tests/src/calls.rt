@@ -4,13 +4,13 @@ ghost use Rattle.pliron_core.specs.Tree.{IsLive};
 ghost use Rattle.pliron_laws.specs.Linked.{IsWellLinked};
 
 use pliron_bench::Bench;
-use pliron_cases::listener::Counting;
 use pliron_cfg::{
     fold_branches, merge_inside_block, merge_inside_op, merge_inside_region,
     remove_blocks_inside_block, remove_blocks_inside_op, remove_blocks_inside_region, simplify_cfg,
 };
 use pliron_core::{Context, IRStatus, Operation, Ptr};
 use pliron_laws::OptError;
+use pliron_test_cases::listener::Counting;
 use std::alloc::Global;
 
 // How an answer is written.
@@ -114,7 +114,7 @@ fn merge_first_block(
 }
 
 // What the call of this name answers for the root.
-pub fn called(
+pub fn call_by_name(
     alloc: Global,
     root: Ptr<Operation>,
     ctx: &mut Context,

@@ -8,9 +8,9 @@
 //! entry does not reach, and merges pairs of blocks until there is none, with a stack, the last successor
 //! first. Each line of `ROWS` and `ORDERS` was worked through by hand too.
 //!
-//! In `ORDERS` the order shows: of two pairs that exclude each other one is merged, and of the regions
-//! before the one that refuses the unreachable blocks are gone. In `HOSTILE` uses may stand anywhere, and
-//! edges may forward too few values or too many; the texts of `DEFINED` are well defined.
+//! In `ORDERS` the order shows: of two pairs that exclude each other one is merged, and of the regions before
+//! the one that refuses the unreachable blocks are erased. In `HOSTILE` uses may stand anywhere, and edges may
+//! forward too few values or too many; the texts of `DEFINED` are well defined.
 
 pub static ROWS: &str = "\
 simplify C func { b0(): br b1(); b1(): br b2(); b2(): br b1() } => func { b0(): br b1(); b1(): br b1() }

@@ -1,10 +1,10 @@
 //! Runs of texts before and after `simplify_cfg`, compared by the evaluator.
 use super::cases::DEFINED;
 use pliron_bench::Bench;
-use pliron_cases::cases::read;
-use pliron_cases::runs::{are_kept, sights, text_behind};
 use pliron_cfg::simplify_cfg;
 use pliron_core::Context;
+use pliron_test_cases::cases::read;
+use pliron_test_cases::runs::{are_kept, sights, text_behind};
 use std::alloc::Global;
 use std::process::Abort;
 

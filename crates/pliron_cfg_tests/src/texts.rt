@@ -3,13 +3,13 @@ ghost use Rattle.pliron_bench.specs.BenchMoves.{bench};
 ghost use Rattle.pliron_core.specs.Tree.{IsLive};
 ghost use Rattle.pliron_laws.specs.Linked.{IsWellLinked};
 
-use super::calls::{called, letter};
+use super::calls::{call_by_name, letter};
 use super::cases::{DEFINED, HOSTILE, ORDERS, ROWS};
 use pliron_bench::Bench;
-use pliron_cases::listener::Counting;
 use pliron_cfg::{fold_branches, merge_inside_op, remove_blocks_inside_op, simplify_cfg};
 use pliron_core::{Context, IRRewriter, IRStatus, Operation, Ptr};
 use pliron_notation::{print_text, read_text};
+use pliron_test_cases::listener::Counting;
 use std::alloc::Global;
 use std::process::Abort;
 use std::test::Fail;
@@ -27,7 +27,7 @@ fn left_of(
     requires linked { IsWellLinked bench ctx.old.tree root }
 {
     let mut rewriter = Counting::new();
-    let told = letter(called(alloc, root, ctx, call, &mut rewriter))?;
+    let told = letter(call_by_name(alloc, root, ctx, call, &mut rewriter))?;
     assert_eq!(rt; told, expected);
     assert!(rt; rewriter.had_room());
     if !root.is_live(ctx) {

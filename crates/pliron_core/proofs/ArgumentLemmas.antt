@@ -9,14 +9,14 @@ use Rattle.pliron_core.specs.declared.context.Def.TheVariants.{Result, Argument}
 use Rattle.pliron_core.specs.declared.context.OperationEntry.{OperationEntry}
 use Rattle.pliron_core.specs.declared.context.RegionSlot.{RegionSlot}
 use Rattle.pliron_core.specs.Tree.{Tree, In, IsListedBy, slot_of, IsLive, IsBlock, IsDefined, IsMadeBy, head_of, row_of, results_of, regions_of, operands_of, successors_of, arguments_of, block_parent_of, definition_of, no_entry}
-use Rattle.pliron_core.specs.Joined.{HaveSameKeys, IsJoined}
-use Rattle.pliron_core.specs.Writes.{numbered, argument_removed, with_attribute}
+use Rattle.pliron_core.specs.Invariant.{HaveSameKeys, IsJoined}
+use Rattle.pliron_core.specs.Writes.{argument_definitions_from, argument_removed, with_attribute}
 use Rattle.pliron_core.proofs.TreeLemmas.{live-within, live_dead, in_slice, in_at, within-some}
 use Rattle.pliron_core.proofs.CreatedLemmas.{defined_kept}
 use Rattle.pliron_core.proofs.TableLemmas.{set-same, set-other}
 
 -- values that are not renumbered keep their definition
-pub numbered_other : (ds : List Def) (b i : ℕ) (vs : List ℕ) (v : ℕ) → (In v vs → ⊥) → slice_get (numbered ds b i vs) v ≡ slice_get ds v
+pub numbered_other : (ds : List Def) (b i : ℕ) (vs : List ℕ) (v : ℕ) → (In v vs → ⊥) → slice_get (argument_definitions_from ds b i vs) v ≡ slice_get ds v
 numbered_other ds b i [] v out = refl
 numbered_other ds b i (x ∷ xs) v out = numbered_other (slice_set ds x (Argument b i)) b (suc i) xs v (λ j. out (inr j)) ∙ set-other ds x v (Argument b i) (λ e. out (inl e))
 
@@ -30,7 +30,7 @@ pub once_head : (x : ℕ) (xs : List ℕ) → StandOnce (x ∷ xs) → In x xs �
 once_head x xs once i = let p = in_at xs x i in let g : 0 ≡ suc p.0 = once 0 (suc p.0) x refl p.1 in omega (arith, g)
 
 -- the ones that are have their index
-pub numbered_at : (ds : List Def) (b i : ℕ) (vs : List ℕ) (m v : ℕ) (d : Def) → StandOnce vs → slice_get vs m ≡ Some v → slice_get ds v ≡ Some d → slice_get (numbered ds b i vs) v ≡ Some (Argument b (i + m))
+pub numbered_at : (ds : List Def) (b i : ℕ) (vs : List ℕ) (m v : ℕ) (d : Def) → StandOnce vs → slice_get vs m ≡ Some v → slice_get ds v ≡ Some d → slice_get (argument_definitions_from ds b i vs) v ≡ Some (Argument b (i + m))
 numbered_at ds b i [] m v d once e f = absurd (grind arith)
 numbered_at ds b i (x ∷ xs) zero v d once e f =
     let s : x ≡ v = cc in
@@ -41,14 +41,14 @@ numbered_at ds b i (x ∷ xs) (suc m) v d once e f =
     let z : suc i + m ≡ i + suc m = omega arith in
     numbered_at (slice_set ds x (Argument b i)) b (suc i) xs m v d (once_tail x xs once) e (set-other ds x v (Argument b i) ne ∙ f) ∙ ap (λ n. Some (Argument b n)) z
 
-pub length_numbered : (ds : List Def) (b i : ℕ) (vs : List ℕ) → length (numbered ds b i vs) ≡ length ds
+pub length_numbered : (ds : List Def) (b i : ℕ) (vs : List ℕ) → length (argument_definitions_from ds b i vs) ≡ length ds
 length_numbered ds b i [] = refl
 length_numbered ds b i (x ∷ xs) = length_numbered (slice_set ds x (Argument b i)) b (suc i) xs ∙ length-set ds x (Argument b i)
 
 -- one more is renumbered
-pub numbered_more : (ds : List Def) (b i : ℕ) (vs : List ℕ) (v : ℕ) → numbered ds b i (vs ++ v ∷ []) ≡ slice_set (numbered ds b i vs) v (Argument b (i + length vs))
+pub numbered_more : (ds : List Def) (b i : ℕ) (vs : List ℕ) (v : ℕ) → argument_definitions_from ds b i (vs ++ v ∷ []) ≡ slice_set (argument_definitions_from ds b i vs) v (Argument b (i + length vs))
 numbered_more ds b i [] v = let z : i ≡ i + 0 = omega arith in ap (λ n. slice_set ds v (Argument b n)) z
-numbered_more ds b i (x ∷ xs) v = let z : suc i + length xs ≡ i + suc (length xs) = omega arith in numbered_more (slice_set ds x (Argument b i)) b (suc i) xs v ∙ ap (λ n. slice_set (numbered (slice_set ds x (Argument b i)) b (suc i) xs) v (Argument b n)) z
+numbered_more ds b i (x ∷ xs) v = let z : suc i + length xs ≡ i + suc (length xs) = omega arith in numbered_more (slice_set ds x (Argument b i)) b (suc i) xs v ∙ ap (λ n. slice_set (argument_definitions_from (slice_set ds x (Argument b i)) b (suc i) xs) v (Argument b n)) z
 
 pub slice_get_drop : {A : Type 0} (xs : List A) (i m : ℕ) → slice_get (drop i xs) m ≡ slice_get xs (i + m)
 slice_get_drop xs zero m = ap (slice_get xs) (omega arith)
@@ -80,11 +80,11 @@ length_taken (y ∷ ys) zero x e = refl
 length_taken (y ∷ ys) (suc m) x e = ap suc (length_taken ys m x e)
 
 -- one more value of a row is numbered
-pub number_next : (ds : List Def) (b j : ℕ) (row : List ℕ) (v : ℕ) → slice_get row j ≡ Some v → slice_set (numbered ds b 0 (take j row)) v (Argument b j) ≡ numbered ds b 0 (take (j + 1) row)
+pub number_next : (ds : List Def) (b j : ℕ) (row : List ℕ) (v : ℕ) → slice_get row j ≡ Some v → slice_set (argument_definitions_from ds b 0 (take j row)) v (Argument b j) ≡ argument_definitions_from ds b 0 (take (j + 1) row)
 number_next ds b j row v e =
     let n : 0 + length (take j row) ≡ j = omega (arith, length_taken row j v e) in
     let k : suc j ≡ j + 1 = omega arith in
-    ap (λ q. slice_set (numbered ds b 0 (take j row)) v (Argument b q)) (sym n) ∙ sym (numbered_more ds b 0 (take j row) v) ∙ ap (numbered ds b 0) (sym (take_more row j v e)) ∙ ap (λ q. numbered ds b 0 (take q row)) k
+    ap (λ q. slice_set (argument_definitions_from ds b 0 (take j row)) v (Argument b q)) (sym n) ∙ sym (numbered_more ds b 0 (take j row) v) ∙ ap (argument_definitions_from ds b 0) (sym (take_more row j v e)) ∙ ap (λ q. argument_definitions_from ds b 0 (take q row)) k
 
 module _ (t : Tree) (block i : ℕ) (keys : HaveSameKeys t) (w : IsJoined t) (is : IsBlock t block) (unused : (k v : ℕ) → slice_get (arguments_of t block) i ≡ Some v → In v (operands_of t k) → ⊥) where
   abbrev pub u : Tree

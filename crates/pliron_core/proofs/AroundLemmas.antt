@@ -1,8 +1,8 @@
 -- What stands around one operation, and what stands beside it.
 use Rattle.std.proofs.Common.{◌≡◌, ◌⊎◌, ℕ, Some, slice_get, sym, ap, ◌∙◌, subst, inl, inr}
 use Rattle.std.specs.List.{flat_map}
-use Rattle.pliron_core.specs.Tree.{Tree, IsInside, IsInside.Directly, IsInside.Deeper, IsWithin, up_from, op_of_slot, regions_of, layout_of, body_of, region_parent_of, holder_of}
-use Rattle.pliron_core.specs.Joined.{IsTree}
+use Rattle.pliron_core.specs.Tree.{Tree, IsInside, IsInside.Directly, IsInside.Deeper, IsWithin, up_from, op_of_slot, regions_of, layout_of, body_of, region_parent_of, parent_operation_of}
+use Rattle.pliron_core.specs.Invariant.{IsTree}
 use Rattle.pliron_core.specs.Walks.{children, children_of_region}
 use Rattle.pliron_core.specs.Changes.{IsInsideChange}
 use Rattle.pliron_core.proofs.FlatLemmas.{flat_map-same, slice_get-In}
@@ -32,11 +32,11 @@ compare_within {t} {a} {b} {x} i (inl e) = inl (subst (λ z. IsWithin t a z) e i
 compare_within i (inr j) = compare i j
 
 -- what op holds stays where it is when only the inside of b changes, which op holds
-pub held_still : (t u : Tree) (op b : ℕ) → IsTree t → holder_of t b ≡ Some op → IsInsideChange t u b → holder_of u b ≡ Some op
+pub held_still : (t u : Tree) (op b : ℕ) → IsTree t → parent_operation_of t b ≡ Some op → IsInsideChange t u b → parent_operation_of u b ≡ Some op
 held_still t u op b wt up h = (sibling t u op b wt.joined up h b up).1
 
 -- and so does the list of it
-pub children_kept : (t u : Tree) (op b : ℕ) → IsTree t → holder_of t b ≡ Some op → IsInsideChange t u b → children u op ≡ children t op
+pub children_kept : (t u : Tree) (op b : ℕ) → IsTree t → parent_operation_of t b ≡ Some op → IsInsideChange t u b → children u op ≡ children t op
 children_kept t u op b w up h =
     ap (λ rs. flat_map (λ r. children_of_region u r) rs) rows ∙ flat_map-same (λ r. children_of_region u r) (λ r. children_of_region t r) (regions_of t op) (λ r i. region r (slice_get-In r (regions_of t op) i))
   where

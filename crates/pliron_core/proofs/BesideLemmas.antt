@@ -7,10 +7,10 @@ use Rattle.pliron_core.specs.declared.attrs.AttrObj.{AttrObj}
 use Rattle.pliron_core.specs.declared.context.Def.{Def}
 use Rattle.pliron_core.specs.declared.context.RegionSlot.{RegionSlot}
 use Rattle.pliron_core.specs.Lists.{In, put_before}
-use Rattle.pliron_core.specs.Tree.{Tree, no_entry, up_from, op_of_slot, row_of, head_of, operands_of, successors_of, parent_of, body_of, arguments_of, block_parent_of, layout_of, slot_of, definition_of, region_parent_of, block_holder_of, holder_of, IsLive, IsBlock, IsInside, IsInside.Directly, IsInside.Deeper, IsWithin, HoldsBlock}
-use Rattle.pliron_core.specs.Joined.{IsJoined, IsTree}
-use Rattle.pliron_core.specs.Writes.{region_slots, result_definitions, created, operand_pushed, successor_pushed, with_attribute, attribute_set, placed, put_last, put_first, put_next_to, taken_from}
-use Rattle.pliron_core.specs.Erased.{is_met_above, blanked, cleared, erased}
+use Rattle.pliron_core.specs.Tree.{Tree, no_entry, up_from, op_of_slot, row_of, head_of, operands_of, successors_of, parent_of, body_of, arguments_of, block_parent_of, layout_of, slot_of, definition_of, region_parent_of, block_parent_operation_of, parent_operation_of, IsLive, IsBlock, IsInside, IsInside.Directly, IsInside.Deeper, IsWithin, HoldsBlock}
+use Rattle.pliron_core.specs.Invariant.{IsJoined, IsTree}
+use Rattle.pliron_core.specs.Writes.{region_slots, result_definitions, after_creating, operand_pushed, successor_pushed, with_attribute, attribute_set, after_placing, put_last, put_first, put_next_to, taken_from}
+use Rattle.pliron_core.specs.Erased.{is_met_above, blank_at, after_clearing, after_erasing}
 use Rattle.pliron_core.specs.Changes.{IsSameTree, IsOutside, IsBlockOutside, IsInsideChange}
 use Rattle.pliron_core.proofs.PlaceLemmas.{get_or-pad}
 use Rattle.pliron_core.proofs.HoldingLemmas.{some_is, slot_is, maker_is, region_parent_is, block_held, held_block, holder_is, holder_by, holder_live, inside_block, inside_more, within_more}
@@ -51,7 +51,7 @@ longer [] y = omega arith
 longer (x ∷ xs) y = suc-le-suc (longer xs y)
 
 -- creating makes one
-pub created_beside : (t : Tree) (head : Head) (results regions : ℕ) → IsTree t → IsBeside t (created t head results regions) (length t.operations)
+pub created_beside : (t : Tree) (head : Head) (results regions : ℕ) → IsTree t → IsBeside t (after_creating t head results regions) (length t.operations)
 created_beside t head results regions w = record {
   fresh = get_or_past t.operations n no_entry (omega arith);
   no_operands = get_or_past t.operands n [] (omega (arith, w.keys.operands));
@@ -75,10 +75,10 @@ created_beside t head results regions w = record {
     n : ℕ
     n = length t.operations
 
-    row : (k : ℕ) → k ≢ n → row_of (created t head results regions) k ≡ row_of t k
+    row : (k : ℕ) → k ≢ n → row_of (after_creating t head results regions) k ≡ row_of t k
     row k ne = go (push_other t.operations _ no_entry k)
       where
-        go : (row_of (created t head results regions) k ≡ row_of t k) ⊎ (k ≡ n) → row_of (created t head results regions) k ≡ row_of t k
+        go : (row_of (after_creating t head results regions) k ≡ row_of t k) ⊎ (k ≡ n) → row_of (after_creating t head results regions) k ≡ row_of t k
         go (inl e) = e
         go (inr e) = absurd (ne e)
 
@@ -154,7 +154,7 @@ module _ (t d : Tree) (n : ℕ) (w : IsTree t) (s : IsBeside t d n) where
   pub not_new : (k : ℕ) → IsLive t k → k ≢ n
   not_new k live e = let none = subst (λ z. IsSome z.head) (ap (row_of t) e ∙ s.fresh) live in true≢false (sym none)
 
-  block_holder_more : (b p : ℕ) → block_holder_of t b ≡ Some p → block_holder_of d b ≡ Some p
+  block_holder_more : (b p : ℕ) → block_parent_operation_of t b ≡ Some p → block_parent_operation_of d b ≡ Some p
   block_holder_more b p e =
       let h = block_held t b w.joined (held_block t b p e) in
       let r = slot_is t h.0 h.3 in
@@ -163,7 +163,7 @@ module _ (t d : Tree) (n : ℕ) (w : IsTree t) (s : IsBeside t d n) where
       ap (λ o. up_from o (λ r. region_parent_of d r)) (s.block_parents b ∙ h.2) ∙ now ∙ sym (ap (λ o. up_from o (λ r. region_parent_of t r)) h.2 ∙ up) ∙ e
 
   -- the new operation holds nothing
-  holds_no_block : (b : ℕ) → block_holder_of d b ≡ Some n → ⊥
+  holds_no_block : (b : ℕ) → block_parent_operation_of d b ≡ Some n → ⊥
   holds_no_block b e =
       let is : IsBlock t b = subst IsSome (s.block_parents b) (held_block d b n e) in
       let h = block_held t b w.joined is in
@@ -178,7 +178,7 @@ module _ (t d : Tree) (n : ℕ) (w : IsTree t) (s : IsBeside t d n) where
   within_new x (inr i) = absurd (holds_nothing x i)
 
   -- erased again, it leaves the same tree
-  erased_none : IsSameTree t (cleared d (nat_eq n))
+  erased_none : IsSameTree t (after_clearing d (nat_eq n))
   erased_none = record {
     operations = λ k. row no_entry d.operations t.operations s.operations s.fresh k;
     operands = λ k. row [] d.operands t.operands s.operands s.no_operands k;
@@ -194,15 +194,15 @@ module _ (t d : Tree) (n : ℕ) (w : IsTree t) (s : IsBeside t d n) where
       gone = λ k. is_met_above d (nat_eq n) (Some k)
 
       block_gone : ℕ → Bool
-      block_gone = λ b. is_met_above d (nat_eq n) (block_holder_of d b)
+      block_gone = λ b. is_met_above d (nat_eq n) (block_parent_operation_of d b)
 
       region_gone : ℕ → Bool
       region_gone = λ r. is_met_above d (nat_eq n) (region_parent_of d r)
 
-      row : {A : Type 0} (none : A) (xs ys : List A) → ((k : ℕ) → k ≢ n → get_or xs k none ≡ get_or ys k none) → get_or ys n none ≡ none → (k : ℕ) → get_or (blanked gone none xs) k none ≡ get_or ys k none
+      row : {A : Type 0} (none : A) (xs ys : List A) → ((k : ℕ) → k ≢ n → get_or xs k none ≡ get_or ys k none) → get_or ys n none ≡ none → (k : ℕ) → get_or (blank_at gone none xs) k none ≡ get_or ys k none
       row none xs ys same empty k = go (told (gone k))
         where
-          go : (gone k ≡ true) ⊎ (gone k ≡ false) → get_or (blanked gone none xs) k none ≡ get_or ys k none
+          go : (gone k ≡ true) ⊎ (gone k ≡ false) → get_or (blank_at gone none xs) k none ≡ get_or ys k none
           go (inl e) =
               let m = met_above d n (Some k) e in
               let here : k ≡ n = some_is m.1 ∙ within_new m.0 m.2 in
@@ -213,10 +213,10 @@ module _ (t d : Tree) (n : ℕ) (w : IsTree t) (s : IsBeside t d n) where
       block_stays b = go (told (block_gone b))
         where
           go : (block_gone b ≡ true) ⊎ (block_gone b ≡ false) → block_gone b ≡ false
-          go (inl e) = let m = met_above d n (block_holder_of d b) e in absurd (holds_no_block b (m.1 ∙ ap Some (within_new m.0 m.2)))
+          go (inl e) = let m = met_above d n (block_parent_operation_of d b) e in absurd (holds_no_block b (m.1 ∙ ap Some (within_new m.0 m.2)))
           go (inr e) = e
 
-      layout : (r : ℕ) → (region_gone r ≡ true) ⊎ (region_gone r ≡ false) → get_or (blanked region_gone [] d.layouts) r [] ≡ layout_of t r
+      layout : (r : ℕ) → (region_gone r ≡ true) ⊎ (region_gone r ≡ false) → get_or (blank_at region_gone [] d.layouts) r [] ≡ layout_of t r
       layout r (inr e) = blanked_kept region_gone [] d.layouts r e ∙ s.layouts r
       layout r (inl e) = blanked_gone region_gone [] d.layouts r e ∙ sym (none (layout_of t r) refl)
         where
@@ -227,24 +227,24 @@ module _ (t d : Tree) (n : ℕ) (w : IsTree t) (s : IsBeside t d n) where
               let there : block_parent_of d b ≡ Some r = s.block_parents b ∙ w.layouts.owned b r (subst (In b) (sym f) (inl refl)) in
               absurd (holds_no_block b (ap (λ o. up_from o (λ r. region_parent_of d r)) there ∙ m.1 ∙ ap Some (within_new m.0 m.2)))
 
-  pub beside_erased : IsSameTree t (erased d n)
+  pub beside_erased : IsSameTree t (after_erasing d n)
   beside_erased =
-      subst (λ o. IsSameTree t (cleared (taken_from d n o) (nat_eq n))) (sym s.loose) erased_none
+      subst (λ o. IsSameTree t (after_clearing (taken_from d n o) (nat_eq n))) (sym s.loose) erased_none
 
 -- which is a change inside of any operation
-pub beside_erased_inside : (t d : Tree) (n op : ℕ) → IsTree t → IsJoined (erased d n) → IsBeside t d n → IsInsideChange t (erased d n) op
-beside_erased_inside t d n op w wu s = same_change t (erased d n) op w.joined wu (beside_erased t d n w s)
+pub beside_erased_inside : (t d : Tree) (n op : ℕ) → IsTree t → IsJoined (after_erasing d n) → IsBeside t d n → IsInsideChange t (after_erasing d n) op
+beside_erased_inside t d n op w wu s = same_change t (after_erasing d n) op w.joined wu (beside_erased t d n w s)
 
 -- creating and then erasing leaves the same tree
-pub same_created_erased : (t : Tree) (head : Head) (results regions : ℕ) → IsTree t → IsSameTree t (erased (created t head results regions) (length t.operations))
-same_created_erased t head results regions w = beside_erased t (created t head results regions) (length t.operations) w (created_beside t head results regions w)
+pub same_created_erased : (t : Tree) (head : Head) (results regions : ℕ) → IsTree t → IsSameTree t (after_erasing (after_creating t head results regions) (length t.operations))
+same_created_erased t head results regions w = beside_erased t (after_creating t head results regions) (length t.operations) w (created_beside t head results regions w)
 
 -- the new operation comes into a block that op holds
 module _ (t d : Tree) (n op block : ℕ) (body : List ℕ) (w : IsTree t) (s : IsBeside t d n) (held : HoldsBlock t op block) where
   abbrev pub with_new : Tree
-  with_new = placed d n block body
+  with_new = after_placing d n block body
 
-  holders_more : (y p : ℕ) → holder_of t y ≡ Some p → holder_of with_new y ≡ Some p
+  holders_more : (y p : ℕ) → parent_operation_of t y ≡ Some p → parent_operation_of with_new y ≡ Some p
   holders_more y p e =
       let h = holder_is t y p e in
       let ne = not_new t d n w s y (holder_live t y p w.joined e).0 in
@@ -253,7 +253,7 @@ module _ (t d : Tree) (n op block : ℕ) (body : List ℕ) (w : IsTree t) (s : I
   new_inside : IsInside with_new op n
   new_inside = inside_block block (get_or-set_same d.parents n (Some block) None s.place) (held.0, block_holder_more t d n w s block held.0 held.1, within_more t with_new holders_more held.2)
 
-  pub beside_placed : IsInsideChange t (placed d n block body) op
+  pub beside_placed : IsInsideChange t (after_placing d n block body) op
   beside_placed = change_of_kept t with_new op w.joined kept no_new_operation no_new_block
     where
       kept : AreKeptOutside t with_new op
@@ -287,11 +287,11 @@ module _ (t d : Tree) (n op block : ℕ) (w : IsTree t) (s : IsBeside t d n) (he
 
 -- creating and then inserting
 module _ (t : Tree) (op block : ℕ) (head : Head) (results regions : ℕ) (w : IsTree t) (held : HoldsBlock t op block) where
-  pub created_last_inside : IsInsideChange t (put_last (created t head results regions) (length t.operations) block) op
-  created_last_inside = beside_last_inside t (created t head results regions) (length t.operations) op block w (created_beside t head results regions w) held
+  pub created_last_inside : IsInsideChange t (put_last (after_creating t head results regions) (length t.operations) block) op
+  created_last_inside = beside_last_inside t (after_creating t head results regions) (length t.operations) op block w (created_beside t head results regions w) held
 
-  pub created_first_inside : IsInsideChange t (put_first (created t head results regions) (length t.operations) block) op
-  created_first_inside = beside_first_inside t (created t head results regions) (length t.operations) op block w (created_beside t head results regions w) held
+  pub created_first_inside : IsInsideChange t (put_first (after_creating t head results regions) (length t.operations) block) op
+  created_first_inside = beside_first_inside t (after_creating t head results regions) (length t.operations) op block w (created_beside t head results regions w) held
 
-  pub created_next_inside : (at : ℕ) → parent_of t at ≡ Some block → IsInsideChange t (put_next_to (created t head results regions) (length t.operations) at (parent_of (created t head results regions) at)) op
-  created_next_inside at e = beside_next_inside t (created t head results regions) (length t.operations) op block w (created_beside t head results regions w) held at (get_or-pad t.parents None at ∙ e)
+  pub created_next_inside : (at : ℕ) → parent_of t at ≡ Some block → IsInsideChange t (put_next_to (after_creating t head results regions) (length t.operations) at (parent_of (after_creating t head results regions) at)) op
+  created_next_inside at e = beside_next_inside t (after_creating t head results regions) (length t.operations) op block w (created_beside t head results regions w) held at (get_or-pad t.parents None at ∙ e)

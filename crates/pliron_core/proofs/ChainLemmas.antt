@@ -38,7 +38,7 @@ is_met_more h p zero (Some x) e = absurd (cc)
 is_met_more h p (suc n) None e = refl
 is_met_more h p (suc n) (Some x) e = ap (λ b. if p x then true else b) (is_met_more h p n (h x) e)
 
--- the holders matter only above what fails the test
+-- the parent operations matter only above what fails the test
 pub is_met_same : (h k : ℕ → Option ℕ) (p : ℕ → Bool) (n : ℕ) (o : Option ℕ) → ((x : ℕ) → p x ≡ false → k x ≡ h x) → is_met k p n o ≡ is_met h p n o
 is_met_same h k p zero o same = refl
 is_met_same h k p (suc n) None same = refl

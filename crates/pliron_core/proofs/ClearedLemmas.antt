@@ -1,7 +1,7 @@
 -- What is gone after an erasure.
 use Rattle.std.proofs.Common.{◌≡◌, ◌⊎◌, ℕ, zero, suc, ◌<◌, Bool, true, false, nat_eq, if◌then◌else◌, List, [], ◌∷◌, length, get_or, Option, Some, None, slice_set, refl, sym, ap, ◌∙◌, inl, inr, true≢false, arith}
 use Rattle.std.proofs.lemmas.Bool.{eq-eqb}
-use Rattle.pliron_core.specs.Tree.{Tree, holder_of, IsWithin}
+use Rattle.pliron_core.specs.Tree.{Tree, parent_operation_of, IsWithin}
 use Rattle.pliron_core.specs.Erased.{is_met, is_met_above, stands_in, StandsIn}
 use Rattle.pliron_core.proofs.WithinLemmas.{within_is, in_block_is}
 
@@ -19,7 +19,7 @@ blank_set none (x ∷ xs) (suc k) = blank_set none xs k
 nothing_met : (t : Tree) (p : ℕ → Bool) → is_met_above t p None ≡ true → ⊥
 nothing_met t p e = true≢false (sym e ∙ none (length t.operations))
   where
-    none : (n : ℕ) → is_met (holder_of t) p n None ≡ false
+    none : (n : ℕ) → is_met (parent_operation_of t) p n None ≡ false
     none zero = refl
     none (suc n) = refl
 
@@ -35,6 +35,6 @@ met_block t block (Some x) e = (x, refl, in_block_is t block x e)
 pub met_itself : (t : Tree) (op : ℕ) → op < length t.operations → is_met_above t (nat_eq op) (Some op) ≡ true
 met_itself t op lt = go (length t.operations) lt
   where
-    go : (n : ℕ) → op < n → is_met (holder_of t) (nat_eq op) n (Some op) ≡ true
+    go : (n : ℕ) → op < n → is_met (parent_operation_of t) (nat_eq op) n (Some op) ≡ true
     go zero lt = absurd (omega arith)
-    go (suc n) lt = ap (λ b. if b then true else is_met (holder_of t) (nat_eq op) n (holder_of t op)) (eq-eqb op op refl)
+    go (suc n) lt = ap (λ b. if b then true else is_met (parent_operation_of t) (nat_eq op) n (parent_operation_of t op)) (eq-eqb op op refl)

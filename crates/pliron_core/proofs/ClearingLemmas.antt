@@ -4,9 +4,9 @@ use Rattle.std.proofs.lemmas.List.{get_or-set_other}
 use Rattle.pliron_core.specs.declared.context.Def.{Def}
 use Rattle.pliron_core.specs.declared.context.RegionSlot.{RegionSlot}
 use Rattle.pliron_core.specs.declared.context.OperationEntry.{OperationEntry}
-use Rattle.pliron_core.specs.Tree.{Tree, In, IsLive, climb, op_of_slot, no_entry, row_of, head_of, operands_of, successors_of, parent_of, body_of, arguments_of, block_parent_of, layout_of, region_parent_of, block_holder_of, holder_of}
-use Rattle.pliron_core.specs.Joined.{IsTree}
-use Rattle.pliron_core.specs.Erased.{is_met_above, cleared}
+use Rattle.pliron_core.specs.Tree.{Tree, In, IsLive, climb, op_of_slot, no_entry, row_of, head_of, operands_of, successors_of, parent_of, body_of, arguments_of, block_parent_of, layout_of, region_parent_of, block_parent_operation_of, parent_operation_of}
+use Rattle.pliron_core.specs.Invariant.{IsTree}
+use Rattle.pliron_core.specs.Erased.{is_met_above, after_clearing}
 use Rattle.pliron_core.proofs.BlankLemmas.{is_blanked}
 use Rattle.pliron_core.proofs.TreeLemmas.{live-within, live_dead}
 use Rattle.pliron_core.proofs.WithinLemmas.{block_steps, holder_steps, holder_from, block_holder_from, block_holder_live, region_has, region_parent_live, met_up}
@@ -16,7 +16,7 @@ abbrev pub op_gone : Tree → (ℕ → Bool) → ℕ → Bool
 op_gone t p k = is_met_above t p (Some k)
 
 abbrev pub block_gone : Tree → (ℕ → Bool) → ℕ → Bool
-block_gone t p b = is_met_above t p (block_holder_of t b)
+block_gone t p b = is_met_above t p (block_parent_operation_of t b)
 
 abbrev pub region_gone : Tree → (ℕ → Bool) → ℕ → Bool
 region_gone t p r = is_met_above t p (region_parent_of t r)
@@ -98,22 +98,22 @@ module _ (t u : Tree) (p bodies : ℕ → Bool) (wt : IsTree t) (wu : IsTree u) 
   pub region_parent_same : (r : ℕ) → region_parent_of u r ≡ region_parent_of t r
   region_parent_same r = ap (λ z. op_of_slot (slice_get z r)) c.slots
 
-  pub block_holder_was : (b y : ℕ) → block_holder_of u b ≡ Some y → block_holder_of t b ≡ Some y
+  pub block_holder_was : (b y : ℕ) → block_parent_operation_of u b ≡ Some y → block_parent_operation_of t b ≡ Some y
   block_holder_was b y e = let s = block_steps u b y e in block_holder_from t b s.0 (c.placed b s.0 s.1) ∙ sym (region_parent_same s.0) ∙ s.2
 
-  pub holder_was : (x y : ℕ) → holder_of u x ≡ Some y → holder_of t x ≡ Some y
+  pub holder_was : (x y : ℕ) → parent_operation_of u x ≡ Some y → parent_operation_of t x ≡ Some y
   holder_was x y e =
       let s = holder_steps u x y e in
       let k = c.stays x (wu.joined.standing x s.0 s.1).0 in
       holder_from t x s.0 (sym k.1 ∙ s.1) ∙ block_holder_was s.0 y s.2
 
-  pub holder_is : (x y : ℕ) → IsLive u x → holder_of t x ≡ Some y → holder_of u x ≡ Some y
+  pub holder_is : (x y : ℕ) → IsLive u x → parent_operation_of t x ≡ Some y → parent_operation_of u x ≡ Some y
   holder_is x y l e =
       let s = holder_steps t x y e in
       let at : parent_of u x ≡ Some s.0 = (c.stays x l).1 ∙ s.1 in
       go s.0 at s.2 (block_parent_of u s.0) refl
     where
-      go : (b : ℕ) → parent_of u x ≡ Some b → block_holder_of t b ≡ Some y → (o : Option ℕ) → block_parent_of u b ≡ o → holder_of u x ≡ Some y
+      go : (b : ℕ) → parent_of u x ≡ Some b → block_parent_operation_of t b ≡ Some y → (o : Option ℕ) → block_parent_of u b ≡ o → parent_operation_of u x ≡ Some y
       go b f g None k = absurd (true≢false (sym (wu.joined.standing x b f).1 ∙ ap is_some k))
       go b f g (Some r) k = holder_from u x b f ∙ block_holder_from u b r k ∙ region_parent_same r ∙ sym (block_holder_from t b r (c.placed b r k)) ∙ g
 
@@ -121,11 +121,11 @@ module _ (t u : Tree) (p bodies : ℕ → Bool) (wt : IsTree t) (wu : IsTree u) 
   live-below x l = let h = live-within u x l in let n = c.count in omega (arith, h, n)
 
   -- once the operations of the test are gone, so are all
-  gone_dead : ((k : ℕ) → p k ≡ true → IsLive u k → ⊥) → (n k : ℕ) → climb (holder_of u) n (Some k) ≡ None → op_gone t p k ≡ true → IsLive u k → ⊥
+  gone_dead : ((k : ℕ) → p k ≡ true → IsLive u k → ⊥) → (n k : ℕ) → climb (parent_operation_of u) n (Some k) ≡ None → op_gone t p k ≡ true → IsLive u k → ⊥
   gone_dead none zero k e g l = cc
-  gone_dead none (suc n) k e g l = go (p k) refl (λ y f. gone_dead none n y (ap (climb (holder_of u) n) (sym f) ∙ e))
+  gone_dead none (suc n) k e g l = go (p k) refl (λ y f. gone_dead none n y (ap (climb (parent_operation_of u) n) (sym f) ∙ e))
     where
-      go : (b : Bool) → p k ≡ b → ((y : ℕ) → holder_of u k ≡ Some y → op_gone t p y ≡ true → IsLive u y → ⊥) → ⊥
+      go : (b : Bool) → p k ≡ b → ((y : ℕ) → parent_operation_of u k ≡ Some y → op_gone t p y ≡ true → IsLive u y → ⊥) → ⊥
       go true f up = none k f l
       go false f up =
           let s = met_up t p wt.joined k (live-below k l) f g in
@@ -169,8 +169,8 @@ module _ (t u : Tree) (p bodies : ℕ → Bool) (wt : IsTree t) (wu : IsTree u) 
     pub gone_blocks : (b : ℕ) → block_gone t p b ≡ true → (arguments_of u b ≡ []) × (body_of u b ≡ [])
     gone_blocks b g = wu.joined.unplaced b (no_holder b g)
 
-    pub cleared_all : u ≡ record (cleared t p) { bodies = u.bodies }
-    cleared_all = tree_same u (record (cleared t p) { bodies = u.bodies })
+    pub cleared_all : u ≡ record (after_clearing t p) { bodies = u.bodies }
+    cleared_all = tree_same u (record (after_clearing t p) { bodies = u.bodies })
         (is_blanked (op_gone t p) no_entry t.operations u.operations c.count (λ k g. (wu.joined.erased k (all_dead k g)).2) c.rows)
         (is_blanked (op_gone t p) [] t.operands u.operands (wu.keys.operands ∙ c.count ∙ sym wt.keys.operands) (λ k g. (wu.joined.erased k (all_dead k g)).0) c.operands)
         (is_blanked (op_gone t p) [] t.successors u.successors (wu.keys.successors ∙ c.count ∙ sym wt.keys.successors) (λ k g. (wu.joined.erased k (all_dead k g)).1) c.successors)

@@ -6,39 +6,39 @@ use Rattle.std.proofs.lemmas.Option.{slice_get_within}
 use Rattle.std.proofs.lemmas.List.{map-set, set-get_or, length-set, length-map, get_or-set_same, get_or-set_other}
 use Rattle.std.proofs.Math.ListN.{get_or-map}
 use Rattle.pliron_core.specs.declared.uses.Use.{Use}
-use Rattle.pliron_core.specs.declared.places.Place.{Place}
-use Rattle.pliron_core.specs.declared.places.Gap.{Gap}
-use Rattle.pliron_core.specs.Places.{at, put, held, rank, no_target, free_place, targets_in, uses_in, ranked_use, HasGap, IsLinked}
+use Rattle.pliron_core.specs.declared.use_slots.UseSlot.{UseSlot}
+use Rattle.pliron_core.specs.declared.use_slots.Gap.{Gap}
+use Rattle.pliron_core.specs.UseSlots.{at, put, targets_held, rank, no_target, free_place, targets_in, uses_in, ranked_use, HasGap, IsLinked}
 use Rattle.pliron_core.proofs.TableLemmas.{at-within}
 use Rattle.pliron_core.proofs.PlaceLemmas.{seen-from, use-seen, target-real}
 use Rattle.pliron_core.proofs.GapLemmas.{same, held-free, held-taken, moved_row, moved-cases, held-length, slice-some}
 use Rattle.pliron_core.proofs.RelocateLemmas.{relocated-rows, held-kept}
 
 -- the taken places of a row, in order
-abbrev pub kept : List Place → List Place
+abbrev pub kept : List UseSlot → List UseSlot
 kept [] = []
 kept (p ∷ ps) = if nat_eq p.target no_target then kept ps else p ∷ kept ps
 
-pub kept-free : (p : Place) (ps : List Place) → p.target ≡ no_target → kept (p ∷ ps) ≡ kept ps
+pub kept-free : (p : UseSlot) (ps : List UseSlot) → p.target ≡ no_target → kept (p ∷ ps) ≡ kept ps
 kept-free p ps e = rw (eq-eqb p.target no_target e) refl
 
-pub kept-taken : (p : Place) (ps : List Place) → p.target ≢ no_target → kept (p ∷ ps) ≡ p ∷ kept ps
+pub kept-taken : (p : UseSlot) (ps : List UseSlot) → p.target ≢ no_target → kept (p ∷ ps) ≡ p ∷ kept ps
 kept-taken p ps ne = rw (ne_eqb p.target no_target ne) refl
 
-rank-free : (p : Place) (ps : List Place) (n : ℕ) → p.target ≡ no_target → rank (p ∷ ps) (suc n) ≡ rank ps n
+rank-free : (p : UseSlot) (ps : List UseSlot) (n : ℕ) → p.target ≡ no_target → rank (p ∷ ps) (suc n) ≡ rank ps n
 rank-free p ps n e = rw (eq-eqb p.target no_target e) refl
 
-rank-taken : (p : Place) (ps : List Place) (n : ℕ) → p.target ≢ no_target → rank (p ∷ ps) (suc n) ≡ suc (rank ps n)
+rank-taken : (p : UseSlot) (ps : List UseSlot) (n : ℕ) → p.target ≢ no_target → rank (p ∷ ps) (suc n) ≡ suc (rank ps n)
 rank-taken p ps n ne = rw (ne_eqb p.target no_target ne) refl
 
-kept-more : (p : Place) (ps qs : List Place) → kept ps ≡ kept qs → kept (p ∷ ps) ≡ kept (p ∷ qs)
+kept-more : (p : UseSlot) (ps qs : List UseSlot) → kept ps ≡ kept qs → kept (p ∷ ps) ≡ kept (p ∷ qs)
 kept-more p ps qs e = elim (cases_eq p.target no_target) [
   | inl h ↦ kept-free p ps h ∙ e ∙ sym (kept-free p qs h)
   | inr h ↦ kept-taken p ps h ∙ ap (λ l. p ∷ l) e ∙ sym (kept-taken p qs h)
 ]
 
 -- a taken place stands at its rank
-kept-at : (ps : List Place) (n : ℕ) (p : Place) → slice_get ps n ≡ Some p → p.target ≢ no_target → slice_get (kept ps) (rank ps n) ≡ Some p
+kept-at : (ps : List UseSlot) (n : ℕ) (p : UseSlot) → slice_get ps n ≡ Some p → p.target ≢ no_target → slice_get (kept ps) (rank ps n) ≡ Some p
 kept-at [] n p e ne = absurd (cc)
 kept-at (q ∷ qs) zero p e ne =
     let is : q ≡ p = same e in
@@ -49,26 +49,26 @@ kept-at (q ∷ qs) (suc n) p e ne = elim (cases_eq q.target no_target) [
 ]
 
 -- where a taken place of this rank stands
-record IsKept (ps : List Place) (i : ℕ) (p : Place) : Type 0 where
+record IsKept (ps : List UseSlot) (i : ℕ) (p : UseSlot) : Type 0 where
   pub n : ℕ
   pub is : slice_get ps n ≡ Some p
   pub ranked : rank ps n ≡ i
 
-first-from : (q : Place) (qs : List Place) (p : Place) → ((i : ℕ) → slice_get (kept qs) i ≡ Some p → IsKept qs i p) → (i : ℕ) → slice_get (q ∷ kept qs) i ≡ Some p → q.target ≢ no_target → IsKept (q ∷ qs) i p
+first-from : (q : UseSlot) (qs : List UseSlot) (p : UseSlot) → ((i : ℕ) → slice_get (kept qs) i ≡ Some p → IsKept qs i p) → (i : ℕ) → slice_get (q ∷ kept qs) i ≡ Some p → q.target ≢ no_target → IsKept (q ∷ qs) i p
 first-from q qs p rest zero e h = record { n = 0; is = e; ranked = refl }
 first-from q qs p rest (suc i) e h = let r = rest i e in record { n = suc r.n; is = r.is; ranked = rank-taken q qs r.n h ∙ ap suc r.ranked }
 
-kept-from : (ps : List Place) (i : ℕ) (p : Place) → slice_get (kept ps) i ≡ Some p → IsKept ps i p
+kept-from : (ps : List UseSlot) (i : ℕ) (p : UseSlot) → slice_get (kept ps) i ≡ Some p → IsKept ps i p
 kept-from [] i p e = absurd (cc)
 kept-from (q ∷ qs) i p e = elim (cases_eq q.target no_target) [
   | inl h ↦ let r = kept-from qs i p (ap (λ l. slice_get l i) (sym (kept-free q qs h)) ∙ e) in record { n = suc r.n; is = r.is; ranked = rank-free q qs r.n h ∙ r.ranked }
   | inr h ↦ first-from q qs p (λ k f. kept-from qs k p f) i (ap (λ l. slice_get l i) (sym (kept-taken q qs h)) ∙ e) h
 ]
 
-abbrev AreFree : List Place → ℕ → ℕ → Type 0
-AreFree row first last = (n : ℕ) (q : Place) → slice_get row n ≡ Some q → first ≤ n → n < last → q.target ≡ no_target
+abbrev AreFree : List UseSlot → ℕ → ℕ → Type 0
+AreFree row first last = (n : ℕ) (q : UseSlot) → slice_get row n ≡ Some q → first ≤ n → n < last → q.target ≡ no_target
 
-free-run : (row : List Place) (from : ℕ) (p : Place) → slice_get row from ≡ Some p → AreFree row 0 from → p.target ≢ no_target → kept row ≡ p ∷ kept (set row from free_place)
+free-run : (row : List UseSlot) (from : ℕ) (p : UseSlot) → slice_get row from ≡ Some p → AreFree row 0 from → p.target ≢ no_target → kept row ≡ p ∷ kept (set row from free_place)
 free-run [] from p e free ne = absurd (cc)
 free-run (q ∷ qs) zero p e free ne =
     let is : q ≡ p = same e in
@@ -78,7 +78,7 @@ free-run (q ∷ qs) (suc from) p e free ne =
     kept-free q qs f ∙ free-run qs from p e (λ n x e a b. free (suc n) x e (omega arith) (omega (arith, b))) ne ∙ ap (λ l. p ∷ l) (sym (kept-free q (set qs from free_place) f))
 
 -- to the front of the free places before it
-kept-lowered : (row : List Place) (from to : ℕ) (p : Place) → to < from → slice_get row from ≡ Some p → p.target ≢ no_target → AreFree row to from → kept (moved_row row from to p) ≡ kept row
+kept-lowered : (row : List UseSlot) (from to : ℕ) (p : UseSlot) → to < from → slice_get row from ≡ Some p → p.target ≢ no_target → AreFree row to from → kept (moved_row row from to p) ≡ kept row
 kept-lowered [] from to p h e ne free = absurd (cc)
 kept-lowered (q ∷ qs) zero to p h e ne free = absurd (omega (arith, h))
 kept-lowered (q ∷ qs) (suc from) zero p h e ne free =
@@ -87,18 +87,18 @@ kept-lowered (q ∷ qs) (suc from) (suc to) p h e ne free =
     kept-more q (moved_row qs from to p) qs (kept-lowered qs from to p (omega (arith, h)) e ne (λ n x f a b. free (suc n) x f (omega (arith, a)) (omega (arith, b))))
 
 -- the same taken places in the same order: the same targets
-held-targets : (row : List Place) → held row ≡ map (λ p. p.target) (kept row)
+held-targets : (row : List UseSlot) → targets_held row ≡ map (λ p. p.target) (kept row)
 held-targets [] = refl
 held-targets (p ∷ ps) = elim (cases_eq p.target no_target) [
   | inl h ↦ held-free p ps h ∙ held-targets ps ∙ ap (map (λ z. z.target)) (sym (kept-free p ps h))
   | inr h ↦ held-taken p ps h ∙ ap (λ l. p.target ∷ l) (held-targets ps) ∙ ap (map (λ z. z.target)) (sym (kept-taken p ps h))
 ]
 
-targets-kept : (rows : List (List Place)) → targets_in rows ≡ map (map (λ p. p.target)) (map kept rows)
+targets-kept : (rows : List (List UseSlot)) → targets_in rows ≡ map (map (λ p. p.target)) (map kept rows)
 targets-kept [] = refl
 targets-kept (r ∷ rs) = rw (held-targets r, targets-kept rs) refl
 
-pub same-targets : (rows rows' : List (List Place)) → map kept rows' ≡ map kept rows → targets_in rows' ≡ targets_in rows
+pub same-targets : (rows rows' : List (List UseSlot)) → map kept rows' ≡ map kept rows → targets_in rows' ≡ targets_in rows
 same-targets rows rows' e = targets-kept rows' ∙ ap (map (map (λ p. p.target))) e ∙ sym (targets-kept rows)
 
 same-entries : {X : Type 0} (xs ys : List X) → ((k : ℕ) → slice_get xs k ≡ slice_get ys k) → xs ≡ ys
@@ -119,7 +119,7 @@ same-options None (Some x) f g = sym (g x refl)
 same-options (Some x) o' f g = f x refl
 
 -- and the same uses
-seen-again : (rows rows' : List (List Place)) (lists lists' : List (List Use)) → IsLinked rows lists → IsLinked rows' lists' → map kept rows' ≡ map kept rows → (t i : ℕ) (u : Use) → at (uses_in rows lists) t i ≡ Some u → at (uses_in rows' lists') t i ≡ Some u
+seen-again : (rows rows' : List (List UseSlot)) (lists lists' : List (List Use)) → IsLinked rows lists → IsLinked rows' lists' → map kept rows' ≡ map kept rows → (t i : ℕ) (u : Use) → at (uses_in rows lists) t i ≡ Some u → at (uses_in rows' lists') t i ≡ Some u
 seen-again rows rows' lists lists' is is' e t i u there =
     let s = seen-from rows lists t i u there in
     let user : ℕ = s.one.user in
@@ -129,23 +129,23 @@ seen-again rows rows' lists lists' is is' e t i u there =
     let k = kept-from (get_or rows' user []) (rank (get_or rows user []) s.one.place) (record { target = t; at = i }) (ap (λ l. slice_get l (rank (get_or rows user []) s.one.place)) (sym row) ∙ here) in
     use-seen rows' lists' t i (rank (get_or rows user []) s.one.place) (record { user = user; place = k.n }) (is'.used user k.n t i k.is real) (sym k.ranked) ∙ ap Some (sym s.is)
 
-pub same-uses : (rows rows' : List (List Place)) (lists lists' : List (List Use)) → IsLinked rows lists → IsLinked rows' lists' → length lists' ≡ length lists → map kept rows' ≡ map kept rows → uses_in rows' lists' ≡ uses_in rows lists
+pub same-uses : (rows rows' : List (List UseSlot)) (lists lists' : List (List Use)) → IsLinked rows lists → IsLinked rows' lists' → length lists' ≡ length lists → map kept rows' ≡ map kept rows → uses_in rows' lists' ≡ uses_in rows lists
 same-uses rows rows' lists lists' is is' count e =
     same-tables (uses_in rows' lists') (uses_in rows lists) (length-map lists' (map (ranked_use rows')) ∙ count ∙ sym (length-map lists (map (ranked_use rows))))
     (λ t i. same-options (at (uses_in rows lists) t i) (at (uses_in rows' lists') t i) (seen-again rows rows' lists lists' is is' e t i) (seen-again rows' rows lists' lists is' is (sym e) t i))
 
 -- so many places of the user were reached, and so many of them are taken: these stand first
-pub record IsMoved (rows rows' : List (List Place)) (lists lists' : List (List Use)) (user from taken : ℕ) : Type 0 where
+pub record IsMoved (rows rows' : List (List UseSlot)) (lists lists' : List (List Use)) (user from taken : ℕ) : Type 0 where
   pub linked : IsLinked rows' lists'
   pub same : map kept rows' ≡ map kept rows
   pub few : taken ≤ from
   pub long : length (get_or rows' user []) ≡ length (get_or rows user [])
-  pub first : (n : ℕ) (p : Place) → at rows' user n ≡ Some p → n < taken → p.target ≢ no_target
-  pub free : (n : ℕ) (p : Place) → at rows' user n ≡ Some p → taken ≤ n → n < from → p.target ≡ no_target
+  pub first : (n : ℕ) (p : UseSlot) → at rows' user n ≡ Some p → n < taken → p.target ≢ no_target
+  pub free : (n : ℕ) (p : UseSlot) → at rows' user n ≡ Some p → taken ≤ n → n < from → p.target ≡ no_target
   pub others : (u : ℕ) → u ≢ user → get_or rows' u [] ≡ get_or rows u []
   pub count : length lists' ≡ length lists
 
-module _ (rows rows' : List (List Place)) (lists lists' : List (List Use)) (user from taken : ℕ) (p : Place) (is : IsMoved rows rows' lists lists' user from taken) (here : at rows' user from ≡ Some p) where
+module _ (rows rows' : List (List UseSlot)) (lists lists' : List (List Use)) (user from taken : ℕ) (p : UseSlot) (is : IsMoved rows rows' lists lists' user from taken) (here : at rows' user from ≡ Some p) where
   -- a taken place with no free one before it stays
   pub moved-stays : p.target ≢ no_target → from ≤ taken → IsMoved rows rows' lists lists' user (from + 1) (taken + 1)
   moved-stays some all = record {
@@ -163,17 +163,17 @@ module _ (rows rows' : List (List Place)) (lists lists' : List (List Use)) (user
   }
 
   -- the first free place, to which a taken one moves
-  pub moved-to : taken < from → (q : Place) × (at rows' user taken ≡ Some q) × (q.target ≡ no_target)
+  pub moved-to : taken < from → (q : UseSlot) × (at rows' user taken ≡ Some q) × (q.target ≡ no_target)
   moved-to less =
       let s = slice-some (get_or rows' user []) taken (omega (arith, less, slice_get_within (get_or rows' user []) from p here)) in
       (s.0, s.1, is.free taken s.0 s.1 (omega arith) less)
 
-  module _ (some : p.target ≢ no_target) (less : taken < from) (rows'' : List (List Place)) (lists'' : List (List Use)) (linked : IsLinked rows'' lists'')
-      (moved : (q : Place) → at rows' user from ≡ Some q → rows'' ≡ put (put rows' user taken q) user from free_place) (kept_count : length lists'' ≡ length lists') where
-    abbrev row : List Place
+  module _ (some : p.target ≢ no_target) (less : taken < from) (rows'' : List (List UseSlot)) (lists'' : List (List Use)) (linked : IsLinked rows'' lists'')
+      (moved : (q : UseSlot) → at rows' user from ≡ Some q → rows'' ≡ put (put rows' user taken q) user from free_place) (kept_count : length lists'' ≡ length lists') where
+    abbrev row : List UseSlot
     row = get_or rows' user []
 
-    to_free : (q : Place) × (at rows' user taken ≡ Some q) × (q.target ≡ no_target)
+    to_free : (q : UseSlot) × (at rows' user taken ≡ Some q) × (q.target ≡ no_target)
     to_free = moved-to less
 
     write : rows'' ≡ set rows' user (moved_row row from taken p)
@@ -182,7 +182,7 @@ module _ (rows rows' : List (List Place)) (lists lists' : List (List Use)) (user
     row_is : get_or rows'' user [] ≡ moved_row row from taken p
     row_is = ap (λ z. get_or z user []) write ∙ get_or-set_same rows' user (moved_row row from taken p) [] (at-within rows' user from p here)
 
-    cases : (n : ℕ) (q : Place) → at rows'' user n ≡ Some q → ((n ≡ from) × (q ≡ free_place)) ⊎ (((n ≡ taken) × (q ≡ p)) ⊎ ((n ≢ from) × (n ≢ taken) × (slice_get row n ≡ Some q)))
+    cases : (n : ℕ) (q : UseSlot) → at rows'' user n ≡ Some q → ((n ≡ from) × (q ≡ free_place)) ⊎ (((n ≡ taken) × (q ≡ p)) ⊎ ((n ≢ from) × (n ≢ taken) × (slice_get row n ≡ Some q)))
     cases n q e = moved-cases row from taken n p to_free.0 q here to_free.1 (omega (arith, less)) (ap (λ l. slice_get l n) (sym row_is) ∙ e)
 
     same_rows : map kept rows'' ≡ map kept rows'
@@ -210,13 +210,13 @@ module _ (rows rows' : List (List Place)) (lists lists' : List (List Use)) (user
     }
 
 -- the whole row
-module _ (rows rows' : List (List Place)) (lists lists' : List (List Use)) (user taken : ℕ) (is : IsMoved rows rows' lists lists' user (length (get_or rows user [])) taken) where
-  pub moved-free : (n : ℕ) (p : Place) → at rows' user n ≡ Some p → taken ≤ n → p.target ≡ no_target
+module _ (rows rows' : List (List UseSlot)) (lists lists' : List (List Use)) (user taken : ℕ) (is : IsMoved rows rows' lists lists' user (length (get_or rows user [])) taken) where
+  pub moved-free : (n : ℕ) (p : UseSlot) → at rows' user n ≡ Some p → taken ≤ n → p.target ≡ no_target
   moved-free n p e a = is.free n p e a (omega (arith, slice_get_within (get_or rows' user []) n p e, is.long))
 
-  pub moved-held : taken ≡ length (held (get_or rows user []))
+  pub moved-held : taken ≡ length (targets_held (get_or rows user []))
   moved-held =
-      let row : List Place = get_or rows' user [] in
+      let row : List UseSlot = get_or rows' user [] in
       let gap : Gap = record { start = taken; len = length row - taken } in
       let has : HasGap row gap = record {
         fits = omega (arith, is.few, is.long);

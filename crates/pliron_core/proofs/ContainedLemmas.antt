@@ -10,10 +10,10 @@ use Rattle.pliron_core.specs.declared.context.RegionSlot.{RegionSlot}
 use Rattle.pliron_core.specs.declared.context.contained.Scope.{Scope}
 use Rattle.pliron_core.specs.declared.context.contained.Scope.TheVariants.{Inside, InBlock}
 use Rattle.pliron_core.specs.Lists.{In, IsDistinct, first_of, next_in}
-use Rattle.pliron_core.specs.Tree.{Tree, View, IsListedBy, IsMadeBy, IsMadeWithin, IsInside, IsWithin, up_from, op_of_slot, uses_of, operands_of, successors_of, results_of, regions_of, arguments_of, layout_of, body_of, slot_of, block_parent_of, region_parent_of, block_holder_of, parent_of, definition_of, holder_of}
+use Rattle.pliron_core.specs.Tree.{Tree, View, IsListedBy, IsMadeBy, IsDefinedWithin, IsInside, IsWithin, up_from, op_of_slot, uses_of, operands_of, successors_of, results_of, regions_of, arguments_of, layout_of, body_of, slot_of, block_parent_of, region_parent_of, block_parent_operation_of, parent_of, definition_of, parent_operation_of}
 use Rattle.pliron_core.specs.Tree.IsInside.{Directly}
-use Rattle.pliron_core.specs.Joined.{IsTree, HaveUses}
-use Rattle.pliron_core.specs.Erased.{IsSelfContained, StandsIn, IsBlockWithin, IsMadeInBlock, IsSelfContainedBlock}
+use Rattle.pliron_core.specs.Invariant.{IsTree, HaveUses}
+use Rattle.pliron_core.specs.Erased.{IsSelfContained, StandsIn, IsBlockWithin, IsDefinedInBlock, IsSelfContainedBlock}
 use Rattle.pliron_core.specs.Reads.{next_of, next_block_of}
 use Rattle.pliron_core.specs.WalkSteps.{rest_from}
 use Rattle.pliron_core.specs.Contained.{IsInScope, IsValueKept, IsTargetKept, IsBlockKept, IsOperationKept, IsPreorderKept, IsBodyKept}
@@ -108,13 +108,13 @@ module _ (v : View) (u : HaveUses v) (scope : Scope) where
   target_used block i one e kept =
       kept one.user (in_slice (successors_of v.tree one.user) one.place block (u.block_uses.listed block i one e))
 
--- what is within is inside of the holder
-pub within_up : (t : Tree) (x p z : ℕ) → holder_of t x ≡ Some p → IsWithin t x z → IsInside t p z
-within_up t x p z h (inl e) = Directly (ap (λ k. holder_of t k) e ∙ h)
+-- what is within is inside of the parent operation
+pub within_up : (t : Tree) (x p z : ℕ) → parent_operation_of t x ≡ Some p → IsWithin t x z → IsInside t p z
+within_up t x p z h (inl e) = Directly (ap (λ k. parent_operation_of t k) e ∙ h)
 within_up t x p z h (inr u) = inside_trans t p x z (Directly h) u
 
 -- what stands in a block does so in it or further up
-pub stands_up : (t : Tree) (block x : ℕ) → parent_of t x ≢ Some block → StandsIn t block x → (p : ℕ) × (holder_of t x ≡ Some p) × StandsIn t block p
+pub stands_up : (t : Tree) (block x : ℕ) → parent_of t x ≢ Some block → StandsIn t block x → (p : ℕ) × (parent_operation_of t x ≡ Some p) × StandsIn t block p
 stands_up t block x ne s =
     elim s.2 [
       | inl e ↦ absurd (ne (ap (λ k. parent_of t k) e ∙ s.1))
@@ -130,7 +130,7 @@ module _ (t : Tree) (w : IsTree t) where
   next_in_body x b i = ap (λ o. up_from o (λ z. next_in x (body_of t z))) (w.bodies.owned x b i)
 
   -- a block that an operation holds directly stands in one of its regions
-  pub block_in : (b k : ℕ) → block_holder_of t b ≡ Some k → (r : ℕ) × In r (regions_of t k) × In b (layout_of t r)
+  pub block_in : (b k : ℕ) → block_parent_operation_of t b ≡ Some k → (r : ℕ) × In r (regions_of t k) × In b (layout_of t r)
   block_in b k e = region (block_parent_of t b) refl e
     where
       slot : (r : ℕ) → block_parent_of t b ≡ Some r → (o : Option RegionSlot) → IsListedBy t r o → op_of_slot o ≡ Some k → (r : ℕ) × In r (regions_of t k) × In b (layout_of t r)
@@ -142,13 +142,13 @@ module _ (t : Tree) (w : IsTree t) where
       region None p f = absurd (none-some k f)
       region (Some r) p f = slot r p (slot_of t r) (w.joined.placed b r p) f
 
-  pub block_held : (k r b : ℕ) → In r (regions_of t k) → In b (layout_of t r) → block_holder_of t b ≡ Some k
+  pub block_held : (k r b : ℕ) → In r (regions_of t k) → In b (layout_of t r) → block_parent_operation_of t b ≡ Some k
   block_held k r b i j =
       let at = in_at (regions_of t k) r i in
       ap (λ o. up_from o (λ z. region_parent_of t z)) (w.layouts.owned b r j) ∙ ap op_of_slot (w.joined.regions k at.0 r at.1)
 
   -- what is made is kept, if all that stands in the scope keeps to it
-  block_kept : (scope : Scope) → ((k : ℕ) → IsInScope t scope k → IsOperationKept t scope k) → (b k : ℕ) → block_holder_of t b ≡ Some k → IsInScope t scope k → IsBlockKept t scope b
+  block_kept : (scope : Scope) → ((k : ℕ) → IsInScope t scope k → IsOperationKept t scope k) → (b k : ℕ) → block_parent_operation_of t b ≡ Some k → IsInScope t scope k → IsBlockKept t scope b
   block_kept scope all b k e here = let p = block_in b k e in (all k here).regions p.0 p.1 b p.2
 
   -- and the other way round
@@ -158,7 +158,7 @@ module _ (t : Tree) (w : IsTree t) where
     arguments = λ v is. let at = in_at (arguments_of t b) v is in made at.0 v (w.joined.arguments b at.0 v at.1);
   }
 
-  keeps_operation : (scope : Scope) (k : ℕ) → ((i v : ℕ) → definition_of t v ≡ Some (Result k i) → IsValueKept t scope v) → ((b : ℕ) → block_holder_of t b ≡ Some k → IsBlockKept t scope b) → IsOperationKept t scope k
+  keeps_operation : (scope : Scope) (k : ℕ) → ((i v : ℕ) → definition_of t v ≡ Some (Result k i) → IsValueKept t scope v) → ((b : ℕ) → block_parent_operation_of t b ≡ Some k → IsBlockKept t scope b) → IsOperationKept t scope k
   keeps_operation scope k made held = record {
     results = λ v is. let at = in_at (results_of t k) v is in made at.0 v (w.joined.results k at.0 v at.1);
     regions = λ r i b j. held b (block_held k r b i j);
@@ -172,7 +172,7 @@ module _ (t : Tree) (w : IsTree t) where
       blocks = λ x b is h. (block_kept (Inside op) all b h.0 h.1 h.2).block x is;
     }
       where
-        value : (x v : ℕ) → In v (operands_of t x) → (d : Option Def) → IsMadeBy t v d → IsMadeWithin t op d → IsWithin t op x
+        value : (x v : ℕ) → In v (operands_of t x) → (d : Option Def) → IsMadeBy t v d → IsDefinedWithin t op d → IsWithin t op x
         value x v is None by made = absurd made
         value x v is (Some (Result k i)) by made = (all k made).results v (in_slice (results_of t k) i v by) x is
         value x v is (Some (Argument b i)) by made =
@@ -180,8 +180,8 @@ module _ (t : Tree) (w : IsTree t) where
 
     pub contained-to : IsSelfContained t op → IsPreorderKept t (Inside op) op
     contained-to c k here =
-        keeps_operation (Inside op) k (λ i v made x is. c.values x v is (subst (IsMadeWithin t op) (sym made) here)) (λ b held.
-        keeps_block (Inside op) b (λ i v made x is. c.values x v is (subst (IsMadeWithin t op) (sym made) (k, held, here))) (λ x is. c.blocks x b is (k, held, here)))
+        keeps_operation (Inside op) k (λ i v made x is. c.values x v is (subst (IsDefinedWithin t op) (sym made) here)) (λ b held.
+        keeps_block (Inside op) b (λ i v made x is. c.values x v is (subst (IsDefinedWithin t op) (sym made) (k, held, here))) (λ x is. c.blocks x b is (k, held, here)))
 
   -- a block
   module _ (block : ℕ) where
@@ -198,14 +198,14 @@ module _ (t : Tree) (w : IsTree t) where
         each b (inl e) = subst (IsBlockKept t (InBlock block)) (sym e) own
         each b (inr h) = block_kept (InBlock block) all b h.0 h.1 h.2
 
-        value : (x v : ℕ) → In v (operands_of t x) → (d : Option Def) → IsMadeBy t v d → IsMadeInBlock t block d → StandsIn t block x
+        value : (x v : ℕ) → In v (operands_of t x) → (d : Option Def) → IsMadeBy t v d → IsDefinedInBlock t block d → StandsIn t block x
         value x v is None by made = absurd made
         value x v is (Some (Result k i)) by made = (all k made).results v (in_slice (results_of t k) i v by) x is
         value x v is (Some (Argument b i)) by made = (each b made).arguments v (in_slice (arguments_of t b) i v by) x is
 
     keeps_inner : IsSelfContainedBlock t block → (b : ℕ) → IsBlockWithin t block b → IsBlockKept t (InBlock block) b
     keeps_inner c b here =
-        keeps_block (InBlock block) b (λ i v made x is. c.values x v is (subst (IsMadeInBlock t block) (sym made) here)) (λ x is. c.blocks x b is here)
+        keeps_block (InBlock block) b (λ i v made x is. c.values x v is (subst (IsDefinedInBlock t block) (sym made) here)) (λ x is. c.blocks x b is here)
 
     pub contained_block-own : IsSelfContainedBlock t block → IsBlockKept t (InBlock block) block
     contained_block-own c = keeps_inner c block (inl refl)
@@ -213,4 +213,4 @@ module _ (t : Tree) (w : IsTree t) where
     pub contained_block-body : IsSelfContainedBlock t block → IsBodyKept t (InBlock block) block
     contained_block-body c k i x u =
         let here : StandsIn t block x = (k, w.bodies.owned k block i, u) in
-        keeps_operation (InBlock block) x (λ j v made y is. c.values y v is (subst (IsMadeInBlock t block) (sym made) here)) (λ b held. keeps_inner c b (inr (x, held, here)))
+        keeps_operation (InBlock block) x (λ j v made y is. c.values y v is (subst (IsDefinedInBlock t block) (sym made) here)) (λ b held. keeps_inner c b (inr (x, held, here)))

@@ -11,9 +11,9 @@ use Rattle.pliron_core.specs.declared.context.RegionSlot.{RegionSlot}
 use Rattle.pliron_core.specs.declared.context.OperationEntry.{OperationEntry}
 use Rattle.pliron_core.specs.Rising.{IsRising}
 use Rattle.pliron_core.specs.Lists.{AreOwned}
-use Rattle.pliron_core.specs.Tree.{Tree, In, IsLive, IsBlock, IsRegion, IsListedBy, IsDefined, IsMadeBy, up_from, op_of_slot, holder_of, block_holder_of, region_parent_of, head_of, row_of, results_of, regions_of, operands_of, successors_of, parent_of, body_of, arguments_of, block_parent_of, layout_of, slot_of, definition_of, no_entry}
-use Rattle.pliron_core.specs.Joined.{HaveSameKeys, IsJoined}
-use Rattle.pliron_core.specs.Writes.{created, block_created, result_definitions, argument_definitions, region_slots}
+use Rattle.pliron_core.specs.Tree.{Tree, In, IsLive, IsBlock, IsRegion, IsListedBy, IsDefined, IsMadeBy, up_from, op_of_slot, parent_operation_of, block_parent_operation_of, region_parent_of, head_of, row_of, results_of, regions_of, operands_of, successors_of, parent_of, body_of, arguments_of, block_parent_of, layout_of, slot_of, definition_of, no_entry}
+use Rattle.pliron_core.specs.Invariant.{HaveSameKeys, IsJoined}
+use Rattle.pliron_core.specs.Writes.{after_creating, block_created, result_definitions, argument_definitions, region_slots}
 use Rattle.pliron_core.proofs.TreeLemmas.{region_owner, rooted_cut, within-some}
 use Rattle.pliron_core.proofs.UsedLemmas.{in_last}
 use Rattle.pliron_core.proofs.GrownLemmas.{get_grown, get_last, get_last_same, get_padded, slice_get_kept, slice_get_added, range_at, mapped_range_get}
@@ -31,21 +31,21 @@ defined_kept t t' v d r a x = go (definition_of t v) refl x
     go None e y = absurd y
     go (Some f) e y = subst (IsMadeBy t' v) (sym (d f e)) (made_kept t t' v (Some f) r a y)
 
--- the holders are the same where what stands keeps its parents
-pub holder_kept : (t t' : Tree) → IsJoined t → ((x : ℕ) → parent_of t' x ≡ parent_of t x) → ((b : ℕ) → IsBlock t b → block_parent_of t' b ≡ block_parent_of t b) → ((r : ℕ) (s : RegionSlot) → slot_of t r ≡ Some s → slot_of t' r ≡ Some s) → (x : ℕ) → holder_of t' x ≡ holder_of t x
-holder_kept t t' w parents blocks slots x = ap (λ o. up_from o (λ b. block_holder_of t' b)) (parents x) ∙ go (parent_of t x) refl
+-- the parent operations are the same where what stands keeps its parents
+pub holder_kept : (t t' : Tree) → IsJoined t → ((x : ℕ) → parent_of t' x ≡ parent_of t x) → ((b : ℕ) → IsBlock t b → block_parent_of t' b ≡ block_parent_of t b) → ((r : ℕ) (s : RegionSlot) → slot_of t r ≡ Some s → slot_of t' r ≡ Some s) → (x : ℕ) → parent_operation_of t' x ≡ parent_operation_of t x
+holder_kept t t' w parents blocks slots x = ap (λ o. up_from o (λ b. block_parent_operation_of t' b)) (parents x) ∙ go (parent_of t x) refl
   where
     at_region : (o : Option ℕ) (b : ℕ) → block_parent_of t b ≡ o → up_from o (λ r. region_parent_of t' r) ≡ up_from o (λ r. region_parent_of t r)
     at_region None b e = refl
     at_region (Some r) b e = let s = region_owner t r (w.placed b r e) in ap op_of_slot (slots r s.0 s.1) ∙ sym (ap op_of_slot s.1)
 
-    go : (o : Option ℕ) → parent_of t x ≡ o → up_from o (λ b. block_holder_of t' b) ≡ up_from o (λ b. block_holder_of t b)
+    go : (o : Option ℕ) → parent_of t x ≡ o → up_from o (λ b. block_parent_operation_of t' b) ≡ up_from o (λ b. block_parent_operation_of t b)
     go None e = refl
     go (Some b) e = ap (λ o. up_from o (λ r. region_parent_of t' r)) (blocks b (w.standing x b e).1) ∙ at_region (block_parent_of t b) b refl
 
 module _ (t : Tree) (h : Head) (results regions : ℕ) (w : IsJoined t) where
   abbrev pub t' : Tree
-  t' = created t h results regions
+  t' = after_creating t h results regions
 
   abbrev pub entry : OperationEntry
   entry = record { head = Some h; results = range_with_len (length t.definitions) results; regions = range_with_len (length t.slots) regions }
@@ -105,7 +105,7 @@ module _ (t : Tree) (h : Head) (results regions : ℕ) (w : IsJoined t) where
       (λ s. let f : true ≡ false = sym (ap (λ z. is_some z.head) s.0) ∙ ap is_some e in absurd (true≢false f))
       (entry_at k)
 
-  pub kept_created : IsJoined (created t h results regions)
+  pub kept_created : IsJoined (after_creating t h results regions)
   kept_created = record {
     standing = λ x b e. let s = w.standing x b (sym (get_grown t.parents None x) ∙ e) in (live_created x s.0, s.1);
     placed = λ b r e. region_created r (w.placed b r e);
@@ -117,7 +117,7 @@ module _ (t : Tree) (h : Head) (results regions : ℕ) (w : IsJoined t) where
     ordered = λ r. subst IsRising (sym (get_padded t.layouts [] regions r)) (w.ordered r);
     erased = dead;
     unplaced = w.unplaced;
-    rooted = rooted_cut (holder_of t) (holder_of t') (λ x. inl (holder_kept t t' w (λ y. get_grown t.parents None y) (λ b is. refl) slot x)) w.rooted;
+    rooted = rooted_cut (parent_operation_of t) (parent_operation_of t') (λ x. inl (holder_kept t t' w (λ y. get_grown t.parents None y) (λ b is. refl) slot x)) w.rooted;
   }
 
 -- a list that rises goes on rising where a greater number is added at its end
@@ -203,5 +203,5 @@ module _ (t : Tree) (region count : ℕ) (keys : HaveSameKeys t) (w : IsJoined t
     ordered = ordered_at;
     erased = w.erased;
     unplaced = unplaced_at;
-    rooted = rooted_cut (holder_of t) (holder_of u) (λ x. inl (holder_kept t u w (λ y. refl) block_same (λ r s e. e) x)) w.rooted;
+    rooted = rooted_cut (parent_operation_of t) (parent_operation_of u) (λ x. inl (holder_kept t u w (λ y. refl) block_same (λ r s e. e) x)) w.rooted;
   }

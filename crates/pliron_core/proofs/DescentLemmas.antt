@@ -4,11 +4,11 @@ use Rattle.std.proofs.lemmas.Bool.{cases_eq, eq-eqb, ne_eqb}
 use Rattle.std.proofs.lemmas.List.{get_or-set_other, get_or-set_same, length-set}
 use Rattle.pliron_core.specs.declared.context.Def.{Def}
 use Rattle.pliron_core.specs.declared.context.Def.TheVariants.{Result, Argument}
-use Rattle.pliron_core.specs.Tree.{Tree, In, IsLive, IsMadeWithin, no_entry, row_of, head_of, parent_of, block_parent_of, definition_of, block_holder_of, holder_of}
-use Rattle.pliron_core.specs.Joined.{IsTree}
+use Rattle.pliron_core.specs.Tree.{Tree, In, IsLive, IsDefinedWithin, no_entry, row_of, head_of, parent_of, block_parent_of, definition_of, block_parent_operation_of, parent_operation_of}
+use Rattle.pliron_core.specs.Invariant.{IsTree}
 use Rattle.pliron_core.specs.Writes.{taken_from, taken_out}
-use Rattle.pliron_core.specs.Erased.{is_met_above, cleared, block_taken_from}
-use Rattle.pliron_core.specs.Dismantling.{IsStep, Down, LessBlock, LessRegion, Up, IsUnused, IsUnnamed, IsMadeAt, buried, region_popped}
+use Rattle.pliron_core.specs.Erased.{is_met_above, after_clearing, block_taken_from}
+use Rattle.pliron_core.specs.Dismantling.{IsStep, Down, LessBlock, LessRegion, Up, IsUnused, IsUnnamed, IsMadeAt, after_dismantling, region_popped}
 use Rattle.pliron_core.proofs.TreeLemmas.{live-within, live_dead}
 use Rattle.pliron_core.proofs.WithinLemmas.{block_steps, holder_steps, holder_from, holder_live, not_own_holder, met_below, met_here, met_up, within_is, equal_from}
 use Rattle.pliron_core.proofs.BlankLemmas.{is_blanked}
@@ -71,14 +71,14 @@ clearing_region ops blocks bodies regions t op live g = record {
 }
 
 -- an operation goes, out of the block that has it
-gone_row : (t : Tree) (op k : ℕ) → IsLive (buried t op) k → (k ≢ op) × (row_of (buried t op) k ≡ row_of t k)
+gone_row : (t : Tree) (op k : ℕ) → IsLive (after_dismantling t op) k → (k ≢ op) × (row_of (after_dismantling t op) k ≡ row_of t k)
 gone_row t op k l = go (cases_eq k op)
   where
-    go : (k ≡ op) ⊎ (k ≢ op) → (k ≢ op) × (row_of (buried t op) k ≡ row_of t k)
-    go (inl s) = absurd (live_dead (buried t op) op (subst (IsLive (buried t op)) s l) (ap (λ z. z.head) (set_default t.operations no_entry op)))
+    go : (k ≡ op) ⊎ (k ≢ op) → (k ≢ op) × (row_of (after_dismantling t op) k ≡ row_of t k)
+    go (inl s) = absurd (live_dead (after_dismantling t op) op (subst (IsLive (after_dismantling t op)) s l) (ap (λ z. z.head) (set_default t.operations no_entry op)))
     go (inr ne) = (ne, get_or-set_other t.operations op k no_entry no_entry ne)
 
-clearing_up : (ops blocks bodies regions : ℕ → Bool) (t : Tree) (op : ℕ) (o : Option ℕ) → ops op ≡ true → ((b : ℕ) → o ≡ Some b → bodies b ≡ true) → IsClearing ops blocks bodies regions t (buried (taken_from t op o) op)
+clearing_up : (ops blocks bodies regions : ℕ → Bool) (t : Tree) (op : ℕ) (o : Option ℕ) → ops op ≡ true → ((b : ℕ) → o ≡ Some b → bodies b ≡ true) → IsClearing ops blocks bodies regions t (after_dismantling (taken_from t op o) op)
 clearing_up ops blocks bodies regions t op None g h = record {
   count = length-set _ _ _;
   block_count = refl;
@@ -157,10 +157,10 @@ module _ (t : Tree) (op : ℕ) (w : IsTree t) (live : IsLive t op) (free : paren
   descent_start = record { tree = w; clearing = clearing_none _ _ _ _ t; operands = refl; successors = refl; place = (live, root_gone) }
 
   module _ (u : Tree) (k : ℕ) (d : IsDescent t op (Some k) u) where
-    held_was : (b : ℕ) → block_holder_of u b ≡ Some k → block_holder_of t b ≡ Some k
+    held_was : (b : ℕ) → block_parent_operation_of u b ≡ Some k → block_parent_operation_of t b ≡ Some k
     held_was b e = block_holder_was t u (nat_eq op) blocks w d.tree d.clearing b k e
 
-    made_within : (o : Option Def) → IsMadeAt u k o → IsMadeWithin t op o
+    made_within : (o : Option Def) → IsMadeAt u k o → IsDefinedWithin t op o
     made_within None m = m
     made_within (Some (Result j i)) m = within_is t op j (ap (op_gone t (nat_eq op)) m ∙ d.place.1)
     made_within (Some (Argument b i)) m = (k, held_was b m, within_is t op k d.place.1)
@@ -174,7 +174,7 @@ module _ (t : Tree) (op : ℕ) (w : IsTree t) (live : IsLive t op) (free : paren
     }
 
     -- what stands above it, if it isn't the root
-    above : (b : ℕ) → parent_of u k ≡ Some b → (y : ℕ) × (block_holder_of u b ≡ Some y) × (op_gone t (nat_eq op) y ≡ true)
+    above : (b : ℕ) → parent_of u k ≡ Some b → (y : ℕ) × (block_parent_operation_of u b ≡ Some y) × (op_gone t (nat_eq op) y ≡ true)
     above b e =
         let was : parent_of t k ≡ Some b = sym (d.clearing.stays k d.place.0).1 ∙ e in
         let ne : op ≢ k = λ s. let f : None ≡ Some b = sym free ∙ ap (parent_of t) s ∙ was in cc in
@@ -186,7 +186,7 @@ module _ (t : Tree) (op : ℕ) (w : IsTree t) (live : IsLive t op) (free : paren
     bodies_gone b e = let a = above b e in ap (is_met_above t (nat_eq op)) (block_holder_was t u (nat_eq op) blocks w d.tree d.clearing b a.0 a.1) ∙ a.2
 
     -- where the way ends, the root is gone
-    root_only : holder_of u k ≡ None → k ≡ op
+    root_only : parent_operation_of u k ≡ None → k ≡ op
     root_only e = go (cases_eq k op)
       where
         go : (k ≡ op) ⊎ (k ≢ op) → k ≡ op
@@ -222,13 +222,13 @@ module _ (t : Tree) (op : ℕ) (w : IsTree t) (live : IsLive t op) (free : paren
     step_place o v (Down c to l h e) = subst (IsPlace t op v) (sym to) (subst (λ z. IsLive z c) (sym e) l, met_below t (nat_eq op) w.joined c k (holder_was t u (nat_eq op) blocks w d.tree d.clearing c k h) d.place.1)
     step_place o v (LessBlock b to h n e) = subst (IsPlace t op v) (sym to) (let s = block_steps u b k h in subst (λ z. IsLive z k) (sym (e ∙ ap (block_taken_from u b) s.1)) d.place.0, d.place.1)
     step_place o v (LessRegion r to last n e) = subst (IsPlace t op v) (sym to) (subst (λ z. IsLive z k) (sym e) (subst IsSome (sym (popped_head u k k d.place.0)) d.place.0), d.place.1)
-    step_place o v (Up to n e) = subst (IsPlace t op v) (sym to) (subst (λ z. IsPlace t op z (holder_of u k)) (sym e) (go (holder_of u k) refl))
+    step_place o v (Up to n e) = subst (IsPlace t op v) (sym to) (subst (λ z. IsPlace t op z (parent_operation_of u k)) (sym e) (go (parent_operation_of u k) refl))
       where
-        row : (y : ℕ) → y ≢ k → row_of (buried (taken_out u k) k) y ≡ row_of u y
+        row : (y : ℕ) → y ≢ k → row_of (after_dismantling (taken_out u k) k) y ≡ row_of u y
         row y ne = get_or-set_other (taken_out u k).operations k y no_entry no_entry ne ∙ ap (λ z. get_or z y no_entry) (taken-operations u k (parent_of u k))
 
-        go : (q : Option ℕ) → holder_of u k ≡ q → IsPlace t op (buried (taken_out u k) k) q
-        go None f = subst (λ z. head_of (buried (taken_out u k) k) z ≡ None) (root_only f) (ap (λ z. z.head) (set_default (taken_out u k).operations no_entry k))
+        go : (q : Option ℕ) → parent_operation_of u k ≡ q → IsPlace t op (after_dismantling (taken_out u k) k) q
+        go None f = subst (λ z. head_of (after_dismantling (taken_out u k) k) z ≡ None) (root_only f) (ap (λ z. z.head) (set_default (taken_out u k).operations no_entry k))
         go (Some y) f =
             let ne : y ≢ k = λ s. not_own_holder u k d.tree.joined (f ∙ ap Some s) in
             let b = holder_steps u k y f in
@@ -246,9 +246,9 @@ module _ (t : Tree) (op : ℕ) (w : IsTree t) (live : IsLive t op) (free : paren
       place = step_place o v s;
     }
 
-  pub descent_end : (u : Tree) → IsDescent t op None u → u ≡ cleared t (nat_eq op)
+  pub descent_end : (u : Tree) → IsDescent t op None u → u ≡ after_clearing t (nat_eq op)
   descent_end u d =
-      cleared_all t u (nat_eq op) blocks w d.tree d.clearing none ∙ ap (λ z. record (cleared t (nat_eq op)) { bodies = z })
+      cleared_all t u (nat_eq op) blocks w d.tree d.clearing none ∙ ap (λ z. record (after_clearing t (nat_eq op)) { bodies = z })
       (is_blanked blocks [] t.bodies u.bodies d.clearing.block_count (λ b g. (gone_blocks t u (nat_eq op) blocks w d.tree d.clearing none b g).1) d.clearing.contents)
     where
       none : (k : ℕ) → nat_eq op k ≡ true → IsLive u k → ⊥

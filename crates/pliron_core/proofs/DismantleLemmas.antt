@@ -5,11 +5,11 @@ use Rattle.std.proofs.lemmas.List.{get_or-set_other, get_or-set_same, length-set
 use Rattle.std.proofs.lemmas.Option.{slice_get_within}
 use Rattle.pliron_core.specs.declared.context.Def.{Def}
 use Rattle.pliron_core.specs.declared.context.Def.TheVariants.{Result, Argument}
-use Rattle.pliron_core.specs.Tree.{Tree, View, In, IsLive, IsBlock, IsRegion, IsListedBy, IsMadeBy, IsRising, no_entry, up_from, row_of, head_of, results_of, regions_of, operands_of, successors_of, parent_of, body_of, arguments_of, block_parent_of, layout_of, slot_of, definition_of, holder_of, block_holder_of, region_parent_of}
+use Rattle.pliron_core.specs.Tree.{Tree, View, In, IsLive, IsBlock, IsRegion, IsListedBy, IsMadeBy, IsRising, no_entry, up_from, row_of, head_of, results_of, regions_of, operands_of, successors_of, parent_of, body_of, arguments_of, block_parent_of, layout_of, slot_of, definition_of, parent_operation_of, block_parent_operation_of, region_parent_of}
 use Rattle.pliron_core.specs.Lists.{AreOwned}
-use Rattle.pliron_core.specs.Joined.{IsJoined, IsTree, IsWellFormed}
+use Rattle.pliron_core.specs.Invariant.{IsJoined, IsTree, IsWellFormed}
 use Rattle.pliron_core.specs.Erased.{block_taken_from}
-use Rattle.pliron_core.specs.Dismantling.{buried, region_popped, last_region_of}
+use Rattle.pliron_core.specs.Dismantling.{after_dismantling, region_popped, last_region_of}
 use Rattle.pliron_core.proofs.TreeLemmas.{live-within, block-within, region_owner, rooted_cut, live_dead}
 use Rattle.pliron_core.proofs.LastLemmas.{last_front, take_front, get_before, get_kept, without_rising}
 
@@ -30,47 +30,47 @@ no_member xs x e i = subst (In x) e i
 
 -- an operation in no block, that names nothing and whose results nothing names, loses its entry
 module _ (t : Tree) (op : ℕ) (w : IsJoined t) (live : IsLive t op) (free : parent_of t op ≡ None) (no_operands : operands_of t op ≡ []) (no_successors : successors_of t op ≡ []) (no_regions : regions_of t op ≡ []) (unnamed : (x v i : ℕ) → In v (operands_of t x) → definition_of t v ≡ Some (Result op i) → ⊥) where
-  other : (k : ℕ) → k ≢ op → row_of (buried t op) k ≡ row_of t k
+  other : (k : ℕ) → k ≢ op → row_of (after_dismantling t op) k ≡ row_of t k
   other k ne = get_or-set_other t.operations op k no_entry no_entry ne
 
-  own : (k : ℕ) → k ≡ op → row_of (buried t op) k ≡ no_entry
-  own k e = ap (row_of (buried t op)) e ∙ get_or-set_same t.operations op no_entry no_entry (live-within t op live)
+  own : (k : ℕ) → k ≡ op → row_of (after_dismantling t op) k ≡ no_entry
+  own k e = ap (row_of (after_dismantling t op)) e ∙ get_or-set_same t.operations op no_entry no_entry (live-within t op live)
 
-  buried_region : (k i r : ℕ) → slice_get (regions_of t k) i ≡ Some r → slice_get (regions_of (buried t op) k) i ≡ Some r
+  buried_region : (k i r : ℕ) → slice_get (regions_of t k) i ≡ Some r → slice_get (regions_of (after_dismantling t op) k) i ≡ Some r
   buried_region k i r e = elim (cases_eq k op) [
     | inl s ↦ let f : slice_get {X = ℕ} [] i ≡ Some r = ap (λ z. slice_get z i) (sym (ap (regions_of t) s ∙ no_regions)) ∙ e in absurd (cc)
     | inr ne ↦ ap (λ z. slice_get z.regions i) (other k ne) ∙ e
   ]
 
-  buried_regions : (k i r : ℕ) → slice_get (regions_of (buried t op) k) i ≡ Some r → slot_of t r ≡ Some (record { op = k; index = i })
+  buried_regions : (k i r : ℕ) → slice_get (regions_of (after_dismantling t op) k) i ≡ Some r → slot_of t r ≡ Some (record { op = k; index = i })
   buried_regions k i r e = elim (cases_eq k op) [
     | inl s ↦ let f : slice_get {X = ℕ} [] i ≡ Some r = ap (λ z. slice_get z.regions i) (sym (own k s)) ∙ e in absurd (cc)
     | inr ne ↦ w.regions k i r (ap (λ z. slice_get z.regions i) (sym (other k ne)) ∙ e)
   ]
 
-  buried_results : (k i v : ℕ) → slice_get (results_of (buried t op) k) i ≡ Some v → definition_of t v ≡ Some (Result k i)
+  buried_results : (k i v : ℕ) → slice_get (results_of (after_dismantling t op) k) i ≡ Some v → definition_of t v ≡ Some (Result k i)
   buried_results k i v e = elim (cases_eq k op) [
     | inl s ↦ let f : slice_get {X = ℕ} [] i ≡ Some v = ap (λ z. slice_get z.results i) (sym (own k s)) ∙ e in absurd (cc)
     | inr ne ↦ w.results k i v (ap (λ z. slice_get z.results i) (sym (other k ne)) ∙ e)
   ]
 
-  buried_erased : (k : ℕ) → head_of (buried t op) k ≡ None → (operands_of t k ≡ []) × (successors_of t k ≡ []) × (row_of (buried t op) k ≡ no_entry)
+  buried_erased : (k : ℕ) → head_of (after_dismantling t op) k ≡ None → (operands_of t k ≡ []) × (successors_of t k ≡ []) × (row_of (after_dismantling t op) k ≡ no_entry)
   buried_erased k e = elim (cases_eq k op) [
     | inl s ↦ (ap (operands_of t) s ∙ no_operands, ap (successors_of t) s ∙ no_successors, own k s)
     | inr ne ↦ let x = w.erased k (ap (λ z. z.head) (sym (other k ne)) ∙ e) in (x.0, x.1, other k ne ∙ x.2)
   ]
 
-  pub kept_bury : IsJoined (buried t op)
+  pub kept_bury : IsJoined (after_dismantling t op)
   kept_bury = record {
     standing = λ x b e.
         let s = w.standing x b e in
         let ne : x ≢ op = λ f. let y : None ≡ Some b = sym free ∙ ap (parent_of t) (sym f) ∙ e in cc in
         (subst (λ z. IsSome z.head) (sym (other x ne)) s.0, s.1);
-    placed = λ b r e. region_kept t (buried t op) r refl (λ k i f. buried_region k i r f) (w.placed b r e);
+    placed = λ b r e. region_kept t (after_dismantling t op) r refl (λ k i f. buried_region k i r f) (w.placed b r e);
     regions = buried_regions;
     results = buried_results;
     arguments = w.arguments;
-    operands = λ k v i. defined_kept t (buried t op) v (definition_of t v) (λ j n f. ap (λ z. z.results) (other j (λ s. unnamed k v n i (f ∙ ap (λ z. Some (Result z n)) s)))) (λ b n f. refl) (w.operands k v i);
+    operands = λ k v i. defined_kept t (after_dismantling t op) v (definition_of t v) (λ j n f. ap (λ z. z.results) (other j (λ s. unnamed k v n i (f ∙ ap (λ z. Some (Result z n)) s)))) (λ b n f. refl) (w.operands k v i);
     successors = w.successors;
     ordered = w.ordered;
     erased = buried_erased;
@@ -195,10 +195,10 @@ module _ (t : Tree) (block r : ℕ) (is : IsTree t) (at : block_parent_of t bloc
     | inr ne ↦ let x = is.joined.unplaced b (sym (out_parent b ne) ∙ e) in (out_arguments b ne ∙ x.0, x.1)
   ]
 
-  out_holder : (x : ℕ) → holder_of (block_taken_from t block (Some r)) x ≡ holder_of t x
+  out_holder : (x : ℕ) → parent_operation_of (block_taken_from t block (Some r)) x ≡ parent_operation_of t x
   out_holder x = go (parent_of t x) refl
     where
-      go : (o : Option ℕ) → parent_of t x ≡ o → up_from o (λ b. block_holder_of (block_taken_from t block (Some r)) b) ≡ up_from o (λ b. block_holder_of t b)
+      go : (o : Option ℕ) → parent_of t x ≡ o → up_from o (λ b. block_parent_operation_of (block_taken_from t block (Some r)) b) ≡ up_from o (λ b. block_parent_operation_of t b)
       go None e = refl
       go (Some b) e = ap (λ o. up_from o (λ q. region_parent_of t q)) (out_parent b (holds_nothing x b e))
 
@@ -214,10 +214,10 @@ module _ (t : Tree) (block r : ℕ) (is : IsTree t) (at : block_parent_of t bloc
     ordered = out_layout;
     erased = is.joined.erased;
     unplaced = out_unplaced;
-    rooted = rooted_cut (holder_of t) (holder_of (block_taken_from t block (Some r))) (λ x. inl (out_holder x)) is.joined.rooted;
+    rooted = rooted_cut (parent_operation_of t) (parent_operation_of (block_taken_from t block (Some r))) (λ x. inl (out_holder x)) is.joined.rooted;
   }
 
-pub well_buried : (v : View) (op : ℕ) → IsWellFormed v → IsLive v.tree op → parent_of v.tree op ≡ None → operands_of v.tree op ≡ [] → successors_of v.tree op ≡ [] → regions_of v.tree op ≡ [] → ((x d i : ℕ) → In d (operands_of v.tree x) → definition_of v.tree d ≡ Some (Result op i) → ⊥) → IsWellFormed (record v { tree = buried v.tree op })
+pub well_buried : (v : View) (op : ℕ) → IsWellFormed v → IsLive v.tree op → parent_of v.tree op ≡ None → operands_of v.tree op ≡ [] → successors_of v.tree op ≡ [] → regions_of v.tree op ≡ [] → ((x d i : ℕ) → In d (operands_of v.tree x) → definition_of v.tree d ≡ Some (Result op i) → ⊥) → IsWellFormed (record v { tree = after_dismantling v.tree op })
 well_buried v op w live free operands successors regions unnamed = record {
   keys = record { operands = w.keys.operands ∙ sym (length-set _ _ _); successors = w.keys.successors ∙ sym (length-set _ _ _); parents = w.keys.parents ∙ sym (length-set _ _ _); arguments = w.keys.arguments; block_parents = w.keys.block_parents; slots = w.keys.slots };
   joined = kept_bury v.tree op w.joined live free operands successors regions unnamed;

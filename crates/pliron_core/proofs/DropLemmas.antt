@@ -3,9 +3,9 @@ use Rattle.std.proofs.Common.{◌≡◌, ◌≢◌, ◌⊎◌, ℕ, ◌<◌, Boo
 use Rattle.std.proofs.lemmas.Bool.{cases_eq, eq-eqb, ne_eqb}
 use Rattle.std.proofs.lemmas.List.{get_or-set_other, length-set}
 use Rattle.pliron_core.specs.Tree.{Tree, View, In, IsDistinct, IsLive, IsWithin, first_of, next_in, head_of, operands_of, successors_of, parent_of, body_of}
-use Rattle.pliron_core.specs.Joined.{IsTree, IsWellFormed}
-use Rattle.pliron_core.specs.Erased.{is_met_above, names_dropped, uses_dropped, blanked, stands_in}
-use Rattle.pliron_core.specs.Dismantling.{unnamed}
+use Rattle.pliron_core.specs.Invariant.{IsTree, IsWellFormed}
+use Rattle.pliron_core.specs.Erased.{is_met_above, names_dropped, uses_dropped, blank_at, stands_in}
+use Rattle.pliron_core.specs.Dismantling.{without_names}
 use Rattle.pliron_core.specs.Walks.{preorder, contents}
 use Rattle.pliron_core.specs.WalkSteps.{rest_after, rest_from}
 use Rattle.pliron_core.specs.declared.uses.Use.{Use}
@@ -84,7 +84,7 @@ names_trans t u v a b = record {
   successors = b.successors ∙ a.successors;
 }
 
-pub names_unnamed : (t : Tree) (op : ℕ) → IsNamesOnly t (unnamed t op)
+pub names_unnamed : (t : Tree) (op : ℕ) → IsNamesOnly t (without_names t op)
 names_unnamed t op = record { shape = refl; operands = length-set _ _ _; successors = length-set _ _ _ }
 
 pub names_of_dropped : (t : Tree) (p : ℕ → Bool) → IsNamesOnly t (names_dropped t p)
@@ -117,17 +117,17 @@ pub dropped_all : (t u : Tree) (p : ℕ → Bool) → IsNamesOnly t u → ((k : 
 dropped_all t u p n bare same =
     n.shape
     ∙ ap (λ z. record t { operands = z; successors = u.successors }) (is_blanked (op_gone t p) [] t.operands u.operands n.operands (λ k e. (bare k e).0) (λ k e. (same k e).0))
-    ∙ ap (λ z. record t { operands = blanked (op_gone t p) [] t.operands; successors = z }) (is_blanked (op_gone t p) [] t.successors u.successors n.successors (λ k e. (bare k e).1) (λ k e. (same k e).1))
+    ∙ ap (λ z. record t { operands = blank_at (op_gone t p) [] t.operands; successors = z }) (is_blanked (op_gone t p) [] t.successors u.successors n.successors (λ k e. (bare k e).1) (λ k e. (same k e).1))
 
-unnamed_bare : (t : Tree) (op : ℕ) → IsBare (unnamed t op) op
+unnamed_bare : (t : Tree) (op : ℕ) → IsBare (without_names t op) op
 unnamed_bare t op = (set_default t.operands [] op, set_default t.successors [] op)
 
-unnamed_other : (t : Tree) (op k : ℕ) → k ≢ op → NamesSame t (unnamed t op) k
+unnamed_other : (t : Tree) (op k : ℕ) → k ≢ op → NamesSame t (without_names t op) k
 unnamed_other t op k ne = (get_or-set_other t.operands op k [] [] ne, get_or-set_other t.successors op k [] [] ne)
 
-unnamed_stays : (t : Tree) (op k : ℕ) → IsBare t k → IsBare (unnamed t op) k
+unnamed_stays : (t : Tree) (op k : ℕ) → IsBare t k → IsBare (without_names t op) k
 unnamed_stays t op k b = elim (cases_eq k op) [
-  | inl s ↦ subst (IsBare (unnamed t op)) (sym s) (unnamed_bare t op)
+  | inl s ↦ subst (IsBare (without_names t op)) (sym s) (unnamed_bare t op)
   | inr ne ↦ let x = unnamed_other t op k ne in (x.0 ∙ b.0, x.1 ∙ b.1)
 ]
 
@@ -146,7 +146,7 @@ walk_start t root live = record {
   others = λ k out. (refl, refl);
 }
 
-pub walk_next : (t : Tree) (root k : ℕ) (u v : Tree) (o : Option ℕ) → IsTree t → IsDropWalk t root (Some k) u → v ≡ unnamed u k → o ≡ next_in k (preorder v root) → ((z : ℕ) → o ≡ Some z → IsLive v z) → IsDropWalk t root o v
+pub walk_next : (t : Tree) (root k : ℕ) (u v : Tree) (o : Option ℕ) → IsTree t → IsDropWalk t root (Some k) u → v ≡ without_names u k → o ≡ next_in k (preorder v root) → ((z : ℕ) → o ≡ Some z → IsLive v z) → IsDropWalk t root o v
 walk_next t root k u v o w d e f live = record {
   names = names;
   within = λ z g. (subst IsSome (same_live t v names z) (live z g), next_in_list k z (preorder t root) (sym next ∙ g));
@@ -167,7 +167,7 @@ walk_next t root k u v o w d e f live = record {
     rest = ap (λ z. rest_from z (preorder t root)) next ∙ rest_step k (preorder t root) (distinct-preorder t w root) here
 
     behind : (z : ℕ) → In z (k ∷ rest_after k (preorder t root)) ⊎ IsBare u z → In z (rest_from o (preorder t root)) ⊎ IsBare v z
-    behind z (inl (inl s)) = inr (subst (λ y. IsBare y z) (sym e) (subst (IsBare (unnamed u k)) (sym s) (unnamed_bare u k)))
+    behind z (inl (inl s)) = inr (subst (λ y. IsBare y z) (sym e) (subst (IsBare (without_names u k)) (sym s) (unnamed_bare u k)))
     behind z (inl (inr i)) = inl (subst (In z) (sym rest) i)
     behind z (inr b) = inr (subst (λ y. IsBare y z) (sym e) (unnamed_stays u k z b))
 
@@ -289,7 +289,7 @@ well_unnamed v op operands successors uses blocks w e f m n = subst (λ o. IsWel
   block_uses = n ∙ w.block_uses;
 }))
 
-pub walk_within : (t : Tree) (root k : ℕ) (u v : Tree) → IsTree t → IsLive t root → IsDropWalk t root (Some k) u → v ≡ unnamed u k → IsWithin v root k
+pub walk_within : (t : Tree) (root k : ℕ) (u v : Tree) → IsTree t → IsLive t root → IsDropWalk t root (Some k) u → v ≡ without_names u k → IsWithin v root k
 walk_within t root k u v w live d e =
     let n : IsNamesOnly t v = names_trans t u v d.names (subst (IsNamesOnly u) (sym e) (names_unnamed u k)) in
     within_is v root k (same_met t v n (nat_eq root) (Some k) ∙ is_within t root k w.joined live ((In-preorder t w root k).0 (d.within k refl).1))

@@ -9,7 +9,7 @@ use Rattle.pliron_core.specs.declared.uses.Use.{Use}
 use Rattle.pliron_core.specs.Lists.{In, IsDistinct, last_of}
 use Rattle.pliron_core.specs.Rising.{IsRising}
 use Rattle.pliron_core.specs.Tree.{Tree, View, IsLive, IsBlock, head_of, operands_of, successors_of, parent_of, body_of, block_parent_of, uses_of}
-use Rattle.pliron_core.specs.Joined.{IsJoined, IsTree, HaveUses}
+use Rattle.pliron_core.specs.Invariant.{IsJoined, IsTree, HaveUses}
 use Rattle.pliron_core.specs.Edges.{succs_from, leads_to, blocks_in, preds_of}
 use Rattle.pliron_core.specs.EdgeUses.{IsSource, IsFirstPlace, IsEdge, IsFirstEdge}
 use Rattle.pliron_core.proofs.ReadLemmas.{In-last, In-block}

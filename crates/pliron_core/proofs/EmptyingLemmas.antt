@@ -4,10 +4,10 @@ use Rattle.std.proofs.lemmas.Bool.{cases_eq, eq-eqb, ne_eqb}
 use Rattle.std.proofs.lemmas.List.{get_or-set_other, get_or-set_same, length-set, ext_get_or}
 use Rattle.pliron_core.specs.declared.context.Def.{Def}
 use Rattle.pliron_core.specs.declared.context.Def.TheVariants.{Result, Argument}
-use Rattle.pliron_core.specs.Tree.{Tree, In, IsLive, IsBlock, IsWithin, IsInside, Directly, Deeper, IsMadeWithin, HoldsBlock, op_of_slot, no_entry, operands_of, successors_of, parent_of, body_of, block_parent_of, definition_of, region_parent_of, block_holder_of, holder_of, without, last_of}
-use Rattle.pliron_core.specs.Joined.{IsJoined, IsTree}
+use Rattle.pliron_core.specs.Tree.{Tree, In, IsLive, IsBlock, IsWithin, IsInside, Directly, Deeper, IsDefinedWithin, HoldsBlock, op_of_slot, no_entry, operands_of, successors_of, parent_of, body_of, block_parent_of, definition_of, region_parent_of, block_parent_operation_of, parent_operation_of, without, last_of}
+use Rattle.pliron_core.specs.Invariant.{IsJoined, IsTree}
 use Rattle.pliron_core.specs.Writes.{taken_from, taken_out}
-use Rattle.pliron_core.specs.Erased.{is_met, is_met_above, cleared, uses_dropped, blanked, stands_in, StandsIn, IsBlockWithin, IsMadeInBlock, IsSelfContainedBlock, block_emptied, block_taken_out, block_erased}
+use Rattle.pliron_core.specs.Erased.{is_met, is_met_above, after_clearing, uses_dropped, blank_at, stands_in, StandsIn, IsBlockWithin, IsDefinedInBlock, IsSelfContainedBlock, block_emptied, block_taken_out, block_erased}
 use Rattle.pliron_core.specs.Dismantling.{IsUnused, IsUnusedBlock}
 use Rattle.pliron_core.proofs.BlankLemmas.{length-blanked, blanked_gone, blanked_kept}
 use Rattle.pliron_core.proofs.LastLemmas.{last_in}
@@ -18,7 +18,7 @@ use Rattle.pliron_core.proofs.WalkLemmas.{inside_trans, not_inside-itself}
 use Rattle.pliron_core.proofs.ClearingLemmas.{IsClearing, op_gone, block_gone, region_gone, clearing_none, clearing_trans, block_holder_was, holder_was, cleared_all, gone_blocks}
 use Rattle.pliron_core.proofs.DescentLemmas.{set_default, taken-operations, taken-operands, taken-successors, taken-block_parents}
 use Rattle.pliron_core.proofs.DropLemmas.{dropped_gone}
-use Rattle.pliron_core.proofs.ErasedLemmas.{taken-slots, taken-definitions, taken-block_holder, cleared_dropped, dropped-operand, dropped-successor}
+use Rattle.pliron_core.proofs.ErasedLemmas.{taken-slots, taken-definitions, taken-block_parent_operation, cleared_dropped, dropped-operand, dropped-successor}
 
 -- after the drop nothing in the block is used any more
 module _ (t : Tree) (block : ℕ) (w : IsTree t) (is : IsJoined (uses_dropped t block)) where
@@ -29,7 +29,7 @@ module _ (t : Tree) (block : ℕ) (w : IsTree t) (is : IsJoined (uses_dropped t 
   still_block b (inl e) = inl e
   still_block b (inr h) = inr (h.0, h.1, still h.0 h.2)
 
-  still_made : (d : Option Def) → IsMadeInBlock (uses_dropped t block) block d → IsMadeInBlock t block d
+  still_made : (d : Option Def) → IsDefinedInBlock (uses_dropped t block) block d → IsDefinedInBlock t block d
   still_made None m = m
   still_made (Some (Result k i)) m = still k m
   still_made (Some (Argument b i)) m = still_block b m
@@ -71,13 +71,13 @@ no_members : (xs : List ℕ) → ((x : ℕ) → In x xs → ⊥) → xs ≡ []
 no_members [] n = refl
 no_members (x ∷ xs) n = absurd (n x (inl refl))
 
-taken-holder : (u : Tree) (c : ℕ) (o : Option ℕ) (x y : ℕ) → holder_of (taken_from u c o) x ≡ Some y → holder_of u x ≡ Some y
+taken-holder : (u : Tree) (c : ℕ) (o : Option ℕ) (x y : ℕ) → parent_operation_of (taken_from u c o) x ≡ Some y → parent_operation_of u x ≡ Some y
 taken-holder u c None x y e = e
 taken-holder u c (Some b) x y e =
     let s = holder_steps (taken_from u c (Some b)) x y e in
     go s.0 s.1 s.2 (cases_eq x c)
   where
-    go : (d : ℕ) → parent_of (taken_from u c (Some b)) x ≡ Some d → block_holder_of u d ≡ Some y → (x ≡ c) ⊎ (x ≢ c) → holder_of u x ≡ Some y
+    go : (d : ℕ) → parent_of (taken_from u c (Some b)) x ≡ Some d → block_parent_operation_of u d ≡ Some y → (x ≡ c) ⊎ (x ≢ c) → parent_operation_of u x ≡ Some y
     go d f g (inl s) = absurd (let h : None ≡ Some d = sym (set_default u.parents None c) ∙ ap (parent_of (taken_from u c (Some b))) (sym s) ∙ f in cc)
     go d f g (inr ne) = holder_from u x d (sym (get_or-set_other u.parents c x None None ne) ∙ f) ∙ g
 
@@ -102,19 +102,19 @@ is_met_first h c zero lt = absurd (omega arith)
 is_met_first h c (suc n) lt = ap (λ b. if b then true else is_met h (nat_eq c) n (h c)) (eq-eqb c c refl)
 
 -- a list of a cleared table has what it had, or nothing
-cleared_in : (gone : ℕ → Bool) (xs : List (List ℕ)) (k v : ℕ) → In v (get_or (blanked gone [] xs) k []) → In v (get_or xs k [])
+cleared_in : (gone : ℕ → Bool) (xs : List (List ℕ)) (k v : ℕ) → In v (get_or (blank_at gone [] xs) k []) → In v (get_or xs k [])
 cleared_in gone xs k v i = go (gone k) refl
   where
     go : (b : Bool) → gone k ≡ b → In v (get_or xs k [])
     go true e = absurd (subst (In v) (blanked_gone gone [] xs k e) i)
     go false e = subst (In v) (blanked_kept gone [] xs k e) i
 
-cleared_shorter : (gone : ℕ → Bool) (xs : List (List ℕ)) (k : ℕ) → length (get_or (blanked gone [] xs) k []) ≤ length (get_or xs k [])
+cleared_shorter : (gone : ℕ → Bool) (xs : List (List ℕ)) (k : ℕ) → length (get_or (blank_at gone [] xs) k []) ≤ length (get_or xs k [])
 cleared_shorter gone xs k = go (gone k) refl
   where
-    go : (b : Bool) → gone k ≡ b → length (get_or (blanked gone [] xs) k []) ≤ length (get_or xs k [])
-    go true e = let h : length (get_or (blanked gone [] xs) k []) ≡ 0 = ap length (blanked_gone gone [] xs k e) in omega (arith, h)
-    go false e = let h : length (get_or (blanked gone [] xs) k []) ≡ length (get_or xs k []) = ap length (blanked_kept gone [] xs k e) in omega (arith, h)
+    go : (b : Bool) → gone k ≡ b → length (get_or (blank_at gone [] xs) k []) ≤ length (get_or xs k [])
+    go true e = let h : length (get_or (blank_at gone [] xs) k []) ≡ 0 = ap length (blanked_gone gone [] xs k e) in omega (arith, h)
+    go false e = let h : length (get_or (blank_at gone [] xs) k []) ≡ length (get_or xs k []) = ap length (blanked_kept gone [] xs k e) in omega (arith, h)
 
 without_shorter : (x : ℕ) (xs : List ℕ) → In x xs → length (without x xs) < length xs
 without_shorter x [] i = absurd i
@@ -135,23 +135,23 @@ module _ (t : Tree) (block : ℕ) (w : IsTree t) where
 
   -- the block stands not inside what stands in it
   pub block_stays : block_gone t (stands_in t block) block ≡ false
-  block_stays = go (block_holder_of t block) refl
+  block_stays = go (block_parent_operation_of t block) refl
     where
-      here : (y : ℕ) → block_holder_of t block ≡ Some y → op_gone t (stands_in t block) y ≡ true → ⊥
+      here : (y : ℕ) → block_parent_operation_of t block ≡ Some y → op_gone t (stands_in t block) y ≡ true → ⊥
       here y e g =
           let s = in_block_is t block y g in
-          let held : holder_of t s.0 ≡ Some y = holder_from t s.0 block s.1 ∙ e in
+          let held : parent_operation_of t s.0 ≡ Some y = holder_from t s.0 block s.1 ∙ e in
           elim s.2 [
             | inl same ↦ not_own_holder t s.0 w.joined (held ∙ ap Some same)
             | inr inside ↦ not_inside-itself t w y (inside_trans t y s.0 y (Directly held) inside)
           ]
 
-      no : (b : Bool) (y : ℕ) → block_holder_of t block ≡ Some y → op_gone t (stands_in t block) y ≡ b → b ≡ false
+      no : (b : Bool) (y : ℕ) → block_parent_operation_of t block ≡ Some y → op_gone t (stands_in t block) y ≡ b → b ≡ false
       no true y e g = absurd (here y e g)
       no false y e g = refl
 
-      go : (o : Option ℕ) → block_holder_of t block ≡ o → is_met_above t (stands_in t block) o ≡ false
-      go None e = none_met (holder_of t) (stands_in t block) (length t.operations)
+      go : (o : Option ℕ) → block_parent_operation_of t block ≡ o → is_met_above t (stands_in t block) o ≡ false
+      go None e = none_met (parent_operation_of t) (stands_in t block) (length t.operations)
       go (Some y) e = no (op_gone t (stands_in t block) y) y e refl
 
   module _ (u : Tree) (d : IsEmptying t block u) (c : ℕ) (last : last_of None (body_of u block) ≡ Some c) where
@@ -166,7 +166,7 @@ module _ (t : Tree) (block : ℕ) (w : IsTree t) where
         let s = d.clearing.stays c last_live in
         met_here t (stands_in t block) w.joined c (live-within t c s.0) (stands_met t block c (sym s.1 ∙ last_parent))
 
-    taken_holder_was : (x y : ℕ) → holder_of (taken_out u c) x ≡ Some y → holder_of t x ≡ Some y
+    taken_holder_was : (x y : ℕ) → parent_operation_of (taken_out u c) x ≡ Some y → parent_operation_of t x ≡ Some y
     taken_holder_was x y e = holder_was t u (stands_in t block) (touched t block) w d.tree d.clearing x y (taken-holder u c (parent_of u c) x y e)
 
     inside_gone : (k : ℕ) → IsInside (taken_out u c) c k → op_gone t (stands_in t block) k ≡ true
@@ -181,13 +181,13 @@ module _ (t : Tree) (block : ℕ) (w : IsTree t) where
     gone_goes : (k : ℕ) → op_gone (taken_out u c) (nat_eq c) k ≡ true → op_gone t (stands_in t block) k ≡ true
     gone_goes k e = within_gone k (within_is (taken_out u c) c k e)
 
-    holder_in_t : (b y : ℕ) → block_holder_of (taken_out u c) b ≡ Some y → block_holder_of t b ≡ Some y
-    holder_in_t b y e = block_holder_was t u (stands_in t block) (touched t block) w d.tree d.clearing b y (sym (taken-block_holder u c (parent_of u c) b) ∙ e)
+    holder_in_t : (b y : ℕ) → block_parent_operation_of (taken_out u c) b ≡ Some y → block_parent_operation_of t b ≡ Some y
+    holder_in_t b y e = block_holder_was t u (stands_in t block) (touched t block) w d.tree d.clearing b y (sym (taken-block_parent_operation u c (parent_of u c) b) ∙ e)
 
     in_block : (b : ℕ) → HoldsBlock (taken_out u c) c b → IsBlockWithin t block b
     in_block b h = inr (h.0, holder_in_t b h.0 h.1, in_block_is t block h.0 (within_gone h.0 h.2))
 
-    made_in_block : (o : Option Def) → IsMadeWithin (taken_out u c) c o → IsMadeInBlock t block o
+    made_in_block : (o : Option Def) → IsDefinedWithin (taken_out u c) c o → IsDefinedInBlock t block o
     made_in_block None m = m
     made_in_block (Some (Result k i)) m = in_block_is t block k (within_gone k m)
     made_in_block (Some (Argument b i)) m = in_block b m
@@ -203,7 +203,7 @@ module _ (t : Tree) (block : ℕ) (w : IsTree t) where
       bare = λ k i.
           let b = n.bare k (in_block_is t block k (within_gone k i)) in
           (no_members (operands_of (taken_out u c) k) (λ v j. subst (In v) b.0 (operand_was k v j)), no_members (successors_of (taken_out u c) k) (λ v j. subst (In v) b.1 (successor_was k v j)));
-      values = λ x v i m. n.values x v (operand_was x v i) (subst (λ z. IsMadeInBlock t block (slice_get z v)) d.clearing.definitions (subst (λ z. IsMadeInBlock t block (slice_get z v)) (taken-definitions u c (parent_of u c)) (made_in_block (definition_of (taken_out u c) v) m)));
+      values = λ x v i m. n.values x v (operand_was x v i) (subst (λ z. IsDefinedInBlock t block (slice_get z v)) d.clearing.definitions (subst (λ z. IsDefinedInBlock t block (slice_get z v)) (taken-definitions u c (parent_of u c)) (made_in_block (definition_of (taken_out u c) v) m)));
       blocks = λ x b i h. n.blocks x b (successor_was x b i) (in_block b h);
     }
 
@@ -222,17 +222,17 @@ module _ (t : Tree) (block : ℕ) (w : IsTree t) where
 
     -- what is held by no operation that goes with the block, is held by none that goes with c
     held_not : (o q : Option ℕ) → ((y : ℕ) → o ≡ Some y → q ≡ Some y) → is_met_above t (stands_in t block) q ≡ false → is_met_above (taken_out u c) (nat_eq c) o ≡ false
-    held_not None q up e = none_met (holder_of (taken_out u c)) (nat_eq c) (length (taken_out u c).operations)
+    held_not None q up e = none_met (parent_operation_of (taken_out u c)) (nat_eq c) (length (taken_out u c).operations)
     held_not (Some y) q up e = goes_not y (sym (ap (is_met_above t (stands_in t block)) (up y refl)) ∙ e)
 
     block_goes_not : (b : ℕ) → block_gone t (stands_in t block) b ≡ false → block_gone (taken_out u c) (nat_eq c) b ≡ false
-    block_goes_not b e = held_not (block_holder_of (taken_out u c) b) (block_holder_of t b) (holder_in_t b) e
+    block_goes_not b e = held_not (block_parent_operation_of (taken_out u c) b) (block_parent_operation_of t b) (holder_in_t b) e
 
     region_goes_not : (r : ℕ) → region_gone t (stands_in t block) r ≡ false → region_gone (taken_out u c) (nat_eq c) r ≡ false
     region_goes_not r e = held_not (region_parent_of (taken_out u c) r) (region_parent_of t r) (λ y f. sym (ap (λ z. op_of_slot (slice_get z r)) (taken-slots u c (parent_of u c) ∙ d.clearing.slots)) ∙ f) e
 
     root_goes : op_gone (taken_out u c) (nat_eq c) c ≡ true
-    root_goes = is_met_first (holder_of (taken_out u c)) c (length (taken_out u c).operations) (subst (λ z. c < length z) (sym (taken-operations u c (parent_of u c))) (live-within u c last_live))
+    root_goes = is_met_first (parent_operation_of (taken_out u c)) c (length (taken_out u c).operations) (subst (λ z. c < length z) (sym (taken-operations u c (parent_of u c))) (live-within u c last_live))
 
     not_c : (k : ℕ) → op_gone (taken_out u c) (nat_eq c) k ≡ false → k ≢ c
     not_c k e s = true≢false (sym root_goes ∙ ap (op_gone (taken_out u c) (nat_eq c)) (sym s) ∙ e)
@@ -243,7 +243,7 @@ module _ (t : Tree) (block : ℕ) (w : IsTree t) where
     body_here : body_of (taken_out u c) block ≡ without c (body_of u block)
     body_here = ap (λ o. body_of (taken_from u c o) block) last_parent ∙ get_or-set_same u.bodies block _ [] (block-within u block d.tree.keys (d.tree.joined.standing c block last_parent).1)
 
-    taken_cleared : IsClearing (op_gone t (stands_in t block)) (block_gone t (stands_in t block)) (touched t block) (region_gone t (stands_in t block)) u (cleared (taken_out u c) (nat_eq c))
+    taken_cleared : IsClearing (op_gone t (stands_in t block)) (block_gone t (stands_in t block)) (touched t block) (region_gone t (stands_in t block)) u (after_clearing (taken_out u c) (nat_eq c))
     taken_cleared = record {
       count = length-blanked _ _ _ ∙ ap length (taken-operations u c (parent_of u c));
       block_count = length-blanked _ _ _ ∙ taken-block_count u c (parent_of u c);
@@ -261,18 +261,18 @@ module _ (t : Tree) (block : ℕ) (w : IsTree t) where
       placed = λ b r e. placed b r e (block_gone (taken_out u c) (nat_eq c) b) refl;
     }
       where
-        stays : (k : ℕ) → IsLive (cleared (taken_out u c) (nat_eq c)) k → (g : Bool) → op_gone (taken_out u c) (nat_eq c) k ≡ g → IsLive u k × (parent_of (cleared (taken_out u c) (nat_eq c)) k ≡ parent_of u k)
-        stays k l true f = absurd (live_dead (cleared (taken_out u c) (nat_eq c)) k l (ap (λ z. z.head) (blanked_gone (op_gone (taken_out u c) (nat_eq c)) no_entry (taken_out u c).operations k f)))
+        stays : (k : ℕ) → IsLive (after_clearing (taken_out u c) (nat_eq c)) k → (g : Bool) → op_gone (taken_out u c) (nat_eq c) k ≡ g → IsLive u k × (parent_of (after_clearing (taken_out u c) (nat_eq c)) k ≡ parent_of u k)
+        stays k l true f = absurd (live_dead (after_clearing (taken_out u c) (nat_eq c)) k l (ap (λ z. z.head) (blanked_gone (op_gone (taken_out u c) (nat_eq c)) no_entry (taken_out u c).operations k f)))
         stays k l false f = (
           subst (λ z. IsSome z.head) (blanked_kept (op_gone (taken_out u c) (nat_eq c)) no_entry (taken_out u c).operations k f ∙ ap (λ z. get_or z k no_entry) (taken-operations u c (parent_of u c))) l,
           blanked_kept (op_gone (taken_out u c) (nat_eq c)) None (taken_out u c).parents k f ∙ taken-parent_other u c (parent_of u c) k (not_c k f),
         )
 
-        placed : (b r : ℕ) → block_parent_of (cleared (taken_out u c) (nat_eq c)) b ≡ Some r → (g : Bool) → block_gone (taken_out u c) (nat_eq c) b ≡ g → block_parent_of u b ≡ Some r
+        placed : (b r : ℕ) → block_parent_of (after_clearing (taken_out u c) (nat_eq c)) b ≡ Some r → (g : Bool) → block_gone (taken_out u c) (nat_eq c) b ≡ g → block_parent_of u b ≡ Some r
         placed b r e true f = absurd (let h : None ≡ Some r = sym (blanked_gone (block_gone (taken_out u c) (nat_eq c)) None (taken_out u c).block_parents b f) ∙ e in cc)
         placed b r e false f = ap (λ z. get_or z b None) (sym (taken-block_parents u c (parent_of u c))) ∙ sym (blanked_kept (block_gone (taken_out u c) (nat_eq c)) None (taken_out u c).block_parents b f) ∙ e
 
-    pub emptying_next : (v : Tree) → v ≡ cleared (taken_out u c) (nat_eq c) → IsTree v → IsEmptying t block v
+    pub emptying_next : (v : Tree) → v ≡ after_clearing (taken_out u c) (nat_eq c) → IsTree v → IsEmptying t block v
     emptying_next v e is = record {
       tree = is;
       clearing = clearing_trans _ _ _ _ t u v d.clearing (subst (IsClearing (op_gone t (stands_in t block)) (block_gone t (stands_in t block)) (touched t block) (region_gone t (stands_in t block)) u) (sym e) taken_cleared);
@@ -280,11 +280,11 @@ module _ (t : Tree) (block : ℕ) (w : IsTree t) where
       successors = λ x y i. successor_was x y (cleared_in (op_gone (taken_out u c) (nat_eq c)) (taken_out u c).successors x y (subst (λ z. In y (successors_of z x)) e i));
     }
 
-    pub emptying_falls : (v : Tree) → v ≡ cleared (taken_out u c) (nat_eq c) → length (body_of v block) < length (body_of u block)
+    pub emptying_falls : (v : Tree) → v ≡ after_clearing (taken_out u c) (nat_eq c) → length (body_of v block) < length (body_of u block)
     emptying_falls v e =
-        let shorter : length (body_of (cleared (taken_out u c) (nat_eq c)) block) ≤ length (body_of (taken_out u c) block) = cleared_shorter (block_gone (taken_out u c) (nat_eq c)) (taken_out u c).bodies block in
+        let shorter : length (body_of (after_clearing (taken_out u c) (nat_eq c)) block) ≤ length (body_of (taken_out u c) block) = cleared_shorter (block_gone (taken_out u c) (nat_eq c)) (taken_out u c).bodies block in
         let less : length (without c (body_of u block)) < length (body_of u block) = without_shorter c (body_of u block) (last_in (body_of u block) c last) in
-        let h : length (body_of v block) ≡ length (body_of (cleared (taken_out u c) (nat_eq c)) block) = ap (λ z. length (body_of z block)) e in
+        let h : length (body_of v block) ≡ length (body_of (after_clearing (taken_out u c) (nat_eq c)) block) = ap (λ z. length (body_of z block)) e in
         let k : length (body_of (taken_out u c) block) ≡ length (without c (body_of u block)) = ap length body_here in
         omega (arith, shorter, less, h, k)
 
@@ -293,20 +293,20 @@ module _ (t : Tree) (block : ℕ) (w : IsTree t) where
     none_live : (k : ℕ) → stands_in t block k ≡ true → IsLive u k → ⊥
     none_live k e l = subst (In k) empty (d.tree.bodies.listed k block ((d.clearing.stays k l).1 ∙ stands_from t block k e))
 
-    emptied_body : (b : ℕ) → body_of u b ≡ get_or (slice_set (cleared t (stands_in t block)).bodies block []) b []
+    emptied_body : (b : ℕ) → body_of u b ≡ get_or (slice_set (after_clearing t (stands_in t block)).bodies block []) b []
     emptied_body b = elim (cases_eq b block) [
-      | inl s ↦ ap (body_of u) s ∙ empty ∙ sym (ap (λ z. get_or (slice_set (cleared t (stands_in t block)).bodies block []) z []) s ∙ set_default (cleared t (stands_in t block)).bodies [] block)
-      | inr ne ↦ other ne (block_gone t (stands_in t block) b) refl ∙ sym (get_or-set_other (cleared t (stands_in t block)).bodies block b [] [] ne)
+      | inl s ↦ ap (body_of u) s ∙ empty ∙ sym (ap (λ z. get_or (slice_set (after_clearing t (stands_in t block)).bodies block []) z []) s ∙ set_default (after_clearing t (stands_in t block)).bodies [] block)
+      | inr ne ↦ other ne (block_gone t (stands_in t block) b) refl ∙ sym (get_or-set_other (after_clearing t (stands_in t block)).bodies block b [] [] ne)
     ]
       where
-        other : b ≢ block → (g : Bool) → block_gone t (stands_in t block) b ≡ g → body_of u b ≡ body_of (cleared t (stands_in t block)) b
+        other : b ≢ block → (g : Bool) → block_gone t (stands_in t block) b ≡ g → body_of u b ≡ body_of (after_clearing t (stands_in t block)) b
         other ne true e = (gone_blocks t u (stands_in t block) (touched t block) w d.tree d.clearing none_live b e).1 ∙ sym (blanked_gone (block_gone t (stands_in t block)) [] t.bodies b e)
         other ne false e = d.clearing.contents b (ap (λ q. if q then true else block_gone t (stands_in t block) b) (ne_eqb block b (λ s. ne (sym s))) ∙ e) ∙ sym (blanked_kept (block_gone t (stands_in t block)) [] t.bodies b e)
 
     pub emptying_end : u ≡ block_emptied t block
     emptying_end =
         cleared_all t u (stands_in t block) (touched t block) w d.tree d.clearing none_live
-        ∙ ap (λ z. record (cleared t (stands_in t block)) { bodies = z }) (ext_get_or [] u.bodies (slice_set (cleared t (stands_in t block)).bodies block []) (d.clearing.block_count ∙ sym (length-blanked _ _ _) ∙ sym (length-set _ _ _)) (λ b lt. emptied_body b))
+        ∙ ap (λ z. record (after_clearing t (stands_in t block)) { bodies = z }) (ext_get_or [] u.bodies (slice_set (after_clearing t (stands_in t block)).bodies block []) (d.clearing.block_count ∙ sym (length-blanked _ _ _) ∙ sym (length-set _ _ _)) (λ b lt. emptied_body b))
 
 -- what the removal of the block asks
 module _ (t : Tree) (block : ℕ) (w : IsTree t) (n : IsUnusedBlock t block) (u : Tree) (e : u ≡ block_emptied t block) where
@@ -314,13 +314,13 @@ module _ (t : Tree) (block : ℕ) (w : IsTree t) (n : IsUnusedBlock t block) (u 
   emptied_block is = subst IsSome (sym (ap (λ z. block_parent_of z block) e ∙ blanked_kept (block_gone t (stands_in t block)) None t.block_parents block (block_stays t block w))) is
 
   pub emptied_body_of : body_of u block ≡ []
-  emptied_body_of = ap (λ z. body_of z block) e ∙ set_default (cleared t (stands_in t block)).bodies [] block
+  emptied_body_of = ap (λ z. body_of z block) e ∙ set_default (after_clearing t (stands_in t block)).bodies [] block
 
   pub emptied_not_named : (x : ℕ) → In block (successors_of u x) → ⊥
   emptied_not_named x i = n.blocks x block (cleared_in (op_gone t (stands_in t block)) t.successors x block (subst (λ z. In block (successors_of z x)) e i)) (inl refl)
 
   pub emptied_unnamed : (x v i : ℕ) → In v (operands_of u x) → definition_of u v ≡ Some (Argument block i) → ⊥
-  emptied_unnamed x v i j f = n.values x v (cleared_in (op_gone t (stands_in t block)) t.operands x v (subst (λ z. In v (operands_of z x)) e j)) (subst (IsMadeInBlock t block) (sym f ∙ ap (λ z. definition_of z v) e) (inl refl))
+  emptied_unnamed x v i j f = n.values x v (cleared_in (op_gone t (stands_in t block)) t.operands x v (subst (λ z. In v (operands_of z x)) e j)) (subst (IsDefinedInBlock t block) (sym f ∙ ap (λ z. definition_of z v) e) (inl refl))
 
 -- the whole, from before the drop
 pub block_done : (t : Tree) (block : ℕ) (u v : Tree) → u ≡ uses_dropped t block → v ≡ block_emptied u block → block_taken_out v block ≡ block_erased t block

@@ -3,10 +3,10 @@ use Rattle.std.proofs.Common.{◌≡◌, ◌≢◌, ◌⊎◌, ℕ, Bool, true, 
 use Rattle.std.proofs.lemmas.Bool.{cases_eq}
 use Rattle.std.proofs.lemmas.List.{get_or-set_other}
 use Rattle.pliron_core.specs.Lists.{without}
-use Rattle.pliron_core.specs.Tree.{Tree, no_entry, up_from, op_of_slot, row_of, parent_of, body_of, block_parent_of, slot_of, region_parent_of, block_holder_of, holder_of, IsLive, IsBlock, IsInside, IsInside.Directly, IsInside.Deeper, IsWithin, HoldsBlock}
-use Rattle.pliron_core.specs.Joined.{IsJoined, IsTree}
+use Rattle.pliron_core.specs.Tree.{Tree, no_entry, up_from, op_of_slot, row_of, parent_of, body_of, block_parent_of, slot_of, region_parent_of, block_parent_operation_of, parent_operation_of, IsLive, IsBlock, IsInside, IsInside.Directly, IsInside.Deeper, IsWithin, HoldsBlock}
+use Rattle.pliron_core.specs.Invariant.{IsJoined, IsTree}
 use Rattle.pliron_core.specs.Writes.{taken_from}
-use Rattle.pliron_core.specs.Erased.{is_met_above, stands_in, blanked, cleared, erased, block_emptied, block_taken_from, block_erased, uses_dropped}
+use Rattle.pliron_core.specs.Erased.{is_met_above, stands_in, blank_at, after_clearing, after_erasing, block_emptied, block_taken_from, block_erased, uses_dropped}
 use Rattle.pliron_core.specs.Changes.{HoldsRegion, IsOutside, IsBlockOutside, IsInsideChange}
 use Rattle.pliron_core.proofs.HoldingLemmas.{some_is, not_none, past_live, inside_by, not_itself, within_more, inside_up, within_inside, holder_is, holder_by, block_held, held_block, block_inside, inside_block, inside_alike, within_alike}
 use Rattle.pliron_core.proofs.InsideLemmas.{AreKeptOutside, change_of_kept}
@@ -33,13 +33,13 @@ module _ (t u : Tree) (wu : IsJoined u)
       go (inl e) = e
       go (inr e) = let none = subst IsSome e is in absurd (true≢false (sym none))
 
-  block_holder_left : (b : ℕ) → IsBlock u b → (k : ℕ) × (block_holder_of u b ≡ Some k) × (block_holder_of t b ≡ Some k) × IsLive u k
+  block_holder_left : (b : ℕ) → IsBlock u b → (k : ℕ) × (block_parent_operation_of u b ≡ Some k) × (block_parent_operation_of t b ≡ Some k) × IsLive u k
   block_holder_left b is =
       let h = block_held u b wu is in
       let up : region_parent_of t h.0 ≡ Some h.1 = ap op_of_slot (sym (slots h.0)) ∙ h.4 in
       (h.1, h.5, ap (λ o. up_from o (λ r. region_parent_of t r)) (sym (block_left b is) ∙ h.2) ∙ up, h.6)
 
-  holder_left : (y p : ℕ) → IsLive u y → holder_of t y ≡ Some p → (holder_of u y ≡ Some p) × IsLive u p
+  holder_left : (y p : ℕ) → IsLive u y → parent_operation_of t y ≡ Some p → (parent_operation_of u y ≡ Some p) × IsLive u p
   holder_left y p live e =
       let h = holder_is t y p e in
       let there : parent_of u y ≡ Some h.0 = (left y live).1 ∙ h.1 in
@@ -71,13 +71,13 @@ module _ (t : Tree) (op x from : ℕ) (w : IsTree t) (there : parent_of t x ≡ 
   cut = taken_from t x (Some from)
 
   abbrev pub without_it : Tree
-  without_it = cleared cut (nat_eq x)
+  without_it = after_clearing cut (nat_eq x)
 
   abbrev gone : ℕ → Bool
   gone k = is_met_above cut (nat_eq x) (Some k)
 
   abbrev block_gone : ℕ → Bool
-  block_gone b = is_met_above cut (nat_eq x) (block_holder_of t b)
+  block_gone b = is_met_above cut (nat_eq x) (block_parent_operation_of t b)
 
   abbrev region_gone : ℕ → Bool
   region_gone r = is_met_above cut (nat_eq x) (region_parent_of t r)
@@ -90,7 +90,7 @@ module _ (t : Tree) (op x from : ℕ) (w : IsTree t) (there : parent_of t x ≡ 
       go (inl s) = absurd (not_none (sym (ap (parent_of cut) s ∙ blank_set None t.parents x) ∙ e))
       go (inr ne) = sym (get_or-set_other t.parents x y None None ne) ∙ e
 
-  cut_holder : (y p : ℕ) → holder_of cut y ≡ Some p → holder_of t y ≡ Some p
+  cut_holder : (y p : ℕ) → parent_operation_of cut y ≡ Some p → parent_operation_of t y ≡ Some p
   cut_holder y p e = let h = holder_is cut y p e in holder_by t y h.0 p (cut_parent y h.0 h.1) h.2
 
   up_stays : (o : Option ℕ) → ((k : ℕ) → o ≡ Some k → IsWithin t x k → ⊥) → is_met_above cut (nat_eq x) o ≡ false
@@ -131,7 +131,7 @@ module _ (t : Tree) (op x from : ℕ) (w : IsTree t) (there : parent_of t x ≡ 
             let f = op_stays y (λ z. o.1 (within_inside i z)) in
             same_operation t without_it op y (blanked_kept gone no_entry t.operations y f) (blanked_kept gone [] t.operands y f) (blanked_kept gone [] t.successors y f) (parent_stays y f);
         blocks = λ b o.
-            let f = up_stays (block_holder_of t b) (λ k e z. o.1 (k, e, inr (within_inside i z))) in
+            let f = up_stays (block_parent_operation_of t b) (λ k e z. o.1 (k, e, inr (within_inside i z))) in
             same_block t without_it b
             (blanked_kept block_gone [] t.arguments b f)
             (blanked_kept block_gone [] (slice_set t.bodies from (without x (body_of t from))) b f ∙ get_or-set_other t.bodies from b _ [] (λ e. o.1 (subst (HoldsBlock t op) (sym e) left_block)))
@@ -142,11 +142,11 @@ module _ (t : Tree) (op x from : ℕ) (w : IsTree t) (there : parent_of t x ≡ 
         values = λ v o. refl;
       }
 
-pub erased_inside : (t : Tree) (op x : ℕ) → IsTree t → IsJoined (erased t x) → IsInside t op x → IsInsideChange t (erased t x) op
+pub erased_inside : (t : Tree) (op x : ℕ) → IsTree t → IsJoined (after_erasing t x) → IsInside t op x → IsInsideChange t (after_erasing t x) op
 erased_inside t op x w wu i =
     let up = inside_up i in
     let h = holder_is t x up.0 up.1 in
-    subst (λ o. IsInsideChange t (cleared (taken_from t x o) (nat_eq x)) op) (sym h.1) (erased_change t op x h.0 w h.1 i (subst (λ o. IsJoined (cleared (taken_from t x o) (nat_eq x))) h.1 wu))
+    subst (λ o. IsInsideChange t (after_clearing (taken_from t x o) (nat_eq x)) op) (sym h.1) (erased_change t op x h.0 w h.1 i (subst (λ o. IsJoined (after_clearing (taken_from t x o) (nat_eq x))) h.1 wu))
 
 -- what stands in a block that op holds is inside op
 module _ (t : Tree) (op block : ℕ) (held : HoldsBlock t op block) where
@@ -182,7 +182,7 @@ module _ (t : Tree) (op block region : ℕ) (w : IsTree t) (there : block_parent
   inner k = is_met_above t (stands_in t block) (Some k)
 
   abbrev inner_block : ℕ → Bool
-  inner_block b = is_met_above t (stands_in t block) (block_holder_of t b)
+  inner_block b = is_met_above t (stands_in t block) (block_parent_operation_of t b)
 
   abbrev inner_region : ℕ → Bool
   inner_region r = is_met_above t (stands_in t block) (region_parent_of t r)
@@ -194,7 +194,7 @@ module _ (t : Tree) (op block region : ℕ) (w : IsTree t) (there : block_parent
   region_held = (held.0, sym (ap (λ o. up_from o (λ r. region_parent_of t r)) there) ∙ held.1, held.2)
 
   block_stays : (b : ℕ) → IsBlockOutside t op b → inner_block b ≡ false
-  block_stays b o = in_block_stays t op block held (block_holder_of t b) (λ k e j. o.1 (k, e, inr j))
+  block_stays b o = in_block_stays t op block held (block_parent_operation_of t b) (λ k e j. o.1 (k, e, inr j))
 
   other_block : (b : ℕ) → IsBlockOutside t op b → b ≢ block
   other_block b o e = o.1 (subst (HoldsBlock t op) (sym e) held)
@@ -213,9 +213,9 @@ module _ (t : Tree) (op block region : ℕ) (w : IsTree t) (there : block_parent
       blocks b = go (cases_eq b block) (told (inner_block b))
         where
           go : (b ≡ block) ⊎ (b ≢ block) → (inner_block b ≡ true) ⊎ (inner_block b ≡ false) → (block_parent_of without_block b ≡ block_parent_of t b) ⊎ (block_parent_of without_block b ≡ None)
-          go (inl s) d = inr (ap (block_parent_of without_block) s ∙ blank_set None (blanked inner_block None t.block_parents) block)
-          go (inr ne) (inl e) = inr (get_or-set_other (blanked inner_block None t.block_parents) block b None None ne ∙ blanked_gone inner_block None t.block_parents b e)
-          go (inr ne) (inr f) = inl (get_or-set_other (blanked inner_block None t.block_parents) block b None None ne ∙ blanked_kept inner_block None t.block_parents b f)
+          go (inl s) d = inr (ap (block_parent_of without_block) s ∙ blank_set None (blank_at inner_block None t.block_parents) block)
+          go (inr ne) (inl e) = inr (get_or-set_other (blank_at inner_block None t.block_parents) block b None None ne ∙ blanked_gone inner_block None t.block_parents b e)
+          go (inr ne) (inr f) = inl (get_or-set_other (blank_at inner_block None t.block_parents) block b None None ne ∙ blanked_kept inner_block None t.block_parents b f)
 
       kept : AreKeptOutside t without_block op
       kept = record {
@@ -226,21 +226,21 @@ module _ (t : Tree) (op block region : ℕ) (w : IsTree t) (there : block_parent
             let f = block_stays b o in
             let ne = other_block b o in
             same_block t without_block b
-            (get_or-set_other (blanked inner_block [] t.arguments) block b [] [] ne ∙ blanked_kept inner_block [] t.arguments b f)
-            (get_or-set_other (blanked inner_block [] t.bodies) block b [] [] ne ∙ blanked_kept inner_block [] t.bodies b f)
-            (get_or-set_other (blanked inner_block None t.block_parents) block b None None ne ∙ blanked_kept inner_block None t.block_parents b f);
+            (get_or-set_other (blank_at inner_block [] t.arguments) block b [] [] ne ∙ blanked_kept inner_block [] t.arguments b f)
+            (get_or-set_other (blank_at inner_block [] t.bodies) block b [] [] ne ∙ blanked_kept inner_block [] t.bodies b f)
+            (get_or-set_other (blank_at inner_block None t.block_parents) block b None None ne ∙ blanked_kept inner_block None t.block_parents b f);
         regions = λ r o.
             let f = in_block_stays t op block held (region_parent_of t r) (λ k e j. o.1 (k, e, inr j)) in
-            record { layout = get_or-set_other (blanked inner_region [] t.layouts) region r _ [] (λ e. o.1 (subst (HoldsRegion t op) (sym e) region_held)) ∙ blanked_kept inner_region [] t.layouts r f; slot = refl };
+            record { layout = get_or-set_other (blank_at inner_region [] t.layouts) region r _ [] (λ e. o.1 (subst (HoldsRegion t op) (sym e) region_held)) ∙ blanked_kept inner_region [] t.layouts r f; slot = refl };
         values = λ v o. refl;
       }
 
 -- a block does not stand inside itself
-own_block_stays : (t : Tree) (block : ℕ) → IsJoined t → is_met_above t (stands_in t block) (block_holder_of t block) ≡ false
-own_block_stays t block w = not_met _ (λ e. let m = met_block t block (block_holder_of t block) e in let up : IsInside t m.0 m.2.0 = inside_by m.0 (holder_by t m.2.0 block m.0 m.2.1 m.1) (inl refl) in not_itself w.rooted (within_inside up m.2.2))
+own_block_stays : (t : Tree) (block : ℕ) → IsJoined t → is_met_above t (stands_in t block) (block_parent_operation_of t block) ≡ false
+own_block_stays t block w = not_met _ (λ e. let m = met_block t block (block_parent_operation_of t block) e in let up : IsInside t m.0 m.2.0 = inside_by m.0 (holder_by t m.2.0 block m.0 m.2.1 m.1) (inl refl) in not_itself w.rooted (within_inside up m.2.2))
 
 pub block_erased_inside : (t : Tree) (op block : ℕ) → IsTree t → IsJoined (block_erased t block) → HoldsBlock t op block → IsInsideChange t (block_erased t block) op
 block_erased_inside t op block w wu held =
     let h = block_held t block w.joined (held_block t block held.0 held.1) in
-    let there : block_parent_of (block_emptied t block) block ≡ Some h.0 = blanked_kept (λ b. is_met_above t (stands_in t block) (block_holder_of t b)) None t.block_parents block (own_block_stays t block w.joined) ∙ h.2 in
+    let there : block_parent_of (block_emptied t block) block ≡ Some h.0 = blanked_kept (λ b. is_met_above t (stands_in t block) (block_parent_operation_of t b)) None t.block_parents block (own_block_stays t block w.joined) ∙ h.2 in
     subst (λ o. IsInsideChange t (block_taken_from (block_emptied t block) block o) op) (sym there) (block_erased_change t op block h.0 w h.2 held (subst (λ o. IsJoined (block_taken_from (block_emptied t block) block o)) there wu))

@@ -8,7 +8,7 @@ use Rattle.pliron_core.specs.Walks.{descend}
 use Rattle.pliron_core.proofs.ListLemmas.{distinct-length}
 use Rattle.pliron_core.proofs.FlatLemmas.{In-flat_map, flat_map-In, distinct-flat_map, flat_map-same, flat_map-none, length-piece}
 
--- x stands below k, where h is the holder
+-- x stands below k, where h is the parent operation
 pub data IsBelow (h : ℕ → Option ℕ) (k : ℕ) : ℕ → Type 0 where
   Held : {x : ℕ} → h x ≡ Some k → IsBelow h k x
   Over : {x : ℕ} (p : ℕ) → h x ≡ Some p → IsBelow h k p → IsBelow h k x
@@ -138,7 +138,7 @@ module _ (h : ℕ → Option ℕ) (kids : ℕ → List ℕ) (n : ℕ) (is : IsFo
       let piece = length-piece (λ c. c ∷ descend kids n c) (kids k) x (is.listed x k e) in
       omega (arith, piece, ap length (descend-children k))
 
-  -- where x and what stands below it come in what stands below the holder
+  -- where x and what stands below it come in what stands below the parent operation
   pub descend-split : (x k : ℕ) (front back : List ℕ) → kids k ≡ front ++ x ∷ back
       → descend kids n k ≡ flat_map (λ c. c ∷ descend kids n c) front ++ ((x ∷ descend kids n x) ++ flat_map (λ c. c ∷ descend kids n c) back)
   descend-split x k front back e =

@@ -6,9 +6,9 @@ use Rattle.pliron_core.specs.declared.context.Def.{Def}
 use Rattle.pliron_core.specs.declared.context.Def.TheVariants.{Result, Argument}
 use Rattle.pliron_core.specs.declared.context.RegionSlot.{RegionSlot}
 use Rattle.pliron_core.specs.Lists.{In}
-use Rattle.pliron_core.specs.Tree.{Tree, no_entry, row_of, head_of, results_of, regions_of, parent_of, arguments_of, block_parent_of, slot_of, definition_of, region_parent_of, block_holder_of, holder_of, up_from, op_of_slot, climb, IsRooted, IsLive, IsBlock, IsRegion, IsListedBy, IsDefined, IsMadeBy, IsInside, IsInside.Directly, IsInside.Deeper, IsWithin, HoldsBlock}
-use Rattle.pliron_core.specs.Joined.{IsJoined}
-use Rattle.pliron_core.specs.Changes.{HoldsRegion, IsMakerInside, IsMadeInside, IsOutside}
+use Rattle.pliron_core.specs.Tree.{Tree, no_entry, row_of, head_of, results_of, regions_of, parent_of, arguments_of, block_parent_of, slot_of, definition_of, region_parent_of, block_parent_operation_of, parent_operation_of, up_from, op_of_slot, climb, IsRooted, IsLive, IsBlock, IsRegion, IsListedBy, IsDefined, IsMadeBy, IsInside, IsInside.Directly, IsInside.Deeper, IsWithin, HoldsBlock}
+use Rattle.pliron_core.specs.Invariant.{IsJoined}
+use Rattle.pliron_core.specs.Changes.{HoldsRegion, IsDefiningOperationInside, IsDefinedInside, IsOutside}
 
 pub some_is : {A : Type 0} {a b : A} → Some a ≡ Some b → a ≡ b
 some_is e = cc
@@ -90,7 +90,7 @@ pub region_parent_is : (t : Tree) (r : ℕ) (s : RegionSlot) → slot_of t r ≡
 region_parent_is t r s e = ap op_of_slot e
 
 -- a block that stands has a region and an operation that holds it
-pub block_held : (t : Tree) (b : ℕ) → IsJoined t → IsBlock t b → (r k : ℕ) × (block_parent_of t b ≡ Some r) × IsRegion t r × (region_parent_of t r ≡ Some k) × (block_holder_of t b ≡ Some k) × IsLive t k
+pub block_held : (t : Tree) (b : ℕ) → IsJoined t → IsBlock t b → (r k : ℕ) × (block_parent_of t b ≡ Some r) × IsRegion t r × (region_parent_of t r ≡ Some k) × (block_parent_operation_of t b ≡ Some k) × IsLive t k
 block_held t b w is =
     let p = some_of (block_parent_of t b) is in
     let region = w.placed b p.0 p.1 in
@@ -98,25 +98,25 @@ block_held t b w is =
     let up = region_parent_is t p.0 s.0 s.1 in
     (p.0, s.0.op, p.1, region, up, ap (λ o. up_from o (λ r. region_parent_of t r)) p.1 ∙ up, region_live t w s.0.op s.0.index p.0 s.2)
 
-pub held_block : (t : Tree) (b k : ℕ) → block_holder_of t b ≡ Some k → IsBlock t b
+pub held_block : (t : Tree) (b k : ℕ) → block_parent_operation_of t b ≡ Some k → IsBlock t b
 held_block t b k e = go (block_parent_of t b) refl
   where
     go : (o : Option ℕ) → block_parent_of t b ≡ o → IsBlock t b
     go None h = absurd (not_none (sym (ap (λ o. up_from o (λ r. region_parent_of t r)) h) ∙ e))
     go (Some r) h = ap is_some h
 
--- what has a holder stands in a block that the holder holds
-pub holder_is : (t : Tree) (x p : ℕ) → holder_of t x ≡ Some p → (b : ℕ) × (parent_of t x ≡ Some b) × (block_holder_of t b ≡ Some p)
+-- what has a holder stands in a block that the parent operation holds
+pub holder_is : (t : Tree) (x p : ℕ) → parent_operation_of t x ≡ Some p → (b : ℕ) × (parent_of t x ≡ Some b) × (block_parent_operation_of t b ≡ Some p)
 holder_is t x p e = go (parent_of t x) refl
   where
-    go : (o : Option ℕ) → parent_of t x ≡ o → (b : ℕ) × (parent_of t x ≡ Some b) × (block_holder_of t b ≡ Some p)
-    go None h = absurd (not_none (sym (ap (λ o. up_from o (λ b. block_holder_of t b)) h) ∙ e))
-    go (Some b) h = (b, h, sym (ap (λ o. up_from o (λ b. block_holder_of t b)) h) ∙ e)
+    go : (o : Option ℕ) → parent_of t x ≡ o → (b : ℕ) × (parent_of t x ≡ Some b) × (block_parent_operation_of t b ≡ Some p)
+    go None h = absurd (not_none (sym (ap (λ o. up_from o (λ b. block_parent_operation_of t b)) h) ∙ e))
+    go (Some b) h = (b, h, sym (ap (λ o. up_from o (λ b. block_parent_operation_of t b)) h) ∙ e)
 
-pub holder_by : (t : Tree) (x b p : ℕ) → parent_of t x ≡ Some b → block_holder_of t b ≡ Some p → holder_of t x ≡ Some p
-holder_by t x b p e h = ap (λ o. up_from o (λ b. block_holder_of t b)) e ∙ h
+pub holder_by : (t : Tree) (x b p : ℕ) → parent_of t x ≡ Some b → block_parent_operation_of t b ≡ Some p → parent_operation_of t x ≡ Some p
+holder_by t x b p e h = ap (λ o. up_from o (λ b. block_parent_operation_of t b)) e ∙ h
 
-pub holder_live : (t : Tree) (x p : ℕ) → IsJoined t → holder_of t x ≡ Some p → IsLive t x × IsLive t p
+pub holder_live : (t : Tree) (x p : ℕ) → IsJoined t → parent_operation_of t x ≡ Some p → IsLive t x × IsLive t p
 holder_live t x p w e =
     let h = holder_is t x p e in
     let s = w.standing x h.0 h.1 in
@@ -124,11 +124,11 @@ holder_live t x p w e =
     (s.0, subst (IsLive t) (some_is (sym b.5 ∙ h.2)) b.6)
 
 -- one step up from what is inside
-pub inside_up : {t : Tree} {op x : ℕ} → IsInside t op x → (p : ℕ) × (holder_of t x ≡ Some p) × IsWithin t op p
+pub inside_up : {t : Tree} {op x : ℕ} → IsInside t op x → (p : ℕ) × (parent_operation_of t x ≡ Some p) × IsWithin t op p
 inside_up {t} {op} (Directly e) = (op, e, inl refl)
 inside_up (Deeper p e i) = (p, e, inr i)
 
-pub inside_by : {t : Tree} {op x : ℕ} (p : ℕ) → holder_of t x ≡ Some p → IsWithin t op p → IsInside t op x
+pub inside_by : {t : Tree} {op x : ℕ} (p : ℕ) → parent_operation_of t x ≡ Some p → IsWithin t op p → IsInside t op x
 inside_by p e (inl s) = Directly (e ∙ ap Some s)
 inside_by p e (inr i) = Deeper p e i
 
@@ -147,7 +147,7 @@ holds_deeper h c held = (held.0, held.1, inr (within_inside h held.2))
 pub region_deeper : {t : Tree} {a b : ℕ} → IsInside t a b → (r : ℕ) → HoldsRegion t b r → HoldsRegion t a r
 region_deeper h r held = (held.0, held.1, inr (within_inside h held.2))
 
-pub maker_deeper : {t : Tree} {a b : ℕ} → IsInside t a b → (o : Option Def) → IsMakerInside t b o → IsMakerInside t a o
+pub maker_deeper : {t : Tree} {a b : ℕ} → IsInside t a b → (o : Option Def) → IsDefiningOperationInside t b o → IsDefiningOperationInside t a o
 maker_deeper h None m = m
 maker_deeper h (Some (Result k i)) m = deeper h m
 maker_deeper h (Some (Argument b i)) m = holds_deeper h b m
@@ -160,30 +160,30 @@ pub block_inside : {t : Tree} {op x : ℕ} (b : ℕ) → parent_of t x ≡ Some 
 block_inside {t} {op} {x} b e i =
     let u = inside_up i in
     let h = holder_is t x u.0 u.1 in
-    (u.0, subst (λ c. block_holder_of t c ≡ Some u.0) (some_is (sym h.1 ∙ e)) h.2, u.2)
+    (u.0, subst (λ c. block_parent_operation_of t c ≡ Some u.0) (some_is (sym h.1 ∙ e)) h.2, u.2)
 
 -- nothing is inside itself
-pub not_itself : {t : Tree} {x : ℕ} → IsRooted (holder_of t) → IsInside t x x → ⊥
+pub not_itself : {t : Tree} {x : ℕ} → IsRooted (parent_operation_of t) → IsInside t x x → ⊥
 not_itself {t} {x} rooted i = go (rooted x).0 x (rooted x).1 i
   where
-    go : (n : ℕ) (y : ℕ) → climb (holder_of t) n (Some y) ≡ None → IsInside t y y → ⊥
+    go : (n : ℕ) (y : ℕ) → climb (parent_operation_of t) n (Some y) ≡ None → IsInside t y y → ⊥
     go zero y e i = not_none (sym e)
     go (suc n) y e i =
         let u = inside_up i in
-        go n u.0 (ap (climb (holder_of t) n) (sym u.1) ∙ e) (within_inside (round u.2 u.1) (inl refl))
+        go n u.0 (ap (climb (parent_operation_of t) n) (sym u.1) ∙ e) (within_inside (round u.2 u.1) (inl refl))
       where
-        round : {p : ℕ} → IsWithin t y p → holder_of t y ≡ Some p → IsInside t p p
-        round {p} (inl s) h = inside_by p (subst (λ z. holder_of t z ≡ Some p) (sym s) h) (inl refl)
+        round : {p : ℕ} → IsWithin t y p → parent_operation_of t y ≡ Some p → IsInside t p p
+        round {p} (inl s) h = inside_by p (subst (λ z. parent_operation_of t z ≡ Some p) (sym s) h) (inl refl)
         round (inr j) h = deeper (Directly h) j
 
-pub outside_itself : {t : Tree} {x : ℕ} → IsRooted (holder_of t) → IsLive t x → IsOutside t x x
+pub outside_itself : {t : Tree} {x : ℕ} → IsRooted (parent_operation_of t) → IsLive t x → IsOutside t x x
 outside_itself rooted live = (live, λ i. not_itself rooted i)
 
 -- whether something is inside can be told
-pub inside_or : (t : Tree) (op x : ℕ) → IsRooted (holder_of t) → IsInside t op x ⊎ (IsInside t op x → ⊥)
+pub inside_or : (t : Tree) (op x : ℕ) → IsRooted (parent_operation_of t) → IsInside t op x ⊎ (IsInside t op x → ⊥)
 inside_or t op x rooted = go (rooted x).0 x (rooted x).1
   where
-    step : (n y : ℕ) (o : Option ℕ) → holder_of t y ≡ o → ((p : ℕ) → o ≡ Some p → IsInside t op p ⊎ (IsInside t op p → ⊥)) → IsInside t op y ⊎ (IsInside t op y → ⊥)
+    step : (n y : ℕ) (o : Option ℕ) → parent_operation_of t y ≡ o → ((p : ℕ) → o ≡ Some p → IsInside t op p ⊎ (IsInside t op p → ⊥)) → IsInside t op y ⊎ (IsInside t op y → ⊥)
     step n y None e up = inr (λ i. let u = inside_up i in not_none (sym e ∙ u.1))
     step n y (Some p) e up = at (cases_eq p op) (up p refl)
       where
@@ -196,12 +196,12 @@ inside_or t op x rooted = go (rooted x).0 x (rooted x).1
             out (inl s) = ne s
             out (inr i) = free i
 
-    go : (n y : ℕ) → climb (holder_of t) n (Some y) ≡ None → IsInside t op y ⊎ (IsInside t op y → ⊥)
+    go : (n y : ℕ) → climb (parent_operation_of t) n (Some y) ≡ None → IsInside t op y ⊎ (IsInside t op y → ⊥)
     go zero y e = absurd (not_none (sym e))
-    go (suc n) y e = step n y (holder_of t y) refl (λ p h. go n p (ap (climb (holder_of t) n) (sym h) ∙ e))
+    go (suc n) y e = step n y (parent_operation_of t y) refl (λ p h. go n p (ap (climb (parent_operation_of t) n) (sym h) ∙ e))
 
 -- two trees with the same holders
-module _ (t u : Tree) (holders : (x : ℕ) → holder_of u x ≡ holder_of t x) where
+module _ (t u : Tree) (holders : (x : ℕ) → parent_operation_of u x ≡ parent_operation_of t x) where
   pub inside_alike : {op x : ℕ} → IsInside t op x → IsInside u op x
   inside_alike {op} {x} (Directly e) = Directly (holders x ∙ e)
   inside_alike {op} {x} (Deeper p e i) = Deeper p (holders x ∙ e) (inside_alike i)
@@ -211,7 +211,7 @@ module _ (t u : Tree) (holders : (x : ℕ) → holder_of u x ≡ holder_of t x) 
   within_alike (inr i) = inr (inside_alike i)
 
 -- what keeps its holder stays inside
-module _ (t u : Tree) (holders : (x p : ℕ) → holder_of t x ≡ Some p → holder_of u x ≡ Some p) where
+module _ (t u : Tree) (holders : (x p : ℕ) → parent_operation_of t x ≡ Some p → parent_operation_of u x ≡ Some p) where
   pub inside_more : {op x : ℕ} → IsInside t op x → IsInside u op x
   inside_more {op} {x} (Directly e) = Directly (holders x op e)
   inside_more {op} {x} (Deeper p e i) = Deeper p (holders x p e) (inside_more i)
@@ -220,11 +220,11 @@ module _ (t u : Tree) (holders : (x p : ℕ) → holder_of t x ≡ Some p → ho
   within_more (inl e) = inl e
   within_more (inr i) = inr (inside_more i)
 
--- whether op holds a block, and whether a value is made inside op, can be told
-pub holds_or : (t : Tree) (op b : ℕ) → IsRooted (holder_of t) → HoldsBlock t op b ⊎ (HoldsBlock t op b → ⊥)
-holds_or t op b rooted = go (block_holder_of t b) refl
+-- whether op holds a block, and whether a value is defined inside op, can be told
+pub holds_or : (t : Tree) (op b : ℕ) → IsRooted (parent_operation_of t) → HoldsBlock t op b ⊎ (HoldsBlock t op b → ⊥)
+holds_or t op b rooted = go (block_parent_operation_of t b) refl
   where
-    at : (k : ℕ) → block_holder_of t b ≡ Some k → (k ≡ op) ⊎ (k ≢ op) → IsInside t op k ⊎ (IsInside t op k → ⊥) → HoldsBlock t op b ⊎ (HoldsBlock t op b → ⊥)
+    at : (k : ℕ) → block_parent_operation_of t b ≡ Some k → (k ≡ op) ⊎ (k ≢ op) → IsInside t op k ⊎ (IsInside t op k → ⊥) → HoldsBlock t op b ⊎ (HoldsBlock t op b → ⊥)
     at k e (inl s) d = inl (k, e, inl s)
     at k e (inr ne) (inl i) = inl (k, e, inr i)
     at k e (inr ne) (inr free) = inr (λ h. out (subst (IsWithin t op) (some_is (sym h.1 ∙ e)) h.2))
@@ -233,14 +233,14 @@ holds_or t op b rooted = go (block_holder_of t b) refl
         out (inl s) = ne s
         out (inr i) = free i
 
-    go : (o : Option ℕ) → block_holder_of t b ≡ o → HoldsBlock t op b ⊎ (HoldsBlock t op b → ⊥)
+    go : (o : Option ℕ) → block_parent_operation_of t b ≡ o → HoldsBlock t op b ⊎ (HoldsBlock t op b → ⊥)
     go None e = inr (λ h. not_none (sym e ∙ h.1))
     go (Some k) e = at k e (cases_eq k op) (inside_or t op k rooted)
 
-pub made_inside_or : (t : Tree) (op v : ℕ) → IsRooted (holder_of t) → IsMadeInside t op v ⊎ (IsMadeInside t op v → ⊥)
+pub made_inside_or : (t : Tree) (op v : ℕ) → IsRooted (parent_operation_of t) → IsDefinedInside t op v ⊎ (IsDefinedInside t op v → ⊥)
 made_inside_or t op v rooted = go (definition_of t v)
   where
-    go : (o : Option Def) → IsMakerInside t op o ⊎ (IsMakerInside t op o → ⊥)
+    go : (o : Option Def) → IsDefiningOperationInside t op o ⊎ (IsDefiningOperationInside t op o → ⊥)
     go None = inr (λ m. m)
     go (Some (Result k i)) = inside_or t op k rooted
     go (Some (Argument b i)) = holds_or t op b rooted

@@ -3,8 +3,8 @@ use Rattle.std.proofs.Common.{◌≡◌, ℕ, ◌-◌, ◌<◌, length, get_or, 
 use Rattle.std.proofs.lemmas.List.{get_or_read}
 use Rattle.std.proofs.lemmas.Option.{slice_get_within}
 use Rattle.pliron_core.specs.declared.context.OperationEntry.{OperationEntry}
-use Rattle.pliron_core.specs.Tree.{Tree, IsLive, no_entry, op_of_slot, row_of, regions_of, region_parent_of, layout_of, body_of, block_holder_of, parent_of, holder_of, last_of}
-use Rattle.pliron_core.specs.Joined.{IsTree}
+use Rattle.pliron_core.specs.Tree.{Tree, IsLive, no_entry, op_of_slot, row_of, regions_of, region_parent_of, layout_of, body_of, block_parent_operation_of, parent_of, parent_operation_of, last_of}
+use Rattle.pliron_core.specs.Invariant.{IsTree}
 use Rattle.pliron_core.specs.Dismantling.{last_region_of}
 use Rattle.pliron_core.proofs.LastLemmas.{get_last_is, last_in}
 use Rattle.pliron_core.proofs.TreeLemmas.{in_at, live-within}
@@ -21,10 +21,10 @@ module _ (t : Tree) (op r : ℕ) (is : IsTree t) (last : last_region_of t op ≡
       let h = slice_get_within t.slots r _ (is.joined.regions op i.0 r i.1) in
       omega (arith, h, k)
 
-  pub last_block_holder : (b : ℕ) → last_of None (layout_of t r) ≡ Some b → block_holder_of t b ≡ Some op
+  pub last_block_holder : (b : ℕ) → last_of None (layout_of t r) ≡ Some b → block_parent_operation_of t b ≡ Some op
   last_block_holder b e = block_holder_from t b r (is.layouts.owned b r (last_in (layout_of t r) b e)) ∙ last_region_parent
 
-  pub last_operation : (b c : ℕ) → last_of None (layout_of t r) ≡ Some b → last_of None (body_of t b) ≡ Some c → IsLive t c × (holder_of t c ≡ Some op)
+  pub last_operation : (b c : ℕ) → last_of None (layout_of t r) ≡ Some b → last_of None (body_of t b) ≡ Some c → IsLive t c × (parent_operation_of t c ≡ Some op)
   last_operation b c e f =
       let at : parent_of t c ≡ Some b = is.bodies.owned c b (last_in (body_of t b) c f) in
       ((is.joined.standing c b at).0, holder_from t c b at ∙ last_block_holder b e)

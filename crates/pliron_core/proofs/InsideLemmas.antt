@@ -2,9 +2,9 @@
 use Rattle.std.proofs.Common.{◌≡◌, ◌⊎◌, ℕ, length, Option, Some, None, IsSome, slice_get, refl, sym, ap, ◌∙◌, subst, inl, inr}
 use Rattle.pliron_core.specs.declared.context.Def.{Def}
 use Rattle.pliron_core.specs.declared.context.Def.TheVariants.{Result, Argument}
-use Rattle.pliron_core.specs.Tree.{Tree, row_of, results_of, regions_of, operands_of, parent_of, body_of, arguments_of, layout_of, block_parent_of, definition_of, region_parent_of, block_holder_of, holder_of, up_from, op_of_slot, IsLive, IsBlock, IsRegion, IsMadeBy, IsInside, IsInside.Directly, IsInside.Deeper, IsWithin}
-use Rattle.pliron_core.specs.Joined.{IsJoined}
-use Rattle.pliron_core.specs.Changes.{IsSameTree, IsMakerInside, IsMadeInside, IsOutside, IsBlockOutside, IsRegionOutside, IsValueOutside, IsKeptOperation, IsKeptBlock, IsKeptRegion, IsInsideChange}
+use Rattle.pliron_core.specs.Tree.{Tree, row_of, results_of, regions_of, operands_of, parent_of, body_of, arguments_of, layout_of, block_parent_of, definition_of, region_parent_of, block_parent_operation_of, parent_operation_of, up_from, op_of_slot, IsLive, IsBlock, IsRegion, IsMadeBy, IsInside, IsInside.Directly, IsInside.Deeper, IsWithin}
+use Rattle.pliron_core.specs.Invariant.{IsJoined}
+use Rattle.pliron_core.specs.Changes.{IsSameTree, IsDefiningOperationInside, IsDefinedInside, IsOutside, IsBlockOutside, IsRegionOutside, IsValueOutside, IsKeptOperation, IsKeptBlock, IsKeptRegion, IsInsideChange}
 use Rattle.pliron_core.proofs.HoldingLemmas.{some_is, slot_is, region_by, maker_is, block_held, held_block, holder_live, region_live, result_live, argument_stands, region_parent_is, inside_up, deeper, holds_deeper, region_deeper, maker_deeper, inside_block, not_itself, outside_itself, made_inside_or, in_slice}
 use Rattle.pliron_core.proofs.SameTreeLemmas.{same_sym, same_live, same_block, same_region, same_slot, same_value, same_definition, same_inside, same_holds, same_holds_region, same_made_inside}
 
@@ -93,13 +93,13 @@ module _ (t : Tree) (op : ℕ) (w : IsJoined t) where
   pub parent_outside : (x b : ℕ) → IsOutside t op x → parent_of t x ≡ Some b → IsBlockOutside t op b
   parent_outside x b o e = ((w.standing x b e).1, λ h. o.1 (inside_block b e h))
 
-  pub holder_outside : (x p : ℕ) → IsOutside t op x → holder_of t x ≡ Some p → IsOutside t op p
+  pub holder_outside : (x p : ℕ) → IsOutside t op x → parent_operation_of t x ≡ Some p → IsOutside t op p
   holder_outside x p o e = ((holder_live t x p w e).1, λ i. o.1 (Deeper p e i))
 
   pub block_region_outside : (b r : ℕ) → IsBlockOutside t op b → block_parent_of t b ≡ Some r → IsRegionOutside t op r
   block_region_outside b r o e = (w.placed b r e, λ h. o.1 (h.0, ap (λ o. up_from o (λ r. region_parent_of t r)) e ∙ h.1, h.2))
 
-  pub block_holder_outside : (b k : ℕ) → IsBlockOutside t op b → block_holder_of t b ≡ Some k → IsOutside t op k
+  pub block_holder_outside : (b k : ℕ) → IsBlockOutside t op b → block_parent_operation_of t b ≡ Some k → IsOutside t op k
   block_holder_outside b k o e =
       let h = block_held t b w o.0 in
       (subst (IsLive t) (some_is (sym h.5 ∙ e)) h.6, λ i. o.1 (k, e, inr i))
@@ -108,27 +108,27 @@ module _ (t : Tree) (op : ℕ) (w : IsJoined t) where
   region_holder_outside r k i o e l = (region_live t w k i r l, λ j. o.1 (k, e, inr j))
 
   pub result_outside : (v k i : ℕ) → IsValueOutside t op v → definition_of t v ≡ Some (Result k i) → slice_get (results_of t k) i ≡ Some v → IsOutside t op k
-  result_outside v k i o e l = (result_live t w k i v l, λ j. o.1 (subst (IsMakerInside t op) (sym e) j))
+  result_outside v k i o e l = (result_live t w k i v l, λ j. o.1 (subst (IsDefiningOperationInside t op) (sym e) j))
 
   pub argument_outside : (v b i : ℕ) → IsValueOutside t op v → definition_of t v ≡ Some (Argument b i) → slice_get (arguments_of t b) i ≡ Some v → IsBlockOutside t op b
-  argument_outside v b i o e l = (argument_stands t w b i v l, λ h. o.1 (subst (IsMakerInside t op) (sym e) h))
+  argument_outside v b i o e l = (argument_stands t w b i v l, λ h. o.1 (subst (IsDefiningOperationInside t op) (sym e) h))
 
 -- so it is enough that rows are kept
 module _ (t u : Tree) (op : ℕ) (w : IsJoined t) (k : AreKeptOutside t u op) where
   pub region_parent_kept : (r : ℕ) → IsRegionOutside t op r → region_parent_of u r ≡ region_parent_of t r
   region_parent_kept r o = ap op_of_slot (k.regions r o).slot
 
-  pub block_holder_kept : (b : ℕ) → IsBlockOutside t op b → block_holder_of u b ≡ block_holder_of t b
+  pub block_holder_kept : (b : ℕ) → IsBlockOutside t op b → block_parent_operation_of u b ≡ block_parent_operation_of t b
   block_holder_kept b o = ap (λ z. up_from z (λ r. region_parent_of u r)) (k.blocks b o).parent ∙ go (block_parent_of t b) refl
     where
       go : (z : Option ℕ) → block_parent_of t b ≡ z → up_from z (λ r. region_parent_of u r) ≡ up_from z (λ r. region_parent_of t r)
       go None e = refl
       go (Some r) e = region_parent_kept r (block_region_outside t op w b r o e)
 
-  pub holder_kept : (x : ℕ) → IsOutside t op x → holder_of u x ≡ holder_of t x
-  holder_kept x o = ap (λ z. up_from z (λ b. block_holder_of u b)) (k.operations x o).parent ∙ go (parent_of t x) refl
+  pub holder_kept : (x : ℕ) → IsOutside t op x → parent_operation_of u x ≡ parent_operation_of t x
+  holder_kept x o = ap (λ z. up_from z (λ b. block_parent_operation_of u b)) (k.operations x o).parent ∙ go (parent_of t x) refl
     where
-      go : (z : Option ℕ) → parent_of t x ≡ z → up_from z (λ b. block_holder_of u b) ≡ up_from z (λ b. block_holder_of t b)
+      go : (z : Option ℕ) → parent_of t x ≡ z → up_from z (λ b. block_parent_operation_of u b) ≡ up_from z (λ b. block_parent_operation_of t b)
       go None e = refl
       go (Some b) e = block_holder_kept b (parent_outside t op w x b o e)
 
@@ -142,7 +142,7 @@ module _ (t u : Tree) (op : ℕ) (w : IsJoined t) (k : AreKeptOutside t u op) wh
   block_outside : (b : ℕ) → IsBlockOutside t op b → IsBlockOutside u op b
   block_outside b o = (subst IsSome (sym (k.blocks b o).parent) o.0, λ h. go h.0 (sym (block_holder_kept b o) ∙ h.1) h.2)
     where
-      go : (p : ℕ) → block_holder_of t b ≡ Some p → IsWithin u op p → ⊥
+      go : (p : ℕ) → block_parent_operation_of t b ≡ Some p → IsWithin u op p → ⊥
       go p e (inl s) = o.1 (p, e, inl s)
       go p e (inr i) = still_outside p (block_holder_outside t op w b p o e) i
 
@@ -164,9 +164,9 @@ module _ (t u : Tree) (op : ℕ) (w : IsJoined t) (k : AreKeptOutside t u op) wh
       let m = maker_is t v o.0 in
       let now = k.values v o ∙ m.1 in
       let g = go m.0 m.1 m.2 in
-      (subst (IsMadeBy u v) (sym now) g.0, λ h. g.1 (subst (IsMakerInside u op) now h))
+      (subst (IsMadeBy u v) (sym now) g.0, λ h. g.1 (subst (IsDefiningOperationInside u op) now h))
     where
-      go : (d : Def) → definition_of t v ≡ Some d → IsMadeBy t v (Some d) → IsMadeBy u v (Some d) × (IsMakerInside u op (Some d) → ⊥)
+      go : (d : Def) → definition_of t v ≡ Some d → IsMadeBy t v (Some d) → IsMadeBy u v (Some d) × (IsDefiningOperationInside u op (Some d) → ⊥)
       go (Result x i) e l =
           let out = result_outside t op w v x i o e l in
           (ap (λ z. slice_get z.results i) (k.operations x out).row ∙ l, λ j. still_outside x out j)
@@ -231,7 +231,7 @@ widen t u op b w held h = change_of_kept t u op w kept no_new_operation no_new_b
         (a.0, λ m. o.1 (m.0, block_holder_kept t u b w old c a ∙ m.1, within m.0 (block_holder_outside t b w c m.0 a m.1) m.2))
 
 -- what is not inside of b, where op holds b: op, and what op holds beside b, b itself too
-module _ (t : Tree) (op b : ℕ) (w : IsJoined t) (up : holder_of t b ≡ Some op) where
+module _ (t : Tree) (op b : ℕ) (w : IsJoined t) (up : parent_operation_of t b ≡ Some op) where
   not_within : IsWithin t b op → ⊥
   not_within (inl s) = not_itself {t = t} w.rooted (Directly (up ∙ ap Some s))
   not_within (inr i) = not_itself {t = t} w.rooted (deeper i (Directly up))
@@ -239,33 +239,33 @@ module _ (t : Tree) (op b : ℕ) (w : IsJoined t) (up : holder_of t b ≡ Some o
   pub holder_is_outside : IsOutside t b op
   holder_is_outside = ((holder_live t b op w up).1, λ i. not_within (inr i))
 
-  pub sibling_outside : (x : ℕ) → holder_of t x ≡ Some op → IsOutside t b x
+  pub sibling_outside : (x : ℕ) → parent_operation_of t x ≡ Some op → IsOutside t b x
   sibling_outside x e = (
     (holder_live t x op w e).0,
     λ i. let p = inside_up i in not_within (subst (IsWithin t b) (some_is (sym p.1 ∙ e)) p.2),
   )
 
-  pub sibling_block_outside : (c : ℕ) → block_holder_of t c ≡ Some op → IsBlockOutside t b c
+  pub sibling_block_outside : (c : ℕ) → block_parent_operation_of t c ≡ Some op → IsBlockOutside t b c
   sibling_block_outside c e = (held_block t c op e, λ h. not_within (subst (IsWithin t b) (some_is (sym h.1 ∙ e)) h.2))
 
   pub sibling_region_outside : (r : ℕ) → IsRegion t r → region_parent_of t r ≡ Some op → IsRegionOutside t b r
   sibling_region_outside r is e = (is, λ h. not_within (subst (IsWithin t b) (some_is (sym h.1 ∙ e)) h.2))
 
 -- what op holds keeps its place where only the inside of one of op's operations changes
-module _ (t u : Tree) (op b : ℕ) (w : IsJoined t) (up : holder_of t b ≡ Some op) (h : IsInsideChange t u b) where
+module _ (t u : Tree) (op b : ℕ) (w : IsJoined t) (up : parent_operation_of t b ≡ Some op) (h : IsInsideChange t u b) where
   pub holder_stands : IsLive u op
   holder_stands = (h.operations op (holder_is_outside t op b w up)).0.0
 
   pub holder_row : row_of u op ≡ row_of t op
   holder_row = (h.operations op (holder_is_outside t op b w up)).1.row
 
-  pub sibling : (x : ℕ) → holder_of t x ≡ Some op → IsLive u x × (holder_of u x ≡ Some op) × (parent_of u x ≡ parent_of t x)
+  pub sibling : (x : ℕ) → parent_operation_of t x ≡ Some op → IsLive u x × (parent_operation_of u x ≡ Some op) × (parent_of u x ≡ parent_of t x)
   sibling x e =
       let o = sibling_outside t op b w up x e in
       let a = h.operations x o in
       (a.0.0, holder_kept t u b w (kept_of t u b h) x o ∙ e, a.1.parent)
 
-  pub sibling_block : (c : ℕ) → block_holder_of t c ≡ Some op → IsBlock u c × (block_holder_of u c ≡ Some op) × (body_of u c ≡ body_of t c)
+  pub sibling_block : (c : ℕ) → block_parent_operation_of t c ≡ Some op → IsBlock u c × (block_parent_operation_of u c ≡ Some op) × (body_of u c ≡ body_of t c)
   sibling_block c e =
       let o = sibling_block_outside t op b w up c e in
       let a = h.blocks c o in
@@ -291,10 +291,10 @@ above_stands t u a op w i h =
     live {x} w (Directly e) = (holder_live t x a w e).1
     live {x} w (Deeper p e i) = live w i
 
--- an operand outside op is as before, or the one before was made inside op
-pub operand_kept : (t u : Tree) (op x i v : ℕ) → IsJoined t → IsInsideChange t u op → IsOutside t op x → slice_get (operands_of t x) i ≡ Some v → (slice_get (operands_of u x) i ≡ Some v) ⊎ IsMadeInside t op v
+-- an operand outside op is as before, or the one before was defined inside op
+pub operand_kept : (t u : Tree) (op x i v : ℕ) → IsJoined t → IsInsideChange t u op → IsOutside t op x → slice_get (operands_of t x) i ≡ Some v → (slice_get (operands_of u x) i ≡ Some v) ⊎ IsDefinedInside t op v
 operand_kept t u op x i v w h o e = go (made_inside_or t op v w.rooted)
   where
-    go : IsMadeInside t op v ⊎ (IsMadeInside t op v → ⊥) → (slice_get (operands_of u x) i ≡ Some v) ⊎ IsMadeInside t op v
+    go : IsDefinedInside t op v ⊎ (IsDefinedInside t op v → ⊥) → (slice_get (operands_of u x) i ≡ Some v) ⊎ IsDefinedInside t op v
     go (inl m) = inr m
     go (inr free) = inl ((h.operations x o).1.operands i v e (w.operands x v (in_slice (operands_of t x) i v e), free))

@@ -6,11 +6,11 @@ use Rattle.std.proofs.lemmas.List.{get_or-set_same, get_or-set_other, map-set, s
 use Rattle.std.proofs.lemmas.Option.{slice_get_within}
 use Rattle.std.proofs.lemmas.Bool.{cases_eq}
 use Rattle.pliron_core.specs.declared.uses.Use.{Use}
-use Rattle.pliron_core.specs.declared.places.Place.{Place}
-use Rattle.pliron_core.specs.declared.places.Gap.{Gap}
-use Rattle.pliron_core.specs.declared.places.Holes.{Holes}
-use Rattle.pliron_core.specs.declared.places.Holes.TheVariants.{OneGap}
-use Rattle.pliron_core.specs.Places.{at, put, cut, held, rank, marks, marks_in, no_target, no_gap, free_place, targets_in, uses_in, HasGap, IsLinked}
+use Rattle.pliron_core.specs.declared.use_slots.UseSlot.{UseSlot}
+use Rattle.pliron_core.specs.declared.use_slots.Gap.{Gap}
+use Rattle.pliron_core.specs.declared.use_slots.Holes.{Holes}
+use Rattle.pliron_core.specs.declared.use_slots.Holes.TheVariants.{OneGap}
+use Rattle.pliron_core.specs.UseSlots.{at, put, cut, targets_held, rank, marks, marks_in, no_target, no_gap, free_place, targets_in, uses_in, HasGap, IsLinked}
 use Rattle.pliron_core.specs.Holes.{gap_of, is_counted, HaveHoles}
 use Rattle.pliron_core.proofs.PlaceLemmas.{row-targets, target-real, uses-same}
 use Rattle.pliron_core.proofs.MarkLemmas.{row-marks, marks-same, marks-freed, rank-alike, gap-marks, rank-take}
@@ -18,16 +18,16 @@ use Rattle.pliron_core.proofs.HoleLemmas.{has-gap, holes-put, holes-marked, row-
 use Rattle.pliron_core.proofs.TableLemmas.{set-same, set-other, at-within, put-here, put-other, put-cases, cut-cases, cut-kept, put-length, take-within, take-below}
 use Rattle.pliron_core.proofs.GapLemmas.{same, slice-some, held-same, held-freed, held-take, held-length, behind-index, held-at}
 
-module _ (rows : List (List Place)) (lists : List (List Use)) (user place target i : ℕ) (moved : Use) (is : IsLinked rows lists)
+module _ (rows : List (List UseSlot)) (lists : List (List Use)) (user place target i : ℕ) (moved : Use) (is : IsLinked rows lists)
     (here : at rows user place ≡ Some (record { target = target; at = i })) (real : target ≢ no_target)
     (end : at lists target (length (get_or lists target []) - 1) ≡ Some moved) where
   abbrev last_use : ℕ
   last_use = length (get_or lists target []) - 1
 
-  abbrev rows1 : List (List Place)
+  abbrev rows1 : List (List UseSlot)
   rows1 = put rows moved.user moved.place (record { target = target; at = i })
 
-  abbrev rows2 : List (List Place)
+  abbrev rows2 : List (List UseSlot)
   rows2 = put rows1 user place free_place
 
   abbrev lists1 : List (List Use)
@@ -46,7 +46,7 @@ module _ (rows : List (List Place)) (lists : List (List Use)) (user place target
   last_use1 = ap (λ n. n - 1) (put-length lists target i target _ _ going)
 
   -- the place that is to be free still names the target
-  pub stands1 : (p : Place) × (at rows1 user place ≡ Some p) × (p.target ≡ target)
+  pub stands1 : (p : UseSlot) × (at rows1 user place ≡ Some p) × (p.target ≡ target)
   stands1 = elim (cases_cell moved.user moved.place) [
     | inl e ↦ (record { target = target; at = i }, rw (sym e.0, sym e.1) (put-here rows moved.user moved.place _ _ mended), refl)
     | inr ne ↦ (record { target = target; at = i }, put-other rows moved.user moved.place user place _ _ mended (λ a b. ne (sym a) (sym b)) ∙ here, refl)
@@ -112,9 +112,9 @@ module _ (rows : List (List Place)) (lists : List (List Use)) (user place target
 
   -- the rows of the first write hold what they held
   pub targets1 : targets_in rows1 ≡ targets_in rows
-  targets1 = map-set held rows moved.user _ ∙ ap (set (targets_in rows) moved.user) (held-same (get_or rows moved.user []) moved.place _ _ mended refl ∙ sym (row-targets rows moved.user)) ∙ set-get_or (targets_in rows) moved.user []
+  targets1 = map-set targets_held rows moved.user _ ∙ ap (set (targets_in rows) moved.user) (held-same (get_or rows moved.user []) moved.place _ _ mended refl ∙ sym (row-targets rows moved.user)) ∙ set-get_or (targets_in rows) moved.user []
 
-  held1 : held (get_or rows1 user []) ≡ held (get_or rows user [])
+  held1 : targets_held (get_or rows1 user []) ≡ targets_held (get_or rows user [])
   held1 = sym (row-targets rows1 user) ∙ ap (λ z. get_or z user []) targets1 ∙ row-targets rows user
 
   -- and have the same places taken
@@ -133,15 +133,15 @@ module _ (rows : List (List Place)) (lists : List (List Use)) (user place target
   taken1 : stands1.0.target ≢ no_target
   taken1 f = real (sym stands1.2 ∙ f)
 
-  pub left-target : slice_get (held (get_or rows user [])) (rank (get_or rows user []) place) ≡ Some target
+  pub left-target : slice_get (targets_held (get_or rows user [])) (rank (get_or rows user []) place) ≡ Some target
   left-target = held-at (get_or rows user []) place _ here real
 
   pub left-targets : targets_in rows2 ≡ set (targets_in rows) user (remove (get_or (targets_in rows) user []) (rank (get_or rows user []) place))
   left-targets =
-      map-set held rows1 user _ ∙ ap (λ z. set z user (held (set (get_or rows1 user []) place free_place))) targets1 ∙ ap (set (targets_in rows) user) (held-freed (get_or rows1 user []) place stands1.0 stands1.1 taken1 ∙ ap (remove (held (get_or rows1 user []))) ranked ∙ ap (λ l. remove l (rank (get_or rows user []) place)) (held1 ∙ sym (row-targets rows user)))
+      map-set targets_held rows1 user _ ∙ ap (λ z. set z user (targets_held (set (get_or rows1 user []) place free_place))) targets1 ∙ ap (set (targets_in rows) user) (held-freed (get_or rows1 user []) place stands1.0 stands1.1 taken1 ∙ ap (remove (targets_held (get_or rows1 user []))) ranked ∙ ap (λ l. remove l (rank (get_or rows user []) place)) (held1 ∙ sym (row-targets rows user)))
 
 -- a gap that the place behind it joins
-module _ (row : List Place) (gap : Gap) (has : HasGap row gap) (more : gap.start < length (held row)) where
+module _ (row : List UseSlot) (gap : Gap) (has : HasGap row gap) (more : gap.start < length (targets_held row)) where
   abbrev behind : ℕ
   behind = gap.start + gap.len
 
@@ -154,10 +154,10 @@ module _ (row : List Place) (gap : Gap) (has : HasGap row gap) (more : gap.start
   pub behind-ranked : rank row behind ≡ gap.start
   behind-ranked = let back : behind - gap.len ≡ gap.start = omega arith in behind-index row gap has behind (omega arith) (omega (arith, within_row)) ∙ back
 
-  pub behind-taken_place : (p : Place) × (slice_get row behind ≡ Some p) × (p.target ≢ no_target)
+  pub behind-taken_place : (p : UseSlot) × (slice_get row behind ≡ Some p) × (p.target ≢ no_target)
   behind-taken_place = let s = slice-some row behind within_row in (s.0, s.1, has.behind _ s.0 s.1 (omega arith))
 
-  cases : (n : ℕ) (x : Place) → slice_get (set row behind free_place) n ≡ Some x → ((n ≡ behind) × (x ≡ free_place)) ⊎ ((n ≢ behind) × (slice_get row n ≡ Some x))
+  cases : (n : ℕ) (x : UseSlot) → slice_get (set row behind free_place) n ≡ Some x → ((n ≡ behind) × (x ≡ free_place)) ⊎ ((n ≢ behind) × (slice_get row n ≡ Some x))
   cases n x e = elim (cases_eq n behind) [
     | inl h ↦ inl (h, same (sym e ∙ ap (slice_get (set row behind free_place)) h ∙ set-same row behind free_place behind-taken_place.0 behind-taken_place.1))
     | inr h ↦ inr (h, sym (set-other row behind n free_place h) ∙ e)
@@ -171,19 +171,19 @@ module _ (row : List Place) (gap : Gap) (has : HasGap row gap) (more : gap.start
     behind = λ n x e a. elim (cases n x e) [ inl c ↦ absurd (omega (arith, c.0, a)) | inr c ↦ has.behind n x c.1 (omega (arith, a)) ];
   }
 
-  pub wider-has : (row' : List Place) → marks row' ≡ set (marks row) behind 0 → HasGap row' wider
+  pub wider-has : (row' : List UseSlot) → marks row' ≡ set (marks row) behind 0 → HasGap row' wider
   wider-has row' e = gap-marks (set row behind free_place) row' wider (e ∙ sym (marks-freed row behind)) wider-set
 
 -- a gap at the end of its row goes
-module _ (rows : List (List Place)) (holes : List Holes) (user : ℕ) (all : HaveHoles rows holes) (within : user < length holes) (gapped : is_counted holes user ≡ false)
-    (end : (gap_of holes user).start ≡ length (held (get_or rows user []))) where
+module _ (rows : List (List UseSlot)) (holes : List Holes) (user : ℕ) (all : HaveHoles rows holes) (within : user < length holes) (gapped : is_counted holes user ≡ false)
+    (end : (gap_of holes user).start ≡ length (targets_held (get_or rows user []))) where
   abbrev last_gap : Gap
   last_gap = gap_of holes user
 
-  abbrev last_row : List Place
+  abbrev last_row : List UseSlot
   last_row = get_or rows user []
 
-  abbrev closed : List (List Place)
+  abbrev closed : List (List UseSlot)
   closed = set rows user (take last_gap.start last_row)
 
   has : HasGap last_row last_gap
@@ -208,9 +208,9 @@ module _ (rows : List (List Place)) (holes : List Holes) (user : ℕ) (all : Hav
 
   pub closed-targets : targets_in closed ≡ targets_in rows
   closed-targets =
-      map-set held rows user _ ∙ ap (set (targets_in rows) user) (held-take last_row last_gap.start (λ n x e a b. has.free n x e a (omega (arith, b, long))) ∙ sym (row-targets rows user)) ∙ set-get_or (targets_in rows) user []
+      map-set targets_held rows user _ ∙ ap (set (targets_in rows) user) (held-take last_row last_gap.start (λ n x e a b. has.free n x e a (omega (arith, b, long))) ∙ sym (row-targets rows user)) ∙ set-get_or (targets_in rows) user []
 
-  closed-at : (u n : ℕ) (x : Place) → at closed u n ≡ Some x → at rows u n ≡ Some x
+  closed-at : (u n : ℕ) (x : UseSlot) → at closed u n ≡ Some x → at rows u n ≡ Some x
   closed-at u n x e = elim (cases_eq u user) [
     | inl h ↦
         let there : slice_get (take last_gap.start last_row) n ≡ Some x = ap (λ r. slice_get r n) (sym (ap (λ z. get_or closed z []) h ∙ get_or-set_same rows user _ [] row_within)) ∙ e in
@@ -218,13 +218,13 @@ module _ (rows : List (List Place)) (holes : List Holes) (user : ℕ) (all : Hav
     | inr h ↦ ap (λ r. slice_get r n) (sym (get_or-set_other rows user u _ [] h)) ∙ e
   ]
 
-  place-before : (n : ℕ) (x : Place) → slice_get last_row n ≡ Some x → x.target ≢ no_target → n < last_gap.start
+  place-before : (n : ℕ) (x : UseSlot) → slice_get last_row n ≡ Some x → x.target ≢ no_target → n < last_gap.start
   place-before n x e real = elim (below n) [ inl b ↦ b | inr b ↦ absurd (real (has.free n x e b (let w = slice_get_within last_row n x e in omega (arith, w, long)))) ]
     where
       below : (n : ℕ) → (n < last_gap.start) ⊎ (last_gap.start ≤ n)
       below n = grind arith
 
-  at-closed : (u n : ℕ) (x : Place) → at rows u n ≡ Some x → x.target ≢ no_target → at closed u n ≡ Some x
+  at-closed : (u n : ℕ) (x : UseSlot) → at rows u n ≡ Some x → x.target ≢ no_target → at closed u n ≡ Some x
   at-closed u n x e real = elim (cases_eq u user) [
     | inl h ↦
         let there : slice_get last_row n ≡ Some x = ap (λ z. at rows z n) (sym h) ∙ e in
@@ -254,16 +254,16 @@ module _ (rows : List (List Place)) (holes : List Holes) (user : ℕ) (all : Hav
       ]
 
 -- what `widen_gap` writes, by the gap that it read
-pub behind-gap : (rows : List (List Place)) (holes : List Holes) (user : ℕ) (gap : Gap) → gap ≡ gap_of holes user → HaveHoles rows holes → is_counted holes user ≡ false → (gap_of holes user).start < length (held (get_or rows user []))
-    → (p : Place) × (at rows user (gap.start + gap.len) ≡ Some p) × (p.target ≢ no_target)
+pub behind-gap : (rows : List (List UseSlot)) (holes : List Holes) (user : ℕ) (gap : Gap) → gap ≡ gap_of holes user → HaveHoles rows holes → is_counted holes user ≡ false → (gap_of holes user).start < length (targets_held (get_or rows user []))
+    → (p : UseSlot) × (at rows user (gap.start + gap.len) ≡ Some p) × (p.target ≢ no_target)
 behind-gap rows holes user gap e all gapped more = rw e (behind-taken_place (get_or rows user []) (gap_of holes user) (has-gap rows holes user all gapped) more)
 
-pub behind-rank : (rows : List (List Place)) (holes : List Holes) (user : ℕ) (gap : Gap) → gap ≡ gap_of holes user → HaveHoles rows holes → is_counted holes user ≡ false → (gap_of holes user).start < length (held (get_or rows user []))
+pub behind-rank : (rows : List (List UseSlot)) (holes : List Holes) (user : ℕ) (gap : Gap) → gap ≡ gap_of holes user → HaveHoles rows holes → is_counted holes user ≡ false → (gap_of holes user).start < length (targets_held (get_or rows user []))
     → rank (get_or rows user []) (gap.start + gap.len) ≡ (gap_of holes user).start
 behind-rank rows holes user gap e all gapped more = rw e (behind-ranked (get_or rows user []) (gap_of holes user) (has-gap rows holes user all gapped) more)
 
-pub widened : (rows rows' : List (List Place)) (holes : List Holes) (user : ℕ) (gap : Gap) → gap ≡ gap_of holes user → HaveHoles rows holes → user < length holes → is_counted holes user ≡ false
-    → (gap_of holes user).start < length (held (get_or rows user [])) → marks_in rows' ≡ set (marks_in rows) user (set (marks (get_or rows user [])) (gap.start + gap.len) 0)
+pub widened : (rows rows' : List (List UseSlot)) (holes : List Holes) (user : ℕ) (gap : Gap) → gap ≡ gap_of holes user → HaveHoles rows holes → user < length holes → is_counted holes user ≡ false
+    → (gap_of holes user).start < length (targets_held (get_or rows user [])) → marks_in rows' ≡ set (marks_in rows) user (set (marks (get_or rows user [])) (gap.start + gap.len) 0)
     → HaveHoles rows' (set holes user (OneGap (record { start = gap.start; len = gap.len + 1 })))
 widened rows rows' holes user gap e all within gapped more marked =
     let inside : user < length rows = omega (arith, within, all.count) in

@@ -6,7 +6,7 @@ use Rattle.std.proofs.lemmas.Option.{get_or_from_slice_get, slice_get-get_or}
 use Rattle.std.specs.Option.{IsSome}
 use Rattle.std.proofs.lemmas.List.{length-set, get_or-set_same, get_or-set_other, get_or_past, get_or_push, get_or_append_left, length_push, take_more, take_all, get_or_default}
 use Rattle.std.proofs.lemmas.List.Sums.{sum_by-cons, sum_by_more, sum_by-le}
-use Rattle.pliron_core.specs.Places.{at, put}
+use Rattle.pliron_core.specs.UseSlots.{at, put}
 use Rattle.pliron_core.specs.Counts.{pairs, AreMarks, level, AreSums, one_less, above}
 use Rattle.pliron_core.proofs.TableLemmas.{some-at}
 

@@ -8,11 +8,11 @@ use Rattle.std.proofs.lemmas.Option.{slice_get-get_or}
 use Rattle.pliron_core.specs.declared.uses.Use.{Use}
 use Rattle.pliron_core.specs.declared.context.Def.{Def}
 use Rattle.pliron_core.specs.declared.context.Def.TheVariants.{Result, Argument}
-use Rattle.pliron_core.specs.Places.{at}
+use Rattle.pliron_core.specs.UseSlots.{at}
 use Rattle.pliron_core.specs.Uses.{AreAgreed}
 use Rattle.pliron_core.specs.Lists.{In}
-use Rattle.pliron_core.specs.Writes.{numbered, argument_definitions}
-use Rattle.pliron_core.specs.Arguments.{Makers, made, defined, IsFree, AreNumbered, AreApart, AreMade}
+use Rattle.pliron_core.specs.Writes.{argument_definitions_from, argument_definitions}
+use Rattle.pliron_core.specs.Arguments.{Makers, definition_now, definitions_now, IsFree, AreNumbered, AreApart, AreMade}
 use Rattle.pliron_core.proofs.GapLemmas.{same}
 use Rattle.pliron_core.proofs.TableLemmas.{at-within, at-same, at-other, set-other}
 use Rattle.pliron_core.proofs.MemberLemmas.{in_at}
@@ -21,16 +21,16 @@ use Rattle.pliron_core.proofs.GrownLemmas.{get_last, range_at, slice_get_kept, s
 use Rattle.pliron_core.proofs.ArgumentLemmas.{StandOnce, numbered_at, numbered_other, length_numbered, slice_get_drop, removed_below, removed_above}
 
 -- as many definitions as are written
-pub length-defined : (written : List Def) (uses : List (List Use)) → length written ≡ length uses → length (defined written uses) ≡ length written
+pub length-defined : (written : List Def) (uses : List (List Use)) → length written ≡ length uses → length (definitions_now written uses) ≡ length written
 length-defined [] uses n = refl
 length-defined (d ∷ ds) [] n = absurd (omega (arith, n))
 length-defined (d ∷ ds) (us ∷ uses) n = ap suc (length-defined ds uses (omega (arith, n)))
 
 -- what makes a value
-pub defined-at : (written : List Def) (uses : List (List Use)) (v : ℕ) (d : Def) → length written ≡ length uses → slice_get written v ≡ Some d → slice_get (defined written uses) v ≡ Some (made d (get_or uses v []))
+pub defined-at : (written : List Def) (uses : List (List Use)) (v : ℕ) (d : Def) → length written ≡ length uses → slice_get written v ≡ Some d → slice_get (definitions_now written uses) v ≡ Some (definition_now d (get_or uses v []))
 defined-at [] uses v d n e = absurd (cc)
 defined-at (x ∷ ds) [] v d n e = absurd (omega (arith, n))
-defined-at (x ∷ ds) (us ∷ uses) zero d n e = ap (λ z. Some (made z us)) (same e)
+defined-at (x ∷ ds) (us ∷ uses) zero d n e = ap (λ z. Some (definition_now z us)) (same e)
 defined-at (x ∷ ds) (us ∷ uses) (suc v) d n e = defined-at ds uses v d (omega (arith, n)) e
 
 -- a value stands at some place, or is an argument of no block
@@ -65,7 +65,7 @@ module _ {A : Type 0} where
 
 module _ (rows : List (List ℕ)) (written : List Def) (uses : List (List Use)) (agreed : AreAgreed rows uses) (count : length written ≡ length uses) where
   abbrev pub now : List Def
-  now = defined written uses
+  now = definitions_now written uses
 
   -- what makes a value that is an argument of no block is what is written of it
   pub defined-free : (v : ℕ) → IsFree rows v → slice_get now v ≡ slice_get written v
@@ -76,17 +76,17 @@ module _ (rows : List (List ℕ)) (written : List Def) (uses : List (List Use)) 
       none (u ∷ us) is = absurd (free u.user u.place (agreed.listed v 0 u (ap (λ l. slice_get l 0) is)))
 
       go : (o : Option Def) → slice_get written v ≡ o → slice_get now v ≡ slice_get written v
-      go (Some d) e = defined-at written uses v d count e ∙ ap (λ l. Some (made d l)) (none (get_or uses v []) refl) ∙ sym e
+      go (Some d) e = defined-at written uses v d count e ∙ ap (λ l. Some (definition_now d l)) (none (get_or uses v []) refl) ∙ sym e
       go None e = missing now written v (length-defined written uses count) e ∙ sym e
 
   -- a list that has the place of each argument, and what is written of any other value, says what
   -- makes each value
-  pub defined-is : (all : List Def) → length all ≡ length written → AreNumbered rows all → ((v : ℕ) → IsFree rows v → slice_get all v ≡ slice_get written v) → defined written uses ≡ all
-  defined-is all n numbered free = same-lists now all (length-defined written uses count ∙ sym n) each
+  pub defined-is : (all : List Def) → length all ≡ length written → AreNumbered rows all → ((v : ℕ) → IsFree rows v → slice_get all v ≡ slice_get written v) → definitions_now written uses ≡ all
+  defined-is all n argument_definitions_from free = same-lists now all (length-defined written uses count ∙ sym n) each
     where
       first : (v : ℕ) (list : List Use) (o : Option Def) → get_or uses v [] ≡ list → slice_get written v ≡ o → (block i : ℕ) → at rows block i ≡ Some v → slice_get now v ≡ slice_get all v
       first v [] o is e b i h = let l = agreed.complete b i v h in let there : slice_get [] l.0 ≡ Some (let u : Use = record { user = b; place = i } in u) = ap (λ l'. slice_get l' l.0) (sym is) ∙ l.1 in absurd (cc)
-      first v (u ∷ us) (Some d) is e b i h = defined-at written uses v d count e ∙ ap (λ l. Some (made d l)) is ∙ sym (numbered u.user u.place v (agreed.listed v 0 u (ap (λ l. slice_get l 0) is)))
+      first v (u ∷ us) (Some d) is e b i h = defined-at written uses v d count e ∙ ap (λ l. Some (definition_now d l)) is ∙ sym (argument_definitions_from u.user u.place v (agreed.listed v 0 u (ap (λ l. slice_get l 0) is)))
       first v (u ∷ us) None is e b i h = missing now written v (length-defined written uses count) e ∙ sym (missing all written v n e)
 
       each : (v : ℕ) → slice_get now v ≡ slice_get all v
@@ -97,7 +97,7 @@ module _ (rows : List (List ℕ)) (written : List Def) (uses : List (List Use)) 
 
   -- and then it is what makes each value by these tables
   pub made-is : (all : List Def) → length all ≡ length written → AreNumbered rows all → ((v : ℕ) → IsFree rows v → slice_get all v ≡ slice_get written v) → AreApart rows written → AreMade rows written uses
-  made-is all n numbered free apart = record { apart = apart; count = count; numbered = subst (AreNumbered rows) (sym (defined-is all n numbered free)) numbered }
+  made-is all n argument_definitions_from free apart = record { apart = apart; count = count; numbered = subst (AreNumbered rows) (sym (defined-is all n argument_definitions_from free)) argument_definitions_from }
 
 -- an argument stands at one place
 pub stands-once : (rows : List (List ℕ)) (all : List Def) → AreNumbered rows all → (b b' i i' v : ℕ) → at rows b i ≡ Some v → at rows b' i' ≡ Some v → (b ≡ b') × (i ≡ i')
@@ -112,7 +112,7 @@ set-there (y ∷ ys) (suc k) x h = set-there ys k x (omega (arith, h))
 
 module _ (rows : List (List ℕ)) (written : List Def) (uses : List (List Use)) (agreed : AreAgreed rows uses) (is : AreMade rows written uses) where
   abbrev before : List Def
-  before = defined written uses
+  before = definitions_now written uses
 
   long : length before ≡ length written
   long = length-defined written uses is.count
@@ -138,10 +138,10 @@ module _ (rows : List (List ℕ)) (written : List Def) (uses : List (List Use)) 
         is.apart v op i (d ∙ sym (slice_get_kept written more v _ d) ∙ e) b k f
 
     -- more values that are no arguments
-    pub made-more : AreAgreed rows uses' → (defined (written ++ more) uses' ≡ before ++ more) × AreMade rows (written ++ more) uses'
+    pub made-more : AreAgreed rows uses' → (definitions_now (written ++ more) uses' ≡ before ++ more) × AreMade rows (written ++ more) uses'
     made-more agreed' =
-        let numbered : AreNumbered rows (before ++ more) = λ b i v e. slice_get_kept before more v _ (is.numbered b i v e) in
-        (defined-is rows (written ++ more) uses' agreed' counted (before ++ more) grown numbered still-free, made-is rows (written ++ more) uses' agreed' counted (before ++ more) grown numbered still-free apart-more)
+        let argument_definitions_from : AreNumbered rows (before ++ more) = λ b i v e. slice_get_kept before more v _ (is.numbered b i v e) in
+        (defined-is rows (written ++ more) uses' agreed' counted (before ++ more) grown argument_definitions_from still-free, made-is rows (written ++ more) uses' agreed' counted (before ++ more) grown argument_definitions_from still-free apart-more)
 
   -- a new block, and its arguments
   module _ (n : ℕ) (uses' : List (List Use)) where
@@ -175,7 +175,7 @@ module _ (rows : List (List ℕ)) (written : List Def) (uses : List (List Use)) 
             let d = slice_get-get_or written v (Argument 0 0) (argument-within b i v f) in
             is.apart v op j (d ∙ sym (slice_get_kept written made-here v _ d) ∙ e) b i f
 
-    pub made-block : length uses' ≡ length uses + n → AreAgreed grown-rows uses' → (defined (written ++ made-here) uses' ≡ before ++ made-here) × AreMade grown-rows (written ++ made-here) uses'
+    pub made-block : length uses' ≡ length uses + n → AreAgreed grown-rows uses' → (definitions_now (written ++ made-here) uses' ≡ before ++ made-here) × AreMade grown-rows (written ++ made-here) uses'
     made-block count agreed' =
         let m : length made-here ≡ n = length-map-range_with_len (λ k. Argument (length rows) k) 0 n in
         let count' : length uses' ≡ length uses + length made-here = omega (arith, count, m) in
@@ -199,7 +199,7 @@ module _ (rows : List (List ℕ)) (written : List Def) (uses : List (List Use)) 
     written-left = set written value (Argument block i)
 
     abbrev after : List Def
-    after = numbered before block i later
+    after = argument_definitions_from before block i later
 
     within : block < length rows
     within = at-within rows block i value there
@@ -289,7 +289,7 @@ module _ (rows : List (List ℕ)) (written : List Def) (uses : List (List Use)) 
         stood free (inr ne) = free b k (sym (at-other rows block b (remove row i) k ne) ∙ f)
         stood free (inl s) = at_block free (sym (left k) ∙ ap (λ z. at rows-left z k) (sym s) ∙ f) (order k)
 
-    pub made-removed : (uses' : List (List Use)) → length uses' ≡ length uses → AreAgreed rows-left uses' → (defined written-left uses' ≡ after) × AreMade rows-left written-left uses'
+    pub made-removed : (uses' : List (List Use)) → length uses' ≡ length uses → AreAgreed rows-left uses' → (definitions_now written-left uses' ≡ after) × AreMade rows-left written-left uses'
     made-removed uses' n agreed' =
         let c : length written-left ≡ length uses' = length-set written value (Argument block i) ∙ is.count ∙ sym n in
         let g : length after ≡ length written-left = length_numbered before block i later ∙ long ∙ sym (length-set written value (Argument block i)) in
@@ -301,7 +301,7 @@ module _ (rows : List (List ℕ)) (written : List Def) (uses : List (List Use)) 
     cleared = set rows block []
 
     abbrev written-cleared : List Def
-    written-cleared = numbered written block 0 (get_or rows block [])
+    written-cleared = argument_definitions_from written block 0 (get_or rows block [])
 
     cleared-numbered : AreNumbered cleared before
     cleared-numbered b j v e = elim (cases_eq b block) [
@@ -337,7 +337,7 @@ module _ (rows : List (List ℕ)) (written : List Def) (uses : List (List Use)) 
             let out : In v (get_or rows block []) → ⊥ = λ l. let p = in_at (get_or rows block []) v l in ne (stands-once rows before is.numbered b block k p.0 v g p.1).0 in
             is.apart v op j (sym (numbered_other written block 0 (get_or rows block []) v out) ∙ e) b k g
 
-    pub made-cleared : (uses' : List (List Use)) → length uses' ≡ length uses → AreAgreed cleared uses' → (defined written-cleared uses' ≡ before) × AreMade cleared written-cleared uses'
+    pub made-cleared : (uses' : List (List Use)) → length uses' ≡ length uses → AreAgreed cleared uses' → (definitions_now written-cleared uses' ≡ before) × AreMade cleared written-cleared uses'
     made-cleared uses' n agreed' =
         let k = length_numbered written block 0 (get_or rows block []) in
         let c : length written-cleared ≡ length uses' = k ∙ is.count ∙ sym n in
@@ -345,25 +345,25 @@ module _ (rows : List (List ℕ)) (written : List Def) (uses : List (List Use)) 
         (defined-is cleared written-cleared uses' agreed' c before g cleared-numbered cleared-free, made-is cleared written-cleared uses' agreed' c before g cleared-numbered cleared-free cleared-apart)
 
 -- as many values as are written
-pub length-uses-defined : (rows : List (List ℕ)) (written : List Def) (uses : List (List Use)) → AreMade rows written uses → length uses ≡ length (defined written uses)
+pub length-uses-defined : (rows : List (List ℕ)) (written : List Def) (uses : List (List Use)) → AreMade rows written uses → length uses ≡ length (definitions_now written uses)
 length-uses-defined rows written uses is = sym is.count ∙ sym (length-defined written uses is.count)
 
 -- what makes a value that is written as a result
-pub result-made : (rows : List (List ℕ)) (written : List Def) (uses : List (List Use)) (v : ℕ) (d : Def) (op i : ℕ) → AreAgreed rows uses → AreMade rows written uses → slice_get written v ≡ Some d → d ≡ Result op i → Some d ≡ slice_get (defined written uses) v
+pub result-made : (rows : List (List ℕ)) (written : List Def) (uses : List (List Use)) (v : ℕ) (d : Def) (op i : ℕ) → AreAgreed rows uses → AreMade rows written uses → slice_get written v ≡ Some d → d ≡ Result op i → Some d ≡ slice_get (definitions_now written uses) v
 result-made rows written uses v d op i agreed is e f = sym (defined-free rows written uses agreed is.count v (is.apart v op i (e ∙ ap Some f)) ∙ e)
 
 -- what makes a value without uses, and one with a use
-pub unused-made : (written : List Def) (uses : List (List Use)) (v : ℕ) (d : Def) → length written ≡ length uses → slice_get written v ≡ Some d → length (get_or uses v []) ≡ 0 → Some d ≡ slice_get (defined written uses) v
-unused-made written uses v d n e none = sym (defined-at written uses v d n e ∙ ap (λ l. Some (made d l)) (empty (get_or uses v []) none))
+pub unused-made : (written : List Def) (uses : List (List Use)) (v : ℕ) (d : Def) → length written ≡ length uses → slice_get written v ≡ Some d → length (get_or uses v []) ≡ 0 → Some d ≡ slice_get (definitions_now written uses) v
+unused-made written uses v d n e none = sym (defined-at written uses v d n e ∙ ap (λ l. Some (definition_now d l)) (empty (get_or uses v []) none))
   where
     empty : (list : List Use) → length list ≡ 0 → list ≡ []
     empty [] z = refl
     empty (u ∷ us) z = absurd (omega (arith, z))
 
-pub used-made : (written : List Def) (uses : List (List Use)) (v : ℕ) (u : Use) → length written ≡ length uses → v < length written → slice_get (get_or uses v []) 0 ≡ Some u → Some (Argument u.user u.place) ≡ slice_get (defined written uses) v
+pub used-made : (written : List Def) (uses : List (List Use)) (v : ℕ) (u : Use) → length written ≡ length uses → v < length written → slice_get (get_or uses v []) 0 ≡ Some u → Some (Argument u.user u.place) ≡ slice_get (definitions_now written uses) v
 used-made written uses v u n h first = sym (defined-at written uses v _ n (slice_get-get_or written v (Argument 0 0) h) ∙ used (get_or uses v []) first)
   where
-    used : (list : List Use) → slice_get list 0 ≡ Some u → Some (made (get_or written v (Argument 0 0)) list) ≡ Some (Argument u.user u.place)
+    used : (list : List Use) → slice_get list 0 ≡ Some u → Some (definition_now (get_or written v (Argument 0 0)) list) ≡ Some (Argument u.user u.place)
     used [] f = absurd (cc)
     used (x ∷ xs) f = ap (λ (y : Use). Some (Argument y.user y.place)) (same f)
 

@@ -3,11 +3,11 @@ use Rattle.std.proofs.Common.{◌≡◌, ℕ, suc, ◌+◌, ◌-◌, ◌<◌, �
 use Rattle.std.specs.List.{sum_by}
 use Rattle.std.proofs.lemmas.List.Sums.{sum_by-set}
 use Rattle.pliron_core.specs.declared.context.OperationEntry.{OperationEntry}
-use Rattle.pliron_core.specs.Tree.{Tree, no_entry, row_of, head_of, regions_of, parent_of, block_parent_of, holder_of}
-use Rattle.pliron_core.specs.Joined.{IsTree}
+use Rattle.pliron_core.specs.Tree.{Tree, no_entry, row_of, head_of, regions_of, parent_of, block_parent_of, parent_operation_of}
+use Rattle.pliron_core.specs.Invariant.{IsTree}
 use Rattle.pliron_core.specs.Writes.{taken_from}
 use Rattle.pliron_core.specs.Erased.{block_taken_from}
-use Rattle.pliron_core.specs.Dismantling.{IsStep, Down, LessBlock, LessRegion, Up, buried, region_popped, last_region_of}
+use Rattle.pliron_core.specs.Dismantling.{IsStep, Down, LessBlock, LessRegion, Up, after_dismantling, region_popped, last_region_of}
 use Rattle.pliron_core.proofs.TreeLemmas.{live-within, within-some}
 use Rattle.pliron_core.proofs.LastLemmas.{last_front, take_front}
 use Rattle.pliron_core.proofs.ChainLemmas.{height, height-le, height_step}
@@ -28,26 +28,26 @@ size t = sum_by weight t.operations + sum_by block_weight t.block_parents
 -- how much deeper the way may still go
 abbrev pub gap : Tree → Option ℕ → ℕ
 gap t None = 0
-gap t (Some k) = length t.operations - height (holder_of t) (length t.operations) (Some k)
+gap t (Some k) = length t.operations - height (parent_operation_of t) (length t.operations) (Some k)
 
 abbrev pub left_over : Tree → Option ℕ → Tree → ℕ
 left_over t at u = size u + gap t at
 
 module _ (t : Tree) (op : ℕ) (w : IsTree t) (u : Tree) (k : ℕ) (d : IsDescent t op (Some k) u) where
   -- one step down is one deeper
-  deeper : (x y : ℕ) → holder_of t x ≡ Some y → height (holder_of t) (length t.operations) (Some x) ≡ suc (height (holder_of t) (length t.operations) (Some y))
-  deeper x y e = height_step (holder_of t) w.joined.rooted (length t.operations) (held_below t (nat_eq op) w.joined) x (live-within t x (holder_live t x y w.joined e).0) ∙ ap (λ o. suc (height (holder_of t) (length t.operations) o)) e
+  deeper : (x y : ℕ) → parent_operation_of t x ≡ Some y → height (parent_operation_of t) (length t.operations) (Some x) ≡ suc (height (parent_operation_of t) (length t.operations) (Some y))
+  deeper x y e = height_step (parent_operation_of t) w.joined.rooted (length t.operations) (held_below t (nat_eq op) w.joined) x (live-within t x (holder_live t x y w.joined e).0) ∙ ap (λ o. suc (height (parent_operation_of t) (length t.operations) o)) e
 
-  was : (x y : ℕ) → holder_of u x ≡ Some y → holder_of t x ≡ Some y
+  was : (x y : ℕ) → parent_operation_of u x ≡ Some y → parent_operation_of t x ≡ Some y
   was x y e = holder_was t u (nat_eq op) (block_gone t (nat_eq op)) w d.tree d.clearing x y e
 
-  down : (c : ℕ) → holder_of u c ≡ Some k → gap t (Some c) < gap t (Some k)
+  down : (c : ℕ) → parent_operation_of u c ≡ Some k → gap t (Some c) < gap t (Some k)
   down c e =
       let h = deeper c k (was c k e) in
-      let m = height-le (holder_of t) (length t.operations) (Some c) in
+      let m = height-le (parent_operation_of t) (length t.operations) (Some c) in
       omega (arith, h, m)
 
-  up : (o : Option ℕ) → holder_of u k ≡ o → gap t o ≤ suc (gap t (Some k))
+  up : (o : Option ℕ) → parent_operation_of u k ≡ o → gap t o ≤ suc (gap t (Some k))
   up None e = omega arith
   up (Some y) e =
       let h = deeper k y (was k y e) in
@@ -69,7 +69,7 @@ module _ (t : Tree) (op : ℕ) (w : IsTree t) (u : Tree) (k : ℕ) (d : IsDescen
       let m : length (take (length (regions_of u k) - 1) (regions_of u k)) ≡ length f.0 = ap length short in
       omega (arith, s, n, m)
 
-  less_operation : (o : Option ℕ) → regions_of u k ≡ [] → size (buried (taken_from u k o) k) + 1 < size u
+  less_operation : (o : Option ℕ) → regions_of u k ≡ [] → size (after_dismantling (taken_from u k o) k) + 1 < size u
   less_operation o n =
       let s : sum_by weight (slice_set u.operations k no_entry) + weight (row_of u k) ≡ sum_by weight u.operations + weight no_entry = sum_by-set weight u.operations k no_entry no_entry (live-within u k d.place.0) in
       let h : weight (row_of u k) ≡ 2 = ap (λ xs. length xs + (if is_some (head_of u k) then 2 else 0)) n ∙ ap (λ b. 0 + (if b then 2 else 0)) d.place.0 in
@@ -92,7 +92,7 @@ module _ (t : Tree) (op : ℕ) (w : IsTree t) (u : Tree) (k : ℕ) (d : IsDescen
       let c = less_region r last in
       omega (arith, a, c)
   descent_falls o v (Up to n e) =
-      let a : left_over t o v ≡ left_over t (holder_of u k) (buried (taken_from u k (parent_of u k)) k) = ap (λ z. left_over t z v) to ∙ ap (λ z. left_over t (holder_of u k) z) e in
-      let b = up (holder_of u k) refl in
+      let a : left_over t o v ≡ left_over t (parent_operation_of u k) (after_dismantling (taken_from u k (parent_of u k)) k) = ap (λ z. left_over t z v) to ∙ ap (λ z. left_over t (parent_operation_of u k) z) e in
+      let b = up (parent_operation_of u k) refl in
       let c = less_operation (parent_of u k) n in
       omega (arith, a, b, c)

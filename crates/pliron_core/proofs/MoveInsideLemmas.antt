@@ -3,9 +3,9 @@ use Rattle.std.proofs.Common.{◌≡◌, ◌≢◌, ◌⊎◌, ℕ, ◌<◌, ◌
 use Rattle.std.proofs.lemmas.Bool.{cases_eq}
 use Rattle.std.proofs.lemmas.List.{get_or-set_other, get_or-set_same, get_or_past}
 use Rattle.pliron_core.specs.Lists.{without, put_before}
-use Rattle.pliron_core.specs.Tree.{Tree, up_from, parent_of, body_of, block_holder_of, holder_of, IsInside, IsInside.Directly, IsInside.Deeper, IsWithin, HoldsBlock}
-use Rattle.pliron_core.specs.Joined.{IsTree}
-use Rattle.pliron_core.specs.Writes.{placed, put_first, put_next_to, taken_from, taken_out, moved_last}
+use Rattle.pliron_core.specs.Tree.{Tree, up_from, parent_of, body_of, block_parent_operation_of, parent_operation_of, IsInside, IsInside.Directly, IsInside.Deeper, IsWithin, HoldsBlock}
+use Rattle.pliron_core.specs.Invariant.{IsTree}
+use Rattle.pliron_core.specs.Writes.{after_placing, put_first, put_next_to, taken_from, taken_out, moved_last}
 use Rattle.pliron_core.specs.Changes.{IsInsideChange}
 use Rattle.pliron_core.proofs.HoldingLemmas.{not_none, holder_is, holder_by, inside_by, inside_up, block_inside}
 use Rattle.pliron_core.proofs.InsideLemmas.{AreKeptOutside, change_of_kept}
@@ -24,7 +24,7 @@ past_parent t k b e = go (cases_lt k (length t.parents))
 -- an operation inside op, which comes into another block that op holds
 module _ (t : Tree) (op x from block : ℕ) (body : List ℕ) (w : IsTree t) (there : parent_of t x ≡ Some from) (i : IsInside t op x) (held : HoldsBlock t op block) (free : HoldsBlock t x block → ⊥) where
   abbrev pub with_moved : Tree
-  with_moved = placed (taken_from t x (Some from)) x block body
+  with_moved = after_placing (taken_from t x (Some from)) x block body
 
   moved_parent : parent_of with_moved x ≡ Some block
   moved_parent = get_or-set_same (slice_set t.parents x None) x (Some block) None (omega (arith, past_parent t x from there, length-set t.parents x None))
@@ -32,8 +32,8 @@ module _ (t : Tree) (op x from block : ℕ) (body : List ℕ) (w : IsTree t) (th
   moved_same : (y : ℕ) → y ≢ x → parent_of with_moved y ≡ parent_of t y
   moved_same y ne = get_or-set_other (slice_set t.parents x None) x y (Some block) None ne ∙ get_or-set_other t.parents x y None None ne
 
-  moved_holder : (y p : ℕ) → y ≢ x → holder_of t y ≡ Some p → holder_of with_moved y ≡ Some p
-  moved_holder y p ne e = ap (λ z. up_from z (λ b. block_holder_of t b)) (moved_same y ne) ∙ e
+  moved_holder : (y p : ℕ) → y ≢ x → parent_operation_of t y ≡ Some p → parent_operation_of with_moved y ≡ Some p
+  moved_holder y p ne e = ap (λ z. up_from z (λ b. block_parent_operation_of t b)) (moved_same y ne) ∙ e
 
   -- beside x nothing moves
   beside : (y : ℕ) → (IsWithin t x y → ⊥) → IsInside t op y → IsInside with_moved op y
@@ -59,7 +59,7 @@ module _ (t : Tree) (op x from block : ℕ) (body : List ℕ) (w : IsTree t) (th
       step (inl s) up = subst (IsInside with_moved op) (sym s) moved_inside_op
       step (inr ne) up = Deeper p (moved_holder y p ne e) up
 
-  moved_change : IsInsideChange t (placed (taken_from t x (Some from)) x block body) op
+  moved_change : IsInsideChange t (after_placing (taken_from t x (Some from)) x block body) op
   moved_change = change_of_kept t with_moved op w.joined kept (λ y o. (o.0, λ j. o.1 (stays y j))) (λ b o. (o.0, λ h. o.1 (h.0, h.1, within h.0 h.2)))
     where
       within : (k : ℕ) → IsWithin t op k → IsWithin with_moved op k
@@ -79,11 +79,11 @@ module _ (t : Tree) (op x from block : ℕ) (body : List ℕ) (w : IsTree t) (th
 
 -- moving
 module _ (t : Tree) (op x block : ℕ) (w : IsTree t) (i : IsInside t op x) (held : HoldsBlock t op block) (free : HoldsBlock t x block → ⊥) where
-  pub moved_placed_inside : (body : List ℕ) → IsInsideChange t (placed (taken_out t x) x block body) op
+  pub moved_placed_inside : (body : List ℕ) → IsInsideChange t (after_placing (taken_out t x) x block body) op
   moved_placed_inside body =
       let up = inside_up i in
       let h = holder_is t x up.0 up.1 in
-      subst (λ o. IsInsideChange t (placed (taken_from t x o) x block body) op) (sym h.1) (moved_change t op x h.0 block body w h.1 i held free)
+      subst (λ o. IsInsideChange t (after_placing (taken_from t x o) x block body) op) (sym h.1) (moved_change t op x h.0 block body w h.1 i held free)
 
   pub moved_last_inside : IsInsideChange t (moved_last t x block) op
   moved_last_inside = moved_placed_inside (body_of (taken_out t x) block ++ x ∷ [])

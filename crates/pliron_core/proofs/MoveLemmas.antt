@@ -8,11 +8,11 @@ use Rattle.std.proofs.lemmas.Bool.Decides.{nat_tests}
 use Rattle.std.proofs.lemmas.Option.{slice_get_within}
 use Rattle.std.proofs.lemmas.List.{get_or-set_same, get_or-set_other, length-set, get_or_default, length-map, set-get_or, set-set}
 use Rattle.pliron_core.specs.declared.uses.Use.{Use}
-use Rattle.pliron_core.specs.declared.places.Place.{Place}
+use Rattle.pliron_core.specs.declared.use_slots.UseSlot.{UseSlot}
 use Rattle.std.proofs.Math.ListN.{get_or-map}
 use Rattle.pliron_core.specs.Uses.{replace_target}
-use Rattle.pliron_core.specs.declared.places.Holes.{Holes}
-use Rattle.pliron_core.specs.Places.{at, held, mark_of, marks, marks_in, no_target, shifted, IsLinked, targets_in, ranked_use, uses_in}
+use Rattle.pliron_core.specs.declared.use_slots.Holes.{Holes}
+use Rattle.pliron_core.specs.UseSlots.{at, targets_held, mark_of, marks, marks_in, no_target, retarget_slot, IsLinked, targets_in, ranked_use, uses_in}
 use Rattle.pliron_core.specs.Holes.{HaveHoles}
 use Rattle.pliron_core.proofs.PlaceLemmas.{at-map}
 use Rattle.pliron_core.proofs.GapLemmas.{held-free, held-taken}
@@ -20,71 +20,71 @@ use Rattle.pliron_core.proofs.CountLemmas.{mark-free, mark-taken}
 use Rattle.pliron_core.proofs.HoleLemmas.{holes-same}
 use Rattle.pliron_core.proofs.TableLemmas.{set-same, set-other, at-within, at-same, at-other}
 
-shifted-here : (old new first k : ℕ) → shifted old new first (k + 1) (record { target = old; at = k }) ≡ (let p : Place = record { target = new; at = first + k } in p)
+shifted-here : (old new first k : ℕ) → retarget_slot old new first (k + 1) (record { target = old; at = k }) ≡ (let p : UseSlot = record { target = new; at = first + k } in p)
 shifted-here old new first k = grind (arith, nat_tests)
 
-shifted-other : (old new first k : ℕ) (p : Place) → ((p.target ≡ old) → (p.at ≡ k) → ⊥) → shifted old new first (k + 1) p ≡ shifted old new first k p
+shifted-other : (old new first k : ℕ) (p : UseSlot) → ((p.target ≡ old) → (p.at ≡ k) → ⊥) → retarget_slot old new first (k + 1) p ≡ retarget_slot old new first k p
 shifted-other old new first k p other =
     elim (cases_eq p.target old) [
       | inl same ↦ let ne : p.at ≢ k = other same in let e : nat_lt p.at (k + 1) ≡ nat_lt p.at k = grind (arith, nat_tests) in rw e refl
       | inr differs ↦ rw (ne_eqb p.target old differs) refl
     ]
 
-pub shifted-none : (old new first : ℕ) (p : Place) → shifted old new first 0 p ≡ p
+pub shifted-none : (old new first : ℕ) (p : UseSlot) → retarget_slot old new first 0 p ≡ p
 shifted-none old new first p = grind (arith, nat_tests)
 
-pub all_kept : (old new first : ℕ) (o : Option Place) → o ≡ option_map (shifted old new first 0) o
+pub all_kept : (old new first : ℕ) (o : Option UseSlot) → o ≡ option_map (retarget_slot old new first 0) o
 all_kept old new first None = refl
 all_kept old new first (Some p) = ap Some (sym (shifted-none old new first p))
 
 -- one more place names the new target
-pub one_more : (old new first k : ℕ) (before rows : List (List Place)) (moved : List Use) (one : Use)
-    → ((u p : ℕ) → at rows u p ≡ option_map (shifted old new first k) (at before u p))
+pub one_more : (old new first k : ℕ) (before rows : List (List UseSlot)) (moved : List Use) (one : Use)
+    → ((u p : ℕ) → at rows u p ≡ option_map (retarget_slot old new first k) (at before u p))
     → slice_get moved k ≡ Some one → at before one.user one.place ≡ Some (record { target = old; at = k })
     → ((u p : ℕ) → at before u p ≡ Some (record { target = old; at = k }) → slice_get moved k ≡ Some (record { user = u; place = p }))
-    → (u p : ℕ) → at (set rows one.user (set (get_or rows one.user []) one.place (record { target = new; at = first + k }))) u p ≡ option_map (shifted old new first (k + 1)) (at before u p)
+    → (u p : ℕ) → at (set rows one.user (set (get_or rows one.user []) one.place (record { target = new; at = first + k }))) u p ≡ option_map (retarget_slot old new first (k + 1)) (at before u p)
 one_more old new first k before rows moved one each is listed placed u p =
     elim (cases_eq u one.user) [
       | inl eu ↦ elim (cases_eq p one.place) [
-        | inl ep ↦ rw (eu, ep) (at-same rows one.user _ one.place within ∙ set-same (get_or rows one.user []) one.place _ _ here ∙ sym (ap (option_map (shifted old new first (k + 1))) listed ∙ ap Some (shifted-here old new first k)))
+        | inl ep ↦ rw (eu, ep) (at-same rows one.user _ one.place within ∙ set-same (get_or rows one.user []) one.place _ _ here ∙ sym (ap (option_map (retarget_slot old new first (k + 1))) listed ∙ ap Some (shifted-here old new first k)))
         | inr np ↦ rw eu (at-same rows one.user _ p within ∙ set-other (get_or rows one.user []) one.place p _ np) ∙ kept (λ e. np (ap (λ z. z.place) e))
       ]
       | inr nu ↦ at-other rows one.user u _ p nu ∙ kept (λ e. nu (ap (λ z. z.user) e))
     ]
   where
-    here : at rows one.user one.place ≡ Some (shifted old new first k (record { target = old; at = k }))
-    here = each one.user one.place ∙ ap (option_map (shifted old new first k)) listed
+    here : at rows one.user one.place ≡ Some (retarget_slot old new first k (record { target = old; at = k }))
+    here = each one.user one.place ∙ ap (option_map (retarget_slot old new first k)) listed
 
     within : one.user < length rows
     within = at-within rows one.user one.place _ here
 
-    same : (o : Option Place) → at before u p ≡ o → ((let q : Use = record { user = u; place = p } in q) ≡ one → ⊥) → option_map (shifted old new first k) o ≡ option_map (shifted old new first (k + 1)) o
+    same : (o : Option UseSlot) → at before u p ≡ o → ((let q : Use = record { user = u; place = p } in q) ≡ one → ⊥) → option_map (retarget_slot old new first k) o ≡ option_map (retarget_slot old new first (k + 1)) o
     same None e other = refl
     same (Some q) e other = ap Some (sym (shifted-other old new first k q (λ t i.
-        let q_is : q ≡ record { target = old; at = k } = ap (λ z. let r : Place = record { target = z; at = q.at } in r) t ∙ ap (λ z. let r : Place = record { target = old; at = z } in r) i in
+        let q_is : q ≡ record { target = old; at = k } = ap (λ z. let r : UseSlot = record { target = z; at = q.at } in r) t ∙ ap (λ z. let r : UseSlot = record { target = old; at = z } in r) i in
         let two : slice_get moved k ≡ Some (record { user = u; place = p }) = placed u p (e ∙ ap Some q_is) in
         other (same_use (sym two ∙ is)))))
       where
         same_use : {a b : Use} → Some a ≡ Some b → a ≡ b
         same_use e = cc
 
-    kept : ((let q : Use = record { user = u; place = p } in q) ≡ one → ⊥) → at rows u p ≡ option_map (shifted old new first (k + 1)) (at before u p)
+    kept : ((let q : Use = record { user = u; place = p } in q) ≡ one → ⊥) → at rows u p ≡ option_map (retarget_slot old new first (k + 1)) (at before u p)
     kept other = each u p ∙ same (at before u p) refl other
 
 -- the place of a listed use stands in the tables
-pub standing : (old new first k : ℕ) (before rows : List (List Place)) (u p : ℕ)
-    → at rows u p ≡ option_map (shifted old new first k) (at before u p) → at before u p ≡ Some (record { target = old; at = k })
+pub standing : (old new first k : ℕ) (before rows : List (List UseSlot)) (u p : ℕ)
+    → at rows u p ≡ option_map (retarget_slot old new first k) (at before u p) → at before u p ≡ Some (record { target = old; at = k })
     → (u < length rows) × (p < length (get_or rows u []))
 standing old new first k before rows u p each listed =
-    let here : at rows u p ≡ Some (shifted old new first k (record { target = old; at = k })) = each ∙ ap (option_map (shifted old new first k)) listed in
+    let here : at rows u p ≡ Some (retarget_slot old new first k (record { target = old; at = k })) = each ∙ ap (option_map (retarget_slot old new first k)) listed in
     (at-within rows u p _ here, slice_get_within (get_or rows u []) p _ here)
 
-pub one_written : (old new first k : ℕ) (before rows : List (List Place)) (moved : List Use) (one : Use) (row row2 : List Place)
-    → ((u p : ℕ) → at rows u p ≡ option_map (shifted old new first k) (at before u p))
+pub one_written : (old new first k : ℕ) (before rows : List (List UseSlot)) (moved : List Use) (one : Use) (row row2 : List UseSlot)
+    → ((u p : ℕ) → at rows u p ≡ option_map (retarget_slot old new first k) (at before u p))
     → slice_get moved k ≡ Some one → at before one.user one.place ≡ Some (record { target = old; at = k })
     → ((u p : ℕ) → at before u p ≡ Some (record { target = old; at = k }) → slice_get moved k ≡ Some (record { user = u; place = p }))
     → row ≡ get_or rows one.user row → row2 ≡ set row one.place (record { target = new; at = first + k })
-    → (u p : ℕ) → at (set rows one.user row2) u p ≡ option_map (shifted old new first (k + 1)) (at before u p)
+    → (u p : ℕ) → at (set rows one.user row2) u p ≡ option_map (retarget_slot old new first (k + 1)) (at before u p)
 one_written old new first k before rows moved one row row2 each is listed placed read written u p =
     let w = (standing old new first k before rows one.user one.place (each one.user one.place) listed).0 in
     let row_is : row ≡ get_or rows one.user [] = read ∙ get_or_default rows one.user row [] w in
@@ -119,17 +119,17 @@ module _ {A : Type 0} where
       let h : x ≡ y = same-row x y (λ p. same 0 p) in
       let t : xs ≡ ys = same-rows xs ys (omega arith) (λ u p. same (suc u) p) in cc
 
-shifted-yes : (old new first n : ℕ) (p : Place) → p.target ≡ old → p.at < n → shifted old new first n p ≡ (let q : Place = record { target = new; at = first + p.at } in q)
+shifted-yes : (old new first n : ℕ) (p : UseSlot) → p.target ≡ old → p.at < n → retarget_slot old new first n p ≡ (let q : UseSlot = record { target = new; at = first + p.at } in q)
 shifted-yes old new first n p same lt = grind (arith, nat_tests)
 
-shifted-no : (old new first n : ℕ) (p : Place) → p.target ≢ old → shifted old new first n p ≡ p
+shifted-no : (old new first n : ℕ) (p : UseSlot) → p.target ≢ old → retarget_slot old new first n p ≡ p
 shifted-no old new first n p differs = rw (ne_eqb p.target old differs) refl
 
 some_is : {X : Type 0} {a b : X} → Some a ≡ Some b → a ≡ b
 some_is e = cc
 
-module _ (rows after : List (List Place)) (lists : List (List Use)) (old new : ℕ) (is : IsLinked rows lists) (ho : old < length lists) (hn : new < length lists) (differ : old ≢ new)
-    (each : (u p : ℕ) → at after u p ≡ option_map (shifted old new (length (get_or lists new [])) (length (get_or lists old []))) (at rows u p)) where
+module _ (rows after : List (List UseSlot)) (lists : List (List Use)) (old new : ℕ) (is : IsLinked rows lists) (ho : old < length lists) (hn : new < length lists) (differ : old ≢ new)
+    (each : (u p : ℕ) → at after u p ≡ option_map (retarget_slot old new (length (get_or lists new [])) (length (get_or lists old []))) (at rows u p)) where
   abbrev lists2 : List (List Use)
   lists2 = set (set lists old []) new (get_or lists new [] ++ get_or lists old [])
 
@@ -142,7 +142,7 @@ module _ (rows after : List (List Place)) (lists : List (List Use)) (old new : �
   at-rest : (t i : ℕ) → t ≢ old → t ≢ new → at lists2 t i ≡ at lists t i
   at-rest t i far nn = at-other (set lists old []) new t _ i nn ∙ at-other lists old t [] i far
 
-  listed : (q : Place) (u p : ℕ) → at rows u p ≡ Some q → q.target ≢ no_target → at lists q.target q.at ≡ Some (record { user = u; place = p })
+  listed : (q : UseSlot) (u p : ℕ) → at rows u p ≡ Some q → q.target ≢ no_target → at lists q.target q.at ≡ Some (record { user = u; place = p })
   listed q u p e real = is.used u p q.target q.at e real
 
   old-real : old ≢ no_target
@@ -158,7 +158,7 @@ module _ (rows after : List (List Place)) (lists : List (List Use)) (old new : �
     | inr nn ↦ at-rest t i far nn ∙ e
   ]
 
-  used_by : (o : Option Place) (u p t i : ℕ) → at rows u p ≡ o → option_map (shifted old new (length (get_or lists new [])) (length (get_or lists old []))) o ≡ Some (record { target = t; at = i }) → t ≢ no_target → at lists2 t i ≡ Some (record { user = u; place = p })
+  used_by : (o : Option UseSlot) (u p t i : ℕ) → at rows u p ≡ o → option_map (retarget_slot old new (length (get_or lists new [])) (length (get_or lists old []))) o ≡ Some (record { target = t; at = i }) → t ≢ no_target → at lists2 t i ≡ Some (record { user = u; place = p })
   used_by None u p t i e f real = absurd (cc)
   used_by (Some q) u p t i e f real =
       elim (cases_eq q.target old) [
@@ -196,11 +196,11 @@ module _ (rows after : List (List Place)) (lists : List (List Use)) (old new : �
   pub linked-moved : IsLinked after lists2
   linked-moved = record { used = λ u p t i e. used_by (at rows u p) u p t i refl (sym (each u p) ∙ e); placed = placed_by; few = few }
 
-  abbrev move : Place → Place
-  move q = shifted old new (length (get_or lists new [])) (length (get_or lists old [])) q
+  abbrev move : UseSlot → UseSlot
+  move q = retarget_slot old new (length (get_or lists new [])) (length (get_or lists old [])) q
 
   -- what a place names after the move
-  moved-target : (u p : ℕ) (q : Place) → at rows u p ≡ Some q → (move q).target ≡ replace_target old new q.target
+  moved-target : (u p : ℕ) (q : UseSlot) → at rows u p ≡ Some q → (move q).target ≡ replace_target old new q.target
   moved-target u p q e =
       elim (cases_eq q.target old) [
         | inl same ↦
@@ -210,29 +210,29 @@ module _ (rows after : List (List Place)) (lists : List (List Use)) (old new : �
       ]
 
   -- it is taken as before
-  move-free : (q : Place) → q.target ≡ no_target → (move q).target ≡ no_target
+  move-free : (q : UseSlot) → q.target ≡ no_target → (move q).target ≡ no_target
   move-free q free = ap (λ z. z.target) (shifted-no old new _ _ q (λ s. old-real (sym s ∙ free))) ∙ free
 
-  move-taken : (u p : ℕ) (q : Place) → at rows u p ≡ Some q → q.target ≢ no_target → (move q).target ≢ no_target
+  move-taken : (u p : ℕ) (q : UseSlot) → at rows u p ≡ Some q → q.target ≢ no_target → (move q).target ≢ no_target
   move-taken u p q e real f =
       elim (cases_eq q.target old) [
         | inl same ↦ new-real (sym (moved-target u p q e ∙ rw (eq-eqb q.target old same) refl) ∙ f)
         | inr far ↦ real (sym (ap (λ z. z.target) (shifted-no old new _ _ q far)) ∙ f)
       ]
 
-  held-moved : (row : List Place) → ((p : ℕ) (q : Place) → slice_get row p ≡ Some q → (q.target ≢ no_target → (move q).target ≢ no_target) × ((move q).target ≡ replace_target old new q.target)) → held (map move row) ≡ map (replace_target old new) (held row)
+  held-moved : (row : List UseSlot) → ((p : ℕ) (q : UseSlot) → slice_get row p ≡ Some q → (q.target ≢ no_target → (move q).target ≢ no_target) × ((move q).target ≡ replace_target old new q.target)) → targets_held (map move row) ≡ map (replace_target old new) (targets_held row)
   held-moved [] each = refl
   held-moved (q ∷ qs) each = elim (cases_eq q.target no_target) [
     | inl h ↦ held-free (move q) (map move qs) (move-free q h) ∙ held-moved qs (λ p x e. each (suc p) x e) ∙ ap (map (replace_target old new)) (sym (held-free q qs h))
     | inr h ↦
         let first = each 0 q refl in
-        held-taken (move q) (map move qs) (first.0 h) ∙ ap (λ l. (move q).target ∷ l) (held-moved qs (λ p x e. each (suc p) x e)) ∙ ap (λ z. z ∷ map (replace_target old new) (held qs)) first.1 ∙ ap (map (replace_target old new)) (sym (held-taken q qs h))
+        held-taken (move q) (map move qs) (first.0 h) ∙ ap (λ l. (move q).target ∷ l) (held-moved qs (λ p x e. each (suc p) x e)) ∙ ap (λ z. z ∷ map (replace_target old new) (targets_held qs)) first.1 ∙ ap (map (replace_target old new)) (sym (held-taken q qs h))
   ]
 
   moved-rows : length after ≡ length rows → after ≡ map (λ r. map move r) rows
   moved-rows long = same-rows after (map (λ r. map move r) rows) (long ∙ sym (length-map rows _)) (λ u p. each u p ∙ sym (at-map move rows u p))
 
-  all-held : (some : List (List Place)) → ((u : ℕ) → (p : ℕ) (q : Place) → at some u p ≡ Some q → (q.target ≢ no_target → (move q).target ≢ no_target) × ((move q).target ≡ replace_target old new q.target)) → targets_in (map (λ r. map move r) some) ≡ map (map (replace_target old new)) (targets_in some)
+  all-held : (some : List (List UseSlot)) → ((u : ℕ) → (p : ℕ) (q : UseSlot) → at some u p ≡ Some q → (q.target ≢ no_target → (move q).target ≢ no_target) × ((move q).target ≡ replace_target old new q.target)) → targets_in (map (λ r. map move r) some) ≡ map (map (replace_target old new)) (targets_in some)
   all-held [] each = refl
   all-held (r ∷ rs) each = let one = held-moved r (each 0) in let rest = all-held rs (λ u. each (suc u)) in rw (one, rest) refl
 
@@ -240,7 +240,7 @@ module _ (rows after : List (List Place)) (lists : List (List Use)) (old new : �
   targets-moved long = ap targets_in (moved-rows long) ∙ all-held rows (λ u p q e. (move-taken u p q e, moved-target u p q e))
 
   -- the same places are taken
-  marks-moved : (row : List Place) → ((p : ℕ) (q : Place) → slice_get row p ≡ Some q → q.target ≢ no_target → (move q).target ≢ no_target) → marks (map move row) ≡ marks row
+  marks-moved : (row : List UseSlot) → ((p : ℕ) (q : UseSlot) → slice_get row p ≡ Some q → q.target ≢ no_target → (move q).target ≢ no_target) → marks (map move row) ≡ marks row
   marks-moved [] taken = refl
   marks-moved (q ∷ qs) taken =
       let one : mark_of (move q) ≡ mark_of q = elim (cases_eq q.target no_target) [
@@ -250,7 +250,7 @@ module _ (rows after : List (List Place)) (lists : List (List Use)) (old new : �
       let rest = marks-moved qs (λ p x e. taken (suc p) x e) in
       ap (λ m. m ∷ marks (map move qs)) one ∙ ap (λ l. mark_of q ∷ l) rest
 
-  all-marks : (some : List (List Place)) → ((u : ℕ) → (p : ℕ) (q : Place) → at some u p ≡ Some q → q.target ≢ no_target → (move q).target ≢ no_target) → marks_in (map (λ r. map move r) some) ≡ marks_in some
+  all-marks : (some : List (List UseSlot)) → ((u : ℕ) → (p : ℕ) (q : UseSlot) → at some u p ≡ Some q → q.target ≢ no_target → (move q).target ≢ no_target) → marks_in (map (λ r. map move r) some) ≡ marks_in some
   all-marks [] taken = refl
   all-marks (r ∷ rs) taken = let one = marks-moved r (taken 0) in let rest = all-marks rs (λ u. taken (suc u)) in rw (one, rest) refl
 
@@ -288,15 +288,15 @@ put_back lists old new moved was dest row before ho hn differ r0 r1 r2 same =
     let m : moved ≡ get_or lists old [] = r1 ∙ r0 ∙ get_or_default lists old was [] ho in
     rw (b, set-get_or (set lists old dest) new [], set-set, m) (set-get_or lists old [])
 
-pub reword : (rows after : List (List Place)) (old new a b m n : ℕ) → a ≡ m → b ≡ n → ((u p : ℕ) → at after u p ≡ option_map (shifted old new a b) (at rows u p)) → (u p : ℕ) → at after u p ≡ option_map (shifted old new m n) (at rows u p)
-reword rows after old new a b m n e f each u p = each u p ∙ ap (λ z. option_map (shifted old new z b) (at rows u p)) e ∙ ap (λ z. option_map (shifted old new m z) (at rows u p)) f
+pub reword : (rows after : List (List UseSlot)) (old new a b m n : ℕ) → a ≡ m → b ≡ n → ((u p : ℕ) → at after u p ≡ option_map (retarget_slot old new a b) (at rows u p)) → (u p : ℕ) → at after u p ≡ option_map (retarget_slot old new m n) (at rows u p)
+reword rows after old new a b m n e f each u p = each u p ∙ ap (λ z. option_map (retarget_slot old new z b) (at rows u p)) e ∙ ap (λ z. option_map (retarget_slot old new m z) (at rows u p)) f
 
 no_items : {A B : Type 0} (f : A → B) (xs : List A) → map f xs ≡ [] → xs ≡ []
 no_items f [] e = refl
 no_items f (x ∷ xs) e = absurd (cc)
 
 -- a target without uses, by what a contract sees
-pub unused_is : (rows : List (List Place)) (lists : List (List Use)) (target : ℕ) → get_or (uses_in rows lists) target [] ≡ [] → get_or lists target [] ≡ []
+pub unused_is : (rows : List (List UseSlot)) (lists : List (List Use)) (target : ℕ) → get_or (uses_in rows lists) target [] ≡ [] → get_or lists target [] ≡ []
 unused_is rows lists target none = no_items (ranked_use rows) (get_or lists target []) (sym (get_or-map (map (ranked_use rows)) lists target []) ∙ none)
 
 -- what exchanging two lists of uses made of the lists, where `new` had none

@@ -8,12 +8,12 @@ use Rattle.std.proofs.Math.ListN.{get_or-map}
 use Rattle.std.proofs.lemmas.Grind.{common_steps}
 use Rattle.std.specs.Option.{option_map}
 use Rattle.pliron_core.specs.declared.uses.Use.{Use}
-use Rattle.pliron_core.specs.declared.places.Place.{Place}
+use Rattle.pliron_core.specs.declared.use_slots.UseSlot.{UseSlot}
 use Rattle.pliron_core.specs.Uses.{Table, AreAgreed}
-use Rattle.pliron_core.specs.declared.places.Gap.{Gap}
-use Rattle.pliron_core.specs.declared.places.Holes.{Holes}
-use Rattle.pliron_core.specs.declared.places.Holes.TheVariants.{OneGap}
-use Rattle.pliron_core.specs.Places.{at, held, rank, ranked_use, no_target, no_gap, targets_in, uses_in, HasGap, IsLinked}
+use Rattle.pliron_core.specs.declared.use_slots.Gap.{Gap}
+use Rattle.pliron_core.specs.declared.use_slots.Holes.{Holes}
+use Rattle.pliron_core.specs.declared.use_slots.Holes.TheVariants.{OneGap}
+use Rattle.pliron_core.specs.UseSlots.{at, targets_held, rank, ranked_use, no_target, no_gap, targets_in, uses_in, HasGap, IsLinked}
 use Rattle.pliron_core.specs.Holes.{Tracks, hole_of, gap_of, is_counted, HaveHoles, AreLinked}
 use Rattle.pliron_core.proofs.TableLemmas.{at-same, at-other, at-within}
 use Rattle.pliron_core.proofs.HoleLemmas.{gapped-is, has-gap, holes-row}
@@ -66,22 +66,22 @@ module _ {A : Type 0} where
 pub at-map : {A B : Type 0} (f : A → B) (rows : List (List A)) (u p : ℕ) → at (map (λ r. map f r) rows) u p ≡ option_map f (at rows u p)
 at-map f rows u p = ap (λ r. slice_get r p) (get_or-map (λ r. map f r) rows u []) ∙ slice_get-map f (get_or rows u []) p
 
-pub row-targets : (rows : List (List Place)) (user : ℕ) → get_or (targets_in rows) user [] ≡ held (get_or rows user [])
-row-targets rows user = get_or-map held rows user []
+pub row-targets : (rows : List (List UseSlot)) (user : ℕ) → get_or (targets_in rows) user [] ≡ targets_held (get_or rows user [])
+row-targets rows user = get_or-map targets_held rows user []
 
 -- what a list of uses names is a target
-pub target-real : (rows : List (List Place)) (lists : List (List Use)) → IsLinked rows lists → (target i : ℕ) (u : Use) → at lists target i ≡ Some u → target ≢ no_target
+pub target-real : (rows : List (List UseSlot)) (lists : List (List Use)) → IsLinked rows lists → (target i : ℕ) (u : Use) → at lists target i ≡ Some u → target ≢ no_target
 target-real rows lists is target i u e f =
     let h : target < length lists = at-within lists target i u e in
     omega (arith, h, is.few, f)
 
 -- a use as it is seen, and as it is
-pub record IsSeen (rows : List (List Place)) (lists : List (List Use)) (target i : ℕ) (u : Use) : Type 0 where
+pub record IsSeen (rows : List (List UseSlot)) (lists : List (List Use)) (target i : ℕ) (u : Use) : Type 0 where
   pub one : Use
   pub there : at lists target i ≡ Some one
   pub is : u ≡ ranked_use rows one
 
-pub seen-from : (rows : List (List Place)) (lists : List (List Use)) (target i : ℕ) (u : Use) → at (uses_in rows lists) target i ≡ Some u → IsSeen rows lists target i u
+pub seen-from : (rows : List (List UseSlot)) (lists : List (List Use)) (target i : ℕ) (u : Use) → at (uses_in rows lists) target i ≡ Some u → IsSeen rows lists target i u
 seen-from rows lists target i u e = found (at lists target i) refl
   where
     found : (o : Option Use) → at lists target i ≡ o → IsSeen rows lists target i u
@@ -90,7 +90,7 @@ seen-from rows lists target i u e = found (at lists target i) refl
         let n : at (uses_in rows lists) target i ≡ Some (ranked_use rows w) = at-map (ranked_use rows) lists target i ∙ ap (option_map (ranked_use rows)) f in
         record { one = w; there = f; is = same (sym e ∙ n) }
 
-module _ (rows : List (List Place)) (lists : List (List Use)) (is : IsLinked rows lists) where
+module _ (rows : List (List UseSlot)) (lists : List (List Use)) (is : IsLinked rows lists) where
   seen-listed : (target i : ℕ) (u : Use) → at (uses_in rows lists) target i ≡ Some u → slice_get (get_or (targets_in rows) u.user []) u.place ≡ Some target
   seen-listed target i u e =
       let w = seen-from rows lists target i u e in
@@ -120,7 +120,7 @@ module _ (rows : List (List Place)) (lists : List (List Use)) (is : IsLinked row
   pub agree-linked : AreAgreed (targets_in rows) (uses_in rows lists)
   agree-linked = record { listed = seen-listed; once = seen-once; complete = seen-complete }
 
-pub linked-push : (rows : List (List Place)) (lists : List (List Use)) (user target : ℕ) → user < length rows → target < length lists → IsLinked rows lists → IsLinked (set rows user (get_or rows user [] ++ record { target = target; at = length (get_or lists target []) } ∷ [])) (set lists target (get_or lists target [] ++ record { user = user; place = length (get_or rows user []) } ∷ []))
+pub linked-push : (rows : List (List UseSlot)) (lists : List (List Use)) (user target : ℕ) → user < length rows → target < length lists → IsLinked rows lists → IsLinked (set rows user (get_or rows user [] ++ record { target = target; at = length (get_or lists target []) } ∷ [])) (set lists target (get_or lists target [] ++ record { user = user; place = length (get_or rows user []) } ∷ []))
 linked-push rows lists user target hu ht is = record {
   used = λ u p t i e real.
       elim (at-push_cases rows user _ _ u p hu e) [
@@ -141,14 +141,14 @@ linked-push rows lists user target hu ht is = record {
   few = omega (arith, length-set lists target (get_or lists target [] ++ record { user = user; place = length (get_or rows user []) } ∷ []), is.few);
 }
 
-pub linked-user : (rows : List (List Place)) (lists : List (List Use)) → IsLinked rows lists → IsLinked (rows ++ [] ∷ []) lists
+pub linked-user : (rows : List (List UseSlot)) (lists : List (List Use)) → IsLinked rows lists → IsLinked (rows ++ [] ∷ []) lists
 linked-user rows lists is = record {
   used = λ u p t i e. is.used u p t i (sym (ap (λ r. slice_get r p) (get_or-pad rows [] u)) ∙ e);
   placed = λ t i u p e. ap (λ r. slice_get r p) (get_or-pad rows [] u) ∙ is.placed t i u p e;
   few = is.few;
 }
 
-pub linked-target : (rows : List (List Place)) (lists : List (List Use)) → length (lists ++ [] ∷ []) ≤ no_target → IsLinked rows lists → IsLinked rows (lists ++ [] ∷ [])
+pub linked-target : (rows : List (List UseSlot)) (lists : List (List Use)) → length (lists ++ [] ∷ []) ≤ no_target → IsLinked rows lists → IsLinked rows (lists ++ [] ∷ [])
 linked-target rows lists few is = record {
   used = λ u p t i e real. ap (λ r. slice_get r i) (get_or-pad lists [] t) ∙ is.used u p t i e real;
   placed = λ t i u p e. is.placed t i u p (sym (ap (λ r. slice_get r i) (get_or-pad lists [] t)) ∙ e);
@@ -164,14 +164,14 @@ map-same_at f g [] each = refl
 map-same_at f g (x ∷ xs) each = rw (each 0 x refl, map-same_at f g xs (λ i y e. each (suc i) y e)) refl
 
 -- other rows, where each use has the same place among those that are taken
-pub uses-same : (rows rows' : List (List Place)) (lists : List (List Use)) → ((t i : ℕ) (u : Use) → at lists t i ≡ Some u → rank (get_or rows' u.user []) u.place ≡ rank (get_or rows u.user []) u.place) → uses_in rows' lists ≡ uses_in rows lists
+pub uses-same : (rows rows' : List (List UseSlot)) (lists : List (List Use)) → ((t i : ℕ) (u : Use) → at lists t i ≡ Some u → rank (get_or rows' u.user []) u.place ≡ rank (get_or rows u.user []) u.place) → uses_in rows' lists ≡ uses_in rows lists
 uses-same rows rows' [] each = refl
 uses-same rows rows' (l ∷ ls) each =
     let one = map-same_at (ranked_use rows') (ranked_use rows) l (λ i u e. ap (λ n. let w : Use = record { user = u.user; place = n } in w) (each 0 i u e)) in
     rw (one, uses-same rows rows' ls (λ t i u e. each (suc t) i u e)) refl
 
 -- one more user, and the tables that contracts see
-pub uses-user : (rows : List (List Place)) (lists : List (List Use)) → uses_in (rows ++ [] ∷ []) lists ≡ uses_in rows lists
+pub uses-user : (rows : List (List UseSlot)) (lists : List (List Use)) → uses_in (rows ++ [] ∷ []) lists ≡ uses_in rows lists
 uses-user rows lists = map-same (map (ranked_use (rows ++ [] ∷ []))) (map (ranked_use rows)) (λ l. map-same (ranked_use (rows ++ [] ∷ [])) (ranked_use rows) (λ u. ap (λ r. let w : Use = record { user = u.user; place = rank r u.place } in w) (get_or-pad rows [] u.user)) l) lists
 
 pub same-table : {t t' : List (List ℕ)} {u u' : List (List Use)} {m m' n : ℕ} → t ≡ t' → u ≡ u' → m ≡ m' → (let x : Table = record { targets = t; uses = u; user_room = m; target_room = n } in x) ≡ record { targets = t'; uses = u'; user_room = m'; target_room = n }
@@ -184,7 +184,7 @@ whole-table e f g h = rw (e, f, g, h) refl
 pub use-there : (lists : List (List Use)) (target i : ℕ) (read : List Use) (u : Use) → target < length lists → read ≡ get_or lists target read → slice_get read i ≡ Some u → at lists target i ≡ Some u
 use-there lists target i read u h e there = ap (λ l. slice_get l i) (sym (e ∙ get_or_default lists target read [] h)) ∙ there
 
-pub use-seen : (rows : List (List Place)) (lists : List (List Use)) (target i n : ℕ) (u : Use) → at lists target i ≡ Some u → n ≡ rank (get_or rows u.user []) u.place → slice_get (get_or (uses_in rows lists) target []) i ≡ Some (record { user = u.user; place = n })
+pub use-seen : (rows : List (List UseSlot)) (lists : List (List Use)) (target i n : ℕ) (u : Use) → at lists target i ≡ Some u → n ≡ rank (get_or rows u.user []) u.place → slice_get (get_or (uses_in rows lists) target []) i ≡ Some (record { user = u.user; place = n })
 use-seen rows lists target i n u e r = at-map (ranked_use rows) lists target i ∙ ap (option_map (ranked_use rows)) e ∙ ap (λ z. Some (let w : Use = record { user = u.user; place = z } in w)) (sym r)
 
 -- a row without places has no gap
@@ -196,14 +196,14 @@ gap-none = record {
   behind = λ n p e. absurd (cc);
 }
 
-pub holes-user : (rows : List (List Place)) (holes : List Holes) → HaveHoles rows holes → HaveHoles (rows ++ [] ∷ []) (holes ++ OneGap no_gap ∷ [])
+pub holes-user : (rows : List (List UseSlot)) (holes : List Holes) → HaveHoles rows holes → HaveHoles (rows ++ [] ∷ []) (holes ++ OneGap no_gap ∷ [])
 holes-user rows holes is = record {
   count = omega (arith, length-append rows ([] ∷ []), length-append holes (OneGap no_gap ∷ []), is.count);
   each = λ u. rw (get_or-pad rows [] u, get_or-pad holes (OneGap no_gap) u) (is.each u);
 }
 
 -- one more place, which is taken
-pub gap-push : (row : List Place) (gap : Gap) (p : Place) → p.target ≢ no_target → HasGap row gap → HasGap (row ++ p ∷ []) gap
+pub gap-push : (row : List UseSlot) (gap : Gap) (p : UseSlot) → p.target ≢ no_target → HasGap row gap → HasGap (row ++ p ∷ []) gap
 gap-push row gap p real is = record {
   fits = omega (arith, length-append row (p ∷ []), is.fits);
   free = λ n q e a b. elim (push-cases row p q n e) [ inl k ↦ absurd (omega (arith, k.0, b, is.fits)) | inr k ↦ is.free n q k a b ];
@@ -211,21 +211,21 @@ gap-push row gap p real is = record {
   behind = λ n q e a. elim (push-cases row p q n e) [ inl k ↦ subst (λ z. z.target ≢ no_target) k.1 real | inr k ↦ is.behind n q k a ];
 }
 
-pub targets-push : (rows : List (List Place)) (user : ℕ) (p : Place) → p.target ≢ no_target → targets_in (set rows user (get_or rows user [] ++ p ∷ [])) ≡ set (targets_in rows) user (get_or (targets_in rows) user [] ++ p.target ∷ [])
+pub targets-push : (rows : List (List UseSlot)) (user : ℕ) (p : UseSlot) → p.target ≢ no_target → targets_in (set rows user (get_or rows user [] ++ p ∷ [])) ≡ set (targets_in rows) user (get_or (targets_in rows) user [] ++ p.target ∷ [])
 targets-push rows user p real = map-set _ rows user _ ∙ ap (set (targets_in rows) user) (held-push (get_or rows user []) p real ∙ ap (λ r. r ++ p.target ∷ []) (sym (row-targets rows user)))
 
-pushed-holes : (rows : List (List Place)) (holes : List Holes) (user : ℕ) (p : Place) → user < length rows → is_counted holes user ≡ false → p.target ≢ no_target → HaveHoles rows holes → HaveHoles (set rows user (get_or rows user [] ++ p ∷ [])) holes
+pushed-holes : (rows : List (List UseSlot)) (holes : List Holes) (user : ℕ) (p : UseSlot) → user < length rows → is_counted holes user ≡ false → p.target ≢ no_target → HaveHoles rows holes → HaveHoles (set rows user (get_or rows user [] ++ p ∷ [])) holes
 pushed-holes rows holes user p within gapped real is =
     holes-row rows holes user _ within (subst (Tracks (get_or rows user [] ++ p ∷ [])) (sym (gapped-is (hole_of holes user) gapped)) (gap-push (get_or rows user []) (gap_of holes user) p real (has-gap rows holes user is gapped))) is
 
 -- what `push` writes, by the values that it read
-module _ (rows : List (List Place)) (holes : List Holes) (lists : List (List Use)) (user target at' place : ℕ) (is : AreLinked rows holes lists) (gapped : is_counted holes user ≡ false) where
-  module _ (hu : user < length (targets_in rows)) (ht : target < length lists) (list0 list1 list2 : List Use) (row0 row1 row2 : List Place)
+module _ (rows : List (List UseSlot)) (holes : List Holes) (lists : List (List Use)) (user target at' place : ℕ) (is : AreLinked rows holes lists) (gapped : is_counted holes user ≡ false) where
+  module _ (hu : user < length (targets_in rows)) (ht : target < length lists) (list0 list1 list2 : List Use) (row0 row1 row2 : List UseSlot)
       (l0 : list0 ≡ get_or lists target list0) (l1 : list1 ≡ get_or lists target list1) (r0 : row0 ≡ get_or rows user row0) (r1 : row1 ≡ get_or rows user row1)
       (at_is : at' ≡ length list0) (place_is : place ≡ length row0)
       (l2 : list2 ≡ list1 ++ record { user = user; place = place } ∷ []) where
     within : user < length rows
-    within = omega (arith, hu, length-map rows held)
+    within = omega (arith, hu, length-map rows targets_held)
 
     list_is : list2 ≡ get_or lists target [] ++ record { user = user; place = length (get_or rows user []) } ∷ []
     list_is =

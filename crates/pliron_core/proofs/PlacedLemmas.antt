@@ -2,13 +2,13 @@
 use Rattle.std.proofs.Common.{◌≡◌, ◌≢◌, ◌⊎◌, ℕ, ◌<◌, true, false, List, [], length, get_or, Option, Some, None, IsSome, is_some, refl, sym, ap, ◌∙◌, subst, inl, inr, ⊎_elim, arith, slice_set, true≢false}
 use Rattle.std.proofs.lemmas.Bool.{cases_eq}
 use Rattle.std.proofs.lemmas.List.{get_or-set_other, get_or-set_same}
-use Rattle.pliron_core.specs.Tree.{Tree, IsLive, IsBlock, IsRooted, IsInside, Directly, Deeper, HoldsBlock, climb, up_from, holder_of, block_holder_of, parent_of, block_parent_of}
-use Rattle.pliron_core.specs.Joined.{HaveSameKeys, IsJoined}
-use Rattle.pliron_core.specs.Writes.{placed, taken_from}
+use Rattle.pliron_core.specs.Tree.{Tree, IsLive, IsBlock, IsRooted, IsInside, Directly, Deeper, HoldsBlock, climb, up_from, parent_operation_of, block_parent_operation_of, parent_of, block_parent_of}
+use Rattle.pliron_core.specs.Invariant.{HaveSameKeys, IsJoined}
+use Rattle.pliron_core.specs.Writes.{after_placing, taken_from}
 use Rattle.pliron_core.proofs.TreeLemmas.{live-within, within-some, outside_climb, rooted_cut}
 use Rattle.pliron_core.proofs.RootLemmas.{rooted-put}
 
-pub kept_put : (t : Tree) (op block : ℕ) (body : List ℕ) → HaveSameKeys t → IsJoined t → IsLive t op → IsBlock t block → parent_of t op ≡ None → (HoldsBlock t op block → ⊥) → IsJoined (placed t op block body)
+pub kept_put : (t : Tree) (op block : ℕ) (body : List ℕ) → HaveSameKeys t → IsJoined t → IsLive t op → IsBlock t block → parent_of t op ≡ None → (HoldsBlock t op block → ⊥) → IsJoined (after_placing t op block body)
 kept_put t op block body keys w live is free out = record {
   standing = λ x b e. stand x b e (cases_eq x op);
   placed = w.placed;
@@ -20,7 +20,7 @@ kept_put t op block body keys w live is free out = record {
   ordered = w.ordered;
   erased = w.erased;
   unplaced = λ b e. let x = w.unplaced b e in (x.0, get_or-set_other t.bodies block b body [] (other b e) ∙ x.1);
-  rooted = root (block_holder_of t block) refl;
+  rooted = root (block_parent_operation_of t block) refl;
 }
   where
     lt : op < length t.parents
@@ -37,20 +37,20 @@ kept_put t op block body keys w live is free out = record {
         (subst (IsLive t) (sym s) live, subst (IsBlock t) g is)
 
     t' : Tree
-    t' = placed t op block body
+    t' = after_placing t op block body
 
     hold : (o : Option ℕ) → Option ℕ
-    hold o = up_from o (λ b. block_holder_of t b)
+    hold o = up_from o (λ b. block_parent_operation_of t b)
 
-    same : (x : ℕ) → x ≢ op → holder_of t' x ≡ holder_of t x
+    same : (x : ℕ) → x ≢ op → parent_operation_of t' x ≡ parent_operation_of t x
     same x ne = ap hold (get_or-set_other t.parents op x (Some block) None ne)
 
-    own : holder_of t' op ≡ block_holder_of t block
+    own : parent_operation_of t' op ≡ block_parent_operation_of t block
     own = ap hold (get_or-set_same t.parents op (Some block) None lt)
 
-    root : (o : Option ℕ) → block_holder_of t block ≡ o → IsRooted (holder_of t')
-    root None e = rooted_cut (holder_of t) (holder_of t') (λ x. ⊎_elim (λ s. inr (ap (holder_of t') s ∙ own ∙ e)) (λ ne. inl (same x ne)) (cases_eq x op)) w.rooted
-    root (Some a) e = rooted-put (holder_of t) (holder_of t') op a same (own ∙ e) (λ n f. outside_climb t op block out n (ap (climb (holder_of t) n) e ∙ f)) w.rooted
+    root : (o : Option ℕ) → block_parent_operation_of t block ≡ o → IsRooted (parent_operation_of t')
+    root None e = rooted_cut (parent_operation_of t) (parent_operation_of t') (λ x. ⊎_elim (λ s. inr (ap (parent_operation_of t') s ∙ own ∙ e)) (λ ne. inl (same x ne)) (cases_eq x op)) w.rooted
+    root (Some a) e = rooted-put (parent_operation_of t) (parent_operation_of t') op a same (own ∙ e) (λ n f. outside_climb t op block out n (ap (climb (parent_operation_of t) n) e ∙ f)) w.rooted
 
 pub kept_taken : (t : Tree) (op : ℕ) (o : Option ℕ) → IsJoined t → parent_of t op ≡ o → IsJoined (taken_from t op o)
 kept_taken t op None w e = w
@@ -65,14 +65,14 @@ kept_taken t op (Some d) w e = record {
   ordered = w.ordered;
   erased = w.erased;
   unplaced = λ b f. let x = w.unplaced b f in (x.0, get_or-set_other t.bodies d b _ [] (other b f) ∙ x.1);
-  rooted = rooted_cut (holder_of t) (holder_of t') (λ x. ⊎_elim (λ s. inr (ap hold (ap (λ z. get_or (slice_set t.parents op None) z None) s ∙ own))) (λ ne. inl (ap hold (get_or-set_other t.parents op x None None ne))) (cases_eq x op)) w.rooted;
+  rooted = rooted_cut (parent_operation_of t) (parent_operation_of t') (λ x. ⊎_elim (λ s. inr (ap hold (ap (λ z. get_or (slice_set t.parents op None) z None) s ∙ own))) (λ ne. inl (ap hold (get_or-set_other t.parents op x None None ne))) (cases_eq x op)) w.rooted;
 }
   where
     t' : Tree
     t' = taken_from t op (Some d)
 
     hold : (o : Option ℕ) → Option ℕ
-    hold o = up_from o (λ b. block_holder_of t b)
+    hold o = up_from o (λ b. block_parent_operation_of t b)
 
     lt : op < length t.parents
     lt = let l : IsSome (parent_of t op) = ap is_some e in within-some t.parents op l
@@ -93,7 +93,7 @@ taken-parents t op None w e = e
 taken-parents t op (Some d) w e = get_or-set_same t.parents op None None (let l : IsSome (parent_of t op) = ap is_some e in within-some t.parents op l)
 
 -- fewer holders, fewer things inside
-pub inside_fewer : (t u : Tree) (p x : ℕ) → ((y z : ℕ) → holder_of u y ≡ Some z → holder_of t y ≡ Some z) → IsInside u p x → IsInside t p x
+pub inside_fewer : (t u : Tree) (p x : ℕ) → ((y z : ℕ) → parent_operation_of u y ≡ Some z → parent_operation_of t y ≡ Some z) → IsInside u p x → IsInside t p x
 inside_fewer t u p x less (Directly e) = Directly (less x p e)
 inside_fewer t u p x less (Deeper q e i) = Deeper q (less x q e) (inside_fewer t u p q less i)
 
@@ -101,18 +101,18 @@ pub taken_outside : (t : Tree) (op : ℕ) (o : Option ℕ) (block : ℕ) → par
 taken_outside t op None block e h = h
 taken_outside t op (Some d) block e h = (h.0, h.1, ⊎_elim (λ s. inl s) (λ i. inr (inside_fewer t (taken_from t op (Some d)) op h.0 less i)) h.2)
   where
-    less : (y z : ℕ) → holder_of (taken_from t op (Some d)) y ≡ Some z → holder_of t y ≡ Some z
+    less : (y z : ℕ) → parent_operation_of (taken_from t op (Some d)) y ≡ Some z → parent_operation_of t y ≡ Some z
     less y z f = elim (cases_eq y op) [
       | inl s ↦
           let lt : op < length t.parents = let l : IsSome (parent_of t op) = ap is_some e in within-some t.parents op l in
           let own : parent_of (taken_from t op (Some d)) y ≡ None = ap (parent_of (taken_from t op (Some d))) s ∙ get_or-set_same t.parents op None None lt in
-          let g : None ≡ Some z = sym (ap (λ q. up_from q (λ b. block_holder_of t b)) own) ∙ f in
+          let g : None ≡ Some z = sym (ap (λ q. up_from q (λ b. block_parent_operation_of t b)) own) ∙ f in
           absurd (cc)
-      | inr ne ↦ ap (λ q. up_from q (λ b. block_holder_of t b)) (sym (get_or-set_other t.parents op y None None ne)) ∙ f
+      | inr ne ↦ ap (λ q. up_from q (λ b. block_parent_operation_of t b)) (sym (get_or-set_other t.parents op y None None ne)) ∙ f
     ]
 
 -- what isn't above an operation is above no block that has it
 pub before_outside : (t : Tree) (op at block : ℕ) → parent_of t at ≡ Some block → (IsInside t op at → ⊥) → HoldsBlock t op block → ⊥
 before_outside t op at block e out h =
-    let f : holder_of t at ≡ Some h.0 = ap (λ q. up_from q (λ b. block_holder_of t b)) e ∙ h.1 in
+    let f : parent_operation_of t at ≡ Some h.0 = ap (λ q. up_from q (λ b. block_parent_operation_of t b)) e ∙ h.1 in
     ⊎_elim (λ s. out (Directly (f ∙ ap Some s))) (λ i. out (Deeper h.0 f i)) h.2

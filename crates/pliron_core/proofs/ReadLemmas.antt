@@ -6,7 +6,7 @@ use Rattle.std.proofs.lemmas.Bool.{cases_eq, ne_eqb, eq-eqb}
 use Rattle.std.proofs.lemmas.Option.{same_Some, none-some}
 use Rattle.pliron_core.specs.Lists.{In, first_of, last_of, next_in, prev_in}
 use Rattle.pliron_core.specs.Tree.{Tree, IsLive, IsBlock, parent_of, body_of, block_parent_of, layout_of, up_from}
-use Rattle.pliron_core.specs.Joined.{IsTree}
+use Rattle.pliron_core.specs.Invariant.{IsTree}
 
 pub In-at : (xs : List ℕ) (i x : ℕ) → slice_get xs i ≡ Some x → In x xs
 In-at [] i x e = absurd (none-some x e)

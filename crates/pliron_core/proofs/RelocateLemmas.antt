@@ -3,26 +3,26 @@ use Rattle.std.proofs.Common.{◌≡◌, ◌≢◌, ◌⊎◌, ℕ, ◌+◌, ◌
 use Rattle.std.specs.List.{slice_get}
 use Rattle.std.proofs.lemmas.List.{get_or-set_same, map-set, set-set, set-get_or, length-set, length-map}
 use Rattle.pliron_core.specs.declared.uses.Use.{Use}
-use Rattle.pliron_core.specs.declared.places.Place.{Place}
-use Rattle.pliron_core.specs.declared.places.Gap.{Gap}
-use Rattle.pliron_core.specs.declared.places.Holes.{Holes}
-use Rattle.pliron_core.specs.declared.places.Holes.TheVariants.{OneGap}
-use Rattle.pliron_core.specs.Places.{at, put, held, no_target, free_place, targets_in, HasGap, IsLinked}
+use Rattle.pliron_core.specs.declared.use_slots.UseSlot.{UseSlot}
+use Rattle.pliron_core.specs.declared.use_slots.Gap.{Gap}
+use Rattle.pliron_core.specs.declared.use_slots.Holes.{Holes}
+use Rattle.pliron_core.specs.declared.use_slots.Holes.TheVariants.{OneGap}
+use Rattle.pliron_core.specs.UseSlots.{at, put, targets_held, no_target, free_place, targets_in, HasGap, IsLinked}
 use Rattle.pliron_core.specs.Holes.{gap_of, is_counted, HaveHoles, AreLinked}
 use Rattle.pliron_core.proofs.PlaceLemmas.{row-targets}
 use Rattle.pliron_core.proofs.HoleLemmas.{has-gap, gapped-some, holes-put, hole-put}
 use Rattle.pliron_core.proofs.TableLemmas.{at-within, put-here, put-other, put-cases}
 use Rattle.pliron_core.proofs.GapLemmas.{same, moved_row, moved-cases, slice-some, held-lowered, held-raised, held-length}
 
-module _ (rows : List (List Place)) (lists : List (List Use)) (user from to : ℕ) (a b : Place) (is : IsLinked rows lists)
+module _ (rows : List (List UseSlot)) (lists : List (List Use)) (user from to : ℕ) (a b : UseSlot) (is : IsLinked rows lists)
     (first : at rows user from ≡ Some a) (taken : a.target ≢ no_target) (second : at rows user to ≡ Some b) (free : b.target ≡ no_target) where
   abbrev lists1 : List (List Use)
   lists1 = put lists a.target a.at (record { user = user; place = to })
 
-  abbrev rows1 : List (List Place)
+  abbrev rows1 : List (List UseSlot)
   rows1 = put rows user to a
 
-  abbrev rows2 : List (List Place)
+  abbrev rows2 : List (List UseSlot)
   rows2 = put rows1 user from free_place
 
   pub apart : from ≢ to
@@ -73,16 +73,16 @@ module _ (rows : List (List Place)) (lists : List (List Use)) (user from to : �
       ap (λ r. set rows1 user (set r from free_place)) (get_or-set_same rows user (set (get_or rows user []) to a) [] (at-within rows user from a first)) ∙ set-set rows user _ _
 
 -- the same targets
-row-kept : (rows : List (List Place)) (user : ℕ) (row : List Place) → held row ≡ held (get_or rows user []) → targets_in (set rows user row) ≡ targets_in rows
-row-kept rows user row e = map-set held rows user row ∙ ap (set (targets_in rows) user) (e ∙ sym (row-targets rows user)) ∙ set-get_or (targets_in rows) user []
+row-kept : (rows : List (List UseSlot)) (user : ℕ) (row : List UseSlot) → targets_held row ≡ targets_held (get_or rows user []) → targets_in (set rows user row) ≡ targets_in rows
+row-kept rows user row e = map-set targets_held rows user row ∙ ap (set (targets_in rows) user) (e ∙ sym (row-targets rows user)) ∙ set-get_or (targets_in rows) user []
 
 -- a gap that goes one place down
-module _ (rows : List (List Place)) (holes : List Holes) (lists : List (List Use)) (user : ℕ) (is : AreLinked rows holes lists) (within : user < length holes)
+module _ (rows : List (List UseSlot)) (holes : List Holes) (lists : List (List Use)) (user : ℕ) (is : AreLinked rows holes lists) (within : user < length holes)
     (some : 0 < (gap_of holes user).len) where
   abbrev gap : Gap
   gap = gap_of holes user
 
-  abbrev row : List Place
+  abbrev row : List UseSlot
   row = get_or rows user []
 
   has : HasGap row gap
@@ -92,13 +92,13 @@ module _ (rows : List (List Place)) (holes : List Holes) (lists : List (List Use
   inside = omega (arith, within, is.holes.count)
 
   module _ (before : 0 < gap.start) where
-    pub lower-from : (p : Place) × (at rows user (gap.start - 1) ≡ Some p) × (p.target ≢ no_target)
+    pub lower-from : (p : UseSlot) × (at rows user (gap.start - 1) ≡ Some p) × (p.target ≢ no_target)
     lower-from = let s = slice-some row (gap.start - 1) (omega (arith, before, has.fits)) in (s.0, s.1, has.before _ s.0 s.1 (omega (arith, before)))
 
-    pub lower-to : (p : Place) × (at rows user (gap.start + gap.len - 1) ≡ Some p) × (p.target ≡ no_target)
+    pub lower-to : (p : UseSlot) × (at rows user (gap.start + gap.len - 1) ≡ Some p) × (p.target ≡ no_target)
     lower-to = let s = slice-some row (gap.start + gap.len - 1) (omega (arith, before, has.fits)) in (s.0, s.1, has.free _ s.0 s.1 (omega (arith, some)) (omega (arith, some)))
 
-    abbrev lower-row : List Place
+    abbrev lower-row : List UseSlot
     lower-row = moved_row row (gap.start - 1) (gap.start + gap.len - 1) lower-from.0
 
     lower-gap : HasGap lower-row (record { start = gap.start - 1; len = gap.len })
@@ -118,7 +118,7 @@ module _ (rows : List (List Place)) (holes : List Holes) (lists : List (List Use
       ];
     }
       where
-        cases : (n : ℕ) (x : Place) → slice_get lower-row n ≡ Some x → ((n ≡ gap.start - 1) × (x ≡ free_place)) ⊎ (((n ≡ gap.start + gap.len - 1) × (x ≡ lower-from.0)) ⊎ ((n ≢ gap.start - 1) × (n ≢ gap.start + gap.len - 1) × (slice_get row n ≡ Some x)))
+        cases : (n : ℕ) (x : UseSlot) → slice_get lower-row n ≡ Some x → ((n ≡ gap.start - 1) × (x ≡ free_place)) ⊎ (((n ≡ gap.start + gap.len - 1) × (x ≡ lower-from.0)) ⊎ ((n ≢ gap.start - 1) × (n ≢ gap.start + gap.len - 1) × (slice_get row n ≡ Some x)))
         cases n x e = moved-cases row (gap.start - 1) (gap.start + gap.len - 1) n lower-from.0 lower-to.0 x lower-from.1 lower-to.1 (omega (arith, before, some)) e
 
     pub lowered-holes : HaveHoles (set rows user lower-row) (set holes user (OneGap (record { start = gap.start - 1; len = gap.len })))
@@ -127,17 +127,17 @@ module _ (rows : List (List Place)) (holes : List Holes) (lists : List (List Use
     pub lowered-targets : targets_in (set rows user lower-row) ≡ targets_in rows
     lowered-targets = row-kept rows user lower-row (held-raised row (gap.start - 1) (gap.start + gap.len - 1) lower-from.0 (omega (arith, before, some)) (omega (arith, before, has.fits)) lower-from.1 lower-from.2 (λ n q e h k. has.free n q e (omega (arith, h, before)) (omega (arith, k, before, some))))
 
-  module _ (more : gap.start < length (held row)) where
-    held-is : length (held row) + gap.len ≡ length row
+  module _ (more : gap.start < length (targets_held row)) where
+    held-is : length (targets_held row) + gap.len ≡ length row
     held-is = held-length row gap has
 
-    pub raise-from : (p : Place) × (at rows user (gap.start + gap.len) ≡ Some p) × (p.target ≢ no_target)
+    pub raise-from : (p : UseSlot) × (at rows user (gap.start + gap.len) ≡ Some p) × (p.target ≢ no_target)
     raise-from = let s = slice-some row (gap.start + gap.len) (omega (arith, more, held-is)) in (s.0, s.1, has.behind _ s.0 s.1 (omega arith))
 
-    pub raise-to : (p : Place) × (at rows user gap.start ≡ Some p) × (p.target ≡ no_target)
+    pub raise-to : (p : UseSlot) × (at rows user gap.start ≡ Some p) × (p.target ≡ no_target)
     raise-to = let s = slice-some row gap.start (omega (arith, some, has.fits)) in (s.0, s.1, has.free _ s.0 s.1 (omega arith) (omega (arith, some)))
 
-    abbrev raise-row : List Place
+    abbrev raise-row : List UseSlot
     raise-row = moved_row row (gap.start + gap.len) gap.start raise-from.0
 
     raise-gap : HasGap raise-row (record { start = gap.start + 1; len = gap.len })
@@ -157,7 +157,7 @@ module _ (rows : List (List Place)) (holes : List Holes) (lists : List (List Use
       ];
     }
       where
-        cases : (n : ℕ) (x : Place) → slice_get raise-row n ≡ Some x → ((n ≡ gap.start + gap.len) × (x ≡ free_place)) ⊎ (((n ≡ gap.start) × (x ≡ raise-from.0)) ⊎ ((n ≢ gap.start + gap.len) × (n ≢ gap.start) × (slice_get row n ≡ Some x)))
+        cases : (n : ℕ) (x : UseSlot) → slice_get raise-row n ≡ Some x → ((n ≡ gap.start + gap.len) × (x ≡ free_place)) ⊎ (((n ≡ gap.start) × (x ≡ raise-from.0)) ⊎ ((n ≢ gap.start + gap.len) × (n ≢ gap.start) × (slice_get row n ≡ Some x)))
         cases n x e = moved-cases row (gap.start + gap.len) gap.start n raise-from.0 raise-to.0 x raise-from.1 raise-to.1 (omega (arith, some)) e
 
     pub raised-holes : HaveHoles (set rows user raise-row) (set holes user (OneGap (record { start = gap.start + 1; len = gap.len })))
@@ -167,9 +167,9 @@ module _ (rows : List (List Place)) (holes : List Holes) (lists : List (List Use
     raised-targets = row-kept rows user raise-row (held-lowered row (gap.start + gap.len) gap.start raise-from.0 (omega (arith, some)) raise-from.1 raise-from.2 (λ n q e h k. has.free n q e h k))
 
 -- what `lower_gap` and `raise_gap` write, by the gap that they read
-pub lowered : (rows rows' : List (List Place)) (holes : List Holes) (lists lists' : List (List Use)) (user : ℕ) (gap : Gap) → gap ≡ gap_of holes user → AreLinked rows holes lists → user < length holes
+pub lowered : (rows rows' : List (List UseSlot)) (holes : List Holes) (lists lists' : List (List Use)) (user : ℕ) (gap : Gap) → gap ≡ gap_of holes user → AreLinked rows holes lists → user < length holes
     → 0 < (gap_of holes user).len → 0 < (gap_of holes user).start
-    → ((p : Place) → at rows user (gap.start - 1) ≡ Some p → rows' ≡ put (put rows user (gap.start + gap.len - 1) p) user (gap.start - 1) free_place) → IsLinked rows' lists'
+    → ((p : UseSlot) → at rows user (gap.start - 1) ≡ Some p → rows' ≡ put (put rows user (gap.start + gap.len - 1) p) user (gap.start - 1) free_place) → IsLinked rows' lists'
     → AreLinked rows' (set holes user (OneGap (record { start = gap.start - 1; len = gap.len }))) lists' × (targets_in rows' ≡ targets_in rows)
 lowered rows rows' holes lists lists' user gap e is within some before moved linked =
     let f = lower-from rows holes lists user is within some before in
@@ -178,9 +178,9 @@ lowered rows rows' holes lists lists' user gap e is within some before moved lin
     let m : rows' ≡ set rows user (lower-row rows holes lists user is within some before) = write f.0 f.1 ∙ relocated-rows rows lists user _ _ f.0 t.0 is.linked f.1 f.2 t.1 t.2 in
     (record { linked = linked; holes = rw (e, m) (lowered-holes rows holes lists user is within some before) }, ap targets_in m ∙ lowered-targets rows holes lists user is within some before)
 
-pub raised : (rows rows' : List (List Place)) (holes : List Holes) (lists lists' : List (List Use)) (user : ℕ) (gap : Gap) → gap ≡ gap_of holes user → AreLinked rows holes lists → user < length holes
-    → 0 < (gap_of holes user).len → (gap_of holes user).start < length (held (get_or rows user []))
-    → ((p : Place) → at rows user (gap.start + gap.len) ≡ Some p → rows' ≡ put (put rows user gap.start p) user (gap.start + gap.len) free_place) → IsLinked rows' lists'
+pub raised : (rows rows' : List (List UseSlot)) (holes : List Holes) (lists lists' : List (List Use)) (user : ℕ) (gap : Gap) → gap ≡ gap_of holes user → AreLinked rows holes lists → user < length holes
+    → 0 < (gap_of holes user).len → (gap_of holes user).start < length (targets_held (get_or rows user []))
+    → ((p : UseSlot) → at rows user (gap.start + gap.len) ≡ Some p → rows' ≡ put (put rows user gap.start p) user (gap.start + gap.len) free_place) → IsLinked rows' lists'
     → AreLinked rows' (set holes user (OneGap (record { start = gap.start + 1; len = gap.len }))) lists' × (targets_in rows' ≡ targets_in rows)
 raised rows rows' holes lists lists' user gap e is within some more moved linked =
     let f = raise-from rows holes lists user is within some more in
@@ -190,7 +190,7 @@ raised rows rows' holes lists lists' user gap e is within some more moved linked
     (record { linked = linked; holes = rw (e, m) (raised-holes rows holes lists user is within some more) }, ap targets_in m ∙ raised-targets rows holes lists user is within some more)
 
 -- an empty gap may stand anywhere
-pub empty-gap : (rows : List (List Place)) (holes : List Holes) (lists : List (List Use)) (user start : ℕ) → AreLinked rows holes lists → user < length holes → is_counted holes user ≡ false → (gap_of holes user).len ≡ 0 → start ≤ length (held (get_or rows user []))
+pub empty-gap : (rows : List (List UseSlot)) (holes : List Holes) (lists : List (List Use)) (user start : ℕ) → AreLinked rows holes lists → user < length holes → is_counted holes user ≡ false → (gap_of holes user).len ≡ 0 → start ≤ length (targets_held (get_or rows user []))
     → AreLinked rows (set holes user (OneGap (record { start = start; len = 0 }))) lists
 empty-gap rows holes lists user start is within gapped none h = record {
   linked = is.linked;
@@ -200,10 +200,10 @@ empty-gap rows holes lists user start is within gapped none h = record {
     has : HasGap (get_or rows user []) (gap_of holes user)
     has = has-gap rows holes user is.holes gapped
 
-    long : length (held (get_or rows user [])) + (gap_of holes user).len ≡ length (get_or rows user [])
+    long : length (targets_held (get_or rows user [])) + (gap_of holes user).len ≡ length (get_or rows user [])
     long = held-length (get_or rows user []) (gap_of holes user) has
 
-    taken : (n : ℕ) (p : Place) → slice_get (get_or rows user []) n ≡ Some p → p.target ≢ no_target
+    taken : (n : ℕ) (p : UseSlot) → slice_get (get_or rows user []) n ≡ Some p → p.target ≢ no_target
     taken n p e = elim (side n) [ inl b ↦ has.before n p e b | inr b ↦ has.behind n p e (omega (arith, b, none)) ]
       where
         side : (n : ℕ) → (n < (gap_of holes user).start) ⊎ ((gap_of holes user).start ≤ n)
@@ -218,14 +218,14 @@ empty-gap rows holes lists user start is within gapped none h = record {
     }
 
 -- the same targets: as many users, and as many targets of each
-pub held-kept : (rows rows' : List (List Place)) (user : ℕ) → targets_in rows' ≡ targets_in rows → held (get_or rows' user []) ≡ held (get_or rows user [])
+pub held-kept : (rows rows' : List (List UseSlot)) (user : ℕ) → targets_in rows' ≡ targets_in rows → targets_held (get_or rows' user []) ≡ targets_held (get_or rows user [])
 held-kept rows rows' user e = sym (row-targets rows' user) ∙ ap (λ z. get_or z user []) e ∙ row-targets rows user
 
-pub users-kept : (rows rows' : List (List Place)) (holes holes' : List Holes) (user : ℕ) → HaveHoles rows holes → HaveHoles rows' holes' → targets_in rows' ≡ targets_in rows → user < length holes → user < length holes'
-users-kept rows rows' holes holes' user one two e h = omega (arith, h, one.count, two.count, ap length e, length-map rows held, length-map rows' held)
+pub users-kept : (rows rows' : List (List UseSlot)) (holes holes' : List Holes) (user : ℕ) → HaveHoles rows holes → HaveHoles rows' holes' → targets_in rows' ≡ targets_in rows → user < length holes → user < length holes'
+users-kept rows rows' holes holes' user one two e h = omega (arith, h, one.count, two.count, ap length e, length-map rows targets_held, length-map rows' targets_held)
 
-pub user-within : (rows : List (List Place)) (holes : List Holes) (user : ℕ) → HaveHoles rows holes → user < length (targets_in rows) → user < length holes
-user-within rows holes user all h = omega (arith, h, all.count, length-map rows held)
+pub user-within : (rows : List (List UseSlot)) (holes : List Holes) (user : ℕ) → HaveHoles rows holes → user < length (targets_in rows) → user < length holes
+user-within rows holes user all h = omega (arith, h, all.count, length-map rows targets_held)
 
-pub users-set : (rows rows' : List (List Place)) (holes holes' : List Holes) (user : ℕ) (row : List ℕ) → HaveHoles rows holes → HaveHoles rows' holes' → targets_in rows' ≡ set (targets_in rows) user row → user < length holes → user < length holes'
-users-set rows rows' holes holes' user row one two e h = omega (arith, h, one.count, two.count, ap length e, length-set (targets_in rows) user row, length-map rows held, length-map rows' held)
+pub users-set : (rows rows' : List (List UseSlot)) (holes holes' : List Holes) (user : ℕ) (row : List ℕ) → HaveHoles rows holes → HaveHoles rows' holes' → targets_in rows' ≡ set (targets_in rows) user row → user < length holes → user < length holes'
+users-set rows rows' holes holes' user row one two e h = omega (arith, h, one.count, two.count, ap length e, length-set (targets_in rows) user row, length-map rows targets_held, length-map rows' targets_held)

@@ -1,4 +1,4 @@
--- What is read of the same tree but for spent keys, and what calls ask of it.
+-- What is read of the same tree but for erased handles, and what calls ask of it.
 use Rattle.std.proofs.Common.{◌≡◌, ◌↔◌, ℕ, Bool, List, [], ◌∷◌, Option, Some, None, IsSome, if◌then◌else◌, refl, sym, ap, ◌∙◌, subst, inl, inr}
 use Rattle.std.specs.List.{filter, list_any}
 use Rattle.std.specs.Prelude.{nat_eq}
@@ -7,11 +7,11 @@ use Rattle.pliron_core.specs.declared.context.Def.TheVariants.{Result, Argument}
 use Rattle.pliron_core.specs.declared.rewriter.OpInsertionPoint.{OpInsertionPoint}
 use Rattle.pliron_core.specs.declared.rewriter.OpInsertionPoint.TheVariants.{Unset, BeforeOperation, AtBlockStart}
 use Rattle.pliron_core.specs.Lists.{In, next_in, prev_in, last_of}
-use Rattle.pliron_core.specs.Tree.{Tree, IsMadeWithin, up_from, op_of_slot, operands_of, regions_of, body_of, block_parent_of, definition_of, region_parent_of}
-use Rattle.pliron_core.specs.Joined.{IsTree}
+use Rattle.pliron_core.specs.Tree.{Tree, IsDefinedWithin, up_from, op_of_slot, operands_of, regions_of, body_of, block_parent_of, definition_of, region_parent_of}
+use Rattle.pliron_core.specs.Invariant.{IsTree}
 use Rattle.pliron_core.specs.Insertion.{IsPointFor}
-use Rattle.pliron_core.specs.Erased.{StandsIn, IsBlockWithin, IsMadeInBlock, IsSelfContained, IsSelfContainedBlock}
-use Rattle.pliron_core.specs.Reads.{ssa_in, has_ssa_at, IsMakerStanding}
+use Rattle.pliron_core.specs.Erased.{StandsIn, IsBlockWithin, IsDefinedInBlock, IsSelfContained, IsSelfContainedBlock}
+use Rattle.pliron_core.specs.Reads.{ssa_in, has_ssa_at, IsDefinitionLive}
 use Rattle.pliron_core.specs.Edges.{succs_from, succs_of, leads_to, blocks_in, preds_of}
 use Rattle.pliron_core.specs.Walks.{children, contents}
 use Rattle.pliron_core.specs.Changes.{IsSameTree}
@@ -82,7 +82,7 @@ module _ (t u : Tree) (wt : IsTree t) (wu : IsTree u) (s : IsSameTree t u) where
     made_inside = same_made_inside t u wt.joined wu.joined s;
   }
 
-  makers : (d : Def) → IsMakerStanding t d ↔ IsMakerStanding u d
+  makers : (d : Def) → IsDefinitionLive t d ↔ IsDefinitionLive u d
   makers (Result op i) = stand_alike.operations op
   makers (Argument b i) = stand_alike.blocks b
 
@@ -114,17 +114,17 @@ module _ (t u : Tree) (wt : IsTree t) (wu : IsTree u) (s : IsSameTree t u) where
   block_within b c (inl e) = inl e
   block_within b c (inr h) = inr (h.0, stand_alike.block_holders c ∙ h.1, in_block b h.0 h.2)
 
-  made_within : (op : ℕ) (o : Option Def) → IsMadeWithin t op o → IsMadeWithin u op o
+  made_within : (op : ℕ) (o : Option Def) → IsDefinedWithin t op o → IsDefinedWithin u op o
   made_within op None m = m
   made_within op (Some (Result k i)) m = (stand_alike.within op k).0 m
   made_within op (Some (Argument b i)) m = (stand_alike.holds op b).0 m
 
-  made_in_block : (b : ℕ) (o : Option Def) → IsMadeInBlock t b o → IsMadeInBlock u b o
+  made_in_block : (b : ℕ) (o : Option Def) → IsDefinedInBlock t b o → IsDefinedInBlock u b o
   made_in_block b None m = m
   made_in_block b (Some (Result k i)) m = in_block b k m
   made_in_block b (Some (Argument c i)) m = block_within b c m
 
-  -- an operand of u is made in t by the same
+  -- an operand of u is defined in t by the same
   used : (x v : ℕ) → In v (operands_of u x) → In v (operands_of t x) × (definition_of u v ≡ definition_of t v)
   used x v i = let j = subst (In v) (s.operands x) i in (j, same_definition t u wt.joined wu.joined s v (wt.joined.operands x v j))
 
@@ -133,7 +133,7 @@ module _ (t u : Tree) (wt : IsTree t) (wu : IsTree u) (s : IsSameTree t u) where
   contained op c = record {
     values = λ x v i m.
         let w = used t u wt wu s x v i in
-        ((stand_alike t u wt wu s).within op x).0 (c.values x v w.0 (made_within u t wu wt (same_sym t u s) op (definition_of t v) (subst (IsMadeWithin u op) w.1 m)));
+        ((stand_alike t u wt wu s).within op x).0 (c.values x v w.0 (made_within u t wu wt (same_sym t u s) op (definition_of t v) (subst (IsDefinedWithin u op) w.1 m)));
     blocks = λ x b i h.
         ((stand_alike t u wt wu s).within op x).0 (c.blocks x b (subst (In b) (s.successors x) i) (((stand_alike t u wt wu s).holds op b).1 h));
   }
@@ -142,7 +142,7 @@ module _ (t u : Tree) (wt : IsTree t) (wu : IsTree u) (s : IsSameTree t u) where
   contained_block b c = record {
     values = λ x v i m.
         let w = used t u wt wu s x v i in
-        in_block t u wt wu s b x (c.values x v w.0 (made_in_block u t wu wt (same_sym t u s) b (definition_of t v) (subst (IsMadeInBlock u b) w.1 m)));
+        in_block t u wt wu s b x (c.values x v w.0 (made_in_block u t wu wt (same_sym t u s) b (definition_of t v) (subst (IsDefinedInBlock u b) w.1 m)));
     blocks = λ x a i h.
         in_block t u wt wu s b x (c.blocks x a (subst (In a) (s.successors x) i) (block_within u t wu wt (same_sym t u s) b a h));
   }

@@ -1,10 +1,10 @@
--- The same tree but for spent keys.
+-- The same tree but for erased handles.
 use Rattle.std.proofs.Common.{◌≡◌, ◌↔◌, ℕ, Option, Some, None, IsSome, slice_get, refl, sym, ap, ◌∙◌, subst}
 use Rattle.pliron_core.specs.declared.context.Def.{Def}
 use Rattle.pliron_core.specs.declared.context.Def.TheVariants.{Result, Argument}
-use Rattle.pliron_core.specs.Tree.{Tree, parent_of, block_parent_of, slot_of, definition_of, region_parent_of, block_holder_of, holder_of, up_from, op_of_slot, IsLive, IsBlock, IsRegion, IsDefined, IsMadeBy, IsInside, IsWithin, HoldsBlock}
-use Rattle.pliron_core.specs.Joined.{IsJoined}
-use Rattle.pliron_core.specs.Changes.{IsSameTree, HoldsRegion, IsMakerInside, IsMadeInside}
+use Rattle.pliron_core.specs.Tree.{Tree, parent_of, block_parent_of, slot_of, definition_of, region_parent_of, block_parent_operation_of, parent_operation_of, up_from, op_of_slot, IsLive, IsBlock, IsRegion, IsDefined, IsMadeBy, IsInside, IsWithin, HoldsBlock}
+use Rattle.pliron_core.specs.Invariant.{IsJoined}
+use Rattle.pliron_core.specs.Changes.{IsSameTree, HoldsRegion, IsDefiningOperationInside, IsDefinedInside}
 use Rattle.pliron_core.proofs.HoldingLemmas.{slot_is, region_by, maker_is, inside_alike, within_alike}
 
 pub same_refl : (t : Tree) → IsSameTree t t
@@ -70,17 +70,17 @@ module _ (t u : Tree) (wt : IsJoined t) (wu : IsJoined u) (s : IsSameTree t u) w
   same_definition v i = (value t u wu s v i).1
 
   -- the same holders
-  pub same_block_holder : (b : ℕ) → block_holder_of u b ≡ block_holder_of t b
+  pub same_block_holder : (b : ℕ) → block_parent_operation_of u b ≡ block_parent_operation_of t b
   same_block_holder b = ap (λ o. up_from o (λ r. region_parent_of u r)) (s.block_parents b) ∙ go (block_parent_of t b) refl
     where
       go : (o : Option ℕ) → block_parent_of t b ≡ o → up_from o (λ r. region_parent_of u r) ≡ up_from o (λ r. region_parent_of t r)
       go None e = refl
       go (Some r) e = ap op_of_slot (same_slot r (wt.placed b r e))
 
-  pub same_holder : (x : ℕ) → holder_of u x ≡ holder_of t x
-  same_holder x = ap (λ o. up_from o (λ b. block_holder_of u b)) (s.parents x) ∙ go (parent_of t x)
+  pub same_holder : (x : ℕ) → parent_operation_of u x ≡ parent_operation_of t x
+  same_holder x = ap (λ o. up_from o (λ b. block_parent_operation_of u b)) (s.parents x) ∙ go (parent_of t x)
     where
-      go : (o : Option ℕ) → up_from o (λ b. block_holder_of u b) ≡ up_from o (λ b. block_holder_of t b)
+      go : (o : Option ℕ) → up_from o (λ b. block_parent_operation_of u b) ≡ up_from o (λ b. block_parent_operation_of t b)
       go None = refl
       go (Some b) = same_block_holder b
 
@@ -98,12 +98,12 @@ module _ (t u : Tree) (wt : IsJoined t) (wu : IsJoined u) (s : IsSameTree t u) w
       let up = ap op_of_slot (same_slot r i) in
       (λ h. (h.0, up ∙ h.1, (same_within op h.0).0 h.2), λ h. (h.0, sym up ∙ h.1, (same_within op h.0).1 h.2))
 
-  pub same_made_inside : (op v : ℕ) → IsDefined t v → IsMadeInside t op v ↔ IsMadeInside u op v
+  pub same_made_inside : (op v : ℕ) → IsDefined t v → IsDefinedInside t op v ↔ IsDefinedInside u op v
   same_made_inside op v i =
       let e = same_definition v i in
-      (λ m. subst (IsMakerInside u op) (sym e) ((maker (definition_of t v)).0 m), λ m. (maker (definition_of t v)).1 (subst (IsMakerInside u op) e m))
+      (λ m. subst (IsDefiningOperationInside u op) (sym e) ((maker (definition_of t v)).0 m), λ m. (maker (definition_of t v)).1 (subst (IsDefiningOperationInside u op) e m))
     where
-      maker : (o : Option Def) → IsMakerInside t op o ↔ IsMakerInside u op o
+      maker : (o : Option Def) → IsDefiningOperationInside t op o ↔ IsDefiningOperationInside u op o
       maker None = (λ m. m, λ m. m)
       maker (Some (Result k i)) = same_inside op k
       maker (Some (Argument b i)) = same_holds op b

@@ -7,7 +7,7 @@ use Rattle.pliron_core.specs.declared.uses.Use.{Use}
 use Rattle.pliron_core.specs.Lists.{In}
 use Rattle.pliron_core.specs.Uses.{AreAgreed}
 use Rattle.pliron_core.specs.Tree.{Tree, IsLive, IsInside, IsInside.Directly, IsInside.Deeper, head_of, operands_of, successors_of, block_parent_of, uses_of}
-use Rattle.pliron_core.specs.Joined.{IsJoined, IsTree}
+use Rattle.pliron_core.specs.Invariant.{IsJoined, IsTree}
 use Rattle.pliron_core.proofs.HoldingLemmas.{not_none, holder_live, in_slice, slice_in}
 
 -- what has operands or successors stands

@@ -5,7 +5,7 @@ use Rattle.std.specs.Option.{IsSome}
 use Rattle.std.proofs.lemmas.Bool.{cases_eq, false≢true}
 use Rattle.std.proofs.lemmas.Option.{slice_get_within}
 use Rattle.std.proofs.lemmas.List.{get_or-set_same, get_or-set_other, length-set, get_or_past, get_or_default}
-use Rattle.pliron_core.specs.Places.{at, put, cut}
+use Rattle.pliron_core.specs.UseSlots.{at, put, cut}
 
 module _ {A : Type 0} where
   pub set-same : (xs : List A) (j : ℕ) (x y : A) → slice_get xs j ≡ Some y → slice_get (set xs j x) j ≡ Some x

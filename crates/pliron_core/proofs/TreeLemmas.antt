@@ -1,9 +1,9 @@
 -- Lemmas on trees and on the reading of their tables.
 use Rattle.std.proofs.Common.{◌≡◌, ◌≢◌, ◌⊎◌, ℕ, zero, suc, ◌<◌, ◌≤◌, true, false, List, [], length, get_or, Option, Some, None, IsSome, is_some, refl, sym, ap, ◌∙◌, subst, inl, inr, ⊎_elim, arith, slice_get, true≢false}
 use Rattle.std.proofs.lemmas.List.{get_or_past}
-use Rattle.pliron_core.specs.Tree.{Tree, IsBlock, IsLive, IsRegion, IsListedBy, Directly, Deeper, IsWithin, HoldsBlock, climb, holder_of, block_holder_of, parent_of, head_of, regions_of, slot_of, no_entry}
+use Rattle.pliron_core.specs.Tree.{Tree, IsBlock, IsLive, IsRegion, IsListedBy, Directly, Deeper, IsWithin, HoldsBlock, climb, parent_operation_of, block_parent_operation_of, parent_of, head_of, regions_of, slot_of, no_entry}
 use Rattle.pliron_core.specs.declared.context.RegionSlot.{RegionSlot}
-use Rattle.pliron_core.specs.Joined.{HaveSameKeys, IsJoined}
+use Rattle.pliron_core.specs.Invariant.{HaveSameKeys, IsJoined}
 pub use Rattle.pliron_core.proofs.MemberLemmas.{in_slice, in_at}
 
 pub within-some : {A : Type 0} (xs : List (Option A)) (i : ℕ) → IsSome (get_or xs i None) → i < length xs
@@ -43,26 +43,26 @@ region_owner t r is = go (slot_of t r) refl is
     go (Some s) e i = (s, e, i)
 
 -- what is met on the way up holds what the way started from
-pub climb_within : (t : Tree) (op n : ℕ) (k : ℕ) → climb (holder_of t) n (Some k) ≡ Some op → IsWithin t op k
+pub climb_within : (t : Tree) (op n : ℕ) (k : ℕ) → climb (parent_operation_of t) n (Some k) ≡ Some op → IsWithin t op k
 climb_within t op zero k e = let f : k ≡ op = cc in inl f
-climb_within t op (suc n) k e = go (λ p f. climb_within t op n p f) (holder_of t k) refl e
+climb_within t op (suc n) k e = go (λ p f. climb_within t op n p f) (parent_operation_of t k) refl e
   where
-    none : (n : ℕ) → climb (holder_of t) n None ≡ None
+    none : (n : ℕ) → climb (parent_operation_of t) n None ≡ None
     none zero = refl
     none (suc n) = none n
 
-    go : ((p : ℕ) → climb (holder_of t) n (Some p) ≡ Some op → IsWithin t op p) → (o : Option ℕ) → holder_of t k ≡ o → climb (holder_of t) n o ≡ Some op → IsWithin t op k
+    go : ((p : ℕ) → climb (parent_operation_of t) n (Some p) ≡ Some op → IsWithin t op p) → (o : Option ℕ) → parent_operation_of t k ≡ o → climb (parent_operation_of t) n o ≡ Some op → IsWithin t op k
     go up None f g = let x : None ≡ Some op = sym (none n) ∙ g in absurd (cc)
     go up (Some p) f g = inr (elim (up p g) [ inl s ↦ Directly (f ∙ ap Some s) | inr i ↦ Deeper p f i ])
 
-pub outside_climb : (t : Tree) (op block : ℕ) → (HoldsBlock t op block → ⊥) → (n : ℕ) → climb (holder_of t) n (block_holder_of t block) ≢ Some op
-outside_climb t op block out n e = go (block_holder_of t block) refl e
+pub outside_climb : (t : Tree) (op block : ℕ) → (HoldsBlock t op block → ⊥) → (n : ℕ) → climb (parent_operation_of t) n (block_parent_operation_of t block) ≢ Some op
+outside_climb t op block out n e = go (block_parent_operation_of t block) refl e
   where
-    none : (n : ℕ) → climb (holder_of t) n None ≡ None
+    none : (n : ℕ) → climb (parent_operation_of t) n None ≡ None
     none zero = refl
     none (suc n) = none n
 
-    go : (o : Option ℕ) → block_holder_of t block ≡ o → climb (holder_of t) n o ≡ Some op → ⊥
+    go : (o : Option ℕ) → block_parent_operation_of t block ≡ o → climb (parent_operation_of t) n o ≡ Some op → ⊥
     go None f g = let x : None ≡ Some op = sym (none n) ∙ g in absurd (cc)
     go (Some k) f g = out (k, f, climb_within t op n k g)
 

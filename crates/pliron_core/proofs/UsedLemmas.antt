@@ -5,8 +5,8 @@ use Rattle.std.proofs.lemmas.Bool.Decides.{eqb_tells}
 use Rattle.std.proofs.lemmas.List.{get_or-set_other, get_or-set_same}
 use Rattle.pliron_core.specs.Uses.{replace_target}
 use Rattle.pliron_core.specs.Tree.{Tree, In, IsLive, IsBlock, IsDefined, head_of, operands_of, successors_of}
-use Rattle.pliron_core.specs.Joined.{IsJoined}
-use Rattle.pliron_core.specs.Writes.{operand_pushed, successor_pushed, operand_removed, replaced}
+use Rattle.pliron_core.specs.Invariant.{IsJoined}
+use Rattle.pliron_core.specs.Writes.{operand_pushed, successor_pushed, operand_removed, after_replacing}
 use Rattle.pliron_core.proofs.RemovalLemmas.{in_from-remove}
 use Rattle.pliron_core.proofs.TreeLemmas.{live_dead}
 
@@ -96,7 +96,7 @@ kept_remove t op i w live = kept_used t (slice_set t.operands op (remove (operan
     w.successors
     (λ k e. let x = w.erased k e in (unchanged t t.operands op k _ live e ∙ x.0, x.1))
 
-pub kept_replace : (t : Tree) (old new : ℕ) → IsJoined t → IsDefined t new → IsJoined (replaced t old new)
+pub kept_replace : (t : Tree) (old new : ℕ) → IsJoined t → IsDefined t new → IsJoined (after_replacing t old new)
 kept_replace t old new w d = kept_used t (map (map (replace_target old new)) t.operands) t.successors w go w.successors
     (λ k e. let x = w.erased k e in (get_map (map (replace_target old new)) refl t.operands k ∙ ap (map (replace_target old new)) x.0, x.1))
   where

@@ -5,10 +5,10 @@ use Rattle.std.proofs.lemmas.List.{map-append, get_or_past, length-replicate}
 use Rattle.std.proofs.lemmas.List.FromFn.{get_or-map-range_with_len, length-map-range_with_len, map-range_with_len_more}
 use Rattle.std.proofs.lemmas.Option.{slice_get-get_or}
 use Rattle.pliron_core.specs.declared.uses.Use.{Use}
-use Rattle.pliron_core.specs.declared.places.Place.{Place}
-use Rattle.pliron_core.specs.declared.places.Holes.{Holes}
-use Rattle.pliron_core.specs.declared.places.Holes.TheVariants.{OneGap}
-use Rattle.pliron_core.specs.Places.{at, held, no_target, no_gap, targets_in, places_from, uses_by, HasGap, IsLinked}
+use Rattle.pliron_core.specs.declared.use_slots.UseSlot.{UseSlot}
+use Rattle.pliron_core.specs.declared.use_slots.Holes.{Holes}
+use Rattle.pliron_core.specs.declared.use_slots.Holes.TheVariants.{OneGap}
+use Rattle.pliron_core.specs.UseSlots.{at, targets_held, no_target, no_gap, targets_in, places_from, uses_by, HasGap, IsLinked}
 use Rattle.pliron_core.specs.Holes.{hole_of, HaveHoles, AreLinked}
 use Rattle.pliron_core.proofs.TableLemmas.{at-within}
 use Rattle.pliron_core.proofs.GapLemmas.{same, held-taken}
@@ -45,7 +45,7 @@ module _ {A : Type 0} where
   mapped_range_at f first (suc n) zero y e = (omega arith, ap f (omega arith) ∙ same e)
   mapped_range_at f first (suc n) (suc p) y e = let r = mapped_range_at f (first + 1) n p y e in (omega (arith, r.0), ap f (omega arith) ∙ r.1)
 
-abbrev place : ℕ → Place
+abbrev place : ℕ → UseSlot
 place target = record { target = target; at = 0 }
 
 -- the uses of the new targets
@@ -60,8 +60,8 @@ by-at user count j i u e =
 by-there : (user count j : ℕ) → j < count → at (uses_by user count) j 0 ≡ Some (record { user = user; place = j })
 by-there user count j h = ap (λ l. slice_get l 0) (get_or-map-range_with_len (λ k. (let x : Use = record { user = user; place = k } in x) ∷ []) 0 count j j [] h (omega arith))
 
-module _ (rows : List (List Place)) (lists : List (List Use)) (count : ℕ) where
-  abbrev pub row : List Place
+module _ (rows : List (List UseSlot)) (lists : List (List Use)) (count : ℕ) where
+  abbrev pub row : List UseSlot
   row = places_from (length lists) count
 
   abbrev pub more : List (List Use)
@@ -97,7 +97,7 @@ module _ (rows : List (List Place)) (lists : List (List Use)) (count : ℕ) wher
           let sz : u ≡ length rows + 0 = omega (arith, su) in
           let st : length lists + p ≡ t = omega (arith, is_at, sp) in
           let h : p < count = omega (arith, b.0, sp) in
-          ap (λ z. at (rows ++ row ∷ []) z p) sz ∙ at-added rows (row ∷ []) 0 p ∙ mapped_range_get place (length lists) count p h ∙ ap (λ z. Some (place z)) st ∙ ap (λ z. Some (let x : Place = record { target = t; at = z } in x)) (sym b.1)
+          ap (λ z. at (rows ++ row ∷ []) z p) sz ∙ at-added rows (row ∷ []) 0 p ∙ mapped_range_get place (length lists) count p h ∙ ap (λ z. Some (place z)) st ∙ ap (λ z. Some (let x : UseSlot = record { target = t; at = z } in x)) (sym b.1)
 
 pub gap-with : (first count : ℕ) → first + count ≤ no_target → HasGap (places_from first count) no_gap
 gap-with first count h = record {
@@ -107,7 +107,7 @@ gap-with first count h = record {
   behind = λ n q e a f. let r = mapped_range_at place first count n q e in let s : first + n ≡ q.target = ap (λ z. z.target) r.1 in omega (arith, r.0, s, f, h);
 }
 
-pub holes-with : (rows : List (List Place)) (holes : List Holes) (row : List Place) → HasGap row no_gap → HaveHoles rows holes → HaveHoles (rows ++ row ∷ []) (holes ++ OneGap no_gap ∷ [])
+pub holes-with : (rows : List (List UseSlot)) (holes : List Holes) (row : List UseSlot) → HasGap row no_gap → HaveHoles rows holes → HaveHoles (rows ++ row ∷ []) (holes ++ OneGap no_gap ∷ [])
 holes-with rows holes row has is = record {
   count = omega (arith, length-append rows (row ∷ []), length-append holes (OneGap no_gap ∷ []), is.count);
   each = λ u. elim (get_last rows row [] u) [
@@ -116,16 +116,16 @@ holes-with rows holes row has is = record {
   ];
 }
 
-pub held-from_range : (first count : ℕ) → first + count ≤ no_target → held (places_from first count) ≡ range_with_len first count
+pub held-from_range : (first count : ℕ) → first + count ≤ no_target → targets_held (places_from first count) ≡ range_with_len first count
 held-from_range first zero h = refl
 held-from_range first (suc n) h =
     let ne : first ≢ no_target = λ e. omega (arith, e, h) in
     held-taken (place first) (places_from (first + 1) n) ne ∙ ap (λ l. first ∷ l) (held-from_range (first + 1) n (omega (arith, h)))
 
-pub targets-with : (rows : List (List Place)) (first count : ℕ) → first + count ≤ no_target → targets_in (rows ++ places_from first count ∷ []) ≡ targets_in rows ++ range_with_len first count ∷ []
-targets-with rows first count h = map-append held rows (places_from first count ∷ []) ∙ ap (λ r. targets_in rows ++ r ∷ []) (held-from_range first count h)
+pub targets-with : (rows : List (List UseSlot)) (first count : ℕ) → first + count ≤ no_target → targets_in (rows ++ places_from first count ∷ []) ≡ targets_in rows ++ range_with_len first count ∷ []
+targets-with rows first count h = map-append targets_held rows (places_from first count ∷ []) ∙ ap (λ r. targets_in rows ++ r ∷ []) (held-from_range first count h)
 
-pub places_more : (read : List Place) (first n : ℕ) → read ≡ places_from first n → read ++ record { target = first + n; at = 0 } ∷ [] ≡ places_from first (n + 1)
+pub places_more : (read : List UseSlot) (first n : ℕ) → read ≡ places_from first n → read ++ record { target = first + n; at = 0 } ∷ [] ≡ places_from first (n + 1)
 places_more read first n is = ap (λ r. r ++ place (first + n) ∷ []) is ∙ sym (map-range_with_len_more place first n (first + n) refl)
 
 pub uses_more : (user n : ℕ) → uses_by user (n + 1) ≡ uses_by user n ++ (record { user = user; place = n } ∷ []) ∷ []
@@ -135,7 +135,7 @@ pub length-uses : (lists : List (List Use)) (user count : ℕ) → length (lists
 length-uses lists user count = length-append lists (uses_by user count) ∙ ap (λ n. length lists + n) (length-map-range_with_len (λ k. (let x : Use = record { user = user; place = k } in x) ∷ []) 0 count)
 
 -- a new user with so many new targets
-pub user-linked : (rows : List (List Place)) (holes : List Holes) (lists : List (List Use)) (count : ℕ) → length lists + count < 2 ^ 64 → AreLinked rows holes lists → AreLinked (rows ++ places_from (length lists) count ∷ []) (holes ++ OneGap no_gap ∷ []) (lists ++ uses_by (length rows) count)
+pub user-linked : (rows : List (List UseSlot)) (holes : List Holes) (lists : List (List Use)) (count : ℕ) → length lists + count < 2 ^ 64 → AreLinked rows holes lists → AreLinked (rows ++ places_from (length lists) count ∷ []) (holes ++ OneGap no_gap ∷ []) (lists ++ uses_by (length rows) count)
 user-linked rows holes lists count few is =
     let n = length-uses lists (length rows) count in
     record {

@@ -8,9 +8,9 @@ use Rattle.std.proofs.lemmas.Option.{slice_get_within, slice_get_read}
 use Rattle.pliron_core.specs.declared.context.RegionSlot.{RegionSlot}
 use Rattle.pliron_core.specs.declared.context.OperationEntry.{OperationEntry}
 use Rattle.pliron_core.specs.Lists.{In, IsDistinct, Lists, first_of, next_in, next_in_lists, next_in_owner}
-use Rattle.pliron_core.specs.Tree.{Tree, IsLive, IsBlock, IsRegion, IsListedBy, IsInside, IsWithin, no_entry, row_of, regions_of, parent_of, body_of, layout_of, block_parent_of, slot_of, holder_of}
+use Rattle.pliron_core.specs.Tree.{Tree, IsLive, IsBlock, IsRegion, IsListedBy, IsInside, IsWithin, no_entry, row_of, regions_of, parent_of, body_of, layout_of, block_parent_of, slot_of, parent_operation_of}
 use Rattle.pliron_core.specs.Tree.IsInside.{Directly, Deeper}
-use Rattle.pliron_core.specs.Joined.{IsTree}
+use Rattle.pliron_core.specs.Invariant.{IsTree}
 use Rattle.pliron_core.specs.Walks.{children_of_region, children, contents, preorder}
 use Rattle.pliron_core.specs.WalkSteps.{rest_after, rest_from, blocks_in, blocks_from, first_in_blocks, first_in_regions, IsFollowedBy}
 use Rattle.pliron_core.proofs.ListLemmas.{distinct-apart, split_at, next_in-split}
@@ -148,7 +148,7 @@ module _ (t : Tree) (w : IsTree t) where
   first_child op = ap (λ zs. first_of zs None) (contents-children t w op) ∙ first_of-pieces (λ c. contents t c) (children t op) None
 
   -- what follows an operation and its contents is its next sibling, or what follows its holder
-  pub goes_up : (root x k : ℕ) (o : Option ℕ) → holder_of t x ≡ Some k → IsFollowedBy (preorder t root) (preorder t k) o → IsFollowedBy (preorder t root) (preorder t x) (or_next (next_in x (children t k)) o)
+  pub goes_up : (root x k : ℕ) (o : Option ℕ) → parent_operation_of t x ≡ Some k → IsFollowedBy (preorder t root) (preorder t k) o → IsFollowedBy (preorder t root) (preorder t x) (or_next (next_in x (children t k)) o)
   goes_up root x k o e g =
       let s = split_at x (children t k) (holder-children t w x k e) in
       let pieces = λ (xs : List ℕ). flat_map (λ c. preorder t c) xs in
@@ -210,7 +210,7 @@ module _ (t : Tree) (w : IsTree t) where
       ap (λ zs. first_of (flat_map (λ r. children_of_region t r) zs) None) (drop-slice_get (regions_of t k) i r e) ∙ first_of-or_append (children_of_region t r) _ ∙ or_passed first _ _ f none
 
   -- one step up falls
-  pub up_smaller : (k : ℕ) (o : Option ℕ) → o ≡ holder_of t k → option_map_or (λ z. suc (length t.operations - length (contents t z))) o 0 < suc (length t.operations - length (contents t k))
+  pub up_smaller : (k : ℕ) (o : Option ℕ) → o ≡ parent_operation_of t k → option_map_or (λ z. suc (length t.operations - length (contents t z))) o 0 < suc (length t.operations - length (contents t k))
   up_smaller k None e = omega arith
   up_smaller k (Some p) e =
       let a = contents-shorter t w k p (sym e) in let b = length-contents t w p in omega (arith, a, b)
@@ -238,12 +238,12 @@ module _ (t : Tree) (w : IsTree t) where
       g ∙ ap (λ z. first_in_blocks t z) (e ∙ next_is s lists owners b r f) ∙ ap (λ zs. first_of (flat_map (λ b. body_of t b) zs) None) (blocks_from-next b r f)
 
   -- what follows, found beside or further up
-  pub found_beside : (root x k : ℕ) (n : Option ℕ) → holder_of t x ≡ Some k → IsWithin t root k → n ≡ next_in x (children t k) → is_some n ≡ true → IsFollowedBy (preorder t root) (preorder t x) n
+  pub found_beside : (root x k : ℕ) (n : Option ℕ) → parent_operation_of t x ≡ Some k → IsWithin t root k → n ≡ next_in x (children t k) → is_some n ≡ true → IsFollowedBy (preorder t root) (preorder t x) n
   found_beside root x k n e u f some =
       let g = goes_on root k u in
       subst (IsFollowedBy (preorder t root) (preorder t x)) (or_found n _ g.0 f some) (goes_up root x k g.0 e g.1)
 
-  pub found_above : (root x k : ℕ) (n : Option ℕ) → holder_of t x ≡ Some k → n ≡ next_in x (children t k) → is_some n ≡ false → (o : Option ℕ) → IsFollowedBy (preorder t root) (preorder t k) o → IsFollowedBy (preorder t root) (preorder t x) o
+  pub found_above : (root x k : ℕ) (n : Option ℕ) → parent_operation_of t x ≡ Some k → n ≡ next_in x (children t k) → is_some n ≡ false → (o : Option ℕ) → IsFollowedBy (preorder t root) (preorder t k) o → IsFollowedBy (preorder t root) (preorder t x) o
   found_above root x k n e f none o g =
       subst (IsFollowedBy (preorder t root) (preorder t x)) (or_passed n _ o f none) (goes_up root x k o e g)
 

@@ -8,9 +8,9 @@ use Rattle.pliron_core.specs.declared.attrs.Head.{Head}
 use Rattle.pliron_core.specs.declared.context.Def.{Def}
 use Rattle.pliron_core.specs.declared.context.OperationEntry.{OperationEntry}
 use Rattle.pliron_core.specs.Tree.{Tree, View, In, IsLive, IsBlock, IsDefined, IsRegion, HoldsBlock, parent_of, operands_of, successors_of, arguments_of, results_of, regions_of, layout_of}
-use Rattle.pliron_core.specs.Joined.{HaveSameKeys, IsJoined, IsWellFormed}
+use Rattle.pliron_core.specs.Invariant.{HaveSameKeys, IsJoined, IsWellFormed}
 use Rattle.pliron_core.specs.Lists.{AreOwned}
-use Rattle.pliron_core.specs.Writes.{taken_from, created, block_created, argument_removed, region_slots, result_definitions, argument_definitions}
+use Rattle.pliron_core.specs.Writes.{taken_from, after_creating, block_created, argument_removed, region_slots, result_definitions, argument_definitions}
 use Rattle.pliron_core.proofs.GrownLemmas.{set_last}
 use Rattle.pliron_core.proofs.UsedLemmas.{kept_push, kept_push_successor, kept_remove, kept_replace, length_map}
 use Rattle.pliron_core.proofs.PlacedLemmas.{kept_put, kept_taken}
@@ -75,7 +75,7 @@ length_range : {A : Type 0} (f : ℕ → A) (first n : ℕ) → length (map f (r
 length_range f first zero = refl
 length_range f first (suc n) = ap suc (length_range f (first + 1) n)
 
-pub well_created : (v : View) (h : Head) (results regions : ℕ) (uses : List (List Use)) → IsWellFormed v → length uses ≡ length v.value_uses + results → IsWellFormed (record v { tree = created v.tree h results regions; value_uses = uses })
+pub well_created : (v : View) (h : Head) (results regions : ℕ) (uses : List (List Use)) → IsWellFormed v → length uses ≡ length v.value_uses + results → IsWellFormed (record v { tree = after_creating v.tree h results regions; value_uses = uses })
 well_created v h results regions uses w n = record {
   keys = record {
     operands = length_last _ _ ∙ ap suc w.keys.operands ∙ sym (length_last _ _);

@@ -2,8 +2,8 @@
 use Rattle.std.proofs.Common.{◌≡◌, ◌≢◌, ℕ, zero, suc, ◌<◌, Bool, true, false, nat_eq, length, Option, Some, None, is_some, refl, sym, ap, ◌∙◌, subst, inl, inr, if◌then◌else◌, true≢false}
 use Rattle.std.proofs.lemmas.Bool.Decides.{eqb_tells}
 use Rattle.std.proofs.lemmas.Bool.{eq-eqb}
-use Rattle.pliron_core.specs.Tree.{Tree, IsLive, IsRegion, IsInside, Directly, Deeper, IsWithin, climb, up_from, op_of_slot, holder_of, block_holder_of, region_parent_of, parent_of, block_parent_of}
-use Rattle.pliron_core.specs.Joined.{IsJoined}
+use Rattle.pliron_core.specs.Tree.{Tree, IsLive, IsRegion, IsInside, Directly, Deeper, IsWithin, climb, up_from, op_of_slot, parent_operation_of, block_parent_operation_of, region_parent_of, parent_of, block_parent_of}
+use Rattle.pliron_core.specs.Invariant.{IsJoined}
 use Rattle.pliron_core.specs.Erased.{is_met, is_met_above, is_the, stands_in, StandsIn}
 use Rattle.pliron_core.proofs.TreeLemmas.{live-within, region_owner, region_live}
 use Rattle.pliron_core.proofs.ChainLemmas.{is_met_step}
@@ -13,17 +13,17 @@ pub up_some : (o : Option ℕ) (f : ℕ → Option ℕ) (y : ℕ) → up_from o 
 up_some None f y e = absurd (cc)
 up_some (Some x) f y e = (x, refl, e)
 
-pub block_steps : (t : Tree) (b y : ℕ) → block_holder_of t b ≡ Some y → (r : ℕ) × (block_parent_of t b ≡ Some r) × (region_parent_of t r ≡ Some y)
+pub block_steps : (t : Tree) (b y : ℕ) → block_parent_operation_of t b ≡ Some y → (r : ℕ) × (block_parent_of t b ≡ Some r) × (region_parent_of t r ≡ Some y)
 block_steps t b y e = up_some (block_parent_of t b) (λ r. region_parent_of t r) y e
 
-pub block_holder_from : (t : Tree) (b r : ℕ) → block_parent_of t b ≡ Some r → block_holder_of t b ≡ region_parent_of t r
+pub block_holder_from : (t : Tree) (b r : ℕ) → block_parent_of t b ≡ Some r → block_parent_operation_of t b ≡ region_parent_of t r
 block_holder_from t b r e = ap (λ o. up_from o (λ z. region_parent_of t z)) e
 
-pub holder_steps : (t : Tree) (x y : ℕ) → holder_of t x ≡ Some y → (b : ℕ) × (parent_of t x ≡ Some b) × (block_holder_of t b ≡ Some y)
-holder_steps t x y e = up_some (parent_of t x) (λ b. block_holder_of t b) y e
+pub holder_steps : (t : Tree) (x y : ℕ) → parent_operation_of t x ≡ Some y → (b : ℕ) × (parent_of t x ≡ Some b) × (block_parent_operation_of t b ≡ Some y)
+holder_steps t x y e = up_some (parent_of t x) (λ b. block_parent_operation_of t b) y e
 
-pub holder_from : (t : Tree) (x b : ℕ) → parent_of t x ≡ Some b → holder_of t x ≡ block_holder_of t b
-holder_from t x b e = ap (λ o. up_from o (λ z. block_holder_of t z)) e
+pub holder_from : (t : Tree) (x b : ℕ) → parent_of t x ≡ Some b → parent_operation_of t x ≡ block_parent_operation_of t b
+holder_from t x b e = ap (λ o. up_from o (λ z. block_parent_operation_of t z)) e
 
 -- the operation of a standing region is live
 pub region_parent_live : (t : Tree) (r y : ℕ) → IsJoined t → IsRegion t r → region_parent_of t r ≡ Some y → IsLive t y
@@ -33,17 +33,17 @@ region_parent_live t r y w is e =
     let g : s.0.op ≡ y = cc in
     subst (IsLive t) g (region_live t s.0.op r s.0.index w s.2)
 
-pub block_holder_live : (t : Tree) (b y : ℕ) → IsJoined t → block_holder_of t b ≡ Some y → IsLive t y
+pub block_holder_live : (t : Tree) (b y : ℕ) → IsJoined t → block_parent_operation_of t b ≡ Some y → IsLive t y
 block_holder_live t b y w e = let s = block_steps t b y e in region_parent_live t s.0 y w (w.placed b s.0 s.1) s.2
 
-pub holder_live : (t : Tree) (x y : ℕ) → IsJoined t → holder_of t x ≡ Some y → IsLive t x × IsLive t y
+pub holder_live : (t : Tree) (x y : ℕ) → IsJoined t → parent_operation_of t x ≡ Some y → IsLive t x × IsLive t y
 holder_live t x y w e = let s = holder_steps t x y e in ((w.standing x s.0 s.1).0, block_holder_live t s.0 y w s.2)
 
 -- what stands in a standing block has a holder
-pub parent_holder : (t : Tree) (x b : ℕ) → IsJoined t → parent_of t x ≡ Some b → (y : ℕ) × (block_holder_of t b ≡ Some y)
+pub parent_holder : (t : Tree) (x b : ℕ) → IsJoined t → parent_of t x ≡ Some b → (y : ℕ) × (block_parent_operation_of t b ≡ Some y)
 parent_holder t x b w e = go (block_parent_of t b) refl
   where
-    go : (o : Option ℕ) → block_parent_of t b ≡ o → (y : ℕ) × (block_holder_of t b ≡ Some y)
+    go : (o : Option ℕ) → block_parent_of t b ≡ o → (y : ℕ) × (block_parent_operation_of t b ≡ Some y)
     go None f = absurd (true≢false (sym (w.standing x b e).1 ∙ ap is_some f))
     go (Some r) f = let s = region_owner t r (w.placed b r f) in (s.0.op, block_holder_from t b r f ∙ ap (λ o. op_of_slot o) s.1)
 
@@ -52,24 +52,24 @@ pub region_has : (t : Tree) (r : ℕ) → IsRegion t r → (y : ℕ) × (region_
 region_has t r is = let s = region_owner t r is in (s.0.op, ap (λ o. op_of_slot o) s.1)
 
 -- nothing holds itself
-pub not_own_holder : (t : Tree) (x : ℕ) → IsJoined t → holder_of t x ≢ Some x
+pub not_own_holder : (t : Tree) (x : ℕ) → IsJoined t → parent_operation_of t x ≢ Some x
 not_own_holder t x w e = go (w.rooted x).0 (w.rooted x).1
   where
-    go : (n : ℕ) → climb (holder_of t) n (Some x) ≡ None → ⊥
+    go : (n : ℕ) → climb (parent_operation_of t) n (Some x) ≡ None → ⊥
     go zero f = cc
-    go (suc n) f = go n (ap (climb (holder_of t) n) (sym e) ∙ f)
+    go (suc n) f = go n (ap (climb (parent_operation_of t) n) (sym e) ∙ f)
 
 module _ (t : Tree) (p : ℕ → Bool) (w : IsJoined t) where
-  pub held_below : (x y : ℕ) → holder_of t x ≡ Some y → y < length t.operations
+  pub held_below : (x y : ℕ) → parent_operation_of t x ≡ Some y → y < length t.operations
   held_below x y e = live-within t y (holder_live t x y w e).1
 
-  pub met_step : (x : ℕ) → x < length t.operations → is_met_above t p (Some x) ≡ (if p x then true else is_met_above t p (holder_of t x))
-  met_step x lt = is_met_step (holder_of t) p w.rooted (length t.operations) held_below x lt
+  pub met_step : (x : ℕ) → x < length t.operations → is_met_above t p (Some x) ≡ (if p x then true else is_met_above t p (parent_operation_of t x))
+  met_step x lt = is_met_step (parent_operation_of t) p w.rooted (length t.operations) held_below x lt
 
   pub met_here : (x : ℕ) → x < length t.operations → p x ≡ true → is_met_above t p (Some x) ≡ true
-  met_here x lt e = met_step x lt ∙ ap (λ b. if b then true else is_met_above t p (holder_of t x)) e
+  met_here x lt e = met_step x lt ∙ ap (λ b. if b then true else is_met_above t p (parent_operation_of t x)) e
 
-  pub met_below : (x y : ℕ) → holder_of t x ≡ Some y → is_met_above t p (Some y) ≡ true → is_met_above t p (Some x) ≡ true
+  pub met_below : (x y : ℕ) → parent_operation_of t x ≡ Some y → is_met_above t p (Some y) ≡ true → is_met_above t p (Some x) ≡ true
   met_below x y e m = met_step x (live-within t x (holder_live t x y w e).0) ∙ ap (λ o. if p x then true else is_met_above t p o) e ∙ go (p x)
     where
       go : (b : Bool) → (if b then true else is_met_above t p (Some y)) ≡ true
@@ -77,14 +77,14 @@ module _ (t : Tree) (p : ℕ → Bool) (w : IsJoined t) where
       go false = m
 
   -- where the test fails, a holder is met
-  pub met_up : (x : ℕ) → x < length t.operations → p x ≡ false → is_met_above t p (Some x) ≡ true → (y : ℕ) × (holder_of t x ≡ Some y) × (is_met_above t p (Some y) ≡ true)
-  met_up x lt e m = go (holder_of t x) refl (sym (met_step x lt ∙ ap (λ b. if b then true else is_met_above t p (holder_of t x)) e) ∙ m)
+  pub met_up : (x : ℕ) → x < length t.operations → p x ≡ false → is_met_above t p (Some x) ≡ true → (y : ℕ) × (parent_operation_of t x ≡ Some y) × (is_met_above t p (Some y) ≡ true)
+  met_up x lt e m = go (parent_operation_of t x) refl (sym (met_step x lt ∙ ap (λ b. if b then true else is_met_above t p (parent_operation_of t x)) e) ∙ m)
     where
-      none : (n : ℕ) → is_met (holder_of t) p n None ≡ false
+      none : (n : ℕ) → is_met (parent_operation_of t) p n None ≡ false
       none zero = refl
       none (suc n) = refl
 
-      go : (o : Option ℕ) → holder_of t x ≡ o → is_met_above t p o ≡ true → (y : ℕ) × (holder_of t x ≡ Some y) × (is_met_above t p (Some y) ≡ true)
+      go : (o : Option ℕ) → parent_operation_of t x ≡ o → is_met_above t p o ≡ true → (y : ℕ) × (parent_operation_of t x ≡ Some y) × (is_met_above t p (Some y) ≡ true)
       go None f g = absurd (true≢false (sym g ∙ none (length t.operations)))
       go (Some y) f g = (y, f, g)
 
@@ -98,21 +98,21 @@ module _ (t : Tree) (p : ℕ → Bool) (w : IsJoined t) where
   within_met x k lt e (inr i) = inside_met x k lt e i
 
 -- what is met holds what the way started from
-pub met_within : (t : Tree) (p : ℕ → Bool) (n k : ℕ) → is_met (holder_of t) p n (Some k) ≡ true → (x : ℕ) × (p x ≡ true) × IsWithin t x k
+pub met_within : (t : Tree) (p : ℕ → Bool) (n k : ℕ) → is_met (parent_operation_of t) p n (Some k) ≡ true → (x : ℕ) × (p x ≡ true) × IsWithin t x k
 met_within t p zero k e = absurd (true≢false (sym e))
-met_within t p (suc n) k e = go (p k) refl e (holder_of t k) refl (λ y. met_within t p n y)
+met_within t p (suc n) k e = go (p k) refl e (parent_operation_of t k) refl (λ y. met_within t p n y)
   where
-    none : (n : ℕ) → is_met (holder_of t) p n None ≡ false
+    none : (n : ℕ) → is_met (parent_operation_of t) p n None ≡ false
     none zero = refl
     none (suc n) = refl
 
-    up : (o : Option ℕ) → holder_of t k ≡ o → is_met (holder_of t) p n o ≡ true → ((y : ℕ) → is_met (holder_of t) p n (Some y) ≡ true → (x : ℕ) × (p x ≡ true) × IsWithin t x y) → (x : ℕ) × (p x ≡ true) × IsWithin t x k
+    up : (o : Option ℕ) → parent_operation_of t k ≡ o → is_met (parent_operation_of t) p n o ≡ true → ((y : ℕ) → is_met (parent_operation_of t) p n (Some y) ≡ true → (x : ℕ) × (p x ≡ true) × IsWithin t x y) → (x : ℕ) × (p x ≡ true) × IsWithin t x k
     up None f g rest = absurd (true≢false (sym g ∙ none n))
     up (Some y) f g rest = let r = rest y g in (r.0, r.1, inr (elim r.2 [ inl s ↦ Directly (f ∙ ap Some s) | inr i ↦ Deeper y f i ]))
 
-    go : (b : Bool) → p k ≡ b → (if b then true else is_met (holder_of t) p n (holder_of t k)) ≡ true → (o : Option ℕ) → holder_of t k ≡ o → ((y : ℕ) → is_met (holder_of t) p n (Some y) ≡ true → (x : ℕ) × (p x ≡ true) × IsWithin t x y) → (x : ℕ) × (p x ≡ true) × IsWithin t x k
+    go : (b : Bool) → p k ≡ b → (if b then true else is_met (parent_operation_of t) p n (parent_operation_of t k)) ≡ true → (o : Option ℕ) → parent_operation_of t k ≡ o → ((y : ℕ) → is_met (parent_operation_of t) p n (Some y) ≡ true → (x : ℕ) × (p x ≡ true) × IsWithin t x y) → (x : ℕ) × (p x ≡ true) × IsWithin t x k
     go true f g o h rest = (k, f, inl refl)
-    go false f g o h rest = up (holder_of t k) refl g rest
+    go false f g o h rest = up (parent_operation_of t k) refl g rest
 
 pub equal_from : (op x : ℕ) → nat_eq op x ≡ true → x ≡ op
 equal_from op x e = elim (eqb_tells op x) [ inl y ↦ sym y.1 | inr n ↦ absurd (true≢false (sym e ∙ n.0)) ]

@@ -11,10 +11,10 @@ use Rattle.pliron_core.specs.declared.context.OperationEntry.{OperationEntry}
 use Rattle.pliron_core.specs.declared.context.Def.TheVariants.{Argument}
 use Rattle.pliron_core.specs.Lists.{In}
 use Rattle.pliron_core.specs.Uses.{replace_target}
-use Rattle.pliron_core.specs.Tree.{Tree, no_entry, up_from, row_of, head_of, operands_of, successors_of, parent_of, body_of, arguments_of, block_parent_of, region_parent_of, holder_of, IsLive, IsBlock, IsInside, HoldsBlock}
-use Rattle.pliron_core.specs.Joined.{IsJoined, IsTree}
-use Rattle.pliron_core.specs.Writes.{argument_definitions, operand_pushed, successor_pushed, operand_removed, with_attribute, attribute_set, numbered, argument_removed, replaced, block_created}
-use Rattle.pliron_core.specs.Changes.{HoldsRegion, IsMakerInside, IsMadeInside, IsOutside, IsBlockOutside, IsValueOutside, IsKeptOperation, IsKeptBlock, IsInsideChange}
+use Rattle.pliron_core.specs.Tree.{Tree, no_entry, up_from, row_of, head_of, operands_of, successors_of, parent_of, body_of, arguments_of, block_parent_of, region_parent_of, parent_operation_of, IsLive, IsBlock, IsInside, HoldsBlock}
+use Rattle.pliron_core.specs.Invariant.{IsJoined, IsTree}
+use Rattle.pliron_core.specs.Writes.{argument_definitions, operand_pushed, successor_pushed, operand_removed, with_attribute, attribute_set, argument_definitions_from, argument_removed, after_replacing, block_created}
+use Rattle.pliron_core.specs.Changes.{HoldsRegion, IsDefiningOperationInside, IsDefinedInside, IsOutside, IsBlockOutside, IsValueOutside, IsKeptOperation, IsKeptBlock, IsInsideChange}
 use Rattle.pliron_core.proofs.TableLemmas.{set-other}
 use Rattle.pliron_core.proofs.PlaceLemmas.{get_or-pad}
 use Rattle.pliron_core.proofs.HoldingLemmas.{not_none, slice_in, maker_is, holder_is, holder_by, held_block, inside_alike, within_alike, inside_more, within_more}
@@ -99,18 +99,18 @@ module _ (t : Tree) (op x : ℕ) (w : IsJoined t) (i : IsInside t op x) where
   pub attribute_set_inside : (n : ℕ) (attr : AttrObj) → IsInsideChange t (attribute_set t x n attr) op
   attribute_set_inside n attr = row_set_inside (record (row_of t x) { head = with_attribute (head_of t x) n attr })
 
--- a value made inside op gives way
-pub replaced_inside : (t : Tree) (op old new : ℕ) → IsJoined t → IsMadeInside t op old → IsInsideChange t (replaced t old new) op
+-- a value defined inside op gives way
+pub replaced_inside : (t : Tree) (op old new : ℕ) → IsJoined t → IsDefinedInside t op old → IsInsideChange t (after_replacing t old new) op
 replaced_inside t op old new w made = change_of_kept t u op w kept (λ y o. (o.0, λ j. o.1 (inside_alike t u (λ z. refl) j))) (λ b o. (o.0, λ h. o.1 (h.0, h.1, within_alike t u (λ z. refl) h.2)))
   where
     u : Tree
-    u = replaced t old new
+    u = after_replacing t old new
 
     row : (x : ℕ) → operands_of u x ≡ map (replace_target old new) (operands_of t x)
     row x = get_or-map (map (replace_target old new)) t.operands x []
 
     other : (v : ℕ) → IsValueOutside t op v → replace_target old new v ≡ v
-    other v out = ap (λ b. if b then new else v) (ne_eqb v old (λ e. out.1 (subst (IsMadeInside t op) (sym e) made)))
+    other v out = ap (λ b. if b then new else v) (ne_eqb v old (λ e. out.1 (subst (IsDefinedInside t op) (sym e) made)))
 
     operand : (x i v : ℕ) → slice_get (operands_of t x) i ≡ Some v → IsValueOutside t op v → slice_get (operands_of u x) i ≡ Some v
     operand x i v e out = ap (λ z. slice_get z i) (row x) ∙ slice_get-map (replace_target old new) (operands_of t x) i ∙ ap (option_map (replace_target old new)) e ∙ ap Some (other v out)
@@ -128,7 +128,7 @@ in_drop zero xs x i = i
 in_drop (suc n) [] x i = i
 in_drop (suc n) (y ∷ ys) x i = inr (in_drop n ys x i)
 
-numbered_other : (vs : List ℕ) (definitions : List Def) (block i v : ℕ) → (In v vs → ⊥) → slice_get (numbered definitions block i vs) v ≡ slice_get definitions v
+numbered_other : (vs : List ℕ) (definitions : List Def) (block i v : ℕ) → (In v vs → ⊥) → slice_get (argument_definitions_from definitions block i vs) v ≡ slice_get definitions v
 numbered_other [] definitions block i v out = refl
 numbered_other (x ∷ xs) definitions block i v out =
     numbered_other xs (slice_set definitions x (Argument block i)) block (suc i) v (λ j. out (inr j)) ∙ set-other definitions x v (Argument block i) (λ e. out (inl e))
@@ -143,7 +143,7 @@ argument_removed_inside t op block n w held = change_of_kept t u op w kept (λ y
     other : (v : ℕ) → IsValueOutside t op v → In v (drop (n + 1) (arguments_of t block)) → ⊥
     other v out i =
         let p = slice_in (arguments_of t block) v (in_drop (n + 1) (arguments_of t block) v i) in
-        out.1 (subst (IsMakerInside t op) (sym (w.arguments block p.0 v p.1)) held)
+        out.1 (subst (IsDefiningOperationInside t op) (sym (w.arguments block p.0 v p.1)) held)
 
     kept : AreKeptOutside t u op
     kept = record {
@@ -190,7 +190,7 @@ module _ (t : Tree) (op region count : ℕ) (w : IsTree t) (held : HoldsRegion t
   block_same : (b : ℕ) → IsBlock t b → block_parent_of (block_created t region count) b ≡ block_parent_of t b
   block_same b is = get_or-append t.block_parents (Some region ∷ []) None b (past_block t b is)
 
-  holders : (x p : ℕ) → holder_of t x ≡ Some p → holder_of (block_created t region count) x ≡ Some p
+  holders : (x p : ℕ) → parent_operation_of t x ≡ Some p → parent_operation_of (block_created t region count) x ≡ Some p
   holders x p e =
       let h = holder_is t x p e in
       holder_by (block_created t region count) x h.0 p h.1 (ap (λ o. up_from o (λ r. region_parent_of t r)) (block_same h.0 (held_block t h.0 p h.2)) ∙ h.2)

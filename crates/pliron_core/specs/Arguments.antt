@@ -12,17 +12,17 @@ pub record Makers : Type 0 where
 abbrev pub argument_row_of : Makers → ℕ → List ℕ
 argument_row_of s block = slice_index_or s.rows block []
 
--- what makes a value: the place where it stands as an argument, or what is written of it
-abbrev pub made : Def → List Use → Def
-made d [] = d
-made d (u ∷ us) = Argument u.user u.place
+-- what defines a value: the place where it is an argument, or what is written of it
+abbrev pub definition_now : Def → List Use → Def
+definition_now d [] = d
+definition_now d (u ∷ us) = Argument u.user u.place
 
-abbrev pub defined : List Def → List (List Use) → List Def
-defined [] uses = []
-defined (d ∷ ds) [] = []
-defined (d ∷ ds) (us ∷ uses) = made d us ∷ defined ds uses
+abbrev pub definitions_now : List Def → List (List Use) → List Def
+definitions_now [] uses = []
+definitions_now (d ∷ ds) [] = []
+definitions_now (d ∷ ds) (us ∷ uses) = definition_now d us ∷ definitions_now ds uses
 
--- each argument is defined by the place where it stands
+-- each argument is defined by its block and index
 abbrev pub AreNumbered : List (List ℕ) → List Def → Type 0
 AreNumbered rows definitions = (block i v : ℕ) → slice_get (slice_index_or rows block []) i ≡ Some v → slice_get definitions v ≡ Some (Argument block i)
 
@@ -36,5 +36,5 @@ AreApart rows written = (v op i : ℕ) → slice_get written v ≡ Some (Result 
 
 pub record AreMade (rows : List (List ℕ)) (written : List Def) (uses : List (List Use)) : Type 0 where
   pub count : length written ≡ length uses
-  pub numbered : AreNumbered rows (defined written uses)
+  pub numbered : AreNumbered rows (definitions_now written uses)
   pub apart : AreApart rows written

@@ -4,8 +4,8 @@ use Rattle.pliron_core.specs.declared.context.Def.{Def}
 use Rattle.pliron_core.specs.declared.context.Def.TheVariants.{Result, Argument}
 use Rattle.pliron_core.specs.Tree.{Tree, IsLive, IsBlock, IsRegion, IsDefined, IsInside, IsWithin, HoldsBlock, row_of, operands_of, successors_of, parent_of, body_of, arguments_of, block_parent_of, layout_of, slot_of, region_parent_of, definition_of}
 
--- the same tree but for spent keys: everything that stands in the one stands in the other with the
--- same row, and nothing else stands (an erased key has the row of one that was never given out)
+-- the same tree but for erased handles: what is live in the one is live in the other with the same entry, and
+-- nothing else is live (an erased handle has the entry of one that was never given out)
 pub record IsSameTree (t u : Tree) : Type 0 where
   pub operations : (k : ℕ) → row_of u k ≡ row_of t k
   pub operands : (k : ℕ) → operands_of u k ≡ operands_of t k
@@ -20,16 +20,16 @@ pub record IsSameTree (t u : Tree) : Type 0 where
 abbrev pub HoldsRegion : Tree → ℕ → ℕ → Type 0
 HoldsRegion t op r = (k : ℕ) × (region_parent_of t r ≡ Some k) × IsWithin t op k
 
--- the value is made inside op, at any depth; the results of op itself are not
-abbrev pub IsMakerInside : Tree → ℕ → Option Def → Type 0
-IsMakerInside t op None = ⊥
-IsMakerInside t op (Some (Result k i)) = IsInside t op k
-IsMakerInside t op (Some (Argument block i)) = HoldsBlock t op block
+-- the value is defined inside op, at any depth; the results of op itself are not
+abbrev pub IsDefiningOperationInside : Tree → ℕ → Option Def → Type 0
+IsDefiningOperationInside t op None = ⊥
+IsDefiningOperationInside t op (Some (Result k i)) = IsInside t op k
+IsDefiningOperationInside t op (Some (Argument block i)) = HoldsBlock t op block
 
-abbrev pub IsMadeInside : Tree → ℕ → ℕ → Type 0
-IsMadeInside t op v = IsMakerInside t op (definition_of t v)
+abbrev pub IsDefinedInside : Tree → ℕ → ℕ → Type 0
+IsDefinedInside t op v = IsDefiningOperationInside t op (definition_of t v)
 
--- it stands, and not inside op; op itself does so too
+-- it is live, and not inside op; op itself is so too
 abbrev pub IsOutside : Tree → ℕ → ℕ → Type 0
 IsOutside t op x = IsLive t x × (IsInside t op x → ⊥)
 
@@ -40,9 +40,9 @@ abbrev pub IsRegionOutside : Tree → ℕ → ℕ → Type 0
 IsRegionOutside t op r = IsRegion t r × (HoldsRegion t op r → ⊥)
 
 abbrev pub IsValueOutside : Tree → ℕ → ℕ → Type 0
-IsValueOutside t op v = IsDefined t v × (IsMadeInside t op v → ⊥)
+IsValueOutside t op v = IsDefined t v × (IsDefinedInside t op v → ⊥)
 
--- the operation is as before, but for operands that named a value made inside op
+-- the operation is as before, but for operands that named a value defined inside op
 pub record IsKeptOperation (t u : Tree) (op x : ℕ) : Type 0 where
   pub row : row_of u x ≡ row_of t x
   pub successors : successors_of u x ≡ successors_of t x
@@ -60,8 +60,8 @@ pub record IsKeptRegion (t u : Tree) (r : ℕ) : Type 0 where
   pub layout : layout_of u r ≡ layout_of t r
   pub slot : slot_of u r ≡ slot_of t r
 
--- only what is inside op changes: what stands outside it stays outside and is as before, but for
--- operands that named a value made inside, and nothing new stands there
+-- only what is inside op changes: what is outside stays outside and is as before, but for operands that named a
+-- value defined inside, and nothing new is live there
 pub record IsInsideChange (t u : Tree) (op : ℕ) : Type 0 where
   pub operations : (x : ℕ) → IsOutside t op x → IsOutside u op x × IsKeptOperation t u op x
   pub blocks : (b : ℕ) → IsBlockOutside t op b → IsBlockOutside u op b × IsKeptBlock t u b

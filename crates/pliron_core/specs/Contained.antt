@@ -6,16 +6,16 @@ use Rattle.pliron_core.specs.Lists.{In}
 use Rattle.pliron_core.specs.Tree.{Tree, operands_of, successors_of, results_of, regions_of, layout_of, arguments_of, body_of, IsWithin}
 use Rattle.pliron_core.specs.Erased.{StandsIn}
 
--- x is the operation or stands inside it, or it stands in the block
+-- x is the operation or is inside it, or it is in the block
 abbrev pub IsInScope : Tree → Scope → ℕ → Type 0
 IsInScope t (Inside op) x = IsWithin t op x
 IsInScope t (InBlock block) x = StandsIn t block x
 
--- each operation that uses the value stands in the scope
+-- each operation that uses the value is in the scope
 abbrev pub IsValueKept : Tree → Scope → ℕ → Type 0
 IsValueKept t scope v = (x : ℕ) → In v (operands_of t x) → IsInScope t scope x
 
--- each operation that has the block as a successor stands in the scope
+-- each operation that has the block as a successor is in the scope
 abbrev pub IsTargetKept : Tree → Scope → ℕ → Type 0
 IsTargetKept t scope b = (x : ℕ) → In b (successors_of t x) → IsInScope t scope x
 

@@ -12,7 +12,7 @@ pairs (x ∷ y ∷ zs) = (x + y) ∷ pairs zs
 abbrev pub AreMarks : List ℕ → Type 0
 AreMarks xs = All (λ x. x ≤ 1) xs
 
--- the marks stand at level 0
+-- the marks are level 0
 abbrev pub level : List (List ℕ) → ℕ → List ℕ
 level levels k = slice_index_or levels k []
 

@@ -4,13 +4,13 @@ use Rattle.pliron_core.specs.declared.uses.Use.{Use}
 use Rattle.pliron_core.specs.Lists.{last_of}
 use Rattle.pliron_core.specs.Tree.{Tree, View, successors_of, parent_of, body_of, block_parent_of, uses_of}
 
--- `a` stands in the block's region and ends with the operation
+-- `a` is in the block's region and ends with the operation
 pub record IsSource (t : Tree) (block user a : ℕ) : Type 0 where
   pub parent : parent_of t user ≡ Some a
   pub last : last_of None (body_of t a) ≡ Some user
   pub beside : block_parent_of t a ≡ block_parent_of t block
 
--- no place of the user before this one names the block
+-- no earlier successor of the user is the block
 abbrev pub IsFirstPlace : Tree → ℕ → ℕ → ℕ → Type 0
 IsFirstPlace t block user place = (p : ℕ) → p < place → slice_get (successors_of t user) p ≢ Some block
 

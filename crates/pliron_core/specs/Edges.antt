@@ -21,7 +21,6 @@ abbrev pub blocks_in : Tree → Option ℕ → List ℕ
 blocks_in t None = []
 blocks_in t (Some region) = layout_of t region
 
--- the predecessors of a block: the blocks of its region that it is a successor of, in the
--- region's order
+-- the predecessors of a block: the blocks of its region whose last operation leads to it, in the region's order
 abbrev pub preds_of : Tree → ℕ → List ℕ
 preds_of t block = filter (λ a. leads_to t block a) (blocks_in t (block_parent_of t block))

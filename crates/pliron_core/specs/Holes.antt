@@ -1,14 +1,14 @@
--- Where the free places of each user are.
+-- Where the free slots of each user are.
 use Rattle.std.specs.Prelude.{◌≡◌, ℕ, Bool, true, false, List, [], length, slice_index_or, Vec, vec_len, vec_capacity}
 use Rattle.pliron_core.specs.declared.uses.Use.{Use}
-use Rattle.pliron_core.specs.declared.places.Place.{Place}
-use Rattle.pliron_core.specs.declared.places.Gap.{Gap}
-use Rattle.pliron_core.specs.declared.places.Holes.{Holes}
-use Rattle.pliron_core.specs.declared.places.Holes.TheVariants.{OneGap, Counted}
-use Rattle.pliron_core.specs.Places.{marks, no_gap, HasGap, IsLinked}
+use Rattle.pliron_core.specs.declared.use_slots.UseSlot.{UseSlot}
+use Rattle.pliron_core.specs.declared.use_slots.Gap.{Gap}
+use Rattle.pliron_core.specs.declared.use_slots.Holes.{Holes}
+use Rattle.pliron_core.specs.declared.use_slots.Holes.TheVariants.{OneGap, Counted}
+use Rattle.pliron_core.specs.UseSlots.{marks, no_gap, HasGap, IsLinked}
 
--- the free places of the row are those in the gap, or those that the counts have as free
-abbrev pub Tracks : List Place → Holes → Type 0
+-- the free slots of the list are those in the gap, or those that the counts have as free
+abbrev pub Tracks : List UseSlot → Holes → Type 0
 Tracks row (OneGap gap) = HasGap row gap
 Tracks row (Counted counts) = marks row ≡ counts.value
 
@@ -27,7 +27,7 @@ abbrev pub counts_in : Holes → List ℕ
 counts_in (OneGap gap) = []
 counts_in (Counted counts) = counts.value
 
--- the gap of a user, whether its places are counted, and by what
+-- the gap of a user, whether its slots are counted, and by what
 abbrev pub gap_of : List Holes → ℕ → Gap
 gap_of holes user = gap_in (hole_of holes user)
 
@@ -37,12 +37,12 @@ is_counted holes user = counted_in (hole_of holes user)
 abbrev pub counts_of : List Holes → ℕ → List ℕ
 counts_of holes user = counts_in (hole_of holes user)
 
--- what is known of the free places of each row is so
-pub record HaveHoles (rows : List (List Place)) (holes : List Holes) : Type 0 where
+-- what is recorded of the free slots of each list is so
+pub record HaveHoles (rows : List (List UseSlot)) (holes : List Holes) : Type 0 where
   pub count : length holes ≡ length rows
   pub each : (user : ℕ) → Tracks (slice_index_or rows user []) (hole_of holes user)
 
-pub record AreLinked (rows : List (List Place)) (spans : List Holes) (lists : List (List Use)) : Type 0 where
+pub record AreLinked (rows : List (List UseSlot)) (spans : List Holes) (lists : List (List Use)) : Type 0 where
   pub linked : IsLinked rows lists
   pub holes : HaveHoles rows spans
 

@@ -1,13 +1,13 @@
 pub mod Lists
 pub mod Nodes
-pub mod Rows
+pub mod SlotRows
 pub mod Uses
-pub mod Places
+pub mod UseSlots
 pub mod Counts
 pub mod Holes
 pub mod Rising
 pub mod Tree
-pub mod Joined
+pub mod Invariant
 pub mod Writes
 pub mod Status
 pub mod Reads
@@ -23,4 +23,4 @@ pub mod Dismantling
 pub mod Contained
 pub mod Changes
 pub mod ChangeLaws
-pub mod Tables
+pub mod UseTables

@@ -32,17 +32,17 @@ abbrev pub without : ℕ → List ℕ → List ℕ
 without x [] = []
 without x (y ∷ ys) = if nat_eq x y then ys else y ∷ without x ys
 
--- `x` goes directly before the first `at`
+-- `x` is inserted directly before the first `at`
 abbrev pub put_before : ℕ → ℕ → List ℕ → List ℕ
 put_before at x [] = []
 put_before at x (y ∷ ys) = if nat_eq at y then x ∷ y ∷ ys else y ∷ put_before at x ys
 
--- what stands directly after `at`
+-- what is directly after `at`
 abbrev pub next_in : ℕ → List ℕ → Option ℕ
 next_in at [] = None
 next_in at (y ∷ ys) = if nat_eq at y then first_of ys None else next_in at ys
 
--- what stands directly before `at`, where the list goes on from `before`
+-- what is directly before `at`, where the list goes on from `before`
 abbrev pub prev_in : Option ℕ → ℕ → List ℕ → Option ℕ
 prev_in before at [] = None
 prev_in before at (y ∷ ys) = if nat_eq at y then before else prev_in (Some y) at ys
@@ -65,17 +65,17 @@ prev_in_owner s (Some l) x = prev_in None x (list_of s l)
 abbrev pub prev_in_lists : Lists → ℕ → Option ℕ
 prev_in_lists s x = prev_in_owner s (owner_of s x) x
 
--- `x` stands in the list
+-- `x` is in the list
 abbrev pub In : ℕ → List ℕ → Type 0
 In x [] = ⊥
 In x (y ∷ ys) = (x ≡ y) ⊎ In x ys
 
--- nothing stands twice in the list
+-- nothing is in the list twice
 abbrev pub IsDistinct : List ℕ → Type 0
 IsDistinct [] = Unit {0}
 IsDistinct (x ∷ xs) = (In x xs → ⊥) × IsDistinct xs
 
--- what an owner's list has, is owned by it, and nothing stands twice
+-- the nodes of an owner's list are owned by it, and none is there twice
 pub record AreOwned (owners : List (Option ℕ)) (lists : List (List ℕ)) : Type 0 where
   pub listed : (x l : ℕ) → slice_index_or owners x None ≡ Some l → In x (slice_index_or lists l [])
   pub owned : (x l : ℕ) → In x (slice_index_or lists l []) → slice_index_or owners x None ≡ Some l

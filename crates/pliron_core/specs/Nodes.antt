@@ -1,4 +1,4 @@
--- How nodes with links stand for lists.
+-- How nodes with links represent lists.
 use Rattle.std.specs.Prelude.{◌≡◌, ℕ, zero, suc, ◌<◌, List, [], ◌∷◌, length, map, Option, Some, None, slice_index_or, slice_set}
 pub use Rattle.pliron_core.specs.Lists.{In, IsDistinct}
 use Rattle.pliron_core.specs.declared.links.Node.{Node}
@@ -50,7 +50,7 @@ abbrev pub with_prev : List Node → Option ℕ → Option ℕ → List Node
 with_prev nodes None v = nodes
 with_prev nodes (Some x) v = slice_set nodes x (record (node_at nodes x) { prev = v })
 
--- these nodes of the list `l` stand in a row, between `before` and `after`
+-- these nodes of the list `l` follow each other, between `before` and `after`
 abbrev pub IsRow : List Node → ℕ → Option ℕ → List ℕ → Option ℕ → Type 0
 IsRow nodes l before [] after = Unit {0}
 IsRow nodes l before (x ∷ xs) after =
@@ -58,25 +58,25 @@ IsRow nodes l before (x ∷ xs) after =
     × (node_at nodes x ≡ record { owner = Some l; prev = before; next = first_of xs after })
     × IsRow nodes l (Some x) xs after
 
--- these nodes are the list `l`, and nothing stands twice
+-- these nodes are the list `l`, and none is there twice
 pub record IsList (nodes : List Node) (l : ℕ) (ends : Ends) (xs : List ℕ) : Type 0 where
   pub head : ends.head ≡ first_of xs None
   pub tail : ends.tail ≡ last_of None xs
   pub row : IsRow nodes l None xs None
   pub distinct : IsDistinct xs
 
--- nodes and ends stand for these lists, and only what stands in a list is owned
+-- nodes and ends represent these lists, and only nodes in a list are owned
 pub record AreSoundLists (nodes : List Node) (ends : List Ends) (lists : List (List ℕ)) : Type 0 where
   pub count : length ends ≡ length lists
   pub each : (l : ℕ) → l < length ends → IsList nodes l (ends_at ends l) (slice_index_or lists l [])
   pub owned : (x l : ℕ) → (node_at nodes x).owner ≡ Some l → (l < length ends) × In x (slice_index_or lists l [])
 
--- the list's first node, where nothing stands before
+-- the list's first node, where nothing is before it
 abbrev pub with_first : Ends → Option ℕ → Option ℕ → Ends
 with_first e None v = record e { head = v }
 with_first e (Some x) v = e
 
--- the list's last node, where nothing stands after
+-- the list's last node, where nothing is after it
 abbrev pub with_tail : Ends → Option ℕ → Option ℕ → Ends
 with_tail e None v = record e { tail = v }
 with_tail e (Some x) v = e

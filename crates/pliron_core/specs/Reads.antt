@@ -6,7 +6,7 @@ use Rattle.pliron_core.specs.declared.context.Def.TheVariants.{Result, Argument}
 use Rattle.pliron_core.specs.Lists.{next_in, prev_in}
 use Rattle.pliron_core.specs.Tree.{Tree, IsLive, IsBlock, head_of, parent_of, body_of, block_parent_of, layout_of, region_parent_of, up_from}
 
--- what stands directly after and directly before an operation in its block, a block in its region
+-- what is directly after and directly before an operation in its block, a block in its region
 abbrev pub next_of : Tree → ℕ → Option ℕ
 next_of t op = up_from (parent_of t op) (λ b. next_in op (body_of t b))
 
@@ -31,7 +31,7 @@ has_ssa_at t (Some op) = ssa_in (head_of t op)
 abbrev pub has_ssa : Tree → ℕ → Bool
 has_ssa t region = has_ssa_at t (region_parent_of t region)
 
--- what makes a value stands
-abbrev pub IsMakerStanding : Tree → Def → Type 0
-IsMakerStanding t (Result op i) = IsLive t op
-IsMakerStanding t (Argument block i) = IsBlock t block
+-- the definition of a value is live
+abbrev pub IsDefinitionLive : Tree → Def → Type 0
+IsDefinitionLive t (Result op i) = IsLive t op
+IsDefinitionLive t (Argument block i) = IsBlock t block

@@ -23,7 +23,7 @@ pub record Tree : Type 0 where
   -- by region: its blocks in order; its operation, and its index there
   pub layouts : List (List ℕ)
   pub slots : List RegionSlot
-  -- by value: what makes it
+  -- by value: its definition
   pub definitions : List Def
 
 -- a tree, and the uses of each value and of each block in any order
@@ -32,7 +32,7 @@ pub record View : Type 0 where
   pub value_uses : List (List Use)
   pub block_uses : List (List Use)
 
--- what stands at an erased operation's key
+-- what the table has at an erased operation's key
 abbrev pub no_entry : OperationEntry
 no_entry = record { head = None; results = []; regions = [] }
 
@@ -79,8 +79,8 @@ definition_of t value = slice_get t.definitions value
 abbrev pub uses_of : List (List Use) → ℕ → List Use
 uses_of uses key = slice_index_or uses key []
 
--- what stands: an operation has a head, a block has a region, and what makes a value or a region
--- still lists it
+-- what is live: an operation has a head, a block has a region, and what defines a value or a region still lists
+-- it
 abbrev pub IsLive : Tree → ℕ → Type 0
 IsLive t op = IsSome (head_of t op)
 
@@ -115,14 +115,14 @@ op_of_slot (Some slot) = Some slot.op
 abbrev pub region_parent_of : Tree → ℕ → Option ℕ
 region_parent_of t region = op_of_slot (slot_of t region)
 
--- the operation that holds the block, and the one that holds an operation
-abbrev pub block_holder_of : Tree → ℕ → Option ℕ
-block_holder_of t block = up_from (block_parent_of t block) (λ r. region_parent_of t r)
+-- the parent operation of a block, and of an operation
+abbrev pub block_parent_operation_of : Tree → ℕ → Option ℕ
+block_parent_operation_of t block = up_from (block_parent_of t block) (λ r. region_parent_of t r)
 
-abbrev pub holder_of : Tree → ℕ → Option ℕ
-holder_of t op = up_from (parent_of t op) (λ b. block_holder_of t b)
+abbrev pub parent_operation_of : Tree → ℕ → Option ℕ
+parent_operation_of t op = up_from (parent_of t op) (λ b. block_parent_operation_of t b)
 
--- what stands n steps above
+-- what is n steps above
 abbrev pub climb : (ℕ → Option ℕ) → ℕ → Option ℕ → Option ℕ
 climb h zero o = o
 climb h (suc n) o = climb h n (up_from o h)
@@ -131,21 +131,21 @@ climb h (suc n) o = climb h n (up_from o h)
 abbrev pub IsRooted : (ℕ → Option ℕ) → Type 0
 IsRooted h = (x : ℕ) → (n : ℕ) × (climb h n (Some x) ≡ None)
 
--- x stands inside op, at any depth
+-- x is inside op, at any depth
 pub data IsInside (t : Tree) (op : ℕ) : ℕ → Type 0 where
-  Directly : {x : ℕ} → holder_of t x ≡ Some op → IsInside t op x
-  Deeper : {x : ℕ} (p : ℕ) → holder_of t x ≡ Some p → IsInside t op p → IsInside t op x
+  Directly : {x : ℕ} → parent_operation_of t x ≡ Some op → IsInside t op x
+  Deeper : {x : ℕ} (p : ℕ) → parent_operation_of t x ≡ Some p → IsInside t op p → IsInside t op x
 
--- x is op or stands inside it
+-- x is op or is inside it
 abbrev pub IsWithin : Tree → ℕ → ℕ → Type 0
 IsWithin t op x = (x ≡ op) ⊎ IsInside t op x
 
 -- op holds the block, at any depth
 abbrev pub HoldsBlock : Tree → ℕ → ℕ → Type 0
-HoldsBlock t op block = (k : ℕ) × (block_holder_of t block ≡ Some k) × IsWithin t op k
+HoldsBlock t op block = (k : ℕ) × (block_parent_operation_of t block ≡ Some k) × IsWithin t op k
 
--- the value is made by op or inside it
-abbrev pub IsMadeWithin : Tree → ℕ → Option Def → Type 0
-IsMadeWithin t op None = ⊥
-IsMadeWithin t op (Some (Result k i)) = IsWithin t op k
-IsMadeWithin t op (Some (Argument block i)) = HoldsBlock t op block
+-- the value is defined by op or inside it
+abbrev pub IsDefinedWithin : Tree → ℕ → Option Def → Type 0
+IsDefinedWithin t op None = ⊥
+IsDefinedWithin t op (Some (Result k i)) = IsWithin t op k
+IsDefinedWithin t op (Some (Argument block i)) = HoldsBlock t op block

@@ -14,7 +14,7 @@ use Rattle.pliron_core.specs.Tree.{Tree, row_of, head_of, operands_of, successor
 abbrev pub no_tree : Tree
 no_tree = record { operations = []; operands = []; successors = []; parents = []; bodies = []; arguments = []; block_parents = []; layouts = []; slots = []; definitions = [] }
 
--- what makes the results of an operation, the arguments of a block and the regions of an operation
+-- the definitions of the results of an operation, the arguments of a block and the regions of an operation
 abbrev pub result_definitions : ℕ → ℕ → List Def
 result_definitions op count = map (λ i. Result op i) (range_with_len 0 count)
 
@@ -25,8 +25,8 @@ abbrev pub region_slots : ℕ → ℕ → List RegionSlot
 region_slots op count = map (λ i. record { op = op; index = i }) (range_with_len 0 count)
 
 -- a new operation in no block, with new results and new empty regions
-abbrev pub created : Tree → Head → ℕ → ℕ → Tree
-created t head results regions = record t {
+abbrev pub after_creating : Tree → Head → ℕ → ℕ → Tree
+after_creating t head results regions = record t {
   operations = t.operations ++ record { head = Some head; results = range_with_len (length t.definitions) results; regions = range_with_len (length t.slots) regions } ∷ [];
   operands = t.operands ++ [] ∷ [];
   successors = t.successors ++ [] ∷ [];
@@ -53,7 +53,7 @@ operand_pushed t op value = record t { operands = slice_set t.operands op (opera
 abbrev pub successor_pushed : Tree → ℕ → ℕ → Tree
 successor_pushed t op block = record t { successors = slice_set t.successors op (successors_of t op ++ block ∷ []) }
 
--- that operand goes, that attribute is replaced
+-- that operand is removed, that attribute is replaced
 abbrev pub operand_removed : Tree → ℕ → ℕ → Tree
 operand_removed t op i = record t { operands = slice_set t.operands op (remove (operands_of t op) i) }
 
@@ -65,22 +65,22 @@ abbrev pub attribute_set : Tree → ℕ → ℕ → AttrObj → Tree
 attribute_set t op i attr = record t { operations = slice_set t.operations op (record (row_of t op) { head = with_attribute (head_of t op) i attr }) }
 
 -- these values are the block's arguments from index i on
-abbrev pub numbered : List Def → ℕ → ℕ → List ℕ → List Def
-numbered definitions block i [] = definitions
-numbered definitions block i (v ∷ vs) = numbered (slice_set definitions v (Argument block i)) block (suc i) vs
+abbrev pub argument_definitions_from : List Def → ℕ → ℕ → List ℕ → List Def
+argument_definitions_from definitions block i [] = definitions
+argument_definitions_from definitions block i (v ∷ vs) = argument_definitions_from (slice_set definitions v (Argument block i)) block (suc i) vs
 
--- that argument goes, and each later one has the index before
+-- that argument is removed, and each later one has the index before
 abbrev pub argument_removed : Tree → ℕ → ℕ → Tree
 argument_removed t block i = record t {
   arguments = slice_set t.arguments block (remove (arguments_of t block) i);
-  definitions = numbered t.definitions block i (drop (i + 1) (arguments_of t block));
+  definitions = argument_definitions_from t.definitions block i (drop (i + 1) (arguments_of t block));
 }
 
 -- every use of `old` is one of `new`
-abbrev pub replaced : Tree → ℕ → ℕ → Tree
-replaced t old new = record t { operands = map (map (replace_target old new)) t.operands }
+abbrev pub after_replacing : Tree → ℕ → ℕ → Tree
+after_replacing t old new = record t { operands = map (map (replace_target old new)) t.operands }
 
--- the operation stands in no block
+-- the operation is in no block
 abbrev pub taken_from : Tree → ℕ → Option ℕ → Tree
 taken_from t op None = t
 taken_from t op (Some block) = record t { bodies = slice_set t.bodies block (without op (body_of t block)); parents = slice_set t.parents op None }
@@ -88,20 +88,20 @@ taken_from t op (Some block) = record t { bodies = slice_set t.bodies block (wit
 abbrev pub taken_out : Tree → ℕ → Tree
 taken_out t op = taken_from t op (parent_of t op)
 
--- the operation stands in the block, with this body
-abbrev pub placed : Tree → ℕ → ℕ → List ℕ → Tree
-placed t op block body = record t { bodies = slice_set t.bodies block body; parents = slice_set t.parents op (Some block) }
+-- the operation is in the block, with this body
+abbrev pub after_placing : Tree → ℕ → ℕ → List ℕ → Tree
+after_placing t op block body = record t { bodies = slice_set t.bodies block body; parents = slice_set t.parents op (Some block) }
 
 -- the operation becomes the last of the block, the first, or the direct predecessor of `at`
 abbrev pub put_last : Tree → ℕ → ℕ → Tree
-put_last t op block = placed t op block (body_of t block ++ op ∷ [])
+put_last t op block = after_placing t op block (body_of t block ++ op ∷ [])
 
 abbrev pub put_first : Tree → ℕ → ℕ → Tree
-put_first t op block = placed t op block (op ∷ body_of t block)
+put_first t op block = after_placing t op block (op ∷ body_of t block)
 
 abbrev pub put_next_to : Tree → ℕ → ℕ → Option ℕ → Tree
 put_next_to t op at None = t
-put_next_to t op at (Some block) = placed t op block (put_before at op (body_of t block))
+put_next_to t op at (Some block) = after_placing t op block (put_before at op (body_of t block))
 
 abbrev pub moved_last : Tree → ℕ → ℕ → Tree
 moved_last t op block = put_last (taken_out t op) op block

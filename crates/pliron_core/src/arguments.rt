@@ -4,26 +4,26 @@ ghost use Rattle.std.specs.List.{range_with_len};
 ghost use Rattle.pliron_core.specs.Uses.{targets_of};
 ghost use Rattle.pliron_core.specs.Arguments.{Makers, argument_row_of};
 ghost use Rattle.pliron_core.specs.Making.{made_by, definitions_of};
-ghost use Rattle.pliron_core.specs.Writes.{numbered, result_definitions, argument_definitions};
+ghost use Rattle.pliron_core.specs.Writes.{argument_definitions_from, result_definitions, argument_definitions};
 
 use crate::context::Def;
+use crate::inline_list::InlineList;
 use crate::keys::{BasicBlock, Operation, Ptr, Value};
-use crate::row::Row;
 use crate::uses::{Use, Uses};
 use std::alloc::{AllocError, Global};
 use std::marker::Model;
 
 /// The arguments of each block in order, and what makes each value.
 ///
-/// A block is a user, and its arguments are its targets: where a value stands is read from its use.
-/// What is written of a value says what makes it where it is a result, and what made it where it is
-/// an argument that went. Here block 0 has the values 1 and 3, value 0 is a result, and value 2 went:
+/// A block is a user, and its arguments are its targets: the index of a value is read from its use. What is
+/// written of a value says what makes it where it is a result, and what made it where it is an argument that
+/// was removed. Here block 0 has the values 1 and 3, value 0 is a result, and value 2 was removed:
 ///
 /// ```text
 /// lists      block 0 -> 1, 3     value 1: used by block 0 at 0     value 3: used by block 0 at 1
 ///                                value 0: no use                   value 2: no use
-/// written[0] = result, which holds      written[2] = argument 1 of block 0, as it was when it went
-/// written[1], written[3] = no results; where these stand is read from their uses
+/// written[0] = result, which holds      written[2] = argument 1 of block 0, as it was when it was removed
+/// written[1], written[3] = no results; their indices are read from their uses
 /// ```
 #[derive(Drop)]
 pub struct Arguments {
@@ -36,9 +36,9 @@ impl Model for Arguments {
 
     ghost Value = { Makers };
 
-    ghost use Rattle.pliron_core.specs.Arguments.{AreMade, defined};
+    ghost use Rattle.pliron_core.specs.Arguments.{AreMade, definitions_now};
 
-    ghost view = { λ a. record { rows = a.lists.targets; definitions = defined a.written.items a.lists.uses } };
+    ghost view = { λ a. record { rows = a.lists.targets; definitions = definitions_now a.written.items a.lists.uses } };
 
     ghost invariant = { λ a. AreMade a.lists.targets a.written.items a.lists.uses };
 }
@@ -98,8 +98,8 @@ impl Arguments {
         }
     }
 
-    /// What makes a value, or made it, where it is an argument that went. Cost: constant, and a logarithm where
-    /// it is an argument and those of its block are counted.
+    /// What makes a value, or made it, where it is a removed argument. Cost: constant, and a logarithm where it
+    /// is an argument and those of its block are counted.
     #[inline(always)]
     pub fn definition(&self, value: Value) -> Option<Def>
         ensures { result ≡ slice_get self.now.definitions value }
@@ -121,7 +121,7 @@ impl Arguments {
 
     /// Makes room for so many more blocks and so many more values.
     ///
-    /// Errors: want of memory. Blocks and values stay as they were. Cost: linear in the tables' length,
+    /// Errors: allocation failure. Blocks and values stay as they were. Cost: linear in the tables' length,
     /// which grow so that room asked for one by one is constant each, amortised.
     pub fn reserve(&mut self, blocks: usize, values: usize) -> Result<(), AllocError>
         ensures { self.new ≡ self.old }
@@ -132,14 +132,14 @@ impl Arguments {
 
     /// So many new values, results of the operation, by rising key.
     ///
-    /// Errors: want of memory, which changes nothing. Cost: one step for each, amortised.
+    /// Errors: allocation failure, which changes nothing. Cost: one step for each, amortised.
     #[inline(always)]
     pub fn add_results(
         &mut self,
         alloc: Global,
         op: Ptr<Operation>,
         count: usize,
-    ) -> Result<Row<Value>, AllocError>
+    ) -> Result<InlineList<Value>, AllocError>
         ensures keys { IfOk result (λ row. row ≡ range_with_len (length self.old.definitions) count) }
         ensures ok { OnOk result (self.new ≡ record self.old { definitions = self.old.definitions ++ result_definitions op count }) }
         ensures err { OnErr result (self.new ≡ self.old) }
@@ -156,7 +156,7 @@ impl Arguments {
 
     /// A new block, with so many new values as its arguments, by rising key.
     ///
-    /// Errors: want of memory, which changes nothing. Cost: one step for each, amortised.
+    /// Errors: allocation failure, which changes nothing. Cost: one step for each, amortised.
     pub fn add_block(&mut self, alloc: Global, count: usize) -> Result<(), AllocError>
         ensures rows { OnOk result (self.new.rows ≡ self.old.rows ++ range_with_len (length self.old.definitions) count ∷ []) }
         ensures definitions { OnOk result (self.new.definitions ≡ self.old.definitions ++ argument_definitions (length self.old.rows) count) }
@@ -172,9 +172,9 @@ impl Arguments {
     }
 
     /// The arguments of a block are counted from now on, if there are many, so that ones far from one another
-    /// go quickly.
+    /// are removed quickly.
     ///
-    /// Asks that there is such a block. Errors: want of memory. Nothing that contracts see changes.
+    /// Asks that there is such a block. Errors: allocation failure. Nothing that contracts see changes.
     /// Cost: the number of its arguments.
     pub fn index(&mut self, alloc: Global, block: Ptr<BasicBlock>) -> Result<(), AllocError>
         requires { block < length self.old.rows }
@@ -194,7 +194,7 @@ impl Arguments {
         self.lists.settle(block.index());
     }
 
-    /// The argument of a block at an index goes. Each later one has the index before.
+    /// The argument of a block at an index is removed. Each later one has the index before.
     ///
     /// Asks that there are such a block and such an argument. Takes no memory. Cost: the number of arguments
     /// between it and the place where the block lost one last, and constant for the first; amortised, a
@@ -203,7 +203,7 @@ impl Arguments {
         requires block { block < length self.old.rows }
         requires index { i < length (argument_row_of self.old block) }
         ensures rows { self.new.rows ≡ slice_set self.old.rows block (remove (argument_row_of self.old block) i) }
-        ensures definitions { self.new.definitions ≡ numbered self.old.definitions block i (drop (i + 1) (argument_row_of self.old block)) }
+        ensures definitions { self.new.definitions ≡ argument_definitions_from self.old.definitions block i (drop (i + 1) (argument_row_of self.old block)) }
     {
         self.lists.agree();
         let value = self.lists.remove(block.index(), i);
@@ -211,8 +211,8 @@ impl Arguments {
         self.lists.agree();
     }
 
-    /// All arguments of a block go. Asks that there is such a block. Takes no memory. Cost: the number of its
-    /// arguments. If they are counted, they are settled first.
+    /// All arguments of a block are removed. Asks that there is such a block. Takes no memory. Cost: the number
+    /// of its arguments. If they are counted, they are settled first.
     pub fn clear(&mut self, block: Ptr<BasicBlock>)
         requires { block < length self.old.rows }
         ensures { self.new ≡ record self.old { rows = slice_set self.old.rows block [] } }
@@ -246,11 +246,11 @@ impl Maker {
 // So many values, by rising key.
 #[tactic(auto, using(crate::proofs::GrownLemmas::range_more))]
 #[inline(always)]
-fn value_keys(alloc: Global, first: usize, count: usize) -> Result<Row<Value>, AllocError>
+fn value_keys(alloc: Global, first: usize, count: usize) -> Result<InlineList<Value>, AllocError>
     requires { first + count < 2 ^ 64 }
     ensures { IfOk result (λ row. row ≡ range_with_len first count) }
 {
-    let mut row = Row::new(alloc);
+    let mut row = InlineList::new(alloc);
     for i in 0..count {
         row.push(Value::new(first + i))?;
     }
@@ -272,7 +272,7 @@ fn write_definitions(written: &mut Vec<Def>, maker: Maker, count: usize)
 fn write_arguments(written: &mut Vec<Def>, lists: &Uses, block: Ptr<BasicBlock>)
     requires block { block < length lists.now.targets }
     requires values { (k v : ℕ) → slice_get (targets_of lists.now block) k ≡ Some v → v < length written.old.items }
-    ensures { written.new.items ≡ numbered written.old.items block 0 (targets_of lists.now block) }
+    ensures { written.new.items ≡ argument_definitions_from written.old.items block 0 (targets_of lists.now block) }
 {
     for i in 0..lists.num_targets(block.index()) {
         let value = lists.target(block.index(), i);

@@ -1,4 +1,4 @@
-//! Heads of operations.
+//! Heads of operations: names with attributes.
 ghost use Rattle.std.specs.Prelude.{◌≡◌, ◌<◌, [], IfOk, string_bytes, IsTrue, ◌↔◌, length, slice_get, slice_set, Some};
 
 use crate::context::NoMemory;
@@ -73,7 +73,7 @@ impl AttrObj {
 
     /// An equal attribute.
     ///
-    /// Errors: want of memory. Cost: the length of a text.
+    /// Errors: allocation failure. Cost: the length of a text.
     pub fn copy(&self, alloc: Global) -> Result<AttrObj, NoMemory>
         ensures { IfOk result (λ attr. attr ≡ self.now) }
     {
@@ -179,7 +179,7 @@ impl BitOrAssign for IRStatus {
     }
 }
 
-/// What an operation is, apart from where it stands and what it uses.
+/// What an operation is, apart from its block and its operands: its name and attributes.
 #[derive(Drop)]
 pub struct Head {
     pub kind: u32,

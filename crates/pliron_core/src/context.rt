@@ -1,6 +1,6 @@
 //! The tables of a tree.
 ghost use Rattle.std.specs.Prelude.{◌≡◌, []};
-ghost use Rattle.pliron_core.specs.Joined.{IsTree, HaveUses, HaveFewKeys};
+ghost use Rattle.pliron_core.specs.Invariant.{IsTree, HaveUses, HaveFewKeys};
 ghost use Rattle.pliron_core.specs.Writes.{no_tree};
 
 mod block_reads;
@@ -18,14 +18,14 @@ mod walk;
 
 use crate::arguments::Arguments;
 use crate::attrs::Head;
+use crate::inline_list::InlineList;
 use crate::keys::{BasicBlock, Operation, Ptr, Region, Value};
 use crate::links::Links;
-use crate::row::Row;
 use crate::uses::Uses;
 use std::alloc::{AllocError, Global};
 use std::marker::Model;
 
-/// Memory that was asked for was refused.
+/// Allocation failure: memory that was asked for was refused.
 #[derive(Clone, Copy, Debug, Drop, PartialEq, Eq)]
 pub struct NoMemory;
 
@@ -49,17 +49,17 @@ pub struct RegionSlot {
     pub index: usize,
 }
 
-/// An operation's own part. An erased one has no head.
+/// An operation's own part. An erased operation has no head.
 #[derive(Drop)]
 pub struct OperationEntry {
     pub head: Option<Head>,
-    pub results: Row<Value>,
-    pub regions: Row<Ptr<Region>>,
+    pub results: InlineList<Value>,
+    pub regions: InlineList<Ptr<Region>>,
 }
 
 /// Operations, blocks, regions and values, each named by its key.
 ///
-/// A key is a row in each table that speaks of its kind, and keys are never given twice:
+/// A key is an index into each table of its kind, and keys are never given twice:
 ///
 /// ```text
 /// operation o   operations[o] = head, results, regions      operands:   o -> values, and back
@@ -85,7 +85,7 @@ impl Model for Context {
 
     ghost Value = { View };
 
-    ghost use Rattle.pliron_core.specs.Tables.{view_of, IsSoundContext};
+    ghost use Rattle.pliron_core.specs.UseTables.{view_of, IsSoundContext};
 
     ghost view = { view_of };
 
@@ -111,7 +111,7 @@ impl Context {
 
     /// Makes room for so many more operations, blocks and values, which then grow no table as they are made.
     ///
-    /// Errors: want of memory. The tree stays as it was, with an error too. Cost: linear in the tables'
+    /// Errors: allocation failure. The tree stays as it was, with an error too. Cost: linear in the tables'
     /// length, which grow so that room asked for one by one is constant each, amortised.
     pub fn reserve(
         &mut self,

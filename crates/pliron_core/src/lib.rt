@@ -1,27 +1,27 @@
-//! A tree of operations, regions and blocks, named by keys, with the uses of each value and block.
+//! The IR: a tree of operations, regions and blocks, named by keys, with the use lists of values and blocks.
 //!
-//! It knows keys, attributes, heads and a rewriter that tells what it does. Of what an operation means, of
+//! It knows keys, attributes, heads and a rewriter that reports what it does. Of what an operation means, of
 //! dialects and of optimisations it knows nothing.
 #![tactic(auto)]
 
 mod arguments;
 mod attrs;
-mod compact;
+mod compaction;
 mod context;
-mod counted;
-mod counts;
+mod counted_slots;
+mod inline_list;
 mod keys;
 mod laws;
 mod links;
-mod places;
 mod rewriter;
-mod row;
+mod slot_counts;
+mod use_slots;
 mod uses;
 
 pub use attrs::{AttrObj, Attrs, Head, IRStatus, Text};
 pub use context::{Context, Def, NoMemory, OperationEntry, RegionSlot};
+pub use inline_list::InlineList;
 pub use keys::{BasicBlock, Operation, Ptr, Region, Value};
 pub use laws::change_laws;
 pub use rewriter::{IRRewriter, OpInsertionPoint, Rewriter};
-pub use row::Row;
 pub use uses::Use;

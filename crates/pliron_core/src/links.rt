@@ -54,7 +54,7 @@ impl Model for Links {
     ghost invariant = { λ c. AreSoundLists c.nodes.items c.ends.items (lists_of c.nodes.items c.ends.items) };
 }
 
-// Makes `next` stand after the node `before`, or at the head where there is none.
+// Makes `next` follow the node `before`, or at the head where there is none.
 fn link_next(nodes: &mut Vec<Node>, ends: &mut Ends, before: Option<usize>, next: Option<usize>)
     requires { InRange nodes.old.items before }
     ensures nodes { nodes.new.items ≡ with_next nodes.old.items before next }
@@ -71,7 +71,7 @@ fn link_next(nodes: &mut Vec<Node>, ends: &mut Ends, before: Option<usize>, next
     }
 }
 
-// Makes `prev` stand before the node `after`, or at the tail where there is none.
+// Makes `prev` precede the node `after`, or at the tail where there is none.
 fn link_prev(nodes: &mut Vec<Node>, ends: &mut Ends, after: Option<usize>, prev: Option<usize>)
     requires { InRange nodes.old.items after }
     ensures nodes { nodes.new.items ≡ with_prev nodes.old.items after prev }
@@ -99,7 +99,7 @@ impl Links {
         }
     }
 
-    /// A law: what a list has is owned by it, and nothing else is, and no node stands twice. It does
+    /// A law: the nodes of a list are owned by it, and nothing else is, and no node is in a list twice. It does
     /// nothing.
     pub fn agree(&self)
         ensures { AreOwned self.now.owners self.now.lists }
@@ -118,7 +118,7 @@ impl Links {
 
     /// Makes room for so many more nodes and so many more lists, which then take no memory.
     ///
-    /// Errors: want of memory, where only the room may have grown. Cost: constant where there is room
+    /// Errors: allocation failure, where only the room may have grown. Cost: constant where there is room
     /// already, and otherwise linear in the tables' length, which grow so that room asked for one by one is
     /// constant each, amortised.
     #[inline(always)]
@@ -176,8 +176,8 @@ impl Links {
         key
     }
 
-    /// The node goes to the front of the list. Asks that both were added and that no list has the node. Cost:
-    /// constant.
+    /// Inserts the node at the front of the list. Asks that both were added and that no list has the node.
+    /// Cost: constant.
     pub fn push_front(&mut self, list: usize, node: usize)
         requires list { list < length self.old.lists }
         requires node { node < length self.old.owners }
@@ -199,7 +199,7 @@ impl Links {
         self.ends[list] = ends;
     }
 
-    /// The node goes to the end of the list. Asks that both were added and that no list has the node. Cost:
+    /// Inserts the node at the end of the list. Asks that both were added and that no list has the node. Cost:
     /// constant.
     #[inline(always)]
     pub fn push_back(&mut self, list: usize, node: usize)
@@ -223,7 +223,7 @@ impl Links {
         self.ends[list] = ends;
     }
 
-    /// The node goes directly before the node `at` of this list. Asks that the list has `at`, and that the
+    /// Inserts the node directly before the node `at` of this list. Asks that the list has `at`, and that the
     /// node was added and no list has it. Cost: constant.
     #[inline(always)]
     pub fn insert_before(&mut self, list: usize, at: usize, node: usize)

@@ -1,9 +1,9 @@
 //! Rewriting a tree through a value that knows where to insert.
 ghost use Rattle.std.specs.Prelude.{◌≡◌, [], Some, None, IsSome, IsOk, OnOk, OnErr};
 ghost use Rattle.pliron_core.specs.Tree.{IsLive, IsBlock, IsDefined, HoldsBlock, parent_of, uses_of};
-ghost use Rattle.pliron_core.specs.Writes.{replaced, moved_last};
-ghost use Rattle.pliron_core.specs.Erased.{IsSelfContained, IsSelfContainedBlock, erased, block_erased};
-ghost use Rattle.pliron_core.specs.Insertion.{IsPointFor, inserted, point_of};
+ghost use Rattle.pliron_core.specs.Writes.{after_replacing, moved_last};
+ghost use Rattle.pliron_core.specs.Erased.{IsSelfContained, IsSelfContainedBlock, after_erasing, block_erased};
+ghost use Rattle.pliron_core.specs.Insertion.{IsPointFor, after_inserting, point_of};
 
 use crate::context::edit::replace_uses;
 use crate::context::erase::{erase_block, erase_operation};
@@ -22,7 +22,7 @@ pub enum OpInsertionPoint {
     AtBlockStart(Ptr<BasicBlock>),
 }
 
-/// What changes a tree in whole steps, and may tell a listener of each.
+/// What changes a tree in whole steps, and may report each to a listener.
 ///
 /// What has no `Result`, and a replacement by a value without uses, takes no memory in the tree, but may
 /// take some in a listener.
@@ -47,20 +47,20 @@ pub trait Rewriter {
     /// The operation becomes the direct predecessor of the named operation, or the first of the named
     /// block. The point stays.
     ///
-    /// Asks that the operation stands, in no block; that a point is set, and that what it names stands
-    /// and isn't the operation or inside it; a named operation stands in a block.
-    /// Errors: want of memory, which changes nothing. Cost: constant.
+    /// Asks that the operation is live, in no block; that a point is set, and that what it names is live and
+    /// isn't the operation or inside it; a named operation is in a block.
+    /// Errors: allocation failure, which changes nothing. Cost: constant.
     fn insert_operation(&mut self, ctx: &mut Context, op: Ptr<Operation>) -> Result<(), NoMemory>
         requires live { IsLive ctx.old.tree op }
         requires free { parent_of ctx.old.tree op ≡ None }
         requires point { IsPointFor ctx.old.tree (point self.old) op }
-        ensures ok { OnOk result (ctx.new ≡ record ctx.old { tree = inserted ctx.old.tree (point self.old) op }) }
+        ensures ok { OnOk result (ctx.new ≡ record ctx.old { tree = after_inserting ctx.old.tree (point self.old) op }) }
         ensures err { OnErr result (ctx.new ≡ ctx.old) }
         ensures point { point self.new ≡ point self.old };
 
     /// Every use of `old` becomes one of `new`.
     ///
-    /// Asks that both values stand. Errors: want of memory, which changes nothing, and never where `new`
+    /// Asks that both values are live. Errors: allocation failure, which changes nothing, and never where `new`
     /// has no use yet: it takes over the room that the uses of `old` have.
     /// Cost: the number of uses of `old`.
     fn replace_value_uses_with(
@@ -71,15 +71,15 @@ pub trait Rewriter {
     ) -> Result<(), NoMemory>
         requires old { IsDefined ctx.old.tree old }
         requires new { IsDefined ctx.old.tree new }
-        ensures ok { OnOk result (ctx.new.tree ≡ replaced ctx.old.tree old new) }
+        ensures ok { OnOk result (ctx.new.tree ≡ after_replacing ctx.old.tree old new) }
         ensures block_uses { ctx.new.block_uses ≡ ctx.old.block_uses }
         ensures unused { uses_of ctx.old.value_uses new ≡ [] → IsOk result }
         ensures err { OnErr result (ctx.new ≡ ctx.old) }
         ensures point { point self.new ≡ point self.old };
 
-    /// The operation leaves the block that has it, if one does, and becomes the last of this one.
+    /// Moves the operation from the block that has it, if one does, to the end of this one.
     ///
-    /// Asks that both stand, and that the operation doesn't hold the block. Takes no memory.
+    /// Asks that both are live, and that the operation doesn't hold the block. Takes no memory.
     /// Cost: constant.
     fn move_operation_to_end(
         &mut self,
@@ -95,18 +95,18 @@ pub trait Rewriter {
 
     /// Erases the operation with its contents, at any depth.
     ///
-    /// Asks that it stands, and that no value or block of it is used outside it. Takes no memory.
+    /// Asks that it is live, and that no value or block of it is used outside it. Takes no memory.
     /// Cost: what is erased, with its operands and successors.
     fn erase_operation(&mut self, ctx: &mut Context, op: Ptr<Operation>)
         requires live { IsLive ctx.old.tree op }
         requires contained { IsSelfContained ctx.old.tree op }
-        ensures erased { ctx.new.tree ≡ erased ctx.old.tree op }
+        ensures erased { ctx.new.tree ≡ after_erasing ctx.old.tree op }
         ensures point { point self.new ≡ point self.old };
 
     /// Erases the block with its contents, at any depth.
     ///
-    /// Asks that it stands, and that neither it nor a value or block of it is used outside it. Takes
-    /// no memory. Cost: what is erased, with its operands and successors.
+    /// Asks that it is live, and that neither it nor a value or block of it is used outside it. Takes no
+    /// memory. Cost: what is erased, with its operands and successors.
     fn erase_block(&mut self, ctx: &mut Context, block: Ptr<BasicBlock>)
         requires block { IsBlock ctx.old.tree block }
         requires contained { IsSelfContainedBlock ctx.old.tree block }

@@ -1,24 +1,24 @@
-//! Which targets each user names, in order, and where each target is used.
+//! Operand lists and use lists: which targets each user names, in order, and where each target is used.
 
 ghost use Rattle.std.specs.Prelude.{◌≡◌, ◌≢◌, ◌+◌, ◌-◌, ◌<◌, ◌≤◌, [], ◌∷◌, ◌++◌, length, map, slice_set, vec_capacity, vec_len, slice_get, Some, OnOk, OnErr, IsOk, remove, replicate};
 ghost use Rattle.std.specs.List.{range_with_len};
 ghost use Rattle.pliron_core.specs.Uses.{targets_of, table_uses, AreAgreed, replace_target};
-ghost use Rattle.pliron_core.specs.Places.{uses_by};
+ghost use Rattle.pliron_core.specs.UseSlots.{uses_by};
 
-use crate::counted::{count_places, settle_places, take_counted};
-use crate::places::{
-    Holes, NO_GAP, Place, are_counted, count_at, new_places, open_gap, rank_at, retarget,
+use crate::counted_slots::{count_places, settle_places, take_counted};
+use crate::inline_list::{InlineList, entry, pop_entry, set_entry};
+use crate::use_slots::{
+    Holes, NO_GAP, UseSlot, are_counted, count_at, new_places, open_gap, rank_at, retarget,
     settle_gap, target_at, widen_gap,
 };
-use crate::row::{Row, entry, pop_entry, set_entry};
 use std::alloc::{AllocError, Global};
 use std::marker::Model;
 use std::mem;
 
 /// The targets of each user and the uses of each target, all named by keys that count up.
 ///
-/// Each place knows where its use stands, and each use its place, so either is found from the other in one
-/// step. Here user 0 names the targets 5, 7 and 5, after it lost a target that stood second:
+/// Each slot knows the index of its use, and each use its slot, so either is found from the other in one step.
+/// Here user 0 names the targets 5, 7 and 5, after its second target was removed:
 ///
 /// ```text
 /// places[0]   0: 5 at 0   1: free   2: 7 at 0   3: 5 at 1     holes[0] = one gap: start 1, len 1
@@ -26,15 +26,15 @@ use std::mem;
 /// uses[7]     0: user 0, place 2
 /// ```
 ///
-/// A gap moves to where a target goes, over all places between. So a user that is about to lose many targets,
-/// far from one another, may have its places counted (`index`): the free ones then stay where they are, and
-/// counts tell, in a logarithm of the number of places, how many are taken before a place, and where the i-th
-/// taken one is. It ends by `settle`, or when the user gets one more target.
+/// The gap moves to each removed target, over all slots between. So a user that is about to lose many targets,
+/// far from one another, may have its slots counted (`index`): the free ones then stay where they are, and
+/// counts say, in a logarithm of the number of slots, how many are taken before one, and where the i-th taken
+/// one is. Counting ends with `settle`, or when the user gets one more target.
 #[derive(Drop)]
 pub struct Uses {
-    places: Vec<Row<Place>>,
+    places: Vec<InlineList<UseSlot>>,
     holes: Vec<Holes>,
-    uses: Vec<Row<Use>>,
+    uses: Vec<InlineList<Use>>,
 }
 
 /// A use: the user, and the index among its targets.
@@ -50,7 +50,7 @@ impl Model for Uses {
     ghost Value = { Table };
 
     ghost use Rattle.std.specs.Prelude.{◌-◌, min, vec_capacity, vec_len};
-    ghost use Rattle.pliron_core.specs.Places.{targets_in, uses_in};
+    ghost use Rattle.pliron_core.specs.UseSlots.{targets_in, uses_in};
     ghost use Rattle.pliron_core.specs.Holes.{AreLinked};
 
     ghost view = { λ c. record {
@@ -75,7 +75,7 @@ impl Uses {
         }
     }
 
-    /// Each place has one use, and each use its place.
+    /// Each slot has one use, and each use its slot.
     ///
     /// A law for callers' proofs: it does nothing.
     pub fn agree(&self)
@@ -101,7 +101,7 @@ impl Uses {
     }
 
     /// The target at a place of a user. Asks that there are such a user and such a place (`num_targets` tests
-    /// it). Cost: constant, and a logarithm where its places are counted.
+    /// it). Cost: constant, and a logarithm where its slots are counted.
     #[inline(always)]
     pub fn target(&self, user: usize, place: usize) -> usize
         requires user { user < length self.now.targets }
@@ -120,8 +120,8 @@ impl Uses {
         self.uses[target].len()
     }
 
-    /// The use of a target at an index, in no given order. Asks that there is such a target, and that the
-    /// index is below `num_uses`. Cost: constant, and a logarithm where the places of the user are counted.
+    /// The use of a target at an index, in no given order. Asks that there is such a target, and that the index
+    /// is below `num_uses`. Cost: constant, and a logarithm where the slots of the user are counted.
     #[inline(always)]
     pub fn get_use(&self, target: usize, i: usize) -> Use
         requires target { target < length self.now.uses }
@@ -135,7 +135,7 @@ impl Uses {
 
     /// Makes room for so many more users and so many more targets.
     ///
-    /// Errors: want of memory, which leaves users, targets and uses as they were.
+    /// Errors: allocation failure, which leaves users, targets and uses as they were.
     /// Cost: constant per user or target, amortised.
     #[inline(always)]
     pub fn reserve(&mut self, users: usize, targets: usize) -> Result<(), AllocError>
@@ -155,7 +155,7 @@ impl Uses {
         ensures added { self.new ≡ record self.old { targets = self.old.targets ++ [] ∷ []; user_room = self.old.user_room - 1 } }
     {
         let key = self.places.len();
-        self.places.push_reserved(Row::new(alloc));
+        self.places.push_reserved(InlineList::new(alloc));
         self.holes.push_reserved(Holes::OneGap(NO_GAP));
         key
     }
@@ -168,7 +168,7 @@ impl Uses {
         ensures added { self.new ≡ record self.old { uses = self.old.uses ++ [] ∷ []; target_room = self.old.target_room - 1 } }
     {
         let key = self.uses.len();
-        self.uses.push_reserved(Row::new(alloc));
+        self.uses.push_reserved(InlineList::new(alloc));
         key
     }
 
@@ -185,7 +185,7 @@ impl Uses {
 
     /// A new user, with so many new targets, which no other user has.
     ///
-    /// Errors: want of memory, which leaves users, targets and uses as they were. Cost: one step for
+    /// Errors: allocation failure, which leaves users, targets and uses as they were. Cost: one step for
     /// each target, amortised.
     pub fn add_user_with(&mut self, alloc: Global, count: usize) -> Result<(), AllocError>
         ensures targets { OnOk result (self.new.targets ≡ self.old.targets ++ range_with_len (length self.old.uses) count ∷ []) }
@@ -205,8 +205,8 @@ impl Uses {
 
     /// The user gets one more target, at the end.
     ///
-    /// Asks that there are such a user and such a target. Errors: want of memory, which leaves all as it was.
-    /// Cost: constant, amortised. Places that are counted are settled first.
+    /// Asks that there are such a user and such a target. Errors: allocation failure, which leaves all as it was.
+    /// Cost: constant, amortised. Counted slots are settled first.
     #[inline(always)]
     pub fn push(&mut self, user: usize, target: usize) -> Result<(), AllocError>
         requires user { user < length self.old.targets }
@@ -220,7 +220,7 @@ impl Uses {
         let at = self.uses[target].len();
         let place = self.places[user].len();
         self.uses[target].push(Use { user, place })?;
-        if let Err(error) = self.places[user].push(Place { target, at }) {
+        if let Err(error) = self.places[user].push(UseSlot { target, at }) {
             self.uses[target].pop();
             return Err(error);
         }
@@ -229,8 +229,8 @@ impl Uses {
 
     /// Every use of `old` becomes one of `new`.
     ///
-    /// Asks that there are both targets and that they are two. Errors: want of memory, which leaves all as it
-    /// was. A target without uses takes over the room of `old` too, so then nothing is refused.
+    /// Asks that there are both targets and that they are two. Errors: allocation failure, which leaves all as
+    /// it was. A target without uses takes over the room of `old`, so then no allocation fails.
     /// Cost: the number of uses of `old`, amortised.
     pub fn replace(&mut self, alloc: Global, old: usize, new: usize) -> Result<(), AllocError>
         requires old { old < length self.old.uses }
@@ -246,7 +246,7 @@ impl Uses {
             self.hand_over(old, new);
             return Ok(());
         }
-        let moved = mem::replace(&mut self.uses[old], Row::new(alloc));
+        let moved = mem::replace(&mut self.uses[old], InlineList::new(alloc));
         if let Err(error) = self.uses[new].extend(&moved) {
             self.uses[old] = moved;
             return Err(error);
@@ -272,11 +272,11 @@ impl Uses {
         retarget(&mut self.places, &self.uses[new], old, new, 0);
     }
 
-    /// The places of a user are counted from now on, if it has many, so that targets far from one another go
-    /// quickly.
+    /// The slots of a user are counted from now on, if it has many, so that targets far from one another are
+    /// removed quickly.
     ///
-    /// Asks that there is such a user. Errors: want of memory. Nothing that contracts see changes.
-    /// Cost: the number of its places.
+    /// Asks that there is such a user. Errors: allocation failure. Nothing that contracts see changes.
+    /// Cost: the number of its slots.
     pub fn index(&mut self, alloc: Global, user: usize) -> Result<(), AllocError>
         requires { user < length self.old.targets }
         ensures { self.new ≡ self.old }
@@ -284,10 +284,10 @@ impl Uses {
         count_places(alloc, &self.places, &mut self.holes, user)
     }
 
-    /// The places of a user are not counted from now on: reads are constant again.
+    /// The slots of a user are not counted from now on: reads are constant again.
     ///
     /// Asks that there is such a user. Takes no memory. Nothing that contracts see changes. Cost: the number of
-    /// its places when they were counted, and constant where they are not.
+    /// its slots when they were counted, and constant where they are not.
     pub fn settle(&mut self, user: usize)
         requires { user < length self.old.targets }
         ensures { self.new ≡ self.old }
@@ -295,11 +295,11 @@ impl Uses {
         settle_places(&mut self.places, &mut self.holes, &mut self.uses, user);
     }
 
-    /// The target at a place goes, and is the answer. The later ones move down by one place.
+    /// Removes the target at a place, and answers it. The later ones move down by one place.
     ///
     /// Asks that there are such a user and such a place. Takes no memory. Cost: the number of targets between
     /// it and the place where one was removed last, and constant for the first; amortised, a constant and at
-    /// most twice the number of targets after it. A logarithm where its places are counted.
+    /// most twice the number of targets after it. A logarithm where its slots are counted.
     #[inline(always)]
     pub fn remove(&mut self, user: usize, place: usize) -> usize
         requires user { user < length self.old.targets }
@@ -330,8 +330,8 @@ impl Uses {
         target
     }
 
-    /// All targets of a user go. Asks that there is such a user. Takes no memory. Cost: the number of its
-    /// targets. Places that are counted are settled first.
+    /// Removes all targets of a user. Asks that there is such a user. Takes no memory. Cost: the number of its
+    /// targets. Counted slots are settled first.
     #[inline(always)]
     pub fn clear(&mut self, user: usize)
         requires { user < length self.old.targets }
@@ -349,7 +349,7 @@ impl Uses {
 
 // So many new targets, each with one use: the user names them in order.
 fn add_used(
-    uses: &mut Vec<Row<Use>>,
+    uses: &mut Vec<InlineList<Use>>,
     alloc: Global,
     user: usize,
     count: usize,
@@ -360,7 +360,7 @@ fn add_used(
 {
     let first = uses.len();
     for place in 0..count {
-        let mut row = Row::new(alloc);
+        let mut row = InlineList::new(alloc);
         if let Err(error) = row.push(Use { user, place }) {
             uses.truncate(first);
             return Err(error);

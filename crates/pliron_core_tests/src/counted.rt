@@ -1,4 +1,4 @@
-//! Long rows of operands and of arguments that get an index, lose items at many places, get others in between,
+//! Long lists of operands and of arguments that get an index, lose items at many places, get others in between,
 //! and lose the index again. What is read is compared with a plain `Vec` after each step.
 
 use crate::arguments::{arguments_of, check_argument, remove_argument};
@@ -9,7 +9,7 @@ use std::alloc::Global;
 use std::process::Abort;
 use std::test::Fail;
 
-// Which item goes next: one of each end in turn, each third, one behind the one that went last, or as the
+// Which item is removed next: one of each end in turn, each third, one behind the last removed one, or as the
 // list says.
 #[derive(Clone, Copy)]
 enum Order {
@@ -55,7 +55,7 @@ fn settle_operands(rt: &impl Abort, ctx: &mut Context, op: Ptr<Operation>) {
     Operation::settle_operands(ctx, op);
 }
 
-// The operand that goes next, here and in the list.
+// The operand that is removed next, here and in the list.
 fn lose_operand(
     rt: &impl Abort,
     ctx: &mut Context,
@@ -112,7 +112,7 @@ fn check_operand_row(
     end_operand_row(rt, ctx, op, &mut want)
 }
 
-// What is left goes without an index, and one more comes.
+// What is left is removed without an index, and one more comes.
 fn end_operand_row(
     rt: &impl Abort,
     ctx: &mut Context,

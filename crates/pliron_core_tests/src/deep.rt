@@ -14,7 +14,7 @@ const DEPTH: usize = 10_000;
 
 const BOX: u32 = 11;
 
-// The outermost and the innermost of operations that stand inside one another.
+// The outermost and the innermost of operations that are inside one another.
 #[derive(Clone, Copy)]
 struct Nest {
     outer: Ptr<Operation>,
@@ -26,13 +26,13 @@ fn build_nest(rt: &impl Abort, alloc: Global, ctx: &mut Context) -> Result<Nest,
     let inner = operation(rt, ctx, head(alloc, BOX, None)?, 0, 1)?;
     let mut outer = inner;
     for _ in 1..DEPTH {
-        outer = boxed(rt, alloc, ctx, outer)?;
+        outer = box_operation(rt, alloc, ctx, outer)?;
     }
     Ok(Nest { outer, inner })
 }
 
 // A new operation in no block, with this one in its block.
-fn boxed(
+fn box_operation(
     rt: &impl Abort,
     alloc: Global,
     ctx: &mut Context,

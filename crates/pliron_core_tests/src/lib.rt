@@ -1,5 +1,5 @@
-//! Tests of `pliron_core` by trees that are built by calls, read by every read and rewritten by every
-//! write. They stand in a crate of their own, so that the tree itself is proved once.
+//! Tests of `pliron_core` by trees that are built by calls, read by every read and rewritten by every write.
+//! They are in a crate of their own, so that the tree itself is proved once.
 #![tactic(auto)]
 
 #[cfg(test)]

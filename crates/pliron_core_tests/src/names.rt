@@ -2,8 +2,8 @@
 use crate::steps::in_new_context;
 use crate::straight::build_sum;
 use pliron_core::{
-    AttrObj, Attrs, Context, NoMemory, OpInsertionPoint, OperationEntry, RegionSlot, Row, Use,
-    change_laws,
+    AttrObj, Attrs, Context, InlineList, NoMemory, OpInsertionPoint, OperationEntry, RegionSlot,
+    Use, change_laws,
 };
 use std::alloc::Global;
 use std::process::Abort;
@@ -22,7 +22,7 @@ fn names_and_laws(rt: HostRuntime) {
     assert!(rt; OpInsertionPoint::Unset == OpInsertionPoint::Unset);
 }
 
-fn fill_row(rt: &impl Abort, row: &mut Row<u32>) -> Result<(), Fail> {
+fn fill_row(rt: &impl Abort, row: &mut InlineList<u32>) -> Result<(), Fail> {
     assert!(rt; row.is_empty());
     row.push(3)?;
     row.push(5)?;
@@ -38,7 +38,7 @@ fn fill_row(rt: &impl Abort, row: &mut Row<u32>) -> Result<(), Fail> {
 
 #[test]
 fn items_of_a_row(rt: HostRuntime) -> Result<(), Fail> {
-    let mut row = Row::new(rt.alloc());
+    let mut row = InlineList::new(rt.alloc());
     fill_row(&rt, &mut row)
 }
 

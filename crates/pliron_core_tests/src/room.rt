@@ -1,5 +1,5 @@
 //! Room that is had and room that is refused; neither changes the tree.
-use crate::steps::{CONST, appended, head, in_new_context};
+use crate::steps::{CONST, append_operation, head, in_new_context};
 use crate::straight::{Sum, build_sum};
 use pliron_core::Context;
 use std::alloc::Global;
@@ -24,7 +24,7 @@ fn reserve(rt: &impl Abort, alloc: Global, ctx: &mut Context) -> Result<(), Fail
     assert!(rt; ctx.reserve(1, 1, usize::MAX).is_err());
     check_sum(rt, ctx, &sum);
     assert!(rt; sum.block.is_live(ctx));
-    appended(rt, ctx, sum.block, head(alloc, CONST, Some(3))?, 1)?;
+    append_operation(rt, ctx, sum.block, head(alloc, CONST, Some(3))?, 1)?;
     Ok(())
 }
 

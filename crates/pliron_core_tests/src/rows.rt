@@ -1,12 +1,12 @@
-//! Calls on rows of no, one, two, three and ten items.
+//! Calls on lists of no, one, two, three and ten items.
 ghost use Rattle.std.specs.Prelude.{◌<◌, length};
 
-use pliron_core::Row;
+use pliron_core::InlineList;
 use std::alloc::Global;
 use std::process::Abort;
 
-// The calls on a new row, in turn, and its items in the end. A number is pushed; `set:4=7` writes 7 at
-// index 4; `remove:4` and `pop` take away; `extend:3` adds another row, of 0, 1 and 2. By hand.
+// The calls on a new list, in turn, and its items in the end. A number is pushed; `set:4=7` writes 7 at index
+// 4; `remove:4` and `pop` take away; `extend:3` adds another list, of 0, 1 and 2. By hand.
 static CALLS: &str = "\
 =>
 pop =>
@@ -54,7 +54,7 @@ fn number(rt: &impl Abort, word: &str) -> u32 {
     word.parse::<u32>().ok().expect(rt, "a number")
 }
 
-fn index(rt: &impl Abort, row: &Row<u32>, word: &str) -> usize
+fn index(rt: &impl Abort, row: &InlineList<u32>, word: &str) -> usize
     ensures { result < length row.now }
 {
     let i = number(rt, word) as usize;
@@ -62,26 +62,26 @@ fn index(rt: &impl Abort, row: &Row<u32>, word: &str) -> usize
     i
 }
 
-fn set(rt: &impl Abort, row: &mut Row<u32>, place: &str) {
+fn set(rt: &impl Abort, row: &mut InlineList<u32>, place: &str) {
     let (at, item) = place.split_once("=").expect(rt, "an index and an item");
     let i = index(rt, row, at);
     row.set(i, number(rt, item));
 }
 
-fn remove(rt: &impl Abort, row: &mut Row<u32>, at: &str) {
+fn remove(rt: &impl Abort, row: &mut InlineList<u32>, at: &str) {
     let i = index(rt, row, at);
     row.remove(i);
 }
 
-fn extend_by(rt: &impl Abort, alloc: Global, row: &mut Row<u32>, count: u32) {
-    let mut more = Row::new(alloc);
+fn extend_by(rt: &impl Abort, alloc: Global, row: &mut InlineList<u32>, count: u32) {
+    let mut more = InlineList::new(alloc);
     for item in 0..count {
         more.push(item).expect(rt, "memory");
     }
     row.extend(&more).expect(rt, "memory");
 }
 
-fn call(rt: &impl Abort, alloc: Global, row: &mut Row<u32>, word: &str) {
+fn call(rt: &impl Abort, alloc: Global, row: &mut InlineList<u32>, word: &str) {
     match word.split_once(":") {
         Some(("set", place)) => set(rt, row, place),
         Some(("remove", at)) => remove(rt, row, at),
@@ -91,7 +91,7 @@ fn call(rt: &impl Abort, alloc: Global, row: &mut Row<u32>, word: &str) {
     }
 }
 
-fn check_items(rt: &impl Abort, row: &Row<u32>, items: &str) {
+fn check_items(rt: &impl Abort, row: &InlineList<u32>, items: &str) {
     let mut count = 0;
     let mut last = None;
     for word in items.split_whitespace() {
@@ -110,7 +110,7 @@ fn check_items(rt: &impl Abort, row: &Row<u32>, items: &str) {
 fn calls_on_rows(rt: HostRuntime) {
     for line in CALLS.lines() {
         let (calls, items) = line.split_once("=>").expect(&rt, "a case");
-        let mut row = Row::new(rt.alloc());
+        let mut row = InlineList::new(rt.alloc());
         for word in calls.split_whitespace() {
             call(&rt, rt.alloc(), &mut row, word);
         }

@@ -37,7 +37,7 @@ pub fn head(alloc: Global, kind: u32, number: Option<i128>) -> Result<Head, Fail
     })
 }
 
-// A new operation, which stands.
+// A new operation, which is live.
 pub fn operation(
     rt: &impl Abort,
     ctx: &mut Context,
@@ -101,7 +101,7 @@ pub fn operand_of(rt: &impl Abort, ctx: &Context, op: Ptr<Operation>, i: usize) 
     op.get_operand(ctx, i)
 }
 
-// The operation goes to the end of the block.
+// The operation is moved to the end of the block.
 pub fn append(
     rt: &impl Abort,
     ctx: &mut Context,
@@ -117,7 +117,7 @@ pub fn append(
 }
 
 // A new last operation of the block.
-pub fn appended(
+pub fn append_operation(
     rt: &impl Abort,
     ctx: &mut Context,
     block: Ptr<BasicBlock>,
@@ -201,7 +201,7 @@ pub fn check_links(
     }
 }
 
-// The operation stands in the block, directly after this one.
+// The operation is in the block, directly after this one.
 fn check_place(
     rt: &impl Abort,
     ctx: &Context,

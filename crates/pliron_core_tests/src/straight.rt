@@ -1,6 +1,6 @@
 //! The tree of `func { b0(): a = const 1; b = const 2; c = add a b; ret c }`.
 
-use crate::steps::{CONST, FUNC, add_operand, appended, block, head, operation, result_of};
+use crate::steps::{CONST, FUNC, add_operand, append_operation, block, head, operation, result_of};
 use pliron_core::{BasicBlock, Context, Operation, Ptr};
 use std::alloc::Global;
 use std::process::Abort;
@@ -23,10 +23,10 @@ pub struct Sum {
 pub fn build_sum(rt: &impl Abort, alloc: Global, ctx: &mut Context) -> Result<Sum, Fail> {
     let func = operation(rt, ctx, head(alloc, FUNC, None)?, 0, 1)?;
     let block = block(rt, ctx, func, 0, 0)?;
-    let one = appended(rt, ctx, block, head(alloc, CONST, Some(1))?, 1)?;
-    let two = appended(rt, ctx, block, head(alloc, CONST, Some(2))?, 1)?;
-    let add = appended(rt, ctx, block, head(alloc, ADD, None)?, 1)?;
-    let ret = appended(rt, ctx, block, head(alloc, RET, None)?, 0)?;
+    let one = append_operation(rt, ctx, block, head(alloc, CONST, Some(1))?, 1)?;
+    let two = append_operation(rt, ctx, block, head(alloc, CONST, Some(2))?, 1)?;
+    let add = append_operation(rt, ctx, block, head(alloc, ADD, None)?, 1)?;
+    let ret = append_operation(rt, ctx, block, head(alloc, RET, None)?, 0)?;
     let sum = Sum {
         func,
         block,

@@ -158,7 +158,7 @@ fn removes_operands(rt: HostRuntime) -> Result<(), Fail> {
     in_new_context(&rt, rt.alloc(), remove_first_operand)
 }
 
-// A sum that nothing uses any more goes, and with it its uses of the constants.
+// A sum that nothing uses any more is erased, and with it its uses of the constants.
 fn erase_add(rt: &impl Abort, ctx: &mut Context, sum: &Sum) -> Result<(), Fail> {
     let old = result_of(rt, ctx, sum.add, 0);
     let new = result_of(rt, ctx, sum.one, 0);

@@ -1,14 +1,14 @@
--- The set of operations that are looked at once nothing else is ready.
+-- The set of operations that are visited once nothing else is ready.
 use Rattle.std.proofs.Common.{◌≡◌, ◌⊎◌, inl, inr, ⊎_elim, ℕ, Bool, true, false, not, true≢false, nat_eq, ◌&&◌, if◌then◌else◌, List, [], ◌∷◌, ◌++◌, Option, Some, None, refl, sym, ap, ◌∙◌, subst, arith}
 use Rattle.std.specs.List.{list_any}
 use Rattle.std.proofs.lemmas.Bool.{false≢true, or_cases}
-use Rattle.pliron_core.specs.Changes.{IsMadeInside}
-use Rattle.pliron_core.specs.Tree.{Tree, In, IsLive, IsInside, Directly, IsWithin, holder_of}
-use Rattle.pliron_core.specs.Joined.{IsTree}
+use Rattle.pliron_core.specs.Changes.{IsDefinedInside}
+use Rattle.pliron_core.specs.Tree.{Tree, In, IsLive, IsInside, Directly, IsWithin, parent_operation_of}
+use Rattle.pliron_core.specs.Invariant.{IsTree}
 use Rattle.pliron_core.proofs.ListLemmas.{In-left, In-right, In-cases}
 use Rattle.pliron_core.proofs.HoldingLemmas.{some_is, inside_up, within_inside, not_itself}
 use Rattle.indexmap.specs.IndexSet.{insert_key}
-use Rattle.pliron_dce.specs.Work.{AreClosed, LooksAround}
+use Rattle.pliron_dce.specs.Worklist.{AreClosed, AddsParents}
 
 tested_in : (xs : List ℕ) (k : ℕ) → list_any (λ y. nat_eq k y && true) xs ≡ true → In k xs
 tested_in [] k e = absurd (false≢true e)
@@ -33,7 +33,7 @@ module _ (ks ks' : List ℕ) (k : ℕ) (r : Bool) (says : r ≡ not (list_any (�
       by true h = (tested_in ks k h, keys ∙ ap (λ b. if b then ks else ks ++ k ∷ []) h)
       by false h = absurd (true≢false (sym (ap not h) ∙ sym says ∙ e))
 
--- the operation is there, or at the holder or around it
+-- the operation is there, or at the parent operation or around it
 abbrev pub IsThereOrUp : Tree → List ℕ → Option ℕ → ℕ → Type 0
 IsThereOrUp t ks o k = In k ks ⊎ ((h : ℕ) × (o ≡ Some h) × IsWithin t k h)
 
@@ -42,9 +42,9 @@ pub record IsRising (t : Tree) (v : ℕ) (old ks : List ℕ) (o : Option ℕ) : 
   pub kept : (k : ℕ) → In k old → In k ks
   pub closed : (k a : ℕ) → In k ks → IsLive t k → IsInside t a k → IsThereOrUp t ks o a
   pub above : (k h : ℕ) → In k ks → o ≡ Some h → In k old ⊎ IsInside t h k
-  pub rest : (k : ℕ) → IsMadeInside t k v → IsThereOrUp t ks o k
+  pub rest : (k : ℕ) → IsDefinedInside t k v → IsThereOrUp t ks o k
 
-pub rising_starts : (t : Tree) (v : ℕ) (old : List ℕ) (o : Option ℕ) → AreClosed t old → ((k : ℕ) → IsMadeInside t k v → (a : ℕ) × (o ≡ Some a) × IsWithin t k a) → IsRising t v old old o
+pub rising_starts : (t : Tree) (v : ℕ) (old : List ℕ) (o : Option ℕ) → AreClosed t old → ((k : ℕ) → IsDefinedInside t k v → (a : ℕ) × (o ≡ Some a) × IsWithin t k a) → IsRising t v old old o
 rising_starts t v old o closed around = record {
   kept = λ k i. i;
   closed = λ k a i l j. inl (closed k a i l j);
@@ -54,7 +54,7 @@ rising_starts t v old o closed around = record {
 
 module _ (t : Tree) (w : IsTree t) (v : ℕ) (old : List ℕ) where
   -- one more, and a step up
-  pub rising_more : (ks ks' : List ℕ) (op : ℕ) (o : Option ℕ) → ks' ≡ ks ++ op ∷ [] → o ≡ holder_of t op → IsRising t v old ks (Some op) → IsRising t v old ks' o
+  pub rising_more : (ks ks' : List ℕ) (op : ℕ) (o : Option ℕ) → ks' ≡ ks ++ op ∷ [] → o ≡ parent_operation_of t op → IsRising t v old ks (Some op) → IsRising t v old ks' o
   rising_more ks ks' op o put up r = subst (λ z. IsRising t v old z o) (sym put) (record {
     kept = λ k i. In-left k ks (op ∷ []) (r.kept k i);
     closed = λ k a i l j. ⊎_elim (λ q. there a (r.closed k a q l j)) (λ q. over a (inr (subst (IsInside t a) (first k q) j))) (In-cases k ks (op ∷ []) i);
@@ -74,7 +74,7 @@ module _ (t : Tree) (w : IsTree t) (v : ℕ) (old : List ℕ) where
       there a (inl i) = inl (In-left a ks (op ∷ []) i)
       there a (inr (h, e, q)) = over a (subst (IsWithin t a) (sym (some_is e)) q)
 
-  -- where the holder is there already, so is all around it
+  -- where the parent operation is there already, so is all around it
   module _ (closed : AreClosed t old) (ks : List ℕ) (op : ℕ) (live : IsLive t op) (i : In op ks) (r : IsRising t v old ks (Some op)) where
     before : In op old
     before = ⊎_elim (λ x. x) (λ x. absurd (not_itself w.joined.rooted x)) (r.above op op i refl)
@@ -84,10 +84,10 @@ module _ (t : Tree) (w : IsTree t) (v : ℕ) (old : List ℕ) where
     there a (inr (h, e, inl s)) = subst (λ z. In z ks) (some_is e ∙ s) i
     there a (inr (h, e, inr j)) = r.kept a (closed op a before live (subst (IsInside t a) (sym (some_is e)) j))
 
-    pub rising_stops : LooksAround t v old ks × AreClosed t ks
+    pub rising_stops : AddsParents t v old ks × AreClosed t ks
     rising_stops = (record { kept = r.kept; around = λ k j. there k (r.rest k j) }, λ k a j l q. there a (r.closed k a j l q))
 
-  pub rising_ends : (ks : List ℕ) (o : Option ℕ) → o ≡ None → IsRising t v old ks o → LooksAround t v old ks × AreClosed t ks
+  pub rising_ends : (ks : List ℕ) (o : Option ℕ) → o ≡ None → IsRising t v old ks o → AddsParents t v old ks × AreClosed t ks
   rising_ends ks o none r = (record { kept = r.kept; around = λ k j. there k (r.rest k j) }, λ k a j l q. there a (r.closed k a j l q))
     where
       there : (a : ℕ) → IsThereOrUp t ks o a → In a ks

@@ -2,16 +2,16 @@
 use Rattle.std.proofs.Common.{IfOk, Result, Ok, Err, ◌≡◌, inl, inr, ⊎_elim, ℕ, Bool, List, Option, Some, None, subst, refl}
 use Rattle.std.proofs.lemmas.Option.{same_Some}
 use Rattle.pliron_core.specs.declared.context.RegionSlot.{RegionSlot}
-use Rattle.pliron_core.specs.Tree.{Tree, In, IsInside, IsWithin, IsListedBy, op_of_slot, arguments_of, regions_of, block_parent_of, block_holder_of, region_parent_of, slot_of, up_from}
-use Rattle.pliron_core.specs.Joined.{IsTree}
+use Rattle.pliron_core.specs.Tree.{Tree, In, IsInside, IsWithin, IsListedBy, op_of_slot, arguments_of, regions_of, block_parent_of, block_parent_operation_of, region_parent_of, slot_of, up_from}
+use Rattle.pliron_core.specs.Invariant.{IsTree}
 use Rattle.pliron_core.proofs.HoldingLemmas.{in_slice}
 use Rattle.pliron_core.proofs.WalkLemmas.{not_inside-itself}
 use Rattle.pliron_laws.proofs.PassedLemmas.{ArePassed}
 use Rattle.pliron_laws.specs.Datum.{Head, Meaning}
-use Rattle.pliron_dce.specs.declared.work.Candidate.{Candidate}
+use Rattle.pliron_dce.specs.declared.worklist.DeadCandidate.{DeadCandidate}
 use Rattle.pliron_dce.specs.Dead.{Item, Op, Arg, Use}
-use Rattle.pliron_dce.specs.Steps.{Among}
-use Rattle.pliron_dce.specs.Work.{items_of, HasReady, IsCovered, AreAllInside}
+use Rattle.pliron_dce.specs.Readiness.{Among}
+use Rattle.pliron_dce.specs.Worklist.{items_of, HasReady, IsCovered, AreAllInside}
 
 -- the arguments of the block are among these
 abbrev pub HasArguments : Tree → List Item → ℕ → Type 0
@@ -30,7 +30,7 @@ listed t r h None l e = elim l [ ]
 listed t r h (Some slot) l e = subst (λ k. In r (regions_of t k)) (same_Some slot.op h e) (in_slice (regions_of t slot.op) slot.index r l)
 
 -- a block that the operation holds directly is one of its regions'
-pub region_of_held : (t : Tree) → IsTree t → (b k : ℕ) → block_holder_of t b ≡ Some k → (r : ℕ) × (block_parent_of t b ≡ Some r) × In r (regions_of t k)
+pub region_of_held : (t : Tree) → IsTree t → (b k : ℕ) → block_parent_operation_of t b ≡ Some k → (r : ℕ) × (block_parent_of t b ≡ Some r) × In r (regions_of t k)
 region_of_held t w b k held =
     let r = held_by t b k (block_parent_of t b) refl held in
     (r.0, r.1, listed t r.0 k (slot_of t r.0) (w.joined.placed b r.0 r.1) r.2)
@@ -48,10 +48,10 @@ covers_all t w root items all = record {
 }
 
 -- what is ready is inside
-pub all_ready : (m : Meaning) (side_effects : Head → Option Bool) (removable : Head → ℕ → Bool → Option Bool) (t : Tree) (root : ℕ) (work : List Candidate) → AreAllInside t root (items_of work) → HasReady m side_effects removable t root work
-all_ready m side_effects removable t root work all (Op k) r = all.operations k r.may.inside
-all_ready m side_effects removable t root work all (Arg v) r = all.arguments r.may.block v r.may.inside (in_slice (arguments_of t r.may.block) r.may.index v r.may.argument)
-all_ready m side_effects removable t root work all (Use user place) r = absurd r
+pub all_ready : (m : Meaning) (side_effects : Head → Option Bool) (removable : Head → ℕ → Bool → Option Bool) (t : Tree) (root : ℕ) (worklist : List DeadCandidate) → AreAllInside t root (items_of worklist) → HasReady m side_effects removable t root worklist
+all_ready m side_effects removable t root worklist all (Op k) r = all.operations k r.may.inside
+all_ready m side_effects removable t root worklist all (Arg v) r = all.arguments r.may.block v r.may.inside (in_slice (arguments_of t r.may.block) r.may.index v r.may.argument)
+all_ready m side_effects removable t root worklist all (Use user place) r = absurd r
 
 -- what holds of an answer
 pub ok_weaker : {T E : Type 0} (r : Result T E) (P Q : T → Type 0) → ((x : T) → P x → Q x) → IfOk r P → IfOk r Q

@@ -1,10 +1,10 @@
 -- Edges stay where an operation without regions is erased.
 use Rattle.std.proofs.Common.{◌≡◌, inl, inr, ⊎_elim, ℕ, Bool, true, false, true≢false, cond, List, [], ◌∷◌, filter, nat_eq, get_or, Option, Some, None, refl, sym, ap, ◌∙◌, subst, arith}
 use Rattle.pliron_core.specs.Lists.{In, last_of}
-use Rattle.pliron_core.specs.Tree.{Tree, IsLive, IsInside, Directly, Deeper, HoldsBlock, regions_of, successors_of, parent_of, body_of, block_holder_of, region_parent_of, layout_of, up_from}
+use Rattle.pliron_core.specs.Tree.{Tree, IsLive, IsInside, Directly, Deeper, HoldsBlock, regions_of, successors_of, parent_of, body_of, block_parent_operation_of, region_parent_of, layout_of, up_from}
 use Rattle.pliron_core.specs.Edges.{succs_of, succs_from}
-use Rattle.pliron_core.specs.Joined.{IsTree}
-use Rattle.pliron_core.specs.Erased.{erased, is_met_above, IsSelfContained}
+use Rattle.pliron_core.specs.Invariant.{IsTree}
+use Rattle.pliron_core.specs.Erased.{after_erasing, is_met_above, IsSelfContained}
 use Rattle.pliron_core.specs.Writes.{taken_from}
 use Rattle.pliron_core.proofs.BlankLemmas.{blanked_kept, blanked_gone}
 use Rattle.pliron_core.proofs.ClearedLemmas.{met_above}
@@ -42,7 +42,7 @@ empty_entries xs e = ap has_entries e
 
 module _ (t : Tree) (op : ℕ) (w : IsTree t) (none : regions_of t op ≡ []) where
   -- it holds nothing
-  no_block : (b : ℕ) → block_holder_of t b ≡ Some op → ⊥
+  no_block : (b : ℕ) → block_parent_operation_of t b ≡ Some op → ⊥
   no_block b held = let r = region_of_held t w b op held in subst (In r.0) none r.2
 
   no_inside : (x : ℕ) → IsInside t op x → ⊥
@@ -61,11 +61,11 @@ module _ (t : Tree) (op : ℕ) (w : IsTree t) (none : regions_of t op ≡ []) wh
   only_itself k d = ⊎_elim (λ e. e) (λ i. absurd (no_inside k i)) (within_is t op k d)
 
   block_left : (b : ℕ) → block_erased_with t op b ≡ false
-  block_left b = told _ (λ d. let m = met_above t op (block_holder_of t b) d in no_held b (m.0, m.1, m.2))
+  block_left b = told _ (λ d. let m = met_above t op (block_parent_operation_of t b) d in no_held b (m.0, m.1, m.2))
 
-  module _ (live : IsLive t op) (contained : IsSelfContained t op) (w' : IsTree (erased t op)) (root : ℕ) (edges : EdgesLast t root) (inside : IsInside t root op) (nowhere : (b : ℕ) → In b (successors_of t op) → ⊥) where
+  module _ (live : IsLive t op) (contained : IsSelfContained t op) (w' : IsTree (after_erasing t op)) (root : ℕ) (edges : EdgesLast t root) (inside : IsInside t root op) (nowhere : (b : ℕ) → In b (successors_of t op) → ⊥) where
     t' : Tree
-    t' = erased t op
+    t' = after_erasing t op
 
     abbrev dead : ℕ → Bool
     dead = λ k. op_erased t op k
@@ -77,21 +77,21 @@ module _ (t : Tree) (op : ℕ) (w : IsTree t) (none : regions_of t op ≡ []) wh
         go [] e = e
         go (x ∷ xs) e = absurd (nowhere x (subst (In x) (sym e) (inl refl)))
 
-    regions_stay : (k : ℕ) → regions_of (erased t op) k ≡ regions_of t k
+    regions_stay : (k : ℕ) → regions_of (after_erasing t op) k ≡ regions_of t k
     regions_stay k = go (op_erased t op k) refl
       where
-        go : (b : Bool) → op_erased t op k ≡ b → regions_of (erased t op) k ≡ regions_of t k
+        go : (b : Bool) → op_erased t op k ≡ b → regions_of (after_erasing t op) k ≡ regions_of t k
         go false d = ap (λ z. z.regions) ((erased_swept t op w live contained).rows k d)
-        go true d = (gone_away (erased t op) (λ x. op_erased t op x) (λ b. block_erased_with t op b) w' (erased_gone t op w live contained)).regions k d ∙ sym none ∙ ap (regions_of t) (sym (only_itself k d))
+        go true d = (gone_away (after_erasing t op) (λ x. op_erased t op x) (λ b. block_erased_with t op b) w' (erased_gone t op w live contained)).regions k d ∙ sym none ∙ ap (regions_of t) (sym (only_itself k d))
 
-    successors_stay : (k : ℕ) → successors_of (erased t op) k ≡ successors_of t k
+    successors_stay : (k : ℕ) → successors_of (after_erasing t op) k ≡ successors_of t k
     successors_stay k = go (op_erased t op k) refl
       where
-        go : (b : Bool) → op_erased t op k ≡ b → successors_of (erased t op) k ≡ successors_of t k
+        go : (b : Bool) → op_erased t op k ≡ b → successors_of (after_erasing t op) k ≡ successors_of t k
         go false d = (erased_swept t op w live contained).successors k d
-        go true d = (gone_away (erased t op) (λ x. op_erased t op x) (λ b. block_erased_with t op b) w' (erased_gone t op w live contained)).successors k d ∙ sym no_successors ∙ ap (successors_of t) (sym (only_itself k d))
+        go true d = (gone_away (after_erasing t op) (λ x. op_erased t op x) (λ b. block_erased_with t op b) w' (erased_gone t op w live contained)).successors k d ∙ sym no_successors ∙ ap (successors_of t) (sym (only_itself k d))
 
-    body_stays : (b : ℕ) → body_of (erased t op) b ≡ swept dead (body_of t b)
+    body_stays : (b : ℕ) → body_of (after_erasing t op) b ≡ swept dead (body_of t b)
     body_stays b = (erased_swept t op w live contained).bodies b (block_left b)
 
     -- a region whose row is cleared has no block
@@ -101,16 +101,16 @@ module _ (t : Tree) (op : ℕ) (w : IsTree t) (none : regions_of t op ≡ []) wh
         go : (xs : List ℕ) → layout_of t r ≡ xs → layout_of t r ≡ []
         go [] e = e
         go (b ∷ bs) e =
-            let up : block_holder_of t b ≡ region_parent_of t r = ap (λ o. up_from o (λ z. region_parent_of t z)) (w.layouts.owned b r (subst (In b) (sym e) (inl refl))) in
+            let up : block_parent_operation_of t b ≡ region_parent_of t r = ap (λ o. up_from o (λ z. region_parent_of t z)) (w.layouts.owned b r (subst (In b) (sym e) (inl refl))) in
             absurd (true≢false (sym (ap (is_met_above t (nat_eq op)) up ∙ d) ∙ block_left b))
 
-    layout_stays : (r : ℕ) → layout_of (erased t op) r ≡ layout_of t r
+    layout_stays : (r : ℕ) → layout_of (after_erasing t op) r ≡ layout_of t r
     layout_stays r = go (is_met_above t (nat_eq op) (region_parent_of t r)) refl
       where
         met : (b : Bool) → is_met_above t (nat_eq op) (region_parent_of t r) ≡ b → is_met_above (taken_from t op (parent_of t op)) (nat_eq op) (region_parent_of (taken_from t op (parent_of t op)) r) ≡ b
         met b e = taken-met t op (parent_of t op) (region_parent_of (taken_from t op (parent_of t op)) r) ∙ ap (is_met_above t (nat_eq op)) (taken-region_parent t op (parent_of t op) r) ∙ e
 
-        go : (b : Bool) → is_met_above t (nat_eq op) (region_parent_of t r) ≡ b → layout_of (erased t op) r ≡ layout_of t r
+        go : (b : Bool) → is_met_above t (nat_eq op) (region_parent_of t r) ≡ b → layout_of (after_erasing t op) r ≡ layout_of t r
         go false e = blanked_kept _ [] (taken_from t op (parent_of t op)).layouts r (met false e) ∙ ap (λ z. get_or z r []) (taken-layouts t op (parent_of t op))
         go true e = blanked_gone _ [] (taken_from t op (parent_of t op)).layouts r (met true e) ∙ sym (layout_empty r e)
 
@@ -123,13 +123,13 @@ module _ (t : Tree) (op : ℕ) (w : IsTree t) (none : regions_of t op ≡ []) wh
         subst (λ z. last_of None (body_of t z) ≡ Some o) (some_is (sym ends.in_block ∙ here)) ends.last
       where
         holder_beside : (root x y b : ℕ) → IsInside t root x → parent_of t x ≡ Some b → parent_of t y ≡ Some b → IsInside t root y
-        holder_beside root x y b (Directly e) p q = Directly (ap (λ z. up_from z (λ c. block_holder_of t c)) (q ∙ sym p) ∙ e)
-        holder_beside root x y b (Deeper z e i) p q = Deeper z (ap (λ z. up_from z (λ c. block_holder_of t c)) (q ∙ sym p) ∙ e) i
+        holder_beside root x y b (Directly e) p q = Directly (ap (λ z. up_from z (λ c. block_parent_operation_of t c)) (q ∙ sym p) ∙ e)
+        holder_beside root x y b (Deeper z e i) p q = Deeper z (ap (λ z. up_from z (λ c. block_parent_operation_of t c)) (q ∙ sym p) ∙ e) i
 
-    succs_stay : (b : ℕ) → succs_of (erased t op) b ≡ succs_of t b
-    succs_stay b = ap (λ ks. succs_from (erased t op) (last_of None ks)) (body_stays b) ∙ same (last_of None (swept dead (body_of t b))) ∙ go (last_of None (body_of t b)) refl
+    succs_stay : (b : ℕ) → succs_of (after_erasing t op) b ≡ succs_of t b
+    succs_stay b = ap (λ ks. succs_from (after_erasing t op) (last_of None ks)) (body_stays b) ∙ same (last_of None (swept dead (body_of t b))) ∙ go (last_of None (body_of t b)) refl
       where
-        same : (o : Option ℕ) → succs_from (erased t op) o ≡ succs_from t o
+        same : (o : Option ℕ) → succs_from (after_erasing t op) o ≡ succs_from t o
         same None = refl
         same (Some k) = successors_stay k
 
@@ -165,7 +165,7 @@ module _ (t : Tree) (op : ℕ) (w : IsTree t) (none : regions_of t op ≡ []) wh
                 let q : last_of None (body_of t b) ≡ Some op = e ∙ ap Some (only_itself k d) in
                 none_leads (last_of None (swept dead (body_of t b))) refl q ∙ sym (ap (succs_from t) q ∙ no_successors)
 
-    pub erased_alike : EdgesAlike t (erased t op)
+    pub erased_alike : EdgesAlike t (after_erasing t op)
     erased_alike = record {
       grows = let n = as_many t op w live contained (parent_of t op) refl in omega (arith, n);
       regions = regions_stay;

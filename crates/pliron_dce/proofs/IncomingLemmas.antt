@@ -3,10 +3,10 @@ use Rattle.std.proofs.Common.{◌≡◌, ◌≢◌, inl, inr, ⊎_elim, ℕ, ◌
 use Rattle.std.proofs.lemmas.Bool.{cases_eq}
 use Rattle.pliron_core.specs.declared.uses.Use.{Use as Edge}
 use Rattle.pliron_core.specs.declared.context.Def.TheVariants.{Argument}
-use Rattle.pliron_core.specs.Tree.{Tree, In, IsLive, IsInside, HoldsBlock, head_of, successors_of, holder_of, block_holder_of, op_of_slot, region_parent_of, block_parent_of, arguments_of, parent_of, up_from}
-use Rattle.pliron_core.specs.Joined.{IsTree}
+use Rattle.pliron_core.specs.Tree.{Tree, In, IsLive, IsInside, HoldsBlock, head_of, successors_of, parent_operation_of, block_parent_operation_of, op_of_slot, region_parent_of, block_parent_of, arguments_of, parent_of, up_from}
+use Rattle.pliron_core.specs.Invariant.{IsTree}
 use Rattle.pliron_core.specs.Writes.{argument_removed}
-use Rattle.pliron_core.specs.Erased.{erased}
+use Rattle.pliron_core.specs.Erased.{after_erasing}
 use Rattle.pliron_core.proofs.ListLemmas.{decide_in}
 use Rattle.pliron_core.proofs.HoldingLemmas.{some_is, some_of, in_slice, within_alike, inside_block}
 use Rattle.pliron_laws.specs.Datum.{Head, Shape, Meaning}
@@ -23,9 +23,9 @@ use Rattle.pliron_theory.proofs.ShortenedBranches.{SameFrame, childless, op_kept
 use Rattle.pliron_theory.proofs.ErasedKeeps.{op_erased, block_erased_with, erased_swept, erased_gone}
 use Rattle.pliron_theory.proofs.SweptParts.{gone_away, block_place_back, within_back, jumper_lives}
 use Rattle.pliron_theory.proofs.SweptRecords.{op_same, shape_swept}
-use Rattle.pliron_dce.specs.Dead.{Item, Op, Arg, Use, MayGo, Holds}
-use Rattle.pliron_dce.specs.Steps.{IsReady, IsReadyArgument}
-use Rattle.pliron_dce.specs.Going.{Goes}
+use Rattle.pliron_dce.specs.Dead.{Item, Op, Arg, Use, MayBeErased, KeepsAlive}
+use Rattle.pliron_dce.specs.Readiness.{IsReady, IsReadyArgument}
+use Rattle.pliron_dce.specs.Erasing.{ErasesItem}
 use Rattle.pliron_dce.specs.declared.incoming.IncomingEdge.{IncomingEdge}
 use Rattle.pliron_dce.specs.Incoming.{edges_of, count_along, width, BranchesLead, AreIncoming, AreKnown}
 use Rattle.pliron_dce.specs.Predecessors.{AreMarked}
@@ -59,15 +59,15 @@ module _ (m : Meaning) (can_fold : Head → Bool) (SameTests : Head → Head →
   same_successors : (k : ℕ) → successors_of t' k ≡ successors_of t k
   same_successors k = ap (λ z. slice_index_or z k []) f.successors
 
-  same_block_holder : (b : ℕ) → block_holder_of t' b ≡ block_holder_of t b
+  same_block_holder : (b : ℕ) → block_parent_operation_of t' b ≡ block_parent_operation_of t b
   same_block_holder b =
       ap (λ z. up_from (slice_index_or z b None) (λ r. op_of_slot (slice_get u.slots r))) f.block_parents
       ∙ ap (λ z. up_from (block_parent_of t b) (λ r. op_of_slot (slice_get z r))) f.slots
 
-  same_holder : (x : ℕ) → holder_of t' x ≡ holder_of t x
-  same_holder x = ap (λ z. up_from (slice_index_or z x None) (λ b. block_holder_of t' b)) f.parents ∙ go (parent_of t x)
+  same_holder : (x : ℕ) → parent_operation_of t' x ≡ parent_operation_of t x
+  same_holder x = ap (λ z. up_from (slice_index_or z x None) (λ b. block_parent_operation_of t' b)) f.parents ∙ go (parent_of t x)
     where
-      go : (o : Option ℕ) → up_from o (λ b. block_holder_of t' b) ≡ up_from o (λ b. block_holder_of t b)
+      go : (o : Option ℕ) → up_from o (λ b. block_parent_operation_of t' b) ≡ up_from o (λ b. block_parent_operation_of t b)
       go None = refl
       go (Some b) = same_block_holder b
 
@@ -107,7 +107,7 @@ module _ (m : Meaning) (can_fold : Head → Bool) (SameTests : Head → Head →
   leads_inside : (k b : ℕ) → In b (successors_of t k) → HoldsBlock t root b → IsInside t root k
   leads_inside k b i h =
       let ends = linked.edges k b i (inr h) in
-      let same : block_holder_of t ends.block ≡ block_holder_of t b = ap (λ o. up_from o (λ r. region_parent_of t r)) (sym (ends.own_region b i)) in
+      let same : block_parent_operation_of t ends.block ≡ block_parent_operation_of t b = ap (λ o. up_from o (λ r. region_parent_of t r)) (sym (ends.own_region b i)) in
       inside_block ends.block ends.in_block (h.0, same ∙ h.1, h.2)
 
   branch_at : (k b : ℕ) → In b (successors_of t k) → HoldsBlock t root b → HeadPasses m.is_branch t k → B k
@@ -158,9 +158,9 @@ module _ (m : Meaning) (can_fold : Head → Bool) (SameTests : Head → Head →
   marked_removed mark marked b x q held = let h = held_back b held in let y = marked b x q h in ((λ e. led_after b h (y.0 e)), (λ l. y.1 (led_before b l)))
 
 -- an operation goes
-module _ (m : Meaning) (side_effects : Head → Option Bool) (removable : Head → ℕ → Bool → Option Bool) (counts : KeepsCounts m) (free : GivesAtOnce m side_effects) (t : Tree) (root : ℕ) (w : IsTree t) (linked : IsWellLinked m t root) (k : ℕ) (may : MayGo m side_effects t root k) (none : (user place : ℕ) → Holds t k user place → ⊥) (w' : IsTree (erased t k)) where
+module _ (m : Meaning) (side_effects : Head → Option Bool) (removable : Head → ℕ → Bool → Option Bool) (counts : KeepsCounts m) (free : GivesAtOnce m side_effects) (t : Tree) (root : ℕ) (w : IsTree t) (linked : IsWellLinked m t root) (k : ℕ) (may : MayBeErased m side_effects t root k) (none : (user place : ℕ) → KeepsAlive t k user place → ⊥) (w' : IsTree (after_erasing t k)) where
   abbrev x' : Tree
-  x' = erased t k
+  x' = after_erasing t k
 
   abbrev dead : ℕ → Bool
   dead q = op_erased t k q
@@ -221,12 +221,12 @@ module _ (m : Meaning) (side_effects : Head → Option Bool) (removable : Head �
 
 -- a ready thing goes
 module _ (m : Meaning) (can_fold : Head → Bool) (SameTests : Head → Head → Type 0) (shortened : Shape → ℕ → ℕ → Head) (law : ForwardsOperands m can_fold SameTests shortened) (tests : (h h' : Head) → SameTests h h' → m.is_branch h' ≡ m.is_branch h) (counts : KeepsCounts m) (side_effects : Head → Option Bool) (free : GivesAtOnce m side_effects) (removable : Head → ℕ → Bool → Option Bool) where
-  pub known_after : (t t' : Tree) (root : ℕ) (x : Item) (find : ℕ → Option (List IncomingEdge)) → IsTree t → IsTree t' → IsWellLinked m t root → IsReady m side_effects removable t root x → Goes m shortened t t' x → AreKnown m t root find → AreKnown m t' root find
+  pub known_after : (t t' : Tree) (root : ℕ) (x : Item) (find : ℕ → Option (List IncomingEdge)) → IsTree t → IsTree t' → IsWellLinked m t root → IsReady m side_effects removable t root x → ErasesItem m shortened t t' x → AreKnown m t root find → AreKnown m t' root find
   known_after t u root (Op k) find w w' linked r g known = subst (λ z. AreKnown m z root find) (sym g.1) (known_erased m side_effects removable counts free t root w linked k r.may r.none (subst IsTree g.1 w') find known)
   known_after t u root (Arg v) find w w' linked r g known = subst (λ z. AreKnown m z root find) (sym g.removed) (known_removed m can_fold SameTests shortened law tests t g.between root g.block g.index g.edges w linked g.complete g.lose (ready_branches m removable t root v g.block g.index w r g.argument).1 find known)
   known_after t u root (Use user place) find w w' linked r g known = absurd g
 
-  pub marked_after : (t t' : Tree) (root : ℕ) (x : Item) (mark : ℕ → Option Bool) → IsTree t → IsTree t' → IsWellLinked m t root → IsReady m side_effects removable t root x → Goes m shortened t t' x → AreMarked m t root mark → AreMarked m t' root mark
+  pub marked_after : (t t' : Tree) (root : ℕ) (x : Item) (mark : ℕ → Option Bool) → IsTree t → IsTree t' → IsWellLinked m t root → IsReady m side_effects removable t root x → ErasesItem m shortened t t' x → AreMarked m t root mark → AreMarked m t' root mark
   marked_after t u root (Op k) mark w w' linked r g marked = subst (λ z. AreMarked m z root mark) (sym g.1) (marked_erased m side_effects removable counts free t root w linked k r.may r.none (subst IsTree g.1 w') mark marked)
   marked_after t u root (Arg v) mark w w' linked r g marked = subst (λ z. AreMarked m z root mark) (sym g.removed) (marked_removed m can_fold SameTests shortened law tests t g.between root g.block g.index g.edges w linked g.complete g.lose (ready_branches m removable t root v g.block g.index w r g.argument).1 mark marked)
   marked_after t u root (Use user place) mark w w' linked r g marked = absurd g

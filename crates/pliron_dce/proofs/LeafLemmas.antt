@@ -2,12 +2,12 @@
 use Rattle.std.proofs.Common.{◌≡◌, inl, inr, ℕ, List, [], ◌∷◌, length, Option, Some, None, slice_get, refl, sym, ◌∙◌, subst, arith}
 use Rattle.pliron_core.specs.declared.context.Def.{Def}
 use Rattle.pliron_core.specs.declared.context.Def.TheVariants.{Result, Argument}
-use Rattle.pliron_core.specs.Tree.{Tree, In, IsMadeBy, IsMadeWithin, definition_of, operands_of, regions_of, results_of}
-use Rattle.pliron_core.specs.Joined.{IsTree}
+use Rattle.pliron_core.specs.Tree.{Tree, In, IsMadeBy, IsDefinedWithin, definition_of, operands_of, regions_of, results_of}
+use Rattle.pliron_core.specs.Invariant.{IsTree}
 use Rattle.pliron_core.specs.Erased.{IsSelfContained}
 use Rattle.pliron_core.proofs.HoldingLemmas.{maker_is, some_is, in_slice}
 use Rattle.pliron_laws.proofs.ConstantLemmas.{insideless, blockless}
-use Rattle.pliron_dce.specs.Steps.{HaveNoUse}
+use Rattle.pliron_dce.specs.Readiness.{HaveNoUse}
 
 none_there : (xs : List ℕ) → length xs ≡ 0 → xs ≡ []
 none_there [] e = refl
@@ -22,7 +22,7 @@ leaf_contained t w k few unused = record {
     none : regions_of t k ≡ []
     none = none_there (regions_of t k) few
 
-    made : (x v : ℕ) → In v (operands_of t x) → (d : Option Def) → definition_of t v ≡ d → IsMadeWithin t k d → ⊥
+    made : (x v : ℕ) → In v (operands_of t x) → (d : Option Def) → definition_of t v ≡ d → IsDefinedWithin t k d → ⊥
     made x v i None e j = j
     made x v i (Some (Result q n)) e (inl s) =
         let y = maker_is t v (w.joined.operands x v i) in

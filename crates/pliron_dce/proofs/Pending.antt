@@ -1,13 +1,13 @@
--- What is ready after a whole rewrite was ready before it, or is looked at.
+-- What is ready after a whole rewrite was ready before it, or is visited.
 use Rattle.std.proofs.Common.{◌≡◌, ◌≢◌, ◌⊎◌, inl, inr, ⊎_elim, ℕ, Bool, List, [], ◌∷◌, Option, Some, sym, ap, subst}
 use Rattle.std.proofs.lemmas.Bool.{cases_eq}
 use Rattle.pliron_core.specs.declared.context.Def.TheVariants.{Argument}
 use Rattle.pliron_core.specs.Tree.{Tree, In, IsLive, IsMadeBy, operands_of, results_of, definition_of}
-use Rattle.pliron_core.specs.Joined.{IsTree}
+use Rattle.pliron_core.specs.Invariant.{IsTree}
 use Rattle.pliron_core.proofs.HoldingLemmas.{in_slice, slice_in}
 use Rattle.pliron_laws.specs.Datum.{Head, Meaning}
-use Rattle.pliron_dce.specs.Dead.{Item, Op, Arg, Use, Holds, OfResult, OfInside}
-use Rattle.pliron_dce.specs.Steps.{IsReady, IsReadyOperation, IsReadyArgument, Among, AreNoted, AreLookedAt}
+use Rattle.pliron_dce.specs.Dead.{Item, Op, Arg, Use, KeepsAlive, OfResult, OfInside}
+use Rattle.pliron_dce.specs.Readiness.{IsReady, IsReadyOperation, IsReadyArgument, Among, AreRecorded, AreRevisited}
 use Rattle.pliron_dce.proofs.Thinned.{IsThinned}
 
 same_item : (x y : Item) → (x ≡ y) ⊎ (x ≢ y)
@@ -57,14 +57,14 @@ pub decide_among : (x : Item) (items : List Item) → Among x items ⊎ (Among x
 decide_among x [] = inr (λ i. i)
 decide_among x (y ∷ ys) = ⊎_elim (λ e. inl (inl e)) (λ n. ⊎_elim (λ i. inl (inr i)) (λ m. inr (λ z. ⊎_elim n m z)) (decide_among x ys)) (same_item x y)
 
-module _ (m : Meaning) (side_effects : Head → Option Bool) (removable : Head → ℕ → Bool → Option Bool) (t t' : Tree) (root : ℕ) (w : IsTree t) (w' : IsTree t') (h : IsThinned m side_effects removable t t' root) (used : List ℕ) (noted : AreNoted t t' used) (items : List Item) (looked : AreLookedAt t' used items) where
+module _ (m : Meaning) (side_effects : Head → Option Bool) (removable : Head → ℕ → Bool → Option Bool) (t t' : Tree) (root : ℕ) (w : IsTree t) (w' : IsTree t') (h : IsThinned m side_effects removable t t' root) (used : List ℕ) (noted : AreRecorded t t' used) (items : List Item) (looked : AreRevisited t' used items) where
   operation_before : (k : ℕ) → IsReadyOperation m side_effects t' root k → (Among (Op k) items → ⊥) → IsReadyOperation m side_effects t root k
   operation_before k r never = record { may = h.may_back k r.may; none = none }
     where
       live : IsLive t' k
       live = h.live k r.may.inside
 
-      none : (user place : ℕ) → Holds t k user place → ⊥
+      none : (user place : ℕ) → KeepsAlive t k user place → ⊥
       none user place (OfResult v e i) =
           let there : In v (results_of t' k) = subst (In v) (sym (h.results_same k live)) i in
           let y = slice_in (results_of t' k) v there in

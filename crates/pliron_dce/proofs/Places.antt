@@ -7,7 +7,7 @@ use Rattle.pliron_core.proofs.TreeLemmas.{live-within}
 use Rattle.std.specs.List.{range_with_len}
 use Rattle.pliron_core.specs.declared.uses.Use.{Use}
 use Rattle.pliron_core.specs.Tree.{Tree, In, IsLive, IsDistinct, row_of, operands_of, successors_of}
-use Rattle.pliron_core.specs.Joined.{IsTree}
+use Rattle.pliron_core.specs.Invariant.{IsTree}
 use Rattle.pliron_core.proofs.HoldingLemmas.{some_is, in_slice, slice_in}
 use Rattle.pliron_core.proofs.RemovalLemmas.{in_from-remove, in-remove_cases}
 use Rattle.pliron_laws.specs.Datum.{Head, Shape, Meaning}

@@ -3,9 +3,9 @@ use Rattle.std.proofs.Common.{◌≡◌, ◌↔◌, ◌⊎◌, inl, inr, ⊎_eli
 use Rattle.pliron_core.specs.declared.context.Def.TheVariants.{Argument}
 use Rattle.pliron_laws.specs.Answers.{HeadPasses, ReadsPlace}
 use Rattle.pliron_core.specs.Changes.{IsInsideChange}
-use Rattle.pliron_core.specs.Tree.{Tree, In, IsLive, head_of, HoldsBlock, successors_of, arguments_of, regions_of, block_holder_of}
-use Rattle.pliron_core.specs.Joined.{IsTree}
-use Rattle.pliron_core.specs.Erased.{erased}
+use Rattle.pliron_core.specs.Tree.{Tree, In, IsLive, head_of, HoldsBlock, successors_of, arguments_of, regions_of, block_parent_operation_of}
+use Rattle.pliron_core.specs.Invariant.{IsTree}
+use Rattle.pliron_core.specs.Erased.{after_erasing}
 use Rattle.pliron_core.specs.Writes.{argument_removed}
 use Rattle.pliron_laws.specs.Datum.{Head, Shape, Meaning}
 use Rattle.pliron_laws.specs.Laws.{KeepsCounts, GivesAtOnce, ForwardsOperands, ActsWithoutArgument}
@@ -17,8 +17,8 @@ use Rattle.pliron_theory.proofs.EdgeLemmas.{edges_alike, edges_transitive}
 use Rattle.pliron_theory.proofs.Keeping.{keeps_refl, keeps_trans}
 use Rattle.pliron_theory.proofs.RemovedKeeps.{removed_keeps}
 use Rattle.pliron_dce.specs.Dead.{Item, Op, Arg, Use, IsDead}
-use Rattle.pliron_dce.specs.Steps.{IsReady, Among}
-use Rattle.pliron_dce.specs.Going.{Goes, Removes, GoInTurn, LeavesNoDead, HasDead, TellsDead, TellsGone, HasRegions, SomeHasRegions, IsSweptSoFar}
+use Rattle.pliron_dce.specs.Readiness.{IsReady, Among}
+use Rattle.pliron_dce.specs.Erasing.{ErasesItem, Removes, EraseInTurn, LeavesNoDead, HasDead, ReportsDead, ReportsErased, HasRegions, SomeHasRegions, IsSweptSoFar}
 use Rattle.pliron_dce.proofs.ReadyLemmas.{ready_dead, no_dead}
 use Rattle.pliron_dce.proofs.Thinned.{IsThinned, back, forth}
 use Rattle.pliron_core.specs.declared.attrs.IRStatus.{IRStatus}
@@ -45,7 +45,7 @@ module _ (m : Meaning) (can_fold : Head → Bool) (SameTests : Head → Head →
   abbrev D : Tree → ℕ → Item → Type 0
   D t root x = IsDead m side_effects removable t root x
 
-  erase_step : (t t' : Tree) (root k : ℕ) → IsTree t → IsTree t' → IsWellLinked m t root → IsReady m side_effects removable t root (Op k) → t' ≡ erased t k → IsStep m side_effects removable t t' root (Op k)
+  erase_step : (t t' : Tree) (root k : ℕ) → IsTree t → IsTree t' → IsWellLinked m t root → IsReady m side_effects removable t root (Op k) → t' ≡ after_erasing t k → IsStep m side_effects removable t t' root (Op k)
   erase_step t t' root k w w' linked r same = subst (λ z. IsStep m side_effects removable t z root (Op k)) (sym same) (record {
     keeps = ready_keeps m side_effects removable counts free t root w linked k r.may r.none at;
     inside = erased_inside t root k w at.joined r.may.inside;
@@ -56,7 +56,7 @@ module _ (m : Meaning) (can_fold : Head → Bool) (SameTests : Head → Head →
     thins = erased_thins m side_effects removable counts free t root w linked k r.may r.none at;
   })
     where
-      at : IsTree (erased t k)
+      at : IsTree (after_erasing t k)
       at = subst IsTree same w'
 
       bare : (rs : List ℕ) → (IsTrue (has_entries rs) → ⊥) → rs ≡ []
@@ -87,13 +87,13 @@ module _ (m : Meaning) (can_fold : Head → Bool) (SameTests : Head → Head →
       branches : (k : ℕ) → In g.block (successors_of t k) → HeadPasses m.is_branch t k
       branches = subst (λ z. (k : ℕ) → In z (successors_of t k) → HeadPasses m.is_branch t k) same r.may.branches
 
-      allowed : (k : ℕ) → block_holder_of t g.block ≡ Some k → ReadsPlace removable t k g.block (Some true)
-      allowed = subst (λ z. (k : ℕ) → block_holder_of t z ≡ Some k → ReadsPlace removable t k z (Some true)) same r.may.allowed
+      allowed : (k : ℕ) → block_parent_operation_of t g.block ≡ Some k → ReadsPlace removable t k g.block (Some true)
+      allowed = subst (λ z. (k : ℕ) → block_parent_operation_of t z ≡ Some k → ReadsPlace removable t k z (Some true)) same r.may.allowed
 
       dead : D t root (Arg v)
       dead = ready_dead m side_effects removable t root (Arg v) r
 
-  pub step : (t t' : Tree) (root : ℕ) (x : Item) → IsTree t → IsTree t' → IsWellLinked m t root → IsReady m side_effects removable t root x → Goes m shortened t t' x → IsStep m side_effects removable t t' root x
+  pub step : (t t' : Tree) (root : ℕ) (x : Item) → IsTree t → IsTree t' → IsWellLinked m t root → IsReady m side_effects removable t root x → ErasesItem m shortened t t' x → IsStep m side_effects removable t t' root x
   step t t' root (Op k) w w' linked r g = erase_step t t' root k w w' linked r g.1
   step t t' root (Arg v) w w' linked r g = remove_step t t' root v w w' linked r g
   step t t' root (Use user place) w w' linked r g = absurd g
@@ -116,8 +116,8 @@ module _ (m : Meaning) (can_fold : Head → Bool) (SameTests : Head → Head →
     arguments_forth = λ v d s. d;
   }
 
-  turn_more : (xs : List Item) (x : Item) (t u v : Tree) → GoInTurn m shortened xs t u → Goes m shortened u v x → GoInTurn m shortened (xs ++ x ∷ []) t v
-  turn_more [] x t u v e g = (v, subst (λ z. Goes m shortened z v x) e g, refl)
+  turn_more : (xs : List Item) (x : Item) (t u v : Tree) → EraseInTurn m shortened xs t u → ErasesItem m shortened u v x → EraseInTurn m shortened (xs ++ x ∷ []) t v
+  turn_more [] x t u v e g = (v, subst (λ z. ErasesItem m shortened z v x) e g, refl)
   turn_more (y ∷ ys) x t u v q g = (q.0, q.1, turn_more ys x q.0 u v q.2 g)
 
   among_more : (xs : List Item) (x y : Item) → Among y (xs ++ x ∷ []) → Among y xs ⊎ (y ≡ x)
@@ -131,7 +131,7 @@ module _ (m : Meaning) (can_fold : Head → Bool) (SameTests : Head → Head →
   back_to t0 t root gone h (Arg v) r = h.arguments_back v (ready_dead m side_effects removable t root (Arg v) r)
   back_to t0 t root gone h (Use user place) r = absurd r
 
-  pub one_more : (t0 t t' : Tree) (root : ℕ) (gone : List Item) (x : Item) → IsWellLinked m t0 root → IsTree t → IsTree t' → OnWay t0 t root gone → IsReady m side_effects removable t root x → Goes m shortened t t' x → OnWay t0 t' root (gone ++ x ∷ [])
+  pub one_more : (t0 t t' : Tree) (root : ℕ) (gone : List Item) (x : Item) → IsWellLinked m t0 root → IsTree t → IsTree t' → OnWay t0 t root gone → IsReady m side_effects removable t root x → ErasesItem m shortened t t' x → OnWay t0 t' root (gone ++ x ∷ [])
   one_more t0 t t' root gone x linked w w' h r g = record {
     went = turn_more gone x t0 t t' h.went g;
     dead = λ y i. ⊎_elim (λ j. h.dead y j) (λ e. subst (D t0 root) (sym e) (back_to t0 t root gone h x r)) (among_more gone x y i);
@@ -166,26 +166,26 @@ module _ (m : Meaning) (can_fold : Head → Bool) (SameTests : Head → Head →
   not_both : (s : IRStatus) → s ≡ Changed → s ≡ Unchanged → ⊥
   not_both s e f = let q : Changed ≡ Unchanged = sym e ∙ f in absurd (cc)
 
-  pub tells_dead : (t0 t : Tree) (root : ℕ) (gone : List Item) (status : IRStatus) → OnWay t0 t root gone → LeavesNoDead m side_effects removable t0 t root → TellsGone gone status → TellsDead m side_effects removable t0 root status
+  pub tells_dead : (t0 t : Tree) (root : ℕ) (gone : List Item) (status : IRStatus) → OnWay t0 t root gone → LeavesNoDead m side_effects removable t0 t root → ReportsErased gone status → ReportsDead m side_effects removable t0 root status
   tells_dead t0 t root [] status h end told = (λ e. absurd (not_both status e told), λ some. absurd (end.none (subst (λ z. HasDead m side_effects removable z root) (sym h.went) some)))
   tells_dead t0 t root (x ∷ xs) status h end told = (λ e. some_dead t0 t root x xs h, λ some. told)
 
-  pub tells_same : (t0 t : Tree) (root : ℕ) (gone : List Item) (status : IRStatus) → OnWay t0 t root gone → LeavesNoDead m side_effects removable t0 t root → TellsGone gone status → (status ≡ Unchanged) ↔ (t ≡ t0)
+  pub tells_same : (t0 t : Tree) (root : ℕ) (gone : List Item) (status : IRStatus) → OnWay t0 t root gone → LeavesNoDead m side_effects removable t0 t root → ReportsErased gone status → (status ≡ Unchanged) ↔ (t ≡ t0)
   tells_same t0 t root [] status h end told = (λ e. h.went, λ same. told)
   tells_same t0 t root (x ∷ xs) status h end told = (λ e. absurd (not_both status told e), λ same. absurd (end.none (subst (λ z. HasDead m side_effects removable z root) (sym same) (some_dead t0 t root x xs h))))
 
   -- edges stay until an operation with regions goes
-  pub edges_more : (t0 t t' : Tree) (root : ℕ) (x : Item) → IsTree t → IsTree t' → IsWellLinked m t root → IsReady m side_effects removable t root x → Goes m shortened t t' x → KeepsEdges t0 t → (HasRegions t x → ⊥) → KeepsEdges t0 t'
+  pub edges_more : (t0 t t' : Tree) (root : ℕ) (x : Item) → IsTree t → IsTree t' → IsWellLinked m t root → IsReady m side_effects removable t root x → ErasesItem m shortened t t' x → KeepsEdges t0 t → (HasRegions t x → ⊥) → KeepsEdges t0 t'
   edges_more t0 t t' root x w w' linked r g kept n =
       let s = step t t' root x w w' linked r g in
       edges_transitive t0 t t' (λ op l0 l. s.thins.live_before op l) kept (s.edges n)
 
-  regions_before : (t0 t t' : Tree) (root : ℕ) (gone : List Item) (x : Item) → OnWay t0 t root gone → Goes m shortened t t' x → HasRegions t x ↔ HasRegions t0 x
+  regions_before : (t0 t t' : Tree) (root : ℕ) (gone : List Item) (x : Item) → OnWay t0 t root gone → ErasesItem m shortened t t' x → HasRegions t x ↔ HasRegions t0 x
   regions_before t0 t t' root gone (Op k) h g = let e = (h.before k g.0).1 in (λ y. subst (λ z. IsTrue (has_entries z)) e y, λ y. subst (λ z. IsTrue (has_entries z)) (sym e) y)
   regions_before t0 t t' root gone (Arg v) h g = (λ y. y, λ y. y)
   regions_before t0 t t' root gone (Use user place) h g = (λ y. y, λ y. y)
 
-  pub regions_more : (t0 t t' : Tree) (root : ℕ) (gone : List Item) (x : Item) (old had new : Bool) → OnWay t0 t root gone → Goes m shortened t t' x → IsTrue old ↔ SomeHasRegions t0 gone → IsTrue had ↔ HasRegions t x → IsTrue new ↔ (IsTrue old ⊎ IsTrue had) → IsTrue new ↔ SomeHasRegions t0 (gone ++ x ∷ [])
+  pub regions_more : (t0 t t' : Tree) (root : ℕ) (gone : List Item) (x : Item) (old had new : Bool) → OnWay t0 t root gone → ErasesItem m shortened t t' x → IsTrue old ↔ SomeHasRegions t0 gone → IsTrue had ↔ HasRegions t x → IsTrue new ↔ (IsTrue old ⊎ IsTrue had) → IsTrue new ↔ SomeHasRegions t0 (gone ++ x ∷ [])
   regions_more t0 t t' root gone x old had new h g before here either = (
     (λ n. ⊎_elim (λ o. let y = before.0 o in (y.0, front gone x y.0 y.1, y.2)) (λ o. (x, last gone x, (regions_before t0 t t' root gone x h g).0 (here.0 o))) (either.0 n)),
     (λ y. either.1 (⊎_elim (λ i. inl (before.1 (y.0, i, y.2))) (λ e. inr (here.1 ((regions_before t0 t t' root gone x h g).1 (subst (HasRegions t0) e y.2)))) (among_more gone x y.0 y.1))),
@@ -201,7 +201,7 @@ module _ (m : Meaning) (can_fold : Head → Bool) (SameTests : Head → Head →
       last (z ∷ zs) x = inr (last zs x)
 
   -- what went is ready no more
-  pub gone_unready : (t t' : Tree) (root : ℕ) (x : Item) → IsTree t → IsTree t' → IsWellLinked m t root → IsReady m side_effects removable t root x → Goes m shortened t t' x → IsReady m side_effects removable t' root x → ⊥
+  pub gone_unready : (t t' : Tree) (root : ℕ) (x : Item) → IsTree t → IsTree t' → IsWellLinked m t root → IsReady m side_effects removable t root x → ErasesItem m shortened t t' x → IsReady m side_effects removable t' root x → ⊥
   gone_unready t t' root (Op k) w w' linked r g r' =
       let live = (inside_live t w.joined r.may.inside).1 in
       let gone = (erased_gone t k w live (ready_contained m side_effects removable counts free t root w linked k r.may r.none)).operations k (is_within t k k w.joined live (inl refl)) in
@@ -214,6 +214,6 @@ module _ (m : Meaning) (can_fold : Head → Bool) (SameTests : Head → Head →
       removed_gone m can_fold SameTests shortened law tests counts side_effects removable t g.between root g.block g.index v g.edges w (subst IsTree g.removed w') linked g.argument (subst (HoldsBlock t root) same r.may.inside) (subst (λ z. (k : ℕ) → In z (successors_of t k) → HeadPasses m.is_branch t k) same r.may.branches) g.complete g.lose (ready_dead m side_effects removable t root (Arg v) r) r'.may.block r'.may.index (ap (λ z. slice_get (arguments_of z r'.may.block) r'.may.index) (sym g.removed) ∙ r'.may.argument)
   gone_unready t t' root (Use user place) w w' linked r g r' = absurd r
 
-pub tells_more : (xs : List Item) (x : Item) → TellsGone (xs ++ x ∷ []) Changed
+pub tells_more : (xs : List Item) (x : Item) → ReportsErased (xs ++ x ∷ []) Changed
 tells_more [] x = refl
 tells_more (y ∷ ys) x = refl

@@ -4,7 +4,7 @@ use Rattle.pliron_core.specs.Tree.{Tree, operands_of}
 use Rattle.pliron_core.proofs.HoldingLemmas.{in_slice, slice_in}
 use Rattle.pliron_laws.specs.Datum.{Head, Meaning}
 use Rattle.pliron_dce.specs.Dead.{Item, Op, Arg, Use, IsDead, DeadOperation, DeadArgument, UsedByDead, Forwarded}
-use Rattle.pliron_dce.specs.Steps.{IsReady}
+use Rattle.pliron_dce.specs.Readiness.{IsReady}
 
 module _ (m : Meaning) (side_effects : Head → Option Bool) (removable : Head → ℕ → Bool → Option Bool) (t : Tree) (root : ℕ) where
   pub ready_dead : (x : Item) → IsReady m side_effects removable t root x → IsDead m side_effects removable t root x

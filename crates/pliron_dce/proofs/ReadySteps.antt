@@ -4,10 +4,10 @@ use Rattle.std.proofs.lemmas.Bool.{cases_eq}
 use Rattle.std.proofs.lemmas.Option.{slice_get_within}
 use Rattle.pliron_core.specs.declared.context.Def.{Def}
 use Rattle.pliron_core.specs.declared.context.Def.TheVariants.{Result, Argument}
-use Rattle.pliron_core.specs.Changes.{IsMadeInside, IsMakerInside}
-use Rattle.pliron_core.specs.Tree.{Tree, In, IsLive, IsMadeBy, IsMadeWithin, IsInside, Directly, Deeper, IsWithin, HoldsBlock, head_of, operands_of, successors_of, results_of, region_parent_of, block_holder_of, definition_of, up_from, regions_of}
-use Rattle.pliron_core.specs.Joined.{IsTree}
-use Rattle.pliron_core.specs.Erased.{erased, is_met_above, IsSelfContained}
+use Rattle.pliron_core.specs.Changes.{IsDefinedInside, IsDefiningOperationInside}
+use Rattle.pliron_core.specs.Tree.{Tree, In, IsLive, IsMadeBy, IsDefinedWithin, IsInside, Directly, Deeper, IsWithin, HoldsBlock, head_of, operands_of, successors_of, results_of, region_parent_of, block_parent_operation_of, definition_of, up_from, regions_of}
+use Rattle.pliron_core.specs.Invariant.{IsTree}
+use Rattle.pliron_core.specs.Erased.{after_erasing, is_met_above, IsSelfContained}
 use Rattle.pliron_core.proofs.HoldingLemmas.{some_is, some_of, in_slice, slice_in, maker_is, inside_up, inside_or, inside_block, block_inside, within_inside, not_itself, deeper}
 use Rattle.pliron_core.proofs.ClearedLemmas.{met_above}
 use Rattle.pliron_core.proofs.WithinLemmas.{is_within, within_is}
@@ -23,7 +23,7 @@ use Rattle.pliron_laws.proofs.ShapeLemmas.{shape_head}
 use Rattle.pliron_theory.proofs.SweptKeeps.{admitted_shape, gives_now}
 use Rattle.pliron_theory.proofs.SweptParts.{gone_away}
 use Rattle.pliron_theory.proofs.ErasedKeeps.{op_erased, block_erased_with, erased_swept, erased_gone, erased_keeps}
-use Rattle.pliron_dce.specs.Dead.{Op, UsedByDead, MayGo, Holds, OfResult, OfInside}
+use Rattle.pliron_dce.specs.Dead.{Op, UsedByDead, MayBeErased, KeepsAlive, OfResult, OfInside}
 use Rattle.pliron_dce.proofs.ReadyLemmas.{ready_dead}
 use Rattle.pliron_dce.proofs.Thinned.{IsThinned}
 use Rattle.pliron_dce.proofs.RemovedThins.{inside_live, shape_successors}
@@ -52,7 +52,7 @@ compare_within a (inr i) = compare a i
 
 module _ (m : Meaning) (side_effects : Head → Option Bool) (removable : Head → ℕ → Bool → Option Bool) (counts : KeepsCounts m) (free : GivesAtOnce m side_effects) (t : Tree) (root : ℕ) (w : IsTree t) (linked : IsWellLinked m t root) where
   -- an operation that may go leads nowhere
-  leads_nowhere : (k b : ℕ) → MayGo m side_effects t root k → In b (successors_of t k) → ⊥
+  leads_nowhere : (k b : ℕ) → MayBeErased m side_effects t root k → In b (successors_of t k) → ⊥
   leads_nowhere k b may i =
       let l = some_of (head_of t k) (inside_live t w.joined may.inside).1 in
       let o = operation_of t k l.0 in
@@ -65,24 +65,24 @@ module _ (m : Meaning) (side_effects : Head → Option Bool) (removable : Head �
   beside : (k b p : ℕ) → In b (successors_of t k) → HoldsBlock t root b → HoldsBlock t p b → IsInside t p k
   beside k b p i g q =
       let ends = linked.edges k b i (inr g) in
-      let same : block_holder_of t ends.block ≡ block_holder_of t b = ap (λ o. up_from o (λ r. region_parent_of t r)) (sym (ends.own_region b i)) in
+      let same : block_parent_operation_of t ends.block ≡ block_parent_operation_of t b = ap (λ o. up_from o (λ r. region_parent_of t r)) (sym (ends.own_region b i)) in
       inside_block ends.block ends.in_block (q.0, same ∙ q.1, q.2)
 
   held_deeper : (k b : ℕ) → IsInside t root k → HoldsBlock t k b → HoldsBlock t root b
   held_deeper k b i q = (q.0, q.1, inr (within_inside i q.2))
 
-  module _ (k : ℕ) (may : MayGo m side_effects t root k) (none : (user place : ℕ) → Holds t k user place → ⊥) where
+  module _ (k : ℕ) (may : MayBeErased m side_effects t root k) (none : (user place : ℕ) → KeepsAlive t k user place → ⊥) where
     live : IsLive t k
     live = (inside_live t w.joined may.inside).1
 
-    -- what is made in the operation is used in it
+    -- what is defined in the operation is used in it
     pub ready_contained : IsSelfContained t k
     ready_contained = record {
       values = λ x v i j. made x v i (definition_of t v) refl j;
       blocks = λ x b i q. inr (beside x b k i (held_deeper k b may.inside q) q);
     }
       where
-        inner : (x v : ℕ) → In v (operands_of t x) → IsMadeInside t k v → IsWithin t k x
+        inner : (x v : ℕ) → In v (operands_of t x) → IsDefinedInside t k v → IsWithin t k x
         inner x v i j = elim (inside_or t k x w.joined.rooted) [
           | inl y ↦ inr y
           | inr n ↦ elim (cases_eq x k) [
@@ -91,7 +91,7 @@ module _ (m : Meaning) (side_effects : Head → Option Bool) (removable : Head �
           ]
         ]
 
-        made : (x v : ℕ) → In v (operands_of t x) → (d : Option Def) → definition_of t v ≡ d → IsMadeWithin t k d → IsWithin t k x
+        made : (x v : ℕ) → In v (operands_of t x) → (d : Option Def) → definition_of t v ≡ d → IsDefinedWithin t k d → IsWithin t k x
         made x v i None e j = absurd j
         made x v i (Some (Result q n)) e (inl s) =
             let y = maker_is t v (w.joined.operands x v i) in
@@ -99,11 +99,11 @@ module _ (m : Meaning) (side_effects : Head → Option Bool) (removable : Head �
             let z : slice_get (results_of t q) n ≡ Some v = subst (λ c. IsMadeBy t v (Some c)) f y.2 in
             let p = slice_in (operands_of t x) v i in
             absurd (none x p.0 (OfResult v p.1 (subst (λ c. In v (results_of t c)) s (in_slice (results_of t q) n v z))))
-        made x v i (Some (Result q n)) e (inr y) = inner x v i (subst (IsMakerInside t k) (sym e) y)
-        made x v i (Some (Argument b n)) e j = inner x v i (subst (IsMakerInside t k) (sym e) j)
+        made x v i (Some (Result q n)) e (inr y) = inner x v i (subst (IsDefiningOperationInside t k) (sym e) y)
+        made x v i (Some (Argument b n)) e j = inner x v i (subst (IsDefiningOperationInside t k) (sym e) j)
 
     abbrev t' : Tree
-    t' = erased t k
+    t' = after_erasing t k
 
     module _ (w' : IsTree t') where
       not_met : (b : Bool) → (b ≡ true → ⊥) → b ≡ false
@@ -118,9 +118,9 @@ module _ (m : Meaning) (side_effects : Head → Option Bool) (removable : Head �
           other (inl e) = leads_nowhere k b may (subst (λ z. In b (successors_of t z)) e i)
           other (inr y) =
               let ends = linked.edges x b i (inr g) in
-              let same : block_holder_of t ends.block ≡ block_holder_of t b = ap (λ o. up_from o (λ r. region_parent_of t r)) (sym (ends.own_region b i)) in
+              let same : block_parent_operation_of t ends.block ≡ block_parent_operation_of t b = ap (λ o. up_from o (λ r. region_parent_of t r)) (sym (ends.own_region b i)) in
               let q : HoldsBlock t k ends.block = block_inside ends.block ends.in_block y in
-              let e : block_holder_of t b ≡ Some q.0 = sym same ∙ q.1 in
+              let e : block_parent_operation_of t b ≡ Some q.0 = sym same ∙ q.1 in
               true≢false (sym (is_within t k q.0 w.joined live q.2) ∙ ap (is_met_above t (nat_eq k)) (sym e) ∙ l)
 
       pub erased_thins : IsThinned m side_effects removable t t' root
@@ -130,15 +130,15 @@ module _ (m : Meaning) (side_effects : Head → Option Bool) (removable : Head �
           jumpers
           apart
         where
-          made_in : (d : Option Def) → is_maker_dead (λ x. op_erased t k x) (λ b. block_erased_with t k b) d ≡ true → (p : ℕ) → IsMakerInside t p d → (x : ℕ) × IsWithin t k x × IsWithin t p x × (IsWithin t k p ⊎ IsInside t p k)
+          made_in : (d : Option Def) → is_maker_dead (λ x. op_erased t k x) (λ b. block_erased_with t k b) d ≡ true → (p : ℕ) → IsDefiningOperationInside t p d → (x : ℕ) × IsWithin t k x × IsWithin t p x × (IsWithin t k p ⊎ IsInside t p k)
           made_in None e p i = absurd i
           made_in (Some (Result q n)) e p i = let z = within_is t k q e in (q, z, inr i, compare z i)
           made_in (Some (Argument b n)) e p i =
-              let z = met_above t k (block_holder_of t b) e in
+              let z = met_above t k (block_parent_operation_of t b) e in
               let same : z.0 ≡ i.0 = some_is (sym z.1 ∙ i.1) in
               (z.0, z.2, subst (λ y. IsWithin t p y) (sym same) i.2, compare_within (subst (λ y. IsWithin t k y) same z.2) i.2)
 
-          apart : (p v user : ℕ) → op_erased t k p ≡ false → IsMadeInside t p v → is_maker_dead (λ x. op_erased t k x) (λ b. block_erased_with t k b) (definition_of t v) ≡ true → op_erased t k user ≡ true → IsWithin t p user
+          apart : (p v user : ℕ) → op_erased t k p ≡ false → IsDefinedInside t p v → is_maker_dead (λ x. op_erased t k x) (λ b. block_erased_with t k b) (definition_of t v) ≡ true → op_erased t k user ≡ true → IsWithin t p user
           apart p v user l i e d = ⊎_elim (λ y. absurd (true≢false (sym (is_within t k p w.joined live y) ∙ l))) (λ y. inr (within_inside y (within_is t k user d))) (made_in (definition_of t v) e p i).3
 
       -- for each root that stands

@@ -6,17 +6,17 @@ use Rattle.pliron_core.specs.declared.uses.Use.{Use as Edge}
 use Rattle.pliron_core.specs.declared.context.Def.{Def}
 use Rattle.pliron_core.specs.declared.context.Def.TheVariants.{Result, Argument}
 use Rattle.pliron_core.specs.Uses.{AreAgreed}
-use Rattle.pliron_core.specs.Tree.{Tree, In, IsLive, IsDefined, IsMadeBy, IsMadeWithin, IsInside, IsWithin, head_of, operands_of, results_of, block_holder_of, definition_of, uses_of}
-use Rattle.pliron_core.specs.Changes.{IsMadeInside, IsMakerInside}
-use Rattle.pliron_core.specs.Joined.{IsTree}
+use Rattle.pliron_core.specs.Tree.{Tree, In, IsLive, IsDefined, IsMadeBy, IsDefinedWithin, IsInside, IsWithin, head_of, operands_of, results_of, block_parent_operation_of, definition_of, uses_of}
+use Rattle.pliron_core.specs.Changes.{IsDefinedInside, IsDefiningOperationInside}
+use Rattle.pliron_core.specs.Invariant.{IsTree}
 use Rattle.pliron_core.specs.Erased.{IsSelfContained}
 use Rattle.pliron_core.proofs.HoldingLemmas.{some_is, some_of, in_slice, slice_in}
 use Rattle.pliron_core.proofs.TreeLemmas.{cases_lt}
 use Rattle.pliron_laws.specs.Datum.{Head, Meaning}
 use Rattle.pliron_laws.specs.Answers.{ReadsHead, ReadsPlace, HeadPasses}
-use Rattle.pliron_dce.specs.Dead.{IsHarmless, MayLose, Holds, OfResult, OfInside}
+use Rattle.pliron_dce.specs.Dead.{IsHarmless, MayLose, KeepsAlive, OfResult, OfInside}
 use Rattle.pliron_dce.specs.Incoming.{BranchesLead}
-use Rattle.pliron_dce.specs.Steps.{IsReadyOperation, IsReadyArgument, HaveNoUse, IsHeld, IsUsedOutside}
+use Rattle.pliron_dce.specs.Readiness.{IsReadyOperation, IsReadyArgument, HaveNoUse, IsKeptAlive, IsUsedOutside}
 use Rattle.pliron_core.proofs.WithinLemmas.{block_holder_live}
 use Rattle.pliron_theory.proofs.SweptParts.{block_place_of}
 
@@ -53,27 +53,27 @@ ready_told m side_effects t root k w i h n c = record {
   none = none;
 }
   where
-    within : (o : Option Def) → (v user : ℕ) → definition_of t v ≡ o → In v (operands_of t user) → IsMadeInside t k v → IsWithin t k user
-    within None v user e j q = absurd (subst (IsMakerInside t k) e q)
-    within (Some (Result p n)) v user e j q = c.values user v j (subst (IsMadeWithin t k) (sym e) (inr (subst (IsMakerInside t k) e q)))
-    within (Some (Argument b n)) v user e j q = c.values user v j (subst (IsMadeWithin t k) (sym e) (subst (IsMakerInside t k) e q))
+    within : (o : Option Def) → (v user : ℕ) → definition_of t v ≡ o → In v (operands_of t user) → IsDefinedInside t k v → IsWithin t k user
+    within None v user e j q = absurd (subst (IsDefiningOperationInside t k) e q)
+    within (Some (Result p n)) v user e j q = c.values user v j (subst (IsDefinedWithin t k) (sym e) (inr (subst (IsDefiningOperationInside t k) e q)))
+    within (Some (Argument b n)) v user e j q = c.values user v j (subst (IsDefinedWithin t k) (sym e) (subst (IsDefiningOperationInside t k) e q))
 
-    none : (user place : ℕ) → Holds t k user place → ⊥
+    none : (user place : ℕ) → KeepsAlive t k user place → ⊥
     none user place (OfResult v e j) = n v user j (in_slice (operands_of t user) place v e)
     none user place (OfInside v e j out) = out (within (definition_of t v) v user refl (in_slice (operands_of t user) place v e) j)
 
--- a use of a result holds the operation, and so does one outside it of what is made inside
-pub held_by_result : (t : Tree) (k v user : ℕ) → In v (results_of t k) → In v (operands_of t user) → IsHeld t k
+-- a use of a result holds the operation, and so does one outside it of what is defined inside
+pub held_by_result : (t : Tree) (k v user : ℕ) → In v (results_of t k) → In v (operands_of t user) → IsKeptAlive t k
 held_by_result t k v user i j = let p = slice_in (operands_of t user) v j in (user, p.0, OfResult v p.1 i)
 
-pub held_from_inside : (t : Tree) (k v : ℕ) → IsMadeInside t k v → IsUsedOutside t k v → IsHeld t k
+pub held_from_inside : (t : Tree) (k v : ℕ) → IsDefinedInside t k v → IsUsedOutside t k v → IsKeptAlive t k
 held_from_inside t k v i u = let p = slice_in (operands_of t u.0) v u.1 in (u.0, p.0, OfInside v p.1 i u.2)
 
 -- and one that is ready passes them
 pub ready_unused : (m : Meaning) (side_effects : Head → Option Bool) (t : Tree) (root k : ℕ) → IsReadyOperation m side_effects t root k → HaveNoUse t k
 ready_unused m side_effects t root k r v user i j = let p = slice_in (operands_of t user) v j in r.none user p.0 (OfResult v p.1 i)
 
-pub ready_unheld : (m : Meaning) (side_effects : Head → Option Bool) (t : Tree) (root k : ℕ) → IsReadyOperation m side_effects t root k → IsHeld t k → ⊥
+pub ready_unheld : (m : Meaning) (side_effects : Head → Option Bool) (t : Tree) (root k : ℕ) → IsReadyOperation m side_effects t root k → IsKeptAlive t k → ⊥
 ready_unheld m side_effects t root k r h = r.none h.0 h.1 h.2
 
 pub ready_harmless : (m : Meaning) (side_effects : Head → Option Bool) (t : Tree) (root k : ℕ) → IsReadyOperation m side_effects t root k → IsHarmless m side_effects t k
@@ -94,12 +94,12 @@ module _ (m : Meaning) (removable : Head → ℕ → Bool → Option Bool) (t : 
   pub not_result : (k i : ℕ) → definition_of t v ≡ Some (Result k i) → IsReadyArgument m removable t root v → ⊥
   not_result k i e r = let f : Some (Result k i) ≡ Some (Argument r.may.block r.may.index) = sym e ∙ w.joined.arguments r.may.block r.may.index v r.may.argument in absurd (cc)
 
-  module _ (block index : ℕ) (e : definition_of t v ≡ Some (Argument block index)) (holder : ℕ) (h : block_holder_of t block ≡ Some holder) where
+  module _ (block index : ℕ) (e : definition_of t v ≡ Some (Argument block index)) (holder : ℕ) (h : block_parent_operation_of t block ≡ Some holder) where
     same : (r : IsReadyArgument m removable t root v) → r.may.block ≡ block
     same r = let f : Some (Argument r.may.block r.may.index) ≡ Some (Argument block index) = sym (w.joined.arguments r.may.block r.may.index v r.may.argument) ∙ e in cc
 
     pub holder_within : IsReadyArgument m removable t root v → IsWithin t root holder
-    holder_within r = let i = r.may.inside in subst (IsWithin t root) (some_is (sym i.1 ∙ ap (block_holder_of t) (same r) ∙ h)) i.2
+    holder_within r = let i = r.may.inside in subst (IsWithin t root) (some_is (sym i.1 ∙ ap (block_parent_operation_of t) (same r) ∙ h)) i.2
 
     pub ready_loses : IsReadyArgument m removable t root v → MayLose removable t block
     ready_loses r = subst (λ z. MayLose removable t z) (same r) r.may.allowed
@@ -121,14 +121,14 @@ module _ (m : Meaning) (removable : Head → ℕ → Bool → Option Bool) (t : 
     }
 
 -- what is read of a place is one answer
-pub place_answer : (removable : Head → ℕ → Bool → Option Bool) (t : Tree) (k b : ℕ) (x y : Option Bool) → IsTree t → block_holder_of t b ≡ Some k → ReadsPlace removable t k b x → ReadsPlace removable t k b y → x ≡ y
+pub place_answer : (removable : Head → ℕ → Bool → Option Bool) (t : Tree) (k b : ℕ) (x y : Option Bool) → IsTree t → block_parent_operation_of t b ≡ Some k → ReadsPlace removable t k b x → ReadsPlace removable t k b y → x ≡ y
 place_answer removable t k b x y w e p q =
     let s = block_place_of t w b k e in
     let h = some_of (head_of t k) (block_holder_live t b k w.joined e) in
     p h.0 s.region s.index h.1 s.in_region s.slot ∙ sym (q h.0 s.region s.index h.1 s.in_region s.slot)
 
--- where the holder of a block answers yes, it does so for each that holds it
-pub allowed_told : (removable : Head → ℕ → Bool → Option Bool) (t : Tree) (k b : ℕ) (x : Option Bool) → block_holder_of t b ≡ Some k → ReadsPlace removable t k b x → x ≡ Some true → (p : ℕ) → block_holder_of t b ≡ Some p → ReadsPlace removable t p b (Some true)
+-- where the parent operation of a block answers yes, it does so for each that holds it
+pub allowed_told : (removable : Head → ℕ → Bool → Option Bool) (t : Tree) (k b : ℕ) (x : Option Bool) → block_parent_operation_of t b ≡ Some k → ReadsPlace removable t k b x → x ≡ Some true → (p : ℕ) → block_parent_operation_of t b ≡ Some p → ReadsPlace removable t p b (Some true)
 allowed_told removable t k b x e r said p f = subst (λ z. ReadsPlace removable t z b (Some true)) (some_is (sym e ∙ f)) (λ h q i hd bp sl. sym said ∙ r h q i hd bp sl)
 
 pub head_told : (f : Head → Bool) (t : Tree) (op : ℕ) (b : Bool) → IsLive t op → ReadsHead f t op b → HeadPasses f t op → b ≡ true

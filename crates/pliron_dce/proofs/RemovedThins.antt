@@ -7,9 +7,9 @@ use Rattle.std.specs.List.{range_with_len}
 use Rattle.pliron_core.specs.declared.context.Def.{Def}
 use Rattle.pliron_core.specs.declared.context.Def.TheVariants.{Result, Argument}
 use Rattle.pliron_core.specs.declared.uses.Use.{Use as Edge}
-use Rattle.pliron_core.specs.Changes.{IsMadeInside, IsMakerInside, IsInsideChange, IsValueOutside}
-use Rattle.pliron_core.specs.Tree.{Tree, In, IsLive, IsDefined, IsMadeBy, IsInside, IsWithin, Directly, Deeper, HoldsBlock, row_of, head_of, operands_of, successors_of, results_of, regions_of, parent_of, arguments_of, block_parent_of, region_parent_of, holder_of, block_holder_of, definition_of, op_of_slot, up_from, first_of, last_of, body_of}
-use Rattle.pliron_core.specs.Joined.{IsTree, IsJoined}
+use Rattle.pliron_core.specs.Changes.{IsDefinedInside, IsDefiningOperationInside, IsInsideChange, IsValueOutside}
+use Rattle.pliron_core.specs.Tree.{Tree, In, IsLive, IsDefined, IsMadeBy, IsInside, IsWithin, Directly, Deeper, HoldsBlock, row_of, head_of, operands_of, successors_of, results_of, regions_of, parent_of, arguments_of, block_parent_of, region_parent_of, parent_operation_of, block_parent_operation_of, definition_of, op_of_slot, up_from, first_of, last_of, body_of}
+use Rattle.pliron_core.specs.Invariant.{IsTree, IsJoined}
 use Rattle.pliron_core.specs.Writes.{argument_removed}
 use Rattle.pliron_core.proofs.ListLemmas.{decide_in}
 use Rattle.pliron_core.proofs.TreeLemmas.{cases_lt}
@@ -32,7 +32,7 @@ use Rattle.pliron_laws.proofs.ShapeLemmas.{shape_head}
 use Rattle.pliron_theory.proofs.SweptKeeps.{admitted_shape}
 use Rattle.pliron_theory.proofs.SweptStays.{admitted_same}
 use Rattle.pliron_theory.proofs.ShortenedBranches.{SameFrame, childless, user_live, op_kept}
-use Rattle.pliron_dce.specs.Dead.{Arg, IsDead, Forwarded, MayGo, MayBeRemoved, Holds, OfResult, OfInside, IsForwardedTo}
+use Rattle.pliron_dce.specs.Dead.{Arg, IsDead, Forwarded, MayBeErased, MayBeRemoved, KeepsAlive, OfResult, OfInside, ForwardsToArgument}
 use Rattle.pliron_dce.proofs.Thinned.{IsThinned, Fate, Went, Stands}
 use Rattle.pliron_dce.proofs.PlaceLists.{get_moved, in_others, picked_at, picked_from, distinct_same, range_get}
 use Rattle.pliron_dce.proofs.Places.{IsBranchAt, PlacesStill, Placed, placed_end, all_lost, none_lost}
@@ -129,15 +129,15 @@ module _ (m : Meaning) (can_fold : Head → Bool) (SameTests : Head → Head →
   same_block_parent : (b : ℕ) → block_parent_of t' b ≡ block_parent_of t b
   same_block_parent b = ap (λ z. slice_index_or z b None) f.block_parents
 
-  same_block_holder : (b : ℕ) → block_holder_of t' b ≡ block_holder_of t b
+  same_block_holder : (b : ℕ) → block_parent_operation_of t' b ≡ block_parent_operation_of t b
   same_block_holder b =
       ap (λ z. up_from (slice_index_or z b None) (λ r. op_of_slot (slice_get u.slots r))) f.block_parents
       ∙ ap (λ z. up_from (block_parent_of t b) (λ r. op_of_slot (slice_get z r))) f.slots
 
-  same_holder : (x : ℕ) → holder_of t' x ≡ holder_of t x
-  same_holder x = ap (λ z. up_from (slice_index_or z x None) (λ b. block_holder_of t' b)) f.parents ∙ go (parent_of t x)
+  same_holder : (x : ℕ) → parent_operation_of t' x ≡ parent_operation_of t x
+  same_holder x = ap (λ z. up_from (slice_index_or z x None) (λ b. block_parent_operation_of t' b)) f.parents ∙ go (parent_of t x)
     where
-      go : (o : Option ℕ) → up_from o (λ b. block_holder_of t' b) ≡ up_from o (λ b. block_holder_of t b)
+      go : (o : Option ℕ) → up_from o (λ b. block_parent_operation_of t' b) ≡ up_from o (λ b. block_parent_operation_of t b)
       go None = refl
       go (Some b) = same_block_holder b
 
@@ -163,7 +163,7 @@ module _ (m : Meaning) (can_fold : Head → Bool) (SameTests : Head → Head →
   leads_inside : (k b : ℕ) → In b (successors_of t k) → HoldsBlock t root b → IsInside t root k
   leads_inside k b i h =
       let ends = linked.edges k b i (inr h) in
-      let same : block_holder_of t ends.block ≡ block_holder_of t b = ap (λ o. up_from o (λ r. region_parent_of t r)) (sym (ends.own_region b i)) in
+      let same : block_parent_operation_of t ends.block ≡ block_parent_operation_of t b = ap (λ o. up_from o (λ r. region_parent_of t r)) (sym (ends.own_region b i)) in
       inside_block ends.block ends.in_block (h.0, same ∙ h.1, h.2)
 
   -- a branch in the tree before
@@ -199,7 +199,7 @@ module _ (m : Meaning) (can_fold : Head → Bool) (SameTests : Head → Head →
   not_both : (b : Bool) → IsTrue b → b ≡ false → ⊥
   not_both b y n = true≢false (sym y ∙ n)
 
-  may_back : (k : ℕ) → MayGo m side_effects t' root k → MayGo m side_effects t root k
+  may_back : (k : ℕ) → MayBeErased m side_effects t' root k → MayBeErased m side_effects t root k
   may_back k g = elim (decide_in block (successors_of t k)) [
     | inl i ↦
         let h = some_of (head_of t' k) (inside_live t' w'.joined g.inside).1 in
@@ -207,7 +207,7 @@ module _ (m : Meaning) (can_fold : Head → Bool) (SameTests : Head → Head →
     | inr n ↦ let row = ap (λ z. z.head) (alone k n).0 in record { inside = inside_back root k g.inside; harmless = λ h e. g.harmless h (row ∙ e); plain = λ h e. g.plain h (row ∙ e) }
   ]
 
-  may_forth : (k : ℕ) → MayGo m side_effects t root k → MayGo m side_effects t' root k
+  may_forth : (k : ℕ) → MayBeErased m side_effects t root k → MayBeErased m side_effects t' root k
   may_forth k g = elim (decide_in block (successors_of t k)) [
     | inl i ↦
         let h = some_of (head_of t k) (inside_live t w.joined g.inside).1 in
@@ -254,13 +254,13 @@ module _ (m : Meaning) (can_fold : Head → Bool) (SameTests : Head → Head →
       go (Result k i) e s = let s0 = ap (λ z. slice_get z i) (sym (same_results k)) ∙ s in MadeResult k i e (w.joined.results k i x s0) s0
       go (Argument b i) e s = let y = argument_was b i x s in MadeArgument b i y.0 e (w.joined.arguments b y.0 x y.1) s y.1
 
-  made_inside_back : (k x : ℕ) → Made x → IsMadeInside t' k x → IsMadeInside t k x
-  made_inside_back k x (MadeResult q i e' e s) g = subst (IsMakerInside t k) (sym e) (inside_back k q (subst (IsMakerInside t' k) e' g))
-  made_inside_back k x (MadeArgument b i j e' e s' s) g = subst (IsMakerInside t k) (sym e) (holds_block_back k b (subst (IsMakerInside t' k) e' g))
+  made_inside_back : (k x : ℕ) → Made x → IsDefinedInside t' k x → IsDefinedInside t k x
+  made_inside_back k x (MadeResult q i e' e s) g = subst (IsDefiningOperationInside t k) (sym e) (inside_back k q (subst (IsDefiningOperationInside t' k) e' g))
+  made_inside_back k x (MadeArgument b i j e' e s' s) g = subst (IsDefiningOperationInside t k) (sym e) (holds_block_back k b (subst (IsDefiningOperationInside t' k) e' g))
 
-  made_inside_forth : (k x : ℕ) → Made x → IsMadeInside t k x → IsMadeInside t' k x
-  made_inside_forth k x (MadeResult q i e' e s) g = subst (IsMakerInside t' k) (sym e') (inside_forth k q (subst (IsMakerInside t k) e g))
-  made_inside_forth k x (MadeArgument b i j e' e s' s) g = subst (IsMakerInside t' k) (sym e') (holds_block_forth k b (subst (IsMakerInside t k) e g))
+  made_inside_forth : (k x : ℕ) → Made x → IsDefinedInside t k x → IsDefinedInside t' k x
+  made_inside_forth k x (MadeResult q i e' e s) g = subst (IsDefiningOperationInside t' k) (sym e') (inside_forth k q (subst (IsDefiningOperationInside t k) e g))
+  made_inside_forth k x (MadeArgument b i j e' e s' s) g = subst (IsDefiningOperationInside t' k) (sym e') (holds_block_forth k b (subst (IsDefiningOperationInside t k) e g))
 
   -- an operand after stood at its place before
   operand_was : (user place' x : ℕ) → slice_get (operands_of t' user) place' ≡ Some x → (place : ℕ) × (slice_get (kept user) place' ≡ Some place) × (slice_get (operands_of t user) place ≡ Some x)
@@ -275,11 +275,11 @@ module _ (m : Meaning) (can_fold : Head → Bool) (SameTests : Head → Head →
   defined_operand : (user place' x : ℕ) → slice_get (operands_of t' user) place' ≡ Some x → Made x
   defined_operand user place' x e = made x (w'.joined.operands user x (in_slice (operands_of t' user) place' x e))
 
-  holds_back : (k user place place' : ℕ) → slice_get (kept user) place' ≡ Some place → Holds t' k user place' → Holds t k user place
+  holds_back : (k user place place' : ℕ) → slice_get (kept user) place' ≡ Some place → KeepsAlive t' k user place' → KeepsAlive t k user place
   holds_back k user place place' e (OfResult x o i) = OfResult x (operand_was_at user place place' x e o) (subst (In x) (same_results k) i)
   holds_back k user place place' e (OfInside x o i n) = OfInside x (operand_was_at user place place' x e o) (made_inside_back k x (defined_operand user place' x o) i) (λ j. n (within_forth k user j))
 
-  holds_forth : (k user place place' : ℕ) → slice_get (kept user) place' ≡ Some place → Holds t k user place → Holds t' k user place'
+  holds_forth : (k user place place' : ℕ) → slice_get (kept user) place' ≡ Some place → KeepsAlive t k user place → KeepsAlive t' k user place'
   holds_forth k user place place' e (OfResult x o i) = OfResult x (operand_is user place place' x e o) (subst (In x) (sym (same_results k)) i)
   holds_forth k user place place' e (OfInside x o i n) = let o' = operand_is user place place' x e o in OfInside x o' (made_inside_forth k x (defined_operand user place' x o') i) (λ j. n (within_back k user j))
 
@@ -318,25 +318,25 @@ module _ (m : Meaning) (can_fold : Head → Bool) (SameTests : Head → Head →
   ]
 
   -- what holds a block inside the root leads nowhere near: its head stays
-  holder_head : (k b : ℕ) → block_holder_of t b ≡ Some k → HoldsBlock t root b → head_of u k ≡ head_of t k
+  holder_head : (k b : ℕ) → block_parent_operation_of t b ≡ Some k → HoldsBlock t root b → head_of u k ≡ head_of t k
   holder_head k b e g = elim (decide_in block (successors_of t k)) [
     | inl i ↦ absurd (subst (In (region e).0) (no_regions k (user_branch k i)) (region e).1)
     | inr n ↦ ap (λ z. z.head) (alone k n).0
   ]
     where
-      region : block_holder_of t b ≡ Some k → (r : ℕ) × In r (regions_of t k)
+      region : block_parent_operation_of t b ≡ Some k → (r : ℕ) × In r (regions_of t k)
       region e =
           let y = block_steps t b k e in
           let z = slot_is t y.0 (w.joined.placed b y.0 y.1) in
           let s : z.0.op ≡ k = some_is (sym (ap op_of_slot z.1) ∙ y.2) in
           (y.0, subst (λ q. In y.0 (regions_of t q)) s (in_slice (regions_of t z.0.op) z.0.index y.0 z.2))
 
-  allowed_back : (k b : ℕ) → HoldsBlock t root b → block_holder_of t b ≡ Some k → ReadsPlace removable t' k b (Some true) → ReadsPlace removable t k b (Some true)
+  allowed_back : (k b : ℕ) → HoldsBlock t root b → block_parent_operation_of t b ≡ Some k → ReadsPlace removable t' k b (Some true) → ReadsPlace removable t k b (Some true)
   allowed_back k b g e a h r i hd bp sl =
       a h r i (holder_head k b e g ∙ hd) (same_block_parent b ∙ bp) (ap (λ z. slice_get z r) f.slots ∙ sl)
       ∙ ap (λ z. removable h i (is_first b (first_of (slice_index_or z r []) None))) f.layouts
 
-  allowed_forth : (k b : ℕ) → HoldsBlock t root b → block_holder_of t b ≡ Some k → ReadsPlace removable t k b (Some true) → ReadsPlace removable t' k b (Some true)
+  allowed_forth : (k b : ℕ) → HoldsBlock t root b → block_parent_operation_of t b ≡ Some k → ReadsPlace removable t k b (Some true) → ReadsPlace removable t' k b (Some true)
   allowed_forth k b g e a h r i hd bp sl =
       a h r i (sym (holder_head k b e g) ∙ hd) (sym (same_block_parent b) ∙ bp) (ap (λ z. slice_get z r) (sym f.slots) ∙ sl)
       ∙ ap (λ z. removable h i (is_first b (first_of (slice_index_or z r []) None))) (sym f.layouts)
@@ -458,7 +458,7 @@ module _ (m : Meaning) (can_fold : Head → Bool) (SameTests : Head → Head →
       let h = some_of (head_of t k) (inside_live t w.joined ins).1 in
       branch_at k (inr ins) h.0 h.1 (p h.0 h.1)
 
-  forwarded_back : (user place place' x : ℕ) → MayBeRemoved m removable t' root x → slice_get (kept user) place' ≡ Some place → IsForwardedTo m t' user place' x → IsForwardedTo m t user place x
+  forwarded_back : (user place place' x : ℕ) → MayBeRemoved m removable t' root x → slice_get (kept user) place' ≡ Some place → ForwardsToArgument m t' user place' x → ForwardsToArgument m t user place x
   forwarded_back user place place' x g kp h =
       let sb = one_block t' w' h.block g.block h.index g.index x h.argument g.argument in
       let inner : HoldsBlock t root h.block = subst (HoldsBlock t root) (sym sb) (holds_block_back root g.block g.inside) in
@@ -468,7 +468,7 @@ module _ (m : Meaning) (can_fold : Head → Bool) (SameTests : Head → Head →
       let y = place_back user b h.operation h.stands h.edge h.block h.index x place place' s h.forwards h.argument kp in
       record { operation = b.operation; stands = b.stands; branch = b.branch; edge = h.edge; index = y.0; block = h.block; target = s; forwards = y.1; argument = y.2 }
 
-  forwarded_forth : (user place place' x : ℕ) → MayBeRemoved m removable t root x → IsLive t' user → slice_get (kept user) place' ≡ Some place → IsForwardedTo m t user place x → IsDefined t' x × IsForwardedTo m t' user place' x
+  forwarded_forth : (user place place' x : ℕ) → MayBeRemoved m removable t root x → IsLive t' user → slice_get (kept user) place' ≡ Some place → ForwardsToArgument m t user place x → IsDefined t' x × ForwardsToArgument m t' user place' x
   forwarded_forth user place place' x g live kp h =
       let sb = one_block t w h.block g.block h.index g.index x h.argument g.argument in
       let inner : HoldsBlock t root h.block = subst (HoldsBlock t root) (sym sb) g.inside in
@@ -519,7 +519,7 @@ module _ (m : Meaning) (can_fold : Head → Bool) (SameTests : Head → Head →
       around a k l (inl e) = subst (IsLive t') e l
       around a k l (inr i) = (inside_live t' w'.joined i).0
 
-      still_made : (k x user : ℕ) → In x (operands_of t user) → IsMadeInside t k x → IsDefined t' x × IsMadeInside t' k x
+      still_made : (k x user : ℕ) → In x (operands_of t user) → IsDefinedInside t k x → IsDefined t' x × IsDefinedInside t' k x
       still_made k x user i j = (d, made_inside_forth k x (made x d) j)
         where
           d : IsDefined t' x
@@ -611,7 +611,7 @@ module _ (m : Meaning) (can_fold : Head → Bool) (SameTests : Head → Head →
       value : (x : ℕ) → IsValueOutside t root x → (q : Def) → definition_of t x ≡ Some q → IsMadeBy t x (Some q) → definition_of t' x ≡ definition_of t x
       value x o (Result k i) e s = w'.joined.results k i x (ap (λ z. slice_get z i) (same_results k) ∙ s) ∙ sym e
       value x o (Argument b i) e s = elim (cases_eq b block) [
-        | inl q ↦ absurd (o.1 (subst (IsMakerInside t root) (sym e) (subst (HoldsBlock t root) (sym q) held)))
+        | inl q ↦ absurd (o.1 (subst (IsDefiningOperationInside t root) (sym e) (subst (HoldsBlock t root) (sym q) held)))
         | inr ne ↦ w'.joined.arguments b i x (ap (λ z. slice_get z i) (arguments_other b ne) ∙ s) ∙ sym e
       ]
 

@@ -5,9 +5,9 @@ use Rattle.std.proofs.lemmas.List.{get_or-set_other, get_or-set_same, get_or_pas
 use Rattle.std.proofs.lemmas.List.Edits.{length-remove}
 use Rattle.std.proofs.lemmas.Option.{slice_get_within}
 use Rattle.pliron_core.specs.Tree.{Tree, IsLive, arguments_of, parent_of}
-use Rattle.pliron_core.specs.Joined.{IsTree}
+use Rattle.pliron_core.specs.Invariant.{IsTree}
 use Rattle.pliron_core.specs.Writes.{taken_from, argument_removed}
-use Rattle.pliron_core.specs.Erased.{erased, cleared, IsSelfContained}
+use Rattle.pliron_core.specs.Erased.{after_erasing, after_clearing, IsSelfContained}
 use Rattle.pliron_core.proofs.BlankLemmas.{length-blanked}
 use Rattle.pliron_core.proofs.TreeLemmas.{cases_lt}
 use Rattle.pliron_core.proofs.HoldingLemmas.{some_of}
@@ -17,23 +17,23 @@ use Rattle.pliron_theory.proofs.ErasedKeeps.{block_erased_with, erased_swept, er
 use Rattle.pliron_dce.specs.Measures.{things}
 use Rattle.pliron_dce.proofs.MeasureLemmas.{fewer_things}
 
-arguments_as_many : (t : Tree) (op : ℕ) (o : Option ℕ) → length (cleared (taken_from t op o) (nat_eq op)).arguments ≡ length t.arguments
+arguments_as_many : (t : Tree) (op : ℕ) (o : Option ℕ) → length (after_clearing (taken_from t op o) (nat_eq op)).arguments ≡ length t.arguments
 arguments_as_many t op None = length-blanked _ [] t.arguments
 arguments_as_many t op (Some b) = length-blanked _ [] t.arguments
 
-pub erased_less : (t : Tree) (op : ℕ) → IsTree t → IsTree (erased t op) → (live : IsLive t op) → IsSelfContained t op → ((k : ℕ) → IsLive (erased t op) k → IsLive t k) → things (erased t op) < things t
-erased_less t op w w' live contained before = fewer_things t (erased t op) (as_many t op w live contained (parent_of t op) refl) (arguments_as_many t op (parent_of t op)) before most (inl (op, live, gone))
+pub erased_less : (t : Tree) (op : ℕ) → IsTree t → IsTree (after_erasing t op) → (live : IsLive t op) → IsSelfContained t op → ((k : ℕ) → IsLive (after_erasing t op) k → IsLive t k) → things (after_erasing t op) < things t
+erased_less t op w w' live contained before = fewer_things t (after_erasing t op) (as_many t op w live contained (parent_of t op) refl) (arguments_as_many t op (parent_of t op)) before most (inl (op, live, gone))
   where
-    most : (b : ℕ) → length (arguments_of (erased t op) b) ≤ length (arguments_of t b)
+    most : (b : ℕ) → length (arguments_of (after_erasing t op) b) ≤ length (arguments_of t b)
     most b = go (block_erased_with t op b) refl
       where
-        go : (x : Bool) → block_erased_with t op b ≡ x → length (arguments_of (erased t op) b) ≤ length (arguments_of t b)
+        go : (x : Bool) → block_erased_with t op b ≡ x → length (arguments_of (after_erasing t op) b) ≤ length (arguments_of t b)
         go true d = let e = ap length (w'.joined.unplaced b ((erased_gone t op w live contained).blocks b d)).0 in omega (arith, e)
         go false l = let e = ap length ((erased_swept t op w live contained).arguments b l) in omega (arith, e)
 
-    gone : IsLive (erased t op) op → ⊥
+    gone : IsLive (after_erasing t op) op → ⊥
     gone l =
-        let y = some_of (head_of (erased t op) op) l in
+        let y = some_of (head_of (after_erasing t op) op) l in
         let f : None ≡ Some y.0 = sym ((erased_gone t op w live contained).operations op (is_within t op op w.joined live (inl refl))) ∙ y.1 in
         absurd (cc)
 

@@ -6,15 +6,15 @@ use Rattle.pliron_dce.proofs.ReadyTests.{ready_defined}
 use Rattle.pliron_dce.proofs.RemovedThins.{inside_live}
 use Rattle.pliron_dce.proofs.ReadySteps.{ready_contained}
 use Rattle.pliron_dce.proofs.Places.{placed_end}
-use Rattle.pliron_core.specs.Joined.{IsTree}
+use Rattle.pliron_core.specs.Invariant.{IsTree}
 use Rattle.pliron_laws.specs.Datum.{Head, Shape, Meaning}
 use Rattle.pliron_laws.specs.Laws.{KeepsCounts, GivesAtOnce, ForwardsOperands, ActsWithoutArgument}
 use Rattle.pliron_laws.specs.Linked.{IsWellLinked}
-use Rattle.pliron_dce.specs.declared.work.Candidate.{Candidate}
+use Rattle.pliron_dce.specs.declared.worklist.DeadCandidate.{DeadCandidate}
 use Rattle.pliron_dce.specs.Dead.{Item, Op, Arg, Use}
-use Rattle.pliron_dce.specs.Going.{Goes}
-use Rattle.pliron_dce.specs.Steps.{IsReady, IsReadyArgument, Among, AreNoted, AreLookedAt}
-use Rattle.pliron_dce.specs.Work.{item_of, items_of, HasReady, AreClosed}
+use Rattle.pliron_dce.specs.Erasing.{ErasesItem}
+use Rattle.pliron_dce.specs.Readiness.{IsReady, IsReadyArgument, Among, AreRecorded, AreRevisited}
+use Rattle.pliron_dce.specs.Worklist.{item_of, items_of, HasReady, AreClosed}
 use Rattle.pliron_dce.proofs.Progress.{step, gone_unready}
 use Rattle.pliron_dce.proofs.Pending.{ready_before}
 use Rattle.pliron_dce.specs.Measures.{things}
@@ -22,7 +22,7 @@ use Rattle.pliron_dce.proofs.StepMeasure.{erased_less, removed_less}
 use Rattle.pliron_dce.proofs.WorkLemmas.{among_split}
 
 module _ (m : Meaning) (can_fold : Head → Bool) (SameTests : Head → Head → Type 0) (shortened : Shape → ℕ → ℕ → Head) (law : ForwardsOperands m can_fold SameTests shortened) (tests : (h h' : Head) → SameTests h h' → m.is_branch h' ≡ m.is_branch h) (counts : KeepsCounts m) (side_effects : Head → Option Bool) (free : GivesAtOnce m side_effects) (removable : Head → ℕ → Bool → Option Bool) (without : ActsWithoutArgument m removable) where
-  pub ready_all : (t t' : Tree) (root : ℕ) (c : Candidate) (used : List ℕ) (old new : List Candidate) → IsTree t → IsTree t' → IsWellLinked m t root → IsReady m side_effects removable t root (item_of c) → Goes m shortened t t' (item_of c) → HasReady m side_effects removable t root (old ++ c ∷ []) → AreNoted t t' used → AreLookedAt t' used (items_of new) → ((x : Item) → Among x (items_of old) → Among x (items_of new)) → HasReady m side_effects removable t' root new
+  pub ready_all : (t t' : Tree) (root : ℕ) (c : DeadCandidate) (used : List ℕ) (old new : List DeadCandidate) → IsTree t → IsTree t' → IsWellLinked m t root → IsReady m side_effects removable t root (item_of c) → ErasesItem m shortened t t' (item_of c) → HasReady m side_effects removable t root (old ++ c ∷ []) → AreRecorded t t' used → AreRevisited t' used (items_of new) → ((x : Item) → Among x (items_of old) → Among x (items_of new)) → HasReady m side_effects removable t' root new
   ready_all t t' root c used old new w w' linked r g all noted looked kept x rx =
       let s = step m can_fold SameTests shortened law tests counts side_effects free removable without t t' root (item_of c) w w' linked r g in
       ⊎_elim
@@ -31,7 +31,7 @@ module _ (m : Meaning) (can_fold : Head → Bool) (SameTests : Head → Head →
       (ready_before m side_effects removable t t' root w w' s.thins used noted (items_of new) looked x rx)
 
   -- those around an operation that stands are as before
-  pub closed_after : (t t' : Tree) (root : ℕ) (x : Item) (ks : List ℕ) → IsTree t → IsTree t' → IsWellLinked m t root → IsReady m side_effects removable t root x → Goes m shortened t t' x → AreClosed t ks → AreClosed t' ks
+  pub closed_after : (t t' : Tree) (root : ℕ) (x : Item) (ks : List ℕ) → IsTree t → IsTree t' → IsWellLinked m t root → IsReady m side_effects removable t root x → ErasesItem m shortened t t' x → AreClosed t ks → AreClosed t' ks
   closed_after t t' root x ks w w' linked r g closed k a i l j =
       let s = step m can_fold SameTests shortened law tests counts side_effects free removable without t t' root x w w' linked r g in
       ⊎_elim (λ e. subst (λ z. In z ks) e i) (λ q. closed k a i (s.thins.live_before k l) q) (s.thins.within_back a k (inr j))
@@ -42,7 +42,7 @@ argument_listed m removable t root v block index w r e = subst (IsMadeBy t v) e 
 
 -- each step leaves fewer things
 module _ (m : Meaning) (can_fold : Head → Bool) (SameTests : Head → Head → Type 0) (shortened : Shape → ℕ → ℕ → Head) (law : ForwardsOperands m can_fold SameTests shortened) (tests : (h h' : Head) → SameTests h h' → m.is_branch h' ≡ m.is_branch h) (counts : KeepsCounts m) (side_effects : Head → Option Bool) (free : GivesAtOnce m side_effects) (removable : Head → ℕ → Bool → Option Bool) (without : ActsWithoutArgument m removable) where
-  pub step_less : (t t' : Tree) (root : ℕ) (x : Item) → IsTree t → IsTree t' → IsWellLinked m t root → IsReady m side_effects removable t root x → Goes m shortened t t' x → things t' < things t
+  pub step_less : (t t' : Tree) (root : ℕ) (x : Item) → IsTree t → IsTree t' → IsWellLinked m t root → IsReady m side_effects removable t root x → ErasesItem m shortened t t' x → things t' < things t
   step_less t t' root (Op k) w w' linked r g =
       let s = step m can_fold SameTests shortened law tests counts side_effects free removable without t t' root (Op k) w w' linked r g in
       subst (λ z. things z < things t) (sym g.1) (erased_less t k w (subst IsTree g.1 w') (inside_live t w.joined r.may.inside).1 (ready_contained m side_effects removable counts free t root w linked k r.may r.none) (λ q l. s.thins.live_before q (subst (λ z. IsLive z q) (sym g.1) l)))

@@ -4,9 +4,9 @@ use Rattle.std.proofs.lemmas.Option.{slice_get_within}
 use Rattle.std.specs.List.{range_with_len}
 use Rattle.pliron_core.specs.declared.context.Def.{Def}
 use Rattle.pliron_core.specs.declared.context.Def.TheVariants.{Result, Argument}
-use Rattle.pliron_core.specs.Changes.{IsMadeInside, IsMakerInside}
-use Rattle.pliron_core.specs.Tree.{Tree, In, IsLive, IsDefined, IsMadeBy, IsInside, IsWithin, HoldsBlock, head_of, operands_of, successors_of, results_of, regions_of, arguments_of, block_parent_of, slot_of, block_holder_of, definition_of, first_of, last_of, body_of, layout_of}
-use Rattle.pliron_core.specs.Joined.{IsTree}
+use Rattle.pliron_core.specs.Changes.{IsDefinedInside, IsDefiningOperationInside}
+use Rattle.pliron_core.specs.Tree.{Tree, In, IsLive, IsDefined, IsMadeBy, IsInside, IsWithin, HoldsBlock, head_of, operands_of, successors_of, results_of, regions_of, arguments_of, block_parent_of, slot_of, block_parent_operation_of, definition_of, first_of, last_of, body_of, layout_of}
+use Rattle.pliron_core.specs.Invariant.{IsTree}
 use Rattle.pliron_core.proofs.GrownLemmas.{range_at}
 use Rattle.pliron_core.proofs.HoldingLemmas.{some_is, some_of, in_slice, slice_in, maker_is, argument_stands, result_live}
 use Rattle.pliron_laws.specs.Datum.{Head, Meaning}
@@ -18,7 +18,7 @@ use Rattle.pliron_theory.proofs.SweptLists.{first_swept, last_swept}
 use Rattle.pliron_theory.proofs.SweptRecords.{op_same, shape_swept}
 use Rattle.pliron_theory.proofs.SweptStays.{admitted_same}
 use Rattle.pliron_theory.proofs.SweptParts.{block_place_of, block_place_back, block_place_forth, within_forth, inside_forth, made_forth, made_same, block_lives, user_lives, jumper_lives, inside_back, inside_lives, within_back, made_back}
-use Rattle.pliron_dce.specs.Dead.{Use, IsDead, MayGo, MayBeRemoved, Holds, OfResult, OfInside, IsForwardedTo}
+use Rattle.pliron_dce.specs.Dead.{Use, IsDead, MayBeErased, MayBeRemoved, KeepsAlive, OfResult, OfInside, ForwardsToArgument}
 use Rattle.pliron_dce.proofs.Thinned.{IsThinned, Fate, Went, Stands}
 use Rattle.pliron_dce.proofs.PlaceLists.{range_get}
 use Rattle.pliron_dce.proofs.RemovedThins.{inside_live, used_live}
@@ -64,7 +64,7 @@ module _ (m : Meaning) (t t' : Tree) (dead dead_block : ℕ → Bool) (w : IsTre
             own_region = λ z j. h.block_parents z (h.targets k z lk (old z j)) ∙ ends.own_region z (old z j) ∙ sym (h.block_parents ends.block lb);
           }
 
-  module _ (side_effects : Head → Option Bool) (removable : Head → ℕ → Bool → Option Bool) (root : ℕ) (doomed : (user place : ℕ) → dead user ≡ true → IsDead m side_effects removable t root (Use user place)) (jumpers : (k b : ℕ) → HoldsBlock t root b → In b (successors_of t k) → dead_block b ≡ false → dead k ≡ false) (apart : (k v user : ℕ) → dead k ≡ false → IsMadeInside t k v → is_maker_dead dead dead_block (definition_of t v) ≡ true → dead user ≡ true → IsWithin t k user) where
+  module _ (side_effects : Head → Option Bool) (removable : Head → ℕ → Bool → Option Bool) (root : ℕ) (doomed : (user place : ℕ) → dead user ≡ true → IsDead m side_effects removable t root (Use user place)) (jumpers : (k b : ℕ) → HoldsBlock t root b → In b (successors_of t k) → dead_block b ≡ false → dead k ≡ false) (apart : (k v user : ℕ) → dead k ≡ false → IsDefinedInside t k v → is_maker_dead dead dead_block (definition_of t v) ≡ true → dead user ≡ true → IsWithin t k user) where
     abbrev kept : ℕ → List ℕ
     kept k = range_with_len 0 (length (operands_of t k))
 
@@ -84,12 +84,12 @@ module _ (m : Meaning) (t t' : Tree) (dead dead_block : ℕ → Bool) (w : IsTre
         go true d = Went (doomed user place d)
         go false l = Stands place (kept_at user place v e) (ap (λ z. slice_get z place) (h.operands user l) ∙ e)
 
-    may_back : (k : ℕ) → MayGo m side_effects t' root k → MayGo m side_effects t root k
+    may_back : (k : ℕ) → MayBeErased m side_effects t' root k → MayBeErased m side_effects t root k
     may_back k y =
         let e = head_same k (inside_lives t t' dead dead_block w w' h g root k y.inside) in
         record { inside = inside_back t t' dead dead_block w w' h g root k y.inside; harmless = λ x q. y.harmless x (e ∙ q); plain = λ x q. y.plain x (e ∙ q) }
 
-    may_forth : (k : ℕ) → IsLive t' k → MayGo m side_effects t root k → MayGo m side_effects t' root k
+    may_forth : (k : ℕ) → IsLive t' k → MayBeErased m side_effects t root k → MayBeErased m side_effects t' root k
     may_forth k l y =
         let lk = lives k l in
         let e = head_same k lk in
@@ -103,7 +103,7 @@ module _ (m : Meaning) (t t' : Tree) (dead dead_block : ℕ → Bool) (w : IsTre
         go (x ∷ xs) alive = first_swept dead_block x (x ∷ xs) (alive x refl) refl
 
     -- the answer on removal reads the same
-    allowed_back : (k b : ℕ) → block_holder_of t' b ≡ Some k → ReadsPlace removable t' k b (Some true) → ReadsPlace removable t k b (Some true)
+    allowed_back : (k b : ℕ) → block_parent_operation_of t' b ≡ Some k → ReadsPlace removable t' k b (Some true) → ReadsPlace removable t k b (Some true)
     allowed_back k b e a x r i hd bp sl =
         let p = block_place_back t t' dead dead_block w w' h g b k e in
         let q = block_place_of t' w' b k e in
@@ -115,7 +115,7 @@ module _ (m : Meaning) (t t' : Tree) (dead dead_block : ℕ → Bool) (w : IsTre
         let inner : In r (regions_of t k) = subst (λ z. In z (regions_of t k)) (sym sr) (in_slice (regions_of t k) q.index q.region listed) in
         a x r i (head_same k p.2 ∙ hd) (h.block_parents b p.1 ∙ bp) slot' ∙ ap (λ z. removable x i (is_first b z)) (first_same k r p.2 inner)
 
-    allowed_forth : (k b : ℕ) → block_holder_of t' b ≡ Some k → ReadsPlace removable t k b (Some true) → ReadsPlace removable t' k b (Some true)
+    allowed_forth : (k b : ℕ) → block_parent_operation_of t' b ≡ Some k → ReadsPlace removable t k b (Some true) → ReadsPlace removable t' k b (Some true)
     allowed_forth k b e a x r i hd bp sl =
         let p = block_place_back t t' dead dead_block w w' h g b k e in
         let q = block_place_of t w b k p.0 in
@@ -187,7 +187,7 @@ module _ (m : Meaning) (t t' : Tree) (dead dead_block : ℕ → Bool) (w : IsTre
       kept = kept;
       live = λ k i. (inside_live t' w'.joined i).1;
       results_same = λ k l. results_same k (lives k l);
-      made_forth = λ k v user l i j n. let lv = maker_lives k v user (lives k l) i j n in (standing v user i lv, subst (IsMakerInside t' k) (sym (made_same t t' dead dead_block w w' h v (w.joined.operands user v i) lv)) (made_forth t t' dead dead_block w w' h k (definition_of t v) lv j));
+      made_forth = λ k v user l i j n. let lv = maker_lives k v user (lives k l) i j n in (standing v user i lv, subst (IsDefiningOperationInside t' k) (sym (made_same t t' dead dead_block w w' h v (w.joined.operands user v i) lv)) (made_forth t t' dead dead_block w w' h k (definition_of t v) lv j));
       live_before = λ k l. subst (λ z. IsSome z.head) (h.rows k (lives k l)) l;
       defined_before = λ v d. let y = maker_is t' v d in defined_back v y.0 y.2;
       within_back = within_back t t' dead dead_block w w' h g;
@@ -207,8 +207,8 @@ module _ (m : Meaning) (t t' : Tree) (dead dead_block : ℕ → Bool) (w : IsTre
         results_same : (k : ℕ) → dead k ≡ false → results_of t' k ≡ results_of t k
         results_same k l = ap (λ z. z.results) (h.rows k l)
 
-        -- what is made inside an operation that is left, and is used outside it, is left
-        maker_lives : (k v user : ℕ) → dead k ≡ false → In v (operands_of t user) → IsMadeInside t k v → (IsWithin t k user → ⊥) → is_maker_dead dead dead_block (definition_of t v) ≡ false
+        -- what is defined inside an operation that is left, and is used outside it, is left
+        maker_lives : (k v user : ℕ) → dead k ≡ false → In v (operands_of t user) → IsDefinedInside t k v → (IsWithin t k user → ⊥) → is_maker_dead dead dead_block (definition_of t v) ≡ false
         maker_lives k v user l i j n = go (is_maker_dead dead dead_block (definition_of t v)) refl (dead user) refl
           where
             go : (b : Bool) → is_maker_dead dead dead_block (definition_of t v) ≡ b → (c : Bool) → dead user ≡ c → is_maker_dead dead dead_block (definition_of t v) ≡ false
@@ -247,17 +247,17 @@ module _ (m : Meaning) (t t' : Tree) (dead dead_block : ℕ → Bool) (w : IsTre
         same_maker : (user v : ℕ) → dead user ≡ false → In v (operands_of t user) → definition_of t' v ≡ definition_of t v
         same_maker user v l i = made_same t t' dead dead_block w w' h v (w.joined.operands user v i) (h.values user v l i)
 
-        holds_back : (k user place place' : ℕ) → slice_get (kept user) place' ≡ Some place → Holds t' k user place' → Holds t k user place
+        holds_back : (k user place place' : ℕ) → slice_get (kept user) place' ≡ Some place → KeepsAlive t' k user place' → KeepsAlive t k user place
         holds_back k user place place' e (OfResult v o i) =
             let y = operand_was user place' v o in
             OfResult v (ap (slice_get (operands_of t user)) (same_place user place place' e) ∙ y.1) (subst (In v) (results_same k (owner_lives k v i)) i)
         holds_back k user place place' e (OfInside v o i n) =
             let y = operand_was user place' v o in
             OfInside v (ap (slice_get (operands_of t user)) (same_place user place place' e) ∙ y.1)
-            (made_back t t' dead dead_block w w' h g k (definition_of t v) (subst (IsMakerInside t' k) (same_maker user v y.0 (in_slice (operands_of t user) place' v y.1)) i))
+            (made_back t t' dead dead_block w w' h g k (definition_of t v) (subst (IsDefiningOperationInside t' k) (same_maker user v y.0 (in_slice (operands_of t user) place' v y.1)) i))
             (λ j. n (within_forth t t' dead dead_block w w' h k user y.0 j).0)
 
-        holds_forth : (k user place place' v : ℕ) → slice_get (kept user) place' ≡ Some place → slice_get (operands_of t' user) place' ≡ Some v → IsLive t' k → Holds t k user place → Holds t' k user place'
+        holds_forth : (k user place place' v : ℕ) → slice_get (kept user) place' ≡ Some place → slice_get (operands_of t' user) place' ≡ Some v → IsLive t' k → KeepsAlive t k user place → KeepsAlive t' k user place'
         holds_forth k user place place' x e q l (OfResult v o i) =
             let y = operand_was user place' x q in
             OfResult v (ap (λ z. slice_get z place') (h.operands user y.0) ∙ ap (slice_get (operands_of t user)) (sym (same_place user place place' e)) ∙ o) (subst (In v) (sym (results_same k (lives k l))) i)
@@ -265,10 +265,10 @@ module _ (m : Meaning) (t t' : Tree) (dead dead_block : ℕ → Bool) (w : IsTre
             let y = operand_was user place' x q in
             let lv = h.values user v y.0 (in_slice (operands_of t user) place v o) in
             OfInside v (ap (λ z. slice_get z place') (h.operands user y.0) ∙ ap (slice_get (operands_of t user)) (sym (same_place user place place' e)) ∙ o)
-            (subst (IsMakerInside t' k) (sym (same_maker user v y.0 (in_slice (operands_of t user) place v o))) (made_forth t t' dead dead_block w w' h k (definition_of t v) lv i))
+            (subst (IsDefiningOperationInside t' k) (sym (same_maker user v y.0 (in_slice (operands_of t user) place v o))) (made_forth t t' dead dead_block w w' h k (definition_of t v) lv i))
             (λ j. n (within_back t t' dead dead_block w w' h g k user j))
 
-        forwarded_back : (user place place' v : ℕ) → MayBeRemoved m removable t' root v → slice_get (kept user) place' ≡ Some place → IsForwardedTo m t' user place' v → IsForwardedTo m t user place v
+        forwarded_back : (user place place' v : ℕ) → MayBeRemoved m removable t' root v → slice_get (kept user) place' ≡ Some place → ForwardsToArgument m t' user place' v → ForwardsToArgument m t user place v
         forwarded_back user place place' v y e f =
             let lk = jumper_lives t t' dead dead_block w w' h g user f.block (in_slice (successors_of t' user) f.edge f.block f.target) in
             let stands : op_at t user ≡ Some f.operation = sym (op_same t t' dead dead_block w w' h user lk) ∙ f.stands in
@@ -285,7 +285,7 @@ module _ (m : Meaning) (t t' : Tree) (dead dead_block : ℕ → Bool) (w : IsTre
               argument = ap (λ z. slice_get z f.index) (sym (h.arguments f.block lb)) ∙ f.argument;
             }
 
-        forwarded_forth : (user place place' v : ℕ) → MayBeRemoved m removable t root v → IsLive t' user → slice_get (kept user) place' ≡ Some place → IsForwardedTo m t user place v → IsDefined t' v × IsForwardedTo m t' user place' v
+        forwarded_forth : (user place place' v : ℕ) → MayBeRemoved m removable t root v → IsLive t' user → slice_get (kept user) place' ≡ Some place → ForwardsToArgument m t user place v → IsDefined t' v × ForwardsToArgument m t' user place' v
         forwarded_forth user place place' v y live e f =
             let lk = lives user live in
             let lb = h.targets user f.block lk (in_slice (successors_of t user) f.edge f.block f.target) in

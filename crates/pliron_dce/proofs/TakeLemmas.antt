@@ -5,9 +5,9 @@ use Rattle.std.proofs.lemmas.List.{length-append, take_all}
 use Rattle.pliron_core.specs.declared.uses.Use.{Use as Edge}
 use Rattle.pliron_core.specs.declared.context.Def.TheVariants.{Argument}
 use Rattle.pliron_core.specs.Uses.{AreAgreed}
-use Rattle.pliron_core.specs.Joined.{IsTree}
+use Rattle.pliron_core.specs.Invariant.{IsTree}
 use Rattle.pliron_core.specs.Writes.{argument_removed}
-use Rattle.pliron_core.specs.Tree.{Tree, In, IsLive, IsBlock, IsInside, HoldsBlock, head_of, operands_of, successors_of, arguments_of, holder_of, block_holder_of, region_parent_of, up_from, uses_of}
+use Rattle.pliron_core.specs.Tree.{Tree, In, IsLive, IsBlock, IsInside, HoldsBlock, head_of, operands_of, successors_of, arguments_of, parent_operation_of, block_parent_operation_of, region_parent_of, up_from, uses_of}
 use Rattle.pliron_core.proofs.ListLemmas.{decide_in}
 use Rattle.pliron_core.proofs.HoldingLemmas.{some_is, some_of, in_slice, slice_in, inside_by, holder_by}
 use Rattle.pliron_core.proofs.TreeLemmas.{cases_lt}
@@ -18,10 +18,10 @@ use Rattle.pliron_theory.specs.Dropping.{AreEdgesTo, EdgeLoses, Lacks, EdgesLose
 use Rattle.pliron_theory.proofs.SweptKeeps.{admitted_shape}
 use Rattle.pliron_theory.proofs.EdgesLost.{framed, place_still, lack_still, turn_next}
 use Rattle.pliron_theory.proofs.ShortenedBranches.{Among, AreListed, SameFrame, same_frame, user_live}
-use Rattle.pliron_dce.specs.Going.{Removes}
+use Rattle.pliron_dce.specs.Erasing.{Removes}
 use Rattle.pliron_dce.specs.Incoming.{count_along, width, AreIncoming, AreForwardedTo, HavePlaces}
-use Rattle.pliron_dce.specs.Steps.{IsReadyArgument, IsReadyOperation, AreNoted, AreOperandsWithin}
-use Rattle.pliron_core.specs.Erased.{erased, IsSelfContained}
+use Rattle.pliron_dce.specs.Readiness.{IsReadyArgument, IsReadyOperation, AreRecorded, AreOperandsWithin}
+use Rattle.pliron_core.specs.Erased.{after_erasing, IsSelfContained}
 use Rattle.pliron_core.proofs.WithinLemmas.{within_is}
 use Rattle.pliron_theory.proofs.ErasedKeeps.{op_erased, erased_swept}
 use Rattle.pliron_laws.proofs.PassedLemmas.{ArePassed}
@@ -115,7 +115,7 @@ module _ (m : Meaning) (can_fold : Head → Bool) (SameTests : Head → Head →
   leads i e s = in_slice (successors_of t e.user) e.place block (to.listed i e s)
 
   -- who leads to the block stands where the block stands
-  beside : (k p : ℕ) → In block (successors_of t k) → block_holder_of t block ≡ Some p → holder_of t k ≡ Some p
+  beside : (k p : ℕ) → In block (successors_of t k) → block_parent_operation_of t block ≡ Some p → parent_operation_of t k ≡ Some p
   beside k p i q =
       let ends = linked.edges k block i (inr held) in
       holder_by t k ends.block p ends.in_block (ap (λ o. up_from o (λ z. region_parent_of t z)) (sym (ends.own_region block i)) ∙ q)
@@ -178,7 +178,7 @@ module _ (m : Meaning) (can_fold : Head → Bool) (SameTests : Head → Head →
         absurd (omega (arith, few, many)))
         (cases_lt i (length used))
 
-    pub noted : (used : List ℕ) → AreForwardedTo m t index edges used → AreNoted t (argument_removed u block index) used
+    pub noted : (used : List ℕ) → AreForwardedTo m t index edges used → AreRecorded t (argument_removed u block index) used
     noted used tells user x i = elim (decide_in block (successors_of t user)) [
       | inl j ↦ own j
       | inr n ↦ inr (subst (In x) (sym ((placed user).same (none_lost m can_fold SameTests shortened law tests t w block index edges to u lose user n)).1) i)
@@ -232,10 +232,10 @@ module _ (m : Meaning) (side_effects : Head → Option Bool) (t : Tree) (root op
   pub op_contained : IsSelfContained t op
   op_contained = ready_contained m side_effects removable counts free t root w linked op r.may r.none
 
-  pub op_noted : (used : List ℕ) → AreOperandsWithin t op used → AreNoted t (erased t op) used
+  pub op_noted : (used : List ℕ) → AreOperandsWithin t op used → AreRecorded t (after_erasing t op) used
   op_noted used all user x i = go (op_erased t op user) refl
     where
-      go : (b : Bool) → op_erased t op user ≡ b → In x used ⊎ In x (operands_of (erased t op) user)
+      go : (b : Bool) → op_erased t op user ≡ b → In x used ⊎ In x (operands_of (after_erasing t op) user)
       go true d = inl (all user x (within_is t op user d) i)
       go false l = inr (subst (In x) (sym ((erased_swept t op w op_live op_contained).operands user l)) i)
 

@@ -2,9 +2,9 @@
 -- is dead after or is gone.
 use Rattle.std.proofs.Common.{◌≡◌, ℕ, Bool, List, Option, Some, slice_get}
 use Rattle.pliron_core.specs.Tree.{Tree, In, IsLive, IsDefined, IsInside, IsWithin, operands_of, results_of}
-use Rattle.pliron_core.specs.Changes.{IsMadeInside}
+use Rattle.pliron_core.specs.Changes.{IsDefinedInside}
 use Rattle.pliron_laws.specs.Datum.{Head, Meaning}
-use Rattle.pliron_dce.specs.Dead.{Item, Op, Arg, Use, IsDead, DeadOperation, DeadArgument, UsedByDead, Forwarded, MayGo, MayBeRemoved, Holds, OfResult, OfInside, IsForwardedTo}
+use Rattle.pliron_dce.specs.Dead.{Item, Op, Arg, Use, IsDead, DeadOperation, DeadArgument, UsedByDead, Forwarded, MayBeErased, MayBeRemoved, KeepsAlive, OfResult, OfInside, ForwardsToArgument}
 
 -- what became of a use: its user went with a thing that is dead, or it was forwarded to one, or it stands
 -- at this place
@@ -19,20 +19,20 @@ pub record IsThinned (m : Meaning) (side_effects : Head → Option Bool) (remova
   pub live_before : (k : ℕ) → IsLive t' k → IsLive t k
   pub defined_before : (v : ℕ) → IsDefined t' v → IsDefined t v
   pub results_same : (k : ℕ) → IsLive t' k → results_of t' k ≡ results_of t k
-  -- what is made inside an operation that stands, and was used outside it, stands
-  pub made_forth : (k v user : ℕ) → IsLive t' k → In v (operands_of t user) → IsMadeInside t k v → (IsWithin t k user → ⊥) → IsDefined t' v × IsMadeInside t' k v
+  -- what is defined inside an operation that stands, and was used outside it, stands
+  pub made_forth : (k v user : ℕ) → IsLive t' k → In v (operands_of t user) → IsDefinedInside t k v → (IsWithin t k user → ⊥) → IsDefined t' v × IsDefinedInside t' k v
   pub within_back : (a k : ℕ) → IsWithin t' a k → IsWithin t a k
   pub within_forth : (a k : ℕ) → IsLive t' k → IsWithin t a k → IsLive t' a × IsWithin t' a k
-  pub may_back : (k : ℕ) → MayGo m side_effects t' root k → MayGo m side_effects t root k
-  pub may_forth : (k : ℕ) → IsLive t' k → MayGo m side_effects t root k → MayGo m side_effects t' root k
+  pub may_back : (k : ℕ) → MayBeErased m side_effects t' root k → MayBeErased m side_effects t root k
+  pub may_forth : (k : ℕ) → IsLive t' k → MayBeErased m side_effects t root k → MayBeErased m side_effects t' root k
   pub argument_back : (v : ℕ) → MayBeRemoved m removable t' root v → MayBeRemoved m removable t root v
   pub argument_forth : (v : ℕ) → IsDefined t' v → MayBeRemoved m removable t root v → MayBeRemoved m removable t' root v
   pub fate : (user place v : ℕ) → slice_get (operands_of t user) place ≡ Some v → Fate m side_effects removable t t' root kept user place v
   pub operand_back : (user place' v : ℕ) → slice_get (operands_of t' user) place' ≡ Some v → IsLive t' user × (place : ℕ) × (slice_get (kept user) place' ≡ Some place) × (slice_get (operands_of t user) place ≡ Some v)
-  pub holds_back : (k user place place' : ℕ) → slice_get (kept user) place' ≡ Some place → Holds t' k user place' → Holds t k user place
-  pub holds_forth : (k user place place' v : ℕ) → slice_get (kept user) place' ≡ Some place → slice_get (operands_of t' user) place' ≡ Some v → IsLive t' k → Holds t k user place → Holds t' k user place'
-  pub forwarded_back : (user place place' v : ℕ) → MayBeRemoved m removable t' root v → slice_get (kept user) place' ≡ Some place → IsForwardedTo m t' user place' v → IsForwardedTo m t user place v
-  pub forwarded_forth : (user place place' v : ℕ) → MayBeRemoved m removable t root v → IsLive t' user → slice_get (kept user) place' ≡ Some place → IsForwardedTo m t user place v → IsDefined t' v × IsForwardedTo m t' user place' v
+  pub holds_back : (k user place place' : ℕ) → slice_get (kept user) place' ≡ Some place → KeepsAlive t' k user place' → KeepsAlive t k user place
+  pub holds_forth : (k user place place' v : ℕ) → slice_get (kept user) place' ≡ Some place → slice_get (operands_of t' user) place' ≡ Some v → IsLive t' k → KeepsAlive t k user place → KeepsAlive t' k user place'
+  pub forwarded_back : (user place place' v : ℕ) → MayBeRemoved m removable t' root v → slice_get (kept user) place' ≡ Some place → ForwardsToArgument m t' user place' v → ForwardsToArgument m t user place v
+  pub forwarded_forth : (user place place' v : ℕ) → MayBeRemoved m removable t root v → IsLive t' user → slice_get (kept user) place' ≡ Some place → ForwardsToArgument m t user place v → IsDefined t' v × ForwardsToArgument m t' user place' v
 
 module _ (m : Meaning) (side_effects : Head → Option Bool) (removable : Head → ℕ → Bool → Option Bool) (t t' : Tree) (root : ℕ) (h : IsThinned m side_effects removable t t' root) where
   abbrev D : Item → Type 0
@@ -69,11 +69,11 @@ module _ (m : Meaning) (side_effects : Head → Option Bool) (removable : Head �
   spent_back user place v (Went d) ih = d
   spent_back user place v (Stands place' e o) ih = ih place' o place e
 
-  value_of : (k user place : ℕ) → Holds t k user place → (v : ℕ) × (slice_get (operands_of t user) place ≡ Some v)
+  value_of : (k user place : ℕ) → KeepsAlive t k user place → (v : ℕ) × (slice_get (operands_of t user) place ≡ Some v)
   value_of k user place (OfResult v e i) = (v, e)
   value_of k user place (OfInside v e i n) = (v, e)
 
-  held_back : (k user place v : ℕ) → IsLive t' k → Holds t k user place → Fate m side_effects removable t t' root h.kept user place v → ((place' : ℕ) → Holds t' k user place' → Back (Use user place')) → D (Use user place)
+  held_back : (k user place v : ℕ) → IsLive t' k → KeepsAlive t k user place → Fate m side_effects removable t t' root h.kept user place v → ((place' : ℕ) → KeepsAlive t' k user place' → Back (Use user place')) → D (Use user place)
   held_back k user place v l o (Went d) ih = d
   held_back k user place v l o (Stands place' e q) ih = ih place' (h.holds_forth k user place place' v e q l o) place e
 
@@ -97,7 +97,7 @@ module _ (m : Meaning) (side_effects : Head → Option Bool) (removable : Head �
       let q = h.operand_back user place' v.0 v.1 in
       forth (held user q.1 (h.holds_back k user q.1 place' q.2 o)) place' q.0 q.2)
     where
-      value_after : (k user place : ℕ) → Holds t' k user place → (v : ℕ) × (slice_get (operands_of t' user) place ≡ Some v)
+      value_after : (k user place : ℕ) → KeepsAlive t' k user place → (v : ℕ) × (slice_get (operands_of t' user) place ≡ Some v)
       value_after k user place (OfResult v e i) = (v, e)
       value_after k user place (OfInside v e i n) = (v, e)
   forth (DeadArgument v may used) = λ s. DeadArgument v (h.argument_forth v s may) (λ user place' e.

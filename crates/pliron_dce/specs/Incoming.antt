@@ -36,7 +36,7 @@ pub record AreIncoming (m : Meaning) (t : Tree) (block : ℕ) (edges : List Edge
   pub branches : BranchesLead m t block
   pub falling : (i j : ℕ) (e f : Edge) → i < j → slice_get edges i ≡ Some e → slice_get edges j ≡ Some f → width m t f ≤ width m t e
 
--- two keys are one
+-- two keys are equal
 abbrev pub is_one_key : ℕ → ℕ → Bool
 is_one_key x y = nat_eq x y && true
 
@@ -44,7 +44,7 @@ is_one_key x y = nat_eq x y && true
 abbrev pub list_of : Incoming → ℕ → Option (List IncomingEdge)
 list_of lists block = option_map (λ v. v.items) (get is_one_key lists.lists block)
 
--- so is each list, of a block that stands inside the root
+-- each list is so, of a block that is inside the root
 abbrev pub AreKnown : Meaning → Tree → ℕ → (ℕ → Option (List IncomingEdge)) → Type 0
 AreKnown m t root find = (block : ℕ) (edges : List IncomingEdge) → find block ≡ Some edges → HoldsBlock t root block → AreIncoming m t block (edges_of edges)
 

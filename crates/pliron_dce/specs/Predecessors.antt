@@ -10,6 +10,6 @@ use Rattle.pliron_dce.specs.Incoming.{is_one_key, BranchesLead}
 abbrev pub mark_of : Predecessors → ℕ → Option Bool
 mark_of known block = get is_one_key known.marks block
 
--- each mark is right, of a block that stands inside the root
+-- each mark is right, of a block that is inside the root
 abbrev pub AreMarked : Meaning → Tree → ℕ → (ℕ → Option Bool) → Type 0
 AreMarked m t root mark = (block : ℕ) (b : Bool) → mark block ≡ Some b → HoldsBlock t root block → IsTrue b ↔ BranchesLead m t block

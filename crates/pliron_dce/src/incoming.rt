@@ -1,19 +1,19 @@
 //! The edges to each block, those first that forward most.
 //!
-//! An edge forwards operands to the first arguments of its block, as many as it has. So those that reach an
-//! argument stand in front, and an argument that goes asks them and the first one behind them alone.
+//! An edge forwards operands to the first arguments of its block, as many as it has. So those that forward to
+//! an argument come first, and the removal of an argument asks them and the first one behind them alone.
 //!
-//! When it goes, each of them forwards one operand less, and still no less than those behind. So a list is made
-//! once, when the first argument of its block goes, and is right until the block goes.
+//! After it each of them forwards one operand less, and still no less than those behind. So a list is made
+//! once, when the first argument of its block is removed, and is right until the block is erased.
 //!
-//! Beside the list stands how far from one another the arguments of the block went, by which the rows that lose
-//! something with each of them are indexed.
+//! Beside the list is recorded how far apart the removed arguments of the block were; by that the lists that
+//! lose an entry with each of them are indexed.
 ghost use Rattle.std.specs.Prelude.{◌≡◌, ℕ, None, Some, IfOk, OnOk, IsSome, IsOkUnless, IsPermutation};
 ghost use Rattle.pliron_core.specs.Tree.{IsBlock, HoldsBlock, uses_of};
 ghost use Rattle.pliron_laws.specs.Linked.{IsWellLinked};
 ghost use Rattle.pliron_dce.specs.Incoming.{edges_of, list_of, AreCounted, AreIncoming, AreKnown, BranchesLead, AreFalling};
 
-use crate::rows::{AllLosses, Indexing, index_chosen, settle_rows};
+use crate::operand_indexing::{AllLosses, Indexing, index_chosen, settle_rows};
 use indexmap::IndexMap;
 use pliron_core::{BasicBlock, Context, Operation, Ptr};
 use pliron_laws::{Dialect, OptError};
@@ -98,7 +98,7 @@ impl Incoming {
         }
     }
 
-    // Makes the list of the block, unless there is one. Whether it was made now.
+    // Makes the list of the block, unless there is one. Answers whether it was made now.
     fn make<D: Dialect>(
         &mut self,
         alloc: Global,
@@ -121,8 +121,8 @@ impl Incoming {
         Ok(true)
     }
 
-    // The argument of the block with this index is about to go, as the first one or after others. Which rows are to be
-    // indexed before.
+    // The argument of the block with this index is about to be removed, as the first one or after others.
+    // Answers which lists are to be indexed before.
     fn note(
         &mut self,
         block: Ptr<BasicBlock>,
@@ -137,8 +137,8 @@ impl Incoming {
         self.losses.note(block, index, count, is_first)
     }
 
-    // Makes the list of the block, unless there is one, and indexes rows where its arguments go far from one another. The one
-    // with this index is about to go.
+    // Makes the list of the block, unless there is one, and indexes lists where its arguments are removed far
+    // from one another. The one with this index is about to be removed.
     pub(crate) fn add<D: Dialect>(
         &mut self,
         alloc: Global,
@@ -162,7 +162,8 @@ impl Incoming {
         Ok(())
     }
 
-    // The rows that were indexed for the blocks that have lists lose their indexes, where they still stand.
+    // The argument and operand lists that were indexed for the blocks that have lists lose their indexes, where
+    // they are still live.
     pub(crate) fn settle(&self, ctx: &mut Context)
         ensures { ctx.new ≡ ctx.old }
     {

@@ -1,8 +1,8 @@
 //! Whether branches alone lead to a block.
 //!
-//! What leads to a block ends its own block, so while the block stands none of it goes, and what is a branch, or
-//! none, stays so. So a block to which many edges lead is asked once, at the start, and marked; the mark is right
-//! until the block goes. Where few edges lead, they are sooner asked again than looked up.
+//! What leads to a block ends its own block, so while the block is live none of it is erased, and what is a
+//! branch, or none, stays so. So a block to which many edges lead is asked once, at the start, and marked; the
+//! mark is right until the block is erased. Where few edges lead, they are sooner asked again than looked up.
 ghost use Rattle.std.specs.Prelude.{◌≡◌, ◌↔◌, ℕ, None, IfOk, OnOk, IsTrue};
 ghost use Rattle.pliron_core.specs.Tree.{IsBlock, HoldsBlock};
 ghost use Rattle.pliron_dce.specs.Incoming.{BranchesLead};
@@ -13,7 +13,7 @@ use pliron_core::{BasicBlock, Context, Operation, Ptr};
 use pliron_laws::Dialect;
 use std::alloc::{AllocError, Global};
 
-// Whether more edges lead to the block than are asked again at each look.
+// Whether more edges lead to the block than are asked again at each visit.
 pub(crate) fn has_many(block: Ptr<BasicBlock>, ctx: &Context) -> bool
     requires { IsBlock ctx.now.tree block }
 {
@@ -67,7 +67,7 @@ impl Predecessors {
         Ok(known)
     }
 
-    // Marks the block, if it stands.
+    // Marks the block, if it is live.
     fn add<D: Dialect>(
         &mut self,
         block: Ptr<BasicBlock>,

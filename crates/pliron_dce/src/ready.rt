@@ -1,13 +1,17 @@
-//! What may go at once.
+//! What is trivially dead now, and may be erased at once.
+//!
+//! What most dead operations have in common is tested first: no regions, and no use of any result. Whether an
+//! operation is inside the root, which costs its depth, is tested last, and only of one without side effects
+//! that nothing uses.
 ghost use Rattle.std.specs.Prelude.{◌≡◌, ◌↔◌, Some, IsTrue};
-ghost use Rattle.pliron_core.specs.Tree.{IsLive, IsBlock, IsWithin, block_holder_of};
+ghost use Rattle.pliron_core.specs.Tree.{IsLive, IsBlock, IsWithin, block_parent_operation_of};
 ghost use Rattle.pliron_laws.specs.Linked.{IsWellLinked};
 ghost use Rattle.pliron_dce.specs.Dead.{IsHarmless, MayLose};
 ghost use Rattle.pliron_dce.specs.Predecessors.{mark_of, AreMarked};
-ghost use Rattle.pliron_dce.specs.Steps.{IsReadyOperation, IsReadyArgument, HaveNoUse};
+ghost use Rattle.pliron_dce.specs.Readiness.{IsReadyOperation, IsReadyArgument, HaveNoUse};
 
-use crate::looks::Looks;
 use crate::predecessors::Predecessors;
+use crate::scan_positions::ScanPositions;
 use pliron_core::{BasicBlock, Context, Def, Operation, Ptr, Value};
 use pliron_laws::Dialect;
 
@@ -38,11 +42,11 @@ fn is_unused(op: Ptr<Operation>, ctx: &Context) -> bool
     true
 }
 
-// Whether the operation may go at once.
+// Whether the operation may be erased at once.
 #[inline(always)]
 pub(crate) fn is_ready_operation<D: Dialect>(
     op: Ptr<Operation>,
-    looks: &mut Looks,
+    scans: &mut ScanPositions,
     root: Ptr<Operation>,
     ctx: &Context,
 ) -> bool
@@ -56,7 +60,7 @@ pub(crate) fn is_ready_operation<D: Dialect>(
     if !is_harmless::<D>(op, ctx) {
         return false;
     }
-    if looks.is_found_held(op, ctx) {
+    if scans.is_kept_alive(op, ctx) {
         return false;
     }
     if !is_unused(op, ctx) {
@@ -71,11 +75,11 @@ pub(crate) fn is_ready_operation<D: Dialect>(
     op.is_self_contained(ctx)
 }
 
-// Whether the operation that holds the block lets its arguments go.
+// Whether the parent operation of the block allows its arguments to be removed.
 #[inline(always)]
 fn may_lose<D: Dialect>(block: Ptr<BasicBlock>, holder: Ptr<Operation>, ctx: &Context) -> bool
     requires block { IsBlock ctx.now.tree block }
-    requires holder { block_holder_of ctx.now.tree block ≡ Some holder }
+    requires holder { block_parent_operation_of ctx.now.tree block ≡ Some holder }
     ensures { IsTrue result ↔ MayLose D.removable ctx.now.tree block }
 {
     ctx.well_formed();
@@ -85,7 +89,7 @@ fn may_lose<D: Dialect>(block: Ptr<BasicBlock>, holder: Ptr<Operation>, ctx: &Co
     true
 }
 
-// Whether the operation is the root or stands inside it.
+// Whether the operation is the root or is inside it.
 #[inline(always)]
 pub(crate) fn is_within(op: Ptr<Operation>, root: Ptr<Operation>, ctx: &Context) -> bool
     requires { IsLive ctx.now.tree op }
@@ -94,7 +98,7 @@ pub(crate) fn is_within(op: Ptr<Operation>, root: Ptr<Operation>, ctx: &Context)
     op == root || op.is_inside(root, ctx)
 }
 
-// Whether the value is an argument that may go at once.
+// Whether the value is an argument that may be removed at once.
 #[inline(always)]
 pub(crate) fn is_ready_argument<D: Dialect>(
     value: Value,
@@ -115,7 +119,7 @@ pub(crate) fn is_ready_argument<D: Dialect>(
     let Def::Argument(block, _) = value.def(ctx) else {
         return false;
     };
-    let holder = holder_of(block, ctx);
+    let holder = parent_operation_of(block, ctx);
     if !is_within(holder, root, ctx) {
         return false;
     }
@@ -125,11 +129,11 @@ pub(crate) fn is_ready_argument<D: Dialect>(
     predecessors.are_branches_of::<D>(block, root, ctx)
 }
 
-// The operation that holds the block directly.
+// The parent operation of the block.
 #[inline(always)]
-pub(crate) fn holder_of(block: Ptr<BasicBlock>, ctx: &Context) -> Ptr<Operation>
+pub(crate) fn parent_operation_of(block: Ptr<BasicBlock>, ctx: &Context) -> Ptr<Operation>
     requires { IsBlock ctx.now.tree block }
-    ensures holder { block_holder_of ctx.now.tree block ≡ Some result }
+    ensures holder { block_parent_operation_of ctx.now.tree block ≡ Some result }
     ensures live { IsLive ctx.now.tree result }
 {
     ctx.well_formed();

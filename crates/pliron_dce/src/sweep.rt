@@ -1,21 +1,21 @@
-//! The loop: what is ready goes, until nothing is.
+//! The loop: what is ready is erased, until nothing is.
 ghost use Rattle.std.specs.Prelude.{◌≡◌, ◌↔◌, ◌⊎◌, ◌++◌, ◌∷◌, [], ℕ, List, IfOk, OnOk, OnErr, IsTrue, IsOkUnless};
 ghost use Rattle.pliron_core.specs.Tree.{IsLive};
 ghost use Rattle.pliron_theory.specs.Keeps.{KeepsRuns};
 ghost use Rattle.pliron_laws.specs.Linked.{IsWellLinked};
 ghost use Rattle.pliron_theory.specs.Edges.{KeepsEdges, has_regions as is_with_regions};
 ghost use Rattle.pliron_dce.specs.Dead.{Item};
-ghost use Rattle.pliron_dce.specs.Steps.{IsReady};
+ghost use Rattle.pliron_dce.specs.Readiness.{IsReady};
 ghost use Rattle.pliron_dce.specs.Incoming.{list_of, AreKnown};
 ghost use Rattle.pliron_dce.specs.Predecessors.{mark_of, AreMarked};
-ghost use Rattle.pliron_dce.specs.Going.{Goes, HasRegions, SomeHasRegions, IsSweptSoFar, LeavesNoDead, TellsGone};
-ghost use Rattle.pliron_dce.specs.Work.{item_of, waiting, HasReady, AreClosed};
+ghost use Rattle.pliron_dce.specs.Erasing.{ErasesItem, HasRegions, SomeHasRegions, IsSweptSoFar, LeavesNoDead, ReportsErased};
+ghost use Rattle.pliron_dce.specs.Worklist.{item_of, pending_candidates, HasReady, AreClosed};
 
+use crate::erase::{erase_dead_argument, erase_dead_operation};
 use crate::incoming::Incoming;
-use crate::looks::Looks;
 use crate::predecessors::Predecessors;
-use crate::take::{take_argument, take_operation};
-use crate::work::{Candidate, Work, next_ready, note};
+use crate::scan_positions::ScanPositions;
+use crate::worklist::{DeadCandidate, Worklist, next_ready, note};
 use pliron_core::{Context, Def, IRStatus, Operation, Ptr, Value};
 use pliron_laws::{Dialect, OptError};
 use std::alloc::Global;
@@ -34,46 +34,46 @@ fn either(a: bool, b: bool) -> bool
     a || b
 }
 
-// A ready thing goes, and what may be ready then is noted. Answers whether it had regions. What an operation used is listed in
-// the list that is lent.
-fn take_one<D: Dialect>(
+// A ready candidate is erased, and what may be ready then is put on the worklist. Answers whether it had
+// regions. What an operation used is listed in the list that is lent.
+fn erase_one<D: Dialect>(
     alloc: Global,
-    next: Candidate,
+    next: DeadCandidate,
     root: Ptr<Operation>,
-    work: &mut Work,
+    worklist: &mut Worklist,
     incoming: &mut Incoming,
     used: &mut Vec<Value>,
     ctx: &mut Context,
 ) -> Result<bool, OptError>
     requires linked { IsWellLinked D.meaning ctx.old.tree root }
     requires ready { IsReady D.meaning D.side_effects D.removable ctx.old.tree root (item_of next) }
-    requires all { HasReady D.meaning D.side_effects D.removable ctx.old.tree root (waiting work.old ++ next ∷ []) }
-    requires closed { AreClosed ctx.old.tree work.old.around.keys }
+    requires all { HasReady D.meaning D.side_effects D.removable ctx.old.tree root (pending_candidates worklist.old ++ next ∷ []) }
+    requires closed { AreClosed ctx.old.tree worklist.old.around.keys }
     requires known { AreKnown D.meaning ctx.old.tree root (λ b. list_of incoming.old b) }
-    ensures goes { OnOk result (Goes D.meaning D.shortened ctx.old.tree ctx.new.tree (item_of next)) }
-    ensures all { OnOk result (HasReady D.meaning D.side_effects D.removable ctx.new.tree root (waiting work.new)) }
-    ensures closed { OnOk result (AreClosed ctx.new.tree work.new.around.keys) }
+    ensures goes { OnOk result (ErasesItem D.meaning D.shortened ctx.old.tree ctx.new.tree (item_of next)) }
+    ensures all { OnOk result (HasReady D.meaning D.side_effects D.removable ctx.new.tree root (pending_candidates worklist.new)) }
+    ensures closed { OnOk result (AreClosed ctx.new.tree worklist.new.around.keys) }
     ensures known { OnOk result (AreKnown D.meaning ctx.new.tree root (λ b. list_of incoming.new b)) }
     ensures regions { IfOk result (λ had. IsTrue had ↔ HasRegions ctx.old.tree (item_of next)) }
-    ensures refused { OnErr result ((ctx.new.tree ≡ ctx.old.tree) ⊎ Goes D.meaning D.shortened ctx.old.tree ctx.new.tree (item_of next)) }
+    ensures refused { OnErr result ((ctx.new.tree ≡ ctx.old.tree) ⊎ ErasesItem D.meaning D.shortened ctx.old.tree ctx.new.tree (item_of next)) }
     ensures memory { IsOkUnless result OptError.Memory }
 {
     ctx.well_formed();
     match next {
-        Candidate::Operation(op) => {
+        DeadCandidate::Operation(op) => {
             let had = has_regions(op, ctx);
-            take_operation::<D>(used, op, root, ctx)?;
+            erase_dead_operation::<D>(used, op, root, ctx)?;
             ctx.well_formed();
-            note(work, used, ctx)?;
+            note(worklist, used, ctx)?;
             Ok(had)
         }
-        Candidate::Argument(value) => match value.def(ctx) {
+        DeadCandidate::Argument(value) => match value.def(ctx) {
             Def::Argument(block, index) => {
                 incoming.add::<D>(alloc, block, index, root, ctx)?;
                 let edges = incoming.edges_to(block);
-                let lost = take_argument::<D>(alloc, block, index, edges, root, ctx)?;
+                let lost = erase_dead_argument::<D>(alloc, block, index, edges, root, ctx)?;
                 ctx.well_formed();
-                note(work, &lost, ctx)?;
+                note(worklist, &lost, ctx)?;
                 Ok(false)
             }
             Def::Result(_, _) => unreachable!(),
@@ -81,23 +81,23 @@ fn take_one<D: Dialect>(
     }
 }
 
-// What is ready goes, until nothing is. Answers whether something went, and whether regions did.
-fn take_all<D: Dialect>(
+// What is ready is erased, until nothing is. Answers whether something was erased, and whether regions were.
+fn erase_all_dead<D: Dialect>(
     alloc: Global,
     root: Ptr<Operation>,
-    work: &mut Work,
+    worklist: &mut Worklist,
     incoming: &mut Incoming,
     predecessors: &Predecessors,
     ctx: &mut Context,
 ) -> Result<(IRStatus, bool), OptError>
     requires live { IsLive ctx.old.tree root }
     requires linked { IsWellLinked D.meaning ctx.old.tree root }
-    requires all { HasReady D.meaning D.side_effects D.removable ctx.old.tree root (waiting work.old) }
-    requires closed { AreClosed ctx.old.tree work.old.around.keys }
+    requires all { HasReady D.meaning D.side_effects D.removable ctx.old.tree root (pending_candidates worklist.old) }
+    requires closed { AreClosed ctx.old.tree worklist.old.around.keys }
     requires known { AreKnown D.meaning ctx.old.tree root (λ b. list_of incoming.old b) }
     requires marked { AreMarked D.meaning ctx.old.tree root (λ b. mark_of predecessors.now b) }
     ensures gone { (gone : List Item) × IsSweptSoFar D.meaning D.shortened D.side_effects D.removable ctx.old.tree ctx.new.tree root gone ×
-        IfOk result (λ a. LeavesNoDead D.meaning D.side_effects D.removable ctx.old.tree ctx.new.tree root × TellsGone gone a.0 × (IsTrue a.1 ↔
+        IfOk result (λ a. LeavesNoDead D.meaning D.side_effects D.removable ctx.old.tree ctx.new.tree root × ReportsErased gone a.0 × (IsTrue a.1 ↔
         SomeHasRegions ctx.old.tree gone)) }
     ensures edges { IfOk result (λ a. (IsTrue a.1 → ⊥) → KeepsEdges ctx.old.tree ctx.new.tree) }
     ensures memory { IsOkUnless result OptError.Memory }
@@ -105,9 +105,9 @@ fn take_all<D: Dialect>(
     let mut used = Vec::new(alloc);
     let mut status = IRStatus::Unchanged;
     let mut regions = false;
-    while let Some(next) = next_ready::<D>(alloc, work, predecessors, root, ctx)? {
+    while let Some(next) = next_ready::<D>(alloc, worklist, predecessors, root, ctx)? {
         ctx.well_formed();
-        let taken = take_one::<D>(alloc, next, root, work, incoming, &mut used, ctx);
+        let taken = erase_one::<D>(alloc, next, root, worklist, incoming, &mut used, ctx);
         ctx.well_formed();
         let had = taken?;
         regions = either(regions, had);
@@ -116,13 +116,13 @@ fn take_all<D: Dialect>(
     Ok((status, regions))
 }
 
-// What is ready goes, until nothing is. Answers whether something went, and whether regions did. No row stays
-// indexed, also after an error.
+// What is ready is erased, until nothing is. Answers whether something was erased, and whether regions were. No
+// list stays indexed, also after an error.
 pub(crate) fn sweep<D: Dialect>(
     alloc: Global,
     root: Ptr<Operation>,
-    candidates: Vec<Candidate>,
-    looks: Looks,
+    candidates: Vec<DeadCandidate>,
+    scans: ScanPositions,
     predecessors: &Predecessors,
     ctx: &mut Context,
 ) -> Result<(IRStatus, bool), OptError>
@@ -131,14 +131,14 @@ pub(crate) fn sweep<D: Dialect>(
     requires all { HasReady D.meaning D.side_effects D.removable ctx.old.tree root candidates.items }
     requires marked { AreMarked D.meaning ctx.old.tree root (λ b. mark_of predecessors.now b) }
     ensures gone { (gone : List Item) × IsSweptSoFar D.meaning D.shortened D.side_effects D.removable ctx.old.tree ctx.new.tree root gone ×
-        IfOk result (λ a. LeavesNoDead D.meaning D.side_effects D.removable ctx.old.tree ctx.new.tree root × TellsGone gone a.0 × (IsTrue a.1 ↔
+        IfOk result (λ a. LeavesNoDead D.meaning D.side_effects D.removable ctx.old.tree ctx.new.tree root × ReportsErased gone a.0 × (IsTrue a.1 ↔
         SomeHasRegions ctx.old.tree gone)) }
     ensures edges { IfOk result (λ a. (IsTrue a.1 → ⊥) → KeepsEdges ctx.old.tree ctx.new.tree) }
     ensures memory { IsOkUnless result OptError.Memory }
 {
-    let mut work = Work::new(alloc, candidates, looks);
+    let mut worklist = Worklist::new(alloc, candidates, scans);
     let mut incoming = Incoming::new(alloc);
-    let swept = take_all::<D>(alloc, root, &mut work, &mut incoming, predecessors, ctx);
+    let swept = erase_all_dead::<D>(alloc, root, &mut worklist, &mut incoming, predecessors, ctx);
     incoming.settle(ctx);
     swept
 }

@@ -1,5 +1,5 @@
-//! Texts in which values of boxes are used outside by boxes that go one by one, each only after the last, with
-//! what is left of each, as in `cases`.
+//! Texts in which values of boxes are used outside by boxes that are erased one by one, each only after the
+//! last, with what is left of each, as in `cases`.
 
 pub static BOXES: &str = "\
 C func { b0(): box { b0(): r0 = read; r1 = read; r2 = read }; box { b0(): q0 = read; print r0; print q1 }; \

@@ -1,4 +1,4 @@
-//! Texts, and what is left of them. `C` stands before one that changes, `U` before one that does not.
+//! Texts, and what is left of them. `C` is before one that changes, `U` before one that does not.
 //!
 //! `ROWS` were worked out by hand. The others are texts made at random, whose dead operations and
 //! arguments a plain fixpoint outside this repository found: nothing is dead at first, and in each round

@@ -1,5 +1,5 @@
-//! Texts made at random in which uses may stand anywhere, and edges may forward too few values or too
-//! many, with what is left of each, as in `cases`. `C` stands before one that changes, `U` before one that does not.
+//! Texts made at random in which uses may stand anywhere, and edges may forward too few values or too many,
+//! with what is left of each, as in `cases`. `C` is before one that changes, `U` before one that does not.
 
 pub static HOSTILE: &str = "\
 U func { b0(v0): v1 = add v1 v0; print v1; br b0() } => func { b0(v0): v1 = add v1 v0; print v1; br b0() }

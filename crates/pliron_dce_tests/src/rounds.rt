@@ -1,10 +1,10 @@
-//! The dead of each text found by a plain fixpoint, and compared with what `dce` takes out.
+//! The dead of each text found by a plain fixpoint, and compared with what `dce` erases.
 //!
-//! Nothing is dead at first. Each round goes over everything in the text, and takes for dead what only
-//! dead things use, until a round finds nothing. Uses are found by going over all operands of all
+//! Nothing is dead at first. Each round goes over everything in the text, and takes for dead what only dead
+//! operations and arguments use, until a round finds nothing. Uses are found by going over all operands of all
 //! operations; the lists of uses that the tree keeps are never asked.
 ghost use Rattle.std.specs.Prelude.{◌≡◌, Some};
-ghost use Rattle.pliron_core.specs.Tree.{IsLive, IsBlock, IsDefined, block_holder_of};
+ghost use Rattle.pliron_core.specs.Tree.{IsLive, IsBlock, IsDefined, block_parent_operation_of};
 
 use super::boxes::BOXES;
 use super::cases::{DEFINED, ROWS};
@@ -29,8 +29,7 @@ enum Thing {
     Argument(Value),
 }
 
-// All things within the root go to the list: the operations, each followed by the arguments of the blocks
-// that it holds.
+// All candidates within the root are listed: the operations, each followed by the arguments of its blocks.
 fn list_things(things: &mut Vec<Thing>, root: Ptr<Operation>, ctx: &Context) -> Result<(), Fail>
     requires { IsLive ctx.now.tree root }
 {
@@ -86,15 +85,15 @@ fn list_from(
     Err(Fail::from("too many blocks"))
 }
 
-// Whether the operation is this one or stands inside it.
+// Whether the operation is this one or is inside it.
 fn is_within(op: Ptr<Operation>, around: Ptr<Operation>, ctx: &Context) -> bool {
     op == around || (op.is_live(ctx) && op.is_inside(around, ctx))
 }
 
-// The operation that holds the block directly.
-fn holder_of(block: Ptr<BasicBlock>, ctx: &Context) -> Ptr<Operation>
+// The parent operation of the block.
+fn parent_operation_of(block: Ptr<BasicBlock>, ctx: &Context) -> Ptr<Operation>
     requires { IsBlock ctx.now.tree block }
-    ensures holder { block_holder_of ctx.now.tree block ≡ Some result }
+    ensures holder { block_parent_operation_of ctx.now.tree block ≡ Some result }
     ensures live { IsLive ctx.now.tree result }
 {
     ctx.well_formed();
@@ -104,7 +103,7 @@ fn holder_of(block: Ptr<BasicBlock>, ctx: &Context) -> Ptr<Operation>
     }
 }
 
-// The argument at this place of the block that the edge goes to.
+// The argument at this place of the block that the edge leads to.
 fn argument_at(user: Ptr<Operation>, edge: usize, j: usize, ctx: &Context) -> Option<Value>
     requires { IsLive ctx.now.tree user }
 {
@@ -144,8 +143,8 @@ fn forwarded_to(
     }
 }
 
-// Whether the use of the value by this operation keeps the thing: a use of the argument; a use of a
-// result of the operation, or one outside it of a value made inside it.
+// Whether the use of the value by this operation keeps it alive: a use of the argument; a use of a result of
+// the operation, or one outside it of a value defined inside it.
 fn is_kept_by(thing: Thing, user: Ptr<Operation>, value: Value, ctx: &Context) -> bool
     requires { IsDefined ctx.now.tree value }
 {
@@ -158,7 +157,7 @@ fn is_kept_by(thing: Thing, user: Ptr<Operation>, value: Value, ctx: &Context) -
             maker == op || (is_within(maker, op, ctx) && !is_within(user, op, ctx))
         }
         Def::Argument(block, _) => {
-            is_within(holder_of(block, ctx), op, ctx) && !is_within(user, op, ctx)
+            is_within(parent_operation_of(block, ctx), op, ctx) && !is_within(user, op, ctx)
         }
     }
 }
@@ -186,7 +185,7 @@ fn is_dead_use(
     Ok(false)
 }
 
-// Whether a use by this operation keeps the thing.
+// Whether a use by this operation keeps it alive.
 fn keeps(
     alloc: Global,
     dead: &[Thing],
@@ -208,7 +207,7 @@ fn keeps(
     Ok(false)
 }
 
-// Whether some use keeps the thing.
+// Whether some use keeps it alive.
 fn is_kept(
     alloc: Global,
     things: &[Thing],
@@ -248,7 +247,7 @@ fn is_led_to_by_branches(things: &[Thing], block: Ptr<BasicBlock>, ctx: &Context
     true
 }
 
-// Whether the thing may go where nothing uses it.
+// Whether it may be erased where nothing uses it.
 fn may_go(things: &[Thing], root: Ptr<Operation>, thing: Thing, ctx: &Context) -> bool {
     match thing {
         Thing::Operation(op) => {
@@ -267,7 +266,7 @@ fn may_lose(things: &[Thing], value: Value, ctx: &Context) -> bool
     let Def::Argument(block, _) = value.def(ctx) else {
         return false;
     };
-    let holder = holder_of(block, ctx);
+    let holder = parent_operation_of(block, ctx);
     Bench::can_remove_block_args(holder, ctx, block) == Some(true)
         && is_led_to_by_branches(things, block, ctx)
 }
@@ -308,7 +307,7 @@ fn find_dead(
     Err(Fail::from("rounds without end"))
 }
 
-// Whether the thing is neither dead nor inside something dead.
+// Whether it is neither dead nor inside something dead.
 fn stays(dead: &[Thing], thing: Thing, ctx: &Context) -> bool {
     let site = match thing {
         Thing::Operation(op) => op,
@@ -317,7 +316,7 @@ fn stays(dead: &[Thing], thing: Thing, ctx: &Context) -> bool {
                 return false;
             }
             match value.def(ctx) {
-                Def::Argument(block, _) => holder_of(block, ctx),
+                Def::Argument(block, _) => parent_operation_of(block, ctx),
                 Def::Result(op, _) => op,
             }
         }
@@ -361,7 +360,7 @@ fn compare(
     Ok(())
 }
 
-// For each thing whether it stays.
+// For each candidate whether it stays.
 fn list_left(
     alloc: Global,
     things: &[Thing],

@@ -1,9 +1,9 @@
 //! Texts whose edges to one block forward different numbers of values, some none and some too many, with what
 //! is left of each, as in `cases`. What is left was worked out by hand.
 //!
-//! In the rows with many `br b1()`, eight edges or more lead to `b1`: where a `fork` leads there too, its arguments
-//! stay, whether it is asked first or last, and when nothing uses them only in a later round. A `fork` in a box goes
-//! with the box.
+//! In the rows with many `br b1()`, eight edges or more lead to `b1`: where a `fork` leads there too, its
+//! arguments stay, whether it is asked first or last, and when nothing uses them only in a later round. A
+//! `fork` in a box is erased with the box.
 
 pub static SHORT: &str = "\
 C func { b0(): ret; b1(v0, v1, v2): ret v1; b2(): br b1(); b3(): br b1() } => func { b0(): ret; b1(v0): ret v0; b2(): br b1(); b3(): br b1() }

@@ -8,10 +8,10 @@ use super::cases::{DEFINED, ROWS};
 use super::hostile::HOSTILE;
 use super::short::SHORT;
 use pliron_bench::Bench;
-use pliron_cases::cases::operation_at;
 use pliron_core::{Context, IRStatus, Operation, Ptr};
 use pliron_dce::dce;
 use pliron_notation::{print_text, read_text};
+use pliron_test_cases::cases::operation_at;
 use std::alloc::Global;
 use std::process::Abort;
 use std::test::Fail;
@@ -109,7 +109,7 @@ fn edges_that_forward_too_few(rt: HostRuntime) -> Result<(), Fail> {
     check_all(&rt, rt.alloc(), SHORT)
 }
 
-// What is left of the whole where the root stands inside it.
+// What is left of the whole where the root is inside it.
 fn left_around(
     rt: &impl Abort,
     alloc: Global,
@@ -128,7 +128,7 @@ fn left_around(
     left_of(rt, alloc, ctx, whole, root, IRStatus::Changed)
 }
 
-// Only what is inside the root goes.
+// Only what is inside the root is erased.
 fn nested_root(rt: &impl Abort, alloc: Global, ctx: &mut Context) -> Result<(), Fail> {
     let text = "func { b0(): k = const 4; box { b0(): sink k }; ret }";
     let Some(whole) = read_text(alloc, text.as_bytes(), ctx)? else {

@@ -1,5 +1,6 @@
-//! Blocks with many arguments that feed one another and go one by one: the first, the last, the second, the last but
-//! one, and so on. What is left was worked out by hand, and is the same for every number of arguments.
+//! Blocks with many arguments that feed one another and are removed one by one: the first, the last, the
+//! second, the last but one, and so on. What is left was worked out by hand, and is the same for every number
+//! of arguments.
 ghost use Rattle.std.specs.Prelude.{◌<◌};
 
 use super::texts::check;
@@ -33,7 +34,7 @@ func { b0(): o = const 1; br b1(%ones%, %ones%); b1(%front%, %back%): box { b0()
     => func { b0(): br b1(); b1(): br b1() }
 ";
 
-// How many arguments are in a half. A row of 64 is a short one, and one of 66 has an index.
+// How many arguments are in a half. A list of 64 is a short one, and one of 66 has an index.
 static HALVES: [u8; 4] = [3, 32, 33, 150];
 
 // The number of the value that a word names at this place, if it is not `o`.
@@ -85,7 +86,7 @@ fn is_word(piece: &str) -> bool {
 }
 
 // The case, with values in place of its words.
-fn filled(rt: &impl Abort, alloc: Global, case: &str, half: usize) -> String
+fn fill_case(rt: &impl Abort, alloc: Global, case: &str, half: usize) -> String
     requires { half < 256 }
 {
     let mut text = String::new(alloc);
@@ -105,7 +106,7 @@ fn check_filled(rt: &impl Abort, alloc: Global, case: &str, half: usize) -> Resu
     let Some((before, after)) = case.split_once(" => ") else {
         return Err(Fail::from("no arrow"));
     };
-    let text = filled(rt, alloc, before, half);
+    let text = fill_case(rt, alloc, before, half);
     check(rt, alloc, text.as_str(), after, IRStatus::Changed)
 }
 

@@ -12,14 +12,14 @@ use Rattle.pliron_core.specs.Tree.{Tree, IsLive, head_of, operands_of, successor
 use Rattle.pliron_laws.specs.Datum.{Head, Shape}
 use Rattle.pliron_laws.specs.Tree.{Operation, op_at, op_with, shape_of}
 use Rattle.pliron_laws.specs.Acting.{pick}
-use Rattle.pliron_laws.specs.InPlace.{materialising}
+use Rattle.pliron_laws.specs.InPlace.{materialising_outcome}
 use Rattle.pliron_laws.specs.Answers.{AreForwarded, IsForwardedAt, IsForwardedOnce, ReadsHead, ReadsShape, ReadsEdges, HeadPasses}
 use Rattle.pliron_laws.proofs.ShapeLemmas.{head_at, operands_at}
 use Rattle.pliron_dialects.specs.declared.form.Form.{Form}
 use Rattle.pliron_dialects.specs.declared.form.Form.TheVariants.{Constant, Computes, Jumps, Branches, Leaves, Acts}
 use Rattle.pliron_dialects.specs.BranchLaws.{distinct}
 use Rattle.pliron_dialects.specs.Numbers.{known_number_at}
-use Rattle.pliron_dialects.specs.Forms.{by_form, places_by_form, forwards_nothing, is_constant, folds_branch_of, answer_of, answers_of, feasible_of, no_jump, taken}
+use Rattle.pliron_dialects.specs.Forms.{by_form, places_by_form, forwards_nothing, is_constant, folds_branch_of, answer_of, answers_of, feasible_of, no_jump, edges_taken}
 use Rattle.pliron_dialects.specs.Roles.{Role, Tables, by_role, role_at, form_at, form_of, value_of, meaning_by}
 use Rattle.pliron_dialects.specs.RoleTables.{answers_by, constants_by, accepts_numbers, constant_head_of, branch_folds_by, feasible_by}
 use Rattle.pliron_dialects.specs.RoleOutcomes.{form_in, fold_of, outcome_by}
@@ -54,18 +54,18 @@ successors_with t op o at = go (head_of t op) at
     go None e = grind arith
     go (Some h) e = sym (ap (λ z. z.successors) (same_Some _ o e))
 
-form_taken : (f : Form) (targets : List ℕ) (known : List (Option AttrObj)) → IsTrue (folds_branch_of f) → taken targets (known_number_at known 0) ≡ feasible_of f targets known
+form_taken : (f : Form) (targets : List ℕ) (known : List (Option AttrObj)) → IsTrue (folds_branch_of f) → edges_taken targets (known_number_at known 0) ≡ feasible_of f targets known
 form_taken Branches targets known f = refl
 form_taken _ targets known f = grind arith
 
-branch_taken : (o : Option Form) (targets : List ℕ) (known : List (Option AttrObj)) → IsTrue (by_form false folds_branch_of o) → taken targets (known_number_at known 0) ≡ by_form no_jump feasible_of o targets known
+branch_taken : (o : Option Form) (targets : List ℕ) (known : List (Option AttrObj)) → IsTrue (by_form false folds_branch_of o) → edges_taken targets (known_number_at known 0) ≡ by_form no_jump feasible_of o targets known
 branch_taken None targets known f = grind arith
 branch_taken (Some k) targets known f = form_taken k targets known f
 
-pub taken_read : (roles : ℕ → Option Role) (t : Tree) (op : ℕ) (known : List (Option AttrObj)) (items : List ℕ) → HeadPasses (branch_folds_by roles) t op → items ≡ taken (successors_of t op) (known_number_at known 0) → ReadsEdges (meaning_by roles) (λ s targets. feasible_by roles s targets known) t op items
+pub taken_read : (roles : ℕ → Option Role) (t : Tree) (op : ℕ) (known : List (Option AttrObj)) (items : List ℕ) → HeadPasses (branch_folds_by roles) t op → items ≡ edges_taken (successors_of t op) (known_number_at known 0) → ReadsEdges (meaning_by roles) (λ s targets. feasible_by roles s targets known) t op items
 unfolding branch_folds_by feasible_by shape_of
 taken_read roles t op known items g i = λ o at.
-    i ∙ ap (λ z. taken z (known_number_at known 0)) (sym (successors_with t op o at)) ∙ branch_taken (form_at roles o.head.kind) o.successors known (g o.head (head_at t op o at))
+    i ∙ ap (λ z. edges_taken z (known_number_at known 0)) (sym (successors_with t op o at)) ∙ branch_taken (form_at roles o.head.kind) o.successors known (g o.head (head_at t op o at))
 
 -- ---- places
 
@@ -120,7 +120,7 @@ form_stays : (roles : ℕ → Option Role) (n : ℕ) (k : Option Form) (t : Tree
 form_stays roles n (Some Constant) t op known e = (refl, refl)
 form_stays roles n _ t op known e = grind arith
 
-form_folds : (roles : ℕ → Option Role) (n : ℕ) (k : Option Form) (t u : Tree) (op : ℕ) (known : List (Option AttrObj)) (answer : Option IRStatus) → is_constant k ≡ false → materialising (meaning_by roles) (constants_by roles) accepts_numbers (constant_head_of n) t u op known answer → fold_of roles n k t u op known answer
+form_folds : (roles : ℕ → Option Role) (n : ℕ) (k : Option Form) (t u : Tree) (op : ℕ) (known : List (Option AttrObj)) (answer : Option IRStatus) → is_constant k ≡ false → materialising_outcome (meaning_by roles) (constants_by roles) accepts_numbers (constant_head_of n) t u op known answer → fold_of roles n k t u op known answer
 form_folds roles n (Some Constant) t u op known answer e m = grind arith
 form_folds roles n _ t u op known answer e m = m
 
@@ -132,6 +132,6 @@ pub constant_stays : (roles : ℕ → Option Role) (n : ℕ) (t : Tree) (op : �
 unfolding outcome_by
 constant_stays roles n t op known b live r e = form_stays roles n (form_in roles (head_of t op)) t op known (sym (head_form roles t op b (head_of t op) live refl r) ∙ e)
 
-pub others_fold : (roles : ℕ → Option Role) (n : ℕ) (t u : Tree) (op : ℕ) (known : List (Option AttrObj)) (b : Bool) (answer : Option IRStatus) → IsLive t op → ReadsHead (λ h. is_constant (form_at roles h.kind)) t op b → b ≡ false → materialising (meaning_by roles) (constants_by roles) accepts_numbers (constant_head_of n) t u op known answer → outcome_by roles n t u op known answer
+pub others_fold : (roles : ℕ → Option Role) (n : ℕ) (t u : Tree) (op : ℕ) (known : List (Option AttrObj)) (b : Bool) (answer : Option IRStatus) → IsLive t op → ReadsHead (λ h. is_constant (form_at roles h.kind)) t op b → b ≡ false → materialising_outcome (meaning_by roles) (constants_by roles) accepts_numbers (constant_head_of n) t u op known answer → outcome_by roles n t u op known answer
 unfolding outcome_by
 others_fold roles n t u op known b answer live r e m = form_folds roles n (form_in roles (head_of t op)) t u op known answer (sym (head_form roles t op b (head_of t op) live refl r) ∙ e) m

@@ -106,7 +106,7 @@ makes_constants roles n e = λ attr h. record {
   gives = subst (λ z. by_role no_act act_of z (constant_shape (head_with_attribute n attr)) Empty [] ≡ act_of Constant (constant_shape (head_with_attribute n attr)) Empty []) (sym e) refl;
 }
 
--- ---- operands of visits, and roots
+-- ---- operands of invocations, and roots
 
 pub names_operands : (roles : ℕ → Option Role) → NamesOperands (meaning_by roles) names_none (λ h. interfaces_by roles h RegionBranch)
 names_operands roles = none_are_named (meaning_by roles) (λ h. interfaces_by roles h RegionBranch)

@@ -9,7 +9,7 @@ use Rattle.pliron_laws.specs.Datum.{Datum, Number, Head, Shape, Move, Give, Visi
 use Rattle.pliron_laws.specs.Acting.{Known}
 use Rattle.pliron_laws.specs.Folding.{AnswersTrue, AnswersJumps}
 use Rattle.pliron_dialects.specs.Numbers.{whole_number_of, nth_number, known_as, known_number_at, all_known, with_number}
-use Rattle.pliron_dialects.specs.Forms.{by_form, edge_by_condition, branches, folds_of, folds_branch_of, only_successor, taken as taken_of, feasible_of, no_jump}
+use Rattle.pliron_dialects.specs.Forms.{by_form, edge_by_condition, branches, folds_of, folds_branch_of, only_successor, edges_taken as taken_of, feasible_of, no_jump}
 use Rattle.pliron_dialects.specs.Roles.{Role, Constant, Computes, Jumps, Branches, Leaves, Acts, by_role, form_of, condition_of, act_of, no_act, meaning_by}
 use Rattle.pliron_dialects.specs.RoleTables.{folds_by, answers_by, constants_by, branch_folds_by, feasible_by}
 use Rattle.pliron_dialects.specs.RoleParts.{Admits, of_role, one_result, IsQuiet, comes_first}
@@ -47,7 +47,7 @@ all_agree (Some a ∷ known) (d ∷ ds) h = one_more_agrees (whole_number_of d) 
 
 -- ---- constants
 
--- where the move gives results, they are the known constants
+-- where the transition gives results, they are the known constants
 abbrev GivesKnown : List (Option AttrObj) → Move → Type 0
 GivesKnown cs (Give ds) = Known cs ds
 GivesKnown cs (Visit i ds memo) = Unit {0}
@@ -144,7 +144,7 @@ feasible_in : (o : Option Role) (targets : List ℕ) (known : List (Option AttrO
 feasible_in None targets known b h = h
 feasible_in (Some r) targets known b h = role_in r targets known b h
 
--- where the move is a jump, it is one to one of these successors
+-- where the transition is a jump, it is one to one of these successors
 abbrev JumpsWithin : List ℕ → List ℕ → Move → Type 0
 JumpsWithin targets blocks (Goto i ds) = (b : ℕ) → slice_get targets i ≡ Some b → In b blocks
 JumpsWithin targets blocks (Give ds) = Unit {0}

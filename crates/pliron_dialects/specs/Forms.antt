@@ -145,7 +145,7 @@ effects_of (Computes n) = Some false
 effects_of Acts = Some true
 effects_of _ = None
 
--- arguments may go of all blocks of a region but its entry
+-- arguments may be removed from all blocks of a region but its entry
 abbrev pub removable_of : Form → Bool → Option Bool
 removable_of Acts entry = Some (not entry)
 removable_of _ entry = None
@@ -184,12 +184,12 @@ only_successor None = []
 only_successor (Some b) = b ∷ []
 
 -- a branch folds to the one block that it takes where its condition is known
-abbrev pub taken : List ℕ → Option ℤ → List ℕ
-taken targets None = targets
-taken targets (Some c) = only_successor (slice_get targets (edge_by_condition c))
+abbrev pub edges_taken : List ℕ → Option ℤ → List ℕ
+edges_taken targets None = targets
+edges_taken targets (Some c) = only_successor (slice_get targets (edge_by_condition c))
 
 abbrev pub feasible_of : Form → List ℕ → List (Option AttrObj) → List ℕ
-feasible_of Branches targets known = taken targets (known_number_at known 0)
+feasible_of Branches targets known = edges_taken targets (known_number_at known 0)
 feasible_of _ targets known = targets
 
 abbrev pub no_jump : List ℕ → List (Option AttrObj) → List ℕ

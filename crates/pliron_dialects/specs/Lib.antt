@@ -4,7 +4,7 @@ pub mod Roles
 pub mod Visits
 pub mod RoleTables
 pub mod RoleOutcomes
-pub mod Places
+pub mod EdgeRanges
 pub mod RoleParts
 pub mod CountLaws
 pub mod FoldLaws

@@ -7,8 +7,8 @@ use Rattle.pliron_core.specs.declared.attrs.AttrObj.{AttrObj}
 use Rattle.pliron_core.specs.declared.attrs.IRStatus.{IRStatus}
 use Rattle.pliron_core.specs.declared.attrs.IRStatus.TheVariants.{Unchanged}
 use Rattle.pliron_core.specs.Tree.{Tree, no_entry, row_of, head_of, parent_of}
-use Rattle.pliron_core.specs.Writes.{created, put_next_to, taken_from, taken_out}
-use Rattle.pliron_core.specs.Erased.{erased, is_met_above}
+use Rattle.pliron_core.specs.Writes.{after_creating, put_next_to, taken_from, taken_out}
+use Rattle.pliron_core.specs.Erased.{after_erasing, is_met_above}
 use Rattle.pliron_core.specs.Changes.{IsSameTree}
 use Rattle.pliron_core.proofs.SameTreeLemmas.{same_refl}
 use Rattle.pliron_core.proofs.HoldingLemmas.{past_live}
@@ -24,7 +24,7 @@ use Rattle.pliron_laws.specs.Outcomes.MaterialisesSome.{Rest}
 use Rattle.pliron_laws.specs.OutcomeLaws.{folds_by_constants}
 use Rattle.pliron_laws.specs.Replacing.{FoldsBranch, ReplacesBranch, JumpsTo, branch_shape, branch_replaced, with_edges}
 use Rattle.pliron_laws.specs.Replacing.FoldsBranch.{Kept, Replaced}
-use Rattle.pliron_laws.specs.InPlace.{FoldsInPlace, TellsChange}
+use Rattle.pliron_laws.specs.InPlace.{FoldsInPlace, ReportsChange}
 use Rattle.pliron_laws.specs.PlaceLaws.{pick_all}
 use Rattle.pliron_dialects.specs.Numbers.{known_number_at}
 use Rattle.pliron_dialects.specs.Forms.{by_form, first_edge_operands, head_of_kind, edge_by_condition, edge_values, branches}
@@ -32,7 +32,7 @@ use Rattle.pliron_dialects.specs.Roles.{Role, Constant, Computes, Jumps, Branche
 use Rattle.pliron_dialects.specs.RoleTables.{constants_by, accepts_numbers, constant_head_of}
 use Rattle.pliron_dialects.specs.RoleOutcomes.{form_in, fold_of, outcome_by, known_edge, admits_shape, BecomesJump, JumpsWhereKnown, branch_outcome_by}
 use Rattle.pliron_dialects.specs.RoleParts.{Admits, comes_first}
-use Rattle.pliron_dialects.specs.Places.{same_data}
+use Rattle.pliron_dialects.specs.EdgeRanges.{same_data}
 use Rattle.pliron_dialects.specs.FoldLaws.{Agrees, known_agrees, branch_quiet}
 use Rattle.pliron_dialects.specs.BranchLaws.{edge_places, passes, goto_alike, nowhere}
 
@@ -47,18 +47,18 @@ taken_rows : (t : Tree) (op : ℕ) (o : Option ℕ) → (taken_from t op o).oper
 taken_rows t op None = refl
 taken_rows t op (Some b) = refl
 
--- what is erased has no row
-gone : (t : Tree) (op : ℕ) → op < length t.operations → row_of (erased t op) op ≡ no_entry
+-- what is erased has no entry
+gone : (t : Tree) (op : ℕ) → op < length t.operations → row_of (after_erasing t op) op ≡ no_entry
 gone t op lt = blanked_gone (λ k. is_met_above (taken_out t op) (nat_eq op) (Some k)) no_entry (taken_out t op).operations op (met_itself (taken_out t op) op (subst (λ z. op < length z) (sym (taken_rows t op (parent_of t op))) lt))
 
 longer : {A : Type 0} (xs : List A) (y : A) (k : ℕ) → k < length xs → k < length (xs ++ y ∷ [])
 longer xs y k lt = omega (arith, length-append xs (y ∷ []), lt)
 
--- the branch that was replaced stands no more
+-- the branch that was replaced is erased
 replaced_gone : (t : Tree) (op : ℕ) (head : Head) (operands successors : List ℕ) → op < length t.operations → row_of (branch_replaced t op head operands successors) op ≡ no_entry
 replaced_gone t op head operands successors lt =
-    gone (put_next_to (with_edges (created t head 0 0) (next_op t) operands successors) (next_op t) op (parent_of t op)) op
-    (subst (λ z. op < length z) (sym (put_rows (with_edges (created t head 0 0) (next_op t) operands successors) (next_op t) op (parent_of t op))) (longer t.operations _ op lt))
+    gone (put_next_to (with_edges (after_creating t head 0 0) (next_op t) operands successors) (next_op t) op (parent_of t op)) op
+    (subst (λ z. op < length z) (sym (put_rows (with_edges (after_creating t head 0 0) (next_op t) operands successors) (next_op t) op (parent_of t op))) (longer t.operations _ op lt))
 
 head_with : (t : Tree) (k : ℕ) (o : Operation) (h : Option Head) → op_with t k h ≡ Some o → h ≡ Some o.head
 head_with t k o None e = grind arith
@@ -77,8 +77,8 @@ differs t t' op h e f s = let none : None ≡ Some h = ap (λ z. z.head) (sym f 
 module _ (roles : ℕ → Option Role) (n : ℕ) where
   -- ---- constants
 
-  constant_within : (k : Option Form) (t t' : Tree) (op : ℕ) (known : List (Option AttrObj)) (answer : Option IRStatus) (o : Operation) → op_at t op ≡ Some o → fold_of roles n k t t' op known answer → MaterialisesSome accepts_numbers (constant_head_of n) op o.results (constants_by roles (shape_of (meaning_by roles) t o) known) t t' × TellsChange answer t t'
-  constant_within (Some ConstantForm) t t' op known answer o at h = (Rest (same_tree t t' h.0), subst (λ a. TellsChange a t t') (sym h.1) (same_tree t t' h.0))
+  constant_within : (k : Option Form) (t t' : Tree) (op : ℕ) (known : List (Option AttrObj)) (answer : Option IRStatus) (o : Operation) → op_at t op ≡ Some o → fold_of roles n k t t' op known answer → MaterialisesSome accepts_numbers (constant_head_of n) op o.results (constants_by roles (shape_of (meaning_by roles) t o) known) t t' × ReportsChange answer t t'
+  constant_within (Some ConstantForm) t t' op known answer o at h = (Rest (same_tree t t' h.0), subst (λ a. ReportsChange a t t') (sym h.1) (same_tree t t' h.0))
   constant_within _ t t' op known answer o at h = folds_by_constants (meaning_by roles) (constants_by roles) accepts_numbers (constant_head_of n) t t' op known answer o at h
 
 -- ---- branches
@@ -138,14 +138,14 @@ module _ (roles : ℕ → Option Role) (m : ℕ) (jumps : roles m ≡ Some Jumps
         differs t t' op o.head (head_at t op o at) (ap (λ z. row_of z op) j.tree ∙ replaced_gone t op (head_of_kind m) j.values (j.block ∷ []) (stands t op o.head (head_at t op o at))),
       )
 
-  kept_within : (t t' : Tree) (op : ℕ) (known : List (Option AttrObj)) (status : IRStatus) → t' ≡ t → status ≡ Unchanged → FoldsBranch (meaning_by roles) op known t t' × TellsChange (Some status) t t'
-  kept_within t t' op known status e f = (Kept (same_tree t t' e), subst (λ a. TellsChange (Some a) t t') (sym f) (same_tree t t' e))
+  kept_within : (t t' : Tree) (op : ℕ) (known : List (Option AttrObj)) (status : IRStatus) → t' ≡ t → status ≡ Unchanged → FoldsBranch (meaning_by roles) op known t t' × ReportsChange (Some status) t t'
+  kept_within t t' op known status e f = (Kept (same_tree t t' e), subst (λ a. ReportsChange (Some a) t t') (sym f) (same_tree t t' e))
 
-  edge_within : (k : Option Form) (a : Bool) (q : Option ℤ) (t t' : Tree) (op : ℕ) (known : List (Option AttrObj)) (o : Operation) (answer : Option IRStatus) → op_at t op ≡ Some o → form_at roles (shape_of (meaning_by roles) t o).head.kind ≡ k → admits_shape roles (shape_of (meaning_by roles) t o) ≡ a → known_number_at known 0 ≡ q → JumpsWhereKnown roles m (known_edge k a q) t t' op o answer → FoldsBranch (meaning_by roles) op known t t' × TellsChange answer t t'
+  edge_within : (k : Option Form) (a : Bool) (q : Option ℤ) (t t' : Tree) (op : ℕ) (known : List (Option AttrObj)) (o : Operation) (answer : Option IRStatus) → op_at t op ≡ Some o → form_at roles (shape_of (meaning_by roles) t o).head.kind ≡ k → admits_shape roles (shape_of (meaning_by roles) t o) ≡ a → known_number_at known 0 ≡ q → JumpsWhereKnown roles m (known_edge k a q) t t' op o answer → FoldsBranch (meaning_by roles) op known t t' × ReportsChange answer t t'
   edge_within k a q t t' op known o None at e f g j = (Kept j, tt)
   edge_within (Some BranchesForm) true (Some c) t t' op known o (Some status) at e f g j =
       let w = jump_within t t' op known o (shape_of (meaning_by roles) t o) c at refl (is_branch_role _ e) f g j.0 in
-      (w.0, subst (λ z. TellsChange (Some z) t t') (sym j.1) w.1)
+      (w.0, subst (λ z. ReportsChange (Some z) t t') (sym j.1) w.1)
   edge_within (Some BranchesForm) true None t t' op known o (Some status) at e f g j = kept_within t t' op known status j.0 j.1
   edge_within (Some BranchesForm) false q t t' op known o (Some status) at e f g j = kept_within t t' op known status j.0 j.1
   edge_within _ a q t t' op known o (Some status) at e f g j = kept_within t t' op known status j.0 j.1

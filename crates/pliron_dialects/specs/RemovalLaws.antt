@@ -17,7 +17,7 @@ use Rattle.pliron_dialects.specs.Roles.{Role, Jumps, Branches, by_role, form_of,
 use Rattle.pliron_dialects.specs.RoleTables.{folds_by, branch_folds_by, is_of_number, interfaces_by, shortened_by}
 use Rattle.pliron_dialects.specs.RoleParts.{Admits, of_role, takes_again, count_below, count_set, count_fits, count_kept, comes_first}
 use Rattle.pliron_dialects.specs.FoldLaws.{branch_quiet}
-use Rattle.pliron_dialects.specs.Places.{range_below, range_without, take_without, drop_without, take_kept, drop_kept, not_cut}
+use Rattle.pliron_dialects.specs.EdgeRanges.{range_below, range_without, take_without, drop_without, take_kept, drop_kept, not_cut}
 use Rattle.pliron_dialects.specs.BranchLaws.{edge_places, alone, some_edge, within, distinct, PassesAt, passes, at_once, goto_alike, nowhere}
 
 -- the tests of the dialect read the same of both heads
@@ -57,7 +57,7 @@ second_edges c n j p zero e = let a = range_at (suc c) (n - suc c) j p e in sym 
 second_edges c n j p (suc zero) e = second_without c (n - suc c) n j p refl e
 second_edges c n j p (suc (suc k)) e = nothing_without (nat_eq (suc (suc k)) 1) p j
 
--- ---- moves
+-- ---- transitions
 
 first_loses : (c c' j p : ℕ) (b : Bool) (first : List Datum) → suc c' ≡ c → p ≡ 1 + j → j ≤ c' → c < length first → MovesAlike PassesSame (JumpsLess 0 j) (Goto (if b then 1 else 0) (edge_values c (if b then 1 else 0) (drop 1 first))) (Goto (if b then 1 else 0) (edge_values c' (if b then 1 else 0) (drop 1 (remove first p))))
 first_loses c c' j p b [] e f le lt = absurd (omega (arith, lt))
@@ -77,7 +77,7 @@ condition_kept [] (suc p) lt = refl
 condition_kept (d ∷ ds) (suc p) lt = refl
 
 module _ (roles : ℕ → Option Role) {K : Type 0} (number_of : K → ℕ) where
-  -- what acts alike at its first move acts alike, where a branch goes on at once
+  -- what acts alike at its first transition acts alike, where a branch goes on at once
   alike_at_once : (s s' : Shape) (first first' : List Datum) (i j : ℕ) → IsTrue ((meaning_by roles).is_branch s.head) → MovesAlike PassesSame (JumpsLess i j) ((meaning_by roles).act s Empty first) ((meaning_by roles).act s' Empty first') → ActAlike (meaning_by roles).act PassesSame (JumpsLess i j) s s' first first'
   unfolding meaning_by
   alike_at_once s s' first first' i j br begin = record {

@@ -8,7 +8,7 @@ use Rattle.pliron_core.specs.Changes.{IsSameTree}
 use Rattle.pliron_laws.specs.Datum.{Head, Shape}
 use Rattle.pliron_laws.specs.Tree.{Operation, op_at, shape_of}
 use Rattle.pliron_laws.specs.Acting.{pick}
-use Rattle.pliron_laws.specs.InPlace.{Outcome, materialising}
+use Rattle.pliron_laws.specs.InPlace.{Outcome, materialising_outcome}
 use Rattle.pliron_laws.specs.Replacing.{branch_replaced}
 use Rattle.pliron_dialects.specs.Numbers.{known_number_at}
 use Rattle.pliron_dialects.specs.declared.form.Form.{Form}
@@ -24,7 +24,7 @@ form_in roles (Some h) = form_at roles h.kind
 -- a constant stays as it is, for all else constants with this number are put
 abbrev pub fold_of : (ℕ → Option Role) → ℕ → Option Form → Outcome
 fold_of roles n (Some Constant) t t' op known answer = (t' ≡ t) × (answer ≡ Some Unchanged)
-fold_of roles n _ t t' op known answer = materialising (meaning_by roles) (constants_by roles) accepts_numbers (constant_head_of n) t t' op known answer
+fold_of roles n _ t t' op known answer = materialising_outcome (meaning_by roles) (constants_by roles) accepts_numbers (constant_head_of n) t t' op known answer
 
 unfoldable pub outcome_by : (ℕ → Option Role) → ℕ → Outcome
 outcome_by roles n t t' op known answer = fold_of roles n (form_in roles (head_of t op)) t t' op known answer
@@ -40,8 +40,8 @@ admits_shape roles s = by_role false (takes_by s.head s.operands s.results s.suc
 abbrev pub edge_under : (ℕ → Option Role) → Shape → List (Option AttrObj) → Option ℕ
 edge_under roles s known = known_edge (form_at roles s.head.kind) (admits_shape roles s) (known_number_at known 0)
 
--- a jump, with this number, to the target of this edge, with the values that the edge forwards, stands in the
--- place of op
+-- a jump, with this number, to the target of this edge, with the values that the edge forwards, takes the place
+-- of op
 pub record BecomesJump (roles : ℕ → Option Role) (n : ℕ) (t t' : Tree) (op : ℕ) (o : Operation) (edge : ℕ) : Type 0 where
   pub block : ℕ
   pub values : List ℕ
@@ -49,7 +49,7 @@ pub record BecomesJump (roles : ℕ → Option Role) (n : ℕ) (t t' : Tree) (op
   pub forwarded : map Some values ≡ pick ((meaning_by roles).forwarded (shape_of (meaning_by roles) t o) edge) o.operands
   pub tree : t' ≡ branch_replaced t op (head_of_kind n) values (block ∷ [])
 
--- where memory was refused the tree is as before, but for spent keys; else the branch stays, or becomes a jump
+-- on allocation failure the tree is as before, but for erased handles; else the branch stays, or becomes a jump
 -- where its edge is known
 abbrev pub JumpsWhereKnown : (ℕ → Option Role) → ℕ → Option ℕ → Tree → Tree → ℕ → Operation → Option IRStatus → Type 0
 JumpsWhereKnown roles n edge t t' op o None = IsSameTree t t'

@@ -19,8 +19,8 @@ pub data Role : Type 0 where
   Branches : Role
   -- it leaves the region with its operands
   Leaves : Role
-  -- it has side effects and no successors, and acts as its own tables say: whether it may have so many operands,
-  -- results and regions, and its moves
+  -- it has side effects and no successors, and acts as its own tables say: whether it may have so many
+  -- operands, results and regions, and its transitions
   Acts : (takes : ℕ → ℕ → ℕ → Bool) (act : Shape → Datum → List Datum → Move) → Role
 
 -- the tables of a dialect: the role of each kind, its number in a head, the kind with a number, and the kinds of
@@ -32,12 +32,12 @@ pub record Tables (K : Type 0) : Type 0 where
   pub constant : K
   pub jump : K
 
--- the moves of what acts by tables of its own hand on as many values as there are places for
+-- the transitions of what acts by tables of its own pass as many values as there are places for
 abbrev pub ActsFit : Role → Type 0
 ActsFit (Acts takes act) = (s : Shape) → IsTrue (takes s.operands s.results (length s.entry_arguments)) → (memo : Datum) (input : List Datum) → CountsFit false s (act s memo input)
 ActsFit _ = Unit {0}
 
--- a number names its kind, constants and jumps are such, and own moves fit
+-- a number names its kind, constants and jumps are such, and own transitions fit
 pub record KeepsTables {K : Type 0} (t : Tables K) : Type 0 where
   pub numbered : (k : K) → t.kind_of (t.number_of k) ≡ Some k
   pub constant : t.role_of t.constant ≡ Constant

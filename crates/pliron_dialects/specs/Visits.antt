@@ -1,15 +1,15 @@
--- Moves of operations that visit their regions, for dialects to cite.
+-- Transitions of operations that invoke their regions, for dialects to cite.
 use Rattle.std.proofs.Common.{◌≡◌, ℕ, zero, suc, Bool, List, [], ◌∷◌, Some, length, slice_get, slice_index_or, refl, ap, ◌∙◌, arith}
 use Rattle.std.specs.Prelude.{pos}
 use Rattle.std.proofs.lemmas.Option.{same_Some}
 use Rattle.pliron_laws.specs.Datum.{Datum, Empty, Number, Text, Join, Shape, Move, Visit}
 use Rattle.pliron_laws.specs.Laws.{CountsFit}
 
--- the memo after a first move
-abbrev pub done : Datum
-done = Number (pos 1)
+-- the memo after a first transition
+abbrev pub memo_when_done : Datum
+memo_when_done = Number (pos 1)
 
--- one move first, the other one when it is done
+-- one transition first, the other one when it is done
 abbrev pub once : Datum → Move → Move → Move
 once Empty move after = move
 once (Number n) move after = after
@@ -17,21 +17,21 @@ once (Text s) move after = after
 once (Join a b) move after = after
 
 -- so many data: cut, or filled with 0
-abbrev pub fitted : ℕ → List Datum → List Datum
-fitted zero ds = []
-fitted (suc n) [] = Number (pos 0) ∷ fitted n []
-fitted (suc n) (d ∷ ds) = d ∷ fitted n ds
+abbrev pub fit_data : ℕ → List Datum → List Datum
+fit_data zero ds = []
+fit_data (suc n) [] = Number (pos 0) ∷ fit_data n []
+fit_data (suc n) (d ∷ ds) = d ∷ fit_data n ds
 
--- the region with this index is visited with these values, as far as its entry has arguments
+-- the region with this index is invoked with these values, as far as its entry has arguments
 abbrev pub visit_of : ℕ → Shape → List Datum → Move
-visit_of i s values = Visit i (fitted (slice_index_or s.entry_arguments i 0) values) done
+visit_of i s values = Visit i (fit_data (slice_index_or s.entry_arguments i 0) values) memo_when_done
 
-pub length-fitted : (n : ℕ) (ds : List Datum) → length (fitted n ds) ≡ n
+pub length-fitted : (n : ℕ) (ds : List Datum) → length (fit_data n ds) ≡ n
 length-fitted zero ds = refl
 length-fitted (suc n) [] = ap suc (length-fitted n [])
 length-fitted (suc n) (d ∷ ds) = ap suc (length-fitted n ds)
 
-entry_fits : (counts : List ℕ) (i : ℕ) (values : List Datum) (n : ℕ) → slice_get counts i ≡ Some n → length (fitted (slice_index_or counts i 0) values) ≡ n
+entry_fits : (counts : List ℕ) (i : ℕ) (values : List Datum) (n : ℕ) → slice_get counts i ≡ Some n → length (fit_data (slice_index_or counts i 0) values) ≡ n
 entry_fits [] i values n e = grind arith
 entry_fits (c ∷ counts) zero values n e = length-fitted c values ∙ same_Some c n e
 entry_fits (c ∷ counts) (suc i) values n e = entry_fits counts i values n e

@@ -11,13 +11,13 @@ ghost use Rattle.pliron_dialects.specs.FoldLaws.{answers_true, answers_jumps};
 ghost use Rattle.pliron_dialects.specs.RemovalLaws.{forwards_operands};
 ghost use Rattle.pliron_dialects.specs.PlaceFolds.{folds_in_place};
 
+use crate::edge_ranges::{
+    all_successors, only_successor, operand_among, operands_at, place_among, places_at, shorten,
+};
 use crate::folds::{answer_of, answers_of, makes_constant};
 use crate::heads::attribute_head;
 use crate::kinds::Kinds;
 use crate::numbers::{edge_of, is_number, known_number};
-use crate::places::{
-    all_successors, only_successor, operand_among, operands_at, place_among, places_at, shorten,
-};
 use crate::replace::jump_in_place;
 use crate::tables::{begins_region, form_at, kind_at};
 use pliron_core::{AttrObj, BasicBlock, Context, IRStatus, Operation, Ptr, Rewriter, Value};
@@ -113,7 +113,7 @@ impl<K: Kinds> ConstFoldInterface for ByKinds<K> {
 
     /// The attribute of a constant; what is computed of the operands, where all are known.
     ///
-    /// Errors: want of memory. Cost: the number of operands, and a copy of the attribute of a constant.
+    /// Errors: allocation failure. Cost: the number of operands, and a copy of the attribute of a constant.
     fn check_fold(
         alloc: Global,
         op: Ptr<Operation>,
@@ -132,7 +132,7 @@ impl<K: Kinds> ConstFoldInterface for ByKinds<K> {
 
     /// A constant stays as it is. For what computes, a constant is put for the result where it is known.
     ///
-    /// Errors: want of memory. Cost: one step for each use of the result.
+    /// Errors: allocation failure. Cost: one step for each use of the result.
     fn fold_in_place<R: Rewriter + Room>(
         alloc: Global,
         op: Ptr<Operation>,
@@ -147,7 +147,7 @@ impl<K: Kinds> ConstFoldInterface for ByKinds<K> {
         }
     }
 
-    /// A constant for a whole number within 64 signed bits. Errors: want of memory. Cost: constant.
+    /// A constant for a whole number within 64 signed bits. Errors: allocation failure. Cost: constant.
     #[tactic(auto, unfolding(crate::specs::RoleTables::accepts_numbers, crate::specs::RoleTables::constant_head_of))]
     fn materialize(
         alloc: Global,
@@ -187,7 +187,7 @@ impl<K: Kinds> BranchOpFoldInterface for ByKinds<K> {
     /// Where the condition is known, the one block that the branch takes: the second one if the
     /// condition counts as 0, else the first one. Both blocks where it is unknown.
     ///
-    /// Errors: want of memory. Cost: constant.
+    /// Errors: allocation failure. Cost: constant.
     fn check_fold(
         alloc: Global,
         op: Ptr<Operation>,
@@ -210,7 +210,7 @@ impl<K: Kinds> BranchOpFoldInterface for ByKinds<K> {
     /// An admitted branch with a known condition becomes a jump to the block that it takes, with the
     /// values that this edge forwards; anything else stays.
     ///
-    /// Errors: want of memory, after which the tree is as it was, but for spent keys. Cost: one step for
+    /// Errors: allocation failure, after which the tree is as it was, but for erased handles. Cost: one step for
     /// each operand.
     fn fold_in_place<R: Rewriter + Room>(
         alloc: Global,
@@ -324,7 +324,7 @@ impl<K: Kinds> Dialect for ByKinds<K> {
     /// Of a jump all operands. Of those of a branch behind the condition, the first edge forwards as many as
     /// the attribute counts, and the second edge the others.
     ///
-    /// Errors: want of memory. Cost: one step for each value.
+    /// Errors: allocation failure. Cost: one step for each value.
     fn successor_operands(
         alloc: Global,
         op: Ptr<Operation>,

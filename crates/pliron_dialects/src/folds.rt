@@ -27,7 +27,7 @@ fn first_attribute(alloc: Global, attrs: &Attrs) -> Result<AttrObj, NoMemory>
 }
 
 // What the kind computes of the operands, where all are known.
-fn computed<K: Kinds>(
+fn compute_fold<K: Kinds>(
     alloc: Global,
     kind: K,
     operand_attrs: &[Option<AttrObj>],
@@ -40,7 +40,7 @@ fn computed<K: Kinds>(
     }
 }
 
-/// The constant of the result of an operation of the kind, where it is known. Errors: want of memory. Cost: the
+/// The constant of the result of an operation of the kind, where it is known. Errors: allocation failure. Cost: the
 /// number of operands, and that of a copy of the attribute of a constant.
 pub fn answer_of<K: Kinds>(
     alloc: Global,
@@ -53,12 +53,12 @@ pub fn answer_of<K: Kinds>(
 {
     match kind.form() {
         Form::Constant => Ok(Some(first_attribute(alloc, &head.attrs)?)),
-        Form::Computes(_) => Ok(computed(alloc, kind, operand_attrs)?),
+        Form::Computes(_) => Ok(compute_fold(alloc, kind, operand_attrs)?),
         _ => Ok(None),
     }
 }
 
-/// The answer for each result of an operation of the form. Errors: want of memory. Cost: constant.
+/// The answer for each result of an operation of the form. Errors: allocation failure. Cost: constant.
 pub fn answers_of(
     alloc: Global,
     form: Form,
@@ -74,7 +74,7 @@ pub fn answers_of(
     Ok(answers)
 }
 
-/// Whether the operation is a constant. Asks that the operation stands (`is_live` tests it). Cost: that of
+/// Whether the operation is a constant. Asks that the operation is live (`is_live` tests it). Cost: that of
 /// `from_number`.
 pub fn makes_constant<K: Kinds>(op: Ptr<Operation>, ctx: &Context) -> bool
     requires { IsLive ctx.now.tree op }

@@ -17,7 +17,7 @@ pub fn plain_head(alloc: Global, number: u32) -> Head
     }
 }
 
-/// The head of an operation of the kind with this number, with one attribute. Errors: want of memory. Cost:
+/// The head of an operation of the kind with this number, with one attribute. Errors: allocation failure. Cost:
 /// constant.
 pub fn attribute_head(
     alloc: Global,

@@ -38,7 +38,7 @@ pub trait Kinds: Copy + Eq {
     fn takes(self, operands: usize, results: usize, regions: usize) -> bool
         ensures { result ≡ own_takes (tables.role_of self) operands results regions };
 
-    // A number names its kind, constants and jumps are such, and own moves pass as many values as there are
-    // places for.
+    // A number names its kind, constants and jumps are such, and own transitions pass as many values as there
+    // are places for.
     ghost keeps_tables: { KeepsTables tables };
 }

@@ -5,12 +5,12 @@
 #![tactic(auto)]
 
 mod by_kinds;
+pub mod edge_ranges;
 mod folds;
 mod form;
 pub mod heads;
 mod kinds;
 pub mod numbers;
-pub mod places;
 mod replace;
 mod tables;
 

@@ -9,7 +9,7 @@ use pliron_core::AttrObj;
 use std::alloc::{AllocFailed, Global};
 
 /// What is left of the number in 64 signed bits. Cost: constant.
-pub fn wrapped(number: i128) -> i64
+pub fn wrap(number: i128) -> i64
     ensures { result ≡ int_wrap w64 number }
 {
     let bits = number.rem_euclid(18_446_744_073_709_551_616);
@@ -28,7 +28,7 @@ pub fn as_number(attr: &AttrObj) -> i64
     ensures { result ≡ number_in (datum_of attr.now) }
 {
     match attr {
-        AttrObj::Int(number) => wrapped(*number),
+        AttrObj::Int(number) => wrap(*number),
         AttrObj::Text(_) => 0,
     }
 }
@@ -84,7 +84,7 @@ pub fn known_number(operand_attrs: &[Option<AttrObj>], i: usize) -> Option<i64>
     }
 }
 
-/// The numbers of all operands, where all are known. Errors: want of memory. Cost: the number of operands.
+/// The numbers of all operands, where all are known. Errors: allocation failure. Cost: the number of operands.
 pub fn known_numbers(
     alloc: Global,
     operand_attrs: &[Option<AttrObj>],

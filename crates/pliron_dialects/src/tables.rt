@@ -12,8 +12,8 @@ use crate::numbers::is_number;
 use pliron_core::{AttrObj, Attrs, BasicBlock, Context, Head, Operation, Ptr};
 use pliron_laws::Interface;
 
-/// The kind of the operation, if it has one. Asks that the operation stands (`is_live` tests it). Cost: that of
-/// `from_number`.
+/// The kind of the operation, if it has one. Asks that the operation is live (`is_live` tests it). Cost: that
+/// of `from_number`.
 pub fn kind_at<K: Kinds>(op: Ptr<Operation>, ctx: &Context) -> Option<K>
     requires { IsLive ctx.now.tree op }
     ensures { ReadsHead (λ h. K.tables.kind_of h.kind) ctx.now.tree op result }
@@ -21,8 +21,8 @@ pub fn kind_at<K: Kinds>(op: Ptr<Operation>, ctx: &Context) -> Option<K>
     K::from_number(op.head(ctx).kind)
 }
 
-/// The form of the operation, if it has one. Asks that the operation stands (`is_live` tests it). Cost: that of
-/// `from_number`.
+/// The form of the operation, if it has one. Asks that the operation is live (`is_live` tests it). Cost: that
+/// of `from_number`.
 pub fn form_at<K: Kinds>(op: Ptr<Operation>, ctx: &Context) -> Option<Form>
     requires { IsLive ctx.now.tree op }
     ensures { ReadsHead (λ h. form_by (role_at K.tables) h.kind) ctx.now.tree op result }
@@ -33,7 +33,7 @@ pub fn form_at<K: Kinds>(op: Ptr<Operation>, ctx: &Context) -> Option<Form>
     }
 }
 
-/// Whether the block is the entry of its region. Asks that the block stands. Cost: constant.
+/// Whether the block is the entry of its region. Asks that the block is live. Cost: constant.
 pub fn begins_region(ctx: &Context, block: Ptr<BasicBlock>) -> bool
     requires { IsBlock ctx.now.tree block }
     ensures { (r : ℕ) → block_parent_of ctx.now.tree block ≡ Some r → result ≡ is_entry ctx.now.tree r block }

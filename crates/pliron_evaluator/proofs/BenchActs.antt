@@ -11,7 +11,7 @@ use Rattle.pliron_laws.specs.Tree.{Operation, op_at, shape_of, entry_block, bloc
 use Rattle.pliron_laws.specs.Answers.{ReadsHead, ReadsShape}
 use Rattle.pliron_bench.specs.Bench.{by_kind, kind_of}
 use Rattle.pliron_bench.specs.BenchNumbers.{datum_at, number_at}
-use Rattle.pliron_bench.specs.BenchMoves.{bench, act_of, no_act, branches, done, once, fitted, edge_of, edge_values, argument_count}
+use Rattle.pliron_bench.specs.BenchMoves.{bench, act_of, no_act, branches, memo_when_done, once, fit_data, edge_of, edge_values, argument_count}
 use Rattle.pliron_evaluator.specs.declared.evaluator.values.Datum.{Datum as DatumValue}
 use Rattle.pliron_evaluator.specs.declared.evaluator.values.Move.{Move as MoveValue}
 use Rattle.pliron_evaluator.specs.Evaluator.{datum_of_value, move_of}
@@ -19,7 +19,7 @@ use Rattle.pliron_laws.proofs.Records.{op_shows}
 use Rattle.pliron_laws.proofs.ShapeLemmas.{head_at, shape_head}
 
 -- data, cut or filled
-pub fitted_begins : (n : ℕ) (ds : List Datum) → fitted (suc n) ds ≡ datum_at ds 0 ∷ fitted n (drop 1 ds)
+pub fitted_begins : (n : ℕ) (ds : List Datum) → fit_data (suc n) ds ≡ datum_at ds 0 ∷ fit_data n (drop 1 ds)
 fitted_begins n [] = refl
 fitted_begins n (d ∷ ds) = refl
 
@@ -55,9 +55,9 @@ module _ (t : Tree) (op : ℕ) (k : BenchKind) (memo : Datum) (input : List Datu
   entries o at = ap (map (λ r. count_arguments (entry_block t r))) (op_shows t op o at).regions
 
   -- it visits its region
-  pub by_entry : (after : Move) (count : ℕ) (kind : BenchKind) → k ≡ kind → count ≡ slice_index_or (map (λ r. count_arguments (entry_block t r)) (regions_of t op)) 0 0 → ((s : Shape) → once memo (Visit 0 (fitted (slice_index_or s.entry_arguments 0 0) input) done) after ≡ act_of kind s memo input) → (o : Operation) → op_at t op ≡ Some o → Acts o (once memo (Visit 0 (fitted count input) done) after)
+  pub by_entry : (after : Move) (count : ℕ) (kind : BenchKind) → k ≡ kind → count ≡ slice_index_or (map (λ r. count_arguments (entry_block t r)) (regions_of t op)) 0 0 → ((s : Shape) → once memo (Visit 0 (fit_data (slice_index_or s.entry_arguments 0 0) input) memo_when_done) after ≡ act_of kind s memo input) → (o : Operation) → op_at t op ≡ Some o → Acts o (once memo (Visit 0 (fit_data count input) memo_when_done) after)
   by_entry after count kind e is f = λ o at.
-      ap (λ z. once memo (Visit 0 (fitted z input) done) after) (is ∙ ap (λ z. slice_index_or z 0 0) (entries o at)) ∙ f (shape_of bench t o) ∙ ap (λ z. act_of z (shape_of bench t o) memo input) (sym e)
+      ap (λ z. once memo (Visit 0 (fit_data z input) memo_when_done) after) (is ∙ ap (λ z. slice_index_or z 0 0) (entries o at)) ∙ f (shape_of bench t o) ∙ ap (λ z. act_of z (shape_of bench t o) memo input) (sym e)
 
   target_counts : (o : Operation) → op_at t op ≡ Some o → kind_of o.head.kind ≡ Some Fork → (i : ℕ) → slice_index_or (map (λ b. count_arguments (block_at t b)) (successors_of t op)) i 0 ≡ argument_count (shape_of bench t o).target_arguments i
   unfolding shape_of bench

@@ -4,7 +4,7 @@ use Rattle.std.proofs.lemmas.List.{drop_more, take_more, map-append, length-map,
 use Rattle.std.specs.HashMap.{HashMap, get, Updates}
 use Rattle.std.specs.Option.{option_map}
 use Rattle.pliron_laws.specs.Datum.{Datum, Empty}
-use Rattle.pliron_laws.specs.States.{Environment, bound, bind, prepended, data_of}
+use Rattle.pliron_laws.specs.States.{Environment, environment_with, bind, prepend_optional, data_of}
 use Rattle.pliron_evaluator.specs.declared.evaluator.values.Datum.{Datum as DatumValue}
 use Rattle.pliron_evaluator.specs.Tiny.{first_datum, fitted_or_empty}
 use Rattle.pliron_evaluator.specs.Evaluator.{datum_of_value, environment_of}
@@ -24,15 +24,15 @@ chosen true c d o e = ap (λ z. if z then Some (datum_of_value d) else option_ma
 chosen false c d o e = ap (λ z. if z then Some (datum_of_value d) else option_map datum_of_value o) e
 
 -- what is put into the map is bound
-pub bound_so : {S : Type 0} (m n : HashMap ℕ DatumValue S) (v : ℕ) (d x : DatumValue) → datum_of_value d ≡ datum_of_value x → Updates nat_eq m n v (Some d) → environment_of n ≡ bound (environment_of m) v (datum_of_value x)
-unfolding bound
+pub bound_so : {S : Type 0} (m n : HashMap ℕ DatumValue S) (v : ℕ) (d x : DatumValue) → datum_of_value d ≡ datum_of_value x → Updates nat_eq m n v (Some d) → environment_of n ≡ environment_with (environment_of m) v (datum_of_value x)
+unfolding environment_with
 bound_so m n v d x copied updates =
-    let each : (w : ℕ) → environment_of n w ≡ bound (environment_of m) v (datum_of_value d) w = λ w. ap (option_map datum_of_value) (updates.0 w) ∙ chosen (nat_eq v w) (nat_eq w v) d (get nat_eq m w) (same_question v w) in
-    (λ i w. each w i) ∙ ap (bound (environment_of m) v) copied
+    let each : (w : ℕ) → environment_of n w ≡ environment_with (environment_of m) v (datum_of_value d) w = λ w. ap (option_map datum_of_value) (updates.0 w) ∙ chosen (nat_eq v w) (nat_eq w v) d (get nat_eq m w) (same_question v w) in
+    (λ i w. each w i) ∙ ap (environment_with (environment_of m) v) copied
 
 -- one binding more
 module _ {S : Type 0} where
-  pub bind_more : (m n : HashMap ℕ DatumValue S) (vs : List ℕ) (ds : List DatumValue) (i v : ℕ) (x : DatumValue) → i < length vs → i < length ds → v ≡ get_or vs i v → x ≡ get_or ds i x → environment_of n ≡ bound (environment_of m) v (datum_of_value x) → bind (environment_of m) (drop i vs) (map datum_of_value (drop i ds)) ≡ bind (environment_of n) (drop (i + 1) vs) (map datum_of_value (drop (i + 1) ds))
+  pub bind_more : (m n : HashMap ℕ DatumValue S) (vs : List ℕ) (ds : List DatumValue) (i v : ℕ) (x : DatumValue) → i < length vs → i < length ds → v ≡ get_or vs i v → x ≡ get_or ds i x → environment_of n ≡ environment_with (environment_of m) v (datum_of_value x) → bind (environment_of m) (drop i vs) (map datum_of_value (drop i ds)) ≡ bind (environment_of n) (drop (i + 1) vs) (map datum_of_value (drop (i + 1) ds))
   bind_more m n vs ds i v x lt lt' e f g =
       ap (λ z. bind (environment_of m) z (map datum_of_value (drop i ds))) (drop_at vs i v lt e)
       ∙ ap (λ z. bind (environment_of m) (v ∷ drop (i + 1) vs) (map datum_of_value z)) (drop_at ds i x lt' f)
@@ -46,7 +46,7 @@ bind_unequal : (env : Environment) (vs : List ℕ) (ds : List Datum) → length 
 bind_unequal env [] [] n = absurd (n refl)
 bind_unequal env [] (d ∷ ds) n = refl
 bind_unequal env (v ∷ vs) [] n = refl
-bind_unequal env (v ∷ vs) (d ∷ ds) n = bind_unequal (bound env v d) vs ds (λ e. n (ap suc e))
+bind_unequal env (v ∷ vs) (d ∷ ds) n = bind_unequal (environment_with env v d) vs ds (λ e. n (ap suc e))
 
 pub bind_refused : (env : Environment) (vs : List ℕ) (ds : List DatumValue) → length vs ≢ length ds → bind env vs (map datum_of_value ds) ≡ None
 bind_refused env vs ds n = bind_unequal env vs (map datum_of_value ds) (λ e. n (e ∙ length-map ds datum_of_value))
@@ -56,14 +56,14 @@ abbrev pub prepend : List Datum → Option (List Datum) → Option (List Datum)
 prepend ds None = None
 prepend ds (Some es) = Some (ds ++ es)
 
-found_first : (ds : List Datum) (d : Datum) (o : Option (List Datum)) → prepend ds (prepended (Some d) o) ≡ prepend (ds ++ d ∷ []) o
+found_first : (ds : List Datum) (d : Datum) (o : Option (List Datum)) → prepend ds (prepend_optional (Some d) o) ≡ prepend (ds ++ d ∷ []) o
 found_first ds d None = refl
 found_first ds d (Some es) = ap Some (sym (append_assoc ds (d ∷ []) es))
 
 pub data_more : (env : Environment) (vs : List ℕ) (i v : ℕ) (d : DatumValue) (ds after : List DatumValue) → i < length vs → v ≡ get_or vs i v → Some (datum_of_value d) ≡ env v → after ≡ ds ++ d ∷ [] → prepend (map datum_of_value ds) (data_of env (drop i vs)) ≡ prepend (map datum_of_value after) (data_of env (drop (i + 1) vs))
 data_more env vs i v d ds after lt e found g =
     ap (λ z. prepend (map datum_of_value ds) (data_of env z)) (drop_at vs i v lt e)
-    ∙ ap (λ o. prepend (map datum_of_value ds) (prepended o (data_of env (drop (i + 1) vs)))) (sym found)
+    ∙ ap (λ o. prepend (map datum_of_value ds) (prepend_optional o (data_of env (drop (i + 1) vs)))) (sym found)
     ∙ found_first (map datum_of_value ds) (datum_of_value d) (data_of env (drop (i + 1) vs))
     ∙ ap (λ z. prepend z (data_of env (drop (i + 1) vs))) (sym (map-append datum_of_value ds (d ∷ [])))
     ∙ ap (λ z. prepend (map datum_of_value z) (data_of env (drop (i + 1) vs))) (sym g)

@@ -9,7 +9,7 @@ use Rattle.pliron_core.specs.declared.context.RegionSlot.{RegionSlot}
 use Rattle.pliron_core.specs.Tree.{Tree, IsLive, IsBlock, IsRegion, IsListedBy, op_of_slot, first_of, head_of, operands_of, results_of, successors_of, regions_of, arguments_of, body_of, block_parent_of, layout_of, slot_of}
 use Rattle.pliron_laws.specs.Datum.{Datum, Head, Meaning, Move, Give, Visit, Goto}
 use Rattle.pliron_laws.specs.Tree.{Operation, op_at, op_with, block_at, block_with, and_block, entry_block, count_arguments, shape_of}
-use Rattle.pliron_laws.specs.Machine.{State, Next, Goes, Over, Trapped, Environment, bind, at_rest, begin, enter, entry_in, given, go_to, perform, input_of, leave, move, turn, step, step_at, onward, run_from, seen, Reached}
+use Rattle.pliron_laws.specs.Machine.{State, Next, Goes, Over, Trapped, Environment, bind, at_rest, begin, enter, entry_in, after_giving, go_to, perform, input_of, leave, move, turn, step, step_at, onward, run_from, sight_after, Reached}
 use Rattle.pliron_evaluator.specs.declared.evaluator.values.Datum.{Datum as DatumValue}
 use Rattle.pliron_evaluator.specs.declared.evaluator.state.Next.{Next as NextValue}
 use Rattle.pliron_evaluator.specs.declared.evaluator.state.Next.TheVariants.{Goes as GoesValue, Over as OverValue}
@@ -86,8 +86,8 @@ by_move t op (Ok n) x y f h = λ o e. h ∙ f o e
 by_move t op (Err z) x y f h = h
 
 module _ (t : Tree) (s : State) (op : ℕ) (rest : List ℕ) where
-  pub performs_give : (next : Move) (ds : List Datum) → next ≡ Give ds → (o : Operation) → op_at t op ≡ Some o → given s rest s.waiting ds (bind s.environment (results_of t op) ds) ≡ perform t s o op rest next
-  performs_give next ds is o e = ap (λ z. given s rest s.waiting ds (bind s.environment z ds)) (op_shows t op o e).results ∙ ap (perform t s o op rest) (sym is)
+  pub performs_give : (next : Move) (ds : List Datum) → next ≡ Give ds → (o : Operation) → op_at t op ≡ Some o → after_giving s rest s.waiting ds (bind s.environment (results_of t op) ds) ≡ perform t s o op rest next
+  performs_give next ds is o e = ap (λ z. after_giving s rest s.waiting ds (bind s.environment z ds)) (op_shows t op o e).results ∙ ap (perform t s o op rest) (sym is)
 
   pub performs_visit : (next : Move) (i : ℕ) (ds : List Datum) (memo : Datum) → next ≡ Visit i ds memo → s.rest ≡ op ∷ rest → (o : Operation) → op_at t op ≡ Some o → enter s (entry_in t (slice_get (regions_of t op) i)) ds (record { rest = s.rest; memo = memo } ∷ s.waiting) ≡ perform t s o op rest next
   performs_visit next i ds memo is self o e =
@@ -147,8 +147,8 @@ module _ (f : State → Next) (n : ℕ) where
       pub run_goes : (next : StateValue) → next_of_value z ≡ f (state_of s) → z ≡ GoesValue next → run_from f (n - (i + 1)) (state_of next) ≡ whole
       run_goes next e is = sym (one_more e ∙ ap (λ y. onward (next_of_value y) (run_from f (n - (i + 1)))) is)
 
-      pub run_over : (sight : SightValue) → next_of_value z ≡ f (state_of s) → z ≡ OverValue sight → sight_of sight ≡ seen whole
-      run_over sight e is = sym (ap seen (one_more e ∙ ap (λ y. onward (next_of_value y) (run_from f (n - (i + 1)))) is))
+      pub run_over : (sight : SightValue) → next_of_value z ≡ f (state_of s) → z ≡ OverValue sight → sight_of sight ≡ sight_after whole
+      run_over sight e is = sym (ap sight_after (one_more e ∙ ap (λ y. onward (next_of_value y) (run_from f (n - (i + 1)))) is))
 
-    pub run_reached : n ≤ i → run_from f (n - i) (state_of s) ≡ whole → Reached (map datum_of_value s.effects.items) ≡ seen whole
-    run_reached le so_far = let count : n - i ≡ 0 = omega arith in ap (λ k. seen (run_from f k (state_of s))) (sym count) ∙ ap seen so_far
+    pub run_reached : n ≤ i → run_from f (n - i) (state_of s) ≡ whole → Reached (map datum_of_value s.effects.items) ≡ sight_after whole
+    run_reached le so_far = let count : n - i ≡ 0 = omega arith in ap (λ k. sight_after (run_from f k (state_of s))) (sym count) ∙ ap sight_after so_far

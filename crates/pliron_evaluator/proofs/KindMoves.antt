@@ -15,15 +15,15 @@ use Rattle.pliron_dialects.specs.declared.form.Form.TheVariants.{Constant as Con
 use Rattle.pliron_dialects.specs.Numbers.{whole_number_of}
 use Rattle.pliron_dialects.specs.Forms.{first_attribute, first_edge_operands, edge_by_condition, edge_values}
 use Rattle.pliron_dialects.specs.Roles.{Role, Constant, Computes, Jumps, Branches, Leaves, Acts, Tables, by_role, no_act, act_of, form_of, value_of, condition_of, role_at, meaning_by}
-use Rattle.pliron_dialects.specs.Visits.{fitted}
-use Rattle.pliron_evaluator.specs.declared.evaluator.own_moves.Counts.{Counts}
+use Rattle.pliron_dialects.specs.Visits.{fit_data}
+use Rattle.pliron_evaluator.specs.declared.evaluator.own_moves.ShapeCounts.{ShapeCounts}
 use Rattle.pliron_evaluator.specs.declared.evaluator.values.Datum.{Datum as DatumValue}
 use Rattle.pliron_evaluator.specs.declared.evaluator.values.Move.{Move as MoveValue}
 use Rattle.pliron_evaluator.specs.Evaluator.{datum_of_value, move_of}
 use Rattle.pliron_evaluator.specs.OwnMoves.{MovesBy, own_act, first_or_zero}
 
 -- data, cut or filled
-pub fitted_begins : (n : ℕ) (ds : List Datum) → fitted (suc n) ds ≡ first_or_zero ds ∷ fitted n (drop 1 ds)
+pub fitted_begins : (n : ℕ) (ds : List Datum) → fit_data (suc n) ds ≡ first_or_zero ds ∷ fit_data n (drop 1 ds)
 fitted_begins n [] = refl
 fitted_begins n (d ∷ ds) = refl
 
@@ -82,11 +82,11 @@ module _ (m : Meaning) (t : Tree) (op : ℕ) (act : Shape → Move) where
       g ∙ ap read (heads ∙ sym (shape_head m t o)) ∙ f (shape_of m t o)
   by_head (Err z) read h e f g = g
 
-  counts_at : (counts : Counts) (o : Operation) → op_at t op ≡ Some o → counts.results ≡ length (results_of t op) → counts.entry_arguments.items ≡ map (λ r. count_arguments (entry_block t r)) (regions_of t op) → ((shape_of m t o).results ≡ counts.results) × ((shape_of m t o).entry_arguments ≡ counts.entry_arguments.items)
+  counts_at : (counts : ShapeCounts) (o : Operation) → op_at t op ≡ Some o → counts.results ≡ length (results_of t op) → counts.entry_arguments.items ≡ map (λ r. count_arguments (entry_block t r)) (regions_of t op) → ((shape_of m t o).results ≡ counts.results) × ((shape_of m t o).entry_arguments ≡ counts.entry_arguments.items)
   unfolding shape_of
   counts_at counts o at e g = (sym (e ∙ ap length (op_shows t op o at).results), sym (g ∙ ap (map (λ r. count_arguments (entry_block t r))) (op_shows t op o at).regions))
 
-  pub by_counts : {E : Type 0} (r : Result MoveValue E) (counts : Counts) (own : Shape → Move) → counts.results ≡ length (results_of t op) → counts.entry_arguments.items ≡ map (λ r. count_arguments (entry_block t r)) (regions_of t op) → ((s : Shape) → own s ≡ act s) → IfOk r (λ n. MovesBy counts (move_of n) own) → IfOk r (λ n. MovesSo (move_of n))
+  pub by_counts : {E : Type 0} (r : Result MoveValue E) (counts : ShapeCounts) (own : Shape → Move) → counts.results ≡ length (results_of t op) → counts.entry_arguments.items ≡ map (λ r. count_arguments (entry_block t r)) (regions_of t op) → ((s : Shape) → own s ≡ act s) → IfOk r (λ n. MovesBy counts (move_of n) own) → IfOk r (λ n. MovesSo (move_of n))
   by_counts (Ok n) counts own e g f moves = λ o at. moves (shape_of m t o) (counts_at counts o at e g) ∙ f (shape_of m t o)
   by_counts (Err z) counts own e g f moves = moves
 

@@ -42,8 +42,8 @@ fitted_or_empty (suc n) [] = Empty ∷ fitted_or_empty n []
 fitted_or_empty (suc n) (d ∷ ds) = d ∷ fitted_or_empty n ds
 
 -- the memo after the first move
-abbrev pub begun : Datum
-begun = Number (pos 1)
+abbrev pub memo_when_begun : Datum
+memo_when_begun = Number (pos 1)
 
 abbrev pub has_begun : Datum → Bool
 has_begun Empty = false
@@ -51,12 +51,12 @@ has_begun d = true
 
 -- a question is asked first, and its answer is given then
 abbrev pub ask_move : Bool → List Datum → Move
-ask_move false input = Emit (first_datum input) begun
+ask_move false input = Emit (first_datum input) memo_when_begun
 ask_move true input = Give (first_datum input ∷ [])
 
 -- the region is visited first, and nothing is given then
 abbrev pub scope_move : Bool → ℕ → List Datum → Move
-scope_move false count input = Visit 0 (fitted_or_empty count input) begun
+scope_move false count input = Visit 0 (fitted_or_empty count input) memo_when_begun
 scope_move true count input = Give []
 
 -- the memo between two visits, which keeps a datum
@@ -70,14 +70,14 @@ visit_with counts region d memo = Visit region (fitted_or_empty (slice_index_or 
 -- the first region is visited with operand 1, then the second one with none, and nothing is given then
 abbrev pub both_move : Datum → List ℕ → List Datum → Move
 both_move Empty counts input = visit_with counts 0 (first_datum (drop 1 input)) (between Empty)
-both_move (Join kept e) counts input = visit_with counts 1 Empty begun
+both_move (Join kept e) counts input = visit_with counts 1 Empty memo_when_begun
 both_move (Number n) counts input = Give []
 both_move (Text w) counts input = Give []
 
 -- the region is visited with operand 0 and once more with the same, and nothing is given then
 abbrev pub twice_move : Datum → List ℕ → List Datum → Move
 twice_move Empty counts input = visit_with counts 0 (first_datum input) (between (first_datum input))
-twice_move (Join kept e) counts input = visit_with counts 0 kept begun
+twice_move (Join kept e) counts input = visit_with counts 0 kept memo_when_begun
 twice_move (Number n) counts input = Give []
 twice_move (Text w) counts input = Give []
 

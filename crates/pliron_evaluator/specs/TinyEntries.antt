@@ -9,7 +9,7 @@ use Rattle.pliron_laws.specs.Acting.{Act, Comes}
 use Rattle.pliron_laws.specs.Acting.Comes.{Begins, Answered, Told}
 use Rattle.pliron_laws.specs.Laws.{Admitted}
 use Rattle.pliron_laws.specs.Entries.{NamesOperands, RootsNameNone}
-use Rattle.pliron_evaluator.specs.Tiny.{begun, between, first_datum, fitted_or_empty, both_move, twice_move, kind_of, is_naming, first_entry_operand, admits_of, tiny_act_of, tiny, tiny_entry_operands, has_tiny_interface}
+use Rattle.pliron_evaluator.specs.Tiny.{memo_when_begun, between, first_datum, fitted_or_empty, both_move, twice_move, kind_of, is_naming, first_entry_operand, admits_of, tiny_act_of, tiny, tiny_entry_operands, has_tiny_interface}
 use Rattle.pliron_evaluator.specs.TinyLaws.{parts, same, below, twice_counts}
 
 -- ---- which operand is named
@@ -69,7 +69,7 @@ Holds keeps first (Text w) input = Unit {0}
 after_first : (keeps : List Datum → Datum) (first input answer : List Datum) (next : Datum) → input ≡ first → between (keeps input) ≡ next → Holds keeps first next answer
 after_first keeps first input answer next same e = subst (λ z. Holds keeps first z answer) e (ap keeps same)
 
-after_second : (keeps : List Datum → Datum) (first answer : List Datum) (next : Datum) → begun ≡ next → Holds keeps first next answer
+after_second : (keeps : List Datum → Datum) (first answer : List Datum) (next : Datum) → memo_when_begun ≡ next → Holds keeps first next answer
 after_second keeps first answer next e = subst (λ z. Holds keeps first z answer) e tt
 
 abbrev Holding : Act → Shape → (List Datum → Datum) → List Datum → Type 0

@@ -16,7 +16,7 @@ use Rattle.pliron_laws.specs.Laws.{Admitted, CountsFit, KeepsCounts, IsGive, Giv
 use Rattle.pliron_laws.specs.Folding.{AnswersTrue, AnswersJumps, MakesConstants}
 use Rattle.pliron_laws.specs.Outcomes.MaterialisesSome.{Rest}
 use Rattle.pliron_laws.specs.Replacing.FoldsBranch.{Kept}
-use Rattle.pliron_laws.specs.InPlace.{FoldsInPlace, TellsChange, PassSameTests}
+use Rattle.pliron_laws.specs.InPlace.{FoldsInPlace, ReportsChange, PassSameTests}
 use Rattle.pliron_laws.specs.PlaceLaws.{pick_all, in_places, moved_places}
 use Rattle.pliron_evaluator.specs.Tiny.{first_attribute, first_count, fitted_or_empty, ask_move, scope_move, both_move, twice_move, has_begun, tiny_act_of, admits_of, is_br, is_const, forwarded_along, kind_of, tiny, tiny_effects_of, tiny_side_effects, tiny_removable_of, tiny_removable, tiny_folds, tiny_constants, tiny_accepts, tiny_constant, tiny_folds_branch, tiny_feasible, tiny_outcome, has_tiny_kind, has_tiny_interface, tiny_shortened}
 
@@ -301,8 +301,8 @@ tiny_jumps = record {
 same_tree : (t u : Tree) → u ≡ t → IsSameTree t u
 same_tree t u e = subst (IsSameTree t) (sym e) (record { operations = λ k. refl; operands = λ k. refl; successors = λ k. refl; parents = λ k. refl; bodies = λ k. refl; arguments = λ k. refl; block_parents = λ k. refl; layouts = λ k. refl })
 
-tells : (t t' : Tree) (answer : Option IRStatus) → t' ≡ t → answer ≡ Some Unchanged → TellsChange answer t t'
-tells t t' answer e f = subst (λ a. TellsChange a t t') (sym f) (same_tree t t' e)
+tells : (t t' : Tree) (answer : Option IRStatus) → t' ≡ t → answer ≡ Some Unchanged → ReportsChange answer t t'
+tells t t' answer e f = subst (λ a. ReportsChange a t t') (sym f) (same_tree t t' e)
 
 pub tiny_in_place : FoldsInPlace tiny tiny_constants tiny_accepts tiny_constant tiny_outcome tiny_outcome
 unfolding tiny_outcome

@@ -3,7 +3,7 @@
 //!
 //! A step costs what its operation reads and makes, and one that enters a block as much as that block has operations.
 ghost use Rattle.std.specs.Prelude.{◌≡◌, map, IfOk};
-ghost use Rattle.pliron_laws.specs.Machine.{run, seen};
+ghost use Rattle.pliron_laws.specs.Machine.{run, sight_after};
 ghost use Rattle.pliron_evaluator.specs.Evaluator.{datum_of_value, sight_of};
 
 mod bench_moves;
@@ -25,7 +25,7 @@ pub use values::{Datum, Evaluate, Move, Sight};
 /// What is seen of the run of the root on these inputs, where the world gives these answers in order,
 /// after at most `fuel` steps. A root that doesn't stand traps.
 ///
-/// Errors: want of memory. Cost: a step copies what the operation reads and the operations of the
+/// Errors: allocation failure. Cost: a step copies what the operation reads and the operations of the
 /// block that it enters, and looks up each value once.
 pub fn evaluate<D: Evaluate>(
     alloc: Global,
@@ -35,7 +35,7 @@ pub fn evaluate<D: Evaluate>(
     world: Vec<Datum>,
     fuel: usize,
 ) -> Result<Sight, AllocError>
-    ensures { IfOk result (λ sight. sight_of sight ≡ seen (run D.meaning ctx.now.tree root (map datum_of_value inputs.items) (map datum_of_value world.items) fuel)) }
+    ensures { IfOk result (λ sight. sight_of sight ≡ sight_after (run D.meaning ctx.now.tree root (map datum_of_value inputs.items) (map datum_of_value world.items) fuel)) }
 {
     let mut notes = Notes::of_last(alloc);
     evaluate_noting::<D>(alloc, ctx, root, inputs, world, fuel, &mut notes)
@@ -43,7 +43,7 @@ pub fn evaluate<D: Evaluate>(
 
 /// The same, where notes are taken of the moves: each is noted before it is made.
 ///
-/// Errors: want of memory. Cost: that of `evaluate`, and where all moves are noted, one more copy of what each
+/// Errors: allocation failure. Cost: that of `evaluate`, and where all moves are noted, one more copy of what each
 /// operation reads.
 pub fn evaluate_noting<D: Evaluate>(
     alloc: Global,
@@ -54,7 +54,7 @@ pub fn evaluate_noting<D: Evaluate>(
     fuel: usize,
     notes: &mut Notes,
 ) -> Result<Sight, AllocError>
-    ensures { IfOk result (λ sight. sight_of sight ≡ seen (run D.meaning ctx.now.tree root (map datum_of_value inputs.items) (map datum_of_value world.items) fuel)) }
+    ensures { IfOk result (λ sight. sight_of sight ≡ sight_after (run D.meaning ctx.now.tree root (map datum_of_value inputs.items) (map datum_of_value world.items) fuel)) }
 {
     let mut state = start(alloc, root, inputs, world)?;
     for _ in 0..fuel {

@@ -5,8 +5,8 @@ use Rattle.std.proofs.lemmas.Option.{same_Some, slice_get_within}
 use Rattle.std.proofs.lemmas.Bool.{true≢false}
 use Rattle.pliron_core.specs.declared.uses.Use.{Use}
 use Rattle.pliron_core.specs.Tree.{Tree, In, IsInside, IsWithin, HoldsBlock, successors_of, results_of, regions_of, arguments_of, block_parent_of, region_parent_of, op_of_slot, up_from, head_of, IsLive}
-use Rattle.pliron_core.specs.Changes.{IsMadeInside, IsMakerInside}
-use Rattle.pliron_core.specs.Joined.{IsTree}
+use Rattle.pliron_core.specs.Changes.{IsDefinedInside, IsDefiningOperationInside}
+use Rattle.pliron_core.specs.Invariant.{IsTree}
 use Rattle.pliron_core.proofs.FlatLemmas.{slice_get-In}
 use Rattle.pliron_laws.specs.Datum.{Head, Meaning}
 use Rattle.pliron_laws.specs.Tree.{Operation, op_at, op_with, shape_of}
@@ -14,7 +14,7 @@ use Rattle.pliron_laws.specs.Linked.{EndsBlock}
 use Rattle.pliron_laws.specs.EdgeChecks.{EndsBlockIf, region_around}
 use Rattle.pliron_laws.specs.Answers.{AreForwarded}
 use Rattle.pliron_laws.proofs.ShapeLemmas.{head_at, live_at}
-use Rattle.pliron_fit.specs.Misfit.{ForwardsAt}
+use Rattle.pliron_fit.specs.Violation.{ForwardsAt}
 
 -- what holds at each index of a list holds of its members
 pub at_each : (P : ℕ → Type 0) (xs : List ℕ) (n : ℕ) → length xs ≤ n → ((j x : ℕ) → j < n → slice_get xs j ≡ Some x → P x) → (x : ℕ) → In x xs → P x
@@ -32,12 +32,12 @@ pub edge_from_elsewhere : (t : Tree) (user block region : ℕ) → In block (suc
 edge_from_elsewhere t user block region i e out ends =
     out (ap (λ o. up_from o (λ b. block_parent_of t b)) ends.in_block ∙ sym (ends.own_region block i) ∙ e)
 
--- an argument of a block that the root holds is made inside it, and so are the results of what is inside
-pub argument_inside : (t : Tree) (w : IsTree t) (root block i v : ℕ) → HoldsBlock t root block → slice_get (arguments_of t block) i ≡ Some v → IsMadeInside t root v
-argument_inside t w root block i v held at = subst (IsMakerInside t root) (sym (w.joined.arguments block i v at)) held
+-- an argument of a block that the root holds is defined inside it, and so are the results of what is inside
+pub argument_inside : (t : Tree) (w : IsTree t) (root block i v : ℕ) → HoldsBlock t root block → slice_get (arguments_of t block) i ≡ Some v → IsDefinedInside t root v
+argument_inside t w root block i v held at = subst (IsDefiningOperationInside t root) (sym (w.joined.arguments block i v at)) held
 
-pub result_inside : (t : Tree) (w : IsTree t) (root op i v : ℕ) → IsInside t root op → slice_get (results_of t op) i ≡ Some v → IsMadeInside t root v
-result_inside t w root op i v u at = subst (IsMakerInside t root) (sym (w.joined.results op i v at)) u
+pub result_inside : (t : Tree) (w : IsTree t) (root op i v : ℕ) → IsInside t root op → slice_get (results_of t op) i ≡ Some v → IsDefinedInside t root v
+result_inside t w root op i v u at = subst (IsDefiningOperationInside t root) (sym (w.joined.results op i v at)) u
 
 -- the block of a region of what is within the root
 pub block_held : (t : Tree) (w : IsTree t) (root holder region block : ℕ) → IsWithin t root holder → In region (regions_of t holder) → block_parent_of t block ≡ Some region → HoldsBlock t root block

@@ -4,14 +4,14 @@ use Rattle.std.specs.List.{flat_map}
 use Rattle.std.proofs.lemmas.List.Concat.{flat_map-append}
 use Rattle.std.proofs.lemmas.Bool.{cases_Bool, eq-eqb, ltb-true, lt-ltb}
 use Rattle.std.proofs.lemmas.Option.{same_Some}
-use Rattle.pliron_core.specs.Tree.{Tree, In, IsDistinct, IsInside, IsWithin, body_of, layout_of, regions_of, parent_of, block_parent_of, holder_of, block_holder_of, up_from}
-use Rattle.pliron_core.specs.Joined.{IsTree}
+use Rattle.pliron_core.specs.Tree.{Tree, In, IsDistinct, IsInside, IsWithin, body_of, layout_of, regions_of, parent_of, block_parent_of, parent_operation_of, block_parent_operation_of, up_from}
+use Rattle.pliron_core.specs.Invariant.{IsTree}
 use Rattle.pliron_core.specs.Walks.{children, children_of_region, contents, preorder}
 use Rattle.pliron_core.proofs.ListLemmas.{split_at, distinct-apart}
 use Rattle.pliron_core.proofs.FlatLemmas.{slice_get-In, flat_map-drop}
 use Rattle.pliron_core.proofs.WalkLemmas.{place_of, place_listed, contents-children, distinct-preorder, inside_step}
 use Rattle.pliron_core.proofs.WalkStepLemmas.{goes_on}
-use Rattle.pliron_search.specs.Search.{number_in}
+use Rattle.pliron_traversal.specs.Search.{number_in}
 
 same_key : (x y : ℕ) → nat_eq x y && true ≡ true → x ≡ y
 same_key x y e = grind arith
@@ -52,7 +52,7 @@ in_either x (y ∷ xs) ys (inr i) = elim (in_either x xs ys i) [ inl j ↦ inl (
 
 module _ (t : Tree) (w : IsTree t) where
   -- the body of a block among what its holder has
-  body_among : (x h b : ℕ) → holder_of t x ≡ Some h → parent_of t x ≡ Some b → (front : List ℕ) × (back : List ℕ) × (children t h ≡ front ++ (body_of t b ++ back))
+  body_among : (x h b : ℕ) → parent_operation_of t x ≡ Some h → parent_of t x ≡ Some b → (front : List ℕ) × (back : List ℕ) × (children t h ≡ front ++ (body_of t b ++ back))
   body_among x h b up p =
       let place = place_of t x h up in
       let same : place.block ≡ b = same_Some place.block b (sym place.parent ∙ p) in
@@ -67,7 +67,7 @@ module _ (t : Tree) (w : IsTree t) where
   pieces xs = flat_map (λ c. preorder t c) xs
 
   -- of two operations of a block, the first comes first on the walk
-  pub comes_first : (root h b k a : ℕ) (u m z : List ℕ) → IsWithin t root h → holder_of t k ≡ Some h → parent_of t k ≡ Some b → body_of t b ≡ u ++ k ∷ (m ++ a ∷ z)
+  pub comes_first : (root h b k a : ℕ) (u m z : List ℕ) → IsWithin t root h → parent_operation_of t k ≡ Some h → parent_of t k ≡ Some b → body_of t b ≡ u ++ k ∷ (m ++ a ∷ z)
       → number_in (λ x y. nat_eq x y && true) (preorder t root) k < number_in (λ x y. nat_eq x y && true) (preorder t root) a
   unfolding pieces
   comes_first root h b k a u m z within up p e =
@@ -82,7 +82,7 @@ module _ (t : Tree) (w : IsTree t) where
       lower (preorder t root) (on.1.0 ++ h ∷ pieces (among.0 ++ u)) (contents t k ++ pieces m) ((contents t a ++ pieces (z ++ among.1)) ++ on.1.1) k a (distinct-preorder t w root) whole
 
   -- which of two operations of a block comes first, by their numbers
-  pub before_iff : (root h b k a : ℕ) (done rest : List ℕ) → IsWithin t root h → holder_of t k ≡ Some h → parent_of t k ≡ Some b → holder_of t a ≡ Some h → parent_of t a ≡ Some b → body_of t b ≡ done ++ a ∷ rest
+  pub before_iff : (root h b k a : ℕ) (done rest : List ℕ) → IsWithin t root h → parent_operation_of t k ≡ Some h → parent_of t k ≡ Some b → parent_operation_of t a ≡ Some h → parent_of t a ≡ Some b → body_of t b ≡ done ++ a ∷ rest
       → (number_in (λ x y. nat_eq x y && true) (preorder t root) k < number_in (λ x y. nat_eq x y && true) (preorder t root) a) ↔ In k done
   before_iff root h b k a done rest within up p up2 p2 e = (forth, back)
     where
@@ -108,7 +108,7 @@ module _ (t : Tree) (w : IsTree t) where
       → (number_in (λ x y. nat_eq x y && true) keys k < number_in (λ x y. nat_eq x y && true) keys a) ↔ ((done rest : List ℕ) → body_of t b ≡ done ++ a ∷ rest → In k done)
   made_before_iff root keys k a b all u p q =
       let up = inside_step t root a u in
-      let beside : holder_of t k ≡ Some up.0 = ap (λ o. up_from o (λ x. block_holder_of t x)) (q ∙ sym p) ∙ up.1 in
+      let beside : parent_operation_of t k ≡ Some up.0 = ap (λ o. up_from o (λ x. block_parent_operation_of t x)) (q ∙ sym p) ∙ up.1 in
       let law = λ (done rest : List ℕ) (s : body_of t b ≡ done ++ a ∷ rest). before_iff root up.0 b k a done rest up.2 beside q up.1 p s in
       let same = λ (x : ℕ). ap (λ z. number_in (λ x y. nat_eq x y && true) z x) all in (
         λ lt done rest s. (law done rest s).0 (subst (λ n. n < number_in (λ x y. nat_eq x y && true) (preorder t root) a) (same k) (subst (λ n. number_in (λ x y. nat_eq x y && true) keys k < n) (same a) lt)),

@@ -3,8 +3,8 @@ use Rattle.std.proofs.Common.{◌≡◌, ◌≢◌, ℕ, [], Option, Some, None,
 use Rattle.pliron_core.specs.declared.context.Def.{Def}
 use Rattle.pliron_core.specs.declared.context.Def.TheVariants.{Result, Argument}
 use Rattle.pliron_core.specs.Tree.{Tree, In, IsInside, IsWithin, IsMadeBy, successors_of, operands_of, results_of, regions_of, arguments_of, block_parent_of, definition_of, slot_of}
-use Rattle.pliron_core.specs.Changes.{IsMadeInside, IsMakerInside}
-use Rattle.pliron_core.specs.Joined.{IsTree}
+use Rattle.pliron_core.specs.Changes.{IsDefinedInside, IsDefiningOperationInside}
+use Rattle.pliron_core.specs.Invariant.{IsTree}
 use Rattle.pliron_core.proofs.FlatLemmas.{In-slice_get}
 use Rattle.pliron_core.proofs.WalkLemmas.{not_inside-itself}
 use Rattle.pliron_laws.specs.Datum.{Meaning}
@@ -25,11 +25,11 @@ module _ (t : Tree) (w : IsTree t) (root : ℕ) (m : Meaning) (sound : (k : ℕ)
   pub edges : EdgesLast t root
   edges = edges_of t w root lawful
 
-  -- what is made inside is used inside
-  used : (user v : ℕ) → In v (operands_of t user) → IsMadeInside t root v → IsInside t root user
+  -- what is defined inside is used inside
+  used : (user v : ℕ) → In v (operands_of t user) → IsDefinedInside t root v → IsInside t root user
   used user v i made = go (definition_of t v) (w.joined.operands user v i) made
     where
-      go : (o : Option Def) → IsMadeBy t v o → IsMakerInside t root o → IsInside t root user
+      go : (o : Option Def) → IsMadeBy t v o → IsDefiningOperationInside t root o → IsInside t root user
       go None d u = absurd d
       go (Some (Result k j)) d u = ((sound k (inr u)).inside (inner k u)).results v (In-slice_get (results_of t k) j v d) user i
       go (Some (Argument b j)) d u =

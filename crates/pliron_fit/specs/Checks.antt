@@ -1,19 +1,19 @@
 -- What the parts of the check find.
 use Rattle.std.specs.Prelude.{◌≡◌, ◌≢◌, ℕ, [], Some, IsTrue}
 use Rattle.pliron_core.specs.Tree.{Tree, In, IsInside, operands_of, successors_of, results_of, regions_of, arguments_of, block_parent_of}
-use Rattle.pliron_core.specs.Changes.{IsMadeInside}
+use Rattle.pliron_core.specs.Changes.{IsDefinedInside}
 use Rattle.pliron_core.specs.Reads.{has_ssa}
 use Rattle.pliron_laws.specs.Datum.{Meaning}
 use Rattle.pliron_laws.specs.declared.fault.OptError.TheVariants.{Memory}
 use Rattle.pliron_laws.specs.Linked.{IsAdmitted}
 use Rattle.pliron_laws.specs.EdgeChecks.{HasOwnUsers, EndsBlockIf}
-use Rattle.pliron_fit.specs.declared.misfit.Stop.{Stop}
-use Rattle.pliron_fit.specs.declared.misfit.Stop.TheVariants.{Found, Fault}
-use Rattle.pliron_fit.specs.Misfit.{IsMisfit, ForwardsAt, EndsIfTerminator}
+use Rattle.pliron_fit.specs.declared.violation.Stop.{Stop}
+use Rattle.pliron_fit.specs.declared.violation.Stop.TheVariants.{Found, Fault}
+use Rattle.pliron_fit.specs.Violation.{IsViolation, ForwardsAt, EndsIfTerminator}
 
--- a check ends early at what is wrong, or for want of memory
+-- a check ends early at what is wrong, or for allocation failure
 abbrev pub IsStop : Meaning → Tree → ℕ → Stop → Type 0
-IsStop m t root (Found misfit) = IsMisfit m t root misfit
+IsStop m t root (Found violation) = IsViolation m t root violation
 IsStop m t root (Fault e) = e ≡ Memory
 
 -- only what stands inside the root uses the value
@@ -38,7 +38,7 @@ pub record IsFitHolder (m : Meaning) (t : Tree) (root op : ℕ) : Type 0 where
 -- what else is asked of an operation inside the root, but for dominance
 pub record IsFitInside (m : Meaning) (t : Tree) (root op : ℕ) : Type 0 where
   pub ends : EndsBlockIf t op
-  pub operands : (v : ℕ) → In v (operands_of t op) → IsMadeInside t root v
+  pub operands : (v : ℕ) → In v (operands_of t op) → IsDefinedInside t root v
   pub forwards : (i : ℕ) → ForwardsAt m t op i
   pub terminator : EndsIfTerminator m t op
   pub unused : (v user : ℕ) → successors_of t op ≢ [] → In v (results_of t op) → In v (operands_of t user) → ⊥

@@ -5,7 +5,7 @@ use Rattle.pliron_core.specs.declared.context.Def.TheVariants.{Result, Argument}
 use Rattle.pliron_core.specs.Tree.{Tree, In, body_of}
 
 -- in the block, the arguments and the results of what stands before the operation are made
-abbrev pub IsMadeBefore : Tree → Option Def → (block around : ℕ) → Type 0
-IsMadeBefore t None block around = ⊥
-IsMadeBefore t (Some (Argument d i)) block around = Unit {0}
-IsMadeBefore t (Some (Result k i)) block around = (done rest : List ℕ) → body_of t block ≡ done ++ around ∷ rest → In k done
+abbrev pub IsDefinedBefore : Tree → Option Def → (block around : ℕ) → Type 0
+IsDefinedBefore t None block around = ⊥
+IsDefinedBefore t (Some (Argument d i)) block around = Unit {0}
+IsDefinedBefore t (Some (Result k i)) block around = (done rest : List ℕ) → body_of t block ≡ done ++ around ∷ rest → In k done

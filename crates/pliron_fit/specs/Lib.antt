@@ -1,6 +1,8 @@
-pub mod Misfit
+pub mod Violation
 pub mod Checks
 pub mod Plain
-pub mod Ways
+pub mod Nesting
 pub mod Definitions
 pub mod Uses
+pub mod Chosen
+pub mod Checked

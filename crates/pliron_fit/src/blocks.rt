@@ -1,13 +1,13 @@
 //! What is asked of the regions and blocks inside a root, but for dominance of uses.
 ghost use Rattle.std.specs.Prelude.{◌≡◌, ℕ, Some, OnOk, IfErr, slice_get};
 ghost use Rattle.pliron_core.specs.Tree.{In, IsLive, IsBlock, IsRegion, IsDefined, IsWithin, HoldsBlock, regions_of, arguments_of, block_parent_of};
-ghost use Rattle.pliron_core.specs.Changes.{IsMadeInside};
+ghost use Rattle.pliron_core.specs.Changes.{IsDefinedInside};
 ghost use Rattle.pliron_core.specs.Walks.{preorder};
 ghost use Rattle.pliron_laws.specs.EdgeChecks.{HasOwnUsers};
 ghost use Rattle.pliron_fit.specs.Checks.{IsStop, IsUsedInside, IsFitBlock, IsFitRegion, IsFitHolder};
 
 use crate::contents::is_inside;
-use crate::misfit::{Misfit, Stop};
+use crate::violation::{Stop, Violation};
 use indexmap::IndexSet;
 use pliron_core::{BasicBlock, Context, Operation, Ptr, Region, Value};
 use pliron_laws::edges::{is_directly_in, region_of};
@@ -22,7 +22,7 @@ pub(crate) fn check_uses<D: Dialect>(
 ) -> Result<(), Stop>
     requires contents { contents.now.keys ≡ preorder ctx.now.tree root }
     requires value { IsDefined ctx.now.tree value }
-    requires inside { IsMadeInside ctx.now.tree root value }
+    requires inside { IsDefinedInside ctx.now.tree root value }
     ensures ok { OnOk result (IsUsedInside ctx.now.tree root value) }
     ensures err { IfErr result (λ e. IsStop D.meaning ctx.now.tree root e) }
 {
@@ -30,7 +30,7 @@ pub(crate) fn check_uses<D: Dialect>(
     for i in 0..value.num_use(ctx) {
         let (user, place) = value.get_use(ctx, i);
         if !is_inside(root, contents, user, ctx) {
-            return Err(Stop::Found(Misfit::UsedOutside(user, place)));
+            return Err(Stop::Found(Violation::UsedOutside(user, place)));
         }
     }
     Ok(())
@@ -52,7 +52,7 @@ fn check_edges_to<D: Dialect>(
     for i in 0..block.num_use(ctx) {
         let (user, _) = block.get_use(ctx, i);
         if !is_directly_in(ctx, user, region) {
-            return Err(Stop::Found(Misfit::EdgeNotLast(user)));
+            return Err(Stop::Found(Violation::EdgeNotLast(user)));
         }
     }
     Ok(())
@@ -96,7 +96,7 @@ fn check_region<D: Dialect>(
 {
     ctx.well_formed();
     if !region.has_ssa_dominance(ctx) {
-        return Err(Stop::Found(Misfit::NoDominance(region)));
+        return Err(Stop::Found(Violation::NoDominance(region)));
     }
     let mut at = region.get_head(ctx);
     while let Some(block) = at {
@@ -120,7 +120,7 @@ pub(crate) fn check_holder<D: Dialect>(
     ensures err { IfErr result (λ e. IsStop D.meaning ctx.now.tree root e) }
 {
     if !is_admitted::<D>(op, ctx) {
-        return Err(Stop::Found(Misfit::NotAdmitted(op)));
+        return Err(Stop::Found(Violation::NotAdmitted(op)));
     }
     for i in 0..op.num_region(ctx) {
         check_region::<D>(root, contents, op, op.get_region(ctx, i), ctx)?;

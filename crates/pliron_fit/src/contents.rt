@@ -1,7 +1,7 @@
 //! The operations of a root, by their places in pre-order.
 ghost use Rattle.std.specs.Prelude.{◌≡◌, ◌↔◌, ◌≢◌, IfOk, IsOkUnless, IsTrue};
 ghost use Rattle.pliron_core.specs.Tree.{IsLive, IsBlock, IsDefined, IsInside, HoldsBlock};
-ghost use Rattle.pliron_core.specs.Changes.{IsMadeInside};
+ghost use Rattle.pliron_core.specs.Changes.{IsDefinedInside};
 ghost use Rattle.pliron_core.specs.Walks.{preorder};
 
 use indexmap::IndexSet;
@@ -59,8 +59,8 @@ fn holds_block(
     contents.contains(&region_of(ctx, block).get_parent_op(ctx))
 }
 
-// Whether the value is made inside the root.
-pub(crate) fn is_made_inside(
+// Whether the value is defined inside the root.
+pub(crate) fn is_defined_inside(
     root: Ptr<Operation>,
     contents: &IndexSet<Ptr<Operation>>,
     value: Value,
@@ -68,7 +68,7 @@ pub(crate) fn is_made_inside(
 ) -> bool
     requires contents { contents.now.keys ≡ preorder ctx.now.tree root }
     requires value { IsDefined ctx.now.tree value }
-    ensures { IsTrue result ↔ IsMadeInside ctx.now.tree root value }
+    ensures { IsTrue result ↔ IsDefinedInside ctx.now.tree root value }
 {
     match value.def(ctx) {
         Def::Result(op, _) => is_inside(root, contents, op, ctx),

@@ -3,11 +3,11 @@ ghost use Rattle.std.specs.Prelude.{◌≡◌, ◌↔◌, ℕ, Some, IfSome, IsT
 ghost use Rattle.pliron_core.specs.Tree.{IsBlock, IsDefined, IsInside, definition_of, parent_of};
 ghost use Rattle.pliron_core.specs.Walks.{preorder};
 ghost use Rattle.pliron_laws.specs.Root.{defining_block};
-ghost use Rattle.pliron_fit.specs.Definitions.{IsMadeBefore};
+ghost use Rattle.pliron_fit.specs.Definitions.{IsDefinedBefore};
 
 use indexmap::IndexSet;
 use pliron_core::{BasicBlock, Context, Def, Operation, Ptr, Value};
-use pliron_search::ListedSet;
+use pliron_traversal::ListedSet;
 
 // The block that the definition of the value stands in.
 pub(crate) fn block_of_definition(value: Value, ctx: &Context) -> Option<Ptr<BasicBlock>>
@@ -21,17 +21,19 @@ pub(crate) fn block_of_definition(value: Value, ctx: &Context) -> Option<Ptr<Bas
     }
 }
 
-// Whether the value, which is made in the block of this operation, is made before it.
-pub(crate) fn is_made_before(
+// Whether the value, which is defined in the block of this operation, is made before it.
+pub(crate) fn is_defined_before(
     contents: &IndexSet<Ptr<Operation>>,
     value: Value,
     around: Ptr<Operation>,
     ctx: &Context,
 ) -> bool
     requires value { IsDefined ctx.now.tree value }
-    requires inside { (root : ℕ) × (contents.now.keys ≡ preorder ctx.now.tree root) × IsInside ctx.now.tree root around }
-    ensures { (block : ℕ) → parent_of ctx.now.tree around ≡ Some block → defining_block ctx.now.tree (definition_of ctx.now.tree value) ≡ Some block →
-        (IsTrue result ↔ IsMadeBefore ctx.now.tree (definition_of ctx.now.tree value) block around) }
+    requires inside { (root : ℕ) × (contents.now.keys ≡ preorder ctx.now.tree root)
+        × IsInside ctx.now.tree root around }
+    ensures { (block : ℕ) → parent_of ctx.now.tree around ≡ Some block →
+        defining_block ctx.now.tree (definition_of ctx.now.tree value) ≡ Some block →
+        (IsTrue result ↔ IsDefinedBefore ctx.now.tree (definition_of ctx.now.tree value) block around) }
 {
     ctx.well_formed();
     match value.def(ctx) {

@@ -1,17 +1,20 @@
 //! Whether an operation is fit to run.
-ghost use Rattle.std.specs.Prelude.{◌≡◌, ◌↔◌, ◌⊎◌, ℕ, [], None, OnOk, IfOk, IfErr, IfSome, IsOkUnless, IsTrue};
+//!
+//! The check for dominance comes last, so it may rely on edges and uses.
+ghost use Rattle.std.specs.Prelude.{◌≡◌, ◌↔◌, ◌⊎◌, ◌∷◌, ◌++◌, ℕ, List, [], None, OnOk, IfOk, IfErr, IfSome, IsOkUnless, IsTrue};
 ghost use Rattle.pliron_core.specs.Tree.{In, IsLive, IsWithin, successors_of};
 ghost use Rattle.pliron_core.specs.Walks.{preorder};
 ghost use Rattle.pliron_laws.specs.Answers.{HeadPasses};
 ghost use Rattle.pliron_theory.specs.Keeps.{IsFit};
-ghost use Rattle.pliron_fit.specs.Misfit.{IsMisfit};
+ghost use Rattle.pliron_fit.specs.Chosen.{AreChosen};
+ghost use Rattle.pliron_fit.specs.Violation.{IsViolation};
 ghost use Rattle.pliron_fit.specs.Checks.{IsStop, IsSoundAt};
 ghost use Rattle.pliron_fit.specs.Plain.{IsPlainlyFit};
 
 use crate::contents::contents_of;
 use crate::dominated::check_dominance;
-use crate::misfit::{Misfit, Stop};
 use crate::operations::check_operation;
+use crate::violation::{Stop, Violation};
 use indexmap::IndexSet;
 use pliron_core::{Context, Operation, Ptr};
 use pliron_laws::{Dialect, OptError};
@@ -52,10 +55,10 @@ fn check_plainly<D: Dialect>(
 {
     ctx.well_formed();
     if !D::may_be_root(root, ctx) {
-        return Err(Stop::Found(Misfit::NotRoot));
+        return Err(Stop::Found(Violation::NotRoot));
     }
     if root.num_successor(ctx) != 0 {
-        return Err(Stop::Found(Misfit::HasSuccessors));
+        return Err(Stop::Found(Violation::HasSuccessors));
     }
     check_operations::<D>(alloc, root, contents.as_slice(), contents, ctx)?;
     Ok(())
@@ -82,36 +85,36 @@ fn check_fit<D: Dialect>(
 
 /// One thing that keeps the operation from being fit to run, with its place; `None` exactly if it is fit: runs
 /// may begin there, it has no successors, what stands inside it uses nothing from outside, nothing outside uses
-/// what is made inside it, the tree is well linked there, all regions have dominance, definitions dominate uses,
+/// what is defined inside it, the tree is well linked there, all regions have dominance, definitions dominate uses,
 /// edges forward what their targets take, terminators stand last, and results of what has successors have no
 /// use. Which of several things comes is open.
 ///
-/// Asks that the operation stands (`is_live` tests it). Errors: want of memory. Cost: one step for each
+/// Asks that the operation stands (`is_live` tests it). Errors: allocation failure. Cost: one step for each
 /// operation, block, region, operand, result, argument and edge inside it; a few table look-ups for each operand
 /// there and each use of what is made there, however deep they stand; and the dominator tree of each region in
 /// which a value is used in another block than its own, with a question to it for each such use.
-pub fn find_misfit<D: Dialect>(
+pub fn find_violation<D: Dialect>(
     alloc: Global,
     root: Ptr<Operation>,
     ctx: &Context,
-) -> Result<Option<Misfit>, OptError>
+) -> Result<Option<Violation>, OptError>
     requires { IsLive ctx.now.tree root }
     ensures none { IfOk result (λ r. (r ≡ None) ↔ IsFit D.meaning ctx.now.tree root) }
-    ensures some { IfOk result (λ r. IfSome r (λ misfit. IsMisfit D.meaning ctx.now.tree root misfit)) }
+    ensures some { IfOk result (λ r. IfSome r (λ violation. IsViolation D.meaning ctx.now.tree root violation)) }
     ensures memory { IsOkUnless result OptError.Memory }
 {
     ctx.well_formed();
     let contents = contents_of(alloc, root, ctx)?;
     match check_fit::<D>(alloc, root, &contents, ctx) {
         Ok(()) => Ok(None),
-        Err(Stop::Found(misfit)) => Ok(Some(misfit)),
+        Err(Stop::Found(violation)) => Ok(Some(violation)),
         Err(Stop::Fault(fault)) => Err(fault),
     }
 }
 
 /// Whether the operation is fit to run: after each pass it does as it did before, where it still stands.
 ///
-/// Asks that the operation stands (`is_live` tests it). Errors: want of memory. Cost: that of `find_misfit`.
+/// Asks that the operation stands (`is_live` tests it). Errors: allocation failure. Cost: that of `find_violation`.
 pub fn is_fit<D: Dialect>(
     alloc: Global,
     root: Ptr<Operation>,
@@ -121,18 +124,19 @@ pub fn is_fit<D: Dialect>(
     ensures fit { IfOk result (λ r. IsTrue r ↔ IsFit D.meaning ctx.now.tree root) }
     ensures memory { IsOkUnless result OptError.Memory }
 {
-    let misfit = find_misfit::<D>(alloc, root, ctx)?;
-    Ok(misfit.is_none())
+    let violation = find_violation::<D>(alloc, root, ctx)?;
+    Ok(violation.is_none())
 }
 
-// The operation goes to the end of the list, if it stands and is fit to run.
+// The operation is appended to the list, if it is live and fit to run.
 fn add_if_fit<D: Dialect>(
     alloc: Global,
     root: Ptr<Operation>,
     found: &mut Vec<Ptr<Operation>>,
     ctx: &Context,
 ) -> Result<(), OptError>
-    ensures added { OnOk result ((k : ℕ) → (In k found.new.items ↔ (In k found.old.items ⊎ ((k ≡ root) × IsFit D.meaning ctx.now.tree root)))) }
+    ensures added { OnOk result ((roots : List ℕ) → AreChosen (IsFit D.meaning ctx.now.tree) roots found.old.items
+        → AreChosen (IsFit D.meaning ctx.now.tree) (roots ++ root ∷ []) found.new.items) }
     ensures memory { IsOkUnless result OptError.Memory }
 {
     if !root.is_live(ctx) {
@@ -148,13 +152,13 @@ fn add_if_fit<D: Dialect>(
 
 /// Those of the operations that stand and are fit to run, in their order.
 ///
-/// Errors: want of memory. Cost: that of `is_fit` for each.
+/// Errors: allocation failure. Cost: that of `is_fit` for each.
 pub fn fit_roots<D: Dialect>(
     alloc: Global,
     roots: &[Ptr<Operation>],
     ctx: &Context,
 ) -> Result<Vec<Ptr<Operation>>, OptError>
-    ensures fit { IfOk result (λ found. (root : ℕ) → (In root found.items ↔ (In root roots.now × IsFit D.meaning ctx.now.tree root))) }
+    ensures fit { IfOk result (λ found. AreChosen (IsFit D.meaning ctx.now.tree) roots.now found.items) }
     ensures memory { IsOkUnless result OptError.Memory }
 {
     let mut found = Vec::new(alloc);

@@ -9,11 +9,11 @@ mod contents;
 mod definitions;
 mod dominated;
 mod find;
-mod misfit;
+mod nesting;
 mod operations;
 mod run;
-mod ways;
+mod violation;
 
-pub use find::{find_misfit, fit_roots, is_fit};
-pub use misfit::Misfit;
+pub use find::{find_violation, fit_roots, is_fit};
 pub use run::{CheckedRun, RunError, run_checked, run_checked_for};
+pub use violation::Violation;

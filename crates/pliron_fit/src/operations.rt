@@ -1,21 +1,21 @@
 //! What is asked of the operations inside a root, but for dominance of uses.
 ghost use Rattle.std.specs.Prelude.{◌≡◌, ◌≢◌, ◌↔◌, ℕ, [], OnOk, IfErr, IsTrue};
 ghost use Rattle.pliron_core.specs.Tree.{In, IsLive, IsInside, IsWithin, operands_of, results_of, successors_of};
-ghost use Rattle.pliron_core.specs.Changes.{IsMadeInside};
+ghost use Rattle.pliron_core.specs.Changes.{IsDefinedInside};
 ghost use Rattle.pliron_core.specs.Walks.{preorder};
-ghost use Rattle.pliron_fit.specs.Misfit.{ForwardsAt, EndsIfTerminator};
+ghost use Rattle.pliron_fit.specs.Violation.{ForwardsAt, EndsIfTerminator};
 ghost use Rattle.pliron_fit.specs.Checks.{IsStop, IsUsedInside, IsFitInside, IsSoundAt};
 
 use crate::blocks::{check_holder, check_uses};
-use crate::contents::is_made_inside;
-use crate::misfit::{Misfit, Stop};
+use crate::contents::is_defined_inside;
+use crate::violation::{Stop, Violation};
 use indexmap::IndexSet;
 use pliron_core::{Context, Operation, Ptr};
 use pliron_laws::Dialect;
 use pliron_laws::edges::{ends_block, is_last};
 use std::alloc::Global;
 
-// All operands of the operation are made inside the root.
+// All operands of the operation are defined inside the root.
 fn check_operands<D: Dialect>(
     root: Ptr<Operation>,
     contents: &IndexSet<Ptr<Operation>>,
@@ -25,12 +25,12 @@ fn check_operands<D: Dialect>(
     requires contents { contents.now.keys ≡ preorder ctx.now.tree root }
     requires live { IsLive ctx.now.tree op }
     requires inside { IsInside ctx.now.tree root op }
-    ensures ok { OnOk result ((v : ℕ) → In v (operands_of ctx.now.tree op) → IsMadeInside ctx.now.tree root v) }
+    ensures ok { OnOk result ((v : ℕ) → In v (operands_of ctx.now.tree op) → IsDefinedInside ctx.now.tree root v) }
     ensures err { IfErr result (λ e. IsStop D.meaning ctx.now.tree root e) }
 {
     for i in 0..op.num_operand(ctx) {
-        if !is_made_inside(root, contents, op.get_operand(ctx, i), ctx) {
-            return Err(Stop::Found(Misfit::ForeignValue(op, i)));
+        if !is_defined_inside(root, contents, op.get_operand(ctx, i), ctx) {
+            return Err(Stop::Found(Violation::ForeignValue(op, i)));
         }
     }
     Ok(())
@@ -54,7 +54,7 @@ fn check_forwarded<D: Dialect>(
     for i in 0..op.num_successor(ctx) {
         let values = D::successor_operands(alloc, op, ctx, i)?;
         if values.len() != op.get_successor(ctx, i).num_argument(ctx) {
-            return Err(Stop::Found(Misfit::UnequalEdge(op, i)));
+            return Err(Stop::Found(Violation::UnequalEdge(op, i)));
         }
     }
     Ok(())
@@ -82,7 +82,8 @@ fn check_unused<D: Dialect>(
 ) -> Result<(), Stop>
     requires live { IsLive ctx.now.tree op }
     requires inside { IsInside ctx.now.tree root op }
-    ensures ok { OnOk result ((v user : ℕ) → successors_of ctx.now.tree op ≢ [] → In v (results_of ctx.now.tree op) → In v (operands_of ctx.now.tree user) → ⊥) }
+    ensures ok { OnOk result ((v user : ℕ) → successors_of ctx.now.tree op ≢ [] → In v (results_of ctx.now.tree op)
+        → In v (operands_of ctx.now.tree user) → ⊥) }
     ensures err { IfErr result (λ e. IsStop D.meaning ctx.now.tree root e) }
 {
     ctx.well_formed();
@@ -91,7 +92,7 @@ fn check_unused<D: Dialect>(
     }
     for i in 0..op.num_result(ctx) {
         if op.get_result(ctx, i).num_use(ctx) != 0 {
-            return Err(Stop::Found(Misfit::ResultUsed(op, i)));
+            return Err(Stop::Found(Violation::ResultUsed(op, i)));
         }
     }
     Ok(())
@@ -132,10 +133,10 @@ fn check_inside<D: Dialect>(
     ensures err { IfErr result (λ e. IsStop D.meaning ctx.now.tree root e) }
 {
     if !ends_block(ctx, op) {
-        return Err(Stop::Found(Misfit::EdgeNotLast(op)));
+        return Err(Stop::Found(Violation::EdgeNotLast(op)));
     }
     if !ends_if_terminator::<D>(op, ctx) {
-        return Err(Stop::Found(Misfit::TerminatorNotLast(op)));
+        return Err(Stop::Found(Violation::TerminatorNotLast(op)));
     }
     check_operands::<D>(root, contents, op, ctx)?;
     check_forwarded::<D>(alloc, root, op, ctx)?;

@@ -6,13 +6,17 @@ ghost use Rattle.pliron_laws.specs.Agree.{Agree};
 ghost use Rattle.pliron_laws.specs.Linked.{IsWellLinked};
 ghost use Rattle.pliron_theory.specs.Change.{IsPassChange};
 ghost use Rattle.pliron_theory.specs.Keeps.{IsFit};
+ghost use Rattle.pliron_pass.specs.Cache.{IsFresh};
+ghost use Rattle.pliron_pass.specs.Stage.{stage};
 ghost use Rattle.pliron_pass.specs.Headline.{DoAsBefore};
+ghost use Rattle.pliron_fit.specs.Checked.{RunsOnce, RunsOnceFor};
+ghost use Rattle.pliron_fit.specs.Chosen.{AreChosen};
 ghost use Rattle.pliron_fit.specs.declared.run.RunError.TheVariants.{NotLinked, Fault as PassFault};
 
 use crate::find::fit_roots;
 use pliron_core::{Context, IRStatus, Operation, Ptr};
 use pliron_laws::{Dialect, OptError, is_well_linked};
-use pliron_pass::{AnalysisManager, Pass, run_pipeline};
+use pliron_pass::{AnalysisManager, Managed, Pass, run_pipeline};
 use std::alloc::Global;
 use thiserror::Error;
 
@@ -51,11 +55,12 @@ fn check_linked<D: Dialect>(op: Ptr<Operation>, ctx: &Context) -> Result<(), Run
 /// Runs a pass on the operation, as `run_pipeline` does, where the tree is well linked there.
 ///
 /// Whatever this answers, each operation that was fit to run (`is_fit` tests it) and still stands does exactly
-/// what it did, the operation stands, and outside it only operands change that named a value made inside it.
+/// what it did, the operation stands, and outside it only operands change that named a value defined inside it.
+/// What was done is the pass's own outcome. Without an error, a cache that was fresh is fresh.
 ///
 /// Asks that the operation stands. Errors: `NotLinked` exactly where the tree is not well linked at the
-/// operation, and then nothing changed; else those of `run_pipeline`. Cost: that of `is_well_linked` and of the
-/// pass.
+/// operation, and then nothing changed, neither the tree nor the pass nor the cache; else those of
+/// `run_pipeline`. Cost: that of `is_well_linked` and of the pass.
 pub fn run_checked<P: Pass>(
     pass: &mut P,
     alloc: Global,
@@ -67,8 +72,13 @@ pub fn run_checked<P: Pass>(
     ensures same { DoAsBefore P.D.meaning ctx.old.tree ctx.new.tree }
     ensures stands { IsLive ctx.new.tree op }
     ensures inside { IsInsideChange ctx.old.tree ctx.new.tree op }
+    ensures fresh { OnOk result (IsFresh P.E.Kind.eq P.E.kind P.E.holds ctx.old.tree analyses.old.cache.entries →
+        IsFresh P.E.Kind.eq P.E.kind P.E.holds ctx.new.tree analyses.new.cache.entries) }
+    ensures outcome { IsWellLinked P.D.meaning ctx.old.tree op → RunsOnce P.E.Kind.eq ⟦<P as Managed>⟧.runs
+        pass.old pass.new op (stage ctx.old analyses.old) (stage ctx.new analyses.new) result }
     ensures refused { (result ≡ Err NotLinked) ↔ (IsWellLinked P.D.meaning ctx.old.tree op → ⊥) }
-    ensures untouched { (IsWellLinked P.D.meaning ctx.old.tree op → ⊥) → ctx.new ≡ ctx.old }
+    ensures untouched { (IsWellLinked P.D.meaning ctx.old.tree op → ⊥) → (ctx.new ≡ ctx.old) × (pass.new ≡ pass.old)
+        × (analyses.new ≡ analyses.old) }
     ensures change { IsWellLinked P.D.meaning ctx.old.tree op → IsPassChange P.D.meaning ctx.old.tree ctx.new.tree op }
 {
     check_linked::<P::D>(op, ctx)?;
@@ -85,12 +95,13 @@ pub struct CheckedRun {
     pub fit: Vec<Ptr<Operation>>,
 }
 
-/// Runs a pass on the operation, as `run_checked` does, and tells which of these roots were fit to run before:
-/// each of them that still stands does exactly what it did, and is fit to run.
+/// Runs a pass on the operation, as `run_checked` does, and tells which of these roots were fit to run before, in
+/// their order: each of them that still stands does exactly what it did, and is fit to run.
 ///
 /// Asks that the operation stands (`is_live` tests it). Errors: `NotLinked` exactly where the tree is not well
-/// linked at the operation, and then nothing changed; want of memory, also before anything was run; else those
-/// of `run_pipeline`. Cost: that of `run_checked`, and of `is_fit` for each of the roots.
+/// linked at the operation, and then nothing changed, neither the tree nor the pass nor the cache; allocation failure,
+/// also before anything was run, and then nothing changed; else those of `run_pipeline`. Cost: that of
+/// `run_checked`, and of `is_fit` for each of the roots.
 pub fn run_checked_for<P: Pass>(
     pass: &mut P,
     alloc: Global,
@@ -100,18 +111,23 @@ pub fn run_checked_for<P: Pass>(
     analyses: &mut AnalysisManager<P::E>,
 ) -> Result<CheckedRun, RunError>
     requires { IsLive ctx.old.tree op }
-    ensures fit { IfOk result (λ run. (root : ℕ) → (In root run.fit.items ↔ (In root roots.now × IsFit P.D.meaning ctx.old.tree root))) }
+    ensures fit { IfOk result (λ run. AreChosen (IsFit P.D.meaning ctx.old.tree) roots.now run.fit.items) }
     ensures kept { IfOk result (λ run. (root : ℕ) → In root run.fit.items → IsLive ctx.new.tree root →
         Agree P.D.meaning ctx.old.tree ctx.new.tree root × IsFit P.D.meaning ctx.new.tree root) }
     ensures same { DoAsBefore P.D.meaning ctx.old.tree ctx.new.tree }
     ensures stands { IsLive ctx.new.tree op }
     ensures inside { IsInsideChange ctx.old.tree ctx.new.tree op }
+    ensures fresh { OnOk result (IsFresh P.E.Kind.eq P.E.kind P.E.holds ctx.old.tree analyses.old.cache.entries →
+        IsFresh P.E.Kind.eq P.E.kind P.E.holds ctx.new.tree analyses.new.cache.entries) }
+    ensures outcome { IsWellLinked P.D.meaning ctx.old.tree op → RunsOnceFor P.E.Kind.eq ⟦<P as Managed>⟧.runs
+        pass.old pass.new op (stage ctx.old analyses.old) (stage ctx.new analyses.new) result }
     ensures refused { (result ≡ Err NotLinked) ↔ (IsWellLinked P.D.meaning ctx.old.tree op → ⊥) }
-    ensures untouched { (IsWellLinked P.D.meaning ctx.old.tree op → ⊥) → ctx.new ≡ ctx.old }
+    ensures untouched { (IsWellLinked P.D.meaning ctx.old.tree op → ⊥) → (ctx.new ≡ ctx.old) × (pass.new ≡ pass.old)
+        × (analyses.new ≡ analyses.old) }
     ensures change { IsWellLinked P.D.meaning ctx.old.tree op → IsPassChange P.D.meaning ctx.old.tree ctx.new.tree op }
 {
     check_linked::<P::D>(op, ctx)?;
     let fit = fit_roots::<P::D>(alloc, roots, ctx)?;
-    let status = run_pipeline(pass, alloc, op, ctx, analyses)?;
-    Ok(CheckedRun { status, fit })
+    let ran = run_pipeline(pass, alloc, op, ctx, analyses)?;
+    Ok(CheckedRun { status: ran, fit })
 }

@@ -1,4 +1,5 @@
--- A dialect of which little is known: each operation traps, ends its block, and may have whatever counts. Runs may not begin at kind 9.
+-- A dialect of which little is known: each operation traps, ends its block, and may have whatever counts. Runs
+-- may not begin at kind 9.
 use Rattle.std.specs.Prelude.{◌≡◌, ℕ, nat_eq, Bool, true, false, not, List, [], Option, Some, None, IsSome, IsTrue, refl}
 use Rattle.pliron_core.specs.declared.attrs.AttrObj.{AttrObj}
 use Rattle.pliron_core.specs.declared.attrs.IRStatus.{IRStatus}

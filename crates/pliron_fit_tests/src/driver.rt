@@ -6,15 +6,15 @@ use pliron_bench::{Bench, BenchKind};
 use pliron_core::{
     AttrObj, BasicBlock, Context, Head, IRRewriter, Operation, Ptr, Rewriter, Value,
 };
-use pliron_fit::{RunError, find_misfit, run_checked};
+use pliron_fit::{RunError, find_violation, run_checked};
 use pliron_notation::print_text;
 use pliron_pass::{AnalysisManager, BenchFacts, OptError, Passes};
-use pliron_pipeline::Step;
+use pliron_pipeline::PassStep;
 use std::alloc::Global;
 use std::process::Abort;
 
 /// A new operation with these operands and so many results, in no block.
-fn made(
+fn make_operation(
     ctx: &mut Context,
     head: Head,
     operands: &[Value],
@@ -56,11 +56,11 @@ fn square(alloc: Global, ctx: &mut Context, is_right: bool) -> Option<Ptr<Operat
     }
     let block = BasicBlock::create(ctx, func.get_region(ctx, 0), 0).ok()?;
     let six = attribute_head(alloc, BenchKind::Const, AttrObj::Int(6)).ok()?;
-    let six = made(ctx, six, &[], 1)?;
+    let six = make_operation(ctx, six, &[], 1)?;
     let number = first_result(six, ctx)?;
-    let mul = made(ctx, plain_head(alloc, BenchKind::Mul), &[number, number], 1)?;
+    let mul = make_operation(ctx, plain_head(alloc, BenchKind::Mul), &[number, number], 1)?;
     let product = first_result(mul, ctx)?;
-    let ret = made(ctx, plain_head(alloc, BenchKind::Ret), &[product], 0)?;
+    let ret = make_operation(ctx, plain_head(alloc, BenchKind::Ret), &[product], 0)?;
     if is_right {
         put(ctx, block, &[six, mul, ret])?;
     } else {
@@ -70,15 +70,15 @@ fn square(alloc: Global, ctx: &mut Context, is_right: bool) -> Option<Ptr<Operat
 }
 
 /// What the passes make of the operation, or what keeps it from being fit to run.
-fn optimised(alloc: Global, root: Ptr<Operation>, ctx: &mut Context) -> Result<String, OptError>
+fn optimise_root(alloc: Global, root: Ptr<Operation>, ctx: &mut Context) -> Result<String, OptError>
     requires { IsLive ctx.old.tree root }
 {
-    if let Some(misfit) = find_misfit::<Bench>(alloc, root, ctx)? {
-        return Ok(format!(in alloc; "{misfit}")?);
+    if let Some(violation) = find_violation::<Bench>(alloc, root, ctx)? {
+        return Ok(format!(in alloc; "{violation}")?);
     }
-    let mut passes = Passes::<Step<Bench, BenchFacts>>::new(alloc);
+    let mut passes = Passes::<PassStep<Bench, BenchFacts>>::new(alloc);
     for name in ["sccp", "simplify-cfg", "dce"] {
-        if let Some(step) = Step::from_name(name) {
+        if let Some(step) = PassStep::from_name(name) {
             passes.add_pass(step)?;
         }
     }
@@ -93,7 +93,7 @@ fn optimised(alloc: Global, root: Ptr<Operation>, ctx: &mut Context) -> Result<S
 fn check_in(rt: &impl Abort, alloc: Global, ctx: &mut Context, is_right: bool, want: &str) {
     let root = square(alloc, ctx, is_right).expect(rt, "memory");
     assert!(rt; root.is_live(ctx));
-    let said = optimised(alloc, root, ctx).expect(rt, "memory");
+    let said = optimise_root(alloc, root, ctx).expect(rt, "memory");
     assert_eq!(rt; said.as_str(), want);
 }
 

@@ -6,10 +6,10 @@ mod by_definition;
 #[cfg(test)]
 mod driver;
 #[cfg(test)]
-mod misfits;
-#[cfg(test)]
 mod random;
 #[cfg(test)]
 mod running;
 #[cfg(test)]
 mod traps;
+#[cfg(test)]
+mod violations;

@@ -1,19 +1,19 @@
-//! Each operation with regions, of texts made at random, is fit to run exactly where the definition says so, and the functions of
-//! texts that are well defined by construction are.
+//! Each operation with regions, of texts made at random, is fit to run exactly where the definition says so,
+//! and the functions of texts that are well defined by construction are.
 use super::by_definition::{Use, all_of, all_uses, holders_among, is_fit_by_definition};
 use pliron_bench::Bench;
-use pliron_cases::cases::read;
 use pliron_core::{Context, Operation, Ptr};
 use pliron_fit::is_fit;
 use pliron_laws::is_well_linked;
-use pliron_random::{Kind, Subject};
+use pliron_random_text::{Kind, Subject};
+use pliron_test_cases::cases::read;
 use std::alloc::Global;
 use std::process::Abort;
 
 /// A third of those that dead code elimination and constant propagation are tested with.
 const TEXTS: u64 = 160;
 
-/// Whether functions stand directly in it.
+/// Whether functions are directly in it.
 fn is_module(root: Ptr<Operation>, ctx: &Context) -> bool {
     root.is_live(ctx) && !root.head(ctx).ssa
 }
@@ -38,7 +38,7 @@ fn compare(
     fit
 }
 
-/// Whether the operation is the whole, or stands directly in it where that is a module, and is none itself.
+/// Whether the operation is the whole, or is directly in it where that is a module, and is none itself.
 fn is_function(op: Ptr<Operation>, whole: Ptr<Operation>, ctx: &Context) -> bool {
     if !op.is_live(ctx) || is_module(op, ctx) {
         return false;

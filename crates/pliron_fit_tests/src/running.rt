@@ -1,15 +1,15 @@
 //! Checked passes: roots that were fit to run are fit afterwards, and what is not well linked is refused.
 use super::by_definition::{all_of, holders_among};
 use pliron_bench::Bench;
-use pliron_cases::cases::read;
-use pliron_cases::trees::build;
 use pliron_core::{Context, IRStatus, Operation, Ptr};
 use pliron_fit::{RunError, fit_roots, is_fit, run_checked, run_checked_for};
 use pliron_laws::OptError;
 use pliron_meaning::Tiny;
 use pliron_pass::{AnalysisManager, BenchFacts, Passes};
-use pliron_pipeline::Step;
-use pliron_random::Subject;
+use pliron_pipeline::PassStep;
+use pliron_random_text::Subject;
+use pliron_test_cases::cases::read;
+use pliron_test_cases::trees::build;
 use std::alloc::Global;
 use std::process::Abort;
 
@@ -18,10 +18,10 @@ const TEXTS: u64 = 160;
 
 static NAMES: [&str; 4] = ["sccp", "simplify-cfg", "dce", "simplify-cfg"];
 
-fn line(rt: &impl Abort, alloc: Global) -> Passes<Step<Bench, BenchFacts>> {
+fn line(rt: &impl Abort, alloc: Global) -> Passes<PassStep<Bench, BenchFacts>> {
     let mut passes = Passes::new(alloc);
     for name in &NAMES {
-        let step = Step::from_name(name).expect(rt, "a pass");
+        let step = PassStep::from_name(name).expect(rt, "a pass");
         passes.add_pass(step).ok().expect(rt, "memory");
     }
     passes
@@ -37,7 +37,7 @@ fn are_fit(rt: &impl Abort, alloc: Global, roots: &[Ptr<Operation>], ctx: &Conte
     }
 }
 
-// Where a hostile text has a use of what is unreachable, simplification gives up.
+// Where a malformed text has a use of what is unreachable, simplification gives up.
 fn run_in(rt: &impl Abort, alloc: Global, ctx: &mut Context, text: &str) {
     let Some(whole) = read(alloc, ctx, text) else {
         return;
@@ -86,7 +86,7 @@ fn answers(
     case: &str,
 ) -> (Result<IRStatus, RunError>, Option<RunError>) {
     let root = build(alloc, ctx, case).expect(rt, "a tree");
-    let mut pass: Step<Tiny, BenchFacts> = Step::from_name("dce").expect(rt, "a pass");
+    let mut pass: PassStep<Tiny, BenchFacts> = PassStep::from_name("dce").expect(rt, "a pass");
     let mut analyses = AnalysisManager::new(alloc);
     assert!(rt; root.is_live(ctx));
     let told = run_checked_for(&mut pass, alloc, root, &[root], ctx, &mut analyses);

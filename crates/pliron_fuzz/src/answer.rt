@@ -18,7 +18,7 @@ pub enum Answer {
 }
 
 /// Takes what is written on success apart.
-fn taken_apart(alloc: Global, written: &[u8]) -> Result<Answer, AllocError> {
+fn parse_answer(alloc: Global, written: &[u8]) -> Result<Answer, AllocError> {
     let text = std::str::from_utf8(written).unwrap_or("");
     Ok(match text.split_once('\n') {
         Some((line, "changed\n")) => Answer::Line(String::from_str(alloc, line)?, true),
@@ -29,7 +29,7 @@ fn taken_apart(alloc: Global, written: &[u8]) -> Result<Answer, AllocError> {
 
 /// What the program answers to a list of passes and a text.
 ///
-/// Errors: want of memory. Cost: that of the program.
+/// Errors: allocation failure. Cost: that of the program.
 pub fn answer_to(alloc: Global, list: &str, text: &str) -> Result<Answer, AllocError> {
     let mut words = Vec::new(alloc);
     words.push(String::from_str(alloc, list)?)?;
@@ -38,7 +38,7 @@ pub fn answer_to(alloc: Global, list: &str, text: &str) -> Result<Answer, AllocE
     let mut reported: Vec<u8> = Vec::new(alloc);
     let status = plir_run(alloc, &words, &mut input, &mut written, &mut reported);
     match (status, std::str::from_utf8(&reported).unwrap_or("")) {
-        (0, "") => taken_apart(alloc, &written),
+        (0, "") => parse_answer(alloc, &written),
         (1, "refused: a value of an unreachable block is used\n") => Ok(Answer::Refused),
         (1, "refused: want of memory\n") => Err(AllocError),
         (2, "unreadable text\n") => Ok(Answer::Unreadable),

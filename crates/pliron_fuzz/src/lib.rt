@@ -7,9 +7,10 @@
 mod answer;
 mod runs;
 mod settled;
+mod subexpressions;
 mod tally;
 mod texts;
 mod verdict;
 
 pub use tally::Tally;
-pub use verdict::{Fault, Verdict, judge};
+pub use verdict::{AnswerFault, Verdict, judge};

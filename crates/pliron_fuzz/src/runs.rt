@@ -31,7 +31,7 @@ fn data(alloc: Global, numbers: &[i128]) -> Result<Vec<Datum>, AllocError> {
     Ok(data)
 }
 
-/// The operation and all that stand inside it that are functions, in the order of the text.
+/// The operation and all that are inside it that are functions, in the order of the text.
 fn functions(
     alloc: Global,
     root: Ptr<Operation>,
@@ -127,7 +127,7 @@ fn are_kept(before: &[Sight], after: &[Sight]) -> bool {
 
 /// Whether the functions of both texts run alike on a few inputs and worlds, as far as a few moves show it.
 ///
-/// Errors: want of memory. Cost: that of the runs by the evaluator.
+/// Errors: allocation failure. Cost: that of the runs by the evaluator.
 pub fn runs_are_kept(alloc: Global, before: &str, after: &str) -> Result<bool, OptError>
     ensures { IsOkUnless result OptError.Memory }
 {

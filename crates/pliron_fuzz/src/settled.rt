@@ -12,7 +12,7 @@ use std::alloc::{AllocError, Global};
 /// Whether the passes of the first list leave a line that those of the second leave as it is, unchanged. True
 /// where the first are refused.
 ///
-/// Errors: want of memory. Cost: two answers of the program.
+/// Errors: allocation failure. Cost: two answers of the program.
 pub fn is_settled(
     alloc: Global,
     first: &str,
@@ -42,7 +42,7 @@ fn leaves_it(answer: Result<IRStatus, OptError>) -> Result<bool, OptError>
 
 /// Whether simplifying leaves no unreachable block and no pair to merge. True where it is refused.
 ///
-/// Errors: want of memory. Cost: reading the text, and three walks over it.
+/// Errors: allocation failure. Cost: reading the text, and three walks over it.
 pub fn is_simple_after(alloc: Global, text: &str) -> Result<bool, OptError>
     ensures { IsOkUnless result OptError.Memory }
 {

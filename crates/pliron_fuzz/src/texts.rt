@@ -7,14 +7,14 @@ use pliron_notation::{print_text, read_text};
 use std::alloc::Global;
 
 /// The text as it is printed; `None` for one outside the notation.
-fn printed(alloc: Global, text: &str) -> Result<Option<String>, OptError>
+fn print_if_read(alloc: Global, text: &str) -> Result<Option<String>, OptError>
     ensures { IsOkUnless result OptError.Memory }
 {
     let mut ctx = Context::new(alloc);
-    printed_in(alloc, text, &mut ctx)
+    print_in(alloc, text, &mut ctx)
 }
 
-fn printed_in(alloc: Global, text: &str, ctx: &mut Context) -> Result<Option<String>, OptError>
+fn print_in(alloc: Global, text: &str, ctx: &mut Context) -> Result<Option<String>, OptError>
     ensures { IsOkUnless result OptError.Memory }
 {
     match read_text(alloc, text.as_bytes(), ctx)? {
@@ -25,11 +25,11 @@ fn printed_in(alloc: Global, text: &str, ctx: &mut Context) -> Result<Option<Str
 
 /// Whether the text is read, and printed so.
 ///
-/// Errors: want of memory. Cost: reading and printing it.
+/// Errors: allocation failure. Cost: reading and printing it.
 pub fn is_printed(alloc: Global, text: &str, line: &str) -> Result<bool, OptError>
     ensures { IsOkUnless result OptError.Memory }
 {
-    match printed(alloc, text)? {
+    match print_if_read(alloc, text)? {
         Some(found) => Ok(found.as_str() == line),
         None => Ok(false),
     }

@@ -4,15 +4,16 @@ ghost use Rattle.std.specs.Prelude.{◌≡◌, IfOk, IsOkUnless};
 use crate::answer::{Answer, answer_to};
 use crate::runs::runs_are_kept;
 use crate::settled::{is_settled, is_simple_after};
+use crate::subexpressions::subexpressions_are_right;
 use crate::texts::is_printed;
 use pliron_laws::OptError;
-use pliron_random::{Kind, Subject};
+use pliron_random_text::{Kind, Subject};
 use std::alloc::Global;
 use thiserror::Error;
 
 /// What an answer shows that it shouldn't.
 #[derive(Clone, Copy, Debug, Drop, PartialEq, Eq, Error)]
-pub enum Fault {
+pub enum AnswerFault {
     #[error("a text of the notation is unreadable")]
     Unreadable,
     #[error("a text that is well defined is refused")]
@@ -31,6 +32,8 @@ pub enum Fault {
     Blocks,
     #[error("a run isn't as before")]
     Run,
+    #[error("common subexpression elimination leaves some, or changes a run")]
+    Subexpressions,
 }
 
 /// What came of a text.
@@ -42,7 +45,7 @@ pub enum Verdict {
     Refused,
     /// All that was asked for holds.
     Kept,
-    Found(Fault),
+    Found(AnswerFault),
 }
 
 /// Whether the status is true. A list of one pass never makes again what it took away, so that it changed
@@ -62,33 +65,43 @@ fn fault_of_line(
     subject: &Subject,
     line: &str,
     is_changed: bool,
-) -> Result<Option<Fault>, OptError>
+) -> Result<Option<AnswerFault>, OptError>
     ensures { IsOkUnless result OptError.Memory }
 {
     if !is_printed(alloc, line, line)? {
-        return Ok(Some(Fault::NotAsRead));
+        return Ok(Some(AnswerFault::NotAsRead));
     }
     let is_same = is_printed(alloc, &subject.text, line)?;
     if !tells_truly(&subject.list, is_same, is_changed) {
-        return Ok(Some(Fault::Untrue));
+        return Ok(Some(AnswerFault::Untrue));
     }
     Ok(None)
 }
 
 /// What is wrong with what the passes leave of the text, which is the line.
-fn fault_of_passes(alloc: Global, subject: &Subject, line: &str) -> Result<Option<Fault>, OptError>
+fn fault_of_passes(
+    alloc: Global,
+    subject: &Subject,
+    line: &str,
+) -> Result<Option<AnswerFault>, OptError>
     ensures { IsOkUnless result OptError.Memory }
 {
     if !is_settled(alloc, "dce", "dce", line)? {
-        return Ok(Some(Fault::Dead));
+        return Ok(Some(AnswerFault::Dead));
     }
     if !is_settled(alloc, "repeat:64:simplify-cfg", "simplify-cfg", line)?
         || !is_simple_after(alloc, &subject.text)?
     {
-        return Ok(Some(Fault::Blocks));
+        return Ok(Some(AnswerFault::Blocks));
     }
     if subject.kind == Kind::Defined && !runs_are_kept(alloc, &subject.text, line)? {
-        return Ok(Some(Fault::Run));
+        return Ok(Some(AnswerFault::Run));
+    }
+    let is_defined = subject.kind == Kind::Defined;
+    if !subexpressions_are_right(alloc, &subject.text, is_defined)?
+        || !subexpressions_are_right(alloc, line, is_defined)?
+    {
+        return Ok(Some(AnswerFault::Subexpressions));
     }
     Ok(None)
 }
@@ -99,7 +112,7 @@ fn fault_of(
     subject: &Subject,
     line: &str,
     is_changed: bool,
-) -> Result<Option<Fault>, OptError>
+) -> Result<Option<AnswerFault>, OptError>
     ensures { IsOkUnless result OptError.Memory }
 {
     match fault_of_line(alloc, subject, line, is_changed)? {
@@ -113,7 +126,7 @@ fn fault_of(
 /// to simplify; functions of a well-defined text run as before on a few inputs and worlds, as far as a few
 /// moves show it. A text that isn't mangled is read, and one that is well defined isn't refused.
 ///
-/// Errors: want of memory. Cost: seven answers of the program, and eight runs of each function or, where a
+/// Errors: allocation failure. Cost: seven answers of the program, and eight runs of each function or, where a
 /// few moves show too little, twelve.
 pub fn judge(alloc: Global, subject: &Subject) -> Result<Verdict, OptError>
     ensures unreadable { IfOk result (λ verdict. verdict ≡ Verdict.Unreadable → subject.now.kind ≡ Kind.Mangled) }
@@ -126,10 +139,10 @@ pub fn judge(alloc: Global, subject: &Subject) -> Result<Verdict, OptError>
             None => Ok(Verdict::Kept),
         },
         Answer::Unreadable if subject.kind == Kind::Mangled => Ok(Verdict::Unreadable),
-        Answer::Unreadable => Ok(Verdict::Found(Fault::Unreadable)),
+        Answer::Unreadable => Ok(Verdict::Found(AnswerFault::Unreadable)),
         Answer::Refused if subject.kind != Kind::Defined => Ok(Verdict::Refused),
-        Answer::Refused => Ok(Verdict::Found(Fault::Refused)),
-        Answer::Formless => Ok(Verdict::Found(Fault::Form)),
-        Answer::Ended(status) => Ok(Verdict::Found(Fault::Ends(status))),
+        Answer::Refused => Ok(Verdict::Found(AnswerFault::Refused)),
+        Answer::Formless => Ok(Verdict::Found(AnswerFault::Form)),
+        Answer::Ended(status) => Ok(Verdict::Found(AnswerFault::Ends(status))),
     }
 }

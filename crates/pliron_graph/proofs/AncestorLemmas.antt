@@ -3,9 +3,9 @@ use Rattle.std.proofs.Common.{◌≡◌, ◌≢◌, ◌↔◌, IsTrue, ℕ, ◌-
 use Rattle.std.specs.Option.{IsSome, IfSome, is_some, option_map_or}
 use Rattle.std.proofs.lemmas.Bool.{false≢true}
 use Rattle.std.proofs.lemmas.Option.{none-some, same_Some}
-use Rattle.pliron_core.specs.Tree.{Tree, IsLive, IsBlock, IsInside, IsWithin, up_from, head_of, parent_of, block_parent_of, region_parent_of, block_holder_of, holder_of}
+use Rattle.pliron_core.specs.Tree.{Tree, IsLive, IsBlock, IsInside, IsWithin, up_from, head_of, parent_of, block_parent_of, region_parent_of, block_parent_operation_of, parent_operation_of}
 use Rattle.pliron_core.specs.Tree.IsInside.{Directly}
-use Rattle.pliron_core.specs.Joined.{IsTree}
+use Rattle.pliron_core.specs.Invariant.{IsTree}
 use Rattle.pliron_core.specs.Erased.{StandsIn, IsBlockWithin}
 use Rattle.pliron_core.specs.Walks.{contents}
 use Rattle.pliron_core.proofs.WalkLemmas.{holder_live, inside_step, inside_trans, inside_live-outer, not_inside-itself}
@@ -15,7 +15,7 @@ use Rattle.pliron_laws.specs.Datum.{Head}
 use Rattle.pliron_laws.specs.Answers.{ReadsHead, HeadPasses}
 use Rattle.pliron_graph.specs.Ancestors.{IsAtOrAbove, IsAncestor, IsDirectlyIn, IsDirectlyInRegion, IsBlockInside, IsNearest, FindsNearest}
 
--- a search has come up to here: what is here is one of those that are looked at, and each of them that
+-- a search has come up to here: what is here is one of those that are visited, and each of them that
 -- meets the test is here or further up
 pub record IsClimb (t : Tree) (Among Meets : ℕ → Type 0) (at : Option ℕ) : Type 0 where
   pub live : (k : ℕ) → at ≡ Some k → IsLive t k
@@ -26,7 +26,7 @@ pub record IsClimb (t : Tree) (Among Meets : ℕ → Type 0) (at : Option ℕ) :
 abbrev pub left_above : Tree → Option ℕ → ℕ
 left_above t at = option_map_or (λ k. suc (length t.operations - length (contents t k))) at 0
 
-pub above_smaller : (t : Tree) → IsTree t → (at : Option ℕ) (x : ℕ) (o : Option ℕ) → at ≡ Some x → o ≡ holder_of t x → left_above t o < left_above t at
+pub above_smaller : (t : Tree) → IsTree t → (at : Option ℕ) (x : ℕ) (o : Option ℕ) → at ≡ Some x → o ≡ parent_operation_of t x → left_above t o < left_above t at
 above_smaller t w at x o is e = subst (λ z. left_above t o < left_above t z) (sym is) (up_smaller t w x o e)
 
 module _ (t : Tree) (w : IsTree t) (Meets : ℕ → Type 0) where
@@ -38,7 +38,7 @@ module _ (t : Tree) (w : IsTree t) (Meets : ℕ → Type 0) where
     further = λ k a m. (op, refl, a);
   }
 
-  pub climb_above : (op : ℕ) (o : Option ℕ) → o ≡ holder_of t op → IsClimb t (IsAncestor t op) Meets o
+  pub climb_above : (op : ℕ) (o : Option ℕ) → o ≡ parent_operation_of t op → IsClimb t (IsAncestor t op) Meets o
   climb_above op o f = record {
     live = λ k e. holder_live t w op k (sym f ∙ e);
     among = λ k e. Directly (sym f ∙ e);
@@ -46,7 +46,7 @@ module _ (t : Tree) (w : IsTree t) (Meets : ℕ → Type 0) where
   }
 
   -- one step up
-  climb_step : (Among : ℕ → Type 0) → ((x p : ℕ) → Among x → holder_of t x ≡ Some p → Among p) → (at : Option ℕ) (x : ℕ) (o : Option ℕ) → at ≡ Some x → o ≡ holder_of t x → (Meets x → ⊥) → IsClimb t Among Meets at → IsClimb t Among Meets o
+  climb_step : (Among : ℕ → Type 0) → ((x p : ℕ) → Among x → parent_operation_of t x ≡ Some p → Among p) → (at : Option ℕ) (x : ℕ) (o : Option ℕ) → at ≡ Some x → o ≡ parent_operation_of t x → (Meets x → ⊥) → IsClimb t Among Meets at → IsClimb t Among Meets o
   climb_step Among up at x o is f out c = record {
     live = λ k e. holder_live t w x k (sym f ∙ e);
     among = λ k e. up x k (c.among x is) (sym f ∙ e);
@@ -59,10 +59,10 @@ module _ (t : Tree) (w : IsTree t) (Meets : ℕ → Type 0) where
         ];
   }
 
-  pub climb_on : (op : ℕ) (at : Option ℕ) (x : ℕ) (o : Option ℕ) → at ≡ Some x → o ≡ holder_of t x → (Meets x → ⊥) → IsClimb t (IsAtOrAbove t op) Meets at → IsClimb t (IsAtOrAbove t op) Meets o
+  pub climb_on : (op : ℕ) (at : Option ℕ) (x : ℕ) (o : Option ℕ) → at ≡ Some x → o ≡ parent_operation_of t x → (Meets x → ⊥) → IsClimb t (IsAtOrAbove t op) Meets at → IsClimb t (IsAtOrAbove t op) Meets o
   climb_on op = climb_step (IsAtOrAbove t op) (λ x p a e. inr (within_up t x p op e a))
 
-  pub climb_on_above : (op : ℕ) (at : Option ℕ) (x : ℕ) (o : Option ℕ) → at ≡ Some x → o ≡ holder_of t x → (Meets x → ⊥) → IsClimb t (IsAncestor t op) Meets at → IsClimb t (IsAncestor t op) Meets o
+  pub climb_on_above : (op : ℕ) (at : Option ℕ) (x : ℕ) (o : Option ℕ) → at ≡ Some x → o ≡ parent_operation_of t x → (Meets x → ⊥) → IsClimb t (IsAncestor t op) Meets at → IsClimb t (IsAncestor t op) Meets o
   climb_on_above op = climb_step (IsAncestor t op) (λ x p a e. inside_trans t p x op (Directly e) a)
 
   -- it ends at the first that meets the test, or at the top
@@ -99,7 +99,7 @@ module _ (t : Tree) (w : IsTree t) (r : ℕ) where
   not_nested b c at_b at_c i =
       let holds : region_parent_of t r ≡ Some i.0 = sym (ap (λ o. up_from o (λ z. region_parent_of t z)) at_c) ∙ i.1 in
       let m = i.2.0 in
-      let up : holder_of t m ≡ Some i.0 = ap (λ o. up_from o (λ z. block_holder_of t z)) i.2.1 ∙ ap (λ o. up_from o (λ z. region_parent_of t z)) at_b ∙ holds in
+      let up : parent_operation_of t m ≡ Some i.0 = ap (λ o. up_from o (λ z. block_parent_operation_of t z)) i.2.1 ∙ ap (λ o. up_from o (λ z. region_parent_of t z)) at_b ∙ holds in
       elim i.2.2 [
         | inl e ↦ not_inside-itself t w m (Directly (up ∙ ap Some e))
         | inr j ↦ not_inside-itself t w m (inside_trans t m i.0 m j (Directly up))
@@ -125,7 +125,7 @@ module _ (t : Tree) (w : IsTree t) (r : ℕ) where
   pub block_further : (b own p : ℕ) (o : Option ℕ) → IsDirectlyIn t own b → own ≢ r → region_parent_of t own ≡ Some p → FindsNearest (IsBlockInside t) (λ c. StandsIn t c p) (IsDirectlyIn t r) o → FindsNearest (IsBlockInside t) (λ c. IsBlockWithin t c b) (IsDirectlyIn t r) o
   block_further b own p o at_b differs holds found = go o found
     where
-      up : block_holder_of t b ≡ Some p
+      up : block_parent_operation_of t b ≡ Some p
       up = ap (λ z. up_from z (λ x. region_parent_of t x)) at_b ∙ holds
 
       back : (c : ℕ) → IsBlockWithin t c b → IsDirectlyIn t r c → StandsIn t c p

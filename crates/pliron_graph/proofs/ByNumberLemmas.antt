@@ -4,16 +4,16 @@ use Rattle.std.specs.Cmp.{IsEquivalence}
 use Rattle.std.specs.Option.{option_to_list}
 use Rattle.std.proofs.lemmas.List.{map-append}
 use Rattle.std.proofs.lemmas.Option.{slice_get-get_or, slice_get_past}
-use Rattle.pliron_search.specs.Digraph.{Digraph, IsLawful, IsPath, Reaches}
-use Rattle.pliron_search.specs.Adjacency.{Adjacency, graph_of, count_from, first_listed, row}
-use Rattle.pliron_search.specs.ByNumber.{IsByNumber}
-use Rattle.pliron_search.specs.Search.{IsSearch}
-use Rattle.pliron_search.specs.Internal.AdjacencyLawful.{counted}
-use Rattle.pliron_search.specs.Internal.Forest.{Grew}
-use Rattle.pliron_search.specs.Internal.Membership.{HasMember, in_from, contains_from, in_cases}
-use Rattle.pliron_search.proofs.NumberingLemmas.{search_from_growth}
+use Rattle.pliron_traversal.specs.Digraph.{Digraph, IsLawful, IsPath, Reaches}
+use Rattle.pliron_traversal.specs.Adjacency.{Adjacency, graph_of, count_from, first_listed, row}
+use Rattle.pliron_traversal.specs.ByNumber.{IsByNumber}
+use Rattle.pliron_traversal.specs.Search.{IsSearch}
+use Rattle.pliron_traversal.specs.Internal.AdjacencyLawful.{counted}
+use Rattle.pliron_traversal.specs.Internal.Forest.{Grew}
+use Rattle.pliron_traversal.specs.Internal.Membership.{HasMember, in_from, contains_from, in_cases}
+use Rattle.pliron_traversal.proofs.NumberingLemmas.{search_from_growth}
 use Rattle.pliron_graph.specs.Components.{entry_then_nodes}
-use Rattle.pliron_search.proofs.NumberedLemmas.{in_map, of_map, nodes_from, one_number, row_below, succ_named, grew_named, pre_low, post_low}
+use Rattle.pliron_traversal.proofs.NumberedLemmas.{in_map, of_map, nodes_from, one_number, row_below, succ_named, grew_named, pre_low, post_low}
 
 module _ {N : Type 0} (eq : N → N → Bool) (laws : IsEquivalence eq) (g : Digraph N) (lists : Adjacency) (lawful : IsLawful eq g) (by : IsByNumber g lists) (d : N) where
   abbrev node : ℕ → N

@@ -1,10 +1,10 @@
 -- What a caller of the queries of a traversal needs of an edge.
 use Rattle.std.proofs.Common.{◌≡◌, ℕ, Bool, List, Some, slice_get, Contains, length}
-use Rattle.pliron_search.specs.Digraph.{Digraph}
-use Rattle.pliron_search.specs.Search.{Orders, IsSearch, IsListed, number_in}
-use Rattle.pliron_search.specs.EdgeKinds.{IsLater}
-use Rattle.pliron_search.specs.Internal.Membership.{contains_from}
-use Rattle.pliron_search.proofs.ItemLemmas.{in_from_item}
+use Rattle.pliron_traversal.specs.Digraph.{Digraph}
+use Rattle.pliron_traversal.specs.Search.{Orders, IsSearch, IsListed, number_in}
+use Rattle.pliron_traversal.specs.EdgeKinds.{IsLater}
+use Rattle.pliron_traversal.specs.Internal.Membership.{contains_from}
+use Rattle.pliron_traversal.proofs.ItemLemmas.{in_from_item}
 use Rattle.pliron_graph.proofs.LawLemmas.{reached_next}
 
 -- an item is one of the list

@@ -5,13 +5,13 @@ use Rattle.std.specs.List.{IsDistinct, AllByRecursion, list_any}
 use Rattle.indexmap.specs.IndexSet.{insert_key}
 use Rattle.std.proofs.lemmas.Option.{slice_get_within, slice_get-get_or}
 use Rattle.std.proofs.lemmas.Map.Made.{length-le_from_is_member}
-use Rattle.pliron_search.specs.Digraph.{Digraph, IsLawful}
+use Rattle.pliron_traversal.specs.Digraph.{Digraph, IsLawful}
 use Rattle.pliron_graph.specs.Components.{IsCyclic}
-use Rattle.pliron_search.specs.Internal.Membership.{HasMember, in_from, contains_from, in_left, in_right, in_cases, in_from_any, any_from_in, not_in_from_any}
+use Rattle.pliron_traversal.specs.Internal.Membership.{HasMember, in_from, contains_from, in_left, in_right, in_cases, in_from_any, any_from_in, not_in_from_any}
 use Rattle.pliron_graph.specs.Internal.Collecting.{TakesIn, IsPathOutside, LeadsOutside, Collects}
-use Rattle.pliron_search.proofs.ItemLemmas.{in_from_item, item_from_in, apart_from}
+use Rattle.pliron_traversal.proofs.ItemLemmas.{in_from_item, item_from_in, apart_from}
 use Rattle.pliron_graph.proofs.ItemLemmas.{item_left, item_right}
-use Rattle.pliron_search.proofs.UnwindingLemmas.{take_next}
+use Rattle.pliron_traversal.proofs.UnwindingLemmas.{take_next}
 
 -- what was read by index stands there
 pub read_item : {N : Type 0} (xs ys : List N) (i : ℕ) (v : N) → ys ≡ xs → i < length xs → v ≡ get_or ys i v → slice_get xs i ≡ Some v

@@ -1,12 +1,12 @@
 -- Laws of the components of a graph.
 use Rattle.std.proofs.Common.{◌≡◌, ℕ, ◌<◌, ◌≤◌, List, [], ◌∷◌, ◌++◌, length, slice_get, Some, refl, arith, inl, inr, ◌⊎◌, Contains, Bool}
 use Rattle.std.specs.Option.{option_to_list}
-use Rattle.pliron_search.specs.Digraph.{Digraph, IsReached}
-use Rattle.pliron_search.specs.Search.{number_in}
+use Rattle.pliron_traversal.specs.Digraph.{Digraph, IsReached}
+use Rattle.pliron_traversal.specs.Search.{number_in}
 use Rattle.pliron_graph.specs.Components.{AreComponents, entry_then_nodes}
 use Rattle.pliron_graph.specs.declared.components.Scc.{Scc}
-use Rattle.pliron_search.specs.Internal.Membership.{HasMember, in_from, contains_from, in_right}
-use Rattle.pliron_search.proofs.ItemLemmas.{in_from_item}
+use Rattle.pliron_traversal.specs.Internal.Membership.{HasMember, in_from, contains_from, in_right}
+use Rattle.pliron_traversal.proofs.ItemLemmas.{in_from_item}
 use Rattle.pliron_graph.proofs.LawLemmas.{reaches_join}
 use Rattle.pliron_graph.proofs.ComponentLemmas.{latest_in_component}
 

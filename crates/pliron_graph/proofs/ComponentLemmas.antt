@@ -1,13 +1,13 @@
 -- Components, by a search numbering.
 use Rattle.std.proofs.Common.{◌≡◌, ℕ, suc, ◌<◌, ◌≤◌, List, [], ◌∷◌, ◌++◌, length, slice_get, Some, refl, sym, ◌∙◌, ap, subst, arith, inl, inr, ◌⊎◌, Contains, ◌↔◌, IsTrue, length-append}
 use Rattle.std.proofs.lemmas.Option.{slice_get_within}
-use Rattle.pliron_search.specs.Digraph.{Digraph, IsPath, Reaches, IsReached}
-use Rattle.pliron_search.specs.Search.{Encloses, IsSearchNumbering}
+use Rattle.pliron_traversal.specs.Digraph.{Digraph, IsPath, Reaches, IsReached}
+use Rattle.pliron_traversal.specs.Search.{Encloses, IsSearchNumbering}
 use Rattle.pliron_graph.specs.Components.{ReachEachOther, IsCyclic, Falls, HasGreatest}
 use Rattle.pliron_graph.specs.declared.components.Scc.{Scc}
-use Rattle.pliron_search.specs.Internal.Membership.{HasMember, in_from, contains_from, in_left, in_right, in_cases}
+use Rattle.pliron_traversal.specs.Internal.Membership.{HasMember, in_from, contains_from, in_left, in_right, in_cases}
 use Rattle.pliron_graph.specs.Internal.Collecting.{IsPathOutside, LeadsOutside}
-use Rattle.pliron_search.proofs.ItemLemmas.{in_from_item}
+use Rattle.pliron_traversal.proofs.ItemLemmas.{in_from_item}
 use Rattle.pliron_graph.proofs.ItemLemmas.{item_left, item_right}
 use Rattle.pliron_graph.proofs.LawLemmas.{reaches_join, reached_next, enclosed_reached}
 

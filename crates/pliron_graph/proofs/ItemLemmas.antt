@@ -2,10 +2,10 @@
 use Rattle.std.proofs.Common.{◌≡◌, ℕ, zero, suc, ◌+◌, ◌-◌, ◌<◌, ◌≤◌, Bool, true, false, not, cond, List, [], ◌∷◌, ◌++◌, length, take, drop, get_or, reverse, Some, slice_get, refl, sym, ◌∙◌, ap, subst, arith, inl, inr, length-append, append_assoc}
 use Rattle.std.proofs.lemmas.List.{get_or-reverse, length-reverse}
 use Rattle.std.proofs.lemmas.Option.{slice_get_within, slice_get-get_or, get_or_from_slice_get}
-use Rattle.pliron_search.specs.Search.{number_in}
-use Rattle.pliron_search.specs.Walks.{concatenated}
-use Rattle.pliron_search.proofs.ItemLemmas.{in_from_item, item_from_in}
-use Rattle.pliron_search.specs.Internal.Membership.{HasMember, in_left, in_right, in_cases}
+use Rattle.pliron_traversal.specs.Search.{number_in}
+use Rattle.pliron_traversal.specs.Walks.{concatenation}
+use Rattle.pliron_traversal.proofs.ItemLemmas.{in_from_item, item_from_in}
+use Rattle.pliron_traversal.specs.Internal.Membership.{HasMember, in_left, in_right, in_cases}
 
 module _ {X : Type 0} where
   pub item_left : (xs ys : List X) (k : ℕ) → k < length xs → slice_get (xs ++ ys) k ≡ slice_get xs k
@@ -31,27 +31,27 @@ module _ {X : Type 0} where
       slice_get-get_or (reverse xs) k v (omega (arith, within, length-reverse xs)) ∙ ap Some same
 
   -- the nodes of the first i lists come first, then the i-th list
-  pub split_joined : (ws : List (List X)) (i : ℕ) (w : List X) → slice_get ws i ≡ Some w → concatenated ws ≡ concatenated (take i ws) ++ (w ++ concatenated (drop (suc i) ws))
+  pub split_joined : (ws : List (List X)) (i : ℕ) (w : List X) → slice_get ws i ≡ Some w → concatenation ws ≡ concatenation (take i ws) ++ (w ++ concatenation (drop (suc i) ws))
   split_joined [] i w e = absurd (cc e)
-  split_joined (x ∷ ws) zero w e = let same : x ≡ w = cc in ap (λ z. z ++ concatenated ws) same
+  split_joined (x ∷ ws) zero w e = let same : x ≡ w = cc in ap (λ z. z ++ concatenation ws) same
   split_joined (x ∷ ws) (suc i) w e = ap (λ z. x ++ z) (split_joined ws i w e) ∙ simp append_assoc
 
-  pub start_of_later : (ws : List (List X)) (i j : ℕ) (w : List X) → slice_get ws i ≡ Some w → i < j → length (concatenated (take i ws)) + length w ≤ length (concatenated (take j ws))
+  pub start_of_later : (ws : List (List X)) (i j : ℕ) (w : List X) → slice_get ws i ≡ Some w → i < j → length (concatenation (take i ws)) + length w ≤ length (concatenation (take j ws))
   start_of_later [] i j w e l = absurd (cc e)
   start_of_later (x ∷ ws) zero zero w e l = absurd (omega (arith, l))
-  start_of_later (x ∷ ws) zero (suc j) w e l = let same : x ≡ w = cc in omega (arith, length-append x (concatenated (take j ws)), ap length same)
+  start_of_later (x ∷ ws) zero (suc j) w e l = let same : x ≡ w = cc in omega (arith, length-append x (concatenation (take j ws)), ap length same)
   start_of_later (x ∷ ws) (suc i) zero w e l = absurd (omega (arith, l))
   start_of_later (x ∷ ws) (suc i) (suc j) w e l =
-      omega (arith, length-append x (concatenated (take i ws)), length-append x (concatenated (take j ws)), start_of_later ws i j w e (omega (arith, l)))
+      omega (arith, length-append x (concatenation (take i ws)), length-append x (concatenation (take j ws)), start_of_later ws i j w e (omega (arith, l)))
 
-  pub in_joined : (ws : List (List X)) (i : ℕ) (w : List X) (v : X) → slice_get ws i ≡ Some w → HasMember w v → HasMember (concatenated ws) v
+  pub in_joined : (ws : List (List X)) (i : ℕ) (w : List X) (v : X) → slice_get ws i ≡ Some w → HasMember w v → HasMember (concatenation ws) v
   in_joined [] i w v e h = absurd (cc e)
-  in_joined (x ∷ ws) zero w v e h = let same : x ≡ w = cc in in_left x (concatenated ws) v (subst (λ z. HasMember z v) (sym same) h)
-  in_joined (x ∷ ws) (suc i) w v e h = in_right x (concatenated ws) v (in_joined ws i w v e h)
+  in_joined (x ∷ ws) zero w v e h = let same : x ≡ w = cc in in_left x (concatenation ws) v (subst (λ z. HasMember z v) (sym same) h)
+  in_joined (x ∷ ws) (suc i) w v e h = in_right x (concatenation ws) v (in_joined ws i w v e h)
 
-  pub list_of_joined : (ws : List (List X)) (v : X) → HasMember (concatenated ws) v → (i : ℕ) × (w : List X) × (slice_get ws i ≡ Some w) × HasMember w v
+  pub list_of_joined : (ws : List (List X)) (v : X) → HasMember (concatenation ws) v → (i : ℕ) × (w : List X) × (slice_get ws i ≡ Some w) × HasMember w v
   list_of_joined [] v h = absurd h
-  list_of_joined (x ∷ ws) v h = elim (in_cases x (concatenated ws) v h) [
+  list_of_joined (x ∷ ws) v h = elim (in_cases x (concatenation ws) v h) [
     | inl a ↦ (0, x, refl, a)
     | inr b ↦ let r = list_of_joined ws v b in (suc r.0, r.1, r.2, r.3)
   ]

@@ -1,8 +1,8 @@
 -- What follows from a search numbering alone.
 use Rattle.std.proofs.Common.{◌≡◌, ℕ, zero, suc, ◌<◌, ◌≤◌, List, [], ◌∷◌, ◌++◌, refl, sym, ap, subst, arith, inl, inr, ◌⊎◌, Contains, Bool, true, ◌↔◌, length}
-use Rattle.pliron_search.specs.Digraph.{Digraph, IsLawful, IsPath, Reaches, IsReached, HasCycle}
-use Rattle.pliron_search.specs.EdgeKinds.{HasBackEdge}
-use Rattle.pliron_search.specs.Search.{Encloses, IsSearchNumbering, IsSearch, Orders, number_in}
+use Rattle.pliron_traversal.specs.Digraph.{Digraph, IsLawful, IsPath, Reaches, IsReached, HasCycle}
+use Rattle.pliron_traversal.specs.EdgeKinds.{HasBackEdge}
+use Rattle.pliron_traversal.specs.Search.{Encloses, IsSearchNumbering, IsSearch, Orders, number_in}
 use Rattle.pliron_graph.proofs.RankLemmas.{order}
 
 module _ {N : Type 0} (g : Digraph N) where

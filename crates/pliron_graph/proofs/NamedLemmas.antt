@@ -6,20 +6,20 @@ use Rattle.std.specs.Option.{option_to_list}
 use Rattle.std.proofs.lemmas.List.{length-map}
 use Rattle.std.proofs.lemmas.List.Elements.{Contains-get_or}
 use Rattle.std.proofs.lemmas.Option.{slice_get_within}
-use Rattle.pliron_search.specs.Digraph.{Digraph, IsLawful, Reaches}
-use Rattle.pliron_search.specs.Adjacency.{Adjacency, graph_of}
-use Rattle.pliron_search.specs.ByNumber.{IsByNumber}
-use Rattle.pliron_search.specs.Search.{number_in}
-use Rattle.pliron_search.specs.Internal.AdjacencyLawful.{node_below, below_node}
-use Rattle.pliron_search.specs.Internal.Forest.{leaf, Grows, done}
-use Rattle.pliron_search.specs.Internal.Membership.{HasMember, in_from, contains_from}
-use Rattle.pliron_search.proofs.NumberingLemmas.{search_from_growth}
+use Rattle.pliron_traversal.specs.Digraph.{Digraph, IsLawful, Reaches}
+use Rattle.pliron_traversal.specs.Adjacency.{Adjacency, graph_of}
+use Rattle.pliron_traversal.specs.ByNumber.{IsByNumber}
+use Rattle.pliron_traversal.specs.Search.{number_in}
+use Rattle.pliron_traversal.specs.Internal.AdjacencyLawful.{node_below, below_node}
+use Rattle.pliron_traversal.specs.Internal.Forest.{leaf, Grows, done}
+use Rattle.pliron_traversal.specs.Internal.Membership.{HasMember, in_from, contains_from}
+use Rattle.pliron_traversal.proofs.NumberingLemmas.{search_from_growth}
 use Rattle.pliron_graph.specs.Components.{AreComponents, ReachEachOther, IsCyclic, Falls, HasGreatest, entry_then_nodes}
 use Rattle.pliron_graph.specs.declared.components.Scc.{Scc}
 use Rattle.pliron_graph.specs.Internal.Collecting.{AreNumberedComponents}
 use Rattle.pliron_graph.specs.Internal.Named.{IsNamed, AreNamed}
 use Rattle.pliron_graph.proofs.PreSentinelLemmas.{contains_item, item_contained, item_of_push}
-use Rattle.pliron_search.proofs.NumberedLemmas.{in_map, of_map, named_items, number_of, node_in, place_named}
+use Rattle.pliron_traversal.proofs.NumberedLemmas.{in_map, of_map, named_items, number_of, node_in, place_named}
 use Rattle.pliron_graph.proofs.ByNumberLemmas.{search_named, pre_below, post_below, reaches_named, path_numbered, reaches_numbered, loop_named, loop_numbered}
 
 item_within : {X : Type 0} (xs : List X) (i : ℕ) → i < length xs → (x : X) × (slice_get xs i ≡ Some x)

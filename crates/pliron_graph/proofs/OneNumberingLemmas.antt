@@ -10,9 +10,9 @@
 -- 4. Of two nodes of which one encloses the other the inner has the smaller post-number, of two others the one with the smaller
 --    pre-number. So post-numbers stand in one order, and are the same, by induction.
 use Rattle.std.proofs.Common.{◌≡◌, ℕ, zero, suc, ◌<◌, ◌≤◌, List, [], ◌∷◌, Option, Some, slice_get, refl, sym, ap, subst, arith, inl, inr, Contains}
-use Rattle.pliron_search.specs.Digraph.{Digraph, IsReached}
-use Rattle.pliron_search.specs.Search.{Encloses, IsFirstAt, IsNearest, IsTop, IsSearchNumbering}
-use Rattle.pliron_search.specs.Internal.Membership.{HasMember, in_from, contains_from}
+use Rattle.pliron_traversal.specs.Digraph.{Digraph, IsReached}
+use Rattle.pliron_traversal.specs.Search.{Encloses, IsFirstAt, IsNearest, IsTop, IsSearchNumbering}
+use Rattle.pliron_traversal.specs.Internal.Membership.{HasMember, in_from, contains_from}
 use Rattle.pliron_graph.proofs.LawLemmas.{reached_next}
 use Rattle.pliron_graph.proofs.RankLemmas.{order, IsFixedByEarlier, same_numbers, same_by_order, same_counts}
 

@@ -1,11 +1,11 @@
 -- So there is one pair of orders and one list of walks.
 use Rattle.std.proofs.Common.{◌≡◌, Bool, true, List, [], ◌∷◌, ◌++◌, length, refl, sym, ◌∙◌, ap, subst, inl, inr, append_assoc}
 use Rattle.std.proofs.lemmas.List.Elements.{All-contains}
-use Rattle.pliron_search.specs.Digraph.{Digraph, IsLawful, IsReached}
-use Rattle.pliron_search.specs.Search.{Numbers, IsTop, Orders, IsSearch, number_in}
-use Rattle.pliron_search.specs.Walks.{concatenated, IsWalk, AreWalks}
-use Rattle.pliron_search.specs.Internal.Membership.{HasMember, contains_from, in_right, any_from_in}
-use Rattle.pliron_search.proofs.ItemLemmas.{item_from_in}
+use Rattle.pliron_traversal.specs.Digraph.{Digraph, IsLawful, IsReached}
+use Rattle.pliron_traversal.specs.Search.{Numbers, IsTop, Orders, IsSearch, number_in}
+use Rattle.pliron_traversal.specs.Walks.{concatenation, IsWalk, AreWalks}
+use Rattle.pliron_traversal.specs.Internal.Membership.{HasMember, contains_from, in_right, any_from_in}
+use Rattle.pliron_traversal.proofs.ItemLemmas.{item_from_in}
 use Rattle.pliron_graph.proofs.ItemLemmas.{in_joined}
 use Rattle.pliron_graph.proofs.RankLemmas.{same_by_places}
 use Rattle.pliron_graph.proofs.OneNumberingLemmas.{same_pre, same_post, same_count}
@@ -55,14 +55,14 @@ module _ {N : Type 0} (T : N → Type 0) where
       starts (x ∷ xs) p = cc
 
   -- so lists of such lists that are one when joined are one
-  pub one_cut : (ws ws' : List (List N)) → ((w : List N) → HasMember ws w → EndsWith T w) → ((w : List N) → HasMember ws' w → EndsWith T w) → concatenated ws ≡ concatenated ws' → ws ≡ ws'
+  pub one_cut : (ws ws' : List (List N)) → ((w : List N) → HasMember ws w → EndsWith T w) → ((w : List N) → HasMember ws' w → EndsWith T w) → concatenation ws ≡ concatenation ws' → ws ≡ ws'
   one_cut [] [] each each' e = refl
-  one_cut [] (w' ∷ ws') each each' e = let t = each' w' (inl refl) in absurd (not_empty w' t.0 (concatenated ws') t.1 t.2 e)
-  one_cut (w ∷ ws) [] each each' e = let t = each w (inl refl) in absurd (not_empty w t.0 (concatenated ws) t.1 t.2 (sym e))
+  one_cut [] (w' ∷ ws') each each' e = let t = each' w' (inl refl) in absurd (not_empty w' t.0 (concatenation ws') t.1 t.2 e)
+  one_cut (w ∷ ws) [] each each' e = let t = each w (inl refl) in absurd (not_empty w t.0 (concatenation ws) t.1 t.2 (sym e))
   one_cut (w ∷ ws) (w' ∷ ws') each each' e =
       let t = each w (inl refl) in
       let t' = each' w' (inl refl) in
-      let r = cut t.0 t'.0 (concatenated ws) (concatenated ws') t.1 t'.1 t.3 t'.3 t.4 t'.4 (sym (opened w t.0 (concatenated ws) t.1 t.2) ∙ e ∙ opened w' t'.0 (concatenated ws') t'.1 t'.2) in
+      let r = cut t.0 t'.0 (concatenation ws) (concatenation ws') t.1 t'.1 t.3 t'.3 t.4 t'.4 (sym (opened w t.0 (concatenation ws) t.1 t.2) ∙ e ∙ opened w' t'.0 (concatenation ws') t'.1 t'.2) in
       let first : w ≡ w' = t.2 ∙ r.0 ∙ sym t'.2 in
       let rest : ws ≡ ws' = one_cut ws ws' (λ v i. each v (inr i)) (λ v i. each' v (inr i)) r.1 in
       subst (λ z. w ∷ ws ≡ z ∷ ws') first (ap (λ z. w ∷ z) rest)
@@ -72,17 +72,17 @@ module _ {N : Type 0} (eq : N → N → Bool) (reflexive : (x : N) → eq x x �
   Top pre post v = IsTop g g.nodes (number_in eq pre) (number_in eq post) v
 
   -- a walk ends with its top, and holds no other
-  ends_with_top : (walks : List (List N)) (are : AreWalks eq g walks) (w : List N) → HasMember walks w → EndsWith (Top are.pre (concatenated walks)) w
+  ends_with_top : (walks : List (List N)) (are : AreWalks eq g walks) (w : List N) → HasMember walks w → EndsWith (Top are.pre (concatenation walks)) w
   ends_with_top walks are w i =
-      let walk = All-contains (IsWalk eq g g.nodes (record { pre = are.pre; post = concatenated walks })) walks w are.each (contains_from walks w i) in
+      let walk = All-contains (IsWalk eq g g.nodes (record { pre = are.pre; post = concatenation walks })) walks w are.each (contains_from walks w i) in
       let at = item_from_in walks w i in
       let member : HasMember w walk.top = subst (λ z. HasMember z walk.top) (sym walk.last) (in_right walk.others (walk.top ∷ []) walk.top (inl refl)) in
-      let reached : IsReached g g.nodes walk.top = (are.search.post_listed walk.top).0 (any_from_in eq lawful.same reflexive (concatenated walks) walk.top (in_joined walks at.0 w walk.top at.1 member)) in
+      let reached : IsReached g g.nodes walk.top = (are.search.post_listed walk.top).0 (any_from_in eq lawful.same reflexive (concatenation walks) walk.top (in_joined walks at.0 w walk.top at.1 member)) in
       (walk.others, walk.top, walk.last, walk.is_top, λ v h t. t walk.top reached ((walk.enclosed v).0 (contains_from walk.others v h)).1)
 
   pub one_walks : (walks walks' : List (List N)) → AreWalks eq g walks → AreWalks eq g walks' → walks ≡ walks'
   one_walks walks walks' are are' =
-      let pres : are.pre ≡ are'.pre = one_pre eq reflexive g g.nodes (record { pre = are.pre; post = concatenated walks }) (record { pre = are'.pre; post = concatenated walks' }) lawful are.search are'.search in
-      let posts : concatenated walks ≡ concatenated walks' = one_post eq reflexive g g.nodes (record { pre = are.pre; post = concatenated walks }) (record { pre = are'.pre; post = concatenated walks' }) lawful are.search are'.search in
-      one_cut (Top are.pre (concatenated walks)) walks walks' (ends_with_top walks are)
-      (λ w i. subst (λ p. EndsWith (Top p (concatenated walks)) w) (sym pres) (subst (λ p. EndsWith (Top are'.pre p) w) (sym posts) (ends_with_top walks' are' w i))) posts
+      let pres : are.pre ≡ are'.pre = one_pre eq reflexive g g.nodes (record { pre = are.pre; post = concatenation walks }) (record { pre = are'.pre; post = concatenation walks' }) lawful are.search are'.search in
+      let posts : concatenation walks ≡ concatenation walks' = one_post eq reflexive g g.nodes (record { pre = are.pre; post = concatenation walks }) (record { pre = are'.pre; post = concatenation walks' }) lawful are.search are'.search in
+      one_cut (Top are.pre (concatenation walks)) walks walks' (ends_with_top walks are)
+      (λ w i. subst (λ p. EndsWith (Top p (concatenation walks)) w) (sym pres) (subst (λ p. EndsWith (Top are'.pre p) w) (sym posts) (ends_with_top walks' are' w i))) posts

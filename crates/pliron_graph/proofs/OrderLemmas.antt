@@ -8,12 +8,12 @@ use Rattle.std.proofs.lemmas.List.Elements.{All-contains}
 use Rattle.std.proofs.lemmas.List.Sorted.{IsPermutation-sym, IsPermutation-trans, IsPermutation-reverse, Contains-permutation}
 use Rattle.std.proofs.lemmas.Map.Keys.{IsDistinct-IsPermutation}
 use Rattle.std.proofs.lemmas.Option.{slice_get_within, get_or_from_slice_get}
-use Rattle.pliron_search.specs.Search.{IsListed, number_in}
+use Rattle.pliron_traversal.specs.Search.{IsListed, number_in}
 use Rattle.pliron_graph.specs.Components.{Falls}
-use Rattle.pliron_search.specs.Internal.Membership.{contains_from, in_from_any}
-use Rattle.pliron_search.proofs.ItemLemmas.{in_from_item, stands_once}
+use Rattle.pliron_traversal.specs.Internal.Membership.{contains_from, in_from_any}
+use Rattle.pliron_traversal.proofs.ItemLemmas.{in_from_item, stands_once}
 use Rattle.pliron_graph.proofs.ItemLemmas.{item_of_reverse, place_within}
-use Rattle.pliron_search.proofs.PlaceLemmas.{equal_at_place}
+use Rattle.pliron_traversal.proofs.PlaceLemmas.{equal_at_place}
 
 module _ {N : Type 0} (eq : N → N → Bool) (laws : IsEquivalence eq) (same : (x y : N) → eq x y ≡ true → x ≡ y) where
   module _ (order nodes sorted : List N) (perm : IsPermutation nodes sorted) where

@@ -4,13 +4,13 @@ use Rattle.std.specs.Cmp.{IsEquivalence}
 use Rattle.std.specs.List.{All}
 use Rattle.std.proofs.lemmas.List.{get_or-set_same, get_or-set_other, take_all, drop_all}
 use Rattle.std.proofs.lemmas.List.Elements.{All-contains, All-weaker, Contains-get_or}
-use Rattle.pliron_search.specs.Digraph.{Digraph, IsLawful}
-use Rattle.pliron_search.specs.Search.{IsListed, number_in}
+use Rattle.pliron_traversal.specs.Digraph.{Digraph, IsLawful}
+use Rattle.pliron_traversal.specs.Search.{IsListed, number_in}
 use Rattle.pliron_graph.specs.Components.{AreComponents}
 use Rattle.pliron_graph.specs.Reverse.{IsSink, IsLastListed}
 use Rattle.pliron_graph.specs.declared.components.Scc.{Scc}
 use Rattle.pliron_graph.specs.Internal.Owners.{owner_in, AreApart, AreOwners}
-use Rattle.pliron_search.proofs.PlaceLemmas.{equal_at_place, listed_within}
+use Rattle.pliron_traversal.proofs.PlaceLemmas.{equal_at_place, listed_within}
 use Rattle.pliron_graph.proofs.PreSentinelLemmas.{all_more, contains_item, item_contained, contains_listed}
 
 order : (j k : ℕ) → (j < k) ⊎ ((j ≡ k) ⊎ (k < j))

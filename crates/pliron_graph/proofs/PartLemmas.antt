@@ -4,11 +4,11 @@ use Rattle.std.specs.Cmp.{IsEquivalence}
 use Rattle.std.specs.List.{IsDistinct, All}
 use Rattle.std.proofs.lemmas.List.{take_all}
 use Rattle.std.proofs.lemmas.List.Elements.{All-contains, Contains-get_or}
-use Rattle.pliron_search.specs.Digraph.{Digraph}
-use Rattle.pliron_search.specs.Search.{number_in}
+use Rattle.pliron_traversal.specs.Digraph.{Digraph}
+use Rattle.pliron_traversal.specs.Search.{number_in}
 use Rattle.pliron_graph.specs.Components.{Falls, IsCyclic}
 use Rattle.pliron_graph.specs.declared.components.Scc.{Scc}
-use Rattle.pliron_search.specs.Internal.Membership.{in_from, contains_from}
+use Rattle.pliron_traversal.specs.Internal.Membership.{in_from, contains_from}
 use Rattle.pliron_graph.specs.Internal.Collecting.{Collects, IsTaken}
 use Rattle.pliron_graph.proofs.CollectLemmas.{right_distinct}
 

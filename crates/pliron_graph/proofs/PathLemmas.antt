@@ -3,10 +3,10 @@ use Rattle.std.proofs.Common.{ℕ, List, [], ◌∷◌, refl, sym, ◌∙◌, su
 use Rattle.pliron_core.specs.Tree.{Tree, layout_of}
 use Rattle.pliron_core.specs.Edges.{succs_of}
 use Rattle.pliron_laws.specs.Paths.{Path}
-use Rattle.pliron_search.specs.Digraph.{IsPath, Reaches}
-use Rattle.pliron_search.specs.Regions.{graph_of_region, IsLawfulRegion}
-use Rattle.pliron_search.specs.Internal.RegionLawful.{in_keys, keys_have, same_key, owned, region_lawful}
-use Rattle.pliron_search.proofs.RegionLemmas.{key_eq}
+use Rattle.pliron_traversal.specs.Digraph.{IsPath, Reaches}
+use Rattle.pliron_traversal.specs.Regions.{graph_of_region, IsLawfulRegion}
+use Rattle.pliron_traversal.specs.Internal.RegionLawful.{in_keys, keys_have, same_key, owned, region_lawful}
+use Rattle.pliron_traversal.proofs.RegionLemmas.{key_eq}
 use Rattle.pliron_graph.proofs.LawLemmas.{reaches_step}
 
 module _ (t : Tree) (r : ℕ) (h : IsLawfulRegion t r) where

@@ -4,15 +4,15 @@ use Rattle.std.specs.List.{All, list_any, IsDistinct}
 use Rattle.std.proofs.lemmas.List.{take_all, take_more}
 use Rattle.std.proofs.lemmas.List.Elements.{All-more, All-get_or, All-contains, Contains-get_or, Contains-append_left, Contains-push, Contains-push_cases}
 use Rattle.std.proofs.lemmas.Option.{slice_get_within, slice_get-get_or}
-use Rattle.pliron_search.specs.Digraph.{Digraph}
-use Rattle.pliron_search.specs.Search.{number_in}
+use Rattle.pliron_traversal.specs.Digraph.{Digraph}
+use Rattle.pliron_traversal.specs.Search.{number_in}
 use Rattle.pliron_graph.specs.Components.{AreComponents, Falls}
 use Rattle.pliron_graph.specs.declared.components.Scc.{Scc}
 use Rattle.pliron_graph.specs.Reverse.{IsSink, IsLastListed, IsInEarlier, AreLastOfSinks, ArePreSentinels}
-use Rattle.pliron_search.specs.Internal.Membership.{HasMember, contains_from, in_from, in_from_any, any_from_in}
-use Rattle.pliron_search.proofs.GrowthLemmas.{Distinct}
-use Rattle.pliron_search.proofs.PlaceLemmas.{is_distinct}
-use Rattle.pliron_search.proofs.ItemLemmas.{in_from_item, item_from_in}
+use Rattle.pliron_traversal.specs.Internal.Membership.{HasMember, contains_from, in_from, in_from_any, any_from_in}
+use Rattle.pliron_traversal.proofs.GrowthLemmas.{Distinct}
+use Rattle.pliron_traversal.proofs.PlaceLemmas.{is_distinct}
+use Rattle.pliron_traversal.proofs.ItemLemmas.{in_from_item, item_from_in}
 use Rattle.pliron_graph.proofs.ItemLemmas.{item_left, item_right, item_at_place, place_within}
 
 pub below_or_not : (m n : ℕ) → (m < n) ⊎ (n ≤ m)
@@ -171,7 +171,7 @@ module _ {N : Type 0} (eq : N → N → Bool) (same : (x y : N) → eq x y ≡ t
         ordered i j u v l (inr a) (inl b) = absurd (omega (arith, l, a.0, b.0))
         ordered i j u v l (inr a) (inr b) = absurd (omega (arith, l, a.0, b.0))
 
-    -- one more component was looked at
+    -- one more component was visited
     pub passed_at : (components : List (Scc N)) (i : ℕ) (c : Scc N) (starts : List N) → i < length components → c ≡ get_or components i c → ((v : N) → IsSink g c.nodes.items → IsLastListed eq g c.nodes.items v → ⊥)
         → AreLastOfSinks eq g (take i components) starts → AreLastOfSinks eq g (take (i + 1) components) starts
     passed_at components i c starts l e none last =

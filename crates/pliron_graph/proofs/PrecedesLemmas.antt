@@ -5,7 +5,7 @@ use Rattle.std.proofs.lemmas.Bool.{cases_eq, ne_eqb, eq-eqb}
 use Rattle.std.proofs.lemmas.Option.{none-some, same_Some}
 use Rattle.pliron_core.specs.Tree.{Tree, In, IsLive, IsDistinct, up_from, next_in, parent_of, body_of}
 use Rattle.pliron_core.specs.Reads.{next_of}
-use Rattle.pliron_core.specs.Joined.{IsTree}
+use Rattle.pliron_core.specs.Invariant.{IsTree}
 use Rattle.pliron_core.specs.WalkSteps.{rest_after, rest_from}
 use Rattle.pliron_core.proofs.ReadLemmas.{In-next, In-live}
 use Rattle.pliron_core.proofs.MemberLemmas.{in_slice, in_at}

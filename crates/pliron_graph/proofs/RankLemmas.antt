@@ -2,7 +2,7 @@
 use Rattle.std.proofs.Common.{◌≡◌, ℕ, zero, suc, ◌<◌, ◌≤◌, Bool, true, List, length, get_or, Some, slice_get, sym, ◌∙◌, ap, subst, arith, inl, inr, ◌⊎◌}
 use Rattle.std.proofs.lemmas.List.{same_lists}
 use Rattle.std.proofs.lemmas.Option.{get_or_from_slice_get}
-use Rattle.pliron_search.specs.Search.{Numbers, number_in}
+use Rattle.pliron_traversal.specs.Search.{Numbers, number_in}
 use Rattle.pliron_graph.proofs.ItemLemmas.{item_at_place}
 
 pub order : (m n : ℕ) → (m < n) ⊎ ((m ≡ n) ⊎ (n < m))

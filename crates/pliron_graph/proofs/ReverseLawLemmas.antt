@@ -3,17 +3,17 @@ use Rattle.std.proofs.Common.{◌≡◌, ℕ, zero, suc, ◌+◌, ◌<◌, ◌�
 use Rattle.std.specs.List.{All, list_any}
 use Rattle.std.proofs.lemmas.List.Elements.{All-contains, Contains-get_or}
 use Rattle.std.proofs.lemmas.Option.{slice_get_within}
-use Rattle.pliron_search.specs.Digraph.{Digraph, IsLawful, IsPath, Reaches}
-use Rattle.pliron_search.specs.Search.{number_in}
+use Rattle.pliron_traversal.specs.Digraph.{Digraph, IsLawful, IsPath, Reaches}
+use Rattle.pliron_traversal.specs.Search.{number_in}
 use Rattle.pliron_graph.specs.Components.{AreComponents}
 use Rattle.pliron_graph.specs.declared.components.Scc.{Scc}
 use Rattle.pliron_graph.specs.Reverse.{IsSink, IsLastListed, AreLastOfSinks, ArePreSentinels, reverse_of}
 use Rattle.pliron_graph.specs.declared.reverse_node.ReverseNode.{ReverseNode}
 use Rattle.pliron_graph.specs.declared.reverse_node.ReverseNode.TheVariants.{Sentinel, Real}
-use Rattle.pliron_search.specs.Internal.Membership.{HasMember, in_from, contains_from, in_left, in_right, in_cases, in_from_any, any_from_in}
+use Rattle.pliron_traversal.specs.Internal.Membership.{HasMember, in_from, contains_from, in_left, in_right, in_cases, in_from_any, any_from_in}
 use Rattle.pliron_graph.specs.Internal.ReverseLawful.{in_map}
 use Rattle.pliron_graph.proofs.LawLemmas.{reaches_step, reaches_join}
-use Rattle.pliron_search.proofs.ItemLemmas.{item_from_in}
+use Rattle.pliron_traversal.proofs.ItemLemmas.{item_from_in}
 use Rattle.pliron_graph.proofs.ItemLemmas.{item_left, item_right}
 use Rattle.pliron_graph.proofs.PreSentinelLemmas.{contains_item, item_contained, below_or_not, components_apart, component_inside, last_once}
 use Rattle.pliron_graph.proofs.ComponentLawLemmas.{between_components}

@@ -6,12 +6,12 @@ use Rattle.std.specs.List.{find}
 use Rattle.std.proofs.lemmas.List.{length-map}
 use Rattle.std.proofs.lemmas.List.Folds.{find_at}
 use Rattle.std.proofs.lemmas.Option.{slice_get-map}
-use Rattle.pliron_search.specs.Digraph.{Digraph}
-use Rattle.pliron_search.specs.Search.{IsListed, number_in}
+use Rattle.pliron_traversal.specs.Digraph.{Digraph}
+use Rattle.pliron_traversal.specs.Search.{IsListed, number_in}
 use Rattle.pliron_graph.specs.Reverse.{Reversed, Fits, reverse_pred}
 use Rattle.pliron_graph.specs.declared.reverse_node.ReverseNode.{ReverseNode}
 use Rattle.pliron_graph.specs.declared.reverse_node.ReverseNode.TheVariants.{Sentinel, Real}
-use Rattle.pliron_search.specs.Internal.Membership.{HasMember, in_from, contains_from, any_from_in}
+use Rattle.pliron_traversal.specs.Internal.Membership.{HasMember, in_from, contains_from, any_from_in}
 use Rattle.pliron_graph.specs.Internal.ReverseLawful.{real_in}
 
 -- a node that stands behind the sentinel is a node

@@ -2,10 +2,10 @@
 use Rattle.std.proofs.Common.{◌≡◌, ℕ, ◌+◌, ◌≤◌, Bool, true, List, [], ◌∷◌, ◌++◌, length, take, slice_get, Some, sym, ◌∙◌, ap, subst, refl, append_assoc, append-nil}
 use Rattle.std.specs.List.{list_any}
 use Rattle.std.proofs.lemmas.List.{take_all}
-use Rattle.pliron_search.specs.Digraph.{Digraph}
-use Rattle.pliron_search.specs.Internal.Forest.{Forest, leaf, grow, forest_preorder, postorder, Grows, done, skip, Grew}
-use Rattle.pliron_search.proofs.WalkLemmas.{plus, pre_plus, grows_plus}
-use Rattle.pliron_search.proofs.UnwindingLemmas.{take_next}
+use Rattle.pliron_traversal.specs.Digraph.{Digraph}
+use Rattle.pliron_traversal.specs.Internal.Forest.{Forest, leaf, grow, forest_preorder, postorder, Grows, done, skip, Grew}
+use Rattle.pliron_traversal.proofs.WalkLemmas.{plus, pre_plus, grows_plus}
+use Rattle.pliron_traversal.proofs.UnwindingLemmas.{take_next}
 
 module _ {N : Type 0} (eq : N → N → Bool) (g : Digraph N) where
   post_plus : (f h : Forest N) → postorder (plus f h) ≡ postorder f ++ postorder h

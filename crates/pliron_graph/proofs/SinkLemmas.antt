@@ -5,16 +5,16 @@ use Rattle.std.specs.List.{All, IsDistinct}
 use Rattle.std.proofs.lemmas.List.{length-map}
 use Rattle.std.proofs.lemmas.List.Elements.{Contains-get_or, All-contains}
 use Rattle.std.proofs.lemmas.Option.{slice_get-get_or}
-use Rattle.pliron_search.specs.Digraph.{Digraph, IsLawful}
-use Rattle.pliron_search.specs.Adjacency.{Adjacency, graph_of, row, count_from}
-use Rattle.pliron_search.specs.ByNumber.{IsByNumber}
-use Rattle.pliron_search.specs.Search.{number_in}
-use Rattle.pliron_search.specs.Internal.AdjacencyLawful.{node_below, counted}
-use Rattle.pliron_search.specs.Internal.Membership.{HasMember, in_from, contains_from}
-use Rattle.pliron_search.proofs.GrowthLemmas.{Distinct}
-use Rattle.pliron_search.proofs.ItemLemmas.{item_from_in}
-use Rattle.pliron_search.proofs.PlaceLemmas.{is_distinct}
-use Rattle.pliron_search.proofs.NumberedLemmas.{in_map, of_map, named_items, one_number, row_below, succ_named, nodes_from, place_named}
+use Rattle.pliron_traversal.specs.Digraph.{Digraph, IsLawful}
+use Rattle.pliron_traversal.specs.Adjacency.{Adjacency, graph_of, row, count_from}
+use Rattle.pliron_traversal.specs.ByNumber.{IsByNumber}
+use Rattle.pliron_traversal.specs.Search.{number_in}
+use Rattle.pliron_traversal.specs.Internal.AdjacencyLawful.{node_below, counted}
+use Rattle.pliron_traversal.specs.Internal.Membership.{HasMember, in_from, contains_from}
+use Rattle.pliron_traversal.proofs.GrowthLemmas.{Distinct}
+use Rattle.pliron_traversal.proofs.ItemLemmas.{item_from_in}
+use Rattle.pliron_traversal.proofs.PlaceLemmas.{is_distinct}
+use Rattle.pliron_traversal.proofs.NumberedLemmas.{in_map, of_map, named_items, one_number, row_below, succ_named, nodes_from, place_named}
 use Rattle.pliron_graph.specs.Components.{AreComponents}
 use Rattle.pliron_graph.specs.Reverse.{IsSink, IsLastListed, IsInEarlier, ArePreSentinels}
 use Rattle.pliron_graph.specs.declared.components.Scc.{Scc}

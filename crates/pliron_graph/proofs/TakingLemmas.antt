@@ -4,14 +4,14 @@ use Rattle.std.specs.Cmp.{IsEquivalence}
 use Rattle.std.specs.Option.{option_to_list}
 use Rattle.std.specs.List.{list_any, All}
 use Rattle.std.proofs.lemmas.List.Elements.{Contains-get_or}
-use Rattle.pliron_search.specs.Digraph.{Digraph, IsLawful, IsPath, IsReached}
-use Rattle.pliron_search.specs.Search.{IsSearch, IsListed, number_in}
+use Rattle.pliron_traversal.specs.Digraph.{Digraph, IsLawful, IsPath, IsReached}
+use Rattle.pliron_traversal.specs.Search.{IsSearch, IsListed, number_in}
 use Rattle.pliron_graph.specs.Components.{entry_then_nodes}
 use Rattle.pliron_graph.specs.declared.components.Scc.{Scc}
-use Rattle.pliron_search.specs.Internal.Membership.{HasMember, in_from, contains_from, in_cases, any_from_in, not_in_from_any, in_from_any}
-use Rattle.pliron_search.specs.Internal.Forest.{Grew}
+use Rattle.pliron_traversal.specs.Internal.Membership.{HasMember, in_from, contains_from, in_cases, any_from_in, not_in_from_any, in_from_any}
+use Rattle.pliron_traversal.specs.Internal.Forest.{Grew}
 use Rattle.pliron_graph.specs.Internal.Collecting.{IsTaken, LeadsOutside, AreNumberedComponents}
-use Rattle.pliron_search.proofs.ItemLemmas.{in_from_item}
+use Rattle.pliron_traversal.proofs.ItemLemmas.{in_from_item}
 use Rattle.pliron_graph.proofs.ItemLemmas.{item_left, item_right, place_of_item}
 use Rattle.pliron_graph.proofs.ComponentLemmas.{AreTaken, none_taken, passed, one_more}
 use Rattle.pliron_graph.proofs.ComponentLawLemmas.{node_reached}

@@ -1,6 +1,6 @@
 -- What the searches for ancestors answer.
 use Rattle.std.specs.Prelude.{◌≡◌, ℕ, ◌<◌, Option, Some, None, slice_get}
-use Rattle.pliron_core.specs.Tree.{Tree, IsInside, IsWithin, parent_of, body_of, block_parent_of, block_holder_of}
+use Rattle.pliron_core.specs.Tree.{Tree, IsInside, IsWithin, parent_of, body_of, block_parent_of, block_parent_operation_of}
 use Rattle.pliron_core.specs.Erased.{StandsIn}
 
 -- k is op or an ancestor of it
@@ -11,23 +11,23 @@ IsAtOrAbove t op k = IsWithin t k op
 abbrev pub IsAncestor : Tree → (op k : ℕ) → Type 0
 IsAncestor t op k = IsInside t k op
 
--- the operation stands directly in the block
+-- the operation is directly in the block
 abbrev pub IsDirectlyInBlock : Tree → (block op : ℕ) → Type 0
 IsDirectlyInBlock t block op = parent_of t op ≡ Some block
 
--- the block stands directly in the region
+-- the block is directly in the region
 abbrev pub IsDirectlyIn : Tree → (region block : ℕ) → Type 0
 IsDirectlyIn t region block = block_parent_of t block ≡ Some region
 
--- the operation stands in a block that stands directly in the region
+-- the operation is in a block that is directly in the region
 abbrev pub IsDirectlyInRegion : Tree → (region op : ℕ) → Type 0
 IsDirectlyInRegion t region op = (block : ℕ) × IsDirectlyInBlock t block op × IsDirectlyIn t region block
 
--- block c stands inside block b, at any depth
+-- block c is inside block b, at any depth
 abbrev pub IsBlockInside : Tree → (b c : ℕ) → Type 0
-IsBlockInside t b c = (k : ℕ) × (block_holder_of t c ≡ Some k) × StandsIn t b k
+IsBlockInside t b c = (k : ℕ) × (block_parent_operation_of t c ≡ Some k) × StandsIn t b k
 
--- a is one of these and meets the test, and nothing nearer does: none that stands inside a
+-- a is one of these and meets the test, and nothing nearer does: none that is inside a
 pub record IsNearest (Inside : ℕ → ℕ → Type 0) (Among Meets : ℕ → Type 0) (a : ℕ) : Type 0 where
   pub among : Among a
   pub meets : Meets a
@@ -38,7 +38,7 @@ abbrev pub FindsNearest : (Inside : ℕ → ℕ → Type 0) (Among Meets : ℕ �
 FindsNearest Inside Among Meets None = (k : ℕ) → Among k → Meets k → ⊥
 FindsNearest Inside Among Meets (Some a) = IsNearest Inside Among Meets a
 
--- both stand in one block, a before b
+-- both are in one block, a before b
 pub record StrictlyPrecedes (t : Tree) (a b : ℕ) : Type 0 where
   pub block : ℕ
   pub first : ℕ

@@ -1,8 +1,8 @@
--- The components of a graph, and the order in which they stand.
+-- The components of a graph, and their order.
 use Rattle.std.specs.Prelude.{◌≡◌, ℕ, ◌<◌, ◌⊎◌, ◌↔◌, ◌++◌, Bool, IsTrue, List, Contains, slice_get, Some, length}
 use Rattle.std.specs.Option.{option_to_list}
-use Rattle.pliron_search.specs.Digraph.{Digraph, Reaches}
-use Rattle.pliron_search.specs.Search.{Orders, IsSearch, number_in}
+use Rattle.pliron_traversal.specs.Digraph.{Digraph, Reaches}
+use Rattle.pliron_traversal.specs.Search.{Orders, IsSearch, number_in}
 use Rattle.pliron_graph.specs.declared.components.Scc.{Scc}
 
 -- the entry, if there is one, and then all nodes
@@ -25,8 +25,9 @@ Falls {N} number nodes = (i j : ℕ) (u v : N) → i < j → slice_get nodes i �
 abbrev pub HasGreatest : {N : Type 0} → (N → ℕ) → List N → List N → Type 0
 HasGreatest {N} number nodes others = (u : N) × Contains nodes u × ((v : N) → Contains others v → number v < number u)
 
--- The nodes in lists: two nodes share one exactly if each reaches the other. The numbers are those of the search from the entry and then
--- all nodes; the lists stand by falling greatest post-order number, the nodes of each by falling pre-order number.
+-- The nodes in lists: two nodes share one exactly if each reaches the other. The numbers are those of the
+-- search from the entry and then all nodes; the lists are by falling greatest post-order number, the nodes of
+-- each by falling pre-order number.
 pub record AreComponents {N : Type 0} (eq : N → N → Bool) (g : Digraph N) (components : List (Scc N)) : Type 0 where
   pub orders : Orders N
   pub search : IsSearch eq g (entry_then_nodes g) orders

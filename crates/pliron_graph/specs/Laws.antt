@@ -2,21 +2,21 @@
 use Rattle.std.specs.Prelude.{◌≡◌, ℕ, ◌<◌, ◌≤◌, ◌⊎◌, ◌↔◌, Bool, List, Contains, slice_get, Some, take, reverse}
 use Rattle.pliron_core.specs.Tree.{Tree, layout_of}
 use Rattle.pliron_laws.specs.Paths.{Path}
-use Rattle.pliron_search.specs.Digraph.{Digraph, IsLawful, Reaches, HasCycle}
-use Rattle.pliron_search.specs.Search.{Orders, IsSearch, StandsBefore}
-use Rattle.pliron_search.specs.Walks.{concatenated, AreWalks}
-use Rattle.pliron_search.specs.EdgeKinds.{HasBackEdge}
-use Rattle.pliron_search.specs.Regions.{graph_of_region, IsLawfulRegion}
+use Rattle.pliron_traversal.specs.Digraph.{Digraph, IsLawful, Reaches, HasCycle}
+use Rattle.pliron_traversal.specs.Search.{Orders, IsSearch, StandsBefore}
+use Rattle.pliron_traversal.specs.Walks.{concatenation, AreWalks}
+use Rattle.pliron_traversal.specs.EdgeKinds.{HasBackEdge}
+use Rattle.pliron_traversal.specs.Regions.{graph_of_region, IsLawfulRegion}
 use Rattle.pliron_graph.specs.Components.{AreComponents}
 use Rattle.pliron_graph.specs.declared.components.Scc.{Scc}
 
 module _ {N : Type 0} (eq : N → N → Bool) where
-  -- in post-order the target of an edge stands before its source, or reaches it
+  -- in post-order the target of an edge is before its source, or reaches it
   abbrev pub EdgeInPostOrder : Type 0
   EdgeInPostOrder = (g : Digraph N) (walks : List (List N)) → IsLawful eq g → AreWalks eq g walks
-      → (u v : N) → Contains g.nodes u → Contains (g.succ u) v → StandsBefore eq (concatenated walks) v u ⊎ Reaches g v u
+      → (u v : N) → Contains g.nodes u → Contains (g.succ u) v → StandsBefore eq (concatenation walks) v u ⊎ Reaches g v u
 
-  -- in a reversed walk the source of an edge stands before its target, or the target reaches it
+  -- in a reversed walk the source of an edge is before its target, or the target reaches it
   abbrev pub EdgeInTopologicalOrder : Type 0
   EdgeInTopologicalOrder = (g : Digraph N) (walks : List (List N)) → IsLawful eq g → AreWalks eq g walks
       → (walk : List N) → Contains walks walk
@@ -28,7 +28,7 @@ module _ {N : Type 0} (eq : N → N → Bool) where
       → (i j : ℕ) (a b : List N) → slice_get walks i ≡ Some a → slice_get walks j ≡ Some b
       → (u v : N) → Contains a u → Contains b v → Contains (g.succ u) v → j ≤ i
 
-  -- the first node of xs that stands outside ys
+  -- the first node of xs that is outside ys
   abbrev pub IsFirstOutside : List N → List N → N → Type 0
   IsFirstOutside xs ys v = (k : ℕ) × (slice_get xs k ≡ Some v) × (Contains ys v → ⊥) × ((j : ℕ) (w : N) → j < k → slice_get xs j ≡ Some w → Contains ys w)
 
@@ -41,7 +41,7 @@ module _ {N : Type 0} (eq : N → N → Bool) where
   -- each walk goes from the first listed node that no earlier walk holds
   abbrev pub WalkFromFirstNode : Type 0
   WalkFromFirstNode = (g : Digraph N) (walks : List (List N)) → IsLawful eq g → AreWalks eq g walks
-      → (i : ℕ) (walk : List N) → slice_get walks i ≡ Some walk → (v : N) × IsWalkFrom g (concatenated (take i walks)) walk v
+      → (i : ℕ) (walk : List N) → slice_get walks i ≡ Some walk → (v : N) × IsWalkFrom g (concatenation (take i walks)) walk v
 
   -- an edge of what the roots reach goes back exactly if that part has a cycle
   abbrev pub BackEdgeOnCycle : Type 0

@@ -1,9 +1,9 @@
-pub use Rattle.pliron_search.specs.Digraph
-pub use Rattle.pliron_search.specs.Search
-pub use Rattle.pliron_search.specs.Walks
-pub use Rattle.pliron_search.specs.EdgeKinds
-pub use Rattle.pliron_search.specs.Adjacency
-pub use Rattle.pliron_search.specs.Regions
+pub use Rattle.pliron_traversal.specs.Digraph
+pub use Rattle.pliron_traversal.specs.Search
+pub use Rattle.pliron_traversal.specs.Walks
+pub use Rattle.pliron_traversal.specs.EdgeKinds
+pub use Rattle.pliron_traversal.specs.Adjacency
+pub use Rattle.pliron_traversal.specs.Regions
 pub mod Components
 pub mod Laws
 pub mod NumberingLaws

@@ -1,8 +1,8 @@
 -- The clauses of a search numbering admit one numbering, and so one pair of orders and one list of walks.
 use Rattle.std.specs.Prelude.{◌≡◌, ℕ, Bool, List}
-use Rattle.pliron_search.specs.Digraph.{Digraph, IsLawful, IsReached}
-use Rattle.pliron_search.specs.Search.{IsSearchNumbering, Orders, IsSearch}
-use Rattle.pliron_search.specs.Walks.{AreWalks}
+use Rattle.pliron_traversal.specs.Digraph.{Digraph, IsLawful, IsReached}
+use Rattle.pliron_traversal.specs.Search.{IsSearchNumbering, Orders, IsSearch}
+use Rattle.pliron_traversal.specs.Walks.{AreWalks}
 
 -- two numberings of what the roots reach count as many nodes, and give each of them the same two numbers
 abbrev pub NumberingIsOne : Type 0 → Type 0

@@ -1,8 +1,8 @@
 -- The reverse of a graph, with a sentinel in front of its pre-sentinels.
 use Rattle.std.specs.Prelude.{◌≡◌, ℕ, ◌<◌, ◌≤◌, ◌↔◌, slice_get, Bool, List, [], ◌∷◌, ◌++◌, Some, Contains, map, if◌then◌else◌}
 use Rattle.std.specs.List.{All, list_any}
-use Rattle.pliron_search.specs.Digraph.{Digraph}
-use Rattle.pliron_search.specs.Search.{number_in}
+use Rattle.pliron_traversal.specs.Digraph.{Digraph}
+use Rattle.pliron_traversal.specs.Search.{number_in}
 use Rattle.pliron_graph.specs.Components.{AreComponents}
 use Rattle.pliron_graph.specs.declared.components.Scc.{Scc}
 use Rattle.pliron_graph.specs.declared.reverse_node.ReverseNode.{ReverseNode}
@@ -36,7 +36,7 @@ module _ {N : Type 0} (eq : N → N → Bool) (g : Digraph N) where
   abbrev pub IsLastListed : List N → N → Type 0
   IsLastListed nodes v = Contains nodes v × ((u : N) → Contains nodes u → number_in eq g.nodes u ≤ number_in eq g.nodes v)
 
-  -- u stands in an earlier component than v
+  -- u is in an earlier component than v
   abbrev pub IsInEarlier : List (Scc N) → N → N → Type 0
   IsInEarlier components u v = (i j : ℕ) × (c d : Scc N) × (i < j) × (slice_get components i ≡ Some c) × (slice_get components j ≡ Some d) × Contains c.nodes.items u × Contains d.nodes.items v
 
@@ -49,7 +49,8 @@ module _ {N : Type 0} (eq : N → N → Bool) (g : Digraph N) where
   abbrev pub ArePreSentinels : List N → Type 0
   ArePreSentinels starts = (components : List (Scc N)) × AreComponents eq g components × AreLastOfSinks components starts
 
--- what is kept of a graph's reverse: the graph, the pre-sentinels, its nodes, and of each its predecessors in the reverse graph
+-- what is kept of a graph's reverse: the graph, the pre-sentinels, its nodes, and of each its predecessors in
+-- the reverse graph
 pub record Reversed (G N : Type 0) : Type 0 where
   pub original : G
   pub pre_sentinels : List N

@@ -1,6 +1,6 @@
 -- Laws of reverse graphs, which users rely on.
 use Rattle.std.specs.Prelude.{◌++◌, ◌∷◌, Bool, List, Contains}
-use Rattle.pliron_search.specs.Digraph.{Digraph, IsLawful, Reaches}
+use Rattle.pliron_traversal.specs.Digraph.{Digraph, IsLawful, Reaches}
 use Rattle.pliron_graph.specs.Reverse.{ArePreSentinels, reverse_of}
 use Rattle.pliron_graph.specs.declared.reverse_node.ReverseNode.TheVariants.{Sentinel, Real}
 

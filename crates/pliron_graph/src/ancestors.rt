@@ -1,5 +1,5 @@
-//! Searches for what stands around an operation or a block. They go up by links, take no memory and
-//! are never refused.
+//! Searches for the ancestors of an operation or a block. They go up by links, take no memory and are never
+//! refused.
 ghost use Rattle.std.specs.Prelude.{◌≡◌, ◌↔◌, IsTrue, IfSome};
 ghost use Rattle.pliron_core.specs.Tree.{IsLive, IsBlock, IsInside, parent_of};
 ghost use Rattle.pliron_core.specs.Erased.{StandsIn, IsBlockWithin};
@@ -9,7 +9,7 @@ ghost use Rattle.pliron_graph.specs.Ancestors.{IsAtOrAbove, IsAncestor, IsDirect
 use pliron_core::{BasicBlock, Context, Operation, Ptr, Region};
 use pliron_laws::{Dialect, Interface};
 
-// Whether both operations stand in one block, or both in none.
+// Whether both operations are in one block, or both in none.
 fn have_one_parent(ctx: &Context, a: Ptr<Operation>, b: Ptr<Operation>) -> bool
     requires first { IsLive ctx.now.tree a }
     requires second { IsLive ctx.now.tree b }
@@ -18,10 +18,10 @@ fn have_one_parent(ctx: &Context, a: Ptr<Operation>, b: Ptr<Operation>) -> bool
     a.get_parent_block(ctx) == b.get_parent_block(ctx)
 }
 
-/// Whether both operations stand in one block, `a` before `b`. No operation precedes itself.
+/// Whether both operations are in one block, `a` before `b`. No operation precedes itself.
 ///
-/// Asks that both stand (`is_live` tests it). Cost: one step for each operation of the block from `a` to `b`,
-/// or to the end of the block if `b` is not after `a`; constant if they stand in different blocks.
+/// Asks that both are live (`is_live` tests it). Cost: one step for each operation of the block from `a` to
+/// `b`, or to the end of the block if `b` is not after `a`; constant if they are in different blocks.
 pub fn strictly_precedes_in_block(ctx: &Context, a: Ptr<Operation>, b: Ptr<Operation>) -> bool
     requires first { IsLive ctx.now.tree a }
     requires second { IsLive ctx.now.tree b }
@@ -41,7 +41,7 @@ pub fn strictly_precedes_in_block(ctx: &Context, a: Ptr<Operation>, b: Ptr<Opera
     false
 }
 
-// Whether the operation stands directly in the block.
+// Whether the operation is directly in the block.
 fn is_directly_in_block(ctx: &Context, op: Ptr<Operation>, block: Ptr<BasicBlock>) -> bool
     requires { IsLive ctx.now.tree op }
     ensures { IsTrue result ↔ IsDirectlyInBlock ctx.now.tree block op }
@@ -49,7 +49,7 @@ fn is_directly_in_block(ctx: &Context, op: Ptr<Operation>, block: Ptr<BasicBlock
     op.get_parent_block(ctx) == Some(block)
 }
 
-// Whether the operation stands directly in the region.
+// Whether the operation is directly in the region.
 fn is_directly_in_region(ctx: &Context, op: Ptr<Operation>, region: Ptr<Region>) -> bool
     requires { IsLive ctx.now.tree op }
     ensures { IsTrue result ↔ IsDirectlyInRegion ctx.now.tree region op }
@@ -60,10 +60,10 @@ fn is_directly_in_region(ctx: &Context, op: Ptr<Operation>, region: Ptr<Region>)
     }
 }
 
-/// The operation, or else the nearest of its ancestors, that stands directly in the region; `None` exactly if
-/// there is none.
+/// The operation, or else the nearest of its ancestors, that is directly in the region; `None` exactly if there
+/// is none.
 ///
-/// Asks that the operation stands (`is_live` tests it). Cost: the depth of the operation.
+/// Asks that the operation is live (`is_live` tests it). Cost: the depth of the operation.
 pub fn find_ancestor_op_of_op_in_region(
     ctx: &Context,
     op: Ptr<Operation>,
@@ -84,10 +84,10 @@ pub fn find_ancestor_op_of_op_in_region(
     None
 }
 
-/// The operation, or else the nearest of its ancestors, that stands directly in the block; `None` exactly if
-/// there is none.
+/// The operation, or else the nearest of its ancestors, that is directly in the block; `None` exactly if there
+/// is none.
 ///
-/// Asks that the operation stands (`is_live` tests it). Cost: the depth of the operation.
+/// Asks that the operation is live (`is_live` tests it). Cost: the depth of the operation.
 pub fn find_ancestor_op_of_op_in_block(
     ctx: &Context,
     op: Ptr<Operation>,
@@ -108,10 +108,10 @@ pub fn find_ancestor_op_of_op_in_block(
     None
 }
 
-/// The nearest of the blocks around the operation that stands directly in the region; `None` exactly if there
-/// is none.
+/// The nearest of the blocks around the operation that is directly in the region; `None` exactly if there is
+/// none.
 ///
-/// Asks that the operation stands (`is_live` tests it). Cost: the depth of the operation.
+/// Asks that the operation is live (`is_live` tests it). Cost: the depth of the operation.
 pub fn find_ancestor_block_of_op_in_region(
     ctx: &Context,
     op: Ptr<Operation>,
@@ -126,10 +126,10 @@ pub fn find_ancestor_block_of_op_in_region(
     above.get_parent_block(ctx)
 }
 
-/// The block, or else the nearest of the blocks around it, that stands directly in the region; `None` exactly
-/// if there is none.
+/// The block, or else the nearest of the blocks around it, that is directly in the region; `None` exactly if
+/// there is none.
 ///
-/// Asks that the block stands (`is_live` tests it). Cost: the depth of the block.
+/// Asks that the block is live (`is_live` tests it). Cost: the depth of the block.
 pub fn find_ancestor_block_of_block_in_region(
     ctx: &Context,
     block: Ptr<BasicBlock>,
@@ -148,9 +148,9 @@ pub fn find_ancestor_block_of_block_in_region(
 }
 
 /// The nearest ancestor of the operation that is of this kind; `None` exactly if there is none. The operation
-/// itself is not looked at.
+/// itself is not tested.
 ///
-/// Asks that the operation stands (`is_live` tests it). Cost: the depth of the operation.
+/// Asks that the operation is live (`is_live` tests it). Cost: the depth of the operation.
 pub fn find_ancestor_of_op_type<D: Dialect>(
     ctx: &Context,
     op: Ptr<Operation>,
@@ -172,9 +172,9 @@ pub fn find_ancestor_of_op_type<D: Dialect>(
 }
 
 /// The nearest ancestor of the operation that implements this interface; `None` exactly if there is none. The
-/// operation itself is not looked at.
+/// operation itself is not tested.
 ///
-/// Asks that the operation stands (`is_live` tests it). Cost: the depth of the operation.
+/// Asks that the operation is live (`is_live` tests it). Cost: the depth of the operation.
 pub fn find_ancestor_of_op_interface<D: Dialect>(
     ctx: &Context,
     op: Ptr<Operation>,

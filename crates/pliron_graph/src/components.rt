@@ -2,15 +2,15 @@
 ghost use Rattle.std.specs.Prelude.{◌≡◌, ◌↔◌, ◌++◌, ◌<◌, [], false, Contains, IsTrue, IfOk, OnOk, IsOkUnless, Some, length, reverse, map, slice_get};
 ghost use Rattle.std.specs.List.{All, IsDistinct, list_any};
 ghost use Rattle.pliron_graph.specs.Components.{AreComponents, IsCyclic, Falls, entry_then_nodes};
-ghost use Rattle.pliron_search.specs.Search.{IsListed, number_in};
-ghost use Rattle.pliron_search.specs.Internal.Forest.{Grew};
+ghost use Rattle.pliron_traversal.specs.Search.{IsListed, number_in};
+ghost use Rattle.pliron_traversal.specs.Internal.Forest.{Grew};
 ghost use Rattle.pliron_graph.specs.Internal.Collecting.{TakesIn, Collects, IsTaken, AreNumberedComponents};
 ghost use Rattle.pliron_graph.specs.Internal.Named.{AreNamed};
 
 use indexmap::IndexSet;
 use pliron_laws::OptError;
-use pliron_search::search::walk_over;
-use pliron_search::{AdjacencyList, ControlFlowGraph, ListedSet, NumberSet, traversal};
+use pliron_traversal::search::walk_over;
+use pliron_traversal::{AdjacencyList, ControlFlowGraph, ListedSet, NumberSet, traversal};
 use std::alloc::Global;
 
 /// A strongly connected component.
@@ -25,13 +25,13 @@ pub struct Scc<N> {
 /// The strongly connected components: two nodes share one exactly if each reaches the other.
 ///
 /// The numbers that follow are those of a depth-first search from the entry and then from each node in listed
-/// order. The components stand by falling greatest post-order number, so an edge between two of them goes
-/// from the earlier to the later. The nodes of each stand by falling pre-order number.
+/// order. The components are listed by falling greatest post-order number, so an edge between two of them goes
+/// from the earlier to the later. The nodes of each are listed by falling pre-order number.
 ///
 /// Two passes: a search gives the orders; then the nodes are taken by falling post-order number, and the
 /// nodes that lead to one over nodes without a component are its component.
 ///
-/// Asks that the graph may be read in the context. Errors: want of memory. Cost: a few reads for each node
+/// Asks that the graph may be read in the context. Errors: allocation failure. Cost: a few reads for each node
 /// and each edge of a graph that has numbers, and as many look-ups in a hashed table of any other; and a sort
 /// of each component.
 /// Source: M. Sharir, A strong-connectivity algorithm and its applications in data flow analysis, 1981.
@@ -49,7 +49,7 @@ pub fn sccs_in_topological_order<C, G: ControlFlowGraph<C>>(
     };
     let nodes = graph.nodes(alloc, ctx)?;
     let found = find_components::<(), AdjacencyList, NumberSet>(alloc, &(), lists)?;
-    named(alloc, &nodes, found)
+    components_by_number(alloc, &nodes, found)
 }
 
 /// The components, by sets of this kind. Errors and cost: as [`sccs_in_topological_order`].
@@ -66,8 +66,9 @@ pub(crate) fn find_components<C, G: ControlFlowGraph<C>, S: ListedSet<G::Node>>(
     take_components(alloc, ctx, graph, &pre, post)
 }
 
-// The components of nodes, by those of their numbers. Each list of numbers goes as its nodes are listed, so that the next takes its memory.
-fn named<N: Copy>(
+// The components of nodes, by those of their numbers. Each list of numbers is dropped as its nodes are listed,
+// so that the next takes its memory.
+fn components_by_number<N: Copy>(
     alloc: Global,
     nodes: &[N],
     components: Vec<Scc<u32>>,
@@ -78,7 +79,7 @@ fn named<N: Copy>(
 {
     let mut all = Vec::with_capacity(alloc, components.len())?;
     for component in components {
-        let members = traversal::named(alloc, nodes, &component.nodes)?;
+        let members = traversal::nodes_by_number(alloc, nodes, &component.nodes)?;
         all.push(Scc {
             nodes: members,
             is_cyclic: component.is_cyclic,
@@ -105,7 +106,8 @@ fn roots<C, G: ControlFlowGraph<C>>(
     Ok(roots)
 }
 
-// The nodes in the order in which a search from the entry and then all nodes comes to them, and in the order in which it leaves them.
+// The nodes in the order in which a search from the entry and then all nodes comes to them, and in the order in
+// which it leaves them.
 fn search_all<C, G: ControlFlowGraph<C>, S: ListedSet<G::Node>>(
     alloc: Global,
     ctx: &C,

@@ -1,5 +1,5 @@
-//! What follows from the contracts of the orders, the traversal, the components and the reverse graph. Each function does nothing: its
-//! contract is the law.
+//! What follows from the contracts of the orders, the traversal, the components and the reverse graph. Each
+//! function does nothing: its contract is the law.
 ghost use Rattle.pliron_graph.specs.Laws.{EdgeInPostOrder, EdgeInTopologicalOrder, EdgeBetweenWalks, WalkFromFirstNode, BackEdgeOnCycle, EdgeBetweenComponents, PathsOfRegion};
 ghost use Rattle.pliron_graph.specs.NumberingLaws.{NumberingIsOne, OrdersAreOne, WalksAreOne};
 ghost use Rattle.std.specs.Prelude.{◌≡◌, IsTrue, true, false};
@@ -8,22 +8,23 @@ ghost use Rattle.pliron_graph.specs.ReverseLaws.{SentinelReachesAll, NoPreSentin
 use crate::ReverseNode;
 use std::hash::Hash;
 
-/// The clauses of a depth-first numbering admit one numbering: any two that meet them, from the same roots, give each node that the roots
-/// reach the same two numbers. So a graph has one pair of orders from its entry ([`DFSTraversal`](crate::DFSTraversal)), and one list of
-/// walks ([`post_order_by_component`](crate::post_order_by_component)).
+/// The clauses of a depth-first numbering admit one numbering: any two that meet them, from the same roots,
+/// give each node that the roots reach the same two numbers. So a graph has one pair of orders from its entry
+/// ([`DFSTraversal`](crate::DFSTraversal)), and one list of walks
+/// ([`post_order_by_component`](crate::post_order_by_component)).
 pub fn numbering_is_one<N: Eq>()
     ensures numbers { NumberingIsOne N }
     ensures orders { OrdersAreOne N.eq }
     ensures walks { WalksAreOne N.eq }
 {}
 
-/// In [`post_order`](crate::post_order) the target of an edge stands before its source, or reaches it.
+/// In [`post_order`](crate::post_order) the target of an edge is before its source, or reaches it.
 pub fn edge_in_post_order<N: Eq>()
     ensures { EdgeInPostOrder N.eq }
 {}
 
-/// In a list of [`topological_order_by_component`](crate::topological_order_by_component) the source of an edge stands before its
-/// target, or the target reaches it.
+/// In a list of [`topological_order_by_component`](crate::topological_order_by_component) the source of an edge
+/// is before its target, or the target reaches it.
 pub fn edge_in_topological_order<N: Eq>()
     ensures { EdgeInTopologicalOrder N.eq }
 {}
@@ -33,8 +34,8 @@ pub fn edge_between_walks<N: Eq>()
     ensures { EdgeBetweenWalks N.eq }
 {}
 
-/// A walk's first node in topological order is the first listed node that no earlier walk holds, and the walk is what that node
-/// reaches and no earlier walk holds.
+/// A walk's first node in topological order is the first listed node that no earlier walk holds, and the walk
+/// is what that node reaches and no earlier walk holds.
 pub fn walk_from_first_node<N: Eq>()
     ensures { WalkFromFirstNode N.eq }
 {}
@@ -64,8 +65,8 @@ pub fn no_pre_sentinel_is_spare<N: Eq>()
     ensures { NoPreSentinelIsSpare N.eq }
 {}
 
-/// Nodes of the original graph are equal in a [`ReverseGraph`](crate::ReverseGraph) exactly if they are so there, and the sentinel is
-/// equal to itself alone.
+/// Nodes of the original graph are equal in a [`ReverseGraph`](crate::ReverseGraph) exactly if they are so
+/// there, and the sentinel is equal to itself alone.
 pub fn equality_of_reverse_nodes<N: Eq>()
     ensures real { (x y : N) → ⟦<ReverseNode<N> as PartialEq>⟧.eq (ReverseNode.Real x) (ReverseNode.Real y) ≡ N.eq x y }
     ensures sentinel { ⟦<ReverseNode<N> as PartialEq>⟧.eq ReverseNode.Sentinel ReverseNode.Sentinel ≡ true }

@@ -1,19 +1,22 @@
 //! Graphs that are read through a context: depth-first orders, search numbers and edge kinds.
 //!
-//! A graph implements [`ControlFlowGraph`]. [`post_order`], [`topological_order`] and their forms by component go through all of its
-//! nodes, a [`DFSTraversal`] through those that the entry reaches. What each answers is fixed by the graph alone, and the contracts say
-//! it without the search: a node encloses another when it has the smaller pre-order number and the greater post-order number, and the
-//! clauses of a search numbering on this relation admit one numbering ([`laws::numbering_is_one`]). The functions of [`laws`] hold what
-//! users may conclude from it.
+//! A graph implements [`ControlFlowGraph`]. [`post_order`], [`topological_order`] and their forms by component
+//! go through all of its nodes, a [`DFSTraversal`] through those that the entry reaches. What each answers is
+//! fixed by the graph alone, and the contracts say it without the search: a node encloses another when it has
+//! the smaller pre-order number and the greater post-order number, and the clauses of a search numbering on
+//! this relation admit one numbering ([`laws::numbering_is_one`]). The functions of [`laws`] hold what users
+//! may conclude from it.
 //!
-//! [`sccs_in_topological_order`] gives the strongly connected components, by the numbers of the search from the entry and then all nodes.
+//! [`sccs_in_topological_order`] gives the strongly connected components, by the numbers of the search from the
+//! entry and then all nodes.
 //!
-//! A [`ReverseGraph`] is the reverse of a graph, and itself a graph, whose entry leads to one node of each component that no edge leaves.
+//! A [`ReverseGraph`] is the reverse of a graph, and itself a graph, whose entry leads to one node of each
+//! component that no edge leaves.
 //!
-//! The blocks of a region are such a graph, where edges stand last in the operation that holds it. The searches for ancestors go up
-//! from an operation or a block of the tree.
+//! The blocks of a region are such a graph, where edges are last in the blocks of its parent operation. The
+//! searches for ancestors go up from an operation or a block of the tree.
 //!
-//! No call goes deeper with the graph: each search has a stack of its own.
+//! No recursion follows the graph: each search has a stack of its own.
 //!
 //! It knows graphs, and the regions of a tree as such. Of rewrites, of runs and of optimisations it knows
 //! nothing.
@@ -22,6 +25,7 @@
 mod ancestors;
 mod components;
 pub mod laws;
+mod numbered_graph;
 mod owners;
 mod pre_sentinels;
 mod reverse_graph;
@@ -33,7 +37,8 @@ pub use ancestors::{
     find_ancestor_op_of_op_in_region, strictly_precedes_in_block,
 };
 pub use components::{Scc, sccs_in_topological_order};
-pub use pliron_search::{
+pub use numbered_graph::{NumberedGraph, read_graph};
+pub use pliron_traversal::{
     AdjacencyList, ControlFlowGraph, DFSEdgeKind, DFSTraversal, HasLabel, OrderIter,
     ReverseOrderIter, post_order, post_order_by_component, topological_order,
     topological_order_by_component,

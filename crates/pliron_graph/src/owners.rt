@@ -1,17 +1,21 @@
 //! Which component each node is of.
+//!
+//! Each node has an owner, the index of its component, in a table by the node's place; so whether an edge
+//! leaves a component is one read. The place is the number where a graph has numbers, and is looked up in one
+//! hashed table elsewhere.
 ghost use Rattle.std.specs.Prelude.{◌≡◌, IsTrue, Contains, IfOk, IsOkUnless, length};
 ghost use Rattle.std.specs.List.{All};
-ghost use Rattle.pliron_search.specs.Search.{IsListed};
+ghost use Rattle.pliron_traversal.specs.Search.{IsListed};
 ghost use Rattle.pliron_graph.specs.Internal.Owners.{owner_in, AreApart, AreOwners};
 
 use crate::Scc;
 use pliron_laws::OptError;
-use pliron_search::ListedSet;
+use pliron_traversal::ListedSet;
 use std::alloc::Global;
 
 /// Of each node, by its place, the index of its component.
 ///
-/// Asks that the components share no node, and that all their nodes are listed. Errors: want of memory. Cost: a
+/// Asks that the components share no node, and that all their nodes are listed. Errors: allocation failure. Cost: a
 /// look-up of the place for each node.
 pub(crate) fn find_owners<N: Eq + Copy, S: ListedSet<N>>(
     alloc: Global,

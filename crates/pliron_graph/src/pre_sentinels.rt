@@ -1,7 +1,7 @@
-//! The nodes that the sentinel of a reverse graph stands in front of.
+//! Pre-sentinels: the nodes that the sentinel of a reverse graph leads to.
 ghost use Rattle.std.specs.Prelude.{◌≡◌, ◌↔◌, ◌<◌, ◌≤◌, IsTrue, Some, Contains, IfOk, IsOkUnless, length};
 ghost use Rattle.std.specs.List.{All, IsDistinct};
-ghost use Rattle.pliron_search.specs.Search.{number_in};
+ghost use Rattle.pliron_traversal.specs.Search.{number_in};
 ghost use Rattle.pliron_graph.specs.Components.{AreComponents};
 ghost use Rattle.pliron_graph.specs.Reverse.{ArePreSentinels, AreLastOfSinks, IsLastListed, IsSink};
 ghost use Rattle.pliron_graph.specs.Internal.Owners.{owner_in, AreOwners};
@@ -12,14 +12,14 @@ use crate::components::find_components;
 use crate::owners::{find_owners, owner_of};
 use indexmap::IndexSet;
 use pliron_laws::OptError;
-use pliron_search::traversal::{named, numbered};
-use pliron_search::{AdjacencyList, ControlFlowGraph, ListedSet, NumberSet};
+use pliron_traversal::traversal::{index_nodes, nodes_by_number};
+use pliron_traversal::{AdjacencyList, ControlFlowGraph, ListedSet, NumberSet};
 use std::alloc::Global;
 
 /// The last listed node of each component without an edge to another one, in the order of the components.
 ///
-/// Errors: want of memory. Cost: that of the components, a few reads for each node and each edge of a graph that has
-/// numbers, as many look-ups in a hashed table of any other, and one more for each node that is found.
+/// Errors: allocation failure. Cost: that of the components, a few reads for each node and each edge of a graph
+/// that has numbers, as many look-ups in a hashed table of any other, and one more for each node that is found.
 pub(crate) fn find_pre_sentinels<C, G: ControlFlowGraph<C>>(
     alloc: Global,
     ctx: &C,
@@ -31,12 +31,12 @@ pub(crate) fn find_pre_sentinels<C, G: ControlFlowGraph<C>>(
 {
     let Some(lists) = graph.by_number(ctx) else {
         let sinks = last_of_sinks::<C, G, IndexSet<G::Node>>(alloc, ctx, graph)?;
-        return numbered(alloc, &sinks);
+        return index_nodes(alloc, &sinks);
     };
     let nodes = graph.nodes(alloc, ctx)?;
     let last = last_of_sinks::<(), AdjacencyList, NumberSet>(alloc, &(), lists)?;
-    let found = named(alloc, &nodes, &last)?;
-    numbered(alloc, &found)
+    let found = nodes_by_number(alloc, &nodes, &last)?;
+    index_nodes(alloc, &found)
 }
 
 // The same nodes, by sets of this kind.
@@ -160,7 +160,7 @@ fn stays_inside<C, G: ControlFlowGraph<C>, S: ListedSet<G::Node>>(
     true
 }
 
-// That of the members which stands last among the nodes.
+// That of the members which is last among the nodes.
 fn last_listed<N: Eq + Copy, S: ListedSet<N>>(places: &S, members: &[N]) -> N
     requires not_empty { 0 < length members.now }
     ensures among { Contains members.now result }

@@ -1,7 +1,7 @@
 //! The reverse of a graph.
 ghost use Rattle.std.specs.Prelude.{◌≡◌, ◌++◌, ◌∷◌, [], Contains, IfOk, IsOkUnless, Some, length, map, refl, slice_get};
 ghost use Rattle.std.specs.List.{All, IsDistinct};
-ghost use Rattle.pliron_search.specs.Search.{IsListed, number_in};
+ghost use Rattle.pliron_traversal.specs.Search.{IsListed, number_in};
 ghost use Rattle.pliron_graph.specs.Reverse.{ArePreSentinels, Reversed, Fits, reverse_of, reverse_pred};
 ghost use Rattle.pliron_graph.specs.Internal.ReverseLawful.{reverse_lawful};
 
@@ -9,17 +9,18 @@ use crate::ReverseNode;
 use crate::pre_sentinels::find_pre_sentinels;
 use indexmap::IndexSet;
 use pliron_laws::OptError;
-use pliron_search::traversal::numbered;
-use pliron_search::{ControlFlowGraph, OrderIter};
+use pliron_traversal::traversal::index_nodes;
+use pliron_traversal::{ControlFlowGraph, OrderIter};
 use std::alloc::Global;
 use std::marker::Model;
 
-/// The reverse of a graph: its entry is a sentinel, with an edge to each pre-sentinel, and each edge of the graph goes the other way.
+/// The reverse of a graph: its entry is a sentinel, with an edge to each pre-sentinel, and each edge of the
+/// graph goes the other way.
 ///
 /// A component without an edge to another one is a sink. Its last node in listed order is its pre-sentinel.
 ///
-/// It may be read where its original graph may be, in each context in which the edges of that graph are those that it had when the
-/// reverse graph was made.
+/// It may be read where its original graph may be, in each context in which the edges of that graph are those
+/// that it had when the reverse graph was made.
 #[derive(Drop)]
 pub struct ReverseGraph<'a, G: ControlFlowGraph<C>, C> {
     original: &'a G,
@@ -43,7 +44,7 @@ impl<'a, G: ControlFlowGraph<C>, C> Model for ReverseGraph<'a, G, C> {
 impl<'a, G: ControlFlowGraph<C>, C> ReverseGraph<'a, G, C> {
     /// The reverse of the graph.
     ///
-    /// Asks that the graph may be read in the context. Errors: want of memory. Cost: that of the components,
+    /// Asks that the graph may be read in the context. Errors: allocation failure. Cost: that of the components,
     /// two look-ups in a hashed table for each node, and a few reads for each node and each edge of a graph
     /// that has numbers, as many more look-ups of any other.
     pub fn new(alloc: Global, ctx: &C, graph: &'a G) -> Result<Self, OptError>
@@ -54,7 +55,7 @@ impl<'a, G: ControlFlowGraph<C>, C> ReverseGraph<'a, G, C> {
         ensures memory { IsOkUnless result OptError.Memory }
     {
         let listed = graph.nodes(alloc, ctx)?;
-        let nodes = numbered(alloc, &listed)?;
+        let nodes = index_nodes(alloc, &listed)?;
         let pre_sentinels = find_pre_sentinels(alloc, ctx, graph)?;
         let predecessors = predecessor_lists(alloc, ctx, graph, &listed, &pre_sentinels)?;
         Ok(ReverseGraph {

@@ -3,7 +3,7 @@ ghost use Rattle.std.specs.Prelude.{◌≡◌, ◌↔◌, IsTrue, Some};
 ghost use Rattle.std.specs.Option.{option_copied};
 
 use pliron_laws::OptError;
-use pliron_search::HasLabel;
+use pliron_traversal::HasLabel;
 use std::alloc::Global;
 
 /// A node of a [`ReverseGraph`](crate::ReverseGraph).

@@ -1,4 +1,4 @@
-//! The searches for what stands around an operation or a block.
+//! The searches for the ancestors of an operation or a block.
 use pliron_bench::{Bench, BenchKind};
 use pliron_core::{BasicBlock, Context, Operation, Ptr, Region};
 use pliron_graph::{
@@ -133,7 +133,7 @@ fn check_above(
     );
 }
 
-// What stands outside the inner region has nothing around it there.
+// What is outside the inner region has no ancestor there.
 fn check_outside(rt: &impl Abort, ctx: &Context, nest: &Nest, op: Ptr<Operation>) {
     assert!(rt; op.is_live(ctx));
     assert!(rt; nest.scope.is_live(ctx));

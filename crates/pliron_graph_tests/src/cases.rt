@@ -1,5 +1,5 @@
 //! How cases are read. A graph is the successors of its nodes 0, 1, 2, .., each list closed by a semicolon.
-ghost use Rattle.pliron_search.specs.Adjacency.{AreInverse};
+ghost use Rattle.pliron_traversal.specs.Adjacency.{AreInverse};
 
 use pliron_graph::AdjacencyList;
 use std::alloc::Global;

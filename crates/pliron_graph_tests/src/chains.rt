@@ -1,5 +1,5 @@
 //! A chain of 65,536 nodes, each with the next as its successor.
-ghost use Rattle.pliron_search.specs.Adjacency.{AreInverse};
+ghost use Rattle.pliron_traversal.specs.Adjacency.{AreInverse};
 
 use crate::cases::graph_of;
 use pliron_graph::{AdjacencyList, DFSTraversal, Scc, post_order, sccs_in_topological_order};

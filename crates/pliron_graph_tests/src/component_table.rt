@@ -1,7 +1,9 @@
-//! The components of each graph of three nodes with rising successors, computed by mutual reach by a program in another language.
+//! The components of each graph of three nodes with rising successors, computed by mutual reach by a program in
+//! another language.
 
-/// A line for each of the successors of node 0 and of node 1, as the bits of two numbers below 8, the second counting faster, and in it
-/// an item for each of the successors of node 2: the components, each closed by a point, after a star where it is cyclic.
+/// A line for each of the successors of node 0 and of node 1, as the bits of two numbers below 8, the second
+/// counting faster, and in it an item for each of the successors of node 2: the components, each closed by a
+/// point, after a star where it is cyclic.
 pub static COMPONENTS: &str = "2.1.0. 2.1.0. 2.1.0. 2.1.0. 2*.1.0. 2*.1.0. 2*.1.0. 2*.1.0.
 2.1.0. 2.1.0. 2.1.0. 2.1.0. 2*.1.0. 2*.1.0. 2*.1.0. 2*.1.0.
 2.1*.0. 2.1*.0. 2.1*.0. 2.1*.0. 2*.1*.0. 2*.1*.0. 2*.1*.0. 2*.1*.0.

@@ -36,7 +36,7 @@ fn row_of(rows: &[Vec<u32>], node: u32) -> &[u32] {
 }
 
 impl<'r> LowNumberSearch<'r> {
-    fn seen(&self, node: u32) -> Option<Seen> {
+    fn state_of(&self, node: u32) -> Option<Seen> {
         match self.seen.get(node as usize) {
             Some(entry) => *entry,
             None => None,
@@ -63,7 +63,7 @@ impl<'r> LowNumberSearch<'r> {
     }
 
     fn follow(&mut self, rt: &impl Abort, node: u32, next: u32) {
-        let Some(target) = self.seen(next) else {
+        let Some(target) = self.state_of(next) else {
             return self.enter(rt, next);
         };
         if !target.is_closed {
@@ -90,7 +90,7 @@ impl<'r> LowNumberSearch<'r> {
     }
 
     fn leave(&mut self, rt: &impl Abort, node: u32, components: &mut Vec<Scc<u32>>) {
-        let Some(own) = self.seen(node) else {
+        let Some(own) = self.state_of(node) else {
             return;
         };
         if own.low == own.number {
@@ -153,7 +153,7 @@ fn search_all(rt: &impl Abort, search: &mut LowNumberSearch<'_>, components: &mu
         let Ok(root) = u32::try_from(place) else {
             break;
         };
-        if search.seen(root).is_none() {
+        if search.state_of(root).is_none() {
             search.enter(rt, root);
             search_from(rt, search, components);
         }

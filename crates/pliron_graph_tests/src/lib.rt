@@ -17,6 +17,8 @@ mod component_table;
 #[cfg(test)]
 mod components_by_low_numbers;
 #[cfg(test)]
+mod dominance;
+#[cfg(test)]
 mod names;
 #[cfg(test)]
 mod numbering_table;

@@ -1,5 +1,5 @@
 //! Each public name of `pliron_graph` at its place.
-ghost use Rattle.pliron_search.specs.Adjacency.{AreInverse};
+ghost use Rattle.pliron_traversal.specs.Adjacency.{AreInverse};
 
 use crate::cases::{graph_of, rows_of};
 use pliron_graph::{

@@ -1,8 +1,10 @@
-//! What a recursive search answers on each graph of three nodes with rising successors, computed by a program in another language.
+//! What a recursive search answers on each graph of three nodes with rising successors, computed by a program
+//! in another language.
 
-/// A line for each of the successors of node 0 and of node 1, as the bits of two numbers below 8, the second counting faster, and in it
-/// an item for each of the successors of node 2: the nodes that node 0 reaches by rising pre-order number, a colon, the same by rising
-/// post-order number, a colon, and the walks from the nodes 0, 1, 2, each closed by a point.
+/// A line for each of the successors of node 0 and of node 1, as the bits of two numbers below 8, the second
+/// counting faster, and in it an item for each of the successors of node 2: the nodes that node 0 reaches by
+/// rising pre-order number, a colon, the same by rising post-order number, a colon, and the walks from the
+/// nodes 0, 1, 2, each closed by a point.
 pub static NUMBERINGS: &str =
     "0:0:0.1.2. 0:0:0.1.2. 0:0:0.1.2. 0:0:0.1.2. 0:0:0.1.2. 0:0:0.1.2. 0:0:0.1.2. 0:0:0.1.2.
 0:0:0.1.2. 0:0:0.1.2. 0:0:0.1.2. 0:0:0.1.2. 0:0:0.1.2. 0:0:0.1.2. 0:0:0.1.2. 0:0:0.1.2.

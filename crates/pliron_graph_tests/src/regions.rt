@@ -1,6 +1,6 @@
 //! Regions of blocks as graphs, and their reverse.
 ghost use Rattle.pliron_core.specs.Tree.{IsRegion};
-ghost use Rattle.pliron_search.specs.Regions.{IsLawfulRegion};
+ghost use Rattle.pliron_traversal.specs.Regions.{IsLawfulRegion};
 
 use crate::cases::{parts, rows_of};
 use crate::texts::answer;
@@ -58,7 +58,7 @@ fn region_of(rt: &impl Abort, ctx: &Context, op: Ptr<Operation>) -> Ptr<Region>
 }
 
 // A new last operation of the block.
-fn appended(
+fn append_operation(
     rt: &impl Abort,
     alloc: Global,
     ctx: &mut Context,
@@ -96,7 +96,7 @@ fn branch(
     blocks: &[Ptr<BasicBlock>],
     targets: &[u32],
 ) {
-    let op = appended(rt, alloc, ctx, from);
+    let op = append_operation(rt, alloc, ctx, from);
     for target in targets {
         lead(rt, ctx, op, blocks, *target);
     }
@@ -108,8 +108,8 @@ fn block(rt: &impl Abort, ctx: &mut Context, region: Ptr<Region>) -> Ptr<BasicBl
     BasicBlock::create(ctx, region, 0).expect(rt, "memory")
 }
 
-// Gives the region a block for each row, which leads to those of its row. The last block gets its edges first, so
-// that the uses of a block do not stand in the region's order.
+// Gives the region a block for each row, which leads to those of its row. The last block gets its edges first,
+// so that the uses of a block are not in the region's order.
 fn fill(rt: &impl Abort, alloc: Global, ctx: &mut Context, region: Ptr<Region>, rows: &[Vec<u32>]) {
     let mut blocks = Vec::new(alloc);
     for _ in rows {
@@ -120,7 +120,7 @@ fn fill(rt: &impl Abort, alloc: Global, ctx: &mut Context, region: Ptr<Region>, 
     }
 }
 
-// A region with these rows, which may be read as a graph: what a caller looks at for that.
+// A region with these rows, which may be read as a graph: what a caller tests for that.
 fn region_with(rt: &impl Abort, alloc: Global, ctx: &mut Context, rows: &str) -> Ptr<Region>
     ensures { IsLawfulRegion ctx.new.tree result }
 {

@@ -2,7 +2,7 @@
 ghost use Rattle.std.specs.Iterator.{IsFinite};
 ghost use Rattle.std.specs.Option.{option_to_list};
 ghost use Rattle.std.specs.Prelude.{Contains};
-ghost use Rattle.pliron_search.specs.Search.{IsListed, IsSearch};
+ghost use Rattle.pliron_traversal.specs.Search.{IsListed, IsSearch};
 
 use pliron_graph::{
     ControlFlowGraph, DFSEdgeKind, DFSTraversal, HasLabel, ReverseGraph, Scc, post_order,

@@ -1,6 +1,6 @@
 //! All graphs of three nodes with rising successors: numberings against a recursive search, components against
 //! mutual reach and against another method.
-ghost use Rattle.pliron_search.specs.Adjacency.{AreInverse};
+ghost use Rattle.pliron_traversal.specs.Adjacency.{AreInverse};
 
 use crate::cases::{graph_of, rows_of};
 use crate::component_table::COMPONENTS;

@@ -6,7 +6,7 @@ use Rattle.pliron_core.specs.Lists.{In, first_of, next_in}
 use Rattle.pliron_core.specs.Reads.{next_of}
 use Rattle.pliron_core.specs.WalkSteps.{rest_from}
 use Rattle.pliron_core.specs.Tree.{Tree, parent_of, body_of, up_from}
-use Rattle.pliron_core.specs.Joined.{IsTree}
+use Rattle.pliron_core.specs.Invariant.{IsTree}
 use Rattle.pliron_core.proofs.NextLemmas.{next_in-member, rest_from-first, rest_from-step}
 
 -- one item more of a list

@@ -5,8 +5,8 @@ use Rattle.pliron_core.specs.declared.context.RegionSlot.{RegionSlot}
 use Rattle.pliron_core.specs.Lists.{next_in, first_of, last_of}
 use Rattle.pliron_core.specs.Reads.{next_block_of}
 use Rattle.pliron_core.specs.WalkSteps.{rest_from}
-use Rattle.pliron_core.specs.Tree.{Tree, In, IsInside, IsWithin, HoldsBlock, IsListedBy, op_of_slot, successors_of, regions_of, parent_of, block_parent_of, region_parent_of, holder_of, block_holder_of, up_from, slot_of, body_of, layout_of}
-use Rattle.pliron_core.specs.Joined.{IsTree}
+use Rattle.pliron_core.specs.Tree.{Tree, In, IsInside, IsWithin, HoldsBlock, IsListedBy, op_of_slot, successors_of, regions_of, parent_of, block_parent_of, region_parent_of, parent_operation_of, block_parent_operation_of, up_from, slot_of, body_of, layout_of}
+use Rattle.pliron_core.specs.Invariant.{IsTree}
 use Rattle.pliron_core.proofs.WalkLemmas.{inside_from, not_inside-itself, In-preorder, distinct-preorder}
 use Rattle.pliron_core.proofs.WalkStepLemmas.{walk_step}
 use Rattle.pliron_core.specs.Walks.{preorder}
@@ -16,7 +16,7 @@ use Rattle.pliron_laws.proofs.PassedLemmas.{ArePassed, passed_step}
 use Rattle.pliron_laws.specs.Linked.{EndsBlock, EdgesLast}
 use Rattle.pliron_laws.specs.EdgeChecks.{HasOwnSuccessors, OpHasOwnUsers, EndsBlockIf, HasLawfulEdges}
 
-pub around_holder : (t : Tree) (o : Option ℕ) → up_from o (λ b. block_holder_of t b) ≡ up_from (up_from o (λ b. block_parent_of t b)) (λ r. region_parent_of t r)
+pub around_holder : (t : Tree) (o : Option ℕ) → up_from o (λ b. block_parent_operation_of t b) ≡ up_from (up_from o (λ b. block_parent_of t b)) (λ r. region_parent_of t r)
 around_holder t None = refl
 around_holder t (Some b) = refl
 
@@ -38,7 +38,7 @@ module _ (t : Tree) (w : IsTree t) (root : ℕ) where
   edges_at fit k s i (inr held) =
       let r = region_held t s held.0 (block_parent_of t s) refl held.1 in
       let own = (fit held.0 held.2).users r.0 (listed t r.0 held.0 (slot_of t r.0) (w.joined.placed s r.0 r.1) r.2) s r.1 k i in
-      let up : holder_of t k ≡ Some held.0 = around_holder t (parent_of t k) ∙ ap (λ o. up_from o (λ x. region_parent_of t x)) own ∙ held.1 in
+      let up : parent_operation_of t k ≡ Some held.0 = around_holder t (parent_of t k) ∙ ap (λ o. up_from o (λ x. region_parent_of t x)) own ∙ held.1 in
       let u = inside_from t root k held.0 up held.2 in
       (fit k (inr u)).ends (λ e. not_inside-itself t w root (subst (λ x. IsInside t root x) e u)) s i
 
@@ -52,7 +52,7 @@ module _ (t : Tree) (w : IsTree t) (root : ℕ) where
   users_of : EdgesLast t root → (k : ℕ) → IsWithin t root k → OpHasOwnUsers t k
   users_of edges k within = λ r i b e u j.
       let at = slice_get-In r (regions_of t k) i in
-      let up : block_holder_of t b ≡ Some k = ap (λ o. up_from o (λ x. region_parent_of t x)) e ∙ ap op_of_slot (w.joined.regions k at.0 r at.1) in
+      let up : block_parent_operation_of t b ≡ Some k = ap (λ o. up_from o (λ x. region_parent_of t x)) e ∙ ap op_of_slot (w.joined.regions k at.0 r at.1) in
       let ends = edges u b j (inr (k, up, within)) in
       ap (λ o. up_from o (λ x. block_parent_of t x)) ends.in_block ∙ sym (ends.own_region b j)
 

@@ -5,14 +5,14 @@ use Rattle.std.proofs.lemmas.List.{get_or-set_other}
 use Rattle.std.proofs.lemmas.Option.{same_Some}
 use Rattle.pliron_core.specs.declared.attrs.AttrObj.{AttrObj}
 use Rattle.pliron_core.specs.Tree.{Tree, no_entry, row_of, head_of, results_of, parent_of}
-use Rattle.pliron_core.specs.Writes.{created, put_next_to}
-use Rattle.pliron_core.specs.Joined.{IsTree}
+use Rattle.pliron_core.specs.Writes.{after_creating, put_next_to}
+use Rattle.pliron_core.specs.Invariant.{IsTree}
 use Rattle.pliron_core.proofs.GrownLemmas.{get_grown, get_last, get_last_same}
 use Rattle.pliron_laws.specs.Datum.{Head, Meaning}
 use Rattle.pliron_laws.specs.Tree.{Operation, op_at, op_with, shape_of}
 use Rattle.pliron_laws.specs.Answers.{ReadsShape, IsMaterialised}
 use Rattle.pliron_laws.specs.Folding.{Constants}
-use Rattle.pliron_laws.specs.Outcomes.{Materialises, IsMadeConstant, materialised}
+use Rattle.pliron_laws.specs.Outcomes.{Materialises, IsMadeConstant, after_materialising}
 use Rattle.pliron_laws.proofs.ConstantLemmas.{new_row}
 
 -- what holds anyway holds after an error
@@ -50,17 +50,17 @@ next_parent : (t : Tree) (c at k : ℕ) (o : Option ℕ) → k ≢ c → parent_
 next_parent t c at k None other = refl
 next_parent t c at k (Some b) other = get_or-set_other t.parents c k (Some b) None other
 
-pub put_row : (t : Tree) (op v k : ℕ) (head : Head) → k < length t.operations → row_of (materialised t op v head) k ≡ row_of t k
+pub put_row : (t : Tree) (op v k : ℕ) (head : Head) → k < length t.operations → row_of (after_materialising t op v head) k ≡ row_of t k
 put_row t op v k head lt =
-    next_row (created t head 1 0) (length t.operations) op k (parent_of t op) ∙ elim (get_last t.operations (new_row t head) no_entry k) [ inl e ↦ e | inr e ↦ absurd (omega (arith, lt, e.2)) ]
+    next_row (after_creating t head 1 0) (length t.operations) op k (parent_of t op) ∙ elim (get_last t.operations (new_row t head) no_entry k) [ inl e ↦ e | inr e ↦ absurd (omega (arith, lt, e.2)) ]
 
-pub put_row-new : (t : Tree) (op v : ℕ) (head : Head) → row_of (materialised t op v head) (length t.operations) ≡ new_row t head
+pub put_row-new : (t : Tree) (op v : ℕ) (head : Head) → row_of (after_materialising t op v head) (length t.operations) ≡ new_row t head
 put_row-new t op v head =
-    next_row (created t head 1 0) (length t.operations) op (length t.operations) (parent_of t op) ∙ get_last_same t.operations (new_row t head) no_entry
+    next_row (after_creating t head 1 0) (length t.operations) op (length t.operations) (parent_of t op) ∙ get_last_same t.operations (new_row t head) no_entry
 
-pub put_parent : (t : Tree) (op v k : ℕ) (head : Head) → k < length t.operations → parent_of (materialised t op v head) k ≡ parent_of t k
+pub put_parent : (t : Tree) (op v k : ℕ) (head : Head) → k < length t.operations → parent_of (after_materialising t op v head) k ≡ parent_of t k
 put_parent t op v k head lt =
-    next_parent (created t head 1 0) (length t.operations) op k (parent_of t op) (λ e. omega (arith, lt, e)) ∙ get_grown t.parents None k
+    next_parent (after_creating t head 1 0) (length t.operations) op k (parent_of t op) (λ e. omega (arith, lt, e)) ∙ get_grown t.parents None k
 
 -- what the dialect says of the operation
 results_with : (t : Tree) (k : ℕ) (o : Operation) (h : Option Head) → op_with t k h ≡ Some o → results_of t k ≡ o.results

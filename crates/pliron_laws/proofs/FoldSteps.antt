@@ -8,9 +8,9 @@ use Rattle.pliron_core.specs.declared.attrs.IRStatus.TheVariants.{Changed, Uncha
 use Rattle.pliron_core.specs.declared.rewriter.OpInsertionPoint.{OpInsertionPoint}
 use Rattle.pliron_core.specs.declared.rewriter.OpInsertionPoint.TheVariants.{BeforeOperation}
 use Rattle.pliron_core.specs.Tree.{Tree, IsDefined, no_entry, head_of, results_of, parent_of}
-use Rattle.pliron_core.specs.Writes.{created, put_next_to}
-use Rattle.pliron_core.specs.Insertion.{inserted}
-use Rattle.pliron_core.specs.Joined.{IsTree}
+use Rattle.pliron_core.specs.Writes.{after_creating, put_next_to}
+use Rattle.pliron_core.specs.Insertion.{after_inserting}
+use Rattle.pliron_core.specs.Invariant.{IsTree}
 use Rattle.pliron_core.specs.Changes.{IsSameTree}
 use Rattle.pliron_core.proofs.GrownLemmas.{get_grown}
 use Rattle.pliron_core.proofs.SameTreeLemmas.{same_refl}
@@ -19,15 +19,15 @@ use Rattle.pliron_laws.specs.declared.stand_ins.StandIn.{StandIn}
 use Rattle.pliron_laws.specs.Datum.{Head, Meaning}
 use Rattle.pliron_laws.specs.Answers.{ReadsShape}
 use Rattle.pliron_laws.specs.Folding.{Constants}
-use Rattle.pliron_laws.specs.Outcomes.{Materialises, IsMadeConstant, materialised}
+use Rattle.pliron_laws.specs.Outcomes.{Materialises, IsMadeConstant, after_materialising}
 use Rattle.pliron_laws.specs.Outcomes.Materialises.{Finished, Unanswered, Unknown, PassedOver, Put}
-use Rattle.pliron_laws.specs.InPlace.{TellsChange, materialising}
-use Rattle.pliron_laws.specs.StandIns.{stand_in, with_constant, AreStanding, IsStoodIn, TellsNew, all_replaced, status_of}
+use Rattle.pliron_laws.specs.InPlace.{ReportsChange, materialising_outcome}
+use Rattle.pliron_laws.specs.StandIns.{stand_in, with_constant, AreStanding, IsStoodIn, ReportsNew, all_replaced, status_of}
 use Rattle.pliron_laws.specs.StandIns.AreStanding.{NoneYet, Another}
 use Rattle.pliron_laws.proofs.FoldLemmas.{put_row, put_row-new, outcome_of}
 use Rattle.pliron_laws.proofs.StandInLemmas.{another_folds, status_more}
 
-told_put : (status : IRStatus) (t now : Tree) (op v : ℕ) (head : Head) → TellsNew status t now → TellsNew Changed t (materialised now op v head)
+told_put : (status : IRStatus) (t now : Tree) (op v : ℕ) (head : Head) → ReportsNew status t now → ReportsNew Changed t (after_materialising now op v head)
 told_put Changed t now op v head (k, none, live) =
     (k, none, subst (λ z. is_some z.head ≡ true) (sym (put_row now op v k head (live-within now k live))) live)
 told_put Unchanged t now op v head e = (
@@ -36,7 +36,7 @@ told_put Unchanged t now op v head e = (
   ap (λ z. is_some z.head) (put_row-new now op v head),
 )
 
-pub told_change : (status : IRStatus) (t now : Tree) → TellsNew status t now → TellsChange (Some status) t now
+pub told_change : (status : IRStatus) (t now : Tree) → ReportsNew status t now → ReportsChange (Some status) t now
 told_change Unchanged t now e = subst (λ z. IsSameTree t z) (sym e) (same_refl t)
 told_change Changed t now (k, none, live) = λ same. live_dead now k live (ap (λ z. z.head) (same.operations k) ∙ none)
 
@@ -47,14 +47,14 @@ drop_at (y ∷ ys) (suc i) x e =
     let one : suc i + 1 ≡ suc (i + 1) = omega arith in drop_at ys i x e ∙ ap (λ n. x ∷ drop n (y ∷ ys)) (sym one)
 
 -- where a rewriter inserts before op
-put_there : (t : Tree) (op : ℕ) (head : Head) (point : OpInsertionPoint) → point ≡ BeforeOperation op → inserted (created t head 1 0) point (length t.operations) ≡ with_constant t op head
+put_there : (t : Tree) (op : ℕ) (head : Head) (point : OpInsertionPoint) → point ≡ BeforeOperation op → after_inserting (after_creating t head 1 0) point (length t.operations) ≡ with_constant t op head
 put_there t op head point at =
-    ap (λ p. inserted (created t head 1 0) p (length t.operations)) at ∙ ap (λ o. put_next_to (created t head 1 0) (length t.operations) op o) (get_grown t.parents None op)
+    ap (λ p. after_inserting (after_creating t head 1 0) p (length t.operations)) at ∙ ap (λ o. put_next_to (after_creating t head 1 0) (length t.operations) op o) (get_grown t.parents None op)
 
 -- constants stand for the results before index i: what folds the later ones, where these are folded, folds all from the start
 pub record IsFolding (accepts : AttrObj → Bool) (head : AttrObj → Head) (op : ℕ) (answers : List (Option AttrObj)) (t : Tree) (i : ℕ) (made : List StandIn) (now : Tree) : Type 0 where
   pub standing : AreStanding op t made now
-  pub told : TellsNew (status_of made) t (all_replaced made now)
+  pub told : ReportsNew (status_of made) t (all_replaced made now)
   pub rest : (u : Tree) → Materialises accepts head op (drop i (results_of t op)) (drop i answers) (all_replaced made now) u → Materialises accepts head op (results_of t op) answers t u
 
 module _ (accepts : AttrObj → Bool) (head : AttrObj → Head) (op : ℕ) (answers : List (Option AttrObj)) (t : Tree) where
@@ -86,7 +86,7 @@ module _ (accepts : AttrObj → Bool) (head : AttrObj → Head) (op : ℕ) (answ
       let e = another_folds made now op v (head attr) in
       record {
         standing = Another v (head attr) f.standing w placed defined;
-        told = subst (λ s. TellsNew s t (all_replaced (made ++ stand_in now v ∷ []) (with_constant now op (head attr)))) (sym (status_more made (stand_in now v))) (subst (TellsNew Changed t) (sym e) (told_put (status_of made) t folded op v (head attr) f.told));
+        told = subst (λ s. ReportsNew s t (all_replaced (made ++ stand_in now v ∷ []) (with_constant now op (head attr)))) (sym (status_more made (stand_in now v))) (subst (ReportsNew Changed t) (sym e) (told_put (status_of made) t folded op v (head attr) f.told));
         rest = λ u m. f.rest u (subst (λ z. Later z (drop i answers) folded u) (sym (drop_at (results_of t op) i v at)) (subst (λ z. Later (v ∷ drop (i + 1) (results_of t op)) z folded u) (sym (drop_at answers i (Some attr) said)) (Put accepted (subst (λ z. Later (drop (i + 1) (results_of t op)) (drop (i + 1) answers) z u) e m))));
       }
 
@@ -94,10 +94,10 @@ module _ (accepts : AttrObj → Bool) (head : AttrObj → Head) (op : ℕ) (answ
   folding_over i v answer attr made now next f at said some over =
       subst (Folding (i + 1) made) (sym over.1) (one_kept i v (Some attr) made now f at (said ∙ ap Some some) (λ vs more u m. PassedOver over.0 m))
 
-  pub folding_put : (i v c : ℕ) (answer : Option AttrObj) (attr : AttrObj) (point : OpInsertionPoint) (made made' : List StandIn) (now between next : Tree) → Folding i made now → slice_get (results_of t op) i ≡ Some v → slice_get answers i ≡ Some answer → answer ≡ Some attr → IsSome (parent_of now op) → IsDefined now v → IsTrue (accepts attr) → IsMadeConstant now between c (head attr) → point ≡ BeforeOperation op → next ≡ inserted between point c → made' ≡ made ++ stand_in now v ∷ [] → Folding (i + 1) made' next
+  pub folding_put : (i v c : ℕ) (answer : Option AttrObj) (attr : AttrObj) (point : OpInsertionPoint) (made made' : List StandIn) (now between next : Tree) → Folding i made now → slice_get (results_of t op) i ≡ Some v → slice_get answers i ≡ Some answer → answer ≡ Some attr → IsSome (parent_of now op) → IsDefined now v → IsTrue (accepts attr) → IsMadeConstant now between c (head attr) → point ≡ BeforeOperation op → next ≡ after_inserting between point c → made' ≡ made ++ stand_in now v ∷ [] → Folding (i + 1) made' next
   folding_put i v c answer attr point made made' now between next f at said some placed defined accepted fresh before is more =
       let there : next ≡ with_constant now op (head attr) =
-      is ∙ ap (λ z. inserted z point c) fresh.made ∙ ap (λ n. inserted (created now (head attr) 1 0) point n) fresh.key ∙ put_there now op (head attr) point before in
+      is ∙ ap (λ z. after_inserting z point c) fresh.made ∙ ap (λ n. after_inserting (after_creating now (head attr) 1 0) point n) fresh.key ∙ put_there now op (head attr) point before in
       subst (λ l. Folding (i + 1) l next) (sym more) (subst (Folding (i + 1) (made ++ stand_in now v ∷ [])) (sym there) (one_stands i v attr made now f at (said ∙ ap Some some) fresh.tree placed defined accepted))
 
   pub folding_end : (i : ℕ) (made : List StandIn) (now : Tree) → Folding i made now → (length (results_of t op) ≤ i) ⊎ (length answers ≤ i) → IsStoodIn accepts head op answers t made now
@@ -108,10 +108,10 @@ module _ (accepts : AttrObj → Bool) (head : AttrObj → Head) (op : ℕ) (answ
       all (inr le) = f.rest (all_replaced made now) (subst (λ z. Later (drop i (results_of t op)) z (all_replaced made now) (all_replaced made now)) (sym (drop_all i answers le)) Unanswered)
 
 -- all constants stand, and each got the uses of its result
-pub finished : (m : Meaning) (constants : Constants) (accepts : AttrObj → Bool) (head : AttrObj → Head) (op : ℕ) (known answers listed_answers : List (Option AttrObj)) (t u z : Tree) (made listed : List StandIn) (status : IRStatus) → ReadsShape m (λ s. constants s known) t op answers → listed_answers ≡ answers → IsStoodIn accepts head op listed_answers t made u → listed ≡ made → z ≡ all_replaced listed u → status ≡ status_of listed → materialising m constants accepts head t z op known (Some status)
+pub finished : (m : Meaning) (constants : Constants) (accepts : AttrObj → Bool) (head : AttrObj → Head) (op : ℕ) (known answers listed_answers : List (Option AttrObj)) (t u z : Tree) (made listed : List StandIn) (status : IRStatus) → ReadsShape m (λ s. constants s known) t op answers → listed_answers ≡ answers → IsStoodIn accepts head op listed_answers t made u → listed ≡ made → z ≡ all_replaced listed u → status ≡ status_of listed → materialising_outcome m constants accepts head t z op known (Some status)
 finished m constants accepts head op known answers listed_answers t u z made listed status reads same_answers stood same is answer =
     let folded : z ≡ all_replaced made u = is ∙ ap (λ l. all_replaced l u) same in
     let told : status ≡ status_of made = answer ∙ ap status_of same in
     let all : Materialises accepts head op (results_of t op) answers t (all_replaced made u) = subst (λ l. Materialises accepts head op (results_of t op) l t (all_replaced made u)) same_answers stood.folds in
-    let outcome : materialising m constants accepts head t (all_replaced made u) op known (Some (status_of made)) = (outcome_of m constants accepts head op known answers t (all_replaced made u) reads all, told_change (status_of made) t (all_replaced made u) stood.told) in
-    subst (λ a. materialising m constants accepts head t z op known (Some a)) (sym told) (subst (λ x. materialising m constants accepts head t x op known (Some (status_of made))) (sym folded) outcome)
+    let outcome : materialising_outcome m constants accepts head t (all_replaced made u) op known (Some (status_of made)) = (outcome_of m constants accepts head op known answers t (all_replaced made u) reads all, told_change (status_of made) t (all_replaced made u) stood.told) in
+    subst (λ a. materialising_outcome m constants accepts head t z op known (Some a)) (sym told) (subst (λ x. materialising_outcome m constants accepts head t x op known (Some (status_of made))) (sym folded) outcome)

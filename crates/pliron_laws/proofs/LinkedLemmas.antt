@@ -8,8 +8,8 @@ use Rattle.pliron_core.specs.declared.context.Def.TheVariants.{Result}
 use Rattle.pliron_core.specs.Lists.{In, IsDistinct, AreOwned, put_before, last_of}
 use Rattle.pliron_core.specs.Uses.{replace_target}
 use Rattle.pliron_core.specs.Tree.{Tree, IsLive, IsDefined, IsMadeBy, row_of, results_of, regions_of, operands_of, successors_of, parent_of, body_of, definition_of}
-use Rattle.pliron_core.specs.Joined.{HaveSameKeys, IsTree}
-use Rattle.pliron_core.specs.Writes.{created, replaced, placed, put_next_to}
+use Rattle.pliron_core.specs.Invariant.{HaveSameKeys, IsTree}
+use Rattle.pliron_core.specs.Writes.{after_creating, after_replacing, after_placing, put_next_to}
 use Rattle.pliron_core.specs.Changes.{IsSameTree}
 use Rattle.pliron_core.proofs.EditLemmas.{put_before-first, put_before-other, In-put_before, In-put_before_old, In-put_before_new, distinct-put_before}
 use Rattle.pliron_core.proofs.GrownLemmas.{get_grown, get_padded, slice_get_added}
@@ -21,7 +21,7 @@ use Rattle.pliron_core.proofs.SameTreeLemmas.{same_inside, same_within, same_hol
 use Rattle.pliron_laws.specs.Datum.{Head, Meaning}
 use Rattle.pliron_laws.specs.Folding.{MakesConstants, MakesConstant}
 use Rattle.pliron_laws.specs.Linked.{IsWellLinked}
-use Rattle.pliron_laws.specs.Outcomes.{materialised, MaterialisesSome}
+use Rattle.pliron_laws.specs.Outcomes.{after_materialising, MaterialisesSome}
 use Rattle.pliron_laws.specs.Outcomes.MaterialisesSome.{Rest, Then}
 use Rattle.pliron_laws.proofs.ConstantLemmas.{new_row, made_row, blockless}
 use Rattle.pliron_laws.proofs.FoldLemmas.{put_row, put_parent}
@@ -30,7 +30,7 @@ use Rattle.pliron_laws.proofs.PutLinks.{linked_in}
 -- a new operation with one result
 module _ (t : Tree) (head : Head) (w : IsTree t) where
   abbrev made : Tree
-  made = created t head 1 0
+  made = after_creating t head 1 0
 
   created_keys : HaveSameKeys made
   created_keys = record {
@@ -65,7 +65,7 @@ module _ (m : Tree) (c op b : ℕ) (w : IsTree m) (live : IsLive m c) (free : pa
   put = put_before op c (body_of m b)
 
   abbrev next : Tree
-  next = placed m c b put
+  next = after_placing m c b put
 
   here : In op (body_of m b)
   here = w.bodies.listed op b at
@@ -138,7 +138,7 @@ module _ (m : Tree) (c op b : ℕ) (w : IsTree m) (live : IsLive m c) (free : pa
     layouts = w.layouts;
   }
 
-tree_replaced : (t : Tree) (old new : ℕ) → IsTree t → IsDefined t new → IsTree (replaced t old new)
+tree_replaced : (t : Tree) (old new : ℕ) → IsTree t → IsDefined t new → IsTree (after_replacing t old new)
 tree_replaced t old new w d = record {
   keys = record { operands = length_map (map (replace_target old new)) t.operands ∙ w.keys.operands; successors = w.keys.successors; parents = w.keys.parents; arguments = w.keys.arguments; block_parents = w.keys.block_parents; slots = w.keys.slots };
   joined = kept_replace t old new w.joined d;
@@ -156,13 +156,13 @@ module _ (t : Tree) (op v b : ℕ) (head : Head) (w : IsTree t) (at : parent_of 
   c = length t.operations
 
   abbrev made₁ : Tree
-  made₁ = created t head 1 0
+  made₁ = after_creating t head 1 0
 
   abbrev put₁ : Tree
-  put₁ = placed made₁ c b (put_before op c (body_of t b))
+  put₁ = after_placing made₁ c b (put_before op c (body_of t b))
 
   abbrev pub u : Tree
-  u = replaced put₁ v (length t.definitions)
+  u = after_replacing put₁ v (length t.definitions)
 
   row₁ : row_of made₁ c ≡ new_row t head
   row₁ = made_row t made₁ c head refl refl
@@ -187,8 +187,8 @@ module _ (t : Tree) (op v b : ℕ) (head : Head) (w : IsTree t) (at : parent_of 
   tree_put = tree_replaced put₁ v (length t.definitions) tree_put₁ new_defined
 
   -- what it is
-  pub put_is : materialised t op v head ≡ u
-  put_is = ap (λ o. replaced (put_next_to made₁ c op o) v (length t.definitions)) at
+  pub put_is : after_materialising t op v head ≡ u
+  put_is = ap (λ o. after_replacing (put_next_to made₁ c op o) v (length t.definitions)) at
 
   last_put : (before : Option ℕ) (ys : List ℕ) → last_of before (put_before op c ys) ≡ last_of before ys
   last_put before [] = refl
@@ -206,7 +206,7 @@ module _ (t : Tree) (op v b : ℕ) (head : Head) (w : IsTree t) (at : parent_of 
   pub linked_put : (m : Meaning) (attr : AttrObj) (root : ℕ) → MakesConstant m attr head → IsWellLinked m t root → IsWellLinked m u root
   linked_put = linked_in t v b (put_before op c (body_of t b)) head w within_bodies (λ k e. last_put None (body_of t b) ∙ e)
 
--- the same tree but for spent keys
+-- the same tree but for erased handles
 pub linked_same : (m : Meaning) (t u : Tree) (root : ℕ) → IsTree t → IsTree u → IsSameTree t u → IsWellLinked m t root → IsWellLinked m u root
 linked_same m t u root wt wu s is = record {
   edges = λ k x i place.
@@ -226,14 +226,14 @@ linked_same m t u root wt wu s is = record {
 
 -- a tree in which constants are put before op for some of its results is well linked where it was
 pub linked_some : (m : Meaning) (accepts : AttrObj → Bool) (head : AttrObj → Head) (op : ℕ) (results : List ℕ) (answers : List (Option AttrObj)) (root : ℕ) → MakesConstants m accepts head → (t u : Tree) → IsTree t → IsTree u → IsLive t op → IsSome (parent_of t op) → IsWellLinked m t root → MaterialisesSome accepts head op results answers t u → IsWellLinked m u root
-linked_some m accepts head op results answers root makes t u wt wu live placed is (Rest same) = linked_same m t u root wt wu same is
-linked_some m accepts head op results answers root makes t u wt wu live placed is (Then i v attr at said accepted more) =
-    let b = some_parent (parent_of t op) placed in
-    let n = materialised t op v (head attr) in
+linked_some m accepts head op results answers root makes t u wt wu live after_placing is (Rest same) = linked_same m t u root wt wu same is
+linked_some m accepts head op results answers root makes t u wt wu live after_placing is (Then i v attr at said accepted more) =
+    let b = some_parent (parent_of t op) after_placing in
+    let n = after_materialising t op v (head attr) in
     let e = sym (put_is t op v b.0 (head attr) wt b.1) in
     let tree : IsTree n = subst IsTree e (tree_put t op v b.0 (head attr) wt b.1) in
     let linked : IsWellLinked m n root = subst (λ z. IsWellLinked m z root) e (linked_put t op v b.0 (head attr) wt b.1 m attr root (makes attr accepted) is) in
     let lt = live-within t op live in
     let live_next : IsLive n op = subst (λ z. is_some z.head ≡ true) (sym (put_row t op v op (head attr) lt)) live in
-    let placed_next : IsSome (parent_of n op) = subst IsSome (sym (put_parent t op v op (head attr) lt)) placed in
+    let placed_next : IsSome (parent_of n op) = subst IsSome (sym (put_parent t op v op (head attr) lt)) after_placing in
     linked_some m accepts head op results answers root makes n u tree wu live_next placed_next linked more

@@ -6,10 +6,10 @@ use Rattle.std.proofs.lemmas.Option.{same_Some}
 use Rattle.pliron_core.specs.declared.attrs.AttrObj.{AttrObj}
 use Rattle.pliron_core.specs.Lists.{In, last_of}
 use Rattle.pliron_core.specs.Uses.{replace_target}
-use Rattle.pliron_core.specs.Tree.{Tree, IsLive, IsInside, IsWithin, HoldsBlock, no_entry, row_of, results_of, regions_of, operands_of, successors_of, parent_of, body_of, block_parent_of, region_parent_of, block_holder_of, holder_of, up_from, op_of_slot}
+use Rattle.pliron_core.specs.Tree.{Tree, IsLive, IsInside, IsWithin, HoldsBlock, no_entry, row_of, results_of, regions_of, operands_of, successors_of, parent_of, body_of, block_parent_of, region_parent_of, block_parent_operation_of, parent_operation_of, up_from, op_of_slot}
 use Rattle.pliron_core.specs.Tree.IsInside.{Directly, Deeper}
-use Rattle.pliron_core.specs.Joined.{IsTree}
-use Rattle.pliron_core.specs.Writes.{created, replaced, placed}
+use Rattle.pliron_core.specs.Invariant.{IsTree}
+use Rattle.pliron_core.specs.Writes.{after_creating, after_replacing, after_placing}
 use Rattle.pliron_core.proofs.GrownLemmas.{get_grown, get_last}
 use Rattle.pliron_core.proofs.UsedLemmas.{get_map, length_map}
 use Rattle.pliron_core.proofs.TreeLemmas.{live-within}
@@ -28,13 +28,13 @@ module _ (t : Tree) (v b : ℕ) (ys : List ℕ) (head : Head) (w : IsTree t) (wi
   c = length t.operations
 
   abbrev made₁ : Tree
-  made₁ = created t head 1 0
+  made₁ = after_creating t head 1 0
 
   abbrev put₁ : Tree
-  put₁ = placed made₁ c b ys
+  put₁ = after_placing made₁ c b ys
 
   abbrev pub u : Tree
-  u = replaced put₁ v (length t.definitions)
+  u = after_replacing put₁ v (length t.definitions)
 
   row₁ : row_of made₁ c ≡ new_row t head
   row₁ = made_row t made₁ c head refl refl
@@ -61,19 +61,19 @@ module _ (t : Tree) (v b : ℕ) (ys : List ℕ) (head : Head) (w : IsTree t) (wi
   region₁ : (r : ℕ) → region_parent_of u r ≡ region_parent_of t r
   region₁ r = ap (λ s. op_of_slot (slice_get s r)) (append-nil t.slots)
 
-  block_holder₁ : (x : ℕ) → block_holder_of u x ≡ block_holder_of t x
-  block_holder₁ x = go (block_parent_of t x)
+  block_parent_operation₁ : (x : ℕ) → block_parent_operation_of u x ≡ block_parent_operation_of t x
+  block_parent_operation₁ x = go (block_parent_of t x)
     where
       go : (o : Option ℕ) → up_from o (λ r. region_parent_of u r) ≡ up_from o (λ r. region_parent_of t r)
       go None = refl
       go (Some r) = region₁ r
 
-  holder₁ : (k : ℕ) → k ≢ c → holder_of u k ≡ holder_of t k
-  holder₁ k ne = ap (λ o. up_from o (λ x. block_holder_of u x)) (parent_old k ne) ∙ go (parent_of t k)
+  holder₁ : (k : ℕ) → k ≢ c → parent_operation_of u k ≡ parent_operation_of t k
+  holder₁ k ne = ap (λ o. up_from o (λ x. block_parent_operation_of u x)) (parent_old k ne) ∙ go (parent_of t k)
     where
-      go : (o : Option ℕ) → up_from o (λ x. block_holder_of u x) ≡ up_from o (λ x. block_holder_of t x)
+      go : (o : Option ℕ) → up_from o (λ x. block_parent_operation_of u x) ≡ up_from o (λ x. block_parent_operation_of t x)
       go None = refl
-      go (Some x) = block_holder₁ x
+      go (Some x) = block_parent_operation₁ x
 
   live_old : (k : ℕ) → IsLive t k → k ≢ c
   live_old k live e = let lt = live-within t k live in omega (arith, lt, e)
@@ -89,14 +89,14 @@ module _ (t : Tree) (v b : ℕ) (ys : List ℕ) (head : Head) (w : IsTree t) (wi
 
   holds_old : (root x : ℕ) → HoldsBlock u root x → HoldsBlock t root x
   holds_old root x h =
-      let f = sym (block_holder₁ x) ∙ h.1 in
+      let f = sym (block_parent_operation₁ x) ∙ h.1 in
       (h.0, f, within_old root h.0 (live_old h.0 (holding x h.0 f)) h.2)
     where
       some_is : (o : Option ℕ) (k : ℕ) → up_from o (λ r. region_parent_of t r) ≡ Some k → IsSome o
       some_is None k e = absurd (grind arith)
       some_is (Some r) k e = refl
 
-      holding : (x k : ℕ) → block_holder_of t x ≡ Some k → IsLive t k
+      holding : (x k : ℕ) → block_parent_operation_of t x ≡ Some k → IsLive t k
       holding x k e =
           let p = block_held t x w.joined (some_is (block_parent_of t x) k e) in
           subst (IsLive t) (same_Some p.1 k (sym p.5 ∙ e)) p.6
@@ -147,7 +147,7 @@ last_behind x k [] e = absurd (grind arith)
 last_behind x k (y ∷ ys) e = e
 
 -- first in the block
-pub linked_first : (t : Tree) (v b : ℕ) (head : Head) (w : IsTree t) → IsBlock t b → (m : Meaning) (attr : AttrObj) (root : ℕ) → MakesConstant m attr head → IsWellLinked m t root → IsWellLinked m (replaced (placed (created t head 1 0) (length t.operations) b (length t.operations ∷ body_of t b)) v (length t.definitions)) root
+pub linked_first : (t : Tree) (v b : ℕ) (head : Head) (w : IsTree t) → IsBlock t b → (m : Meaning) (attr : AttrObj) (root : ℕ) → MakesConstant m attr head → IsWellLinked m t root → IsWellLinked m (after_replacing (after_placing (after_creating t head 1 0) (length t.operations) b (length t.operations ∷ body_of t b)) v (length t.definitions)) root
 linked_first t v b head w block =
     let c = length t.operations in
     linked_in t v b (c ∷ body_of t b) head w (block-within t b w.keys block) (λ k e. last_behind c k (body_of t b) e)

@@ -8,9 +8,9 @@ use Rattle.pliron_core.specs.declared.context.Def.TheVariants.{Result}
 use Rattle.pliron_core.specs.Lists.{In, put_before, without}
 use Rattle.pliron_core.specs.Uses.{replace_target}
 use Rattle.pliron_core.specs.Tree.{Tree, IsLive, IsDefined, IsMadeBy, no_entry, row_of, results_of, operands_of, parent_of, body_of, definition_of}
-use Rattle.pliron_core.specs.Joined.{IsTree}
-use Rattle.pliron_core.specs.Writes.{created, replaced, placed, put_next_to, taken_from}
-use Rattle.pliron_core.specs.Erased.{IsSelfContained, cleared, erased}
+use Rattle.pliron_core.specs.Invariant.{IsTree}
+use Rattle.pliron_core.specs.Writes.{after_creating, after_replacing, after_placing, put_next_to, taken_from}
+use Rattle.pliron_core.specs.Erased.{IsSelfContained, after_clearing, after_erasing}
 use Rattle.pliron_core.specs.Changes.{IsSameTree}
 use Rattle.pliron_core.proofs.GrownLemmas.{get_grown, slice_get_added}
 use Rattle.pliron_core.proofs.TreeLemmas.{live-within, block-within}
@@ -23,7 +23,7 @@ use Rattle.pliron_core.proofs.SameTreeLemmas.{same_refl}
 use Rattle.pliron_core.proofs.BesideLemmas.{IsBeside, created_beside, beside_erased}
 use Rattle.pliron_laws.specs.declared.stand_ins.StandIn.{StandIn}
 use Rattle.pliron_laws.specs.Datum.{Head}
-use Rattle.pliron_laws.specs.Outcomes.{IsMadeConstant, materialised, next_value}
+use Rattle.pliron_laws.specs.Outcomes.{IsMadeConstant, after_materialising, next_value}
 use Rattle.pliron_laws.specs.StandIns.{stand_in, with_constant, AreStanding, AreUnused, IsRestored, all_replaced, status_of}
 use Rattle.pliron_laws.specs.StandIns.AreStanding.{NoneYet, Another}
 use Rattle.pliron_laws.proofs.FoldLemmas.{put_row, put_parent}
@@ -34,7 +34,7 @@ use Rattle.pliron_laws.proofs.ConstantLemmas.{new_row, made_row, made_free, made
 -- operands alone change
 only_operands : (made : List StandIn) (t : Tree) → all_replaced made t ≡ record t { operands = (all_replaced made t).operands }
 only_operands [] t = refl
-only_operands (s ∷ more) t = only_operands more (replaced t s.old s.new)
+only_operands (s ∷ more) t = only_operands more (after_replacing t s.old s.new)
 
 pub replaced_row : (made : List StandIn) (t : Tree) (k : ℕ) → row_of (all_replaced made t) k ≡ row_of t k
 replaced_row made t k = ap (λ z. row_of z k) (only_operands made t)
@@ -42,27 +42,27 @@ replaced_row made t k = ap (λ z. row_of z k) (only_operands made t)
 pub replaced_long : (made : List StandIn) (t : Tree) → length (all_replaced made t).operations ≡ length t.operations
 replaced_long made t = ap (λ z. length z.operations) (only_operands made t)
 
-next_commutes : (t : Tree) (a b op c : ℕ) (head : Head) (o : Option ℕ) → put_next_to (created (replaced t a b) head 1 0) c op o ≡ replaced (put_next_to (created t head 1 0) c op o) a b
+next_commutes : (t : Tree) (a b op c : ℕ) (head : Head) (o : Option ℕ) → put_next_to (after_creating (after_replacing t a b) head 1 0) c op o ≡ after_replacing (put_next_to (after_creating t head 1 0) c op o) a b
 next_commutes t a b op c head None =
-    ap (λ rows. let z : Tree = record (created t head 1 0) { operands = rows } in z) (sym (map-append (map (replace_target a b)) t.operands ([] ∷ [])))
+    ap (λ rows. let z : Tree = record (after_creating t head 1 0) { operands = rows } in z) (sym (map-append (map (replace_target a b)) t.operands ([] ∷ [])))
 next_commutes t a b op c head (Some block) =
-    ap (λ rows. let z : Tree = record (placed (created t head 1 0) c block (put_before op c (body_of t block))) { operands = rows } in z) (sym (map-append (map (replace_target a b)) t.operands ([] ∷ [])))
+    ap (λ rows. let z : Tree = record (after_placing (after_creating t head 1 0) c block (put_before op c (body_of t block))) { operands = rows } in z) (sym (map-append (map (replace_target a b)) t.operands ([] ∷ [])))
 
 put_after : (made : List StandIn) (t : Tree) (op : ℕ) (head : Head) → all_replaced made (with_constant t op head) ≡ with_constant (all_replaced made t) op head
 put_after [] t op head = refl
 put_after (s ∷ more) t op head =
-    ap (all_replaced more) (sym (next_commutes t s.old s.new op (length t.operations) head (parent_of t op))) ∙ put_after more (replaced t s.old s.new) op head
+    ap (all_replaced more) (sym (next_commutes t s.old s.new op (length t.operations) head (parent_of t op))) ∙ put_after more (after_replacing t s.old s.new) op head
 
-pub replaced_last : (made : List StandIn) (s : StandIn) (t : Tree) → all_replaced (made ++ s ∷ []) t ≡ replaced (all_replaced made t) s.old s.new
+pub replaced_last : (made : List StandIn) (s : StandIn) (t : Tree) → all_replaced (made ++ s ∷ []) t ≡ after_replacing (all_replaced made t) s.old s.new
 replaced_last [] s t = refl
-replaced_last (r ∷ more) s t = replaced_last more s (replaced t r.old r.new)
+replaced_last (r ∷ more) s t = replaced_last more s (after_replacing t r.old r.new)
 
 -- with one more constant, one more result is folded
-pub another_folds : (made : List StandIn) (u : Tree) (op v : ℕ) (head : Head) → all_replaced (made ++ stand_in u v ∷ []) (with_constant u op head) ≡ materialised (all_replaced made u) op v head
+pub another_folds : (made : List StandIn) (u : Tree) (op v : ℕ) (head : Head) → all_replaced (made ++ stand_in u v ∷ []) (with_constant u op head) ≡ after_materialising (all_replaced made u) op v head
 another_folds made u op v head =
     replaced_last made (stand_in u v) (with_constant u op head)
-    ∙ ap (λ z. replaced z v (next_value u)) (put_after made u op head)
-    ∙ ap (λ n. replaced (with_constant (all_replaced made u) op head) v n) (sym (ap (λ z. length z.definitions) (only_operands made u)))
+    ∙ ap (λ z. after_replacing z v (next_value u)) (put_after made u op head)
+    ∙ ap (λ n. after_replacing (with_constant (all_replaced made u) op head) v n) (sym (ap (λ z. length z.definitions) (only_operands made u)))
 
 pub status_more : (made : List StandIn) (s : StandIn) → status_of (made ++ s ∷ []) ≡ Changed
 status_more [] s = refl
@@ -73,34 +73,34 @@ status_more (r ∷ more) s = refl
 one_longer : (u : Tree) (op : ℕ) (head : Head) → length (with_constant u op head).operations ≡ length u.operations + 1
 one_longer u op head = go (parent_of u op) ∙ length-append u.operations (new_row u head ∷ [])
   where
-    go : (o : Option ℕ) → length (put_next_to (created u head 1 0) (length u.operations) op o).operations ≡ length (created u head 1 0).operations
+    go : (o : Option ℕ) → length (put_next_to (after_creating u head 1 0) (length u.operations) op o).operations ≡ length (after_creating u head 1 0).operations
     go None = refl
     go (Some b) = refl
 
 one_value : (u : Tree) (op : ℕ) (head : Head) → length (with_constant u op head).definitions ≡ length u.definitions + 1
 one_value u op head = go (parent_of u op) ∙ length-append u.definitions (Result (length u.operations) 0 ∷ [])
   where
-    go : (o : Option ℕ) → length (put_next_to (created u head 1 0) (length u.operations) op o).definitions ≡ length (created u head 1 0).definitions
+    go : (o : Option ℕ) → length (put_next_to (after_creating u head 1 0) (length u.operations) op o).definitions ≡ length (after_creating u head 1 0).definitions
     go None = refl
     go (Some b) = refl
 
 same_operands : (u : Tree) (op k : ℕ) (head : Head) → operands_of (with_constant u op head) k ≡ operands_of u k
 same_operands u op k head = go (parent_of u op) ∙ get_grown u.operands [] k
   where
-    go : (o : Option ℕ) → operands_of (put_next_to (created u head 1 0) (length u.operations) op o) k ≡ operands_of (created u head 1 0) k
+    go : (o : Option ℕ) → operands_of (put_next_to (after_creating u head 1 0) (length u.operations) op o) k ≡ operands_of (after_creating u head 1 0) k
     go None = refl
     go (Some b) = refl
 
-still_defined : (u : Tree) (op v : ℕ) (head : Head) → IsDefined (created u head 1 0) v → IsDefined (with_constant u op head) v
+still_defined : (u : Tree) (op v : ℕ) (head : Head) → IsDefined (after_creating u head 1 0) v → IsDefined (with_constant u op head) v
 still_defined u op v head d = go (parent_of u op)
   where
-    go : (o : Option ℕ) → IsDefined (put_next_to (created u head 1 0) (length u.operations) op o) v
+    go : (o : Option ℕ) → IsDefined (put_next_to (after_creating u head 1 0) (length u.operations) op o) v
     go None = d
     go (Some b) = d
 
-new_defined : (u : Tree) (head : Head) → IsDefined (created u head 1 0) (length u.definitions)
+new_defined : (u : Tree) (head : Head) → IsDefined (after_creating u head 1 0) (length u.definitions)
 new_defined u head =
-    let m : Tree = created u head 1 0 in
+    let m : Tree = after_creating u head 1 0 in
     let n : length u.definitions + 0 ≡ length u.definitions = omega arith in
     let d : definition_of m (length u.definitions) ≡ Some (Result (length u.operations) 0) = ap (definition_of m) (sym n) ∙ slice_get_added u.definitions (Result (length u.operations) 0 ∷ []) 0 in
     subst (IsMadeBy m (length u.definitions)) (sym d) (ap (λ z. slice_get z.results 0) (made_row u m (length u.operations) head refl refl))
@@ -117,33 +117,33 @@ at_last (z ∷ zs) y (suc i) x e = elim (at_last zs y i x e) [ inl h ↦ inl h |
 module _ (op : ℕ) (t : Tree) where
   pub standing_long : (made : List StandIn) (u : Tree) → AreStanding op t made u → length t.operations ≤ length u.operations
   standing_long made u NoneYet = omega arith
-  standing_long made u (Another {made = before} {u = b} v head s w placed d) =
+  standing_long made u (Another {made = before} {u = b} v head s w after_placing d) =
       let l = standing_long before b s in let e = one_longer b op head in omega (arith, l, e)
 
   pub standing_row : (made : List StandIn) (u : Tree) → AreStanding op t made u → (k : ℕ) → k < length t.operations → row_of u k ≡ row_of t k
   standing_row made u NoneYet k lt = refl
-  standing_row made u (Another {made = before} {u = b} v head s w placed d) k lt =
+  standing_row made u (Another {made = before} {u = b} v head s w after_placing d) k lt =
       let l = standing_long before b s in put_row b op 0 k head (omega (arith, l, lt)) ∙ standing_row before b s k lt
 
   pub standing_parent : (made : List StandIn) (u : Tree) → AreStanding op t made u → (k : ℕ) → k < length t.operations → parent_of u k ≡ parent_of t k
   standing_parent made u NoneYet k lt = refl
-  standing_parent made u (Another {made = before} {u = b} v head s w placed d) k lt =
+  standing_parent made u (Another {made = before} {u = b} v head s w after_placing d) k lt =
       let l = standing_long before b s in put_parent b op 0 k head (omega (arith, l, lt)) ∙ standing_parent before b s k lt
 
   standing_values : (made : List StandIn) (u : Tree) → AreStanding op t made u → length u.definitions ≡ length t.definitions + length made
   standing_values made u NoneYet = omega arith
-  standing_values made u (Another {made = before} {u = b} v head s w placed d) =
+  standing_values made u (Another {made = before} {u = b} v head s w after_placing d) =
       let l = standing_values before b s in
       let e = one_value b op head in
       let n = length-append before (stand_in b v ∷ []) in omega (arith, l, e, n)
 
   standing_operands : (made : List StandIn) (u : Tree) → AreStanding op t made u → (k : ℕ) → operands_of u k ≡ operands_of t k
   standing_operands made u NoneYet k = refl
-  standing_operands made u (Another {made = before} {u = b} v head s w placed d) k = same_operands b op k head ∙ standing_operands before b s k
+  standing_operands made u (Another {made = before} {u = b} v head s w after_placing d) k = same_operands b op k head ∙ standing_operands before b s k
 
   standing_numbered : (made : List StandIn) (u : Tree) → AreStanding op t made u → (i : ℕ) (r : StandIn) → slice_get made i ≡ Some r → r.new ≡ length t.definitions + i
   standing_numbered made u NoneYet i r e = absurd (grind arith)
-  standing_numbered made u (Another {made = before} {u = b} v head s w placed d) i r e =
+  standing_numbered made u (Another {made = before} {u = b} v head s w after_placing d) i r e =
       elim (at_last before (stand_in b v) i r e) [
         | inl h ↦ standing_numbered before b s i r h
         | inr h ↦ let l = standing_values before b s in ap (λ z. z.new) h.1 ∙ l ∙ ap (λ n. length t.definitions + n) (sym h.0)
@@ -151,14 +151,14 @@ module _ (op : ℕ) (t : Tree) where
 
   standing_defined : (made : List StandIn) (u : Tree) → AreStanding op t made u → (i : ℕ) (r : StandIn) → slice_get made i ≡ Some r → IsDefined u r.old × IsDefined u r.new
   standing_defined made u NoneYet i r e = absurd (grind arith)
-  standing_defined made u (Another {made = before} {u = b} v head s w placed d) i r e =
+  standing_defined made u (Another {made = before} {u = b} v head s w after_placing d) i r e =
       elim (at_last before (stand_in b v) i r e) [
         | inl h ↦ let both = standing_defined before b s i r h in (kept r.old both.0, kept r.new both.1)
         | inr h ↦ subst (λ z. IsDefined (with_constant b op head) z.old × IsDefined (with_constant b op head) z.new) (sym h.1) (kept v d, still_defined b op (length b.definitions) head (new_defined b head))
       ]
     where
       kept : (x : ℕ) → IsDefined b x → IsDefined (with_constant b op head) x
-      kept x is = still_defined b op x head (made_defined b (created b head 1 0) x head refl is)
+      kept x is = still_defined b op x head (made_defined b (after_creating b head 1 0) x head refl is)
 
   pub standing_unused : (made : List StandIn) (u : Tree) → IsTree t → AreStanding op t made u → AreUnused made u
   standing_unused made u w s = record {
@@ -170,7 +170,7 @@ module _ (op : ℕ) (t : Tree) where
 
 -- ---- while each gets the uses of its value
 
-in_replaced : (t : Tree) (a b k x : ℕ) → In x (operands_of (replaced t a b) k) → In x (operands_of t k) ⊎ (x ≡ b)
+in_replaced : (t : Tree) (a b k x : ℕ) → In x (operands_of (after_replacing t a b) k) → In x (operands_of t k) ⊎ (x ≡ b)
 in_replaced t a b k x i =
     let m = in_map (replace_target a b) (operands_of t k) x (subst (In x) (get_map (map (replace_target a b)) refl t.operands k) i) in
     elim (cases_eq m.0 a) [
@@ -183,9 +183,9 @@ pub unused_after : (base : ℕ) (made : List StandIn) (t : Tree) (j : ℕ) → (
 unused_after base made t zero below numbered k x i = let l = below k x i in omega (arith, l)
 unused_after base [] t (suc j) below numbered k x i = let l = below k x i in omega (arith, l)
 unused_after base (s ∷ more) t (suc j) below numbered k x i =
-    let l = unused_after (suc base) more (replaced t s.old s.new) j below_next (λ n r e. let f = numbered (suc n) r e in omega (arith, f)) k x i in omega (arith, l)
+    let l = unused_after (suc base) more (after_replacing t s.old s.new) j below_next (λ n r e. let f = numbered (suc n) r e in omega (arith, f)) k x i in omega (arith, l)
   where
-    below_next : (k x : ℕ) → In x (operands_of (replaced t s.old s.new) k) → x < suc base
+    below_next : (k x : ℕ) → In x (operands_of (after_replacing t s.old s.new) k) → x < suc base
     below_next k x i = elim (in_replaced t s.old s.new k x i) [
       | inl h ↦ let l = below k x h in omega (arith, l)
       | inr e ↦ let f = numbered zero s refl in omega (arith, e, f)
@@ -200,9 +200,9 @@ take_more (r ∷ more) zero s e = ap (λ z. z ∷ []) (same_Some r s e)
 take_more (r ∷ more) (suc i) s e =
     let one : suc i + 1 ≡ suc (i + 1) = omega arith in ap (λ n. take n (r ∷ more)) one ∙ ap (λ l. r ∷ l) (take_more more i s e)
 
-pub replaced_more : (made : List StandIn) (t now next : Tree) (i : ℕ) (s : StandIn) → slice_get made i ≡ Some s → now ≡ all_replaced (take i made) t → next ≡ replaced now s.old s.new → next ≡ all_replaced (take (i + 1) made) t
+pub replaced_more : (made : List StandIn) (t now next : Tree) (i : ℕ) (s : StandIn) → slice_get made i ≡ Some s → now ≡ all_replaced (take i made) t → next ≡ after_replacing now s.old s.new → next ≡ all_replaced (take (i + 1) made) t
 replaced_more made t now next i s at e f =
-    f ∙ ap (λ z. replaced z s.old s.new) e ∙ sym (replaced_last (take i made) s t) ∙ ap (λ l. all_replaced l t) (sym (take_more made i s at))
+    f ∙ ap (λ z. after_replacing z s.old s.new) e ∙ sym (replaced_last (take i made) s t) ∙ ap (λ l. all_replaced l t) (sym (take_more made i s at))
 
 pub status_after : (made : List StandIn) (i : ℕ) (s : StandIn) → slice_get made i ≡ Some s → Changed ≡ status_of (take (i + 1) made)
 status_after made i s at = sym (ap status_of (take_more made i s at) ∙ status_more (take i made) s)
@@ -218,24 +218,24 @@ stand_in_is t made c v new head f first =
 pub restored_refl : (t u : Tree) → u ≡ t → IsRestored t u
 restored_refl t u e = subst (IsRestored t) (sym e) (record { same = same_refl t; slots = λ r s f. f; definitions = λ v d f. f; longer = omega arith })
 
-restored : (t d : Tree) (n : ℕ) → IsTree t → IsBeside t d n → length t.operations ≤ length d.operations → IsRestored t (cleared d (nat_eq n))
+restored : (t d : Tree) (n : ℕ) → IsTree t → IsBeside t d n → length t.operations ≤ length d.operations → IsRestored t (after_clearing d (nat_eq n))
 restored t d n w s longer = record {
   same = subst (IsSameTree t) (erased_free d n s.loose) (beside_erased t d n w s);
   slots = s.slots;
   definitions = s.definitions;
-  longer = let same : length (cleared d (nat_eq n)).operations ≡ length d.operations = length-blanked _ no_entry d.operations in omega (arith, longer, same);
+  longer = let same : length (after_clearing d (nat_eq n)).operations ≡ length d.operations = length-blanked _ no_entry d.operations in omega (arith, longer, same);
 }
 
 -- one that was just made
-pub restored_made : (t made z : Tree) (c : ℕ) (head : Head) → IsMadeConstant t made c head → z ≡ erased made c → IsRestored t z
+pub restored_made : (t made z : Tree) (c : ℕ) (head : Head) → IsMadeConstant t made c head → z ≡ after_erasing made c → IsRestored t z
 restored_made t made z c head f e =
     let free : parent_of made c ≡ None = made_free t made c head f.tree f.made f.key in
-    let is : z ≡ cleared (created t head 1 0) (nat_eq (length t.operations)) = e ∙ erased_free made c free ∙ ap (λ x. cleared x (nat_eq c)) f.made ∙ ap (λ n. cleared (created t head 1 0) (nat_eq n)) f.key in
+    let is : z ≡ after_clearing (after_creating t head 1 0) (nat_eq (length t.operations)) = e ∙ erased_free made c free ∙ ap (λ x. after_clearing x (nat_eq c)) f.made ∙ ap (λ n. after_clearing (after_creating t head 1 0) (nat_eq n)) f.key in
     let n = length-append t.operations (new_row t head ∷ []) in
-    subst (IsRestored t) (sym is) (restored t (created t head 1 0) (length t.operations) f.tree (created_beside t head 1 0 f.tree) (omega (arith, n)))
+    subst (IsRestored t) (sym is) (restored t (after_creating t head 1 0) (length t.operations) f.tree (created_beside t head 1 0 f.tree) (omega (arith, n)))
 
--- the last one, in a tree that is as before it but for spent keys
-module _ (u w : Tree) (op b : ℕ) (head : Head) (wu : IsTree u) (ww : IsTree w) (at : parent_of u op ≡ Some b) (back : IsRestored (placed (created u head 1 0) (length u.operations) b (put_before op (length u.operations) (body_of u b))) w) where
+-- the last one, in a tree that is as before it but for erased handles
+module _ (u w : Tree) (op b : ℕ) (head : Head) (wu : IsTree u) (ww : IsTree w) (at : parent_of u op ≡ Some b) (back : IsRestored (after_placing (after_creating u head 1 0) (length u.operations) b (put_before op (length u.operations) (body_of u b))) w) where
   abbrev c : ℕ
   c = length u.operations
 
@@ -245,17 +245,17 @@ module _ (u w : Tree) (op b : ℕ) (head : Head) (wu : IsTree u) (ww : IsTree w)
   abbrev out : Tree
   out = record w { bodies = slice_set w.bodies b (without c (body_of w b)); parents = slice_set w.parents c None }
 
-  beside : IsBeside u (created u head 1 0) c
+  beside : IsBeside u (after_creating u head 1 0) c
   beside = created_beside u head 1 0 wu
 
   row : row_of w c ≡ new_row u head
-  row = back.same.operations c ∙ made_row u (created u head 1 0) c head refl refl
+  row = back.same.operations c ∙ made_row u (after_creating u head 1 0) c head refl refl
 
   pub last_live : IsLive w c
   last_live = ap (λ z. is_some z.head) row
 
   here : parent_of w c ≡ Some b
-  here = back.same.parents c ∙ get_or-set_same (created u head 1 0).parents c (Some b) None beside.place
+  here = back.same.parents c ∙ get_or-set_same (after_creating u head 1 0).parents c (Some b) None beside.place
 
   not_in : In c (body_of u b) → ⊥
   not_in i = let f : None ≡ Some b = sym beside.no_parent ∙ wu.bodies.owned c b i in grind arith
@@ -278,7 +278,7 @@ module _ (u w : Tree) (op b : ℕ) (head : Head) (wu : IsTree u) (ww : IsTree w)
     operations = λ k ne. back.same.operations k ∙ beside.operations k ne;
     operands = λ k ne. back.same.operands k ∙ beside.operands k ne;
     successors = λ k ne. back.same.successors k ∙ beside.successors k ne;
-    parents = λ k ne. get_or-set_other w.parents c k None None ne ∙ back.same.parents k ∙ get_or-set_other (created u head 1 0).parents c k (Some b) None ne ∙ beside.parents k ne;
+    parents = λ k ne. get_or-set_other w.parents c k None None ne ∙ back.same.parents k ∙ get_or-set_other (after_creating u head 1 0).parents c k (Some b) None ne ∙ beside.parents k ne;
     bodies = bodies;
     arguments = λ x. back.same.arguments x ∙ beside.arguments x;
     block_parents = λ x. back.same.block_parents x ∙ beside.block_parents x;
@@ -287,11 +287,11 @@ module _ (u w : Tree) (op b : ℕ) (head : Head) (wu : IsTree u) (ww : IsTree w)
     definitions = λ v d e. back.definitions v d (beside.definitions v d e);
   }
 
-  pub last_restored : IsRestored u (erased w c)
+  pub last_restored : IsRestored u (after_erasing w c)
   last_restored =
       let n = length-append u.operations (new_row u head ∷ []) in
       let l = back.longer in
-      subst (IsRestored u) (sym (ap (λ o. cleared (taken_from w c o) (nat_eq c)) here)) (restored u out c wu loose (omega (arith, n, l)))
+      subst (IsRestored u) (sym (ap (λ o. after_clearing (taken_from w c o) (nat_eq c)) here)) (restored u out c wu loose (omega (arith, n, l)))
 
   pub last_contained : IsSelfContained w c
   last_contained = contained w ww c (length u.definitions) (ap (λ z. z.regions) row) (ap (λ z. z.results) row) (λ x y i.
@@ -314,25 +314,25 @@ pub record LastGoes (op : ℕ) (t w : Tree) (rest : List StandIn) (s : StandIn) 
   pub contained : IsSelfContained w s.constant
   pub before : Tree
   pub standing : AreStanding op t rest before
-  pub restored : IsRestored before (erased w s.constant)
+  pub restored : IsRestored before (after_erasing w s.constant)
 
 pub last_goes : (op : ℕ) (t : Tree) (made : List StandIn) (u w : Tree) (rest : List StandIn) (s : StandIn) → AreStanding op t made u → IsRestored u w → IsTree w → made ≡ rest ++ s ∷ [] → LastGoes op t w rest s
 last_goes op t made u w rest s NoneYet back ww e = let n = ap length e in let l = length-append rest (s ∷ []) in absurd (omega (arith, n, l))
-last_goes op t made u w rest s (Another {made = before} {u = b} v head standing wb placed d) back ww e =
+last_goes op t made u w rest s (Another {made = before} {u = b} v head standing wb after_placing d) back ww e =
     let same = last_same before rest (stand_in b v) s e in
-    let p = some_block (parent_of b op) placed in
-    let there : IsRestored (put_next_to (created b head 1 0) (length b.operations) op (Some p.0)) w = subst (λ o. IsRestored (put_next_to (created b head 1 0) (length b.operations) op o) w) p.1 back in
+    let p = some_block (parent_of b op) after_placing in
+    let there : IsRestored (put_next_to (after_creating b head 1 0) (length b.operations) op (Some p.0)) w = subst (λ o. IsRestored (put_next_to (after_creating b head 1 0) (length b.operations) op o) w) p.1 back in
     let key : length b.operations ≡ s.constant = ap (λ z. z.constant) same.1 in
     record {
       live = subst (IsLive w) key (last_live b w op p.0 head wb ww p.1 there);
       contained = subst (IsSelfContained w) key (last_contained b w op p.0 head wb ww p.1 there);
       before = b;
       standing = subst (λ l. AreStanding op t l b) same.0 standing;
-      restored = subst (λ n. IsRestored b (erased w n)) key (last_restored b w op p.0 head wb ww p.1 there);
+      restored = subst (λ n. IsRestored b (after_erasing w n)) key (last_restored b w op p.0 head wb ww p.1 there);
     }
 
 -- where none is left, nothing is
 pub none_left : (op : ℕ) (t : Tree) (made : List StandIn) (u w : Tree) → AreStanding op t made u → made ≡ [] → IsRestored u w → IsRestored t w
 none_left op t made u w NoneYet e back = back
-none_left op t made u w (Another {made = before} {u = b} v head standing wb placed d) e back =
+none_left op t made u w (Another {made = before} {u = b} v head standing wb after_placing d) e back =
     let n = ap length e in let l = length-append before (stand_in b v ∷ []) in absurd (omega (arith, n, l))

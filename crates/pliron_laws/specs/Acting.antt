@@ -6,14 +6,14 @@ use Rattle.pliron_laws.specs.Datum.{Datum, Empty, datum_of, Shape, Move, Give, V
 abbrev pub Act : Type 0
 Act = Shape → Datum → List Datum → Move
 
--- an operation of this shape, whose first input was `first`, comes to this memo and this input, after
--- any answers; `later` is true after its first move
+-- an operation of this shape, whose first input was `first`, comes to this memo and this input, after any
+-- answers; `later` is true after its first transition
 pub data Comes (act : Act) (s : Shape) (first : List Datum) : Bool → Datum → List Datum → Type 0 where
   Begins : Comes act s first false Empty first
   Answered : {later : Bool} {memo : Datum} {input : List Datum} (i : ℕ) (ds : List Datum) (next : Datum) (answer : List Datum) → Comes act s first later memo input → act s memo input ≡ Visit i ds next → Comes act s first true next answer
   Told : {later : Bool} {memo : Datum} {input : List Datum} (effect next answer : Datum) → Comes act s first later memo input → act s memo input ≡ Emit effect next → Comes act s first true next (answer ∷ [])
 
--- two moves are one, where visits and jumps are compared by these relations
+-- two transitions are one, where invocations and jumps are compared by these relations
 pub record MovesAlike (visits : ℕ → List Datum → List Datum → Type 0) (gotos : ℕ → List Datum → ℕ → List Datum → Type 0) (a b : Move) : Type 0 where
   pub give : (ds : List Datum) → a ≡ Give ds → b ≡ Give ds
   pub visit : (i : ℕ) (ds : List Datum) (memo : Datum) → a ≡ Visit i ds memo → (es : List Datum) × (b ≡ Visit i es memo) × visits i ds es
@@ -22,12 +22,12 @@ pub record MovesAlike (visits : ℕ → List Datum → List Datum → Type 0) (g
   pub emit : (e memo : Datum) → a ≡ Emit e memo → b ≡ Emit e memo
   pub traps : a ≡ Trap → b ≡ Trap
 
--- two operations with these first inputs make one move at every step
+-- two operations with these first inputs make the same transition at every step
 pub record ActAlike (act : Act) (visits : ℕ → List Datum → List Datum → Type 0) (gotos : ℕ → List Datum → ℕ → List Datum → Type 0) (s s' : Shape) (first first' : List Datum) : Type 0 where
   pub begin : MovesAlike visits gotos (act s Empty first) (act s' Empty first')
   pub later : (memo : Datum) (input : List Datum) → Comes act s first true memo input → MovesAlike visits gotos (act s memo input) (act s' memo input)
 
--- a visit or a jump passes the same values
+-- an invocation or a jump passes the same values
 abbrev pub PassesSame : ℕ → List Datum → List Datum → Type 0
 PassesSame i ds es = es ≡ ds
 

@@ -2,11 +2,11 @@
 use Rattle.std.specs.Prelude.{◌≡◌, ℕ, List, ◌↔◌}
 use Rattle.pliron_laws.specs.Datum.{Datum, Meaning}
 use Rattle.pliron_laws.specs.Tree.{Tree}
-use Rattle.pliron_laws.specs.Machine.{State, Next, Sight, run_from, seen, step, start}
+use Rattle.pliron_laws.specs.Machine.{State, Next, Sight, run_from, sight_after, step, start}
 
 -- within some bound a run from this state shows it
 abbrev pub Shows : (State → Next) → State → Sight → Type 0
-Shows f s x = (n : ℕ) × (seen (run_from f n s) ≡ x)
+Shows f s x = (n : ℕ) × (sight_after (run_from f n s) ≡ x)
 
 -- what one of two machines shows, from its state, the other one shows, and nothing else
 abbrev pub SeenAlike : (State → Next) → (State → Next) → State → State → Type 0

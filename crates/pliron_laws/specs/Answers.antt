@@ -3,7 +3,7 @@ use Rattle.std.specs.Prelude.{◌≡◌, ◌<◌, ℕ, Bool, nat_eq, false, List
 use Rattle.std.specs.Option.{option_map}
 use Rattle.pliron_core.specs.declared.attrs.AttrObj.{AttrObj}
 use Rattle.pliron_core.specs.Tree.{Tree, head_of, row_of, operands_of, results_of, successors_of, regions_of, arguments_of, block_parent_of, slot_of, layout_of, first_of}
-use Rattle.pliron_core.specs.Writes.{operand_removed, created}
+use Rattle.pliron_core.specs.Writes.{operand_removed, after_creating}
 use Rattle.pliron_laws.specs.Datum.{Head, Shape, Meaning}
 use Rattle.pliron_laws.specs.Tree.{Operation, op_at, shape_of}
 use Rattle.pliron_laws.specs.Acting.{pick}
@@ -77,12 +77,12 @@ HasPlace m t op i j = (o : Operation) → op_at t op ≡ Some o → (p : ℕ) ×
 abbrev pub with_head : Tree → ℕ → Head → Tree
 with_head t op head = record t { operations = slice_set t.operations op (record (row_of t op) { head = Some head }) }
 
--- the branch lost the operand v, which stood at place j of the edge with index i
+-- the branch lost the operand v, which was at place j of the edge with index i
 abbrev pub LosesForwarded : Meaning → (Shape → ℕ → ℕ → Head) → (t t' : Tree) → (op i j v : ℕ) → Type 0
 LosesForwarded m shortened t t' op i j v = (o : Operation) (p : ℕ) → op_at t op ≡ Some o → slice_get (m.forwarded (shape_of m t o) i) j ≡ Some p → (slice_get o.operands p ≡ Some v) × (t' ≡ with_head (operand_removed t op p) op (shortened (shape_of m t o) i j))
 
--- an operation with the head of such a constant and one result was made, and stands in no block, where
--- the dialect accepts the attribute; nothing was made where it does not
+-- an operation with the head of such a constant and one result was made, and is in no block, where the dialect
+-- accepts the attribute; nothing was made where it does not
 abbrev pub IsMaterialised : (AttrObj → Bool) → (AttrObj → Head) → AttrObj → (t t' : Tree) → Option ℕ → Type 0
 IsMaterialised accepts head attr t t' None = (accepts attr ≡ false) × (t' ≡ t)
-IsMaterialised accepts head attr t t' (Some op) = IsTrue (accepts attr) × (op ≡ length t.operations) × (t' ≡ created t (head attr) 1 0)
+IsMaterialised accepts head attr t t' (Some op) = IsTrue (accepts attr) × (op ≡ length t.operations) × (t' ≡ after_creating t (head attr) 1 0)

@@ -1,4 +1,4 @@
--- The data that operations pass, and the moves that an operation makes.
+-- The data that operations pass, and the transitions that an operation makes.
 pub use Rattle.pliron_core.specs.declared.attrs.Head.{Head}
 use Rattle.pliron_core.specs.declared.attrs.AttrObj.{AttrObj}
 use Rattle.pliron_core.specs.declared.attrs.AttrObj.TheVariants.{Int, Text as Words}
@@ -16,9 +16,9 @@ abbrev pub datum_of : AttrObj → Datum
 datum_of (Int n) = Number n
 datum_of (Words s) = Text s
 
--- what the moves of an operation may depend on: its head, how many operands, results and successors
--- it has, how many arguments the entry block of each of its regions has, and, unless it is a branch,
--- how many arguments each successor has
+-- what the transitions of an operation may depend on: its head, how many operands, results and successors it
+-- has, how many arguments the entry block of each of its regions has, and, unless it is a branch, how many
+-- arguments each successor has
 pub record Shape : Type 0 where
   pub head : Head
   pub operands : ℕ
@@ -27,7 +27,7 @@ pub record Shape : Type 0 where
   pub entry_arguments : List ℕ
   pub target_arguments : Option (List ℕ)
 
--- one move of an operation
+-- one transition of an operation
 pub data Move : Type 0 where
   Give : (results : List Datum) → Move
   Visit : (region : ℕ) (values : List Datum) (memo : Datum) → Move
@@ -38,7 +38,7 @@ pub data Move : Type 0 where
 
 -- what a dialect says of its operations
 pub record Meaning : Type 0 where
-  -- the move that an operation of this shape makes with this memo on this input
+  -- the transition that an operation of this shape makes with this memo on this input
   pub act : Shape → Datum → List Datum → Move
   -- whether the dialect has operations with this head and these counts of operands, results,
   -- successors and regions

@@ -3,7 +3,7 @@ use Rattle.std.specs.Prelude.{◌≡◌, ◌≢◌, ℕ, Option, Some}
 use Rattle.pliron_core.specs.Tree.{Tree, In, successors_of, regions_of, parent_of, block_parent_of, up_from}
 use Rattle.pliron_laws.specs.Linked.{EndsBlock}
 
--- the region that an operation stands directly in
+-- the region that an operation is directly in
 abbrev pub region_around : Tree → ℕ → Option ℕ
 region_around t k = up_from (parent_of t k) (λ b. block_parent_of t b)
 
@@ -11,7 +11,7 @@ region_around t k = up_from (parent_of t k) (λ b. block_parent_of t b)
 abbrev pub HasOwnSuccessors : Tree → (op block : ℕ) → Type 0
 HasOwnSuccessors t op block = (s : ℕ) → In s (successors_of t op) → block_parent_of t s ≡ block_parent_of t block
 
--- all operations that have the block as successor stand in its region
+-- all operations that have the block as successor are in its region
 abbrev pub HasOwnUsers : Tree → ℕ → Type 0
 HasOwnUsers t block = (k : ℕ) → In block (successors_of t k) → region_around t k ≡ block_parent_of t block
 

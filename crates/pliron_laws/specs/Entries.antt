@@ -1,16 +1,16 @@
--- The laws of a dialect on operands that every visit of a region passes.
+-- The laws of a dialect on operands that every invocation of a region passes.
 use Rattle.std.specs.Prelude.{◌≡◌, ◌<◌, ℕ, Bool, false, not, List, Option, Some, None, length, slice_get, refl}
 use Rattle.pliron_laws.specs.Datum.{Datum, Head, Shape, Visit, Meaning}
 use Rattle.pliron_laws.specs.Acting.{Comes}
 use Rattle.pliron_laws.specs.Laws.{Admitted}
 
 -- for the shape of an operation, the index of a region and that of an argument of its entry, the operand that
--- every visit passes there, where one is named
+-- every invocation passes there, where one is named
 abbrev pub EntryOperands : Type 0
 EntryOperands = Shape → (region argument : ℕ) → Option ℕ
 
--- what implements no interface for it names no operand; a named operand is there, and every visit of the region
--- passes there the datum that the first input has in its place
+-- what implements no interface for it names no operand; a named operand is there, and every invocation of the
+-- region passes there the datum that the first input has in its place
 pub record NamesOperands (m : Meaning) (entry_operands : EntryOperands) (implements : Head → Bool) : Type 0 where
   pub silent : (s : Shape) (i j : ℕ) → implements s.head ≡ false → entry_operands s i j ≡ None
   pub there : (s : Shape) → Admitted m s → (i j k : ℕ) → entry_operands s i j ≡ Some k → k < s.operands

@@ -51,8 +51,8 @@ KnowsMore (a ∷ known) [] = ⊥
 KnowsMore (None ∷ known) (b ∷ more) = KnowsMore known more
 KnowsMore (Some a ∷ known) (b ∷ more) = (b ≡ Some a) × KnowsMore known more
 
--- knowing more operands keeps each answered constant and adds no block that a branch may go to; no law
--- of a dialect, but what the best facts rest on
+-- knowing more operands keeps each answered constant and adds no block that a branch may go to; no law of a
+-- dialect, but what the most precise lattice values rest on
 pub record FoldsMonotonely (m : Meaning) (can_fold can_fold_branch : Head → Bool) (constants : Constants) (feasible : Feasible) : Type 0 where
   pub answers : (s : Shape) → Admitted m s → IsTrue (can_fold s.head) → (known more : List (Option AttrObj)) → length known ≡ s.operands → KnowsMore known more → KnowsMore (constants s known) (constants s more)
   pub jumps : (s : Shape) (targets : List ℕ) → Admitted m s → IsTrue (can_fold_branch s.head) → length targets ≡ s.successors → (known more : List (Option AttrObj)) → length known ≡ s.operands → KnowsMore known more → (b : ℕ) → In b (feasible s targets more) → In b (feasible s targets known)

@@ -12,32 +12,32 @@ use Rattle.pliron_laws.specs.Folding.{Constants}
 use Rattle.pliron_laws.specs.Outcomes.{MaterialisesSome, Materialises}
 use Rattle.pliron_laws.specs.Replacing.{FoldsBranch}
 
--- the outcomes of folding an operation under these known constants: the tree before and after, and the
--- answer, which is none where memory was refused
+-- the outcomes of folding an operation under these known constants: the tree before and after, and the answer,
+-- which is none on allocation failure
 abbrev pub Outcome : Type 1
 Outcome = Tree → Tree → ℕ → List (Option AttrObj) → Option IRStatus → Type 0
 
--- `Changed` says that the tree changed, `Unchanged` that it is as before, but for spent keys; where memory was refused
--- nothing is told
-abbrev pub TellsChange : Option IRStatus → Tree → Tree → Type 0
-TellsChange None t t' = Unit {0}
-TellsChange (Some Changed) t t' = IsSameTree t t' → ⊥
-TellsChange (Some Unchanged) t t' = IsSameTree t t'
+-- `Changed` says that the tree changed, `Unchanged` that it is as before, but for erased handles; on allocation
+-- failure nothing is reported
+abbrev pub ReportsChange : Option IRStatus → Tree → Tree → Type 0
+ReportsChange None t t' = Unit {0}
+ReportsChange (Some Changed) t t' = IsSameTree t t' → ⊥
+ReportsChange (Some Unchanged) t t' = IsSameTree t t'
 
--- the outcome of folding by constants: one is put for each result that is answered and accepted, or, where memory was
--- refused, for none
-abbrev pub materialising : Meaning → Constants → (AttrObj → Bool) → (AttrObj → Head) → Outcome
-materialising m constants accepts head t t' op known None = IsSameTree t t'
-materialising m constants accepts head t t' op known (Some status) = ((o : Operation) → op_at t op ≡ Some o → Materialises accepts head op o.results (constants (shape_of m t o) known) t t') × TellsChange (Some status) t t'
+-- the outcome of folding by constants: one is put for each result that is answered and accepted, or, on
+-- allocation failure, for none
+abbrev pub materialising_outcome : Meaning → Constants → (AttrObj → Bool) → (AttrObj → Head) → Outcome
+materialising_outcome m constants accepts head t t' op known None = IsSameTree t t'
+materialising_outcome m constants accepts head t t' op known (Some status) = ((o : Operation) → op_at t op ≡ Some o → Materialises accepts head op o.results (constants (shape_of m t o) known) t t') × ReportsChange (Some status) t t'
 
--- each outcome of a constant fold materialises some of the answered results, each outcome of a branch
--- fold keeps the branch or replaces it, and the answer tells whether the tree changed; where memory was
--- refused such an outcome is left too: one whole rewrite, or none
+-- each outcome of a constant fold materialises some of the answered results, each outcome of a branch fold
+-- keeps the branch or replaces it, and the answer reports whether the tree changed; on allocation failure such
+-- an outcome is left too: one whole rewrite, or none
 pub record FoldsInPlace (m : Meaning) (constants : Constants) (accepts : AttrObj → Bool) (head : AttrObj → Head) (fold branch_fold : Outcome) : Type 0 where
-  pub constant : (t t' : Tree) (op : ℕ) (known : List (Option AttrObj)) (answer : Option IRStatus) (o : Operation) → op_at t op ≡ Some o → fold t t' op known answer → MaterialisesSome accepts head op o.results (constants (shape_of m t o) known) t t' × TellsChange answer t t'
-  pub branch : (t t' : Tree) (op : ℕ) (known : List (Option AttrObj)) (answer : Option IRStatus) → branch_fold t t' op known answer → FoldsBranch m op known t t' × TellsChange answer t t'
+  pub constant : (t t' : Tree) (op : ℕ) (known : List (Option AttrObj)) (answer : Option IRStatus) (o : Operation) → op_at t op ≡ Some o → fold t t' op known answer → MaterialisesSome accepts head op o.results (constants (shape_of m t o) known) t t' × ReportsChange answer t t'
+  pub branch : (t t' : Tree) (op : ℕ) (known : List (Option AttrObj)) (answer : Option IRStatus) → branch_fold t t' op known answer → FoldsBranch m op known t t' × ReportsChange answer t t'
 
--- where memory is not refused, folding in place comes to one tree and one answer
+-- without allocation failure, folding in place comes to one tree and one answer
 abbrev pub IsSingle : Outcome → Type 0
 IsSingle outcome = (t t' t'' : Tree) (op : ℕ) (known : List (Option AttrObj)) (o : Operation) (a b : IRStatus) → op_at t op ≡ Some o → outcome t t' op known (Some a) → outcome t t'' op known (Some b) → (t' ≡ t'') × (a ≡ b)
 

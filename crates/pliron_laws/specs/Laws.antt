@@ -9,7 +9,7 @@ use Rattle.pliron_laws.specs.Acting.{Comes, ActAlike, PassesSame, JumpsSame, Dro
 abbrev pub Admitted : Meaning → Shape → Type 0
 Admitted m s = IsTrue (m.admits s.head s.operands s.results s.successors (length s.entry_arguments))
 
--- a move hands on as many values as there are places for them; the jumps of branches aside
+-- a transition passes as many values as there are places for them; the jumps of branches aside
 abbrev pub CountsFit : Bool → Shape → Move → Type 0
 CountsFit is_branch s (Give ds) = length ds ≡ s.results
 CountsFit is_branch s (Visit i ds memo) = (n : ℕ) → slice_get s.entry_arguments i ≡ Some n → length ds ≡ n
@@ -18,7 +18,7 @@ CountsFit is_branch s (Leave ds) = Unit {0}
 CountsFit is_branch s (Emit e memo) = Unit {0}
 CountsFit is_branch s Trap = Unit {0}
 
--- what has successors is a terminator, and moves keep the counts
+-- what has successors is a terminator, and transitions keep the counts
 pub record KeepsCounts (m : Meaning) : Type 0 where
   pub successors : (s : Shape) → Admitted m s → 0 < s.successors → IsTrue (m.is_terminator s.head)
   pub moves : (s : Shape) → Admitted m s → (first : List Datum) (later : Bool) (memo : Datum) (input : List Datum) → Comes m.act s first later memo input → CountsFit (m.is_branch s.head) s (m.act s memo input)
@@ -35,11 +35,11 @@ IsGive Trap = ⊥
 abbrev pub GivesAtOnce : Meaning → (Head → Option Bool) → Type 0
 GivesAtOnce m side_effects = (s : Shape) → Admitted m s → side_effects s.head ≡ Some false → (first : List Datum) → length first ≡ s.operands → IsGive (m.act s Empty first)
 
--- a place among the operands, where the operand at p went
+-- a place among the operands, where the operand at p was removed
 abbrev pub moved_up : ℕ → ℕ → ℕ
 moved_up p place = if nat_lt p place then place - 1 else place
 
--- the shape of a branch with this head, where one operand went
+-- the shape of a branch with this head, where one operand was removed
 abbrev pub fewer_operands : Shape → Head → Shape
 fewer_operands s head = record s { head = head; operands = s.operands - 1 }
 
@@ -47,7 +47,7 @@ fewer_operands s head = record s { head = head; operands = s.operands - 1 }
 abbrev pub IsHeadBut : Head → Head → Type 0
 IsHeadBut h h' = (h' ≡ h) ⊎ ((a : ℕ) × (x : AttrObj) × (h' ≡ record h { attrs = slice_set h.attrs a x }))
 
--- a branch that has this head after the operand at place j of edge i went, which was its operand p
+-- a branch that has this head after the operand at place j of edge i was removed, which was its operand p
 pub record LosesOperand (m : Meaning) (SameTests : Head → Head → Type 0) (s : Shape) (i j p : ℕ) (head : Head) : Type 0 where
   pub same_head : IsHeadBut s.head head
   pub same_tests : SameTests s.head head
@@ -66,7 +66,7 @@ pub record ForwardsOperands (m : Meaning) (can_fold : Head → Bool) (SameTests 
   pub one_way : (s : Shape) → Admitted m s → IsTrue (m.is_branch s.head) → s.successors ≡ 1 → (first : List Datum) → length first ≡ s.operands → (ds : List Datum) × (m.act s Empty first ≡ Goto 0 ds)
   pub removal : (s : Shape) → Admitted m s → IsTrue (m.is_branch s.head) → (i j p : ℕ) → i < s.successors → slice_get (m.forwarded s i) j ≡ Some p → LosesOperand m SameTests s i j p (shortened s i j)
 
--- where the argument of an entry block may be removed, the operation acts alike without it, but for
--- the value that its visits pass there
+-- where the argument of an entry block may be removed, the operation acts alike without it, but for the value
+-- that its invocations of the region pass there
 abbrev pub ActsWithoutArgument : Meaning → (Head → ℕ → Bool → Option Bool) → Type 0
 ActsWithoutArgument m removable = (s : Shape) → Admitted m s → (i n j : ℕ) → removable s.head i true ≡ Some true → slice_get s.entry_arguments i ≡ Some (n + 1) → j ≤ n → (first : List Datum) → ActAlike m.act (DropsAt i j) JumpsSame s (record s { entry_arguments = slice_set s.entry_arguments i n }) first first

@@ -10,8 +10,8 @@ pub record EndsBlock (t : Tree) (k : ℕ) : Type 0 where
   pub last : last_of None (body_of t block) ≡ Some k
   pub own_region : (s : ℕ) → In s (successors_of t k) → block_parent_of t s ≡ block_parent_of t block
 
--- each operation that stands inside the root and has successors, or has a block inside the root as
--- successor, ends its block
+-- each operation that is inside the root and has successors, or has a block inside the root as successor, ends
+-- its block
 abbrev pub EdgesLast : Tree → ℕ → Type 0
 EdgesLast t root = (k s : ℕ) → In s (successors_of t k) → IsInside t root k ⊎ HoldsBlock t root s → EndsBlock t k
 
@@ -23,7 +23,7 @@ IsAdmitted m t k = (h : Head) → head_of t k ≡ Some h → IsTrue (m.admits h 
 abbrev pub AllAdmitted : Meaning → Tree → ℕ → Type 0
 AllAdmitted m t root = (k : ℕ) → IsWithin t root k → IsAdmitted m t k
 
--- edges stand last, and the dialect admits the root and all operations inside it
+-- edges are last in their blocks, and the dialect admits the root and all operations inside it
 pub record IsWellLinked (m : Meaning) (t : Tree) (root : ℕ) : Type 0 where
   pub edges : EdgesLast t root
   pub admitted : AllAdmitted m t root

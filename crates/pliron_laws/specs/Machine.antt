@@ -1,5 +1,5 @@
 -- The machine that runs a tree.
-pub use Rattle.pliron_laws.specs.States.{Environment, Waiting, State, Sight, Ended, Trapped, Reached, Next, Goes, Over, trap, bound, bind, prepended, data_of, input_of}
+pub use Rattle.pliron_laws.specs.States.{Environment, Waiting, State, Sight, Ended, Trapped, Reached, Next, Goes, Over, trap, environment_with, bind, prepend_optional, data_of, input_of}
 use Rattle.std.specs.Prelude.{ℕ, zero, suc, List, [], ◌∷◌, Option, Some, None, slice_get}
 use Rattle.pliron_laws.specs.Datum.{Datum, Empty, Move, Give, Visit, Goto, Leave, Emit, Trap, Meaning}
 use Rattle.pliron_laws.specs.Tree.{Tree, Operation, Block, op_at, block_at, entry_block, shape_of}
@@ -8,15 +8,15 @@ use Rattle.pliron_laws.specs.Tree.{Tree, Operation, Block, op_at, block_at, entr
 abbrev pub at_rest : State → Environment → List ℕ → List Waiting → State
 at_rest s env rest waiting = record s { environment = env; rest = rest; memo = Empty; answer = None; waiting = waiting }
 
--- a visit ends with these values, or the run where nothing waits
+-- an invocation ends with these values, or the run where no invocation is open
 abbrev pub leave : State → List Waiting → List Datum → Next
 leave s [] ds = Over (Ended ds s.effects)
 leave s (w ∷ ws) ds = Goes (record s { rest = w.rest; memo = w.memo; answer = Some ds; waiting = ws })
 
-abbrev pub given : State → List ℕ → List Waiting → List Datum → Option Environment → Next
-given s rest waiting ds None = trap s
-given s rest [] ds (Some env) = Over (Ended ds s.effects)
-given s rest (w ∷ ws) ds (Some env) = Goes (at_rest s env rest (w ∷ ws))
+abbrev pub after_giving : State → List ℕ → List Waiting → List Datum → Option Environment → Next
+after_giving s rest waiting ds None = trap s
+after_giving s rest [] ds (Some env) = Over (Ended ds s.effects)
+after_giving s rest (w ∷ ws) ds (Some env) = Goes (at_rest s env rest (w ∷ ws))
 
 abbrev pub begin : State → List ℕ → List Waiting → Option Environment → Next
 begin s rest waiting None = trap s
@@ -43,9 +43,9 @@ abbrev pub emit : State → Datum → Datum → List Datum → Next
 emit s e memo [] = Over (Reached (e ∷ s.effects))
 emit s e memo (d ∷ world) = Goes (record s { memo = memo; answer = Some (d ∷ []); world = world; effects = e ∷ s.effects })
 
--- what a move of the operation `o` does, where `self` is its key and `rest` are the ones after it
+-- what a transition of the operation `o` does, where `self` is its key and `rest` are the ones after it
 abbrev pub perform : Tree → State → Operation → ℕ → List ℕ → Move → Next
-perform t s o self rest (Give ds) = given s rest s.waiting ds (bind s.environment o.results ds)
+perform t s o self rest (Give ds) = after_giving s rest s.waiting ds (bind s.environment o.results ds)
 perform t s o self rest (Visit i ds memo) = enter s (entry_in t (slice_get o.regions i)) ds (record { rest = self ∷ rest; memo = memo } ∷ s.waiting)
 perform t s o self rest (Goto i ds) = go_to t s (slice_get o.successors i) ds s.waiting
 perform t s o self rest (Leave ds) = leave s s.waiting ds
@@ -60,7 +60,7 @@ abbrev pub turn : Meaning → Tree → State → ℕ → List ℕ → Option Ope
 turn m t s self rest None = trap s
 turn m t s self rest (Some o) = move m t s o self rest (input_of s.environment o.operands s.answer)
 
--- one move, or the end of a block that no operation ended
+-- one transition, or the end of a block that no operation ended
 abbrev pub step_at : Meaning → Tree → State → List ℕ → Next
 step_at m t s [] = leave s s.waiting []
 step_at m t s (k ∷ rest) = turn m t s k rest (op_at t k)
@@ -88,10 +88,10 @@ start root inputs world = record {
   effects = [];
 }
 
--- the run of a root on these inputs in this world, at most n steps of it
+-- the run of a root on these inputs in this environment, at most n steps of it
 abbrev pub run : Meaning → Tree → ℕ → List Datum → List Datum → ℕ → Next
 run m t root inputs world n = run_from (step m t) n (start root inputs world)
 
-abbrev pub seen : Next → Sight
-seen (Goes s) = Reached s.effects
-seen (Over x) = x
+abbrev pub sight_after : Next → Sight
+sight_after (Goes s) = Reached s.effects
+sight_after (Over x) = x

@@ -10,7 +10,7 @@ use Rattle.pliron_laws.specs.Folding.{Constants}
 use Rattle.pliron_laws.specs.Outcomes.{Materialises, MaterialisesSome}
 use Rattle.pliron_laws.specs.Outcomes.Materialises.{Finished, Unanswered, Unknown, PassedOver, Put}
 use Rattle.pliron_laws.specs.Outcomes.MaterialisesSome.{Rest, Then}
-use Rattle.pliron_laws.specs.InPlace.{TellsChange, materialising}
+use Rattle.pliron_laws.specs.InPlace.{ReportsChange, materialising_outcome}
 
 -- the list has the part from index n on
 abbrev IsPart : {A : Type 0} → ℕ → List A → List A → Type 0
@@ -37,7 +37,7 @@ module _ (accepts : AttrObj → Bool) (head : AttrObj → Head) (op : ℕ) (resu
   some_of n vs more t u at said (Put accepted m) =
       Then n _ _ (part_first n results _ _ at) (part_first n answers _ _ said) accepted (some_of (n + 1) _ _ _ _ (part_rest n results _ _ at) (part_rest n answers _ _ said) m)
 
-pub folds_by_constants : (m : Meaning) (constants : Constants) (accepts : AttrObj → Bool) (head : AttrObj → Head) (t u : Tree) (op : ℕ) (known : List (Option AttrObj)) (answer : Option IRStatus) (o : Operation) → op_at t op ≡ Some o → materialising m constants accepts head t u op known answer → MaterialisesSome accepts head op o.results (constants (shape_of m t o) known) t u × TellsChange answer t u
+pub folds_by_constants : (m : Meaning) (constants : Constants) (accepts : AttrObj → Bool) (head : AttrObj → Head) (t u : Tree) (op : ℕ) (known : List (Option AttrObj)) (answer : Option IRStatus) (o : Operation) → op_at t op ≡ Some o → materialising_outcome m constants accepts head t u op known answer → MaterialisesSome accepts head op o.results (constants (shape_of m t o) known) t u × ReportsChange answer t u
 folds_by_constants m constants accepts head t u op known None o at same = (Rest same, tt)
 folds_by_constants m constants accepts head t u op known (Some status) o at is =
     (some_of accepts head op o.results (constants (shape_of m t o) known) 0 o.results (constants (shape_of m t o) known) t u (part_all _) (part_all _) (is.0 o at), is.1)

@@ -2,8 +2,8 @@
 use Rattle.std.specs.Prelude.{◌≡◌, ℕ, List, [], Option, Some, None, length, slice_get, slice_set, map, IsTrue}
 use Rattle.pliron_core.specs.declared.attrs.AttrObj.{AttrObj}
 use Rattle.pliron_core.specs.Tree.{Tree, parent_of}
-use Rattle.pliron_core.specs.Writes.{created, put_next_to}
-use Rattle.pliron_core.specs.Erased.{erased}
+use Rattle.pliron_core.specs.Writes.{after_creating, put_next_to}
+use Rattle.pliron_core.specs.Erased.{after_erasing}
 use Rattle.pliron_core.specs.Changes.{IsSameTree}
 use Rattle.pliron_laws.specs.Datum.{Datum, Head, Shape, Meaning}
 use Rattle.pliron_laws.specs.Tree.{Operation, op_at, shape_of}
@@ -32,11 +32,11 @@ pub record ReplacesBranch (m : Meaning) (s : Shape) (targets targets' : List ℕ
 abbrev pub with_edges : Tree → ℕ → List ℕ → List ℕ → Tree
 with_edges t op operands successors = record t { operands = slice_set t.operands op operands; successors = slice_set t.successors op successors }
 
--- a new operation with this head, these operands and these successors stands in the place of op
+-- a new operation with this head, these operands and these successors is in the place of op
 abbrev pub branch_replaced : Tree → ℕ → Head → List ℕ → List ℕ → Tree
-branch_replaced t op head operands successors = erased (put_next_to (with_edges (created t head 0 0) (next_op t) operands successors) (next_op t) op (parent_of t op)) op
+branch_replaced t op head operands successors = after_erasing (put_next_to (with_edges (after_creating t head 0 0) (next_op t) operands successors) (next_op t) op (parent_of t op)) op
 
--- the branch op stands as it was, in the same tree but for spent keys, or another one stands in its place
+-- the branch op is as it was, in the same tree but for erased handles, or another one is in its place
 pub data FoldsBranch (m : Meaning) (op : ℕ) (known : List (Option AttrObj)) (t : Tree) : Tree → Type 0 where
   Kept : {t' : Tree} → IsSameTree t t' → FoldsBranch m op known t t'
   Replaced : (o : Operation) (head : Head) (operands successors places edges : List ℕ) → op_at t op ≡ Some o → map Some operands ≡ pick places o.operands → ReplacesBranch m (shape_of m t o) o.successors successors known head places edges → FoldsBranch m op known t (branch_replaced t op head operands successors)

@@ -1,4 +1,5 @@
--- Constants that stand before an operation for some of its results, until all of them are made.
+-- Materialised constants before an operation that are to replace some of its results, until all of them are
+-- made.
 use Rattle.std.specs.Prelude.{◌≡◌, ◌+◌, ◌<◌, ◌≤◌, ℕ, Bool, List, [], ◌∷◌, ◌++◌, length, Option, Some, None, IsSome, slice_get}
 use Rattle.pliron_core.specs.declared.attrs.AttrObj.{AttrObj}
 use Rattle.pliron_core.specs.declared.attrs.IRStatus.{IRStatus}
@@ -6,8 +7,8 @@ use Rattle.pliron_core.specs.declared.attrs.IRStatus.TheVariants.{Changed, Uncha
 use Rattle.pliron_core.specs.declared.context.Def.{Def}
 use Rattle.pliron_core.specs.declared.context.RegionSlot.{RegionSlot}
 use Rattle.pliron_core.specs.Tree.{Tree, In, IsDefined, operands_of, results_of, head_of, IsLive, parent_of, slot_of, definition_of}
-use Rattle.pliron_core.specs.Joined.{IsTree}
-use Rattle.pliron_core.specs.Writes.{created, replaced, put_next_to}
+use Rattle.pliron_core.specs.Invariant.{IsTree}
+use Rattle.pliron_core.specs.Writes.{after_creating, after_replacing, put_next_to}
 use Rattle.pliron_core.specs.Changes.{IsSameTree}
 use Rattle.pliron_laws.specs.declared.stand_ins.StandIn.{StandIn}
 use Rattle.pliron_laws.specs.Datum.{Head}
@@ -17,19 +18,19 @@ use Rattle.pliron_laws.specs.Outcomes.{next_op, next_value, Materialises}
 abbrev pub stand_in : Tree → ℕ → StandIn
 stand_in t v = record { constant = next_op t; old = v; new = next_value t }
 
--- a new operation with this head and one result stands just before op
+-- a new operation with this head and one result is just before op
 abbrev pub with_constant : Tree → ℕ → Head → Tree
-with_constant t op head = put_next_to (created t head 1 0) (next_op t) op (parent_of t op)
+with_constant t op head = put_next_to (after_creating t head 1 0) (next_op t) op (parent_of t op)
 
--- these were put before op one after the other, each for a value that stands, and nothing else was changed
+-- these were put before op one after the other, each for a live value, and nothing else was changed
 pub data AreStanding (op : ℕ) (t : Tree) : List StandIn → Tree → Type 0 where
   NoneYet : AreStanding op t [] t
   Another : {made : List StandIn} {u : Tree} (v : ℕ) (head : Head) → AreStanding op t made u → IsTree u → IsSome (parent_of u op) → IsDefined u v → AreStanding op t (made ++ stand_in u v ∷ []) (with_constant u op head)
 
--- each has the uses of the value for which it stands
+-- each has the uses of the value that it replaces
 abbrev pub all_replaced : List StandIn → Tree → Tree
 all_replaced [] t = t
-all_replaced (s ∷ more) t = all_replaced more (replaced t s.old s.new)
+all_replaced (s ∷ more) t = all_replaced more (after_replacing t s.old s.new)
 
 -- whether there are any
 abbrev pub status_of : List StandIn → IRStatus
@@ -43,21 +44,21 @@ pub record AreUnused (made : List StandIn) (t : Tree) : Type 0 where
   pub numbered : (i : ℕ) (s : StandIn) → slice_get made i ≡ Some s → s.new ≡ base + i
   pub defined : (i : ℕ) (s : StandIn) → slice_get made i ≡ Some s → IsDefined t s.old × IsDefined t s.new
 
--- the tree is as before, but for spent keys, and what was known of keys is known still
+-- the tree is as before, but for erased handles, and what was known of keys is known still
 pub record IsRestored (t u : Tree) : Type 0 where
   pub same : IsSameTree t u
   pub slots : (r : ℕ) (s : RegionSlot) → slot_of t r ≡ Some s → slot_of u r ≡ Some s
   pub definitions : (v : ℕ) (d : Def) → definition_of t v ≡ Some d → definition_of u v ≡ Some d
   pub longer : length t.operations ≤ length u.operations
 
--- whether something stands that did not
-abbrev pub TellsNew : IRStatus → Tree → Tree → Type 0
-TellsNew Unchanged t u = u ≡ t
-TellsNew Changed t u = (k : ℕ) × (head_of t k ≡ None) × IsLive u k
+-- whether something is live that was not
+abbrev pub ReportsNew : IRStatus → Tree → Tree → Type 0
+ReportsNew Unchanged t u = u ≡ t
+ReportsNew Changed t u = (k : ℕ) × (head_of t k ≡ None) × IsLive u k
 
--- a constant stands before op for each result that is answered by an attribute which the dialect accepts: once they have the uses
--- of the results, op is folded
+-- a constant is before op for each result that is answered by an attribute which the dialect accepts: once they
+-- have the uses of the results, op is folded
 pub record IsStoodIn (accepts : AttrObj → Bool) (head : AttrObj → Head) (op : ℕ) (answers : List (Option AttrObj)) (t : Tree) (made : List StandIn) (u : Tree) : Type 0 where
   pub standing : AreStanding op t made u
   pub folds : Materialises accepts head op (results_of t op) answers t (all_replaced made u)
-  pub told : TellsNew (status_of made) t (all_replaced made u)
+  pub told : ReportsNew (status_of made) t (all_replaced made u)

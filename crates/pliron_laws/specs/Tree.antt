@@ -54,7 +54,7 @@ abbrev pub and_block : Tree → Option ℕ → Option Block
 and_block t None = None
 and_block t (Some b) = block_at t b
 
--- the block at which a visit of the region begins
+-- the block at which an invocation of the region begins
 abbrev pub entry_block : Tree → ℕ → Option Block
 entry_block t r = and_block t (entry_of (region_at t r))
 

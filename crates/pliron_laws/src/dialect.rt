@@ -7,25 +7,24 @@
 //! Some laws hold by type. What the answer on side effects reads is an argument of `side_effects`, the
 //! head; what the answer on removal reads are those of `removable`, the head, the region's index and
 //! whether the block is the entry. The tests read the head alone, since `ReadsHead` says so. But for
-//! `verify`, each error is want of memory.
+//! `verify`, each error is allocation failure.
 //!
-//! A tree that was well linked is so after each call, whatever it answers. Calls with a `&Context` only
-//! read. The contract of each other call names the tree that it leaves: `materialize` adds at most an
-//! admitted operation that stands nowhere and has no edges; `remove_successor_operand` leaves edges
-//! and places, and an operation that is still admitted; what the folds in place leave is made of
-//! such operations, put before others, of other operands, and of a branch put in the place of one, with
-//! successors that the old one had.
+//! A tree that was well linked is so after each call, whatever it answers. Calls with a `&Context` only read.
+//! The contract of each other call names the tree that it leaves: `materialize` adds at most an admitted
+//! operation that is in no block and has no edges; `remove_successor_operand` leaves edges and places, and an
+//! operation that is still admitted; what the folds in place leave is made of such operations, put before
+//! others, of other operands, and of a branch put in the place of one, with successors that the old one had.
 ghost use Rattle.std.specs.Prelude.{◌≡◌, ◌<◌, ◌≤◌, ℕ, Bool, List, [], Option, Some, IfOk, IfSome, OnOk, OnErr, IsTrue, IsSome, length, IsOkUnless};
 ghost use Rattle.pliron_core.specs.declared.attrs.AttrObj.{AttrObj as Attribute};
 ghost use Rattle.pliron_core.specs.declared.rewriter.OpInsertionPoint.TheVariants.{BeforeOperation};
 ghost use Rattle.std.specs.Prelude.{Result as ResultOf};
 ghost use Rattle.pliron_laws.specs.declared.fault.OptError.{OptError as FaultName};
-ghost use Rattle.pliron_core.specs.Tree.{Tree, IsLive, block_holder_of, operands_of, successors_of, parent_of};
+ghost use Rattle.pliron_core.specs.Tree.{Tree, IsLive, block_parent_operation_of, operands_of, successors_of, parent_of};
 ghost use Rattle.pliron_laws.specs.Datum.{Head, Shape, Meaning};
 ghost use Rattle.pliron_laws.specs.Folding.{Constants, Feasible, AnswersTrue, AnswersJumps, MakesConstants};
 ghost use Rattle.pliron_laws.specs.Laws.{KeepsCounts, GivesAtOnce, ForwardsOperands, ActsWithoutArgument};
 ghost use Rattle.pliron_laws.specs.StandIns.{AreStanding, IsRestored, IsStoodIn};
-ghost use Rattle.pliron_laws.specs.InPlace.{Outcome, FoldsInPlace, PassSameTests, materialising};
+ghost use Rattle.pliron_laws.specs.InPlace.{Outcome, FoldsInPlace, PassSameTests, materialising_outcome};
 ghost use Rattle.pliron_laws.specs.Answers.{ReadsHead, ReadsCounts, ReadsShape, ReadsEdges, ReadsPlace, HasEntryArgument, HeadPasses, AreForwarded, IsForwardedAt, IsForwardedOnce, HasPlace, LosesForwarded, IsMaterialised};
 ghost use Rattle.pliron_laws.specs.Entries.{EntryOperands, NamesOperands, RootsNameNone};
 ghost use Rattle.pliron_laws.specs.declared.dialect.Interface.{Interface as InterfaceName};
@@ -59,8 +58,8 @@ pub trait SideEffects {
     // the answer for a head
     ghost side_effects: { Head → Option Bool };
 
-    /// Whether the operation has side effects; `None` where it doesn't say. Reads the head alone. Asks that
-    /// the operation stands (`is_live` tests it).
+    /// Whether the operation has side effects; `None` where it doesn't say. Reads the head alone. Asks that the
+    /// operation is live (`is_live` tests it).
     fn has_side_effects(op: Ptr<Operation>, ctx: &Context) -> Option<bool>
         requires { IsLive ctx.now.tree op }
         ensures { ReadsHead side_effects ctx.now.tree op result };
@@ -68,14 +67,14 @@ pub trait SideEffects {
     // what the check may answer for an operation
     ghost verdict: { Tree → ℕ → ResultOf (Unit {0}) FaultName → Type 0 };
 
-    /// Looks for a fault in the operation. Asks that the operation stands (`is_live` tests it). Errors: the
-    /// first fault that the dialect finds, or want of memory.
+    /// Verifies the operation. Asks that the operation is live (`is_live` tests it). Errors: the first fault
+    /// that the dialect finds, or allocation failure.
     fn verify(alloc: Global, op: Ptr<Operation>, ctx: &Context) -> Result<(), OptError>
         requires { IsLive ctx.now.tree op }
         ensures { verdict ctx.now.tree op result };
 }
 
-/// Which arguments of blocks may go.
+/// Which arguments of blocks may be removed.
 pub trait BlockArgRemoval {
     // the answer for a head, the index of a region and whether the block is its entry
     ghost removable: { Head → ℕ → Bool → Option Bool };
@@ -83,21 +82,21 @@ pub trait BlockArgRemoval {
     /// Whether arguments of the block may be removed; `None` where the operation doesn't say. Reads the head,
     /// the index of the region, and whether the block is its entry.
     ///
-    /// Asks that the operation stands and that the block is directly in one of its regions.
+    /// Asks that the operation is live and that the block is directly in one of its regions.
     fn can_remove_block_args(
         op: Ptr<Operation>,
         ctx: &Context,
         block: Ptr<BasicBlock>,
     ) -> Option<bool>
         requires live { IsLive ctx.now.tree op }
-        requires block { block_holder_of ctx.now.tree block ≡ Some op }
+        requires block { block_parent_operation_of ctx.now.tree block ≡ Some op }
         ensures { ReadsPlace removable ctx.now.tree op block result };
 
     // what the check may answer for an operation
     ghost verdict: { Tree → ℕ → ResultOf (Unit {0}) FaultName → Type 0 };
 
-    /// Looks for a fault in the operation. Asks that the operation stands (`is_live` tests it). Errors: the
-    /// first fault that the dialect finds, or want of memory.
+    /// Verifies the operation. Asks that the operation is live (`is_live` tests it). Errors: the first fault
+    /// that the dialect finds, or allocation failure.
     fn verify(alloc: Global, op: Ptr<Operation>, ctx: &Context) -> Result<(), OptError>
         requires { IsLive ctx.now.tree op }
         ensures { verdict ctx.now.tree op result };
@@ -119,8 +118,7 @@ pub trait ConstFoldInterface: HasMeaning {
     // what folding in place comes to
     ghost outcome: { Outcome };
 
-    /// Whether the operation folds. Reads the head alone. Asks that the operation stands (`is_live` tests
-    /// it).
+    /// Whether the operation folds. Reads the head alone. Asks that the operation is live (`is_live` tests it).
     fn folds(op: Ptr<Operation>, ctx: &Context) -> bool
         requires { IsLive ctx.now.tree op }
         ensures { ReadsHead can_fold ctx.now.tree op result };
@@ -128,7 +126,7 @@ pub trait ConstFoldInterface: HasMeaning {
     /// The constant that each result has, where it is known, if the operands have these constants.
     /// Asks that the operation folds, and for one entry for each operand.
     ///
-    /// Errors: want of memory.
+    /// Errors: allocation failure.
     fn check_fold(
         alloc: Global,
         op: Ptr<Operation>,
@@ -141,11 +139,11 @@ pub trait ConstFoldInterface: HasMeaning {
         ensures ok { IfOk result (λ answers. ReadsShape Self.meaning (λ s. constants s operand_attrs.now) ctx.now.tree op answers.items) }
         ensures memory { IsOkUnless result OptError.Memory };
 
-    /// Folds the operation where it stands, if its operands have these constants. Asks that the
-    /// operation folds, for one entry for each operand, and for an insertion point just before it.
+    /// Folds the operation in place, if its operands have these constants. Asks that the operation folds, for
+    /// one entry for each operand, and for an insertion point just before it.
     ///
-    /// Errors: want of memory, after which the tree is one that the law on folding in place allows: as before,
-    /// but for spent keys, or after one whole fold.
+    /// Errors: allocation failure, after which the tree is one that the law on folding in place allows: as before,
+    /// but for erased handles, or after one whole fold.
     fn fold_in_place<R: Rewriter + Room>(
         alloc: Global,
         op: Ptr<Operation>,
@@ -163,13 +161,12 @@ pub trait ConstFoldInterface: HasMeaning {
         ensures memory { IsOkUnless result OptError.Memory }
         ensures longer { length ctx.old.tree.operations ≤ length ctx.new.tree.operations };
 
-    /// Folds the operation by constants: asks `check_fold` for the constants of its results, and puts,
-    /// for each that is known and that `materialize` makes, a new operation just before, in the order of
-    /// the results. When all stand, each gets all uses of its result. Most dialects fold in place by this
-    /// call.
+    /// Folds the operation by constants: asks `check_fold` for the constants of its results, and puts, for each
+    /// that is known and that `materialize` makes, a new operation just before, in the order of the results.
+    /// When all are made, each gets all uses of its result. Most dialects fold in place by this call.
     ///
-    /// Asks as `fold_in_place` does. Errors: want of memory, after which the tree is as before, but for
-    /// spent keys. Cost: that of `check_fold`, one `materialize` for each answer, and one step for each
+    /// Asks as `fold_in_place` does. Errors: allocation failure, after which the tree is as before, but for
+    /// erased handles. Cost: that of `check_fold`, one `materialize` for each answer, and one step for each
     /// use of a result.
     fn fold_with_materialization<R: Rewriter + Room>(
         alloc: Global,
@@ -183,9 +180,9 @@ pub trait ConstFoldInterface: HasMeaning {
         requires folds { HeadPasses can_fold ctx.old.tree op }
         requires entries { length operand_attrs.now ≡ length (operands_of ctx.old.tree op) }
         requires point { R.point rewriter.old ≡ BeforeOperation op }
-        ensures ok { IfOk result (λ status. materialising Self.meaning constants accepts constant_head ctx.old.tree ctx.new.tree op operand_attrs.now
+        ensures ok { IfOk result (λ status. materialising_outcome Self.meaning constants accepts constant_head ctx.old.tree ctx.new.tree op operand_attrs.now
             (Some status)) }
-        ensures refused { OnErr result (materialising Self.meaning constants accepts constant_head ctx.old.tree ctx.new.tree op operand_attrs.now Option.None) }
+        ensures refused { OnErr result (materialising_outcome Self.meaning constants accepts constant_head ctx.old.tree ctx.new.tree op operand_attrs.now Option.None) }
         ensures memory { IsOkUnless result OptError.Memory }
         ensures longer { length ctx.old.tree.operations ≤ length ctx.new.tree.operations }
         ensures point { R.point rewriter.new ≡ R.point rewriter.old }
@@ -202,11 +199,11 @@ pub trait ConstFoldInterface: HasMeaning {
         }
     }
 
-    /// The first half of `fold_with_materialization`: for each answered result for which `materialize` makes
-    /// a constant, that constant just before the operation, with no use yet.
+    /// The first half of `fold_with_materialization`: for each answered result for which `materialize` makes a
+    /// constant, puts that constant just before the operation, with no use yet.
     ///
-    /// Asks that the operation stands in a block, for an insertion point just before it, and for an empty list
-    /// of constants. Errors: want of memory, after which the list has those that stand. Cost: one
+    /// Asks that the operation is live in a block, for an insertion point just before it, and for an empty list
+    /// of constants. Errors: allocation failure, after which the list has those that were made. Cost: one
     /// `materialize` for each answer.
     fn make_stand_ins<R: Rewriter + Room>(
         alloc: Global,
@@ -241,10 +238,10 @@ pub trait ConstFoldInterface: HasMeaning {
         Ok(())
     }
 
-    /// A new operation that makes this constant, which stands in no block; `None`, with nothing made,
-    /// where the dialect has none for it.
+    /// A new operation that makes this constant, in no block; `None`, with nothing made, where the dialect has
+    /// none for it.
     ///
-    /// Errors: want of memory, with nothing made.
+    /// Errors: allocation failure, with nothing made.
     fn materialize(
         alloc: Global,
         attr: &AttrObj,
@@ -257,8 +254,8 @@ pub trait ConstFoldInterface: HasMeaning {
     // what the check may answer for an operation
     ghost verdict: { Tree → ℕ → ResultOf (Unit {0}) FaultName → Type 0 };
 
-    /// Looks for a fault in the operation. Asks that the operation stands (`is_live` tests it). Errors: the
-    /// first fault that the dialect finds, or want of memory.
+    /// Verifies the operation. Asks that the operation is live (`is_live` tests it). Errors: the first fault
+    /// that the dialect finds, or allocation failure.
     fn verify(alloc: Global, op: Ptr<Operation>, ctx: &Context) -> Result<(), OptError>
         requires { IsLive ctx.now.tree op }
         ensures { verdict ctx.now.tree op result };
@@ -275,7 +272,7 @@ pub trait BranchOpFoldInterface: HasMeaning {
     // what folding in place comes to
     ghost outcome: { Outcome };
 
-    /// Whether the operation folds as a branch. Reads the head alone. Asks that the operation stands
+    /// Whether the operation folds as a branch. Reads the head alone. Asks that the operation is live
     /// (`is_live` tests it).
     fn folds_branch(op: Ptr<Operation>, ctx: &Context) -> bool
         requires { IsLive ctx.now.tree op }
@@ -284,7 +281,7 @@ pub trait BranchOpFoldInterface: HasMeaning {
     /// The blocks that the branch may go to, if its operands have these constants. Asks that the
     /// operation folds as a branch, and for one entry for each operand.
     ///
-    /// Errors: want of memory.
+    /// Errors: allocation failure.
     fn check_fold(
         alloc: Global,
         op: Ptr<Operation>,
@@ -297,11 +294,11 @@ pub trait BranchOpFoldInterface: HasMeaning {
         ensures ok { IfOk result (λ blocks. ReadsEdges Self.meaning (λ s targets. feasible s targets operand_attrs.now) ctx.now.tree op blocks.items) }
         ensures memory { IsOkUnless result OptError.Memory };
 
-    /// Folds the branch where it stands, if its operands have these constants. Asks that the operation
-    /// folds as a branch, for one entry for each operand, and for an insertion point just before it.
+    /// Folds the branch in place, if its operands have these constants. Asks that the operation folds as a
+    /// branch, for one entry for each operand, and for an insertion point just before it.
     ///
-    /// Errors: want of memory, after which the tree is one that the law on folding in place allows: as before,
-    /// but for spent keys, or after one whole fold.
+    /// Errors: allocation failure, after which the tree is one that the law on folding in place allows: as before,
+    /// but for erased handles, or after one whole fold.
     fn fold_in_place<R: Rewriter + Room>(
         alloc: Global,
         op: Ptr<Operation>,
@@ -322,23 +319,24 @@ pub trait BranchOpFoldInterface: HasMeaning {
     // what the check may answer for an operation
     ghost verdict: { Tree → ℕ → ResultOf (Unit {0}) FaultName → Type 0 };
 
-    /// Looks for a fault in the operation. Asks that the operation stands (`is_live` tests it). Errors: the
-    /// first fault that the dialect finds, or want of memory.
+    /// Verifies the operation. Asks that the operation is live (`is_live` tests it). Errors: the first fault
+    /// that the dialect finds, or allocation failure.
     fn verify(alloc: Global, op: Ptr<Operation>, ctx: &Context) -> Result<(), OptError>
         requires { IsLive ctx.now.tree op }
         ensures { verdict ctx.now.tree op result };
 }
 
-/// Operations that name, for arguments of the entries of their regions, the operands that every visit passes
-/// there, as structured loops and branches do.
+/// Operations that name, for arguments of the entries of their regions, the operands that every invocation
+/// passes there, as structured loops and branches do.
 pub trait RegionBranchOpInterface: HasMeaning {
     // the operand for a region's index and an argument's, where one is named
     ghost entry_operands: { EntryOperands };
 
-    /// The operand, by its index, that every visit of the region passes as this argument of its entry; `None`
-    /// says nothing. Reads the counts and the head of the operation, and the two indices. Takes no memory.
+    /// The operand, by its index, that every invocation of the region passes as this argument of its entry;
+    /// `None` says nothing. Reads the counts and the head of the operation, and the two indices. Takes no
+    /// memory.
     ///
-    /// Asks that the operation stands (`is_live` tests it) and has the region, and that the region's entry has
+    /// Asks that the operation is live (`is_live` tests it) and has the region, and that the region's entry has
     /// the argument.
     fn entry_operand(op: Ptr<Operation>, ctx: &Context, region: usize, arg: usize) -> Option<usize>
         requires live { IsLive ctx.now.tree op }
@@ -348,8 +346,8 @@ pub trait RegionBranchOpInterface: HasMeaning {
     // what the check may answer for an operation
     ghost verdict: { Tree → ℕ → ResultOf (Unit {0}) FaultName → Type 0 };
 
-    /// Looks for a fault in the operation. Asks that the operation stands (`is_live` tests it). Errors: the
-    /// first fault that the dialect finds, or want of memory.
+    /// Verifies the operation. Asks that the operation is live (`is_live` tests it). Errors: the first fault
+    /// that the dialect finds, or allocation failure.
     fn verify(alloc: Global, op: Ptr<Operation>, ctx: &Context) -> Result<(), OptError>
         requires { IsLive ctx.now.tree op }
         ensures { verdict ctx.now.tree op result };
@@ -361,7 +359,7 @@ pub trait Dialect: SideEffects
     + ConstFoldInterface
     + BranchOpFoldInterface
     + RegionBranchOpInterface {
-    /// What tells its operations apart.
+    /// The kinds (opcodes) of its operations.
     type Kind: Copy + Eq;
 
     // whether an operation with this head is of the kind, and whether it implements the interface
@@ -372,38 +370,39 @@ pub trait Dialect: SideEffects
     // the head of a branch that lost the operand at this place of this edge
     ghost shortened: { Shape → ℕ → ℕ → Head };
 
-    /// Whether the operation is of this kind. Reads the head alone. Asks that the operation stands (`is_live`
+    /// Whether the operation is of this kind. Reads the head alone. Asks that the operation is live (`is_live`
     /// tests it).
     fn is_kind(op: Ptr<Operation>, ctx: &Context, kind: Self::Kind) -> bool
         requires { IsLive ctx.now.tree op }
         ensures { ReadsHead (λ h. is_of_kind h kind) ctx.now.tree op result };
 
-    /// Whether the operation implements the interface. Reads the head alone. Asks that the operation stands
+    /// Whether the operation implements the interface. Reads the head alone. Asks that the operation is live
     /// (`is_live` tests it).
     fn implements(op: Ptr<Operation>, ctx: &Context, interface: Interface) -> bool
         requires { IsLive ctx.now.tree op }
         ensures { ReadsHead (λ h. has_interface h interface) ctx.now.tree op result };
 
-    /// Whether the dialect has operations with this head and these counts. Asks that the operation stands
+    /// Whether the dialect has operations with this head and these counts. Asks that the operation is live
     /// (`is_live` tests it).
     fn admits(op: Ptr<Operation>, ctx: &Context) -> bool
         requires { IsLive ctx.now.tree op }
         ensures { ReadsCounts Self.meaning.admits ctx.now.tree op result };
 
-    /// Whether the operation ends a block. Reads the head alone. Asks that the operation stands (`is_live`
+    /// Whether the operation ends a block. Reads the head alone. Asks that the operation is live (`is_live`
     /// tests it).
     fn is_terminator(op: Ptr<Operation>, ctx: &Context) -> bool
         requires { IsLive ctx.now.tree op }
         ensures { ReadsHead Self.meaning.is_terminator ctx.now.tree op result };
 
-    /// Whether runs may begin at the operation: for such roots alone runs are promised. So it is of each that
-    /// does not implement `RegionBranch`: the regions of one that does may be rewritten by what its place
-    /// passes, and run by itself it may be handed anything. Reads the head alone. Asks that the operation stands (`is_live` tests it).
+    /// Whether runs may begin at the operation: for such roots alone runs are promised. This holds of each that
+    /// does not implement `RegionBranch`: the regions of one that does may be rewritten by the operands of this
+    /// one operation, and run by itself it may be given anything. Reads the head alone. Asks that the operation
+    /// is live (`is_live` tests it).
     fn may_be_root(op: Ptr<Operation>, ctx: &Context) -> bool
         requires { IsLive ctx.now.tree op }
         ensures { ReadsHead Self.meaning.may_be_root ctx.now.tree op result };
 
-    /// Whether the operation is a branch. Reads the head alone. Asks that the operation stands (`is_live`
+    /// Whether the operation is a branch. Reads the head alone. Asks that the operation is live (`is_live`
     /// tests it).
     fn is_branch(op: Ptr<Operation>, ctx: &Context) -> bool
         requires { IsLive ctx.now.tree op }
@@ -411,7 +410,7 @@ pub trait Dialect: SideEffects
 
     /// The operands that the branch forwards along its edge `i`. Asks that it is a branch with such an edge.
     ///
-    /// Errors: want of memory.
+    /// Errors: allocation failure.
     fn successor_operands(
         alloc: Global,
         op: Ptr<Operation>,
@@ -427,8 +426,8 @@ pub trait Dialect: SideEffects
     /// The operand that the branch forwards at place `j` of its edge `i`; `None` where the edge has no
     /// such place. Asks that it is a branch with such an edge.
     ///
-    /// Errors: want of memory. Cost: that of `successor_operands`, which this body asks; a dialect that
-    /// can tell in one step writes its own.
+    /// Errors: allocation failure. Cost: that of `successor_operands`, which this body asks; a dialect that
+    /// knows it in one step writes its own.
     fn successor_operand(
         alloc: Global,
         op: Ptr<Operation>,
@@ -449,7 +448,7 @@ pub trait Dialect: SideEffects
     /// Where the branch forwards its operand at this place: the edge, and the place there. `None` says
     /// nothing. Asks that it is a branch.
     ///
-    /// Cost: constant. This body answers `None`; a dialect that can tell in one step writes its own.
+    /// Cost: constant. This body answers `None`; a dialect that knows it in one step writes its own.
     fn forwarded_from(_op: Ptr<Operation>, _ctx: &Context, _place: usize) -> Option<(usize, usize)>
         requires live { IsLive _ctx.now.tree _op }
         requires branch { HeadPasses Self.meaning.is_branch _ctx.now.tree _op }
@@ -458,7 +457,7 @@ pub trait Dialect: SideEffects
         None
     }
 
-    /// Takes out the operand that the branch forwards at place `j` of its edge `i`, and answers it.
+    /// Removes the operand that the branch forwards at place `j` of its edge `i`, and answers it.
     /// Asks that it is a branch with such an edge and place. Takes no memory.
     fn remove_successor_operand(op: Ptr<Operation>, ctx: &mut Context, i: usize, j: usize) -> Value
         requires live { IsLive ctx.old.tree op }
@@ -468,7 +467,7 @@ pub trait Dialect: SideEffects
         ensures lost { LosesForwarded Self.meaning shortened ctx.old.tree ctx.new.tree op i j result }
         ensures block_uses { ctx.new.block_uses ≡ ctx.old.block_uses };
 
-    // What has successors is a terminator, and moves pass as many values as there are places for.
+    // What has successors is a terminator, and transitions pass as many values as there are places for.
     ghost keeps_counts: { KeepsCounts Self.meaning };
 
     // What has no side effects gives its results at once.
@@ -478,7 +477,8 @@ pub trait Dialect: SideEffects
     ghost forwards_operands: { ForwardsOperands Self.meaning Self.can_fold
         (PassSameTests Self.meaning Self.can_fold Self.can_fold_branch is_of_kind has_interface) shortened };
 
-    // Where an argument of an entry block may be removed, visits lose a value and nothing else changes.
+    // Where an argument of an entry block may be removed, invocations of its region lose a value and nothing
+    // else changes.
     ghost acts_without_argument: { ActsWithoutArgument Self.meaning Self.removable };
 
     // Each constant that folding answers is what the operation gives.
@@ -487,15 +487,15 @@ pub trait Dialect: SideEffects
     // A branch goes to one of the blocks that folding answers.
     ghost answers_jumps: { AnswersJumps Self.meaning Self.can_fold_branch Self.feasible };
 
-    // Folding in place puts constants for results, or another branch in the place of one, or nothing; so it
-    // does where memory is refused, and what was begun is whole.
+    // Folding in place puts constants for results, or another branch in the place of one, or nothing; so too on
+    // allocation failure, where what was begun is whole.
     ghost folds_in_place: { FoldsInPlace Self.meaning Self.constants Self.accepts Self.constant_head Self.ConstFoldInterface.outcome
         Self.BranchOpFoldInterface.outcome };
 
     // What is made for an attribute is a constant that gives its datum.
     ghost makes_constants: { MakesConstants Self.meaning Self.accepts Self.constant_head };
 
-    // Each visit of a region passes the operands that are named for the arguments of its entry.
+    // Each invocation of a region passes the operands that are named for the arguments of its entry.
     ghost names_operands: { NamesOperands Self.meaning Self.entry_operands (λ h. has_interface h RegionBranch) };
 
     // Runs may begin at each operation that names no operands, and at no other.

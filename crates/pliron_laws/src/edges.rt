@@ -1,4 +1,4 @@
-//! Whether edges stand last.
+//! Whether edges are last in their blocks.
 ghost use Rattle.std.specs.Prelude.{◌≡◌, ◌≢◌, ◌↔◌, IsTrue, Some, None};
 ghost use Rattle.pliron_core.specs.Tree.{IsLive, IsBlock, IsRegion, body_of, block_parent_of, last_of};
 ghost use Rattle.pliron_laws.specs.Linked.{EdgesLast};
@@ -6,7 +6,7 @@ ghost use Rattle.pliron_laws.specs.EdgeChecks.{HasOwnSuccessors, HasOwnUsers, Re
 
 use pliron_core::{BasicBlock, Context, Operation, Ptr, Region};
 
-/// The region of the block. Asks that the block stands (`is_live` tests it). Cost: constant.
+/// The region of the block. Asks that the block is live (`is_live` tests it). Cost: constant.
 pub fn region_of(ctx: &Context, block: Ptr<BasicBlock>) -> Ptr<Region>
     requires { IsBlock ctx.now.tree block }
     ensures { block_parent_of ctx.now.tree block ≡ Some result }
@@ -17,7 +17,7 @@ pub fn region_of(ctx: &Context, block: Ptr<BasicBlock>) -> Ptr<Region>
     }
 }
 
-/// Whether the operation stands directly in the region. Asks that the operation stands (`is_live` tests it).
+/// Whether the operation is directly in the region. Asks that the operation is live (`is_live` tests it).
 /// Cost: constant.
 pub fn is_directly_in(ctx: &Context, op: Ptr<Operation>, region: Ptr<Region>) -> bool
     requires { IsLive ctx.now.tree op }
@@ -44,7 +44,7 @@ fn has_own_successors(ctx: &Context, op: Ptr<Operation>, block: Ptr<BasicBlock>)
     true
 }
 
-/// Whether the operation is the last of the block. Asks that the block stands (`is_live` tests it). Cost:
+/// Whether the operation is the last of the block. Asks that the block is live (`is_live` tests it). Cost:
 /// constant.
 pub fn is_last(ctx: &Context, op: Ptr<Operation>, block: Ptr<BasicBlock>) -> bool
     requires { IsBlock ctx.now.tree block }
@@ -57,7 +57,7 @@ pub fn is_last(ctx: &Context, op: Ptr<Operation>, block: Ptr<BasicBlock>) -> boo
 }
 
 /// Whether the operation, if it has successors, is the last of its block and has only blocks of its own region
-/// as successors. Asks that the operation stands (`is_live` tests it). Cost: linear in its successors.
+/// as successors. Asks that the operation is live (`is_live` tests it). Cost: linear in its successors.
 pub fn ends_block(ctx: &Context, op: Ptr<Operation>) -> bool
     requires { IsLive ctx.now.tree op }
     ensures { IsTrue result ↔ EndsBlockIf ctx.now.tree op }
@@ -71,7 +71,7 @@ pub fn ends_block(ctx: &Context, op: Ptr<Operation>) -> bool
     }
 }
 
-// Whether all operations that have the block as successor stand in its region.
+// Whether all operations that have the block as successor are in its region.
 fn has_own_users(ctx: &Context, block: Ptr<BasicBlock>) -> bool
     requires { IsBlock ctx.now.tree block }
     ensures { IsTrue result ↔ HasOwnUsers ctx.now.tree block }
@@ -116,8 +116,8 @@ fn op_has_own_users(ctx: &Context, op: Ptr<Operation>) -> bool
     true
 }
 
-// Whether the operation, unless it is the root, ends its block if it has successors, and its own blocks
-// are successors of operations beside them alone.
+// Whether the operation, unless it is the root, ends its block if it has successors, and its own blocks are
+// successors only of operations in the same region.
 fn has_lawful_edges(ctx: &Context, root: Ptr<Operation>, op: Ptr<Operation>) -> bool
     requires { IsLive ctx.now.tree op }
     ensures { IsTrue result ↔ HasLawfulEdges ctx.now.tree root op }
@@ -128,11 +128,11 @@ fn has_lawful_edges(ctx: &Context, root: Ptr<Operation>, op: Ptr<Operation>) -> 
     op_has_own_users(ctx, op)
 }
 
-/// Whether each operation that stands inside `root` and has successors, or has a block inside `root`
-/// as successor, is the last of its block and has only blocks of its own region as successors.
+/// Whether each operation that is inside `root` and has successors, or has a block inside `root` as successor,
+/// is the last of its block and has only blocks of its own region as successors.
 ///
-/// Asks that `root` stands. Takes no memory. Cost: one step for each operation, block, region and
-/// successor inside `root`, and for each use of such a block.
+/// Asks that `root` is live. Takes no memory. Cost: one step for each operation, block, region and successor
+/// inside `root`, and for each use of such a block.
 pub fn edges_last(root: Ptr<Operation>, ctx: &Context) -> bool
     requires { IsLive ctx.now.tree root }
     ensures { IsTrue result ↔ EdgesLast ctx.now.tree root }

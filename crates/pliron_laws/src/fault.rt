@@ -9,16 +9,16 @@ use thiserror::Error;
 /// Why a call gave up.
 #[derive(Clone, Copy, Debug, Drop, PartialEq, Eq, Error)]
 pub enum OptError {
-    /// A growth was refused.
+    /// Allocation failure.
     #[error("want of memory")]
     Memory,
     /// An operation outside a region's unreachable blocks uses a value that is defined in them.
     #[error("a value of an unreachable block is used")]
     LiveUse,
-    /// Verifying found a fault before a pass.
+    /// Verification failed before a pass.
     #[error("verification failed before the pass")]
     VerifyBefore,
-    /// Verifying found a fault after a pass.
+    /// Verification failed after a pass.
     #[error("verification failed after the pass")]
     VerifyAfter,
     /// A caller's pass, analysis or dialect answered this code.
@@ -26,7 +26,7 @@ pub enum OptError {
     Pass(u32),
 }
 
-/// A change of the tree that was refused is want of memory.
+/// A change of the tree that was refused memory is allocation failure.
 impl From<NoMemory> for OptError {
     ghost from_gives = { λ _ e. e ≡ Memory };
 
@@ -35,7 +35,7 @@ impl From<NoMemory> for OptError {
     }
 }
 
-/// A refused allocation is want of memory.
+/// A refused allocation is allocation failure.
 impl From<AllocError> for OptError {
     ghost from_gives = { λ _ e. e ≡ Memory };
 
@@ -44,7 +44,7 @@ impl From<AllocError> for OptError {
     }
 }
 
-/// A refused growth of a collection is want of memory, and the value that was not stored is let go.
+/// A refused growth of a collection is allocation failure, and the value that was not stored is dropped.
 impl<T: Drop> From<AllocFailed<T>> for OptError {
     ghost from_gives = { λ _ e. e ≡ Memory };
 

@@ -1,5 +1,5 @@
-//! What a program means, and what a dialect owes: the faults, the traits of a dialect with the laws that
-//! stand there as members, and the first calls that need no more than these.
+//! What a program means, and what a dialect owes: the errors, the traits of a dialect with their laws as
+//! members, and the first calls that need no more than these.
 //!
 //! Of rewrites that keep every run, of any dialect but the one at hand, and of texts it knows nothing.
 //! `docs/DIALECTS.md` says how a dialect is written.

@@ -1,4 +1,4 @@
-//! Whether a tree is well linked at an operation.
+//! Whether a tree is well linked at an operation: structurally valid there.
 ghost use Rattle.std.specs.Prelude.{◌↔◌, IsTrue};
 ghost use Rattle.pliron_core.specs.Tree.{IsLive};
 ghost use Rattle.pliron_laws.specs.Linked.{IsAdmitted, AllAdmitted, IsWellLinked};
@@ -7,7 +7,7 @@ use crate::dialect::Dialect;
 use crate::edges::edges_last;
 use pliron_core::{Context, Operation, Ptr};
 
-/// Whether the dialect admits the operation, by its head and counts. Asks that the operation stands (`is_live`
+/// Whether the dialect admits the operation, by its head and counts. Asks that the operation is live (`is_live`
 /// tests it). Cost: that of `admits`.
 pub fn is_admitted<D: Dialect>(op: Ptr<Operation>, ctx: &Context) -> bool
     requires { IsLive ctx.now.tree op }
@@ -16,7 +16,7 @@ pub fn is_admitted<D: Dialect>(op: Ptr<Operation>, ctx: &Context) -> bool
     D::admits(op, ctx)
 }
 
-// Whether the dialect admits the operation and all that stand inside it.
+// Whether the dialect admits the operation and all that are inside it.
 fn all_admitted<D: Dialect>(root: Ptr<Operation>, ctx: &Context) -> bool
     requires { IsLive ctx.now.tree root }
     ensures { IsTrue result ↔ AllAdmitted D.meaning ctx.now.tree root }
@@ -32,11 +32,11 @@ fn all_admitted<D: Dialect>(root: Ptr<Operation>, ctx: &Context) -> bool
     true
 }
 
-/// Whether the tree is well linked at `root`: edges inside it stand last, and the dialect admits it and
-/// all operations inside it. The calls of passes ask for this.
+/// Whether the tree is well linked at `root`: edges inside it are last in their blocks, and the dialect admits
+/// it and all operations inside it. The calls of passes ask for this.
 ///
-/// Asks that `root` stands. Takes no memory. Cost: that of `edges_last`, and one call of `admits` for
-/// `root` and each operation inside it.
+/// Asks that `root` is live. Takes no memory. Cost: that of `edges_last`, and one call of `admits` for `root`
+/// and each operation inside it.
 pub fn is_well_linked<D: Dialect>(root: Ptr<Operation>, ctx: &Context) -> bool
     requires { IsLive ctx.now.tree root }
     ensures { IsTrue result ↔ IsWellLinked D.meaning ctx.now.tree root }

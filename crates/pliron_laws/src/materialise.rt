@@ -1,17 +1,17 @@
-//! Putting a constant for a value.
+//! Replacing a value by a materialised constant.
 ghost use Rattle.std.specs.Prelude.{◌≡◌, ◌≤◌, ℕ, None, OnOk, OnErr, length};
 ghost use Rattle.pliron_core.specs.declared.attrs.Head.{Head};
 ghost use Rattle.pliron_core.specs.Tree.{Tree, In, IsDefined, operands_of};
-ghost use Rattle.pliron_core.specs.Joined.{IsTree};
-ghost use Rattle.pliron_core.specs.Writes.{replaced};
-ghost use Rattle.pliron_core.specs.Erased.{erased};
-ghost use Rattle.pliron_core.specs.Insertion.{IsPointFor, inserted};
+ghost use Rattle.pliron_core.specs.Invariant.{IsTree};
+ghost use Rattle.pliron_core.specs.Writes.{after_replacing};
+ghost use Rattle.pliron_core.specs.Erased.{after_erasing};
+ghost use Rattle.pliron_core.specs.Insertion.{IsPointFor, after_inserting};
 ghost use Rattle.pliron_core.specs.Changes.{IsSameTree};
 ghost use Rattle.pliron_laws.specs.Outcomes.{IsMadeConstant, IsFreshConstant, materialised_at};
 
 use pliron_core::{Context, NoMemory, Operation, Ptr, Rewriter, Value};
 
-// The new operation goes where the rewriter inserts. Where that is refused it is erased again.
+// The new operation is inserted at the rewriter's insertion point. Where that is refused it is erased again.
 pub(crate) fn insert_or_erase<R: Rewriter>(
     ctx: &mut Context,
     constant: Ptr<Operation>,
@@ -19,8 +19,8 @@ pub(crate) fn insert_or_erase<R: Rewriter>(
 ) -> Result<(), NoMemory>
     requires fresh { (t : Tree) × (head : Head) × IsMadeConstant t ctx.old.tree constant head }
     requires point { IsPointFor ctx.old.tree (R.point rewriter.old) constant }
-    ensures ok { OnOk result (ctx.new.tree ≡ inserted ctx.old.tree (R.point rewriter.old) constant) }
-    ensures err { OnErr result (ctx.new.tree ≡ erased ctx.old.tree constant) }
+    ensures ok { OnOk result (ctx.new.tree ≡ after_inserting ctx.old.tree (R.point rewriter.old) constant) }
+    ensures err { OnErr result (ctx.new.tree ≡ after_erasing ctx.old.tree constant) }
     ensures point { R.point rewriter.new ≡ R.point rewriter.old }
 {
     ctx.well_formed();
@@ -36,7 +36,7 @@ pub(crate) fn hand_over<R: Rewriter>(ctx: &mut Context, old: Value, new: Value, 
     requires old { IsDefined ctx.old.tree old }
     requires new { IsDefined ctx.old.tree new }
     requires unused { (k : ℕ) → In new (operands_of ctx.old.tree k) → ⊥ }
-    ensures replaced { ctx.new.tree ≡ replaced ctx.old.tree old new }
+    ensures replaced { ctx.new.tree ≡ after_replacing ctx.old.tree old new }
     ensures point { R.point rewriter.new ≡ R.point rewriter.old }
 {
     ctx.well_formed();
@@ -46,11 +46,12 @@ pub(crate) fn hand_over<R: Rewriter>(ctx: &mut Context, old: Value, new: Value, 
     }
 }
 
-/// The new operation goes where the rewriter inserts, and its result gets the uses of the value.
+/// The new operation is inserted at the rewriter's insertion point, and its result gets the uses of the value.
 ///
 /// Asks that the operation was just made, in no block, with one result, and that the rewriter may insert it.
-/// Errors: want of memory, after which the operation is erased again, so that the value is rewritten wholly
-/// or not at all. Cost: the number of uses of the value, amortised, and what the rewriter's listener costs.
+/// Errors: allocation failure, after which the operation is erased again, so that the value is replaced at all
+/// its uses or at none. Cost: the number of uses of the value, amortised, and what the rewriter's listener
+/// costs.
 pub fn put_constant<R: Rewriter>(
     ctx: &mut Context,
     constant: Ptr<Operation>,
@@ -61,7 +62,7 @@ pub fn put_constant<R: Rewriter>(
     requires point { IsPointFor ctx.old.tree (R.point rewriter.old) constant }
     ensures ok { OnOk result ((t : Tree) (head : Head) → IsFreshConstant t ctx.old.tree constant old head → ctx.new.tree ≡
         materialised_at t (R.point rewriter.old) old head) }
-    ensures tree { OnOk result (IsTree (inserted ctx.old.tree (R.point rewriter.old) constant)) }
+    ensures tree { OnOk result (IsTree (after_inserting ctx.old.tree (R.point rewriter.old) constant)) }
     ensures err { OnErr result ((t : Tree) (head : Head) → IsFreshConstant t ctx.old.tree constant old head → IsSameTree t ctx.new.tree) }
     ensures longer { length ctx.old.tree.operations ≤ length ctx.new.tree.operations }
     ensures point { R.point rewriter.new ≡ R.point rewriter.old }

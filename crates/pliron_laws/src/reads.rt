@@ -6,8 +6,8 @@ ghost use Rattle.pliron_core.specs.Tree.{IsLive, IsBlock, IsRegion, operands_of,
 use pliron_core::{BasicBlock, Context, Operation, Ptr, Region, Value};
 use std::alloc::{AllocError, Global};
 
-/// The operands of the operation, in order. Asks that the operation stands (`is_live` tests it). Errors: want
-/// of memory. Cost: linear in them.
+/// The operands of the operation, in order. Asks that the operation is live (`is_live` tests it). Errors:
+/// allocation failure. Cost: linear in them.
 pub fn all_operands(
     alloc: Global,
     op: Ptr<Operation>,
@@ -23,8 +23,8 @@ pub fn all_operands(
     Ok(values)
 }
 
-/// The results of the operation, in order. Asks that the operation stands (`is_live` tests it). Errors: want
-/// of memory. Cost: linear in them.
+/// The results of the operation, in order. Asks that the operation is live (`is_live` tests it). Errors:
+/// allocation failure. Cost: linear in them.
 pub fn all_results(
     alloc: Global,
     op: Ptr<Operation>,
@@ -40,8 +40,8 @@ pub fn all_results(
     Ok(values)
 }
 
-/// The arguments of the block, in order. Asks that the block stands (`is_live` tests it). Errors: want of
-/// memory. Cost: linear in them.
+/// The arguments of the block, in order. Asks that the block is live (`is_live` tests it). Errors: allocation
+/// failure. Cost: linear in them.
 pub fn all_arguments(
     alloc: Global,
     block: Ptr<BasicBlock>,
@@ -57,8 +57,8 @@ pub fn all_arguments(
     Ok(values)
 }
 
-/// The operations of the block, in order. Asks that the block stands (`is_live` tests it). Errors: want of
-/// memory. Cost: linear in them.
+/// The operations of the block, in order. Asks that the block is live (`is_live` tests it). Errors: allocation
+/// failure. Cost: linear in them.
 pub fn all_operations(
     alloc: Global,
     block: Ptr<BasicBlock>,
@@ -77,8 +77,8 @@ pub fn all_operations(
     Ok(operations)
 }
 
-/// Adds the blocks of the region, in order. Asks that the region stands (`is_live` tests it). Errors: want of
-/// memory. Cost: linear in them.
+/// Adds the blocks of the region, in order. Asks that the region is live (`is_live` tests it). Errors:
+/// allocation failure. Cost: linear in them.
 pub fn push_layout(
     region: Ptr<Region>,
     ctx: &Context,
@@ -96,8 +96,8 @@ pub fn push_layout(
     Ok(())
 }
 
-/// Adds the blocks of the operation's regions, in order. Asks that the operation stands (`is_live` tests it).
-/// Errors: want of memory. Cost: linear in them.
+/// Adds the blocks of the operation's regions, in order. Asks that the operation is live (`is_live` tests it).
+/// Errors: allocation failure. Cost: linear in them.
 pub fn push_layouts(
     op: Ptr<Operation>,
     ctx: &Context,

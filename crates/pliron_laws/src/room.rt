@@ -1,4 +1,4 @@
-//! Room for changes of a tree.
+//! Memory reserved for changes of a tree.
 ghost use Rattle.std.specs.Prelude.{◌≡◌, IsOkUnless};
 
 use crate::fault::OptError;
@@ -10,7 +10,7 @@ pub trait Room: Rewriter {
     /// After `Ok` the next `n` changes through this rewriter take no memory in a listener. The
     /// insertion point stays.
     ///
-    /// Errors: want of memory.
+    /// Errors: allocation failure.
     fn room(&mut self, alloc: Global, n: usize) -> Result<(), OptError>
         ensures point { Self.point self.new ≡ Self.point self.old }
         ensures memory { IsOkUnless result OptError.Memory };

@@ -1,11 +1,11 @@
-//! Constants that stand before an operation for some of its results.
+//! Materialised constants, put before an operation, that are to replace some of its results.
 //!
 //! All are made before the first gets the uses of its result: until then they can be erased again, and from
 //! then on nothing takes memory.
 ghost use Rattle.std.specs.Prelude.{◌≡◌, ◌++◌, ◌∷◌, ◌<◌, ℕ, [], OnOk, OnErr, IsOkUnless, vec_len, vec_capacity};
 ghost use Rattle.pliron_core.specs.Tree.{Tree};
-ghost use Rattle.pliron_core.specs.Insertion.{IsPointFor, inserted};
-ghost use Rattle.pliron_core.specs.Erased.{erased};
+ghost use Rattle.pliron_core.specs.Insertion.{IsPointFor, after_inserting};
+ghost use Rattle.pliron_core.specs.Erased.{after_erasing};
 ghost use Rattle.pliron_laws.specs.Datum.{Head};
 ghost use Rattle.pliron_laws.specs.Outcomes.{IsMadeConstant};
 ghost use Rattle.pliron_laws.specs.StandIns.{AreStanding, AreUnused, IsRestored, all_replaced, stand_in as stand_in_for, status_of};
@@ -16,7 +16,8 @@ use crate::room::Room;
 use pliron_core::{Context, IRStatus, NoMemory, Operation, Ptr, Rewriter, Value};
 use std::alloc::Global;
 
-/// A constant that stands before an operation for one of its results, with that result and its own.
+/// A materialised constant before an operation that is to replace one of its results, with that result and its
+/// own.
 #[derive(Clone, Copy)]
 pub struct StandIn {
     constant: Ptr<Operation>,
@@ -40,8 +41,8 @@ pub(crate) fn take_room<R: Rewriter + Room>(
     rewriter.room(alloc, made.len().saturating_add(2))
 }
 
-// The new operation goes where the rewriter inserts, and stands for the value. Where that is refused it is
-// erased again.
+// The new operation is inserted at the rewriter's insertion point, and is to replace the value. Where that is
+// refused it is erased again.
 pub(crate) fn stand_in<R: Rewriter>(
     ctx: &mut Context,
     constant: Ptr<Operation>,
@@ -52,10 +53,10 @@ pub(crate) fn stand_in<R: Rewriter>(
     requires fresh { (t : Tree) × (head : Head) × IsMadeConstant t ctx.old.tree constant head }
     requires point { IsPointFor ctx.old.tree (R.point rewriter.old) constant }
     requires room { vec_len made.old < vec_capacity made.old }
-    ensures ok { OnOk result (ctx.new.tree ≡ inserted ctx.old.tree (R.point rewriter.old) constant) }
+    ensures ok { OnOk result (ctx.new.tree ≡ after_inserting ctx.old.tree (R.point rewriter.old) constant) }
     ensures made { OnOk result ((t : Tree) (head : Head) → IsMadeConstant t ctx.old.tree constant head → made.new.items ≡ made.old.items ++
         stand_in_for t old ∷ []) }
-    ensures err { OnErr result (ctx.new.tree ≡ erased ctx.old.tree constant) }
+    ensures err { OnErr result (ctx.new.tree ≡ after_erasing ctx.old.tree constant) }
     ensures kept { OnErr result (made.new.items ≡ made.old.items) }
     ensures point { R.point rewriter.new ≡ R.point rewriter.old }
 {
@@ -66,8 +67,7 @@ pub(crate) fn stand_in<R: Rewriter>(
     Ok(())
 }
 
-// Each constant gets the uses of the result for which it stands. Answers whether there are any. Takes no
-// memory.
+// Each constant gets the uses of the result that it replaces. Answers whether there are any. Takes no memory.
 pub(crate) fn hand_over_all<R: Rewriter>(
     ctx: &mut Context,
     made: &[StandIn],
@@ -86,7 +86,7 @@ pub(crate) fn hand_over_all<R: Rewriter>(
     status
 }
 
-// The constants go again, the last one first. Takes no memory.
+// The constants are erased again, the last one first. Takes no memory.
 pub(crate) fn erase_all<R: Rewriter>(ctx: &mut Context, mut made: Vec<StandIn>, rewriter: &mut R)
     requires { (op : ℕ) × (t : Tree) × (u : Tree) × AreStanding op t made.items u × IsRestored u ctx.old.tree }
     ensures restored { (op : ℕ) (t u : Tree) → AreStanding op t made.items u → IsRestored u ctx.old.tree → IsRestored t ctx.new.tree }

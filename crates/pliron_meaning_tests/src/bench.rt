@@ -1,12 +1,14 @@
 //! What the dialect `Bench` answers, on texts of its notation and asked through the traits, and what
 //! folding constants in place leaves: by values worked out by hand.
-use pliron_cases::answers::{effects, interfaces, removable};
-use pliron_cases::cases::{all_known, fields, known, line, number, operation_at, read, sides};
-use pliron_cases::listener::Counting;
-use pliron_cases::trees::build;
 use pliron_core::{AttrObj, Context, IRStatus, Operation, Ptr, Rewriter};
 use pliron_meaning::bench::{Bench, BenchKind};
 use pliron_meaning::{BlockArgRemoval, ConstFoldInterface, Dialect, SideEffects};
+use pliron_test_cases::answers::{effects, interfaces, removable};
+use pliron_test_cases::cases::{
+    all_known, fields, known_operand, line, number, operation_at, read, sides,
+};
+use pliron_test_cases::listener::Counting;
+use pliron_test_cases::trees::build;
 use std::alloc::Global;
 use std::process::Abort;
 
@@ -140,7 +142,7 @@ fn only_number(rt: &impl Abort, answers: &[Option<AttrObj>]) -> Option<i128> {
 }
 
 /// What is known of the operation's only result.
-fn folded(
+fn known_result(
     rt: &impl Abort,
     alloc: Global,
     ctx: &Context,
@@ -167,7 +169,7 @@ fn folds_in(rt: &impl Abort, alloc: Global, ctx: &mut Context) {
         let op = operation_at(ctx, root, place).expect(rt, "an operation");
         for case in table.lines() {
             let (words, want) = sides(case).expect(rt, "a case");
-            let got = folded(rt, alloc, ctx, op, words);
+            let got = known_result(rt, alloc, ctx, op, words);
             assert_eq!(rt; got, want.parse::<i128>().ok(), "{case}");
         }
     }
@@ -231,12 +233,12 @@ static MADE: &str = "'7 => ?
 -9223372036854775808 => -9223372036854775808";
 
 /// The number of the constant that is made of the datum.
-fn made(rt: &impl Abort, alloc: Global, ctx: &mut Context, word: &str) -> Option<i128> {
-    let attr = known(alloc, word)
+fn made_number(rt: &impl Abort, alloc: Global, ctx: &mut Context, word: &str) -> Option<i128> {
+    let attr = known_operand(alloc, word)
         .expect(rt, "memory")
         .expect(rt, "a datum");
     match Bench::materialize(alloc, &attr, ctx).expect(rt, "memory") {
-        Some(op) => folded(rt, alloc, ctx, op, ""),
+        Some(op) => known_result(rt, alloc, ctx, op, ""),
         None => None,
     }
 }
@@ -245,7 +247,7 @@ fn made_in(rt: &impl Abort, alloc: Global, ctx: &mut Context) {
     for case in MADE.lines() {
         let (word, want) = sides(case).expect(rt, "a case");
         assert_eq!(rt;
-            made(rt, alloc, ctx, word),
+            made_number(rt, alloc, ctx, word),
             want.parse::<i128>().ok(),
             "{case}"
         );

@@ -1,11 +1,11 @@
 //! The edges of branches of the dialect `Bench`, and branches that fold: on texts of its notation, by
 //! values worked out by hand.
-use pliron_cases::cases::{all_known, fields, line, number, operation_at, read, sides};
-use pliron_cases::listener::Counting;
-use pliron_cases::losses::{lose, lose_along};
 use pliron_core::{AttrObj, BasicBlock, Context, IRStatus, Operation, Ptr, Rewriter};
 use pliron_meaning::bench::Bench;
 use pliron_meaning::{BranchOpFoldInterface, Dialect};
+use pliron_test_cases::cases::{all_known, fields, line, number, operation_at, read, sides};
+use pliron_test_cases::listener::Counting;
+use pliron_test_cases::losses::{lose, lose_along};
 use std::alloc::Global;
 use std::process::Abort;
 

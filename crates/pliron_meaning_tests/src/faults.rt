@@ -1,4 +1,4 @@
-//! The texts of the faults, and what becomes want of memory.
+//! The texts of the faults, and what becomes allocation failure.
 use pliron_core::NoMemory;
 use pliron_meaning::OptError;
 use std::alloc::{AllocError, Global};

@@ -10,3 +10,13 @@ mod branches;
 mod faults;
 #[cfg(test)]
 mod names;
+#[cfg(test)]
+mod notation;
+#[cfg(test)]
+mod rewrites;
+#[cfg(test)]
+mod runs;
+#[cfg(test)]
+mod tiny;
+#[cfg(test)]
+mod worked;

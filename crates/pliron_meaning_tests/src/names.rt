@@ -1,7 +1,6 @@
 //! The public names of `pliron_meaning`, at their places. What is missing here is named so where it is
-//! used: texts in `pliron_cases::cases`, `lose_forwarded` in `pliron_cases::losses`, runs, the tiny dialect's
+//! used: texts in `pliron_test_cases::cases`, `lose_forwarded` in `pliron_test_cases::losses`, runs, the tiny dialect's
 //! answers and the calls of `rewrites` in the tests of the evaluator.
-use pliron_cases::cases::read;
 use pliron_core::{Context, IRRewriter};
 use pliron_meaning::bench::laws::{folds_are_monotone, folds_have_one_outcome};
 use pliron_meaning::bench::{Bench, BenchKind};
@@ -19,6 +18,7 @@ use pliron_meaning::{
     BlockArgRemoval, BranchOpFoldInterface, ConstFoldInterface, Dialect, HasMeaning, Interface,
     OptError, RegionBranchOpInterface, Room, SideEffects, Tiny, TinyKind, edges_last,
 };
+use pliron_test_cases::cases::read;
 use std::alloc::Global;
 use std::process::Abort;
 

@@ -10,11 +10,11 @@ use Rattle.pliron_bits.specs.declared.flags.Flags.{Flags}
 use Rattle.pliron_bits.specs.declared.operators.BinaryOperator.{BinaryOperator}
 use Rattle.pliron_bits.specs.declared.operators.Predicate.{Predicate}
 use Rattle.pliron_bits.specs.declared.operators.Cast.{Cast}
-use Rattle.pliron_bits.specs.Operators.{binary, compared, cast_to, predicate_of_number}
+use Rattle.pliron_bits.specs.Operators.{binary, comparison, cast_to, predicate_of_number}
 use Rattle.pliron_mlir.specs.declared.kind.Class.{Class}
 use Rattle.pliron_mlir.specs.declared.kind.Class.TheVariants.{Constant as ConstantClass, Select, Opaque as OpaqueClass, Jump, Branch, Switch, Leave as LeaveClass, Unreachable, Effect, Regions, Root, Module, Fork, Compare, Cast as CastClass, Binary}
 use Rattle.pliron_roles.specs.Counted.{counted_by}
-use Rattle.pliron_roles.specs.Roles.{Interpretation, Role, Constant, Folds, Picks, Opaque, Jumps, Chooses, Leaves, Stops, Acts, Forks, Tables, KeepsTables, ActsFit, effect_act, region_act, fitted, has_some}
+use Rattle.pliron_roles.specs.Roles.{Interpretation, Role, Constant, Folds, Picks, Opaque, Jumps, Chooses, Leaves, Stops, Acts, Forks, Tables, KeepsTables, ActsFit, effect_act, region_act, fit_data, has_some}
 use Rattle.pliron_roles.specs.CountLaws.{effect_fits, region_fits, at_fits, length-fitted}
 use Rattle.pliron_mlir.specs.ClassNumbers.{number_of_class, class_of_number, numbered}
 use Rattle.pliron_mlir.specs.Data.{is_width, bits_of_width, number, bits_at, truth, bit}
@@ -40,7 +40,7 @@ computed_by operator h _ = None
 -- those of a comparison are the width, the predicate and the form
 abbrev pub truth_of_two : Option Predicate → (width a b : ℕ) → Option ℕ
 truth_of_two None width a b = None
-truth_of_two (Some predicate) width a b = Some (bit (compared predicate width a b))
+truth_of_two (Some predicate) width a b = Some (bit (comparison predicate width a b))
 
 abbrev pub compared_by : Head → List ℤ → Option ℤ
 compared_by h (a ∷ b ∷ []) =
@@ -88,7 +88,7 @@ one_region h a b d = nat_eq a 0 && (nat_eq b 0 && nat_eq d 1)
 
 -- a function visits its region once
 abbrev pub root_act : Shape → Datum → List Datum → Move
-root_act s Empty input = Visit 0 (fitted (slice_index_or s.entry_arguments 0 0) input) (Number (pos 1))
+root_act s Empty input = Visit 0 (fit_data (slice_index_or s.entry_arguments 0 0) input) (Number (pos 1))
 root_act s (Number n) input = Leave input
 root_act s (Text t) input = Leave input
 root_act s (Join x y) input = Leave input
@@ -101,7 +101,7 @@ root_fits s (Join x y) input = tt
 
 -- a module does nothing
 abbrev pub module_act : Shape → Datum → List Datum → Move
-module_act s memo input = Give (fitted s.results [])
+module_act s memo input = Give (fit_data s.results [])
 
 -- ---- the classes
 

@@ -8,7 +8,7 @@ use pliron_bits::Flags;
 use pliron_core::{AttrObj, Attrs};
 
 // What the attribute counts.
-pub(crate) fn counted(attr: &AttrObj) -> u128
+pub(crate) fn attribute_count(attr: &AttrObj) -> u128
     ensures { result ≡ counted_by attr.now }
 {
     match attr {
@@ -22,7 +22,7 @@ pub(crate) fn attribute_at(attrs: &Attrs, i: usize) -> u128
     ensures { result ≡ attribute_in attrs.now i }
 {
     if i < attrs.len() {
-        counted(attrs.get(i))
+        attribute_count(attrs.get(i))
     } else {
         0
     }

@@ -24,21 +24,21 @@ fn head_with(alloc: Global, class: Class, numbers: &[i128]) -> Result<Head, Allo
     })
 }
 
-/// The head of a constant with this datum. Errors: want of memory. Cost: constant.
+/// The head of a constant with this datum. Errors: allocation failure. Cost: constant.
 pub fn constant_head(alloc: Global, datum: i128, form: usize) -> Result<Head, AllocFailed<AttrObj>>
     ensures { IfOk result (λ head. head ≡ constant_head_of datum form) }
 {
     head_with(alloc, Class::Constant, &[datum, form as i128])
 }
 
-/// The head of an operation of a class whose attributes are the form alone. Errors: want of memory. Cost: constant.
+/// The head of an operation of a class whose attributes are the form alone. Errors: allocation failure. Cost: constant.
 pub fn plain_head(alloc: Global, class: Class, form: usize) -> Result<Head, AllocFailed<AttrObj>>
     ensures { IfOk result (λ head. head ≡ plain_head_of class form) }
 {
     head_with(alloc, class, &[form as i128])
 }
 
-/// The head of an operation that computes an integer of this width of two. Errors: want of memory. Cost: constant.
+/// The head of an operation that computes an integer of this width of two. Errors: allocation failure. Cost: constant.
 pub fn binary_head(
     alloc: Global,
     operator: BinaryOperator,
@@ -52,7 +52,7 @@ pub fn binary_head(
     head_with(alloc, Class::Binary(operator), &numbers)
 }
 
-/// The head of a comparison of integers of this width. Errors: want of memory. Cost: constant.
+/// The head of a comparison of integers of this width. Errors: allocation failure. Cost: constant.
 pub fn compare_head(
     alloc: Global,
     width: u32,
@@ -65,7 +65,7 @@ pub fn compare_head(
     head_with(alloc, Class::Compare, &numbers)
 }
 
-/// The head of a cast of integers of this width to another. Errors: want of memory. Cost: constant.
+/// The head of a cast of integers of this width to another. Errors: allocation failure. Cost: constant.
 pub fn cast_head(
     alloc: Global,
     cast: Cast,
@@ -85,8 +85,8 @@ pub fn cast_head(
     head_with(alloc, Class::Cast(cast), &numbers)
 }
 
-/// The head of a branch that passes so many operands where its condition is 1, and so many where it is 0. Errors: want
-/// of memory. Cost: constant.
+/// The head of a branch that passes so many operands where its condition is 1, and so many where it is 0. Errors: allocation
+/// failure. Cost: constant.
 pub fn branch_head(
     alloc: Global,
     on_true: usize,
@@ -120,7 +120,7 @@ fn push_cases(attrs: &mut Vec<AttrObj>, cases: &[u64]) -> Result<(), AllocFailed
 }
 
 /// The head of a switch over integers of this width: how many operands each edge passes, that of the default first,
-/// and the bits of each case. A width of 0 says nothing of cases. Errors: want of memory. Cost: linear in the lengths
+/// and the bits of each case. A width of 0 says nothing of cases. Errors: allocation failure. Cost: linear in the lengths
 /// of both.
 pub fn switch_head(
     alloc: Global,

@@ -6,15 +6,15 @@ use Rattle.std.proofs.lemmas.List.FromFn.{length-range_with_len}
 use Rattle.std.proofs.lemmas.Option.{slice_get_read, slice_get-get_or}
 use Rattle.pliron_core.specs.declared.attrs.Head.{Head}
 use Rattle.pliron_core.specs.declared.context.RegionSlot.{RegionSlot}
-use Rattle.pliron_core.specs.Tree.{Tree, In, IsLive, IsBlock, IsRegion, IsDefined, IsMadeBy, IsInside, HoldsBlock, no_entry, row_of, results_of, regions_of, parent_of, arguments_of, block_parent_of, op_of_slot, up_from, region_parent_of, block_holder_of, holder_of}
-use Rattle.pliron_core.specs.Joined.{IsTree}
-use Rattle.pliron_core.specs.Writes.{created, block_created, operand_pushed, successor_pushed}
+use Rattle.pliron_core.specs.Tree.{Tree, In, IsLive, IsBlock, IsRegion, IsDefined, IsMadeBy, IsInside, HoldsBlock, no_entry, row_of, results_of, regions_of, parent_of, arguments_of, block_parent_of, op_of_slot, up_from, region_parent_of, block_parent_operation_of, parent_operation_of}
+use Rattle.pliron_core.specs.Invariant.{IsTree}
+use Rattle.pliron_core.specs.Writes.{after_creating, block_created, operand_pushed, successor_pushed}
 use Rattle.pliron_core.proofs.GrownLemmas.{get_grown, get_last, get_last_same, in_range}
 use Rattle.pliron_core.proofs.CreatedLemmas.{holder_kept}
 use Rattle.pliron_core.proofs.HoldingLemmas.{some_is, in_slice, slice_in, past_live, region_by, block_held, held_block, holder_by, holder_live}
 use Rattle.pliron_notation.specs.declared.build.Built.{Built}
-use Rattle.pliron_notation.specs.Building.{All, AddsOnly, IsExtended, IsGrown, IsNewBlock, IsNewRegion, IsBuilt, BuildingGoesOn, AreStanding, appended}
-use Rattle.pliron_notation.proofs.GrowthLemmas.{keeps-length, more-live, more-block, more-region, more-defined, more-region_parent, more-block_holder, more-holder, more-appended, more-created, more-block_created, more-operand, more-successor, kept-created, kept-appended, kept-block_created, kept-operand, kept-successor}
+use Rattle.pliron_notation.specs.Building.{All, AddsOnly, IsExtended, IsGrown, IsNewBlock, IsNewRegion, IsBuilt, BuildingGoesOn, AreStanding, after_appending}
+use Rattle.pliron_notation.proofs.GrowthLemmas.{keeps-length, more-live, more-block, more-region, more-defined, more-region_parent, more-block_parent_operation, more-holder, more-appended, more-created, more-block_created, more-operand, more-successor, kept-created, kept-appended, kept-block_created, kept-operand, kept-successor}
 
 -- what is added to a list that all has it
 pub all-adds : (p : ℕ → Type 0) (xs ys new : List ℕ) → AddsOnly xs ys new → All p xs → All p new → All p ys
@@ -90,9 +90,9 @@ listed_argument w is b v i =
 -- a new operation holds no block that stood before
 module _ (u : Tree) (head : Head) (results regions : ℕ) (is : IsTree u) where
   abbrev c : Tree
-  c = created u head results regions
+  c = after_creating u head results regions
 
-  created_holder : (x : ℕ) → holder_of c x ≡ holder_of u x
+  created_holder : (x : ℕ) → parent_operation_of c x ≡ parent_operation_of u x
   created_holder x = holder_kept u c is.joined (λ y. get_grown u.parents None y) (λ b s. refl) (λ r s e. (more-created u head results regions).slots r s e) x
 
   not_inside : (x : ℕ) → IsInside c (length u.operations) x → ⊥
@@ -104,7 +104,7 @@ module _ (u : Tree) (head : Head) (results regions : ℕ) (is : IsTree u) where
   pub created-outside : (block : ℕ) → IsBlock u block → HoldsBlock c (length u.operations) block → ⊥
   created-outside block stands h =
       let b = block_held u block is.joined stands in
-      let e : block_holder_of c block ≡ Some b.1 = more-block_holder u c (more-created u head results regions) block b.1 b.5 in
+      let e : block_parent_operation_of c block ≡ Some b.1 = more-block_parent_operation u c (more-created u head results regions) block b.1 b.5 in
       let same : b.1 ≡ h.0 = some_is (sym e ∙ h.1) in
       let lt : h.0 < length u.operations = subst (λ z. z < length u.operations) same (past_live u b.1 b.6) in
       ⊎_elim (λ s. omega (arith, lt, s)) (λ i. not_inside h.0 i) h.2
@@ -112,7 +112,7 @@ module _ (u : Tree) (head : Head) (results regions : ℕ) (is : IsTree u) where
 -- a new operation at the end of a block
 module _ (u : Tree) (head : Head) (results regions block : ℕ) (is : IsTree u) where
   abbrev v : Tree
-  v = appended u head results regions block
+  v = after_appending u head results regions block
 
   abbrev op : ℕ
   op = length u.operations
@@ -123,20 +123,20 @@ module _ (u : Tree) (head : Head) (results regions block : ℕ) (is : IsTree u) 
   pub appended-live : IsLive v op
   appended-live = ap (λ z. is_some z.head) appended-row
 
-  parents_length : length (created u head results regions).parents ≡ length u.parents + 1
+  parents_length : length (after_creating u head results regions).parents ≡ length u.parents + 1
   parents_length = length-append u.parents (None ∷ [])
 
   pub appended-parent : parent_of v op ≡ Some block
-  appended-parent = get_or-set_same (created u head results regions).parents op (Some block) None (let e = is.keys.parents in let f = parents_length in omega (arith, e, f))
+  appended-parent = get_or-set_same (after_creating u head results regions).parents op (Some block) None (let e = is.keys.parents in let f = parents_length in omega (arith, e, f))
 
   pub appended-other : (k : ℕ) → k ≢ op → parent_of v k ≡ parent_of u k
-  appended-other k ne = get_or-set_other (created u head results regions).parents op k (Some block) None ne ∙ get_grown u.parents None k
+  appended-other k ne = get_or-set_other (after_creating u head results regions).parents op k (Some block) None ne ∙ get_grown u.parents None k
 
   abbrev m : IsExtended u v
   m = more-appended u head results regions block is.keys
 
   module _ (t : Tree) (root : ℕ) (built : Built) (b : IsBuilt t u root built) (in_built : In block built.blocks.items) where
-    holding : (h : ℕ) × (block_holder_of u block ≡ Some h) × (root ≤ h) × (h < op)
+    holding : (h : ℕ) × (block_parent_operation_of u block ≡ Some h) × (root ≤ h) × (h < op)
     holding =
         let n = b.blocks block in_built in
         let w = block_held u block is.joined (held_block u block n.0 n.1) in
@@ -146,10 +146,10 @@ module _ (u : Tree) (head : Head) (results regions block : ℕ) (is : IsTree u) 
     root_old : root < op
     root_old = past_live u root b.grown.live
 
-    appended-held : (k : ℕ) → IsLive v k → root < k → (h : ℕ) × (holder_of v k ≡ Some h) × (root ≤ h) × (h < k)
+    appended-held : (k : ℕ) → IsLive v k → root < k → (h : ℕ) × (parent_operation_of v k ≡ Some h) × (root ≤ h) × (h < k)
     appended-held k live lt = ⊎_elim
         (λ s. let old = b.grown.held k (subst (λ z. IsSome z.head) s live) lt in (old.0, more-holder u v m k old.0 old.1, old.2, old.3))
-        (λ s. let h = holding in (h.0, ap (holder_of v) s.2 ∙ holder_by v op block h.0 appended-parent (more-block_holder u v m block h.0 h.1), h.2, subst (λ z. h.0 < z) (sym s.2) h.3))
+        (λ s. let h = holding in (h.0, ap (parent_operation_of v) s.2 ∙ holder_by v op block h.0 appended-parent (more-block_parent_operation u v m block h.0 h.1), h.2, subst (λ z. h.0 < z) (sym s.2) h.3))
         (get_last u.operations _ no_entry k)
 
     pub appended-grown : IsGrown t v root
@@ -175,7 +175,7 @@ module _ (u : Tree) (head : Head) (results regions block : ℕ) (is : IsTree u) 
     appended-built is_v more ops blocks regs = record {
       grown = appended-grown;
       operations = all-adds (λ k. root ≤ k) built.operations.items more.operations.items (op ∷ []) ops b.operations (all-one (λ k. root ≤ k) op (let lt = root_old in omega (arith, lt)));
-      blocks = all-same (IsNewBlock t v root) built.blocks.items more.blocks.items blocks (λ x i. let n = b.blocks x i in (n.0, more-block_holder u v m x n.0 n.1, n.2, n.3));
+      blocks = all-same (IsNewBlock t v root) built.blocks.items more.blocks.items blocks (λ x i. let n = b.blocks x i in (n.0, more-block_parent_operation u v m x n.0 n.1, n.2, n.3));
       regions = all-adds (IsNewRegion t v root) built.regions.items more.regions.items (regions_of v op) regs (λ x i. let n = b.regions x i in (n.0, more-region_parent u v m x n.0 n.1, n.2, n.3)) (new_region is_v);
     }
 
@@ -229,7 +229,7 @@ module _ (u : Tree) (region arguments : ℕ) (is : IsTree u) where
     block-built more ops blocks regs = record {
       grown = block-grown;
       operations = all-same (λ k. root ≤ k) built.operations.items more.operations.items ops b.operations;
-      blocks = all-adds (IsNewBlock t w root) built.blocks.items more.blocks.items (block ∷ []) blocks (λ x i. let n = b.blocks x i in (n.0, more-block_holder u w mw x n.0 n.1, n.2, n.3)) (all-one (IsNewBlock t w root) block new_block);
+      blocks = all-adds (IsNewBlock t w root) built.blocks.items more.blocks.items (block ∷ []) blocks (λ x i. let n = b.blocks x i in (n.0, more-block_parent_operation u w mw x n.0 n.1, n.2, n.3)) (all-one (IsNewBlock t w root) block new_block);
       regions = all-same (IsNewRegion t w root) built.regions.items more.regions.items regs (λ x i. let n = b.regions x i in (n.0, more-region_parent u w mw x n.0 n.1, n.2, n.3));
     }
 
@@ -293,10 +293,10 @@ standing-operand u v built op value same s = standing-more u v built (subst (IsE
 pub standing-successor : (u v : Tree) (built : Built) (op block : ℕ) → v ≡ successor_pushed u op block → AreStanding u built → AreStanding v built
 standing-successor u v built op block same s = standing-more u v built (subst (IsExtended u) (sym same) (more-successor u op block)) s
 
--- the operation of a text before anything is made in it
+-- the operation of a text before anything is defined in it
 module _ (t : Tree) (head : Head) (is : IsTree t) where
   abbrev s : Tree
-  s = created t head 0 1
+  s = after_creating t head 0 1
 
   abbrev first : ℕ
   first = length t.operations

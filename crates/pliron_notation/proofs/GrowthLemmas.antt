@@ -4,14 +4,14 @@ use Rattle.std.proofs.lemmas.List.{get_or_past}
 use Rattle.std.proofs.lemmas.Option.{slice_get_within, slice_get-get_or, get_or_from_slice_get, slice_get_cases}
 use Rattle.pliron_core.specs.declared.attrs.Head.{Head}
 use Rattle.pliron_core.specs.declared.context.RegionSlot.{RegionSlot}
-use Rattle.pliron_core.specs.Tree.{Tree, IsLive, IsBlock, IsRegion, IsDefined, no_entry, row_of, results_of, regions_of, parent_of, arguments_of, block_parent_of, slot_of, op_of_slot, up_from, region_parent_of, block_holder_of, holder_of}
-use Rattle.pliron_core.specs.Joined.{HaveSameKeys}
-use Rattle.pliron_core.specs.Writes.{created, block_created, operand_pushed, successor_pushed}
+use Rattle.pliron_core.specs.Tree.{Tree, IsLive, IsBlock, IsRegion, IsDefined, no_entry, row_of, results_of, regions_of, parent_of, arguments_of, block_parent_of, slot_of, op_of_slot, up_from, region_parent_of, block_parent_operation_of, parent_operation_of}
+use Rattle.pliron_core.specs.Invariant.{HaveSameKeys}
+use Rattle.pliron_core.specs.Writes.{after_creating, block_created, operand_pushed, successor_pushed}
 use Rattle.pliron_core.proofs.GrownLemmas.{slice_get_kept}
 use Rattle.pliron_core.proofs.TableLemmas.{set-other}
 use Rattle.pliron_core.proofs.HoldingLemmas.{not_none, slot_is, region_by, holder_is, holder_by}
 use Rattle.pliron_core.proofs.CreatedLemmas.{defined_kept}
-use Rattle.pliron_notation.specs.Building.{KeepsEntries, IsExtended, IsKept, appended}
+use Rattle.pliron_notation.specs.Building.{KeepsEntries, IsExtended, IsKept, after_appending}
 
 pub keeps-more : {A : Type 0} (xs ys zs : List A) → KeepsEntries xs ys → KeepsEntries xs (ys ++ zs)
 keeps-more xs ys zs h k x e = slice_get_kept ys zs k x (h k x e)
@@ -101,18 +101,18 @@ module _ (t u : Tree) (m : IsExtended t u) where
       go None s f = absurd (not_none f)
       go (Some slot) s f = ap op_of_slot (m.slots r slot s) ∙ f
 
-  pub more-block_holder : (b h : ℕ) → block_holder_of t b ≡ Some h → block_holder_of u b ≡ Some h
-  more-block_holder b h e = go (block_parent_of t b) refl
+  pub more-block_parent_operation : (b h : ℕ) → block_parent_operation_of t b ≡ Some h → block_parent_operation_of u b ≡ Some h
+  more-block_parent_operation b h e = go (block_parent_of t b) refl
     where
-      go : (o : Option ℕ) → block_parent_of t b ≡ o → block_holder_of u b ≡ Some h
+      go : (o : Option ℕ) → block_parent_of t b ≡ o → block_parent_operation_of u b ≡ Some h
       go None s = absurd (not_none (sym (ap (λ o. up_from o (λ r. region_parent_of t r)) s) ∙ e))
       go (Some r) s = ap (λ o. up_from o (λ q. region_parent_of u q)) (more-block_parent b r s) ∙ more-region_parent r h (sym (ap (λ o. up_from o (λ q. region_parent_of t q)) s) ∙ e)
 
-  pub more-holder : (x h : ℕ) → holder_of t x ≡ Some h → holder_of u x ≡ Some h
-  more-holder x h e = let p = holder_is t x h e in holder_by u x p.0 h (more-parent x p.0 p.1) (more-block_holder p.0 h p.2)
+  pub more-holder : (x h : ℕ) → parent_operation_of t x ≡ Some h → parent_operation_of u x ≡ Some h
+  more-holder x h e = let p = holder_is t x h e in holder_by u x p.0 h (more-parent x p.0 p.1) (more-block_parent_operation p.0 h p.2)
 
 -- each step of the building gives more
-pub more-appended : (u : Tree) (head : Head) (results regions block : ℕ) → HaveSameKeys u → IsExtended u (appended u head results regions block)
+pub more-appended : (u : Tree) (head : Head) (results regions block : ℕ) → HaveSameKeys u → IsExtended u (after_appending u head results regions block)
 more-appended u head results regions block keys = record {
   operations = keeps-more u.operations u.operations _ (λ k x e. e);
   parents = keeps-set u.parents _ (length u.operations) (Some block) (let s = keys.parents in omega (arith, s)) (keeps-more u.parents u.parents _ (λ k x e. e));
@@ -122,7 +122,7 @@ more-appended u head results regions block keys = record {
   definitions = keeps-more u.definitions u.definitions _ (λ k x e. e);
 }
 
-pub more-created : (u : Tree) (head : Head) (results regions : ℕ) → IsExtended u (created u head results regions)
+pub more-created : (u : Tree) (head : Head) (results regions : ℕ) → IsExtended u (after_creating u head results regions)
 more-created u head results regions = record {
   operations = keeps-more u.operations u.operations _ (λ k x e. e);
   parents = keeps-more u.parents u.parents _ (λ k x e. e);
@@ -149,7 +149,7 @@ pub more-successor : (u : Tree) (op block : ℕ) → IsExtended u (successor_pus
 more-successor u op block = record { operations = λ k x e. e; parents = λ k x e. e; arguments = λ k x e. e; block_parents = λ k x e. e; slots = λ k x e. e; definitions = λ k x e. e }
 
 -- and leaves what t has
-pub kept-created : (t : Tree) (head : Head) (results regions : ℕ) → IsKept t (created t head results regions)
+pub kept-created : (t : Tree) (head : Head) (results regions : ℕ) → IsKept t (after_creating t head results regions)
 kept-created t head results regions = record {
   more = more-created t head results regions;
   operands = keeps-more t.operands t.operands _ (λ k x e. e);
@@ -158,9 +158,9 @@ kept-created t head results regions = record {
   layouts = keeps-more t.layouts t.layouts _ (λ k x e. e);
 }
 
-pub kept-appended : (t u : Tree) (head : Head) (results regions block : ℕ) → HaveSameKeys u → length t.bodies ≤ block → IsKept t u → IsKept t (appended u head results regions block)
+pub kept-appended : (t u : Tree) (head : Head) (results regions block : ℕ) → HaveSameKeys u → length t.bodies ≤ block → IsKept t u → IsKept t (after_appending u head results regions block)
 kept-appended t u head results regions block keys le kept = record {
-  more = more-trans t u (appended u head results regions block) kept.more (more-appended u head results regions block keys);
+  more = more-trans t u (after_appending u head results regions block) kept.more (more-appended u head results regions block keys);
   operands = keeps-more t.operands u.operands _ kept.operands;
   successors = keeps-more t.successors u.successors _ kept.successors;
   bodies = keeps-set t.bodies u.bodies block _ le kept.bodies;

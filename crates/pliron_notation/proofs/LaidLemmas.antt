@@ -7,8 +7,8 @@ use Rattle.std.proofs.lemmas.Option.{slice_get_read}
 use Rattle.pliron_core.specs.declared.attrs.Head.{Head}
 use Rattle.pliron_core.specs.declared.context.OperationEntry.{OperationEntry}
 use Rattle.pliron_core.specs.Tree.{Tree, last_of, no_entry, row_of, operands_of, successors_of, parent_of, body_of, block_parent_of}
-use Rattle.pliron_core.specs.Joined.{IsTree}
-use Rattle.pliron_core.specs.Writes.{created, block_created}
+use Rattle.pliron_core.specs.Invariant.{IsTree}
+use Rattle.pliron_core.specs.Writes.{after_creating, block_created}
 use Rattle.pliron_core.proofs.GrownLemmas.{get_grown, get_last, range_more, range_at}
 use Rattle.pliron_core.proofs.HoldingLemmas.{some_is}
 use Rattle.pliron_core.proofs.TreeLemmas.{cases_lt}
@@ -19,7 +19,7 @@ use Rattle.pliron_notation.specs.declared.syntax.BlockText.{BlockText}
 use Rattle.pliron_notation.specs.declared.syntax.Syntax.{Syntax}
 use Rattle.pliron_bench.specs.Bench.{head_with, plain_head, result_count, region_count}
 use Rattle.pliron_notation.specs.declared.syntax.Made.{Made}
-use Rattle.pliron_notation.specs.Building.{HasMade, KeepsEntries, appended}
+use Rattle.pliron_notation.specs.Building.{HasMade, KeepsEntries, after_appending}
 use Rattle.pliron_notation.specs.Laid.{IsWhole, IsMadeAs, HasNoUses, IsLastOf, IsLaid, LaysOn, LaysOperation, LaysBlock}
 use Rattle.pliron_notation.proofs.BuildLemmas.{length-last, appended-row, appended-parent, appended-other, created-parent, start-row}
 use Rattle.pliron_notation.proofs.GrowthLemmas.{more-block_parent, more-block_created}
@@ -60,7 +60,7 @@ module _ (s : Syntax) (root base : ℕ) (u : Tree) (built more : Built) (o : Ope
   head = head_with o.kind o.number (pos o.first_edge)
 
   abbrev v : Tree
-  v = appended u head (result_count o.kind) (region_count o.kind) block
+  v = after_appending u head (result_count o.kind) (region_count o.kind) block
 
   abbrev count : ℕ
   count = length built.operations.items
@@ -188,7 +188,7 @@ module _ (s : Syntax) (root base : ℕ) (u : Tree) (built more : Built) (b : Blo
 -- nothing but the text's operation
 module _ (s : Syntax) (t : Tree) (is : IsTree t) where
   abbrev start : Tree
-  start = created t (plain_head s.root) 0 1
+  start = after_creating t (plain_head s.root) 0 1
 
   unused_new : (k : ℕ) → length t.operations ≤ k → HasNoUses (operands_of start k) (successors_of start k)
   unused_new k le = record {

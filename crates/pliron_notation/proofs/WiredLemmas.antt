@@ -4,7 +4,7 @@ use Rattle.std.proofs.lemmas.Bool.{cases_eq}
 use Rattle.std.proofs.lemmas.List.{get_or-set_same, get_or-set_other}
 use Rattle.std.proofs.lemmas.Option.{slice_get_within, get_or_from_slice_get}
 use Rattle.pliron_core.specs.Tree.{Tree, In, IsLive, last_of, no_entry, row_of, operands_of, successors_of, parent_of}
-use Rattle.pliron_core.specs.Joined.{IsTree}
+use Rattle.pliron_core.specs.Invariant.{IsTree}
 use Rattle.pliron_core.specs.Writes.{operand_pushed, successor_pushed}
 use Rattle.pliron_core.proofs.HoldingLemmas.{some_is, past_live}
 use Rattle.pliron_core.proofs.UsedLemmas.{in_last}

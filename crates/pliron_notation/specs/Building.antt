@@ -1,9 +1,9 @@
--- What stands while a text is built in a tree.
+-- What is live while a text is built in a tree.
 use Rattle.std.specs.Prelude.{◌≡◌, ◌⊎◌, ℕ, ◌<◌, ◌≤◌, List, length, Some, None, slice_get}
 use Rattle.pliron_core.specs.declared.attrs.Head.{Head}
-use Rattle.pliron_core.specs.Tree.{Tree, In, IsLive, IsBlock, IsRegion, IsDefined, parent_of, holder_of, block_holder_of, region_parent_of}
-use Rattle.pliron_core.specs.Joined.{IsTree}
-use Rattle.pliron_core.specs.Writes.{created, put_last}
+use Rattle.pliron_core.specs.Tree.{Tree, In, IsLive, IsBlock, IsRegion, IsDefined, parent_of, parent_operation_of, block_parent_operation_of, region_parent_of}
+use Rattle.pliron_core.specs.Invariant.{IsTree}
+use Rattle.pliron_core.specs.Writes.{after_creating, put_last}
 use Rattle.pliron_notation.specs.declared.build.Built.{Built}
 use Rattle.pliron_notation.specs.declared.syntax.Made.{Made}
 use Rattle.pliron_notation.specs.declared.syntax.Syntax.{Syntax}
@@ -12,7 +12,7 @@ use Rattle.pliron_notation.specs.declared.syntax.Syntax.{Syntax}
 abbrev pub KeepsEntries : {A : Type 0} → List A → List A → Type 0
 KeepsEntries {A} xs ys = (k : ℕ) (x : A) → slice_get xs k ≡ Some x → slice_get ys k ≡ Some x
 
--- what stands in t stands in u, at the same place and made by the same
+-- what is live in t is live in u, at the same place and defined by the same
 pub record IsExtended (t u : Tree) : Type 0 where
   pub operations : KeepsEntries t.operations u.operations
   pub parents : KeepsEntries t.parents u.parents
@@ -29,22 +29,22 @@ pub record IsKept (t u : Tree) : Type 0 where
   pub bodies : KeepsEntries t.bodies u.bodies
   pub layouts : KeepsEntries t.layouts u.layouts
 
--- u is t and a new operation in no block, with what stands inside it: each of these operations has a
--- holder that is new and older
+-- u is t and a new operation in no block, with what stands inside it: each of these operations has a parent
+-- operation that is new and older
 pub record IsGrown (t u : Tree) (root : ℕ) : Type 0 where
   pub before : IsTree t
   pub kept : IsKept t u
   pub fresh : root ≡ length t.operations
   pub live : IsLive u root
   pub loose : parent_of u root ≡ None
-  pub held : (k : ℕ) → IsLive u k → root < k → (h : ℕ) × (holder_of u k ≡ Some h) × (root ≤ h) × (h < k)
+  pub held : (k : ℕ) → IsLive u k → root < k → (h : ℕ) × (parent_operation_of u k ≡ Some h) × (root ≤ h) × (h < k)
 
 abbrev pub All : (ℕ → Type 0) → List ℕ → Type 0
 All p xs = (x : ℕ) → In x xs → p x
 
--- it is new, and so is the operation that holds it
+-- it is new, and so is its parent operation
 abbrev pub IsNewBlock : Tree → Tree → ℕ → ℕ → Type 0
-IsNewBlock t u root b = (h : ℕ) × (block_holder_of u b ≡ Some h) × (root ≤ h) × (length t.bodies ≤ b)
+IsNewBlock t u root b = (h : ℕ) × (block_parent_operation_of u b ≡ Some h) × (root ≤ h) × (length t.bodies ≤ b)
 
 abbrev pub IsNewRegion : Tree → Tree → ℕ → ℕ → Type 0
 IsNewRegion t u root r = (h : ℕ) × (region_parent_of u r ≡ Some h) × (root ≤ h) × (length t.layouts ≤ r)
@@ -60,7 +60,7 @@ pub record IsBuilt (t u : Tree) (root : ℕ) (built : Built) : Type 0 where
 abbrev pub BuildingGoesOn : (u : Tree) (built : Built) (v : Tree) (more : Built) → Type 0
 BuildingGoesOn u built v more = (t : Tree) (root : ℕ) → IsBuilt t u root built → IsBuilt t v root more
 
--- what is built stands
+-- what is built is live
 pub record AreStanding (u : Tree) (built : Built) : Type 0 where
   pub operations : All (IsLive u) built.operations.items
   pub blocks : All (IsBlock u) built.blocks.items
@@ -85,5 +85,5 @@ abbrev pub AddsOnly : (xs ys new : List ℕ) → Type 0
 AddsOnly xs ys new = (x : ℕ) → In x ys → In x xs ⊎ In x new
 
 -- the tree with a new operation at the end of the block
-abbrev pub appended : Tree → Head → (results regions block : ℕ) → Tree
-appended t head results regions block = put_last (created t head results regions) (length t.operations) block
+abbrev pub after_appending : Tree → Head → (results regions block : ℕ) → Tree
+after_appending t head results regions block = put_last (after_creating t head results regions) (length t.operations) block

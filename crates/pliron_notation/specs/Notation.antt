@@ -7,8 +7,8 @@ use Rattle.pliron_notation.specs.declared.syntax.OperationText.{OperationText}
 use Rattle.pliron_notation.specs.declared.syntax.BlockText.{BlockText}
 use Rattle.pliron_notation.specs.declared.syntax.Syntax.{Syntax}
 use Rattle.pliron_notation.specs.declared.syntax.Made.{Made}
-use Rattle.pliron_notation.specs.declared.syntax.Step.{Step}
-use Rattle.pliron_notation.specs.declared.syntax.Step.TheVariants.{Operation, Block}
+use Rattle.pliron_notation.specs.declared.syntax.SyntaxStep.{SyntaxStep}
+use Rattle.pliron_notation.specs.declared.syntax.SyntaxStep.TheVariants.{Operation, Block}
 
 -- the operation of this number is the next after what is made, its block is made, and so much is made
 -- after it
@@ -21,12 +21,12 @@ abbrev pub IsNextBlock : Made → ℕ → Option BlockText → Made → Type 0
 IsNextBlock m n None m' = ⊥
 IsNextBlock m n (Some b) m' = (n ≡ m.blocks) × (b.region < m.regions) × (m' ≡ record { operations = m.operations; blocks = m.blocks + 1; regions = m.regions; values = m.values + b.arguments })
 
-abbrev pub IsNext : Syntax → Made → Step → Made → Type 0
+abbrev pub IsNext : Syntax → Made → SyntaxStep → Made → Type 0
 IsNext s m (Operation n) m' = IsNextOperation m n (slice_get s.operations.items n) m'
 IsNext s m (Block n) m' = IsNextBlock m n (slice_get s.blocks.items n) m'
 
 -- each step makes what is next, and in the end all of the text is made
-abbrev pub IsOrdered : Syntax → Made → List Step → Type 0
+abbrev pub IsOrdered : Syntax → Made → List SyntaxStep → Type 0
 IsOrdered s m [] = (m.operations ≡ length s.operations.items) × (m.blocks ≡ length s.blocks.items) × (m.values ≡ s.values)
 IsOrdered s m (step ∷ steps) = (m' : Made) × IsNext s m step m' × IsOrdered s m' steps
 

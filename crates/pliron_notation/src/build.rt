@@ -1,20 +1,23 @@
 //! From syntax to a tree.
+//!
+//! Room is reserved for twice the operations and values of a text, since constant propagation makes a constant
+//! for each value; untouched room costs addresses alone.
 ghost use Rattle.std.specs.Prelude.{pos, ℕ, ◌≡◌, Some, slice_get, ◌++◌, ◌∷◌, [], ◌+◌, ◌<◌, IfOk, OnOk, OnErr, length};
 ghost use Rattle.pliron_core.specs.declared.attrs.Head.{Head as TreeHead};
 ghost use Rattle.pliron_core.specs.declared.attrs.AttrObj.TheVariants.{Int};
 ghost use Rattle.pliron_core.specs.Tree.{Tree, In, IsLive, IsBlock, results_of, regions_of, arguments_of};
-ghost use Rattle.pliron_core.specs.Joined.{IsTree};
-ghost use Rattle.pliron_core.specs.Writes.{created};
+ghost use Rattle.pliron_core.specs.Invariant.{IsTree};
+ghost use Rattle.pliron_core.specs.Writes.{after_creating};
 ghost use Rattle.pliron_core.specs.Changes.{IsSameTree};
 ghost use Rattle.pliron_notation.specs.declared.syntax.Syntax.{Syntax};
 ghost use Rattle.pliron_bench.specs.Bench.{head_with, plain_head as head_without, attribute_head as head_with_attribute, result_count, region_count as kind_regions};
 ghost use Rattle.pliron_bench.specs.BenchMoves.{bench};
 ghost use Rattle.pliron_laws.specs.Linked.{IsWellLinked};
 ghost use Rattle.pliron_notation.specs.Notation.{AllBelow, AreSoundOperations, IsSoundSyntax, first_made};
-ghost use Rattle.pliron_notation.specs.Building.{AddsOnly, AreStanding, BuildingGoesOn, HasAllMade, HasMade, IsGrown, KeepsEntries, appended};
+ghost use Rattle.pliron_notation.specs.Building.{AddsOnly, AreStanding, BuildingGoesOn, HasAllMade, HasMade, IsGrown, KeepsEntries, after_appending};
 ghost use Rattle.pliron_notation.specs.Laid.{HasMoreOperands, HasMoreSuccessors, IsAllLaid, LaysBlock, LaysOn, LaysOperation, Wires};
 
-use crate::syntax::{BlockText, OperationText, Step, Syntax};
+use crate::syntax::{BlockText, OperationText, Syntax, SyntaxStep};
 use pliron_bench::BenchKind;
 use pliron_bench::heads::{attribute_head, plain_head};
 use pliron_core::{
@@ -50,8 +53,8 @@ fn head_of(alloc: Global, text: &OperationText) -> Result<Head, AllocError>
 
 /// Builds the operation of a text, in no block and well linked.
 ///
-/// Asks that the syntax is sound, as `parse` makes it. Errors: want of memory, after which nothing of the
-/// text stands. Cost: linear in the text.
+/// Asks that the syntax is sound, as `parse` makes it. Errors: allocation failure, after which nothing of the
+/// text is live. Cost: linear in the text.
 pub fn build(alloc: Global, syntax: &Syntax, ctx: &mut Context) -> Result<Ptr<Operation>, NoMemory>
     requires { IsSoundSyntax syntax.now }
     ensures built { IfOk result (λ root. IsGrown ctx.old.tree ctx.new.tree root) }
@@ -63,7 +66,7 @@ pub fn build(alloc: Global, syntax: &Syntax, ctx: &mut Context) -> Result<Ptr<Op
 }
 
 /// Makes room for all operations, blocks and values of a text, and for as many operations and values again, so
-/// that a pass that makes a few, as a constant for each value, grows no table. Errors: want of memory. Cost: what
+/// that a pass that makes a few, as a constant for each value, grows no table. Errors: allocation failure. Cost: what
 /// isn't used is never written, and takes addresses and no memory where a system gives memory at the first write.
 fn reserve_all(syntax: &Syntax, ctx: &mut Context) -> Result<(), NoMemory>
     ensures { ctx.new ≡ ctx.old }
@@ -102,7 +105,7 @@ fn build_reserved(
     }
 }
 
-/// Builds all that stands inside the operation of a text.
+/// Builds all that is inside the operation of a text.
 fn fill(
     alloc: Global,
     syntax: &Syntax,
@@ -112,8 +115,8 @@ fn fill(
     requires sound { IsSoundSyntax syntax.now }
     requires live { IsLive ctx.old.tree root }
     requires region { length (regions_of ctx.old.tree root) ≡ 1 }
-    ensures grown { (t : Tree) (head : TreeHead) → IsTree t → root ≡ length t.operations → ctx.old.tree ≡ created t head 0 1 → IsGrown t ctx.new.tree root }
-    ensures laid { OnOk result ((t : Tree) → IsTree t → root ≡ length t.operations → ctx.old.tree ≡ created t (head_without syntax.now.root) 0 1 →
+    ensures grown { (t : Tree) (head : TreeHead) → IsTree t → root ≡ length t.operations → ctx.old.tree ≡ after_creating t head 0 1 → IsGrown t ctx.new.tree root }
+    ensures laid { OnOk result ((t : Tree) → IsTree t → root ≡ length t.operations → ctx.old.tree ≡ after_creating t (head_without syntax.now.root) 0 1 →
         IsAllLaid syntax.now t ctx.new.tree root) }
 {
     ctx.well_formed();
@@ -145,10 +148,10 @@ fn make_all(
 {
     for step in &syntax.steps {
         match step {
-            Step::Operation(number) => {
+            SyntaxStep::Operation(number) => {
                 add_operation(alloc, ctx, built, &syntax.operations[*number])?;
             }
-            Step::Block(number) => add_block(ctx, built, &syntax.blocks[*number])?,
+            SyntaxStep::Block(number) => add_block(ctx, built, &syntax.blocks[*number])?,
         }
     }
     Ok(())
@@ -168,7 +171,7 @@ fn connect_all(syntax: &Syntax, ctx: &mut Context, built: &Built) -> Result<(), 
     Ok(())
 }
 
-/// One more at the end. Errors: want of memory.
+/// One more at the end. Errors: allocation failure.
 fn remember<T: Copy + Drop>(table: &mut Vec<T>, item: T) -> Result<(), NoMemory>
     ensures ok { OnOk result (table.new.items ≡ table.old.items ++ item ∷ []) }
     ensures err { OnErr result (table.new.items ≡ table.old.items) }
@@ -179,7 +182,7 @@ fn remember<T: Copy + Drop>(table: &mut Vec<T>, item: T) -> Result<(), NoMemory>
     }
 }
 
-/// A new operation at the end of the block. Errors: want of memory, which changes nothing.
+/// A new operation at the end of the block. Errors: allocation failure, which changes nothing.
 fn append_operation(
     ctx: &mut Context,
     block: Ptr<BasicBlock>,
@@ -189,7 +192,7 @@ fn append_operation(
 ) -> Result<Ptr<Operation>, NoMemory>
     requires { IsBlock ctx.old.tree block }
     ensures key { IfOk result (λ op. op ≡ length ctx.old.tree.operations) }
-    ensures ok { OnOk result (ctx.new.tree ≡ appended ctx.old.tree head results regions block) }
+    ensures ok { OnOk result (ctx.new.tree ≡ after_appending ctx.old.tree head results regions block) }
     ensures err { OnErr result (ctx.new ≡ ctx.old) }
 {
     ctx.well_formed();

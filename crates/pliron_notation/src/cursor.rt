@@ -2,7 +2,7 @@
 use crate::expected::Expected;
 use crate::stop::Stop;
 use crate::tokens::{Name, Token};
-use crate::words::Word;
+use crate::word_table::Word;
 
 /// The tokens that are left.
 #[derive(Drop)]

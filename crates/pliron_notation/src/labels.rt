@@ -11,7 +11,7 @@ pub struct Label {
 
 /// What is known of a label.
 #[derive(Clone, Copy, Drop)]
-struct Entry {
+struct LabelEntry {
     scope: usize,
     /// The place of the name's label in a scope that opened before this one, if there is one.
     earlier: Option<usize>,
@@ -31,11 +31,11 @@ pub struct Labels {
     /// For each name the place of its label in the scope that opened last and 1 more, or 0. From there
     /// `earlier` leads on to its labels in scopes that opened before.
     latest: Vec<usize>,
-    entries: Vec<Entry>,
+    entries: Vec<LabelEntry>,
 }
 
 impl Labels {
-    /// No labels, for a text of so many names. Errors: want of memory. Cost: the number of names.
+    /// No labels, for a text of so many names. Errors: allocation failure. Cost: the number of names.
     pub fn new(alloc: Global, names: usize) -> Result<Self, AllocError> {
         Ok(Labels {
             latest: vec![in alloc; 0; names]?,
@@ -43,12 +43,12 @@ impl Labels {
         })
     }
 
-    /// Makes room for so many more labels. Errors: want of memory. Cost: the number of labels.
+    /// Makes room for so many more labels. Errors: allocation failure. Cost: the number of labels.
     pub fn reserve(&mut self, labels: usize) -> Result<(), AllocError> {
         self.entries.reserve(labels)
     }
 
-    /// The place of a label, which this token mentions. Errors: want of memory. Cost: constant, amortised.
+    /// The place of a label, which this token mentions. Errors: allocation failure. Cost: constant, amortised.
     #[inline(always)]
     pub fn place(&mut self, label: Label, mention: usize) -> Result<usize, AllocError> {
         match self.latest_as(label) {
@@ -104,7 +104,7 @@ impl Labels {
         mention: usize,
     ) -> Result<usize, AllocError> {
         let place = self.entries.len();
-        self.entries.push(Entry {
+        self.entries.push(LabelEntry {
             scope,
             earlier,
             number: None,
@@ -113,8 +113,8 @@ impl Labels {
         Ok(place)
     }
 
-    /// Gives the label, which this token mentions, its number, and answers whether it had none. Errors: want of
-    /// memory. Cost: constant, amortised.
+    /// Gives the label, which this token mentions, its number, and answers whether it had none. Errors: allocation
+    /// failure. Cost: constant, amortised.
     pub fn define(
         &mut self,
         label: Label,
@@ -147,7 +147,7 @@ impl Labels {
         for place in places.iter_mut() {
             match self.entries.get(*place) {
                 Some(
-                    Entry {
+                    LabelEntry {
                         number: Some(number),
                         ..
                     },

@@ -15,7 +15,7 @@ mod steps;
 mod stop;
 mod syntax;
 pub mod tokens;
-mod words;
+mod word_table;
 
 pub use expected::{Expected, Misread};
 pub use printed::print_text;
@@ -23,4 +23,4 @@ pub use printer::print_as;
 pub use reader::{TextFault, find_text_fault, read_text};
 pub use stop::Stop;
 pub use tokens::Span;
-pub use words::{Word, Words};
+pub use word_table::{Word, WordTable};

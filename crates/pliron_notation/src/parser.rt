@@ -3,7 +3,7 @@ use crate::cursor::Cursor;
 use crate::expected::Expected;
 use crate::labels::{Label, Labels};
 use crate::stop::Stop;
-use crate::syntax::{BlockText, OperationText, Step, Syntax};
+use crate::syntax::{BlockText, OperationText, Syntax, SyntaxStep};
 use crate::tokens::{Name, Token, Tokens};
 use pliron_bench::BenchKind;
 use smallvec::SmallVec;
@@ -15,7 +15,7 @@ const MAX_DEPTH: usize = 64;
 /// A region that is open.
 #[derive(Clone, Copy, Drop)]
 struct OpenRegion {
-    /// The kind of the operation that holds it.
+    /// The kind of its parent operation.
     kind: BenchKind,
     /// The number of its `func`'s region.
     func: usize,
@@ -43,7 +43,7 @@ impl OpenRegion {
 
 /// What was read last in a region.
 #[derive(Clone, Copy, PartialEq, Eq)]
-enum Place {
+enum LastRead {
     /// The brace that opens the region.
     RegionStart,
     /// The colon of a block.
@@ -69,8 +69,8 @@ struct Parser<'t> {
     regions: usize,
 }
 
-/// The syntax of a text, by its tokens. Errors: `Unreadable` where the text is outside the notation; want of
-/// memory. Cost: linear in the tokens.
+/// The syntax of a text, by its tokens. Errors: `Unreadable` where the text is outside the notation; allocation
+/// failure. Cost: linear in the tokens.
 #[inline(never)]
 pub fn parse(alloc: Global, text: &Tokens<BenchKind>) -> Result<Syntax, Stop> {
     let mut cursor = Cursor::new(&text.tokens);
@@ -105,7 +105,7 @@ impl Parser<'_> {
 
     /// Reads what stands in the open region and all that it holds, up to the end of the text.
     fn contents(&mut self, count: usize) -> Result<(), Stop> {
-        let mut place = Place::RegionStart;
+        let mut place = LastRead::RegionStart;
         // Each turn takes a token.
         for _ in 0..count {
             if self.outer.is_empty() {
@@ -121,28 +121,28 @@ impl Parser<'_> {
     }
 
     /// Reads the next block or operation of the region, or its end.
-    fn step(&mut self, place: Place) -> Result<Place, Stop> {
+    fn step(&mut self, place: LastRead) -> Result<LastRead, Stop> {
         if self.cursor.accept(Token::CloseBrace) {
             return self.close_region(place);
         }
-        let is_parted = place == Place::RegionStart || self.cursor.accept(Token::Semicolon);
+        let is_parted = place == LastRead::RegionStart || self.cursor.accept(Token::Semicolon);
         if is_parted && self.cursor.at_block() {
             return self.block();
         }
         match (place, is_parted) {
-            (Place::BlockStart, false) | (Place::Operation, true) => self.operation(),
-            _ => Err(self.cursor.stop(self.expected(place, is_parted))),
+            (LastRead::BlockStart, false) | (LastRead::Operation, true) => self.operation(),
+            _ => Err(self.cursor.stop(self.expectation(place, is_parted))),
         }
     }
 
     /// What was to stand next in the region, after this and with a semicolon or without one.
-    fn expected(&self, place: Place, is_parted: bool) -> Expected {
+    fn expectation(&self, place: LastRead, is_parted: bool) -> Expected {
         match (place, is_parted) {
-            (Place::RegionStart, _) if self.region.needs_block() => Expected::BlockOfRegion,
-            (Place::RegionStart, _) => Expected::BlockOrEnd,
-            (Place::BlockStart, false) => Expected::OperationOrEnd,
-            (Place::BlockStart, true) => Expected::Block,
-            (Place::Branch, true) => Expected::BlockAfterBranch,
+            (LastRead::RegionStart, _) if self.region.needs_block() => Expected::BlockOfRegion,
+            (LastRead::RegionStart, _) => Expected::BlockOrEnd,
+            (LastRead::BlockStart, false) => Expected::OperationOrEnd,
+            (LastRead::BlockStart, true) => Expected::Block,
+            (LastRead::Branch, true) => Expected::BlockAfterBranch,
             (_, false) => Expected::SemicolonOrEnd,
             (_, true) => Expected::OperationOrBlock,
         }
@@ -172,18 +172,18 @@ impl Parser<'_> {
     }
 
     /// Ends the region. The brace is taken.
-    fn close_region(&mut self, place: Place) -> Result<Place, Stop> {
-        if self.region.needs_block() && place == Place::RegionStart {
+    fn close_region(&mut self, place: LastRead) -> Result<LastRead, Stop> {
+        if self.region.needs_block() && place == LastRead::RegionStart {
             return Err(self.cursor.stop_before(Expected::BlockOfRegion));
         }
         if let Some(region) = self.outer.pop() {
             self.region = region;
         }
-        Ok(Place::Operation)
+        Ok(LastRead::Operation)
     }
 
     /// Reads the head of a block.
-    fn block(&mut self) -> Result<Place, Stop> {
+    fn block(&mut self) -> Result<LastRead, Stop> {
         let name = self.cursor.name(Expected::Block)?;
         let number = self.syntax.blocks.len();
         let scope = self.region.number;
@@ -194,14 +194,14 @@ impl Parser<'_> {
         self.cursor.expect(Token::OpenRound, Expected::OpenRound)?;
         let arguments = self.arguments()?;
         self.cursor.expect(Token::Colon, Expected::Colon)?;
-        self.syntax.steps.push(Step::Block(number))?;
+        self.syntax.steps.push(SyntaxStep::Block(number))?;
         self.syntax.blocks.push(BlockText {
             region: scope,
             arguments,
             last: None,
         })?;
         self.region.block = Some(number);
-        Ok(Place::BlockStart)
+        Ok(LastRead::BlockStart)
     }
 
     /// Reads the arguments of a block up to the closing bracket, and answers how many there are.
@@ -247,7 +247,7 @@ impl Parser<'_> {
     }
 
     /// Reads an operation up to its region, which it opens.
-    fn operation(&mut self) -> Result<Place, Stop> {
+    fn operation(&mut self) -> Result<LastRead, Stop> {
         let kind = self.kind()?;
         let Some(block) = self.region.block else {
             return Err(self.cursor.stop_before(Expected::BlockOfRegion));
@@ -267,12 +267,12 @@ impl Parser<'_> {
         }
         if kind.region_count() > 0 {
             self.open_region(kind)?;
-            return Ok(Place::RegionStart);
+            return Ok(LastRead::RegionStart);
         }
         Ok(if kind.successor_count() > 0 {
-            Place::Branch
+            LastRead::Branch
         } else {
-            Place::Operation
+            LastRead::Operation
         })
     }
 

@@ -24,21 +24,21 @@ pub enum Tail {
 
 /// A dialect whose operations are printed.
 pub trait Printed {
-    /// Whether the names of values begin anew at the operation. Asks that it stands (`is_live` tests it).
+    /// Whether the names of values begin anew at the operation. Asks that it is live (`is_live` tests it).
     fn begins_names(op: Ptr<Operation>, ctx: &Context) -> bool
         requires { IsLive ctx.now.tree op };
 
-    /// The word of the operation's kind, if it has one. Asks that it stands (`is_live` tests it).
+    /// The word of the operation's kind, if it has one. Asks that it is live (`is_live` tests it).
     fn word(op: Ptr<Operation>, ctx: &Context) -> Option<&'static str>
         requires { IsLive ctx.now.tree op };
 
-    /// What stands behind that word. Asks that the operation stands (`is_live` tests it).
+    /// What stands behind that word. Asks that the operation is live (`is_live` tests it).
     fn tail(op: Ptr<Operation>, ctx: &Context) -> Tail
         requires { IsLive ctx.now.tree op };
 }
 
-/// The number that an operation has as its first attribute, if it has one. Asks that it stands (`is_live` tests
-/// it). Cost: constant.
+/// The number that an operation has as its first attribute, if it has one. Asks that it is live (`is_live`
+/// tests it). Cost: constant.
 pub fn number_of(op: Ptr<Operation>, ctx: &Context) -> Option<i128>
     requires { IsLive ctx.now.tree op }
 {
@@ -91,7 +91,7 @@ impl Printed for Bench {
 /// The text of the operation in one line, where blocks are `b0`, `b1`, .. in each region and values are
 /// `v0`, `v1`, .. in each `func`. Of a tree that isn't one of this dialect the text is open.
 ///
-/// Asks that the operation stands. Errors: want of memory. Cost: linear in the tree.
+/// Asks that the operation is live. Errors: allocation failure. Cost: linear in the tree.
 pub fn print_text(alloc: Global, root: Ptr<Operation>, ctx: &Context) -> Result<String, OptError>
     requires { IsLive ctx.now.tree root }
     ensures { IsOkUnless result OptError.Memory }

@@ -1,4 +1,7 @@
 //! From a tree to text.
+//!
+//! A printed value has its number in a table by key from the least printed one on, and in a map where its key
+//! lies further away. Digits come from `itoa`.
 ghost use Rattle.std.specs.Prelude.{◌≡◌, IsOkUnless};
 ghost use Rattle.pliron_core.specs.Tree.{IsLive, IsBlock, IsRegion};
 ghost use Rattle.pliron_notation.specs.Printing.{AllStand, IsStanding};
@@ -7,7 +10,7 @@ mod numbers;
 
 use self::numbers::Numbers;
 use crate::printed::{Printed, Tail};
-use crate::steps::{Outline, Step};
+use crate::steps::{Outline, OutlineStep};
 use itoa::Buffer;
 use pliron_core::{BasicBlock, Context, Operation, Ptr, Region, Value};
 use pliron_laws::OptError;
@@ -33,7 +36,7 @@ struct Printer {
 /// The text of the operation in one line, where blocks are `b0`, `b1`, .. in each region and values are
 /// `v0`, `v1`, .. from each operation on at which names begin anew.
 ///
-/// Asks that the operation stands. Errors: want of memory. Cost: linear in the tree.
+/// Asks that the operation is live. Errors: allocation failure. Cost: linear in the tree.
 pub fn print_as<P: Printed>(
     alloc: Global,
     root: Ptr<Operation>,
@@ -51,7 +54,7 @@ pub fn print_as<P: Printed>(
 
 impl Printer {
     /// A printer with room for a text of the usual length, and for twice as many keys as there are values and
-    /// blocks, since some of those between may have gone. Errors: want of memory.
+    /// blocks, since some of those between may be erased. Errors: allocation failure.
     fn new(alloc: Global, outline: &Outline) -> Result<Printer, AllocError> {
         let extent = outline.extent;
         let letters = outline.steps.len().saturating_mul(24);
@@ -65,7 +68,7 @@ impl Printer {
     }
 
     /// Gives each value and each block its number.
-    fn number<P: Printed>(&mut self, ctx: &Context, steps: &[Step]) -> Result<(), AllocError>
+    fn number<P: Printed>(&mut self, ctx: &Context, steps: &[OutlineStep]) -> Result<(), AllocError>
         requires { AllStand ctx.now.tree steps.now }
     {
         let mut next: usize = 0;
@@ -81,22 +84,22 @@ impl Printer {
     fn number_step<P: Printed>(
         &mut self,
         ctx: &Context,
-        step: &Step,
+        step: &OutlineStep,
         next: usize,
     ) -> Result<usize, AllocError>
         requires { IsStanding ctx.now.tree step.now }
     {
         match step {
-            Step::Operation(op) => {
+            OutlineStep::Operation(op) => {
                 let first = if P::begins_names(*op, ctx) { 0 } else { next };
                 self.number_results(ctx, *op, first)
             }
-            Step::Region(region) => {
+            OutlineStep::Region(region) => {
                 self.number_blocks(ctx, *region)?;
                 Ok(next)
             }
-            Step::Block(block) => self.number_arguments(ctx, *block, next),
-            Step::End(_) => Ok(next),
+            OutlineStep::Block(block) => self.number_arguments(ctx, *block, next),
+            OutlineStep::End(_) => Ok(next),
         }
     }
 
@@ -148,7 +151,7 @@ impl Printer {
         Ok(())
     }
 
-    fn print<P: Printed>(&mut self, ctx: &Context, steps: &[Step]) -> Result<(), AllocError>
+    fn print<P: Printed>(&mut self, ctx: &Context, steps: &[OutlineStep]) -> Result<(), AllocError>
         requires { AllStand ctx.now.tree steps.now }
     {
         let mut last = Last::Nothing;
@@ -163,22 +166,22 @@ impl Printer {
     fn print_step<P: Printed>(
         &mut self,
         ctx: &Context,
-        step: &Step,
+        step: &OutlineStep,
         last: &Last,
     ) -> Result<Last, AllocError>
         requires { IsStanding ctx.now.tree step.now }
     {
         match step {
-            Step::Operation(op) => {
-                self.parting(last)?;
+            OutlineStep::Operation(op) => {
+                self.print_separator(last)?;
                 self.operation::<P>(ctx, *op)?;
                 Ok(Last::Operation)
             }
-            Step::Region(_) => {
+            OutlineStep::Region(_) => {
                 self.text.push_str(" {")?;
                 Ok(Last::Opening)
             }
-            Step::Block(block) => {
+            OutlineStep::Block(block) => {
                 self.text.push_str(match last {
                     Last::Opening => " ",
                     _ => "; ",
@@ -186,7 +189,7 @@ impl Printer {
                 self.block(ctx, *block)?;
                 Ok(Last::Block)
             }
-            Step::End(_) => {
+            OutlineStep::End(_) => {
                 self.text.push_str(" }")?;
                 Ok(Last::Operation)
             }
@@ -195,7 +198,7 @@ impl Printer {
 
     /// What parts an operation from what was printed last.
     #[inline(always)]
-    fn parting(&mut self, last: &Last) -> Result<(), AllocError> {
+    fn print_separator(&mut self, last: &Last) -> Result<(), AllocError> {
         match last {
             Last::Nothing => Ok(()),
             Last::Operation => {
@@ -337,16 +340,16 @@ impl Printer {
             self.text.push(' ')?;
             self.block_name(op.get_successor(ctx, i))?;
             if i == 0 {
-                self.forwarded(ctx, op, start, cut.min(count))?;
+                self.print_forwarded(ctx, op, start, cut.min(count))?;
             } else {
-                self.forwarded(ctx, op, cut, count)?;
+                self.print_forwarded(ctx, op, cut, count)?;
             }
         }
         Ok(())
     }
 
     /// The operands from `start` to `end`, in brackets.
-    fn forwarded(
+    fn print_forwarded(
         &mut self,
         ctx: &Context,
         op: Ptr<Operation>,

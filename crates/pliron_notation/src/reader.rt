@@ -26,10 +26,10 @@ pub struct TextFault {
     pub expected: Expected,
 }
 
-/// Reads a text of the bench notation and builds its operation, which stands in no block and is well
-/// linked. `None` is an unreadable text, which is decided before anything is made.
+/// Reads a text of the bench notation and builds its operation, which is in no block and is well linked. `None`
+/// is an unreadable text, which is decided before anything is made.
 ///
-/// Errors: want of memory, after which nothing of the text stands.
+/// Errors: allocation failure, after which nothing of the text is live.
 /// Cost: linear in the text, but for look-ups of names, each of which takes the logarithm of their
 /// number.
 pub fn read_text(
@@ -52,7 +52,7 @@ pub fn read_text(
 
 /// Where and why `read_text` finds a text unreadable; `None` where it reads it.
 ///
-/// Errors: want of memory. Cost: that of reading.
+/// Errors: allocation failure. Cost: that of reading.
 pub fn find_text_fault(alloc: Global, text: &[u8]) -> Result<Option<TextFault>, OptError>
     ensures within { IfOk result (λ found. IfSome found (λ fault. fault.span.start + fault.span.len ≤ length text.now)) }
     ensures memory { IsOkUnless result OptError.Memory }
@@ -67,7 +67,7 @@ pub fn find_text_fault(alloc: Global, text: &[u8]) -> Result<Option<TextFault>, 
     }
 }
 
-/// The syntax of a text. Errors: the first place at which it leaves the notation; want of memory.
+/// The syntax of a text. Errors: the first place at which it leaves the notation; allocation failure.
 fn read_syntax(alloc: Global, text: &[u8]) -> Result<Syntax, Stop>
     ensures { IfOk result (λ syntax. IsSoundSyntax syntax) }
 {

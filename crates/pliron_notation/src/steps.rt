@@ -1,4 +1,4 @@
-//! What stands in a tree, in the order of its text.
+//! What is in a tree, in the order of its text.
 ghost use Rattle.std.specs.Prelude.{IfOk, IfSome};
 ghost use Rattle.pliron_core.specs.Tree.{IsLive, IsBlock, IsRegion};
 ghost use Rattle.pliron_notation.specs.Printing.{AllStand, IsStanding};
@@ -8,7 +8,7 @@ use std::alloc::{AllocError, Global};
 
 /// What a text writes next.
 #[derive(Clone, Copy, Drop)]
-pub enum Step {
+pub enum OutlineStep {
     Operation(Ptr<Operation>),
     /// The start of a region.
     Region(Ptr<Region>),
@@ -31,22 +31,22 @@ pub struct Extent {
 /// The steps in order, and how much they make.
 #[derive(Drop)]
 pub struct Outline {
-    pub steps: Vec<Step>,
+    pub steps: Vec<OutlineStep>,
     pub extent: Extent,
 }
 
 impl Outline {
-    /// All that stands in an operation, from the operation on.
+    /// All that is in an operation, from the operation on.
     ///
-    /// Asks that the operation stands (`is_live` tests it). Errors: want of memory. Cost: one step for each
-    /// operation, block and region, where no operation has more than one region.
+    /// Asks that the operation is live (`is_live` tests it). Errors: allocation failure. Cost: one step for
+    /// each operation, block and region, where no operation has more than one region.
     pub fn of(alloc: Global, root: Ptr<Operation>, ctx: &Context) -> Result<Outline, AllocError>
         requires { IsLive ctx.now.tree root }
         ensures { IfOk result (λ outline. AllStand ctx.now.tree outline.steps.items) }
     {
         let mut steps = Vec::new(alloc);
         let mut extent = Extent::none();
-        let mut next = Some(Step::Operation(root));
+        let mut next = Some(OutlineStep::Operation(root));
         // No tree has as many steps.
         for _ in 0..u64::MAX {
             match next {
@@ -74,17 +74,17 @@ impl Extent {
 
     // Counts what the step makes.
     #[inline(always)]
-    fn add(&mut self, ctx: &Context, step: &Step)
+    fn add(&mut self, ctx: &Context, step: &OutlineStep)
         requires { IsStanding ctx.now.tree step.now }
     {
         match step {
-            Step::Operation(op) => {
+            OutlineStep::Operation(op) => {
                 let results = op.num_result(ctx);
                 if results > 0 {
                     self.add_values(results, op.get_result(ctx, 0));
                 }
             }
-            Step::Block(block) => {
+            OutlineStep::Block(block) => {
                 self.blocks = self.blocks.saturating_add(1);
                 self.first_block = self.first_block.min(block.key());
                 let arguments = block.num_argument(ctx);
@@ -92,7 +92,7 @@ impl Extent {
                     self.add_values(arguments, block.get_argument(ctx, 0));
                 }
             }
-            Step::Region(_) | Step::End(_) => {}
+            OutlineStep::Region(_) | OutlineStep::End(_) => {}
         }
     }
 
@@ -105,32 +105,32 @@ impl Extent {
 
 /// What is written after this step.
 #[inline(always)]
-fn step_after(root: Ptr<Operation>, ctx: &Context, step: &Step) -> Option<Step>
+fn step_after(root: Ptr<Operation>, ctx: &Context, step: &OutlineStep) -> Option<OutlineStep>
     requires { IsStanding ctx.now.tree step.now }
     ensures { IfSome result (λ next. IsStanding ctx.now.tree next) }
 {
     match step {
-        Step::Operation(op) => {
+        OutlineStep::Operation(op) => {
             if op.num_region(ctx) > 0 {
-                Some(Step::Region(op.get_region(ctx, 0)))
+                Some(OutlineStep::Region(op.get_region(ctx, 0)))
             } else {
                 after_operation(root, ctx, *op)
             }
         }
-        Step::Region(region) => match region.get_head(ctx) {
-            Some(block) => Some(Step::Block(block)),
-            None => Some(Step::End(*region)),
+        OutlineStep::Region(region) => match region.get_head(ctx) {
+            Some(block) => Some(OutlineStep::Block(block)),
+            None => Some(OutlineStep::End(*region)),
         },
-        Step::Block(block) => match block.get_head(ctx) {
-            Some(op) => Some(Step::Operation(op)),
+        OutlineStep::Block(block) => match block.get_head(ctx) {
+            Some(op) => Some(OutlineStep::Operation(op)),
             None => after_block(ctx, *block),
         },
-        Step::End(region) => after_region(root, ctx, *region),
+        OutlineStep::End(region) => after_region(root, ctx, *region),
     }
 }
 
 #[inline(always)]
-fn after_operation(root: Ptr<Operation>, ctx: &Context, op: Ptr<Operation>) -> Option<Step>
+fn after_operation(root: Ptr<Operation>, ctx: &Context, op: Ptr<Operation>) -> Option<OutlineStep>
     requires { IsLive ctx.now.tree op }
     ensures { IfSome result (λ next. IsStanding ctx.now.tree next) }
 {
@@ -138,24 +138,24 @@ fn after_operation(root: Ptr<Operation>, ctx: &Context, op: Ptr<Operation>) -> O
         return None;
     }
     match op.get_next(ctx) {
-        Some(next) => Some(Step::Operation(next)),
+        Some(next) => Some(OutlineStep::Operation(next)),
         None => after_block(ctx, op.get_parent_block(ctx)?),
     }
 }
 
 #[inline(never)]
-fn after_block(ctx: &Context, block: Ptr<BasicBlock>) -> Option<Step>
+fn after_block(ctx: &Context, block: Ptr<BasicBlock>) -> Option<OutlineStep>
     requires { IsBlock ctx.now.tree block }
     ensures { IfSome result (λ next. IsStanding ctx.now.tree next) }
 {
     match block.get_next(ctx) {
-        Some(next) => Some(Step::Block(next)),
-        None => Some(Step::End(block.get_parent_region(ctx)?)),
+        Some(next) => Some(OutlineStep::Block(next)),
+        None => Some(OutlineStep::End(block.get_parent_region(ctx)?)),
     }
 }
 
 #[inline(never)]
-fn after_region(root: Ptr<Operation>, ctx: &Context, region: Ptr<Region>) -> Option<Step>
+fn after_region(root: Ptr<Operation>, ctx: &Context, region: Ptr<Region>) -> Option<OutlineStep>
     requires { IsRegion ctx.now.tree region }
     ensures { IfSome result (λ next. IsStanding ctx.now.tree next) }
 {
@@ -164,7 +164,7 @@ fn after_region(root: Ptr<Operation>, ctx: &Context, region: Ptr<Region>) -> Opt
     for i in 0..op.num_region(ctx) {
         let next = op.get_region(ctx, i);
         if is_past {
-            return Some(Step::Region(next));
+            return Some(OutlineStep::Region(next));
         }
         is_past = next == region;
     }

@@ -16,7 +16,7 @@ pub struct OperationText {
     pub number: i64,
     /// How many values the first edge of a `cbr` forwards.
     pub first_edge: usize,
-    /// The block that it stands in.
+    /// The block that it is in.
     pub block: usize,
     pub operands: SmallVec<usize, 2>,
     pub successors: Vec<usize>,
@@ -33,17 +33,17 @@ pub struct BlockText {
 
 /// What a text makes next: the operation or the block of this number.
 #[derive(Clone, Copy, Drop)]
-pub enum Step {
+pub enum SyntaxStep {
     Operation(usize),
     Block(usize),
 }
 
-/// A text: the kind of the operation that it is as a whole, and what stands inside it, in the order of
-/// the text. The whole's region has the number 0.
+/// A text: the kind of the operation that it is as a whole, and what is inside it, in the order of the text.
+/// The whole's region has the number 0.
 #[derive(Drop)]
 pub struct Syntax {
     pub root: BenchKind,
-    pub steps: Vec<Step>,
+    pub steps: Vec<SyntaxStep>,
     pub operations: Vec<OperationText>,
     pub blocks: Vec<BlockText>,
     pub values: usize,
@@ -61,17 +61,17 @@ impl Syntax {
         }
     }
 
-    /// Makes room for so many more operations. Errors: want of memory. Cost: the number of operations.
+    /// Makes room for so many more operations. Errors: allocation failure. Cost: the number of operations.
     pub fn reserve(&mut self, operations: usize) -> Result<(), AllocError> {
         self.steps.reserve(operations)?;
         self.operations.reserve(operations)
     }
 
-    /// Adds the next operation of the text, as the next step, and answers its number. Errors: want of memory.
+    /// Adds the next operation of the text, as the next step, and answers its number. Errors: allocation failure.
     /// Cost: constant, amortised.
     pub fn add_operation(&mut self, operation: OperationText) -> Result<usize, AllocError> {
         let number = self.operations.len();
-        self.steps.push(Step::Operation(number))?;
+        self.steps.push(SyntaxStep::Operation(number))?;
         self.operations.reserve(1)?;
         self.operations.push_reserved(operation);
         Ok(number)
@@ -215,18 +215,18 @@ impl Made {
     }
 
     /// Counts what the step makes, and answers whether it is the next and its place is made.
-    fn take(&mut self, syntax: &Syntax, step: Step) -> bool
+    fn take(&mut self, syntax: &Syntax, step: SyntaxStep) -> bool
         ensures { IsTrue result → IsNext syntax.now self.old step self.new }
     {
         match step {
-            Step::Operation(number) => match syntax.operations.get(number) {
+            SyntaxStep::Operation(number) => match syntax.operations.get(number) {
                 Some(operation) if number == self.operations && operation.block < self.blocks => {
                     self.operations += 1;
                     self.add(operation.kind.region_count(), operation.kind.result_count())
                 }
                 _ => false,
             },
-            Step::Block(number) => match syntax.blocks.get(number) {
+            SyntaxStep::Block(number) => match syntax.blocks.get(number) {
                 Some(block) if number == self.blocks && block.region < self.regions => {
                     self.blocks += 1;
                     self.add(0, block.arguments)

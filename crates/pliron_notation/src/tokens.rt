@@ -2,7 +2,7 @@
 ghost use Rattle.std.specs.Prelude.{◌≡◌, ◌+◌, ◌<◌, ◌≤◌, length, IfOk};
 
 use crate::expected::{Expected, Misread};
-use crate::words::{Word, Words, Written, is_letter};
+use crate::word_table::{Word, WordTable, Written, is_letter};
 use std::alloc::{AllocError, Global};
 
 /// A name, by its number among the names of the text.
@@ -63,7 +63,7 @@ fn token_of_byte<K>(byte: u8) -> Option<Token<K>> {
 
 /// What a lexeme is, by its first byte.
 #[derive(Clone, Copy, PartialEq, Eq)]
-enum Form {
+enum LexemeForm {
     Blank,
     Word,
     Number,
@@ -71,15 +71,15 @@ enum Form {
     Mark,
 }
 
-impl Form {
+impl LexemeForm {
     fn of(first: u8) -> Self {
         if is_letter(first) {
-            return Form::Word;
+            return LexemeForm::Word;
         }
         match first {
-            b' ' | b'\t' | b'\r' | b'\n' => Form::Blank,
-            b'-' | b'0'..=b'9' => Form::Number,
-            _ => Form::Mark,
+            b' ' | b'\t' | b'\r' | b'\n' => LexemeForm::Blank,
+            b'-' | b'0'..=b'9' => LexemeForm::Number,
+            _ => LexemeForm::Mark,
         }
     }
 }
@@ -116,23 +116,23 @@ fn negative_of(digits: &[u8]) -> Option<i64> {
     Some(number)
 }
 
-/// What a text begins with, and what stands behind it. Errors: want of memory.
+/// What a text begins with, and what stands behind it. Errors: allocation failure.
 fn first_lexeme<'t, K: Word>(
     text: &'t [u8],
-    words: &mut Words<'t, K>,
+    words: &mut WordTable<'t, K>,
 ) -> Result<(Lexeme<K>, &'t [u8]), AllocError>
     requires { 0 < length text.now }
     ensures { IfOk result (λ read. length read.1.now < length text.now) }
 {
-    match Form::of(text[0]) {
-        Form::Blank => Ok((Lexeme::Blank, &text[1..])),
-        Form::Word => {
+    match LexemeForm::of(text[0]) {
+        LexemeForm::Blank => Ok((Lexeme::Blank, &text[1..])),
+        LexemeForm::Word => {
             let written = Written::first_of(text);
             let after = &text[written.word.len()..];
             let token = words.token(written)?;
             Ok((Lexeme::of(token, Expected::ShortWord), after))
         }
-        Form::Number => {
+        LexemeForm::Number => {
             let (lexeme, after) = text.split_at(number_len(text));
             let lexeme = match number_of(lexeme) {
                 Some(number) => Lexeme::Token(Token::Number(number)),
@@ -140,7 +140,7 @@ fn first_lexeme<'t, K: Word>(
             };
             Ok((lexeme, after))
         }
-        Form::Mark => {
+        LexemeForm::Mark => {
             let token = token_of_byte(text[0]);
             Ok((Lexeme::of(token, Expected::Token), &text[1..]))
         }
@@ -156,11 +156,11 @@ pub struct Tokens<K> {
     pub misread: Option<Misread>,
 }
 
-/// The tokens of a text, up to the first place that is no token. Errors: want of memory. Cost: linear in the
+/// The tokens of a text, up to the first place that is no token. Errors: allocation failure. Cost: linear in the
 /// text, but for look-ups of words.
 #[inline(never)]
 pub fn tokenise<K: Word>(alloc: Global, text: &[u8]) -> Result<Tokens<K>, AllocError> {
-    let mut words = Words::new(alloc, text.len())?;
+    let mut words = WordTable::new(alloc, text.len())?;
     let mut tokens = Vec::with_capacity(alloc, text.len() / 2)?;
     let mut misread = None;
     let mut rest = text;
@@ -199,10 +199,10 @@ fn lexeme_len(text: &[u8]) -> usize
     ensures some { 0 < result }
     ensures within { result ≤ length text.now }
 {
-    match Form::of(text[0]) {
-        Form::Word => Written::first_of(text).word.len(),
-        Form::Number => number_len(text),
-        Form::Blank | Form::Mark => 1,
+    match LexemeForm::of(text[0]) {
+        LexemeForm::Word => Written::first_of(text).word.len(),
+        LexemeForm::Number => number_len(text),
+        LexemeForm::Blank | LexemeForm::Mark => 1,
     }
 }
 
@@ -216,7 +216,7 @@ pub fn span_of_token(text: &[u8], number: usize) -> Span
     while !rest.is_empty() {
         let len = lexeme_len(rest);
         let (_, after) = rest.split_at(len);
-        if Form::of(rest[0]) != Form::Blank {
+        if LexemeForm::of(rest[0]) != LexemeForm::Blank {
             if count == number {
                 return Span {
                     start: text.len() - rest.len(),

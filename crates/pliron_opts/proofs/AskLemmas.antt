@@ -1,7 +1,7 @@
 -- What words ask for.
 use Rattle.std.proofs.Common.{◌≡◌, ℕ, Bool, List, [], ◌∷◌, Option, length, get_or, sym, ap, subst, arith}
 use Rattle.pliron_opts.specs.Plans.{IsPlan}
-use Rattle.pliron_pipeline.specs.Steps.{PipelineOf, ScheduleOf}
+use Rattle.pliron_pipeline.specs.PassSteps.{PipelineOf, ScheduleOf}
 use Rattle.pliron_opts.specs.Asked.{IsPlanned, is_nested, names_of}
 use Rattle.pliron_opts.specs.Ran.{IsScheduled}
 

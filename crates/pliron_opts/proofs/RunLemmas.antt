@@ -10,7 +10,7 @@ use Rattle.pliron_laws.specs.declared.fault.OptError.{OptError}
 use Rattle.pliron_pass.specs.Combined.{Steps}
 use Rattle.pliron_pass.specs.Outcome.{OutcomeOf, Verifying, RunsBy, RunsPass}
 use Rattle.pliron_pass.specs.Stage.{Stage}
-use Rattle.pliron_pipeline.specs.Honest.{IsHonest}
+use Rattle.pliron_pipeline.specs.ChangeReports.{IsAccurate}
 use Rattle.pliron_pipeline.proofs.HonestLemmas.{step_same}
 use Rattle.pliron_opts.specs.Ran.{IsPlain, RunsAlone}
 
@@ -35,7 +35,7 @@ steps_managed eq name outcome verifies managed p later root first last (Ok c) e 
 }
 steps_managed eq name outcome verifies managed p later root first last (Err err) e steps = subst (λ b. RunsBy name outcome verifies b p later root first last (Err err)) e steps
 
--- a step of a pass that is honest
-pub steps_truly : {K E P : Type 0} (eq : K → K → Bool) (outcome : OutcomeOf P K E) → IsHonest outcome → (p later : P) (root : ℕ) (first last : Stage K E) (r : Result IRStatus OptError) → Steps eq outcome p later root first last r → IfOk r (λ status. status ≡ Unchanged → IsSameTree first.tree last.tree)
+-- a step of a pass that reports accurately
+pub steps_truly : {K E P : Type 0} (eq : K → K → Bool) (outcome : OutcomeOf P K E) → IsAccurate outcome → (p later : P) (root : ℕ) (first last : Stage K E) (r : Result IRStatus OptError) → Steps eq outcome p later root first last r → IfOk r (λ status. status ≡ Unchanged → IsSameTree first.tree last.tree)
 steps_truly eq outcome honest p later root first last (Ok c) steps = λ e. step_same eq outcome honest p later root first last c steps e
 steps_truly eq outcome honest p later root first last (Err e) steps = tt

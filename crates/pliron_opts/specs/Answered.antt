@@ -9,7 +9,7 @@ use Rattle.pliron_laws.specs.Linked.{IsWellLinked}
 use Rattle.pliron_pass.specs.declared.bench_facts.BenchFactKind.{BenchFactKind}
 use Rattle.pliron_pass.specs.declared.bench_facts.BenchFacts.{BenchFacts}
 use Rattle.pliron_pass.specs.Headline.{DoAsBefore}
-use Rattle.pliron_pipeline.specs.Steps.{ScheduleOf}
+use Rattle.pliron_pipeline.specs.PassSteps.{ScheduleOf}
 use Rattle.pliron_opts.specs.declared.optimise.command.Command.{Command}
 use Rattle.pliron_opts.specs.declared.optimise.command.Command.TheVariants.{Optimise, Graph}
 
@@ -26,9 +26,10 @@ status_line Changed = 10 ∷ codes "changed" ++ 10 ∷ []
 status_line Unchanged = 10 ∷ codes "unchanged" ++ 10 ∷ []
 
 module _ (reads : Reads) (prints : Prints) (m : Meaning) where
-  -- a tree and its operation are read from the text, and passes run on that. In the tree after, every operation that was
-  -- fit to run and still stands does as before, the text's operation stands and is well linked, and only what is inside it
-  -- is changed. The answer is that tree printed, and a line that says truly whether it changed
+  -- a tree and its operation are read from the text, and passes run on that. In the tree after, every operation
+  -- that was fit to run and is still live does as before, the text's operation is live and well linked, and
+  -- only what is inside it is changed. The answer is that tree printed, and an accurate line on whether it
+  -- changed
   pub record IsOptimised (ran : ℕ → Tree → Tree → IRStatus → Type 0) (text answer : List ℕ) : Type 0 where
     pub root : ℕ
     pub before : Tree

@@ -2,7 +2,7 @@
 use Rattle.std.specs.Prelude.{◌≡◌, ℕ, Bool, true, false, List, [], ◌∷◌, Option, map, codes}
 use Rattle.pliron_opts.specs.Plans.{IsPlan}
 use Rattle.either.specs.declared.Either.TheVariants.{Left, Right}
-use Rattle.pliron_pipeline.specs.Steps.{PipelineOf, ScheduleOf, step_name}
+use Rattle.pliron_pipeline.specs.PassSteps.{PipelineOf, ScheduleOf, step_name}
 use Rattle.pliron_opts.specs.Ran.{IsScheduled}
 use Rattle.pliron_opts.specs.declared.optimise.command.Command.{Command}
 use Rattle.pliron_opts.specs.declared.optimise.command.Command.TheVariants.{Optimise, Graph}
@@ -17,8 +17,8 @@ abbrev pub names_of : {D E B K : Type 0} → PipelineOf D E B K → List (List �
 names_of (Left passes) = map step_name passes.passes.items
 names_of (Right each) = map step_name each.pass.passes.items
 
--- the word plans the passes of the schedule by their names in order, on each operation directly inside or not, and run as
--- often
+-- the word plans the passes of the schedule by their names in order, on each operation directly inside or not,
+-- and run as often
 pub record IsPlanned {D E B K : Type 0} (word : List ℕ) (schedule : ScheduleOf D E B K) : Type 0 where
   pub runs : Option ℕ
   pub pipeline : PipelineOf D E B K

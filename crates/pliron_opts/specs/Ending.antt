@@ -30,7 +30,7 @@ WritesPart before after answer = (first : List ℕ) × (rest : List ℕ) × (ans
 -- the statuses, and what the writer holds after each, where that is known
 pub data Ends (answers : List ℕ → Type 0) (before after : Option (List ℕ)) (status : ℕ) : Type 0 where
   Whole : (answer : List ℕ) → answers answer → status ≡ 0 → Appends before after answer → Ends answers before after status
-  -- no answer is known: memory was refused, or the optimisation was
+  -- no answer is known: an allocation failed, or the optimisation gave up
   Refuses : status ≡ 1 → Keeps before after → Ends answers before after status
   -- no answer is known: the words are not understood, nothing can be read, or the text is unreadable
   Faults : status ≡ 2 → Keeps before after → Ends answers before after status

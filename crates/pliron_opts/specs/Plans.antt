@@ -1,4 +1,4 @@
--- Which words ask for a list of passes.
+-- Which words ask for a pass pipeline.
 use Rattle.std.specs.Prelude.{◌≡◌, ◌≤◌, ◌==◌, ◌↔◌, ℕ, Bool, List, [], ◌++◌, Option, Some, None, IfSome, IsSome, IsTrue, codes, if◌then◌else◌}
 use Rattle.std.specs.List.{slice_split}
 use Rattle.std.specs.Fmt.{decimal}

@@ -8,7 +8,7 @@ use Rattle.pliron_pass.specs.Outcome.{OutcomeOf}
 use Rattle.pliron_pass.specs.Stage.{Stage}
 use Rattle.pliron_pass.specs.declared.config.PMData.{PMData}
 use Rattle.either.specs.declared.Either.TheVariants.{Left, Right}
-use Rattle.pliron_pipeline.specs.Steps.{PipelineOf, ScheduleOf}
+use Rattle.pliron_pipeline.specs.PassSteps.{PipelineOf, ScheduleOf}
 
 -- the pipeline once, or at most so many times where a number is given
 abbrev pub IsScheduled : {D E B K : Type 0} → Option ℕ → PipelineOf D E B K → ScheduleOf D E B K → Type 0

@@ -7,7 +7,7 @@ use Rattle.pliron_laws.specs.Linked.{IsWellLinked}
 use Rattle.pliron_bench.specs.BenchMoves.{bench}
 use Rattle.pliron_notation.specs.Building.{IsGrown}
 
--- the tree is one new operation with what stands inside it, and it is well linked; which one the text says is open
+-- the tree is one new operation with what is inside it, and it is well linked; which one the text says is open
 abbrev pub ReadsBench : List ℕ → Tree → ℕ → Type 0
 ReadsBench text tree root = IsGrown no_tree tree root × IsWellLinked bench tree root
 

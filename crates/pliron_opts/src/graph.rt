@@ -1,14 +1,14 @@
 //! The description of a graph, which is read from a text of its own and has no tree.
 mod graph_lines;
 
-use pliron_graph_text::read_graph;
+use pliron_graph::read_graph;
 use pliron_laws::OptError;
 use std::alloc::Global;
 
 /// What the program writes for a graph; `None` for a text that is none.
 ///
-/// Errors: want of memory. Cost: that of reading and printing it.
-pub fn described(alloc: Global, text: &[u8]) -> Result<Option<String>, OptError> {
+/// Errors: allocation failure. Cost: that of reading and printing it.
+pub fn describe_graph(alloc: Global, text: &[u8]) -> Result<Option<String>, OptError> {
     match read_graph(alloc, text)? {
         Some(graph) => Ok(Some(graph_lines::print_graph(alloc, &graph)?)),
         None => Ok(None),

@@ -1,6 +1,6 @@
 //! Optimisations of trees of operations, and the program that runs them.
 //!
-//! The optimisations stand in crates below, beside one another; this one passes their names on and knows of
+//! The optimisations are in crates below, beside one another; this one passes their names on and knows of
 //! texts, arguments and streams.
 #![tactic(auto)]
 
@@ -17,10 +17,10 @@ mod host;
 mod optimise;
 mod program;
 
-use graph::described;
+pub use graph::describe_graph;
 pub use host::{host_words, optimise_host};
-pub use optimise::{BenchNotation, KindNotation, Notation};
-use optimise::{Command, asked, optimised};
+pub use optimise::{BenchNotation, KindNotation, Notation, optimise_text, plan_schedule};
+use optimise::{Command, read_command};
 use pliron_bench::Bench;
 pub use pliron_cfg::{
     merge_inside_block, merge_inside_op, merge_inside_region, remove_blocks_inside_block,
@@ -30,10 +30,11 @@ pub use pliron_dce::dce;
 pub use pliron_laws::OptError;
 use pliron_pass::{BenchFactKind, BenchFacts, Pass};
 pub use pliron_pipeline::{
-    DCEPass, Pipeline, SCCPPass, Schedule, SimplifyCFGPass, Step, run_pipeline,
+    DCEPass, PassStep, Pipeline, SCCPPass, Schedule, SimplifyCFGPass, run_pipeline,
 };
 pub use pliron_sccp::{sccp, sccp_counted};
-use program::{Failure, MAX_TEXT, read_input, write_answer};
+pub use program::MAX_TEXT;
+use program::{Failure, read_input, write_answer};
 use std::alloc::Global;
 use std::io::{Read, Write};
 
@@ -47,13 +48,13 @@ fn answer<N: Notation>(
         (RunsAlone ⟦<BenchFactKind as PartialEq>⟧.eq ⟦<Schedule<N::D, BenchFacts> as Pass>⟧.outcome) command text.now (string_bytes answer))) }
 {
     match command {
-        Command::Optimise(schedule) => optimised::<N>(alloc, schedule, text),
-        Command::Graph => described(alloc, text),
+        Command::Optimise(schedule) => optimise_text::<N>(alloc, schedule, text),
+        Command::Graph => describe_graph(alloc, text),
     }
 }
 
 /// What is to be written for the words and the input.
-fn answered<N: Notation, R: Read>(
+fn answer_to_input<N: Notation, R: Read>(
     alloc: Global,
     words: &[String],
     input: &mut R,
@@ -62,7 +63,7 @@ fn answered<N: Notation, R: Read>(
         (RunsAlone ⟦<BenchFactKind as PartialEq>⟧.eq ⟦<Schedule<N::D, BenchFacts> as Pass>⟧.outcome)) (map string_bytes words.now)
         (R.remaining input.old) (string_bytes answer)) }
 {
-    let Some(command) = asked(alloc, words)? else {
+    let Some(command) = read_command(alloc, words)? else {
         return Err(Failure::Arguments);
     };
     let text = read_input(alloc, input)?;
@@ -78,15 +79,15 @@ fn answered<N: Notation, R: Read>(
 /// Runs the program over the texts of a notation, on the words after its name and these streams, and
 /// answers its status. `program` is its name in the line on how it is used.
 ///
-/// For every dialect that keeps its laws and every notation of it: an answer to a schedule of passes is a
-/// tree printed, and a line that says truly whether it changed. The tree is what these passes, run once as
-/// a whole, made of one that was read from the whole input, and every operation that was fit to run and
-/// still stands does as before.
+/// For every dialect that keeps its laws and every notation of it: an answer to a schedule of passes (a pass
+/// pipeline) is a tree printed, and an accurate line on whether it changed. The tree is what these passes, run
+/// once as a whole, made of one that was read from the whole input, and every operation that was fit to run and
+/// is still live does as before.
 ///
-/// Faults are found in this order: arguments, reading, text, passes and printing, writing. Nothing is
-/// written to `output` before the whole answer is known. Statuses: 0; 1 where memory or the passes were
-/// refused, with empty output; 2 for the rest; each but 0 with a line on `errors`. A failed write to
-/// `errors` is ignored. Cost: reading and printing, and that of the passes.
+/// Faults are found in this order: arguments, reading, text, passes and printing, writing. Nothing is written
+/// to `output` before the whole answer is known. Statuses: 0; 1 on allocation failure or where the passes gave
+/// up, with empty output; 2 for the rest; each but 0 with a line on `errors`. A failed write to `errors` is
+/// ignored. Cost: reading and printing, and that of the passes.
 pub fn run_optimiser<N: Notation, R: Read, W: Write, E: Write>(
     alloc: Global,
     program: &str,
@@ -99,7 +100,7 @@ pub fn run_optimiser<N: Notation, R: Read, W: Write, E: Write>(
         (RunsAlone ⟦<BenchFactKind as PartialEq>⟧.eq ⟦<Schedule<N::D, BenchFacts> as Pass>⟧.outcome)) (map string_bytes args.now)
         (R.remaining input.old)) (W.contents output.old) (W.contents output.new) result }
 {
-    match answered::<N, R>(alloc, args, input) {
+    match answer_to_input::<N, R>(alloc, args, input) {
         Ok(answer) => match write_answer(answer.as_bytes(), output) {
             Ok(()) => 0,
             Err(failure) => failure.report(program, errors),

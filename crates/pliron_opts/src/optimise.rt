@@ -3,6 +3,6 @@ mod answer;
 mod command;
 mod notation;
 
-pub use answer::optimised;
-pub use command::{Command, asked};
+pub use answer::optimise_text;
+pub use command::{Command, plan_schedule, read_command};
 pub use notation::{BenchNotation, KindNotation, Notation};

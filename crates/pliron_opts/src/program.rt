@@ -1,10 +1,10 @@
-//! What every program has: words that ask for a list of passes, streams, and the ways to end without an answer.
+//! What every program has: words that ask for a pass pipeline, streams, and the ways to end without an answer.
 //!
 //! It knows no tree, no pass and no notation.
 mod failure;
-mod plan;
+mod pipeline_word;
 mod streams;
 
 pub use failure::Failure;
-pub use plan::Plan;
+pub use pipeline_word::PipelineWord;
 pub use streams::{MAX_TEXT, read_input, write_answer};

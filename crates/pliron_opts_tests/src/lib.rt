@@ -2,7 +2,11 @@
 #![tactic(auto)]
 
 #[cfg(test)]
+mod arithmetic;
+#[cfg(test)]
 mod graphs;
+#[cfg(test)]
+mod named;
 #[cfg(test)]
 mod streams;
 #[cfg(test)]

@@ -20,7 +20,7 @@ impl<'t> Input<'t> {
     }
 
     /// How many bytes weren't read.
-    pub fn left(&self) -> usize {
+    pub fn unread_len(&self) -> usize {
         self.rest.len()
     }
 }

@@ -101,8 +101,8 @@ fn rows(rt: HostRuntime) {
     }
 }
 
-/// Lists of passes and texts, and what is written of them. After `dce` of `dce,sccp` the keys of values lie too far apart
-/// to be guessed.
+/// Lists of passes and texts, and what is written of them. After `dce` of `dce,sccp` the keys of values lie too
+/// far apart to be guessed.
 static LISTS: &str = "\
 sccp,dce :: func { b0(): a = const 1; b = const 2; c = add a b; ret c } => func { b0(): v0 = const 3; ret v0 }|changed|
 sccp,sccp :: func { b0(): a = const 1; b = const 2; c = add a b; ret c } \
@@ -202,7 +202,7 @@ dce :: func { b0(): a = const 1 => unreadable text|
 repeat:2:nested:dce :: func { b0(): a = const 9223372036854775808; ret a } => unreadable text|";
 
 #[test]
-fn refused(rt: HostRuntime) {
+fn refused_texts(rt: HostRuntime) {
     for line in REFUSED.lines() {
         let (list, rest) = line.split_once(" :: ").expect(&rt, "a list");
         let (text, reported) = rest.split_once(" => ").expect(&rt, "a case");
@@ -245,7 +245,7 @@ func { b0(): \u{e4} = const 1; ret }
 func { b0(): a234567890123456789012345678901234567890123456789012345678901234x = const 1; ret }";
 
 #[test]
-fn unreadable(rt: HostRuntime) {
+fn unreadable_texts(rt: HostRuntime) {
     for text in UNREADABLE.lines() {
         expect_run(
             &rt,
@@ -270,7 +270,7 @@ fn unreadable(rt: HostRuntime) {
 }
 
 /// A text followed by so many blanks.
-fn padded(rt: &impl Abort, alloc: Global, text: &str, blanks: usize) -> Vec<u8> {
+fn pad_text(rt: &impl Abort, alloc: Global, text: &str, blanks: usize) -> Vec<u8> {
     let mut padded = Vec::from_slice(alloc, text.as_bytes()).expect(rt, "memory");
     padded
         .resize(text.len().saturating_add(blanks), b' ')
@@ -282,7 +282,7 @@ fn padded(rt: &impl Abort, alloc: Global, text: &str, blanks: usize) -> Vec<u8> 
 fn reads_no_more_than_one_byte_past_the_limit(rt: HostRuntime) {
     let text = "func { b0(): ret }";
     let alloc = rt.alloc();
-    let longest = padded(&rt, alloc, text, 1_048_576 - 18);
+    let longest = pad_text(&rt, alloc, text, 1_048_576 - 18);
     expect_run(
         &rt,
         alloc,
@@ -291,9 +291,9 @@ fn reads_no_more_than_one_byte_past_the_limit(rt: HostRuntime) {
         "func { b0(): ret }|unchanged|",
         "",
     );
-    let longer = padded(&rt, alloc, text, 1_048_577 - 18);
+    let longer = pad_text(&rt, alloc, text, 1_048_577 - 18);
     expect_run(&rt, alloc, &propagation(&longer), 2, "", "unreadable text|");
-    let longest_by_far = padded(&rt, alloc, text, 1_100_000);
+    let longest_by_far = pad_text(&rt, alloc, text, 1_100_000);
     let mut args = Vec::new(alloc);
     args.push(String::from_str(alloc, "sccp").expect(&rt, "memory"))
         .expect(&rt, "memory");
@@ -305,7 +305,7 @@ fn reads_no_more_than_one_byte_past_the_limit(rt: HostRuntime) {
         2
     );
     assert_eq!(rt;
-        longest_by_far.len().saturating_sub(input.left()),
+        longest_by_far.len().saturating_sub(input.unread_len()),
         1_048_577
     );
 }

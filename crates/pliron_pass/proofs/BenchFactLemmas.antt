@@ -7,7 +7,7 @@ use Rattle.std.proofs.lemmas.Bool.{false≢true}
 use Rattle.pliron_core.specs.Lists.{In, IsDistinct, first_of, last_of}
 use Rattle.pliron_core.specs.Tree.{Tree, IsLive, regions_of, layout_of, body_of, parent_of}
 use Rattle.pliron_core.specs.Edges.{succs_of, succs_from}
-use Rattle.pliron_core.specs.Joined.{IsTree}
+use Rattle.pliron_core.specs.Invariant.{IsTree}
 use Rattle.pliron_core.specs.Walks.{children, children_of_region, contents, descend}
 use Rattle.pliron_core.proofs.ArgumentLemmas.{take_more}
 use Rattle.pliron_core.proofs.WalkLemmas.{contents-children}

@@ -7,7 +7,7 @@ use Rattle.pliron_laws.specs.declared.fault.OptError.{OptError}
 use Rattle.pliron_pass.specs.Stage.{Stage}
 use Rattle.pliron_pass.specs.Answer.{FreshAfter, has_changed, kept_kinds}
 use Rattle.pliron_pass.specs.Cache.{IsFresh, cached_kinds, retained}
-use Rattle.pliron_pass.specs.Combined.{Closes, Closes.Done, Closes.Failed, Closes.Short, IsClosed, emptied}
+use Rattle.pliron_pass.specs.Combined.{Closes, Closes.Done, Closes.Failed, Closes.Short, IsClosed, empty_stage}
 use Rattle.pliron_pass.specs.declared.config.PMData.{PMData}
 use Rattle.pliron_pass.specs.declared.result.PassResult.{PassResult}
 

@@ -12,7 +12,7 @@ use Rattle.pliron_core.proofs.WithinLemmas.{equal_from}
 use Rattle.pliron_pass.specs.Cache.{IsFresh, IsFreshEntry, retained, is_same_key}
 use Rattle.pliron_pass.specs.Grown.{cached_at}
 use Rattle.pliron_theory.specs.Edges.{edges_inside}
-use Rattle.pliron_core.specs.Joined.{IsTree}
+use Rattle.pliron_core.specs.Invariant.{IsTree}
 use Rattle.pliron_core.specs.Changes.{IsSameTree}
 use Rattle.std.proofs.Common.{Result, Ok, Err, IfOk}
 use Rattle.pliron_laws.specs.declared.fault.OptError.{OptError}

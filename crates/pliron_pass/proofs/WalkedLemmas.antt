@@ -3,7 +3,7 @@ use Rattle.std.proofs.Common.{◌≡◌, ℕ, ◌+◌, ◌<◌, arith, length-ap
 use Rattle.std.specs.Option.{ForSome}
 use Rattle.pliron_core.specs.Lists.{next_in}
 use Rattle.pliron_core.specs.Tree.{Tree, IsWithin}
-use Rattle.pliron_core.specs.Joined.{IsTree}
+use Rattle.pliron_core.specs.Invariant.{IsTree}
 use Rattle.pliron_core.specs.Walks.{contents, preorder}
 use Rattle.pliron_core.specs.WalkSteps.{rest_from}
 use Rattle.pliron_core.proofs.NextLemmas.{rest_from-step, rest_from-first}

@@ -3,7 +3,7 @@ use Rattle.std.proofs.Common.{◌≡◌, ℕ, zero, suc, ◌<◌, ◌+◌, Bool,
 use Rattle.std.proofs.lemmas.Bool.{false≢true}
 use Rattle.std.specs.List.{flat_map}
 use Rattle.pliron_core.specs.Tree.{Tree, IsLive}
-use Rattle.pliron_core.specs.Joined.{IsTree}
+use Rattle.pliron_core.specs.Invariant.{IsTree}
 use Rattle.pliron_core.specs.Changes.{IsSameTree}
 use Rattle.pliron_core.specs.Walks.{contents}
 use Rattle.pliron_core.proofs.SameReadLemmas.{same_contents}
@@ -28,7 +28,7 @@ one_kind KindTotal KindEdges h = absurd (false≢true h)
 one_kind KindTotal KindSize h = absurd (false≢true h)
 one_kind KindTotal KindTotal h = refl
 
--- spent keys are nothing to a fact
+-- a fact doesn't depend on erased handles
 pub fact_stays : (e : BenchFacts) (o : ℕ) (t u : Tree) → IsTree t → IsTree u → IsSameTree t u → IsLive u o → HoldsFact e o t → HoldsFact e o u
 fact_stays (Edges pairs) o t u wt wu s live h = h ∙ ap (flat_map pairs_of) (sym (edges_same t u o wt wu s))
 fact_stays (Size count) o t u wt wu s live h = h ∙ ap length (sym (same_contents t u wt wu s o))

@@ -25,14 +25,14 @@ passes_name = 0x70 ∷ 0x61 ∷ 0x73 ∷ 0x73 ∷ 0x65 ∷ 0x73 ∷ []
 abbrev pub nested_name : List ℕ
 nested_name = 0x6e ∷ 0x65 ∷ 0x73 ∷ 0x74 ∷ 0x65 ∷ 0x64 ∷ 0x5f ∷ 0x6f ∷ 0x70 ∷ 0x73 ∷ 0x5f ∷ 0x70 ∷ 0x61 ∷ 0x73 ∷ 0x73 ∷ []
 
-abbrev pub emptied : {K E : Type 0} → Stage K E → Stage K E
-emptied s = record s { cache = [] }
+abbrev pub empty_stage : {K E : Type 0} → Stage K E → Stage K E
+empty_stage s = record s { cache = [] }
 
 module _ {K E P G : Type 0} (allows : G → ℕ → Tree → Bool) (inner : OutcomeOf P K E) where
   pub data Guards (g g' : G) (p p' : P) (op : ℕ) (s s' : Stage K E) (r : Result (PassResult K) OptError) : Type 0 where
     Bars : allows g op s.tree ≡ false → g' ≡ g → p' ≡ p → s' ≡ s → (a : PassResult K) → r ≡ Ok a → IsNewAnswer a → Guards g g' p p' op s s' r
     Lets : allows g op s.tree ≡ true → g' ≡ g → (a : PassResult K) → r ≡ Ok a → inner p p' op s s' (Ok a) → Guards g g' p p' op s s' r
-    Fails : allows g op s.tree ≡ true → g' ≡ g → (e : OptError) → r ≡ Err e → (u : Stage K E) → inner p p' op s u (Err e) → s' ≡ emptied u → Guards g g' p p' op s s' r
+    Fails : allows g op s.tree ≡ true → g' ≡ g → (e : OptError) → r ≡ Err e → (u : Stage K E) → inner p p' op s u (Err e) → s' ≡ empty_stage u → Guards g g' p p' op s s' r
 
 module _ {K E P : Type 0} (eq : K → K → Bool) (inner : OutcomeOf P K E) where
   -- a run, after which the cache keeps what the answer preserves
@@ -77,9 +77,9 @@ module _ {K E P : Type 0} (eq : K → K → Bool) (inner : OutcomeOf P K E) wher
 -- something, and preserves the kinds now cached; after an error the cache is empty
 pub data Closes {K E : Type 0} (eq : K → K → Bool) (R : Stage K E → Result IRStatus OptError → Type 0) (s' : Stage K E) (r : Result (PassResult K) OptError) : Type 0 where
   Done : (a : PassResult K) → r ≡ Ok a → R s' (Ok (has_changed a)) → kept_kinds a ≡ cached_kinds eq s'.cache → Closes eq R s' r
-  Failed : (e : OptError) (u : Stage K E) → r ≡ Err e → R u (Err e) → s' ≡ emptied u → Closes eq R s' r
+  Failed : (e : OptError) (u : Stage K E) → r ≡ Err e → R u (Err e) → s' ≡ empty_stage u → Closes eq R s' r
   -- all inner runs went well, and there was no room for the answer
-  Short : (c : IRStatus) (u : Stage K E) → r ≡ Err Memory → R u (Ok c) → s' ≡ emptied u → Closes eq R s' r
+  Short : (c : IRStatus) (u : Stage K E) → r ≡ Err Memory → R u (Ok c) → s' ≡ empty_stage u → Closes eq R s' r
 
 -- the same of the call that ends a combinator
 abbrev pub IsClosed : {K E : Type 0} → (K → K → Bool) → Result IRStatus OptError → List ((K × ℕ) × E) → List ((K × ℕ) × E) → Result (PassResult K) OptError → Type 0

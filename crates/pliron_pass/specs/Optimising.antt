@@ -8,7 +8,7 @@ use Rattle.pliron_core.specs.declared.attrs.IRStatus.{IRStatus}
 use Rattle.pliron_core.specs.declared.attrs.IRStatus.TheVariants.{Changed, Unchanged}
 use Rattle.pliron_theory.specs.Edges.{KeepsEdges}
 
--- where the answer is `Unchanged` the tree is the same but for spent keys, and else its edges are
+-- where the answer is `Unchanged` the tree is the same but for erased handles, and else its edges are
 abbrev pub Tells : Tree → Tree → IRStatus → Type 0
 Tells t u Unchanged = IsSameTree t u
 Tells t u Changed = KeepsEdges t u

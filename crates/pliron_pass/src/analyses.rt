@@ -1,9 +1,8 @@
 //! Computing analyses.
 ghost use Rattle.std.specs.Prelude.{◌≡◌, ℕ, Bool, true, ◌+◌, ◌<◌, Option, IsSome, IsTrue, IfOk, OnOk, OnErr, IsOk, length, option_map, slice_get, IsOkUnless};
 ghost use Rattle.std.specs.Borrow.{sem};
-ghost use Rattle.std.specs.Option.{option_copied_mut};
 ghost use Rattle.pliron_core.specs.Tree.{Tree, IsLive};
-ghost use Rattle.pliron_core.specs.Joined.{IsTree};
+ghost use Rattle.pliron_core.specs.Invariant.{IsTree};
 ghost use Rattle.pliron_core.specs.Changes.{IsSameTree};
 ghost use Rattle.pliron_pass.specs.Answer.{has_changed, kept_kinds};
 ghost use Rattle.pliron_theory.specs.Edges.{edges_inside};
@@ -11,7 +10,7 @@ ghost use Rattle.pliron_pass.specs.Optimising.{edge_kinds, with_edge_kind};
 ghost use Rattle.pliron_pass.specs.Cache.{IsFresh};
 ghost use Rattle.pliron_pass.specs.Computing.{Computes};
 ghost use Rattle.pliron_pass.specs.Grown.{cached_at, HasNeeds, AddsLowerRanks};
-ghost use Rattle.pliron_pass.specs.Lending.{LendsEntry, LendsComputed, EndsComputed};
+ghost use Rattle.pliron_pass.specs.Lending.{LendsComputed, EndsComputed};
 
 use crate::kinds::AnalysisKind;
 use crate::manager::AnalysisManager;
@@ -84,7 +83,7 @@ pub trait Analyses: AnalysisKind {
 impl<E: Analyses + Drop> AnalysisManager<E> {
     /// Computes an analysis and its needs, in order, where they are not cached, and puts it last.
     ///
-    /// Asks that the operation stands (`is_live` tests it). Errors: want of memory, and those of the
+    /// Asks that the operation stands (`is_live` tests it). Errors: allocation failure, and those of the
     /// analyses, which leave only entries of lower ranks added. Cost: a look-up for each need, and computing
     /// what is not cached.
     pub fn compute_analysis(
@@ -135,7 +134,7 @@ impl<E: Analyses + Drop> AnalysisManager<E> {
 
     /// An answer that preserves the cached kinds that read edges alone.
     ///
-    /// Errors: want of memory. Cost: the number of entries in the cache.
+    /// Errors: allocation failure. Cost: the number of entries in the cache.
     pub fn keep_edge_kinds(&self, changed: IRStatus) -> Result<PassResult<E::Kind>, OptError>
         ensures changed { IfOk result (λ r. has_changed r ≡ changed) }
         ensures kept { IfOk result (λ r. kept_kinds r ≡ edge_kinds E.Kind.eq E.reads_edges_alone self.now.cache.entries) }
@@ -147,14 +146,6 @@ impl<E: Analyses + Drop> AnalysisManager<E> {
             self.keep_edge_kind(i, &mut result)?;
         }
         Ok(result)
-    }
-
-    /// The entry, which can be written, where one is cached. Cost: one look-up.
-    pub fn try_get_analysis_mut(&mut self, kind: E::Kind, op: Ptr<Operation>) -> Option<&mut E>
-        ensures* writes_back { sem 𝓛 (LendsEntry E.row E.Kind.row E.Kind.Eq.own E.Kind.PartialEq E.Kind.Hash.own self.entry kind op result) }
-        ensures value { option_copied_mut result ≡ cached_at E.Kind.eq self.old.cache.entries kind op }
-    {
-        self.cache.get_mut(&(kind, op))
     }
 
     /// The entry, which can be written, computed where it is not cached.

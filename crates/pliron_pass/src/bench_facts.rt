@@ -191,7 +191,7 @@ impl Analyses for BenchFacts {
     /// Goes through what stands inside the operation, for the edges and the size; adds up the two for the
     /// total.
     ///
-    /// Errors: want of memory, for the edges. Cost: one step for each operation and edge inside; constant
+    /// Errors: allocation failure, for the edges. Cost: one step for each operation and edge inside; constant
     /// for the total.
     fn compute(
         alloc: Global,

@@ -2,8 +2,10 @@
 ghost use Rattle.std.specs.Prelude.{◌≡◌, [], ℕ, List, Option, IfOk, OnOk, slice_get, option_map, option_copied, false, IsOkUnless};
 ghost use Rattle.std.specs.List.{list_any};
 ghost use Rattle.std.specs.Borrow.{sem};
-ghost use Rattle.pliron_pass.specs.Lending.{LendsData};
+ghost use Rattle.std.specs.Option.{option_copied_mut};
+ghost use Rattle.pliron_pass.specs.Lending.{LendsData, LendsEntry};
 ghost use Rattle.indexmap.specs.IndexMap.{get};
+ghost use Rattle.pliron_pass.specs.Grown.{cached_at};
 ghost use Rattle.pliron_pass.specs.Cache.{retained, cached_kinds, is_same_key, with_kind};
 ghost use Rattle.pliron_pass.specs.Answer.{has_changed, kept_kinds};
 ghost use Rattle.pliron_pass.specs.Config.{skips, verifies_before, verifies_after};
@@ -111,6 +113,14 @@ impl<E: AnalysisKind> AnalysisManager<E> {
         ensures { option_copied result ≡ get (is_same_key E.Kind.eq) self.now.cache (kind, op) }
     {
         self.cache.get(&(kind, op))
+    }
+
+    /// The entry, which can be written, where one is cached. Cost: one look-up.
+    pub fn try_get_analysis_mut(&mut self, kind: E::Kind, op: Ptr<Operation>) -> Option<&mut E>
+        ensures* writes_back { sem 𝓛 (LendsEntry E.row E.Kind.row E.Kind.Eq.own E.Kind.PartialEq E.Kind.Hash.own self.entry kind op result) }
+        ensures value { option_copied_mut result ≡ cached_at E.Kind.eq self.old.cache.entries kind op }
+    {
+        self.cache.get_mut(&(kind, op))
     }
 
     fn keep_one(&self, i: usize, answer: &mut PassResult<E::Kind>) -> Result<(), OptError>

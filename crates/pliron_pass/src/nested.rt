@@ -1,6 +1,6 @@
 //! Passes on the operations directly inside an operation.
 ghost use Rattle.std.specs.Prelude.{◌≡◌, ℕ, true, List, OnOk, Some};
-ghost use Rattle.pliron_core.specs.Tree.{IsLive, holder_of};
+ghost use Rattle.pliron_core.specs.Tree.{IsLive, parent_operation_of};
 ghost use Rattle.pliron_core.specs.Walks.{children};
 ghost use Rattle.pliron_laws.specs.Linked.{IsWellLinked};
 ghost use Rattle.pliron_pass.specs.Cache.{IsFresh};
@@ -40,7 +40,7 @@ impl<P: Pass> NestedOpsPass<P> {
     }
 }
 
-// Runs a pass on one of the operations directly inside `holder`, which stays as it is but for the
+// Runs a pass on one of the operations directly inside the parent operation `holder`, which stays as it is but for the
 // inside of that one.
 fn run_held<P: Pass>(
     pass: &mut P,
@@ -51,9 +51,9 @@ fn run_held<P: Pass>(
     analyses: &mut AnalysisManager<P::E>,
 ) -> Result<IRStatus, OptError>
     requires linked { IsWellLinked P.D.meaning ctx.old.tree holder }
-    requires held { holder_of ctx.old.tree op ≡ Some holder }
+    requires held { parent_operation_of ctx.old.tree op ≡ Some holder }
     ensures change { IsPassChange P.D.meaning ctx.old.tree ctx.new.tree holder }
-    ensures held { holder_of ctx.new.tree op ≡ Some holder }
+    ensures held { parent_operation_of ctx.new.tree op ≡ Some holder }
     ensures children { children ctx.new.tree holder ≡ children ctx.old.tree holder }
     ensures fresh { OnOk result (IsFresh P.E.Kind.eq P.E.kind P.E.holds ctx.old.tree analyses.old.cache.entries →
         IsFresh P.E.Kind.eq P.E.kind P.E.holds ctx.new.tree analyses.new.cache.entries) }

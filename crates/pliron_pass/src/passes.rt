@@ -33,7 +33,7 @@ impl<P: Pass> Passes<P> {
         }
     }
 
-    /// Adds a pass at the end. Errors: want of memory, where the pass comes back as the error's `value`, and
+    /// Adds a pass at the end. Errors: allocation failure, where the pass comes back as the error's `value`, and
     /// the list is as it was; `?` makes `OptError::Memory` of it. Cost: constant, amortised.
     pub fn add_pass(&mut self, pass: P) -> Result<(), AllocFailed<P>>
         ensures added { OnOk result (self.new.passes.items ≡ self.old.passes.items ++ pass ∷ []) }

@@ -29,7 +29,7 @@ impl<K: Copy + Eq + Hash> PassResult<K> {
 
     /// Names a kind as preserved.
     ///
-    /// Errors: want of memory, which changes nothing. Cost: one look-up, amortised.
+    /// Errors: allocation failure, which changes nothing. Cost: one look-up, amortised.
     pub fn set_preserved(&mut self, kind: K) -> Result<(), OptError>
         ensures kept { kept_kinds self.new ≡ (if is_ok result then insert_key K.eq (kept_kinds self.old) kind else kept_kinds self.old) }
         ensures changed { has_changed self.new ≡ has_changed self.old }

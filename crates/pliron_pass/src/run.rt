@@ -19,7 +19,7 @@ use pliron_core::{Context, IRStatus, Operation, Ptr};
 use pliron_laws::{Dialect, OptError};
 use std::alloc::Global;
 
-// Verifies the operation, where that is wanted. A fault but want of memory becomes this one.
+// Verifies the operation, where that is wanted. A fault but allocation failure becomes this one.
 fn verify_if<D: Dialect>(
     wanted: bool,
     fault: OptError,
@@ -86,7 +86,7 @@ impl PassManager {
     /// run failed, and the run is counted.
     ///
     /// Asks that the operation stands and is well linked. Errors: those of the pass; a fault of verifying but
-    /// want of memory as `VerifyBefore`, with nothing run, or as `VerifyAfter`, with nothing counted. Cost:
+    /// allocation failure as `VerifyBefore`, with nothing run, or as `VerifyAfter`, with nothing counted. Cost:
     /// that of the pass, one of `verify_operation` for each time that it verifies, and a few look-ups.
     pub fn run_pass<P: Pass>(
         pass: &mut P,
@@ -113,7 +113,7 @@ impl PassManager {
 /// Ends what ran inner passes: the answer preserves all that is cached, and after an error the cache is
 /// empty.
 ///
-/// Errors: the error that it is given, or want of memory. Cost: the number of entries in the cache.
+/// Errors: the error that it is given, or allocation failure. Cost: the number of entries in the cache.
 pub fn close<E: AnalysisKind + Drop>(
     ran: Result<IRStatus, OptError>,
     analyses: &mut AnalysisManager<E>,

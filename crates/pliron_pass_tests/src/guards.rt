@@ -1,4 +1,4 @@
-//! Guards with what stands under them, how often a repeated pass ran, and what managers share.
+//! Guards with what is under them, how often a repeated pass ran, and what managers share.
 ghost use Rattle.std.specs.Prelude.{true};
 
 use super::facts::Fact;
@@ -120,7 +120,7 @@ fn check_repeated(rt: &impl Abort, alloc: Global, max: usize) {
 }
 
 #[test]
-fn repeated(rt: HostRuntime) {
+fn repeated_passes(rt: HostRuntime) {
     check_repeated(&rt, rt.alloc(), 0);
     check_repeated(&rt, rt.alloc(), 4);
 }

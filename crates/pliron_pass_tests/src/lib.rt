@@ -19,6 +19,7 @@ mod guards;
 mod lines;
 #[cfg(test)]
 mod passes;
+pub mod pipeline;
 #[cfg(test)]
 mod refusals;
 #[cfg(test)]

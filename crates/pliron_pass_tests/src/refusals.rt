@@ -39,7 +39,7 @@ fn computed_in(
 }
 
 #[test]
-fn computing(rt: HostRuntime) {
+fn refused_computing(rt: HostRuntime) {
     let alloc = rt.alloc();
     let mut ctx = Context::new(alloc);
     let mut analyses = AnalysisManager::<BenchFacts>::new(alloc);
@@ -65,7 +65,7 @@ fn preserved_in(
 }
 
 #[test]
-fn preserving(rt: HostRuntime) {
+fn refused_preserving(rt: HostRuntime) {
     let alloc = rt.alloc();
     let mut ctx = Context::new(alloc);
     let mut analyses = AnalysisManager::<Fact>::new(alloc);
@@ -75,7 +75,7 @@ fn preserving(rt: HostRuntime) {
 
 // A pass that there is no room for comes back as it was.
 #[test]
-fn adding(rt: HostRuntime) {
+fn refused_adding(rt: HostRuntime) {
     let alloc = rt.alloc();
     let mut passes = Passes::new(alloc);
     for runs in 0..9 {

@@ -5,12 +5,12 @@ use Rattle.pliron_core.specs.Tree.{Tree}
 use Rattle.pliron_core.specs.declared.attrs.IRStatus.{IRStatus}
 use Rattle.pliron_laws.specs.Datum.{Head, Meaning}
 use Rattle.pliron_laws.specs.Folding.{Constants}
-use Rattle.pliron_laws.specs.InPlace.{Outcome, TellsChange}
+use Rattle.pliron_laws.specs.InPlace.{Outcome, ReportsChange}
 use Rattle.pliron_cfg.specs.Simplified.{Simplifies}
-use Rattle.pliron_pipeline.specs.Optimising.{IsTruly}
+use Rattle.pliron_pipeline.specs.Optimising.{IsAccurateAnswer}
 
-pub simplified_truly : (m : Meaning) (can_fold can_fold_branch : Head → Bool) (constants : Constants) (outcome : Outcome) (op : ℕ) (t t' : Tree) (status : IRStatus) → Simplifies m can_fold can_fold_branch constants outcome op t t' status → IsTruly t t' (record { status = status; keeps_edges = false })
+pub simplified_truly : (m : Meaning) (can_fold can_fold_branch : Head → Bool) (constants : Constants) (outcome : Outcome) (op : ℕ) (t t' : Tree) (status : IRStatus) → Simplifies m can_fold can_fold_branch constants outcome op t t' status → IsAccurateAnswer t t' (record { status = status; keeps_edges = false })
 simplified_truly m can_fold can_fold_branch constants outcome op t t' status is = record {
-  same = λ e. subst (λ s. TellsChange (Some s) t t') e is.honest;
+  same = λ e. subst (λ s. ReportsChange (Some s) t t') e is.honest;
   edges = λ e. absurd (false≢true e);
 }

@@ -5,13 +5,13 @@ use Rattle.pliron_core.specs.Tree.{Tree}
 use Rattle.pliron_core.specs.declared.attrs.IRStatus.{IRStatus}
 use Rattle.pliron_laws.specs.Datum.{Head, Shape, Meaning}
 use Rattle.pliron_dce.specs.Dead.{Item}
-use Rattle.pliron_dce.specs.Going.{GoInTurn, AreDeadThings, LeavesNoDead, TellsDead, SomeHasRegions}
+use Rattle.pliron_dce.specs.Erasing.{EraseInTurn, AreDeadItems, LeavesNoDead, ReportsDead, SomeHasRegions}
 use Rattle.pliron_pipeline.specs.DeadCode.{EliminatesDead}
 
 edges_told : (P : Type 0) (took : Bool) → IsTrue took ↔ P → (not took ≡ true) ↔ (P → ⊥)
 edges_told P true told = (λ e. absurd (false≢true e), λ none. absurd (none (told.0 refl)))
 edges_told P false told = (λ e p. absurd (false≢true (told.1 p)), λ none. refl)
 
-pub eliminated : (m : Meaning) (shortened : Shape → ℕ → ℕ → Head) (side_effects : Head → Option Bool) (removable : Head → ℕ → Bool → Option Bool) (t t' : Tree) (root : ℕ) (status : IRStatus) (took : Bool) → ((gone : List Item) × GoInTurn m shortened gone t t' × AreDeadThings m side_effects removable t root gone × (IsTrue took ↔ SomeHasRegions t gone)) → LeavesNoDead m side_effects removable t t' root → TellsDead m side_effects removable t root status → EliminatesDead m shortened side_effects removable t t' root (Ok (record { status = status; keeps_edges = not took }))
+pub eliminated : (m : Meaning) (shortened : Shape → ℕ → ℕ → Head) (side_effects : Head → Option Bool) (removable : Head → ℕ → Bool → Option Bool) (t t' : Tree) (root : ℕ) (status : IRStatus) (took : Bool) → ((gone : List Item) × EraseInTurn m shortened gone t t' × AreDeadItems m side_effects removable t root gone × (IsTrue took ↔ SomeHasRegions t gone)) → LeavesNoDead m side_effects removable t t' root → ReportsDead m side_effects removable t root status → EliminatesDead m shortened side_effects removable t t' root (Ok (record { status = status; keeps_edges = not took }))
 eliminated m shortened side_effects removable t t' root status took (gone, went, dead, told) none tells =
     ((gone, (went, dead), edges_told (SomeHasRegions t gone) took told), none, tells)

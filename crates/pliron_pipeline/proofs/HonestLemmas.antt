@@ -1,4 +1,4 @@
--- Passes made of passes that tell truly whether they changed the tree do so too.
+-- Passes made of passes that report accurately whether they changed the tree do so too.
 use Rattle.std.proofs.Common.{◌≡◌, ℕ, List, Bool, true, false, Result, Ok, refl, sym, ap, ◌∙◌, subst}
 use Rattle.pliron_core.specs.Tree.{Tree}
 use Rattle.pliron_core.specs.Changes.{IsSameTree}
@@ -13,11 +13,11 @@ use Rattle.pliron_pass.specs.Outcome.{OutcomeOf, Verifying, RunsBy, RunsPass, Ru
 use Rattle.pliron_pass.specs.Repeating.{Repeats, Repeats.NoRun, Repeats.OneMore, RepeatsTo, RepeatsTo.Full, RepeatsTo.Settled, RepeatsTo.Failed as Gives_up}
 use Rattle.pliron_pass.specs.Stage.{Stage}
 use Rattle.pliron_pass.specs.declared.result.PassResult.{PassResult}
-use Rattle.pliron_pipeline.specs.Honest.{IsHonest}
+use Rattle.pliron_pipeline.specs.ChangeReports.{IsAccurate}
 use Rattle.pliron_pipeline.specs.Optimising.{RunsOptimisation, RunsOptimisation.Optimised, RunsOptimisation.Refused as Fails, RunsOptimisation.Short as Lacks_room}
 use Rattle.pliron_pipeline.specs.declared.optimisation.Effect.{Effect}
-use Rattle.pliron_pipeline.specs.declared.step.Step.{Step}
-use Rattle.pliron_pipeline.specs.declared.step.Step.TheVariants.{Sccp, Dce, SimplifyCfg}
+use Rattle.pliron_pipeline.specs.declared.step.PassStep.{PassStep}
+use Rattle.pliron_pipeline.specs.declared.step.PassStep.TheVariants.{Sccp, Dce, SimplifyCfg, Cse}
 use Rattle.either.specs.declared.Either.{Either}
 use Rattle.either.specs.declared.Either.TheVariants.{Left, Right}
 
@@ -34,7 +34,7 @@ optimisation_same eq edges outcome op s s' a (Fails err is ran cache common) e =
 optimisation_same eq edges outcome op s s' a (Lacks_room effect is ran cache common) e = absurd (cc)
 
 -- a pass that is skipped, or verified before and after
-pub plain_honest : {K E P : Type 0} (name : P → List ℕ) (outcome : OutcomeOf P K E) (verifies : Verifying) → IsHonest outcome → IsHonest (RunsPlain name outcome verifies)
+pub plain_honest : {K E P : Type 0} (name : P → List ℕ) (outcome : OutcomeOf P K E) (verifies : Verifying) → IsAccurate outcome → IsAccurate (RunsPlain name outcome verifies)
 plain_honest {K = K} {E = E} {P = P} name outcome verifies honest = record { same = go }
   where
     go : (p p' : P) (op : ℕ) (s s' : Stage K E) (a : PassResult K) → RunsPlain name outcome verifies p p' op s s' (Ok a) → has_changed a ≡ Unchanged → IsSameTree s.tree s'.tree
@@ -44,14 +44,14 @@ plain_honest {K = K} {E = E} {P = P} name outcome verifies honest = record { sam
     go p p' op s s' a (Spoilt runs before b ran err fault is) e = absurd (cc)
 
 -- a pass however it is run
-pub run_honest : {K E P : Type 0} (name : P → List ℕ) (outcome : OutcomeOf P K E) (verifies : Verifying) (managed : P → Bool) → IsHonest outcome → IsHonest (RunsPass name outcome verifies managed)
+pub run_honest : {K E P : Type 0} (name : P → List ℕ) (outcome : OutcomeOf P K E) (verifies : Verifying) (managed : P → Bool) → IsAccurate outcome → IsAccurate (RunsPass name outcome verifies managed)
 run_honest {K = K} {E = E} {P = P} name outcome verifies managed honest = record { same = λ p. go p (managed p) }
   where
     go : (p : P) (b : Bool) (p' : P) (op : ℕ) (s s' : Stage K E) (a : PassResult K) → RunsBy name outcome verifies b p p' op s s' (Ok a) → has_changed a ≡ Unchanged → IsSameTree s.tree s'.tree
     go p true = honest.same p
     go p false = (plain_honest name outcome verifies honest).same p
 
-module _ {K E P : Type 0} (eq : K → K → Bool) (inner : OutcomeOf P K E) (honest : IsHonest inner) where
+module _ {K E P : Type 0} (eq : K → K → Bool) (inner : OutcomeOf P K E) (honest : IsAccurate inner) where
   pub step_same : (p p' : P) (op : ℕ) (s s' : Stage K E) (c : IRStatus) → StepsTo eq inner p p' op s s' c → c ≡ Unchanged → IsSameTree s.tree s'.tree
   step_same p p' op s s' c step e = subst (λ z. IsSameTree s.tree z.tree) (sym step.left) (honest.same p p' op s step.after step.answer step.runs (sym step.says ∙ e))
 
@@ -84,7 +84,7 @@ closes_same eq R s s' a same (Done b is ran kept) e = let one : b ≡ a = cc in 
 closes_same eq R s s' a same (Failed err u is ran left) e = absurd (cc)
 closes_same eq R s s' a same (Short c u is ran left) e = absurd (cc)
 
-module _ {K E P : Type 0} (eq : K → K → Bool) (inner : OutcomeOf P K E) (honest : IsHonest inner) where
+module _ {K E P : Type 0} (eq : K → K → Bool) (inner : OutcomeOf P K E) (honest : IsAccurate inner) where
   -- passes in turn, a pass on each of some operations, and a pass again and again
   pub passes_same : (ps ps' : List P) (op : ℕ) (s s' : Stage K E) (a : PassResult K) → Closes eq (λ u ran. RunsEachOf eq inner op ps ps' s u ran) s' (Ok a) → has_changed a ≡ Unchanged → IsSameTree s.tree s'.tree
   passes_same ps ps' op s s' a = closes_same eq (λ u ran. RunsEachOf eq inner op ps ps' s u ran) s s' a (λ u c runs e. each_same eq inner honest runs e)
@@ -96,16 +96,23 @@ module _ {K E P : Type 0} (eq : K → K → Bool) (inner : OutcomeOf P K E) (hon
   repeat_same max op p p' s s' runs a = closes_same eq (λ u ran. RepeatsTo eq inner max op p p' s runs u ran) s s' a (λ u c all e. repeated_same eq inner honest max op p p' s u runs c all e)
 
 -- cases of two values of one type
-pub step_cases : {D E B K : Type 0} (Q : Step D E B K → Step D E B K → Type 0) → ((p : _) (q : _) → Q (Sccp p) (Sccp q)) → ((p : _) (q : _) → Q (Sccp p) (Dce q)) → ((p : _) (q : _) → Q (Sccp p) (SimplifyCfg q)) → ((p : _) (q : _) → Q (Dce p) (Sccp q)) → ((p : _) (q : _) → Q (Dce p) (Dce q)) → ((p : _) (q : _) → Q (Dce p) (SimplifyCfg q)) → ((p : _) (q : _) → Q (SimplifyCfg p) (Sccp q)) → ((p : _) (q : _) → Q (SimplifyCfg p) (Dce q)) → ((p : _) (q : _) → Q (SimplifyCfg p) (SimplifyCfg q)) → (x y : Step D E B K) → Q x y
-step_cases Q a b c d e f g h i (Sccp p) (Sccp q) = a p q
-step_cases Q a b c d e f g h i (Sccp p) (Dce q) = b p q
-step_cases Q a b c d e f g h i (Sccp p) (SimplifyCfg q) = c p q
-step_cases Q a b c d e f g h i (Dce p) (Sccp q) = d p q
-step_cases Q a b c d e f g h i (Dce p) (Dce q) = e p q
-step_cases Q a b c d e f g h i (Dce p) (SimplifyCfg q) = f p q
-step_cases Q a b c d e f g h i (SimplifyCfg p) (Sccp q) = g p q
-step_cases Q a b c d e f g h i (SimplifyCfg p) (Dce q) = h p q
-step_cases Q a b c d e f g h i (SimplifyCfg p) (SimplifyCfg q) = i p q
+pub step_cases : {D E B K : Type 0} (Q : PassStep D E B K → PassStep D E B K → Type 0) → ((p : _) (q : _) → Q (Sccp p) (Sccp q)) → ((p : _) (q : _) → Q (Sccp p) (Dce q)) → ((p : _) (q : _) → Q (Sccp p) (SimplifyCfg q)) → ((p : _) (q : _) → Q (Sccp p) (Cse q)) → ((p : _) (q : _) → Q (Dce p) (Sccp q)) → ((p : _) (q : _) → Q (Dce p) (Dce q)) → ((p : _) (q : _) → Q (Dce p) (SimplifyCfg q)) → ((p : _) (q : _) → Q (Dce p) (Cse q)) → ((p : _) (q : _) → Q (SimplifyCfg p) (Sccp q)) → ((p : _) (q : _) → Q (SimplifyCfg p) (Dce q)) → ((p : _) (q : _) → Q (SimplifyCfg p) (SimplifyCfg q)) → ((p : _) (q : _) → Q (SimplifyCfg p) (Cse q)) → ((p : _) (q : _) → Q (Cse p) (Sccp q)) → ((p : _) (q : _) → Q (Cse p) (Dce q)) → ((p : _) (q : _) → Q (Cse p) (SimplifyCfg q)) → ((p : _) (q : _) → Q (Cse p) (Cse q)) → (x y : PassStep D E B K) → Q x y
+step_cases Q scsc scdc scsi sccs dcsc dcdc dcsi dccs sisc sidc sisi sics cssc csdc cssi cscs (Sccp p) (Sccp q) = scsc p q
+step_cases Q scsc scdc scsi sccs dcsc dcdc dcsi dccs sisc sidc sisi sics cssc csdc cssi cscs (Sccp p) (Dce q) = scdc p q
+step_cases Q scsc scdc scsi sccs dcsc dcdc dcsi dccs sisc sidc sisi sics cssc csdc cssi cscs (Sccp p) (SimplifyCfg q) = scsi p q
+step_cases Q scsc scdc scsi sccs dcsc dcdc dcsi dccs sisc sidc sisi sics cssc csdc cssi cscs (Sccp p) (Cse q) = sccs p q
+step_cases Q scsc scdc scsi sccs dcsc dcdc dcsi dccs sisc sidc sisi sics cssc csdc cssi cscs (Dce p) (Sccp q) = dcsc p q
+step_cases Q scsc scdc scsi sccs dcsc dcdc dcsi dccs sisc sidc sisi sics cssc csdc cssi cscs (Dce p) (Dce q) = dcdc p q
+step_cases Q scsc scdc scsi sccs dcsc dcdc dcsi dccs sisc sidc sisi sics cssc csdc cssi cscs (Dce p) (SimplifyCfg q) = dcsi p q
+step_cases Q scsc scdc scsi sccs dcsc dcdc dcsi dccs sisc sidc sisi sics cssc csdc cssi cscs (Dce p) (Cse q) = dccs p q
+step_cases Q scsc scdc scsi sccs dcsc dcdc dcsi dccs sisc sidc sisi sics cssc csdc cssi cscs (SimplifyCfg p) (Sccp q) = sisc p q
+step_cases Q scsc scdc scsi sccs dcsc dcdc dcsi dccs sisc sidc sisi sics cssc csdc cssi cscs (SimplifyCfg p) (Dce q) = sidc p q
+step_cases Q scsc scdc scsi sccs dcsc dcdc dcsi dccs sisc sidc sisi sics cssc csdc cssi cscs (SimplifyCfg p) (SimplifyCfg q) = sisi p q
+step_cases Q scsc scdc scsi sccs dcsc dcdc dcsi dccs sisc sidc sisi sics cssc csdc cssi cscs (SimplifyCfg p) (Cse q) = sics p q
+step_cases Q scsc scdc scsi sccs dcsc dcdc dcsi dccs sisc sidc sisi sics cssc csdc cssi cscs (Cse p) (Sccp q) = cssc p q
+step_cases Q scsc scdc scsi sccs dcsc dcdc dcsi dccs sisc sidc sisi sics cssc csdc cssi cscs (Cse p) (Dce q) = csdc p q
+step_cases Q scsc scdc scsi sccs dcsc dcdc dcsi dccs sisc sidc sisi sics cssc csdc cssi cscs (Cse p) (SimplifyCfg q) = cssi p q
+step_cases Q scsc scdc scsi sccs dcsc dcdc dcsi dccs sisc sidc sisi sics cssc csdc cssi cscs (Cse p) (Cse q) = cscs p q
 
 pub side_cases : {A B : Type 0} (Q : Either A B → Either A B → Type 0) → ((p q : A) → Q (Left p) (Left q)) → ((p : A) (q : B) → Q (Left p) (Right q)) → ((p : B) (q : A) → Q (Right p) (Left q)) → ((p q : B) → Q (Right p) (Right q)) → (x y : Either A B) → Q x y
 side_cases Q a b c d (Left p) (Left q) = a p q

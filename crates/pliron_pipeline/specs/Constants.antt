@@ -3,17 +3,18 @@ use Rattle.std.specs.Prelude.{◌≡◌, ℕ, Bool, true, List, [], ◌∷◌, S
 use Rattle.pliron_core.specs.declared.attrs.AttrObj.{AttrObj}
 use Rattle.pliron_core.specs.Tree.{Tree}
 use Rattle.pliron_laws.specs.Datum.{Head}
-use Rattle.pliron_laws.specs.InPlace.{Outcome, TellsChange}
+use Rattle.pliron_laws.specs.InPlace.{Outcome, ReportsChange}
 use Rattle.pliron_laws.specs.declared.fault.OptError.{OptError}
 use Rattle.pliron_laws.specs.declared.fault.OptError.TheVariants.{Memory}
-use Rattle.pliron_theory.specs.Facts.{Says}
+use Rattle.pliron_theory.specs.LatticeValues.{Says}
 use Rattle.pliron_sccp.specs.Propagated.{IsPropagated, IsPartlyPropagated}
 use Rattle.pliron_pipeline.specs.declared.optimisation.Effect.{Effect}
 
--- the tree is reached by closed facts, the most precise ones where they are owed; the status tells whether it changed,
--- and all edges stay; or memory was refused, and the tree is one after a first part of the rewrites
+-- the tree is made by closed lattice values, the most precise ones where they are owed; the status reports
+-- whether it changed, and all edges stay; or an allocation failed, and the tree is one after a first part of
+-- the rewrites
 abbrev pub PropagatesConstants : Says → (AttrObj → Bool) → (AttrObj → Head) → Outcome → (t t' : Tree) → ℕ → Result Effect OptError → Type 0
-PropagatesConstants x accepts head outcome t t' root (Ok effect) = ((pops : ℕ) × IsPropagated x accepts head outcome t root t' pops) × TellsChange (Some effect.status) t t' × (effect.keeps_edges ≡ true)
+PropagatesConstants x accepts head outcome t t' root (Ok effect) = ((pops : ℕ) × IsPropagated x accepts head outcome t root t' pops) × ReportsChange (Some effect.status) t t' × (effect.keeps_edges ≡ true)
 PropagatesConstants x accepts head outcome t t' root (Err e) = (e ≡ Memory) × IsPartlyPropagated x accepts head outcome t root t'
 
 abbrev pub sccp_name : List ℕ

@@ -5,18 +5,19 @@ use Rattle.pliron_laws.specs.Datum.{Head, Shape, Meaning}
 use Rattle.pliron_laws.specs.declared.fault.OptError.{OptError}
 use Rattle.pliron_laws.specs.declared.fault.OptError.TheVariants.{Memory}
 use Rattle.pliron_dce.specs.Dead.{Item}
-use Rattle.pliron_dce.specs.Going.{GoInTurn, AreDeadThings, LeavesNoDead, TellsDead, SomeHasRegions}
+use Rattle.pliron_dce.specs.Erasing.{EraseInTurn, AreDeadItems, LeavesNoDead, ReportsDead, SomeHasRegions}
 use Rattle.pliron_pipeline.specs.declared.optimisation.Effect.{Effect}
 
--- dead things of the first tree went in turn
-abbrev pub DeadThingsGo : Meaning → (Shape → ℕ → ℕ → Head) → (Head → Option Bool) → (Head → ℕ → Bool → Option Bool) → (t t' : Tree) → ℕ → List Item → Type 0
-DeadThingsGo m shortened side_effects removable t t' root gone = GoInTurn m shortened gone t t' × AreDeadThings m side_effects removable t root gone
+-- dead operations and arguments of the first tree were erased in turn
+abbrev pub DeadItemsAreErased : Meaning → (Shape → ℕ → ℕ → Head) → (Head → Option Bool) → (Head → ℕ → Bool → Option Bool) → (t t' : Tree) → ℕ → List Item → Type 0
+DeadItemsAreErased m shortened side_effects removable t t' root gone = EraseInTurn m shortened gone t t' × AreDeadItems m side_effects removable t root gone
 
--- all that was dead is gone and nothing is dead, the status tells whether something was, and all edges stay exactly
--- where no operation with regions went; or memory was refused, and some dead things are gone
+-- all that was dead is erased and nothing is dead, the status reports whether something was, and all edges stay
+-- exactly where no operation with regions was erased; or an allocation failed, and some of what is dead is
+-- erased
 abbrev pub EliminatesDead : Meaning → (Shape → ℕ → ℕ → Head) → (Head → Option Bool) → (Head → ℕ → Bool → Option Bool) → (t t' : Tree) → ℕ → Result Effect OptError → Type 0
-EliminatesDead m shortened side_effects removable t t' root (Ok effect) = ((gone : List Item) × DeadThingsGo m shortened side_effects removable t t' root gone × ((effect.keeps_edges ≡ true) ↔ (SomeHasRegions t gone → ⊥))) × LeavesNoDead m side_effects removable t t' root × TellsDead m side_effects removable t root effect.status
-EliminatesDead m shortened side_effects removable t t' root (Err e) = (e ≡ Memory) × ((gone : List Item) × DeadThingsGo m shortened side_effects removable t t' root gone)
+EliminatesDead m shortened side_effects removable t t' root (Ok effect) = ((gone : List Item) × DeadItemsAreErased m shortened side_effects removable t t' root gone × ((effect.keeps_edges ≡ true) ↔ (SomeHasRegions t gone → ⊥))) × LeavesNoDead m side_effects removable t t' root × ReportsDead m side_effects removable t root effect.status
+EliminatesDead m shortened side_effects removable t t' root (Err e) = (e ≡ Memory) × ((gone : List Item) × DeadItemsAreErased m shortened side_effects removable t t' root gone)
 
 abbrev pub dce_name : List ℕ
 dce_name = 0x64 ∷ 0x63 ∷ 0x65 ∷ []

@@ -1,6 +1,7 @@
-pub mod Honest
+pub mod ChangeReports
 pub mod Optimising
+pub mod CommonSubexpressions
 pub mod Constants
 pub mod ControlFlow
 pub mod DeadCode
-pub mod Steps
+pub mod PassSteps

@@ -35,5 +35,5 @@ impl<D: Dialect> Optimisation for DeadCode<D> {
 }
 
 /// Dead code elimination as a pass, named `dce`. It preserves the cached kinds of analyses that read edges
-/// alone, unless an operation with regions went.
+/// alone, unless an operation with regions was erased.
 pub type DCEPass<D, E> = OptimisingPass<DeadCode<D>, E>;

@@ -3,17 +3,19 @@
 //! It knows passes, the cache and the calls that optimise, and no dialect and no text.
 #![tactic(auto)]
 
+mod change_reports;
+mod common_subexpressions;
 mod constants;
 mod control_flow;
 mod dead_code;
-mod honest;
 mod optimisation;
 mod step;
 
+pub use change_reports::schedules_report_accurately;
+pub use common_subexpressions::{CSEPass, CommonSubexpressions};
 pub use constants::{Constants, SCCPPass};
 pub use control_flow::{ControlFlow, SimplifyCFGPass};
 pub use dead_code::{DCEPass, DeadCode};
-pub use honest::schedules_are_honest;
 pub use optimisation::{Effect, Optimisation, OptimisingPass};
 pub use pliron_pass::run_pipeline;
-pub use step::{Pipeline, Schedule, Step};
+pub use step::{PassStep, Pipeline, Schedule};

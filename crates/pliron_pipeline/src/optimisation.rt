@@ -5,7 +5,7 @@ ghost use Rattle.pliron_laws.specs.Linked.{IsWellLinked};
 ghost use Rattle.pliron_laws.specs.declared.fault.OptError.{OptError as FaultName};
 ghost use Rattle.pliron_theory.specs.Change.{IsPassChange};
 ghost use Rattle.pliron_pass.specs.Answer.{has_changed, kept_kinds};
-ghost use Rattle.pliron_pipeline.specs.Optimising.{IsTruly, RunsOptimisation};
+ghost use Rattle.pliron_pipeline.specs.Optimising.{IsAccurateAnswer, RunsOptimisation};
 ghost use Rattle.pliron_pipeline.specs.declared.optimisation.Effect.{Effect as EffectOf};
 
 use pliron_core::{Context, IRStatus, Operation, Ptr};
@@ -15,12 +15,12 @@ use std::alloc::Global;
 use std::hash::Hash;
 use std::marker::PhantomData;
 
-/// What an optimisation tells of the tree.
+/// What an optimisation reports of the tree.
 #[derive(Drop)]
 pub struct Effect {
     /// Whether the tree changed.
     pub status: IRStatus,
-    /// Whether the blocks and edges inside each operation that stands are as before.
+    /// Whether the blocks and edges inside each live operation are as before.
     pub keeps_edges: bool,
 }
 
@@ -37,13 +37,13 @@ pub trait Optimisation {
     fn name() -> &'static str
         ensures { result.now ≡ name };
 
-    /// Optimises the operation, and tells what changed. Asks that it stands and is well linked. Errors: those
-    /// of the optimisation.
+    /// Optimises the operation, and reports what changed. Asks that it is live and is well linked. Errors:
+    /// those of the optimisation.
     fn optimise(alloc: Global, op: Ptr<Operation>, ctx: &mut Context) -> Result<Effect, OptError>
         requires live { IsLive ctx.old.tree op }
         requires linked { IsWellLinked Self.D.meaning ctx.old.tree op }
         ensures change { IsPassChange Self.D.meaning ctx.old.tree ctx.new.tree op }
-        ensures tells { IfOk result (λ effect. IsTruly ctx.old.tree ctx.new.tree effect) }
+        ensures tells { IfOk result (λ effect. IsAccurateAnswer ctx.old.tree ctx.new.tree effect) }
         ensures outcome { outcome ctx.old.tree ctx.new.tree op result };
 }
 

@@ -1,8 +1,9 @@
 //! One of the passes here, and lists of them.
 ghost use Rattle.std.specs.Prelude.{◌≡◌, true, false, IfSome, IfNone};
-ghost use Rattle.pliron_pipeline.specs.Steps.{step_name, IsNoStep};
-ghost use Rattle.pliron_pipeline.specs.declared.step.Step.TheVariants.{Sccp as ASccp, Dce as ADce, SimplifyCfg as ASimplifyCfg};
+ghost use Rattle.pliron_pipeline.specs.PassSteps.{step_name, IsNoStep};
+ghost use Rattle.pliron_pipeline.specs.declared.step.PassStep.TheVariants.{Sccp as ASccp, Dce as ADce, SimplifyCfg as ASimplifyCfg, Cse as ACse};
 
+use crate::common_subexpressions::CSEPass;
 use crate::constants::SCCPPass;
 use crate::control_flow::SimplifyCFGPass;
 use crate::dead_code::DCEPass;
@@ -14,30 +15,32 @@ use pliron_pass::{
 };
 use std::alloc::Global;
 
-/// One of the three passes, for a list of different ones.
+/// One of the four passes, for a list of different ones.
 #[derive(Drop)]
-pub enum Step<D: Dialect, E: Analyses + Drop> {
+pub enum PassStep<D: Dialect, E: Analyses + Drop> {
     Sccp(SCCPPass<D, E>),
     Dce(DCEPass<D, E>),
     SimplifyCfg(SimplifyCFGPass<D, E>),
+    Cse(CSEPass<D, E>),
 }
 
-impl<D: Dialect, E: Analyses + Drop> Step<D, E> {
-    /// The pass of this name: `sccp`, `dce` or `simplify-cfg`. Cost: constant.
+impl<D: Dialect, E: Analyses + Drop> PassStep<D, E> {
+    /// The pass of this name: `sccp`, `dce`, `simplify-cfg` or `cse`. Cost: constant.
     pub fn from_name(name: &str) -> Option<Self>
         ensures named { IfSome result (λ step. step_name step ≡ name.now) }
         ensures unknown { IfNone result (IsNoStep name.now) }
     {
         match name {
-            "sccp" => Some(Step::Sccp(SCCPPass::new())),
-            "dce" => Some(Step::Dce(DCEPass::new())),
-            "simplify-cfg" => Some(Step::SimplifyCfg(SimplifyCFGPass::new())),
+            "sccp" => Some(PassStep::Sccp(SCCPPass::new())),
+            "dce" => Some(PassStep::Dce(DCEPass::new())),
+            "simplify-cfg" => Some(PassStep::SimplifyCfg(SimplifyCFGPass::new())),
+            "cse" => Some(PassStep::Cse(CSEPass::new())),
             _ => None,
         }
     }
 }
 
-impl<D: Dialect, E: Analyses + Drop> Pass for Step<D, E> {
+impl<D: Dialect, E: Analyses + Drop> Pass for PassStep<D, E> {
     type D = D;
 
     type E = E;
@@ -51,24 +54,34 @@ impl<D: Dialect, E: Analyses + Drop> Pass for Step<D, E> {
         | ASccp q ↦ ⟦<SCCPPass<D, E> as Pass>⟧.outcome p q
         | ADce q ↦ λ op s s' r. ⊥
         | ASimplifyCfg q ↦ λ op s s' r. ⊥
+        | ACse q ↦ λ op s s' r. ⊥
       ]
       | ADce p ↦ elim [
         | ASccp q ↦ λ op s s' r. ⊥
         | ADce q ↦ ⟦<DCEPass<D, E> as Pass>⟧.outcome p q
         | ASimplifyCfg q ↦ λ op s s' r. ⊥
+        | ACse q ↦ λ op s s' r. ⊥
       ]
       | ASimplifyCfg p ↦ elim [
         | ASccp q ↦ λ op s s' r. ⊥
         | ADce q ↦ λ op s s' r. ⊥
         | ASimplifyCfg q ↦ ⟦<SimplifyCFGPass<D, E> as Pass>⟧.outcome p q
+        | ACse q ↦ λ op s s' r. ⊥
+      ]
+      | ACse p ↦ elim [
+        | ASccp q ↦ λ op s s' r. ⊥
+        | ADce q ↦ λ op s s' r. ⊥
+        | ASimplifyCfg q ↦ λ op s s' r. ⊥
+        | ACse q ↦ ⟦<CSEPass<D, E> as Pass>⟧.outcome p q
       ]
     ] };
 
     fn name(&self) -> &str {
         match self {
-            Step::Sccp(pass) => pass.name(),
-            Step::Dce(pass) => pass.name(),
-            Step::SimplifyCfg(pass) => pass.name(),
+            PassStep::Sccp(pass) => pass.name(),
+            PassStep::Dce(pass) => pass.name(),
+            PassStep::SimplifyCfg(pass) => pass.name(),
+            PassStep::Cse(pass) => pass.name(),
         }
     }
 
@@ -80,9 +93,10 @@ impl<D: Dialect, E: Analyses + Drop> Pass for Step<D, E> {
         analyses: &mut AnalysisManager<E>,
     ) -> Result<PassResult<<E as AnalysisKind>::Kind>, OptError> {
         match self {
-            Step::Sccp(pass) => pass.run(alloc, op, ctx, analyses),
-            Step::Dce(pass) => pass.run(alloc, op, ctx, analyses),
-            Step::SimplifyCfg(pass) => pass.run(alloc, op, ctx, analyses),
+            PassStep::Sccp(pass) => pass.run(alloc, op, ctx, analyses),
+            PassStep::Dce(pass) => pass.run(alloc, op, ctx, analyses),
+            PassStep::SimplifyCfg(pass) => pass.run(alloc, op, ctx, analyses),
+            PassStep::Cse(pass) => pass.run(alloc, op, ctx, analyses),
         }
     }
 
@@ -92,7 +106,7 @@ impl<D: Dialect, E: Analyses + Drop> Pass for Step<D, E> {
 }
 
 /// A list of passes that is run on an operation itself (`Left`), or on each operation directly inside it.
-pub type Pipeline<D, E> = Either<Passes<Step<D, E>>, NestedOpsPass<Passes<Step<D, E>>>>;
+pub type Pipeline<D, E> = Either<Passes<PassStep<D, E>>, NestedOpsPass<Passes<PassStep<D, E>>>>;
 
 /// A pipeline that is run once (`Left`), or again and again until it changes nothing, at most so many times.
 pub type Schedule<D, E> = Either<Pipeline<D, E>, Repeat<Pipeline<D, E>>>;

@@ -9,7 +9,7 @@ use Rattle.pliron_core.specs.declared.attrs.AttrObj.TheVariants.{Int}
 use Rattle.pliron_core.specs.Lists.{In}
 use Rattle.pliron_laws.specs.Datum.{Shape}
 use Rattle.pliron_laws.specs.Folding.{KnowsMore, FoldsMonotonely}
-use Rattle.pliron_roles.specs.Roles.{Interpretation, Role, Constant, Folds, Picks, Opaque, Jumps, Chooses, Leaves, Stops, Acts, Forks, told_edge, truth_of, by_role, meaning_by, folds_by, branch_folds_by, constants_by, feasible_by, answers_by, feasible_of, taken, known_as, known_number_at, all_known, with_number, bound, picked_known}
+use Rattle.pliron_roles.specs.Roles.{Interpretation, Role, Constant, Folds, Picks, Opaque, Jumps, Chooses, Leaves, Stops, Acts, Forks, told_edge, truth_of, by_role, meaning_by, folds_by, branch_folds_by, constants_by, feasible_by, answers_by, feasible_of, edges_taken, known_as, known_number_at, all_known, with_number, number_computed, picked_known}
 use Rattle.pliron_roles.specs.FoldLaws.{taken_in}
 
 -- what is known stays
@@ -60,7 +60,7 @@ picked_more known more (Some false) q m n = subst (λ x. IsMore (picked_known kn
 role_more : (r : Role) (h : Head) (known more : List (Option AttrObj)) → KnowsMore known more → KnowsMore (answers_by h known r) (answers_by h more r)
 role_more Constant h known more m = (refl, tt)
 role_more (Folds n result) h known more m =
-    alone _ _ (kept (λ o. option_map (λ k. Int k) (bound (result h) o)) refl (all_known known) (all_known more) (all_more known more m))
+    alone _ _ (kept (λ o. option_map (λ k. Int k) (number_computed (result h) o)) refl (all_known known) (all_known more) (all_more known more m))
 role_more (Picks truth) h known more m =
     alone _ _ (picked_more known more (truth_of truth (known_number_at known 0)) (truth_of truth (known_number_at more 0)) m
     (kept (truth_of truth) refl (known_number_at known 0) (known_number_at more 0) (number_more known more 0 m)))
@@ -78,9 +78,9 @@ constants_more (Some r) h known more m = role_more r h known more m
 
 -- ---- blocks
 
-taken_more : (targets : List ℕ) (choose : ℤ → Option ℕ) (p q : Option ℤ) (b : ℕ) → IsMore p q → In b (taken targets choose q) → In b (taken targets choose p)
+taken_more : (targets : List ℕ) (choose : ℤ → Option ℕ) (p q : Option ℤ) (b : ℕ) → IsMore p q → In b (edges_taken targets choose q) → In b (edges_taken targets choose p)
 taken_more targets choose None q b m h = taken_in targets choose q b h
-taken_more targets choose (Some c) q b m h = subst (λ x. In b (taken targets choose x)) m h
+taken_more targets choose (Some c) q b m h = subst (λ x. In b (edges_taken targets choose x)) m h
 
 role_fewer : (r : Role) (s : Shape) (targets : List ℕ) (known more : List (Option AttrObj)) (b : ℕ) → KnowsMore known more → In b (feasible_of s targets more r) → In b (feasible_of s targets known r)
 role_fewer Constant s targets known more b m h = h

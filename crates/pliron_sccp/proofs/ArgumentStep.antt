@@ -6,7 +6,7 @@ use Rattle.pliron_core.specs.declared.attrs.Head.{Head}
 use Rattle.pliron_core.specs.declared.attrs.IRStatus.{IRStatus}
 use Rattle.pliron_core.specs.declared.attrs.IRStatus.TheVariants.{Changed, Unchanged}
 use Rattle.pliron_core.specs.Tree.{Tree, IsLive, no_entry, row_of, arguments_of}
-use Rattle.pliron_core.specs.Joined.{IsTree}
+use Rattle.pliron_core.specs.Invariant.{IsTree}
 use Rattle.pliron_core.specs.Changes.{IsSameTree}
 use Rattle.pliron_core.proofs.GrownLemmas.{get_last, get_last_same}
 use Rattle.pliron_core.proofs.HoldingLemmas.{some_is, in_slice}
@@ -18,9 +18,9 @@ use Rattle.pliron_theory.specs.Rewrites.{materialised_first, BecomesIfAccepted, 
 use Rattle.pliron_laws.proofs.ConstantLemmas.{new_row}
 use Rattle.pliron_theory.proofs.SoundRuns.{PassesForwarded, NamesWell}
 use Rattle.pliron_sccp.specs.declared.rewrite.ConstantArgument.{ConstantArgument}
-use Rattle.pliron_theory.specs.Facts.{Facts, Says}
+use Rattle.pliron_theory.specs.LatticeValues.{LatticeValues, Says}
 use Rattle.pliron_theory.specs.Following.{Follows}
-use Rattle.pliron_sccp.specs.Steps.{IsArgumentStep, TellsCreated, AreArgumentSteps, IsPuttingOn, stands_for, StandForEach}
+use Rattle.pliron_sccp.specs.RewriteSteps.{IsArgumentStep, ReportsCreated, AreArgumentSteps, IsPuttingOn, stands_for, StandForEach}
 use Rattle.pliron_sccp.specs.Chain.{KnownArgument, all_put, IsPartlyPut}
 use Rattle.pliron_sccp.proofs.StepLemmas.{told_then}
 use Rattle.pliron_core.specs.Status.{changed_by_either}
@@ -42,7 +42,7 @@ module _ (accepts : AttrObj → Bool) (head : AttrObj → Head) (attr : AttrObj)
   becomes_stays (Some Unchanged) (ok, e) k l = subst (λ z. IsLive z k) (sym e) l
   becomes_stays None same k l = subst (λ r. IsSome r.head) (sym (same.operations k)) l
 
-  pub becomes_told : (status : IRStatus) → Becomes (Some status) → TellsCreated status t u
+  pub becomes_told : (status : IRStatus) → Becomes (Some status) → ReportsCreated status t u
   becomes_told Unchanged (over, e) = subst (IsSameTree t) (sym e) (same_refl t)
   becomes_told Changed (ok, e) = (
     length t.operations,
@@ -50,7 +50,7 @@ module _ (accepts : AttrObj → Bool) (head : AttrObj → Head) (attr : AttrObj)
     subst (λ z. IsLive z (length t.operations)) (sym e) (ap (λ z. is_some z.head) (first_row-new t b v (head attr))),
   )
 
-module _ (x : Says) (t₀ : Tree) (root : ℕ) (f₀ : Facts) (t : Tree) (argument : ConstantArgument) (s : IsArgumentStep x t₀ root f₀ t argument) where
+module _ (x : Says) (t₀ : Tree) (root : ℕ) (f₀ : LatticeValues) (t : Tree) (argument : ConstantArgument) (s : IsArgumentStep x t₀ root f₀ t argument) where
   pub argument_listed : slice_get (arguments_of t argument.block) argument.index ≡ Some s.known.value
   argument_listed = ap (λ z. slice_get z argument.index) (s.follows.arguments argument.block) ∙ s.known.listed
 
@@ -98,10 +98,10 @@ module _ (x : Says) (accepts : AttrObj → Bool) (head : AttrObj → Head) (star
   pub putting_start : IsPuttingOn x accepts head start arguments 0 Unchanged start
   putting_start = record { follows = λ t₀ root f₀ s. s.follows; puts = λ t₀ root f₀ s known each. (refl, refl); told = same_refl start; stays = λ k l. l }
 
-  pub putting_can : (i : ℕ) (status : IRStatus) (now : Tree) → IsPuttingOn x accepts head start arguments i status now → (a : ConstantArgument) → slice_get arguments i ≡ Some a → (t₀ : Tree) (root : ℕ) (f₀ : Facts) → AreArgumentSteps x t₀ root f₀ start arguments → IsArgumentStep x t₀ root f₀ now a
+  pub putting_can : (i : ℕ) (status : IRStatus) (now : Tree) → IsPuttingOn x accepts head start arguments i status now → (a : ConstantArgument) → slice_get arguments i ≡ Some a → (t₀ : Tree) (root : ℕ) (f₀ : LatticeValues) → AreArgumentSteps x t₀ root f₀ start arguments → IsArgumentStep x t₀ root f₀ now a
   putting_can i status now g a at t₀ root f₀ s = record { first = s.first; follows = g.follows t₀ root f₀ s; known = s.each i a at }
 
-  pub putting_next : (i : ℕ) (status : IRStatus) (now : Tree) → IsPuttingOn x accepts head start arguments i status now → (a : ConstantArgument) → slice_get arguments i ≡ Some a → (next : Tree) (one : IRStatus) → ReplacesArgument accepts head a.attr a.block a.index now next one → TellsCreated one now next → ((k : ℕ) → IsLive now k → IsLive next k) → ((t₀ : Tree) (root : ℕ) (f₀ : Facts) → IsArgumentStep x t₀ root f₀ now a → Follows x t₀ root f₀ next) → IsPuttingOn x accepts head start arguments (i + 1) (changed_by_either status one) next
+  pub putting_next : (i : ℕ) (status : IRStatus) (now : Tree) → IsPuttingOn x accepts head start arguments i status now → (a : ConstantArgument) → slice_get arguments i ≡ Some a → (next : Tree) (one : IRStatus) → ReplacesArgument accepts head a.attr a.block a.index now next one → ReportsCreated one now next → ((k : ℕ) → IsLive now k → IsLive next k) → ((t₀ : Tree) (root : ℕ) (f₀ : LatticeValues) → IsArgumentStep x t₀ root f₀ now a → Follows x t₀ root f₀ next) → IsPuttingOn x accepts head start arguments (i + 1) (changed_by_either status one) next
   putting_next i status now g a at next one is told stays follows = record {
     follows = λ t₀ root f₀ s. follows t₀ root f₀ (putting_can i status now g a at t₀ root f₀ s);
     puts = puts;
@@ -118,7 +118,7 @@ module _ (x : Says) (accepts : AttrObj → Bool) (head : AttrObj → Head) (star
       put_one k same attr Unchanged (over, e) =
           ap (λ b. if b then materialised_first now k.block k.value (head k.attr) else now) (ap accepts (sym attr) ∙ over) ∙ sym e
 
-      puts : (t₀ : Tree) (root : ℕ) (f₀ : Facts) → AreArgumentSteps x t₀ root f₀ start arguments → (known : List KnownArgument) → StandForEach t₀ arguments known → (all_put accepts head known start ≡ all_put accepts head (drop (i + 1) known) next) × (all_put accepts head (take (i + 1) known) start ≡ next)
+      puts : (t₀ : Tree) (root : ℕ) (f₀ : LatticeValues) → AreArgumentSteps x t₀ root f₀ start arguments → (known : List KnownArgument) → StandForEach t₀ arguments known → (all_put accepts head known start ≡ all_put accepts head (drop (i + 1) known) next) × (all_put accepts head (take (i + 1) known) start ≡ next)
       puts t₀ root f₀ s known each =
           let p = drop_known t₀ arguments known each i a at in
           let now_listed : slice_get (arguments_of now a.block) a.index ≡ Some p.0.value = ap (λ z. slice_get z a.index) ((g.follows t₀ root f₀ s).arguments a.block) ∙ p.1.1 in
@@ -128,10 +128,10 @@ module _ (x : Says) (accepts : AttrObj → Bool) (head : AttrObj → Head) (star
             ap (λ l. all_put accepts head l start) (take_one known i p.0 _ p.2) ∙ all_put_end (take i known) start p.0 ∙ ap (λ z. if accepts p.0.attr then materialised_first z p.0.block p.0.value (head p.0.attr) else z) before.1 ∙ one_put,
           )
 
-  pub putting_end : (i : ℕ) (status : IRStatus) (now : Tree) → IsPuttingOn x accepts head start arguments i status now → length arguments ≤ i → (t₀ : Tree) (root : ℕ) (f₀ : Facts) → AreArgumentSteps x t₀ root f₀ start arguments → (known : List KnownArgument) → StandForEach t₀ arguments known → now ≡ all_put accepts head known start
+  pub putting_end : (i : ℕ) (status : IRStatus) (now : Tree) → IsPuttingOn x accepts head start arguments i status now → length arguments ≤ i → (t₀ : Tree) (root : ℕ) (f₀ : LatticeValues) → AreArgumentSteps x t₀ root f₀ start arguments → (known : List KnownArgument) → StandForEach t₀ arguments known → now ≡ all_put accepts head known start
   putting_end i status now g le t₀ root f₀ s known each =
       let long = as_long t₀ arguments known each in
       sym ((g.puts t₀ root f₀ s known each).0 ∙ ap (λ l. all_put accepts head l now) (drop_all i known (omega (arith, le, long))))
 
-  pub putting_broken : (i : ℕ) (status : IRStatus) (now : Tree) → IsPuttingOn x accepts head start arguments i status now → (next : Tree) → IsSameTree now next → (t₀ : Tree) (root : ℕ) (f₀ : Facts) → AreArgumentSteps x t₀ root f₀ start arguments → (known : List KnownArgument) → StandForEach t₀ arguments known → IsPartlyPut accepts head known start next
+  pub putting_broken : (i : ℕ) (status : IRStatus) (now : Tree) → IsPuttingOn x accepts head start arguments i status now → (next : Tree) → IsSameTree now next → (t₀ : Tree) (root : ℕ) (f₀ : LatticeValues) → AreArgumentSteps x t₀ root f₀ start arguments → (known : List KnownArgument) → StandForEach t₀ arguments known → IsPartlyPut accepts head known start next
   putting_broken i status now g next same t₀ root f₀ s known each = (i, subst (λ z. IsSameTree z next) (sym (g.puts t₀ root f₀ s known each).1) same)

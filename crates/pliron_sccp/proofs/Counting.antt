@@ -2,7 +2,7 @@
 use Rattle.std.proofs.Common.{◌≡◌, inl, inr, ℕ, ◌+◌, ◌*◌, Bool, true, false, List, [], ◌∷◌, ◌++◌, length, filter, refl, sym, ap, ap₂, ◌∙◌, subst, arith}
 use Rattle.std.specs.List.{flat_map}
 use Rattle.pliron_core.specs.Lists.{In, IsDistinct}
-use Rattle.pliron_theory.specs.Facts.{Fact, Undetermined, Constant, NotAConstant}
+use Rattle.pliron_theory.specs.LatticeValues.{LatticeValue, Undetermined, Constant, NotAConstant}
 use Rattle.pliron_sccp.specs.Chain.{is_constant, varies}
 use Rattle.pliron_theory.proofs.PutFacts.{instead, instead_it, instead_other}
 
@@ -33,12 +33,12 @@ sum_changed w f v a (x ∷ xs) d (inr i) =
     omega (arith, other, rest)
 
 -- the weights of the two bounds
-abbrev pub least : Fact → ℕ
+abbrev pub least : LatticeValue → ℕ
 least Undetermined = 0
 least (Constant c) = 1
 least NotAConstant = 1
 
-abbrev pub most : Fact → ℕ
+abbrev pub most : LatticeValue → ℕ
 most Undetermined = 0
 most (Constant c) = 1
 most NotAConstant = 2
@@ -58,24 +58,24 @@ pub counted_filter : (p : ℕ → Bool) (xs : List ℕ) → length (filter p xs)
 counted_filter p [] = refl
 counted_filter p (x ∷ xs) = length_kept p x xs ∙ ap (λ n. one_if (p x) + n) (counted_filter p xs)
 
-split_least : (f : Fact) → one_if (is_constant f) + one_if (varies f) ≡ least f
+split_least : (f : LatticeValue) → one_if (is_constant f) + one_if (varies f) ≡ least f
 split_least Undetermined = refl
 split_least (Constant c) = refl
 split_least NotAConstant = refl
 
-split_most : (f : Fact) → one_if (is_constant f) + 2 * one_if (varies f) ≡ most f
+split_most : (f : LatticeValue) → one_if (is_constant f) + 2 * one_if (varies f) ≡ most f
 split_most Undetermined = refl
 split_most (Constant c) = refl
 split_most NotAConstant = refl
 
-pub sum_least : (f : ℕ → Fact) (xs : List ℕ) → length (filter (λ v. is_constant (f v)) xs) + length (filter (λ v. varies (f v)) xs) ≡ sum_of (λ v. least (f v)) xs
+pub sum_least : (f : ℕ → LatticeValue) (xs : List ℕ) → length (filter (λ v. is_constant (f v)) xs) + length (filter (λ v. varies (f v)) xs) ≡ sum_of (λ v. least (f v)) xs
 sum_least f xs = ap₂ (λ a b. a + b) (counted_filter (λ v. is_constant (f v)) xs) (counted_filter (λ v. varies (f v)) xs) ∙ go xs
   where
     go : (xs : List ℕ) → sum_of (λ v. one_if (is_constant (f v))) xs + sum_of (λ v. one_if (varies (f v))) xs ≡ sum_of (λ v. least (f v)) xs
     go [] = refl
     go (x ∷ xs) = let e = go xs in let s = split_least (f x) in omega (arith, e, s)
 
-pub sum_most : (f : ℕ → Fact) (xs : List ℕ) → length (filter (λ v. is_constant (f v)) xs) + 2 * length (filter (λ v. varies (f v)) xs) ≡ sum_of (λ v. most (f v)) xs
+pub sum_most : (f : ℕ → LatticeValue) (xs : List ℕ) → length (filter (λ v. is_constant (f v)) xs) + 2 * length (filter (λ v. varies (f v)) xs) ≡ sum_of (λ v. most (f v)) xs
 sum_most f xs = ap₂ (λ a b. a + 2 * b) (counted_filter (λ v. is_constant (f v)) xs) (counted_filter (λ v. varies (f v)) xs) ∙ go xs
   where
     go : (xs : List ℕ) → sum_of (λ v. one_if (is_constant (f v))) xs + 2 * sum_of (λ v. one_if (varies (f v))) xs ≡ sum_of (λ v. most (f v)) xs
@@ -83,23 +83,23 @@ sum_most f xs = ap₂ (λ a b. a + 2 * b) (counted_filter (λ v. is_constant (f 
     go (x ∷ xs) = let e = go xs in let s = split_most (f x) in omega (arith, e, s)
 
 -- values of blocks that are not reached weigh nothing
-pub sum_reached : (w : ℕ → ℕ) (reaches : ℕ → Bool) (values : ℕ → List ℕ) (bs : List ℕ) → ((b v : ℕ) → In b bs → reaches b ≡ false → In v (values b) → w v ≡ 0) → sum_of w (flat_map values (filter reaches bs)) ≡ sum_of w (flat_map values bs)
-sum_reached w reaches values [] none = refl
-sum_reached w reaches values (b ∷ bs) none = by (reaches b) refl (sum_reached w reaches values bs (λ c v i. none c v (inr i)))
+pub sum_reached : (w : ℕ → ℕ) (is_executable : ℕ → Bool) (values : ℕ → List ℕ) (bs : List ℕ) → ((b v : ℕ) → In b bs → is_executable b ≡ false → In v (values b) → w v ≡ 0) → sum_of w (flat_map values (filter is_executable bs)) ≡ sum_of w (flat_map values bs)
+sum_reached w is_executable values [] none = refl
+sum_reached w is_executable values (b ∷ bs) none = by (is_executable b) refl (sum_reached w is_executable values bs (λ c v i. none c v (inr i)))
   where
     zero_sum : (xs : List ℕ) → ((v : ℕ) → In v xs → w v ≡ 0) → sum_of w xs ≡ 0
     zero_sum [] z = refl
     zero_sum (x ∷ xs) z = let e = z x (inl refl) in let r = zero_sum xs (λ v i. z v (inr i)) in omega (arith, e, r)
 
-    kept : reaches b ≡ true → filter reaches (b ∷ bs) ≡ b ∷ filter reaches bs
+    kept : is_executable b ≡ true → filter is_executable (b ∷ bs) ≡ b ∷ filter is_executable bs
     kept e = grind (arith, e)
 
-    gone : reaches b ≡ false → filter reaches (b ∷ bs) ≡ filter reaches bs
+    gone : is_executable b ≡ false → filter is_executable (b ∷ bs) ≡ filter is_executable bs
     gone e = grind (arith, e)
 
-    by : (c : Bool) → reaches b ≡ c → sum_of w (flat_map values (filter reaches bs)) ≡ sum_of w (flat_map values bs) → sum_of w (flat_map values (filter reaches (b ∷ bs))) ≡ sum_of w (flat_map values (b ∷ bs))
+    by : (c : Bool) → is_executable b ≡ c → sum_of w (flat_map values (filter is_executable bs)) ≡ sum_of w (flat_map values bs) → sum_of w (flat_map values (filter is_executable (b ∷ bs))) ≡ sum_of w (flat_map values (b ∷ bs))
     by true e rest =
-        ap (λ l. sum_of w (flat_map values l)) (kept e) ∙ sum_append w (values b) (flat_map values (filter reaches bs)) ∙ ap (λ n. sum_of w (values b) + n) rest ∙ sym (sum_append w (values b) (flat_map values bs))
+        ap (λ l. sum_of w (flat_map values l)) (kept e) ∙ sum_append w (values b) (flat_map values (filter is_executable bs)) ∙ ap (λ n. sum_of w (values b) + n) rest ∙ sym (sum_append w (values b) (flat_map values bs))
     by false e rest =
         let empty = zero_sum (values b) (λ v i. none b v (inl refl) e i) in
         let whole = sum_append w (values b) (flat_map values bs) in

@@ -4,10 +4,10 @@ use Rattle.std.proofs.Common.{◌≡◌, ◌⊎◌, ℕ, zero, suc, ◌<◌, Lis
 use Rattle.std.specs.List.{flat_map}
 use Rattle.pliron_core.specs.declared.context.Def.TheVariants.{Result, Argument}
 use Rattle.pliron_core.specs.Lists.{In, IsDistinct}
-use Rattle.pliron_core.specs.Tree.{Tree, IsLive, IsBlock, IsInside, IsWithin, up_from, regions_of, results_of, parent_of, body_of, arguments_of, block_parent_of, layout_of, region_parent_of, op_of_slot, block_holder_of, holder_of, definition_of}
+use Rattle.pliron_core.specs.Tree.{Tree, IsLive, IsBlock, IsInside, IsWithin, up_from, regions_of, results_of, parent_of, body_of, arguments_of, block_parent_of, layout_of, region_parent_of, op_of_slot, block_parent_operation_of, parent_operation_of, definition_of}
 use Rattle.pliron_core.specs.Tree.IsInside.{Directly, Deeper}
 use Rattle.pliron_core.specs.Walks.{contents, preorder}
-use Rattle.pliron_core.specs.Joined.{IsTree}
+use Rattle.pliron_core.specs.Invariant.{IsTree}
 use Rattle.pliron_core.proofs.ListLemmas.{In-cases, distinct-join, distinct-length}
 use Rattle.pliron_core.proofs.FlatLemmas.{flat_map-In, flat_map-same, distinct-flat_map, slice_get-In, distinct-indices}
 use Rattle.pliron_core.proofs.WalkLemmas.{inside_from, not_inside-itself, children_apart, distinct-regions, contents-shorter, distinct-preorder, In-preorder, within_live, live_within}
@@ -26,20 +26,20 @@ some_is e = cc
 
 -- what holds a block that stands here: an operation at or inside the one that is asked
 abbrev IsHeldWithin : Tree → ℕ → ℕ → Type 0
-IsHeldWithin t x z = (m : ℕ) × (block_holder_of t z ≡ Some m) × IsWithin t x m
+IsHeldWithin t x z = (m : ℕ) × (block_parent_operation_of t z ≡ Some m) × IsWithin t x m
 
 module _ (t : Tree) (w : IsTree t) where
   -- a block of a region of x is held by x
-  pub held_directly : (x r b : ℕ) → In r (regions_of t x) → In b (layout_of t r) → block_holder_of t b ≡ Some x
+  pub held_directly : (x r b : ℕ) → In r (regions_of t x) → In b (layout_of t r) → block_parent_operation_of t b ≡ Some x
   held_directly x r b i j =
       let s = slice_get-In r (regions_of t x) i in
       ap (λ o. up_from o (λ q. region_parent_of t q)) (w.layouts.owned b r j) ∙ ap op_of_slot (w.joined.regions x s.0 r s.1)
 
   -- an operation of a block is held by what holds the block
-  pub held_by : (b k : ℕ) (x : ℕ) → block_holder_of t b ≡ Some x → In k (body_of t b) → holder_of t k ≡ Some x
-  held_by b k x e i = ap (λ o. up_from o (λ q. block_holder_of t q)) (w.bodies.owned k b i) ∙ e
+  pub held_by : (b k : ℕ) (x : ℕ) → block_parent_operation_of t b ≡ Some x → In k (body_of t b) → parent_operation_of t k ≡ Some x
+  held_by b k x e i = ap (λ o. up_from o (λ q. block_parent_operation_of t q)) (w.bodies.owned k b i) ∙ e
 
-  up_within : (x k m : ℕ) → holder_of t k ≡ Some x → IsWithin t k m → IsInside t x m
+  up_within : (x k m : ℕ) → parent_operation_of t k ≡ Some x → IsWithin t k m → IsInside t x m
   up_within x k m e (inl s) = subst (IsInside t x) (sym s) (inside_from t x k x e (inl refl))
   up_within x k m e (inr u) = go m u
     where
@@ -63,35 +63,35 @@ module _ (t : Tree) (w : IsTree t) where
       let b = flat_map-In (λ b. from_block t n b) (layout_of t r.0) z r.2 in
       let held = held_directly x r.0 b.0 r.1 b.1 in
       elim (from_is n b.0 z (below_held n) b.2) [
-        | inl e ↦ (x, subst (λ y. block_holder_of t y ≡ Some x) (sym e) held, inl refl)
+        | inl e ↦ (x, subst (λ y. block_parent_operation_of t y ≡ Some x) (sym e) held, inl refl)
         | inr f ↦ (f.2.0, f.2.1, inr (up_within x f.0 f.2.0 (held_by b.0 f.0 x held f.1) f.2.2))
       ]
 
   pub inside_block : (x z : ℕ) → In z (blocks_inside t x) → IsBlock t z
   inside_block x z i = let r = below_held (length t.operations) x z i in stands (block_parent_of t z) refl r.0 r.1
     where
-      stands : (o : Option ℕ) → block_parent_of t z ≡ o → (m : ℕ) → block_holder_of t z ≡ Some m → IsBlock t z
+      stands : (o : Option ℕ) → block_parent_of t z ≡ o → (m : ℕ) → block_parent_operation_of t z ≡ Some m → IsBlock t z
       stands None e m h = absurd (let f : None ≡ Some m = sym (ap (λ q. up_from q (λ r. region_parent_of t r)) e) ∙ h in cc)
       stands (Some r) e m h = ap is_some e
 
   -- an operation of a block of x does not hold another block of x, at any depth
-  not_deeper : (x b c k m : ℕ) → block_holder_of t b ≡ Some x → block_holder_of t c ≡ Some x → In k (body_of t c) → block_holder_of t b ≡ Some m → IsWithin t k m → ⊥
+  not_deeper : (x b c k m : ℕ) → block_parent_operation_of t b ≡ Some x → block_parent_operation_of t c ≡ Some x → In k (body_of t c) → block_parent_operation_of t b ≡ Some m → IsWithin t k m → ⊥
   not_deeper x b c k m e f i g u =
       not_inside-itself t w x (subst (IsInside t x) (some_is (sym g ∙ e)) (up_within x k m (held_by c k x f i) u))
 
   -- two blocks of x have nothing in common
-  from_one : (x b c z : ℕ) → block_holder_of t b ≡ Some x → block_holder_of t c ≡ Some x → IsFrom b z → IsFrom c z → b ≡ c
+  from_one : (x b c z : ℕ) → block_parent_operation_of t b ≡ Some x → block_parent_operation_of t c ≡ Some x → IsFrom b z → IsFrom c z → b ≡ c
   from_one x b c z e f (inl s) (inl r) = sym s ∙ r
   from_one x b c z e f (inl s) (inr q) =
-      absurd (not_deeper x b c q.0 q.2.0 e f q.1 (ap (block_holder_of t) (sym s) ∙ q.2.1) q.2.2)
+      absurd (not_deeper x b c q.0 q.2.0 e f q.1 (ap (block_parent_operation_of t) (sym s) ∙ q.2.1) q.2.2)
   from_one x b c z e f (inr p) (inl r) =
-      absurd (not_deeper x c b p.0 p.2.0 f e p.1 (ap (block_holder_of t) (sym r) ∙ p.2.1) p.2.2)
+      absurd (not_deeper x c b p.0 p.2.0 f e p.1 (ap (block_parent_operation_of t) (sym r) ∙ p.2.1) p.2.2)
   from_one x b c z e f (inr p) (inr q) =
       let m : p.2.0 ≡ q.2.0 = some_is (sym p.2.1 ∙ q.2.1) in
       let same : p.0 ≡ q.0 = children_apart t w p.0 q.0 x p.2.0 (held_by b p.0 x e p.1) (held_by c q.0 x f q.1) p.2.2 (subst (IsWithin t q.0) (sym m) q.2.2) in
       some_is (sym (w.bodies.owned p.0 b p.1) ∙ ap (parent_of t) same ∙ w.bodies.owned q.0 c q.1)
 
-  distinct_from : (n x b : ℕ) → ((k : ℕ) → IsDistinct (blocks_to_depth t n k)) → block_holder_of t b ≡ Some x → IsDistinct (from_block t n b)
+  distinct_from : (n x b : ℕ) → ((k : ℕ) → IsDistinct (blocks_to_depth t n k)) → block_parent_operation_of t b ≡ Some x → IsDistinct (from_block t n b)
   distinct_from n x b each e = (
     λ i. let r = flat_map-In (λ k. blocks_to_depth t n k) (body_of t b) b i in let h = below_held n r.0 b r.2 in not_deeper x b b r.0 h.0 e e r.1 h.1 h.2,
     distinct-flat_map (λ k. blocks_to_depth t n k) (body_of t b) (w.bodies.distinct b) (λ k i. each k) (λ k l z i j p q.

@@ -6,7 +6,7 @@ use Rattle.pliron_laws.specs.Datum.{Head}
 use Rattle.pliron_laws.specs.InPlace.{Outcome}
 use Rattle.pliron_laws.specs.Linked.{IsWellLinked}
 use Rattle.pliron_theory.specs.Change.{IsPassChange}
-use Rattle.pliron_theory.specs.Facts.{Says}
+use Rattle.pliron_theory.specs.LatticeValues.{Says}
 use Rattle.pliron_theory.specs.Following.{Follows}
 use Rattle.pliron_sccp.specs.declared.rewrite.Found.{Found}
 use Rattle.pliron_sccp.specs.Chain.{IsPartlyRewritten}

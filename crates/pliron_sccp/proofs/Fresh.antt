@@ -9,10 +9,10 @@ use Rattle.std.proofs.lemmas.Option.{slice_get_within, slice_get-get_or}
 use Rattle.pliron_core.specs.declared.attrs.AttrObj.{AttrObj}
 use Rattle.pliron_core.specs.Lists.{In, IsDistinct}
 use Rattle.pliron_core.proofs.HoldingLemmas.{some_is, in_slice, slice_in}
-use Rattle.pliron_theory.specs.Facts.{Undetermined, NotAConstant}
-use Rattle.pliron_sccp.specs.declared.facts.Cell.{Cell}
-use Rattle.pliron_sccp.specs.declared.facts.Cell.TheVariants.{Undetermined as Unknown, Constant as Known, NotAConstant as Varying}
-use Rattle.pliron_sccp.specs.Cells.{cell_at, is_unknown, said, table_at, unknown_count}
+use Rattle.pliron_theory.specs.LatticeValues.{Undetermined, NotAConstant}
+use Rattle.pliron_sccp.specs.declared.lattice_tables.LatticeCell.{LatticeCell}
+use Rattle.pliron_sccp.specs.declared.lattice_tables.LatticeCell.TheVariants.{Undetermined as Unknown, Constant as Known, NotAConstant as Varying}
+use Rattle.pliron_sccp.specs.LatticeCells.{cell_at, is_unknown, value_of_cell, table_at, unknown_count}
 use Rattle.pliron_sccp.proofs.Worklists.{any_in, in_any, once_from}
 
 -- a key's place is its number
@@ -51,47 +51,47 @@ pub fresh_read : {A : Type 0} (a : A) (n : ℕ) (xs : List A) → xs ≡ replica
 fresh_read a n xs e l None = refl
 fresh_read a n xs e l (Some k) = fresh_at a n xs e l k
 
-pub count_most : (cells : List Cell) → unknown_count cells ≤ length cells
+pub count_most : (cells : List LatticeCell) → unknown_count cells ≤ length cells
 count_most [] = omega arith
 count_most (Unknown ∷ cells) = let l = count_most cells in omega (arith, l)
 count_most (Known k ∷ cells) = let l = count_most cells in omega (arith, l)
 count_most (Varying ∷ cells) = let l = count_most cells in omega (arith, l)
 
-pub none_known : (cells : List Cell) → ((i : ℕ) → slice_index_or cells i Unknown ≡ Unknown) → (n k : ℕ) → slice_get cells n ≡ Some (Known k) → ⊥
+pub none_known : (cells : List LatticeCell) → ((i : ℕ) → slice_index_or cells i Unknown ≡ Unknown) → (n k : ℕ) → slice_get cells n ≡ Some (Known k) → ⊥
 none_known cells h n k e = go cells n h e
   where
-    is_none : Option Cell → Bool
+    is_none : Option LatticeCell → Bool
     is_none None = true
     is_none (Some c) = false
 
-    or_varying : Option Cell → Cell
+    or_varying : Option LatticeCell → LatticeCell
     or_varying None = Varying
     or_varying (Some c) = c
 
-    go : (ys : List Cell) (m : ℕ) → ((i : ℕ) → slice_index_or ys i Unknown ≡ Unknown) → slice_get ys m ≡ Some (Known k) → ⊥
+    go : (ys : List LatticeCell) (m : ℕ) → ((i : ℕ) → slice_index_or ys i Unknown ≡ Unknown) → slice_get ys m ≡ Some (Known k) → ⊥
     go [] m h e = true≢false (ap is_none e)
     go (y ∷ ys) zero h e = true≢false (sym (ap is_unknown (h 0)) ∙ ap is_unknown (ap or_varying e))
     go (y ∷ ys) (suc m) h e = go ys m (λ i. h (suc i)) e
 
 -- values with a number are not known yet, others are no constants
-pub fresh_fact : (constants : List AttrObj) (keys : List ℕ) (cells : List Cell) → IsDistinct keys → ((i : ℕ) → slice_index_or cells i Unknown ≡ Unknown) → length cells ≡ length keys → (v : ℕ) → said constants (cell_at cells (position (nat_eq v) keys)) ≡ (if list_any (nat_eq v) keys then Undetermined else NotAConstant)
+pub fresh_fact : (constants : List AttrObj) (keys : List ℕ) (cells : List LatticeCell) → IsDistinct keys → ((i : ℕ) → slice_index_or cells i Unknown ≡ Unknown) → length cells ≡ length keys → (v : ℕ) → value_of_cell constants (cell_at cells (position (nat_eq v) keys)) ≡ (if list_any (nat_eq v) keys then Undetermined else NotAConstant)
 fresh_fact constants keys cells d h l v = by (list_any (nat_eq v) keys) refl
   where
-    read : (ys : List Cell) (n : ℕ) → n < length ys → ((i : ℕ) → slice_index_or ys i Unknown ≡ Unknown) → slice_index_or ys n Varying ≡ Unknown
+    read : (ys : List LatticeCell) (n : ℕ) → n < length ys → ((i : ℕ) → slice_index_or ys i Unknown ≡ Unknown) → slice_index_or ys n Varying ≡ Unknown
     read [] n lt g = absurd (omega (arith, lt))
     read (y ∷ ys) zero lt g = g 0
     read (y ∷ ys) (suc n) lt g = read ys n (omega (arith, lt)) (λ i. g (suc i))
 
-    without : (o : Option ℕ) → position (nat_eq v) keys ≡ o → list_any (nat_eq v) keys ≡ false → said constants (cell_at cells o) ≡ NotAConstant
+    without : (o : Option ℕ) → position (nat_eq v) keys ≡ o → list_any (nat_eq v) keys ≡ false → value_of_cell constants (cell_at cells o) ≡ NotAConstant
     without None at none = refl
     without (Some m) at none =
         let p = position-Some (nat_eq v) keys m 0 at in
         let there : In v keys = in_slice keys m v (slice_get-get_or keys m 0 p.0 ∙ ap (λ z. Some z) (sym (eqb-true v (get_or keys m 0) p.1))) in
         absurd (true≢false (sym (in_any v keys there) ∙ none))
 
-    by : (q : Bool) → list_any (nat_eq v) keys ≡ q → said constants (cell_at cells (position (nat_eq v) keys)) ≡ (if list_any (nat_eq v) keys then Undetermined else NotAConstant)
+    by : (q : Bool) → list_any (nat_eq v) keys ≡ q → value_of_cell constants (cell_at cells (position (nat_eq v) keys)) ≡ (if list_any (nat_eq v) keys then Undetermined else NotAConstant)
     by true there =
         let s = slice_in keys v (any_in v keys there) in
         let lt = slice_get_within keys s.0 v s.1 in
-        ap (λ o. said constants (cell_at cells o)) (numbered_at keys d s.0 v s.1) ∙ ap (said constants) (read cells s.0 (omega (arith, lt, l)) h) ∙ ap (λ c. if c then Undetermined else NotAConstant) (sym there)
+        ap (λ o. value_of_cell constants (cell_at cells o)) (numbered_at keys d s.0 v s.1) ∙ ap (value_of_cell constants) (read cells s.0 (omega (arith, lt, l)) h) ∙ ap (λ c. if c then Undetermined else NotAConstant) (sym there)
     by false none = without (position (nat_eq v) keys) refl none ∙ ap (λ c. if c then Undetermined else NotAConstant) (sym none)

@@ -4,10 +4,10 @@ use Rattle.std.specs.List.{flat_map}
 use Rattle.pliron_core.specs.declared.context.Def.{Def}
 use Rattle.pliron_core.specs.declared.context.Def.TheVariants.{Result, Argument}
 use Rattle.pliron_core.specs.Lists.{In}
-use Rattle.pliron_core.specs.Changes.{IsMakerInside, IsMadeInside}
-use Rattle.pliron_core.specs.Tree.{Tree, IsLive, IsInside, IsMadeBy, IsDefined, HoldsBlock, regions_of, results_of, parent_of, body_of, arguments_of, layout_of, block_holder_of, holder_of}
+use Rattle.pliron_core.specs.Changes.{IsDefiningOperationInside, IsDefinedInside}
+use Rattle.pliron_core.specs.Tree.{Tree, IsLive, IsInside, IsMadeBy, IsDefined, HoldsBlock, regions_of, results_of, parent_of, body_of, arguments_of, layout_of, block_parent_operation_of, parent_operation_of}
 use Rattle.pliron_core.specs.Tree.IsInside.{Directly, Deeper}
-use Rattle.pliron_core.specs.Joined.{IsTree}
+use Rattle.pliron_core.specs.Invariant.{IsTree}
 use Rattle.pliron_core.proofs.ListLemmas.{In-left, In-right}
 use Rattle.pliron_core.proofs.FlatLemmas.{In-flat_map}
 use Rattle.pliron_core.proofs.HoldingLemmas.{some_is, in_slice, slot_is, region_parent_is, maker_is, block_held, held_block, holder_is, inside_up, block_inside}
@@ -17,7 +17,7 @@ use Rattle.pliron_sccp.proofs.DistinctLists.{inside_nested}
 
 module _ (t : Tree) (w : IsTree t) where
   -- the region of a block is one of the operation that holds the block
-  region_of : (m z : ℕ) → block_holder_of t z ≡ Some m → (r : ℕ) × In r (regions_of t m) × In z (layout_of t r)
+  region_of : (m z : ℕ) → block_parent_operation_of t z ≡ Some m → (r : ℕ) × In r (regions_of t m) × In z (layout_of t r)
   region_of m z e =
       let h = block_held t z w.joined (held_block t z m e) in
       let s = slot_is t h.0 h.3 in
@@ -28,7 +28,7 @@ module _ (t : Tree) (w : IsTree t) where
   abbrev from : ℕ → List ℕ
   from b = b ∷ flat_map (λ k. blocks_inside t k) (body_of t b)
 
-  listed_from : (m b z : ℕ) → block_holder_of t b ≡ Some m → In z (from b) → In z (blocks_inside t m)
+  listed_from : (m b z : ℕ) → block_parent_operation_of t b ≡ Some m → In z (from b) → In z (blocks_inside t m)
   listed_from m b z e i =
       let r = region_of m b e in
       let held = block_held t b w.joined (held_block t b m e) in
@@ -36,7 +36,7 @@ module _ (t : Tree) (w : IsTree t) where
       subst (In z) (sym (inside_nested t w m (subst (λ y. IsLive t y) same held.6)))
       (In-flat_map (λ r. flat_map (λ b. from b) (layout_of t r)) (regions_of t m) r.0 z r.1 (In-flat_map (λ b. from b) (layout_of t r.0) b z r.2 i))
 
-  listed_up : (m p z : ℕ) → holder_of t m ≡ Some p → In z (blocks_inside t m) → In z (blocks_inside t p)
+  listed_up : (m p z : ℕ) → parent_operation_of t m ≡ Some p → In z (blocks_inside t m) → In z (blocks_inside t p)
   listed_up m p z e i =
       let h = holder_is t m p e in
       listed_from p h.0 z h.2 (inr (In-flat_map (λ k. blocks_inside t k) (body_of t h.0) m z (w.bodies.listed m h.0 h.1) i))
@@ -56,11 +56,11 @@ module _ (t : Tree) (w : IsTree t) where
   pub result_listed : (x b k v : ℕ) → In b (blocks_inside t x) → parent_of t k ≡ Some b → In v (results_of t k) → In v (values_inside t x)
   result_listed x b k v i p j = In-flat_map (λ b. block_values t b) (blocks_inside t x) b v i (In-right v (arguments_of t b) (flat_map (λ k. results_of t k) (body_of t b)) (In-flat_map (λ k. results_of t k) (body_of t b) k v (w.bodies.listed k b p) j))
 
-  -- a value that is made inside the operation
-  pub made_listed : (x v : ℕ) → IsMadeInside t x v → IsDefined t v → In v (values_inside t x)
-  made_listed x v inside defined = let m = maker_is t v defined in by m.0 m.2 (subst (IsMakerInside t x) m.1 inside)
+  -- a value that is defined inside the operation
+  pub made_listed : (x v : ℕ) → IsDefinedInside t x v → IsDefined t v → In v (values_inside t x)
+  made_listed x v inside defined = let m = maker_is t v defined in by m.0 m.2 (subst (IsDefiningOperationInside t x) m.1 inside)
     where
-      by : (d : Def) → IsMadeBy t v (Some d) → IsMakerInside t x (Some d) → In v (values_inside t x)
+      by : (d : Def) → IsMadeBy t v (Some d) → IsDefiningOperationInside t x (Some d) → In v (values_inside t x)
       by (Argument b i) made held = argument_listed x b v (holds_listed x b held) (in_slice (arguments_of t b) i v made)
       by (Result k i) made held =
           let u = inside_up held in

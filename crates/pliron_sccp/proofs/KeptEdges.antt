@@ -4,9 +4,9 @@ use Rattle.std.specs.HashSet.{HashSet}
 use Rattle.pliron_core.specs.declared.attrs.AttrObj.{AttrObj}
 use Rattle.pliron_core.specs.Tree.{Tree, operands_of}
 use Rattle.pliron_laws.proofs.Records.{op_shows}
-use Rattle.pliron_theory.specs.Facts.{Facts, Says, handed}
-use Rattle.pliron_sccp.specs.declared.edges.FeasibleEdges.{FeasibleEdges}
-use Rattle.pliron_sccp.specs.Demands.{AreFeasible}
+use Rattle.pliron_theory.specs.LatticeValues.{LatticeValues, Says, operand_constants}
+use Rattle.pliron_sccp.specs.declared.feasible_edges.FeasibleEdges.{FeasibleEdges}
+use Rattle.pliron_sccp.specs.Constraints.{AreFeasible}
 use Rattle.pliron_sccp.specs.Feasible.{holds, is_one_key, leads, AreFound, KeepsAmong, KeepsFeasible}
 use Rattle.pliron_sccp.proofs.EdgesAsked.{may}
 
@@ -29,10 +29,10 @@ pub kept_past : {S : Type 0} (op : ℕ) (blocks : Option (HashSet ℕ S)) (befor
 kept_past op blocks before between edges' same keeps = λ j b led. ⊎_elim (λ h. inl (sym (same j b) ∙ h)) (λ y. inr y) (keeps j b led)
 
 -- the operation may go to the blocks that folding answers
-pub are_found : {S : Type 0} (x : Says) (t : Tree) (f : Facts) (op : ℕ) (known : List (Option AttrObj)) → known ≡ handed f (operands_of t op) → (blocks : Option (HashSet ℕ S)) → AreFeasible x.meaning x.can_fold_branch x.feasible t op known blocks → AreFound x t f op blocks
+pub are_found : {S : Type 0} (x : Says) (t : Tree) (f : LatticeValues) (op : ℕ) (known : List (Option AttrObj)) → known ≡ operand_constants f (operands_of t op) → (blocks : Option (HashSet ℕ S)) → AreFeasible x.meaning x.can_fold_branch x.feasible t op known blocks → AreFound x t f op blocks
 are_found x t f op known same None are = tt
-are_found x t f op known same (Some blocks) are = λ b held i o at goes. may x t f op o at known (same ∙ ap (handed f) (op_shows t op o at).operands) (Some blocks) are i b goes (sym held)
+are_found x t f op known same (Some blocks) are = λ b held i o at goes. may x t f op o at known (same ∙ ap (operand_constants f) (op_shows t op o at).operands) (Some blocks) are i b goes (sym held)
 
-pub keeps_found : {S : Type 0} (x : Says) (t : Tree) (f : Facts) (op : ℕ) (blocks : Option (HashSet ℕ S)) (edges edges' : FeasibleEdges) → AreFound x t f op blocks → KeepsAmong op blocks edges edges' → KeepsFeasible x t f op edges edges'
+pub keeps_found : {S : Type 0} (x : Says) (t : Tree) (f : LatticeValues) (op : ℕ) (blocks : Option (HashSet ℕ S)) (edges edges' : FeasibleEdges) → AreFound x t f op blocks → KeepsAmong op blocks edges edges' → KeepsFeasible x t f op edges edges'
 keeps_found x t f op None edges edges' found keeps = λ j b led. ⊎_elim (λ h. inl h) (λ y. absurd (true≢false (sym y.1))) (keeps j b led)
 keeps_found x t f op (Some blocks) edges edges' found keeps = λ j b led. ⊎_elim (λ h. inl h) (λ y. inr (y.0, found b y.1)) (keeps j b led)

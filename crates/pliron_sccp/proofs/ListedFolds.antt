@@ -5,7 +5,7 @@ use Rattle.std.proofs.Math.Seq.{drop-append_seam}
 use Rattle.std.specs.List.{flat_map}
 use Rattle.pliron_core.specs.Lists.{next_in}
 use Rattle.pliron_core.specs.Tree.{Tree, IsInside, head_of, operands_of, parent_of}
-use Rattle.pliron_core.specs.Joined.{IsTree}
+use Rattle.pliron_core.specs.Invariant.{IsTree}
 use Rattle.pliron_core.specs.Walks.{contents, preorder}
 use Rattle.pliron_core.specs.WalkSteps.{rest_from}
 use Rattle.pliron_core.proofs.HoldingLemmas.{some_is, not_none}
@@ -14,13 +14,13 @@ use Rattle.pliron_core.proofs.WalkLemmas.{contents-inside, distinct-contents, no
 use Rattle.pliron_core.specs.declared.attrs.AttrObj.{AttrObj}
 use Rattle.pliron_laws.specs.Datum.{Head}
 use Rattle.pliron_laws.proofs.Records.{operation_of, make_op}
-use Rattle.pliron_theory.specs.Facts.{Facts, Says, handed, known}
+use Rattle.pliron_theory.specs.LatticeValues.{LatticeValues, Says, operand_constants, lattice_constant}
 use Rattle.pliron_sccp.specs.declared.rewrite.Fold.{Fold}
 use Rattle.pliron_sccp.specs.declared.rewrite.Folds.{Folds}
 use Rattle.pliron_sccp.specs.Chain.{is_reached, has_passing_head, both}
-use Rattle.pliron_sccp.specs.Steps.{IsFold, AreEachFold}
+use Rattle.pliron_sccp.specs.RewriteSteps.{IsFold, AreEachFold}
 use Rattle.pliron_sccp.specs.Listed.{is_folding, Each, alone_if, AddsFold, AreFolds}
-use Rattle.pliron_sccp.proofs.Demanded.{handed_more}
+use Rattle.pliron_sccp.proofs.Constrained.{handed_more}
 use Rattle.pliron_theory.proofs.Listing.{IsListing, listing_start, listing_step, listing_smaller, listing_end}
 
 -- one more at the end
@@ -52,7 +52,7 @@ passing_head : (can_fold : Head → Bool) (o : Option Head) → IsTrue (has_pass
 passing_head can_fold None e = absurd (true≢false (sym e))
 passing_head can_fold (Some h) e = (h, refl, e)
 
-reached_parent : (f : Facts) (o : Option ℕ) → IsTrue (is_reached f o) → (b : ℕ) × (o ≡ Some b) × IsTrue (f.reaches b)
+reached_parent : (f : LatticeValues) (o : Option ℕ) → IsTrue (is_reached f o) → (b : ℕ) × (o ≡ Some b) × IsTrue (f.is_executable b)
 reached_parent f None e = absurd (true≢false (sym e))
 reached_parent f (Some b) e = (b, refl, e)
 
@@ -73,11 +73,11 @@ range_added xs more all e =
 grows : {A : Type 0} (xs more all : List A) → all ≡ xs ++ more → length xs ≤ length all
 grows xs more all e = rw (e, length-append xs more) omega arith
 
-module _ (x : Says) (t : Tree) (f : Facts) (k : ℕ) where
+module _ (x : Says) (t : Tree) (f : LatticeValues) (k : ℕ) where
   pub no_block : parent_of t k ≡ None → is_folding x.can_fold t f k ≡ false
   no_block e = ap (λ o. both (has_passing_head x.can_fold (head_of t k)) (is_reached f o)) e ∙ both_false (has_passing_head x.can_fold (head_of t k))
 
-  pub not_reached : (b : ℕ) → parent_of t k ≡ Some b → f.reaches b ≡ false → is_folding x.can_fold t f k ≡ false
+  pub not_reached : (b : ℕ) → parent_of t k ≡ Some b → f.is_executable b ≡ false → is_folding x.can_fold t f k ≡ false
   not_reached b e no_one = ap (λ o. both (has_passing_head x.can_fold (head_of t k)) (is_reached f o)) e ∙ ap (both (has_passing_head x.can_fold (head_of t k))) no_one ∙ both_false (has_passing_head x.can_fold (head_of t k))
 
   pub not_foldable : (h : Head) → head_of t k ≡ Some h → x.can_fold h ≡ false → is_folding x.can_fold t f k ≡ false
@@ -95,7 +95,7 @@ module _ (x : Says) (t : Tree) (f : Facts) (k : ℕ) where
       known_is = ap (λ z. slice_range z one.start one.end) longer ∙ range_stays old.known.items more one.start one.end is.rising is.within ∙ is.known_is;
     }
 
-    pub adds_fold : IsTrue (is_folding x.can_fold t f k) → fold.op ≡ k → fold.start ≡ length old.known.items → fold.end ≡ length new.known.items → more ≡ handed f (operands_of t k) → AddsFold x t f k old new
+    pub adds_fold : IsTrue (is_folding x.can_fold t f k) → fold.op ≡ k → fold.start ≡ length old.known.items → fold.end ≡ length new.known.items → more ≡ operand_constants f (operands_of t k) → AddsFold x t f k old new
     adds_fold folding same start end is = record {
       operations = ap (map (λ fold. fold.op)) e ∙ map_last old.rows.items ∙ ap (λ z. map (λ fold. fold.op) old.rows.items ++ z ∷ []) same ∙ ap (λ b. map (λ fold. fold.op) old.rows.items ++ alone_if b k) (sym folding);
       each = λ all. each_more (IsFold x t f new.known.items) old.rows.items new.rows.items fold e (λ i one at. fold_stays one (all i one at)) (subst (IsFold x t f new.known.items) fold_is added);
@@ -139,22 +139,22 @@ module _ (x : Says) (t : Tree) (f : Facts) (k : ℕ) where
       append_nil (y ∷ ys) = ap (λ zs. y ∷ zs) (append_nil ys)
 
 -- what is known of the first operands is added one by one
-pub known_start : (f : Facts) (xs : List ℕ) (old : List (Option AttrObj)) → old ≡ old ++ handed f (take 0 xs)
+pub known_start : (f : LatticeValues) (xs : List ℕ) (old : List (Option AttrObj)) → old ≡ old ++ operand_constants f (take 0 xs)
 known_start f xs old = sym (append-nil old)
 
-pub known_step : (f : Facts) (xs : List ℕ) (old : List (Option AttrObj)) (i x : ℕ) (before after : List (Option AttrObj)) (a : Option AttrObj) → slice_get xs i ≡ Some x → before ≡ old ++ handed f (take i xs) → a ≡ known (f.fact x) → after ≡ before ++ a ∷ [] → after ≡ old ++ handed f (take (i + 1) xs)
+pub known_step : (f : LatticeValues) (xs : List ℕ) (old : List (Option AttrObj)) (i x : ℕ) (before after : List (Option AttrObj)) (a : Option AttrObj) → slice_get xs i ≡ Some x → before ≡ old ++ operand_constants f (take i xs) → a ≡ lattice_constant (f.lattice_value x) → after ≡ before ++ a ∷ [] → after ≡ old ++ operand_constants f (take (i + 1) xs)
 known_step f xs old i x before after a at so_far is grown =
-    grown ∙ ap (λ z. z ++ a ∷ []) so_far ∙ append_assoc old (handed f (take i xs)) (a ∷ []) ∙ ap (λ z. old ++ z) (handed_more f xs i x (handed f (take i xs)) (handed f (take i xs) ++ a ∷ []) a at refl is refl)
+    grown ∙ ap (λ z. z ++ a ∷ []) so_far ∙ append_assoc old (operand_constants f (take i xs)) (a ∷ []) ∙ ap (λ z. old ++ z) (handed_more f xs i x (operand_constants f (take i xs)) (operand_constants f (take i xs) ++ a ∷ []) a at refl is refl)
 
-abbrev lists : Says → Tree → Facts → ℕ → List ℕ
+abbrev lists : Says → Tree → LatticeValues → ℕ → List ℕ
 lists x t f k = alone_if (is_folding x.can_fold t f k) k
 
 -- the folds of the operations before `at` are listed
-pub record IsFoldListing (x : Says) (t : Tree) (root : ℕ) (f : Facts) (folds : Folds) (at : Option ℕ) : Type 0 where
+pub record IsFoldListing (x : Says) (t : Tree) (root : ℕ) (f : LatticeValues) (folds : Folds) (at : Option ℕ) : Type 0 where
   pub listing : IsListing (lists x t f) (contents t root) [] (map (λ fold. fold.op) folds.rows.items) at
   pub each : AreEachFold x t f folds
 
-module _ (x : Says) (t : Tree) (root : ℕ) (f : Facts) (w : IsTree t) where
+module _ (x : Says) (t : Tree) (root : ℕ) (f : LatticeValues) (w : IsTree t) where
   pub folds_start : (folds : Folds) (at : Option ℕ) → folds.rows.items ≡ [] → at ≡ next_in root (preorder t root) → IsFoldListing x t root f folds at
   folds_start folds at none e = record {
     listing = subst (λ z. IsListing (lists x t f) (contents t root) [] (map (λ fold. fold.op) z) at) (sym none) (listing_start (lists x t f) (contents t root) [] at (e ∙ next_in-first root root (contents t root) refl));

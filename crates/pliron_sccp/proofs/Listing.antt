@@ -5,7 +5,7 @@ use Rattle.std.specs.List.{flat_map}
 use Rattle.std.proofs.lemmas.List.Concat.{flat_map-append}
 use Rattle.pliron_core.specs.Lists.{In}
 use Rattle.pliron_core.specs.Tree.{Tree, IsLive, IsBlock, body_of, layout_of, regions_of}
-use Rattle.pliron_core.specs.Joined.{IsTree}
+use Rattle.pliron_core.specs.Invariant.{IsTree}
 use Rattle.pliron_core.proofs.FlatLemmas.{flat_map-same}
 use Rattle.pliron_core.proofs.ListLemmas.{In-right}
 use Rattle.pliron_core.proofs.ArgumentLemmas.{take_more}
@@ -84,6 +84,6 @@ flat_taken f xs i x before now more at so_far grown =
     add-one i = omega arith
 
 -- the first item of a list comes off a stack last that was put on it from its end
-pub stacked_next : (stack before whole rest left more : List ℕ) (x : ℕ) → stack ++ reverse rest ≡ before ++ reverse whole → rest ≡ left ++ x ∷ [] → more ≡ stack ++ x ∷ [] → more ++ reverse left ≡ before ++ reverse whole
+pub stacked_next : {A : Type 0} (stack before whole rest left more : List A) (x : A) → stack ++ reverse rest ≡ before ++ reverse whole → rest ≡ left ++ x ∷ [] → more ≡ stack ++ x ∷ [] → more ++ reverse left ≡ before ++ reverse whole
 stacked_next stack before whole rest left more x so_far e m =
     ap (λ xs. xs ++ reverse left) m ∙ append_assoc stack (x ∷ []) (reverse left) ∙ ap (λ xs. stack ++ xs) (sym (ap reverse e ∙ reverse-append left (x ∷ []))) ∙ so_far

@@ -1,27 +1,28 @@
 -- Keys that get numbers, one after the other.
-use Rattle.std.proofs.Common.{◌≡◌, ⊎_elim, inl, inr, ℕ, Bool, true, false, nat_eq, if◌then◌else◌, List, [], ◌∷◌, ◌++◌, refl, sym, ap, ◌∙◌, subst}
+use Rattle.std.proofs.Common.{◌≡◌, ◌⊎◌, ◌↔◌, ⊎_elim, inl, inr, ℕ, Bool, true, false, nat_eq, if◌then◌else◌, List, [], ◌∷◌, ◌++◌, refl, sym, ap, ◌∙◌, subst}
 use Rattle.std.specs.List.{flat_map, list_any}
 use Rattle.pliron_core.specs.Lists.{In}
 use Rattle.pliron_core.specs.Tree.{Tree}
-use Rattle.pliron_core.proofs.ListLemmas.{In-left, In-right, In-cases}
-use Rattle.pliron_theory.specs.Facts.{Undetermined, NotAConstant}
-use Rattle.pliron_sccp.specs.declared.facts.Tables.{Tables}
-use Rattle.pliron_sccp.specs.Tables.{AreNew}
+use Rattle.pliron_theory.specs.LatticeValues.{Undetermined, NotAConstant}
+use Rattle.pliron_sccp.specs.declared.lattice_tables.Tables.{Tables}
+use Rattle.pliron_sccp.specs.LatticeTables.{AreNew}
 use Rattle.pliron_sccp.specs.Chain.{blocks_inside}
-use Rattle.pliron_sccp.specs.Inside.{block_values}
-use Rattle.pliron_sccp.specs.Accounts.{IsUnsearched}
-use Rattle.pliron_sccp.specs.Looking.{AddsEach}
-use Rattle.pliron_sccp.specs.Starting.{AddsKeys}
+use Rattle.pliron_sccp.specs.Inside.{values_inside}
+use Rattle.pliron_sccp.specs.WorklistCounts.{IsUnsearched}
+use Rattle.indexmap.specs.IndexSet.{insert_key}
+use Rattle.pliron_sccp.specs.Starting.{AddsKeys, keys_added}
 use Rattle.pliron_sccp.proofs.Worklists.{any_in, in_any}
+use Rattle.pliron_sccp.proofs.UserLists.{any_same, key_added}
+
+pub added-append : (xs ys a : List ℕ) → keys_added (xs ++ ys) a ≡ keys_added ys (keys_added xs a)
+added-append [] ys a = refl
+added-append (x ∷ xs) ys a = added-append xs ys (if list_any (nat_eq x) a then a else a ++ x ∷ [])
 
 pub keys_none : (xs : List ℕ) → AddsKeys [] xs xs
-keys_none xs k = (λ i. inl i, λ i. ⊎_elim (λ j. j) (λ j. absurd j) i)
+keys_none xs = refl
 
 pub keys_join : (xs ys a b c : List ℕ) → AddsKeys xs a b → AddsKeys ys b c → AddsKeys (xs ++ ys) a c
-keys_join xs ys a b c p q k = (
-  λ i. ⊎_elim (λ j. ⊎_elim (λ h. inl h) (λ h. inr (In-left k xs ys h)) ((p k).0 j)) (λ h. inr (In-right k xs ys h)) ((q k).0 i),
-  λ i. ⊎_elim (λ h. (q k).1 (inl ((p k).1 (inl h)))) (λ h. ⊎_elim (λ j. (q k).1 (inl ((p k).1 (inr j)))) (λ j. (q k).1 (inr j)) (In-cases k xs ys h)) i,
-)
+keys_join xs ys a b c p q = q ∙ ap (keys_added ys) p ∙ sym (added-append xs ys a)
 
 -- the keys that each item lists
 abbrev pub AddsKeysOf : (ℕ → List ℕ) → List ℕ → List ℕ → List ℕ → Type 0
@@ -34,11 +35,21 @@ pub one_step : (x : ℕ) (a b : List ℕ) → AddsKeys (x ∷ []) a b → (rest 
 one_step x a b p rest c q = keys_join (x ∷ []) rest a b c p q
 
 -- one key more
-pub key_one : (xs ys : List ℕ) (x : ℕ) → AddsEach xs ys (λ k. x ≡ k) → AddsKeys (x ∷ []) xs ys
-key_one xs ys x a k = (
-  λ i. ⊎_elim (λ j. inl j) (λ e. inr (inl (sym e))) ((a.members k).0 i),
-  λ i. ⊎_elim (λ j. (a.members k).1 (inl j)) (λ j. ⊎_elim (λ e. (a.members k).1 (inr (sym e))) (λ z. absurd z) j) i,
-)
+pub key_one : {eq : ℕ → ℕ → Bool} → ((x y : ℕ) → eq x y ≡ nat_eq x y) → (xs ys : List ℕ) (x : ℕ) → ys ≡ insert_key eq xs x → AddsKeys (x ∷ []) xs ys
+key_one {eq} same xs ys x e = e ∙ ap (λ b. if b then xs else xs ++ x ∷ []) (any_same (eq x) (nat_eq x) (same x) xs)
+
+-- the keys are those from before and these
+pub members : (keys old : List ℕ) (k : ℕ) → In k (keys_added keys old) ↔ (In k old ⊎ In k keys)
+members [] old k = (λ i. inl i, λ i. ⊎_elim (λ j. j) (λ j. absurd j) i)
+members (x ∷ keys) old k =
+    let one = key_added {eq = nat_eq} (λ x y. refl) old (if list_any (nat_eq x) old then old else old ++ x ∷ []) x refl in
+    let rest = members keys (if list_any (nat_eq x) old then old else old ++ x ∷ []) k in (
+      λ i. ⊎_elim (λ j. ⊎_elim (λ h. inl h) (λ h. inr (inl (sym h))) ((one.members k).0 j)) (λ j. inr (inr j)) (rest.0 i),
+      λ i. ⊎_elim (λ j. rest.1 (inl ((one.members k).1 (inl j)))) (λ j. ⊎_elim (λ h. rest.1 (inl ((one.members k).1 (inr (sym h))))) (λ h. rest.1 (inr h)) j) i,
+    )
+
+adds : (keys old new : List ℕ) → AddsKeys keys old new → (k : ℕ) → In k new ↔ (In k old ⊎ In k keys)
+adds keys old new e k = subst (λ z. In k z ↔ (In k old ⊎ In k keys)) (sym e) (members keys old k)
 
 is_there : (k : ℕ) (xs : List ℕ) → In k xs → list_any (nat_eq k) xs ≡ true
 is_there k xs i = in_any k xs i
@@ -52,14 +63,14 @@ not_there k xs none = by (list_any (nat_eq k) xs) refl
 
 -- from nothing, the keys are these
 only : (keys new : List ℕ) → AddsKeys keys [] new → (k : ℕ) → In k new → In k keys
-only keys new a k i = ⊎_elim (λ z. absurd z) (λ j. j) ((a k).0 i)
+only keys new a k i = ⊎_elim (λ z. absurd z) (λ j. j) ((adds keys [] new a k).0 i)
 
-pub unsearched_when : (t : Tree) (root : ℕ) (blocks numbered values : List ℕ) (s : Tables) → blocks ≡ blocks_inside t root → AddsKeys blocks [] numbered → AddsKeys (flat_map (λ b. block_values t b) blocks) [] values → AreNew numbered values s → IsUnsearched t root s
-unsearched_when t root blocks numbered values s e b v new = record {
+pub unsearched_when : (t : Tree) (root : ℕ) (blocks numbered listed values : List ℕ) (s : Tables) → blocks ≡ blocks_inside t root → AddsKeys blocks [] numbered → ((v : ℕ) → In v listed ↔ In v (values_inside t root)) → AddsKeys listed [] values → AreNew numbered values s → IsUnsearched t root s
+unsearched_when t root blocks numbered listed values s e b same v new = record {
   reached = new.reached;
-  inside = λ x i. new.facts x ∙ ap (λ c. if c then Undetermined else NotAConstant) (is_there x values ((v x).1 (inr (subst (λ z. In x (flat_map (λ b. block_values t b) z)) (sym e) i))));
-  outside = λ x n. new.facts x ∙ ap (λ c. if c then Undetermined else NotAConstant) (not_there x values (λ i. n (subst (λ z. In x (flat_map (λ b. block_values t b) z)) e (only (flat_map (λ b. block_values t b) blocks) values v x i))));
+  inside = λ x i. new.facts x ∙ ap (λ c. if c then Undetermined else NotAConstant) (is_there x values ((adds listed [] values v x).1 (inr ((same x).1 i))));
+  outside = λ x n. new.facts x ∙ ap (λ c. if c then Undetermined else NotAConstant) (not_there x values (λ i. n ((same x).0 (only listed values v x i))));
   blocks = new.blocks_wait;
   values = new.values_wait;
-  numbered = λ x i. new.numbers x ∙ is_there x numbered ((b x).1 (inr (subst (In x) (sym e) i)));
+  numbered = λ x i. new.numbers x ∙ is_there x numbered ((adds blocks [] numbered b x).1 (inr (subst (In x) (sym e) i)));
 }

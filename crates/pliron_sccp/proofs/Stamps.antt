@@ -1,86 +1,86 @@
--- Stamps of looks and of falls: what was looked at since a value fell goes on being so until it falls again.
+-- Stamps of looks and of falls: what was visited since a value fell goes on being so until it falls again.
 use Rattle.std.proofs.Common.{◌≡◌, ◌⊎◌, inl, inr, ⊎_elim, ℕ, ◌≤◌, Bool, true, false, nat_eq, List, [], ◌∷◌, Some, slice_get, ◌<◌, refl, sym, ap, ◌∙◌, subst, arith}
 use Rattle.std.proofs.lemmas.Bool.{eqb-true}
 use Rattle.pliron_core.specs.Tree.{Tree, results_of, definition_of}
 use Rattle.pliron_core.specs.declared.context.Def.TheVariants.{Result}
-use Rattle.pliron_core.specs.Joined.{IsTree}
+use Rattle.pliron_core.specs.Invariant.{IsTree}
 use Rattle.pliron_core.proofs.HoldingLemmas.{some_is, not_none}
-use Rattle.pliron_sccp.specs.declared.facts.Tables.{Tables}
-use Rattle.pliron_sccp.specs.Tables.{fact_in, fall_stamp, look_stamp, waits_value, KeepsStamps, StampsFalls, StampsFallen, StampsLook}
-use Rattle.pliron_sccp.specs.Falling.{FactsFall}
-use Rattle.pliron_sccp.specs.Looking.{stamp_of, CallsFor, IsBehind, IsStamped, StampsIt}
+use Rattle.pliron_sccp.specs.declared.lattice_tables.Tables.{Tables}
+use Rattle.pliron_sccp.specs.LatticeTables.{lattice_value_in, lowered_stamp, visit_stamp, is_value_on_worklist, KeepsStamps, StampsLowered, StampsEachLowered, StampsVisit}
+use Rattle.pliron_sccp.specs.Lowering.{ValuesAreLowered}
+use Rattle.pliron_sccp.specs.OperationVisits.{stamp_of, CallsForVisit, IsBehind, IsStamped, StampsIt}
 
 pub kept_back : (s u : Tables) → KeepsStamps s u → KeepsStamps u s
-kept_back s u k = record { looks = λ f. sym (k.looks f); falls = λ v. sym (k.falls v) }
+kept_back s u k = record { visit_stamps = λ f. sym (k.visit_stamps f); values_on_worklist = λ v. sym (k.values_on_worklist v) }
 
 pub kept_both : (s u w : Tables) → KeepsStamps s u → KeepsStamps u w → KeepsStamps s w
-kept_both s u w k l = record { looks = λ f. l.looks f ∙ k.looks f; falls = λ v. l.falls v ∙ k.falls v }
+kept_both s u w k l = record { visit_stamps = λ f. l.visit_stamps f ∙ k.visit_stamps f; values_on_worklist = λ v. l.values_on_worklist v ∙ k.values_on_worklist v }
 
-pub fallen_none : (s : Tables) → StampsFallen s s
-fallen_none s = record { looks = λ f. refl; falls = λ v. inl (refl, refl) }
+pub fallen_none : (s : Tables) → StampsEachLowered s s
+fallen_none s = record { visit_stamps = λ f. refl; values_on_worklist = λ v. inl (refl, refl) }
 
-pub kept_fallen : (s u : Tables) → ((v : ℕ) → fact_in u v ≡ fact_in s v) → KeepsStamps s u → StampsFallen s u
-kept_fallen s u facts k = record { looks = k.looks; falls = λ v. inl (facts v, k.falls v) }
+pub kept_fallen : (s u : Tables) → ((v : ℕ) → lattice_value_in u v ≡ lattice_value_in s v) → KeepsStamps s u → StampsEachLowered s u
+kept_fallen s u facts k = record { visit_stamps = k.visit_stamps; values_on_worklist = λ v. inl (facts v, k.values_on_worklist v) }
 
 no_earlier : (l l' f f' : ℕ) → l' ≡ l → f' ≡ f → l ≤ f → l' ≤ f'
 no_earlier l l' f f' e d le = omega (arith, e, d, le)
 
-pub fallen_both : (s u w : Tables) → StampsFallen s u → StampsFallen u w → StampsFallen s w
-fallen_both s u w p q = record { looks = λ f. q.looks f ∙ p.looks f; falls = λ v. by v (q.falls v) (p.falls v) }
+pub fallen_both : (s u w : Tables) → StampsEachLowered s u → StampsEachLowered u w → StampsEachLowered s w
+fallen_both s u w p q = record { visit_stamps = λ f. q.visit_stamps f ∙ p.visit_stamps f; values_on_worklist = λ v. by v (q.values_on_worklist v) (p.values_on_worklist v) }
   where
-    by : (v : ℕ) → ((fact_in w v ≡ fact_in u v) × (fall_stamp w v ≡ fall_stamp u v)) ⊎ ((f : ℕ) → look_stamp w f ≤ fall_stamp w v) → ((fact_in u v ≡ fact_in s v) × (fall_stamp u v ≡ fall_stamp s v)) ⊎ ((f : ℕ) → look_stamp u f ≤ fall_stamp u v) → ((fact_in w v ≡ fact_in s v) × (fall_stamp w v ≡ fall_stamp s v)) ⊎ ((f : ℕ) → look_stamp w f ≤ fall_stamp w v)
+    by : (v : ℕ) → ((lattice_value_in w v ≡ lattice_value_in u v) × (lowered_stamp w v ≡ lowered_stamp u v)) ⊎ ((f : ℕ) → visit_stamp w f ≤ lowered_stamp w v) → ((lattice_value_in u v ≡ lattice_value_in s v) × (lowered_stamp u v ≡ lowered_stamp s v)) ⊎ ((f : ℕ) → visit_stamp u f ≤ lowered_stamp u v) → ((lattice_value_in w v ≡ lattice_value_in s v) × (lowered_stamp w v ≡ lowered_stamp s v)) ⊎ ((f : ℕ) → visit_stamp w f ≤ lowered_stamp w v)
     by v (inr all) before = inr all
     by v (inl same) (inl old) = inl (same.0 ∙ old.0, same.1 ∙ old.1)
-    by v (inl same) (inr all) = inr (λ f. no_earlier (look_stamp u f) (look_stamp w f) (fall_stamp u v) (fall_stamp w v) (q.looks f) same.1 (all f))
+    by v (inl same) (inr all) = inr (λ f. no_earlier (visit_stamp u f) (visit_stamp w f) (lowered_stamp u v) (lowered_stamp w v) (q.visit_stamps f) same.1 (all f))
 
-of_same : (s u : Tables) → ((f : ℕ) → look_stamp u f ≡ look_stamp s f) → (rs : List ℕ) → stamp_of u rs ≡ stamp_of s rs
-of_same s u looks [] = refl
-of_same s u looks (r ∷ rs) = looks r
+of_same : (s u : Tables) → ((f : ℕ) → visit_stamp u f ≡ visit_stamp s f) → (rs : List ℕ) → stamp_of u rs ≡ stamp_of s rs
+of_same s u visit_stamps [] = refl
+of_same s u visit_stamps (r ∷ rs) = visit_stamps r
 
 -- no look is stamped later than the fall
-of_all : (s : Tables) (n : ℕ) → ((f : ℕ) → look_stamp s f ≤ n) → (rs : List ℕ) → stamp_of s rs ≤ n
+of_all : (s : Tables) (n : ℕ) → ((f : ℕ) → visit_stamp s f ≤ n) → (rs : List ℕ) → stamp_of s rs ≤ n
 of_all s n all [] = omega arith
 of_all s n all (r ∷ rs) = all r
 
 module _ (t : Tree) where
-  pub behind_all : (s : Tables) (k v : ℕ) → ((f : ℕ) → look_stamp s f ≤ fall_stamp s v) → IsBehind t s k v
-  behind_all s k v all = of_all s (fall_stamp s v) all (results_of t k)
+  pub behind_all : (s : Tables) (k v : ℕ) → ((f : ℕ) → visit_stamp s f ≤ lowered_stamp s v) → IsBehind t s k v
+  behind_all s k v all = of_all s (lowered_stamp s v) all (results_of t k)
 
-  pub behind_then : (s u : Tables) (k v : ℕ) → stamp_of u (results_of t k) ≡ stamp_of s (results_of t k) → fall_stamp u v ≡ fall_stamp s v → IsBehind t s k v → IsBehind t u k v
-  behind_then s u k v look fall b = no_earlier (stamp_of s (results_of t k)) (stamp_of u (results_of t k)) (fall_stamp s v) (fall_stamp u v) look fall b
+  pub behind_then : (s u : Tables) (k v : ℕ) → stamp_of u (results_of t k) ≡ stamp_of s (results_of t k) → lowered_stamp u v ≡ lowered_stamp s v → IsBehind t s k v → IsBehind t u k v
+  behind_then s u k v look fall b = no_earlier (stamp_of s (results_of t k)) (stamp_of u (results_of t k)) (lowered_stamp s v) (lowered_stamp u v) look fall b
 
   pub behind_same : (s u : Tables) → KeepsStamps s u → (k v : ℕ) → IsBehind t s k v → IsBehind t u k v
-  behind_same s u kept k v b = behind_then s u k v (of_same s u kept.looks (results_of t k)) (kept.falls v) b
+  behind_same s u kept k v b = behind_then s u k v (of_same s u kept.visit_stamps (results_of t k)) (kept.values_on_worklist v) b
 
   -- what fell calls for every operation
-  pub told_calls : (s u : Tables) → FactsFall s u → StampsFalls s u → (k v : ℕ) → (fact_in u v ≡ fact_in s v) ⊎ CallsFor t u k v
+  pub told_calls : (s u : Tables) → ValuesAreLowered s u → StampsLowered s u → (k v : ℕ) → (lattice_value_in u v ≡ lattice_value_in s v) ⊎ CallsForVisit t u k v
   told_calls s u f p k v = by (p v) (f.told v)
     where
-      by : ((fact_in u v ≡ fact_in s v) × (fall_stamp u v ≡ fall_stamp s v)) ⊎ ((first : ℕ) → look_stamp u first ≤ fall_stamp u v) → (fact_in u v ≡ fact_in s v) ⊎ (waits_value u v ≡ true) → (fact_in u v ≡ fact_in s v) ⊎ CallsFor t u k v
+      by : ((lattice_value_in u v ≡ lattice_value_in s v) × (lowered_stamp u v ≡ lowered_stamp s v)) ⊎ ((first : ℕ) → visit_stamp u first ≤ lowered_stamp u v) → (lattice_value_in u v ≡ lattice_value_in s v) ⊎ (is_value_on_worklist u v ≡ true) → (lattice_value_in u v ≡ lattice_value_in s v) ⊎ CallsForVisit t u k v
       by (inl same) told = inl same.0
       by (inr all) (inl e) = inl e
       by (inr all) (inr w) = inr (w, behind_all u k v all)
 
   -- what called for an operation that was not looked at goes on calling for it
-  pub calls_still : (s u : Tables) → FactsFall s u → StampsFalls s u → (k v : ℕ) → stamp_of u (results_of t k) ≡ stamp_of s (results_of t k) → CallsFor t s k v → CallsFor t u k v
+  pub calls_still : (s u : Tables) → ValuesAreLowered s u → StampsLowered s u → (k v : ℕ) → stamp_of u (results_of t k) ≡ stamp_of s (results_of t k) → CallsForVisit t s k v → CallsForVisit t u k v
   calls_still s u f p k v look (w, b) = (f.values v w, by (p v))
     where
-      by : ((fact_in u v ≡ fact_in s v) × (fall_stamp u v ≡ fall_stamp s v)) ⊎ ((first : ℕ) → look_stamp u first ≤ fall_stamp u v) → IsBehind t u k v
+      by : ((lattice_value_in u v ≡ lattice_value_in s v) × (lowered_stamp u v ≡ lowered_stamp s v)) ⊎ ((first : ℕ) → visit_stamp u first ≤ lowered_stamp u v) → IsBehind t u k v
       by (inl same) = behind_then s u k v look same.1 b
       by (inr all) = behind_all u k v all
 
   -- a look is stamped, and then facts fall
-  pub stamped_then : (k : ℕ) (s u w : Tables) → StampsIt t k s u → StampsFallen u w → IsStamped t k s w
+  pub stamped_then : (k : ℕ) (s u w : Tables) → StampsIt t k s u → StampsEachLowered u w → IsStamped t k s w
   stamped_then k s u w it fallen = record {
-    others = λ j n. of_same u w fallen.looks (results_of t j) ∙ it.looks j n;
-    falls = λ v. ⊎_elim (λ same. inl (same.0 ∙ it.facts v, same.1 ∙ it.falls v)) (λ all. inr all) (fallen.falls v);
+    others = λ j n. of_same u w fallen.visit_stamps (results_of t j) ∙ it.visit_stamps j n;
+    values_on_worklist = λ v. ⊎_elim (λ same. inl (same.0 ∙ it.facts v, same.1 ∙ it.values_on_worklist v)) (λ all. inr all) (fallen.values_on_worklist v);
   }
 
 made_by : {b c i j : ℕ} → Some (Result b i) ≡ Some (Result c j) → b ≡ c
 made_by e = cc
 
 -- the stamp of a look is kept with the first result, which no other operation has
-module _ (t : Tree) (w : IsTree t) (k first : ℕ) (here : slice_get (results_of t k) 0 ≡ Some first) (s u : Tables) (l : StampsLook first s u) where
+module _ (t : Tree) (w : IsTree t) (k first : ℕ) (here : slice_get (results_of t k) 0 ≡ Some first) (s u : Tables) (l : StampsVisit first s u) where
   others_keep : (j : ℕ) → (j ≡ k → ⊥) → stamp_of u (results_of t j) ≡ stamp_of s (results_of t j)
   others_keep j other = by (results_of t j) refl
     where
@@ -93,7 +93,7 @@ module _ (t : Tree) (w : IsTree t) (k first : ℕ) (here : slice_get (results_of
 
       by : (rs : List ℕ) → results_of t j ≡ rs → stamp_of u rs ≡ stamp_of s rs
       by [] e = refl
-      by (r ∷ rs) e = l.looks r (differs r (nat_eq first r) refl (ap (λ z. slice_get z 0) e))
+      by (r ∷ rs) e = l.visit_stamps r (differs r (nat_eq first r) refl (ap (λ z. slice_get z 0) e))
 
   pub stamps_it : StampsIt t k s u
   stamps_it = record {
@@ -103,18 +103,18 @@ module _ (t : Tree) (w : IsTree t) (k first : ℕ) (here : slice_get (results_of
     values = l.values;
     numbers = l.numbers;
     constants = l.constants;
-    looks = others_keep;
-    falls = l.falls;
+    visit_stamps = others_keep;
+    values_on_worklist = l.values_on_worklist;
   }
 
 -- a greater stamp of the look than of the fall: it came later
-pub not_behind : (t : Tree) (s : Tables) (k first v : ℕ) → slice_get (results_of t k) 0 ≡ Some first → fall_stamp s v < look_stamp s first → IsBehind t s k v → ⊥
+pub not_behind : (t : Tree) (s : Tables) (k first v : ℕ) → slice_get (results_of t k) 0 ≡ Some first → lowered_stamp s v < visit_stamp s first → IsBehind t s k v → ⊥
 not_behind t s k first v at later b = by (results_of t k) refl
   where
     by : (rs : List ℕ) → results_of t k ≡ rs → ⊥
     by [] e = absurd (not_none (sym (ap (λ z. slice_get z 0) e) ∙ at))
     by (r ∷ rs) e =
         let same = some_is (sym (ap (λ z. slice_get z 0) e) ∙ at) in
-        let l : look_stamp s r ≤ fall_stamp s v = subst (λ z. stamp_of s z ≤ fall_stamp s v) e b in
-        let n = ap (look_stamp s) same in
+        let l : visit_stamp s r ≤ lowered_stamp s v = subst (λ z. stamp_of s z ≤ lowered_stamp s v) e b in
+        let n = ap (visit_stamp s) same in
         omega (arith, l, n, later)

@@ -4,15 +4,15 @@ use Rattle.std.specs.Result.{IfOk, OnErr}
 use Rattle.pliron_core.specs.declared.attrs.AttrObj.{AttrObj}
 use Rattle.pliron_core.specs.declared.attrs.IRStatus.{IRStatus}
 use Rattle.pliron_core.specs.Tree.{Tree, IsLive, no_entry, head_of, operands_of, parent_of}
-use Rattle.pliron_core.specs.Joined.{IsTree}
+use Rattle.pliron_core.specs.Invariant.{IsTree}
 use Rattle.pliron_core.proofs.HoldingLemmas.{some_is}
 use Rattle.pliron_core.proofs.UsedLemmas.{length_map}
 use Rattle.pliron_laws.specs.declared.fault.OptError.{OptError}
 use Rattle.pliron_laws.specs.Datum.{Head}
 use Rattle.pliron_laws.specs.Tree.{shape_of}
 use Rattle.pliron_laws.specs.Folding.{AnswersTrue, AnswersJumps, MakesConstants}
-use Rattle.pliron_laws.specs.InPlace.{Outcome, FoldsInPlace, TellsChange}
-use Rattle.pliron_laws.specs.Outcomes.{MaterialisesSome, materialised}
+use Rattle.pliron_laws.specs.InPlace.{Outcome, FoldsInPlace, ReportsChange}
+use Rattle.pliron_laws.specs.Outcomes.{MaterialisesSome, after_materialising}
 use Rattle.pliron_laws.specs.Outcomes.MaterialisesSome.{Rest, Then}
 use Rattle.pliron_laws.proofs.FoldLemmas.{put_row, put_row-new}
 use Rattle.pliron_core.proofs.SameTreeLemmas.{same_refl, same_trans}
@@ -23,9 +23,9 @@ use Rattle.pliron_core.specs.declared.attrs.IRStatus.TheVariants.{Changed, Uncha
 use Rattle.std.proofs.lemmas.List.{get_or_past}
 use Rattle.pliron_theory.proofs.SoundRuns.{PassesForwarded, NamesWell}
 use Rattle.pliron_laws.proofs.Records.{ShowsOperation, op_shows}
-use Rattle.pliron_theory.specs.Facts.{Facts, Says, known, handed, answers_of}
+use Rattle.pliron_theory.specs.LatticeValues.{LatticeValues, Says, lattice_constant, operand_constants, answers_of}
 use Rattle.pliron_theory.specs.Following.{StandsAsBefore, Follows}
-use Rattle.pliron_sccp.specs.Steps.{IsFoldStep, AreFoldSteps, IsFoldingOn, TellsCreated}
+use Rattle.pliron_sccp.specs.RewriteSteps.{IsFoldStep, AreFoldSteps, IsFoldingOn, ReportsCreated}
 use Rattle.pliron_sccp.specs.declared.rewrite.Fold.{Fold}
 use Rattle.pliron_sccp.specs.declared.rewrite.Folds.{Folds}
 use Rattle.pliron_sccp.specs.Chain.{FoldsInTurn, FoldsPartly}
@@ -38,28 +38,28 @@ module _ (accepts : AttrObj → Bool) (head : AttrObj → Head) (k : ℕ) (resul
   pub some_stays : (t u : Tree) → MaterialisesSome accepts head k results more t u → (z : ℕ) → IsLive t z → IsLive u z
   some_stays t u (Rest same) z l = subst (λ r. IsSome r.head) (sym (same.operations z)) l
   some_stays t u (Then i v attr at said accepted done) z l =
-      some_stays (materialised t k v (head attr)) u done z (subst (λ r. IsSome r.head) (sym (put_row t k v z (head attr) (live-within t z l))) l)
+      some_stays (after_materialising t k v (head attr)) u done z (subst (λ r. IsSome r.head) (sym (put_row t k v z (head attr) (live-within t z l))) l)
 
   pub some_told : (t u : Tree) → MaterialisesSome accepts head k results more t u → IsSameTree t u ⊎ ((z : ℕ) × (head_of t z ≡ None) × IsLive u z)
   some_told t u (Rest same) = inl same
   some_told t u (Then i v attr at said accepted done) = inr (
     length t.operations,
     ap (λ z. z.head) (get_or_past t.operations (length t.operations) no_entry (omega arith)),
-    some_stays (materialised t k v (head attr)) u done (length t.operations) (ap (λ z. is_some z.head) (put_row-new t k v (head attr))),
+    some_stays (after_materialising t k v (head attr)) u done (length t.operations) (ap (λ z. is_some z.head) (put_row-new t k v (head attr))),
   )
 
-pub told_of : (t u : Tree) (status : IRStatus) → TellsChange (Some status) t u → IsSameTree t u ⊎ ((z : ℕ) × (head_of t z ≡ None) × IsLive u z) → TellsCreated status t u
+pub told_of : (t u : Tree) (status : IRStatus) → ReportsChange (Some status) t u → IsSameTree t u ⊎ ((z : ℕ) × (head_of t z ≡ None) × IsLive u z) → ReportsCreated status t u
 told_of t u Unchanged is some = is
 told_of t u Changed is (inl same) = absurd (is same)
 told_of t u Changed is (inr new) = new
 
-pub told_then : (t u v : Tree) (a b : IRStatus) → ((k : ℕ) → IsLive u k → IsLive v k) → TellsCreated a t u → TellsCreated b u v → TellsCreated (changed_by_either a b) t v
+pub told_then : (t u v : Tree) (a b : IRStatus) → ((k : ℕ) → IsLive u k → IsLive v k) → ReportsCreated a t u → ReportsCreated b u v → ReportsCreated (changed_by_either a b) t v
 told_then t u v Unchanged Unchanged stays p q = same_trans t u v p q
 told_then t u v Unchanged Changed stays p (k, none, live) = (k, ap (λ z. z.head) (sym (p.operations k)) ∙ none, live)
 told_then t u v Changed Unchanged stays (k, none, live) q = (k, none, stays k live)
 told_then t u v Changed Changed stays (k, none, live) q = (k, none, stays k live)
 
-module _ (x : Says) (t₀ : Tree) (root : ℕ) (f₀ : Facts) (t : Tree) (op : ℕ) (ks : List (Option AttrObj)) (s : IsFoldStep x t₀ root f₀ t op ks) where
+module _ (x : Says) (t₀ : Tree) (root : ℕ) (f₀ : LatticeValues) (t : Tree) (op : ℕ) (ks : List (Option AttrObj)) (s : IsFoldStep x t₀ root f₀ t op ks) where
   now : StandsAsBefore x t₀ t f₀ s.follows.facts op s.operation
   now = s.follows.operations op s.operation s.at
 
@@ -77,10 +77,10 @@ module _ (x : Says) (t₀ : Tree) (root : ℕ) (f₀ : Facts) (t : Tree) (op : �
 
   pub step_entries : length ks ≡ length (operands_of t op)
   step_entries =
-      ap length (s.known_is ∙ sym now.handed_same) ∙ length_map (λ v. known (s.follows.facts.fact v)) now.operation.operands ∙ ap length (sym shows.operands)
+      ap length (s.known_is ∙ sym now.handed_same) ∙ length_map (λ v. lattice_constant (s.follows.facts.lattice_value v)) now.operation.operands ∙ ap length (sym shows.operands)
 
   module _ (accepts : AttrObj → Bool) (head : AttrObj → Head) (outcome branch_outcome : Outcome) (law : FoldsInPlace x.meaning x.constants accepts head outcome branch_outcome) where
-    pub step_told : (u : Tree) (status : IRStatus) → outcome t u op ks (Some status) → TellsCreated status t u
+    pub step_told : (u : Tree) (status : IRStatus) → outcome t u op ks (Some status) → ReportsCreated status t u
     step_told u status is =
         let p = law.constant t u op ks (Some status) now.operation now.stands is in
         told_of t u status p.1 (some_told accepts head op now.operation.results (x.constants (shape_of x.meaning t now.operation) ks) t u p.0)
@@ -113,31 +113,31 @@ module _ (x : Says) (outcome : Outcome) (start : Tree) (folds : Folds) where
   pub folding_start : IsFoldingOn x outcome start folds 0 Unchanged start
   folding_start = record { follows = λ t₀ root f₀ s. s.follows; partly = λ t₀ root f₀ s u z. z; turns = λ t₀ root f₀ s u z. z; told = same_refl start; stays = λ k l. l }
 
-  pub folding_can : (i : ℕ) (status : IRStatus) (here : Tree) → IsFoldingOn x outcome start folds i status here → (fold : Fold) → slice_get folds.rows.items i ≡ Some fold → (t₀ : Tree) (root : ℕ) (f₀ : Facts) → AreFoldSteps x t₀ root f₀ start folds → IsFoldStep x t₀ root f₀ here fold.op (slice_range folds.known.items fold.start fold.end)
+  pub folding_can : (i : ℕ) (status : IRStatus) (here : Tree) → IsFoldingOn x outcome start folds i status here → (fold : Fold) → slice_get folds.rows.items i ≡ Some fold → (t₀ : Tree) (root : ℕ) (f₀ : LatticeValues) → AreFoldSteps x t₀ root f₀ start folds → IsFoldStep x t₀ root f₀ here fold.op (slice_range folds.known.items fold.start fold.end)
   folding_can i status here g fold at t₀ root f₀ s =
       let e = s.each i fold at in
       record { first = s.first; follows = g.follows t₀ root f₀ s; operation = e.operation; at = e.at; stands = e.stands; folds = e.folds; known_is = e.known_is }
 
-  pub folding_next : (i : ℕ) (status : IRStatus) (here : Tree) → IsFoldingOn x outcome start folds i status here → (fold : Fold) → slice_get folds.rows.items i ≡ Some fold → (next : Tree) (one : IRStatus) → outcome here next fold.op (slice_range folds.known.items fold.start fold.end) (Some one) → TellsCreated one here next → ((k : ℕ) → IsLive here k → IsLive next k) → ((t₀ : Tree) (root : ℕ) (f₀ : Facts) → IsFoldStep x t₀ root f₀ here fold.op (slice_range folds.known.items fold.start fold.end) → Follows x t₀ root f₀ next) → IsFoldingOn x outcome start folds (i + 1) (changed_by_either status one) next
+  pub folding_next : (i : ℕ) (status : IRStatus) (here : Tree) → IsFoldingOn x outcome start folds i status here → (fold : Fold) → slice_get folds.rows.items i ≡ Some fold → (next : Tree) (one : IRStatus) → outcome here next fold.op (slice_range folds.known.items fold.start fold.end) (Some one) → ReportsCreated one here next → ((k : ℕ) → IsLive here k → IsLive next k) → ((t₀ : Tree) (root : ℕ) (f₀ : LatticeValues) → IsFoldStep x t₀ root f₀ here fold.op (slice_range folds.known.items fold.start fold.end) → Follows x t₀ root f₀ next) → IsFoldingOn x outcome start folds (i + 1) (changed_by_either status one) next
   folding_next i status here g fold at next one is told stays follows = record {
     follows = λ t₀ root f₀ s. follows t₀ root f₀ (folding_can i status here g fold at t₀ root f₀ s);
     partly = λ t₀ root f₀ s u z.
         let e = s.each i fold at in
-        let known = e.known_is ∙ ap (handed f₀) (sym (op_shows t₀ fold.op e.operation e.at).operands) in
-        g.partly t₀ root f₀ s u (subst (λ l. FoldsPartly outcome t₀ f₀ (map (λ q. q.op) l) here u) (sym (drop_at folds.rows.items i fold at)) (After fold.op next one (subst (λ ks. outcome here next fold.op ks (Some one)) known is) z));
+        let lattice_constant = e.known_is ∙ ap (operand_constants f₀) (sym (op_shows t₀ fold.op e.operation e.at).operands) in
+        g.partly t₀ root f₀ s u (subst (λ l. FoldsPartly outcome t₀ f₀ (map (λ q. q.op) l) here u) (sym (drop_at folds.rows.items i fold at)) (After fold.op next one (subst (λ ks. outcome here next fold.op ks (Some one)) lattice_constant is) z));
     turns = λ t₀ root f₀ s u z.
         let e = s.each i fold at in
-        let known = e.known_is ∙ ap (handed f₀) (sym (op_shows t₀ fold.op e.operation e.at).operands) in
-        g.turns t₀ root f₀ s u (subst (λ l. FoldsInTurn outcome t₀ f₀ (map (λ q. q.op) l) here u) (sym (drop_at folds.rows.items i fold at)) (Next fold.op next one (subst (λ ks. outcome here next fold.op ks (Some one)) known is) z));
+        let lattice_constant = e.known_is ∙ ap (operand_constants f₀) (sym (op_shows t₀ fold.op e.operation e.at).operands) in
+        g.turns t₀ root f₀ s u (subst (λ l. FoldsInTurn outcome t₀ f₀ (map (λ q. q.op) l) here u) (sym (drop_at folds.rows.items i fold at)) (Next fold.op next one (subst (λ ks. outcome here next fold.op ks (Some one)) lattice_constant is) z));
     told = told_then start here next status one stays g.told told;
     stays = λ k l. stays k (g.stays k l);
   }
 
-  pub folding_end : (i : ℕ) (status : IRStatus) (here : Tree) → IsFoldingOn x outcome start folds i status here → drop i folds.rows.items ≡ [] → (t₀ : Tree) (root : ℕ) (f₀ : Facts) → AreFoldSteps x t₀ root f₀ start folds → FoldsInTurn outcome t₀ f₀ (map (λ fold. fold.op) folds.rows.items) start here
+  pub folding_end : (i : ℕ) (status : IRStatus) (here : Tree) → IsFoldingOn x outcome start folds i status here → drop i folds.rows.items ≡ [] → (t₀ : Tree) (root : ℕ) (f₀ : LatticeValues) → AreFoldSteps x t₀ root f₀ start folds → FoldsInTurn outcome t₀ f₀ (map (λ fold. fold.op) folds.rows.items) start here
   folding_end i status here g none t₀ root f₀ s = g.turns t₀ root f₀ s here (subst (λ l. FoldsInTurn outcome t₀ f₀ (map (λ q. q.op) l) here here) (sym none) NoMore)
 
-  pub folding_broken : (i : ℕ) (status : IRStatus) (here : Tree) → IsFoldingOn x outcome start folds i status here → (fold : Fold) → slice_get folds.rows.items i ≡ Some fold → (next : Tree) → outcome here next fold.op (slice_range folds.known.items fold.start fold.end) None → (t₀ : Tree) (root : ℕ) (f₀ : Facts) → AreFoldSteps x t₀ root f₀ start folds → FoldsPartly outcome t₀ f₀ (map (λ fold. fold.op) folds.rows.items) start next
+  pub folding_broken : (i : ℕ) (status : IRStatus) (here : Tree) → IsFoldingOn x outcome start folds i status here → (fold : Fold) → slice_get folds.rows.items i ≡ Some fold → (next : Tree) → outcome here next fold.op (slice_range folds.known.items fold.start fold.end) None → (t₀ : Tree) (root : ℕ) (f₀ : LatticeValues) → AreFoldSteps x t₀ root f₀ start folds → FoldsPartly outcome t₀ f₀ (map (λ fold. fold.op) folds.rows.items) start next
   folding_broken i status here g fold at next is t₀ root f₀ s =
       let e = s.each i fold at in
-      let known = e.known_is ∙ ap (handed f₀) (sym (op_shows t₀ fold.op e.operation e.at).operands) in
-      g.partly t₀ root f₀ s next (subst (λ l. FoldsPartly outcome t₀ f₀ (map (λ q. q.op) l) here next) (sym (drop_at folds.rows.items i fold at)) (Refused fold.op (subst (λ ks. outcome here next fold.op ks None) known is)))
+      let lattice_constant = e.known_is ∙ ap (operand_constants f₀) (sym (op_shows t₀ fold.op e.operation e.at).operands) in
+      g.partly t₀ root f₀ s next (subst (λ l. FoldsPartly outcome t₀ f₀ (map (λ q. q.op) l) here next) (sym (drop_at folds.rows.items i fold at)) (Refused fold.op (subst (λ ks. outcome here next fold.op ks None) lattice_constant is)))

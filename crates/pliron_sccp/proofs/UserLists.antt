@@ -5,11 +5,11 @@ use Rattle.std.proofs.lemmas.Bool.{eq-eqb}
 use Rattle.indexmap.specs.IndexSet.{insert_key}
 use Rattle.pliron_core.specs.Lists.{In, IsDistinct}
 use Rattle.pliron_core.proofs.ListLemmas.{In-left, In-right, In-cases, distinct-join}
-use Rattle.pliron_sccp.specs.Looking.{AddsEach}
+use Rattle.pliron_sccp.specs.OperationVisits.{AddsEach}
 use Rattle.pliron_sccp.proofs.Worklists.{any_in, in_any}
 
 -- the equality of keys, as a set has it
-any_same : (p q : ℕ → Bool) → ((y : ℕ) → p y ≡ q y) → (xs : List ℕ) → list_any p xs ≡ list_any q xs
+pub any_same : (p q : ℕ → Bool) → ((y : ℕ) → p y ≡ q y) → (xs : List ℕ) → list_any p xs ≡ list_any q xs
 any_same p q e [] = refl
 any_same p q e (y ∷ ys) = let h = e y in let r = any_same p q e ys in grind (arith, h, r)
 

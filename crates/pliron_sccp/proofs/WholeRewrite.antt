@@ -4,31 +4,31 @@ use Rattle.pliron_core.specs.declared.attrs.AttrObj.{AttrObj}
 use Rattle.pliron_core.specs.declared.attrs.IRStatus.{IRStatus}
 use Rattle.pliron_core.specs.declared.attrs.IRStatus.TheVariants.{Changed, Unchanged}
 use Rattle.pliron_core.specs.Tree.{Tree}
-use Rattle.pliron_core.specs.Joined.{IsTree}
+use Rattle.pliron_core.specs.Invariant.{IsTree}
 use Rattle.pliron_core.proofs.TreeLemmas.{live_dead}
 use Rattle.pliron_laws.specs.Datum.{Head}
-use Rattle.pliron_laws.specs.InPlace.{Outcome, TellsChange}
+use Rattle.pliron_laws.specs.InPlace.{Outcome, ReportsChange}
 use Rattle.pliron_sccp.specs.declared.rewrite.Folds.{Folds}
 use Rattle.pliron_sccp.specs.declared.rewrite.ConstantArgument.{ConstantArgument}
 use Rattle.pliron_sccp.specs.declared.rewrite.Found.{Found}
-use Rattle.pliron_theory.specs.Facts.{Facts, Says}
+use Rattle.pliron_theory.specs.LatticeValues.{LatticeValues, Says}
 use Rattle.pliron_theory.specs.Following.{Follows}
-use Rattle.pliron_sccp.specs.Steps.{AreFoldSteps, AreArgumentSteps, IsFound, TellsCreated, StandForEach}
-use Rattle.pliron_sccp.specs.Chain.{FoldsInTurn, FoldsPartly, KnownArgument, folding, known_arguments, all_put, IsPartlyPut, IsRewritten, IsPartlyRewritten}
+use Rattle.pliron_sccp.specs.RewriteSteps.{AreFoldSteps, AreArgumentSteps, IsFound, ReportsCreated, StandForEach}
+use Rattle.pliron_sccp.specs.Chain.{FoldsInTurn, FoldsPartly, KnownArgument, folding_operations, known_arguments, all_put, IsPartlyPut, IsRewritten, IsPartlyRewritten}
 use Rattle.pliron_theory.proofs.FollowedFacts.{started}
 
-pub told_change : (t u : Tree) (status : IRStatus) → TellsCreated status t u → TellsChange (Some status) t u
+pub told_change : (t u : Tree) (status : IRStatus) → ReportsCreated status t u → ReportsChange (Some status) t u
 told_change t u Unchanged same = same
 told_change t u Changed (k, none, live) = λ same. live_dead u k live (ap (λ z. z.head) (same.operations k) ∙ none)
 
-module _ (x : Says) (can_fold : Head → Bool) (t : Tree) (root : ℕ) (f : Facts) (found : Found) (w : IsTree t) (i : IsFound x can_fold t root f found) where
+module _ (x : Says) (can_fold : Head → Bool) (t : Tree) (root : ℕ) (f : LatticeValues) (found : Found) (w : IsTree t) (i : IsFound x can_fold t root f found) where
   pub found_folds : (folds : Folds) → folds ≡ found.folds → AreFoldSteps x t root f t folds
   found_folds folds e = subst (AreFoldSteps x t root f t) (sym e) (record { first = w; follows = started x t root f w i.closed i.held; each = i.each_fold })
 
   pub found_arguments : (u : Tree) → Follows x t root f u → (arguments : List ConstantArgument) → arguments ≡ found.arguments.items → AreArgumentSteps x t root f u arguments
   found_arguments u g arguments e = subst (AreArgumentSteps x t root f u) (sym e) (record { first = w; follows = g; each = i.each_argument })
 
-  ops_are : (folds : Folds) → folds ≡ found.folds → map (λ fold. fold.op) folds.rows.items ≡ folding can_fold t root f
+  ops_are : (folds : Folds) → folds ≡ found.folds → map (λ fold. fold.op) folds.rows.items ≡ folding_operations can_fold t root f
   ops_are folds e = ap (λ z. map (λ fold. fold.op) z.rows.items) e ∙ i.folds
 
   stand_for : (arguments : List ConstantArgument) → arguments ≡ found.arguments.items → StandForEach t arguments (known_arguments t root f)

@@ -9,7 +9,7 @@ use Rattle.pliron_core.specs.Lists.{In, IsDistinct}
 use Rattle.pliron_core.proofs.ListLemmas.{In-right, distinct-join, distinct-front, distinct-apart, distinct-length}
 use Rattle.pliron_core.proofs.FlatLemmas.{distinct-indices}
 use Rattle.pliron_core.proofs.HoldingLemmas.{some_is, in_slice}
-use Rattle.pliron_sccp.specs.Cells.{AreOnce, stamp_at, table_at}
+use Rattle.pliron_sccp.specs.LatticeCells.{AreOnce, stamp_at, table_at}
 
 -- a list's test, in the words of lists
 pub any_in : (x : ℕ) (xs : List ℕ) → list_any (nat_eq x) xs ≡ true → In x xs

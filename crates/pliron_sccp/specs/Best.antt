@@ -1,24 +1,24 @@
--- While facts are searched for they stand above every closed set of facts.
+-- During the search the lattice values are at or above every closed set of them.
 use Rattle.std.specs.Prelude.{ℕ, Bool, false, if◌then◌else◌, IsTrue}
 use Rattle.pliron_core.specs.Tree.{Tree, In}
-use Rattle.pliron_theory.specs.Facts.{AtMost, Facts, Says, AreClosed}
-use Rattle.pliron_sccp.specs.declared.facts.Tables.{Tables}
-use Rattle.pliron_sccp.specs.Tables.{reaches, waits_block, facts_of}
+use Rattle.pliron_theory.specs.LatticeValues.{AtMost, LatticeValues, Says, AreClosed}
+use Rattle.pliron_sccp.specs.declared.lattice_tables.Tables.{Tables}
+use Rattle.pliron_sccp.specs.LatticeTables.{is_executable, is_block_on_worklist, lattice_values_of}
 use Rattle.pliron_sccp.specs.Inside.{values_inside}
 use Rattle.pliron_sccp.specs.Visiting.{IsGrounded, AreDetermined}
 
--- the block was looked through: it is reached and does not wait
+-- the block was visited: it is executable and not on the worklist
 abbrev pub is_visited : Tables → ℕ → Bool
-is_visited s b = if waits_block s b then false else reaches s b
+is_visited s b = if is_block_on_worklist s b then false else is_executable s b
 
--- g has all blocks of f, and says of each value inside the root as much as f, or less
-pub record IsAbove (t : Tree) (root : ℕ) (f g : Facts) : Type 0 where
-  pub blocks : (b : ℕ) → IsTrue (f.reaches b) → IsTrue (g.reaches b)
-  pub facts : (v : ℕ) → In v (values_inside t root) → AtMost (g.fact v) (f.fact v)
+-- g has all executable blocks of f, and says of each value inside the root as much as f, or less
+pub record IsAbove (t : Tree) (root : ℕ) (f g : LatticeValues) : Type 0 where
+  pub blocks : (b : ℕ) → IsTrue (f.is_executable b) → IsTrue (g.is_executable b)
+  pub facts : (v : ℕ) → In v (values_inside t root) → AtMost (g.lattice_value v) (f.lattice_value v)
 
--- blocks are reached along blocks that were looked through, what is made in those is determined, and the facts so far
--- stand above every closed set of facts
+-- blocks became executable along blocks that were visited, what is defined in those is determined, and the
+-- lattice values so far are above every closed set of lattice values
 pub record IsBest (x : Says) (t : Tree) (root : ℕ) (s : Tables) : Type 0 where
-  pub grounded : IsGrounded t root (facts_of s) (is_visited s)
-  pub ready : AreDetermined t (facts_of s) (is_visited s)
-  pub above : (g : Facts) → AreClosed x t root g → IsAbove t root (facts_of s) g
+  pub grounded : IsGrounded t root (lattice_values_of s) (is_visited s)
+  pub ready : AreDetermined t (lattice_values_of s) (is_visited s)
+  pub above : (g : LatticeValues) → AreClosed x t root g → IsAbove t root (lattice_values_of s) g

@@ -1,17 +1,17 @@
--- What the search for facts owes to the rewriting.
+-- What the search owes to the rewriting.
 use Rattle.std.specs.Prelude.{ℕ, Bool}
 use Rattle.pliron_core.specs.Tree.{Tree}
 use Rattle.pliron_laws.specs.Datum.{Head}
 use Rattle.pliron_sccp.specs.declared.rewrite.Found.{Found}
-use Rattle.pliron_theory.specs.Facts.{Facts, Says}
+use Rattle.pliron_theory.specs.LatticeValues.{LatticeValues, Says}
 use Rattle.pliron_sccp.specs.Precise.{AreMostPrecise, AreOwed}
 use Rattle.pliron_sccp.specs.Propagated.{CountsPops}
-use Rattle.pliron_sccp.specs.Steps.{IsFound}
+use Rattle.pliron_sccp.specs.RewriteSteps.{IsFound}
 
--- some facts are closed, and the most precise ones where they are owed; these are their folds and arguments, and the
--- count is one for them
+-- some lattice values are closed, and the most precise ones where they are owed; these are their folds and
+-- arguments, and the count is one for them
 pub record HasFound (x : Says) (can_fold : Head → Bool) (t : Tree) (root : ℕ) (found : Found) (pops : ℕ) : Type 0 where
-  pub facts : Facts
+  pub facts : LatticeValues
   pub found_by : IsFound x can_fold t root facts found
   pub precise : AreOwed x t root → AreMostPrecise x t root facts
   pub count : CountsPops t root facts pops

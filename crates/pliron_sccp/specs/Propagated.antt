@@ -4,29 +4,29 @@ use Rattle.pliron_core.specs.declared.attrs.AttrObj.{AttrObj}
 use Rattle.pliron_core.specs.Tree.{Tree}
 use Rattle.pliron_laws.specs.Datum.{Head}
 use Rattle.pliron_laws.specs.InPlace.{Outcome}
-use Rattle.pliron_theory.specs.Facts.{Facts, Says, AreClosed, AreHeld}
+use Rattle.pliron_theory.specs.LatticeValues.{LatticeValues, Says, AreClosed, AreHeld}
 use Rattle.pliron_sccp.specs.Precise.{AreMostPrecise, AreOwed}
 use Rattle.pliron_sccp.specs.Chain.{IsRewritten, IsPartlyRewritten, reached_blocks, values_there, is_constant, varies}
 
--- with r blocks that are reached and, made in these, c constants and n values that are not constant, the count
--- is at least r + c + n and at most r + c + 2 n
-pub record CountsPops (t : Tree) (root : ℕ) (f : Facts) (pops : ℕ) : Type 0 where
-  pub least : length (reached_blocks t root f) + length (filter (λ v. is_constant (f.fact v)) (values_there t root f)) + length (filter (λ v. varies (f.fact v)) (values_there t root f)) ≤ pops
-  pub most : pops ≤ length (reached_blocks t root f) + length (filter (λ v. is_constant (f.fact v)) (values_there t root f)) + 2 * length (filter (λ v. varies (f.fact v)) (values_there t root f))
+-- with r executable blocks and, defined in these, c constants and n values that are not constant, the count is
+-- at least r + c + n and at most r + c + 2 n
+pub record CountsPops (t : Tree) (root : ℕ) (f : LatticeValues) (pops : ℕ) : Type 0 where
+  pub least : length (reached_blocks t root f) + length (filter (λ v. is_constant (f.lattice_value v)) (values_there t root f)) + length (filter (λ v. varies (f.lattice_value v)) (values_there t root f)) ≤ pops
+  pub most : pops ≤ length (reached_blocks t root f) + length (filter (λ v. is_constant (f.lattice_value v)) (values_there t root f)) + 2 * length (filter (λ v. varies (f.lattice_value v)) (values_there t root f))
 
--- closed facts about the first tree, the most precise ones where they are owed
-pub record AreFound (x : Says) (t : Tree) (root : ℕ) (f : Facts) : Type 0 where
+-- closed lattice values of the first tree, the most precise ones where they are owed
+pub record AreFound (x : Says) (t : Tree) (root : ℕ) (f : LatticeValues) : Type 0 where
   pub closed : AreClosed x t root f
   pub held : AreHeld t root f
   pub precise : AreOwed x t root → AreMostPrecise x t root f
 
--- the tree after is reached from the tree before by one set of facts, which the count fits
+-- the tree after is reached from the tree before by one set of lattice values, which the count fits
 pub record IsPropagated (x : Says) (accepts : AttrObj → Bool) (head : AttrObj → Head) (outcome : Outcome) (t : Tree) (root : ℕ) (t' : Tree) (pops : ℕ) : Type 0 where
-  pub facts : Facts
+  pub facts : LatticeValues
   pub found : AreFound x t root facts
   pub rewritten : IsRewritten x.can_fold accepts head outcome t root facts t'
   pub count : CountsPops t root facts pops
 
--- the tree after a refusal: as before, or one after a first part of these rewrites
+-- the tree after allocation failure: as before, or one after a first part of these rewrites
 abbrev pub IsPartlyPropagated : Says → (AttrObj → Bool) → (AttrObj → Head) → Outcome → (t : Tree) → ℕ → (t' : Tree) → Type 0
-IsPartlyPropagated x accepts head outcome t root t' = (t' ≡ t) ⊎ ((f : Facts) × AreFound x t root f × IsPartlyRewritten x.can_fold accepts head outcome t root f t')
+IsPartlyPropagated x accepts head outcome t root t' = (t' ≡ t) ⊎ ((f : LatticeValues) × AreFound x t root f × IsPartlyRewritten x.can_fold accepts head outcome t root f t')

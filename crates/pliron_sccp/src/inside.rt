@@ -1,9 +1,10 @@
-//! Listing what stands inside an operation.
-ghost use Rattle.std.specs.Prelude.{◌≡◌, ◌++◌, ◌∷◌, [], ℕ, OnOk, IfOk, reverse, IsOkUnless};
+//! Listing what is inside an operation.
+ghost use Rattle.std.specs.Prelude.{◌≡◌, ◌++◌, ◌∷◌, [], ℕ, OnOk, IfOk, map, reverse, IsOkUnless};
 ghost use Rattle.std.specs.List.{flat_map};
 ghost use Rattle.pliron_core.specs.Tree.{IsLive, IsBlock, IsRegion, In, arguments_of, body_of, layout_of, regions_of, results_of};
 ghost use Rattle.pliron_sccp.specs.Chain.{blocks_inside};
-ghost use Rattle.pliron_sccp.specs.Inside.{block_values, blocks_directly_in};
+ghost use Rattle.pliron_sccp.specs.declared.inside.Part.TheVariants.{Block as BlockOf, Operation as OperationOf};
+ghost use Rattle.pliron_sccp.specs.Inside.{IsStanding, blocks_directly_in, defined_by, directly_in, values_in_preorder};
 ghost use Rattle.pliron_sccp.specs.Starting.{AddsKeys};
 
 use indexmap::IndexSet;
@@ -67,13 +68,13 @@ fn list_body(
 }
 
 /// Puts these on the stack, so that the first comes off first.
-fn stack_up(blocks: Vec<Ptr<BasicBlock>>, stack: &mut Vec<Ptr<BasicBlock>>) -> Result<(), OptError>
-    ensures ok { OnOk result (stack.new.items ≡ stack.old.items ++ reverse blocks.items) }
+fn stack_up<T: Copy + Drop>(items: Vec<T>, stack: &mut Vec<T>) -> Result<(), OptError>
+    ensures ok { OnOk result (stack.new.items ≡ stack.old.items ++ reverse items.items) }
     ensures memory { IsOkUnless result OptError.Memory }
 {
-    let mut rest = blocks;
-    while let Some(block) = rest.pop() {
-        stack.push(block)?;
+    let mut rest = items;
+    while let Some(item) = rest.pop() {
+        stack.push(item)?;
     }
     Ok(())
 }
@@ -114,7 +115,7 @@ fn stack_body(
 /// The blocks inside the operation, at any depth, in pre-order: each is followed by those inside its
 /// operations.
 ///
-/// Asks that the operation stands. Errors: want of memory. Cost: one step for each operation, block and
+/// Asks that the operation is live. Errors: allocation failure. Cost: one step for each operation, block and
 /// region inside it; the depth takes memory on a list alone.
 pub fn all_blocks(
     alloc: Global,
@@ -138,7 +139,7 @@ pub fn all_blocks(
 
 /// These blocks, each with a number.
 ///
-/// Errors: want of memory. Cost: one step for each.
+/// Errors: allocation failure. Cost: one step for each.
 pub fn block_numbers(
     alloc: Global,
     blocks: &[Ptr<BasicBlock>],
@@ -172,7 +173,7 @@ fn add_value(value: Value, values: &mut IndexSet<Value>) -> Result<(), OptError>
     Ok(())
 }
 
-/// The results more.
+/// The operation's results more.
 #[inline(always)]
 fn add_results(
     op: Ptr<Operation>,
@@ -205,37 +206,80 @@ fn add_arguments(
     Ok(())
 }
 
-/// The results of the block's operations more.
-fn add_body(
+/// A block or an operation.
+#[derive(Clone, Copy)]
+pub enum Part {
+    Block(Ptr<BasicBlock>),
+    Operation(Ptr<Operation>),
+}
+
+/// The values that the block or operation defines more.
+fn add_defined(part: &Part, ctx: &Context, values: &mut IndexSet<Value>) -> Result<(), OptError>
+    requires { IsStanding ctx.now.tree part.now }
+    ensures ok { OnOk result (AddsKeys (defined_by ctx.now.tree part.now) values.old.keys values.new.keys) }
+    ensures memory { IsOkUnless result OptError.Memory }
+{
+    match part {
+        Part::Block(block) => add_arguments(*block, ctx, values),
+        Part::Operation(op) => add_results(*op, ctx, values),
+    }
+}
+
+/// Adds the operations of the block, in order.
+fn list_operations(
     block: Ptr<BasicBlock>,
     ctx: &Context,
-    values: &mut IndexSet<Value>,
+    parts: &mut Vec<Part>,
 ) -> Result<(), OptError>
     requires { IsBlock ctx.now.tree block }
-    ensures ok { OnOk result (AddsKeys (flat_map (λ k. results_of ctx.now.tree k) (body_of ctx.now.tree block)) values.old.keys values.new.keys) }
+    ensures ok { OnOk result (parts.new.items ≡ parts.old.items ++ map (λ k. OperationOf k) (body_of ctx.now.tree block)) }
     ensures memory { IsOkUnless result OptError.Memory }
 {
     ctx.well_formed();
     let mut at = block.get_head(ctx);
     while let Some(op) = at {
-        add_results(op, ctx, values)?;
+        parts.push(Part::Operation(op))?;
         at = op.get_next(ctx);
     }
     Ok(())
 }
 
-/// The values that the block lists more.
-fn add_block_values(
-    block: Ptr<BasicBlock>,
+/// Adds the blocks of the operation's regions, in order.
+fn list_blocks(
+    alloc: Global,
+    op: Ptr<Operation>,
     ctx: &Context,
-    values: &mut IndexSet<Value>,
+    parts: &mut Vec<Part>,
 ) -> Result<(), OptError>
-    requires { IsBlock ctx.now.tree block }
-    ensures ok { OnOk result (AddsKeys (block_values ctx.now.tree block) values.old.keys values.new.keys) }
+    requires { IsLive ctx.now.tree op }
+    ensures ok { OnOk result (parts.new.items ≡ parts.old.items ++ map (λ b. BlockOf b) (blocks_directly_in ctx.now.tree op)) }
     ensures memory { IsOkUnless result OptError.Memory }
 {
-    add_arguments(block, ctx, values)?;
-    add_body(block, ctx, values)
+    let mut blocks = Vec::new(alloc);
+    list_regions(op, ctx, &mut blocks)?;
+    for i in 0..blocks.len() {
+        parts.push(Part::Block(blocks[i]))?;
+    }
+    Ok(())
+}
+
+/// Puts what stands directly inside the block or operation on the stack, so that the first comes off first.
+fn stack_inner(
+    alloc: Global,
+    part: &Part,
+    ctx: &Context,
+    stack: &mut Vec<Part>,
+) -> Result<(), OptError>
+    requires { IsStanding ctx.now.tree part.now }
+    ensures ok { OnOk result (stack.new.items ≡ stack.old.items ++ reverse (directly_in ctx.now.tree part.now)) }
+    ensures memory { IsOkUnless result OptError.Memory }
+{
+    let mut parts = Vec::new(alloc);
+    match part {
+        Part::Block(block) => list_operations(*block, ctx, &mut parts)?,
+        Part::Operation(op) => list_blocks(alloc, *op, ctx, &mut parts)?,
+    }
+    stack_up(parts, stack)
 }
 
 /// How many values the block lists, to make room for them.
@@ -253,7 +297,9 @@ fn count_in_block(block: Ptr<BasicBlock>, ctx: &Context) -> usize
 }
 
 /// How many values these blocks list, to make room for them.
-fn count_values(blocks: &[Ptr<BasicBlock>], ctx: &Context) -> usize
+///
+/// Asks that the blocks stand. Cost: one step for each operation.
+pub fn count_values(blocks: &[Ptr<BasicBlock>], ctx: &Context) -> usize
     requires { (b : ℕ) → In b blocks.now → IsBlock ctx.now.tree b }
 {
     let mut count: usize = 0;
@@ -263,21 +309,28 @@ fn count_values(blocks: &[Ptr<BasicBlock>], ctx: &Context) -> usize
     count
 }
 
-/// The values that these blocks list, each with a number.
+/// The values inside the root, each with a number, in pre-order: a block's arguments come before its operations, and an
+/// operation's results before what stands in its regions.
 ///
-/// Asks that the blocks stand. Errors: want of memory. Cost: one step for each operation and value.
+/// Asks that the root stands; `count` says for how many values there is room at first. Errors: allocation failure. Cost: one
+/// step for each operation, block and value inside it; the depth takes memory on a list alone.
 pub fn value_numbers(
     alloc: Global,
-    blocks: &[Ptr<BasicBlock>],
+    root: Ptr<Operation>,
+    count: usize,
     ctx: &Context,
 ) -> Result<IndexSet<Value>, OptError>
-    requires { (b : ℕ) → In b blocks.now → IsBlock ctx.now.tree b }
-    ensures ok { IfOk result (λ numbered. AddsKeys (flat_map (λ b. block_values ctx.now.tree b) blocks.now) [] numbered.keys) }
+    requires { IsLive ctx.now.tree root }
+    ensures ok { IfOk result (λ numbered. AddsKeys (values_in_preorder ctx.now.tree root) [] numbered.keys) }
     ensures memory { IsOkUnless result OptError.Memory }
 {
-    let mut numbered = IndexSet::with_capacity(alloc, count_values(blocks, ctx))?;
-    for i in 0..blocks.len() {
-        add_block_values(blocks[i], ctx, &mut numbered)?;
+    ctx.well_formed();
+    let mut numbered = IndexSet::with_capacity(alloc, count)?;
+    let mut stack = Vec::new(alloc);
+    stack_inner(alloc, &Part::Operation(root), ctx, &mut stack)?;
+    while let Some(part) = stack.pop() {
+        add_defined(&part, ctx, &mut numbered)?;
+        stack_inner(alloc, &part, ctx, &mut stack)?;
     }
     Ok(numbered)
 }

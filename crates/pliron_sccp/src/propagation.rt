@@ -1,19 +1,20 @@
-//! Constant propagation: facts are found, and the tree is rewritten by them.
+//! Constant propagation: a fixpoint of lattice values is found, and the tree is rewritten by it.
 ghost use Rattle.std.specs.Prelude.{◌≡◌, Some, IfOk, OnOk, OnErr, ℕ, IsOkUnless};
 ghost use Rattle.pliron_core.specs.Tree.{IsLive};
-ghost use Rattle.pliron_laws.specs.InPlace.{TellsChange};
+ghost use Rattle.pliron_laws.specs.InPlace.{ReportsChange};
 ghost use Rattle.pliron_laws.specs.Linked.{IsWellLinked};
 ghost use Rattle.pliron_theory.specs.Change.{IsPassChange};
 ghost use Rattle.pliron_theory.specs.Edges.{KeepsEdges};
 ghost use Rattle.pliron_sccp.specs.Propagated.{IsPropagated, IsPartlyPropagated};
 
-use crate::rewrite::{find, rewrite};
+use crate::rewrite::rewrite;
+use crate::search::find;
 use pliron_core::{Context, IRRewriter, IRStatus, Operation, Ptr, Rewriter};
 use pliron_laws::{Dialect, OptError, Room};
 use pliron_theory::HasFolding;
 use std::alloc::Global;
 
-// Propagates constants through a rewriter, and counts what the search took from its worklists.
+// Propagates constants through a rewriter, and counts what the search popped off its worklists.
 fn propagate<D: Dialect, R: Rewriter + Room>(
     alloc: Global,
     op: Ptr<Operation>,
@@ -27,7 +28,7 @@ fn propagate<D: Dialect, R: Rewriter + Room>(
     ensures partly { OnErr result (IsPartlyPropagated ⟦<D as HasFolding>⟧.folding D.accepts D.constant_head D.ConstFoldInterface.outcome ctx.old.tree
         op ctx.new.tree) }
     ensures change { IsPassChange D.meaning ctx.old.tree ctx.new.tree op }
-    ensures tells { IfOk result (λ a. TellsChange (Some a.0) ctx.old.tree ctx.new.tree) }
+    ensures tells { IfOk result (λ a. ReportsChange (Some a.0) ctx.old.tree ctx.new.tree) }
     ensures edges { KeepsEdges ctx.old.tree ctx.new.tree }
     ensures links { (root : ℕ) → IsWellLinked D.meaning ctx.old.tree root → IsWellLinked D.meaning ctx.new.tree root }
     ensures memory { IsOkUnless result OptError.Memory }
@@ -38,11 +39,11 @@ fn propagate<D: Dialect, R: Rewriter + Room>(
     Ok((status, pops))
 }
 
-/// Propagates constants inside the operation, as `sccp` does, and answers too how often its search took
-/// something from a worklist: with r blocks that are reached and, made in these, c constants and n values
-/// that are not constant, at least r + c + n and at most r + c + 2 n times.
+/// Propagates constants inside the operation, as `sccp` does, and answers too how often its search popped
+/// something off a worklist: with r executable blocks and, defined in these, c constants and n values that are
+/// not constant, at least r + c + n and at most r + c + 2 n times.
 ///
-/// Asks that the operation stands and is well linked. Errors: as `sccp`. Cost: as `sccp`.
+/// Asks that the operation is live and is well linked. Errors: as `sccp`. Cost: as `sccp`.
 pub fn sccp_counted<D: Dialect>(
     alloc: Global,
     op: Ptr<Operation>,
@@ -55,7 +56,7 @@ pub fn sccp_counted<D: Dialect>(
     ensures partly { OnErr result (IsPartlyPropagated ⟦<D as HasFolding>⟧.folding D.accepts D.constant_head D.ConstFoldInterface.outcome ctx.old.tree
         op ctx.new.tree) }
     ensures change { IsPassChange D.meaning ctx.old.tree ctx.new.tree op }
-    ensures tells { IfOk result (λ a. TellsChange (Some a.0) ctx.old.tree ctx.new.tree) }
+    ensures tells { IfOk result (λ a. ReportsChange (Some a.0) ctx.old.tree ctx.new.tree) }
     ensures edges { KeepsEdges ctx.old.tree ctx.new.tree }
     ensures links { (root : ℕ) → IsWellLinked D.meaning ctx.old.tree root → IsWellLinked D.meaning ctx.new.tree root }
     ensures memory { IsOkUnless result OptError.Memory }
@@ -65,9 +66,9 @@ pub fn sccp_counted<D: Dialect>(
 }
 
 /// Propagates constants inside the operation, as `sccp` does, and makes each change through this rewriter,
-/// whose listener hears of it: the room for a whole rewrite is asked of it before the first change of that.
+/// which reports it to a listener: the room for a whole rewrite is asked of it before the first change of that.
 ///
-/// Asks that the operation stands and is well linked. Errors: as `sccp`, and where the rewriter has no room.
+/// Asks that the operation is live and is well linked. Errors: as `sccp`, and where the rewriter has no room.
 /// Cost: as `sccp`, and what the rewriter does at each change.
 pub fn sccp_through<D: Dialect, R: Rewriter + Room>(
     alloc: Global,
@@ -82,7 +83,7 @@ pub fn sccp_through<D: Dialect, R: Rewriter + Room>(
     ensures partly { OnErr result (IsPartlyPropagated ⟦<D as HasFolding>⟧.folding D.accepts D.constant_head D.ConstFoldInterface.outcome ctx.old.tree
         op ctx.new.tree) }
     ensures change { IsPassChange D.meaning ctx.old.tree ctx.new.tree op }
-    ensures tells { IfOk result (λ a. TellsChange (Some a) ctx.old.tree ctx.new.tree) }
+    ensures tells { IfOk result (λ a. ReportsChange (Some a) ctx.old.tree ctx.new.tree) }
     ensures edges { KeepsEdges ctx.old.tree ctx.new.tree }
     ensures links { (root : ℕ) → IsWellLinked D.meaning ctx.old.tree root → IsWellLinked D.meaning ctx.new.tree root }
     ensures memory { IsOkUnless result OptError.Memory }
@@ -91,25 +92,25 @@ pub fn sccp_through<D: Dialect, R: Rewriter + Room>(
     Ok(status)
 }
 
-/// Propagates constants inside the operation. Facts are searched on the tree as it stands, from no block
-/// reached and nothing known of any value: the entries of the operation's regions are reached, with any
-/// arguments; of a block that is reached, each operation that folds answers its results by the constants
-/// that are known of its operands, each other one has results that are no constants, its regions are
-/// entered, and its branch reaches the blocks that it may go to by what is known, with the values that it
-/// forwards. Then, in pre-order, each operation that folds in a block that is reached is folded in place by
-/// these facts, and after these a constant is put for each constant argument of such a block. Nothing is
-/// erased, and results and arguments without uses get their constants too.
+/// Propagates constants inside the operation. Lattice values are searched on the unchanged tree, from no
+/// executable block and nothing known of any value: the entries of the operation's regions are executable, with
+/// any arguments; in an executable block, each operation that folds answers its results by the constants that
+/// are known of its operands, each other one has results that are not constant, its regions are entered, and
+/// its branch makes the blocks executable that it may go to by what is known, with the values that it forwards.
+/// Then, in pre-order, each operation that folds in an executable block is folded in place by these lattice
+/// values, and after these a constant is put for each constant argument of such a block. Nothing is erased, and
+/// results and arguments without uses get their constants too.
 ///
 /// Wegman and Zadeck, "Constant propagation with conditional branches", 1991, section 3, over blocks with
-/// arguments; a user is looked at again only where its block was looked at before.
+/// arguments; a user is visited again only where its block was visited before.
 ///
-/// Asks that the operation stands and is well linked. Answers `Changed` exactly if a constant was put.
+/// Asks that the operation is live and is well linked. Answers `Changed` exactly if a constant was put.
 ///
-/// Errors: want of memory. The tree is then as before, or one after a first part of these rewrites.
+/// Errors: allocation failure. The tree is then as before, or one after a first part of these rewrites.
 ///
-/// Cost: one look at each operation in a block that is reached, and one more for each time that a fact
-/// about an operand falls, which it does twice at most, but where it has more than a few operands one for
-/// all that fall before nothing shorter is left to do; then one step for each use of what is replaced.
+/// Cost: one visit of each operation in an executable block, and one more for each lowering of an operand, of
+/// which there are two at most, but where it has more than a few operands one for all that are lowered before
+/// nothing shorter is left to do; then one step for each use of what is replaced.
 pub fn sccp<D: Dialect>(
     alloc: Global,
     op: Ptr<Operation>,
@@ -122,7 +123,7 @@ pub fn sccp<D: Dialect>(
     ensures partly { OnErr result (IsPartlyPropagated ⟦<D as HasFolding>⟧.folding D.accepts D.constant_head D.ConstFoldInterface.outcome ctx.old.tree
         op ctx.new.tree) }
     ensures change { IsPassChange D.meaning ctx.old.tree ctx.new.tree op }
-    ensures tells { IfOk result (λ a. TellsChange (Some a) ctx.old.tree ctx.new.tree) }
+    ensures tells { IfOk result (λ a. ReportsChange (Some a) ctx.old.tree ctx.new.tree) }
     ensures edges { KeepsEdges ctx.old.tree ctx.new.tree }
     ensures links { (root : ℕ) → IsWellLinked D.meaning ctx.old.tree root → IsWellLinked D.meaning ctx.new.tree root }
     ensures memory { IsOkUnless result OptError.Memory }

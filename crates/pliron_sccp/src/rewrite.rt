@@ -1,30 +1,30 @@
-//! What facts say is to be rewritten, the operations that fold and the constant arguments; and the tree
-//! rewritten by it.
+//! What the lattice values say is to be rewritten, the operations that fold and the constant arguments; and the
+//! tree rewritten by it.
+//!
+//! What is known of the operands of all folds is one list, made while the tree is as it was searched; a fold
+//! has its part of it from `start` to `end`.
 ghost use Rattle.std.specs.Prelude.{◌≡◌, ◌≤◌, ◌<◌, ◌++◌, ℕ, List, [], Some, None, IsSome, IfOk, OnErr, OnOk, length, map, slice_get, slice_range, IsOkUnless};
 ghost use Rattle.pliron_core.specs.Tree.{Tree, IsLive, IsBlock, operands_of};
 ghost use Rattle.pliron_core.specs.Changes.{IsSameTree};
-ghost use Rattle.pliron_laws.specs.InPlace.{TellsChange};
-ghost use Rattle.pliron_laws.specs.Linked.{IsWellLinked};
-ghost use Rattle.pliron_theory.specs.Facts.{Facts, handed};
+ghost use Rattle.pliron_laws.specs.InPlace.{ReportsChange};
+ghost use Rattle.pliron_theory.specs.LatticeValues.{LatticeValues, operand_constants};
 ghost use Rattle.pliron_theory.specs.Following.{Follows};
 ghost use Rattle.pliron_theory.specs.Rewrites.{ReplacesArgument};
-ghost use Rattle.pliron_sccp.specs.Tables.{facts_of};
+ghost use Rattle.pliron_sccp.specs.LatticeTables.{lattice_values_of};
 ghost use Rattle.pliron_sccp.specs.Listed.{is_folding, AddsFold, AreFolds, AddsKnown, AreArguments};
-ghost use Rattle.pliron_sccp.specs.Steps.{IsFoldStep, AreFoldSteps, TellsCreated, IsArgumentStep, AreArgumentSteps, StandForEach, IsFound};
+ghost use Rattle.pliron_sccp.specs.RewriteSteps.{IsFoldStep, AreFoldSteps, ReportsCreated, IsArgumentStep, AreArgumentSteps, StandForEach, IsFound};
 ghost use Rattle.pliron_sccp.specs.Chain.{FoldsInTurn, FoldsPartly, KnownArgument, all_put, IsPartlyPut, IsRewritten, IsPartlyRewritten, known_arguments};
-ghost use Rattle.pliron_sccp.specs.Found.{HasFound};
 
-use crate::demands::{add_known, known};
-use crate::facts::Tables;
+use crate::constraints::{add_known, known_constant};
 use crate::inside::all_blocks;
-use crate::search::search;
+use crate::lattice_tables::Tables;
 use pliron_core::{AttrObj, BasicBlock, Context, IRStatus, Operation, Ptr, Rewriter};
 use pliron_laws::{ConstFoldInterface, Dialect, OptError, Room};
 use pliron_theory::HasFolding;
 use pliron_theory::rewrites::replace_argument_by_constant;
 use std::alloc::Global;
 
-/// An operation that folds, and where the constants that are known of its operands stand in the list for all.
+/// An operation that folds, and where the constants that are known of its operands are in the list for all.
 #[derive(Clone, Copy)]
 pub struct Fold {
     pub(crate) op: Ptr<Operation>,
@@ -40,7 +40,7 @@ pub struct Folds {
 }
 
 impl Folds {
-    /// No folds, with room for so many of one operand. Errors: want of memory.
+    /// No folds, with room for so many of one operand. Errors: allocation failure.
     fn with_capacity(alloc: Global, count: usize) -> Result<Folds, OptError>
         ensures none { IfOk result (λ folds. folds.rows.items ≡ []) }
         ensures memory { IsOkUnless result OptError.Memory }
@@ -68,24 +68,24 @@ pub struct ConstantArgument {
     pub(crate) attr: AttrObj,
 }
 
-/// What was found of a tree: the operations that fold and the constant arguments, both where runs may
-/// come, in pre-order.
+/// What was found of a tree: the operations that fold and the constant arguments, both in executable blocks, in
+/// pre-order.
 #[derive(Drop)]
 pub struct Found {
     pub(crate) folds: Folds,
     pub(crate) arguments: Vec<ConstantArgument>,
 }
 
-/// Whether the operation folds and stands in a block that is reached.
+/// Whether the operation folds and is in an executable block.
 fn is_folded<D: Dialect>(op: Ptr<Operation>, ctx: &Context, tables: &Tables) -> bool
     requires { IsLive ctx.now.tree op }
-    ensures { result ≡ is_folding D.can_fold ctx.now.tree (facts_of tables.now) op }
+    ensures { result ≡ is_folding D.can_fold ctx.now.tree (lattice_values_of tables.now) op }
 {
     ctx.well_formed();
     let Some(block) = op.get_parent_block(ctx) else {
         return false;
     };
-    if !tables.reaches(block) {
+    if !tables.is_executable(block) {
         return false;
     }
     D::folds(op, ctx)
@@ -101,7 +101,7 @@ fn add_fold<D: Dialect>(
     folds: &mut Folds,
 ) -> Result<(), OptError>
     requires { IsLive ctx.now.tree op }
-    ensures ok { OnOk result (AddsFold ⟦<D as HasFolding>⟧.folding ctx.now.tree (facts_of tables.now) op folds.old folds.new) }
+    ensures ok { OnOk result (AddsFold ⟦<D as HasFolding>⟧.folding ctx.now.tree (lattice_values_of tables.now) op folds.old folds.new) }
     ensures memory { IsOkUnless result OptError.Memory }
 {
     if is_folded::<D>(op, ctx, tables) {
@@ -114,14 +114,14 @@ fn add_fold<D: Dialect>(
 }
 
 /// The folds of the operations inside the root, in pre-order.
-fn all_folds<D: Dialect>(
+pub(crate) fn all_folds<D: Dialect>(
     alloc: Global,
     root: Ptr<Operation>,
     ctx: &Context,
     tables: &Tables,
 ) -> Result<Folds, OptError>
     requires { IsLive ctx.now.tree root }
-    ensures ok { IfOk result (λ folds. AreFolds ⟦<D as HasFolding>⟧.folding ctx.now.tree root (facts_of tables.now) folds) }
+    ensures ok { IfOk result (λ folds. AreFolds ⟦<D as HasFolding>⟧.folding ctx.now.tree root (lattice_values_of tables.now) folds) }
     ensures memory { IsOkUnless result OptError.Memory }
 {
     ctx.well_formed();
@@ -134,7 +134,7 @@ fn all_folds<D: Dialect>(
     Ok(folds)
 }
 
-/// Adds the constant arguments of a block that is reached, in the order of their indices.
+/// Adds the constant arguments of an executable block, in the order of their indices.
 fn add_arguments(
     alloc: Global,
     block: Ptr<BasicBlock>,
@@ -143,14 +143,14 @@ fn add_arguments(
     arguments: &mut Vec<ConstantArgument>,
 ) -> Result<(), OptError>
     requires { IsBlock ctx.now.tree block }
-    ensures ok { OnOk result (AddsKnown ctx.now.tree (facts_of tables.now) block arguments.old.items arguments.new.items) }
+    ensures ok { OnOk result (AddsKnown ctx.now.tree (lattice_values_of tables.now) block arguments.old.items arguments.new.items) }
     ensures memory { IsOkUnless result OptError.Memory }
 {
-    if !tables.reaches(block) {
+    if !tables.is_executable(block) {
         return Ok(());
     }
     for index in 0..block.num_argument(ctx) {
-        match known(alloc, block.get_argument(ctx, index), tables)? {
+        match known_constant(alloc, block.get_argument(ctx, index), tables)? {
             Some(attr) => arguments.push(ConstantArgument { block, index, attr })?,
             None => {}
         }
@@ -158,16 +158,16 @@ fn add_arguments(
     Ok(())
 }
 
-/// The constant arguments of the blocks inside the root that are reached, in pre-order.
-fn all_arguments(
+/// The constant arguments of the executable blocks inside the root, in pre-order.
+pub(crate) fn all_arguments(
     alloc: Global,
     root: Ptr<Operation>,
     ctx: &Context,
     tables: &Tables,
 ) -> Result<Vec<ConstantArgument>, OptError>
     requires { IsLive ctx.now.tree root }
-    ensures ok { IfOk result (λ arguments. AreArguments ctx.now.tree (facts_of tables.now) arguments.items (known_arguments ctx.now.tree root
-        (facts_of tables.now))) }
+    ensures ok { IfOk result (λ arguments. AreArguments ctx.now.tree (lattice_values_of tables.now) arguments.items (known_arguments ctx.now.tree root
+        (lattice_values_of tables.now))) }
     ensures memory { IsOkUnless result OptError.Memory }
 {
     ctx.well_formed();
@@ -179,30 +179,11 @@ fn all_arguments(
     Ok(arguments)
 }
 
-/// Finds facts about what is inside the root, and what they say is to be rewritten. Answers also how
-/// often the search took something from a worklist.
+/// Folds one operation in place by lattice values of the first tree.
 ///
-/// Errors: want of memory.
-pub(crate) fn find<D: Dialect>(
-    alloc: Global,
-    root: Ptr<Operation>,
-    ctx: &Context,
-) -> Result<(Found, u128), OptError>
-    requires live { IsLive ctx.now.tree root }
-    requires linked { IsWellLinked D.meaning ctx.now.tree root }
-    ensures ok { IfOk result (λ r. HasFound ⟦<D as HasFolding>⟧.folding D.can_fold ctx.now.tree root r.0 r.1) }
-    ensures memory { IsOkUnless result OptError.Memory }
-{
-    let searched = search::<D>(alloc, root, ctx)?;
-    let folds = all_folds::<D>(alloc, root, ctx, &searched.tables)?;
-    let arguments = all_arguments(alloc, root, ctx, &searched.tables)?;
-    Ok((Found { folds, arguments }, searched.pops))
-}
-
-/// Folds one operation in place by facts about the first tree.
-///
-/// Asks that the tree came from the first one by such steps, so that the facts still hold of the operation.
-/// Errors: want of memory, after which the tree is one that the dialect's `fold_in_place` leaves then: as it
+/// Asks that the tree came from the first one by such steps, so that the lattice values still hold of the
+/// operation.
+/// Errors: allocation failure, after which the tree is one that the dialect's `fold_in_place` leaves then: as it
 /// was, or after one whole fold. Cost: that of the dialect's `fold_in_place`.
 #[inline(always)]
 pub fn fold_one<D: Dialect, R: Rewriter + Room>(
@@ -212,13 +193,13 @@ pub fn fold_one<D: Dialect, R: Rewriter + Room>(
     known: &[Option<AttrObj>],
     rewriter: &mut R,
 ) -> Result<IRStatus, OptError>
-    requires step { (t₀ : Tree) × (root : ℕ) × (f₀ : Facts) × IsFoldStep ⟦<D as HasFolding>⟧.folding t₀ root f₀ ctx.old.tree op known.now }
+    requires step { (t₀ : Tree) × (root : ℕ) × (f₀ : LatticeValues) × IsFoldStep ⟦<D as HasFolding>⟧.folding t₀ root f₀ ctx.old.tree op known.now }
     ensures ok { IfOk result (λ status. D.ConstFoldInterface.outcome ctx.old.tree ctx.new.tree op known.now (Some status)) }
     ensures refused { OnErr result (D.ConstFoldInterface.outcome ctx.old.tree ctx.new.tree op known.now None) }
-    ensures told { IfOk result (λ status. TellsCreated status ctx.old.tree ctx.new.tree) }
+    ensures told { IfOk result (λ status. ReportsCreated status ctx.old.tree ctx.new.tree) }
     ensures stays { (k : ℕ) → IsLive ctx.old.tree k → IsLive ctx.new.tree k }
     ensures memory { IsOkUnless result OptError.Memory }
-    ensures follows { (t₀ : Tree) (root : ℕ) (f₀ : Facts) → IsFoldStep ⟦<D as HasFolding>⟧.folding t₀ root f₀ ctx.old.tree op known.now →
+    ensures follows { (t₀ : Tree) (root : ℕ) (f₀ : LatticeValues) → IsFoldStep ⟦<D as HasFolding>⟧.folding t₀ root f₀ ctx.old.tree op known.now →
         Follows ⟦<D as HasFolding>⟧.folding t₀ root f₀ ctx.new.tree }
 {
     ctx.well_formed();
@@ -230,23 +211,25 @@ pub fn fold_one<D: Dialect, R: Rewriter + Room>(
 
 /// Folds these operations in place, one after the other.
 ///
-/// Asks that the tree came from the first one by such steps, so that the facts still hold of the operations.
-/// Errors: want of memory, after some of the folds, each of them whole. Cost: that of the dialect's `fold_in_place` for each.
+/// Asks that the tree came from the first one by such steps, so that the lattice values still hold of the
+/// operations.
+/// Errors: allocation failure, after some of the folds, each of them whole. Cost: that of the dialect's
+/// `fold_in_place` for each.
 pub fn fold_all<D: Dialect, R: Rewriter + Room>(
     alloc: Global,
     folds: &Folds,
     ctx: &mut Context,
     rewriter: &mut R,
 ) -> Result<IRStatus, OptError>
-    requires steps { (t₀ : Tree) × (root : ℕ) × (f₀ : Facts) × AreFoldSteps ⟦<D as HasFolding>⟧.folding t₀ root f₀ ctx.old.tree folds.now }
-    ensures folded { OnOk result ((t₀ : Tree) (root : ℕ) (f₀ : Facts) → AreFoldSteps ⟦<D as HasFolding>⟧.folding t₀ root f₀ ctx.old.tree folds.now →
+    requires steps { (t₀ : Tree) × (root : ℕ) × (f₀ : LatticeValues) × AreFoldSteps ⟦<D as HasFolding>⟧.folding t₀ root f₀ ctx.old.tree folds.now }
+    ensures folded { OnOk result ((t₀ : Tree) (root : ℕ) (f₀ : LatticeValues) → AreFoldSteps ⟦<D as HasFolding>⟧.folding t₀ root f₀ ctx.old.tree folds.now →
         FoldsInTurn D.ConstFoldInterface.outcome t₀ f₀ (map (λ fold. fold.op) folds.now.rows.items) ctx.old.tree ctx.new.tree) }
-    ensures refused { OnErr result ((t₀ : Tree) (root : ℕ) (f₀ : Facts) → AreFoldSteps ⟦<D as HasFolding>⟧.folding t₀ root f₀ ctx.old.tree folds.now →
+    ensures refused { OnErr result ((t₀ : Tree) (root : ℕ) (f₀ : LatticeValues) → AreFoldSteps ⟦<D as HasFolding>⟧.folding t₀ root f₀ ctx.old.tree folds.now →
         FoldsPartly D.ConstFoldInterface.outcome t₀ f₀ (map (λ fold. fold.op) folds.now.rows.items) ctx.old.tree ctx.new.tree) }
-    ensures told { IfOk result (λ status. TellsCreated status ctx.old.tree ctx.new.tree) }
+    ensures told { IfOk result (λ status. ReportsCreated status ctx.old.tree ctx.new.tree) }
     ensures stays { (k : ℕ) → IsLive ctx.old.tree k → IsLive ctx.new.tree k }
     ensures memory { IsOkUnless result OptError.Memory }
-    ensures follows { (t₀ : Tree) (root : ℕ) (f₀ : Facts) → AreFoldSteps ⟦<D as HasFolding>⟧.folding t₀ root f₀ ctx.old.tree folds.now →
+    ensures follows { (t₀ : Tree) (root : ℕ) (f₀ : LatticeValues) → AreFoldSteps ⟦<D as HasFolding>⟧.folding t₀ root f₀ ctx.old.tree folds.now →
         Follows ⟦<D as HasFolding>⟧.folding t₀ root f₀ ctx.new.tree }
 {
     let mut status = IRStatus::Unchanged;
@@ -258,10 +241,11 @@ pub fn fold_all<D: Dialect, R: Rewriter + Room>(
     Ok(status)
 }
 
-/// Puts a constant first in its block for an argument, by facts about the first tree.
+/// Puts a constant first in its block for an argument, by lattice values of the first tree.
 ///
-/// Asks that the tree came from the first one by such steps, so that the facts still hold of the argument.
-/// Errors: want of memory, which leaves the tree as it was but for spent keys. Cost: that of
+/// Asks that the tree came from the first one by such steps, so that the lattice values still hold of the
+/// argument.
+/// Errors: allocation failure, which leaves the tree as it was but for erased handles. Cost: that of
 /// `replace_argument_by_constant`.
 pub fn put_argument<D: Dialect, R: Rewriter + Room>(
     alloc: Global,
@@ -269,14 +253,14 @@ pub fn put_argument<D: Dialect, R: Rewriter + Room>(
     ctx: &mut Context,
     rewriter: &mut R,
 ) -> Result<IRStatus, OptError>
-    requires step { (t₀ : Tree) × (root : ℕ) × (f₀ : Facts) × IsArgumentStep ⟦<D as HasFolding>⟧.folding t₀ root f₀ ctx.old.tree argument.now }
+    requires step { (t₀ : Tree) × (root : ℕ) × (f₀ : LatticeValues) × IsArgumentStep ⟦<D as HasFolding>⟧.folding t₀ root f₀ ctx.old.tree argument.now }
     ensures ok { IfOk result (λ status. ReplacesArgument D.accepts D.constant_head argument.now.attr argument.now.block argument.now.index
         ctx.old.tree ctx.new.tree status) }
     ensures refused { OnErr result (IsSameTree ctx.old.tree ctx.new.tree) }
-    ensures told { IfOk result (λ status. TellsCreated status ctx.old.tree ctx.new.tree) }
+    ensures told { IfOk result (λ status. ReportsCreated status ctx.old.tree ctx.new.tree) }
     ensures stays { (k : ℕ) → IsLive ctx.old.tree k → IsLive ctx.new.tree k }
     ensures memory { IsOkUnless result OptError.Memory }
-    ensures follows { (t₀ : Tree) (root : ℕ) (f₀ : Facts) → IsArgumentStep ⟦<D as HasFolding>⟧.folding t₀ root f₀ ctx.old.tree argument.now →
+    ensures follows { (t₀ : Tree) (root : ℕ) (f₀ : LatticeValues) → IsArgumentStep ⟦<D as HasFolding>⟧.folding t₀ root f₀ ctx.old.tree argument.now →
         Follows ⟦<D as HasFolding>⟧.folding t₀ root f₀ ctx.new.tree }
 {
     let done = replace_argument_by_constant::<D, R>(
@@ -293,25 +277,26 @@ pub fn put_argument<D: Dialect, R: Rewriter + Room>(
 
 /// Puts constants for these arguments, one after the other.
 ///
-/// Asks that the tree came from the first one by such steps, so that the facts still hold of the arguments.
-/// Errors: want of memory, after some of them. Cost: that of `replace_argument_by_constant` for each.
+/// Asks that the tree came from the first one by such steps, so that the lattice values still hold of the
+/// arguments.
+/// Errors: allocation failure, after some of them. Cost: that of `replace_argument_by_constant` for each.
 pub fn put_all<D: Dialect, R: Rewriter + Room>(
     alloc: Global,
     arguments: &[ConstantArgument],
     ctx: &mut Context,
     rewriter: &mut R,
 ) -> Result<IRStatus, OptError>
-    requires steps { (t₀ : Tree) × (root : ℕ) × (f₀ : Facts) × AreArgumentSteps ⟦<D as HasFolding>⟧.folding t₀ root f₀ ctx.old.tree arguments.now }
-    ensures puts { OnOk result ((t₀ : Tree) (root : ℕ) (f₀ : Facts) → AreArgumentSteps ⟦<D as HasFolding>⟧.folding t₀ root f₀ ctx.old.tree
+    requires steps { (t₀ : Tree) × (root : ℕ) × (f₀ : LatticeValues) × AreArgumentSteps ⟦<D as HasFolding>⟧.folding t₀ root f₀ ctx.old.tree arguments.now }
+    ensures puts { OnOk result ((t₀ : Tree) (root : ℕ) (f₀ : LatticeValues) → AreArgumentSteps ⟦<D as HasFolding>⟧.folding t₀ root f₀ ctx.old.tree
         arguments.now → (known : List KnownArgument) → StandForEach t₀ arguments.now known → ctx.new.tree ≡
         all_put D.accepts D.constant_head known ctx.old.tree) }
-    ensures refused { OnErr result ((t₀ : Tree) (root : ℕ) (f₀ : Facts) →
+    ensures refused { OnErr result ((t₀ : Tree) (root : ℕ) (f₀ : LatticeValues) →
         AreArgumentSteps ⟦<D as HasFolding>⟧.folding t₀ root f₀ ctx.old.tree arguments.now → (known : List KnownArgument) →
         StandForEach t₀ arguments.now known → IsPartlyPut D.accepts D.constant_head known ctx.old.tree ctx.new.tree) }
-    ensures told { IfOk result (λ status. TellsCreated status ctx.old.tree ctx.new.tree) }
+    ensures told { IfOk result (λ status. ReportsCreated status ctx.old.tree ctx.new.tree) }
     ensures stays { (k : ℕ) → IsLive ctx.old.tree k → IsLive ctx.new.tree k }
     ensures memory { IsOkUnless result OptError.Memory }
-    ensures follows { (t₀ : Tree) (root : ℕ) (f₀ : Facts) → AreArgumentSteps ⟦<D as HasFolding>⟧.folding t₀ root f₀ ctx.old.tree arguments.now →
+    ensures follows { (t₀ : Tree) (root : ℕ) (f₀ : LatticeValues) → AreArgumentSteps ⟦<D as HasFolding>⟧.folding t₀ root f₀ ctx.old.tree arguments.now →
         Follows ⟦<D as HasFolding>⟧.folding t₀ root f₀ ctx.new.tree }
 {
     let mut status = IRStatus::Unchanged;
@@ -323,7 +308,7 @@ pub fn put_all<D: Dialect, R: Rewriter + Room>(
 
 /// Rewrites a tree by what was found of it: first the folds, then the arguments.
 ///
-/// Asks that what was found is of this tree. Errors: want of memory, after some whole rewrites. Cost: that of
+/// Asks that what was found is of this tree. Errors: allocation failure, after some whole rewrites. Cost: that of
 /// `fold_in_place` for each fold, and of `replace_argument_by_constant` for each argument.
 pub fn rewrite<D: Dialect, R: Rewriter + Room>(
     alloc: Global,
@@ -331,14 +316,14 @@ pub fn rewrite<D: Dialect, R: Rewriter + Room>(
     ctx: &mut Context,
     rewriter: &mut R,
 ) -> Result<IRStatus, OptError>
-    requires found { (root : ℕ) × (f : Facts) × IsFound ⟦<D as HasFolding>⟧.folding D.can_fold ctx.old.tree root f found.now }
-    ensures rewritten { OnOk result ((root : ℕ) (f : Facts) → IsFound ⟦<D as HasFolding>⟧.folding D.can_fold ctx.old.tree root f found.now →
+    requires found { (root : ℕ) × (f : LatticeValues) × IsFound ⟦<D as HasFolding>⟧.folding D.can_fold ctx.old.tree root f found.now }
+    ensures rewritten { OnOk result ((root : ℕ) (f : LatticeValues) → IsFound ⟦<D as HasFolding>⟧.folding D.can_fold ctx.old.tree root f found.now →
         IsRewritten D.can_fold D.accepts D.constant_head D.ConstFoldInterface.outcome ctx.old.tree root f ctx.new.tree) }
-    ensures refused { OnErr result ((root : ℕ) (f : Facts) → IsFound ⟦<D as HasFolding>⟧.folding D.can_fold ctx.old.tree root f found.now →
+    ensures refused { OnErr result ((root : ℕ) (f : LatticeValues) → IsFound ⟦<D as HasFolding>⟧.folding D.can_fold ctx.old.tree root f found.now →
         IsPartlyRewritten D.can_fold D.accepts D.constant_head D.ConstFoldInterface.outcome ctx.old.tree root f ctx.new.tree) }
-    ensures told { IfOk result (λ status. TellsChange (Some status) ctx.old.tree ctx.new.tree) }
+    ensures told { IfOk result (λ status. ReportsChange (Some status) ctx.old.tree ctx.new.tree) }
     ensures memory { IsOkUnless result OptError.Memory }
-    ensures follows { (root : ℕ) (f : Facts) → IsFound ⟦<D as HasFolding>⟧.folding D.can_fold ctx.old.tree root f found.now →
+    ensures follows { (root : ℕ) (f : LatticeValues) → IsFound ⟦<D as HasFolding>⟧.folding D.can_fold ctx.old.tree root f found.now →
         Follows ⟦<D as HasFolding>⟧.folding ctx.old.tree root f ctx.new.tree }
 {
     ctx.well_formed();

@@ -1,58 +1,58 @@
-//! The search for facts: blocks and values wait on worklists until nothing does.
+//! The search for a fixpoint, by two worklists of blocks and of values.
 //!
-//! Source: Wegman and Zadeck, Constant Propagation with Conditional Branches (1991), section 3: their two
-//! worklists, of flow edges and of uses in SSA form, are here one of blocks and one of values.
+//! Source: Wegman and Zadeck, Constant Propagation with Conditional Branches (1991), section 3: their two worklists,
+//! of flow edges and of uses in SSA form, are here one of blocks and one of values.
 //!
-//! The order of work: a block that waits is taken before any value, and looked through as a whole, its
-//! operations in order. Where none waits, all values that wait are taken, one by one, and then each of their
-//! users is looked at once, but for those that ask the same whatever is known: what neither folds, nor is a
-//! branch, nor names operands for its regions is looked at with its block alone. Nor is a user looked at again that
-//! was since the value fell last, as stamps of looks and falls tell: so an operation whose operands all fell before its block
-//! came to it is looked at once. So a branch that forwards many values which fell together is
-//! looked at once, and no region is gone through in rounds: a fact falls at most twice, and only its users
-//! are looked at then. In deep nests of loops an inner loop is thus not gone through again for each round of
-//! the outer ones.
+//! The order of work. A block is popped before any value, and visited as a whole, its operations in order. Where no
+//! block is on the worklist, all values on theirs are popped, one by one, and then each of their users is visited
+//! once. Not visited are
 //!
-//! A user with more than a few operands is put aside, once, and looked at where neither a block nor a value
-//! waits: one at a time, those with the fewest operands first, and what that look made fall is taken before
-//! the next one. So a branch that folds, and forwards many values which fall one after the other, is looked
-//! at when all of them fell, and not after each. Where it makes its own next operand fall, as in a loop that
-//! moves its arguments on by one place, that would be no help: so what was looked at more than a few times is
-//! asked at once for what it forwards along an edge that its last look found feasible, one argument for each
-//! operand that fell, and for the arguments of its regions' entries that it names this operand for. The order
-//! decides no fact.
-ghost use Rattle.std.specs.Prelude.{◌≡◌, ◌<◌, ◌↔◌, ℕ, true, OnOk, IfOk, IfSome, IsTrue, IsOkUnless, Some, None, length, slice_get};
-ghost use Rattle.pliron_core.specs.Tree.{IsLive, IsBlock, In, arguments_of, body_of, successors_of};
-ghost use Rattle.pliron_laws.specs.Answers.{ReadsHead};
+//! - users whose constraints don't depend on the operand: what neither folds, nor is a branch, nor names operands
+//!   for its regions is visited with its block alone;
+//! - users visited since the value was last lowered, as stamps of visits and lowerings say: so an operation whose
+//!   operands were all lowered before its block was popped is visited once.
+//!
+//! So a branch that forwards many values lowered together is visited once, and no region is visited in rounds: a
+//! value is lowered at most twice, and only its users are visited then. In deep nests of loops an inner loop is thus
+//! not visited anew for each round of the outer ones.
+//!
+//! A user with more than a few operands is deferred, once, and visited where both worklists are empty: one at a
+//! time, those with the fewest operands first, and what that visit lowered is propagated before the next one. So a
+//! branch that folds, and forwards many values lowered one after the other, is visited when all of them are lowered,
+//! and not after each. Where it lowers its own next operand, as in a loop that moves its arguments on by one place,
+//! that would be no help. So what was visited more than a few times is propagated eagerly: for each lowered operand,
+//! the one argument that it is forwarded to along an edge that the last visit found feasible, and the arguments of
+//! its regions' entries that it names this operand for. The order decides no lattice value.
+ghost use Rattle.std.specs.Prelude.{◌≡◌, ◌<◌, ℕ, true, OnOk, IfOk, IsOkUnless, Some, None};
+ghost use Rattle.pliron_core.specs.Tree.{IsLive, IsBlock, In, body_of};
 ghost use Rattle.pliron_laws.specs.Linked.{IsWellLinked};
-ghost use Rattle.pliron_laws.specs.Tree.{Operation as OperationOf, op_at};
-ghost use Rattle.pliron_laws.specs.declared.dialect.Interface.TheVariants.{RegionBranch};
-ghost use Rattle.pliron_theory.specs.Facts.{AtMost};
-ghost use Rattle.pliron_sccp.specs.Accounts.{IsUnsearched};
-ghost use Rattle.pliron_sccp.specs.Delaying.{delayed};
-ghost use Rattle.pliron_sccp.specs.Demands.{Adds, AreEntered};
+ghost use Rattle.pliron_sccp.specs.WorklistCounts.{IsUnsearched};
+ghost use Rattle.pliron_sccp.specs.Deferring.{deferred_operations};
+ghost use Rattle.pliron_sccp.specs.Constraints.{AreEntriesExecutable};
 ghost use Rattle.pliron_sccp.specs.Feasible.{leads, AreFound, KeepsAmong, KeepsFeasible};
-ghost use Rattle.pliron_sccp.specs.Looking.{either, AreTargetsNumbered, AsksAhead, GoesThrough, HasNumberedTargets, IsBehind, IsCallFor, IsLookedAt, IsNamed, IsUseOf, LooksAt, SeesTo, StampsIt, TakesUsers};
+ghost use Rattle.pliron_sccp.specs.OperationVisits.{AreTargetsNumbered, VisitsInTurnAndKeeps, HasNumberedTargets, WasVisited, VisitsOperation, StampsIt, PopsUsers};
 ghost use Rattle.pliron_sccp.specs.Searched.{IsSearched};
-ghost use Rattle.pliron_sccp.specs.Searching.{IsSeenTo, LooksAside, SeesToAll, TakesTurn, VisitsValues};
+ghost use Rattle.pliron_sccp.specs.Searching.{IsVisitedOrDeferred, VisitsDeferred, VisitsOrDefersAll, TakesTurn, VisitsValues};
 ghost use Rattle.pliron_sccp.specs.Starting.{IsStarted};
-ghost use Rattle.pliron_sccp.specs.Tables.{fact_in, facts_of, known_constants, reaches, waits_block};
+ghost use Rattle.pliron_sccp.specs.Found.{HasFound};
+ghost use Rattle.pliron_sccp.specs.LatticeTables.{lattice_values_of, is_block_on_worklist};
 
-use crate::delays::Delays;
-use crate::demands::{Demand, Slate, ask_entries, demands, meet_all};
-use crate::edges::FeasibleEdges;
-use crate::facts::Tables;
-use crate::inside::{all_blocks, block_numbers, value_numbers};
-use crate::named::Candidate;
+use crate::constraints::{Constraint, Scratch, constrain_entries, constraints_of, satisfy_all};
+use crate::deferred::DeferredOperations;
+use crate::feasible_edges::FeasibleEdges;
+use crate::inside::{all_blocks, block_numbers, count_values, value_numbers};
+use crate::lattice_tables::Tables;
+use crate::reactions::{FEW_OPERANDS, add_uses};
+use crate::rewrite::{Found, all_arguments, all_folds};
 use indexmap::IndexSet;
-use pliron_core::{BasicBlock, Context, Operation, Ptr, Value};
+use pliron_core::{BasicBlock, Context, Operation, Ptr};
 use pliron_laws::{Dialect, Interface, OptError};
 use pliron_theory::HasFolding;
 use std::alloc::Global;
 use std::collections::HashSet;
 
-/// Nothing is known yet of the values inside the root, no block is reached, and nothing waits.
-fn unsearched(alloc: Global, root: Ptr<Operation>, ctx: &Context) -> Result<Tables, OptError>
+/// Nothing is known yet of the values inside the root, no block is executable, and the worklists are empty.
+fn initial_tables(alloc: Global, root: Ptr<Operation>, ctx: &Context) -> Result<Tables, OptError>
     requires { IsLive ctx.now.tree root }
     ensures ok { IfOk result (λ tables. IsUnsearched ctx.now.tree root tables) }
     ensures memory { IsOkUnless result OptError.Memory }
@@ -60,367 +60,60 @@ fn unsearched(alloc: Global, root: Ptr<Operation>, ctx: &Context) -> Result<Tabl
     ctx.well_formed();
     let blocks = all_blocks(alloc, root, ctx)?;
     let numbered = block_numbers(alloc, &blocks)?;
-    let values = value_numbers(alloc, &blocks, ctx)?;
+    let values = value_numbers(alloc, root, count_values(&blocks, ctx), ctx)?;
     Tables::over(alloc, numbered, values)
 }
 
-/// The entries of the root's regions are reached and wait, their arguments are not constants, and
-/// nothing is known of all other values inside the root.
-///
-/// Asks that the root stands. Errors: want of memory. Cost: one step for each operation, block, region
-/// and value inside it.
+/// The entries of the root's regions are executable and on the worklist, their arguments are not constants, and
+/// nothing is known of all other values inside the root. Asks that the root is live. Errors: allocation failure.
+/// Cost: one step for each operation, block, region and value inside it.
 pub fn start(alloc: Global, root: Ptr<Operation>, ctx: &Context) -> Result<Tables, OptError>
     requires { IsLive ctx.now.tree root }
     ensures ok { IfOk result (λ tables. IsStarted ctx.now.tree root tables) }
     ensures memory { IsOkUnless result OptError.Memory }
 {
     ctx.well_formed();
-    let mut tables = unsearched(alloc, root, ctx)?;
-    let mut asked = Vec::new(alloc);
-    ask_entries(root, ctx, &mut asked)?;
-    meet_all(&mut asked, &mut tables);
+    let mut tables = initial_tables(alloc, root, ctx)?;
+    let mut constraints = Vec::new(alloc);
+    constrain_entries(root, ctx, &mut constraints)?;
+    satisfy_all(&mut constraints, &mut tables);
     Ok(tables)
 }
 
-/// Whether the operation stands in a block that is reached and was looked at.
-#[inline(always)]
-fn is_visited(op: Ptr<Operation>, ctx: &Context, tables: &Tables) -> bool
-    requires { IsLive ctx.now.tree op }
-    ensures { IsTrue result ↔ IsLookedAt ctx.now.tree tables.now op }
-{
-    match op.get_parent_block(ctx) {
-        Some(block) => tables.reaches(block) && !tables.waits(block),
-        None => false,
-    }
-}
-
-/// What is to be done where an operand of an operation fell.
-pub enum Call {
-    /// The operation asks the same whatever is known of the operand.
-    Pass,
-    /// It is looked at again.
-    Look,
-    /// It asks the same but for one argument: the edge, and the argument's place there.
-    Ask(usize, usize),
-}
-
-/// Whether what the operation asks may hang on all its operands: it folds, or folds as a branch, or names
-/// operands for the entries of its regions.
-fn reads_all<D: Dialect>(op: Ptr<Operation>, ctx: &Context) -> bool
-    requires { IsLive ctx.now.tree op }
-    ensures { ReadsHead (λ h. either (D.can_fold h) (either (D.can_fold_branch h) (D.has_interface h RegionBranch))) ctx.now.tree op result }
-{
-    D::folds(op, ctx) || D::folds_branch(op, ctx) || D::implements(op, ctx, Interface::RegionBranch)
-}
-
-/// What is to be done where the operand at this place fell. Cost: that of a few tests of the dialect.
-fn call_for<D: Dialect>(op: Ptr<Operation>, place: usize, ctx: &Context) -> Call
-    requires { IsLive ctx.now.tree op }
-    ensures { IsCallFor ⟦<D as HasFolding>⟧.folding ctx.now.tree op place result }
-{
-    if reads_all::<D>(op, ctx) {
-        return Call::Look;
-    }
-    if !D::is_branch(op, ctx) {
-        return Call::Pass;
-    }
-    match D::forwarded_from(op, ctx, place) {
-        Some((edge, index)) => Call::Ask(edge, index),
-        None => Call::Look,
-    }
-}
-
-/// The argument at this place of the edge, if it has one, is at or below the fact of the value.
-fn ask_argument(
-    op: Ptr<Operation>,
-    edge: usize,
-    index: usize,
-    value: Value,
-    ctx: &Context,
-    tables: &Tables,
-    asked: &mut Vec<Demand>,
-) -> Result<(), OptError>
-    requires live { IsLive ctx.now.tree op }
-    requires edge { edge < length (successors_of ctx.now.tree op) }
-    ensures ok { OnOk result (Adds (known_constants tables.now) asked.old.items asked.new.items (λ now. (b a : ℕ) →
-        slice_get (successors_of ctx.now.tree op) edge ≡ Some b → slice_get (arguments_of ctx.now.tree b) index ≡ Some a →
-        AtMost (now.fact a) (fact_in tables.now value))) }
-    ensures memory { IsOkUnless result OptError.Memory }
-{
-    let block = op.get_successor(ctx, edge);
-    if index < block.num_argument(ctx) {
-        let cell = tables.cell(value);
-        asked.push(Demand::Lower(block.get_argument(ctx, index), cell))?;
-    }
-    Ok(())
-}
-
-/// How many operands are few. What has more is put aside, and looked at where nothing else waits.
-const FEW_OPERANDS: usize = 8;
-
-/// Whether the block is reached, and kept as one that the operation may go to.
-fn is_open(
-    op: Ptr<Operation>,
-    block: Ptr<BasicBlock>,
-    tables: &Tables,
-    edges: &FeasibleEdges,
-) -> bool
-    ensures { IsTrue result → (reaches tables.now block ≡ true) × (leads edges.now op block ≡ true) }
-{
-    tables.reaches(block) && edges.leads(op, block)
-}
-
-/// The argument of an entry that is listed so, if it is there and the operation names this place for it.
-fn named_argument<D: Dialect>(
-    op: Ptr<Operation>,
-    place: usize,
-    candidate: Candidate,
-    ctx: &Context,
-) -> Option<Value>
-    requires { IsLive ctx.now.tree op }
-    ensures { IfSome result (λ a. (o : OperationOf) → op_at ctx.now.tree op ≡ Some o → IsNamed ⟦<D as HasFolding>⟧.folding ctx.now.tree o place a) }
-{
-    let Candidate { region, index, .. } = candidate;
-    if region >= op.num_region(ctx) {
-        return None;
-    }
-    let entry = op.get_region(ctx, region).get_head(ctx)?;
-    if index >= entry.num_argument(ctx) {
-        return None;
-    }
-    match D::entry_operand(op, ctx, region, index) {
-        Some(named) if named == place => Some(entry.get_argument(ctx, index)),
-        _ => None,
-    }
-}
-
-/// Asks the argument that is listed so, if the operation names this place for it.
-fn ask_candidate<D: Dialect>(
-    op: Ptr<Operation>,
-    place: usize,
-    candidate: Candidate,
-    value: Value,
-    ctx: &Context,
-    tables: &Tables,
-    asked: &mut Vec<Demand>,
-) -> Result<(), OptError>
-    requires { IsLive ctx.now.tree op }
-    ensures ok { OnOk result ((edges : FeasibleEdges) → AsksAhead ⟦<D as HasFolding>⟧.folding ctx.now.tree tables.now edges op place value asked.old.items asked.new.items) }
-    ensures memory { IsOkUnless result OptError.Memory }
-{
-    let Some(argument) = named_argument::<D>(op, place, candidate, ctx) else {
-        return Ok(());
-    };
-    let cell = tables.cell(value);
-    asked.push(Demand::Lower(argument, cell))?;
-    Ok(())
-}
-
-/// Asks the arguments for which an operation with many operands names this place, if it was looked at more than a few times.
-fn ask_named_ahead<D: Dialect>(
-    op: Ptr<Operation>,
-    place: usize,
-    value: Value,
-    ctx: &Context,
-    tables: &Tables,
-    edges: &FeasibleEdges,
-    asked: &mut Vec<Demand>,
-) -> Result<(), OptError>
-    requires { IsLive ctx.now.tree op }
-    ensures ok { OnOk result (AsksAhead ⟦<D as HasFolding>⟧.folding ctx.now.tree tables.now edges.now op place value asked.old.items asked.new.items) }
-    ensures memory { IsOkUnless result OptError.Memory }
-{
-    let Some(candidates) = edges.named(op) else {
-        return Ok(());
-    };
-    let mut count = candidates.last(place);
-    while let Some(candidate) = candidates.get(count) {
-        ask_candidate::<D>(op, place, candidate, value, ctx, tables, asked)?;
-        count = candidate.before;
-    }
-    Ok(())
-}
-
-/// Asks the one argument to which a branch forwards the value from this place, if the edge was found feasible.
-fn ask_forwarded_ahead<D: Dialect>(
-    op: Ptr<Operation>,
-    place: usize,
-    value: Value,
-    ctx: &Context,
-    tables: &Tables,
-    edges: &FeasibleEdges,
-    asked: &mut Vec<Demand>,
-) -> Result<(), OptError>
-    requires { IsLive ctx.now.tree op }
-    ensures ok { OnOk result (AsksAhead ⟦<D as HasFolding>⟧.folding ctx.now.tree tables.now edges.now op place value asked.old.items asked.new.items) }
-    ensures memory { IsOkUnless result OptError.Memory }
-{
-    if !D::is_branch(op, ctx) {
-        return Ok(());
-    }
-    let Some((edge, index)) = D::forwarded_from(op, ctx, place) else {
-        return Ok(());
-    };
-    if is_open(op, op.get_successor(ctx, edge), tables, edges) {
-        ask_argument(op, edge, index, value, ctx, tables, asked)
-    } else {
-        Ok(())
-    }
-}
-
-/// Asks at once what an operation with many operands hands on from this place: so a look at its other operands may
-/// wait until all of them fell.
-fn ask_ahead<D: Dialect>(
-    op: Ptr<Operation>,
-    place: usize,
-    value: Value,
-    ctx: &Context,
-    tables: &Tables,
-    edges: &FeasibleEdges,
-    asked: &mut Vec<Demand>,
-) -> Result<(), OptError>
-    requires { IsLive ctx.now.tree op }
-    ensures ok { OnOk result (AsksAhead ⟦<D as HasFolding>⟧.folding ctx.now.tree tables.now edges.now op place value asked.old.items asked.new.items) }
-    ensures memory { IsOkUnless result OptError.Memory }
-{
-    if edges.is_empty() || op.num_operand(ctx) <= FEW_OPERANDS {
-        return Ok(());
-    }
-    ask_named_ahead::<D>(op, place, value, ctx, tables, edges, asked)?;
-    ask_forwarded_ahead::<D>(op, place, value, ctx, tables, edges, asked)
-}
-
-/// Whether the stamps tell that the operation was looked at since the value fell last.
-#[inline(always)]
-fn is_ahead(op: Ptr<Operation>, value: Value, ctx: &Context, tables: &Tables) -> bool
-    requires { IsLive ctx.now.tree op }
-    ensures { IsTrue result → IsBehind ctx.now.tree tables.now op value → ⊥ }
-{
-    op.num_result(ctx) > 0 && tables.fall_stamp(value) < tables.look_stamp(op.get_result(ctx, 0))
-}
-
-/// Whether all that the operation does with the operand at this place was asked at once, so far as is known: then a look
-/// at it may wait until the end. Facts don't hang on it.
-fn is_handed_on<D: Dialect>(
-    op: Ptr<Operation>,
-    place: usize,
-    ctx: &Context,
-    edges: &FeasibleEdges,
-) -> bool
-    requires { IsLive ctx.now.tree op }
-{
-    if !edges.is_asked_ahead(op) || D::folds(op, ctx) {
-        return false;
-    }
-    !D::is_branch(op, ctx) || D::forwarded_from(op, ctx, place).is_some()
-}
-
-/// Notes an operation with many operands that is to be looked at before those whose operands were handed on at once.
-fn note_urgent<D: Dialect>(
-    op: Ptr<Operation>,
-    place: usize,
-    ctx: &Context,
-    edges: &FeasibleEdges,
-    urgent: &mut HashSet<u64>,
-) -> Result<(), OptError>
-    requires { IsLive ctx.now.tree op }
-    ensures memory { IsOkUnless result OptError.Memory }
-{
-    if op.num_operand(ctx) > FEW_OPERANDS && !is_handed_on::<D>(op, place, ctx, edges) {
-        urgent.insert(op.key())?;
-    }
-    Ok(())
-}
-
-/// Sees to one use of a value that fell, where was looked, and not since the fall.
-#[inline(always)]
-fn add_use<D: Dialect>(
-    op: Ptr<Operation>,
-    place: usize,
-    value: Value,
-    ctx: &Context,
-    tables: &Tables,
-    edges: &FeasibleEdges,
-    users: &mut IndexSet<Ptr<Operation>>,
-    urgent: &mut HashSet<u64>,
-    asked: &mut Vec<Demand>,
-) -> Result<(), OptError>
-    requires { IsLive ctx.now.tree op }
-    ensures ok { OnOk result (SeesTo ⟦<D as HasFolding>⟧.folding ctx.now.tree tables.now edges.now value (λ k p. (k ≡ op) × (p ≡ place))
-        users.old.keys asked.old.items users.new.keys asked.new.items) }
-    ensures memory { IsOkUnless result OptError.Memory }
-{
-    if is_ahead(op, value, ctx, tables) {
-        return Ok(());
-    }
-    if !is_visited(op, ctx, tables) {
-        return Ok(());
-    }
-    match call_for::<D>(op, place, ctx) {
-        Call::Pass => Ok(()),
-        Call::Look => {
-            users.insert(op)?;
-            note_urgent::<D>(op, place, ctx, edges, urgent)?;
-            ask_ahead::<D>(op, place, value, ctx, tables, edges, asked)
-        }
-        Call::Ask(edge, index) => ask_argument(op, edge, index, value, ctx, tables, asked),
-    }
-}
-
-/// Sees to the uses of the value that stand where was looked.
-fn add_uses<D: Dialect>(
-    value: Value,
-    ctx: &Context,
-    tables: &Tables,
-    edges: &FeasibleEdges,
-    users: &mut IndexSet<Ptr<Operation>>,
-    urgent: &mut HashSet<u64>,
-    asked: &mut Vec<Demand>,
-) -> Result<(), OptError>
-    ensures ok { OnOk result (SeesTo ⟦<D as HasFolding>⟧.folding ctx.now.tree tables.now edges.now value (IsUseOf ctx.now.tree value)
-        users.old.keys asked.old.items users.new.keys asked.new.items) }
-    ensures memory { IsOkUnless result OptError.Memory }
-{
-    ctx.well_formed();
-    if !value.is_live(ctx) {
-        return Ok(());
-    }
-    for i in 0..value.num_use(ctx) {
-        let (user, place) = value.get_use(ctx, i);
-        add_use::<D>(user, place, value, ctx, tables, edges, users, urgent, asked)?;
-    }
-    Ok(())
-}
-
-/// Takes all values that wait, one by one. The users that are to be looked at again, each once, what others
-/// ask for one argument each, and how many values were taken. Of users in other blocks nothing is asked: a
-/// block that waits is still to be looked through, and in one that is not reached nothing is asked.
-///
-/// Most precise facts need this rule: an operation that is looked at before its block was could read a
-/// value of which nothing is known yet.
-///
-/// Errors: want of memory. Cost: one step for each value and for each use of it.
+/// Pops all values off the worklist, one by one. Answers the users that are to be visited again, each once, the
+/// constraints of others on one argument each, and how many values were popped. Users in other blocks put no
+/// constraint: a block on the worklist is still to be visited, and one that is not executable puts none. The most
+/// precise lattice values need this rule: an operation that is visited before its block was could read a value of
+/// which nothing is known yet. Errors: allocation failure. Cost: one step for each value and for each use of it.
 fn take_values<D: Dialect>(
     alloc: Global,
     ctx: &Context,
     tables: &mut Tables,
     edges: &FeasibleEdges,
     urgent: &mut HashSet<u64>,
-) -> Result<(IndexSet<Ptr<Operation>>, Vec<Demand>, u128), OptError>
-    ensures ok { IfOk result (λ r. TakesUsers ⟦<D as HasFolding>⟧.folding ctx.now.tree edges.now r.0.keys r.1.items tables.old tables.new r.2) }
+) -> Result<(IndexSet<Ptr<Operation>>, Vec<Constraint>, u128), OptError>
+    ensures ok { IfOk result (λ r. PopsUsers ⟦<D as HasFolding>⟧.folding ctx.now.tree edges.now r.0.keys r.1.items tables.old tables.new r.2) }
     ensures memory { IsOkUnless result OptError.Memory }
 {
     let mut users = IndexSet::new(alloc);
-    let mut asked = Vec::new(alloc);
+    let mut constraints = Vec::new(alloc);
     let mut taken: u128 = 0;
-    while let Some(value) = tables.next_value() {
+    while let Some(value) = tables.pop_value() {
         taken += 1;
-        add_uses::<D>(value, ctx, tables, edges, &mut users, urgent, &mut asked)?;
+        add_uses::<D>(
+            value,
+            ctx,
+            tables,
+            edges,
+            &mut users,
+            urgent,
+            &mut constraints,
+        )?;
     }
-    Ok((users, asked, taken))
+    Ok((users, constraints, taken))
 }
 
-/// The look at the operation gets its stamp, kept with its first result, if it has one.
+/// The visit of the operation gets its stamp, kept with its first result, if it has one.
 #[inline(always)]
 fn stamp(op: Ptr<Operation>, ctx: &Context, tables: &mut Tables)
     requires { IsLive ctx.now.tree op }
@@ -428,60 +121,58 @@ fn stamp(op: Ptr<Operation>, ctx: &Context, tables: &mut Tables)
 {
     ctx.well_formed();
     if op.num_result(ctx) > 0 {
-        tables.stamp_look(op.get_result(ctx, 0));
+        tables.stamp_visit(op.get_result(ctx, 0));
     }
 }
 
-/// Meets what the operation asks of the facts so far, and does nothing else. Where it folds as a branch, tells the
-/// blocks that it may go to.
-///
-/// Asks that it stands, that the blocks which it may enter have numbers, that those noted on the slate are entered, which
-/// holds again afterwards, and for a place that is empty. Errors: want of memory. Cost: that of what it asks.
+/// Satisfies the constraints of the operation under the lattice values so far, and does nothing else. Where it folds
+/// as a branch, reports the blocks that it may go to. Asks that it is live, that the blocks which it may enter have
+/// numbers, that those recorded in the scratch set are entered, which holds again afterwards, and for a place that
+/// is empty. Errors: allocation failure. Cost: that of its constraints.
 #[inline(always)]
-fn look<D: Dialect>(
+fn visit_operation<D: Dialect>(
     alloc: Global,
     op: Ptr<Operation>,
     ctx: &Context,
     tables: &mut Tables,
-    slate: &mut Slate,
+    scratch: &mut Scratch,
     feasible: &mut Option<HashSet<u64>>,
 ) -> Result<(), OptError>
     requires live { IsLive ctx.now.tree op }
     requires targets { HasNumberedTargets ctx.now.tree tables.old op }
     requires none { feasible.old ≡ None }
-    requires entered { AreEntered ctx.now.tree (facts_of tables.old) slate.old.entered }
-    ensures ok { OnOk result (LooksAt ⟦<D as HasFolding>⟧.folding ctx.now.tree op tables.old tables.new) }
-    ensures feasible { OnOk result (AreFound ⟦<D as HasFolding>⟧.folding ctx.now.tree (facts_of tables.old) op feasible.new) }
-    ensures entered { OnOk result (AreEntered ctx.now.tree (facts_of tables.new) slate.new.entered) }
+    requires entered { AreEntriesExecutable ctx.now.tree (lattice_values_of tables.old) scratch.old.entered }
+    ensures ok { OnOk result (VisitsOperation ⟦<D as HasFolding>⟧.folding ctx.now.tree op tables.old tables.new) }
+    ensures feasible { OnOk result (AreFound ⟦<D as HasFolding>⟧.folding ctx.now.tree (lattice_values_of tables.old) op feasible.new) }
+    ensures entered { OnOk result (AreEntriesExecutable ctx.now.tree (lattice_values_of tables.new) scratch.new.entered) }
     ensures memory { IsOkUnless result OptError.Memory }
 {
-    demands::<D>(alloc, op, ctx, tables, slate, feasible)?;
+    constraints_of::<D>(alloc, op, ctx, tables, scratch, feasible)?;
     stamp(op, ctx, tables);
-    meet_all(&mut slate.asked, tables);
+    satisfy_all(&mut scratch.constraints, tables);
     Ok(())
 }
 
-/// Meets what the operation asks of the facts so far, and does nothing else.
-///
-/// Asks that it stands, that the blocks which it may enter have numbers, and that those noted on the slate are entered, which
-/// holds again afterwards. Errors: want of memory. Cost: that of what it asks.
+/// Satisfies the constraints of the operation under the lattice values so far, and does nothing else. Asks that it
+/// is live, that the blocks which it may enter have numbers, and that those recorded in the scratch set are entered,
+/// which holds again afterwards. Errors: allocation failure. Cost: that of its constraints.
 #[inline(always)]
-fn look_at<D: Dialect>(
+fn visit_with_scratch<D: Dialect>(
     alloc: Global,
     op: Ptr<Operation>,
     ctx: &Context,
     tables: &mut Tables,
-    slate: &mut Slate,
+    scratch: &mut Scratch,
 ) -> Result<(), OptError>
     requires live { IsLive ctx.now.tree op }
     requires targets { HasNumberedTargets ctx.now.tree tables.old op }
-    requires entered { AreEntered ctx.now.tree (facts_of tables.old) slate.old.entered }
-    ensures ok { OnOk result (LooksAt ⟦<D as HasFolding>⟧.folding ctx.now.tree op tables.old tables.new) }
-    ensures entered { OnOk result (AreEntered ctx.now.tree (facts_of tables.new) slate.new.entered) }
+    requires entered { AreEntriesExecutable ctx.now.tree (lattice_values_of tables.old) scratch.old.entered }
+    ensures ok { OnOk result (VisitsOperation ⟦<D as HasFolding>⟧.folding ctx.now.tree op tables.old tables.new) }
+    ensures entered { OnOk result (AreEntriesExecutable ctx.now.tree (lattice_values_of tables.new) scratch.new.entered) }
     ensures memory { IsOkUnless result OptError.Memory }
 {
     let mut feasible = None;
-    look::<D>(alloc, op, ctx, tables, slate, &mut feasible)
+    visit_operation::<D>(alloc, op, ctx, tables, scratch, &mut feasible)
 }
 
 /// Keeps these blocks, if the operation has many operands.
@@ -505,8 +196,8 @@ fn keep_feasible(
     }
 }
 
-/// Lists the arguments that the operation names operands for, if it has many operands and was looked at more than a few
-/// times.
+/// Lists the arguments that the operation names operands for, if it has many operands and was visited more than a
+/// few times.
 fn keep_candidates<D: Dialect>(
     alloc: Global,
     op: Ptr<Operation>,
@@ -524,205 +215,206 @@ fn keep_candidates<D: Dialect>(
     }
 }
 
-/// Looks at the operation, and if it has many operands keeps the blocks that it may go to, where it folds as a branch,
-/// and lists the arguments that it names operands for.
-///
-/// Asks what `look_at` asks. Errors: want of memory. Cost: that of what it asks.
-fn look_and_keep<D: Dialect>(
+/// Visits the operation, and if it has many operands keeps the blocks that it may go to, where it folds as a branch,
+/// and lists the arguments that it names operands for. Asks what `visit_with_scratch` asks. Errors: allocation
+/// failure. Cost: that of its constraints.
+fn visit_and_keep<D: Dialect>(
     alloc: Global,
     op: Ptr<Operation>,
     ctx: &Context,
     tables: &mut Tables,
     edges: &mut FeasibleEdges,
-    slate: &mut Slate,
+    scratch: &mut Scratch,
 ) -> Result<(), OptError>
     requires live { IsLive ctx.now.tree op }
     requires targets { HasNumberedTargets ctx.now.tree tables.old op }
-    requires entered { AreEntered ctx.now.tree (facts_of tables.old) slate.old.entered }
-    ensures looks { OnOk result (LooksAt ⟦<D as HasFolding>⟧.folding ctx.now.tree op tables.old tables.new) }
-    ensures keeps { OnOk result (KeepsFeasible ⟦<D as HasFolding>⟧.folding ctx.now.tree (facts_of tables.old) op edges.old edges.new) }
-    ensures entered { OnOk result (AreEntered ctx.now.tree (facts_of tables.new) slate.new.entered) }
+    requires entered { AreEntriesExecutable ctx.now.tree (lattice_values_of tables.old) scratch.old.entered }
+    ensures visit_stamps { OnOk result (VisitsOperation ⟦<D as HasFolding>⟧.folding ctx.now.tree op tables.old tables.new) }
+    ensures keeps { OnOk result (KeepsFeasible ⟦<D as HasFolding>⟧.folding ctx.now.tree (lattice_values_of tables.old) op edges.old edges.new) }
+    ensures entered { OnOk result (AreEntriesExecutable ctx.now.tree (lattice_values_of tables.new) scratch.new.entered) }
     ensures memory { IsOkUnless result OptError.Memory }
 {
     let mut feasible = None;
-    look::<D>(alloc, op, ctx, tables, slate, &mut feasible)?;
+    visit_operation::<D>(alloc, op, ctx, tables, scratch, &mut feasible)?;
     keep_candidates::<D>(alloc, op, ctx, edges)?;
     keep_feasible(op, feasible, ctx, edges)
 }
 
-/// Looks at the operation, or puts it aside where it has more than a few operands.
-///
-/// Asks what `look_at` asks. Errors: want of memory. Cost: that of what it asks, or constant.
-fn see_to<D: Dialect>(
+/// Visits the operation, or defers it where it has more than a few operands. Asks what `visit_with_scratch` asks.
+/// Errors: allocation failure. Cost: that of its constraints, or constant.
+fn visit_or_defer<D: Dialect>(
     alloc: Global,
     op: Ptr<Operation>,
     urgent: &HashSet<u64>,
     ctx: &Context,
     tables: &mut Tables,
-    delays: &mut Delays,
-    slate: &mut Slate,
+    delays: &mut DeferredOperations,
+    scratch: &mut Scratch,
 ) -> Result<(), OptError>
     requires live { IsLive ctx.now.tree op }
     requires targets { HasNumberedTargets ctx.now.tree tables.old op }
-    requires entered { AreEntered ctx.now.tree (facts_of tables.old) slate.old.entered }
-    ensures ok { OnOk result (IsSeenTo ⟦<D as HasFolding>⟧.folding ctx.now.tree op tables.old tables.new delays.old delays.new) }
-    ensures entered { OnOk result (AreEntered ctx.now.tree (facts_of tables.new) slate.new.entered) }
+    requires entered { AreEntriesExecutable ctx.now.tree (lattice_values_of tables.old) scratch.old.entered }
+    ensures ok { OnOk result (IsVisitedOrDeferred ⟦<D as HasFolding>⟧.folding ctx.now.tree op tables.old tables.new delays.old delays.new) }
+    ensures entered { OnOk result (AreEntriesExecutable ctx.now.tree (lattice_values_of tables.new) scratch.new.entered) }
     ensures memory { IsOkUnless result OptError.Memory }
 {
     let operands = op.num_operand(ctx);
     if operands > FEW_OPERANDS {
         delays.put(alloc, op, operands, urgent.contains(&op.key()))
     } else {
-        look_at::<D>(alloc, op, ctx, tables, slate)
+        visit_with_scratch::<D>(alloc, op, ctx, tables, scratch)
     }
 }
 
-/// Looks at these operations, one after the other, but puts aside what has more than a few operands.
-///
-/// Asks what `look_at` asks, of each. Errors: want of memory. Cost: that of what they ask.
-fn see_to_all<D: Dialect>(
+/// Visits these operations, one after the other, but defers what has more than a few operands. Asks what
+/// `visit_with_scratch` asks, of each. Errors: allocation failure. Cost: that of their constraints.
+fn visit_or_defer_all<D: Dialect>(
     alloc: Global,
     ops: &[Ptr<Operation>],
     urgent: &HashSet<u64>,
     ctx: &Context,
     tables: &mut Tables,
-    delays: &mut Delays,
-    slate: &mut Slate,
+    delays: &mut DeferredOperations,
+    scratch: &mut Scratch,
 ) -> Result<(), OptError>
     requires live { (k : ℕ) → In k ops.now → IsLive ctx.now.tree k }
     requires targets { (k : ℕ) → In k ops.now → HasNumberedTargets ctx.now.tree tables.old k }
-    requires entered { AreEntered ctx.now.tree (facts_of tables.old) slate.old.entered }
-    ensures ok { OnOk result (SeesToAll ⟦<D as HasFolding>⟧.folding ctx.now.tree ops.now tables.old tables.new delays.old delays.new) }
-    ensures entered { OnOk result (AreEntered ctx.now.tree (facts_of tables.new) slate.new.entered) }
+    requires entered { AreEntriesExecutable ctx.now.tree (lattice_values_of tables.old) scratch.old.entered }
+    ensures ok { OnOk result (VisitsOrDefersAll ⟦<D as HasFolding>⟧.folding ctx.now.tree ops.now tables.old tables.new delays.old delays.new) }
+    ensures entered { OnOk result (AreEntriesExecutable ctx.now.tree (lattice_values_of tables.new) scratch.new.entered) }
     ensures memory { IsOkUnless result OptError.Memory }
 {
     for i in 0..ops.len() {
-        see_to::<D>(alloc, ops[i], urgent, ctx, tables, delays, slate)?;
+        visit_or_defer::<D>(alloc, ops[i], urgent, ctx, tables, delays, scratch)?;
     }
     Ok(())
 }
 
-/// Looks at the operations of the block, in order.
-///
-/// Asks that the block stands, that the blocks which these may enter have numbers, and that those noted on the slate are
-/// entered. Errors: want of memory. Cost: that of what they ask.
+/// Visits the operations of the block, in order. Asks that the block is live, that the blocks which these may enter
+/// have numbers, and that those recorded in the scratch set are entered. Errors: allocation failure. Cost: that of
+/// their constraints.
 fn visit_block<D: Dialect>(
     alloc: Global,
     block: Ptr<BasicBlock>,
     ctx: &Context,
     tables: &mut Tables,
     edges: &mut FeasibleEdges,
-    slate: &mut Slate,
+    scratch: &mut Scratch,
 ) -> Result<(), OptError>
     requires block { IsBlock ctx.now.tree block }
     requires targets { (k : ℕ) → In k (body_of ctx.now.tree block) → HasNumberedTargets ctx.now.tree tables.old k }
-    requires entered { AreEntered ctx.now.tree (facts_of tables.old) slate.old.entered }
-    ensures ok { OnOk result (GoesThrough ⟦<D as HasFolding>⟧.folding ctx.now.tree (body_of ctx.now.tree block) tables.old tables.new edges.old edges.new) }
-    ensures entered { OnOk result (AreEntered ctx.now.tree (facts_of tables.new) slate.new.entered) }
+    requires entered { AreEntriesExecutable ctx.now.tree (lattice_values_of tables.old) scratch.old.entered }
+    ensures ok { OnOk result (VisitsInTurnAndKeeps ⟦<D as HasFolding>⟧.folding ctx.now.tree (body_of ctx.now.tree block) tables.old tables.new edges.old edges.new) }
+    ensures entered { OnOk result (AreEntriesExecutable ctx.now.tree (lattice_values_of tables.new) scratch.new.entered) }
     ensures memory { IsOkUnless result OptError.Memory }
 {
     ctx.well_formed();
     let mut at = block.get_head(ctx);
     while let Some(op) = at {
-        look_and_keep::<D>(alloc, op, ctx, tables, edges, slate)?;
+        visit_and_keep::<D>(alloc, op, ctx, tables, edges, scratch)?;
         at = op.get_next(ctx);
     }
     Ok(())
 }
 
-/// Takes all values that wait, meets what they call for at once, and looks at their other users or puts them
-/// aside; how many values these were.
+/// Pops all values off the worklist, satisfies the constraints that are propagated eagerly, and visits their other
+/// users or defers them. Answers how many values these were.
 fn visit_values<D: Dialect>(
     alloc: Global,
     ctx: &Context,
     tables: &mut Tables,
-    delays: &mut Delays,
+    delays: &mut DeferredOperations,
     edges: &FeasibleEdges,
-    slate: &mut Slate,
+    scratch: &mut Scratch,
 ) -> Result<u128, OptError>
     requires targets { AreTargetsNumbered ctx.now.tree tables.old }
-    requires entered { AreEntered ctx.now.tree (facts_of tables.old) slate.old.entered }
+    requires entered { AreEntriesExecutable ctx.now.tree (lattice_values_of tables.old) scratch.old.entered }
     ensures ok { IfOk result (λ taken. VisitsValues ⟦<D as HasFolding>⟧.folding ctx.now.tree edges.now tables.old tables.new delays.old delays.new taken) }
-    ensures entered { OnOk result (AreEntered ctx.now.tree (facts_of tables.new) slate.new.entered) }
+    ensures entered { OnOk result (AreEntriesExecutable ctx.now.tree (lattice_values_of tables.new) scratch.new.entered) }
     ensures memory { IsOkUnless result OptError.Memory }
 {
     ctx.well_formed();
     let mut urgent = HashSet::new(alloc);
-    let (users, mut asked, taken) = take_values::<D>(alloc, ctx, tables, edges, &mut urgent)?;
-    meet_all(&mut asked, tables);
-    see_to_all::<D>(alloc, users.as_slice(), &urgent, ctx, tables, delays, slate)?;
+    let (users, mut constraints, taken) = take_values::<D>(alloc, ctx, tables, edges, &mut urgent)?;
+    satisfy_all(&mut constraints, tables);
+    visit_or_defer_all::<D>(
+        alloc,
+        users.as_slice(),
+        &urgent,
+        ctx,
+        tables,
+        delays,
+        scratch,
+    )?;
     Ok(taken)
 }
 
-/// Takes a block that waits, and looks through it, or else all values that wait, and looks at their
-/// users or puts them aside; how many were taken, none where nothing waited.
+/// Pops a block off its worklist and visits it, or else pops all values and visits their users or defers them.
+/// Answers how many were popped, none where the worklists were empty.
 fn step<D: Dialect>(
     alloc: Global,
     ctx: &Context,
     tables: &mut Tables,
-    delays: &mut Delays,
+    delays: &mut DeferredOperations,
     edges: &mut FeasibleEdges,
-    slate: &mut Slate,
+    scratch: &mut Scratch,
 ) -> Result<u128, OptError>
-    requires blocks { (b : ℕ) → waits_block tables.old b ≡ true → IsBlock ctx.now.tree b }
+    requires blocks { (b : ℕ) → is_block_on_worklist tables.old b ≡ true → IsBlock ctx.now.tree b }
     requires targets { AreTargetsNumbered ctx.now.tree tables.old }
-    requires entered { AreEntered ctx.now.tree (facts_of tables.old) slate.old.entered }
+    requires entered { AreEntriesExecutable ctx.now.tree (lattice_values_of tables.old) scratch.old.entered }
     ensures ok { IfOk result (λ taken. TakesTurn ⟦<D as HasFolding>⟧.folding ctx.now.tree tables.old tables.new delays.old delays.new edges.old edges.new taken) }
-    ensures entered { OnOk result (AreEntered ctx.now.tree (facts_of tables.new) slate.new.entered) }
+    ensures entered { OnOk result (AreEntriesExecutable ctx.now.tree (lattice_values_of tables.new) scratch.new.entered) }
     ensures memory { IsOkUnless result OptError.Memory }
 {
     ctx.well_formed();
-    match tables.next_block() {
+    match tables.pop_block() {
         Some(block) => {
-            visit_block::<D>(alloc, block, ctx, tables, edges, slate)?;
+            visit_block::<D>(alloc, block, ctx, tables, edges, scratch)?;
             Ok(1)
         }
-        None => visit_values::<D>(alloc, ctx, tables, delays, edges, slate),
+        None => visit_values::<D>(alloc, ctx, tables, delays, edges, scratch),
     }
 }
 
-/// Looks at one operation that was put aside, of those with the fewest operands; whether there was one.
-///
-/// Errors: want of memory. Cost: that of what it asks.
-fn look_aside<D: Dialect>(
+/// Visits one deferred operation, of those with the fewest operands. Answers whether there was one. Errors:
+/// allocation failure. Cost: that of its constraints.
+fn visit_deferred<D: Dialect>(
     alloc: Global,
     ctx: &Context,
     tables: &mut Tables,
-    delays: &mut Delays,
+    delays: &mut DeferredOperations,
     edges: &mut FeasibleEdges,
-    slate: &mut Slate,
+    scratch: &mut Scratch,
 ) -> Result<bool, OptError>
-    requires placed { (k : ℕ) → In k (delayed delays.old) → IsLookedAt ctx.now.tree tables.old k }
+    requires placed { (k : ℕ) → In k (deferred_operations delays.old) → WasVisited ctx.now.tree tables.old k }
     requires targets { AreTargetsNumbered ctx.now.tree tables.old }
-    requires entered { AreEntered ctx.now.tree (facts_of tables.old) slate.old.entered }
-    ensures ok { IfOk result (λ looked. LooksAside ⟦<D as HasFolding>⟧.folding ctx.now.tree tables.old tables.new delays.old delays.new edges.old edges.new looked) }
-    ensures entered { OnOk result (AreEntered ctx.now.tree (facts_of tables.new) slate.new.entered) }
+    requires entered { AreEntriesExecutable ctx.now.tree (lattice_values_of tables.old) scratch.old.entered }
+    ensures ok { IfOk result (λ looked. VisitsDeferred ⟦<D as HasFolding>⟧.folding ctx.now.tree tables.old tables.new delays.old delays.new edges.old edges.new looked) }
+    ensures entered { OnOk result (AreEntriesExecutable ctx.now.tree (lattice_values_of tables.new) scratch.new.entered) }
     ensures memory { IsOkUnless result OptError.Memory }
 {
     ctx.well_formed();
     match delays.take() {
         Some(op) => {
-            look_and_keep::<D>(alloc, op, ctx, tables, edges, slate)?;
+            visit_and_keep::<D>(alloc, op, ctx, tables, edges, scratch)?;
             Ok(true)
         }
         None => Ok(false),
     }
 }
 
-/// What was found: the facts, and how many blocks and values were taken from the worklists, each as
-/// often as it was.
+/// What was found: the lattice values, and how many blocks and values were popped off the worklists, each as often
+/// as it was.
 #[derive(Drop)]
 pub struct Searched {
     pub tables: Tables,
     pub pops: u128,
 }
 
-/// The facts about what is inside the root.
-///
-/// Asks that the root stands and is well linked. Errors: want of memory. Cost: one step for each operation,
-/// block, region and value inside the root, and what looking at an operation costs once for its block and
-/// once for each time when operands of it fell. Where operations that are no branches go to one block of more than a few
-/// arguments, these are gone through once for all of them.
+/// The lattice values of what is inside the root. Asks that the root is live and is well linked. Errors: allocation
+/// failure. Cost: one step for each operation, block, region and value inside the root, and the cost of a visit once
+/// for the operation's block and once for each time when operands of it were lowered. Where operations that are no
+/// branches lead to one block of more than a few arguments, these are constrained once for all of them.
 pub fn search<D: Dialect>(
     alloc: Global,
     root: Ptr<Operation>,
@@ -735,16 +427,50 @@ pub fn search<D: Dialect>(
 {
     ctx.well_formed();
     let mut tables = start(alloc, root, ctx)?;
-    let mut delays = Delays::new(alloc);
+    let mut delays = DeferredOperations::new(alloc);
     let mut edges = FeasibleEdges::new(alloc);
-    let mut slate = Slate::new(alloc);
+    let mut scratch = Scratch::new(alloc);
     let mut pops: u128 = 0;
     loop {
-        let taken = step::<D>(alloc, ctx, &mut tables, &mut delays, &mut edges, &mut slate)?;
+        let taken = step::<D>(
+            alloc,
+            ctx,
+            &mut tables,
+            &mut delays,
+            &mut edges,
+            &mut scratch,
+        )?;
         if taken > 0 {
             pops += taken;
-        } else if !look_aside::<D>(alloc, ctx, &mut tables, &mut delays, &mut edges, &mut slate)? {
+        } else if !visit_deferred::<D>(
+            alloc,
+            ctx,
+            &mut tables,
+            &mut delays,
+            &mut edges,
+            &mut scratch,
+        )? {
             return Ok(Searched { tables, pops });
         }
     }
+}
+
+/// Finds a fixpoint of lattice values inside the root, and what they say is to be rewritten. Answers also how
+/// often the search popped something off a worklist.
+///
+/// Errors: allocation failure.
+pub(crate) fn find<D: Dialect>(
+    alloc: Global,
+    root: Ptr<Operation>,
+    ctx: &Context,
+) -> Result<(Found, u128), OptError>
+    requires live { IsLive ctx.now.tree root }
+    requires linked { IsWellLinked D.meaning ctx.now.tree root }
+    ensures ok { IfOk result (λ r. HasFound ⟦<D as HasFolding>⟧.folding D.can_fold ctx.now.tree root r.0 r.1) }
+    ensures memory { IsOkUnless result OptError.Memory }
+{
+    let searched = search::<D>(alloc, root, ctx)?;
+    let folds = all_folds::<D>(alloc, root, ctx, &searched.tables)?;
+    let arguments = all_arguments(alloc, root, ctx, &searched.tables)?;
+    Ok((Found { folds, arguments }, searched.pops))
 }

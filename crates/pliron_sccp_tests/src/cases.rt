@@ -1,22 +1,23 @@
 //! Texts, and what constant propagation makes of them.
 //!
 //! A line has `C` before a text that changes and `U` before one that does not; then how many blocks are
-//! reached, how many values made in these are constants and how many are not; then the text before and
+//! executable, how many values defined in these are constants and how many are not; then the text before and
 //! after.
 //!
-//! `ROWS` were worked out by hand. The lines of `HOSTILE` have no counts: uses stand before definitions or use themselves, edges forward too few values or too many, and
-//! blocks end without a terminator. They were worked out by hand, where the order of work decides nothing.
-//! In `ASIDE`, worked out by hand too, an operation has more operands than what is looked at at once: sums of a loop
-//! that fall one after the other and that a branch behind it forwards; branches that come to be feasible only when
-//! their condition falls, one by itself, one after what it forwards fell too, and two of which the shorter one is looked
-//! at first; a loop in which such a branch makes its own operands fall, and one in which two make each other's fall in
-//! turn; one of which the last operand falls that it forwards along an edge which isn't feasible, to a block that is
-//! reached; and a loop that moves the arguments of a `scope` on to its next operands, with three operands, and with ten
-//! of which the last two stay constant: the loop forwards a constant to the ninth, and so what is named for it to the tenth.
-//! In `ENTERED`, by hand as well, what is no branch goes to blocks of nine arguments: two to one of these, and one twice to
-//! one of eight; three edges to a block to which a branch forwarded constants, looked through before the first of them or
-//! after it; one from such a block to itself; and one to a block to which a branch forwards constants later, beside a block
-//! that branches alone enter.
+//! `ROWS` were worked out by hand. The lines of `HOSTILE` have no counts: uses stand before definitions or use
+//! themselves, edges forward too few values or too many, and blocks end without a terminator. They were worked
+//! out by hand, where the order of work decides nothing. In `ASIDE`, worked out by hand too, an operation has
+//! more operands than what is visited at once: sums of a loop that are lowered one after the other and that a
+//! branch behind it forwards; branches that come to be feasible only when their condition is lowered, one by
+//! itself, one after what it forwards was lowered too, and two of which the shorter one is visited first; a
+//! loop in which such a branch lowers its own operands, and one in which two lower each other's in turn; one of
+//! which the last operand is lowered that it forwards along an edge which isn't feasible, to a block that is
+//! reached; and a loop that moves the arguments of a `scope` on to its next operands, with three operands, and
+//! with ten of which the last two stay constant: the loop forwards a constant to the ninth, and so what is
+//! named for it to the tenth. In `ENTERED`, by hand as well, what is no branch leads to blocks of nine
+//! arguments: two to one of these, and one twice to one of eight; three edges to a block to which a branch
+//! forwarded constants, visited before the first of them or after it; one from such a block to itself; and one
+//! to a block to which a branch forwards constants later, beside a block that branches alone enter.
 
 pub static ROWS: &str = "\
 C 1 3 0 func { b0(): a = const 1; b = const 2; c = add a b; ret c } => func { b0(): v0 = const 1; v1 = const 2; v2 = const 3; v3 = add v0 v1; ret v2 }

@@ -1,9 +1,9 @@
-//! How often propagation takes something from a worklist, on the made texts and on those of what is put aside and of
-//! what is entered whole.
+//! How often propagation pops something off a worklist, on the made texts and on those of what is deferred and
+//! of what is entered whole.
 //!
-//! The counts were found by a plain program over facts by name, `docs/benchmarks/plain_counts.py`, which
-//! shares with the crate only the order of work: last in, first out, blocks before values, and these before
-//! what is put aside. Without the last rule it counts 39 on the third text of `ASIDE`.
+//! The counts were found by a plain program over lattice values by name, `docs/benchmarks/plain_counts.py`,
+//! which shares with the crate only the order of work: last in, first out, blocks before values, and these
+//! before what is deferred. Without the last rule it counts 39 on the third text of `ASIDE`.
 use super::cases::{ASIDE, ENTERED};
 use super::random_cases::MADE;
 use pliron_bench::Bench;
@@ -58,7 +58,7 @@ fn count(rt: &impl Abort, alloc: Global, text: &str, count: u64) -> Result<(), F
     count_in(rt, alloc, &mut ctx, text, count)
 }
 
-// Each of these texts is counted as often as the number that stands for it says.
+// Each of these texts is counted as often as the number in its place says.
 fn count_each(rt: &impl Abort, alloc: Global, texts: &str, wanted: &str) -> Result<(), Fail> {
     let mut counts = wanted.split(" ");
     for line in texts.lines() {

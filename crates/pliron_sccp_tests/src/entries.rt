@@ -3,20 +3,20 @@
 //!
 //! A case is the number of the operation that `sccp` is called on and the steps of a tree whose operation 0 is
 //! a root; and after ` => ` what each question reads then, in the order of making, a number where it is a
-//! constant's and `?` elsewhere, and what the root's run tells, the latest first, where `-` is `Empty`. The
+//! constant's and `?` elsewhere, and what the root's run emits, the latest first, where `-` is `Empty`. The
 //! world answers 1, 2, 3 and 4.
-use super::tiny::answered;
-use pliron_cases::cases::{fields, sides};
-use pliron_cases::trees::{Made, make};
+use super::tiny::propagate_operation;
 use pliron_core::{AttrObj, Context, Def, Operation, Ptr, Value};
 use pliron_evaluator::evaluator::{Datum, Sight, evaluate};
 use pliron_evaluator::{Tiny, TinyKind};
+use pliron_test_cases::cases::{fields, sides};
+use pliron_test_cases::trees::{Made, make};
 use std::alloc::Global;
 use std::process::Abort;
 
 const ENOUGH: usize = 200;
 
-/// Constants that fall into regions.
+/// Constants that are forwarded into regions.
 static REGIONS: &str =
     "0 / scope; block 0; const 7 @0; const 5 @0; both @0 v0 v1; block 3 1; block 3 1 1; ask @1 v2; ask @2 v3 => 5 ? / - 5
 0 / scope; block 0; const 7 @0; both @0 v0; block 2 1; block 2 1 1; ask @1 v1; ask @2 v2 => ? ? / - -
@@ -28,7 +28,7 @@ static REGIONS: &str =
 0 / scope; block 0; const 7 @0; both @0 v0 v0; block 2; block 2 1 1; twice @2 v1; block 3 1; ask @3 v2 => ? / - -
 0 / scope; block 0; const 7 @0; scope @0 v0; block 2 1; ask @1 v1 => ? / 7";
 
-/// Entry blocks that are also successors: the world's answers are used up.
+/// Entry blocks that are also successors: the environment's answers are used up.
 static SUCCESSORS: &str =
     "0 / scope; block 0; const 7 @0; twice @0 v0; block 2 1; const 9 @1; ask @1 v1; br @1 b1 v2 => ? / 9 9 9 9 7
 0 / scope; block 0; const 7 @0; twice @0 v0; block 2 1; const 7 @1; ask @1 v1; br @1 b1 v2 => 7 / 7 7 7 7 7
@@ -77,7 +77,12 @@ fn question_operand(ctx: &Context, op: Ptr<Operation>) -> Option<Value> {
 }
 
 // What each question reads.
-fn asked(rt: &impl Abort, alloc: Global, ctx: &Context, operations: &[Ptr<Operation>]) -> String {
+fn entry_answers(
+    rt: &impl Abort,
+    alloc: Global,
+    ctx: &Context,
+    operations: &[Ptr<Operation>],
+) -> String {
     let mut all = String::new(alloc);
     for op in operations {
         let Some(value) = question_operand(ctx, *op) else {
@@ -92,7 +97,7 @@ fn asked(rt: &impl Abort, alloc: Global, ctx: &Context, operations: &[Ptr<Operat
 }
 
 // What is seen of the root's run.
-fn seen(rt: &impl Abort, alloc: Global, ctx: &Context, root: Ptr<Operation>) -> Sight {
+fn sight_of_root(rt: &impl Abort, alloc: Global, ctx: &Context, root: Ptr<Operation>) -> Sight {
     let world = Vec::from_array(
         alloc,
         [
@@ -106,8 +111,8 @@ fn seen(rt: &impl Abort, alloc: Global, ctx: &Context, root: Ptr<Operation>) -> 
     evaluate::<Tiny>(alloc, ctx, root, Vec::new(alloc), world, ENOUGH).expect(rt, "memory")
 }
 
-// What it tells, the latest first.
-fn told(rt: &impl Abort, alloc: Global, sight: &Sight) -> String {
+// What it emits, the latest first.
+fn sight_text(rt: &impl Abort, alloc: Global, sight: &Sight) -> String {
     let effects = match sight {
         Sight::Ended(_, effects) => effects,
         Sight::Trapped(effects) => effects,
@@ -131,11 +136,11 @@ fn case_in(rt: &impl Abort, alloc: Global, ctx: &mut Context, case: &str) {
     make(alloc, ctx, &mut made, steps).expect(rt, "a tree");
     let root = made.operation("0").expect(rt, "a root");
     let called = made.operation(index).expect(rt, "an operation");
-    let before = seen(rt, alloc, ctx, root);
-    answered(rt, alloc, ctx, called);
-    let asked = asked(rt, alloc, ctx, &made.operations);
-    let after = seen(rt, alloc, ctx, root);
-    let told = told(rt, alloc, &before);
+    let before = sight_of_root(rt, alloc, ctx, root);
+    propagate_operation(rt, alloc, ctx, called);
+    let asked = entry_answers(rt, alloc, ctx, &made.operations);
+    let after = sight_of_root(rt, alloc, ctx, root);
+    let told = sight_text(rt, alloc, &before);
     let got = format!(in alloc; "{asked}/{told}").expect(rt, "memory");
     assert_eq!(rt; got.as_str(), want, "{case}");
     assert!(rt; before == after, "{case}");

@@ -8,7 +8,7 @@ ghost use Rattle.pliron_evaluator.specs.TinyLaws.{tiny_counts, tiny_effects, tin
 ghost use Rattle.pliron_evaluator.specs.TinyEntries.{tiny_names, tiny_roots};
 ghost use Rattle.pliron_sccp_tests.specs.Marked.{marked_folds, marked_answers, marked_forwards};
 
-use super::tiny::{block, leads_to, made, made_with, put, reads_argument, reads_result};
+use super::tiny::{block, leads_to, made_with, make_operation, put, reads_argument, reads_result};
 use pliron_core::{AttrObj, BasicBlock, Context, IRStatus, Operation, Ptr, Rewriter, Value};
 use pliron_evaluator::{Tiny, TinyKind};
 use pliron_laws::{
@@ -252,7 +252,7 @@ fn branch(
     from: Ptr<BasicBlock>,
     to: Ptr<BasicBlock>,
 ) -> Ptr<Operation> {
-    let branch = made(rt, alloc, ctx, TinyKind::Br, 0, 0);
+    let branch = make_operation(rt, alloc, ctx, TinyKind::Br, 0, 0);
     put(rt, ctx, branch, from);
     leads_to(rt, ctx, branch, to);
     branch
@@ -265,7 +265,7 @@ fn tree(
     alloc: Global,
     ctx: &mut Context,
 ) -> (Ptr<Operation>, Ptr<BasicBlock>, Ptr<BasicBlock>) {
-    let root = made(rt, alloc, ctx, TinyKind::Scope, 0, 1);
+    let root = make_operation(rt, alloc, ctx, TinyKind::Scope, 0, 1);
     let first = block(rt, ctx, root, 0);
     let second = block(rt, ctx, root, 1);
     let third = block(rt, ctx, root, 1);
@@ -275,14 +275,14 @@ fn tree(
     reads_result(rt, ctx, onward, constant);
     let further = branch(rt, alloc, ctx, second, third);
     reads_argument(rt, ctx, further, second);
-    let question = made(rt, alloc, ctx, TinyKind::Ask, 1, 0);
+    let question = make_operation(rt, alloc, ctx, TinyKind::Ask, 1, 0);
     put(rt, ctx, question, third);
     reads_argument(rt, ctx, question, third);
     (root, second, third)
 }
 
 // What propagation answers for the root.
-fn answered(
+fn propagate_root(
     alloc: Global,
     ctx: &mut Context,
     root: Ptr<Operation>,
@@ -303,13 +303,13 @@ fn head_of(rt: &impl Abort, ctx: &Context, block: Ptr<BasicBlock>) -> Option<Ptr
 
 fn propagates_in(rt: &impl Abort, alloc: Global, ctx: &mut Context) -> Result<(), Fail> {
     let (root, second, third) = tree(rt, alloc, ctx);
-    let (status, pops) = answered(alloc, ctx, root)?;
+    let (status, pops) = propagate_root(alloc, ctx, root)?;
     assert!(rt; status == IRStatus::Changed);
     // three blocks, three constants, an answer
     assert!(rt; 7 <= pops && pops <= 8);
     let made_second = head_of(rt, ctx, second);
     let made_third = head_of(rt, ctx, third);
-    let (status, pops) = answered(alloc, ctx, root)?;
+    let (status, pops) = propagate_root(alloc, ctx, root)?;
     assert!(rt; status == IRStatus::Changed);
     // three blocks, the constant with the mark and the argument that gets it; two made constants, the
     // other argument and an answer
@@ -319,8 +319,8 @@ fn propagates_in(rt: &impl Abort, alloc: Global, ctx: &mut Context) -> Result<()
     Ok(())
 }
 
-// Twice: each argument is a constant at first, and once made constants stand for them only the one that
-// gets the constant with the mark.
+// Twice: each argument is a constant at first, and once constants are put for them only the one that gets the
+// constant with the mark.
 #[test]
 fn made_constants_do_not_fold(rt: HostRuntime) -> Result<(), Fail> {
     let alloc = rt.alloc();

@@ -3,11 +3,11 @@
 use super::cases::{HOSTILE, ROWS};
 use super::random_cases::MADE;
 use pliron_bench::Bench;
-use pliron_cases::cases::{line, read, sides};
-use pliron_cases::listener::Counting;
-use pliron_cases::runs::text_behind;
 use pliron_core::{Context, IRStatus};
 use pliron_sccp::sccp_through;
+use pliron_test_cases::cases::{line, read, sides};
+use pliron_test_cases::listener::Counting;
+use pliron_test_cases::runs::text_behind;
 use std::alloc::Global;
 use std::process::Abort;
 

@@ -20,7 +20,7 @@ fn data(alloc: Global, numbers: &[i128]) -> Result<Vec<Datum>, AllocError> {
 }
 
 // What is seen of the run on these inputs, in the world with these answers.
-fn seen(
+fn sight_of_run(
     alloc: Global,
     ctx: &Context,
     root: Ptr<Operation>,
@@ -43,9 +43,9 @@ fn compare(
     let Some(root) = read_text(alloc, text.as_bytes(), ctx)? else {
         return Err(Fail::from("unreadable"));
     };
-    let before = seen(alloc, ctx, root, inputs, world)?;
+    let before = sight_of_run(alloc, ctx, root, inputs, world)?;
     sccp::<Bench>(alloc, root, ctx)?;
-    let after = seen(alloc, ctx, root, inputs, world)?;
+    let after = sight_of_run(alloc, ctx, root, inputs, world)?;
     // a run that was cut short comes less far with more constants to give
     if let Sight::Reached(_) = &before {
         return Ok(());

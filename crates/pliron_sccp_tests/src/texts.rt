@@ -103,7 +103,7 @@ fn made_texts(rt: HostRuntime) -> Result<(), Fail> {
     Ok(())
 }
 
-// Operations with more operands than what is looked at at once.
+// Operations with more operands than what is visited at once.
 #[test]
 fn what_is_put_aside(rt: HostRuntime) -> Result<(), Fail> {
     for line in ASIDE.lines() {
@@ -187,7 +187,7 @@ fn counted_in(
     Ok(())
 }
 
-fn counted(
+fn count_pops(
     rt: &impl Abort,
     alloc: Global,
     text: &str,
@@ -202,11 +202,11 @@ fn counted(
 #[test]
 fn counts(rt: HostRuntime) -> Result<(), Fail> {
     let alloc = rt.alloc();
-    counted(&rt, alloc, "func { b0(): ret }", IRStatus::Unchanged, 1)?;
+    count_pops(&rt, alloc, "func { b0(): ret }", IRStatus::Unchanged, 1)?;
     let sums = "func { b0(): a = const 5; b = add a a; c = add b a; ret c b }";
-    counted(&rt, alloc, sums, IRStatus::Changed, 4)?;
+    count_pops(&rt, alloc, sums, IRStatus::Changed, 4)?;
     let answer = "func { b0(x): r = read; ret r }";
-    counted(&rt, alloc, answer, IRStatus::Unchanged, 3)
+    count_pops(&rt, alloc, answer, IRStatus::Unchanged, 3)
 }
 
 // The second operation of the first block of the operation.
@@ -242,7 +242,7 @@ fn left_around(
 }
 
 /// Texts before and after `sccp` on their second operation, worked out by hand. Nothing is known of values
-/// from outside the root nor of what it passes to its own region, also where that is made inside it.
+/// from outside the root nor of what it passes to its own region, also where that is defined inside it.
 static NESTED: &str =
     "func { b0(): k = const 4; scope k { b0(x): a = const 1; b = add a a; c = add k b; d = add x b; print b }; e = add k k; ret e } \
     => func { b0(): v0 = const 4; scope v0 { b0(v1): v2 = const 1; v3 = const 2; v4 = add v2 v2; v5 = add v0 v3; v6 = add v1 v3; print v3 }; \
@@ -268,7 +268,7 @@ fn nested_root(rt: &impl Abort, alloc: Global, ctx: &mut Context, line: &str) ->
     Ok(())
 }
 
-fn nested(rt: &impl Abort, alloc: Global, line: &str) -> Result<(), Fail> {
+fn check_nested(rt: &impl Abort, alloc: Global, line: &str) -> Result<(), Fail> {
     let mut ctx = Context::new(alloc);
     nested_root(rt, alloc, &mut ctx, line)
 }
@@ -276,7 +276,7 @@ fn nested(rt: &impl Abort, alloc: Global, line: &str) -> Result<(), Fail> {
 #[test]
 fn nested_roots(rt: HostRuntime) -> Result<(), Fail> {
     for line in NESTED.lines() {
-        nested(&rt, rt.alloc(), line)?;
+        check_nested(&rt, rt.alloc(), line)?;
     }
     Ok(())
 }

@@ -9,7 +9,7 @@ use std::alloc::Global;
 use std::process::Abort;
 
 // A new operation of this kind, with a number for its attribute.
-pub(crate) fn made(
+pub(crate) fn make_operation(
     rt: &impl Abort,
     alloc: Global,
     ctx: &mut Context,
@@ -104,12 +104,12 @@ fn tree(
     alloc: Global,
     ctx: &mut Context,
 ) -> (Ptr<Operation>, Ptr<BasicBlock>, Ptr<Operation>) {
-    let root = made(rt, alloc, ctx, TinyKind::Scope, 0, 1);
+    let root = make_operation(rt, alloc, ctx, TinyKind::Scope, 0, 1);
     let first = block(rt, ctx, root, 0);
     let second = block(rt, ctx, root, 1);
-    let constant = made(rt, alloc, ctx, TinyKind::Const, 1, 0);
-    let branch = made(rt, alloc, ctx, TinyKind::Br, 0, 0);
-    let question = made(rt, alloc, ctx, TinyKind::Ask, 1, 0);
+    let constant = make_operation(rt, alloc, ctx, TinyKind::Const, 1, 0);
+    let branch = make_operation(rt, alloc, ctx, TinyKind::Br, 0, 0);
+    let question = make_operation(rt, alloc, ctx, TinyKind::Ask, 1, 0);
     put(rt, ctx, constant, first);
     put(rt, ctx, branch, first);
     put(rt, ctx, question, second);
@@ -120,7 +120,7 @@ fn tree(
 }
 
 // What propagation answers for the operation.
-pub(crate) fn answered(
+pub(crate) fn propagate_operation(
     rt: &impl Abort,
     alloc: Global,
     ctx: &mut Context,
@@ -133,7 +133,7 @@ pub(crate) fn answered(
 
 fn propagates_in(rt: &impl Abort, alloc: Global, ctx: &mut Context) {
     let (root, second, question) = tree(rt, alloc, ctx);
-    let (status, pops) = answered(rt, alloc, ctx, root);
+    let (status, pops) = propagate_operation(rt, alloc, ctx, root);
     assert_eq!(rt; status, IRStatus::Changed);
     // two blocks, two constants, an answer
     assert!(rt; 5 <= pops && pops <= 6);

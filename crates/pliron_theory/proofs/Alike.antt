@@ -3,7 +3,7 @@ use Rattle.std.proofs.Common.{◌≡◌, ℕ, suc, Bool, false, List, [], ◌∷
 use Rattle.pliron_core.specs.Lists.{In}
 use Rattle.pliron_laws.specs.Datum.{Datum, Meaning, Shape, Move}
 use Rattle.pliron_laws.specs.Tree.{Tree, Operation, block_at, entry_block, count_arguments, unless, shape_of}
-use Rattle.pliron_laws.specs.States.{Environment, bound, bind, prepended, data_of}
+use Rattle.pliron_laws.specs.States.{Environment, environment_with, bind, prepend_optional, data_of}
 use Rattle.pliron_laws.specs.Acting.{Act, MovesAlike, ActAlike, PassesSame, JumpsSame}
 use Rattle.pliron_theory.proofs.Lockstep.{EnvsTied}
 
@@ -38,8 +38,8 @@ abbrev pub SameBut : (ℕ → Bool) → Environment → Environment → Type 0
 SameBut gone env env' = (v : ℕ) → gone v ≡ false → env v ≡ env' v
 
 module _ (gone : ℕ → Bool) where
-  pub bound_same : (env env' : Environment) → SameBut gone env env' → (v : ℕ) (d : Datum) → SameBut gone (bound env v d) (bound env' v d)
-  unfolding bound
+  pub bound_same : (env env' : Environment) → SameBut gone env env' → (v : ℕ) (d : Datum) → SameBut gone (environment_with env v d) (environment_with env' v d)
+  unfolding environment_with
   bound_same env env' e v d w g = ap (λ o. if nat_eq w v then Some d else o) (e w g)
 
   pub bind_same : (vs : List ℕ) (env env' : Environment) (ds : List Datum) → SameBut gone env env' → EnvsTied (SameBut gone) (bind env vs ds) (bind env' vs ds)
@@ -50,9 +50,9 @@ module _ (gone : ℕ → Bool) where
 
   pub data_same : (env env' : Environment) → SameBut gone env env' → (vs : List ℕ) → ((v : ℕ) → In v vs → gone v ≡ false) → data_of env vs ≡ data_of env' vs
   data_same env env' e [] a = refl
-  data_same env env' e (v ∷ vs) a = ap₂ prepended (e v (a v (inl refl))) (data_same env env' e vs (λ w i. a w (inr i)))
+  data_same env env' e (v ∷ vs) a = ap₂ prepend_optional (e v (a v (inl refl))) (data_same env env' e vs (λ w i. a w (inr i)))
 
-put_some : (o : Option Datum) (p : Option (List Datum)) (ds : List Datum) → prepended o p ≡ Some ds → (others : List Datum) × (p ≡ Some others) × (length ds ≡ suc (length others))
+put_some : (o : Option Datum) (p : Option (List Datum)) (ds : List Datum) → prepend_optional o p ≡ Some ds → (others : List Datum) × (p ≡ Some others) × (length ds ≡ suc (length others))
 put_some None p ds e = grind arith
 put_some (Some d) None ds e = grind arith
 put_some (Some d) (Some others) ds e =

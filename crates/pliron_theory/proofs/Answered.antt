@@ -5,13 +5,13 @@ use Rattle.std.proofs.lemmas.Bool.Decides.{eqb_tells}
 use Rattle.pliron_core.specs.declared.attrs.AttrObj.{AttrObj}
 use Rattle.pliron_core.specs.declared.context.Def.TheVariants.{Result, Argument}
 use Rattle.pliron_core.specs.Tree.{Tree, In, results_of, arguments_of, definition_of}
-use Rattle.pliron_core.specs.Joined.{IsTree}
+use Rattle.pliron_core.specs.Invariant.{IsTree}
 use Rattle.pliron_core.proofs.HoldingLemmas.{some_is, not_none, in_slice, slice_in}
 use Rattle.pliron_laws.specs.Datum.{Head, Meaning}
 use Rattle.pliron_laws.specs.Tree.{Operation, op_at, shape_of}
 use Rattle.pliron_laws.specs.Folding.{Constants, Feasible, AnswersTrue, AnswersJumps}
 use Rattle.pliron_laws.proofs.Records.{op_shows}
-use Rattle.pliron_theory.specs.Facts.{Fact, answered as fact_of, Facts, Says, handed, answers_of}
+use Rattle.pliron_theory.specs.LatticeValues.{LatticeValue, value_of_answer as fact_of, LatticeValues, Says, operand_constants, answers_of}
 use Rattle.pliron_theory.specs.Sound.{IsRightResult}
 use Rattle.pliron_theory.proofs.SoundRuns.{PassesForwarded, none_well, AreKept, constants_read}
 use Rattle.pliron_theory.proofs.FactLattice.{unknown_below}
@@ -36,15 +36,15 @@ no_fact : (v : ℕ) (c : AttrObj) (x : ℕ) → (x ≡ v → ⊥) → only_fact 
 no_fact v c x ne = ⊎_elim (λ y. absurd (ne y.1)) (λ n. ap (λ b. if b then Some c else None) n.0) (eqb_tells x v)
 
 -- folds are handed nothing
-abbrev nothing : Facts
+abbrev nothing : LatticeValues
 nothing = everywhere (λ v. None)
 
-handed_nothing : (vs : List ℕ) → handed nothing vs ≡ replicate (length vs) None
+handed_nothing : (vs : List ℕ) → operand_constants nothing vs ≡ replicate (length vs) None
 handed_nothing [] = refl
 handed_nothing (v ∷ vs) = ap (λ l. None ∷ l) (handed_nothing vs)
 
 module _ (x : Says) (t : Tree) (root v : ℕ) (c : AttrObj) (w : IsTree t) (h : IsAnswered x.meaning x.can_fold x.constants t v c) where
-  abbrev read : ℕ → Fact
+  abbrev read : ℕ → LatticeValue
   read y = fact_of (only_fact v c y)
 
   made : definition_of t v ≡ Some (Result h.maker h.index)

@@ -2,14 +2,14 @@
 use Rattle.std.proofs.Common.{◌≡◌, ℕ, Bool, true, false, List, [], ◌∷◌, length, Option, Some, None, IsTrue, slice_get, refl, sym, ap, ◌∙◌, subst, inr, arith}
 use Rattle.pliron_core.specs.declared.attrs.AttrObj.{AttrObj}
 use Rattle.pliron_core.specs.declared.context.Def.TheVariants.{Result, Argument}
-use Rattle.pliron_core.specs.Changes.{IsMakerInside}
+use Rattle.pliron_core.specs.Changes.{IsDefiningOperationInside}
 use Rattle.pliron_core.specs.Tree.{Tree, In, IsInside, operands_of, results_of, arguments_of, definition_of}
-use Rattle.pliron_core.specs.Joined.{IsTree}
+use Rattle.pliron_core.specs.Invariant.{IsTree}
 use Rattle.pliron_core.proofs.HoldingLemmas.{some_is, in_slice, not_itself}
 use Rattle.pliron_laws.specs.Datum.{Datum, Empty, datum_of, Head, Meaning, Move, Give, Visit, Goto, Leave, Emit, Trap}
 use Rattle.pliron_laws.specs.Tree.{Operation, Block, op_at, block_at, entry_block, shape_of}
 use Rattle.pliron_laws.specs.States.{Environment, Waiting, State, Next, Goes, Over, bind, data_of, input_of}
-use Rattle.pliron_laws.specs.Machine.{leave, given, begin, enter, entry_in, go_to, emit, perform, move, turn, step_at, step, start}
+use Rattle.pliron_laws.specs.Machine.{leave, after_giving, begin, enter, entry_in, go_to, emit, perform, move, turn, step_at, step, start}
 use Rattle.pliron_laws.specs.Acting.{Comes, Begins, Answered, Told, Known}
 use Rattle.pliron_laws.specs.Folding.{Constants, AnswersTrue}
 use Rattle.pliron_theory.specs.Keeps.{IsFit}
@@ -122,7 +122,7 @@ module _ (m : Meaning) (can_fold : Head → Bool) (constants : Constants) (answe
                 comes = subst (λ z. Comes m.act (shape_of m t o) input false z input) (sym mind) Begins;
               }
 
-      gives_holds : (ds : List Datum) → m.act (shape_of m t o') s.memo input ≡ Give ds → (ws : List Waiting) → AllMind ws → (y : Option Environment) → bind s.environment o'.results ds ≡ y → IfGoes (given s rest ws ds y) Holds
+      gives_holds : (ds : List Datum) → m.act (shape_of m t o') s.memo input ≡ Give ds → (ws : List Waiting) → AllMind ws → (y : Option Environment) → bind s.environment o'.results ds ≡ y → IfGoes (after_giving s rest ws ds y) Holds
       unfolding shape_of
       gives_holds ds acts ws waits None e = tt
       gives_holds ds acts [] waits (Some env1) e = tt
@@ -194,4 +194,4 @@ module _ (m : Meaning) (can_fold : Head → Bool) (constants : Constants) (answe
   pub answered_read : IsReadAs m t v (datum_of c) root
   answered_read s k rest r e none u =
       let within = (ready_when_reached m t root w f s r k rest e none).inside in
-      read_inside (subst (IsMakerInside t root) made (f.defined.own_values k v within u)) s k rest r e none u
+      read_inside (subst (IsDefiningOperationInside t root) made (f.defined.own_values k v within u)) s k rest r e none u

@@ -5,9 +5,9 @@ use Rattle.std.proofs.lemmas.Bool.Decides.{eqb_tells}
 use Rattle.pliron_core.specs.declared.context.Def.{Def}
 use Rattle.pliron_core.specs.declared.context.Def.TheVariants.{Result, Argument}
 use Rattle.pliron_core.specs.Lists.{In, IsDistinct, first_of, last_of}
-use Rattle.pliron_core.specs.Changes.{IsMakerInside}
-use Rattle.pliron_core.specs.Tree.{Tree, IsInside, IsWithin, IsMadeBy, IsRegion, operands_of, successors_of, results_of, parent_of, body_of, arguments_of, block_parent_of, layout_of, region_parent_of, block_holder_of, holder_of, definition_of, up_from, op_of_slot}
-use Rattle.pliron_core.specs.Joined.{IsTree}
+use Rattle.pliron_core.specs.Changes.{IsDefiningOperationInside}
+use Rattle.pliron_core.specs.Tree.{Tree, IsInside, IsWithin, IsMadeBy, IsRegion, operands_of, successors_of, results_of, parent_of, body_of, arguments_of, block_parent_of, layout_of, region_parent_of, block_parent_operation_of, parent_operation_of, definition_of, up_from, op_of_slot}
+use Rattle.pliron_core.specs.Invariant.{IsTree}
 use Rattle.pliron_core.specs.Edges.{succs_from}
 use Rattle.pliron_core.proofs.ListLemmas.{In-cases, In-right, distinct-back}
 use Rattle.pliron_core.proofs.HoldingLemmas.{some_is, not_none, in_slice, holder_by, inside_up, inside_by, deeper, within_inside, not_itself, block_held}
@@ -15,27 +15,27 @@ use Rattle.pliron_core.proofs.NeighbourLemmas.{last_of-In}
 use Rattle.pliron_core.proofs.RowLemmas.{last_of-append}
 use Rattle.pliron_laws.specs.Datum.{Datum, Meaning}
 use Rattle.pliron_laws.specs.Tree.{Operation, Block, op_at, block_at, entry_block}
-use Rattle.pliron_laws.specs.States.{Environment, Waiting, State, bound, bind, prepended, data_of}
+use Rattle.pliron_laws.specs.States.{Environment, Waiting, State, environment_with, bind, prepend_optional, data_of}
 use Rattle.pliron_laws.specs.Machine.{start, step}
 use Rattle.pliron_laws.specs.Paths.{Path, Leads}
 use Rattle.pliron_laws.specs.Root.{defining_block, HasPassed, IsDominated, WellDefined}
 use Rattle.pliron_laws.specs.Linked.{EndsBlock, EdgesLast}
 use Rattle.pliron_theory.proofs.Simulation.{Kept}
-use Rattle.pliron_theory.proofs.Frames.{Facts, Rules, Below, Holding, holding_kept}
+use Rattle.pliron_theory.proofs.Frames.{LatticeValues, Rules, Below, Holding, holding_kept}
 use Rattle.pliron_laws.proofs.Records.{op_shows, block_shows, entry_shows}
 
 unfoldable pub IsBound : Environment → ℕ → Type 0
 IsBound env v = (d : Datum) × (env v ≡ Some d)
 
-bound_more : (env : Environment) (w : ℕ) (d : Datum) (v : ℕ) → IsBound env v → IsBound (bound env w d) v
-unfolding IsBound bound
+bound_more : (env : Environment) (w : ℕ) (d : Datum) (v : ℕ) → IsBound env v → IsBound (environment_with env w d) v
+unfolding IsBound environment_with
 bound_more env w d v b = ⊎_elim
     (λ y. (d, ap (λ x. if x then Some d else env v) y.0))
     (λ n. (b.0, ap (λ x. if x then Some d else env v) n.0 ∙ b.1))
     (eqb_tells v w)
 
-bound_it : (env : Environment) (w : ℕ) (d : Datum) (v : ℕ) → v ≡ w → IsBound (bound env w d) v
-unfolding IsBound bound
+bound_it : (env : Environment) (w : ℕ) (d : Datum) (v : ℕ) → v ≡ w → IsBound (environment_with env w d) v
+unfolding IsBound environment_with
 bound_it env w d v e = ⊎_elim
     (λ y. (d, ap (λ x. if x then Some d else env v) y.0))
     (λ n. absurd (n.1 e))
@@ -45,13 +45,13 @@ pub bind_more : (vs : List ℕ) (ds : List Datum) (env env1 : Environment) → b
 bind_more [] [] env env1 e v b = let f : env ≡ env1 = cc in subst (λ x. IsBound x v) f b
 bind_more [] (d ∷ ds) env env1 e v b = grind arith
 bind_more (w ∷ vs) [] env env1 e v b = grind arith
-bind_more (w ∷ vs) (d ∷ ds) env env1 e v b = bind_more vs ds (bound env w d) env1 e v (bound_more env w d v b)
+bind_more (w ∷ vs) (d ∷ ds) env env1 e v b = bind_more vs ds (environment_with env w d) env1 e v (bound_more env w d v b)
 
 pub bind_has : (vs : List ℕ) (ds : List Datum) (env env1 : Environment) → bind env vs ds ≡ Some env1 → (v : ℕ) → In v vs → IsBound env1 v
 bind_has [] ds env env1 e v i = absurd i
 bind_has (w ∷ vs) [] env env1 e v i = grind arith
-bind_has (w ∷ vs) (d ∷ ds) env env1 e v (inl s) = bind_more vs ds (bound env w d) env1 e v (bound_it env w d v s)
-bind_has (w ∷ vs) (d ∷ ds) env env1 e v (inr i) = bind_has vs ds (bound env w d) env1 e v i
+bind_has (w ∷ vs) (d ∷ ds) env env1 e v (inl s) = bind_more vs ds (environment_with env w d) env1 e v (bound_it env w d v s)
+bind_has (w ∷ vs) (d ∷ ds) env env1 e v (inr i) = bind_has vs ds (environment_with env w d) env1 e v i
 
 pub all_data : (env : Environment) (vs : List ℕ) → ((v : ℕ) → In v vs → IsBound env v) → (ds : List Datum) × (data_of env vs ≡ Some ds)
 unfolding IsBound
@@ -59,7 +59,7 @@ all_data env [] b = ([], refl)
 all_data env (v ∷ vs) b =
     let x = b v (inl refl) in
     let y = all_data env vs (λ w i. b w (inr i)) in
-    (x.0 ∷ y.0, ap₂ prepended x.1 y.1)
+    (x.0 ∷ y.0, ap₂ prepend_optional x.1 y.1)
 
 -- where the last of a distinct list stands, the list ends
 pub last_ends : (k : ℕ) (done rest xs : List ℕ) → IsDistinct xs → xs ≡ done ++ k ∷ rest → last_of None xs ≡ Some k → rest ≡ []
@@ -81,8 +81,8 @@ pub record Missed (t : Tree) (entry block : ℕ) (done : List ℕ) (d : Option D
   pub path : Path t entry block before
   pub missed : HasPassed t d before block done → ⊥
 
--- what is made inside the root stands in regions that the root holds
-pub made_within : (t : Tree) (root region h : ℕ) (d : Option Def) → region_parent_of t region ≡ Some h → up_from (defining_block t d) (λ b. block_parent_of t b) ≡ Some region → IsMakerInside t root d → IsWithin t root h
+-- what is defined inside the root stands in regions that the root holds
+pub made_within : (t : Tree) (root region h : ℕ) (d : Option Def) → region_parent_of t region ≡ Some h → up_from (defining_block t d) (λ b. block_parent_of t b) ≡ Some region → IsDefiningOperationInside t root d → IsWithin t root h
 made_within t root region h None held e i = absurd i
 made_within t root region h (Some (Argument b j)) held e i =
     let s : i.0 ≡ h = some_is (sym i.1 ∙ ap (λ o. up_from o (λ r. region_parent_of t r)) e ∙ held) in
@@ -92,7 +92,7 @@ made_within t root region h (Some (Result q j)) held e i =
     let s : u.0 ≡ h = some_is (sym u.1 ∙ around (parent_of t q) e) in
     subst (IsWithin t root) s u.2
   where
-    around : (o : Option ℕ) → up_from o (λ b. block_parent_of t b) ≡ Some region → up_from o (λ b. block_holder_of t b) ≡ Some h
+    around : (o : Option ℕ) → up_from o (λ b. block_parent_of t b) ≡ Some region → up_from o (λ b. block_parent_operation_of t b) ≡ Some h
     around None f = grind arith
     around (Some b) f = ap (λ o. up_from o (λ r. region_parent_of t r)) f ∙ held
 
@@ -124,7 +124,7 @@ pub has_some : (h : Option ℕ) (ds : List Datum) → HasAnswer h (Some ds)
 has_some None ds = λ e. not_none (sym e)
 has_some (Some h) ds = tt
 
-abbrev pub places : Tree → ℕ → Facts
+abbrev pub places : Tree → ℕ → LatticeValues
 places t root = record { Always = λ env. Unit {0}; Moves = λ env h rest memo answer. IsAt t root env h rest × HasAnswer h answer; Waits = λ env h rest memo. IsAt t root env h rest }
 
 placed_more : (t : Tree) (root : ℕ) (env env1 : Environment) (o : Option ℕ) (rest : List ℕ) → ((v : ℕ) → IsBound env v → IsBound env1 v) → IsAt t root env o rest → IsAt t root env1 o rest
@@ -147,7 +147,7 @@ module _ (t : Tree) (w : IsTree t) (root : ℕ) where
   pub placed_parent : (env : Environment) (h k : ℕ) (rest : List ℕ) (p : IsPlaced t root env h (k ∷ rest)) → parent_of t k ≡ Some p.block
   placed_parent env h k rest p = w.bodies.owned k p.block (subst (In k) (sym p.split) (in_mid k p.done rest))
 
-  pub placed_holder : (env : Environment) (h k : ℕ) (rest : List ℕ) → IsPlaced t root env h (k ∷ rest) → holder_of t k ≡ Some h
+  pub placed_holder : (env : Environment) (h k : ℕ) (rest : List ℕ) → IsPlaced t root env h (k ∷ rest) → parent_operation_of t k ≡ Some h
   placed_holder env h k rest p = holder_by t k p.block h (placed_parent env h k rest p) (ap (λ o. up_from o (λ r. region_parent_of t r)) p.in_region ∙ p.held)
 
   pub placed_inside : (env : Environment) (h k : ℕ) (rest : List ℕ) → IsPlaced t root env h (k ∷ rest) → IsInside t root k
@@ -321,7 +321,7 @@ module _ (t : Tree) (w : IsTree t) (root : ℕ) where
         let s : u.0 ≡ h = some_is (sym u.1 ∙ placed_holder env h k rest p) in
         find env h around (subst (IsWithin t around) s u.2) b.0 b.1 ws (subst (IsAt t root env b.1) b.2 b.3) b.4
 
-    not_around : (v around region h : ℕ) → holder_of t around ≡ Some h → IsWithin t root h → IsWithin t around root → ⊥
+    not_around : (v around region h : ℕ) → parent_operation_of t around ≡ Some h → IsWithin t root h → IsWithin t around root → ⊥
     not_around v around region h up i j = not_itself w.joined.rooted (turn i)
       where
         below : IsInside t h root
@@ -334,19 +334,19 @@ module _ (t : Tree) (w : IsTree t) (root : ℕ) where
     used_at : (env : Environment) (h k v : ℕ) (rest : List ℕ) (ws : List Waiting) → IsPlaced t root env h (k ∷ rest) → Below m t (places t root) place_rules root env (Some h) ws → In v (operands_of t k) → IsBound env v
     used_at env h k v rest ws p b i = ⊎_elim (λ f. found f.0 f.1 f.2) (λ f. absurd (not_around v d.around d.region held.1 up (made_within t root d.region held.1 (definition_of t v) held.4 d.defined made) f)) (find env k d.around d.holds rest (Some h) ws p b)
       where
-        made : IsMakerInside t root (definition_of t v)
+        made : IsDefiningOperationInside t root (definition_of t v)
         made = well.own_values k v (placed_inside env h k rest p) i
 
         d : IsDominated t k v
         d = well.dominated k v i made
 
-        held : (r x : ℕ) × (block_parent_of t d.block ≡ Some r) × IsRegion t r × (region_parent_of t d.region ≡ Some x) × (block_holder_of t d.block ≡ Some x)
+        held : (r x : ℕ) × (block_parent_of t d.block ≡ Some r) × IsRegion t r × (region_parent_of t d.region ≡ Some x) × (block_parent_operation_of t d.block ≡ Some x)
         held =
             let x = block_held t d.block w.joined (subst IsSome (sym d.in_region) refl) in
             let s : x.0 ≡ d.region = some_is (sym x.2 ∙ d.in_region) in
             (x.0, x.1, x.2, x.3, ap (region_parent_of t) (sym s) ∙ x.4, x.5)
 
-        up : holder_of t d.around ≡ Some held.1
+        up : parent_operation_of t d.around ≡ Some held.1
         up = holder_by t d.around d.block held.1 d.in_block held.5
 
         found : (g : ℕ) (others : List ℕ) → IsPlaced t root env g (d.around ∷ others) → IsBound env v

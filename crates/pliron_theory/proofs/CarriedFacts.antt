@@ -1,8 +1,8 @@
 -- Facts that stay sound while constants are put for values.
 use Rattle.std.proofs.Common.{◌≡◌, ◌⊎◌, inl, inr, ⊎_elim, ℕ, zero, suc, List, [], ◌∷◌, map, length, Option, Some, None, slice_get, refl, sym, ap, ap₂, ◌∙◌, subst, IsTrue}
 use Rattle.pliron_core.specs.declared.attrs.AttrObj.{AttrObj}
-use Rattle.pliron_core.specs.Tree.{Tree, In, IsInside, HoldsBlock, no_entry, row_of, head_of, operands_of, successors_of, results_of, regions_of, parent_of, arguments_of, block_parent_of, layout_of, first_of, region_parent_of, block_holder_of, holder_of, up_from, op_of_slot}
-use Rattle.pliron_core.specs.Joined.{IsTree}
+use Rattle.pliron_core.specs.Tree.{Tree, In, IsInside, HoldsBlock, no_entry, row_of, head_of, operands_of, successors_of, results_of, regions_of, parent_of, arguments_of, block_parent_of, layout_of, first_of, region_parent_of, block_parent_operation_of, parent_operation_of, up_from, op_of_slot}
+use Rattle.pliron_core.specs.Invariant.{IsTree}
 use Rattle.pliron_core.proofs.HoldingLemmas.{some_is, not_none, in_slice, slice_in, slot_is, holder_is, holder_by, inside_more, within_more, inside_block}
 use Rattle.pliron_core.proofs.UsedLemmas.{length_map}
 use Rattle.pliron_laws.specs.Datum.{Empty, datum_of, Meaning}
@@ -11,13 +11,13 @@ use Rattle.pliron_theory.specs.Renaming.{GivesConstant}
 use Rattle.pliron_laws.proofs.Records.{ShowsOperation, operation_of, op_shows, make_op, region_entry}
 use Rattle.pliron_theory.proofs.Alike.{shape_same}
 use Rattle.pliron_theory.proofs.KnownData.{picked_at}
-use Rattle.pliron_theory.specs.Facts.{Fact, Constant, NotAConstant, AtMost, known, answered, Facts, Says, handed, answers_of, IsInReachedBlock, IsFeasibleEdge, Forwards, IsBelowNamed, AreBelowNamed}
+use Rattle.pliron_theory.specs.LatticeValues.{LatticeValue, Constant, NotAConstant, AtMost, lattice_constant, value_of_answer, LatticeValues, Says, operand_constants, answers_of, IsInExecutableBlock, IsFeasibleEdge, Forwards, IsBelowNamed, AreBelowNamed}
 use Rattle.pliron_theory.specs.Sound.{AreSound, IsRightResult}
 use Rattle.pliron_theory.proofs.FactLattice.{picked_in}
 
 -- the second tree is the first one with operands renamed and with new operations that give constants, and the facts
 -- about it say the same
-pub record IsCarried (x : Says) (t t' : Tree) (f f' : Facts) (read read' : ℕ → Fact) (rename : ℕ → ℕ) (New : ℕ → Type 0) : Type 0 where
+pub record IsCarried (x : Says) (t t' : Tree) (f f' : LatticeValues) (read read' : ℕ → LatticeValue) (rename : ℕ → ℕ) (New : ℕ → Type 0) : Type 0 where
   pub told : (k : ℕ) → New k ⊎ (New k → ⊥)
   pub rows : (k : ℕ) → (New k → ⊥) → row_of t' k ≡ row_of t k
   pub operands : (k : ℕ) → (New k → ⊥) → operands_of t' k ≡ map rename (operands_of t k)
@@ -29,13 +29,13 @@ pub record IsCarried (x : Says) (t t' : Tree) (f f' : Facts) (read read' : ℕ �
   pub fresh : (k : ℕ) → New k → (row_of t k ≡ no_entry) × (parent_of t k ≡ None)
   pub childless : (k : ℕ) → New k → regions_of t' k ≡ []
   pub edgeless : (k : ℕ) → New k → successors_of t' k ≡ []
-  pub placed : (k : ℕ) → New k → IsInReachedBlock t' f' k
+  pub placed : (k : ℕ) → New k → IsInExecutableBlock t' f' k
   pub gives : (k : ℕ) → New k → (v : ℕ) × (c : AttrObj) × GivesConstant x.meaning t' k v (datum_of c) × (read' v ≡ Constant c)
-  pub reaches : (b : ℕ) → f'.reaches b ≡ f.reaches b
-  pub used : (k v : ℕ) → In v (operands_of t k) → (f'.fact (rename v) ≡ f.fact v) × (read' (rename v) ≡ read v)
+  pub is_executable : (b : ℕ) → f'.is_executable b ≡ f.is_executable b
+  pub used : (k v : ℕ) → In v (operands_of t k) → (f'.lattice_value (rename v) ≡ f.lattice_value v) × (read' (rename v) ≡ read v)
   pub listed_results : (k v : ℕ) → In v (results_of t k) → read' v ≡ read v
   pub listed_arguments : (b v : ℕ) → In v (arguments_of t b) → read' v ≡ read v
-  pub finer : (v : ℕ) → AtMost (f'.fact v) (read' v)
+  pub finer : (v : ℕ) → AtMost (f'.lattice_value v) (read' v)
 
 shape_longer : (m : Meaning) (t : Tree) (o : Operation) (xs : List ℕ) → length o.operands ≡ length xs → shape_of m t o ≡ shape_of m t (record o { operands = xs })
 unfolding shape_of
@@ -63,7 +63,7 @@ map_twice : {B : Type 0} (g h : ℕ → B) (f : ℕ → ℕ) (xs : List ℕ) →
 map_twice g h f [] e = refl
 map_twice g h f (x ∷ xs) e = ap₂ (λ y ys. y ∷ ys) (e x (inl refl)) (map_twice g h f xs (λ v i. e v (inr i)))
 
-module _ (x : Says) (t t' : Tree) (root : ℕ) (f f' : Facts) (read read' : ℕ → Fact) (rename : ℕ → ℕ) (New : ℕ → Type 0) (w : IsTree t) (w' : IsTree t') (c : IsCarried x t t' f f' read read' rename New) (sound : AreSound x t root f read) where
+module _ (x : Says) (t t' : Tree) (root : ℕ) (f f' : LatticeValues) (read read' : ℕ → LatticeValue) (rename : ℕ → ℕ) (New : ℕ → Type 0) (w : IsTree t) (w' : IsTree t') (c : IsCarried x t t' f f' read read' rename New) (sound : AreSound x t root f read) where
   -- places
   old_slot : (r k i : ℕ) → slice_get (regions_of t k) i ≡ Some r → slice_get (regions_of t' k) i ≡ Some r
   old_slot r k i e = ⊎_elim
@@ -71,7 +71,7 @@ module _ (x : Says) (t t' : Tree) (root : ℕ) (f f' : Facts) (read read' : ℕ 
       (λ n. ap (λ z. slice_get z.regions i) (c.rows k n) ∙ e)
       (c.told k)
 
-  pub block_holders : (b : ℕ) → block_holder_of t' b ≡ block_holder_of t b
+  pub block_holders : (b : ℕ) → block_parent_operation_of t' b ≡ block_parent_operation_of t b
   block_holders b = ap (λ o. up_from o (λ r. region_parent_of t' r)) (c.block_parents b) ∙ go (block_parent_of t b) refl
     where
       go : (o : Option ℕ) → block_parent_of t b ≡ o → up_from o (λ r. region_parent_of t' r) ≡ up_from o (λ r. region_parent_of t r)
@@ -83,7 +83,7 @@ module _ (x : Says) (t t' : Tree) (root : ℕ) (f f' : Facts) (read read' : ℕ 
   not_new : (k b : ℕ) → parent_of t k ≡ Some b → New k → ⊥
   not_new k b e n = not_none (sym (c.fresh k n).1 ∙ e)
 
-  holders : (k p : ℕ) → holder_of t k ≡ Some p → holder_of t' k ≡ Some p
+  holders : (k p : ℕ) → parent_operation_of t k ≡ Some p → parent_operation_of t' k ≡ Some p
   holders k p e =
       let h = holder_is t k p e in
       holder_by t' k h.0 p (c.parents k (not_new k h.0 h.1) ∙ h.1) (block_holders h.0 ∙ h.2)
@@ -94,11 +94,11 @@ module _ (x : Says) (t t' : Tree) (root : ℕ) (f f' : Facts) (read read' : ℕ 
   pub holds_too : (op b : ℕ) → HoldsBlock t op b → HoldsBlock t' op b
   holds_too op b (k, e, within) = (k, block_holders b ∙ e, within_more t t' holders within)
 
-  stands_too : (k : ℕ) → IsInReachedBlock t f k → IsInReachedBlock t' f' k
-  stands_too k (b, p, r) = (b, c.parents k (not_new k b p) ∙ p, c.reaches b ∙ r)
+  stands_too : (k : ℕ) → IsInExecutableBlock t f k → IsInExecutableBlock t' f' k
+  stands_too k (b, p, r) = (b, c.parents k (not_new k b p) ∙ p, c.is_executable b ∙ r)
 
-  stands_back : (k : ℕ) → (New k → ⊥) → IsInReachedBlock t' f' k → IsInReachedBlock t f k
-  stands_back k n (b, p, r) = (b, sym (c.parents k n) ∙ p, sym (c.reaches b) ∙ r)
+  stands_back : (k : ℕ) → (New k → ⊥) → IsInExecutableBlock t' f' k → IsInExecutableBlock t f k
+  stands_back k n (b, p, r) = (b, sym (c.parents k n) ∙ p, sym (c.is_executable b) ∙ r)
 
   -- shapes
   count_block : (b : ℕ) → count_arguments (block_at t b) ≡ count_arguments (block_at t' b)
@@ -166,10 +166,10 @@ module _ (x : Says) (t t' : Tree) (root : ℕ) (f f' : Facts) (read read' : ℕ 
       entries r i = let at = slice_in o'.regions r i in count_entry k at.0 r (ap (λ z. slice_get z at.0) regions_were ∙ at.1)
 
   -- what is handed to folds, and what they answer
-  pub handed_same : (k : ℕ) (o' : Operation) (b : WasBefore k o') → handed f' o'.operands ≡ handed f b.operation.operands
+  pub handed_same : (k : ℕ) (o' : Operation) (b : WasBefore k o') → operand_constants f' o'.operands ≡ operand_constants f b.operation.operands
   handed_same k o' b =
-      ap (handed f') b.operands
-      ∙ map_twice (λ v. known (f'.fact v)) (λ v. known (f.fact v)) rename b.operation.operands (λ v i. ap known (c.used k v (subst (In v) b.was i)).0)
+      ap (operand_constants f') b.operands
+      ∙ map_twice (λ v. lattice_constant (f'.lattice_value v)) (λ v. lattice_constant (f.lattice_value v)) rename b.operation.operands (λ v i. ap lattice_constant (c.used k v (subst (In v) b.was i)).0)
 
   pub answers_same : (k : ℕ) (o' : Operation) (b : WasBefore k o') → answers_of x t' f' o' ≡ answers_of x t f b.operation
   answers_same k o' b = ap₂ (λ s ks. x.constants s ks) b.shape (handed_same k o' b)
@@ -183,35 +183,35 @@ module _ (x : Says) (t t' : Tree) (root : ℕ) (f f' : Facts) (read read' : ℕ 
 
   no_results : (k v : ℕ) → (IsInside t' root k → ⊥) → In v (results_of t' k) → read' v ≡ NotAConstant
   no_results k v never i = ⊎_elim
-      (λ n. let p = c.placed k n in absurd (never (inside_block p.0 p.1 (holds_too root p.0 (sound.inside p.0 (sym (c.reaches p.0) ∙ p.2))))))
+      (λ n. let p = c.placed k n in absurd (never (inside_block p.0 p.1 (holds_too root p.0 (sound.inside p.0 (sym (c.is_executable p.0) ∙ p.2))))))
       (λ n. let j = subst (In v) (ap (λ z. z.results) (c.rows k n)) i in c.listed_results k v j ∙ sound.no_results k v (λ inside. never (inside_too root k inside)) j)
       (c.told k)
 
   no_arguments : (b v : ℕ) → (HoldsBlock t' root b → ⊥) → In v (arguments_of t' b) → read' v ≡ NotAConstant
   no_arguments b v never i = let j = subst (In v) (c.arguments b) i in c.listed_arguments b v j ∙ sound.no_arguments b v (λ h. never (holds_too root b h)) j
 
-  held : (b k : ℕ) → IsTrue (f'.reaches b) → block_holder_of t' b ≡ Some k → (k ≡ root) ⊎ IsInReachedBlock t' f' k
-  held b k r e = ⊎_elim (λ s. inl s) (λ s. inr (stands_too k s)) (sound.held b k (sym (c.reaches b) ∙ r) (sym (block_holders b) ∙ e))
+  held : (b k : ℕ) → IsTrue (f'.is_executable b) → block_parent_operation_of t' b ≡ Some k → (k ≡ root) ⊎ IsInExecutableBlock t' f' k
+  held b k r e = ⊎_elim (λ s. inl s) (λ s. inr (stands_too k s)) (sound.held b k (sym (c.is_executable b) ∙ r) (sym (block_holders b) ∙ e))
 
-  root_entries : (r b : ℕ) → In r (regions_of t' root) → first_of (layout_of t' r) None ≡ Some b → IsTrue (f'.reaches b) × ((v : ℕ) → In v (arguments_of t' b) → read' v ≡ NotAConstant)
+  root_entries : (r b : ℕ) → In r (regions_of t' root) → first_of (layout_of t' r) None ≡ Some b → IsTrue (f'.is_executable b) × ((v : ℕ) → In v (arguments_of t' b) → read' v ≡ NotAConstant)
   root_entries r b i e = ⊎_elim
       (λ n. absurd (not_in r (regions_of t' root) (c.childless root n) i))
       (λ n.
       let y = sound.root_entries r b (subst (In r) (ap (λ z. z.regions) (c.rows root n)) i) (ap (λ z. first_of z None) (sym (c.layouts r)) ∙ e) in
-      (c.reaches b ∙ y.0, λ v j. let u = subst (In v) (c.arguments b) j in c.listed_arguments b v u ∙ y.1 v u))
+      (c.is_executable b ∙ y.0, λ v j. let u = subst (In v) (c.arguments b) j in c.listed_arguments b v u ∙ y.1 v u))
       (c.told root)
 
-  entries : (k i r b : ℕ) (o : Operation) → IsInReachedBlock t' f' k → op_at t' k ≡ Some o → slice_get o.regions i ≡ Some r → first_of (layout_of t' r) None ≡ Some b → IsTrue (f'.reaches b) × AreBelowNamed x t' read' read' o i b
+  entries : (k i r b : ℕ) (o : Operation) → IsInExecutableBlock t' f' k → op_at t' k ≡ Some o → slice_get o.regions i ≡ Some r → first_of (layout_of t' r) None ≡ Some b → IsTrue (f'.is_executable b) × AreBelowNamed x t' read' read' o i b
   entries k i r b o' stands at there e = by (c.told k)
     where
-      by : New k ⊎ (New k → ⊥) → IsTrue (f'.reaches b) × AreBelowNamed x t' read' read' o' i b
+      by : New k ⊎ (New k → ⊥) → IsTrue (f'.is_executable b) × AreBelowNamed x t' read' read' o' i b
       by (inl n) = absurd (no_item i r o'.regions (sym (op_shows t' k o' at).regions ∙ c.childless k n) there)
-      by (inr n) = (c.reaches b ∙ old.0, arguments)
+      by (inr n) = (c.is_executable b ∙ old.0, arguments)
         where
           b4 : WasBefore k o'
           b4 = before k n o' at
 
-          old : IsTrue (f.reaches b) × AreBelowNamed x t read read b4.operation i b
+          old : IsTrue (f.is_executable b) × AreBelowNamed x t read read b4.operation i b
           old = sound.entries k i r b b4.operation (stands_back k n stands) b4.stands (ap (λ z. slice_get z i) (sym b4.regions) ∙ there) (ap (λ z. first_of z None) (sym (c.layouts r)) ∙ e)
 
           below : (v : ℕ) → read' v ≡ read v → (a : Option ℕ) → IsBelowNamed read read b4.operation.operands a v → IsBelowNamed read' read' o'.operands a v
@@ -228,12 +228,12 @@ module _ (x : Says) (t t' : Tree) (root : ℕ) (f f' : Facts) (read read' : ℕ 
               subst (λ s. IsBelowNamed read' read' o'.operands (x.entry_operands s i j) v) (sym b4.shape)
               (below v same (x.entry_operands (shape_of x.meaning t b4.operation) i j) (old.1 j v at_old))
 
-  jumps : (k i b : ℕ) (o : Operation) → IsInReachedBlock t' f' k → op_at t' k ≡ Some o → IsFeasibleEdge x t' f' o i b → IsTrue (f'.reaches b) × ((j v : ℕ) → slice_get (arguments_of t' b) j ≡ Some v → (read' v ≡ NotAConstant) ⊎ (IsTrue (x.meaning.is_branch o.head) × ((y : ℕ) → Forwards x t' o i j y → AtMost (read' v) (read' y))))
+  jumps : (k i b : ℕ) (o : Operation) → IsInExecutableBlock t' f' k → op_at t' k ≡ Some o → IsFeasibleEdge x t' f' o i b → IsTrue (f'.is_executable b) × ((j v : ℕ) → slice_get (arguments_of t' b) j ≡ Some v → (read' v ≡ NotAConstant) ⊎ (IsTrue (x.meaning.is_branch o.head) × ((y : ℕ) → Forwards x t' o i j y → AtMost (read' v) (read' y))))
   jumps k i b o' stands at go = by (c.told k)
     where
-      by : New k ⊎ (New k → ⊥) → IsTrue (f'.reaches b) × ((j v : ℕ) → slice_get (arguments_of t' b) j ≡ Some v → (read' v ≡ NotAConstant) ⊎ (IsTrue (x.meaning.is_branch o'.head) × ((y : ℕ) → Forwards x t' o' i j y → AtMost (read' v) (read' y))))
+      by : New k ⊎ (New k → ⊥) → IsTrue (f'.is_executable b) × ((j v : ℕ) → slice_get (arguments_of t' b) j ≡ Some v → (read' v ≡ NotAConstant) ⊎ (IsTrue (x.meaning.is_branch o'.head) × ((y : ℕ) → Forwards x t' o' i j y → AtMost (read' v) (read' y))))
       by (inl n) = absurd (no_item i b o'.successors (sym (op_shows t' k o' at).successors ∙ c.edgeless k n) go.0)
-      by (inr n) = (c.reaches b ∙ old.0, arguments)
+      by (inr n) = (c.is_executable b ∙ old.0, arguments)
         where
           b4 : WasBefore k o'
           b4 = before k n o' at
@@ -241,13 +241,13 @@ module _ (x : Says) (t t' : Tree) (root : ℕ) (f f' : Facts) (read read' : ℕ 
           went : IsFeasibleEdge x t f b4.operation i b
           went = (ap (λ z. slice_get z i) (sym b4.successors) ∙ go.0, λ folds. feasible_was (go.1 (ap x.can_fold_branch b4.head ∙ folds)))
             where
-              feasible_was : In b (x.feasible (shape_of x.meaning t' o') o'.successors (handed f' o'.operands)) → In b (x.feasible (shape_of x.meaning t b4.operation) b4.operation.successors (handed f b4.operation.operands))
+              feasible_was : In b (x.feasible (shape_of x.meaning t' o') o'.successors (operand_constants f' o'.operands)) → In b (x.feasible (shape_of x.meaning t b4.operation) b4.operation.successors (operand_constants f b4.operation.operands))
               feasible_was j =
                   subst (λ z. In b (x.feasible (shape_of x.meaning t b4.operation) b4.operation.successors z)) (handed_same k o' b4)
-                  (subst (λ z. In b (x.feasible z b4.operation.successors (handed f' o'.operands))) b4.shape
-                  (subst (λ z. In b (x.feasible (shape_of x.meaning t' o') z (handed f' o'.operands))) b4.successors j))
+                  (subst (λ z. In b (x.feasible z b4.operation.successors (operand_constants f' o'.operands))) b4.shape
+                  (subst (λ z. In b (x.feasible (shape_of x.meaning t' o') z (operand_constants f' o'.operands))) b4.successors j))
 
-          old : IsTrue (f.reaches b) × ((j v : ℕ) → slice_get (arguments_of t b) j ≡ Some v → (read v ≡ NotAConstant) ⊎ (IsTrue (x.meaning.is_branch b4.operation.head) × ((y : ℕ) → Forwards x t b4.operation i j y → AtMost (read v) (read y))))
+          old : IsTrue (f.is_executable b) × ((j v : ℕ) → slice_get (arguments_of t b) j ≡ Some v → (read v ≡ NotAConstant) ⊎ (IsTrue (x.meaning.is_branch b4.operation.head) × ((y : ℕ) → Forwards x t b4.operation i j y → AtMost (read v) (read y))))
           old = sound.jumps k i b b4.operation (stands_back k n stands) b4.stands went
 
           arguments : (j v : ℕ) → slice_get (arguments_of t' b) j ≡ Some v → (read' v ≡ NotAConstant) ⊎ (IsTrue (x.meaning.is_branch o'.head) × ((y : ℕ) → Forwards x t' o' i j y → AtMost (read' v) (read' y)))
@@ -267,7 +267,7 @@ module _ (x : Says) (t t' : Tree) (root : ℕ) (f f' : Facts) (read read' : ℕ 
               same : read' v ≡ read v
               same = c.listed_arguments b v (in_slice (arguments_of t b) j v at_old)
 
-  results : (k i v : ℕ) (o : Operation) → IsInReachedBlock t' f' k → op_at t' k ≡ Some o → slice_get o.results i ≡ Some v → IsRightResult x t' f' read' k i v o
+  results : (k i v : ℕ) (o : Operation) → IsInExecutableBlock t' f' k → op_at t' k ≡ Some o → slice_get o.results i ≡ Some v → IsRightResult x t' f' read' k i v o
   results k i v o' stands at listed = by (c.told k)
     where
       by : New k ⊎ (New k → ⊥) → IsRightResult x t' f' read' k i v o'
@@ -296,13 +296,13 @@ module _ (x : Says) (t t' : Tree) (root : ℕ) (f f' : Facts) (read read' : ℕ 
 
           right : IsRightResult x t f read k i v b4.operation → IsRightResult x t' f' read' k i v o'
           right (inl z) = inl (same ∙ z)
-          right (inr (inl (folds, below))) = inr (inl (ap x.can_fold b4.head ∙ folds, λ a e. subst (λ q. AtMost q (answered a)) (sym same) (below a (ap (λ z. slice_get z i) (sym (answers_same k o' b4)) ∙ e))))
+          right (inr (inl (folds, below))) = inr (inl (ap x.can_fold b4.head ∙ folds, λ a e. subst (λ q. AtMost q (value_of_answer a)) (sym same) (below a (ap (λ z. slice_get z i) (sym (answers_same k o' b4)) ∙ e))))
           right (inr (inr (d, g, z))) = inr (inr (d, still d g, same ∙ z))
 
   pub carried_sound : AreSound x t' root f' read'
   carried_sound = record {
     finer = c.finer;
-    inside = λ b r. holds_too root b (sound.inside b (sym (c.reaches b) ∙ r));
+    inside = λ b r. holds_too root b (sound.inside b (sym (c.is_executable b) ∙ r));
     held = held;
     no_results = no_results;
     no_arguments = no_arguments;

@@ -1,7 +1,7 @@
 -- What passes may do to a tree, one after the other and on an operation inside another.
 use Rattle.std.proofs.Common.{◌≡◌, ◌⊎◌, inl, inr, ℕ, ◌≤◌, [], length, Option, Some, None, IsSome, IsTrue, refl, sym, ap, ◌∙◌, subst}
-use Rattle.pliron_core.specs.Tree.{Tree, In, IsLive, IsInside, IsInside.Directly, IsInside.Deeper, IsWithin, HoldsBlock, head_of, successors_of, block_parent_of, last_of, region_parent_of, holder_of, up_from}
-use Rattle.pliron_core.specs.Joined.{IsTree}
+use Rattle.pliron_core.specs.Tree.{Tree, In, IsLive, IsInside, IsInside.Directly, IsInside.Deeper, IsWithin, HoldsBlock, head_of, successors_of, block_parent_of, last_of, region_parent_of, parent_operation_of, up_from}
+use Rattle.pliron_core.specs.Invariant.{IsTree}
 use Rattle.pliron_core.specs.Changes.{IsSameTree, IsInsideChange, IsOutside, IsBlockOutside}
 use Rattle.pliron_core.proofs.SameTreeLemmas.{same_live}
 use Rattle.pliron_core.proofs.HoldingLemmas.{deeper, holds_deeper, inside_or, holds_or}
@@ -28,7 +28,7 @@ change_trans m t u v op a b = record {
   runs = keeps_trans m t u v a.runs b.runs;
 }
 
--- spent keys are nothing to it
+-- erased handles are nothing to it
 pub same_passes : (m : Meaning) (t u : Tree) (op : ℕ) → IsTree t → IsTree u → IsSameTree t u → length t.operations ≤ length u.operations → IsLive t op → IsWellLinked m t op → IsPassChange m t u op
 same_passes m t u op wt wu s longer live linked = record {
   stands = (same_live t u wt.joined wu.joined s op).0 live;
@@ -55,7 +55,7 @@ module _ (m : Meaning) (t u : Tree) (op : ℕ) (wt : IsTree t) (wu : IsTree u) (
       climb : (x : ℕ) → IsOutside t op x → IsInside u root x → (IsInside t root x → ⊥) → ⊥
       climb x ox (Directly e) apart = apart (Directly (sym (holder_kept t u op wt.joined (kept_of t u op h) x ox) ∙ e))
       climb x ox (Deeper p e j) apart =
-          let same : holder_of t x ≡ Some p = sym (holder_kept t u op wt.joined (kept_of t u op h) x ox) ∙ e in
+          let same : parent_operation_of t x ≡ Some p = sym (holder_kept t u op wt.joined (kept_of t u op h) x ox) ∙ e in
           climb p (holder_outside t op wt.joined x p ox same) j (λ z. apart (Deeper p same z))
 
   within_before : (root k : ℕ) → IsLive t root → IsOutside t op root → IsWithin u root k → IsOutside t op k → IsWithin t root k
@@ -122,7 +122,7 @@ module _ (m : Meaning) (t u : Tree) (op : ℕ) (wt : IsTree t) (wu : IsTree u) (
   links_stay root live live_u old new = elim (inside_or u op root wu.joined.rooted) [ inl j ↦ linked_inside m u op root j new | inr apart ↦ linked_outside root (h.no_new_operation root (live_u, apart)) live_u old new ]
 
 -- what a pass does on an operation that op holds, seen from op
-pub change_widen : (m : Meaning) (t u : Tree) (op b : ℕ) → IsTree t → IsTree u → holder_of t b ≡ Some op → IsWellLinked m t op → IsPassChange m t u b → IsPassChange m t u op
+pub change_widen : (m : Meaning) (t u : Tree) (op b : ℕ) → IsTree t → IsTree u → parent_operation_of t b ≡ Some op → IsWellLinked m t op → IsPassChange m t u b → IsPassChange m t u op
 change_widen m t u op b wt wu up linked c = record {
   stands = holder_stands t u op b wt.joined up c.inside;
   linked = links_stay m t u b wt wu c.inside op (holder_is_outside t op b wt.joined up).0 (holder_stands t u op b wt.joined up c.inside) linked c.linked;

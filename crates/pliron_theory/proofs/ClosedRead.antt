@@ -5,7 +5,7 @@ use Rattle.pliron_core.proofs.HoldingLemmas.{in_slice}
 use Rattle.pliron_laws.specs.Folding.{AnswersTrue, AnswersJumps}
 use Rattle.pliron_laws.proofs.Records.{op_shows}
 use Rattle.pliron_theory.proofs.SoundRuns.{PassesForwarded, NamesWell}
-use Rattle.pliron_theory.specs.Facts.{Says}
+use Rattle.pliron_theory.specs.LatticeValues.{Says}
 use Rattle.pliron_theory.specs.Sound.{read_of, ClosedFactsLaw}
 use Rattle.pliron_theory.proofs.SoundEverywhere.{sound_facts}
 use Rattle.pliron_theory.proofs.ClosedSound.{read_fold, read_argument, closed_sound}

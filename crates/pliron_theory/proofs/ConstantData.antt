@@ -2,20 +2,20 @@
 use Rattle.std.proofs.Common.{◌≡◌, ◌≢◌, ◌⊎◌, inl, inr, ℕ, List, [], ◌∷◌, map, Option, Some, None, slice_get, refl, sym, ap, ap₂, ◌∙◌, subst, arith, if◌then◌else◌}
 use Rattle.std.proofs.lemmas.Bool.{cases_eq, eq-eqb}
 use Rattle.pliron_core.specs.Uses.{replace_target}
-use Rattle.pliron_core.specs.Writes.{replaced}
+use Rattle.pliron_core.specs.Writes.{after_replacing}
 use Rattle.pliron_core.proofs.WalkLemmas.{inside_first, place_of, place_listed}
 use Rattle.pliron_core.specs.declared.context.Def.TheVariants.{Result, Argument}
 use Rattle.pliron_core.specs.Tree.{Tree, In, IsLive, operands_of, results_of, regions_of, arguments_of, definition_of}
-use Rattle.pliron_core.specs.Joined.{IsTree}
+use Rattle.pliron_core.specs.Invariant.{IsTree}
 use Rattle.pliron_core.proofs.HoldingLemmas.{some_is, slice_in, in_slice}
 use Rattle.pliron_laws.specs.Datum.{Datum, Empty, Meaning, Move, Give, Visit, Emit}
 use Rattle.pliron_laws.specs.Tree.{Block, op_at, entry_block, shape_of}
-use Rattle.pliron_laws.specs.States.{Environment, State, bound, bind, data_of, input_of}
+use Rattle.pliron_laws.specs.States.{Environment, State, environment_with, bind, data_of, input_of}
 use Rattle.pliron_laws.specs.Machine.{start}
 use Rattle.pliron_theory.specs.Keeps.{IsFit, KeepsRuns}
 use Rattle.pliron_theory.specs.Renaming.{MayUse, RunReaches, HasSameDatum, GivesConstant, IsReadAs}
 use Rattle.pliron_theory.proofs.Simulation.{agree_trans}
-use Rattle.pliron_theory.proofs.Frames.{Facts, Makes, Rules, Holding, holding_kept}
+use Rattle.pliron_theory.proofs.Frames.{LatticeValues, Makes, Rules, Holding, holding_kept}
 use Rattle.pliron_laws.proofs.Records.{op_shows, block_shows, entry_shows}
 use Rattle.pliron_laws.proofs.BindingLemmas.{bind_other, bound_it}
 use Rattle.pliron_theory.proofs.Reached.{reached_holds}
@@ -30,11 +30,11 @@ IsOnly v c env = (d : Datum) → env v ≡ Some d → d ≡ c
 only_still : (env env1 : Environment) (v : ℕ) (c : Datum) → env1 v ≡ env v → IsOnly v c env → IsOnly v c env1
 only_still env env1 v c same only d e = only d (sym same ∙ e)
 
-only_bound : (env : Environment) (v : ℕ) (c : Datum) → IsOnly v c (bound env v c)
+only_bound : (env : Environment) (v : ℕ) (c : Datum) → IsOnly v c (environment_with env v c)
 only_bound env v c d e = sym (some_is (sym (bound_it env v c v refl) ∙ e))
 
 module _ (m : Meaning) (t : Tree) (w : IsTree t) (root n v : ℕ) (c : Datum) (g : GivesConstant m t n v c) (apart : root ≢ n) where
-  abbrev pub facts : Facts
+  abbrev pub facts : LatticeValues
   facts = record {
     Always = IsOnly v c;
     Moves = λ env h rest memo answer. (others : List ℕ) → rest ≡ n ∷ others → (memo ≡ Empty) × (answer ≡ None);
@@ -62,7 +62,7 @@ module _ (m : Meaning) (t : Tree) (w : IsTree t) (root n v : ℕ) (c : Datum) (g
   given_only env env1 k ds f e only = elim (cases_eq k n) [
     | inl s ↦
         let h : bind env (v ∷ []) (c ∷ []) ≡ Some env1 = ap₂ (λ p q. bind env p q) (sym (ap (results_of t) s ∙ g.results)) (sym (f s)) ∙ e in
-        let same : bound env v c ≡ env1 = some_is h in
+        let same : environment_with env v c ≡ env1 = some_is h in
         subst (IsOnly v c) same (only_bound env v c)
     | inr ne ↦ only_still env env1 v c (bind_other (results_of t k) ds env env1 e v (λ i. ne (only_result k i))) only
   ]
@@ -140,17 +140,17 @@ read_constant m t n v c w g root f s k rest j e none u = there.1 ∙ ap Some (go
     go (inr ne) = constant_datum m t w root n v c g ne s j there.0 there.1
 
 -- a value that is read as a constant may be replaced by a constant's result
-pub same_by_constant : (m : Meaning) (t : Tree) (old new n : ℕ) (c : Datum) → IsTree t → IsTree (replaced t old new) → GivesConstant m (replaced t old new) n new c → (root : ℕ) → IsFit m t root → IsFit m (replaced t old new) root → IsReadAs m t old c root → HasSameDatum m t (replaced t old new) old new root
+pub same_by_constant : (m : Meaning) (t : Tree) (old new n : ℕ) (c : Datum) → IsTree t → IsTree (after_replacing t old new) → GivesConstant m (after_replacing t old new) n new c → (root : ℕ) → IsFit m t root → IsFit m (after_replacing t old new) root → IsReadAs m t old c root → HasSameDatum m t (after_replacing t old new) old new root
 same_by_constant m t old new n c w w' g root f f' reads s s' k rest i j env e e' none none' u =
-    let u' : In new (operands_of (replaced t old new) k) = subst (In new) (sym ((replaced_renamed t old new).operands k)) (In-replaced old new (operands_of t k) u) in
-    reads s k rest i e none u ∙ sym (env new ∙ read_constant m (replaced t old new) n new c w' g root f' s' k rest j e' none' u')
+    let u' : In new (operands_of (after_replacing t old new) k) = subst (In new) (sym ((replaced_renamed t old new).operands k)) (In-replaced old new (operands_of t k) u) in
+    reads s k rest i e none u ∙ sym (env new ∙ read_constant m (after_replacing t old new) n new c w' g root f' s' k rest j e' none' u')
 
-pub constant_keeps : (m : Meaning) (t : Tree) (old new n : ℕ) (c : Datum) → IsTree t → IsTree (replaced t old new) → GivesConstant m (replaced t old new) n new c → ((root : ℕ) → IsFit m t root → (user : ℕ) → In old (operands_of t user) → MayUse t root user new) → ((root : ℕ) → IsFit m t root → IsReadAs m t old c root) → KeepsRuns m t (replaced t old new)
+pub constant_keeps : (m : Meaning) (t : Tree) (old new n : ℕ) (c : Datum) → IsTree t → IsTree (after_replacing t old new) → GivesConstant m (after_replacing t old new) n new c → ((root : ℕ) → IsFit m t root → (user : ℕ) → In old (operands_of t user) → MayUse t root user new) → ((root : ℕ) → IsFit m t root → IsReadAs m t old c root) → KeepsRuns m t (after_replacing t old new)
 constant_keeps m t old new n c w w' g uses reads = replaced_keeps m t old new uses (λ root f f'. same_by_constant m t old new n c w w' g root f f' (reads root f))
 
 -- a tree came from another one and keeps its runs; then the value may be replaced by a constant's result
 -- where the roots of that other one read it as the constant
-pub put_constant_keeps : (m : Meaning) (t u : Tree) (old new n : ℕ) (c : Datum) → KeepsRuns m t u → IsTree u → IsTree (replaced u old new) → GivesConstant m (replaced u old new) n new c → ((root : ℕ) → IsFit m u root → (user : ℕ) → In old (operands_of u user) → MayUse u root user new) → ((root : ℕ) → IsFit m t root → IsLive u root → IsReadAs m u old c root) → KeepsRuns m t (replaced u old new)
+pub put_constant_keeps : (m : Meaning) (t u : Tree) (old new n : ℕ) (c : Datum) → KeepsRuns m t u → IsTree u → IsTree (after_replacing u old new) → GivesConstant m (after_replacing u old new) n new c → ((root : ℕ) → IsFit m u root → (user : ℕ) → In old (operands_of u user) → MayUse u root user new) → ((root : ℕ) → IsFit m t root → IsLive u root → IsReadAs m u old c root) → KeepsRuns m t (after_replacing u old new)
 put_constant_keeps m t u old new n c keeps w w' g uses reads = record {
   agrees = λ root f l.
       let fu = keeps.stays root f l in
@@ -162,7 +162,7 @@ put_constant_keeps m t u old new n c keeps w w' g uses reads = record {
 }
 
 -- and each value that they read as a constant is still read so
-pub put_constant_reads : (m : Meaning) (t u : Tree) (old new n : ℕ) (c : Datum) → KeepsRuns m t u → IsTree u → IsTree (replaced u old new) → GivesConstant m (replaced u old new) n new c → ((root : ℕ) → IsFit m u root → (user : ℕ) → In old (operands_of u user) → MayUse u root user new) → (root : ℕ) → IsFit m t root → IsLive u root → IsReadAs m u old c root → (v : ℕ) (d : Datum) → v ≢ new → IsReadAs m u v d root → IsReadAs m (replaced u old new) v d root
+pub put_constant_reads : (m : Meaning) (t u : Tree) (old new n : ℕ) (c : Datum) → KeepsRuns m t u → IsTree u → IsTree (after_replacing u old new) → GivesConstant m (after_replacing u old new) n new c → ((root : ℕ) → IsFit m u root → (user : ℕ) → In old (operands_of u user) → MayUse u root user new) → (root : ℕ) → IsFit m t root → IsLive u root → IsReadAs m u old c root → (v : ℕ) (d : Datum) → v ≢ new → IsReadAs m u v d root → IsReadAs m (after_replacing u old new) v d root
 put_constant_reads m t u old new n c keeps w w' g uses root f l reads v d ne known =
     let fu = keeps.stays root f l in
     replaced_reads m u old new root fu (same_by_constant m u old new n c w w' g root fu (replaced_fit m u old new root fu (uses root fu)) reads) v d ne known

@@ -6,8 +6,8 @@ use Rattle.pliron_core.specs.declared.attrs.Head.{Head}
 use Rattle.pliron_core.specs.declared.attrs.AttrObj.{AttrObj}
 use Rattle.pliron_core.specs.Lists.{In, last_of, put_before}
 use Rattle.pliron_core.specs.Tree.{Tree, IsBlock, no_entry, row_of, head_of, operands_of, successors_of, results_of, regions_of, parent_of, body_of, block_parent_of}
-use Rattle.pliron_core.specs.Joined.{IsTree}
-use Rattle.pliron_core.specs.Writes.{created, placed, put_first, put_next_to}
+use Rattle.pliron_core.specs.Invariant.{IsTree}
+use Rattle.pliron_core.specs.Writes.{after_creating, after_placing, put_first, put_next_to}
 use Rattle.pliron_core.proofs.BesideLemmas.{IsBeside, created_beside}
 use Rattle.pliron_core.proofs.GrownLemmas.{get_grown, get_last_same}
 use Rattle.pliron_core.proofs.HoldingLemmas.{some_is}
@@ -43,54 +43,54 @@ module _ (m : Meaning) (t : Tree) (head : Head) (attr : AttrObj) (w : IsTree t) 
   n = length t.operations
 
   abbrev d : Tree
-  d = created t head 1 0
+  d = after_creating t head 1 0
 
-  pub row : row_of (created t head 1 0) (length t.operations) ≡ record { head = Some head; results = length t.definitions ∷ []; regions = [] }
+  pub row : row_of (after_creating t head 1 0) (length t.operations) ≡ record { head = Some head; results = length t.definitions ∷ []; regions = [] }
   row = get_last_same t.operations _ no_entry
 
-  pub no_operands : operands_of (created t head 1 0) (length t.operations) ≡ []
+  pub no_operands : operands_of (after_creating t head 1 0) (length t.operations) ≡ []
   no_operands = get_grown t.operands [] (length t.operations) ∙ get_or_past t.operands (length t.operations) [] (omega (arith, w.keys.operands))
 
-  pub no_successors : successors_of (created t head 1 0) (length t.operations) ≡ []
+  pub no_successors : successors_of (after_creating t head 1 0) (length t.operations) ≡ []
   no_successors = get_grown t.successors [] (length t.operations) ∙ get_or_past t.successors (length t.operations) [] (omega (arith, w.keys.successors))
 
   module _ (block : ℕ) (body : List ℕ) where
     abbrev u : Tree
-    u = placed (created t head 1 0) (length t.operations) block body
+    u = after_placing (after_creating t head 1 0) (length t.operations) block body
 
-    admitted : IsAdmitted m (placed (created t head 1 0) (length t.operations) block body) (length t.operations)
+    admitted : IsAdmitted m (after_placing (after_creating t head 1 0) (length t.operations) block body) (length t.operations)
     admitted x e =
         let same : x ≡ head = some_is (sym e ∙ ap (λ z. z.head) row) in
-        subst (λ h. IsTrue (m.admits h (length (operands_of (created t head 1 0) (length t.operations))) (length (results_of (created t head 1 0) (length t.operations))) (length (successors_of (created t head 1 0) (length t.operations))) (length (regions_of (created t head 1 0) (length t.operations))))) (sym same)
-        (subst (λ a. IsTrue (m.admits head (length a) (length (results_of (created t head 1 0) (length t.operations))) (length (successors_of (created t head 1 0) (length t.operations))) (length (regions_of (created t head 1 0) (length t.operations))))) (sym no_operands)
-        (subst (λ a. IsTrue (m.admits head 0 (length a.results) (length (successors_of (created t head 1 0) (length t.operations))) (length a.regions))) (sym row)
+        subst (λ h. IsTrue (m.admits h (length (operands_of (after_creating t head 1 0) (length t.operations))) (length (results_of (after_creating t head 1 0) (length t.operations))) (length (successors_of (after_creating t head 1 0) (length t.operations))) (length (regions_of (after_creating t head 1 0) (length t.operations))))) (sym same)
+        (subst (λ a. IsTrue (m.admits head (length a) (length (results_of (after_creating t head 1 0) (length t.operations))) (length (successors_of (after_creating t head 1 0) (length t.operations))) (length (regions_of (after_creating t head 1 0) (length t.operations))))) (sym no_operands)
+        (subst (λ a. IsTrue (m.admits head 0 (length a.results) (length (successors_of (after_creating t head 1 0) (length t.operations))) (length a.regions))) (sym row)
         (subst (λ a. IsTrue (m.admits head 0 1 (length a) 0)) (sym no_successors) makes.admitted)))
 
-    gives : GivesNow m (placed (created t head 1 0) (length t.operations) block body) (length t.operations)
+    gives : GivesNow m (after_placing (after_creating t head 1 0) (length t.operations) block body) (length t.operations)
     gives o e ds len =
-        let s = op_shows (placed (created t head 1 0) (length t.operations) block body) (length t.operations) o e in
+        let s = op_shows (after_placing (after_creating t head 1 0) (length t.operations) block body) (length t.operations) o e in
         let h : o.head ≡ head = some_is (sym s.head ∙ ap (λ z. z.head) row) in
         let a : o.operands ≡ [] = sym s.operands ∙ no_operands in
         let b : length o.results ≡ 1 = ap length (sym s.results ∙ ap (λ z. z.results) row) in
         let c : o.successors ≡ [] = sym s.successors ∙ no_successors in
         let r : o.regions ≡ [] = sym s.regions ∙ ap (λ z. z.regions) row in
         let none : ds ≡ [] = no_data ds (len ∙ ap length a) in
-        (datum_of attr ∷ [], ap (λ z. m.act z Empty ds) (shape_plain m (placed (created t head 1 0) (length t.operations) block body) o head plain h a b c r) ∙ ap (m.act (constant_shape head) Empty) none ∙ makes.gives, sym b)
+        (datum_of attr ∷ [], ap (λ z. m.act z Empty ds) (shape_plain m (after_placing (after_creating t head 1 0) (length t.operations) block body) o head plain h a b c r) ∙ ap (m.act (constant_shape head) Empty) none ∙ makes.gives, sym b)
 
-    module _ (w' : IsTree (placed (created t head 1 0) (length t.operations) block body)) (range : block < length t.bodies) (is : swept (nat_eq (length t.operations)) body ≡ body_of t block) (last : last_of None body ≡ Some (length t.operations) → body_of t block ≡ []) where
-      s : IsBeside t (created t head 1 0) (length t.operations)
+    module _ (w' : IsTree (after_placing (after_creating t head 1 0) (length t.operations) block body)) (range : block < length t.bodies) (is : swept (nat_eq (length t.operations)) body ≡ body_of t block) (last : last_of None body ≡ Some (length t.operations) → body_of t block ≡ []) where
+      s : IsBeside t (after_creating t head 1 0) (length t.operations)
       s = created_beside t head 1 0 w
 
-      no_terminator : (x : Head) → head_of (created t head 1 0) (length t.operations) ≡ Some x → m.is_terminator x ≡ false
+      no_terminator : (x : Head) → head_of (after_creating t head 1 0) (length t.operations) ≡ Some x → m.is_terminator x ≡ false
       no_terminator x e = ap m.is_terminator (some_is (sym e ∙ ap (λ z. z.head) row)) ∙ makes.no_terminator
 
-      longer : length t.operations ≤ length (created t head 1 0).operations
+      longer : length t.operations ≤ length (after_creating t head 1 0).operations
       longer = let k = s.key in omega (arith, k)
 
-      put_well : KeepsRuns m t (placed (created t head 1 0) (length t.operations) block body) × KeepsReads m t (placed (created t head 1 0) (length t.operations) block body)
+      put_well : KeepsRuns m t (after_placing (after_creating t head 1 0) (length t.operations) block body) × KeepsReads m t (after_placing (after_creating t head 1 0) (length t.operations) block body)
       put_well = (
-        made_keeps m t (created t head 1 0) (length t.operations) block body w w' s range is last no_operands no_successors (ap (λ z. z.regions) row) admitted no_terminator gives (omega arith) longer,
-        made_reads m t (created t head 1 0) (length t.operations) block body w w' s range is last no_operands no_successors (ap (λ z. z.regions) row) admitted no_terminator gives (omega arith) longer,
+        made_keeps m t (after_creating t head 1 0) (length t.operations) block body w w' s range is last no_operands no_successors (ap (λ z. z.regions) row) admitted no_terminator gives (omega arith) longer,
+        made_reads m t (after_creating t head 1 0) (length t.operations) block body w w' s range is last no_operands no_successors (ap (λ z. z.regions) row) admitted no_terminator gives (omega arith) longer,
       )
 
   fresh : (b : ℕ) → In (length t.operations) (body_of t b) → ⊥
@@ -110,14 +110,14 @@ module _ (m : Meaning) (t : Tree) (head : Head) (attr : AttrObj) (w : IsTree t) 
       go (inr le) = absurd (subst (In x) (get_or_past t.bodies b [] le) i)
 
   -- before an operation that stands in a block
-  pub before_well : (at block : ℕ) → parent_of t at ≡ Some block → IsTree (put_next_to (created t head 1 0) (length t.operations) at (Some block)) → KeepsRuns m t (put_next_to (created t head 1 0) (length t.operations) at (Some block)) × KeepsReads m t (put_next_to (created t head 1 0) (length t.operations) at (Some block))
+  pub before_well : (at block : ℕ) → parent_of t at ≡ Some block → IsTree (put_next_to (after_creating t head 1 0) (length t.operations) at (Some block)) → KeepsRuns m t (put_next_to (after_creating t head 1 0) (length t.operations) at (Some block)) × KeepsReads m t (put_next_to (after_creating t head 1 0) (length t.operations) at (Some block))
   before_well at block e w' =
       let i = w.bodies.listed at block e in
       put_well block (put_before at (length t.operations) (body_of t block)) w' (range_of block at i) (swept_put at (length t.operations) (body_of t block) (fresh block) i)
       (λ f. absurd (put_not_last at (length t.operations) (body_of t block) None (fresh block) (λ g. let x : None ≡ Some (length t.operations) = g in absurd (cc)) f))
 
   -- first in a block
-  pub first_well : (block : ℕ) → IsBlock t block → IsTree (put_first (created t head 1 0) (length t.operations) block) → KeepsRuns m t (put_first (created t head 1 0) (length t.operations) block) × KeepsReads m t (put_first (created t head 1 0) (length t.operations) block)
+  pub first_well : (block : ℕ) → IsBlock t block → IsTree (put_first (after_creating t head 1 0) (length t.operations) block) → KeepsRuns m t (put_first (after_creating t head 1 0) (length t.operations) block) × KeepsReads m t (put_first (after_creating t head 1 0) (length t.operations) block)
   first_well block is w' =
       put_well block (length t.operations ∷ body_of t block) w' range
       (ap (λ b. keep b (length t.operations) (swept (nat_eq (length t.operations)) (body_of t block))) (eq-eqb (length t.operations) (length t.operations) refl) ∙ swept_all (nat_eq (length t.operations)) (body_of t block) (λ k i. not_it (length t.operations) k (λ e. fresh block (subst (λ z. In z (body_of t block)) e i))))

@@ -2,12 +2,12 @@
 use Rattle.std.proofs.Common.{◌≡◌, ◌≢◌, ◌⊎◌, inl, inr, ⊎_elim, ℕ, zero, suc, Bool, true, false, true≢false, nat_eq, if◌then◌else◌, List, [], ◌∷◌, length, map, Option, Some, None, IsSome, is_some, slice_get, remove, refl, sym, ap, ap₂, ◌∙◌, subst, arith}
 use Rattle.std.proofs.lemmas.Bool.{cases_eq, eq-eqb}
 use Rattle.pliron_core.specs.Tree.{Tree, In, IsLive, IsInside, IsWithin, first_of, head_of, operands_of, successors_of, regions_of, body_of, arguments_of, block_parent_of, layout_of, region_parent_of, op_of_slot}
-use Rattle.pliron_core.specs.Joined.{IsTree}
+use Rattle.pliron_core.specs.Invariant.{IsTree}
 use Rattle.pliron_core.proofs.ListLemmas.{decide_in}
 use Rattle.pliron_core.proofs.HoldingLemmas.{some_is, some_of, in_slice, slice_in}
 use Rattle.pliron_laws.specs.Datum.{Datum, Empty, Head, Meaning, Shape, Move}
 use Rattle.pliron_laws.specs.Tree.{Operation, op_at, block_with, block_at, and_block, entry_block, count_arguments, shape_of}
-use Rattle.pliron_laws.specs.States.{Environment, bound, bind, prepended, data_of}
+use Rattle.pliron_laws.specs.States.{Environment, environment_with, bind, prepend_optional, data_of}
 use Rattle.pliron_laws.specs.Machine.{entry_in, block_in, step}
 use Rattle.pliron_laws.specs.Agree.{Agree}
 use Rattle.pliron_laws.specs.Acting.{Act, MovesAlike, ActAlike, PassesSame, JumpsSame, pick}
@@ -39,22 +39,22 @@ pub alike_more : (act : Act) (V V' : ℕ → List Datum → List Datum → Type 
 alike_more act V V' G G' s s' first first' v g r = record { begin = moves_more _ _ v g r.begin; later = λ memo input comes. moves_more _ _ v g (r.later memo input comes) }
 
 -- a block is entered without the value of one argument
-bound_gone : (gone : ℕ → Bool) (env env' : Environment) (v : ℕ) (d : Datum) → gone v ≡ true → SameBut gone env env' → SameBut gone (bound env v d) env'
-unfolding bound
+bound_gone : (gone : ℕ → Bool) (env env' : Environment) (v : ℕ) (d : Datum) → gone v ≡ true → SameBut gone env env' → SameBut gone (environment_with env v d) env'
+unfolding environment_with
 bound_gone gone env env' v d g e w l = ap (λ z. if z then Some d else env w) (not_is w v (λ s. true≢false (sym g ∙ ap gone s ∙ l))) ∙ e w l
 
 bind_without : (gone : ℕ → Bool) (v : ℕ) → gone v ≡ true → (vs : List ℕ) (i : ℕ) (env env' : Environment) (ds : List Datum) → slice_get vs i ≡ Some v → length ds ≡ length vs → SameBut gone env env' → EnvsTied (SameBut gone) (bind env vs ds) (bind env' (remove vs i) (remove ds i))
 bind_without gone v g [] i env env' ds e l s = grind arith
 bind_without gone v g (w ∷ vs) i env env' [] e l s = grind arith
-bind_without gone v g (w ∷ vs) zero env env' (d ∷ ds) e l s = let same : w ≡ v = some_is e in bind_same gone vs (bound env w d) env' ds (bound_gone gone env env' w d (ap gone same ∙ g) s)
-bind_without gone v g (w ∷ vs) (suc i) env env' (d ∷ ds) e l s = bind_without gone v g vs i (bound env w d) (bound env' w d) ds e (omega (arith, l)) (bound_same gone env env' s w d)
+bind_without gone v g (w ∷ vs) zero env env' (d ∷ ds) e l s = let same : w ≡ v = some_is e in bind_same gone vs (environment_with env w d) env' ds (bound_gone gone env env' w d (ap gone same ∙ g) s)
+bind_without gone v g (w ∷ vs) (suc i) env env' (d ∷ ds) e l s = bind_without gone v g vs i (environment_with env w d) (environment_with env' w d) ds e (omega (arith, l)) (bound_same gone env env' s w d)
 
 -- the data at the places that are kept
 pick_data : (env : Environment) (vs : List ℕ) (input : List Datum) → data_of env vs ≡ Some input → (p w : ℕ) → slice_get vs p ≡ Some w → (d : Datum) × (env w ≡ Some d) × (slice_get input p ≡ Some d)
 pick_data env [] input e p w q = grind arith
 pick_data env (x ∷ vs) input e p w q = go (env x) (data_of env vs) refl e p q (λ ds f i r. pick_data env vs ds f i w r)
   where
-    go : (a : Option Datum) (b : Option (List Datum)) → env x ≡ a → prepended a b ≡ Some input → (p : ℕ) → slice_get (x ∷ vs) p ≡ Some w → ((ds : List Datum) → b ≡ Some ds → (i : ℕ) → slice_get vs i ≡ Some w → (d : Datum) × (env w ≡ Some d) × (slice_get ds i ≡ Some d)) → (d : Datum) × (env w ≡ Some d) × (slice_get input p ≡ Some d)
+    go : (a : Option Datum) (b : Option (List Datum)) → env x ≡ a → prepend_optional a b ≡ Some input → (p : ℕ) → slice_get (x ∷ vs) p ≡ Some w → ((ds : List Datum) → b ≡ Some ds → (i : ℕ) → slice_get vs i ≡ Some w → (d : Datum) × (env w ≡ Some d) × (slice_get ds i ≡ Some d)) → (d : Datum) × (env w ≡ Some d) × (slice_get input p ≡ Some d)
     go None b ea f p r again = grind arith
     go (Some d) None ea f p r again = grind arith
     go (Some d) (Some ds) ea f zero r again = (d, ap env (sym (some_is r)) ∙ ea, ap (λ z. slice_get z zero) (sym (some_is f)))
@@ -69,7 +69,7 @@ picked_data env vs (w ∷ ws) (p ∷ ps) input e q =
     let rest : map Some ws ≡ pick ps vs = cc in
     let x = pick_data env vs input e p w (sym here) in
     let y = picked_data env vs ws ps input e rest in
-    (x.0 ∷ y.0, ap₂ prepended x.1 y.1, ap₂ (λ a b. a ∷ b) (sym x.2) y.2)
+    (x.0 ∷ y.0, ap₂ prepend_optional x.1 y.1, ap₂ (λ a b. a ∷ b) (sym x.2) y.2)
 
 module _ (m : Meaning) (t t' : Tree) (block index v : ℕ) (kept : ℕ → List ℕ) (w : IsTree t) (w' : IsTree t') (h : IsArgumentDropped t t' block index v kept) where
   abbrev gone : ℕ → Bool

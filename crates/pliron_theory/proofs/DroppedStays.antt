@@ -4,9 +4,9 @@ use Rattle.std.proofs.Common.{◌≡◌, ◌≢◌, ◌⊎◌, inl, inr, ⊎_eli
 use Rattle.std.proofs.lemmas.Bool.{cases_eq}
 use Rattle.pliron_core.specs.declared.context.Def.{Def}
 use Rattle.pliron_core.specs.declared.context.Def.TheVariants.{Result, Argument}
-use Rattle.pliron_core.specs.Changes.{IsMakerInside}
-use Rattle.pliron_core.specs.Tree.{Tree, In, first_of, last_of, IsMadeBy, IsInside, IsWithin, HoldsBlock, head_of, operands_of, successors_of, regions_of, parent_of, body_of, arguments_of, block_parent_of, layout_of, region_parent_of, block_holder_of, holder_of, definition_of, up_from, op_of_slot}
-use Rattle.pliron_core.specs.Joined.{IsTree}
+use Rattle.pliron_core.specs.Changes.{IsDefiningOperationInside}
+use Rattle.pliron_core.specs.Tree.{Tree, In, first_of, last_of, IsMadeBy, IsInside, IsWithin, HoldsBlock, head_of, operands_of, successors_of, regions_of, parent_of, body_of, arguments_of, block_parent_of, layout_of, region_parent_of, block_parent_operation_of, parent_operation_of, definition_of, up_from, op_of_slot}
+use Rattle.pliron_core.specs.Invariant.{IsTree}
 use Rattle.pliron_core.specs.Edges.{succs_of, succs_from}
 use Rattle.pliron_core.specs.Reads.{has_ssa, has_ssa_at, ssa_in}
 use Rattle.pliron_core.proofs.ListLemmas.{decide_in}
@@ -58,8 +58,8 @@ module _ (m : Meaning) (t t' : Tree) (block index v : ℕ) (kept : ℕ → List 
   record MadeAlike (d d' : Option Def) : Type 0 where
     pub home : up_from (defining_block t' d') (λ b. block_parent_of t' b) ≡ up_from (defining_block t d) (λ b. block_parent_of t b)
     pub passed : (before : List ℕ) (b : ℕ) (done : List ℕ) → HasPassed t d before b done → HasPassed t' d' before b done
-    pub forth : (root : ℕ) → IsMakerInside t root d → IsMakerInside t' root d'
-    pub back : (root : ℕ) → IsMakerInside t' root d' → IsMakerInside t root d
+    pub forth : (root : ℕ) → IsDefiningOperationInside t root d → IsDefiningOperationInside t' root d'
+    pub back : (root : ℕ) → IsDefiningOperationInside t' root d' → IsDefiningOperationInside t root d
 
   result_alike : (k i : ℕ) → MadeAlike (Some (Result k i)) (Some (Result k i))
   result_alike k i = record {

@@ -5,7 +5,7 @@ use Rattle.std.specs.List.{flat_map}
 use Rattle.pliron_core.specs.Lists.{In, last_of}
 use Rattle.pliron_core.specs.Tree.{Tree, IsLive, regions_of, layout_of, body_of}
 use Rattle.pliron_core.specs.Edges.{succs_of, succs_from}
-use Rattle.pliron_core.specs.Joined.{IsTree}
+use Rattle.pliron_core.specs.Invariant.{IsTree}
 use Rattle.pliron_core.specs.Walks.{children_of_region, contents}
 use Rattle.pliron_core.specs.Changes.{IsSameTree}
 use Rattle.pliron_core.proofs.FlatLemmas.{In-flat_map}
@@ -27,7 +27,7 @@ module _ (t : Tree) (w : IsTree t) where
   deep_enough (suc n) (suc m) op h k =
       flat_same _ _ (regions_of t op) (λ r i. flat_same _ _ (layout_of t r) (λ b j. ap (λ z. (b, succs_of t b) ∷ z) (flat_same (λ x. edges_to_depth t n x) (λ x. edges_to_depth t m x) (body_of t b) (λ x l. let less = inner op r b x i j l in deep_enough n m x (omega (arith, less, h)) (omega (arith, less, k))))))
 
--- the same tree but for spent keys
+-- the same tree but for erased handles
 module _ (t u : Tree) (s : IsSameTree t u) where
   regions_same : (op : ℕ) → regions_of u op ≡ regions_of t op
   regions_same op = ap (λ r. r.regions) (s.operations op)

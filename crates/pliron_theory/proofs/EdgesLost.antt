@@ -4,7 +4,7 @@ use Rattle.std.proofs.lemmas.Bool.{cases_eq}
 use Rattle.std.proofs.lemmas.Option.{slice_get_past, slice_get_within}
 use Rattle.pliron_core.specs.declared.uses.Use.{Use}
 use Rattle.pliron_core.specs.Tree.{Tree, IsLive, IsBlock, uses_of, head_of, successors_of}
-use Rattle.pliron_core.specs.Joined.{IsTree}
+use Rattle.pliron_core.specs.Invariant.{IsTree}
 use Rattle.pliron_core.specs.Uses.{AreAgreed}
 use Rattle.pliron_core.proofs.HoldingLemmas.{some_is, some_of, in_slice}
 use Rattle.pliron_core.proofs.TreeLemmas.{cases_lt}

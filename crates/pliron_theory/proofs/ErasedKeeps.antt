@@ -5,13 +5,13 @@ use Rattle.std.proofs.lemmas.Bool.Decides.{eqb_tells}
 use Rattle.std.proofs.lemmas.List.{get_or-set_other, get_or-set_same, get_or_past}
 use Rattle.pliron_core.specs.declared.context.Def.{Def}
 use Rattle.pliron_core.specs.declared.context.Def.TheVariants.{Result, Argument}
-use Rattle.pliron_core.specs.Tree.{Tree, In, IsDistinct, without, IsLive, IsInside, IsMadeWithin, no_entry, regions_of, parent_of, body_of, layout_of, region_parent_of, block_holder_of, definition_of, up_from, op_of_slot, first_of}
-use Rattle.pliron_core.specs.Joined.{IsTree}
+use Rattle.pliron_core.specs.Tree.{Tree, In, IsDistinct, without, IsLive, IsInside, IsDefinedWithin, no_entry, regions_of, parent_of, body_of, layout_of, region_parent_of, block_parent_operation_of, definition_of, up_from, op_of_slot, first_of}
+use Rattle.pliron_core.specs.Invariant.{IsTree}
 use Rattle.pliron_core.specs.Writes.{taken_from}
-use Rattle.pliron_core.specs.Erased.{is_met_above, cleared, erased, IsSelfContained}
+use Rattle.pliron_core.specs.Erased.{is_met_above, after_clearing, after_erasing, IsSelfContained}
 use Rattle.pliron_core.proofs.BlankLemmas.{length-blanked, blanked_gone, blanked_kept}
 use Rattle.pliron_core.proofs.ClearedLemmas.{met_above}
-use Rattle.pliron_core.proofs.ErasedLemmas.{taken-block_holder, taken-met}
+use Rattle.pliron_core.proofs.ErasedLemmas.{taken-block_parent_operation, taken-met}
 use Rattle.pliron_core.proofs.DescentLemmas.{taken-operations, taken-block_parents, taken-operands, taken-successors}
 use Rattle.pliron_core.proofs.WithinLemmas.{is_within, within_is, met_below, parent_holder, holder_from}
 use Rattle.pliron_core.proofs.HoldingLemmas.{some_is, slice_in, inside_up, holder_is}
@@ -26,7 +26,7 @@ abbrev pub op_erased : Tree → ℕ → ℕ → Bool
 op_erased t op k = is_met_above t (nat_eq op) (Some k)
 
 abbrev pub block_erased_with : Tree → ℕ → ℕ → Bool
-block_erased_with t op b = is_met_above t (nat_eq op) (block_holder_of t b)
+block_erased_with t op b = is_met_above t (nat_eq op) (block_parent_operation_of t b)
 
 -- a list without one member is the list without the dead ones, where it alone is dead
 pub without_swept : (dead : ℕ → Bool) (op : ℕ) (xs : List ℕ) → IsDistinct xs → dead op ≡ true → ((k : ℕ) → In k xs → dead k ≡ true → k ≡ op) → without op xs ≡ swept dead xs
@@ -83,7 +83,7 @@ module _ (t : Tree) (op : ℕ) (w : IsTree t) (live : IsLive t op) (contained : 
     | inr i ↦
         let u = inside_up i in
         let h = holder_is t k u.0 u.1 in
-        let s : block_holder_of t b ≡ Some u.0 = ap (block_holder_of t) (some_is (sym e ∙ h.1)) ∙ h.2 in
+        let s : block_parent_operation_of t b ≡ Some u.0 = ap (block_parent_operation_of t) (some_is (sym e ∙ h.1)) ∙ h.2 in
         absurd (true≢false (sym (is_within t op u.0 w.joined live u.2) ∙ ap (is_met_above t (nat_eq op)) (sym s) ∙ l))
   ]
 
@@ -95,23 +95,23 @@ module _ (t : Tree) (op : ℕ) (w : IsTree t) (live : IsLive t op) (contained : 
   in_layout : (k r b : ℕ) → op_erased t op k ≡ false → In r (regions_of t k) → In b (layout_of t r) → block_erased_with t op b ≡ false
   in_layout k r b l i j =
       let x = slice_in (regions_of t k) r i in
-      let up : block_holder_of t b ≡ Some k = ap (λ o. up_from o (λ z. region_parent_of t z)) (w.layouts.owned b r j) ∙ ap op_of_slot (w.joined.regions k x.0 r x.1) in
+      let up : block_parent_operation_of t b ≡ Some k = ap (λ o. up_from o (λ z. region_parent_of t z)) (w.layouts.owned b r j) ∙ ap op_of_slot (w.joined.regions k x.0 r x.1) in
       ap (is_met_above t (nat_eq op)) up ∙ l
 
-  made : (d : Option Def) → is_maker_dead (λ k. op_erased t op k) (λ b. block_erased_with t op b) d ≡ true → IsMadeWithin t op d
+  made : (d : Option Def) → is_maker_dead (λ k. op_erased t op k) (λ b. block_erased_with t op b) d ≡ true → IsDefinedWithin t op d
   made None e = absurd (true≢false (sym e))
   made (Some (Result k i)) e = within_is t op k e
-  made (Some (Argument b i)) e = let m = met_above t op (block_holder_of t b) e in (m.0, m.1, m.2)
+  made (Some (Argument b i)) e = let m = met_above t op (block_parent_operation_of t b) e in (m.0, m.1, m.2)
 
   module _ (o : Option ℕ) (at : parent_of t op ≡ o) where
     abbrev u : Tree
-    u = cleared (taken_from t op o) (nat_eq op)
+    u = after_clearing (taken_from t op o) (nat_eq op)
 
     gone_op : (k : ℕ) (b : Bool) → op_erased t op k ≡ b → is_met_above (taken_from t op o) (nat_eq op) (Some k) ≡ b
     gone_op k b e = taken-met t op o (Some k) ∙ e
 
-    gone_block : (c : ℕ) (b : Bool) → block_erased_with t op c ≡ b → is_met_above (taken_from t op o) (nat_eq op) (block_holder_of (taken_from t op o) c) ≡ b
-    gone_block c b e = taken-met t op o (block_holder_of (taken_from t op o) c) ∙ ap (is_met_above t (nat_eq op)) (taken-block_holder t op o c) ∙ e
+    gone_block : (c : ℕ) (b : Bool) → block_erased_with t op c ≡ b → is_met_above (taken_from t op o) (nat_eq op) (block_parent_operation_of (taken_from t op o) c) ≡ b
+    gone_block c b e = taken-met t op o (block_parent_operation_of (taken_from t op o) c) ∙ ap (is_met_above t (nat_eq op)) (taken-block_parent_operation t op o c) ∙ e
 
     body : (b : ℕ) → block_erased_with t op b ≡ false → (o : Option ℕ) → parent_of t op ≡ o → body_of (taken_from t op o) b ≡ swept (λ k. op_erased t op k) (body_of t b)
     body b l None e = sym (swept_all (λ k. op_erased t op k) (body_of t b) (λ k i. told _ (λ d. let s = only_op k b d (w.bodies.owned k b i) l in let f : None ≡ Some b = sym e ∙ ap (parent_of t) (sym s) ∙ w.bodies.owned k b i in absurd (cc))))
@@ -141,7 +141,7 @@ module _ (t : Tree) (op : ℕ) (w : IsTree t) (live : IsLive t op) (contained : 
         here : get_or (slice_set t.bodies c (without op (body_of t c))) c [] ≡ without op (body_of t c)
         here = get_or-set_same t.bodies c (without op (body_of t c)) [] lt
 
-    pub is_swept : IsSwept t (cleared (taken_from t op o) (nat_eq op)) (λ k. op_erased t op k) (λ b. block_erased_with t op b)
+    pub is_swept : IsSwept t (after_clearing (taken_from t op o) (nat_eq op)) (λ k. op_erased t op k) (λ b. block_erased_with t op b)
     is_swept = record {
       rows = λ k l. blanked_kept _ no_entry (taken_from t op o).operations k (gone_op k false l) ∙ ap (λ z. get_or z k no_entry) (taken-operations t op o);
       operands = λ k l. blanked_kept _ [] (taken_from t op o).operands k (gone_op k false l) ∙ ap (λ z. get_or z k []) (taken-operands t op o);
@@ -159,29 +159,29 @@ module _ (t : Tree) (op : ℕ) (w : IsTree t) (live : IsLive t op) (contained : 
       block_holders = λ b k e l. ap (is_met_above t (nat_eq op)) (sym e) ∙ l;
       entries = λ k r b l i e. in_layout k r b l i (first_in (layout_of t r) b e);
       values = λ k v l i. told _ (λ d. true≢false (sym (is_within t op k w.joined live (contained.values k v i (made (definition_of t v) d))) ∙ l));
-      targets = λ k b l i. told _ (λ d. let m = met_above t op (block_holder_of t b) d in true≢false (sym (is_within t op k w.joined live (contained.blocks k b i (m.0, m.1, m.2))) ∙ l));
+      targets = λ k b l i. told _ (λ d. let m = met_above t op (block_parent_operation_of t b) d in true≢false (sym (is_within t op k w.joined live (contained.blocks k b i (m.0, m.1, m.2))) ∙ l));
     }
       where
         first_in : (xs : List ℕ) (x : ℕ) → first_of xs None ≡ Some x → In x xs
         first_in [] x e = grind arith
         first_in (y ∷ ys) x e = let f : y ≡ x = cc in inl (sym f)
 
-    pub are_gone : AreGone (cleared (taken_from t op o) (nat_eq op)) (λ k. op_erased t op k) (λ b. block_erased_with t op b)
+    pub are_gone : AreGone (after_clearing (taken_from t op o) (nat_eq op)) (λ k. op_erased t op k) (λ b. block_erased_with t op b)
     are_gone = record {
       operations = λ k d. ap (λ z. z.head) (blanked_gone _ no_entry (taken_from t op o).operations k (gone_op k true d));
       blocks = λ b d. blanked_gone _ None (taken_from t op o).block_parents b (gone_block b true d);
     }
 
-    pub as_many : length (cleared (taken_from t op o) (nat_eq op)).operations ≡ length t.operations
+    pub as_many : length (after_clearing (taken_from t op o) (nat_eq op)).operations ≡ length t.operations
     as_many = length-blanked _ no_entry (taken_from t op o).operations ∙ ap length (taken-operations t op o)
 
-  pub erased_swept : IsSwept t (erased t op) (λ k. op_erased t op k) (λ b. block_erased_with t op b)
+  pub erased_swept : IsSwept t (after_erasing t op) (λ k. op_erased t op k) (λ b. block_erased_with t op b)
   erased_swept = is_swept (parent_of t op) refl
 
-  pub erased_gone : AreGone (erased t op) (λ k. op_erased t op k) (λ b. block_erased_with t op b)
+  pub erased_gone : AreGone (after_erasing t op) (λ k. op_erased t op k) (λ b. block_erased_with t op b)
   erased_gone = are_gone (parent_of t op) refl
 
-  pub erased_keeps : (m : Meaning) → IsTree (erased t op) → ((root : ℕ) → IsFit m t root → IsInside t root op → GivesNow m t op) → KeepsRuns m t (erased t op)
+  pub erased_keeps : (m : Meaning) → IsTree (after_erasing t op) → ((root : ℕ) → IsFit m t root → IsInside t root op → GivesNow m t op) → KeepsRuns m t (after_erasing t op)
   erased_keeps m w' gives =
-      swept_keeps m t (erased t op) (λ k. op_erased t op k) (λ b. block_erased_with t op b) w w' erased_swept erased_gone (let n = as_many (parent_of t op) refl in omega (arith, n))
+      swept_keeps m t (after_erasing t op) (λ k. op_erased t op k) (λ b. block_erased_with t op b) w w' erased_swept erased_gone (let n = as_many (parent_of t op) refl in omega (arith, n))
       (λ root f k b i d e l. let s = only_op k b d e l in subst (GivesNow m t) (sym s) (gives root f (subst (IsInside t root) s i)))

@@ -4,15 +4,15 @@ use Rattle.std.proofs.lemmas.Bool.Decides.{eqb_tells}
 use Rattle.pliron_core.specs.declared.attrs.AttrObj.{AttrObj}
 use Rattle.pliron_core.proofs.HoldingLemmas.{some_is, not_none}
 use Rattle.pliron_laws.specs.Datum.{Datum, datum_of}
-use Rattle.pliron_laws.specs.States.{Environment, bound, bind, data_of}
+use Rattle.pliron_laws.specs.States.{Environment, environment_with, bind, data_of}
 use Rattle.pliron_laws.specs.Acting.{Known, pick}
 use Rattle.pliron_theory.proofs.KnownData.{put_both}
-use Rattle.pliron_theory.specs.Facts.{Fact, Undetermined, Constant, NotAConstant, AtMost, IsBelowNamed, known, answered}
+use Rattle.pliron_theory.specs.LatticeValues.{LatticeValue, Undetermined, Constant, NotAConstant, AtMost, IsBelowNamed, lattice_constant, value_of_answer}
 
-pub at_most_refl : (f : Fact) → AtMost f f
+pub at_most_refl : (f : LatticeValue) → AtMost f f
 at_most_refl f = inr (inr refl)
 
-pub at_most_trans : (f g h : Fact) → AtMost f g → AtMost g h → AtMost f h
+pub at_most_trans : (f g h : LatticeValue) → AtMost f g → AtMost g h → AtMost f h
 at_most_trans f g h a (inl e) = inl e
 at_most_trans f g h (inl e) (inr (inl n)) = let x : Undetermined ≡ NotAConstant = sym e ∙ n in absurd (grind arith)
 at_most_trans f g h (inr (inl n)) b = inr (inl n)
@@ -21,34 +21,34 @@ at_most_trans f g h (inr (inr s)) (inr (inl n)) = inr (inl (s ∙ n))
 at_most_trans f g h (inr (inr s)) (inr (inr r)) = inr (inr (s ∙ r))
 
 -- the datum confirms the fact: what is undetermined has none
-abbrev pub Fits : Fact → Datum → Type 0
+abbrev pub Fits : LatticeValue → Datum → Type 0
 Fits Undetermined d = ⊥
 Fits (Constant c) d = datum_of c ≡ d
 Fits NotAConstant d = Unit {0}
 
-pub fits_lower : (f g : Fact) (d : Datum) → AtMost f g → Fits g d → Fits f d
+pub fits_lower : (f g : LatticeValue) (d : Datum) → AtMost f g → Fits g d → Fits f d
 fits_lower f g d (inl e) x = absurd (subst (λ z. Fits z d) e x)
 fits_lower f g d (inr (inl n)) x = subst (λ z. Fits z d) (sym n) tt
 fits_lower f g d (inr (inr s)) x = subst (λ z. Fits z d) (sym s) x
 
 -- what is known of a value that has this datum
-pub known_fits : (f g : Fact) (d : Datum) (a : Option AttrObj) → AtMost f g → Fits g d → known f ≡ a → (ks : List (Option AttrObj)) (ds : List Datum) → Known ks ds → Known (a ∷ ks) (d ∷ ds)
+pub known_fits : (f g : LatticeValue) (d : Datum) (a : Option AttrObj) → AtMost f g → Fits g d → lattice_constant f ≡ a → (ks : List (Option AttrObj)) (ds : List Datum) → Known ks ds → Known (a ∷ ks) (d ∷ ds)
 known_fits f g d None m x e ks ds k = k
 known_fits Undetermined g d (Some c) m x e ks ds k = absurd (not_none e)
 known_fits (Constant a) g d (Some c) m x e ks ds k = (subst (λ z. datum_of z ≡ d) (some_is e) (fits_lower (Constant a) g d m x), k)
 known_fits NotAConstant g d (Some c) m x e ks ds k = absurd (not_none e)
 
-pub fits_answered : (a : Option AttrObj) (d : Datum) → ((c : AttrObj) → a ≡ Some c → datum_of c ≡ d) → Fits (answered a) d
+pub fits_answered : (a : Option AttrObj) (d : Datum) → ((c : AttrObj) → a ≡ Some c → datum_of c ≡ d) → Fits (value_of_answer a) d
 fits_answered None d f = tt
 fits_answered (Some c) d f = f c refl
 
-module _ (read : ℕ → Fact) where
+module _ (read : ℕ → LatticeValue) where
   -- each value that has a datum confirms what is read
   abbrev pub Agrees : Environment → Type 0
   Agrees env = (v : ℕ) (d : Datum) → env v ≡ Some d → Fits (read v) d
 
-  bound_agrees : (env : Environment) (x : ℕ) (y : Datum) → Fits (read x) y → Agrees env → Agrees (bound env x y)
-  unfolding bound
+  bound_agrees : (env : Environment) (x : ℕ) (y : Datum) → Fits (read x) y → Agrees env → Agrees (environment_with env x y)
+  unfolding environment_with
   bound_agrees env x y here so v d e = ⊎_elim
       (λ s. subst (λ z. Fits (read z) d) (sym s.1) (subst (Fits (read x)) (some_is (ap (λ b. if b then Some y else env v) (sym s.0) ∙ e)) here))
       (λ n. so v d (ap (λ b. if b then Some y else env v) (sym n.0) ∙ e))
@@ -58,7 +58,7 @@ module _ (read : ℕ → Fact) where
   bind_agrees [] [] env env1 h e so = let f : env ≡ env1 = cc in subst Agrees f so
   bind_agrees [] (d ∷ ds) env env1 h e so = grind arith
   bind_agrees (x ∷ vs) [] env env1 h e so = grind arith
-  bind_agrees (x ∷ vs) (y ∷ ds) env env1 h e so = bind_agrees vs ds (bound env x y) env1 (λ i v d a b. h (suc i) v d a b) e (bound_agrees env x y (h zero x y refl refl) so)
+  bind_agrees (x ∷ vs) (y ∷ ds) env env1 h e so = bind_agrees vs ds (environment_with env x y) env1 (λ i v d a b. h (suc i) v d a b) e (bound_agrees env x y (h zero x y refl refl) so)
 
   -- the data that are read of these values
   abbrev pub FitEach : List ℕ → List Datum → Type 0
@@ -74,16 +74,16 @@ module _ (read : ℕ → Fact) where
       let q = put_both (env v) (data_of env vs) ds e in
       read_fits env so vs q.1 q.3 p w d a (ap (λ z. slice_get z (suc p)) q.4 ∙ b)
 
-  pub read_known : (fact : ℕ → Fact) → ((v : ℕ) → AtMost (fact v) (read v)) → (env : Environment) → Agrees env → (vs : List ℕ) (ds : List Datum) → data_of env vs ≡ Some ds → Known (map (λ v. known (fact v)) vs) ds
-  read_known fact finer env so [] ds e = let f : [] ≡ ds = some_is e in subst (Known []) f tt
-  read_known fact finer env so (v ∷ vs) ds e =
+  pub read_known : (lattice_value : ℕ → LatticeValue) → ((v : ℕ) → AtMost (lattice_value v) (read v)) → (env : Environment) → Agrees env → (vs : List ℕ) (ds : List Datum) → data_of env vs ≡ Some ds → Known (map (λ v. lattice_constant (lattice_value v)) vs) ds
+  read_known lattice_value finer env so [] ds e = let f : [] ≡ ds = some_is e in subst (Known []) f tt
+  read_known lattice_value finer env so (v ∷ vs) ds e =
       let q = put_both (env v) (data_of env vs) ds e in
-      subst (Known (known (fact v) ∷ map (λ v. known (fact v)) vs)) q.4 (known_fits (fact v) (read v) q.0 (known (fact v)) (finer v) (so v q.0 q.2) refl (map (λ v. known (fact v)) vs) q.1 (read_known fact finer env so vs q.1 q.3))
+      subst (Known (lattice_constant (lattice_value v) ∷ map (λ v. lattice_constant (lattice_value v)) vs)) q.4 (known_fits (lattice_value v) (read v) q.0 (lattice_constant (lattice_value v)) (finer v) (so v q.0 q.2) refl (map (λ v. lattice_constant (lattice_value v)) vs) q.1 (read_known lattice_value finer env so vs q.1 q.3))
 
 -- what is no constant is below every operand
-pub unknown_below : (fact seen : ℕ → Fact) (operands : List ℕ) (a : Option ℕ) (v : ℕ) → fact v ≡ NotAConstant → IsBelowNamed fact seen operands a v
-unknown_below fact seen operands None v e = e
-unknown_below fact seen operands (Some p) v e = λ w at. inr (inl e)
+pub unknown_below : (lattice_value seen : ℕ → LatticeValue) (operands : List ℕ) (a : Option ℕ) (v : ℕ) → lattice_value v ≡ NotAConstant → IsBelowNamed lattice_value seen operands a v
+unknown_below lattice_value seen operands None v e = e
+unknown_below lattice_value seen operands (Some p) v e = λ w at. inr (inl e)
 
 -- what stands at an index of a list of the same length
 pub same_index : {A B : Type 0} (xs : List A) (ys : List B) → length xs ≡ length ys → (i : ℕ) (x : A) → slice_get xs i ≡ Some x → (y : B) × (slice_get ys i ≡ Some y)

@@ -5,10 +5,10 @@ use Rattle.pliron_core.specs.declared.attrs.AttrObj.{AttrObj}
 use Rattle.pliron_core.specs.declared.attrs.Head.{Head}
 use Rattle.pliron_core.specs.declared.context.OperationEntry.{OperationEntry}
 use Rattle.pliron_core.specs.Lists.{IsDistinct, without, put_before}
-use Rattle.pliron_core.specs.Tree.{Tree, In, IsLive, IsInside, IsInside.Directly, IsInside.Deeper, no_entry, row_of, head_of, operands_of, successors_of, results_of, regions_of, parent_of, body_of, arguments_of, block_parent_of, layout_of, region_parent_of, block_holder_of, up_from, op_of_slot}
-use Rattle.pliron_core.specs.Joined.{IsTree}
-use Rattle.pliron_core.specs.Writes.{created, taken_from, put_next_to}
-use Rattle.pliron_core.specs.Erased.{is_met_above, cleared, erased}
+use Rattle.pliron_core.specs.Tree.{Tree, In, IsLive, IsInside, IsInside.Directly, IsInside.Deeper, no_entry, row_of, head_of, operands_of, successors_of, results_of, regions_of, parent_of, body_of, arguments_of, block_parent_of, layout_of, region_parent_of, block_parent_operation_of, up_from, op_of_slot}
+use Rattle.pliron_core.specs.Invariant.{IsTree}
+use Rattle.pliron_core.specs.Writes.{after_creating, taken_from, put_next_to}
+use Rattle.pliron_core.specs.Erased.{is_met_above, after_clearing, after_erasing}
 use Rattle.pliron_core.proofs.TreeLemmas.{live-within}
 use Rattle.pliron_core.proofs.ListLemmas.{In-right, In-cases, put_before-split, without-split, distinct-apart}
 use Rattle.pliron_core.proofs.BlankLemmas.{blanked_gone, blanked_kept}
@@ -69,13 +69,13 @@ module _ (t : Tree) (a op : ℕ) (head : Head) (operands successors : List ℕ) 
   not_new e = let lt = op_in in absurd (omega (arith, lt, e))
 
   abbrev u : Tree
-  u = put_next_to (with_edges (created t head 0 0) (length t.operations) operands successors) (length t.operations) op (Some a)
+  u = put_next_to (with_edges (after_creating t head 0 0) (length t.operations) operands successors) (length t.operations) op (Some a)
 
   abbrev free : Tree
   free = taken_from u op (Some a)
 
   abbrev last : Tree
-  last = cleared (taken_from u op (Some a)) (nat_eq op)
+  last = after_clearing (taken_from u op (Some a)) (nat_eq op)
 
   parents_long : length t.parents ≡ length t.operations
   parents_long = w.keys.parents
@@ -84,17 +84,17 @@ module _ (t : Tree) (a op : ℕ) (head : Head) (operands successors : List ℕ) 
   parent_u = get_or-set_other (t.parents ++ None ∷ []) n op (Some a) None not_new ∙ app_other t.parents None None op (λ e. not_new (e ∙ parents_long)) ∙ in_a
 
   same : t' ≡ last
-  same = ap {A = Option ℕ} (λ o. erased (put_next_to (with_edges (created t head 0 0) (length t.operations) operands successors) (length t.operations) op o) op) in_a ∙ ap {A = Option ℕ} (λ o. cleared (taken_from u op o) (nat_eq op)) parent_u
+  same = ap {A = Option ℕ} (λ o. after_erasing (put_next_to (with_edges (after_creating t head 0 0) (length t.operations) operands successors) (length t.operations) op o) op) in_a ∙ ap {A = Option ℕ} (λ o. after_clearing (taken_from u op o) (nat_eq op)) parent_u
 
   -- nothing stands inside the branch that goes
-  no_block : (c : ℕ) → block_holder_of t c ≡ Some op → ⊥
+  no_block : (c : ℕ) → block_parent_operation_of t c ≡ Some op → ⊥
   no_block c e =
       let x = block_held t c w.joined (held_block t c op e) in
       let s = slot_is t x.0 x.3 in
       let here : s.0.op ≡ op = some_is (sym (region_parent_is t x.0 s.0 s.1) ∙ x.4 ∙ sym x.5 ∙ e) in
       not_none (sym (ap (λ l. slice_get l s.0.index) (ap (regions_of t) here ∙ childless)) ∙ s.2)
 
-  block_same : (c : ℕ) → block_holder_of free c ≡ block_holder_of t c
+  block_same : (c : ℕ) → block_parent_operation_of free c ≡ block_parent_operation_of t c
   block_same c = go (block_parent_of t c)
     where
       go : (o : Option ℕ) → up_from o (λ r. region_parent_of free r) ≡ up_from o (λ r. region_parent_of t r)
@@ -108,8 +108,8 @@ module _ (t : Tree) (a op : ℕ) (head : Head) (operands successors : List ℕ) 
   kept : (k : ℕ) → k ≢ op → is_met_above free (nat_eq op) (Some k) ≡ false
   kept k ne = told _ (λ e. ⊎_elim ne (λ i. nothing_inside k i) (within_is free op k e))
 
-  block_kept : (c : ℕ) → is_met_above free (nat_eq op) (block_holder_of free c) ≡ false
-  block_kept c = told _ (λ e. let y = met_above free op (block_holder_of free c) e in ⊎_elim (λ s. no_block c (sym (block_same c) ∙ y.1 ∙ ap Some s)) (λ i. nothing_inside y.0 i) y.2)
+  block_kept : (c : ℕ) → is_met_above free (nat_eq op) (block_parent_operation_of free c) ≡ false
+  block_kept c = told _ (λ e. let y = met_above free op (block_parent_operation_of free c) e in ⊎_elim (λ s. no_block c (sym (block_same c) ∙ y.1 ∙ ap Some s)) (λ i. nothing_inside y.0 i) y.2)
 
   long : length free.operations ≡ suc (length t.operations)
   long = let x = length-append t.operations (record { head = Some head; results = []; regions = [] } ∷ []) in omega (arith, x)

@@ -5,15 +5,15 @@ use Rattle.pliron_core.specs.declared.attrs.AttrObj.{AttrObj}
 use Rattle.pliron_core.specs.declared.attrs.Head.{Head}
 use Rattle.pliron_core.specs.declared.context.Def.TheVariants.{Result}
 use Rattle.pliron_core.specs.Tree.{Tree, IsLive, row_of, head_of, results_of, parent_of, definition_of}
-use Rattle.pliron_core.specs.Joined.{IsTree}
-use Rattle.pliron_core.specs.Writes.{created, put_next_to, replaced}
+use Rattle.pliron_core.specs.Invariant.{IsTree}
+use Rattle.pliron_core.specs.Writes.{after_creating, put_next_to, after_replacing}
 use Rattle.pliron_core.proofs.TreeLemmas.{live-within}
 use Rattle.pliron_core.proofs.HoldingLemmas.{some_of, past_live}
 use Rattle.pliron_laws.specs.Datum.{Datum, datum_of, Shape, Meaning}
 use Rattle.pliron_laws.specs.Tree.{op_at, shape_of}
 use Rattle.pliron_laws.specs.Laws.{ForwardsOperands}
 use Rattle.pliron_laws.specs.Folding.{Constants, AnswersTrue, MakesConstants, constant_shape}
-use Rattle.pliron_laws.specs.Outcomes.{materialised, MaterialisesSome, MaterialisesSome.Rest, MaterialisesSome.Then}
+use Rattle.pliron_laws.specs.Outcomes.{after_materialising, MaterialisesSome, MaterialisesSome.Rest, MaterialisesSome.Then}
 use Rattle.pliron_laws.specs.InPlace.{Outcome, FoldsInPlace}
 use Rattle.pliron_laws.proofs.FoldLemmas.{put_row, put_row-new, put_parent}
 use Rattle.pliron_laws.proofs.LinkedLemmas.{tree_put, tree_put₁, put_is}
@@ -26,10 +26,10 @@ use Rattle.pliron_theory.proofs.SweptKeeps.{same_keeps}
 use Rattle.pliron_theory.proofs.MaterialisedKeeps.{result_keeps_on}
 use Rattle.pliron_theory.proofs.AnsweredReads.{answered_read}
 
-length_put : (t : Tree) (op v : ℕ) (head : Head) → length (materialised t op v head).operations ≡ length t.operations + 1
+length_put : (t : Tree) (op v : ℕ) (head : Head) → length (after_materialising t op v head).operations ≡ length t.operations + 1
 length_put t op v head = go (parent_of t op) ∙ length-append t.operations _
   where
-    go : (o : Option ℕ) → length (put_next_to (created t head 1 0) (length t.operations) op o).operations ≡ length (created t head 1 0).operations
+    go : (o : Option ℕ) → length (put_next_to (after_creating t head 1 0) (length t.operations) op o).operations ≡ length (after_creating t head 1 0).operations
     go None = refl
     go (Some b) = refl
 
@@ -37,7 +37,7 @@ module _ (m : Meaning) (accepts : AttrObj → Bool) (head : AttrObj → Head) (m
   some_lives : (t u : Tree) → MaterialisesSome accepts head op results answers t u → (k : ℕ) → IsLive t k → IsLive u k
   some_lives t u (Rest same) k l = subst (λ z. IsSome z.head) (sym (same.operations k)) l
   some_lives t u (Then i v attr at said accepted done) k l =
-      some_lives (materialised t op v (head attr)) u done k (subst (λ z. IsSome z.head) (sym (put_row t op v k (head attr) (live-within t k l))) l)
+      some_lives (after_materialising t op v (head attr)) u done k (subst (λ z. IsSome z.head) (sym (put_row t op v k (head attr) (live-within t k l))) l)
 
   -- the tree came from the first one, where the answers are read as constants; they still are
   record HasCome (t₀ t : Tree) : Type 0 where
@@ -47,7 +47,7 @@ module _ (m : Meaning) (accepts : AttrObj → Bool) (head : AttrObj → Head) (m
     pub listed : results_of t op ≡ results
     pub reads : (i v : ℕ) (attr : AttrObj) → slice_get results i ≡ Some v → slice_get answers i ≡ Some (Some attr) → (root : ℕ) → IsFit m t₀ root → IsLive t root → IsReadAs m t v (datum_of attr) root
 
-  come_next : (t₀ t : Tree) → HasCome t₀ t → (i v : ℕ) (attr : AttrObj) → slice_get results i ≡ Some v → slice_get answers i ≡ Some (Some attr) → IsTrue (accepts attr) → HasCome t₀ (materialised t op v (head attr))
+  come_next : (t₀ t : Tree) → HasCome t₀ t → (i v : ℕ) (attr : AttrObj) → slice_get results i ≡ Some v → slice_get answers i ≡ Some (Some attr) → IsTrue (accepts attr) → HasCome t₀ (after_materialising t op v (head attr))
   come_next t₀ t h i v attr at said accepted = subst (HasCome t₀) (sym (put_is t op v block (head attr) h.tree h.stands)) (record {
     tree = tree_put t op v block (head attr) h.tree h.stands;
     runs = on.0;
@@ -56,7 +56,7 @@ module _ (m : Meaning) (accepts : AttrObj → Bool) (head : AttrObj → Head) (m
     reads = λ j x other here is root f l. let old = before root f l in on.1 root f old x (datum_of other) (not_new j x here) (h.reads j x other here is root f old);
   })
     where
-      same : materialised t op v (head attr) ≡ replaced (put_next_to (created t (head attr) 1 0) (length t.operations) op (Some block)) v (length t.definitions)
+      same : after_materialising t op v (head attr) ≡ after_replacing (put_next_to (after_creating t (head attr) 1 0) (length t.operations) op (Some block)) v (length t.definitions)
       same = put_is t op v block (head attr) h.tree h.stands
 
       within : op < length t.operations
@@ -68,22 +68,22 @@ module _ (m : Meaning) (accepts : AttrObj → Bool) (head : AttrObj → Head) (m
       not_new : (j x : ℕ) → slice_get results j ≡ Some x → x ≢ length t.definitions
       not_new j x here e = let lt = slice_get_within t.definitions x _ (def j x here) in omega (arith, lt, e)
 
-      on : KeepsRuns m t₀ (replaced (put_next_to (created t (head attr) 1 0) (length t.operations) op (Some block)) v (length t.definitions)) × ((root : ℕ) → IsFit m t₀ root → IsLive t root → (x : ℕ) (d : Datum) → x ≢ length t.definitions → IsReadAs m t x d root → IsReadAs m (replaced (put_next_to (created t (head attr) 1 0) (length t.operations) op (Some block)) v (length t.definitions)) x d root)
+      on : KeepsRuns m t₀ (after_replacing (put_next_to (after_creating t (head attr) 1 0) (length t.operations) op (Some block)) v (length t.definitions)) × ((root : ℕ) → IsFit m t₀ root → IsLive t root → (x : ℕ) (d : Datum) → x ≢ length t.definitions → IsReadAs m t x d root → IsReadAs m (after_replacing (put_next_to (after_creating t (head attr) 1 0) (length t.operations) op (Some block)) v (length t.definitions)) x d root)
       on =
           result_keeps_on m t (head attr) attr h.tree (makes attr accepted) (plain attr accepted) op block v i h.stands (def i v at) t₀ h.runs (λ root f l. h.reads i v attr at said root f l)
           (tree_put₁ t op v block (head attr) h.tree h.stands) (tree_put t op v block (head attr) h.tree h.stands)
 
-      before : (root : ℕ) → IsFit m t₀ root → IsLive (replaced (put_next_to (created t (head attr) 1 0) (length t.operations) op (Some block)) v (length t.definitions)) root → IsLive t root
+      before : (root : ℕ) → IsFit m t₀ root → IsLive (after_replacing (put_next_to (after_creating t (head attr) 1 0) (length t.operations) op (Some block)) v (length t.definitions)) root → IsLive t root
       before root f l = subst (λ z. IsSome z.head) (ap (λ z. row_of z root) (sym same) ∙ put_row t op v root (head attr) (let g = h.runs.grows in let lt = past_live t₀ root f.live in omega (arith, g, lt))) l
 
   come_on : (t₀ t t' : Tree) → HasCome t₀ t → IsTree t' → MaterialisesSome accepts head op results answers t t' → length t.operations ≤ length t'.operations → KeepsRuns m t₀ t'
   come_on t₀ t t' h w' (Rest same) longer = keeps_trans m t₀ t t' h.runs (same_keeps m t t' h.tree w' same longer)
   come_on t₀ t t' h w' (Then i v attr at said accepted done) longer =
-      come_on t₀ (materialised t op v (head attr)) t' (come_next t₀ t h i v attr at said accepted) w' done grown
+      come_on t₀ (after_materialising t op v (head attr)) t' (come_next t₀ t h i v attr at said accepted) w' done grown
     where
-      grown : length (materialised t op v (head attr)).operations ≤ length t'.operations
+      grown : length (after_materialising t op v (head attr)).operations ≤ length t'.operations
       grown =
-          let lives = some_lives (materialised t op v (head attr)) t' done (length t.operations) (ap (λ z. is_some z.head) (put_row-new t op v (head attr))) in
+          let lives = some_lives (after_materialising t op v (head attr)) t' done (length t.operations) (ap (λ z. is_some z.head) (put_row-new t op v (head attr))) in
           let lt = live-within t' (length t.operations) lives in
           let same = length_put t op v (head attr) in
           omega (arith, lt, same)

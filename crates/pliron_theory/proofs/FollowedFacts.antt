@@ -5,9 +5,9 @@ use Rattle.pliron_core.specs.declared.attrs.Head.{Head}
 use Rattle.pliron_core.specs.Lists.{put_before}
 use Rattle.pliron_core.specs.Uses.{replace_target}
 use Rattle.pliron_core.specs.Tree.{Tree, In, IsLive, IsBlock, head_of, results_of, parent_of, body_of, arguments_of}
-use Rattle.pliron_core.specs.Joined.{IsTree}
+use Rattle.pliron_core.specs.Invariant.{IsTree}
 use Rattle.pliron_core.specs.Changes.{IsSameTree, IsInsideChange}
-use Rattle.pliron_core.specs.Writes.{created, placed, put_next_to, replaced}
+use Rattle.pliron_core.specs.Writes.{after_creating, after_placing, put_next_to, after_replacing}
 use Rattle.pliron_core.proofs.HoldingLemmas.{some_is, not_none, some_of, in_slice, slice_in, held_block}
 use Rattle.pliron_core.proofs.InsideLemmas.{inside_refl, inside_trans, same_change}
 use Rattle.pliron_core.proofs.TreeLemmas.{live-within}
@@ -18,7 +18,7 @@ use Rattle.pliron_laws.specs.Tree.{Operation, op_at, shape_of}
 use Rattle.pliron_laws.specs.Folding.{AnswersTrue, AnswersJumps, MakesConstants, constant_shape}
 use Rattle.pliron_laws.specs.Laws.{ForwardsOperands}
 use Rattle.pliron_theory.specs.Keeps.{KeepsRuns}
-use Rattle.pliron_laws.specs.Outcomes.{materialised, MaterialisesSome}
+use Rattle.pliron_laws.specs.Outcomes.{after_materialising, MaterialisesSome}
 use Rattle.pliron_laws.specs.Outcomes.MaterialisesSome.{Rest, Then}
 use Rattle.pliron_theory.specs.Rewrites.{materialised_first, IsConstant}
 use Rattle.pliron_laws.proofs.Records.{operation_of, op_shows, make_op}
@@ -35,7 +35,7 @@ use Rattle.pliron_laws.proofs.PutLinks.{linked_first}
 use Rattle.pliron_laws.specs.Linked.{IsWellLinked}
 use Rattle.pliron_theory.proofs.MaterialisedKeeps.{result_keeps}
 use Rattle.pliron_theory.proofs.SweptKeeps.{same_keeps}
-use Rattle.pliron_theory.specs.Facts.{Fact, Constant, Facts, Says, handed, answers_of, IsInReachedBlock, AreClosed, AreHeld}
+use Rattle.pliron_theory.specs.LatticeValues.{LatticeValue, Constant, LatticeValues, Says, operand_constants, answers_of, IsInExecutableBlock, AreClosed, AreHeld}
 use Rattle.pliron_theory.specs.Sound.{read_of}
 use Rattle.pliron_theory.specs.Following.{StandsAsBefore, Follows, FollowingLaws}
 use Rattle.pliron_theory.proofs.SoundEverywhere.{sound_facts}
@@ -43,14 +43,14 @@ use Rattle.pliron_theory.proofs.ClosedSound.{closed_sound, read_fold, read_argum
 use Rattle.pliron_theory.proofs.CarriedFacts.{IsCarried, WasBefore, before, handed_same, carried_sound}
 use Rattle.pliron_theory.proofs.PutFacts.{facts_with, read_with, put_carried, same_carried}
 
-length_put : (t : Tree) (op v : ℕ) (head : Head) → length (materialised t op v head).operations ≡ length t.operations + 1
+length_put : (t : Tree) (op v : ℕ) (head : Head) → length (after_materialising t op v head).operations ≡ length t.operations + 1
 length_put t op v head = go (parent_of t op) ∙ length-append t.operations _
   where
-    go : (o : Option ℕ) → length (put_next_to (created t head 1 0) (length t.operations) op o).operations ≡ length (created t head 1 0).operations
+    go : (o : Option ℕ) → length (put_next_to (after_creating t head 1 0) (length t.operations) op o).operations ≡ length (after_creating t head 1 0).operations
     go None = refl
     go (Some b) = refl
 
-module _ (x : Says) (t₀ : Tree) (root : ℕ) (f₀ : Facts) (w₀ : IsTree t₀) where
+module _ (x : Says) (t₀ : Tree) (root : ℕ) (f₀ : LatticeValues) (w₀ : IsTree t₀) where
   abbrev m : Meaning
   m = x.meaning
 
@@ -64,7 +64,7 @@ module _ (x : Says) (t₀ : Tree) (root : ℕ) (f₀ : Facts) (w₀ : IsTree t�
     facts = f₀;
     read = read_of x t₀ f₀;
     sound = closed_sound x t₀ root f₀ w₀ closed held;
-    reaches = λ b. refl;
+    is_executable = λ b. refl;
     rows = λ k l. refl;
     parents = λ k l. refl;
     block_parents = λ b. refl;
@@ -75,7 +75,7 @@ module _ (x : Says) (t₀ : Tree) (root : ℕ) (f₀ : Facts) (w₀ : IsTree t�
   }
 
   -- one more change that carries the facts over
-  pub carried_on : (t t' : Tree) (g : Follows x t₀ root f₀ t) (f' : Facts) (read' : ℕ → Fact) (rename : ℕ → ℕ) (New : ℕ → Type 0) → IsTree t' → IsCarried x t t' g.facts f' g.read read' rename New → KeepsRuns x.meaning t t' → ((r : ℕ) → IsWellLinked x.meaning t r → IsWellLinked x.meaning t' r) → IsInsideChange t t' root → KeepsEdges t t' → Follows x t₀ root f₀ t'
+  pub carried_on : (t t' : Tree) (g : Follows x t₀ root f₀ t) (f' : LatticeValues) (read' : ℕ → LatticeValue) (rename : ℕ → ℕ) (New : ℕ → Type 0) → IsTree t' → IsCarried x t t' g.facts f' g.read read' rename New → KeepsRuns x.meaning t t' → ((r : ℕ) → IsWellLinked x.meaning t r → IsWellLinked x.meaning t' r) → IsInsideChange t t' root → KeepsEdges t t' → Follows x t₀ root f₀ t'
   carried_on t t' g f' read' rename New w' c keeps links inside edges = record {
     tree = w';
     runs = keeps_trans x.meaning t₀ t t' g.runs keeps;
@@ -85,7 +85,7 @@ module _ (x : Says) (t₀ : Tree) (root : ℕ) (f₀ : Facts) (w₀ : IsTree t�
     facts = f';
     read = read';
     sound = carried_sound x t t' root g.facts f' g.read read' rename New g.tree w' c g.sound;
-    reaches = λ b. c.reaches b ∙ g.reaches b;
+    is_executable = λ b. c.is_executable b ∙ g.is_executable b;
     rows = λ k l. c.rows k (old k l) ∙ g.rows k l;
     parents = λ k l. c.parents k (old k l) ∙ g.parents k l;
     block_parents = λ b. c.block_parents b ∙ g.block_parents b;
@@ -125,7 +125,7 @@ module _ (x : Says) (t₀ : Tree) (root : ℕ) (f₀ : Facts) (w₀ : IsTree t�
             results = b.results ∙ ap (λ z. z.results) same ∙ s.results;
             successors = b.successors ∙ ap (λ z. z.successors) same ∙ s.successors;
             shape = b.shape ∙ ap (shape_of x.meaning t) same ∙ s.shape;
-            handed_same = handed_same x t t' root g.facts f' g.read read' rename New g.tree w' c g.sound k o' b ∙ ap (λ z. handed g.facts z.operands) same ∙ s.handed_same;
+            handed_same = handed_same x t t' root g.facts f' g.read read' rename New g.tree w' c g.sound k o' b ∙ ap (λ z. operand_constants g.facts z.operands) same ∙ s.handed_same;
           }
 
   pub same_on : (t t' : Tree) → Follows x t₀ root f₀ t → IsTree t' → IsSameTree t t' → length t.operations ≤ length t'.operations → Follows x t₀ root f₀ t'
@@ -133,7 +133,7 @@ module _ (x : Says) (t₀ : Tree) (root : ℕ) (f₀ : Facts) (w₀ : IsTree t�
 
   module _ (answers : AnswersTrue x.meaning x.can_fold x.constants) (jumps : AnswersJumps x.meaning x.can_fold_branch x.feasible) (passes : PassesForwarded x.meaning) (names : NamesWell x) (accepts : AttrObj → Bool) (head : AttrObj → Head) (makes : MakesConstants x.meaning accepts head) (plain : (attr : AttrObj) → IsTrue (accepts attr) → x.meaning.is_branch (head attr) ≡ false) where
     -- a constant is put before an operation in a block that is reached
-    pub put_on : (t : Tree) → Follows x t₀ root f₀ t → (k i v : ℕ) (attr : AttrObj) → IsInReachedBlock t₀ f₀ k → IsLive t₀ k → slice_get (results_of t₀ k) i ≡ Some v → read_of x t₀ f₀ v ≡ Constant attr → IsTrue (accepts attr) → Follows x t₀ root f₀ (materialised t k v (head attr))
+    pub put_on : (t : Tree) → Follows x t₀ root f₀ t → (k i v : ℕ) (attr : AttrObj) → IsInExecutableBlock t₀ f₀ k → IsLive t₀ k → slice_get (results_of t₀ k) i ≡ Some v → read_of x t₀ f₀ v ≡ Constant attr → IsTrue (accepts attr) → Follows x t₀ root f₀ (after_materialising t k v (head attr))
     put_on t g k i v attr (b, p, reached) live listed is accepted = subst (Follows x t₀ root f₀) (sym (put_is t k v b (head attr) g.tree here)) done
       where
         here : parent_of t k ≡ Some b
@@ -148,21 +148,21 @@ module _ (x : Says) (t₀ : Tree) (root : ℕ) (f₀ : Facts) (w₀ : IsTree t�
         read_here : g.read v ≡ Constant attr
         read_here = g.read_results k v (in_slice (results_of t₀ k) i v listed) ∙ is
 
-        reached_here : IsTrue (g.facts.reaches b)
-        reached_here = g.reaches b ∙ reached
+        reached_here : IsTrue (g.facts.is_executable b)
+        reached_here = g.is_executable b ∙ reached
 
         constant : IsConstant x.meaning t v attr
         constant = sound_facts x answers jumps passes names t root g.facts g.read g.tree g.sound v attr (inl (k, (b, here, reached_here), in_slice (results_of t k) i v listed_here)) read_here
 
-        free : parent_of (created t (head attr) 1 0) (length t.operations) ≡ None
+        free : parent_of (after_creating t (head attr) 1 0) (length t.operations) ≡ None
         free = get_grown t.parents None (length t.operations) ∙ get_or_past t.parents (length t.operations) None (omega (arith, g.tree.keys.parents))
 
-        between : IsTree (put_next_to (created t (head attr) 1 0) (length t.operations) k (Some b))
+        between : IsTree (put_next_to (after_creating t (head attr) 1 0) (length t.operations) k (Some b))
         between =
-            let r = made_row t (created t (head attr) 1 0) (length t.operations) (head attr) refl refl in
-            tree_placed (created t (head attr) 1 0) (length t.operations) k b (tree_created t (head attr) g.tree) (ap (λ z. is_some z.head) r) free (get_grown t.parents None k ∙ here) (ap (λ z. z.regions) r)
+            let r = made_row t (after_creating t (head attr) 1 0) (length t.operations) (head attr) refl refl in
+            tree_placed (after_creating t (head attr) 1 0) (length t.operations) k b (tree_created t (head attr) g.tree) (ap (λ z. is_some z.head) r) free (get_grown t.parents None k ∙ here) (ap (λ z. z.regions) r)
 
-        done : Follows x t₀ root f₀ (replaced (placed (created t (head attr) 1 0) (length t.operations) b (put_before k (length t.operations) (body_of t b))) v (length t.definitions))
+        done : Follows x t₀ root f₀ (after_replacing (after_placing (after_creating t (head attr) 1 0) (length t.operations) b (put_before k (length t.operations) (body_of t b))) v (length t.definitions))
         done =
             carried_on t _ g (facts_with g.facts v (length t.definitions)) (read_with g.read (length t.definitions) attr) (replace_target v (length t.definitions)) (λ z. z ≡ length t.operations) (tree_put t k v b (head attr) g.tree here)
             (put_carried x t g.facts g.read g.tree g.sound.finer (head attr) attr (makes attr accepted) (plain attr accepted) v b (put_before k (length t.operations) (body_of t b)) read_here reached_here)
@@ -174,13 +174,13 @@ module _ (x : Says) (t₀ : Tree) (root : ℕ) (f₀ : Facts) (w₀ : IsTree t�
     some_lives : (k : ℕ) (results : List ℕ) (more : List (Option AttrObj)) (t u : Tree) → MaterialisesSome accepts head k results more t u → (z : ℕ) → IsLive t z → IsLive u z
     some_lives k results more t u (Rest same) z l = subst (λ r. IsSome r.head) (sym (same.operations z)) l
     some_lives k results more t u (Then i v attr at said accepted done) z l =
-        some_lives k results more (materialised t k v (head attr)) u done z (subst (λ r. IsSome r.head) (sym (put_row t k v z (head attr) (live-within t z l))) l)
+        some_lives k results more (after_materialising t k v (head attr)) u done z (subst (λ r. IsSome r.head) (sym (put_row t k v z (head attr) (live-within t z l))) l)
 
     -- some of the answered results of an operation are materialised
-    pub fold_on : (k : ℕ) (o₀ : Operation) → IsInReachedBlock t₀ f₀ k → op_at t₀ k ≡ Some o₀ → IsTrue (x.can_fold o₀.head) → (t t' : Tree) → Follows x t₀ root f₀ t → IsTree t' → MaterialisesSome accepts head k o₀.results (answers_of x t₀ f₀ o₀) t t' → length t.operations ≤ length t'.operations → Follows x t₀ root f₀ t'
+    pub fold_on : (k : ℕ) (o₀ : Operation) → IsInExecutableBlock t₀ f₀ k → op_at t₀ k ≡ Some o₀ → IsTrue (x.can_fold o₀.head) → (t t' : Tree) → Follows x t₀ root f₀ t → IsTree t' → MaterialisesSome accepts head k o₀.results (answers_of x t₀ f₀ o₀) t t' → length t.operations ≤ length t'.operations → Follows x t₀ root f₀ t'
     fold_on k o₀ stands at folds t t' g w' (Rest same) longer = same_on t t' g w' same longer
     fold_on k o₀ stands at folds t t' g w' (Then i v attr listed said accepted done) longer =
-        fold_on k o₀ stands at folds (materialised t k v (head attr)) t' (put_on t g k i v attr stands live listed_there is accepted) w' done grown
+        fold_on k o₀ stands at folds (after_materialising t k v (head attr)) t' (put_on t g k i v attr stands live listed_there is accepted) w' done grown
       where
         live : IsLive t₀ k
         live = ap is_some (op_shows t₀ k o₀ at).head
@@ -192,24 +192,24 @@ module _ (x : Says) (t₀ : Tree) (root : ℕ) (f₀ : Facts) (w₀ : IsTree t�
         is = read_fold x t₀ f₀ k i v o₀ (Some attr) (w₀.joined.results k i v listed_there) stands at folds listed said
 
         new_live : IsLive t' (length t.operations)
-        new_live = some_lives k o₀.results (answers_of x t₀ f₀ o₀) (materialised t k v (head attr)) t' done (length t.operations) (ap (λ z. is_some z.head) (put_row-new t k v (head attr)))
+        new_live = some_lives k o₀.results (answers_of x t₀ f₀ o₀) (after_materialising t k v (head attr)) t' done (length t.operations) (ap (λ z. is_some z.head) (put_row-new t k v (head attr)))
 
-        grown : length (materialised t k v (head attr)).operations ≤ length t'.operations
+        grown : length (after_materialising t k v (head attr)).operations ≤ length t'.operations
         grown =
             let lt = live-within t' (length t.operations) new_live in
             let same = length_put t k v (head attr) in
             omega (arith, lt, same)
 
     -- an argument of a block that is reached, which is a constant
-    module _ (t : Tree) (g : Follows x t₀ root f₀ t) (b v : ℕ) (attr : AttrObj) (reached : IsTrue (f₀.reaches b)) (i : In v (arguments_of t₀ b)) (is : f₀.fact v ≡ Constant attr) where
+    module _ (t : Tree) (g : Follows x t₀ root f₀ t) (b v : ℕ) (attr : AttrObj) (reached : IsTrue (f₀.is_executable b)) (i : In v (arguments_of t₀ b)) (is : f₀.lattice_value v ≡ Constant attr) where
       listed : In v (arguments_of t b)
       listed = subst (In v) (sym (g.arguments b)) i
 
       read_here : g.read v ≡ Constant attr
       read_here = g.read_arguments b v i ∙ is
 
-      reached_here : IsTrue (g.facts.reaches b)
-      reached_here = g.reaches b ∙ reached
+      reached_here : IsTrue (g.facts.is_executable b)
+      reached_here = g.is_executable b ∙ reached
 
       pub argument_stands : IsBlock t b
       argument_stands = let h = g.sound.inside b reached_here in held_block t b h.0 h.1

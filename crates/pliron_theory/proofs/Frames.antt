@@ -2,12 +2,12 @@
 use Rattle.std.proofs.Common.{◌≡◌, ℕ, List, [], ◌∷◌, Option, Some, None, refl, sym, subst, slice_get}
 use Rattle.pliron_laws.specs.Datum.{Datum, Empty, Meaning, Move, Give, Visit, Goto, Leave, Emit, Trap}
 use Rattle.pliron_laws.specs.Tree.{Tree, Operation, Block, op_at, block_at, entry_block, shape_of}
-use Rattle.pliron_laws.specs.Machine.{Environment, Waiting, State, bind, input_of, leave, given, begin, enter, entry_in, go_to, emit, perform, move, turn, step_at, step}
+use Rattle.pliron_laws.specs.Machine.{Environment, Waiting, State, bind, input_of, leave, after_giving, begin, enter, entry_in, go_to, emit, perform, move, turn, step_at, step}
 use Rattle.pliron_theory.proofs.Simulation.{Kept, IfGoes}
 
 -- a fact about the environment, one about the place where the run moves, and one about each place that waits;
 -- a place is the operation that holds its region (none for the root), the rest of its block, the memo, and the answer
-pub record Facts : Type 1 where
+pub record LatticeValues : Type 1 where
   pub Always : Environment → Type 0
   pub Moves : Environment → Option ℕ → List ℕ → Datum → Option (List Datum) → Type 0
   pub Waits : Environment → Option ℕ → List ℕ → Datum → Type 0
@@ -21,7 +21,7 @@ pub record Makes (m : Meaning) (t : Tree) (env : Environment) (k : ℕ) (memo : 
   pub acts : m.act (shape_of m t operation) memo input ≡ a
 
 -- what each move has to keep
-pub record Rules (m : Meaning) (t : Tree) (F : Facts) : Type 1 where
+pub record Rules (m : Meaning) (t : Tree) (F : LatticeValues) : Type 1 where
   -- the second is inside the first
   pub Deeper : ℕ → ℕ → Type 0
   pub deeper_trans : (a b c : ℕ) → Deeper a b → Deeper b c → Deeper a c
@@ -33,7 +33,7 @@ pub record Rules (m : Meaning) (t : Tree) (F : Facts) : Type 1 where
   pub tells : (env : Environment) (h : Option ℕ) (k : ℕ) (rest : List ℕ) (memo : Datum) (answer : Option (List Datum)) (e next d : Datum) → F.Always env → F.Moves env h (k ∷ rest) memo answer → Makes m t env k memo answer (Emit e next) → F.Moves env h (k ∷ rest) next (Some (d ∷ []))
   pub resumes : (env : Environment) (h : Option ℕ) (rest : List ℕ) (memo : Datum) (ds : List Datum) → F.Waits env h rest memo → F.Moves env h rest memo (Some ds)
 
-module _ (m : Meaning) (t : Tree) (F : Facts) (rules : Rules m t F) (root : ℕ) where
+module _ (m : Meaning) (t : Tree) (F : LatticeValues) (rules : Rules m t F) (root : ℕ) where
   -- the places that wait, under a place in a region of `h`
   abbrev pub Below : Environment → Option ℕ → List Waiting → Type 0
   Below env None [] = Unit {0}
@@ -68,7 +68,7 @@ module _ (m : Meaning) (t : Tree) (F : Facts) (rules : Rules m t F) (root : ℕ)
   leave_holds s a None (w ∷ ws) b ds = absurd b
   leave_holds s a (Some h) (w ∷ ws) b ds = record { holder = b.1; always = a; place = rules.resumes s.environment b.1 w.rest w.memo ds b.3; below = b.4 }
 
-  give_holds : (s : State) → F.Always s.environment → (h : Option ℕ) (k : ℕ) (rest : List ℕ) → F.Moves s.environment h (k ∷ rest) s.memo s.answer → (ws : List Waiting) → Below s.environment h ws → (ds : List Datum) (x : Makes m t s.environment k s.memo s.answer (Give ds)) (y : Option Environment) → bind s.environment x.operation.results ds ≡ y → IfGoes (given s rest ws ds y) Holding
+  give_holds : (s : State) → F.Always s.environment → (h : Option ℕ) (k : ℕ) (rest : List ℕ) → F.Moves s.environment h (k ∷ rest) s.memo s.answer → (ws : List Waiting) → Below s.environment h ws → (ds : List Datum) (x : Makes m t s.environment k s.memo s.answer (Give ds)) (y : Option Environment) → bind s.environment x.operation.results ds ≡ y → IfGoes (after_giving s rest ws ds y) Holding
   give_holds s a h k rest p ws b ds x None e = tt
   give_holds s a h k rest p [] b ds x (Some env1) e = tt
   give_holds s a None k rest p (w ∷ ws) b ds x (Some env1) e = absurd b

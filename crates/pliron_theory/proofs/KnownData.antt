@@ -4,7 +4,7 @@ use Rattle.std.proofs.lemmas.Bool.Decides.{eqb_tells}
 use Rattle.pliron_core.specs.declared.attrs.AttrObj.{AttrObj}
 use Rattle.pliron_core.proofs.HoldingLemmas.{some_is, not_none}
 use Rattle.pliron_laws.specs.Datum.{Datum, datum_of}
-use Rattle.pliron_laws.specs.States.{Environment, bound, bind, prepended}
+use Rattle.pliron_laws.specs.States.{Environment, environment_with, bind, prepend_optional}
 use Rattle.pliron_laws.specs.Acting.{Known, pick}
 
 -- a constant that is known is the datum at its place
@@ -27,7 +27,7 @@ some_at [] j d e = absurd (not_none e)
 some_at (x ∷ ds) zero d e = ap Some e
 some_at (x ∷ ds) (suc j) d e = some_at ds j d e
 
-pub put_both : (o : Option Datum) (p : Option (List Datum)) (ds : List Datum) → prepended o p ≡ Some ds → (d : Datum) × (others : List Datum) × (o ≡ Some d) × (p ≡ Some others) × (d ∷ others ≡ ds)
+pub put_both : (o : Option Datum) (p : Option (List Datum)) (ds : List Datum) → prepend_optional o p ≡ Some ds → (d : Datum) × (others : List Datum) × (o ≡ Some d) × (p ≡ Some others) × (d ∷ others ≡ ds)
 put_both None p ds e = grind arith
 put_both (Some d) None ds e = grind arith
 put_both (Some d) (Some others) ds e = (d, others, refl, refl, some_is e)
@@ -37,8 +37,8 @@ module _ (facts : ℕ → Option AttrObj) where
   abbrev pub Confirms : Environment → Type 0
   Confirms env = (v : ℕ) (c : AttrObj) (d : Datum) → facts v ≡ Some c → env v ≡ Some d → datum_of c ≡ d
 
-  bound_confirms : (env : Environment) (x : ℕ) (y : Datum) → ((c : AttrObj) → facts x ≡ Some c → datum_of c ≡ y) → Confirms env → Confirms (bound env x y)
-  unfolding bound
+  bound_confirms : (env : Environment) (x : ℕ) (y : Datum) → ((c : AttrObj) → facts x ≡ Some c → datum_of c ≡ y) → Confirms env → Confirms (environment_with env x y)
+  unfolding environment_with
   bound_confirms env x y here so v c d f e = ⊎_elim
       (λ s. here c (ap facts (sym s.1) ∙ f) ∙ some_is (ap (λ b. if b then Some y else env v) (sym s.0) ∙ e))
       (λ n. so v c d f (ap (λ b. if b then Some y else env v) (sym n.0) ∙ e))
@@ -48,4 +48,4 @@ module _ (facts : ℕ → Option AttrObj) where
   bind_confirms [] [] env env1 h e so = let f : env ≡ env1 = cc in subst Confirms f so
   bind_confirms [] (d ∷ ds) env env1 h e so = grind arith
   bind_confirms (x ∷ vs) [] env env1 h e so = grind arith
-  bind_confirms (x ∷ vs) (y ∷ ds) env env1 h e so = bind_confirms vs ds (bound env x y) env1 (λ i v c d a b k. h (suc i) v c d a b k) e (bound_confirms env x y (λ c f. h zero x c y refl f refl) so)
+  bind_confirms (x ∷ vs) (y ∷ ds) env env1 h e so = bind_confirms vs ds (environment_with env x y) env1 (λ i v c d a b k. h (suc i) v c d a b k) e (bound_confirms env x y (λ c f. h zero x c y refl f refl) so)

@@ -3,7 +3,7 @@ use Rattle.std.proofs.Common.{◌≡◌, ℕ, ◌<◌, Bool, true, false, cond, 
 use Rattle.std.specs.List.{flat_map}
 use Rattle.pliron_core.specs.Lists.{In, IsDistinct, first_of, next_in}
 use Rattle.pliron_core.specs.Tree.{Tree, IsInside}
-use Rattle.pliron_core.specs.Joined.{IsTree}
+use Rattle.pliron_core.specs.Invariant.{IsTree}
 use Rattle.pliron_core.specs.Walks.{contents, preorder}
 use Rattle.pliron_core.specs.WalkSteps.{rest_from}
 use Rattle.pliron_core.proofs.NeighbourLemmas.{next_in-In, first_of-In, next_in-first, next_in-other}

@@ -2,7 +2,7 @@
 use Rattle.std.proofs.Common.{◌≡◌, ℕ, List, [], ◌∷◌, Option, Some, None, refl, sym, ap, ◌∙◌, subst, arith, slice_get}
 use Rattle.pliron_laws.specs.Datum.{Datum, Empty, Move, Give, Visit, Goto, Leave, Emit, Trap}
 use Rattle.pliron_laws.specs.Tree.{Tree, Operation, Block}
-use Rattle.pliron_laws.specs.Machine.{Environment, Waiting, State, Next, Goes, Over, Ended, Trapped, Reached, trap, bind, at_rest, leave, given, begin, enter, entry_in, block_in, go_to, emit, perform}
+use Rattle.pliron_laws.specs.Machine.{Environment, Waiting, State, Next, Goes, Over, Ended, Trapped, Reached, trap, bind, at_rest, leave, after_giving, begin, enter, entry_in, block_in, go_to, emit, perform}
 use Rattle.pliron_laws.specs.Acting.{MovesAlike}
 use Rattle.pliron_theory.proofs.Simulation.{Pace, Both, Finish}
 
@@ -76,7 +76,7 @@ rest_tied T s s' r env env' e rest rest' p ws ws' w = record {
   effects = r.effects;
 }
 
-given_tied : (T : Ties) (s s' : State) → Tied T s s' → (rest rest' : List ℕ) → T.At rest rest' Empty None → (ws ws' : List Waiting) → Waits T.Wait ws ws' → (ds : List Datum) (o o' : Option Environment) → EnvsTied T.Env o o' → NextAlike (Tied T) (given s rest ws ds o) (given s' rest' ws' ds o')
+given_tied : (T : Ties) (s s' : State) → Tied T s s' → (rest rest' : List ℕ) → T.At rest rest' Empty None → (ws ws' : List Waiting) → Waits T.Wait ws ws' → (ds : List Datum) (o o' : Option Environment) → EnvsTied T.Env o o' → NextAlike (Tied T) (after_giving s rest ws ds o) (after_giving s' rest' ws' ds o')
 given_tied T s s' r rest rest' p ws ws' w ds None None e = trap_tied T s s' r
 given_tied T s s' r rest rest' p ws ws' w ds None (Some env') e = absurd e
 given_tied T s s' r rest rest' p ws ws' w ds (Some env) None e = absurd e
@@ -140,7 +140,7 @@ emits_tied T s s' r e memo p (d ∷ ds) (d' ∷ ds') w = record {
     ds_same = cc
 
 pub alike_tied : (T : Ties) (t t' : Tree) (s s' : State) → Tied T s s' → (k k' : ℕ) (rest rest' : List ℕ) (o o' : Operation) (visits : ℕ → List Datum → List Datum → Type 0) (gotos : ℕ → List Datum → ℕ → List Datum → Type 0) (a b : Move) → MovesAlike visits gotos a b → AlikeMoves T t t' s s' k k' rest rest' o o' a visits gotos → NextAlike (Tied T) (perform t s o k rest a) (perform t' s' o' k' rest' b)
-alike_tied T t t' s s' r k k' rest rest' o o' visits gotos (Give ds) b m h = subst (λ x. NextAlike (Tied T) (given s rest s.waiting ds (bind s.environment o.results ds)) (perform t' s' o' k' rest' x)) (sym (m.give ds refl)) (given_tied T s s' r rest rest' h.after s.waiting s'.waiting r.waiting ds _ _ (h.results s.environment s'.environment ds r.environment))
+alike_tied T t t' s s' r k k' rest rest' o o' visits gotos (Give ds) b m h = subst (λ x. NextAlike (Tied T) (after_giving s rest s.waiting ds (bind s.environment o.results ds)) (perform t' s' o' k' rest' x)) (sym (m.give ds refl)) (given_tied T s s' r rest rest' h.after s.waiting s'.waiting r.waiting ds _ _ (h.results s.environment s'.environment ds r.environment))
 alike_tied T t t' s s' r k k' rest rest' o o' visits gotos (Visit i ds memo) b m h =
     let v = m.visit i ds memo refl in
     subst (λ x. NextAlike (Tied T) (perform t s o k rest (Visit i ds memo)) (perform t' s' o' k' rest' x)) (sym v.1) (enters_tied T s s' r _ _ ds v.0 (h.entries i ds v.0 v.2) _ _ (h.wait i ds memo refl, refl, r.waiting))

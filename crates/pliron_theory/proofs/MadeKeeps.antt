@@ -8,8 +8,8 @@ use Rattle.pliron_core.specs.declared.context.Def.TheVariants.{Result, Argument}
 use Rattle.pliron_core.specs.declared.attrs.Head.{Head}
 use Rattle.pliron_core.specs.Lists.{In, last_of, put_before}
 use Rattle.pliron_core.specs.Tree.{Tree, IsLive, IsDefined, IsMadeBy, row_of, head_of, operands_of, successors_of, regions_of, parent_of, body_of, definition_of}
-use Rattle.pliron_core.specs.Joined.{IsTree}
-use Rattle.pliron_core.specs.Writes.{placed}
+use Rattle.pliron_core.specs.Invariant.{IsTree}
+use Rattle.pliron_core.specs.Writes.{after_placing}
 use Rattle.pliron_core.proofs.BesideLemmas.{IsBeside}
 use Rattle.pliron_core.proofs.HoldingLemmas.{some_is, maker_is, result_live, in_slice}
 use Rattle.pliron_core.proofs.NeighbourLemmas.{last_of-In}
@@ -50,19 +50,19 @@ put_not_last at n (x ∷ xs) before f b e = ⊎_elim
     last_member ys o g = last_of-In n (x ∷ xs) g
 
 -- d is t with one more operation n, which stands in no block and is then put into the block
-module _ (m : Meaning) (t d : Tree) (n block : ℕ) (body : List ℕ) (w : IsTree t) (w' : IsTree (placed d n block body)) (s : IsBeside t d n) (range : block < length d.bodies) (swept_is : swept (nat_eq n) body ≡ body_of t block) (last : last_of None body ≡ Some n → body_of t block ≡ []) (no_operands : operands_of d n ≡ []) (no_successors : successors_of d n ≡ []) (childless : regions_of d n ≡ []) where
+module _ (m : Meaning) (t d : Tree) (n block : ℕ) (body : List ℕ) (w : IsTree t) (w' : IsTree (after_placing d n block body)) (s : IsBeside t d n) (range : block < length d.bodies) (swept_is : swept (nat_eq n) body ≡ body_of t block) (last : last_of None body ≡ Some n → body_of t block ≡ []) (no_operands : operands_of d n ≡ []) (no_successors : successors_of d n ≡ []) (childless : regions_of d n ≡ []) where
   absent : (b k : ℕ) → In k (body_of t b) → nat_eq n k ≡ false
   absent b k i = not_it n k (λ e. let f : None ≡ Some b = sym s.no_parent ∙ ap (parent_of t) (sym e) ∙ w.bodies.owned k b i in absurd (cc))
 
-  body_here : body_of (placed d n block body) block ≡ body
+  body_here : body_of (after_placing d n block body) block ≡ body
   body_here = get_or-set_same d.bodies block body [] range
 
-  body_there : (b : ℕ) → b ≢ block → body_of (placed d n block body) b ≡ body_of t b
+  body_there : (b : ℕ) → b ≢ block → body_of (after_placing d n block body) b ≡ body_of t b
   body_there b ne = get_or-set_other d.bodies block b body [] ne ∙ s.bodies b
 
-  bodies : (b : ℕ) → body_of t b ≡ swept (nat_eq n) (body_of (placed d n block body) b)
+  bodies : (b : ℕ) → body_of t b ≡ swept (nat_eq n) (body_of (after_placing d n block body) b)
   bodies b = elim (cases_eq b block) [
-    | inl e ↦ ap (body_of t) e ∙ sym swept_is ∙ ap (swept (nat_eq n)) (sym body_here) ∙ ap (λ z. swept (nat_eq n) (body_of (placed d n block body) z)) (sym e)
+    | inl e ↦ ap (body_of t) e ∙ sym swept_is ∙ ap (swept (nat_eq n)) (sym body_here) ∙ ap (λ z. swept (nat_eq n) (body_of (after_placing d n block body) z)) (sym e)
     | inr ne ↦ sym (swept_all (nat_eq n) (body_of t b) (λ k i. absent b k i)) ∙ ap (swept (nat_eq n)) (sym (body_there b ne))
   ]
 
@@ -76,7 +76,7 @@ module _ (m : Meaning) (t d : Tree) (n block : ℕ) (body : List ℕ) (w : IsTre
           let none : IsSome (row_of t n).head = subst (λ z. IsSome (head_of t z)) f live in
           true≢false (sym none ∙ ap (λ z. is_some z.head) s.fresh))
 
-  put_swept : IsSwept (placed d n block body) t (nat_eq n) no_block_dead
+  put_swept : IsSwept (after_placing d n block body) t (nat_eq n) no_block_dead
   put_swept = record {
     rows = λ k l. sym (s.operations k (it_is_not n k l));
     operands = λ k l. sym (s.operands k (it_is_not n k l));
@@ -88,7 +88,7 @@ module _ (m : Meaning) (t d : Tree) (n block : ℕ) (body : List ℕ) (w : IsTre
     layouts = λ k r l i. sym (s.layouts r) ∙ sym (swept_all no_block_dead _ (λ b j. refl));
     holders = λ k b e l. refl;
     block_holders = λ b k e l. not_it n k (λ f.
-        let p = block_place_of (placed d n block body) w' b k e in
+        let p = block_place_of (after_placing d n block body) w' b k e in
         let i : In p.region (regions_of d k) = in_slice (regions_of d k) p.index p.region p.listed in
         subst (In p.region) (ap (regions_of d) f ∙ childless) i);
     entries = λ k r b l i e. refl;
@@ -105,19 +105,19 @@ module _ (m : Meaning) (t d : Tree) (n block : ℕ) (body : List ℕ) (w : IsTre
     blocks = λ b e. absurd (true≢false (sym e));
   }
 
-  module _ (admitted : IsAdmitted m (placed d n block body) n) (plain : (x : Head) → head_of d n ≡ Some x → m.is_terminator x ≡ false) (gives : GivesNow m (placed d n block body) n) (fresh : length t.operations ≤ n) (longer : length t.operations ≤ length d.operations) where
-    ends : (b : ℕ) → last_of None (body_of (placed d n block body) b) ≡ Some n → body_of t b ≡ []
+  module _ (admitted : IsAdmitted m (after_placing d n block body) n) (plain : (x : Head) → head_of d n ≡ Some x → m.is_terminator x ≡ false) (gives : GivesNow m (after_placing d n block body) n) (fresh : length t.operations ≤ n) (longer : length t.operations ≤ length d.operations) where
+    ends : (b : ℕ) → last_of None (body_of (after_placing d n block body) b) ≡ Some n → body_of t b ≡ []
     ends b f = elim (cases_eq b block) [
-      | inl e ↦ ap (body_of t) e ∙ last (ap (last_of None) (sym body_here) ∙ ap (λ z. last_of None (body_of (placed d n block body) z)) (sym e) ∙ f)
-      | inr ne ↦ absurd (true≢false (sym (eq-eqb n n refl) ∙ absent b n (subst (In n) (body_there b ne) (last_of-In n (body_of (placed d n block body) b) f))))
+      | inl e ↦ ap (body_of t) e ∙ last (ap (last_of None) (sym body_here) ∙ ap (λ z. last_of None (body_of (after_placing d n block body) z)) (sym e) ∙ f)
+      | inr ne ↦ absurd (true≢false (sym (eq-eqb n n refl) ∙ absent b n (subst (In n) (body_there b ne) (last_of-In n (body_of (after_placing d n block body) b) f))))
     ]
 
-    are_put : ArePut m (placed d n block body) t (nat_eq n)
+    are_put : ArePut m (after_placing d n block body) t (nat_eq n)
     are_put = record {
       operands = λ k e. ap (operands_of d) (it_is n k e) ∙ no_operands;
       successors = λ k e. ap (successors_of d) (it_is n k e) ∙ no_successors;
       regions = λ k e. ap (regions_of d) (it_is n k e) ∙ childless;
-      admitted = λ k e. subst (IsAdmitted m (placed d n block body)) (sym (it_is n k e)) admitted;
+      admitted = λ k e. subst (IsAdmitted m (after_placing d n block body)) (sym (it_is n k e)) admitted;
       plain = λ k x e f. plain x (ap (head_of d) (sym (it_is n k e)) ∙ f);
       last = λ b k e f. ends b (f ∙ ap Some (it_is n k e));
     }
@@ -125,11 +125,11 @@ module _ (m : Meaning) (t d : Tree) (n block : ℕ) (body : List ℕ) (w : IsTre
     all_fresh : (k : ℕ) → nat_eq n k ≡ true → length t.operations ≤ k
     all_fresh k e = subst (λ z. length t.operations ≤ z) (sym (it_is n k e)) fresh
 
-    all_give : (k : ℕ) → nat_eq n k ≡ true → GivesNow m (placed d n block body) k
-    all_give k e = subst (GivesNow m (placed d n block body)) (sym (it_is n k e)) gives
+    all_give : (k : ℕ) → nat_eq n k ≡ true → GivesNow m (after_placing d n block body) k
+    all_give k e = subst (GivesNow m (after_placing d n block body)) (sym (it_is n k e)) gives
 
-    pub made_keeps : KeepsRuns m t (placed d n block body)
-    made_keeps = put_keeps m (placed d n block body) t (nat_eq n) w' w put_swept put_away are_put longer all_fresh all_give
+    pub made_keeps : KeepsRuns m t (after_placing d n block body)
+    made_keeps = put_keeps m (after_placing d n block body) t (nat_eq n) w' w put_swept put_away are_put longer all_fresh all_give
 
-    pub made_reads : KeepsReads m t (placed d n block body)
-    made_reads = put_reads m (placed d n block body) t (nat_eq n) w' w put_swept put_away are_put longer all_fresh all_give
+    pub made_reads : KeepsReads m t (after_placing d n block body)
+    made_reads = put_reads m (after_placing d n block body) t (nat_eq n) w' w put_swept put_away are_put longer all_fresh all_give

@@ -7,8 +7,8 @@ use Rattle.pliron_core.specs.declared.context.Def.TheVariants.{Result, Argument}
 use Rattle.pliron_core.specs.Lists.{put_before}
 use Rattle.pliron_core.specs.Uses.{replace_target}
 use Rattle.pliron_core.specs.Tree.{Tree, In, IsBlock, IsLive, row_of, operands_of, parent_of, body_of, definition_of}
-use Rattle.pliron_core.specs.Joined.{IsTree}
-use Rattle.pliron_core.specs.Writes.{created, placed, put_first, put_next_to, replaced}
+use Rattle.pliron_core.specs.Invariant.{IsTree}
+use Rattle.pliron_core.specs.Writes.{after_creating, after_placing, put_first, put_next_to, after_replacing}
 use Rattle.pliron_core.proofs.BesideLemmas.{IsBeside, created_beside}
 use Rattle.pliron_core.proofs.HoldingLemmas.{some_is, past_live}
 use Rattle.pliron_core.proofs.TreeLemmas.{block-within}
@@ -34,9 +34,9 @@ module _ (m : Meaning) (t : Tree) (head : Head) (attr : AttrObj) (w : IsTree t) 
   v = length t.definitions
 
   abbrev made : Tree
-  made = created t head 1 0
+  made = after_creating t head 1 0
 
-  beside : IsBeside t (created t head 1 0) (length t.operations)
+  beside : IsBeside t (after_creating t head 1 0) (length t.operations)
   beside = created_beside t head 1 0 w
 
   new_row : row_of made n ≡ record { head = Some head; results = v ∷ []; regions = [] }
@@ -44,7 +44,7 @@ module _ (m : Meaning) (t : Tree) (head : Head) (attr : AttrObj) (w : IsTree t) 
 
   module _ (block : ℕ) (body : List ℕ) where
     abbrev u : Tree
-    u = placed (created t head 1 0) (length t.operations) block body
+    u = after_placing (after_creating t head 1 0) (length t.operations) block body
 
     is_put : IsPut u n v block
     is_put = record {
@@ -55,18 +55,18 @@ module _ (m : Meaning) (t : Tree) (head : Head) (attr : AttrObj) (w : IsTree t) 
       parent = get_or-set_same made.parents n (Some block) None beside.place;
     }
 
-    pub gives : (old : ℕ) → GivesConstant m (replaced u old v) n v (datum_of attr)
+    pub gives : (old : ℕ) → GivesConstant m (after_replacing u old v) n v (datum_of attr)
     gives old = record { results = is_put.results; operands = none; regions = is_put.regions; gives = given }
       where
-        none : operands_of (replaced u old v) n ≡ []
+        none : operands_of (after_replacing u old v) n ≡ []
         none = get_map (map (replace_target old v)) refl made.operands n ∙ ap (map (replace_target old v)) is_put.operands
 
-        given : (o : Operation) → op_at (replaced u old v) n ≡ Some o → m.act (shape_of m (replaced u old v) o) Empty [] ≡ Give (datum_of attr ∷ [])
+        given : (o : Operation) → op_at (after_replacing u old v) n ≡ Some o → m.act (shape_of m (after_replacing u old v) o) Empty [] ≡ Give (datum_of attr ∷ [])
         given o e =
-            let s = op_shows (replaced u old v) n o e in
+            let s = op_shows (after_replacing u old v) n o e in
             let h : o.head ≡ head = some_is (sym s.head ∙ ap (λ z. z.head) new_row) in
             let b : length o.results ≡ 1 = ap length (sym s.results ∙ is_put.results) in
-            ap (λ z. m.act z Empty []) (shape_plain m (replaced u old v) o head plain h (sym s.operands ∙ none) b (sym s.successors ∙ is_put.successors) (sym s.regions ∙ is_put.regions)) ∙ makes.gives
+            ap (λ z. m.act z Empty []) (shape_plain m (after_replacing u old v) o head plain h (sym s.operands ∙ none) b (sym s.successors ∙ is_put.successors) (sym s.regions ∙ is_put.regions)) ∙ makes.gives
 
   abbrev body_before : (at block : ℕ) → List ℕ
   body_before at block = put_before at (length t.operations) (body_of t block)
@@ -91,13 +91,13 @@ module _ (m : Meaning) (t : Tree) (head : Head) (attr : AttrObj) (w : IsTree t) 
         here : body_of (u block (body_before at block)) block ≡ body_before at block
         here = get_or-set_same made.bodies block (body_before at block) [] (range_of m t head attr w makes plain block at (w.bodies.listed at block standing))
 
-    pub result_keeps : IsConstant m t old attr → IsTree (put_next_to made n at (Some block)) → IsTree (replaced (put_next_to made n at (Some block)) old v) → KeepsRuns m t (replaced (put_next_to made n at (Some block)) old v)
+    pub result_keeps : IsConstant m t old attr → IsTree (put_next_to made n at (Some block)) → IsTree (after_replacing (put_next_to made n at (Some block)) old v) → KeepsRuns m t (after_replacing (put_next_to made n at (Some block)) old v)
     result_keeps reads wu wv =
         let x = before_well m t head attr w makes plain at block standing wu in
         put_constant_keeps m t (u block (body_before at block)) old v n (datum_of attr) x.0 wu wv (gives block (body_before at block) old) (result_uses wu) (λ root f l. x.1 root f old (datum_of attr) (reads root f))
 
     -- in a tree that came from another one, whose roots read the value as the constant
-    pub result_keeps_on : (t₀ : Tree) → KeepsRuns m t₀ t → ((root : ℕ) → IsFit m t₀ root → IsLive t root → IsReadAs m t old (datum_of attr) root) → IsTree (put_next_to made n at (Some block)) → IsTree (replaced (put_next_to made n at (Some block)) old v) → KeepsRuns m t₀ (replaced (put_next_to made n at (Some block)) old v) × ((root : ℕ) → IsFit m t₀ root → IsLive t root → (x : ℕ) (d : Datum) → x ≢ v → IsReadAs m t x d root → IsReadAs m (replaced (put_next_to made n at (Some block)) old v) x d root)
+    pub result_keeps_on : (t₀ : Tree) → KeepsRuns m t₀ t → ((root : ℕ) → IsFit m t₀ root → IsLive t root → IsReadAs m t old (datum_of attr) root) → IsTree (put_next_to made n at (Some block)) → IsTree (after_replacing (put_next_to made n at (Some block)) old v) → KeepsRuns m t₀ (after_replacing (put_next_to made n at (Some block)) old v) × ((root : ℕ) → IsFit m t₀ root → IsLive t root → (x : ℕ) (d : Datum) → x ≢ v → IsReadAs m t x d root → IsReadAs m (after_replacing (put_next_to made n at (Some block)) old v) x d root)
     result_keeps_on t₀ keeps reads wu wv =
         let x = before_well m t head attr w makes plain at block standing wu in
         let there = keeps_trans m t₀ t (u block (body_before at block)) keeps x.0 in (
@@ -114,7 +114,7 @@ module _ (m : Meaning) (t : Tree) (head : Head) (attr : AttrObj) (w : IsTree t) 
         forth root f = subst (λ z. IsSome z.head) (sym (beside.operations root (λ e. let lt = past_live t root f.live in omega (arith, lt, e)))) f.live
 
   -- first in the block whose argument the value is
-  pub argument_keeps : (block old j : ℕ) → IsBlock t block → definition_of t old ≡ Some (Argument block j) → IsConstant m t old attr → IsTree (put_first made n block) → IsTree (replaced (put_first made n block) old v) → KeepsRuns m t (replaced (put_first made n block) old v)
+  pub argument_keeps : (block old j : ℕ) → IsBlock t block → definition_of t old ≡ Some (Argument block j) → IsConstant m t old attr → IsTree (put_first made n block) → IsTree (after_replacing (put_first made n block) old v) → KeepsRuns m t (after_replacing (put_first made n block) old v)
   argument_keeps block old j standing def reads wu wv =
       let x = first_well m t head attr w makes plain block standing wu in
       put_constant_keeps m t (u block (body_first block)) old v n (datum_of attr) x.0 wu wv (gives block (body_first block) old)

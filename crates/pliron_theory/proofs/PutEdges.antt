@@ -6,13 +6,13 @@ use Rattle.pliron_core.specs.Lists.{In, put_before, last_of}
 use Rattle.pliron_core.specs.Tree.{Tree, no_entry, regions_of, successors_of, parent_of, body_of, IsBlock}
 use Rattle.pliron_core.proofs.TreeLemmas.{block-within}
 use Rattle.pliron_core.specs.Edges.{succs_of, succs_from}
-use Rattle.pliron_core.specs.Joined.{IsTree}
-use Rattle.pliron_core.specs.Writes.{created, replaced, placed, put_next_to, put_first}
+use Rattle.pliron_core.specs.Invariant.{IsTree}
+use Rattle.pliron_core.specs.Writes.{after_creating, after_replacing, after_placing, put_next_to, put_first}
 use Rattle.pliron_core.proofs.EditLemmas.{put_before-first, put_before-other}
 use Rattle.pliron_core.proofs.BesideLemmas.{created_beside}
 use Rattle.pliron_core.proofs.GrownLemmas.{get_grown}
 use Rattle.pliron_laws.specs.Datum.{Head}
-use Rattle.pliron_laws.specs.Outcomes.{materialised}
+use Rattle.pliron_laws.specs.Outcomes.{after_materialising}
 use Rattle.pliron_laws.proofs.ConstantLemmas.{new_row, made_row}
 use Rattle.pliron_theory.specs.Edges.{has_regions, has_entries, EdgesAlike}
 
@@ -35,10 +35,10 @@ module _ (t : Tree) (op v b : ℕ) (head : Head) (w : IsTree t) (at : parent_of 
   c = length t.operations
 
   abbrev made : Tree
-  made = created t head 1 0
+  made = after_creating t head 1 0
 
   abbrev u : Tree
-  u = replaced (placed made c b (put_before op c (body_of t b))) v (length t.definitions)
+  u = after_replacing (after_placing made c b (put_before op c (body_of t b))) v (length t.definitions)
 
   within_bodies : b < length t.bodies
   within_bodies = elim (cases b (length t.bodies)) [ inl lt ↦ lt | inr le ↦ absurd (none (subst (In op) (get_or_past t.bodies b [] le) (w.bodies.listed op b at))) ]
@@ -92,8 +92,8 @@ module _ (t : Tree) (op v b : ℕ) (head : Head) (w : IsTree t) (at : parent_of 
     bodies = bodies_alike;
   }
 
-  pub put_alike : EdgesAlike t (materialised t op v head)
-  put_alike = subst (λ z. EdgesAlike t z) (sym (ap (λ o. replaced (put_next_to made c op o) v (length t.definitions)) at)) there
+  pub put_alike : EdgesAlike t (after_materialising t op v head)
+  put_alike = subst (λ z. EdgesAlike t z) (sym (ap (λ o. after_replacing (put_next_to made c op o) v (length t.definitions)) at)) there
 
 -- the same where it is put first in a block
 module _ (t : Tree) (v b : ℕ) (head : Head) (w : IsTree t) (is : IsBlock t b) where
@@ -101,10 +101,10 @@ module _ (t : Tree) (v b : ℕ) (head : Head) (w : IsTree t) (is : IsBlock t b) 
   c₁ = length t.operations
 
   abbrev made₁ : Tree
-  made₁ = created t head 1 0
+  made₁ = after_creating t head 1 0
 
   abbrev u₁ : Tree
-  u₁ = replaced (put_first made₁ c₁ b) v (length t.definitions)
+  u₁ = after_replacing (put_first made₁ c₁ b) v (length t.definitions)
 
   body_first : body_of u₁ b ≡ c₁ ∷ body_of t b
   body_first = get_or-set_same t.bodies b (c₁ ∷ body_of t b) [] (block-within t b w.keys is)
@@ -144,7 +144,7 @@ module _ (t : Tree) (v b : ℕ) (head : Head) (w : IsTree t) (is : IsBlock t b) 
     | inr ne ↦ ap (filter (λ k. has_regions t k)) (body_other l ne)
   ]
 
-  pub first_alike : EdgesAlike t (replaced (put_first (created t head 1 0) (length t.operations) b) v (length t.definitions))
+  pub first_alike : EdgesAlike t (after_replacing (put_first (after_creating t head 1 0) (length t.operations) b) v (length t.definitions))
   first_alike = record {
     grows = omega (arith, length-append t.operations (new_row t head ∷ []));
     regions = regions_first;

@@ -3,10 +3,10 @@ use Rattle.std.proofs.Common.{◌≡◌, inl, inr, ℕ, List, length, Some, None
 use Rattle.std.proofs.lemmas.List.{get_or_past}
 use Rattle.pliron_core.specs.declared.attrs.Head.{Head}
 use Rattle.pliron_core.specs.declared.context.Def.TheVariants.{Result, Argument}
-use Rattle.pliron_core.specs.Changes.{IsInsideChange, IsMadeInside, IsMakerInside}
-use Rattle.pliron_core.specs.Joined.{IsTree, IsJoined}
+use Rattle.pliron_core.specs.Changes.{IsInsideChange, IsDefinedInside, IsDefiningOperationInside}
+use Rattle.pliron_core.specs.Invariant.{IsTree, IsJoined}
 use Rattle.pliron_core.specs.Tree.{Tree, IsLive, IsBlock, IsInside, HoldsBlock, results_of, arguments_of, parent_of}
-use Rattle.pliron_core.specs.Writes.{created, placed, replaced}
+use Rattle.pliron_core.specs.Writes.{after_creating, after_placing, after_replacing}
 use Rattle.pliron_core.proofs.BesideLemmas.{IsBeside, created_beside, beside_placed, not_new}
 use Rattle.pliron_core.proofs.GrownLemmas.{get_grown}
 use Rattle.pliron_core.proofs.HoldingLemmas.{inside_or, holds_or, inside_block, held_block}
@@ -30,10 +30,10 @@ module _ (t : Tree) (root b v : ℕ) (head : Head) (body : List ℕ) (w : IsTree
   c = length t.operations
 
   abbrev made : Tree
-  made = created t head 1 0
+  made = after_creating t head 1 0
 
   abbrev between : Tree
-  between = placed made c b body
+  between = after_placing made c b body
 
   beside : IsBeside t made c
   beside = created_beside t head 1 0 w
@@ -51,14 +51,14 @@ module _ (t : Tree) (root b v : ℕ) (head : Head) (body : List ℕ) (w : IsTree
   put_inside : IsInsideChange t between root
   put_inside = beside_placed t made c root b body w beside held
 
-  after : IsMadeInside between root v → IsInsideChange t (replaced between v (length t.definitions)) root
+  after : IsDefinedInside between root v → IsInsideChange t (after_replacing between v (length t.definitions)) root
   after inside = inside_trans t between _ root put_inside (replaced_inside between root v (length t.definitions) joined inside)
 
-  pub result_inside : (k i : ℕ) → IsLive t k → parent_of t k ≡ Some b → slice_get (results_of t k) i ≡ Some v → IsInsideChange t (replaced between v (length t.definitions)) root
+  pub result_inside : (k i : ℕ) → IsLive t k → parent_of t k ≡ Some b → slice_get (results_of t k) i ≡ Some v → IsInsideChange t (after_replacing between v (length t.definitions)) root
   result_inside k i live at listed =
       let still : IsLive between k = subst (λ z. IsSome z.head) (sym (beside.operations k (not_new t made c w beside k live))) live in
-      after (subst (IsMakerInside between root) (sym (beside.definitions v (Result k i) (w.joined.results k i v listed))) (inside_stays t between root joined put_inside k still (inside_block b at held)))
+      after (subst (IsDefiningOperationInside between root) (sym (beside.definitions v (Result k i) (w.joined.results k i v listed))) (inside_stays t between root joined put_inside k still (inside_block b at held)))
 
-  pub argument_inside : (i : ℕ) → slice_get (arguments_of t b) i ≡ Some v → IsInsideChange t (replaced between v (length t.definitions)) root
+  pub argument_inside : (i : ℕ) → slice_get (arguments_of t b) i ≡ Some v → IsInsideChange t (after_replacing between v (length t.definitions)) root
   argument_inside i listed =
-      after (subst (IsMakerInside between root) (sym (beside.definitions v (Argument b i) (w.joined.arguments b i v listed))) (holds_stays t between root joined put_inside b stands held))
+      after (subst (IsDefiningOperationInside between root) (sym (beside.definitions v (Argument b i) (w.joined.arguments b i v listed))) (holds_stays t between root joined put_inside b stands held))

@@ -1,7 +1,7 @@
 -- Putting operations that use nothing and give at once into blocks keeps what roots do.
 use Rattle.std.proofs.Common.{◌≡◌, ℕ, ◌<◌, ◌≤◌, Bool, true, false, ◌∷◌, length, IsSome, refl, sym, ap, ◌∙◌, subst, arith}
 use Rattle.pliron_core.specs.Tree.{Tree, In, operands_of}
-use Rattle.pliron_core.specs.Joined.{IsTree}
+use Rattle.pliron_core.specs.Invariant.{IsTree}
 use Rattle.pliron_core.proofs.HoldingLemmas.{past_live}
 use Rattle.pliron_laws.specs.Datum.{Datum, Meaning}
 use Rattle.pliron_theory.specs.Keeps.{IsFit, KeepsRuns}

@@ -2,9 +2,9 @@
 use Rattle.std.proofs.Common.{◌≡◌, ◌⊎◌, inl, inr, ℕ, Bool, true, false, true≢false, List, [], ◌∷◌, ◌++◌, length, Option, Some, None, IsSome, IsTrue, slice_get, refl, sym, ap, ◌∙◌, subst}
 use Rattle.pliron_core.specs.declared.context.Def.{Def}
 use Rattle.pliron_core.specs.declared.context.Def.TheVariants.{Result, Argument}
-use Rattle.pliron_core.specs.Changes.{IsMakerInside}
-use Rattle.pliron_core.specs.Tree.{Tree, In, first_of, last_of, IsInside, IsWithin, HoldsBlock, operands_of, successors_of, regions_of, parent_of, body_of, arguments_of, block_parent_of, layout_of, region_parent_of, block_holder_of, definition_of, up_from, op_of_slot}
-use Rattle.pliron_core.specs.Joined.{IsTree}
+use Rattle.pliron_core.specs.Changes.{IsDefiningOperationInside}
+use Rattle.pliron_core.specs.Tree.{Tree, In, first_of, last_of, IsInside, IsWithin, HoldsBlock, operands_of, successors_of, regions_of, parent_of, body_of, arguments_of, block_parent_of, layout_of, region_parent_of, block_parent_operation_of, definition_of, up_from, op_of_slot}
+use Rattle.pliron_core.specs.Invariant.{IsTree}
 use Rattle.pliron_core.specs.Edges.{succs_from}
 use Rattle.pliron_core.specs.Reads.{has_ssa, has_ssa_at, ssa_in}
 use Rattle.pliron_core.proofs.HoldingLemmas.{some_is, slice_in, in_slice}
@@ -96,7 +96,7 @@ module _ (m : Meaning) (t t' : Tree) (dead : ℕ → Bool) (w : IsTree t) (w' : 
   passed_back (Some (Result k j)) l before b done (inl i) = inl (from_swept dead k done i).0
   passed_back (Some (Result k j)) l before b done (inr x) = inr (x.0, sym (h.parents k l) ∙ x.1, x.2)
 
-  dominated : (user v : ℕ) → In v (operands_of t user) → IsMakerInside t root (definition_of t v) → IsDominated t user v
+  dominated : (user v : ℕ) → In v (operands_of t user) → IsDefiningOperationInside t root (definition_of t v) → IsDominated t user v
   dominated user v i made = record {
     around = d.around;
     holds = within_back t t' dead no_block_dead w w' h g d.around user d.holds;
@@ -115,7 +115,7 @@ module _ (m : Meaning) (t t' : Tree) (dead : ℕ → Bool) (w : IsTree t) (w' : 
       def = made_same t t' dead no_block_dead w w' h v (w.joined.operands user v i) lm
 
       d : IsDominated t' user v
-      d = f.defined.dominated user v (old_operand user v i) (subst (IsMakerInside t' root) (sym def) (made_forth t t' dead no_block_dead w w' h root (definition_of t v) lm made))
+      d = f.defined.dominated user v (old_operand user v i) (subst (IsDefiningOperationInside t' root) (sym def) (made_forth t t' dead no_block_dead w w' h root (definition_of t v) lm made))
 
       la : dead d.around ≡ false
       la = held_lives t t' dead no_block_dead w w' h g d.around d.block d.in_block
@@ -123,7 +123,7 @@ module _ (m : Meaning) (t t' : Tree) (dead : ℕ → Bool) (w : IsTree t) (w' : 
       in_region : block_parent_of t d.block ≡ Some d.region
       in_region = sym (h.block_parents d.block refl) ∙ d.in_region
 
-      up : (y : ℕ) × (block_holder_of t d.block ≡ Some y)
+      up : (y : ℕ) × (block_parent_operation_of t d.block ≡ Some y)
       up = parent_holder t d.around d.block w.joined (sym (h.parents d.around la) ∙ d.in_block)
 
       q : HasBlockPlace t d.block up.0
@@ -147,7 +147,7 @@ module _ (m : Meaning) (t t' : Tree) (dead : ℕ → Bool) (w : IsTree t) (w' : 
         let lk = user_old k v j in
         let lm = h.values k v lk j in
         let def = made_same t t' dead no_block_dead w w' h v (w.joined.operands k v j) lm in
-        made_back t t' dead no_block_dead w w' h g root (definition_of t v) (subst (IsMakerInside t' root) def (f.defined.own_values k v (forth k lk i) (old_operand k v j)));
+        made_back t t' dead no_block_dead w w' h g root (definition_of t v) (subst (IsDefiningOperationInside t' root) def (f.defined.own_values k v (forth k lk i) (old_operand k v j)));
     dominance = λ k r i j. ssa k r i j;
     forwards = λ k i b o ins e br s. forwards k i b o ins e br s;
     terminators = λ k b x i e tr q.

@@ -4,9 +4,9 @@ use Rattle.std.proofs.lemmas.Bool.Decides.{eqb_tells}
 use Rattle.pliron_core.specs.declared.context.Def.{Def}
 use Rattle.pliron_core.specs.declared.context.Def.TheVariants.{Result, Argument}
 use Rattle.pliron_core.specs.Lists.{In, put_before}
-use Rattle.pliron_core.specs.Tree.{Tree, IsInside, IsInside.Directly, IsInside.Deeper, IsWithin, HoldsBlock, operands_of, successors_of, results_of, regions_of, parent_of, body_of, block_parent_of, block_holder_of, holder_of, definition_of, up_from}
-use Rattle.pliron_core.specs.Changes.{IsMakerInside}
-use Rattle.pliron_core.specs.Joined.{IsTree}
+use Rattle.pliron_core.specs.Tree.{Tree, IsInside, IsInside.Directly, IsInside.Deeper, IsWithin, HoldsBlock, operands_of, successors_of, results_of, regions_of, parent_of, body_of, block_parent_of, block_parent_operation_of, parent_operation_of, definition_of, up_from}
+use Rattle.pliron_core.specs.Changes.{IsDefiningOperationInside}
+use Rattle.pliron_core.specs.Invariant.{IsTree}
 use Rattle.pliron_core.proofs.HoldingLemmas.{some_is, slice_in}
 use Rattle.pliron_core.proofs.ListLemmas.{In-left}
 use Rattle.pliron_laws.specs.Datum.{Meaning}
@@ -37,22 +37,22 @@ pub record IsPut (t : Tree) (n v block : ℕ) : Type 0 where
   pub regions : regions_of t n ≡ []
   pub parent : parent_of t n ≡ Some block
 
--- a value is made inside the root exactly if the root holds the block that defines it
-pub maker_holds : (t : Tree) (root block : ℕ) (d : Option Def) → defining_block t d ≡ Some block → IsMakerInside t root d → HoldsBlock t root block
+-- a value is defined inside the root exactly if the root holds the block that defines it
+pub maker_holds : (t : Tree) (root block : ℕ) (d : Option Def) → defining_block t d ≡ Some block → IsDefiningOperationInside t root d → HoldsBlock t root block
 maker_holds t root block None e i = absurd i
 maker_holds t root block (Some (Argument b j)) e i = subst (HoldsBlock t root) (some_is e) i
 maker_holds t root block (Some (Result k j)) e i = go i
   where
-    up : (p : ℕ) → holder_of t k ≡ Some p → block_holder_of t block ≡ Some p
-    up p f = ap (λ o. up_from o (λ b. block_holder_of t b)) (sym e) ∙ f
+    up : (p : ℕ) → parent_operation_of t k ≡ Some p → block_parent_operation_of t block ≡ Some p
+    up p f = ap (λ o. up_from o (λ b. block_parent_operation_of t b)) (sym e) ∙ f
 
     go : IsInside t root k → HoldsBlock t root block
     go (Directly f) = (root, up root f, inl refl)
     go (Deeper p f j) = (p, up p f, inr j)
 
-pub holds_maker : (t : Tree) (root block k j : ℕ) → parent_of t k ≡ Some block → HoldsBlock t root block → IsMakerInside t root (Some (Result k j))
-holds_maker t root block k j e (p, f, inl s) = Directly (ap (λ o. up_from o (λ b. block_holder_of t b)) e ∙ f ∙ ap Some s)
-holds_maker t root block k j e (p, f, inr i) = Deeper p (ap (λ o. up_from o (λ b. block_holder_of t b)) e ∙ f) i
+pub holds_maker : (t : Tree) (root block k j : ℕ) → parent_of t k ≡ Some block → HoldsBlock t root block → IsDefiningOperationInside t root (Some (Result k j))
+holds_maker t root block k j e (p, f, inl s) = Directly (ap (λ o. up_from o (λ b. block_parent_operation_of t b)) e ∙ f ∙ ap Some s)
+holds_maker t root block k j e (p, f, inr i) = Deeper p (ap (λ o. up_from o (λ b. block_parent_operation_of t b)) e ∙ f) i
 
 module _ (m : Meaning) (t : Tree) (w : IsTree t) (n v block old : ℕ) (p : IsPut t n v block) (home : defining_block t (definition_of t old) ≡ Some block) where
   made : definition_of t v ≡ Some (Result n 0)
@@ -67,12 +67,12 @@ module _ (m : Meaning) (t : Tree) (w : IsTree t) (n v block old : ℕ) (p : IsPu
 
   may_use : PassesToo → (root : ℕ) → IsFit m t root → (user : ℕ) → In old (operands_of t user) → MayUse t root user v
   may_use passes root f user i = record {
-    own = λ inside. subst (IsMakerInside t root) (sym made) (holds_maker t root block n 0 p.parent (maker_holds t root block (definition_of t old) home (f.defined.own_values user old inside i)));
+    own = λ inside. subst (IsDefiningOperationInside t root) (sym made) (holds_maker t root block n 0 p.parent (maker_holds t root block (definition_of t old) home (f.defined.own_values user old inside i)));
     no_jumper = λ k inside ne j. ne (ap (successors_of t) (only_result k j) ∙ p.successors);
-    dominated = λ inner. dominated (maker_holds t root block (Some (Result n 0)) p.parent (subst (IsMakerInside t root) made inner));
+    dominated = λ inner. dominated (maker_holds t root block (Some (Result n 0)) p.parent (subst (IsDefiningOperationInside t root) made inner));
   }
     where
-      old_made : HoldsBlock t root block → (o : Option Def) → defining_block t o ≡ Some block → IsMakerInside t root o
+      old_made : HoldsBlock t root block → (o : Option Def) → defining_block t o ≡ Some block → IsDefiningOperationInside t root o
       old_made held None e = grind arith
       old_made held (Some (Argument b j)) e = subst (HoldsBlock t root) (sym (some_is e)) held
       old_made held (Some (Result k j)) e = holds_maker t root block k j e held

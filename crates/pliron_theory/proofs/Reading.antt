@@ -1,7 +1,7 @@
 -- What an operation reads in a root that is fit to run.
 use Rattle.std.proofs.Common.{◌≡◌, ℕ, List, ◌∷◌, Some, None}
 use Rattle.pliron_core.specs.Tree.{Tree, In, operands_of}
-use Rattle.pliron_core.specs.Joined.{IsTree}
+use Rattle.pliron_core.specs.Invariant.{IsTree}
 use Rattle.pliron_laws.specs.Datum.{Datum, Meaning}
 use Rattle.pliron_laws.specs.States.{State}
 use Rattle.pliron_theory.specs.Keeps.{IsFit}

@@ -2,7 +2,7 @@
 use Rattle.std.proofs.Common.{◌≡◌, ◌≢◌, inl, inr, ⊎_elim, ℕ, Bool, true, false, true≢false, nat_eq, List, [], ◌∷◌, ◌++◌, length, Option, Some, None, IsSome, is_some, slice_get, refl, sym, ap, ap₂, ◌∙◌, subst, arith}
 use Rattle.std.proofs.lemmas.Bool.{cases_eq, eq-eqb}
 use Rattle.pliron_core.specs.Tree.{Tree, In, IsDistinct, IsLive, first_of, head_of, successors_of, results_of, regions_of, parent_of, body_of, block_parent_of, layout_of, region_parent_of, op_of_slot}
-use Rattle.pliron_core.specs.Joined.{IsTree}
+use Rattle.pliron_core.specs.Invariant.{IsTree}
 use Rattle.pliron_core.proofs.ListLemmas.{In-right, distinct-apart}
 use Rattle.pliron_core.proofs.HoldingLemmas.{some_is, some_of, slice_in}
 use Rattle.pliron_laws.specs.Datum.{Datum, Empty, Head, Meaning}

@@ -3,9 +3,9 @@ use Rattle.std.proofs.Common.{◌≡◌, ◌≢◌, ◌⊎◌, inl, inr, ⊎_eli
 use Rattle.std.proofs.lemmas.Bool.{cases_eq}
 use Rattle.pliron_core.specs.declared.context.Def.{Def}
 use Rattle.pliron_core.specs.declared.context.Def.TheVariants.{Result, Argument}
-use Rattle.pliron_core.specs.Changes.{IsMakerInside}
-use Rattle.pliron_core.specs.Tree.{Tree, In, first_of, last_of, IsLive, IsMadeBy, IsInside, IsInside.Directly, IsInside.Deeper, IsWithin, HoldsBlock, head_of, operands_of, successors_of, results_of, regions_of, parent_of, body_of, arguments_of, block_parent_of, region_parent_of, block_holder_of, holder_of, definition_of, up_from, op_of_slot}
-use Rattle.pliron_core.specs.Joined.{IsTree}
+use Rattle.pliron_core.specs.Changes.{IsDefiningOperationInside}
+use Rattle.pliron_core.specs.Tree.{Tree, In, first_of, last_of, IsLive, IsMadeBy, IsInside, IsInside.Directly, IsInside.Deeper, IsWithin, HoldsBlock, head_of, operands_of, successors_of, results_of, regions_of, parent_of, body_of, arguments_of, block_parent_of, region_parent_of, block_parent_operation_of, parent_operation_of, definition_of, up_from, op_of_slot}
+use Rattle.pliron_core.specs.Invariant.{IsTree}
 use Rattle.pliron_core.specs.Edges.{succs_of, succs_from}
 use Rattle.pliron_core.specs.Reads.{has_ssa, has_ssa_at, ssa_in}
 use Rattle.pliron_core.proofs.ListLemmas.{In-left, In-right}
@@ -99,7 +99,7 @@ module _ (m : Meaning) (t t' : Tree) (a op new : ℕ) (front : List ℕ) (w : Is
   holder_not_op : (k r : ℕ) → In r (regions_of t' k) → k ≢ op
   holder_not_op k r i e = subst (In r) (ap (regions_of t') e ∙ ap (λ z. z.regions) (w'.joined.erased op h.gone).2) i
 
-  block_back : (c p : ℕ) → block_holder_of t' c ≡ Some p → (block_holder_of t c ≡ Some p) × (p ≢ op) × (p ≢ new)
+  block_back : (c p : ℕ) → block_parent_operation_of t' c ≡ Some p → (block_parent_operation_of t c ≡ Some p) × (p ≢ op) × (p ≢ new)
   block_back c p e =
       let q = block_place_of t' w' c p e in
       let i = in_slice (regions_of t' p) q.index q.region q.listed in
@@ -108,7 +108,7 @@ module _ (m : Meaning) (t t' : Tree) (a op new : ℕ) (front : List ℕ) (w : Is
       let f = ap (λ z. slice_get z.regions q.index) (sym (h.rows p np nq)) ∙ q.listed in
       (block_held_at t c p (record { region = q.region; index = q.index; in_region = sym (h.block_parents c) ∙ q.in_region; slot = w.joined.regions p q.index q.region f; listed = f }), np, nq)
 
-  block_forth : (c p : ℕ) → block_holder_of t c ≡ Some p → (block_holder_of t' c ≡ Some p) × (p ≢ op) × (p ≢ new)
+  block_forth : (c p : ℕ) → block_parent_operation_of t c ≡ Some p → (block_parent_operation_of t' c ≡ Some p) × (p ≢ op) × (p ≢ new)
   block_forth c p e =
       let q = block_place_of t w c p e in
       let i = in_slice (regions_of t p) q.index q.region q.listed in
@@ -117,14 +117,14 @@ module _ (m : Meaning) (t t' : Tree) (a op new : ℕ) (front : List ℕ) (w : Is
       let f = ap (λ z. slice_get z.regions q.index) (h.rows p np nq) ∙ q.listed in
       (block_held_at t' c p (record { region = q.region; index = q.index; in_region = h.block_parents c ∙ q.in_region; slot = w'.joined.regions p q.index q.region f; listed = f }), np, nq)
 
-  place_back : (x p : ℕ) → holder_of t' x ≡ Some p → (holder_of t (other x) ≡ Some p) × (other p ≡ p) × (x ≢ op)
+  place_back : (x p : ℕ) → parent_operation_of t' x ≡ Some p → (parent_operation_of t (other x) ≡ Some p) × (other p ≡ p) × (x ≢ op)
   place_back x p e =
       let q = holder_is t' x p e in
       let nx = now_held x q.0 q.1 in
       let b = block_back q.0 p q.2 in
       (holder_by t (other x) q.0 p (sym (parent_other x nx) ∙ q.1) b.0, is_else p b.1 b.2, nx)
 
-  place_forth : (x p : ℕ) → x ≢ op → holder_of t (other x) ≡ Some p → (holder_of t' x ≡ Some p) × (other p ≡ p) × (p ≢ op)
+  place_forth : (x p : ℕ) → x ≢ op → parent_operation_of t (other x) ≡ Some p → (parent_operation_of t' x ≡ Some p) × (other p ≡ p) × (p ≢ op)
   place_forth x p nx e =
       let q = holder_is t (other x) p e in
       let b = block_forth q.0 p q.2 in
@@ -143,8 +143,8 @@ module _ (m : Meaning) (t t' : Tree) (a op new : ℕ) (front : List ℕ) (w : Is
   within_back z x s (inr i) = inr (inside_back z x i)
 
   inside_at : (z x y : ℕ) → x ≢ op → y ≡ other x → IsInside t z y → IsInside t' z x
-  inside_at z x y nx s (Directly e) = Directly (place_forth x z nx (ap (holder_of t) (sym s) ∙ e)).0
-  inside_at z x y nx s (Deeper p e i) = let q = place_forth x p nx (ap (holder_of t) (sym s) ∙ e) in Deeper p q.0 (inside_at z p p q.2 (sym q.1) i)
+  inside_at z x y nx s (Directly e) = Directly (place_forth x z nx (ap (parent_operation_of t) (sym s) ∙ e)).0
+  inside_at z x y nx s (Deeper p e i) = let q = place_forth x p nx (ap (parent_operation_of t) (sym s) ∙ e) in Deeper p q.0 (inside_at z p p q.2 (sym q.1) i)
 
   inside_forth : (z x : ℕ) → x ≢ op → IsInside t z (other x) → IsInside t' z x
   inside_forth z x nx i = inside_at z x (other x) nx refl i
@@ -228,14 +228,14 @@ module _ (m : Meaning) (t t' : Tree) (a op new : ℕ) (front : List ℕ) (w : Is
             let nq = old_op q (result_live t w.joined q j v e) in
             ((np, nq), w'.joined.results q j v (ap (λ z. slice_get z.results j) (h.rows q np nq) ∙ e))
 
-    made_forth : (d : Option Def) → IsPlain d → IsMakerInside t root d → IsMakerInside t' root d
+    made_forth : (d : Option Def) → IsPlain d → IsDefiningOperationInside t root d → IsDefiningOperationInside t' root d
     made_forth None l i = i
     made_forth (Some (Argument c j)) l i =
         let b = block_forth c i.0 i.1 in
         (i.0, b.0, subst (λ z. IsWithin t' z i.0) root_same (within_forth root i.0 b.1 (subst (IsWithin t root) (sym (is_else i.0 b.1 b.2)) i.2)))
     made_forth (Some (Result k j)) l i = inside_forth root k l.0 (subst (IsInside t root) (sym (is_else k l.0 l.1)) i)
 
-    made_back : (d : Option Def) → IsPlain d → IsMakerInside t' root d → IsMakerInside t root d
+    made_back : (d : Option Def) → IsPlain d → IsDefiningOperationInside t' root d → IsDefiningOperationInside t root d
     made_back None l i = i
     made_back (Some (Argument c j)) l i =
         let b = block_back c i.0 i.1 in
@@ -316,7 +316,7 @@ module _ (m : Meaning) (t t' : Tree) (a op new : ℕ) (front : List ℕ) (w : Is
             (λ r. absurd (⊎_elim nq (λ z. z) (subst (In x) (sym r.2) (In-right x r.0 (x ∷ rest) (inl refl)))))
             (split_append x rest front (new ∷ []) done (sym h.put ∙ ap (body_of t') (sym s) ∙ e ∙ ap (λ z. done ++ z ∷ rest) (is_else x np nq)))
 
-    dominated : (user v : ℕ) → In v (operands_of t' user) → IsMakerInside t' root (definition_of t' v) → IsDominated t' user v
+    dominated : (user v : ℕ) → In v (operands_of t' user) → IsDefiningOperationInside t' root (definition_of t' v) → IsDominated t' user v
     dominated user v i made = record {
       around = other d.around;
       holds = within_forth d.around user nu d.holds;
@@ -337,7 +337,7 @@ module _ (m : Meaning) (t t' : Tree) (a op new : ℕ) (front : List ℕ) (w : Is
         x = plain_maker (other user) v j
 
         d : IsDominated t (other user) v
-        d = f.defined.dominated (other user) v j (made_back (definition_of t v) x.0 (subst (IsMakerInside t' root) x.1 made))
+        d = f.defined.dominated (other user) v j (made_back (definition_of t v) x.0 (subst (IsDefiningOperationInside t' root) x.1 made))
 
         nu : user ≢ op
         nu s = subst (In v) (ap (operands_of t') s ∙ (w'.joined.erased op h.gone).0) i
@@ -351,7 +351,7 @@ module _ (m : Meaning) (t t' : Tree) (a op new : ℕ) (front : List ℕ) (w : Is
       own_values = λ k v i j.
           let j0 = user_back k v j in
           let x = plain_maker (other k) v j0 in
-          subst (IsMakerInside t' root) (sym x.1) (made_forth (definition_of t v) x.0 (f.defined.own_values (other k) v (inner k i) j0));
+          subst (IsDefiningOperationInside t' root) (sym x.1) (made_forth (definition_of t v) x.0 (f.defined.own_values (other k) v (inner k i) j0));
       dominance = λ k r i j. ssa k r i j;
       forwards = λ k i c o ins e br s. forwards k i c o ins e br s;
       terminators = λ k c x i e tr p. last k c x i e tr p;

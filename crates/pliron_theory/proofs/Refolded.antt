@@ -6,7 +6,7 @@ use Rattle.pliron_core.specs.Tree.{Tree, In, IsInside, operands_of, successors_o
 use Rattle.pliron_core.proofs.HoldingLemmas.{some_is, not_none, in_slice}
 use Rattle.pliron_laws.specs.Datum.{Datum, datum_of, Head, Shape, Meaning}
 use Rattle.pliron_laws.specs.Tree.{Operation, op_at, block_at, entry_block, count_arguments, shape_of, unless}
-use Rattle.pliron_laws.specs.States.{Environment, prepended, data_of}
+use Rattle.pliron_laws.specs.States.{Environment, prepend_optional, data_of}
 use Rattle.pliron_laws.specs.Acting.{ActAlike, PassesSame, Known, pick}
 use Rattle.pliron_laws.specs.Answers.{HeadPasses}
 use Rattle.pliron_laws.specs.Linked.{IsAdmitted}
@@ -40,7 +40,7 @@ data_picked env vs ds e (q ∷ places) (w ∷ ws) p =
     let rest : map Some ws ≡ pick places vs = cc in
     let x = datum_read env vs ds e q w (sym here) in
     let y = data_picked env vs ds e places ws rest in
-    (x.0 ∷ y.0, ap₂ prepended x.2 y.1, ap₂ (λ a b. a ∷ b) (sym x.1) y.2)
+    (x.0 ∷ y.0, ap₂ prepend_optional x.2 y.1, ap₂ (λ a b. a ∷ b) (sym x.1) y.2)
 
 -- what is known is what is read
 pub known_read : (env : Environment) (known : List (Option AttrObj)) (vs : List ℕ) (ds : List Datum) → length known ≡ length vs → data_of env vs ≡ Some ds → ((j v : ℕ) (c : AttrObj) → slice_get vs j ≡ Some v → slice_get known j ≡ Some (Some c) → env v ≡ Some (datum_of c)) → Known known ds

@@ -7,8 +7,8 @@ use Rattle.std.proofs.lemmas.List.Edits.{length-remove}
 use Rattle.std.proofs.lemmas.Option.{slice_get_within, slice_get-map}
 use Rattle.pliron_core.specs.declared.attrs.Head.{Head}
 use Rattle.pliron_core.specs.declared.uses.Use.{Use}
-use Rattle.pliron_core.specs.Tree.{Tree, In, IsLive, IsInside, IsWithin, first_of, head_of, operands_of, successors_of, results_of, regions_of, arguments_of, block_parent_of, layout_of, slot_of, region_parent_of, block_holder_of, op_of_slot, up_from}
-use Rattle.pliron_core.specs.Joined.{IsTree}
+use Rattle.pliron_core.specs.Tree.{Tree, In, IsLive, IsInside, IsWithin, first_of, head_of, operands_of, successors_of, results_of, regions_of, arguments_of, block_parent_of, layout_of, slot_of, region_parent_of, block_parent_operation_of, op_of_slot, up_from}
+use Rattle.pliron_core.specs.Invariant.{IsTree}
 use Rattle.pliron_core.specs.Writes.{argument_removed}
 use Rattle.pliron_core.proofs.TreeLemmas.{cases_lt}
 use Rattle.pliron_core.proofs.HoldingLemmas.{some_is, some_of, in_slice, slice_in}
@@ -106,7 +106,7 @@ unfolding shape_of
 shape_entry m t t' o i n entries targets =
     ap₂ (λ e g. record { head = o.head; operands = length o.operands; results = length o.results; successors = length o.successors; entry_arguments = e; target_arguments = unless (m.is_branch o.head) g }) entries (sym (map_same (λ b. count_arguments (block_at t b)) (λ b. count_arguments (block_at t' b)) o.successors targets))
 
-module _ (m : Meaning) (can_fold : Head → Bool) (SameTests : Head → Head → Type 0) (shortened : Shape → ℕ → ℕ → Head) (law : ForwardsOperands m can_fold SameTests shortened) (tests : (h h' : Head) → SameTests h h' → m.is_branch h' ≡ m.is_branch h) (counts : KeepsCounts m) (removable : Head → ℕ → Bool → Option Bool) (without : ActsWithoutArgument m removable) (t u : Tree) (block index v : ℕ) (edges : List Use) (w : IsTree t) (w' : IsTree (argument_removed u block index)) (argument : slice_get (arguments_of t block) index ≡ Some v) (to : AreEdgesTo t block edges) (branches : (k : ℕ) → In block (successors_of t k) → HeadPasses m.is_branch t k) (answer : (k : ℕ) → block_holder_of t block ≡ Some k → ReadsPlace removable t k block (Some true)) (lose : EdgesLose m shortened index edges t u) (unused : (k : ℕ) → In v (operands_of u k) → ⊥) where
+module _ (m : Meaning) (can_fold : Head → Bool) (SameTests : Head → Head → Type 0) (shortened : Shape → ℕ → ℕ → Head) (law : ForwardsOperands m can_fold SameTests shortened) (tests : (h h' : Head) → SameTests h h' → m.is_branch h' ≡ m.is_branch h) (counts : KeepsCounts m) (removable : Head → ℕ → Bool → Option Bool) (without : ActsWithoutArgument m removable) (t u : Tree) (block index v : ℕ) (edges : List Use) (w : IsTree t) (w' : IsTree (argument_removed u block index)) (argument : slice_get (arguments_of t block) index ≡ Some v) (to : AreEdgesTo t block edges) (branches : (k : ℕ) → In block (successors_of t k) → HeadPasses m.is_branch t k) (answer : (k : ℕ) → block_parent_operation_of t block ≡ Some k → ReadsPlace removable t k block (Some true)) (lose : EdgesLose m shortened index edges t u) (unused : (k : ℕ) → In v (operands_of u k) → ⊥) where
   abbrev t' : Tree
   t' = argument_removed u block index
 
@@ -261,7 +261,7 @@ module _ (m : Meaning) (can_fold : Head → Bool) (SameTests : Head → Head →
       slot : slot_of t r ≡ Some (record { op = k; index = held.0 })
       slot = w.joined.regions k held.0 r held.1
 
-      holder : block_holder_of t block ≡ Some k
+      holder : block_parent_operation_of t block ≡ Some k
       holder = ap (λ x. up_from x (λ r. region_parent_of t r)) in_region ∙ ap op_of_slot slot
 
       not_leading : In block (successors_of t k) → ⊥

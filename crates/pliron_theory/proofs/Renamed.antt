@@ -3,14 +3,14 @@ use Rattle.std.proofs.Common.{◌≡◌, ◌≢◌, ◌⊎◌, inl, inr, ℕ, Bo
 use Rattle.std.proofs.lemmas.List.{length-map}
 use Rattle.pliron_core.specs.declared.context.Def.{Def}
 use Rattle.pliron_core.specs.declared.context.Def.TheVariants.{Result, Argument}
-use Rattle.pliron_core.specs.Changes.{IsMakerInside}
-use Rattle.pliron_core.specs.Tree.{Tree, In, first_of, last_of, IsLive, IsInside, IsWithin, HoldsBlock, head_of, operands_of, successors_of, results_of, regions_of, parent_of, body_of, arguments_of, block_parent_of, region_parent_of, block_holder_of, holder_of, definition_of, up_from, op_of_slot}
+use Rattle.pliron_core.specs.Changes.{IsDefiningOperationInside}
+use Rattle.pliron_core.specs.Tree.{Tree, In, first_of, last_of, IsLive, IsInside, IsWithin, HoldsBlock, head_of, operands_of, successors_of, results_of, regions_of, parent_of, body_of, arguments_of, block_parent_of, region_parent_of, block_parent_operation_of, parent_operation_of, definition_of, up_from, op_of_slot}
 use Rattle.pliron_core.specs.Edges.{succs_of, succs_from}
 use Rattle.pliron_core.specs.Reads.{has_ssa_at, ssa_in}
 use Rattle.pliron_core.proofs.HoldingLemmas.{some_is, some_of, inside_alike, within_alike}
 use Rattle.pliron_laws.specs.Datum.{Datum, Empty, Head, Meaning}
 use Rattle.pliron_laws.specs.Tree.{Operation, Block, op_at, block_with, block_at, region_with, region_at, entry_of, and_block, entry_block, count_arguments, shape_of}
-use Rattle.pliron_laws.specs.States.{Environment, State, bind, prepended, data_of}
+use Rattle.pliron_laws.specs.States.{Environment, State, bind, prepend_optional, data_of}
 use Rattle.pliron_laws.specs.Machine.{entry_in, block_in}
 use Rattle.pliron_laws.specs.Agree.{Agree}
 use Rattle.pliron_laws.specs.Acting.{PassesSame, JumpsSame}
@@ -36,12 +36,12 @@ module _ (t t' : Tree) (rename : ℕ → ℕ) (h : IsRenamed t t' rename) where
   places : KeepsPlaces t t'
   places = record { parents = h.parents; block_parents = h.block_parents; slots = h.slots }
 
-  made_forth : (root : ℕ) (d : Option Def) → IsMakerInside t root d → IsMakerInside t' root d
+  made_forth : (root : ℕ) (d : Option Def) → IsDefiningOperationInside t root d → IsDefiningOperationInside t' root d
   made_forth root None i = i
   made_forth root (Some (Result k j)) i = inside_forth places root k i
   made_forth root (Some (Argument b j)) i = (i.0, same_block_holder places b ∙ i.1, within_forth places root i.0 i.2)
 
-  made_back : (root : ℕ) (d : Option Def) → IsMakerInside t' root d → IsMakerInside t root d
+  made_back : (root : ℕ) (d : Option Def) → IsDefiningOperationInside t' root d → IsDefiningOperationInside t root d
   made_back root None i = i
   made_back root (Some (Result k j)) i = inside_back places root k i
   made_back root (Some (Argument b j)) i = (i.0, sym (same_block_holder places b) ∙ i.1, within_back places root i.0 i.2)
@@ -145,8 +145,8 @@ module _ (t t' : Tree) (rename : ℕ → ℕ) (h : IsRenamed t t' rename) where
       dominated = λ user v i made. dominated user v (old_operand user v i) made;
     }
       where
-        own : (k v : ℕ) → IsInside t' root k → (x : ℕ) × In x (operands_of t k) × (rename x ≡ v) → IsMakerInside t' root (definition_of t' v)
-        own k v i x = subst (λ z. IsMakerInside t' root (definition_of t' z)) x.2 (subst (IsMakerInside t' root) (sym (h.definitions (rename x.0))) (made_forth root (definition_of t (rename x.0)) ((uses k x.0 x.1).own (inside_back places root k i))))
+        own : (k v : ℕ) → IsInside t' root k → (x : ℕ) × In x (operands_of t k) × (rename x ≡ v) → IsDefiningOperationInside t' root (definition_of t' v)
+        own k v i x = subst (λ z. IsDefiningOperationInside t' root (definition_of t' z)) x.2 (subst (IsDefiningOperationInside t' root) (sym (h.definitions (rename x.0))) (made_forth root (definition_of t (rename x.0)) ((uses k x.0 x.1).own (inside_back places root k i))))
 
         ssa : (o : Option ℕ) → IsTrue (has_ssa_at t o) → IsTrue (has_ssa_at t' o)
         ssa None e = e
@@ -163,8 +163,8 @@ module _ (t t' : Tree) (rename : ℕ → ℕ) (h : IsRenamed t t' rename) where
         jumper : (k v user : ℕ) → IsInside t' root k → successors_of t' k ≢ [] → In v (results_of t' k) → (x : ℕ) × In x (operands_of t user) × (rename x ≡ v) → ⊥
         jumper k v user i ne j x = (uses user x.0 x.1).no_jumper k (inside_back places root k i) (λ e. ne (h.successors k ∙ e)) (subst (λ z. In z (results_of t k)) (sym x.2) (subst (In v) (ap (λ z. z.results) (h.rows k)) j))
 
-        dominated : (user v : ℕ) → (x : ℕ) × In x (operands_of t user) × (rename x ≡ v) → IsMakerInside t' root (definition_of t' v) → IsDominated t' user v
-        dominated user v x made = subst (IsDominated t' user) x.2 (dominated_forth user (rename x.0) ((uses user x.0 x.1).dominated (made_back root (definition_of t (rename x.0)) (subst (IsMakerInside t' root) (h.definitions (rename x.0)) (subst (λ z. IsMakerInside t' root (definition_of t' z)) (sym x.2) made)))))
+        dominated : (user v : ℕ) → (x : ℕ) × In x (operands_of t user) × (rename x ≡ v) → IsDefiningOperationInside t' root (definition_of t' v) → IsDominated t' user v
+        dominated user v x made = subst (IsDominated t' user) x.2 (dominated_forth user (rename x.0) ((uses user x.0 x.1).dominated (made_back root (definition_of t (rename x.0)) (subst (IsDefiningOperationInside t' root) (h.definitions (rename x.0)) (subst (λ z. IsDefiningOperationInside t' root (definition_of t' z)) (sym x.2) made)))))
 
     linked : IsWellLinked m t' root
     linked = record {
@@ -242,7 +242,7 @@ module _ (t t' : Tree) (rename : ℕ → ℕ) (h : IsRenamed t t' rename) where
 
   data_renamed : (env env' : Environment) (vs : List ℕ) → ((v : ℕ) → In v vs → env v ≡ env' (rename v)) → data_of env vs ≡ data_of env' (map rename vs)
   data_renamed env env' [] f = refl
-  data_renamed env env' (v ∷ vs) f = ap₂ prepended (f v (inl refl)) (data_renamed env env' vs (λ w i. f w (inr i)))
+  data_renamed env env' (v ∷ vs) f = ap₂ prepend_optional (f v (inl refl)) (data_renamed env env' vs (λ w i. f w (inr i)))
 
   module _ (m : Meaning) (root : ℕ) (live : IsLive t root) (same : HaveSameData m t t' rename root) where
     reads : Reads m t t' comparison (RunReaches m t root) (RunReaches m t' root)

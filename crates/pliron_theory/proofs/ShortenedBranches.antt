@@ -6,7 +6,7 @@ use Rattle.std.proofs.lemmas.List.Edits.{length-remove}
 use Rattle.std.proofs.lemmas.Option.{slice_get_within}
 use Rattle.pliron_core.specs.declared.uses.Use.{Use}
 use Rattle.pliron_core.specs.Tree.{Tree, In, IsLive, no_entry, row_of, head_of, operands_of, successors_of, results_of, regions_of, parent_of}
-use Rattle.pliron_core.specs.Joined.{IsTree}
+use Rattle.pliron_core.specs.Invariant.{IsTree}
 use Rattle.pliron_core.specs.Writes.{operand_removed}
 use Rattle.pliron_core.proofs.HoldingLemmas.{some_is, some_of, in_slice}
 use Rattle.pliron_core.proofs.TreeLemmas.{live-within}

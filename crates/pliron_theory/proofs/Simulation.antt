@@ -2,7 +2,7 @@
 use Rattle.std.proofs.Common.{◌≡◌, ℕ, zero, suc, ◌<◌, List, refl, sym, ap, ◌∙◌, subst, arith}
 use Rattle.pliron_laws.specs.Datum.{Datum, Meaning}
 use Rattle.pliron_laws.specs.Tree.{Tree}
-use Rattle.pliron_laws.specs.Machine.{State, Next, Goes, Over, Sight, Reached, run_from, onward, seen, step, start}
+use Rattle.pliron_laws.specs.Machine.{State, Next, Goes, Over, Sight, Reached, run_from, onward, sight_after, step, start}
 use Rattle.pliron_laws.specs.Agree.{Shows, SeenAlike, Agree}
 
 pub agree_refl : (m : Meaning) (t : Tree) (root : ℕ) → Agree m t t root
@@ -28,20 +28,20 @@ pub record KeepPace (f g : State → Next) (R : State → State → Type 0) (lef
 
 -- what the first shows after n steps, the second shows too
 Matches : (State → Next) → (State → Next) → (State → State → Type 0) → ℕ → Type 0
-Matches f g R n = (s s' : State) → R s s' → Shows g s' (seen (run_from f n s))
+Matches f g R n = (s s' : State) → R s s' → Shows g s' (sight_after (run_from f n s))
 
 -- one more step of the second
 later : (g : State → Next) (s b : State) (x : Sight) → g s ≡ Goes b → Shows g b x → Shows g s x
-later g s b x e h = (suc h.0, ap (λ o. seen (onward o (run_from g h.0))) e ∙ h.1)
+later g s b x e h = (suc h.0, ap (λ o. sight_after (onward o (run_from g h.0))) e ∙ h.1)
 
-matches_suc : (f g : State → Next) (R : State → State → Type 0) (left : State → State → ℕ) → KeepPace f g R left → (n : ℕ) → Matches f g R n → (c : ℕ) (s s' : State) → left s s' < c → R s s' → Shows g s' (seen (run_from f (suc n) s))
+matches_suc : (f g : State → Next) (R : State → State → Type 0) (left : State → State → ℕ) → KeepPace f g R left → (n : ℕ) → Matches f g R n → (c : ℕ) (s s' : State) → left s s' < c → R s s' → Shows g s' (sight_after (run_from f (suc n) s))
 unfolding Matches
 matches_suc f g R left k n ih zero s s' lt r = absurd (omega arith)
 matches_suc f g R left k n ih (suc c) s s' lt r = go (k.pace s s' r) (λ b lt' r'. matches_suc f g R left k n ih c s b lt' r')
   where
-    go : Pace f g R left s s' → ((b : State) → left s b < c → R s b → Shows g b (seen (run_from f (suc n) s))) → Shows g s' (seen (run_from f (suc n) s))
+    go : Pace f g R left s s' → ((b : State) → left s b < c → R s b → Shows g b (sight_after (run_from f (suc n) s))) → Shows g s' (sight_after (run_from f (suc n) s))
     go (Both a b e e' r') again = rw (e) (later g s' b _ e' (ih a b r'))
-    go (Finish x e e') again = (1, ap (λ o. seen (onward o (run_from g zero))) e' ∙ sym (ap (λ o. seen (onward o (run_from f n))) e))
+    go (Finish x e e') again = (1, ap (λ o. sight_after (onward o (run_from g zero))) e' ∙ sym (ap (λ o. sight_after (onward o (run_from f n))) e))
     go (Left a e r' lt') again = rw (e) (ih a s' r')
     go (Right b e r' lt') again = later g s' b _ e (again b (omega arith) r')
 

@@ -1,10 +1,10 @@
 -- Sound facts inside one operation are confirmed by the runs of every root that is fit to run.
 use Rattle.std.proofs.Common.{◌≡◌, ◌≢◌, ◌⊎◌, inl, inr, ⊎_elim, ℕ, Bool, true, false, true≢false, List, [], ◌∷◌, Some, None, slice_get, refl, sym, ap, ◌∙◌, subst, arith, IsTrue}
 use Rattle.std.proofs.lemmas.Bool.{cases_eq}
-use Rattle.pliron_core.specs.Changes.{IsMadeInside, IsMakerInside}
-use Rattle.pliron_core.specs.Tree.{Tree, In, IsInside, IsWithin, HoldsBlock, first_of, parent_of, successors_of, results_of, arguments_of, regions_of, layout_of, block_holder_of, region_parent_of, holder_of, up_from, op_of_slot}
+use Rattle.pliron_core.specs.Changes.{IsDefinedInside, IsDefiningOperationInside}
+use Rattle.pliron_core.specs.Tree.{Tree, In, IsInside, IsWithin, HoldsBlock, first_of, parent_of, successors_of, results_of, arguments_of, regions_of, layout_of, block_parent_operation_of, region_parent_of, parent_operation_of, up_from, op_of_slot}
 use Rattle.pliron_core.specs.Tree.IsInside.{Directly, Deeper}
-use Rattle.pliron_core.specs.Joined.{IsTree}
+use Rattle.pliron_core.specs.Invariant.{IsTree}
 use Rattle.pliron_core.proofs.HoldingLemmas.{some_is, in_slice, slice_in, holder_is, holder_by, inside_up, inside_by, deeper, not_itself, inside_or, block_inside}
 use Rattle.pliron_laws.specs.Datum.{datum_of}
 use Rattle.pliron_laws.specs.Tree.{Operation, op_at, shape_of}
@@ -14,7 +14,7 @@ use Rattle.pliron_theory.specs.Keeps.{IsFit}
 use Rattle.pliron_theory.specs.Renaming.{IsReadAs}
 use Rattle.pliron_laws.proofs.Records.{op_shows}
 use Rattle.pliron_theory.proofs.Reading.{ready_when_reached}
-use Rattle.pliron_theory.specs.Facts.{Fact, NotAConstant, AtMost, Facts, Says, IsInReachedBlock, IsFeasibleEdge, Forwards, IsBelowNamed, AreBelowNamed}
+use Rattle.pliron_theory.specs.LatticeValues.{LatticeValue, NotAConstant, AtMost, LatticeValues, Says, IsInExecutableBlock, IsFeasibleEdge, Forwards, IsBelowNamed, AreBelowNamed}
 use Rattle.pliron_theory.specs.Sound.{AreSound, IsMadeThere, IsRightResult, SoundFactsLaw}
 use Rattle.pliron_theory.proofs.SoundRuns.{PassesForwarded, NamesWell, MayMove, AreKept, constants_read}
 use Rattle.pliron_theory.proofs.FactLattice.{unknown_below}
@@ -26,27 +26,27 @@ module _ (t : Tree) (w : IsTree t) where
   first_in (x ∷ xs) a e = inl (sym (some_is e))
 
   -- the entry of a region is held by the region's operation
-  pub entry_holder : (k r b : ℕ) → In r (regions_of t k) → first_of (layout_of t r) None ≡ Some b → block_holder_of t b ≡ Some k
+  pub entry_holder : (k r b : ℕ) → In r (regions_of t k) → first_of (layout_of t r) None ≡ Some b → block_parent_operation_of t b ≡ Some k
   entry_holder k r b i e =
       let at = slice_in (regions_of t k) r i in
       ap (λ o. up_from o (λ r. region_parent_of t r)) (w.layouts.owned b r (first_in (layout_of t r) b e)) ∙ ap op_of_slot (w.joined.regions k at.0 r at.1)
 
   -- what holds a block beside the one that an operation ends holds the operation too
-  pub beside_holder : (k c h : ℕ) → (ends : EndsBlock t k) → In c (successors_of t k) → block_holder_of t c ≡ Some h → holder_of t k ≡ Some h
+  pub beside_holder : (k c h : ℕ) → (ends : EndsBlock t k) → In c (successors_of t k) → block_parent_operation_of t c ≡ Some h → parent_operation_of t k ≡ Some h
   beside_holder k c h ends i e =
       holder_by t k ends.block h ends.in_block (ap (λ o. up_from o (λ r. region_parent_of t r)) (sym (ends.own_region c i)) ∙ e)
 
-module _ (says : Says) (t : Tree) (root : ℕ) (f : Facts) (read : ℕ → Fact) (w : IsTree t) (names : NamesWell says) (sound : AreSound says t root f read) where
+module _ (says : Says) (t : Tree) (root : ℕ) (f : LatticeValues) (read : ℕ → LatticeValue) (w : IsTree t) (names : NamesWell says) (sound : AreSound says t root f read) where
   -- a block inside the root is one that is reached
   abbrev pub Comes_to : ℕ → Type 0
-  Comes_to b = HoldsBlock t root b → IsTrue (f.reaches b)
+  Comes_to b = HoldsBlock t root b → IsTrue (f.is_executable b)
 
   -- the other root is in a block that is reached, where it is inside this one
   abbrev pub Counts : ℕ → Type 0
-  Counts other = IsWithin t root other → (other ≡ root) ⊎ IsInReachedBlock t f other
+  Counts other = IsWithin t root other → (other ≡ root) ⊎ IsInExecutableBlock t f other
 
   module _ (other : ℕ) (counts : Counts other) (fit : IsFit says.meaning t other) where
-    stands : (k : ℕ) → MayMove t other Comes_to k → IsInside t root k → IsInReachedBlock t f k
+    stands : (k : ℕ) → MayMove t other Comes_to k → IsInside t root k → IsInExecutableBlock t f k
     stands k may inside = (may.1.0, may.1.1, may.1.2 (block_inside may.1.0 may.1.1 inside))
 
     within_or : (k : ℕ) → IsWithin t root k ⊎ (IsWithin t root k → ⊥)
@@ -63,17 +63,17 @@ module _ (says : Says) (t : Tree) (root : ℕ) (f : Facts) (read : ℕ → Fact)
     root_visits : (r b : ℕ) → In r (regions_of t other) → first_of (layout_of t r) None ≡ Some b → Comes_to b × ((v : ℕ) → In v (arguments_of t b) → read v ≡ NotAConstant)
     root_visits r b i e = (comes, arguments (within_or other))
       where
-        held : block_holder_of t b ≡ Some other
+        held : block_parent_operation_of t b ≡ Some other
         held = entry_holder t w other r b i e
 
-        inside : IsInReachedBlock t f other → (o : Operation) → op_at t other ≡ Some o → IsTrue (f.reaches b) × ((v : ℕ) → In v (arguments_of t b) → read v ≡ NotAConstant)
+        inside : IsInExecutableBlock t f other → (o : Operation) → op_at t other ≡ Some o → IsTrue (f.is_executable b) × ((v : ℕ) → In v (arguments_of t b) → read v ≡ NotAConstant)
         inside stands o at =
             let place = slice_in o.regions r (subst (In r) (op_shows t other o at).regions i) in
             let y = sound.entries other place.0 r b o stands at place.1 e in
             let may : IsTrue (says.meaning.may_be_root (shape_of says.meaning t o).head) = ap says.meaning.may_be_root (shape_head says.meaning t o) ∙ fit.chosen o.head (head_at t other o at) in
             (y.0, λ v j. let p = slice_in (arguments_of t b) v j in subst (λ z. IsBelowNamed read read o.operands z v) (names.roots (shape_of says.meaning t o) may place.0 p.0) (y.1 p.0 v p.1))
 
-        entered : (other ≡ root) ⊎ IsInReachedBlock t f other → IsTrue (f.reaches b) × ((v : ℕ) → In v (arguments_of t b) → read v ≡ NotAConstant)
+        entered : (other ≡ root) ⊎ IsInExecutableBlock t f other → IsTrue (f.is_executable b) × ((v : ℕ) → In v (arguments_of t b) → read v ≡ NotAConstant)
         entered (inl s) = sound.root_entries r b (subst (λ z. In r (regions_of t z)) s i) e
         entered (inr stands) = let o = live_at t other fit.live in inside stands o.0 o.1
 
@@ -90,13 +90,13 @@ module _ (says : Says) (t : Tree) (root : ℕ) (f : Facts) (read : ℕ → Fact)
         listed : In r (regions_of t k)
         listed = subst (In r) (sym (op_shows t k o at).regions) (in_slice o.regions i r place)
 
-        held : block_holder_of t b ≡ Some k
+        held : block_parent_operation_of t b ≡ Some k
         held = entry_holder t w k r b listed e
 
         unknown : ((v : ℕ) → In v (arguments_of t b) → read v ≡ NotAConstant) → AreBelowNamed says t read read o i b
         unknown none j v a = unknown_below read read o.operands (says.entry_operands (shape_of says.meaning t o) i j) v (none v (in_slice (arguments_of t b) j v a))
 
-        entered : IsWithin t root k → IsTrue (f.reaches b) × AreBelowNamed says t read read o i b
+        entered : IsWithin t root k → IsTrue (f.is_executable b) × AreBelowNamed says t read read o i b
         entered (inl s) = let y = sound.root_entries r b (subst (λ z. In r (regions_of t z)) s listed) e in (y.0, unknown y.1)
         entered (inr inside) = sound.entries k i r b o (stands k may inside) at place e
 
@@ -131,29 +131,29 @@ module _ (says : Says) (t : Tree) (root : ℕ) (f : Facts) (read : ℕ → Fact)
     kept = record { finer = sound.finer; root_visits = root_visits; visits = visits; jumps = jumps; results = results }
 
   -- nothing in a root that stands where runs do not come is in a block that is reached
-  module _ (other : ℕ) (inside : IsInside t root other) (away : IsInReachedBlock t f other → ⊥) where
+  module _ (other : ℕ) (inside : IsInside t root other) (away : IsInExecutableBlock t f other → ⊥) where
     not_root : (k : ℕ) → IsWithin t other k → k ≢ root
     not_root k (inl e) s = not_itself w.joined.rooted (subst (λ z. IsInside t root z) (sym e ∙ s) inside)
     not_root k (inr i) s = not_itself w.joined.rooted (deeper inside (subst (IsInside t other) s i))
 
-    held_stands : (b k : ℕ) → IsWithin t other k → IsTrue (f.reaches b) → block_holder_of t b ≡ Some k → IsInReachedBlock t f k
+    held_stands : (b k : ℕ) → IsWithin t other k → IsTrue (f.is_executable b) → block_parent_operation_of t b ≡ Some k → IsInExecutableBlock t f k
     held_stands b k within reached e = ⊎_elim (λ s. absurd (not_root k within s)) (λ x. x) (sound.held b k reached e)
 
-    none_inside : (k : ℕ) → IsInside t other k → IsInReachedBlock t f k → ⊥
-    none_inside k (Directly e) (b, p, reached) = away (held_stands b other (inl refl) reached (sym (ap (λ o. up_from o (λ b. block_holder_of t b)) p) ∙ e))
-    none_inside k (Deeper h e i) (b, p, reached) = none_inside h i (held_stands b h (inr i) reached (sym (ap (λ o. up_from o (λ b. block_holder_of t b)) p) ∙ e))
+    none_inside : (k : ℕ) → IsInside t other k → IsInExecutableBlock t f k → ⊥
+    none_inside k (Directly e) (b, p, reached) = away (held_stands b other (inl refl) reached (sym (ap (λ o. up_from o (λ b. block_parent_operation_of t b)) p) ∙ e))
+    none_inside k (Deeper h e i) (b, p, reached) = none_inside h i (held_stands b h (inr i) reached (sym (ap (λ o. up_from o (λ b. block_parent_operation_of t b)) p) ∙ e))
 
-    none_within : (k : ℕ) → IsWithin t other k → IsInReachedBlock t f k → ⊥
-    none_within k (inl e) s = away (subst (IsInReachedBlock t f) e s)
+    none_within : (k : ℕ) → IsWithin t other k → IsInExecutableBlock t f k → ⊥
+    none_within k (inl e) s = away (subst (IsInExecutableBlock t f) e s)
     none_within k (inr i) s = none_inside k i s
 
-    pub not_made : (v : ℕ) → IsMadeThere t f v → IsMadeInside t other v → ⊥
+    pub not_made : (v : ℕ) → IsMadeThere t f v → IsDefinedInside t other v → ⊥
     not_made v (inl (k, s, i)) made =
         let at = slice_in (results_of t k) v i in
-        none_inside k (subst (IsMakerInside t other) (w.joined.results k at.0 v at.1) made) s
+        none_inside k (subst (IsDefiningOperationInside t other) (w.joined.results k at.0 v at.1) made) s
     not_made v (inr (b, reached, i)) made =
         let at = slice_in (arguments_of t b) v i in
-        let holds : HoldsBlock t other b = subst (IsMakerInside t other) (w.joined.arguments b at.0 v at.1) made in
+        let holds : HoldsBlock t other b = subst (IsDefiningOperationInside t other) (w.joined.arguments b at.0 v at.1) made in
         none_within holds.0 holds.2 (held_stands b holds.0 holds.2 reached holds.1)
 
 -- every root that is fit to run, whether it stands inside this one, around it or elsewhere
@@ -167,14 +167,14 @@ sound_facts says answers branches passes names t root f read w sound v c made is
     outer never (inl e) = inl e
     outer never (inr i) = absurd (never i)
 
-    here : IsInside t root other → (b : ℕ) → parent_of t other ≡ Some b → (x : Bool) → f.reaches b ≡ x → IsReadAs says.meaning t v (datum_of c) other
+    here : IsInside t root other → (b : ℕ) → parent_of t other ≡ Some b → (x : Bool) → f.is_executable b ≡ x → IsReadAs says.meaning t v (datum_of c) other
     here inside b p true e = counts_then (λ within. inr (b, p, e))
     here inside b p false e = λ s k rest r q none i.
         let ready = ready_when_reached says.meaning t other w fit s r k rest q none in
         absurd (not_made says t root f read w names sound other inside away v made (fit.defined.own_values k v ready.inside i))
       where
-        away : IsInReachedBlock t f other → ⊥
-        away (d, q, reached) = let same : d ≡ b = some_is (sym q ∙ p) in absurd (true≢false (sym reached ∙ ap f.reaches same ∙ e))
+        away : IsInExecutableBlock t f other → ⊥
+        away (d, q, reached) = let same : d ≡ b = some_is (sym q ∙ p) in absurd (true≢false (sym reached ∙ ap f.is_executable same ∙ e))
 
     by : IsInside t root other ⊎ (IsInside t root other → ⊥) → IsReadAs says.meaning t v (datum_of c) other
     by (inl inside) =

@@ -2,7 +2,7 @@
 use Rattle.std.proofs.Common.{◌≡◌, ◌⊎◌, inl, inr, ℕ, zero, suc, Bool, false, true, not, List, [], ◌∷◌, length, map, Option, Some, None, slice_get, refl, sym, ap, ap₂, ◌∙◌, subst, arith, IsTrue}
 use Rattle.pliron_core.specs.declared.attrs.AttrObj.{AttrObj}
 use Rattle.pliron_core.specs.Tree.{Tree, In, IsInside, IsWithin, arguments_of, regions_of, layout_of, first_of, parent_of}
-use Rattle.pliron_core.specs.Joined.{IsTree}
+use Rattle.pliron_core.specs.Invariant.{IsTree}
 use Rattle.pliron_core.proofs.HoldingLemmas.{some_is, in_slice, not_none}
 use Rattle.pliron_laws.specs.Datum.{Datum, Empty, datum_of, Head, Shape, Meaning, Move, Give, Visit, Goto, Emit}
 use Rattle.pliron_laws.specs.Tree.{Operation, Block, op_at, block_at, shape_of}
@@ -14,7 +14,7 @@ use Rattle.pliron_laws.specs.Folding.{Constants, Feasible, AnswersTrue, AnswersJ
 use Rattle.pliron_laws.specs.Entries.{NamesOperands, RootsNameNone, names_none, none_are_named}
 use Rattle.pliron_theory.specs.Keeps.{IsFit}
 use Rattle.pliron_theory.specs.Renaming.{RunReaches, IsReadAs, GivesConstant}
-use Rattle.pliron_theory.proofs.Frames.{Facts as FrameFacts, Makes, Rules, Holding, holding_kept}
+use Rattle.pliron_theory.proofs.Frames.{LatticeValues as FrameFacts, Makes, Rules, Holding, holding_kept}
 use Rattle.pliron_laws.proofs.Records.{ShowsEntry, op_shows, block_shows, entry_shows}
 use Rattle.pliron_theory.proofs.Alike.{data_long}
 use Rattle.pliron_theory.proofs.Bound.{IsAt, HasAnswer, has_some, places, place_rules, placed_inside}
@@ -22,7 +22,7 @@ use Rattle.pliron_theory.proofs.Reached.{reached_holds}
 use Rattle.pliron_theory.proofs.Reading.{read_data}
 use Rattle.pliron_theory.proofs.SweptKeeps.{admitted_shape}
 use Rattle.pliron_theory.proofs.KnownData.{known_data_at, picked_at, some_at}
-use Rattle.pliron_theory.specs.Facts.{Fact, Constant, NotAConstant, AtMost, answered, Facts, Says, handed, answers_of, IsFeasibleEdge, Forwards, IsBelowNamed, AreBelowNamed}
+use Rattle.pliron_theory.specs.LatticeValues.{LatticeValue, Constant, NotAConstant, AtMost, value_of_answer, LatticeValues, Says, operand_constants, answers_of, IsFeasibleEdge, Forwards, IsBelowNamed, AreBelowNamed}
 use Rattle.pliron_theory.proofs.ConstantKeeps.{no_data}
 use Rattle.pliron_theory.specs.Sound.{IsRightResult}
 use Rattle.pliron_theory.proofs.FactLattice.{Fits, fits_lower, fits_answered, Agrees, bind_agrees, FitEach, read_fits, read_known, same_index, picked_in}
@@ -57,18 +57,18 @@ abbrev pub MayMove : Tree → ℕ → (ℕ → Type 0) → ℕ → Type 0
 MayMove t root Comes_to k = IsInside t root k × ((b : ℕ) × (parent_of t k ≡ Some b) × Comes_to b)
 
 -- what runs of one root confirm, if they come to these blocks
-pub record AreKept (x : Says) (t : Tree) (root : ℕ) (Comes_to : ℕ → Type 0) (f : Facts) (read : ℕ → Fact) : Type 0 where
-  pub finer : (v : ℕ) → AtMost (f.fact v) (read v)
+pub record AreKept (x : Says) (t : Tree) (root : ℕ) (Comes_to : ℕ → Type 0) (f : LatticeValues) (read : ℕ → LatticeValue) : Type 0 where
+  pub finer : (v : ℕ) → AtMost (f.lattice_value v) (read v)
   pub root_visits : (r b : ℕ) → In r (regions_of t root) → first_of (layout_of t r) None ≡ Some b → Comes_to b × ((v : ℕ) → In v (arguments_of t b) → read v ≡ NotAConstant)
   pub visits : (k i r b : ℕ) (o : Operation) → MayMove t root Comes_to k → op_at t k ≡ Some o → slice_get o.regions i ≡ Some r → first_of (layout_of t r) None ≡ Some b → Comes_to b × AreBelowNamed x t read read o i b
   pub jumps : (k i b : ℕ) (o : Operation) → MayMove t root Comes_to k → op_at t k ≡ Some o → IsFeasibleEdge x t f o i b → Comes_to b × ((j v : ℕ) → slice_get (arguments_of t b) j ≡ Some v → (read v ≡ NotAConstant) ⊎ (IsTrue (x.meaning.is_branch o.head) × ((w : ℕ) → Forwards x t o i j w → AtMost (read v) (read w))))
   pub results : (k i v : ℕ) (o : Operation) → MayMove t root Comes_to k → op_at t k ≡ Some o → slice_get o.results i ≡ Some v → IsRightResult x t f read k i v o
 
-module _ (says : Says) (answers : AnswersTrue says.meaning says.can_fold says.constants) (jumps : AnswersJumps says.meaning says.can_fold_branch says.feasible) (passes : PassesForwarded says.meaning) (names : NamesWell says) (t : Tree) (root : ℕ) (Comes_to : ℕ → Type 0) (found : Facts) (read : ℕ → Fact) (w : IsTree t) (f : IsFit says.meaning t root) (kept : AreKept says t root Comes_to found read) where
+module _ (says : Says) (answers : AnswersTrue says.meaning says.can_fold says.constants) (jumps : AnswersJumps says.meaning says.can_fold_branch says.feasible) (passes : PassesForwarded says.meaning) (names : NamesWell says) (t : Tree) (root : ℕ) (Comes_to : ℕ → Type 0) (found : LatticeValues) (read : ℕ → LatticeValue) (w : IsTree t) (f : IsFit says.meaning t root) (kept : AreKept says t root Comes_to found read) where
   abbrev m : Meaning
   m = says.meaning
 
-  length_handed : (vs : List ℕ) → length (handed found vs) ≡ length vs
+  length_handed : (vs : List ℕ) → length (operand_constants found vs) ≡ length vs
   length_handed [] = refl
   length_handed (v ∷ vs) = ap (λ n. suc n) (length_handed vs)
 
@@ -86,7 +86,7 @@ module _ (says : Says) (answers : AnswersTrue says.meaning says.can_fold says.co
   pub record Minds (o : Operation) (memo : Datum) (input : List Datum) : Type 0 where
     pub first : List Datum
     pub counted : length first ≡ length o.operands
-    pub known : Known (handed found o.operands) first
+    pub known : Known (operand_constants found o.operands) first
     pub fits : FitEach read o.operands first
     pub later : Bool
     pub comes : Comes m.act (shape_of m t o) first later memo input
@@ -122,7 +122,7 @@ module _ (says : Says) (answers : AnswersTrue says.meaning says.can_fold says.co
   now env so k rest memo None mind a x = record {
     first = x.input;
     counted = data_long env x.operation.operands x.input x.reads;
-    known = read_known read found.fact kept.finer env so x.operation.operands x.input x.reads;
+    known = read_known read found.lattice_value kept.finer env so x.operation.operands x.input x.reads;
     fits = read_fits read env so x.operation.operands x.input x.reads;
     later = false;
     comes = subst (λ z. Comes m.act (shape_of m t x.operation) x.input false z x.input) (sym mind) Begins;
@@ -173,14 +173,14 @@ module _ (says : Says) (answers : AnswersTrue says.meaning says.can_fold says.co
       told i v d at there = right (kept.results k i v o may e at)
         where
           answer : IsTrue (says.can_fold o.head) → (a : Option AttrObj) × (slice_get (answers_of says t found o) i ≡ Some a)
-          answer folds = same_index o.results (answers_of says t found o) (sym (answers.counts (shape_of m t o) ad folds (handed found o.operands) (length_handed o.operands))) i v at
+          answer folds = same_index o.results (answers_of says t found o) (sym (answers.counts (shape_of m t o) ad folds (operand_constants found o.operands) (length_handed o.operands))) i v at
 
           right : IsRightResult says t found read k i v o → Fits (read v) d
           right (inl n) = subst (λ z. Fits z d) (sym n) tt
           right (inr (inl (folds, below))) =
               let a = answer folds in
-              let known = answers.gives (shape_of m t o) ad folds (handed found o.operands) x.first x.counted x.known x.later memo input ds x.comes acts in
-              fits_lower (read v) (answered a.0) d (below a.0 a.1) (fits_answered a.0 d (λ c g. known_data_at (answers_of says t found o) ds known i c d (a.1 ∙ ap Some g) there))
+              let known = answers.gives (shape_of m t o) ad folds (operand_constants found o.operands) x.first x.counted x.known x.later memo input ds x.comes acts in
+              fits_lower (read v) (value_of_answer a.0) d (below a.0 a.1) (fits_answered a.0 d (λ c g. known_data_at (answers_of says t found o) ds known i c d (a.1 ∙ ap Some g) there))
           right (inr (inr (c, g, is))) =
               let s = op_shows t k o e in
               let none : o.operands ≡ [] = sym s.operands ∙ g.operands in
@@ -205,7 +205,7 @@ module _ (says : Says) (answers : AnswersTrue says.meaning says.can_fold says.co
       ad = admitted k o (inr may.0) e
 
       jump : Comes_to c × ((j v : ℕ) → slice_get (arguments_of t c) j ≡ Some v → (read v ≡ NotAConstant) ⊎ (IsTrue (m.is_branch o.head) × ((y : ℕ) → Forwards says t o i j y → AtMost (read v) (read y))))
-      jump = kept.jumps k i c o may e (ce, λ folds. jumps.goes (shape_of m t o) o.successors ad folds refl (handed found o.operands) x.first (x.counted) x.known x.later memo input i c ds x.comes acts ce)
+      jump = kept.jumps k i c o may e (ce, λ folds. jumps.goes (shape_of m t o) o.successors ad folds refl (operand_constants found o.operands) x.first (x.counted) x.known x.later memo input i c ds x.comes acts ce)
 
       told : (j v : ℕ) (d : Datum) → slice_get b.arguments j ≡ Some v → slice_get ds j ≡ Some d → Fits (read v) d
       told j v d at is = right (jump.1 j v (ap (λ l. slice_get l j) (block_shows t c b be).arguments ∙ at))

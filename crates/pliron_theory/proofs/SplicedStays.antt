@@ -3,9 +3,9 @@ use Rattle.std.proofs.Common.{◌≡◌, ◌≢◌, ◌⊎◌, inl, inr, ⊎_eli
 use Rattle.std.proofs.lemmas.Bool.{cases_eq, eq-eqb}
 use Rattle.pliron_core.specs.declared.context.Def.{Def}
 use Rattle.pliron_core.specs.declared.context.Def.TheVariants.{Result, Argument}
-use Rattle.pliron_core.specs.Changes.{IsMakerInside}
-use Rattle.pliron_core.specs.Tree.{Tree, In, first_of, last_of, IsLive, IsDefined, IsMadeBy, IsInside, IsInside.Directly, IsInside.Deeper, IsWithin, HoldsBlock, head_of, operands_of, successors_of, regions_of, parent_of, body_of, arguments_of, block_parent_of, layout_of, slot_of, region_parent_of, block_holder_of, holder_of, definition_of, up_from, op_of_slot}
-use Rattle.pliron_core.specs.Joined.{IsTree}
+use Rattle.pliron_core.specs.Changes.{IsDefiningOperationInside}
+use Rattle.pliron_core.specs.Tree.{Tree, In, first_of, last_of, IsLive, IsDefined, IsMadeBy, IsInside, IsInside.Directly, IsInside.Deeper, IsWithin, HoldsBlock, head_of, operands_of, successors_of, regions_of, parent_of, body_of, arguments_of, block_parent_of, layout_of, slot_of, region_parent_of, block_parent_operation_of, parent_operation_of, definition_of, up_from, op_of_slot}
+use Rattle.pliron_core.specs.Invariant.{IsTree}
 use Rattle.pliron_core.specs.Edges.{succs_from}
 use Rattle.pliron_core.specs.Reads.{has_ssa, has_ssa_at, ssa_in}
 use Rattle.pliron_core.proofs.ListLemmas.{In-left, In-right, In-cases}
@@ -102,14 +102,14 @@ module _ (m : Meaning) (t t' : Tree) (a b jump : ℕ) (front : List ℕ) (w : Is
   region_slot : (k i r : ℕ) → k ≢ jump → slice_get (regions_of t k) i ≡ Some r → (slot_of t' r ≡ Some (record { op = k; index = i })) × (slice_get (regions_of t' k) i ≡ Some r)
   region_slot k i r ne e = let f = ap (λ z. slice_get z.regions i) (h.rows k ne) ∙ e in (w'.joined.regions k i r f, f)
 
-  block_forth : (c p : ℕ) → block_holder_of t c ≡ Some p → (block_holder_of t' (into c) ≡ Some p) × (p ≢ jump)
+  block_forth : (c p : ℕ) → block_parent_operation_of t c ≡ Some p → (block_parent_operation_of t' (into c) ≡ Some p) × (p ≢ jump)
   block_forth c p e =
       let q = block_place_of t w c p e in
       let ne : p ≢ jump = λ s. subst (In q.region) (ap (regions_of t) s ∙ h.childless) (in_slice (regions_of t p) q.index q.region q.listed) in
       let s = region_slot p q.index q.region ne q.listed in
       (block_held_at t' (into c) p (record { region = q.region; index = q.index; in_region = region_into c ∙ q.in_region; slot = s.0; listed = s.1 }), ne)
 
-  block_back : (c p : ℕ) → block_holder_of t' c ≡ Some p → (block_holder_of t c ≡ Some p) × (p ≢ jump) × (c ≢ b)
+  block_back : (c p : ℕ) → block_parent_operation_of t' c ≡ Some p → (block_parent_operation_of t c ≡ Some p) × (p ≢ jump) × (c ≢ b)
   block_back c p e =
       let q = block_place_of t' w' c p e in
       let nb = block_not c q.region q.in_region in
@@ -117,21 +117,21 @@ module _ (m : Meaning) (t t' : Tree) (a b jump : ℕ) (front : List ℕ) (w : Is
       let f = ap (λ z. slice_get z.regions q.index) (sym (h.rows p ne)) ∙ q.listed in
       (block_held_at t c p (record { region = q.region; index = q.index; in_region = sym (h.block_parents c nb) ∙ q.in_region; slot = w.joined.regions p q.index q.region f; listed = f }), ne, nb)
 
-  same_holder : (c d p : ℕ) → into d ≡ c → block_holder_of t c ≡ Some p → block_holder_of t d ≡ Some p
+  same_holder : (c d p : ℕ) → into d ≡ c → block_parent_operation_of t c ≡ Some p → block_parent_operation_of t d ≡ Some p
   same_holder c d p s e = elim (cases_eq d b) [
     | inl f ↦
         let at : c ≡ a = sym s ∙ ap into f ∙ into_b in
-        ap (block_holder_of t) f ∙ ap (λ o. up_from o (λ r. region_parent_of t r)) h.beside ∙ ap (block_holder_of t) (sym at) ∙ e
-    | inr nb ↦ ap (block_holder_of t) (sym (into_other d nb) ∙ s) ∙ e
+        ap (block_parent_operation_of t) f ∙ ap (λ o. up_from o (λ r. region_parent_of t r)) h.beside ∙ ap (block_parent_operation_of t) (sym at) ∙ e
+    | inr nb ↦ ap (block_parent_operation_of t) (sym (into_other d nb) ∙ s) ∙ e
   ]
 
-  place_forth : (x p : ℕ) → x ≢ jump → holder_of t x ≡ Some p → (holder_of t' x ≡ Some p) × (p ≢ jump)
+  place_forth : (x p : ℕ) → x ≢ jump → parent_operation_of t x ≡ Some p → (parent_operation_of t' x ≡ Some p) × (p ≢ jump)
   place_forth x p ne e =
       let q = holder_is t x p e in
       let u = block_forth q.0 p q.2 in
       (holder_by t' x (into q.0) p (parent_forth x q.0 ne q.1) u.0, u.1)
 
-  place_back : (x p : ℕ) → holder_of t' x ≡ Some p → (holder_of t x ≡ Some p) × (x ≢ jump)
+  place_back : (x p : ℕ) → parent_operation_of t' x ≡ Some p → (parent_operation_of t x ≡ Some p) × (x ≢ jump)
   place_back x p e =
       let q = holder_is t' x p e in
       let d = parent_back x q.0 q.1 in
@@ -160,14 +160,14 @@ module _ (m : Meaning) (t t' : Tree) (a b jump : ℕ) (front : List ℕ) (w : Is
   abbrev IsKept : Option Def → Type 0
   IsKept d = is_maker_dead (nat_eq jump) (nat_eq b) d ≡ false
 
-  made_forth : (root : ℕ) (d : Option Def) → IsKept d → IsMakerInside t root d → IsMakerInside t' root d
+  made_forth : (root : ℕ) (d : Option Def) → IsKept d → IsDefiningOperationInside t root d → IsDefiningOperationInside t' root d
   made_forth root None l i = i
   made_forth root (Some (Result k j)) l i = (inside_forth root k (is_not jump k l) i).0
   made_forth root (Some (Argument c j)) l i =
       let p = block_forth c i.0 i.1 in
-      (i.0, ap (block_holder_of t') (sym (into_other c (is_not b c l))) ∙ p.0, (within_forth root i.0 p.1 i.2).0)
+      (i.0, ap (block_parent_operation_of t') (sym (into_other c (is_not b c l))) ∙ p.0, (within_forth root i.0 p.1 i.2).0)
 
-  made_back : (root : ℕ) (d : Option Def) → IsMakerInside t' root d → IsMakerInside t root d
+  made_back : (root : ℕ) (d : Option Def) → IsDefiningOperationInside t' root d → IsDefiningOperationInside t root d
   made_back root None i = i
   made_back root (Some (Result k j)) i = inside_back root k i
   made_back root (Some (Argument c j)) i = (i.0, (block_back c i.0 i.1).0, within_back root i.0 i.2)
@@ -315,7 +315,7 @@ module _ (m : Meaning) (t t' : Tree) (a b jump : ℕ) (front : List ℕ) (w : Is
     passed_else (Some (Result k j)) l before x done free (inl i) = inl i
     passed_else (Some (Result k j)) l before x done free (inr y) = inr (into y.0, parent_forth k y.0 (is_not jump k l) y.1, in_expand y.0 before free y.2)
 
-    dominated : (user v : ℕ) → In v (operands_of t' user) → IsMakerInside t' root (definition_of t' v) → IsDominated t' user v
+    dominated : (user v : ℕ) → In v (operands_of t' user) → IsDefiningOperationInside t' root (definition_of t' v) → IsDominated t' user v
     dominated user v i made = record {
       around = d.around;
       holds = at.0;
@@ -336,8 +336,8 @@ module _ (m : Meaning) (t t' : Tree) (a b jump : ℕ) (front : List ℕ) (w : Is
         def : definition_of t' v ≡ definition_of t v
         def = made_same v (w.joined.operands user v j) lm
 
-        was : IsMakerInside t root (definition_of t v)
-        was = made_back root (definition_of t v) (subst (IsMakerInside t' root) def made)
+        was : IsDefiningOperationInside t root (definition_of t v)
+        was = made_back root (definition_of t v) (subst (IsDefiningOperationInside t' root) def made)
 
         d : IsDominated t user v
         d = f.defined.dominated user v j was
@@ -348,7 +348,7 @@ module _ (m : Meaning) (t t' : Tree) (a b jump : ℕ) (front : List ℕ) (w : Is
         in_region : block_parent_of t' (into d.block) ≡ Some d.region
         in_region = region_into d.block ∙ d.in_region
 
-        up : (y : ℕ) × (block_holder_of t d.block ≡ Some y)
+        up : (y : ℕ) × (block_parent_operation_of t d.block ≡ Some y)
         up = parent_holder t d.around d.block w.joined d.in_block
 
         q : HasBlockPlace t d.block up.0
@@ -412,7 +412,7 @@ module _ (m : Meaning) (t t' : Tree) (a b jump : ℕ) (front : List ℕ) (w : Is
       own_values = λ k v i j.
           let j0 = old_operand k v j in
           let lm = kept k v j0 in
-          subst (IsMakerInside t' root) (sym (made_same v (w.joined.operands k v j0) lm)) (made_forth root (definition_of t v) lm (f.defined.own_values k v (back k i) j0));
+          subst (IsDefiningOperationInside t' root) (sym (made_same v (w.joined.operands k v j0) lm)) (made_forth root (definition_of t v) lm (f.defined.own_values k v (back k i) j0));
       dominance = λ k r i j. ssa k r i j;
       forwards = λ k i c o ins e br s. forwards k i c o ins e br s;
       terminators = λ k c x i e tr p.

@@ -2,13 +2,13 @@
 use Rattle.std.proofs.Common.{◌≡◌, ◌⊎◌, inl, inr, ⊎_elim, ℕ, ◌+◌, ◌<◌, Bool, true, false, true≢false, List, [], ◌∷◌, ◌++◌, length, Option, Some, None, slice_get, refl, sym, ap, ap₂, ◌∙◌, subst, arith, append_assoc, if◌then◌else◌}
 use Rattle.std.proofs.lemmas.Bool.Decides.{eqb_tells}
 use Rattle.pliron_core.specs.Tree.{Tree, In, IsLive, head_of, operands_of, regions_of, parent_of, body_of, definition_of}
-use Rattle.pliron_core.specs.Joined.{IsTree}
+use Rattle.pliron_core.specs.Invariant.{IsTree}
 use Rattle.pliron_core.proofs.ListLemmas.{In-right}
 use Rattle.pliron_core.proofs.HoldingLemmas.{some_is, some_of, in_slice, slice_in}
 use Rattle.pliron_laws.specs.Datum.{Datum, Empty, Head, Meaning, Give}
 use Rattle.pliron_laws.specs.Tree.{Operation, Block, op_at, block_at, entry_block, shape_of}
-use Rattle.pliron_laws.specs.States.{Environment, State, Goes, bound, bind, data_of, input_of}
-use Rattle.pliron_laws.specs.Machine.{at_rest, given, entry_in, block_in, perform, move, turn, step_at, step}
+use Rattle.pliron_laws.specs.States.{Environment, State, Goes, environment_with, bind, data_of, input_of}
+use Rattle.pliron_laws.specs.Machine.{at_rest, after_giving, entry_in, block_in, perform, move, turn, step_at, step}
 use Rattle.pliron_laws.specs.Agree.{Agree}
 use Rattle.pliron_laws.specs.Acting.{PassesSame, JumpsSame}
 use Rattle.pliron_laws.specs.Root.{WellDefined}
@@ -36,8 +36,8 @@ same_op : (t t' : Tree) (k : ℕ) (o o' : Operation) → op_at t' k ≡ op_at t 
 same_op t t' k o o' e f g = some_is (sym g ∙ e ∙ f)
 
 module _ (gone : ℕ → Bool) where
-  bound_gone : (env env' : Environment) → SameBut gone env env' → (v : ℕ) (d : Datum) → gone v ≡ true → SameBut gone (bound env v d) env'
-  unfolding bound
+  bound_gone : (env env' : Environment) → SameBut gone env env' → (v : ℕ) (d : Datum) → gone v ≡ true → SameBut gone (environment_with env v d) env'
+  unfolding environment_with
   bound_gone env env' e v d g w l = ⊎_elim
       (λ y. absurd (true≢false (sym g ∙ ap gone (sym y.1) ∙ l)))
       (λ n. ap (λ b. if b then Some d else env w) n.0 ∙ e w l)
@@ -48,7 +48,7 @@ module _ (gone : ℕ → Bool) where
   bind_gone [] [] env env' l g e = (env, refl, e)
   bind_gone [] (d ∷ ds) env env' l g e = grind arith
   bind_gone (v ∷ vs) [] env env' l g e = grind arith
-  bind_gone (v ∷ vs) (d ∷ ds) env env' l g e = bind_gone vs ds (bound env v d) env' (omega arith) (λ x i. g x (inr i)) (bound_gone env env' e v d (g v (inl refl)))
+  bind_gone (v ∷ vs) (d ∷ ds) env env' l g e = bind_gone vs ds (environment_with env v d) env' (omega arith) (λ x i. g x (inr i)) (bound_gone env env' e v d (g v (inl refl)))
 
 module _ (m : Meaning) (t t' : Tree) (dead dead_block : ℕ → Bool) (w : IsTree t) (w' : IsTree t') (h : IsSwept t t' dead dead_block) (root : ℕ) where
   abbrev pub gone : ℕ → Bool
@@ -157,7 +157,7 @@ module _ (m : Meaning) (t t' : Tree) (dead dead_block : ℕ → Bool) (w : IsTre
             ∙ ap (turn m t s k rest) oe
             ∙ ap (move m t s o k rest) (ap (input_of s.environment o.operands) fr.1 ∙ y.has_data)
             ∙ ap (perform t s o k rest) (ap (λ x. m.act (shape_of m t o) x y.input) fr.0 ∙ gv.1)
-            ∙ ap₂ (λ x z. given s rest x gv.0 z) y.waits bg.1
+            ∙ ap₂ (λ x z. after_giving s rest x gv.0 z) y.waits bg.1
 
         tied : Tied (ties m t t' comparison) a s'
         tied = record {

@@ -4,7 +4,7 @@ use Rattle.std.proofs.lemmas.List.{length-map}
 use Rattle.pliron_core.specs.declared.context.Def.{Def}
 use Rattle.pliron_core.specs.declared.context.Def.TheVariants.{Result, Argument}
 use Rattle.pliron_core.specs.Tree.{Tree, operands_of, successors_of, results_of, body_of, layout_of}
-use Rattle.pliron_core.specs.Joined.{IsTree}
+use Rattle.pliron_core.specs.Invariant.{IsTree}
 use Rattle.pliron_core.specs.Changes.{IsSameTree}
 use Rattle.pliron_laws.specs.Datum.{Datum, Empty, Head, Shape, Meaning, Move, Give, Visit, Goto, Leave, Emit, Trap}
 use Rattle.pliron_laws.specs.Tree.{Operation, op_at, shape_of, count_arguments, entry_block}
@@ -28,7 +28,7 @@ swept_keeps m t t' dead dead_block w w' h g longer gives = record {
   fewer = λ root lt l. subst (λ z. IsSome z.head) (h.rows root (lives t' dead dead_block w' g root l)) l;
 }
 
--- the same tree but for spent keys
+-- the same tree but for erased handles
 pub same_swept : (t u : Tree) → IsSameTree t u → IsSwept t u (λ k. false) (λ b. false)
 same_swept t u s = record {
   rows = λ k l. s.operations k;

@@ -1,7 +1,7 @@
 -- The records of what is left of a tree without some of its operations and blocks.
 use Rattle.std.proofs.Common.{◌≡◌, ℕ, Bool, false, List, [], ◌∷◌, length, Option, Some, None, slice_get, refl, sym, ap, ◌∙◌, subst, arith}
 use Rattle.pliron_core.specs.Tree.{Tree, In, first_of, head_of, operands_of, successors_of, results_of, regions_of, parent_of, block_parent_of, layout_of, region_parent_of, op_of_slot}
-use Rattle.pliron_core.specs.Joined.{IsTree}
+use Rattle.pliron_core.specs.Invariant.{IsTree}
 use Rattle.pliron_core.proofs.HoldingLemmas.{slice_in, in_slice}
 use Rattle.pliron_laws.specs.Datum.{Head, Meaning}
 use Rattle.pliron_laws.specs.Tree.{Operation, Block, op_with, op_at, block_with, block_at, and_block, entry_block, count_arguments, shape_of}

@@ -2,9 +2,9 @@
 use Rattle.std.proofs.Common.{◌≡◌, ◌⊎◌, inl, inr, ℕ, Bool, false, List, [], ◌∷◌, ◌++◌, length, Option, Some, None, IsSome, IsTrue, refl, sym, ap, ◌∙◌, subst, arith}
 use Rattle.pliron_core.specs.declared.context.Def.{Def}
 use Rattle.pliron_core.specs.declared.context.Def.TheVariants.{Result, Argument}
-use Rattle.pliron_core.specs.Changes.{IsMakerInside}
-use Rattle.pliron_core.specs.Tree.{Tree, In, first_of, last_of, IsInside, IsWithin, HoldsBlock, head_of, operands_of, successors_of, results_of, regions_of, parent_of, body_of, block_parent_of, layout_of, region_parent_of, block_holder_of, definition_of, up_from, op_of_slot}
-use Rattle.pliron_core.specs.Joined.{IsTree}
+use Rattle.pliron_core.specs.Changes.{IsDefiningOperationInside}
+use Rattle.pliron_core.specs.Tree.{Tree, In, first_of, last_of, IsInside, IsWithin, HoldsBlock, head_of, operands_of, successors_of, results_of, regions_of, parent_of, body_of, block_parent_of, layout_of, region_parent_of, block_parent_operation_of, definition_of, up_from, op_of_slot}
+use Rattle.pliron_core.specs.Invariant.{IsTree}
 use Rattle.pliron_core.specs.Edges.{succs_from}
 use Rattle.pliron_core.specs.Reads.{has_ssa, has_ssa_at, ssa_in}
 use Rattle.pliron_core.proofs.HoldingLemmas.{some_is, slice_in, in_slice}
@@ -108,7 +108,7 @@ module _ (m : Meaning) (t t' : Tree) (dead dead_block : ℕ → Bool) (w : IsTre
       go None q = sym (none (layout_of t region) q) ∙ there
       go (Some a) q = sym (first_swept dead_block a (layout_of t region) (h.entries holder region a l i q) q) ∙ there
 
-  dominated : (user v : ℕ) → In v (operands_of t' user) → IsMakerInside t' root (definition_of t' v) → IsDominated t' user v
+  dominated : (user v : ℕ) → In v (operands_of t' user) → IsDefiningOperationInside t' root (definition_of t' v) → IsDominated t' user v
   dominated user v i made = record {
     around = d.around;
     holds = a.0;
@@ -132,8 +132,8 @@ module _ (m : Meaning) (t t' : Tree) (dead dead_block : ℕ → Bool) (w : IsTre
       def : definition_of t' v ≡ definition_of t v
       def = made_same t t' dead dead_block w w' h v (w.joined.operands user v j) lm
 
-      was : IsMakerInside t root (definition_of t v)
-      was = made_back t t' dead dead_block w w' h g root (definition_of t v) (subst (IsMakerInside t' root) def made)
+      was : IsDefiningOperationInside t root (definition_of t v)
+      was = made_back t t' dead dead_block w w' h g root (definition_of t v) (subst (IsDefiningOperationInside t' root) def made)
 
       d : IsDominated t user v
       d = f.defined.dominated user v j was
@@ -147,7 +147,7 @@ module _ (m : Meaning) (t t' : Tree) (dead dead_block : ℕ → Bool) (w : IsTre
       in_region : block_parent_of t' d.block ≡ Some d.region
       in_region = h.block_parents d.block lb ∙ d.in_region
 
-      up : (y : ℕ) × (block_holder_of t d.block ≡ Some y)
+      up : (y : ℕ) × (block_parent_operation_of t d.block ≡ Some y)
       up = parent_holder t d.around d.block w.joined d.in_block
 
       p : HasBlockPlace t d.block up.0
@@ -175,7 +175,7 @@ module _ (m : Meaning) (t t' : Tree) (dead dead_block : ℕ → Bool) (w : IsTre
         let lk = within_lives k (inr i) in
         let j0 = old_operand k v j in
         let lm = h.values k v lk j0 in
-        subst (IsMakerInside t' root) (sym (made_same t t' dead dead_block w w' h v (w.joined.operands k v j0) lm)) (made_forth t t' dead dead_block w w' h root (definition_of t v) lm (f.defined.own_values k v (back k i) j0));
+        subst (IsDefiningOperationInside t' root) (sym (made_same t t' dead dead_block w w' h v (w.joined.operands k v j0) lm)) (made_forth t t' dead dead_block w w' h root (definition_of t v) lm (f.defined.own_values k v (back k i) j0));
     dominance = λ k r i j. ssa k r i j;
     forwards = λ k i b o ins e br s.
         let lk = within_lives k (inr ins) in

@@ -1,7 +1,7 @@
 -- Passes that keep the runs of all roots, one after the other and on an operation inside another.
 use Rattle.std.proofs.Common.{◌≡◌, ℕ, ◌≤◌, length, Some}
-use Rattle.pliron_core.specs.Tree.{Tree, IsLive, holder_of}
-use Rattle.pliron_core.specs.Joined.{IsTree}
+use Rattle.pliron_core.specs.Tree.{Tree, IsLive, parent_operation_of}
+use Rattle.pliron_core.specs.Invariant.{IsTree}
 use Rattle.pliron_core.specs.Changes.{IsSameTree}
 use Rattle.pliron_laws.specs.Datum.{Meaning}
 use Rattle.pliron_laws.specs.Linked.{IsWellLinked}
@@ -32,7 +32,7 @@ same_whole m t u op wt wu s longer live linked =
     let c = same_passes m t u op wt wu s longer live linked in
     record { stands = c.stands; linked = c.linked; inside = c.inside; runs = λ chosen. same_keeps (with_roots m chosen) t u wt wu s longer }
 
-pub whole_widen : (m : Meaning) (t u : Tree) (op b : ℕ) → IsTree t → IsTree u → holder_of t b ≡ Some op → IsWellLinked m t op → IsWholeChange m t u b → IsWholeChange m t u op
+pub whole_widen : (m : Meaning) (t u : Tree) (op b : ℕ) → IsTree t → IsTree u → parent_operation_of t b ≡ Some op → IsWellLinked m t op → IsWholeChange m t u b → IsWholeChange m t u op
 whole_widen m t u op b wt wu up linked whole =
     let c = change_widen m t u op b wt wu up linked (whole_passes m t u b whole) in
     record { stands = c.stands; linked = c.linked; inside = c.inside; runs = whole.runs }

@@ -14,7 +14,8 @@ use Rattle.pliron_theory.specs.Folded.{BranchFoldsLaw, ConstantFoldsLaw}
 -- what the laws of a dialect with this meaning and these tables give about runs
 pub record LawsOnRuns (m : Meaning) (can_fold can_fold_branch : Head → Bool) (constants : Constants) (feasible : Feasible) (shortened : Shape → ℕ → ℕ → Head) (removable : Head → ℕ → Bool → Option Bool) (fold branch_fold : Outcome) : Type 0 where
   pub facts : FactsLaw m can_fold constants
-  -- of facts that take nothing from what operations name for entries: a root may name operands itself
+  -- of lattice values that take nothing from the operands that operations name for entries: a root may name
+  -- operands itself
   pub sound : SoundFactsLaw (record { meaning = m; can_fold = can_fold; can_fold_branch = can_fold_branch; constants = constants; feasible = feasible; entry_operands = names_none })
   pub answered : AnsweredLaw m can_fold constants
   pub one_edge : OneEdgeLaw m

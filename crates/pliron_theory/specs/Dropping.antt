@@ -30,12 +30,12 @@ pub record IsArgumentDropped (t t' : Tree) (block index v : ℕ) (kept : ℕ →
   pub layouts : (r : ℕ) → layout_of t' r ≡ layout_of t r
   pub slots : (r : ℕ) → slot_of t' r ≡ slot_of t r
 
--- what goes to the block is one value for each of its `count` arguments, and loses the one at this
--- index; what goes elsewhere is the same
+-- what is passed to the block is one value for each of its `count` arguments, without the one at this index;
+-- what is passed elsewhere is the same
 abbrev pub PassesWithout : (block index count : ℕ) → Option ℕ → List Datum → List Datum → Type 0
 PassesWithout block index count target ds es = ((target ≡ Some block) × (length ds ≡ count) × (es ≡ remove ds index)) ⊎ ((target ≢ Some block) × (es ≡ ds))
 
--- the block at which a visit of the region begins
+-- the block at which an invocation of the region begins
 abbrev pub entry_key : Tree → Option ℕ → Option ℕ
 entry_key t None = None
 entry_key t (Some r) = first_of (layout_of t r) None
@@ -52,7 +52,7 @@ pub record LeadsWithout (m : Meaning) (t t' : Tree) (block index : ℕ) (kept : 
   pub fits : FitsInPlace m t' k
   pub acts : ActsWithoutOperands m t t' block index kept k
 
--- whatever its first input is, the operation acts alike, but for the value that its visits of the block
+-- whatever its first input is, the operation acts alike, but for the value that its invocations of the block
 -- lose
 abbrev pub VisitsWithout : Meaning → (t t' : Tree) → (block index : ℕ) → ℕ → Type 0
 VisitsWithout m t t' block index k = (o o' : Operation) → op_at t k ≡ Some o → op_at t' k ≡ Some o' → (first : List Datum) → ActAlike m.act (λ i ds es. PassesWithout block index (length (arguments_of t block)) (entry_key t (slice_get o.regions i)) ds es) JumpsSame (shape_of m t o) (shape_of m t' o') first first

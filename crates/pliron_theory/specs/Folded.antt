@@ -3,7 +3,7 @@ use Rattle.std.specs.Prelude.{◌≡◌, ◌≤◌, ◌⊎◌, ℕ, Bool, List, 
 use Rattle.pliron_core.specs.declared.attrs.AttrObj.{AttrObj}
 use Rattle.pliron_core.specs.declared.attrs.IRStatus.{IRStatus}
 use Rattle.pliron_core.specs.Tree.{Tree, IsLive, IsInside, operands_of, parent_of}
-use Rattle.pliron_core.specs.Joined.{IsTree}
+use Rattle.pliron_core.specs.Invariant.{IsTree}
 use Rattle.pliron_core.specs.Changes.{IsSameTree}
 use Rattle.pliron_laws.specs.Datum.{Head, Meaning}
 use Rattle.pliron_laws.specs.InPlace.{Outcome}
@@ -23,11 +23,12 @@ BranchFoldsLaw m can_fold_branch outcome = (t t' : Tree) (root op : ℕ) (known 
 abbrev pub ConstantFoldsLaw : Meaning → (Head → Bool) → Outcome → Type 0
 ConstantFoldsLaw m can_fold outcome = (t t' : Tree) (op block : ℕ) (known : List (Option AttrObj)) (answer : Option IRStatus) → IsTree t → IsTree t' → length t.operations ≤ length t'.operations → parent_of t op ≡ Some block → HeadPasses can_fold t op → length known ≡ length (operands_of t op) → AreReadAs m t op known → outcome t t' op known answer → KeepsRuns m t t'
 
--- after each outcome of folding such a branch the tree is well linked at each root where it was, and which
--- still stands
+-- after each outcome of folding such a branch the tree is well linked at each root where it was, and which is
+-- still live
 abbrev pub BranchLinksLaw : Meaning → (Head → Bool) → Outcome → Type 0
 BranchLinksLaw m can_fold_branch outcome = (t t' : Tree) (root other op : ℕ) (known : List (Option AttrObj)) (answer : Option IRStatus) → IsTree t → IsTree t' → IsWellLinked m t root → IsInside t root op → HeadPasses can_fold_branch t op → outcome t t' op known answer → IsWellLinked m t other → IsLive t other → IsLive t' other → IsWellLinked m t' other
 
--- each outcome of folding such a branch is the same tree but for spent keys, or another branch stands in its place
+-- each outcome of folding such a branch is the same tree but for erased handles, or another branch is in its
+-- place
 abbrev pub BranchOutcomesLaw : Meaning → (Head → Bool) → Outcome → Type 0
 BranchOutcomesLaw m can_fold_branch outcome = (t t' : Tree) (root op : ℕ) (known : List (Option AttrObj)) (answer : Option IRStatus) → IsTree t → IsTree t' → IsWellLinked m t root → IsInside t root op → HeadPasses can_fold_branch t op → outcome t t' op known answer → IsSameTree t t' ⊎ ((a new : ℕ) × (front : List ℕ) × IsRebranched t t' a op new front)

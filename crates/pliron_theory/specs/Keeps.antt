@@ -7,7 +7,7 @@ use Rattle.pliron_laws.specs.Answers.{HeadPasses}
 use Rattle.pliron_laws.specs.Root.{WellDefined}
 use Rattle.pliron_laws.specs.Linked.{IsWellLinked}
 
--- a root that is to run: it stands, its head may be that of a root, it is isolated and well defined, and
+-- a root that is fit to run: it is live, its head may be that of a root, it is isolated and well defined, and
 -- it is well linked
 pub record IsFit (m : Meaning) (t : Tree) (root : ℕ) : Type 0 where
   pub live : IsLive t root
@@ -15,8 +15,8 @@ pub record IsFit (m : Meaning) (t : Tree) (root : ℕ) : Type 0 where
   pub defined : WellDefined m t root
   pub linked : IsWellLinked m t root
 
--- each fit root that still stands does the same, has the same head, and is still fit; operations may be
--- made, and what was erased does not come back
+-- each fit root that is still live does the same, has the same head, and is still fit; operations may be
+-- created, and what was erased does not come back
 pub record KeepsRuns (m : Meaning) (t t' : Tree) : Type 0 where
   pub agrees : (root : ℕ) → IsFit m t root → IsLive t' root → Agree m t t' root
   pub heads : (root : ℕ) → IsFit m t root → IsLive t' root → head_of t' root ≡ head_of t root

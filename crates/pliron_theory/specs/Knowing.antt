@@ -2,7 +2,7 @@
 use Rattle.std.specs.Prelude.{◌≡◌, ℕ, Bool, Option, Some, None, map, slice_get, IsTrue}
 use Rattle.pliron_core.specs.declared.attrs.AttrObj.{AttrObj}
 use Rattle.pliron_core.specs.Tree.{Tree, In, IsInside, HoldsBlock, arguments_of}
-use Rattle.pliron_core.specs.Joined.{IsTree}
+use Rattle.pliron_core.specs.Invariant.{IsTree}
 use Rattle.pliron_laws.specs.Datum.{datum_of, Head, Meaning}
 use Rattle.pliron_laws.specs.Tree.{Operation, op_at, shape_of}
 use Rattle.pliron_laws.specs.Folding.{Constants}
@@ -15,6 +15,6 @@ pub record AreClosedUnderFolding (m : Meaning) (can_fold : Head → Bool) (const
   pub arguments : (b v : ℕ) → HoldsBlock t root b → In v (arguments_of t b) → facts v ≡ None
   pub results : (k i v : ℕ) (c : AttrObj) (o : Operation) → IsInside t root k → op_at t k ≡ Some o → slice_get o.results i ≡ Some v → facts v ≡ Some c → IsTrue (can_fold o.head) × (slice_get (constants (shape_of m t o) (map facts o.operands)) i ≡ Some (Some c))
 
--- what is known of values by closed facts is what every run of a root that is fit to run reads
+-- what closed lattice values say is what every run of a root that is fit to run reads
 abbrev pub FactsLaw : Meaning → (Head → Bool) → Constants → Type 0
 FactsLaw m can_fold constants = (t : Tree) (root : ℕ) (facts : ℕ → Option AttrObj) → IsTree t → IsFit m t root → AreClosedUnderFolding m can_fold constants t root facts → (v : ℕ) (c : AttrObj) → facts v ≡ Some c → IsReadAs m t v (datum_of c) root

@@ -14,6 +14,6 @@ pub mod ChosenRoots
 pub mod Edges
 pub mod Change
 pub mod Whole
-pub mod Facts
+pub mod LatticeValues
 pub mod Sound
 pub mod Following

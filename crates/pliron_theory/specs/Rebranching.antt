@@ -1,4 +1,4 @@
--- Trees in which another branch stands in the place of a branch.
+-- Trees in which another branch took the place of a branch.
 use Rattle.std.specs.Prelude.{◌≡◌, ◌≢◌, ℕ, List, [], ◌∷◌, ◌++◌, Some, None, length, slice_get, IsTrue}
 use Rattle.pliron_core.specs.Tree.{Tree, In, row_of, head_of, operands_of, successors_of, results_of, regions_of, parent_of, body_of, arguments_of, block_parent_of, layout_of}
 use Rattle.pliron_laws.specs.Datum.{Datum, Meaning}
@@ -9,8 +9,8 @@ use Rattle.pliron_laws.specs.Linked.{IsAdmitted}
 use Rattle.pliron_laws.specs.Replacing.{JumpsTo}
 use Rattle.pliron_theory.specs.Renaming.{RunReaches}
 
--- the operation `new` stands in the place of `op`, which ended the block a and is gone; neither has
--- results or regions, and what `new` names `op` named
+-- the operation `new` took the place of `op`, which ended the block a and is erased; neither has results or
+-- regions, and what `new` names `op` named
 pub record IsRebranched (t t' : Tree) (a op new : ℕ) (front : List ℕ) : Type 0 where
   pub split : body_of t a ≡ front ++ op ∷ []
   pub put : body_of t' a ≡ front ++ new ∷ []

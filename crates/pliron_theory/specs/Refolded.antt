@@ -2,7 +2,7 @@
 use Rattle.std.specs.Prelude.{◌≡◌, ◌≤◌, ℕ, List, Option, Some, length, map, slice_get}
 use Rattle.pliron_core.specs.declared.attrs.AttrObj.{AttrObj}
 use Rattle.pliron_core.specs.Tree.{Tree, head_of, operands_of, successors_of}
-use Rattle.pliron_core.specs.Joined.{IsTree}
+use Rattle.pliron_core.specs.Invariant.{IsTree}
 use Rattle.pliron_laws.specs.Datum.{datum_of, Head, Meaning}
 use Rattle.pliron_laws.specs.Tree.{Operation, op_at, shape_of}
 use Rattle.pliron_laws.specs.Acting.{pick}
@@ -16,7 +16,7 @@ use Rattle.pliron_laws.specs.Replacing.{ReplacesBranch}
 abbrev pub AreReadAs : Meaning → Tree → ℕ → List (Option AttrObj) → Type 0
 AreReadAs m t op known = (root j v : ℕ) (c : AttrObj) → IsFit m t root → slice_get (operands_of t op) j ≡ Some v → slice_get known j ≡ Some (Some c) → IsReadAs m t v (datum_of c) root
 
--- the branch `new` stands in the place of `op`, and is one that folding may put there
+-- the branch `new` took the place of `op`, and is one that folding may put there
 pub record IsRefolded (m : Meaning) (t t' : Tree) (a op new : ℕ) (front : List ℕ) (known : List (Option AttrObj)) : Type 0 where
   pub placed : IsRebranched t t' a op new front
   pub operation : Operation

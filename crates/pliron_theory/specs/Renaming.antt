@@ -1,6 +1,6 @@
 -- Trees that differ in the values that operands name.
 use Rattle.std.specs.Prelude.{◌≡◌, ◌≢◌, ℕ, List, [], ◌∷◌, Some, None, map}
-use Rattle.pliron_core.specs.Changes.{IsMakerInside}
+use Rattle.pliron_core.specs.Changes.{IsDefiningOperationInside}
 use Rattle.pliron_core.specs.Tree.{Tree, In, IsInside, row_of, operands_of, successors_of, results_of, regions_of, parent_of, body_of, arguments_of, block_parent_of, layout_of, slot_of, definition_of}
 use Rattle.pliron_laws.specs.Datum.{Datum, Empty, Meaning, Give}
 use Rattle.pliron_laws.specs.Tree.{Operation, op_at, shape_of}
@@ -22,9 +22,9 @@ pub record IsRenamed (t t' : Tree) (rename : ℕ → ℕ) : Type 0 where
 
 -- the user may name the value, as far as the root is concerned
 pub record MayUse (t : Tree) (root user v : ℕ) : Type 0 where
-  pub own : IsInside t root user → IsMakerInside t root (definition_of t v)
+  pub own : IsInside t root user → IsDefiningOperationInside t root (definition_of t v)
   pub no_jumper : (k : ℕ) → IsInside t root k → successors_of t k ≢ [] → In v (results_of t k) → ⊥
-  pub dominated : IsMakerInside t root (definition_of t v) → IsDominated t user v
+  pub dominated : IsDefiningOperationInside t root (definition_of t v) → IsDominated t user v
 
 -- some run of the root comes to this state
 abbrev pub RunReaches : Meaning → Tree → ℕ → State → Type 0

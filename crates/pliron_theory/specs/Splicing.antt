@@ -1,11 +1,11 @@
--- Trees in which a block joined the end of its only predecessor.
+-- Trees in which a block was merged into the end of its only predecessor.
 use Rattle.std.specs.Prelude.{◌≡◌, ◌≢◌, ℕ, List, [], ◌∷◌, ◌++◌, Some, None, length}
 use Rattle.pliron_core.specs.Tree.{Tree, In, without, first_of, row_of, head_of, operands_of, successors_of, results_of, regions_of, parent_of, body_of, arguments_of, block_parent_of, layout_of}
 use Rattle.pliron_laws.specs.Datum.{Datum, Empty, Meaning, Goto}
 use Rattle.pliron_laws.specs.Tree.{Operation, op_at, shape_of}
 
--- the operations of the block b joined the end of the block a, whose last operation `jump` led to b
--- alone, as nothing else did; `jump` and b are gone, and all else is as before
+-- the operations of the block b were appended to the block a, whose last operation `jump` led to b alone, as
+-- nothing else did; `jump` and b are erased, and all else is as before
 pub record IsSpliced (t t' : Tree) (a b jump : ℕ) (front : List ℕ) : Type 0 where
   pub apart : a ≢ b
   pub split : body_of t a ≡ front ++ jump ∷ []
@@ -29,6 +29,6 @@ pub record IsSpliced (t t' : Tree) (a b jump : ℕ) (front : List ℕ) : Type 0 
   pub gone : head_of t' jump ≡ None
   pub gone_block : block_parent_of t' b ≡ None
 
--- the operation goes to its only successor at once, with as many values as the block has arguments
+-- the operation jumps to its only successor at once, with as many values as the block has arguments
 abbrev pub JumpsNow : Meaning → Tree → (jump b : ℕ) → Type 0
 JumpsNow m t jump b = (o : Operation) → op_at t jump ≡ Some o → (ds : List Datum) → length ds ≡ length o.operands → (values : List Datum) × (m.act (shape_of m t o) Empty ds ≡ Goto 0 values) × (length values ≡ length (arguments_of t b))

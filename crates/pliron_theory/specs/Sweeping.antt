@@ -2,7 +2,7 @@
 use Rattle.std.specs.Prelude.{◌≡◌, ℕ, Bool, true, false, List, [], ◌∷◌, Option, Some, None, length}
 use Rattle.pliron_core.specs.declared.context.Def.{Def}
 use Rattle.pliron_core.specs.declared.context.Def.TheVariants.{Result, Argument}
-use Rattle.pliron_core.specs.Tree.{Tree, In, IsInside, first_of, last_of, row_of, head_of, operands_of, successors_of, regions_of, parent_of, body_of, arguments_of, block_parent_of, layout_of, definition_of, block_holder_of}
+use Rattle.pliron_core.specs.Tree.{Tree, In, IsInside, first_of, last_of, row_of, head_of, operands_of, successors_of, regions_of, parent_of, body_of, arguments_of, block_parent_of, layout_of, definition_of, block_parent_operation_of}
 use Rattle.pliron_laws.specs.Datum.{Datum, Empty, Head, Meaning, Give}
 use Rattle.pliron_laws.specs.Tree.{Operation, op_at, shape_of}
 use Rattle.pliron_laws.specs.Linked.{IsAdmitted}
@@ -32,21 +32,21 @@ pub record IsSwept (t t' : Tree) (dead dead_block : ℕ → Bool) : Type 0 where
   pub arguments : (b : ℕ) → dead_block b ≡ false → arguments_of t' b ≡ arguments_of t b
   pub block_parents : (b : ℕ) → dead_block b ≡ false → block_parent_of t' b ≡ block_parent_of t b
   pub layouts : (k r : ℕ) → dead k ≡ false → In r (regions_of t k) → layout_of t' r ≡ swept dead_block (layout_of t r)
-  -- what is in a dead block is dead, and so is what is in a dead operation; an entry block is dead only
-  -- with the operation that holds it
+  -- what is in a dead block is dead, and so is what is in a dead operation; an entry block is dead only with
+  -- its parent operation
   pub holders : (k b : ℕ) → parent_of t k ≡ Some b → dead k ≡ false → dead_block b ≡ false
-  pub block_holders : (b k : ℕ) → block_holder_of t b ≡ Some k → dead_block b ≡ false → dead k ≡ false
+  pub block_holders : (b k : ℕ) → block_parent_operation_of t b ≡ Some k → dead_block b ≡ false → dead k ≡ false
   pub entries : (k r b : ℕ) → dead k ≡ false → In r (regions_of t k) → first_of (layout_of t r) None ≡ Some b → dead_block b ≡ false
   -- what is left names nothing of what is dead
   pub values : (k v : ℕ) → dead k ≡ false → In v (operands_of t k) → is_maker_dead dead dead_block (definition_of t v) ≡ false
   pub targets : (k b : ℕ) → dead k ≡ false → In b (successors_of t k) → dead_block b ≡ false
 
--- what is dead stands no more
+-- what is dead is erased
 pub record AreGone (t' : Tree) (dead dead_block : ℕ → Bool) : Type 0 where
   pub operations : (k : ℕ) → dead k ≡ true → head_of t' k ≡ None
   pub blocks : (b : ℕ) → dead_block b ≡ true → block_parent_of t' b ≡ None
 
--- what is dead stands nowhere, names nothing and holds nothing
+-- what is dead is in no block, names nothing and has no contents
 pub record AreAway (t' : Tree) (dead dead_block : ℕ → Bool) : Type 0 where
   pub parents : (k : ℕ) → dead k ≡ true → parent_of t' k ≡ None
   pub operands : (k : ℕ) → dead k ≡ true → operands_of t' k ≡ []
@@ -63,7 +63,7 @@ GivesNow m t k = (o : Operation) → op_at t k ≡ Some o → (ds : List Datum) 
 abbrev pub DeadGive : Meaning → Tree → (dead dead_block : ℕ → Bool) → ℕ → Type 0
 DeadGive m t dead dead_block root = (k b : ℕ) → IsInside t root k → dead k ≡ true → parent_of t k ≡ Some b → dead_block b ≡ false → GivesNow m t k
 
--- operations were put into blocks: they use nothing and hold nothing, end no block that had operations
+-- operations were put into blocks: they use nothing and have no contents, end no block that had operations
 -- before, and the dialect admits them and calls them no terminators
 pub record ArePut (m : Meaning) (t t' : Tree) (dead : ℕ → Bool) : Type 0 where
   pub operands : (k : ℕ) → dead k ≡ true → operands_of t k ≡ []

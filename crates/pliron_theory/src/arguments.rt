@@ -1,4 +1,4 @@
-//! Operands that go with an argument of a block.
+//! Operands that are removed with an argument of a block.
 ghost use Rattle.std.specs.Prelude.{◌≡◌, length};
 ghost use Rattle.pliron_core.specs.Tree.{IsBlock, uses_of};
 ghost use Rattle.pliron_theory.specs.Dropping.{EdgesLose, AreOfBranches, TellPlaces};
@@ -9,8 +9,8 @@ use pliron_laws::Dialect;
 /// Each edge to the block that forwards an operand at place `j` loses it, one edge after the other. With
 /// `remove_argument` thereafter this is the rewrite of `theory::unused_arguments_go`.
 ///
-/// Asks that the block stands, that all edges to it are of branches that the dialect admits, and for each
-/// of them, in the order of the block's uses, whether it forwards such an operand. Takes no memory.
+/// Asks that the block is live, that all edges to it are of branches that the dialect admits, and for each of
+/// them, in the order of the block's uses, whether it forwards such an operand. Takes no memory.
 /// Cost: one `remove_successor_operand` for each such edge.
 pub fn lose_forwarded<D: Dialect>(
     ctx: &mut Context,

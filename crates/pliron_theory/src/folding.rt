@@ -1,10 +1,11 @@
 //! What a dialect says of folding, under one name.
-ghost use Rattle.pliron_theory.specs.Facts.{Says};
+ghost use Rattle.pliron_theory.specs.LatticeValues.{Says};
 
 use pliron_laws::Dialect;
 
-/// What facts read of a dialect: its meaning, which heads fold by constants and as branches, what folding
-/// these answers, and which operands are named for the arguments of entries. Each dialect has it; contracts alone speak of it.
+/// What lattice values depend on in a dialect: its meaning, which heads fold by constants and as branches, what
+/// folding these answers, and which operands are named for the arguments of entries. Each dialect has it;
+/// contracts alone speak of it.
 pub trait HasFolding {
     ghost folding: { Says };
 }

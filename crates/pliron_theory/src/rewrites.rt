@@ -1,7 +1,7 @@
 //! Whole rewrites that keep every run: what optimisations are made of.
 //!
-//! Each is wholly done or not at all, whatever it answers, and each asks only what makes it right; so a
-//! pass that makes its changes by these calls keeps runs, also where memory is refused.
+//! Each is wholly done or not at all, whatever it answers, and each asks only what makes it right; so a pass
+//! that makes its changes by these calls keeps runs, also on allocation failure.
 ghost use Rattle.std.specs.Prelude.{◌≡◌, ◌<◌, ℕ, Some, IsSome, IfOk, OnErr, IsTrue, length, slice_get, IsOkUnless};
 ghost use Rattle.pliron_core.specs.declared.rewriter.OpInsertionPoint.TheVariants.{BeforeOperation, AtBlockStart};
 ghost use Rattle.pliron_core.specs.Tree.{IsLive, IsBlock, IsDefined, results_of, arguments_of, parent_of};
@@ -18,8 +18,8 @@ use std::alloc::Global;
 
 /// Erases the operation with its contents, where the dialect answers that it has no side effects.
 ///
-/// Asks that it stands, and that no value or block of it is used outside it.
-/// Errors: want of memory, which changes nothing. Cost: what is erased, with its operands and
+/// Asks that it is live, and that no value or block of it is used outside it.
+/// Errors: allocation failure, which changes nothing. Cost: what is erased, with its operands and
 /// successors.
 pub fn erase_unused<D: Dialect, R: Rewriter + Room>(
     alloc: Global,
@@ -49,9 +49,9 @@ pub fn erase_unused<D: Dialect, R: Rewriter + Room>(
 /// result of `op` with this index, also where it has none. Answers `Unchanged` where the dialect has no
 /// operation for the attribute. The rewriter inserts before `op` from now on.
 ///
-/// Asks that `op` stands in a block, and that every run of a root that is fit to run reads the result as
-/// this constant wherever it reads it.
-/// Errors: want of memory, which leaves the tree as it was but for spent keys. Cost: that of
+/// Asks that `op` is live in a block, and that every run of a root that is fit to run reads the result as this
+/// constant wherever it reads it.
+/// Errors: allocation failure, which leaves the tree as it was but for erased handles. Cost: that of
 /// `materialize`, and one step for each use of the result.
 pub fn replace_result_by_constant<D: Dialect, R: Rewriter + Room>(
     alloc: Global,
@@ -80,9 +80,9 @@ pub fn replace_result_by_constant<D: Dialect, R: Rewriter + Room>(
 /// argument of the block with this index, also where it has none. Answers `Unchanged` where the dialect
 /// has no operation for the attribute. The rewriter inserts first in the block from now on.
 ///
-/// Asks that the block stands, and that every run of a root that is fit to run reads the argument as
-/// this constant wherever it reads it.
-/// Errors: want of memory, which leaves the tree as it was but for spent keys. Cost: that of
+/// Asks that the block is live, and that every run of a root that is fit to run reads the argument as this
+/// constant wherever it reads it.
+/// Errors: allocation failure, which leaves the tree as it was but for erased handles. Cost: that of
 /// `materialize`, and one step for each use of the argument.
 pub fn replace_argument_by_constant<D: Dialect, R: Rewriter + Room>(
     alloc: Global,
@@ -106,8 +106,8 @@ pub fn replace_argument_by_constant<D: Dialect, R: Rewriter + Room>(
     replace_by_constant::<D, R>(alloc, ctx, old, attr, rewriter)
 }
 
-// A constant for the attribute goes where the rewriter inserts, and gets the uses of the value, where
-// the dialect accepts the attribute.
+// A constant for the attribute is inserted at the rewriter's insertion point, and gets the uses of the value,
+// where the dialect accepts the attribute.
 fn replace_by_constant<D: Dialect, R: Rewriter + Room>(
     alloc: Global,
     ctx: &mut Context,

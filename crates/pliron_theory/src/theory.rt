@@ -17,7 +17,7 @@ ghost use Rattle.pliron_theory.specs.RunLaws.{KeepingLaws, FewerRootsLaw, Operan
 use crate::folding::HasFolding;
 use pliron_laws::Dialect;
 
-/// "Runs are kept" is reflexive and transitive, and spent keys are nothing to it.
+/// "Runs are kept" is reflexive and transitive, and doesn't depend on erased handles.
 pub fn runs_kept()
     ensures { KeepingLaws }
 {}
@@ -41,7 +41,7 @@ pub fn operands_have_data()
     ensures { OperandsHaveData }
 {}
 
-/// Operations that give at once, and blocks that no run comes to, may go with their contents where
+/// Operations that give at once, and blocks that no run comes to, may be erased with their contents where
 /// nothing that is left names them.
 pub fn dead_parts_go()
     ensures { SweepingLaws }
@@ -58,24 +58,24 @@ pub fn operands_are_renamed()
     ensures { RenamingLaws }
 {}
 
-/// Constants that are known of values by closed facts are what every run reads: each one of a result is
-/// what folding its operation answers, if the operands have the constants that are known of them, and
-/// nothing is known of the arguments of blocks.
+/// Constants that closed lattice values give are what every run reads: each one of a result is what folding its
+/// operation answers, if the operands have the constants that are known of them, and nothing is known of the
+/// arguments of blocks.
 pub fn facts_are_read<D: Dialect>()
     ensures { FactsLaw D.meaning D.can_fold D.constants }
 {}
 
-/// A block may join the end of its only predecessor, whose last operation goes there at once.
+/// A block may be merged into the end of its only predecessor, whose last operation jumps there at once.
 pub fn blocks_are_joined()
     ensures { SplicingLaw }
 {}
 
-/// A branch of the dialect goes at once where its only edge leads.
+/// A branch of the dialect with one edge jumps there at once.
 pub fn one_edge_is_taken<D: Dialect>()
     ensures { OneEdgeLaw D.meaning }
 {}
 
-/// A branch may stand in the place of another one that it acts alike with.
+/// A branch may be replaced by another one that acts alike.
 pub fn branches_are_replaced()
     ensures { RebranchingLaw }
 {}
@@ -90,38 +90,38 @@ pub fn branches_are_refolded()
     ensures { RefoldingLaw }
 {}
 
-/// Each outcome of a dialect's fold by constants in place keeps runs, also after a refusal, where the
-/// handed constants are what every run reads of the operands.
+/// Each outcome of a dialect's fold by constants in place keeps runs, also after allocation failure, where the
+/// given constants are what every run reads of the operands.
 pub fn constant_folds_keep_runs<D: Dialect>()
     ensures { ConstantFoldsLaw D.meaning D.can_fold D.ConstFoldInterface.outcome }
 {}
 
-/// Each outcome of a dialect's fold of a branch in place keeps runs, also after a refusal, where the
-/// handed constants are what every run reads of its operands.
+/// Each outcome of a dialect's fold of a branch in place keeps runs, also after allocation failure, where the
+/// given constants are what every run reads of its operands.
 pub fn branch_folds_keep_runs<D: Dialect>()
     ensures { BranchFoldsLaw D.meaning D.can_fold_branch D.BranchOpFoldInterface.outcome }
 {}
 
-/// After each outcome of a dialect's fold of a branch in place the tree is well linked at each root where
-/// it was, and which still stands.
+/// After each outcome of a dialect's fold of a branch in place the tree is well linked at each root where it
+/// was, and which is still live.
 pub fn branch_folds_keep_links<D: Dialect>()
     ensures { BranchLinksLaw D.meaning D.can_fold_branch D.BranchOpFoldInterface.outcome }
 {}
 
-/// Each outcome of a dialect's fold of a branch in place is the same tree but for spent keys, or another
-/// branch stands in its place.
+/// Each outcome of a dialect's fold of a branch in place is the same tree but for erased handles, or another
+/// branch is in its place.
 pub fn branch_folds_replace<D: Dialect>()
     ensures { BranchOutcomesLaw D.meaning D.can_fold_branch D.BranchOpFoldInterface.outcome }
 {}
 
-/// An argument of a block may go with the operands that are forwarded to it, where nothing else uses
-/// it and what goes to the block acts alike without them.
+/// An argument of a block may be removed with the operands that are forwarded to it, where nothing else uses it
+/// and what leads to the block acts alike without them.
 pub fn arguments_go()
     ensures { DroppingLaw }
 {}
 
-/// An argument of a block may go after each edge to the block lost the operand that it forwarded to
-/// it, where the dialect lets it be removed and nothing else uses it.
+/// An argument of a block may be removed after each edge to the block lost the operand that it forwarded to it,
+/// where the dialect lets it be removed and nothing else uses it.
 pub fn unused_arguments_go<D: Dialect>()
     ensures { RemovingLaw D.meaning D.shortened D.removable }
 {}
@@ -131,21 +131,21 @@ pub fn folds_keep_links()
     ensures { FoldsKeepLinks }
 {}
 
-/// What passes do to a tree is reflexive and transitive, and spent keys are nothing to it; it holds of
-/// the operation around theirs too, and leaves each operation that was well linked, and still stands,
-/// well linked.
+/// What passes do to a tree is reflexive and transitive, and doesn't depend on erased handles; it holds of the
+/// parent operation of theirs too, and leaves each operation that was well linked, and is still live, well
+/// linked.
 pub fn passes_compose()
     ensures { PassLaws }
 {}
 
 /// What passes do that keep the runs of all roots, whatever their heads, is reflexive and transitive, and
-/// spent keys are nothing to it; it holds of the operation around theirs too.
+/// doesn't depend on erased handles; it holds of the parent operation of theirs too.
 pub fn whole_passes_compose()
     ensures { WholeLaws }
 {}
 
-/// Edges inside operations stay where blocks keep their successors and their operations with regions:
-/// where keys alone were spent, and where a constant is put. What keeps edges twice keeps them.
+/// Edges inside operations stay where blocks keep their successors and their operations with regions: where
+/// only erased handles are new, and where a constant is put. Two changes that keep edges keep them together.
 pub fn edges_stay()
     ensures { EdgeLaws }
 {}
@@ -155,20 +155,20 @@ pub fn constants_first_keep_links()
     ensures { FirstKeepsLinks }
 {}
 
-/// What sound facts inside an operation say of values that are made in blocks that are reached, every
-/// run of every root that is fit to run reads.
+/// What sound lattice values inside an operation say of values that are defined in executable blocks, every run
+/// of every root that is fit to run reads.
 pub fn sound_facts_are_read<D: Dialect>()
     ensures { SoundFactsLaw ⟦<D as HasFolding>⟧.folding }
 {}
 
-/// What closed facts inside an operation say of values that are made in blocks that are reached, and
-/// what folding answers there by them, every run of every root that is fit to run reads.
+/// What closed lattice values (a fixpoint) inside an operation say of values that are defined in executable
+/// blocks, and what folding answers there by them, every run of every root that is fit to run reads.
 pub fn closed_facts_are_read<D: Dialect>()
     ensures { ClosedFactsLaw ⟦<D as HasFolding>⟧.folding }
 {}
 
-/// Facts that are closed on a tree go on holding while constants are put by them: what was known of
-/// the first tree may be handed to each later fold.
+/// Lattice values that are closed on a tree stay valid while constants are put by them: what was known of the
+/// first tree may be given to each later fold.
 pub fn facts_are_followed<D: Dialect>()
     ensures { FollowingLaws ⟦<D as HasFolding>⟧.folding D.accepts D.constant_head }
 {}

@@ -1,4 +1,4 @@
-//! What stands directly inside an operation.
+//! What is directly inside an operation.
 ghost use Rattle.std.specs.Prelude.{◌≡◌};
 ghost use Rattle.std.specs.Iterator.{YieldsFirst, item_count};
 ghost use Rattle.pliron_core.specs.Tree.{IsLive};
@@ -23,7 +23,7 @@ pub struct Children<'a> {
 impl<'a> Model for Children<'a> {
     ghost use Rattle.std.specs.Prelude.{◌≡◌, ℕ, List, Some};
     ghost use Rattle.std.specs.Option.{ForSome};
-    ghost use Rattle.pliron_core.specs.Tree.{holder_of};
+    ghost use Rattle.pliron_core.specs.Tree.{parent_operation_of};
     ghost use Rattle.pliron_core.specs.Walks.{children};
     ghost use Rattle.pliron_core.specs.WalkSteps.{rest_from};
 
@@ -31,12 +31,12 @@ impl<'a> Model for Children<'a> {
 
     ghost view = { λ w. rest_from w.next (children w.ctx.now.tree w.holder) };
 
-    ghost invariant = { λ w. ForSome w.next (λ k. holder_of w.ctx.now.tree k ≡ Some w.holder) };
+    ghost invariant = { λ w. ForSome w.next (λ k. parent_operation_of w.ctx.now.tree k ≡ Some w.holder) };
 }
 
 impl<'a> Children<'a> {
-    /// The operations directly inside `holder`. Asks that it stands (`is_live` tests it). Cost: one step for
-    /// each empty region and block before the first of them.
+    /// The operations directly inside `holder`, their parent operation. Asks that it is live (`is_live` tests
+    /// it). Cost: one step for each empty region and block before the first of them.
     pub fn new(holder: Ptr<Operation>, ctx: &'a Context) -> Self
         requires { IsLive ctx.now.tree holder }
         ensures { result ≡ children ctx.now.tree holder }

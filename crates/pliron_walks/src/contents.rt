@@ -1,4 +1,4 @@
-//! All that stands inside an operation.
+//! All that is inside an operation.
 ghost use Rattle.std.specs.Prelude.{◌≡◌};
 ghost use Rattle.std.specs.Iterator.{YieldsFirst, item_count};
 ghost use Rattle.pliron_core.specs.Tree.{IsLive};
@@ -34,7 +34,7 @@ impl<'a> Model for Contents<'a> {
 }
 
 impl<'a> Contents<'a> {
-    /// The operations inside `root`, which isn't one of them. Asks that it stands (`is_live` tests it). Cost:
+    /// The operations inside `root`, which isn't one of them. Asks that it is live (`is_live` tests it). Cost:
     /// one step for each empty region and block before the first of them.
     pub fn new(root: Ptr<Operation>, ctx: &'a Context) -> Self
         requires { IsLive ctx.now.tree root }

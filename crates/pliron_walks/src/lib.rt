@@ -1,4 +1,4 @@
-//! Iterators over what stands inside an operation: all of it, and what stands directly inside.
+//! Iterators over what is inside an operation: all of it, and what is directly inside.
 //!
 //! It knows the tree alone. A pass that rewrites what it walks over takes the items into a `Vec` first, since
 //! an iterator lends the context.

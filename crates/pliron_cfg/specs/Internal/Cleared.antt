@@ -1,15 +1,15 @@
--- What stands while regions lose their unreachable blocks one after the other.
+-- What holds while regions lose their unreachable blocks one after the other.
 use Rattle.std.specs.Prelude.{◌≡◌, ◌⊎◌, ℕ, List}
 use Rattle.pliron_core.specs.declared.attrs.IRStatus.{IRStatus}
 use Rattle.pliron_core.specs.declared.attrs.IRStatus.TheVariants.{Changed, Unchanged}
 use Rattle.pliron_core.specs.Tree.{Tree, In}
-use Rattle.pliron_core.specs.Joined.{IsTree}
+use Rattle.pliron_core.specs.Invariant.{IsTree}
 use Rattle.pliron_laws.specs.Datum.{Meaning}
 use Rattle.pliron_theory.specs.Change.{IsWholeChange}
 use Rattle.pliron_block_laws.specs.Links.{KeepsLinks}
 use Rattle.pliron_cfg.specs.Visited.{Start, IsCutOff, IsUnreachable}
 use Rattle.pliron_cfg.specs.Visits.{AreVisits}
-use Rattle.pliron_cfg.specs.declared.removal.scope.Scope.{Scope}
+use Rattle.pliron_cfg.specs.declared.removal.scope.RemovalScope.{RemovalScope}
 use Rattle.pliron_cfg.specs.Removed.{RemovesSome, IsWithout}
 use Rattle.pliron_cfg.specs.Internal.Scopes.{start_of, ScopeStands, IsHolder}
 
@@ -18,16 +18,16 @@ abbrev pub status_after : (more status : IRStatus) → IRStatus
 status_after Changed status = Changed
 status_after Unchanged status = status
 
-abbrev pub TellsLoss : Start → (t u : Tree) → IRStatus → Type 0
-TellsLoss start t u Changed = (b : ℕ) × IsUnreachable start t b
-TellsLoss start t u Unchanged = u ≡ t
+abbrev pub ReportsLoss : Start → (t u : Tree) → IRStatus → Type 0
+ReportsLoss start t u Changed = (b : ℕ) × IsUnreachable start t b
+ReportsLoss start t u Unchanged = u ≡ t
 
 -- the block was unreachable, and is not any more
 abbrev pub Went : Start → (t u : Tree) → ℕ → Type 0
 Went start t u b = IsUnreachable start t b × (IsUnreachable start u b → ⊥)
 
--- of the regions rs those in `left` wait, and the others have lost their unreachable blocks
-pub record AreCleared (m : Meaning) (t u : Tree) (scope : Scope) (root : ℕ) (rs ks left : List ℕ) (status : IRStatus) : Type 0 where
+-- of the regions rs those in `left` are still to be done, and the others have lost their unreachable blocks
+pub record AreCleared (m : Meaning) (t u : Tree) (scope : RemovalScope) (root : ℕ) (rs ks left : List ℕ) (status : IRStatus) : Type 0 where
   pub stands : ScopeStands u scope
   pub holder : IsHolder u scope root
   pub first : IsTree t
@@ -39,4 +39,4 @@ pub record AreCleared (m : Meaning) (t u : Tree) (scope : Scope) (root : ℕ) (r
   pub links : KeepsLinks m t u
   pub among : (r : ℕ) → In r left → In r rs
   pub cleared : (r : ℕ) → In r rs → In r left ⊎ ((b : ℕ) → IsCutOff u r b → ⊥)
-  pub tells : TellsLoss (start_of scope) t u status
+  pub tells : ReportsLoss (start_of scope) t u status

@@ -8,7 +8,7 @@ use Rattle.pliron_theory.specs.Keeps.{KeepsAllRuns}
 use Rattle.pliron_block_laws.specs.Cutting.{AreCut}
 use Rattle.pliron_cfg.specs.Visited.{IsCutOff}
 
--- exactly the blocks that the entry did not reach are gone, and there were some
+-- exactly the blocks that the entry did not reach are erased, and there were some
 pub record LosesCutOff (m : Meaning) (t v : Tree) (region : ℕ) : Type 0 where
   pub blocks : List ℕ
   pub exact : (b : ℕ) → In b blocks ↔ IsCutOff t region b

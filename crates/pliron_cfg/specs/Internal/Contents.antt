@@ -1,4 +1,4 @@
--- What stands in blocks at any depth, as lists, and who uses it.
+-- What is in blocks at any depth, as lists, and who uses it.
 pub use Rattle.pliron_theory.specs.Edges.{blocks_directly_in}
 use Rattle.std.specs.Prelude.{ℕ, List, ◌++◌}
 use Rattle.std.specs.List.{flat_map}
@@ -12,7 +12,7 @@ contents_of t b = flat_map (λ k. preorder t k) (body_of t b)
 abbrev pub contents_in : Tree → List ℕ → List ℕ
 contents_in t bs = flat_map (λ b. contents_of t b) bs
 
--- the values that these operations and these blocks make
+-- the values that these operations and these blocks define
 abbrev pub values_made_by : Tree → (ops bs : List ℕ) → List ℕ
 values_made_by t ops bs = flat_map (λ k. results_of t k) ops ++ flat_map (λ b. arguments_of t b) bs
 

@@ -5,9 +5,9 @@ use Rattle.std.proofs.lemmas.List.{get_or-reverse, length-reverse, reverse-rever
 use Rattle.std.proofs.lemmas.Option.{slice_get-get_or, get_or_from_slice_get}
 use Rattle.pliron_core.specs.Tree.{Tree, first_of, layout_of}
 use Rattle.pliron_core.specs.Edges.{succs_of, preds_of}
-use Rattle.pliron_search.specs.Digraph.{Digraph, IsLawful, IsPath, Reaches}
-use Rattle.pliron_search.specs.Regions.{graph_of_region, IsLawfulRegion}
-use Rattle.pliron_search.specs.Internal.RegionLawful.{region_lawful}
+use Rattle.pliron_traversal.specs.Digraph.{Digraph, IsLawful, IsPath, Reaches}
+use Rattle.pliron_traversal.specs.Regions.{graph_of_region, IsLawfulRegion}
+use Rattle.pliron_traversal.specs.Internal.RegionLawful.{region_lawful}
 
 abbrev pub last_first : Tree → ℕ → Digraph ℕ
 last_first t region = record {

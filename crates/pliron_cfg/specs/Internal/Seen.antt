@@ -1,9 +1,9 @@
--- What waits while the search for visited regions goes on.
+-- The worklist of the search for visited regions.
 use Rattle.std.specs.Prelude.{◌≡◌, ◌⊎◌, ◌+◌, ℕ, List, map, length}
 use Rattle.pliron_core.specs.Lists.{In, IsDistinct}
 use Rattle.pliron_cfg.specs.declared.visits.Postponed.{Postponed}
 
--- these regions are seen too, and those that are seen for the first time wait
+-- these regions are seen too, and those that are seen for the first time are on the worklist
 pub record HasGrown (regions seen waiting seen' waiting' : List ℕ) : Type 0 where
   pub kept : (r : ℕ) → In r seen → In r seen'
   pub only : (r : ℕ) → In r seen' → In r seen ⊎ In r regions

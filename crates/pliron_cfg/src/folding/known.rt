@@ -22,7 +22,7 @@ fn nothing_known(alloc: Global, count: usize) -> Result<Vec<Option<AttrObj>>, Op
 }
 
 /// What folding the operation answers for its result at this index, with no operand known.
-fn answered<D: Dialect>(
+fn answer_without_constants<D: Dialect>(
     alloc: Global,
     op: Ptr<Operation>,
     index: usize,
@@ -57,7 +57,7 @@ fn known_of<D: Dialect>(
         Def::Argument(_, _) => Ok(None),
         Def::Result(op, index) => {
             if D::folds(op, ctx) {
-                answered::<D>(alloc, op, index, ctx)
+                answer_without_constants::<D>(alloc, op, index, ctx)
             } else {
                 Ok(None)
             }
@@ -67,7 +67,7 @@ fn known_of<D: Dialect>(
 
 /// The constants that are known of the operation's operands.
 ///
-/// Errors: want of memory. Cost: for each operand, what the dialect's answer for its maker costs.
+/// Errors: allocation failure. Cost: for each operand, what the dialect's answer for its definition costs.
 pub(crate) fn known_operands<D: Dialect>(
     alloc: Global,
     op: Ptr<Operation>,

@@ -1,8 +1,8 @@
 //! Merging one pair of blocks.
 ghost use Rattle.std.specs.Prelude.{◌≡◌, ℕ, Some, OnOk, OnErr, length, take, IsOkUnless};
-ghost use Rattle.pliron_core.specs.Tree.{IsBlock, arguments_of, block_holder_of, block_parent_of, body_of};
+ghost use Rattle.pliron_core.specs.Tree.{IsBlock, arguments_of, block_parent_operation_of, block_parent_of, body_of};
 ghost use Rattle.pliron_laws.specs.Linked.{IsWellLinked};
-ghost use Rattle.pliron_block_laws.specs.Pairs.{IsMergeable, all_moved_last, forwarded_uses, joined, merged};
+ghost use Rattle.pliron_block_laws.specs.Pairs.{IsMergeable, all_moved_last, forwarded_uses, after_joining, after_merging};
 ghost use Rattle.pliron_block_laws.specs.Joining.{JoinsWell};
 ghost use Rattle.pliron_cfg.specs.Internal.MergeSteps.{IsReadyToJoin};
 
@@ -11,7 +11,7 @@ use pliron_core::{BasicBlock, Context, Operation, Ptr, Rewriter};
 use pliron_laws::{Dialect, OptError, Room};
 use std::alloc::Global;
 
-// How many operations stand in the block.
+// How many operations are in the block.
 fn count_operations(block: Ptr<BasicBlock>, ctx: &Context) -> usize
     requires { IsBlock ctx.now.tree block }
     ensures { result ≡ length (body_of ctx.now.tree block) }
@@ -69,7 +69,7 @@ fn move_operations<R: Rewriter + Room>(
     }
 }
 
-// Joins the blocks of the pair, where nothing uses an argument of the second one.
+// Merges the blocks of the pair, where nothing uses an argument of the second one.
 fn join<D: Dialect, R: Rewriter + Room>(
     ctx: &mut Context,
     first: Ptr<BasicBlock>,
@@ -78,7 +78,7 @@ fn join<D: Dialect, R: Rewriter + Room>(
     rewriter: &mut R,
 )
     requires ready { IsReadyToJoin D.meaning ctx.old.tree first second jump }
-    ensures tree { ctx.new.tree ≡ joined ctx.old.tree first second jump }
+    ensures tree { ctx.new.tree ≡ after_joining ctx.old.tree first second jump }
     ensures well { JoinsWell D.meaning ctx.old.tree first second jump }
 {
     ctx.well_formed();
@@ -90,7 +90,7 @@ fn join<D: Dialect, R: Rewriter + Room>(
     ctx.well_formed();
 }
 
-// Merges the pair. Errors: want of memory, after which the uses of some first arguments are replaced and
+// Merges the pair. Errors: allocation failure, after which the uses of some first arguments are replaced and
 // nothing else changed.
 pub(crate) fn merge_pair<D: Dialect, R: Rewriter + Room>(
     alloc: Global,
@@ -99,8 +99,8 @@ pub(crate) fn merge_pair<D: Dialect, R: Rewriter + Room>(
     rewriter: &mut R,
 ) -> Result<(), OptError>
     requires pair { IsMergeable D.meaning ctx.old.tree pair.now.first pair.now.second pair.now.jump pair.now.values.items }
-    requires linked { (holder : ℕ) → block_holder_of ctx.old.tree pair.now.first ≡ Some holder → IsWellLinked D.meaning ctx.old.tree holder }
-    ensures ok { OnOk result (ctx.new.tree ≡ merged ctx.old.tree pair.now.first pair.now.second pair.now.jump pair.now.values.items) }
+    requires linked { (holder : ℕ) → block_parent_operation_of ctx.old.tree pair.now.first ≡ Some holder → IsWellLinked D.meaning ctx.old.tree holder }
+    ensures ok { OnOk result (ctx.new.tree ≡ after_merging ctx.old.tree pair.now.first pair.now.second pair.now.jump pair.now.values.items) }
     ensures well { OnOk result (JoinsWell D.meaning (forwarded_uses ctx.old.tree
         (arguments_of ctx.old.tree pair.now.second) pair.now.values.items) pair.now.first pair.now.second pair.now.jump) }
     ensures refused { OnErr result ((n : ℕ) × (ctx.new.tree ≡ forwarded_uses ctx.old.tree (take n

@@ -1,6 +1,6 @@
 //! Finding pairs of blocks that may be merged.
 ghost use Rattle.std.specs.Prelude.{◌≡◌, ◌∷◌, [], ◌↔◌, ℕ, List, Some, None, IfOk, MatchOption, IsTrue, length, IsOkUnless};
-ghost use Rattle.pliron_core.specs.Tree.{In, IsBlock, IsDefined, IsLive, arguments_of, block_holder_of, first_of, layout_of, parent_of, successors_of};
+ghost use Rattle.pliron_core.specs.Tree.{In, IsBlock, IsDefined, IsLive, arguments_of, block_parent_operation_of, first_of, layout_of, parent_of, successors_of};
 ghost use Rattle.pliron_core.specs.Edges.{preds_of};
 ghost use Rattle.pliron_laws.specs.Linked.{EdgesLast};
 ghost use Rattle.pliron_block_laws.specs.Pairs.{IsMergeable};
@@ -36,12 +36,12 @@ fn is_entry(block: Ptr<BasicBlock>, ctx: &Context) -> bool
     block.get_prev(ctx).is_none()
 }
 
-// Whether the block has one predecessor, if the jump leads to it alone. Since edges stand last, one
-// predecessor is one use then.
+// Whether the block has one predecessor, if the jump leads to it alone. Since edges are last in their blocks,
+// one predecessor is one use then.
 fn has_no_other_way(block: Ptr<BasicBlock>, jump: Ptr<Operation>, ctx: &Context) -> bool
     requires block { IsBlock ctx.now.tree block }
     requires goes { successors_of ctx.now.tree jump ≡ block ∷ [] }
-    requires edges { (holder : ℕ) → block_holder_of ctx.now.tree block ≡ Some holder → EdgesLast ctx.now.tree holder }
+    requires edges { (holder : ℕ) → block_parent_operation_of ctx.now.tree block ≡ Some holder → EdgesLast ctx.now.tree holder }
     ensures { IsTrue result ↔ (length (preds_of ctx.now.tree block) ≡ 1) }
 {
     ctx.well_formed();
@@ -51,7 +51,7 @@ fn has_no_other_way(block: Ptr<BasicBlock>, jump: Ptr<Operation>, ctx: &Context)
 // The jump that ends the block, and the block that it leads to alone, where nothing else leads.
 fn only_way<D: Dialect>(first: Ptr<BasicBlock>, ctx: &Context) -> Option<Way>
     requires block { IsBlock ctx.now.tree first }
-    requires edges { (holder : ℕ) → block_holder_of ctx.now.tree first ≡ Some holder → EdgesLast ctx.now.tree holder }
+    requires edges { (holder : ℕ) → block_parent_operation_of ctx.now.tree first ≡ Some holder → EdgesLast ctx.now.tree holder }
     ensures { MatchOption result ((b jump : ℕ) → IsOnlyWay D.meaning ctx.now.tree first b jump →
         ⊥) (λ way. IsOnlyWay D.meaning ctx.now.tree first way.second way.jump) }
 {
@@ -92,7 +92,7 @@ pub(crate) fn find_pair<D: Dialect>(
     ctx: &Context,
 ) -> Result<Option<Pair>, OptError>
     requires block { IsBlock ctx.now.tree first }
-    requires edges { (holder : ℕ) → block_holder_of ctx.now.tree first ≡ Some holder → EdgesLast ctx.now.tree holder }
+    requires edges { (holder : ℕ) → block_parent_operation_of ctx.now.tree first ≡ Some holder → EdgesLast ctx.now.tree holder }
     ensures ok { IfOk result (λ found. MatchOption found ((b jump : ℕ) (values : List ℕ) → IsMergeable D.meaning ctx.now.tree first b jump values →
         ⊥) (λ pair. IsMergeable D.meaning ctx.now.tree first pair.second pair.jump pair.values.items × (pair.first ≡ first))) }
     ensures memory { IsOkUnless result OptError.Memory }

@@ -1,4 +1,4 @@
-//! What stands in blocks, at any depth.
+//! What is in blocks, at any depth.
 ghost use Rattle.std.specs.Prelude.{◌≡◌, ◌++◌, ◌↔◌, ℕ, IfOk, OnOk, IsOkUnless};
 ghost use Rattle.std.specs.List.{flat_map};
 ghost use Rattle.pliron_core.specs.Tree.{In, IsDistinct, IsLive, IsBlock, IsRegion, results_of, layout_of, arguments_of};
@@ -110,7 +110,7 @@ fn push_arguments(
     Ok(())
 }
 
-// The values that these operations and these blocks make.
+// The values that these operations and these blocks define.
 pub(crate) fn values_made(
     alloc: Global,
     ctx: &Context,

@@ -1,4 +1,4 @@
-//! Blocks go, whatever they use of one another.
+//! Blocks are erased, whatever they use of one another.
 ghost use Rattle.std.specs.Prelude.{◌≡◌, ℕ, Some};
 ghost use Rattle.pliron_core.specs.Tree.{In, IsBlock, IsDistinct, block_parent_of};
 ghost use Rattle.pliron_block_laws.specs.Cutting.{ErasesAll};
@@ -17,7 +17,7 @@ pub(crate) fn drop_uses(ctx: &mut Context, blocks: &[Ptr<BasicBlock>])
     }
 }
 
-// The blocks of the region are erased, one after the other, where nothing names what they hold.
+// The blocks of the region are erased, one after the other, where nothing names their contents.
 pub(crate) fn erase_each<R: Rewriter>(
     ctx: &mut Context,
     region: Ptr<Region>,

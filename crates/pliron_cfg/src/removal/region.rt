@@ -3,7 +3,7 @@ ghost use Rattle.std.specs.Prelude.{◌≡◌, ◌↔◌, ◌⊎◌, ℕ, Some, 
 ghost use Rattle.pliron_core.specs.Tree.{In, IsDistinct, block_parent_of};
 ghost use Rattle.pliron_laws.specs.declared.fault.OptError.TheVariants.{LiveUse, Memory};
 ghost use Rattle.pliron_theory.specs.Keeps.{KeepsAllRuns};
-ghost use Rattle.pliron_search.specs.Regions.{IsLawfulRegion};
+ghost use Rattle.pliron_traversal.specs.Regions.{IsLawfulRegion};
 ghost use Rattle.pliron_block_laws.specs.Cutting.{AreCut};
 ghost use Rattle.pliron_block_laws.specs.Leaving.{BlocksMayGo};
 ghost use Rattle.pliron_cfg.specs.Visited.{IsReachedIn};
@@ -19,7 +19,7 @@ use pliron_core::{BasicBlock, Context, IRStatus, Ptr, Region, Rewriter};
 use pliron_laws::{Dialect, OptError, Room};
 use std::alloc::Global;
 
-// The blocks go, whatever they use of one another. Takes no memory in the tree.
+// The blocks are erased, whatever they use of one another. Takes no memory in the tree.
 fn erase_blocks<D: Dialect, R: Rewriter>(
     ctx: &mut Context,
     region: Ptr<Region>,
@@ -41,7 +41,7 @@ fn erase_blocks<D: Dialect, R: Rewriter>(
     ctx.well_formed();
 }
 
-// The blocks of the region that are not reached go, all in one rewrite.
+// The blocks of the region that are not reached are erased, all in one rewrite.
 pub(crate) fn clear_region<D: Dialect, R: Rewriter + Room>(
     alloc: Global,
     ctx: &mut Context,

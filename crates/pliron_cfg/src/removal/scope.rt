@@ -1,4 +1,4 @@
-//! What a call looks into.
+//! What a call visits.
 ghost use Rattle.std.specs.Prelude.{ℕ, IfOk, IsOkUnless};
 ghost use Rattle.pliron_laws.specs.Linked.{EdgesLast};
 ghost use Rattle.pliron_cfg.specs.Visits.{AreVisits};
@@ -11,14 +11,14 @@ use std::alloc::Global;
 
 // The regions of an operation, those of the operations of a block, or one region.
 #[derive(Clone, Copy)]
-pub(crate) enum Scope {
+pub(crate) enum RemovalScope {
     Operation(Ptr<Operation>),
     Block(Ptr<BasicBlock>),
     Region(Ptr<Region>),
 }
 
-impl Scope {
-    // What a call looks at there.
+impl RemovalScope {
+    // The regions and blocks that a call visits there.
     pub(crate) fn visits(&self, alloc: Global, ctx: &Context) -> Result<Visits, OptError>
         requires stands { ScopeStands ctx.now.tree self.now }
         requires edges { (holder : ℕ) → IsHolder ctx.now.tree self.now holder → EdgesLast ctx.now.tree holder }
@@ -26,9 +26,9 @@ impl Scope {
         ensures memory { IsOkUnless result OptError.Memory }
     {
         match *self {
-            Scope::Operation(op) => visits_inside_op(alloc, ctx, op),
-            Scope::Block(block) => visits_inside_block(alloc, ctx, block),
-            Scope::Region(region) => visits_inside_region(alloc, ctx, region),
+            RemovalScope::Operation(op) => visits_inside_op(alloc, ctx, op),
+            RemovalScope::Block(block) => visits_inside_block(alloc, ctx, block),
+            RemovalScope::Region(region) => visits_inside_region(alloc, ctx, region),
         }
     }
 }

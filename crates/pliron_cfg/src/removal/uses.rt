@@ -1,4 +1,4 @@
-//! Who uses what is made in blocks that are to go.
+//! Who uses what is defined in blocks that are to be erased.
 ghost use Rattle.std.specs.Prelude.{◌≡◌, ◌⊎◌, ℕ, OnOk, IfErr, IsOkUnless};
 ghost use Rattle.pliron_core.specs.Tree.{In, IsBlock, IsDefined};
 ghost use Rattle.pliron_laws.specs.declared.fault.OptError.TheVariants.{LiveUse, Memory};
@@ -47,8 +47,8 @@ pub(crate) fn check_values(
     Ok(())
 }
 
-// What is made in the blocks is used in them alone. Linear in what stands in the blocks and in the uses of
-// what is made there, with one table look-up for each use.
+// What is defined in the blocks is used in them alone. Linear in what is in the blocks and in the uses of what
+// is defined there, with one table look-up for each use.
 pub(crate) fn check_uses(
     alloc: Global,
     ctx: &Context,

@@ -1,11 +1,11 @@
 //! The blocks of a region as a graph, with the last successor of a block first.
-ghost use Rattle.pliron_search.specs.Regions.{IsLawfulRegion};
-ghost use Rattle.pliron_search.specs.Internal.RegionLawful.{same_key};
+ghost use Rattle.pliron_traversal.specs.Regions.{IsLawfulRegion};
+ghost use Rattle.pliron_traversal.specs.Internal.RegionLawful.{same_key};
 ghost use Rattle.pliron_cfg.specs.Internal.LastFirst.{last_first, last_first_lawful};
 
 use pliron_core::{BasicBlock, Context, Ptr, Region};
 use pliron_laws::OptError;
-use pliron_search::ControlFlowGraph;
+use pliron_traversal::ControlFlowGraph;
 use std::alloc::Global;
 
 // The graph of the region, but for the order in which a search takes the successors of a block.

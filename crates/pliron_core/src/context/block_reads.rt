@@ -7,7 +7,7 @@ use super::Context;
 use crate::keys::{BasicBlock, Operation, Ptr, Region, Value};
 
 impl Ptr<BasicBlock> {
-    /// Whether the block stands: it was made in this context and not erased since. Cost: constant.
+    /// Whether the block is live: it was created in this context and not erased since. Cost: constant.
     pub fn is_live(self, ctx: &Context) -> bool
         ensures { IsTrue result ↔ IsBlock ctx.now.tree self }
     {
@@ -18,7 +18,7 @@ impl Ptr<BasicBlock> {
         }
     }
 
-    /// How many arguments the block has. Asks that the block stands (`is_live` tests it). Cost: constant.
+    /// How many arguments the block has. Asks that the block is live (`is_live` tests it). Cost: constant.
     pub fn num_argument(self, ctx: &Context) -> usize
         requires { IsBlock ctx.now.tree self }
         ensures { result ≡ length (arguments_of ctx.now.tree self) }
@@ -26,7 +26,7 @@ impl Ptr<BasicBlock> {
         ctx.arguments.len(self)
     }
 
-    /// The argument at this index. Asks that the block stands and has as many (`is_live` and `num_argument`
+    /// The argument at this index. Asks that the block is live and has as many (`is_live` and `num_argument`
     /// test it). Cost: constant, and a logarithm where the block has an index (`index_arguments`).
     pub fn get_argument(self, ctx: &Context, i: usize) -> Value
         requires live { IsBlock ctx.now.tree self }
@@ -38,7 +38,7 @@ impl Ptr<BasicBlock> {
         ctx.arguments.get(self, i)
     }
 
-    /// The region that has the block, which is one. Asks that the block stands (`is_live` tests it). Cost:
+    /// The region that has the block, which is one. Asks that the block is live (`is_live` tests it). Cost:
     /// constant.
     pub fn get_parent_region(self, ctx: &Context) -> Option<Ptr<Region>>
         requires { IsBlock ctx.now.tree self }
@@ -49,7 +49,7 @@ impl Ptr<BasicBlock> {
         ctx.layout.owner(self.index()).map(|key| Ptr::new(key))
     }
 
-    /// The block's first operation, if it has one. Asks that the block stands (`is_live` tests it). Cost:
+    /// The block's first operation, if it has one. Asks that the block is live (`is_live` tests it). Cost:
     /// constant.
     pub fn get_head(self, ctx: &Context) -> Option<Ptr<Operation>>
         requires { IsBlock ctx.now.tree self }
@@ -60,7 +60,7 @@ impl Ptr<BasicBlock> {
         ctx.order.head(self.index()).map(|key| Ptr::new(key))
     }
 
-    /// The block's last operation, if it has one. Asks that the block stands (`is_live` tests it). Cost:
+    /// The block's last operation, if it has one. Asks that the block is live (`is_live` tests it). Cost:
     /// constant.
     pub fn get_tail(self, ctx: &Context) -> Option<Ptr<Operation>>
         requires { IsBlock ctx.now.tree self }
@@ -71,7 +71,7 @@ impl Ptr<BasicBlock> {
         ctx.order.tail(self.index()).map(|key| Ptr::new(key))
     }
 
-    /// The block directly before this one in its region, if there is one. Asks that the block stands
+    /// The block directly before this one in its region, if there is one. Asks that the block is live
     /// (`is_live` tests it). Cost: constant.
     pub fn get_prev(self, ctx: &Context) -> Option<Ptr<BasicBlock>>
         requires { IsBlock ctx.now.tree self }
@@ -82,8 +82,8 @@ impl Ptr<BasicBlock> {
         ctx.layout.prev(self.index()).map(|key| Ptr::new(key))
     }
 
-    /// The block directly after this one in its region, if there is one. Asks that the block stands
-    /// (`is_live` tests it). Cost: constant.
+    /// The block directly after this one in its region, if there is one. Asks that the block is live (`is_live`
+    /// tests it). Cost: constant.
     pub fn get_next(self, ctx: &Context) -> Option<Ptr<BasicBlock>>
         requires { IsBlock ctx.now.tree self }
         ensures next { result ≡ next_block_of ctx.now.tree self }

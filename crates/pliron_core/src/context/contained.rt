@@ -1,17 +1,17 @@
-//! Whether an operation holds a block, and whether what stands in an operation or in a block is used
+//! Whether an operation holds a block, and whether what is defined in an operation or in a block is used
 //! outside it. Takes no memory.
 ghost use Rattle.std.specs.Prelude.{◌≡◌, Some, IsTrue, ◌↔◌};
-ghost use Rattle.pliron_core.specs.Tree.{IsLive, IsBlock, IsRegion, IsDefined, IsWithin, HoldsBlock, block_holder_of};
+ghost use Rattle.pliron_core.specs.Tree.{IsLive, IsBlock, IsRegion, IsDefined, IsWithin, HoldsBlock, block_parent_operation_of};
 ghost use Rattle.pliron_core.specs.Erased.{IsSelfContained, StandsIn, IsSelfContainedBlock};
 ghost use Rattle.pliron_core.specs.Contained.{IsInScope, IsValueKept, IsTargetKept, IsBlockKept, IsRegionKept, IsOperationKept, IsPreorderKept, IsBodyKept};
 
 use super::Context;
 use crate::keys::{BasicBlock, Operation, Ptr, Region, Value};
 
-// The operation that holds the block directly.
-fn block_holder(ctx: &Context, block: Ptr<BasicBlock>) -> Ptr<Operation>
+// The parent operation of the block.
+fn block_parent_operation(ctx: &Context, block: Ptr<BasicBlock>) -> Ptr<Operation>
     requires { IsBlock ctx.now.tree block }
-    ensures holder { block_holder_of ctx.now.tree block ≡ Some result }
+    ensures holder { block_parent_operation_of ctx.now.tree block ≡ Some result }
     ensures live { IsLive ctx.now.tree result }
 {
     match block.get_parent_region(ctx) {
@@ -20,7 +20,7 @@ fn block_holder(ctx: &Context, block: Ptr<BasicBlock>) -> Ptr<Operation>
     }
 }
 
-// Whether the operation is `root` or stands inside it. The cost is the depth of the operation.
+// Whether the operation is `root` or is inside it. The cost is the depth of the operation.
 #[inline(always)]
 fn is_within(ctx: &Context, root: Ptr<Operation>, op: Ptr<Operation>) -> bool
     requires { IsLive ctx.now.tree op }
@@ -29,7 +29,7 @@ fn is_within(ctx: &Context, root: Ptr<Operation>, op: Ptr<Operation>) -> bool
     op == root || op.is_inside(root, ctx)
 }
 
-// Whether the operation stands in the block, at any depth. The cost is the depth of the operation.
+// Whether the operation is in the block, at any depth. The cost is the depth of the operation.
 fn stands_in(ctx: &Context, block: Ptr<BasicBlock>, op: Ptr<Operation>) -> bool
     requires { IsLive ctx.now.tree op }
     ensures { IsTrue result ↔ StandsIn ctx.now.tree block op }
@@ -47,7 +47,7 @@ fn stands_in(ctx: &Context, block: Ptr<BasicBlock>, op: Ptr<Operation>) -> bool
     false
 }
 
-// Where what is looked at is to be used: within an operation, or in a block.
+// Where uses of what is visited must lie: within an operation, or in a block.
 #[derive(Clone, Copy)]
 enum Scope {
     Inside(Ptr<Operation>),
@@ -55,7 +55,7 @@ enum Scope {
 }
 
 impl Scope {
-    // Whether the operation stands in the scope. The cost is the depth of the operation.
+    // Whether the operation is in the scope. The cost is the depth of the operation.
     #[inline(always)]
     fn has(&self, op: Ptr<Operation>, ctx: &Context) -> bool
         requires { IsLive ctx.now.tree op }
@@ -163,7 +163,7 @@ impl Scope {
         true
     }
 
-    // The same for all that stands in the block.
+    // The same for all that is in the block.
     fn keeps_body(&self, block: Ptr<BasicBlock>, ctx: &Context) -> bool
         requires { IsBlock ctx.now.tree block }
         ensures { IsTrue result ↔ IsBodyKept ctx.now.tree self.now block }
@@ -181,19 +181,19 @@ impl Scope {
 }
 
 impl Ptr<Operation> {
-    /// Whether the operation holds the block, at any depth. Asks that both stand (`is_live` tests it). Cost:
+    /// Whether the operation holds the block, at any depth. Asks that both are live (`is_live` tests it). Cost:
     /// the depth of the block.
     pub fn holds_block(self, block: Ptr<BasicBlock>, ctx: &Context) -> bool
         requires live { IsLive ctx.now.tree self }
         requires block { IsBlock ctx.now.tree block }
         ensures { IsTrue result ↔ HoldsBlock ctx.now.tree self block }
     {
-        is_within(ctx, self, block_holder(ctx, block))
+        is_within(ctx, self, block_parent_operation(ctx, block))
     }
 
-    /// Whether no value that is made by this operation or inside it, and no block in it, is used outside it.
+    /// Whether no value that is defined by this operation or inside it, and no block in it, is used outside it.
     ///
-    /// Asks that the operation stands (`is_live` tests it). Cost: one walk over the operation and its
+    /// Asks that the operation is live (`is_live` tests it). Cost: one walk over the operation and its
     /// contents, which stops at the first use outside: a step for each operation, region, block and value
     /// there, and for each use of such a block or value as many steps as the operation that uses it is deep.
     pub fn is_self_contained(self, ctx: &Context) -> bool
@@ -208,7 +208,7 @@ impl Ptr<Operation> {
 impl Ptr<BasicBlock> {
     /// Whether the block, its arguments, and the values and blocks inside it are used nowhere outside it.
     ///
-    /// Asks that the block stands (`is_live` tests it). Cost: one walk over the block and its contents, which
+    /// Asks that the block is live (`is_live` tests it). Cost: one walk over the block and its contents, which
     /// stops at the first use outside: a step for each operation, region, block and value there, and for each
     /// use of such a block or value as many steps as the operation that uses it is deep.
     pub fn is_self_contained(self, ctx: &Context) -> bool

@@ -1,21 +1,21 @@
-//! Making operations and blocks.
+//! Creating operations and blocks.
 ghost use Rattle.std.specs.Prelude.{◌≡◌, ◌+◌, ◌<◌, ◌≤◌, ◌^◌, ◌++◌, [], length, map, replicate, IfOk, OnOk, OnErr, vec_len, vec_capacity};
 ghost use Rattle.std.specs.List.{range_with_len};
 ghost use Rattle.pliron_core.specs.Tree.{IsRegion};
-ghost use Rattle.pliron_core.specs.Writes.{created, block_created, region_slots};
+ghost use Rattle.pliron_core.specs.Writes.{after_creating, block_created, region_slots};
 
 use super::{Context, NoMemory, OperationEntry, RegionSlot};
 use crate::attrs::Head;
+use crate::inline_list::InlineList;
 use crate::keys::{BasicBlock, Operation, Ptr, Region};
 use crate::links::Links;
-use crate::row::Row;
 use std::alloc::Global;
 
 impl Operation {
     /// A new operation in no block, with so many new results and so many new, empty regions, and
     /// without operands and successors.
     ///
-    /// Errors: want of memory, which changes nothing.
+    /// Errors: allocation failure, which changes nothing.
     /// Cost: one step for each result and each region, amortised.
     #[inline(always)]
     pub fn create(
@@ -25,7 +25,7 @@ impl Operation {
         regions: usize,
     ) -> Result<Ptr<Operation>, NoMemory>
         ensures key { IfOk result (λ op. op ≡ length ctx.old.tree.operations) }
-        ensures ok { OnOk result (ctx.new.tree ≡ created ctx.old.tree head results regions) }
+        ensures ok { OnOk result (ctx.new.tree ≡ after_creating ctx.old.tree head results regions) }
         ensures block_uses { OnOk result (ctx.new.block_uses ≡ ctx.old.block_uses) }
         ensures err { OnErr result (ctx.new ≡ ctx.old) }
     {
@@ -56,7 +56,7 @@ impl Operation {
 impl BasicBlock {
     /// A new block with so many new arguments and without operations, the last of the region.
     ///
-    /// Asks that the region stands. Errors: want of memory, which changes nothing.
+    /// Asks that the region is live. Errors: allocation failure, which changes nothing.
     /// Cost: one step for each argument, amortised.
     #[inline(always)]
     pub fn create(
@@ -88,11 +88,15 @@ impl BasicBlock {
 // So many regions, by rising key.
 #[tactic(auto, using(crate::proofs::GrownLemmas::range_more))]
 #[inline(always)]
-fn region_keys(alloc: Global, first: usize, count: usize) -> Result<Row<Ptr<Region>>, NoMemory>
+fn region_keys(
+    alloc: Global,
+    first: usize,
+    count: usize,
+) -> Result<InlineList<Ptr<Region>>, NoMemory>
     requires { first + count < 2 ^ 64 }
     ensures { IfOk result (λ row. row ≡ range_with_len first count) }
 {
-    let mut row = Row::new(alloc);
+    let mut row = InlineList::new(alloc);
     for i in 0..count {
         row.push(Ptr::new(first + i))?;
     }

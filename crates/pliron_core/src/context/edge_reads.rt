@@ -1,4 +1,8 @@
 //! What can be read of uses, and of the edges between blocks.
+//!
+//! A use counts as a predecessor if no earlier edge of the same operation leads to the block; that test goes
+//! over the shorter of two lists, the operation's earlier successors or the block's uses. `get_pred(i)`
+//! bisects, since blocks of a region are in the order of their keys.
 ghost use Rattle.std.specs.Prelude.{◌≡◌, ℕ, ◌<◌, length, filter, slice_get, nat_lt, Some, IsTrue, ◌↔◌, MatchOption};
 ghost use Rattle.pliron_core.specs.Tree.{IsLive, IsBlock, IsDefined, successors_of, uses_of};
 ghost use Rattle.pliron_core.specs.Edges.{succs_of, preds_of};
@@ -9,7 +13,7 @@ use crate::keys::{BasicBlock, Operation, Ptr, Value};
 use crate::uses::Use;
 
 impl Value {
-    /// How many uses the value has. Asks that the value stands (`is_live` tests it). Cost: constant.
+    /// How many uses the value has. Asks that the value is live (`is_live` tests it). Cost: constant.
     pub fn num_use(self, ctx: &Context) -> usize
         requires { IsDefined ctx.now.tree self }
         ensures { result ≡ length (uses_of ctx.now.value_uses self) }
@@ -18,8 +22,8 @@ impl Value {
     }
 
     /// The use at this index: an operation, and the index among its operands. The order of uses is open. Asks
-    /// that the value stands and has as many (`is_live` and `num_use` test it). Cost: constant, and a logarithm
-    /// where that operation has an index (`index_operands`).
+    /// that the value is live and has as many (`is_live` and `num_use` test it). Cost: constant, and a
+    /// logarithm where that operation has an index (`index_operands`).
     pub fn get_use(self, ctx: &Context, i: usize) -> (Ptr<Operation>, usize)
         requires live { IsDefined ctx.now.tree self }
         requires index { i < length (uses_of ctx.now.value_uses self) }
@@ -33,7 +37,7 @@ impl Value {
 }
 
 impl Ptr<BasicBlock> {
-    /// How many uses the block has. Asks that the block stands (`is_live` tests it). Cost: constant.
+    /// How many uses the block has. Asks that the block is live (`is_live` tests it). Cost: constant.
     pub fn num_use(self, ctx: &Context) -> usize
         requires { IsBlock ctx.now.tree self }
         ensures { result ≡ length (uses_of ctx.now.block_uses self) }
@@ -42,7 +46,7 @@ impl Ptr<BasicBlock> {
     }
 
     /// The use at this index: an operation, and the index among its successors. The order of uses is open.
-    /// Asks that the block stands and has as many (`is_live` and `num_use` test it). Cost: constant.
+    /// Asks that the block is live and has as many (`is_live` and `num_use` test it). Cost: constant.
     pub fn get_use(self, ctx: &Context, i: usize) -> (Ptr<Operation>, usize)
         requires live { IsBlock ctx.now.tree self }
         requires index { i < length (uses_of ctx.now.block_uses self) }
@@ -54,7 +58,7 @@ impl Ptr<BasicBlock> {
         (Ptr::new(user), place)
     }
 
-    /// How many successors the block has: those of its last operation. Asks that the block stands (`is_live`
+    /// How many successors the block has: those of its last operation. Asks that the block is live (`is_live`
     /// tests it). Cost: constant.
     pub fn num_succ(self, ctx: &Context) -> usize
         requires { IsBlock ctx.now.tree self }
@@ -66,7 +70,7 @@ impl Ptr<BasicBlock> {
         }
     }
 
-    /// The successor at this index. Asks that the block stands and has as many (`is_live` and `num_succ` test
+    /// The successor at this index. Asks that the block is live and has as many (`is_live` and `num_succ` test
     /// it). Cost: constant.
     pub fn get_succ(self, ctx: &Context, i: usize) -> Ptr<BasicBlock>
         requires live { IsBlock ctx.now.tree self }
@@ -83,7 +87,7 @@ impl Ptr<BasicBlock> {
     /// How many predecessors the block has: blocks of its region whose last operation has it as a successor,
     /// each once.
     ///
-    /// Asks that the block stands (`is_live` tests it). Cost: one pass over the block's uses, where each use
+    /// Asks that the block is live (`is_live` tests it). Cost: one pass over the block's uses, where each use
     /// looks back to the place before it of the same operation that names this block, and no further than the
     /// block has uses.
     pub fn num_pred(self, ctx: &Context) -> usize
@@ -96,9 +100,9 @@ impl Ptr<BasicBlock> {
 
     /// The predecessor at this index, in the region's order.
     ///
-    /// Asks that the block stands and has as many (`is_live` and `num_pred` test it). Cost: as the blocks of
-    /// a region stand in the order of their keys, this is a bisection on the key, at most 64 times the cost
-    /// of `num_pred`.
+    /// Asks that the block is live and has as many (`is_live` and `num_pred` test it). Cost: as the blocks of a
+    /// region are in the order of their keys, this is a bisection on the key, at most 64 times the cost of
+    /// `num_pred`.
     pub fn get_pred(self, ctx: &Context, i: usize) -> Ptr<BasicBlock>
         requires live { IsBlock ctx.now.tree self }
         requires index { i < length (preds_of ctx.now.tree self) }
@@ -119,7 +123,7 @@ impl Ptr<BasicBlock> {
         Ptr::new(low)
     }
 
-    /// Whether the block has exactly one predecessor. Asks that the block stands (`is_live` tests it). Cost:
+    /// Whether the block has exactly one predecessor. Asks that the block is live (`is_live` tests it). Cost:
     /// one pass over the block's uses, which stops at the second predecessor.
     pub fn has_single_predecessor(self, ctx: &Context) -> bool
         requires { IsBlock ctx.now.tree self }

@@ -1,7 +1,7 @@
 //! Operands, successors, attributes and arguments.
 ghost use Rattle.std.specs.Prelude.{◌≡◌, ◌+◌, ◌<◌, ◌≤◌, [], length, slice_get, OnOk, OnErr, IfSome, IsOk};
 ghost use Rattle.pliron_core.specs.Tree.{IsLive, IsBlock, IsDefined, In, operands_of, head_of, arguments_of, uses_of};
-ghost use Rattle.pliron_core.specs.Writes.{operand_pushed, successor_pushed, operand_removed, attribute_set, with_attribute, argument_removed, replaced};
+ghost use Rattle.pliron_core.specs.Writes.{operand_pushed, successor_pushed, operand_removed, attribute_set, with_attribute, argument_removed, after_replacing};
 
 use super::{Context, NoMemory};
 use crate::attrs::{AttrObj, Head};
@@ -10,8 +10,8 @@ use crate::keys::{BasicBlock, Operation, Ptr, Value};
 impl Operation {
     /// One more operand, at the end.
     ///
-    /// Asks that the operation and the value stand. Errors: want of memory, which changes nothing.
-    /// Cost: amortised constant. An index of the operands goes first, as by `settle_operands`.
+    /// Asks that the operation and the value are live. Errors: allocation failure, which changes nothing.
+    /// Cost: amortised constant. An index of the operands is dropped first, as by `settle_operands`.
     #[inline(always)]
     pub fn push_operand(ctx: &mut Context, op: Ptr<Operation>, value: Value) -> Result<(), NoMemory>
         requires live { IsLive ctx.old.tree op }
@@ -26,7 +26,7 @@ impl Operation {
 
     /// One more successor, at the end.
     ///
-    /// Asks that the operation and the block stand. Errors: want of memory, which changes nothing.
+    /// Asks that the operation and the block are live. Errors: allocation failure, which changes nothing.
     /// Cost: amortised constant.
     #[inline(always)]
     pub fn push_successor(
@@ -44,10 +44,10 @@ impl Operation {
         Ok(())
     }
 
-    /// The operand at this index goes, and is the answer. The later ones move down by one place.
+    /// Removes the operand at this index, and answers it. The later ones move down by one place.
     ///
-    /// Asks that the operation stands and has such an operand. Takes no memory.
-    /// Cost: the number of operands between it and the place where the operation lost one last, and
+    /// Asks that the operation is live and has such an operand. Takes no memory.
+    /// Cost: the number of operands between it and the place of the last removal from this operation, and
     /// constant for the first; amortised, a constant and at most twice the number of operands after it. With an
     /// index (`index_operands`) it is a logarithm.
     pub fn remove_operand(ctx: &mut Context, op: Ptr<Operation>, i: usize) -> Value
@@ -60,11 +60,11 @@ impl Operation {
         Value::new(ctx.operands.remove(op.index(), i))
     }
 
-    /// Gets ready for the loss of operands at many places: where the operation has more than a few, it gets an
+    /// Gets ready for removals of operands at many places: where the operation has more than a few, it gets an
     /// index of them. Until `settle_operands`, or until it gets another operand, each removal and each read of
-    /// one then costs a logarithm of their number, wherever it stands.
+    /// one then costs a logarithm of their number, at whatever index.
     ///
-    /// Asks that the operation stands. Errors: want of memory. The tree is as it was in any case.
+    /// Asks that the operation is live. Errors: allocation failure. The tree is as it was in any case.
     /// Cost: the number of operands, and constant where there is an index already.
     pub fn index_operands(ctx: &mut Context, op: Ptr<Operation>) -> Result<(), NoMemory>
         requires { IsLive ctx.old.tree op }
@@ -75,9 +75,9 @@ impl Operation {
         Ok(())
     }
 
-    /// The index of the operands goes, if there is one: reads cost a constant again. Takes no memory.
+    /// Drops the index of the operands, if there is one: reads cost a constant again. Takes no memory.
     ///
-    /// Asks that the operation stands. The tree is as it was. Cost: the number of operands when the index was
+    /// Asks that the operation is live. The tree is as it was. Cost: the number of operands when the index was
     /// made, and constant where there is none.
     pub fn settle_operands(ctx: &mut Context, op: Ptr<Operation>)
         requires { IsLive ctx.old.tree op }
@@ -86,9 +86,9 @@ impl Operation {
         ctx.operands.settle(op.index());
     }
 
-    /// The attribute at this index is replaced.
+    /// Replaces the attribute at this index.
     ///
-    /// Asks that the operation stands and has such an attribute. Takes no memory. Cost: constant.
+    /// Asks that the operation is live and has such an attribute. Takes no memory. Cost: constant.
     pub fn set_attribute(ctx: &mut Context, op: Ptr<Operation>, i: usize, attr: AttrObj)
         requires live { IsLive ctx.old.tree op }
         requires index { IfSome (head_of ctx.old.tree op) (λ head. i < length head.attrs) }
@@ -111,7 +111,7 @@ fn set_head_attribute(head: &mut Option<Head>, i: usize, attr: AttrObj)
 pub(crate) fn replace_uses(ctx: &mut Context, old: Value, new: Value) -> Result<(), NoMemory>
     requires old { IsDefined ctx.old.tree old }
     requires new { IsDefined ctx.old.tree new }
-    ensures ok { OnOk result (ctx.new.tree ≡ replaced ctx.old.tree old new) }
+    ensures ok { OnOk result (ctx.new.tree ≡ after_replacing ctx.old.tree old new) }
     ensures block_uses { ctx.new.block_uses ≡ ctx.old.block_uses }
     ensures unused { uses_of ctx.old.value_uses new ≡ [] → IsOk result }
     ensures err { OnErr result (ctx.new ≡ ctx.old) }
@@ -125,11 +125,11 @@ pub(crate) fn replace_uses(ctx: &mut Context, old: Value, new: Value) -> Result<
 }
 
 impl BasicBlock {
-    /// Gets ready for the loss of arguments at many places: where the block has more than a few, it gets an
+    /// Gets ready for removals of arguments at many places: where the block has more than a few, it gets an
     /// index of them. Until `settle_arguments`, each removal and each read of one then costs a logarithm of
-    /// their number, wherever it stands.
+    /// their number, at whatever index.
     ///
-    /// Asks that the block stands. Errors: want of memory. The tree is as it was in any case.
+    /// Asks that the block is live. Errors: allocation failure. The tree is as it was in any case.
     /// Cost: the number of arguments, and constant where there is an index already.
     pub fn index_arguments(ctx: &mut Context, block: Ptr<BasicBlock>) -> Result<(), NoMemory>
         requires { IsBlock ctx.old.tree block }
@@ -140,9 +140,9 @@ impl BasicBlock {
         Ok(())
     }
 
-    /// The index of the arguments goes, if there is one: reads cost a constant again. Takes no memory.
+    /// Drops the index of the arguments, if there is one: reads cost a constant again. Takes no memory.
     ///
-    /// Asks that the block stands. The tree is as it was. Cost: the number of arguments when the index was
+    /// Asks that the block is live. The tree is as it was. Cost: the number of arguments when the index was
     /// made, and constant where there is none.
     pub fn settle_arguments(ctx: &mut Context, block: Ptr<BasicBlock>)
         requires { IsBlock ctx.old.tree block }
@@ -151,13 +151,12 @@ impl BasicBlock {
         ctx.arguments.settle(block);
     }
 
-    /// An argument that has no use goes. The later ones stay the same values, each with the index
-    /// before.
+    /// Removes an argument without uses. The later ones stay the same values, each with the index before.
     ///
-    /// Asks that the block stands and has such an argument, and that no operation uses it. Takes no
-    /// memory. Cost: the number of arguments between it and the place where the block lost one last, and
-    /// constant for the first; amortised, a constant and at most twice the number of arguments after it. With an
-    /// index (`index_arguments`) it is a logarithm.
+    /// Asks that the block is live and has such an argument, and that no operation uses it. Takes no memory.
+    /// Cost: the number of arguments between it and the place of the last removal from this block, and constant
+    /// for the first; amortised, a constant and at most twice the number of arguments after it. With an index
+    /// (`index_arguments`) it is a logarithm.
     pub fn remove_argument(ctx: &mut Context, block: Ptr<BasicBlock>, i: usize)
         requires block { IsBlock ctx.old.tree block }
         requires index { i < length (arguments_of ctx.old.tree block) }

@@ -1,12 +1,13 @@
-//! Whether anything was made in a context.
+//! Whether anything was created in a context.
 ghost use Rattle.std.specs.Prelude.{◌≡◌, ◌↔◌, IsTrue};
 ghost use Rattle.pliron_core.specs.Writes.{no_tree};
 
 use crate::context::Context;
 
 impl Context {
-    /// Whether nothing was made in the context: its tree is that of `Context::new`. What was made and erased
-    /// again leaves its key, so a context that had something is never empty. Takes no memory. Cost: constant.
+    /// Whether nothing was created in the context: its tree is that of `Context::new`. What was created and
+    /// erased again leaves its key, so a context that had something is never empty. Takes no memory. Cost:
+    /// constant.
     pub fn is_empty(&self) -> bool
         ensures { IsTrue result ↔ (self.now.tree ≡ no_tree) }
     {

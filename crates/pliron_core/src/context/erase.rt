@@ -1,17 +1,17 @@
-//! Erasing, from the inside out: no operation that goes has anything inside it.
+//! Erasing, from the inside out: an operation is erased once nothing is inside it.
 ghost use Rattle.std.specs.Prelude.{◌≡◌, ℕ, nat_eq, [], Some, None};
 ghost use Rattle.pliron_core.specs.declared.context.Def.TheVariants.{Result, Argument};
-ghost use Rattle.pliron_core.specs.Tree.{In, IsLive, IsBlock, operands_of, successors_of, regions_of, parent_of, body_of, layout_of, definition_of, holder_of};
+ghost use Rattle.pliron_core.specs.Tree.{In, IsLive, IsBlock, operands_of, successors_of, regions_of, parent_of, body_of, layout_of, definition_of, parent_operation_of};
 ghost use Rattle.pliron_core.specs.Writes.{taken_out};
-ghost use Rattle.pliron_core.specs.Erased.{block_taken_out, cleared, names_dropped, uses_dropped, erased, block_emptied, block_erased, IsSelfContained, IsSelfContainedBlock};
-ghost use Rattle.pliron_core.specs.Dismantling.{buried, region_popped, last_region_of, IsLast, IsUnnamed, IsUnused, IsUnusedBlock, IsStep, unnamed};
+ghost use Rattle.pliron_core.specs.Erased.{block_taken_out, after_clearing, names_dropped, uses_dropped, after_erasing, block_emptied, block_erased, IsSelfContained, IsSelfContainedBlock};
+ghost use Rattle.pliron_core.specs.Dismantling.{after_dismantling, region_popped, last_region_of, IsLast, IsUnnamed, IsUnused, IsUnusedBlock, IsStep, without_names};
 
 use super::place::take_out;
 use super::{Context, OperationEntry};
+use crate::inline_list::InlineList;
 use crate::keys::{BasicBlock, Operation, Ptr};
-use crate::row::Row;
 
-// What stands last inside an operation: in its last region, and there in the last block.
+// What is last inside an operation: in its last region, and there in the last block.
 #[derive(Clone, Copy)]
 enum Inner {
     Operation(Ptr<Operation>),
@@ -22,8 +22,8 @@ enum Inner {
     Nothing,
 }
 
-// An operation in no block, which names nothing and has no regions, and whose results nothing names,
-// stands no more. Constant cost.
+// An operation in no block, which names nothing and has no regions, and whose results nothing names, is erased.
+// Constant cost.
 #[inline(always)]
 fn bury(ctx: &mut Context, op: Ptr<Operation>)
     requires live { IsLive ctx.old.tree op }
@@ -32,17 +32,17 @@ fn bury(ctx: &mut Context, op: Ptr<Operation>)
     requires successors { successors_of ctx.old.tree op ≡ [] }
     requires regions { regions_of ctx.old.tree op ≡ [] }
     requires unnamed { (x v i : ℕ) → In v (operands_of ctx.old.tree x) → definition_of ctx.old.tree v ≡ Some (Result op i) → ⊥ }
-    ensures { ctx.new ≡ record ctx.old { tree = buried ctx.old.tree op } }
+    ensures { ctx.new ≡ record ctx.old { tree = after_dismantling ctx.old.tree op } }
 {
     let alloc = ctx.alloc;
     ctx.operations[op.index()] = OperationEntry {
         head: None,
-        results: Row::new(alloc),
-        regions: Row::new(alloc),
+        results: InlineList::new(alloc),
+        regions: InlineList::new(alloc),
     };
 }
 
-// The operation's last region, which is empty, goes. Constant cost.
+// The operation's last region, which is empty, is removed. Constant cost.
 fn pop_region(ctx: &mut Context, op: Ptr<Operation>)
     requires live { IsLive ctx.old.tree op }
     requires empty { (r : ℕ) × (last_region_of ctx.old.tree op ≡ Some r) × (layout_of ctx.old.tree r ≡ []) }
@@ -70,7 +70,7 @@ fn remove_block(ctx: &mut Context, block: Ptr<BasicBlock>)
     }
 }
 
-// What stands last inside the operation. Constant cost.
+// What is last inside the operation. Constant cost.
 #[inline(always)]
 fn last_inside(ctx: &Context, op: Ptr<Operation>) -> Inner
     requires { IsLive ctx.now.tree op }
@@ -118,15 +118,15 @@ fn dismantle_step(ctx: &mut Context, op: Ptr<Operation>) -> Option<Ptr<Operation
     }
 }
 
-// An operation in no block goes with its contents, where nothing within it names anything and nothing
-// names a value or a block of it: from the inside out, the last first. Linear in the operations,
-// blocks and regions that go; takes no memory.
+// Erases an operation in no block with its contents, where nothing within it names anything and nothing names a
+// value or a block of it: from the inside out, the last first. Linear in the operations, blocks and regions
+// that are erased; takes no memory.
 #[inline(always)]
 fn dismantle(ctx: &mut Context, op: Ptr<Operation>)
     requires live { IsLive ctx.old.tree op }
     requires free { parent_of ctx.old.tree op ≡ None }
     requires unused { IsUnused ctx.old.tree op }
-    ensures { ctx.new.tree ≡ cleared ctx.old.tree (nat_eq op) }
+    ensures { ctx.new.tree ≡ after_clearing ctx.old.tree (nat_eq op) }
 {
     ctx.well_formed();
     let mut at = Some(op);
@@ -140,14 +140,14 @@ fn dismantle(ctx: &mut Context, op: Ptr<Operation>)
 #[inline(always)]
 fn drop_names(ctx: &mut Context, op: Ptr<Operation>)
     requires { IsLive ctx.old.tree op }
-    ensures { ctx.new.tree ≡ unnamed ctx.old.tree op }
+    ensures { ctx.new.tree ≡ without_names ctx.old.tree op }
 {
     ctx.operands.clear(op.index());
     ctx.successors.clear(op.index());
 }
 
-// The operation and all that stands inside it, at any depth, lose operands and successors. Linear in
-// the operations, blocks and regions inside it and in what they lose; takes no memory.
+// The operation and all that is inside it, at any depth, lose operands and successors. Linear in the
+// operations, blocks and regions inside it and in what they lose; takes no memory.
 #[inline(always)]
 fn drop_names_within(ctx: &mut Context, root: Ptr<Operation>)
     requires { IsLive ctx.old.tree root }
@@ -164,7 +164,7 @@ fn drop_names_within(ctx: &mut Context, root: Ptr<Operation>)
 impl BasicBlock {
     /// All operations in the block, at any depth, lose their operands and successors.
     ///
-    /// Asks that the block stands (`is_live` tests it). Takes no memory. Cost: linear in the operations,
+    /// Asks that the block is live (`is_live` tests it). Takes no memory. Cost: linear in the operations,
     /// blocks and regions in it and in what they lose.
     pub fn drop_all_uses(ctx: &mut Context, block: Ptr<BasicBlock>)
         requires { IsBlock ctx.old.tree block }
@@ -180,12 +180,12 @@ impl BasicBlock {
     }
 }
 
-/// Erases an operation with its contents, at any depth, wherever it stands. Linear in what is erased
-/// and in the operands and successors of it; takes no memory.
+/// Erases an operation with its contents, at any depth, in a block or in none. Linear in what is erased and in
+/// the operands and successors of it; takes no memory.
 pub(crate) fn erase_operation(ctx: &mut Context, op: Ptr<Operation>)
     requires live { IsLive ctx.old.tree op }
     requires contained { IsSelfContained ctx.old.tree op }
-    ensures { ctx.new.tree ≡ erased ctx.old.tree op }
+    ensures { ctx.new.tree ≡ after_erasing ctx.old.tree op }
 {
     ctx.well_formed();
     take_out(ctx, op);
@@ -208,8 +208,8 @@ pub(crate) fn erase_block(ctx: &mut Context, block: Ptr<BasicBlock>)
     remove_block(ctx, block);
 }
 
-// All that stands in the block goes, where nothing in it names anything, and nothing names what is
-// made in it. Linear in what goes; takes no memory.
+// Erases all that is in the block, where nothing in it names anything, and nothing names what is defined in it.
+// Linear in what is erased; takes no memory.
 fn empty_block(ctx: &mut Context, block: Ptr<BasicBlock>)
     requires block { IsBlock ctx.old.tree block }
     requires unused { IsUnusedBlock ctx.old.tree block }

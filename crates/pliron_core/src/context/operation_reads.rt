@@ -8,7 +8,7 @@ use crate::attrs::Head;
 use crate::keys::{BasicBlock, Operation, Ptr, Region, Value};
 
 impl Ptr<Operation> {
-    /// Whether the operation stands: it was made in this context and not erased since. Cost: constant.
+    /// Whether the operation is live: it was created in this context and not erased since. Cost: constant.
     pub fn is_live(self, ctx: &Context) -> bool
         ensures { IsTrue result ↔ IsLive ctx.now.tree self }
     {
@@ -18,7 +18,7 @@ impl Ptr<Operation> {
         }
     }
 
-    /// The operation's head. Asks that the operation stands (`is_live` tests it). Cost: constant.
+    /// The operation's head. Asks that the operation is live (`is_live` tests it). Cost: constant.
     pub fn head(self, ctx: &Context) -> &Head
         requires { IsLive ctx.now.tree self }
         ensures { head_of ctx.now.tree self ≡ Some result.now }
@@ -29,7 +29,7 @@ impl Ptr<Operation> {
         }
     }
 
-    /// How many operands the operation has. Asks that the operation stands (`is_live` tests it). Cost:
+    /// How many operands the operation has. Asks that the operation is live (`is_live` tests it). Cost:
     /// constant.
     pub fn num_operand(self, ctx: &Context) -> usize
         requires { IsLive ctx.now.tree self }
@@ -38,7 +38,7 @@ impl Ptr<Operation> {
         ctx.operands.num_targets(self.index())
     }
 
-    /// The operand at this index. Asks that the operation stands and has as many (`is_live` and `num_operand`
+    /// The operand at this index. Asks that the operation is live and has as many (`is_live` and `num_operand`
     /// test it). Cost: constant, and a logarithm where the operation has an index (`index_operands`).
     pub fn get_operand(self, ctx: &Context, i: usize) -> Value
         requires live { IsLive ctx.now.tree self }
@@ -50,7 +50,7 @@ impl Ptr<Operation> {
         Value::new(ctx.operands.target(self.index(), i))
     }
 
-    /// How many results the operation has. Asks that the operation stands (`is_live` tests it). Cost:
+    /// How many results the operation has. Asks that the operation is live (`is_live` tests it). Cost:
     /// constant.
     pub fn num_result(self, ctx: &Context) -> usize
         requires { IsLive ctx.now.tree self }
@@ -59,7 +59,7 @@ impl Ptr<Operation> {
         ctx.operations[self.index()].results.len()
     }
 
-    /// The result at this index. Asks that the operation stands and has as many (`is_live` and `num_result`
+    /// The result at this index. Asks that the operation is live and has as many (`is_live` and `num_result`
     /// test it). Cost: constant.
     pub fn get_result(self, ctx: &Context, i: usize) -> Value
         requires live { IsLive ctx.now.tree self }
@@ -71,7 +71,7 @@ impl Ptr<Operation> {
         ctx.operations[self.index()].results.get(i)
     }
 
-    /// How many successors the operation has. Asks that the operation stands (`is_live` tests it). Cost:
+    /// How many successors the operation has. Asks that the operation is live (`is_live` tests it). Cost:
     /// constant.
     pub fn num_successor(self, ctx: &Context) -> usize
         requires { IsLive ctx.now.tree self }
@@ -80,7 +80,7 @@ impl Ptr<Operation> {
         ctx.successors.num_targets(self.index())
     }
 
-    /// The successor at this index. Asks that the operation stands and has as many (`is_live` and
+    /// The successor at this index. Asks that the operation is live and has as many (`is_live` and
     /// `num_successor` test it). Cost: constant.
     pub fn get_successor(self, ctx: &Context, i: usize) -> Ptr<BasicBlock>
         requires live { IsLive ctx.now.tree self }
@@ -92,7 +92,7 @@ impl Ptr<Operation> {
         Ptr::new(ctx.successors.target(self.index(), i))
     }
 
-    /// How many regions the operation has. Asks that the operation stands (`is_live` tests it). Cost:
+    /// How many regions the operation has. Asks that the operation is live (`is_live` tests it). Cost:
     /// constant.
     pub fn num_region(self, ctx: &Context) -> usize
         requires { IsLive ctx.now.tree self }
@@ -101,7 +101,7 @@ impl Ptr<Operation> {
         ctx.operations[self.index()].regions.len()
     }
 
-    /// The region at this index. Asks that the operation stands and has as many (`is_live` and `num_region`
+    /// The region at this index. Asks that the operation is live and has as many (`is_live` and `num_region`
     /// test it). Cost: constant.
     pub fn get_region(self, ctx: &Context, i: usize) -> Ptr<Region>
         requires live { IsLive ctx.now.tree self }
@@ -113,7 +113,7 @@ impl Ptr<Operation> {
         ctx.operations[self.index()].regions.get(i)
     }
 
-    /// The block that has the operation, if one does. Asks that the operation stands (`is_live` tests it).
+    /// The block that has the operation, if one does. Asks that the operation is live (`is_live` tests it).
     /// Cost: constant.
     pub fn get_parent_block(self, ctx: &Context) -> Option<Ptr<BasicBlock>>
         requires { IsLive ctx.now.tree self }
@@ -124,7 +124,7 @@ impl Ptr<Operation> {
         ctx.order.owner(self.index()).map(|key| Ptr::new(key))
     }
 
-    /// The operation directly before this one in its block, if there is one. Asks that the operation stands
+    /// The operation directly before this one in its block, if there is one. Asks that the operation is live
     /// (`is_live` tests it). Cost: constant.
     pub fn get_prev(self, ctx: &Context) -> Option<Ptr<Operation>>
         requires { IsLive ctx.now.tree self }
@@ -135,7 +135,7 @@ impl Ptr<Operation> {
         ctx.order.prev(self.index()).map(|key| Ptr::new(key))
     }
 
-    /// The operation directly after this one in its block, if there is one. Asks that the operation stands
+    /// The operation directly after this one in its block, if there is one. Asks that the operation is live
     /// (`is_live` tests it). Cost: constant.
     pub fn get_next(self, ctx: &Context) -> Option<Ptr<Operation>>
         requires { IsLive ctx.now.tree self }

@@ -1,8 +1,8 @@
-//! Where operations stand.
+//! The block of an operation, and its place there.
 ghost use Rattle.std.specs.Prelude.{◌≡◌, ◌∷◌, ◌++◌, [], Some, None, OnOk, OnErr};
 ghost use Rattle.pliron_core.specs.Tree.{IsLive, IsBlock, HoldsBlock, parent_of, body_of};
 ghost use Rattle.pliron_core.specs.Lists.{put_before};
-ghost use Rattle.pliron_core.specs.Writes.{placed, put_last, put_first, taken_out, moved_last};
+ghost use Rattle.pliron_core.specs.Writes.{after_placing, put_last, put_first, taken_out, moved_last};
 
 use super::{Context, NoMemory};
 use crate::keys::{BasicBlock, Operation, Ptr};
@@ -10,8 +10,8 @@ use crate::keys::{BasicBlock, Operation, Ptr};
 impl BasicBlock {
     /// The operation becomes the last of the block.
     ///
-    /// Asks that both stand, that the operation stands in no block, and that it doesn't hold the block
-    /// (`is_live`, `get_parent_block` and `holds_block` test it). Errors: want of memory, which changes
+    /// Asks that both are live, that the operation is in no block, and that it doesn't hold the block
+    /// (`is_live`, `get_parent_block` and `holds_block` test it). Errors: allocation failure, which changes
     /// nothing. Cost: constant.
     pub fn push_operation(
         ctx: &mut Context,
@@ -65,7 +65,7 @@ pub(crate) fn place_before(
     requires live { IsLive ctx.old.tree op }
     requires free { parent_of ctx.old.tree op ≡ None }
     requires outside { HoldsBlock ctx.old.tree op block → ⊥ }
-    ensures { ctx.new ≡ record ctx.old { tree = placed ctx.old.tree op block (put_before at op (body_of ctx.old.tree block)) } }
+    ensures { ctx.new ≡ record ctx.old { tree = after_placing ctx.old.tree op block (put_before at op (body_of ctx.old.tree block)) } }
 {
     ctx.order
         .insert_before(block.index(), at.index(), op.index());

@@ -4,11 +4,11 @@ ghost use Rattle.pliron_core.specs.Tree.{IsLive, IsBlock, IsRegion, layout_of, r
 ghost use Rattle.pliron_core.specs.Reads.{has_ssa};
 
 use super::{Context, RegionSlot};
+use crate::inline_list::InlineList;
 use crate::keys::{BasicBlock, Operation, Ptr, Region};
-use crate::row::Row;
 
-// Whether the region stands at this index.
-fn is_region_at(regions: &Row<Ptr<Region>>, i: usize, region: Ptr<Region>) -> bool
+// Whether the operation has the region at this index.
+fn is_region_at(regions: &InlineList<Ptr<Region>>, i: usize, region: Ptr<Region>) -> bool
     ensures { IsTrue result ↔ (slice_get regions.now i ≡ Some region) }
 {
     if i < regions.len() {
@@ -19,7 +19,7 @@ fn is_region_at(regions: &Row<Ptr<Region>>, i: usize, region: Ptr<Region>) -> bo
 }
 
 impl Ptr<Region> {
-    /// Whether the region stands: it was made in this context and not erased since. Cost: constant.
+    /// Whether the region is live: it was created in this context and not erased since. Cost: constant.
     pub fn is_live(self, ctx: &Context) -> bool
         ensures { IsTrue result ↔ IsRegion ctx.now.tree self }
     {
@@ -32,7 +32,7 @@ impl Ptr<Region> {
         }
     }
 
-    /// The operation of the region. Asks that the region stands (`is_live` tests it). Cost: constant.
+    /// The operation of the region. Asks that the region is live (`is_live` tests it). Cost: constant.
     pub fn get_parent_op(self, ctx: &Context) -> Ptr<Operation>
         requires { IsRegion ctx.now.tree self }
         ensures parent { region_parent_of ctx.now.tree self ≡ Some result }
@@ -42,7 +42,7 @@ impl Ptr<Region> {
         ctx.slots[self.index()].op
     }
 
-    /// The region's first block, if it has one. Asks that the region stands (`is_live` tests it). Cost:
+    /// The region's first block, if it has one. Asks that the region is live (`is_live` tests it). Cost:
     /// constant.
     pub fn get_head(self, ctx: &Context) -> Option<Ptr<BasicBlock>>
         requires { IsRegion ctx.now.tree self }
@@ -53,7 +53,7 @@ impl Ptr<Region> {
         ctx.layout.head(self.index()).map(|key| Ptr::new(key))
     }
 
-    /// The region's last block, if it has one. Asks that the region stands (`is_live` tests it). Cost:
+    /// The region's last block, if it has one. Asks that the region is live (`is_live` tests it). Cost:
     /// constant.
     pub fn get_tail(self, ctx: &Context) -> Option<Ptr<BasicBlock>>
         requires { IsRegion ctx.now.tree self }
@@ -64,8 +64,8 @@ impl Ptr<Region> {
         ctx.layout.tail(self.index()).map(|key| Ptr::new(key))
     }
 
-    /// Whether definitions dominate uses in the region, by the head of its operation. Asks that the region
-    /// stands (`is_live` tests it). Cost: constant.
+    /// Whether definitions dominate uses in the region, as the head of its operation says. Asks that the region
+    /// is live (`is_live` tests it). Cost: constant.
     pub fn has_ssa_dominance(self, ctx: &Context) -> bool
         requires { IsRegion ctx.now.tree self }
         ensures { result ≡ has_ssa ctx.now.tree self }

@@ -1,14 +1,14 @@
 //! What can be read of a value.
 ghost use Rattle.std.specs.Prelude.{◌≡◌, slice_get, Some, IsTrue, ◌↔◌};
 ghost use Rattle.pliron_core.specs.Tree.{IsDefined, definition_of};
-ghost use Rattle.pliron_core.specs.Reads.{IsMakerStanding};
+ghost use Rattle.pliron_core.specs.Reads.{IsDefinitionLive};
 
 use super::{Context, Def};
+use crate::inline_list::InlineList;
 use crate::keys::Value;
-use crate::row::Row;
 
-// Whether the value stands at this index.
-fn is_value_at(values: &Row<Value>, i: usize, value: Value) -> bool
+// Whether what is written as its definition lists the value at this index.
+fn is_value_at(values: &InlineList<Value>, i: usize, value: Value) -> bool
     ensures { IsTrue result ↔ (slice_get values.now i ≡ Some value) }
 {
     if i < values.len() {
@@ -19,7 +19,7 @@ fn is_value_at(values: &Row<Value>, i: usize, value: Value) -> bool
 }
 
 impl Value {
-    /// Whether the value stands: what made it in this context still lists it. Cost: constant, and a logarithm
+    /// Whether the value is live: what made it in this context still lists it. Cost: constant, and a logarithm
     /// for an argument of a block with an index (`index_arguments`).
     #[inline(always)]
     pub fn is_live(self, ctx: &Context) -> bool
@@ -35,12 +35,12 @@ impl Value {
         }
     }
 
-    /// What makes the value. Asks that the value stands (`is_live` tests it). Cost: constant, and a logarithm
+    /// What makes the value. Asks that the value is live (`is_live` tests it). Cost: constant, and a logarithm
     /// for an argument of a block with an index (`index_arguments`).
     pub fn def(self, ctx: &Context) -> Def
         requires { IsDefined ctx.now.tree self }
         ensures definition { definition_of ctx.now.tree self ≡ Some result }
-        ensures stands { IsMakerStanding ctx.now.tree result }
+        ensures stands { IsDefinitionLive ctx.now.tree result }
     {
         ctx.well_formed();
         match ctx.arguments.definition(self) {

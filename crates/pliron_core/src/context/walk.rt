@@ -2,7 +2,7 @@
 ghost use Rattle.std.specs.Prelude.{◌≡◌, ◌+◌, ℕ, None, Some, IsTrue, IfSome, ◌↔◌};
 ghost use Rattle.std.specs.Option.{ForSome};
 ghost use Rattle.pliron_core.specs.Lists.{first_of, next_in};
-ghost use Rattle.pliron_core.specs.Tree.{IsLive, IsBlock, IsRegion, IsInside, IsWithin, slot_of, holder_of};
+ghost use Rattle.pliron_core.specs.Tree.{IsLive, IsBlock, IsRegion, IsInside, IsWithin, slot_of, parent_operation_of};
 ghost use Rattle.pliron_core.specs.Walks.{children, preorder, HasExactContents};
 ghost use Rattle.pliron_core.specs.WalkSteps.{first_in_blocks, first_in_regions, IsFollowedBy};
 
@@ -68,11 +68,11 @@ impl Context {
         self.first_from_region(op.index(), next)
     }
 
-    // The operation after `op` among those that its holder has.
+    // The operation after `op` among those that its parent operation has.
     #[inline(always)]
     fn next_sibling(&self, op: usize) -> Option<usize>
         requires { IsLive self.now.tree op }
-        ensures { ForSome (holder_of self.now.tree op) (λ holder.
+        ensures { ForSome (parent_operation_of self.now.tree op) (λ holder.
             result ≡ next_in op (children self.now.tree holder)) }
     {
         self.well_formed();
@@ -91,12 +91,12 @@ impl Context {
 }
 
 impl Ptr<Operation> {
-    /// The operation that this one stands directly inside, if it stands in a block. Asks that the operation
-    /// stands (`is_live` tests it). Cost: constant.
+    /// The operation that this one is directly inside, if it is in a block. Asks that the operation is live
+    /// (`is_live` tests it). Cost: constant.
     #[inline(always)]
     pub fn get_parent_op(self, ctx: &Context) -> Option<Ptr<Operation>>
         requires { IsLive ctx.now.tree self }
-        ensures holder { result ≡ holder_of ctx.now.tree self }
+        ensures holder { result ≡ parent_operation_of ctx.now.tree self }
         ensures live { IfSome result (λ op. IsLive ctx.now.tree op) }
     {
         ctx.well_formed();
@@ -105,8 +105,8 @@ impl Ptr<Operation> {
         Some(ctx.slots[region].op)
     }
 
-    /// Whether this operation stands inside `op`, at any depth; an operation is not inside itself. Asks that
-    /// this one stands (`is_live` tests it). Cost: the depth of this one.
+    /// Whether this operation is inside `op`, at any depth; an operation is not inside itself. Asks that this
+    /// one is live (`is_live` tests it). Cost: the depth of this one.
     #[inline(always)]
     pub fn is_inside(self, op: Ptr<Operation>, ctx: &Context) -> bool
         requires { IsLive ctx.now.tree self }
@@ -124,7 +124,7 @@ impl Ptr<Operation> {
     }
 
     /// The first operation directly inside this one, in the order of its regions, their blocks and their
-    /// bodies. Asks that the operation stands (`is_live` tests it). Cost: one step for each empty region and
+    /// bodies. Asks that the operation is live (`is_live` tests it). Cost: one step for each empty region and
     /// block before it.
     #[inline(always)]
     pub fn first_inside(self, ctx: &Context) -> Option<Ptr<Operation>>
@@ -135,12 +135,12 @@ impl Ptr<Operation> {
             .map(|key| Ptr::new(key))
     }
 
-    /// The operation after this one among those directly inside the operation that holds both. Asks that the
-    /// operation stands (`is_live` tests it). Cost: one step for each empty region and block between them.
+    /// The operation after this one among those directly inside the parent operation of both. Asks that the
+    /// operation is live (`is_live` tests it). Cost: one step for each empty region and block between them.
     #[inline(always)]
     pub fn next_beside(self, ctx: &Context) -> Option<Ptr<Operation>>
         requires { IsLive ctx.now.tree self }
-        ensures { ForSome (holder_of ctx.now.tree self) (λ holder.
+        ensures { ForSome (parent_operation_of ctx.now.tree self) (λ holder.
             result ≡ next_in self (children ctx.now.tree holder)) }
     {
         ctx.next_sibling(self.index()).map(|key| Ptr::new(key))
@@ -170,10 +170,10 @@ impl Ptr<Operation> {
     /// The operation after this one on the walk over `root` and its contents in pre-order, where an operation
     /// comes before its contents, and these come before its next sibling.
     ///
-    /// Asks that `root` stands, and that this one is `root` or stands inside it (`is_live` and `is_inside`
-    /// test it). Cost: a call goes by links, down to the first child or up to the first holder with a later
-    /// one, so that the whole walk, from `root` until `None`, costs one step for each operation, block and
-    /// region within `root`.
+    /// Asks that `root` is live, and that this one is `root` or is inside it (`is_live` and `is_inside` test
+    /// it). Cost: a call goes by links, down to the first child or up to the first parent operation with a
+    /// later child, so that the whole walk, from `root` until `None`, costs one step for each operation, block
+    /// and region within `root`.
     #[inline(always)]
     pub fn next_in_preorder(self, root: Ptr<Operation>, ctx: &Context) -> Option<Ptr<Operation>>
         requires live { IsLive ctx.now.tree root }

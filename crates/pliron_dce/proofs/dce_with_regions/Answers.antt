@@ -3,7 +3,7 @@ use Rattle.pliron_dce.proofs.Progress.{tells_dead, tells_same}
 use Rattle.pliron_dce.proofs.dce_with_regions.Goals as goal
 
 pub sweep-requires-clause-all : goal.sweep-requires-clause-all
-sweep-requires-clause-all g c = all_ready g.D.HasMeaning.meaning g.D.SideEffects.side_effects g.D.BlockArgRemoval.removable c.args.ctx.now.tree c.args.op c.in_ok-work.work.items c.in_ok-work.ensures
+sweep-requires-clause-all g c = all_ready g.D.HasMeaning.meaning g.D.SideEffects.side_effects g.D.BlockArgRemoval.removable c.args.ctx.now.tree c.args.op c.in_ok-worklist.worklist.items c.in_ok-worklist.ensures
 
 pub returns-clause-status : goal.returns-clause-status
 returns-clause-status g c =

@@ -6,13 +6,13 @@ ghost use Rattle.pliron_laws.specs.Datum.{Number as NumberOf, Text as TextOf, Gi
 ghost use Rattle.pliron_laws.specs.Answers.{ReadsHead};
 ghost use Rattle.pliron_bench.specs.Bench.{kind_of, first_attribute, first_edge_count as first_count_of};
 ghost use Rattle.pliron_bench.specs.BenchNumbers.{datum_at, as_number, number_at, sum as sum_of, product as product_of, quotient as quotient_of};
-ghost use Rattle.pliron_bench.specs.BenchMoves.{bench, act_of, done, once, fitted, read_word, print_word, give_or_trap, edge_of as edge_in, edge_values};
+ghost use Rattle.pliron_bench.specs.BenchMoves.{bench, act_of, memo_when_done, once, fit_data, read_word, print_word, give_or_trap, edge_of as edge_in, edge_values};
 ghost use Rattle.pliron_evaluator.specs.Evaluator.{datum_of_value, move_of};
 
 use crate::evaluator::shapes::{num_entry_argument, num_target_argument};
 use crate::evaluator::values::{Datum, Evaluate, Move, all_copies, one};
 use pliron_bench::jumps::first_edge_count;
-use pliron_bench::numbers::{edge_of, product, quotient, sum, wrapped};
+use pliron_bench::numbers::{edge_of, product, quotient, sum, wrap};
 use pliron_bench::tables::kind_at;
 use pliron_bench::{Bench, BenchKind};
 use pliron_core::{Attrs, Context, Operation, Ptr, Text};
@@ -34,7 +34,7 @@ fn as_number(datum: &Datum) -> i64
     ensures { result ≡ as_number (datum_of_value datum.now) }
 {
     match datum {
-        Datum::Number(number) => wrapped(*number),
+        Datum::Number(number) => wrap(*number),
         _ => 0,
     }
 }
@@ -58,8 +58,8 @@ fn one_number(alloc: Global, number: i64) -> Result<Vec<Datum>, AllocError>
 }
 
 // So many data, cut or filled with 0.
-fn fitted(alloc: Global, count: usize, input: &[Datum]) -> Result<Vec<Datum>, AllocError>
-    ensures { IfOk result (λ values. map datum_of_value values.items ≡ fitted count (map datum_of_value input.now)) }
+fn fit_data(alloc: Global, count: usize, input: &[Datum]) -> Result<Vec<Datum>, AllocError>
+    ensures { IfOk result (λ values. map datum_of_value values.items ≡ fit_data count (map datum_of_value input.now)) }
 {
     let mut data = Vec::new(alloc);
     for i in 0..count {
@@ -86,22 +86,22 @@ fn word(alloc: Global, text: &str) -> Result<Datum, AllocError>
 }
 
 // The memo after a visit or an effect.
-fn done() -> Datum
-    ensures { datum_of_value result ≡ done }
+fn memo_when_done() -> Datum
+    ensures { datum_of_value result ≡ memo_when_done }
 {
     Datum::Number(1)
 }
 
 // The first region is visited.
 fn visit(alloc: Global, count: usize, input: &[Datum]) -> Result<Move, AllocError>
-    ensures { IfOk result (λ next. move_of next ≡ Visit 0 (fitted count (map datum_of_value input.now)) done) }
+    ensures { IfOk result (λ next. move_of next ≡ Visit 0 (fit_data count (map datum_of_value input.now)) memo_when_done) }
 {
-    let values = fitted(alloc, count, input)?;
-    Ok(Move::Visit(0, values, done()))
+    let values = fit_data(alloc, count, input)?;
+    Ok(Move::Visit(0, values, memo_when_done()))
 }
 
 fn func_move(alloc: Global, memo: &Datum, count: usize, input: &[Datum]) -> Result<Move, AllocError>
-    ensures { IfOk result (λ next. move_of next ≡ once (datum_of_value memo.now) (Visit 0 (fitted count (map datum_of_value input.now)) done) (Leave
+    ensures { IfOk result (λ next. move_of next ≡ once (datum_of_value memo.now) (Visit 0 (fit_data count (map datum_of_value input.now)) memo_when_done) (Leave
         (map datum_of_value input.now))) }
 {
     match memo {
@@ -116,7 +116,7 @@ fn scope_move(
     count: usize,
     input: &[Datum],
 ) -> Result<Move, AllocError>
-    ensures { IfOk result (λ next. move_of next ≡ once (datum_of_value memo.now) (Visit 0 (fitted count (map datum_of_value input.now)) done) (Give [])) }
+    ensures { IfOk result (λ next. move_of next ≡ once (datum_of_value memo.now) (Visit 0 (fit_data count (map datum_of_value input.now)) memo_when_done) (Give [])) }
 {
     match memo {
         Datum::Empty => visit(alloc, count, input),
@@ -125,10 +125,10 @@ fn scope_move(
 }
 
 fn read_move(alloc: Global, memo: &Datum, input: &[Datum]) -> Result<Move, AllocError>
-    ensures { IfOk result (λ next. move_of next ≡ once (datum_of_value memo.now) (Emit read_word done) (Give (datum_at (map datum_of_value input.now) 0 ∷ []))) }
+    ensures { IfOk result (λ next. move_of next ≡ once (datum_of_value memo.now) (Emit read_word memo_when_done) (Give (datum_at (map datum_of_value input.now) 0 ∷ []))) }
 {
     match memo {
-        Datum::Empty => Ok(Move::Emit(word(alloc, "read")?, done())),
+        Datum::Empty => Ok(Move::Emit(word(alloc, "read")?, memo_when_done())),
         _ => {
             let answer = datum_at(alloc, input, 0)?;
             Ok(Move::Give(one(alloc, answer)?))
@@ -137,13 +137,13 @@ fn read_move(alloc: Global, memo: &Datum, input: &[Datum]) -> Result<Move, Alloc
 }
 
 fn print_move(alloc: Global, memo: &Datum, input: &[Datum]) -> Result<Move, AllocError>
-    ensures { IfOk result (λ next. move_of next ≡ once (datum_of_value memo.now) (Emit (JoinOf print_word (datum_at (map datum_of_value input.now) 0)) done) (Give [])) }
+    ensures { IfOk result (λ next. move_of next ≡ once (datum_of_value memo.now) (Emit (JoinOf print_word (datum_at (map datum_of_value input.now) 0)) memo_when_done) (Give [])) }
 {
     match memo {
         Datum::Empty => {
             let printed = datum_at(alloc, input, 0)?;
             let effect = Datum::join(alloc, word(alloc, "print")?, printed)?;
-            Ok(Move::Emit(effect, done()))
+            Ok(Move::Emit(effect, memo_when_done()))
         }
         _ => Ok(Move::Give(Vec::new(alloc))),
     }

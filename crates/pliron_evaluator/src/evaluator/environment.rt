@@ -1,7 +1,7 @@
 //! The data of values, and lists of which the first item is put and taken.
 ghost use Rattle.std.specs.Prelude.{◌≡◌, [], ◌∷◌, drop, map, Some, None, if◌then◌else◌, IfOk, OnOk, MatchOption};
 ghost use Rattle.std.specs.Option.{option_map};
-ghost use Rattle.pliron_laws.specs.States.{bind, bound, data_of};
+ghost use Rattle.pliron_laws.specs.States.{bind, environment_with, data_of};
 ghost use Rattle.pliron_evaluator.specs.Evaluator.{datum_of_value, environment_of, answer_of_values};
 
 use crate::evaluator::values::Datum;
@@ -48,7 +48,7 @@ fn bind_one(
     value: Value,
     datum: &Datum,
 ) -> Result<(), AllocError>
-    ensures { OnOk result (environment_of environment.new ≡ bound (environment_of environment.old) value (datum_of_value datum.now)) }
+    ensures { OnOk result (environment_of environment.new ≡ environment_with (environment_of environment.old) value (datum_of_value datum.now)) }
 {
     let copy = datum.copy(alloc)?;
     environment.insert(value, copy)?;

@@ -9,10 +9,10 @@ ghost use Rattle.pliron_dialects.specs.Forms.{first_attribute, first_edge_operan
 ghost use Rattle.pliron_dialects.specs.Roles.{role_at, meaning_by, act_of, value_of, condition_of};
 ghost use Rattle.pliron_evaluator.specs.Evaluator.{datum_of_value, move_of};
 
-use crate::evaluator::own_moves::{OwnMoves, behind_first, chosen, counts_of, number_of};
+use crate::evaluator::own_moves::{OwnMoves, behind_first, choice_by_input, counts_of, number_of};
 use crate::evaluator::values::{Datum, Evaluate, Move, all_copies, one};
 use pliron_core::{Attrs, Context, Operation, Ptr};
-use pliron_dialects::places::first_edge_count;
+use pliron_dialects::edge_ranges::first_edge_count;
 use pliron_dialects::{ByKinds, Form, Kinds};
 use std::alloc::{AllocError, Global};
 
@@ -64,7 +64,7 @@ fn branch_move(alloc: Global, attrs: &Attrs, input: &[Datum]) -> Result<Move, Al
     ensures { IfOk result (λ next. move_of next ≡ Goto (edge_by_condition (condition_of (map datum_of_value input.now))) (edge_values (first_edge_operands attrs.now)
         (edge_by_condition (condition_of (map datum_of_value input.now))) (drop 1 (map datum_of_value input.now)))) }
 {
-    let edge = chosen(input);
+    let edge = choice_by_input(input);
     let values = values_along(attrs, edge, behind_first(input));
     Ok(Move::Goto(edge, all_copies(alloc, values)?))
 }

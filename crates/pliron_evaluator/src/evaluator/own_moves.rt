@@ -6,7 +6,7 @@ ghost use Rattle.pliron_laws.specs.Datum.{Give, Leave};
 ghost use Rattle.pliron_dialects.specs.Numbers.{whole_number_of, is_zero};
 ghost use Rattle.pliron_dialects.specs.Forms.{edge_by_condition};
 ghost use Rattle.pliron_dialects.specs.Roles.{condition_of};
-ghost use Rattle.pliron_dialects.specs.Visits.{once, fitted, visit_of};
+ghost use Rattle.pliron_dialects.specs.Visits.{once, fit_data, visit_of};
 ghost use Rattle.pliron_evaluator.specs.Evaluator.{datum_of_value, move_of};
 ghost use Rattle.pliron_evaluator.specs.OwnMoves.{MovesBy, own_act, first_or_zero};
 
@@ -14,18 +14,18 @@ use crate::evaluator::shapes::num_region_argument;
 use crate::evaluator::values::{Datum, Move, all_copies};
 use pliron_core::{Context, Operation, Ptr};
 use pliron_dialects::Kinds;
-use pliron_dialects::numbers::{edge_of, wrapped};
+use pliron_dialects::numbers::{edge_of, wrap};
 use std::alloc::{AllocError, Global};
 
 /// What the moves of an operation may depend on, beside its memo and its input: how many results it has, and how
 /// many arguments the entry block of each of its regions has.
 #[derive(Debug, Drop)]
-pub struct Counts {
+pub struct ShapeCounts {
     pub results: usize,
     pub entry_arguments: Vec<usize>,
 }
 
-impl Counts {
+impl ShapeCounts {
     // How many arguments the entry block of the region with this index has, 0 if there is none.
     fn entry_argument(&self, region: usize) -> usize
         ensures { result ≡ slice_index_or self.now.entry_arguments.items region 0 }
@@ -41,11 +41,11 @@ impl Counts {
 /// The kinds of a dialect by tables whose operations can be run.
 pub trait OwnMoves: Kinds {
     /// The move of an operation of a kind that acts by its own tables, with this memo on this input; `Trap` for
-    /// another kind. Errors: want of memory.
+    /// another kind. Errors: allocation failure.
     fn own_move(
         self,
         alloc: Global,
-        counts: &Counts,
+        counts: &ShapeCounts,
         memo: &Datum,
         input: &[Datum],
     ) -> Result<Move, AllocError>
@@ -58,7 +58,7 @@ pub(super) fn number_of(datum: &Datum) -> i64
     ensures { result ≡ whole_number_of (datum_of_value datum.now) }
 {
     match datum {
-        Datum::Number(number) => wrapped(*number),
+        Datum::Number(number) => wrap(*number),
         _ => 0,
     }
 }
@@ -82,7 +82,7 @@ pub fn is_over(input: &[Datum]) -> bool
 }
 
 /// The second region or edge where the first of the data counts as 0, else the first one. Cost: constant.
-pub fn chosen(input: &[Datum]) -> usize
+pub fn choice_by_input(input: &[Datum]) -> usize
     ensures { result ≡ edge_by_condition (condition_of (map datum_of_value input.now)) }
 {
     edge_of(condition(input))
@@ -108,7 +108,7 @@ fn datum_or_zero(alloc: Global, input: &[Datum], i: usize) -> Result<Datum, Allo
 
 // So many of the data: cut, or filled with 0.
 fn fitted_to(alloc: Global, count: usize, input: &[Datum]) -> Result<Vec<Datum>, AllocError>
-    ensures { IfOk result (λ values. map datum_of_value values.items ≡ fitted count (map datum_of_value input.now)) }
+    ensures { IfOk result (λ values. map datum_of_value values.items ≡ fit_data count (map datum_of_value input.now)) }
 {
     let mut data = Vec::new(alloc);
     for i in 0..count {
@@ -117,18 +117,18 @@ fn fitted_to(alloc: Global, count: usize, input: &[Datum]) -> Result<Vec<Datum>,
     Ok(data)
 }
 
-/// The results are given, these values as far as there are results. Errors: want of memory. Cost: that of copies.
-pub fn give(alloc: Global, counts: &Counts, values: &[Datum]) -> Result<Move, AllocError>
-    ensures { IfOk result (λ next. MovesBy counts.now (move_of next) (λ s. Give (fitted s.results (map datum_of_value values.now)))) }
+/// The results are given, these values as far as there are results. Errors: allocation failure. Cost: that of copies.
+pub fn give(alloc: Global, counts: &ShapeCounts, values: &[Datum]) -> Result<Move, AllocError>
+    ensures { IfOk result (λ next. MovesBy counts.now (move_of next) (λ s. Give (fit_data s.results (map datum_of_value values.now)))) }
 {
     Ok(Move::Give(fitted_to(alloc, counts.results, values)?))
 }
 
-/// The region with this index is visited, with these values as far as its entry block has arguments. Errors: want
-/// of memory. Cost: that of copies.
+/// The region with this index is visited, with these values as far as its entry block has arguments. Errors: allocation
+/// failure. Cost: that of copies.
 pub fn visit(
     alloc: Global,
-    counts: &Counts,
+    counts: &ShapeCounts,
     region: usize,
     values: &[Datum],
 ) -> Result<Move, AllocError>
@@ -139,10 +139,10 @@ pub fn visit(
 }
 
 /// The region with this index is visited with these values, and then the visit that the operation stands in is
-/// left with what came of it. Errors: want of memory. Cost: that of copies.
+/// left with what came of it. Errors: allocation failure. Cost: that of copies.
 pub fn visit_and_leave(
     alloc: Global,
-    counts: &Counts,
+    counts: &ShapeCounts,
     region: usize,
     memo: &Datum,
     input: &[Datum],
@@ -161,7 +161,7 @@ pub(super) fn counts_of(
     alloc: Global,
     ctx: &Context,
     op: Ptr<Operation>,
-) -> Result<Counts, AllocError>
+) -> Result<ShapeCounts, AllocError>
     requires { IsLive ctx.now.tree op }
     ensures results { IfOk result (λ counts. counts.results ≡ length (results_of ctx.now.tree op)) }
     ensures entries { IfOk result (λ counts. counts.entry_arguments.items ≡ map (λ r. number_of_arguments (entry_block ctx.now.tree r)) (regions_of ctx.now.tree op)) }
@@ -170,7 +170,7 @@ pub(super) fn counts_of(
     for i in 0..op.num_region(ctx) {
         entry_arguments.push(num_region_argument(ctx, op.get_region(ctx, i)))?;
     }
-    Ok(Counts {
+    Ok(ShapeCounts {
         results: op.num_result(ctx),
         entry_arguments,
     })

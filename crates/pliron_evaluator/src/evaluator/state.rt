@@ -4,7 +4,7 @@ ghost use Rattle.std.specs.Prelude.{◌≡◌, [], ◌∷◌, map, drop, slice_g
 ghost use Rattle.std.specs.Option.{ForSome};
 ghost use Rattle.pliron_core.specs.Tree.{IsLive, IsBlock, operands_of, results_of, regions_of, successors_of};
 ghost use Rattle.pliron_laws.specs.Tree.{Operation as OperationRecord, op_at, and_block};
-ghost use Rattle.pliron_laws.specs.Machine.{start, trap, at_rest, bind, leave, given, enter, go_to, emit, entry_in, input_of, perform, turn, step};
+ghost use Rattle.pliron_laws.specs.Machine.{start, trap, at_rest, bind, leave, after_giving, enter, go_to, emit, entry_in, input_of, perform, turn, step};
 ghost use Rattle.pliron_evaluator.specs.Evaluator.{datum_of_value, move_of, environment_of, answer_of_values, waiting_of, state_of, next_of_value};
 
 use crate::evaluator::environment::{
@@ -17,7 +17,7 @@ use std::alloc::{AllocError, Global};
 use std::collections::{HashMap, VecDeque};
 use std::mem;
 
-/// An operation that waits for the end of a visit, with those after it in its block.
+/// An operation that waits for the end of an invocation, with those after it in its block.
 #[derive(Drop)]
 pub(super) struct Waiting {
     pub(super) rest: VecDeque<Ptr<Operation>>,
@@ -60,7 +60,7 @@ fn at_rest(state: State) -> State
     }
 }
 
-// A visit ends with these values, or the run where nothing waits.
+// An invocation ends with these values, or the run where no invocation is open.
 fn leave(mut state: State, values: Vec<Datum>) -> Next
     ensures { next_of_value result ≡ leave (state_of state) (map waiting_of state.waiting.items) (map datum_of_value values.items) }
 {
@@ -85,7 +85,7 @@ fn give(
 ) -> Result<Next, AllocError>
     requires live { IsLive ctx.now.tree op }
     requires first { slice_get state.rest.items 0 ≡ Some op }
-    ensures { IfOk result (λ next. next_of_value next ≡ given (state_of state) (drop 1 state.rest.items) (map waiting_of state.waiting.items)
+    ensures { IfOk result (λ next. next_of_value next ≡ after_giving (state_of state) (drop 1 state.rest.items) (map waiting_of state.waiting.items)
         (map datum_of_value values.items) (bind (environment_of state.environment) (results_of ctx.now.tree op) (map datum_of_value values.items))) }
 {
     let results = all_results(alloc, op, ctx)?;
@@ -158,7 +158,7 @@ fn successor(ctx: &Context, op: Ptr<Operation>, i: usize) -> Option<Ptr<BasicBlo
     }
 }
 
-// The operation visits its region with this index, and waits.
+// The operation invokes its region with this index, and waits.
 fn visit(
     alloc: Global,
     ctx: &Context,
@@ -196,7 +196,7 @@ fn go_to(
     enter(alloc, ctx, state, successor(ctx, op, i), values)
 }
 
-// The effect is told, and the world answers, or the run makes no further move.
+// The effect is emitted, and the environment answers, or the run makes no further move.
 fn emit(alloc: Global, mut state: State, effect: Datum, memo: Datum) -> Result<Next, AllocError>
     ensures { IfOk result (λ next. next_of_value next ≡ emit (state_of state) (datum_of_value effect) (datum_of_value memo) (map datum_of_value state.world.items)) }
 {

@@ -4,7 +4,7 @@ ghost use Rattle.pliron_core.specs.Tree.{IsLive, regions_of};
 ghost use Rattle.pliron_laws.specs.Tree.{entry_block, count_arguments};
 ghost use Rattle.pliron_laws.specs.Datum.{datum_of as content_of};
 ghost use Rattle.pliron_laws.specs.Answers.{ReadsHead};
-ghost use Rattle.pliron_evaluator.specs.Tiny.{first_attribute, first_datum, fitted_or_empty, begun, has_begun, between, ask_move, scope_move, visit_with, both_move, twice_move};
+ghost use Rattle.pliron_evaluator.specs.Tiny.{first_attribute, first_datum, fitted_or_empty, memo_when_begun, has_begun, between, ask_move, scope_move, visit_with, both_move, twice_move};
 ghost use Rattle.pliron_evaluator.specs.Evaluator.{datum_of_value, move_of};
 
 use crate::evaluator::shapes::num_entry_argument;
@@ -38,7 +38,7 @@ fn datum_or_empty(alloc: Global, input: &[Datum], i: usize) -> Result<Datum, All
 }
 
 // So many data, cut or filled.
-fn fitted(alloc: Global, count: usize, input: &[Datum]) -> Result<Vec<Datum>, AllocError>
+fn fit_data(alloc: Global, count: usize, input: &[Datum]) -> Result<Vec<Datum>, AllocError>
     ensures { IfOk result (λ values. map datum_of_value values.items ≡ fitted_or_empty count (map datum_of_value input.now)) }
 {
     let mut data = Vec::new(alloc);
@@ -59,8 +59,8 @@ fn has_begun(memo: &Datum) -> bool
 }
 
 // The memo after the first move.
-fn begun() -> Datum
-    ensures { datum_of_value result ≡ begun }
+fn memo_when_begun() -> Datum
+    ensures { datum_of_value result ≡ memo_when_begun }
 {
     Datum::Number(1)
 }
@@ -72,7 +72,7 @@ fn ask_move(alloc: Global, memo: &Datum, input: &[Datum]) -> Result<Move, AllocE
     if has_begun(memo) {
         Ok(Move::Give(one(alloc, datum)?))
     } else {
-        Ok(Move::Emit(datum, begun()))
+        Ok(Move::Emit(datum, memo_when_begun()))
     }
 }
 
@@ -87,7 +87,7 @@ fn scope_move(
     if has_begun(memo) {
         Ok(Move::Give(Vec::new(alloc)))
     } else {
-        Ok(Move::Visit(0, fitted(alloc, count, input)?, begun()))
+        Ok(Move::Visit(0, fit_data(alloc, count, input)?, memo_when_begun()))
     }
 }
 
@@ -113,7 +113,7 @@ fn visit_with(
 {
     let count = num_entry_argument(ctx, op, region);
     let passed = one(alloc, datum)?;
-    Ok(Move::Visit(region, fitted(alloc, count, &passed)?, memo))
+    Ok(Move::Visit(region, fit_data(alloc, count, &passed)?, memo))
 }
 
 fn both_move(
@@ -132,7 +132,7 @@ fn both_move(
             let second = datum_or_empty(alloc, input, 1)?;
             visit_with(alloc, ctx, op, 0, second, between(alloc, Datum::Empty)?)
         }
-        Datum::Join(_, _) => visit_with(alloc, ctx, op, 1, Datum::Empty, begun()),
+        Datum::Join(_, _) => visit_with(alloc, ctx, op, 1, Datum::Empty, memo_when_begun()),
         _ => Ok(Move::Give(Vec::new(alloc))),
     }
 }
@@ -154,7 +154,7 @@ fn twice_move(
             let kept = between(alloc, first.copy(alloc)?)?;
             visit_with(alloc, ctx, op, 0, first, kept)
         }
-        Datum::Join(kept, _) => visit_with(alloc, ctx, op, 0, kept.copy(alloc)?, begun()),
+        Datum::Join(kept, _) => visit_with(alloc, ctx, op, 0, kept.copy(alloc)?, memo_when_begun()),
         _ => Ok(Move::Give(Vec::new(alloc))),
     }
 }

@@ -27,7 +27,7 @@ fn copy_of(alloc: Global, text: &Text) -> Result<Text, AllocError>
 impl Datum {
     /// The content of an attribute.
     ///
-    /// Errors: want of memory. Cost: the length of a text.
+    /// Errors: allocation failure. Cost: the length of a text.
     pub fn of(alloc: Global, attr: &AttrObj) -> Result<Datum, AllocError>
         ensures { IfOk result (λ datum. datum_of_value datum ≡ content_of attr.now) }
     {
@@ -39,7 +39,7 @@ impl Datum {
 
     /// The two data as one.
     ///
-    /// Errors: want of memory. Cost: constant.
+    /// Errors: allocation failure. Cost: constant.
     pub fn join(alloc: Global, first: Datum, others: Datum) -> Result<Datum, AllocError>
         ensures { IfOk result (λ datum. datum_of_value datum ≡ Join (datum_of_value first) (datum_of_value others)) }
     {
@@ -50,7 +50,7 @@ impl Datum {
 
     /// An equal datum.
     ///
-    /// Errors: want of memory. Cost: the numbers and the lengths of the texts in it.
+    /// Errors: allocation failure. Cost: the numbers and the lengths of the texts in it.
     pub fn copy(&self, alloc: Global) -> Result<Datum, AllocError>
         ensures { IfOk result (λ datum. datum_of_value datum ≡ datum_of_value self.now) }
     {
@@ -78,7 +78,7 @@ pub enum Move {
     Goto(usize, Vec<Datum>),
     /// Ends the visit that its block is in, with these values.
     Leave(Vec<Datum>),
-    /// Tells an effect, and leaves itself a memo.
+    /// Emits an effect, and leaves itself a memo.
     Emit(Datum, Datum),
     /// Makes no further move, nor does the run.
     Trap,
@@ -99,7 +99,7 @@ pub enum Sight {
 pub trait Evaluate: HasMeaning {
     /// The move that the operation makes with this memo on this input.
     ///
-    /// Asks that the operation stands (`is_live` tests it). Errors: want of memory.
+    /// Asks that the operation stands (`is_live` tests it). Errors: allocation failure.
     fn next_move(
         alloc: Global,
         ctx: &Context,

@@ -1,12 +1,12 @@
 -- The collection of a component over predecessors, which contracts inside the crate cite.
 use Rattle.std.specs.Prelude.{◌≡◌, Bool, IsTrue, List, [], ◌∷◌, ◌++◌, Contains, ◌↔◌}
 use Rattle.std.specs.List.{IsDistinct}
-use Rattle.pliron_search.specs.Digraph.{Digraph}
-use Rattle.pliron_search.specs.Search.{number_in}
+use Rattle.pliron_traversal.specs.Digraph.{Digraph}
+use Rattle.pliron_traversal.specs.Search.{number_in}
 use Rattle.pliron_graph.specs.Components.{Falls, IsCyclic, AreComponents, entry_then_nodes}
 use Rattle.pliron_graph.specs.declared.components.Scc.{Scc}
-use Rattle.pliron_search.specs.Internal.Forest.{Grew}
-use Rattle.pliron_search.specs.Internal.Membership.{HasMember}
+use Rattle.pliron_traversal.specs.Internal.Forest.{Grew}
+use Rattle.pliron_traversal.specs.Internal.Membership.{HasMember}
 
 -- new is old with those of xs that it lacked
 pub record TakesIn {N : Type 0} (eq : N → N → Bool) (xs old new : List N) : Type 0 where

@@ -1,7 +1,7 @@
 -- The component of each node, by the place of the node.
 use Rattle.std.specs.Prelude.{◌≡◌, ℕ, ◌<◌, Bool, List, Some, Contains, get_or, slice_get}
 use Rattle.std.specs.List.{All}
-use Rattle.pliron_search.specs.Search.{number_in}
+use Rattle.pliron_traversal.specs.Search.{number_in}
 use Rattle.pliron_graph.specs.declared.components.Scc.{Scc}
 
 -- what is written at the place of v

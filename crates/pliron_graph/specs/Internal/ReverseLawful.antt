@@ -2,11 +2,11 @@
 use Rattle.std.proofs.Common.{◌≡◌, Bool, true, false, List, [], ◌∷◌, refl, sym, ◌∙◌, ap, inl, inr, Contains, true≢false, map, if◌then◌else◌}
 use Rattle.std.specs.List.{All, list_any, IsDistinct, AllByRecursion}
 use Rattle.std.proofs.lemmas.List.Elements.{All-contains}
-use Rattle.pliron_search.specs.Digraph.{Digraph, IsLawful}
+use Rattle.pliron_traversal.specs.Digraph.{Digraph, IsLawful}
 use Rattle.pliron_graph.specs.Reverse.{reverse_of, reverse_succ, reverse_pred}
 use Rattle.pliron_graph.specs.declared.reverse_node.ReverseNode.{ReverseNode}
 use Rattle.pliron_graph.specs.declared.reverse_node.ReverseNode.TheVariants.{Sentinel, Real}
-use Rattle.pliron_search.specs.Internal.Membership.{HasMember, in_from, contains_from, in_left, in_right, in_cases, in_from_any, any_from_in}
+use Rattle.pliron_traversal.specs.Internal.Membership.{HasMember, in_from, contains_from, in_left, in_right, in_cases, in_from_any, any_from_in}
 
 pub in_map : {A B : Type 0} (f : A → B) (xs : List A) (x : A) → HasMember xs x → HasMember (map f xs) (f x)
 in_map f [] x h = absurd h

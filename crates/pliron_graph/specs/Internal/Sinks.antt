@@ -1,6 +1,6 @@
 -- Pre-sentinels with the components that they are of, which contracts inside the crate cite.
 use Rattle.std.specs.Prelude.{Bool, List}
-use Rattle.pliron_search.specs.Digraph.{Digraph}
+use Rattle.pliron_traversal.specs.Digraph.{Digraph}
 use Rattle.pliron_graph.specs.Reverse.{AreLastOfSinks}
 use Rattle.pliron_graph.specs.Internal.Collecting.{AreNumberedComponents}
 use Rattle.pliron_graph.specs.declared.components.Scc.{Scc}

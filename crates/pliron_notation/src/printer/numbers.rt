@@ -19,7 +19,7 @@ pub struct Numbers {
 impl Numbers {
     /// No numbers yet. So many keys from `first` on have a place of their own.
     ///
-    /// Errors: want of memory. Cost: one step for each place.
+    /// Errors: allocation failure. Cost: one step for each place.
     pub fn new(alloc: Global, first: u64, places: usize) -> Result<Numbers, AllocError> {
         Ok(Numbers {
             first,
@@ -36,7 +36,7 @@ impl Numbers {
 
     /// Gives the key its number.
     ///
-    /// Errors: want of memory. Cost: constant, amortised.
+    /// Errors: allocation failure. Cost: constant, amortised.
     #[inline(always)]
     pub fn insert(&mut self, key: u64, number: usize) -> Result<(), AllocError> {
         let place = self.place(key);

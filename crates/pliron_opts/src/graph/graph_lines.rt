@@ -1,14 +1,13 @@
 //! What `plir_opt graph` prints.
 ghost use Rattle.std.specs.Prelude.{Contains, nat_eq};
 ghost use Rattle.std.specs.Option.{option_to_list};
-ghost use Rattle.pliron_search.specs.Adjacency.{AreInverse, graph_of};
-ghost use Rattle.pliron_search.specs.Search.{IsSearch, IsListed};
+ghost use Rattle.pliron_traversal.specs.Adjacency.{AreInverse, graph_of};
+ghost use Rattle.pliron_traversal.specs.Search.{IsSearch, IsListed};
 
 use pliron_graph::{
-    ControlFlowGraph, DFSTraversal, ReverseGraph, post_order_by_component,
+    ControlFlowGraph, DFSTraversal, NumberedGraph, ReverseGraph, post_order_by_component,
     sccs_in_topological_order, topological_order_by_component,
 };
-use pliron_graph_text::NumberedGraph;
 use pliron_laws::OptError;
 use std::alloc::Global;
 
@@ -145,7 +144,7 @@ fn push_pre_sentinels(
 /// What the program prints of a graph, with the numbers of its nodes: its orders, its search numbers, the
 /// kinds of its edges, its components and the pre-sentinels of its reverse, a line each.
 ///
-/// Asks that each node is among the predecessors of exactly its successors. Errors: want of memory. Cost:
+/// Asks that each node is among the predecessors of exactly its successors. Errors: allocation failure. Cost:
 /// linear in the nodes and edges, but for sorting each component.
 pub fn print_graph(alloc: Global, graph: &NumberedGraph) -> Result<String, OptError>
     requires { AreInverse graph.now.edges }

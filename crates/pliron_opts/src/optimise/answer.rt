@@ -13,12 +13,12 @@ use super::notation::Notation;
 use pliron_core::{Context, IRStatus, Operation, Ptr};
 use pliron_laws::{Dialect, OptError};
 use pliron_pass::{AnalysisManager, BenchFactKind, BenchFacts, Pass};
-use pliron_pipeline::{Schedule, run_pipeline, schedules_are_honest};
+use pliron_pipeline::{Schedule, run_pipeline, schedules_report_accurately};
 use std::alloc::{AllocError, Global};
 
 /// Runs the passes once on the operation, with nothing configured and nothing cached.
 ///
-/// Errors: those of the passes; want of memory, after some whole rewrites.
+/// Errors: those of the passes; allocation failure, after some whole rewrites.
 fn run_schedule<D: Dialect>(
     alloc: Global,
     mut schedule: Schedule<D, BenchFacts>,
@@ -35,7 +35,7 @@ fn run_schedule<D: Dialect>(
         ctx.old.tree ctx.new.tree status) }
     ensures truly { IfOk result (λ status. status ≡ Unchanged → IsSameTree ctx.old.tree ctx.new.tree) }
 {
-    schedules_are_honest::<D, BenchFacts>();
+    schedules_report_accurately::<D, BenchFacts>();
     let mut analyses = AnalysisManager::new(alloc);
     run_pipeline(&mut schedule, alloc, root, ctx, &mut analyses)
 }
@@ -53,7 +53,7 @@ fn with_status(mut text: String, status: IRStatus) -> Result<String, AllocError>
 
 /// What the program writes for a text that is to be optimised; `None` for a text outside the notation.
 /// Errors: those of the passes and of the notation. Cost: reading, the passes and printing.
-pub fn optimised<N: Notation>(
+pub fn optimise_text<N: Notation>(
     alloc: Global,
     schedule: Schedule<N::D, BenchFacts>,
     text: &[u8],

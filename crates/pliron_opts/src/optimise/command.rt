@@ -1,13 +1,13 @@
 //! What the arguments of the program ask for.
 ghost use Rattle.std.specs.Prelude.{◌≡◌, map, IfOk, IfSome, string_bytes};
-ghost use Rattle.pliron_pipeline.specs.Steps.{step_name};
+ghost use Rattle.pliron_pipeline.specs.PassSteps.{step_name};
 ghost use Rattle.pliron_opts.specs.Asked.{AskFor, IsPlanned, is_nested, names_of};
 ghost use Rattle.pliron_opts.specs.Ran.{IsScheduled};
 
-use crate::program::Plan;
+use crate::program::PipelineWord;
 use pliron_laws::Dialect;
 use pliron_pass::{BenchFacts, Either, NestedOpsPass, Passes, Repeat};
-use pliron_pipeline::{Pipeline, Schedule, Step};
+use pliron_pipeline::{PassStep, Pipeline, Schedule};
 use std::alloc::{AllocError, Global};
 
 /// What the arguments ask for.
@@ -19,16 +19,24 @@ pub enum Command<D: Dialect> {
     Graph,
 }
 
+/// Whether the word is the name of a pass in the words of the program, which are fixed: a pipeline of the library has more.
+fn is_word(name: &str) -> bool {
+    matches!(name, "sccp" | "dce" | "simplify-cfg")
+}
+
 /// The passes of these names in turn, if each is the name of one.
 fn passes<D: Dialect>(
     alloc: Global,
     names: &[&str],
-) -> Result<Option<Passes<Step<D, BenchFacts>>>, AllocError>
+) -> Result<Option<Passes<PassStep<D, BenchFacts>>>, AllocError>
     ensures { IfOk result (λ found. IfSome found (λ passes. map step_name passes.passes.items ≡ map (λ name. name.now) names.now)) }
 {
     let mut passes = Passes::new(alloc);
     for name in names {
-        let Some(step) = Step::from_name(name) else {
+        if !is_word(name) {
+            return Ok(None);
+        }
+        let Some(step) = PassStep::from_name(name) else {
             return Ok(None);
         };
         if passes.add_pass(step).is_err() {
@@ -71,14 +79,16 @@ fn schedule<D: Dialect>(
     }
 }
 
-/// The schedule that the word plans, if each of its names is the name of a pass.
-fn planned<D: Dialect>(
+/// The schedule (pass pipeline) that the word plans, if each of its names is the name of a pass.
+///
+/// Errors: allocation failure. Cost: linear in the word.
+pub fn plan_schedule<D: Dialect>(
     alloc: Global,
     word: &str,
 ) -> Result<Option<Schedule<D, BenchFacts>>, AllocError>
     ensures { IfOk result (λ found. IfSome found (λ schedule. IsPlanned word.now schedule)) }
 {
-    let Some(plan) = Plan::read(alloc, word)? else {
+    let Some(plan) = PipelineWord::read(alloc, word)? else {
         return Ok(None);
     };
     match pipeline(alloc, plan.nested, &plan.names)? {
@@ -89,8 +99,11 @@ fn planned<D: Dialect>(
 
 /// What the words after the program's name ask for, if they are understood: `graph`, or a list of passes.
 ///
-/// Errors: want of memory. Cost: linear in the words.
-pub fn asked<D: Dialect>(alloc: Global, words: &[String]) -> Result<Option<Command<D>>, AllocError>
+/// Errors: allocation failure. Cost: linear in the words.
+pub fn read_command<D: Dialect>(
+    alloc: Global,
+    words: &[String],
+) -> Result<Option<Command<D>>, AllocError>
     ensures { IfOk result (λ found. IfSome found (λ command. AskFor (map string_bytes words.now) command)) }
 {
     let [word] = words else {
@@ -99,7 +112,7 @@ pub fn asked<D: Dialect>(alloc: Global, words: &[String]) -> Result<Option<Comma
     if word.as_str() == "graph" {
         return Ok(Some(Command::Graph));
     }
-    match planned(alloc, word.as_str())? {
+    match plan_schedule(alloc, word.as_str())? {
         Some(schedule) => Ok(Some(Command::Optimise(schedule))),
         None => Ok(None),
     }

@@ -12,7 +12,7 @@ use pliron_core::{Context, Operation, Ptr};
 use pliron_dialects::{ByKinds, Kinds};
 use pliron_laws::{Dialect, OptError};
 use pliron_notation::{Word, print_text, read_text};
-use pliron_texts as texts;
+use pliron_table_text as texts;
 use std::alloc::Global;
 use std::marker::PhantomData;
 
@@ -26,8 +26,8 @@ pub trait Notation {
     // the operation in the tree is printed so
     ghost prints: { Prints };
 
-    /// Reads a text. Its operation stands and is well linked. `None` is a text outside the notation. Asks
-    /// that the context is empty. Errors: want of memory.
+    /// Reads a text. Its operation is live and well linked. `None` is a text outside the notation. Asks that
+    /// the context is empty. Errors: allocation failure.
     fn read(
         alloc: Global,
         text: &[u8],
@@ -38,7 +38,7 @@ pub trait Notation {
         ensures linked { IfOk result (λ found. IfSome found (λ root. IsWellLinked Self.D.meaning ctx.new.tree root)) }
         ensures text { IfOk result (λ found. IfSome found (λ root. reads text.now ctx.new.tree root)) };
 
-    /// Prints the operation. Asks that the operation stands (`is_live` tests it). Errors: want of memory.
+    /// Prints the operation. Asks that the operation is live (`is_live` tests it). Errors: allocation failure.
     fn print(alloc: Global, root: Ptr<Operation>, ctx: &Context) -> Result<String, OptError>
         requires { IsLive ctx.now.tree root }
         ensures { IfOk result (λ printed. prints ctx.now.tree root (string_bytes printed)) };

@@ -11,7 +11,7 @@ use std::io::{ErrorKind, Read, Write};
 pub const MAX_TEXT: usize = 1_048_576;
 
 /// The input, of which no more is read than one byte past the longest text. Errors: a read that fails, or
-/// want of memory. Cost: linear in the input, up to the longest text.
+/// allocation failure. Cost: linear in the input, up to the longest text.
 pub fn read_input<R: Read>(alloc: Global, input: &mut R) -> Result<Vec<u8>, Failure>
     ensures read { IfOk result (λ text. Consumes (R.remaining input.old) (R.remaining input.new) text.items) }
     ensures few { IfOk result (λ text. length text.items ≤ 1048577) }

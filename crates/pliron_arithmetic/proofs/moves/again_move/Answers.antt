@@ -1,7 +1,7 @@
 use Rattle.std.proofs.Common.{drop, map, sym, ◌∙◌, subst}
 use Rattle.std.specs.Result.{IfOk}
 use Rattle.pliron_laws.specs.Datum.{Give}
-use Rattle.pliron_dialects.specs.Visits.{fitted, visit_of}
+use Rattle.pliron_dialects.specs.Visits.{fit_data, visit_of}
 use Rattle.pliron_evaluator.specs.Evaluator.{datum_of_value, move_of}
 use Rattle.pliron_evaluator.specs.OwnMoves.{MovesBy}
 use Rattle.pliron_arithmetic.specs.Arithmetic.{again_unless}
@@ -13,7 +13,7 @@ returns-then-is_over c =
     let counts = c.args.counts.now in
     let input = map datum_of_value c.args.input.now in
     subst (λ b. IfOk r (λ n. MovesBy counts (move_of n) (λ s. again_unless b s (drop 1 input)))) (sym (sym c.is_over.ensures ∙ c.if-is_over.true))
-    (subst (λ vs. IfOk r (λ n. MovesBy counts (move_of n) (λ s. Give (fitted s.results vs)))) c.behind_first-rest.ensures c.give.ensures)
+    (subst (λ vs. IfOk r (λ n. MovesBy counts (move_of n) (λ s. Give (fit_data s.results vs)))) c.behind_first-rest.ensures c.give.ensures)
 
 pub returns-else-is_over : goal.returns-else-is_over
 returns-else-is_over c =

@@ -12,5 +12,5 @@ returns-in-Empty c =
     let counts = c.args.counts.now in
     let input = map datum_of_value c.args.input.now in
     subst (λ d. IfOk r (λ n. MovesBy counts (move_of n) (λ s. if_act s (datum_of_value d) input))) (sym c.in-Empty.is)
-    (subst (λ i. IfOk r (λ n. MovesBy counts (move_of n) (λ s. visit_of i s (drop 1 input)))) c.chosen-region.ensures
-    (subst (λ vs. IfOk r (λ n. MovesBy counts (move_of n) (λ s. visit_of c.chosen-region.result s vs))) c.behind_first-rest.ensures c.visit.ensures))
+    (subst (λ i. IfOk r (λ n. MovesBy counts (move_of n) (λ s. visit_of i s (drop 1 input)))) c.choice_by_input-region.ensures
+    (subst (λ vs. IfOk r (λ n. MovesBy counts (move_of n) (λ s. visit_of c.choice_by_input-region.result s vs))) c.behind_first-rest.ensures c.visit.ensures))

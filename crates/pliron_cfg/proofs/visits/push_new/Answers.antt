@@ -1,6 +1,6 @@
 use Rattle.std.proofs.Common.{◌≡◌, ◌+◌, ◌++◌, ◌∷◌, [], true, nat_eq, ◌&&◌, take, sym, ap, ◌∙◌}
 use Rattle.std.proofs.lemmas.List.{take_more}
-use Rattle.pliron_search.proofs.InsertLemmas.{was_new, was_there}
+use Rattle.pliron_traversal.proofs.InsertLemmas.{was_new, was_there}
 use Rattle.pliron_cfg.proofs.Growing.{grew_old, grew_new}
 use Rattle.pliron_cfg.proofs.Tested.{tested_in, not_tested}
 use Rattle.pliron_cfg.proofs.visits.push_new.Goals as goal

@@ -2,7 +2,7 @@ use Rattle.std.proofs.Common.{rules, ◌≡◌, ◌++◌, ◌∷◌, [], ℕ, �
 use Rattle.pliron_core.specs.Tree.{In}
 use Rattle.pliron_core.specs.Reads.{has_ssa}
 use Rattle.pliron_core.proofs.ListLemmas.{In-right}
-use Rattle.pliron_search.specs.Regions.{IsLawfulRegion}
+use Rattle.pliron_traversal.specs.Regions.{IsLawfulRegion}
 use Rattle.pliron_cfg.specs.Visited.{IsLookedIntoIf}
 use Rattle.pliron_cfg.specs.Internal.Seen.{HasGrown, blocks_postponed}
 use Rattle.pliron_cfg.proofs.Lawful.{visited_lawful, entered_stands, seen_few, fewer_left}

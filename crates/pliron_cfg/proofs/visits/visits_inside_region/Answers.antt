@@ -1,7 +1,7 @@
 use Rattle.std.proofs.Common.{◌≡◌, ℕ, List, [], ◌∷◌, subst, sym, ap, ◌++◌, ◌∙◌, inl, ⊎_elim}
 use Rattle.std.proofs.lemmas.Result.{IfOk-weaker}
 use Rattle.pliron_core.specs.Tree.{In}
-use Rattle.pliron_search.specs.Regions.{IsLawfulRegion}
+use Rattle.pliron_traversal.specs.Regions.{IsLawfulRegion}
 use Rattle.pliron_cfg.specs.Visited.{OfRegion}
 use Rattle.pliron_cfg.proofs.Lawful.{region_itself}
 use Rattle.pliron_cfg.proofs.Visiting.{visits_alike}

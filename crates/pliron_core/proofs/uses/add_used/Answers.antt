@@ -1,6 +1,6 @@
 use Rattle.std.proofs.Common.{◌++◌, ◌∷◌, [], ◌∙◌, ap, sym, arith}
 use Rattle.pliron_core.specs.declared.uses.Use.{Use}
-use Rattle.pliron_core.specs.Places.{uses_by}
+use Rattle.pliron_core.specs.UseSlots.{uses_by}
 use Rattle.pliron_core.proofs.GrownLemmas.{added_more}
 use Rattle.pliron_core.proofs.UserLemmas.{uses_more}
 use Rattle.pliron_core.proofs.uses.add_used.Goals as goal

@@ -1,5 +1,5 @@
 use Rattle.std.proofs.Common.{◌≡◌, ◌+◌, ◌++◌, vec_len, vec_capacity}
-use Rattle.pliron_core.specs.Places.{uses_by}
+use Rattle.pliron_core.specs.UseSlots.{uses_by}
 use Rattle.pliron_core.proofs.uses.add_used.Given as goal
 
 abbrev pub invariant-loop-place : goal.invariant-loop-place

@@ -5,7 +5,7 @@ use Rattle.pliron_core.proofs.WalkLemmas.{within_live, In-preorder}
 use Rattle.pliron_core.proofs.WalkStepLemmas.{next_inside}
 use Rattle.pliron_laws.proofs.PassedLemmas.{ArePassed, passed_all}
 use Rattle.pliron_laws.proofs.EdgeLastLemmas.{walk_smaller, walk_passed}
-use Rattle.pliron_dce.specs.Work.{items_of, IsCovered}
+use Rattle.pliron_dce.specs.Worklist.{items_of, IsCovered}
 use Rattle.pliron_dce.proofs.CandidateLemmas.{passed_weaker, covered_more, covers_all}
 use Rattle.pliron_dce.proofs.candidates.all_candidates.Goals as goal
 
@@ -25,16 +25,16 @@ loop-at-preserved c =
     let w = c.well_formed-2.ensures.tree in
     let within = c.loop-at.invariant.within c.in-Some.op c.in-Some.is in
     let adds = c.in_ok-push_operation.ensures in
-    let before = subst (ArePassed (λ k. IsCovered t c.args.root (items_of c.loop-at.work.items) k) (preorder t c.args.root)) c.in-Some.is c.loop-at.invariant.passed in
-    let more = passed_weaker (λ k. IsCovered t c.args.root (items_of c.loop-at.work.items) k) (λ k. IsCovered t c.args.root (items_of c.push_operation.new.work.items) k) (preorder t c.args.root) (Some c.in-Some.op) (λ k h. covered_more t c.args.root k _ _ adds.kept h) before in
+    let before = subst (ArePassed (λ k. IsCovered t c.args.root (items_of c.loop-at.worklist.items) k) (preorder t c.args.root)) c.in-Some.is c.loop-at.invariant.passed in
+    let more = passed_weaker (λ k. IsCovered t c.args.root (items_of c.loop-at.worklist.items) k) (λ k. IsCovered t c.args.root (items_of c.push_operation.new.worklist.items) k) (preorder t c.args.root) (Some c.in-Some.op) (λ k h. covered_more t c.args.root k _ _ adds.kept h) before in
     record {
       within = λ k e. inr (next_inside t w c.args.root c.in-Some.op k (sym c.next_in_preorder-at.ensures.next ∙ e));
-      passed = walk_passed t w (λ k. IsCovered t c.args.root (items_of c.push_operation.new.work.items) k) c.args.root c.in-Some.op c.next_in_preorder-at.result within c.next_in_preorder-at.ensures.next adds.covered more;
+      passed = walk_passed t w (λ k. IsCovered t c.args.root (items_of c.push_operation.new.worklist.items) k) c.args.root c.in-Some.op c.next_in_preorder-at.result within c.next_in_preorder-at.ensures.next adds.covered more;
     }
 
 pub returns : goal.returns
 returns c =
     let t = c.args.ctx.now.tree in
     let w = c.well_formed-2.ensures.tree in
-    let all = subst (ArePassed (λ k. IsCovered t c.args.root (items_of c.loop-at.work.items) k) (preorder t c.args.root)) c.in_default.is c.loop-at.invariant.passed in
-    covers_all t w c.args.root (items_of c.loop-at.work.items) (λ k within. passed_all (λ k. IsCovered t c.args.root (items_of c.loop-at.work.items) k) (preorder t c.args.root) all k ((In-preorder t w c.args.root k).1 within))
+    let all = subst (ArePassed (λ k. IsCovered t c.args.root (items_of c.loop-at.worklist.items) k) (preorder t c.args.root)) c.in_default.is c.loop-at.invariant.passed in
+    covers_all t w c.args.root (items_of c.loop-at.worklist.items) (λ k within. passed_all (λ k. IsCovered t c.args.root (items_of c.loop-at.worklist.items) k) (preorder t c.args.root) all k ((In-preorder t w c.args.root k).1 within))

@@ -4,13 +4,13 @@ use Rattle.pliron_core.specs.Tree.{IsWithin}
 use Rattle.pliron_core.specs.Walks.{preorder}
 use Rattle.pliron_core.specs.WalkSteps.{rest_from}
 use Rattle.pliron_laws.proofs.PassedLemmas.{ArePassed}
-use Rattle.pliron_dce.specs.Work.{items_of, IsCovered}
+use Rattle.pliron_dce.specs.Worklist.{items_of, IsCovered}
 use Rattle.pliron_dce.proofs.candidates.all_candidates.Given as goal
 
 abbrev pub invariant-loop-at : goal.invariant-loop-at
 invariant-loop-at l = record {
   within : ForSome l.at (λ k. IsWithin l.ctx.tree l.root k);
-  passed : ArePassed (λ k. IsCovered l.ctx.tree l.root (items_of l.work.items) k) (preorder l.ctx.tree l.root) l.at;
+  passed : ArePassed (λ k. IsCovered l.ctx.tree l.root (items_of l.worklist.items) k) (preorder l.ctx.tree l.root) l.at;
 }
 
 abbrev pub decreases-loop-at : goal.decreases-loop-at

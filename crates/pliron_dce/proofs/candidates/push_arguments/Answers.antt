@@ -2,10 +2,10 @@ use Rattle.std.proofs.Common.{slice_get, sym, ap, subst, ◌∙◌, arith}
 use Rattle.std.proofs.lemmas.Option.{slice_get_within}
 use Rattle.pliron_core.specs.Tree.{In, arguments_of}
 use Rattle.pliron_core.proofs.HoldingLemmas.{some_is, slice_in}
-use Rattle.pliron_dce.specs.declared.work.Candidate.TheVariants.{Argument}
+use Rattle.pliron_dce.specs.declared.worklist.DeadCandidate.TheVariants.{Argument}
 use Rattle.pliron_dce.specs.Dead.{Arg}
-use Rattle.pliron_dce.specs.Steps.{Among}
-use Rattle.pliron_dce.specs.Work.{items_of}
+use Rattle.pliron_dce.specs.Readiness.{Among}
+use Rattle.pliron_dce.specs.Worklist.{items_of}
 use Rattle.pliron_dce.proofs.ReadyTests.{less_or_same}
 use Rattle.pliron_dce.proofs.WorkLemmas.{among_front, among_last}
 use Rattle.pliron_dce.proofs.candidates.push_arguments.Goals as goal

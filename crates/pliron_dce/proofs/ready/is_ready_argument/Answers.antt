@@ -1,6 +1,6 @@
 use Rattle.std.proofs.Common.{arith}
 use Rattle.pliron_laws.proofs.AnswerLemmas.{no, refuted}
-use Rattle.pliron_dce.specs.Steps.{IsReadyArgument}
+use Rattle.pliron_dce.specs.Readiness.{IsReadyArgument}
 use Rattle.pliron_dce.proofs.ReadyTests.{no_use, some_use, argument_told, ready_loses, ready_led}
 use Rattle.pliron_dce.proofs.ready.is_ready_argument.Goals as goal
 
@@ -14,10 +14,10 @@ returns-then-not-may_lose g c =
     let m = g.D.HasMeaning.meaning in
     let t = c.args.ctx.now.tree in
     no (IsReadyArgument m g.D.BlockArgRemoval.removable t c.args.root c.args.value) (λ r.
-    refuted c.may_lose.result c.if-not-may_lose.true (c.may_lose.ensures.1 (ready_loses m g.D.BlockArgRemoval.removable t c.args.root c.args.value c.well_formed-2.ensures.tree c.in-Argument.block c.in-Argument.field-1 c.in-Argument.ensures.definition c.holder_of-holder.result c.holder_of-holder.ensures.holder r)))
+    refuted c.may_lose.result c.if-not-may_lose.true (c.may_lose.ensures.1 (ready_loses m g.D.BlockArgRemoval.removable t c.args.root c.args.value c.well_formed-2.ensures.tree c.in-Argument.block c.in-Argument.field-1 c.in-Argument.ensures.definition c.parent_operation_of-holder.result c.parent_operation_of-holder.ensures.holder r)))
 
 pub are_branches_of-requires-clause-inside : goal.are_branches_of-requires-clause-inside
-are_branches_of-requires-clause-inside g c = (c.holder_of-holder.result, c.holder_of-holder.ensures.holder, c.is_within.ensures.0 c.if-not-is_within.false)
+are_branches_of-requires-clause-inside g c = (c.parent_operation_of-holder.result, c.parent_operation_of-holder.ensures.holder, c.is_within.ensures.0 c.if-not-is_within.false)
 
 pub returns : goal.returns
 returns g c =
@@ -25,6 +25,6 @@ returns g c =
     let t = c.args.ctx.now.tree in
     let w = c.well_formed-2.ensures.tree in
     let d = c.in-Argument.ensures.definition in (
-      (λ e. argument_told m g.D.BlockArgRemoval.removable t c.args.root c.args.value w c.in-Argument.block c.in-Argument.field-1 d c.holder_of-holder.result c.holder_of-holder.ensures.holder (c.is_live.ensures.0 c.if-not-is_live.false) (no_use t c.args.ctx.now.value_uses c.args.value c.well_formed-2.ensures.uses.value_uses (grind (arith, c.num_use.ensures, c.if-num_use-ne0.false))) (c.is_within.ensures.0 c.if-not-is_within.false) (c.may_lose.ensures.0 c.if-not-may_lose.false) (c.are_branches_of.ensures.0 e)),
-      (λ r. c.are_branches_of.ensures.1 (ready_led m g.D.BlockArgRemoval.removable t c.args.root c.args.value w c.in-Argument.block c.in-Argument.field-1 d c.holder_of-holder.result c.holder_of-holder.ensures.holder r)),
+      (λ e. argument_told m g.D.BlockArgRemoval.removable t c.args.root c.args.value w c.in-Argument.block c.in-Argument.field-1 d c.parent_operation_of-holder.result c.parent_operation_of-holder.ensures.holder (c.is_live.ensures.0 c.if-not-is_live.false) (no_use t c.args.ctx.now.value_uses c.args.value c.well_formed-2.ensures.uses.value_uses (grind (arith, c.num_use.ensures, c.if-num_use-ne0.false))) (c.is_within.ensures.0 c.if-not-is_within.false) (c.may_lose.ensures.0 c.if-not-may_lose.false) (c.are_branches_of.ensures.0 e)),
+      (λ r. c.are_branches_of.ensures.1 (ready_led m g.D.BlockArgRemoval.removable t c.args.root c.args.value w c.in-Argument.block c.in-Argument.field-1 d c.parent_operation_of-holder.result c.parent_operation_of-holder.ensures.holder r)),
     )

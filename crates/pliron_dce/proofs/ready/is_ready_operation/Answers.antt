@@ -1,7 +1,7 @@
 use Rattle.std.proofs.Common.{refl, arith}
 use Rattle.pliron_laws.proofs.AnswerLemmas.{no, refuted}
 use Rattle.pliron_dce.proofs.LeafLemmas.{leaf_contained}
-use Rattle.pliron_dce.specs.Steps.{IsReadyOperation}
+use Rattle.pliron_dce.specs.Readiness.{IsReadyOperation}
 use Rattle.pliron_dce.proofs.ReadyTests.{ready_told, ready_unheld, ready_unused}
 use Rattle.pliron_dce.proofs.TakeLemmas.{op_live, op_contained}
 use Rattle.pliron_dce.proofs.ready.is_ready_operation.Goals as goal
@@ -9,8 +9,8 @@ use Rattle.pliron_dce.proofs.ready.is_ready_operation.Goals as goal
 pub returns-then-not-is_live : goal.returns-then-not-is_live
 returns-then-not-is_live g c = no (IsReadyOperation g.D.HasMeaning.meaning g.D.SideEffects.side_effects c.args.ctx.now.tree c.args.root c.args.op) (λ r. refuted c.is_live.result c.if-not-is_live.true (c.is_live.ensures.1 (op_live g.D.HasMeaning.meaning g.D.SideEffects.side_effects c.args.ctx.now.tree c.args.root c.args.op c.well_formed-2.ensures.tree c.requires.linked g.met.D.Dialect.keeps_counts g.D.BlockArgRemoval.removable g.met.D.Dialect.gives_at_once r)))
 
-pub returns-then-is_found_held : goal.returns-then-is_found_held
-returns-then-is_found_held g c = no (IsReadyOperation g.D.HasMeaning.meaning g.D.SideEffects.side_effects c.args.ctx.now.tree c.args.root c.args.op) (λ r. ready_unheld g.D.HasMeaning.meaning g.D.SideEffects.side_effects c.args.ctx.now.tree c.args.root c.args.op r (c.is_found_held.ensures c.if-is_found_held.true))
+pub returns-then-is_kept_alive : goal.returns-then-is_kept_alive
+returns-then-is_kept_alive g c = no (IsReadyOperation g.D.HasMeaning.meaning g.D.SideEffects.side_effects c.args.ctx.now.tree c.args.root c.args.op) (λ r. ready_unheld g.D.HasMeaning.meaning g.D.SideEffects.side_effects c.args.ctx.now.tree c.args.root c.args.op r (c.is_kept_alive.ensures c.if-is_kept_alive.true))
 
 pub returns-then-not-is_unused : goal.returns-then-not-is_unused
 returns-then-not-is_unused g c = no (IsReadyOperation g.D.HasMeaning.meaning g.D.SideEffects.side_effects c.args.ctx.now.tree c.args.root c.args.op) (λ r. refuted c.is_unused.result c.if-not-is_unused.true (c.is_unused.ensures.1 (ready_unused g.D.HasMeaning.meaning g.D.SideEffects.side_effects c.args.ctx.now.tree c.args.root c.args.op r)))

@@ -1,7 +1,7 @@
 use Rattle.std.proofs.Common.{List, IfOk, IsTrue, ◌↔◌, sym, subst}
 use Rattle.pliron_theory.specs.Edges.{KeepsEdges}
 use Rattle.pliron_dce.specs.Dead.{Item}
-use Rattle.pliron_dce.specs.Going.{IsSweptSoFar, LeavesNoDead, SomeHasRegions, TellsGone}
+use Rattle.pliron_dce.specs.Erasing.{IsSweptSoFar, LeavesNoDead, SomeHasRegions, ReportsErased}
 use Rattle.pliron_dce.proofs.sweep.sweep.Goals as goal
 
 pub returns-clause-gone : goal.returns-clause-gone
@@ -10,8 +10,8 @@ returns-clause-gone g c =
     let effects = g.D.SideEffects.side_effects in
     let removable = g.D.BlockArgRemoval.removable in
     let t = c.args.ctx.now.tree in
-    subst (λ z. (gone : List Item) × IsSweptSoFar m g.D.Dialect.shortened effects removable t z.tree c.args.root gone × IfOk c.take_all-swept.result (λ a. LeavesNoDead m effects removable t z.tree c.args.root × TellsGone gone a.0 × (IsTrue a.1 ↔ SomeHasRegions t gone)))
-    (sym c.settle.ensures) c.take_all-swept.ensures.gone
+    subst (λ z. (gone : List Item) × IsSweptSoFar m g.D.Dialect.shortened effects removable t z.tree c.args.root gone × IfOk c.erase_all_dead-swept.result (λ a. LeavesNoDead m effects removable t z.tree c.args.root × ReportsErased gone a.0 × (IsTrue a.1 ↔ SomeHasRegions t gone)))
+    (sym c.settle.ensures) c.erase_all_dead-swept.ensures.gone
 
 pub returns-clause-edges : goal.returns-clause-edges
-returns-clause-edges g c = subst (λ z. IfOk c.take_all-swept.result (λ a. (IsTrue a.1 → ⊥) → KeepsEdges c.args.ctx.now.tree z.tree)) (sym c.settle.ensures) c.take_all-swept.ensures.edges
+returns-clause-edges g c = subst (λ z. IfOk c.erase_all_dead-swept.result (λ a. (IsTrue a.1 → ⊥) → KeepsEdges c.args.ctx.now.tree z.tree)) (sym c.settle.ensures) c.erase_all_dead-swept.ensures.edges

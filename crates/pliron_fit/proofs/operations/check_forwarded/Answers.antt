@@ -2,7 +2,7 @@ use Rattle.std.proofs.Common.{◌≤◌, length, arith, sym, ◌∙◌}
 use Rattle.pliron_core.specs.Tree.{successors_of}
 use Rattle.pliron_laws.proofs.AnswerLemmas.{refuted}
 use Rattle.pliron_laws.proofs.ShapeLemmas.{head_at}
-use Rattle.pliron_fit.specs.Misfit.{ForwardsAt}
+use Rattle.pliron_fit.specs.Violation.{ForwardsAt}
 use Rattle.pliron_fit.proofs.CheckLemmas.{equal_edge, unequal_edge, index_more, all_edges}
 use Rattle.pliron_fit.proofs.operations.check_forwarded.Goals as goal
 

@@ -1,5 +1,5 @@
 use Rattle.std.proofs.Common.{◌<◌, ℕ}
-use Rattle.pliron_fit.specs.Misfit.{ForwardsAt}
+use Rattle.pliron_fit.specs.Violation.{ForwardsAt}
 use Rattle.pliron_fit.proofs.operations.check_forwarded.Given as goal
 
 abbrev pub invariant-loop-i : goal.invariant-loop-i

@@ -1,5 +1,5 @@
 use Rattle.std.proofs.Common.{◌<◌, ◌≤◌, length, arith, rules}
-use Rattle.pliron_search.proofs.InsertLemmas.{goes_last}
+use Rattle.pliron_traversal.proofs.InsertLemmas.{goes_last}
 use Rattle.pliron_graph.proofs.CollectLemmas.{read_item, collects_root, collects_next, collected, few, item_inside}
 use Rattle.pliron_graph.proofs.components.collect.Goals as goal
 

@@ -1,6 +1,6 @@
 use Rattle.std.proofs.Common.{◌≡◌, [], take}
 use Rattle.pliron_graph.specs.Components.{entry_then_nodes}
-use Rattle.pliron_search.specs.Internal.Forest.{Grew}
+use Rattle.pliron_traversal.specs.Internal.Forest.{Grew}
 use Rattle.pliron_graph.proofs.components.search_all.Given as goal
 
 abbrev pub invariant-loop-root : goal.invariant-loop-root

@@ -1,4 +1,4 @@
-use Rattle.pliron_search.specs.Search.{IsListed}
+use Rattle.pliron_traversal.specs.Search.{IsListed}
 use Rattle.pliron_graph.proofs.PartLemmas.{part_distinct, part_all, members, taken}
 use Rattle.pliron_graph.proofs.components.take_component.Goals as goal
 

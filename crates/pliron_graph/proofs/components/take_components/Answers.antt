@@ -1,8 +1,8 @@
 use Rattle.std.proofs.Common.{rules, ◌≡◌, [], ◌∷◌, ◌++◌, sym, ◌∙◌, ap, subst, append-nil, append_assoc, length, true, false}
 use Rattle.std.specs.List.{list_any}
 use Rattle.pliron_graph.specs.Components.{entry_then_nodes}
-use Rattle.pliron_search.specs.Search.{number_in}
-use Rattle.pliron_search.proofs.NumberingLemmas.{search_from_growth}
+use Rattle.pliron_traversal.specs.Search.{number_in}
+use Rattle.pliron_traversal.proofs.NumberingLemmas.{search_from_growth}
 use Rattle.pliron_graph.proofs.ComponentLemmas.{AreTaken}
 use Rattle.pliron_graph.proofs.TakingLemmas.{all_listed, start, root_member, over, more, finish}
 use Rattle.pliron_graph.proofs.components.take_components.Goals as goal

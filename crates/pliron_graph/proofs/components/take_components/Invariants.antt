@@ -1,6 +1,6 @@
 use Rattle.std.proofs.Common.{◌≡◌, ◌++◌, length, List}
 use Rattle.pliron_graph.specs.Components.{entry_then_nodes}
-use Rattle.pliron_search.specs.Search.{number_in}
+use Rattle.pliron_traversal.specs.Search.{number_in}
 use Rattle.pliron_graph.proofs.ComponentLemmas.{AreTaken}
 use Rattle.pliron_graph.proofs.components.take_components.Given as goal
 

@@ -1,4 +1,4 @@
-use Rattle.pliron_search.specs.Internal.Membership.{in_from}
+use Rattle.pliron_traversal.specs.Internal.Membership.{in_from}
 use Rattle.pliron_graph.proofs.WalkLawLemmas as laws
 use Rattle.pliron_graph.proofs.laws.edge_between_walks.Goals as goal
 

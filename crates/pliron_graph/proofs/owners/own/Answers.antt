@@ -1,7 +1,7 @@
 use Rattle.std.proofs.Common.{◌≡◌, sym, ◌∙◌, subst, arith, Contains}
 use Rattle.std.proofs.lemmas.List.{length-set}
-use Rattle.pliron_search.specs.Search.{IsListed}
-use Rattle.pliron_search.proofs.PlaceLemmas.{listed_within}
+use Rattle.pliron_traversal.specs.Search.{IsListed}
+use Rattle.pliron_traversal.proofs.PlaceLemmas.{listed_within}
 use Rattle.pliron_graph.specs.Internal.Owners.{owner_in}
 use Rattle.pliron_graph.proofs.OwnerLemmas.{owns_next, other_stays}
 use Rattle.pliron_graph.proofs.PreSentinelLemmas.{all_end}

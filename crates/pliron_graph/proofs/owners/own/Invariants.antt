@@ -1,6 +1,6 @@
 use Rattle.std.proofs.Common.{◌≡◌, length, take, Contains}
 use Rattle.std.specs.List.{All}
-use Rattle.pliron_search.specs.Search.{IsListed}
+use Rattle.pliron_traversal.specs.Search.{IsListed}
 use Rattle.pliron_graph.specs.Internal.Owners.{owner_in}
 use Rattle.pliron_graph.proofs.owners.own.Given as goal
 

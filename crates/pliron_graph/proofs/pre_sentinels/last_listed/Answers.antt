@@ -1,7 +1,7 @@
 use Rattle.std.proofs.Common.{◌≤◌, sym, arith}
 use Rattle.std.proofs.lemmas.List.Elements.{All-weaker}
 use Rattle.std.proofs.Common.{take}
-use Rattle.pliron_search.specs.Search.{number_in}
+use Rattle.pliron_traversal.specs.Search.{number_in}
 use Rattle.pliron_graph.proofs.PreSentinelLemmas.{all_more, all_end}
 use Rattle.pliron_graph.proofs.pre_sentinels.last_listed.Goals as goal
 

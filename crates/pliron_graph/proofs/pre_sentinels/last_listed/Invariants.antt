@@ -1,6 +1,6 @@
 use Rattle.std.proofs.Common.{◌≤◌, Contains, take}
 use Rattle.std.specs.List.{All}
-use Rattle.pliron_search.specs.Search.{number_in}
+use Rattle.pliron_traversal.specs.Search.{number_in}
 use Rattle.pliron_graph.proofs.pre_sentinels.last_listed.Given as goal
 
 abbrev pub invariant-loop-node : goal.invariant-loop-node

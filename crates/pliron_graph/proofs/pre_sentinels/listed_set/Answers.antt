@@ -1,8 +1,8 @@
 use Rattle.std.proofs.Common.{◌≡◌, false, refl, sym, subst}
 use Rattle.std.specs.List.{list_any}
-use Rattle.pliron_search.proofs.InsertLemmas.{goes_last}
-use Rattle.pliron_search.proofs.PlaceLemmas.{unlisted_before}
-use Rattle.pliron_search.proofs.WalkLemmas.{next_take}
+use Rattle.pliron_traversal.proofs.InsertLemmas.{goes_last}
+use Rattle.pliron_traversal.proofs.PlaceLemmas.{unlisted_before}
+use Rattle.pliron_traversal.proofs.WalkLemmas.{next_take}
 use Rattle.pliron_graph.proofs.pre_sentinels.listed_set.Goals as goal
 
 pub loop-node-preserved : goal.loop-node-preserved

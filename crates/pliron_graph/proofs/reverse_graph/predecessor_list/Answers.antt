@@ -1,7 +1,7 @@
 use Rattle.std.proofs.Common.{◌≡◌, ◌+◌, ◌∷◌, ◌++◌, [], map, take, ◌∙◌, ap}
 use Rattle.std.proofs.lemmas.List.{map_push}
 use Rattle.pliron_graph.specs.declared.reverse_node.ReverseNode.TheVariants.{Real}
-use Rattle.pliron_search.proofs.UnwindingLemmas.{take_next}
+use Rattle.pliron_traversal.proofs.UnwindingLemmas.{take_next}
 use Rattle.pliron_graph.proofs.reverse_graph.predecessor_list.Goals as goal
 
 pub loop-i-preserved : goal.loop-i-preserved

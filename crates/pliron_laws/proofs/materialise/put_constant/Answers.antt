@@ -1,6 +1,6 @@
 use Rattle.std.proofs.Common.{subst, sym, ap, ◌∙◌}
 use Rattle.pliron_core.specs.Changes.{IsSameTree}
-use Rattle.pliron_core.specs.Writes.{replaced}
+use Rattle.pliron_core.specs.Writes.{after_replacing}
 use Rattle.pliron_laws.proofs.FoldLemmas.{on_err}
 use Rattle.pliron_laws.proofs.ConstantLemmas.{made_live, made_result, made_defined, put_defined, put_unused, erased_made, erased_long, put_done}
 use Rattle.pliron_laws.proofs.materialise.put_constant.Goals as goal
@@ -31,4 +31,4 @@ returns-in_err-insert_or_erase-clause-longer g c = erased_long c.args.ctx.now.tr
 
 pub returns-clause-ok : goal.returns-clause-ok
 returns-clause-ok g c = λ t head f.
-    put_done t c.args.ctx.now.tree c.hand_over.new.ctx.tree c.args.constant c.args.old c.get_result-new.result head _ f.made f.key c.get_result-new.ensures.value (c.hand_over.ensures.replaced ∙ ap (λ z. replaced z c.args.old c.get_result-new.result) c.in_ok-insert_or_erase.ensures.ok)
+    put_done t c.args.ctx.now.tree c.hand_over.new.ctx.tree c.args.constant c.args.old c.get_result-new.result head _ f.made f.key c.get_result-new.ensures.value (c.hand_over.ensures.replaced ∙ ap (λ z. after_replacing z c.args.old c.get_result-new.result) c.in_ok-insert_or_erase.ensures.ok)

@@ -2,7 +2,7 @@ use Rattle.std.proofs.Common.{◌≡◌, ◌∙◌, length, take, refl, sym, ap,
 use Rattle.std.proofs.lemmas.Option.{slice_get_read, same_Some}
 use Rattle.pliron_core.specs.Lists.{In}
 use Rattle.pliron_core.specs.Tree.{IsDefined, operands_of}
-use Rattle.pliron_core.specs.Writes.{replaced}
+use Rattle.pliron_core.specs.Writes.{after_replacing}
 use Rattle.pliron_laws.proofs.StandInLemmas.{defined_after, unused_after, replaced_more, status_after}
 use Rattle.pliron_laws.proofs.stand_ins.hand_over_all.Goals as goal
 
@@ -37,6 +37,6 @@ loop-i-preserved g c =
     let same : two ≡ one = same_Some two one (sym again ∙ at) in
     record {
       status = status_after made c.loop-i.i one at;
-      tree = replaced_more made c.args.ctx.now.tree c.loop-i.ctx.tree c.hand_over.new.ctx.tree c.loop-i.i one at c.loop-i.invariant.tree (c.hand_over.ensures.replaced ∙ ap (λ s. replaced c.loop-i.ctx.tree s.old (get_or made c.loop-i.i two).new) (sym c.index-made-i.is) ∙ ap (λ s. replaced c.loop-i.ctx.tree one.old s.new) (sym c.index-made-i-in-loop-i.is ∙ same));
+      tree = replaced_more made c.args.ctx.now.tree c.loop-i.ctx.tree c.hand_over.new.ctx.tree c.loop-i.i one at c.loop-i.invariant.tree (c.hand_over.ensures.replaced ∙ ap (λ s. after_replacing c.loop-i.ctx.tree s.old (get_or made c.loop-i.i two).new) (sym c.index-made-i.is) ∙ ap (λ s. after_replacing c.loop-i.ctx.tree one.old s.new) (sym c.index-made-i-in-loop-i.is ∙ same));
       point = c.hand_over.ensures.point ∙ c.loop-i.invariant.point;
     }

@@ -3,7 +3,7 @@ use Rattle.pliron_core.specs.Tree.{results_of, regions_of}
 use Rattle.pliron_notation.specs.Building.{AddsOnly}
 use Rattle.std.proofs.lemmas.Result.{on_ok_weaker}
 use Rattle.pliron_bench.specs.Bench.{head_with, result_count, region_count}
-use Rattle.pliron_notation.specs.Building.{appended}
+use Rattle.pliron_notation.specs.Building.{after_appending}
 use Rattle.pliron_notation.specs.Laid.{IsLaid}
 use Rattle.pliron_notation.proofs.LaidLemmas.{laid-operation}
 use Rattle.pliron_notation.proofs.BuildLemmas.{in-read, goes-appended, standing-appended}
@@ -44,10 +44,10 @@ returns-clause-laid c =
     let o = c.args.text.now in
     let block = c.index-block.result.now in
     let head = head_with o.kind o.number (pos o.first_edge) in
-    let same : w ≡ appended u head (result_count o.kind) (region_count o.kind) block = c.in_ok-op.ensures.ok
-    ∙ ap (λ h. appended u h c.result_count-results.result c.region_count-regions.result block) c.in_ok-head.ensures
-    ∙ ap (λ n. appended u head n c.region_count-regions.result block) c.result_count-results.ensures
-    ∙ ap (λ n. appended u head (result_count o.kind) n block) c.region_count-regions.ensures in
+    let same : w ≡ after_appending u head (result_count o.kind) (region_count o.kind) block = c.in_ok-op.ensures.ok
+    ∙ ap (λ h. after_appending u h c.result_count-results.result c.region_count-regions.result block) c.in_ok-head.ensures
+    ∙ ap (λ n. after_appending u head n c.region_count-regions.result block) c.result_count-results.ensures
+    ∙ ap (λ n. after_appending u head (result_count o.kind) n block) c.region_count-regions.ensures in
     on_ok_weaker c.remember_operation.result
     (λ key s at root base l.
     subst (λ z. IsLaid s root base 0 z more) (sym same)

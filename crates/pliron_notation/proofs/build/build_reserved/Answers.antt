@@ -1,7 +1,7 @@
 use Rattle.std.proofs.Common.{sym, ap, ◌∙◌, subst}
 use Rattle.pliron_core.specs.Changes.{IsSameTree}
 use Rattle.pliron_notation.specs.Building.{IsGrown}
-use Rattle.pliron_core.specs.Writes.{created}
+use Rattle.pliron_core.specs.Writes.{after_creating}
 use Rattle.pliron_notation.proofs.LinkedText.{linked-text}
 use Rattle.pliron_notation.proofs.UndoneLemmas.{contained, undone}
 use Rattle.pliron_notation.proofs.build.build_reserved.Goals as goal
@@ -25,5 +25,5 @@ returns-in-Ok-clause-linked c =
     let root = c.in_ok-root.root in
     let head = c.plain_head-head.result in
     let g : IsGrown t u root = c.in-Ok.ensures.grown t head c.well_formed-2.ensures.tree c.in_ok-root.ensures.key c.in_ok-root.ensures.ok in
-    let same = c.in_ok-root.ensures.ok ∙ ap (λ h. created t h 0 1) c.plain_head-head.ensures in
+    let same = c.in_ok-root.ensures.ok ∙ ap (λ h. after_creating t h 0 1) c.plain_head-head.ensures in
     linked-text c.args.syntax.now t u root c.well_formed-2.ensures.tree c.well_formed-4.ensures.tree g c.requires (c.in-Ok.ensures.laid t c.well_formed-2.ensures.tree c.in_ok-root.ensures.key same)

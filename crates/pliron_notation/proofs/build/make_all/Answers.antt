@@ -1,7 +1,7 @@
 use Rattle.std.proofs.Common.{rules, ◌≡◌, ◌+◌, ◌<◌, length, get_or, drop, sym, ap, ◌∙◌, subst}
 use Rattle.pliron_notation.specs.Building.{AreStanding, BuildingGoesOn, HasMade}
 use Rattle.std.proofs.lemmas.Option.{slice_get_within, get_or_from_slice_get}
-use Rattle.pliron_notation.specs.declared.syntax.Step.TheVariants.{Operation}
+use Rattle.pliron_notation.specs.declared.syntax.SyntaxStep.TheVariants.{Operation}
 use Rattle.pliron_notation.specs.declared.syntax.Made.{Made}
 use Rattle.pliron_notation.specs.Notation.{IsOrdered}
 use Rattle.pliron_bench.specs.Bench.{result_count, region_count}

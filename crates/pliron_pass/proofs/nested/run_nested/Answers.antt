@@ -1,5 +1,5 @@
 use Rattle.std.proofs.Common.{rules, ◌≡◌, ◌<◌, length, sym, subst, refl, ◌∙◌, Err, Some}
-use Rattle.pliron_core.specs.Tree.{holder_of}
+use Rattle.pliron_core.specs.Tree.{parent_operation_of}
 use Rattle.pliron_core.specs.Walks.{children}
 use Rattle.pliron_core.specs.WalkSteps.{rest_from}
 use Rattle.pliron_core.proofs.WalkLemmas.{distinct-children, In-children}

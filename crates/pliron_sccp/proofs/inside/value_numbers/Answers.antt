@@ -1,29 +1,33 @@
-use Rattle.std.proofs.Common.{◌≡◌, ℕ, List, length, Some, slice_get, refl, subst, arith}
-use Rattle.std.proofs.lemmas.Option.{slice_get_read}
-use Rattle.pliron_core.proofs.HoldingLemmas.{in_slice}
-use Rattle.pliron_sccp.specs.Inside.{block_values}
-use Rattle.pliron_sccp.proofs.Going.{counted_next, counted_end}
-use Rattle.pliron_sccp.proofs.Numbered.{AddsKeysOf, keys_none, keys_step}
+use Rattle.std.proofs.Common.{◌≡◌, ◌++◌, ◌∙◌, [], ap, sym, subst, reverse, arith}
+use Rattle.pliron_sccp.specs.declared.inside.Part.TheVariants.{Operation}
+use Rattle.pliron_sccp.specs.Inside.{directly_in}
+use Rattle.pliron_sccp.proofs.Preorder.{IsOwing, owing_start, owing_stands, owing_step, owing_smaller, owing_end}
 use Rattle.pliron_sccp.proofs.UserLists.{no_keys}
 use Rattle.pliron_sccp.proofs.inside.value_numbers.Goals as goal
 
-pub loop-i-init : goal.loop-i-init
-loop-i-init c = λ u d. d
+pub loop-part-init : goal.loop-part-init
+loop-part-init c =
+    let t = c.args.ctx.now.tree in
+    let first = c.in_ok-stack_inner.ensures.ok ∙ ap (λ xs. xs ++ reverse (directly_in t (Operation c.args.root))) c.new-stack.ensures.items in
+    subst (λ z. IsOwing t c.args.root z c.stack_inner.new.stack.items) (sym (no_keys c.in_ok-numbered.numbered.keys c.in_ok-numbered.ensures.len)) (owing_start t c.well_formed-2.ensures.tree c.args.root c.stack_inner.new.stack.items c.requires first)
 
-pub add_block_values-requires : goal.add_block_values-requires
-add_block_values-requires c =
-    let all = c.args.blocks.now in
-    let at : slice_get all c.loop-i.i ≡ Some c.index-blocks-i.result = slice_get_read all (length all) c.loop-i.i c.index-blocks-i.result refl c.loop-i-test.true c.index-blocks-i.is in
-    c.requires c.index-blocks-i.result (in_slice all c.loop-i.i c.index-blocks-i.result at)
+pub add_defined-requires : goal.add_defined-requires
+add_defined-requires c =
+    owing_stands c.args.ctx.now.tree c.well_formed-2.ensures.tree c.args.root c.loop-part.numbered.keys c.in-Some.part c.loop-part.stack.items c.pop.new.self.items c.loop-part.invariant c.in-Some.ensures.items
 
-pub loop-i-preserved : goal.loop-i-preserved
-loop-i-preserved c =
-    let all = c.args.blocks.now in
-    let f : ℕ → List ℕ = λ b. block_values c.args.ctx.now.tree b in
-    let at : slice_get all c.loop-i.i ≡ Some c.index-blocks-i.result = slice_get_read all (length all) c.loop-i.i c.index-blocks-i.result refl c.loop-i-test.true c.index-blocks-i.is in
-    counted_next (AddsKeysOf f) all c.loop-i.i c.index-blocks-i.result c.in_ok-numbered.numbered.keys c.loop-i.numbered.keys c.add_block_values.new.values.keys at (keys_step f c.index-blocks-i.result c.loop-i.numbered.keys c.add_block_values.new.values.keys c.in_ok-add_block_values.ensures.ok) c.loop-i.invariant
+pub stack_inner-requires-in-Some : goal.stack_inner-requires-in-Some
+stack_inner-requires-in-Some c =
+    owing_stands c.args.ctx.now.tree c.well_formed-2.ensures.tree c.args.root c.loop-part.numbered.keys c.in-Some.part c.loop-part.stack.items c.pop.new.self.items c.loop-part.invariant c.in-Some.ensures.items
+
+pub loop-part-preserved : goal.loop-part-preserved
+loop-part-preserved c =
+    owing_step c.args.ctx.now.tree c.well_formed-2.ensures.tree c.args.root c.loop-part.numbered.keys c.add_defined.new.values.keys c.in-Some.part c.loop-part.stack.items c.pop.new.self.items c.stack_inner-in-Some.new.stack.items c.loop-part.invariant c.in-Some.ensures.items c.in_ok-add_defined.ensures.ok c.in_ok-stack_inner-2.ensures.ok
+
+pub loop-part-smaller : goal.loop-part-smaller
+loop-part-smaller c =
+    owing_smaller c.args.ctx.now.tree c.well_formed-2.ensures.tree c.args.root c.loop-part.numbered.keys c.in-Some.part c.loop-part.stack.items c.pop.new.self.items c.stack_inner-in-Some.new.stack.items c.loop-part.invariant c.in-Some.ensures.items c.in_ok-stack_inner-2.ensures.ok
 
 pub returns-clause-ok : goal.returns-clause-ok
 returns-clause-ok c =
-    let f : ℕ → List ℕ = λ b. block_values c.args.ctx.now.tree b in
-    subst (λ z. AddsKeysOf f c.args.blocks.now z c.loop-i.numbered.keys) (no_keys c.in_ok-numbered.numbered.keys c.in_ok-numbered.ensures.len) (counted_end (AddsKeysOf f) c.args.blocks.now c.loop-i.i c.in_ok-numbered.numbered.keys c.loop-i.numbered.keys (omega arith) (keys_none c.loop-i.numbered.keys) c.loop-i.invariant)
+    let none : c.loop-part.stack.items ≡ [] = grind (arith) in
+    owing_end c.args.ctx.now.tree c.well_formed-2.ensures.tree c.args.root c.loop-part.numbered.keys c.loop-part.stack.items c.loop-part.invariant none

@@ -1,8 +1,9 @@
-use Rattle.std.proofs.Common.{drop}
-use Rattle.pliron_sccp.specs.Inside.{block_values}
-use Rattle.pliron_sccp.proofs.Going.{IsLeft}
-use Rattle.pliron_sccp.proofs.Numbered.{AddsKeysOf}
+use Rattle.std.proofs.Common.{length}
+use Rattle.pliron_sccp.proofs.Preorder.{IsOwing, owed}
 use Rattle.pliron_sccp.proofs.inside.value_numbers.Given as goal
 
-abbrev pub invariant-loop-i : goal.invariant-loop-i
-invariant-loop-i l = IsLeft (AddsKeysOf (λ b. block_values l.ctx.tree b)) l.blocks (drop l.i l.blocks) l.initial.numbered.keys l.numbered.keys
+abbrev pub invariant-loop-part : goal.invariant-loop-part
+invariant-loop-part l = IsOwing l.ctx.tree l.fn.root l.numbered.keys l.stack.items
+
+abbrev pub decreases-loop-part : goal.decreases-loop-part
+decreases-loop-part l = length (owed l.ctx.tree l.stack.items)

@@ -1,5 +1,5 @@
 use Rattle.pliron_laws.proofs.FoldLemmas.{on_err}
-use Rattle.pliron_theory.specs.Facts.{Says}
+use Rattle.pliron_theory.specs.LatticeValues.{Says}
 use Rattle.pliron_sccp.proofs.FoundChange.{found_change, found_partly}
 use Rattle.pliron_sccp.proofs.propagation.propagate.Goals as goal
 

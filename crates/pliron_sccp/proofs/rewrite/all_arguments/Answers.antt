@@ -2,13 +2,13 @@ use Rattle.std.proofs.Common.{◌≡◌, ◌<◌, ◌≤◌, length, Some, slice
 use Rattle.std.proofs.lemmas.Option.{slice_get_read}
 use Rattle.pliron_core.specs.Tree.{In}
 use Rattle.pliron_core.proofs.FlatLemmas.{In-slice_get}
-use Rattle.pliron_sccp.specs.Tables.{facts_of}
+use Rattle.pliron_sccp.specs.LatticeTables.{lattice_values_of}
 use Rattle.pliron_sccp.proofs.DistinctLists.{inside_block}
 use Rattle.pliron_sccp.proofs.ListedArguments.{no_arguments, collected_next, collected_all}
 use Rattle.pliron_sccp.proofs.rewrite.all_arguments.Goals as goal
 
 pub loop-i-init : goal.loop-i-init
-loop-i-init c = no_arguments c.args.ctx.now.tree (facts_of c.args.tables.now) c.new-arguments.result.items c.new-arguments.ensures.items
+loop-i-init c = no_arguments c.args.ctx.now.tree (lattice_values_of c.args.tables.now) c.new-arguments.result.items c.new-arguments.ensures.items
 
 pub add_arguments-requires : goal.add_arguments-requires
 add_arguments-requires c =
@@ -23,10 +23,10 @@ loop-i-preserved c =
     let bs = c.in_ok-blocks.blocks.items in
     let lt : c.loop-i.i < length bs = omega (arith, c.len-i-end.ensures, c.loop-i-test.true) in
     let at : slice_get bs c.loop-i.i ≡ Some c.index.result.now = slice_get_read bs (length bs) c.loop-i.i c.index.result.now refl lt c.index.ensures in
-    collected_next c.args.ctx.now.tree (facts_of c.args.tables.now) bs c.loop-i.i c.index.result.now c.loop-i.arguments.items c.add_arguments.new.arguments.items c.loop-i.invariant at c.in_ok-add_arguments.ensures.ok
+    collected_next c.args.ctx.now.tree (lattice_values_of c.args.tables.now) bs c.loop-i.i c.index.result.now c.loop-i.arguments.items c.add_arguments.new.arguments.items c.loop-i.invariant at c.in_ok-add_arguments.ensures.ok
 
 pub returns-clause-ok : goal.returns-clause-ok
 returns-clause-ok c =
     let bs = c.in_ok-blocks.blocks.items in
     let whole : length bs ≤ c.loop-i.i = omega arith in
-    collected_all c.args.ctx.now.tree c.args.root (facts_of c.args.tables.now) bs c.loop-i.i c.loop-i.arguments.items c.in_ok-blocks.ensures.ok c.loop-i.invariant whole
+    collected_all c.args.ctx.now.tree c.args.root (lattice_values_of c.args.tables.now) bs c.loop-i.i c.loop-i.arguments.items c.in_ok-blocks.ensures.ok c.loop-i.invariant whole

@@ -1,8 +1,8 @@
 use Rattle.std.proofs.Common.{◌≡◌, ◌+◌, ◌<◌, length, Some, None, slice_get, refl, sym, subst, arith}
 use Rattle.std.proofs.lemmas.Option.{slice_get_read}
 use Rattle.std.proofs.lemmas.List.{drop_all}
-use Rattle.pliron_theory.specs.Facts.{Says}
-use Rattle.pliron_sccp.specs.Steps.{IsFoldStep, IsFoldingOn}
+use Rattle.pliron_theory.specs.LatticeValues.{Says}
+use Rattle.pliron_sccp.specs.RewriteSteps.{IsFoldStep, IsFoldingOn}
 use Rattle.pliron_sccp.proofs.StepLemmas.{folding_start, folding_can, folding_next, folding_end, folding_broken}
 use Rattle.pliron_laws.proofs.FoldLemmas.{on_err}
 use Rattle.pliron_sccp.proofs.rewrite.fold_all.Goals as goal

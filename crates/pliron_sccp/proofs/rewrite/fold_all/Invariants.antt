@@ -1,4 +1,4 @@
-use Rattle.pliron_sccp.specs.Steps.{IsFoldingOn}
+use Rattle.pliron_sccp.specs.RewriteSteps.{IsFoldingOn}
 use Rattle.pliron_sccp.proofs.rewrite.fold_all.Given as goal
 
 abbrev pub invariant-loop-i : goal.invariant-loop-i

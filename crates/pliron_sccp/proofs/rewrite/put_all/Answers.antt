@@ -1,7 +1,7 @@
 use Rattle.std.proofs.Common.{◌≡◌, ◌+◌, length, Some, slice_get, refl, sym, subst, arith}
 use Rattle.std.proofs.lemmas.Option.{slice_get_read}
-use Rattle.pliron_theory.specs.Facts.{Says}
-use Rattle.pliron_sccp.specs.Steps.{IsPuttingOn}
+use Rattle.pliron_theory.specs.LatticeValues.{Says}
+use Rattle.pliron_sccp.specs.RewriteSteps.{IsPuttingOn}
 use Rattle.pliron_sccp.proofs.ArgumentStep.{putting_start, putting_can, putting_next, putting_end, putting_broken}
 use Rattle.pliron_laws.proofs.FoldLemmas.{on_err}
 use Rattle.pliron_sccp.proofs.rewrite.put_all.Goals as goal

@@ -1,4 +1,4 @@
-use Rattle.pliron_sccp.specs.Steps.{IsPuttingOn}
+use Rattle.pliron_sccp.specs.RewriteSteps.{IsPuttingOn}
 use Rattle.pliron_sccp.proofs.rewrite.put_all.Given as goal
 
 abbrev pub invariant-loop-i : goal.invariant-loop-i

@@ -1,6 +1,6 @@
 use Rattle.std.proofs.Common.{refl, sym, subst}
 use Rattle.pliron_laws.proofs.FoldLemmas.{on_err}
-use Rattle.pliron_sccp.specs.Steps.{TellsCreated}
+use Rattle.pliron_sccp.specs.RewriteSteps.{ReportsCreated}
 use Rattle.pliron_sccp.proofs.StepLemmas.{told_then}
 use Rattle.pliron_sccp.proofs.WholeRewrite.{told_change, found_folds, found_arguments, broken_folding, broken_putting, all_rewritten}
 use Rattle.pliron_sccp.proofs.rewrite.rewrite.Goals as goal
@@ -63,7 +63,7 @@ returns-clause-told g c =
     let u = c.fold_all.new.ctx.tree in
     let v = c.put_all.new.ctx.tree in
     let told = told_then t u v c.in_ok-status.status c.in_ok-put_all.field-0 c.put_all.ensures.stays c.in_ok-status.ensures.told c.in_ok-put_all.ensures.told in
-    told_change t v _ (subst (λ z. TellsCreated z t v) (sym c.bitor_assign.ensures.after) told)
+    told_change t v _ (subst (λ z. ReportsCreated z t v) (sym c.bitor_assign.ensures.after) told)
 
 pub returns-clause-follows : goal.returns-clause-follows
 returns-clause-follows g c = λ root f i.

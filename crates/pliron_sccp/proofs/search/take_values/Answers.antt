@@ -1,5 +1,5 @@
-use Rattle.pliron_theory.specs.Facts.{Says}
-use Rattle.pliron_sccp.proofs.Calls.{taking_start, taking_next, taking_end}
+use Rattle.pliron_theory.specs.LatticeValues.{Says}
+use Rattle.pliron_sccp.proofs.ReactionLemmas.{taking_start, taking_next, taking_end}
 use Rattle.pliron_sccp.proofs.UserLists.{no_keys}
 use Rattle.pliron_sccp.proofs.Written.{none_of}
 use Rattle.pliron_sccp.proofs.search.take_values.Goals as goal
@@ -7,14 +7,14 @@ use Rattle.pliron_sccp.proofs.search.take_values.Goals as goal
 pub loop-value-init : goal.loop-value-init
 loop-value-init g c =
     let x : Says = record { meaning = g.D.HasMeaning.meaning; can_fold = g.D.ConstFoldInterface.can_fold; can_fold_branch = g.D.BranchOpFoldInterface.can_fold_branch; constants = g.D.ConstFoldInterface.constants; feasible = g.D.BranchOpFoldInterface.feasible; entry_operands = g.D.RegionBranchOpInterface.entry_operands } in
-    taking_start x c.args.ctx.now.tree c.args.edges.now c.args.tables.now c.new-users.result.keys c.new-asked.result.items (no_keys c.new-users.result.keys c.new-users.ensures.len) c.new-asked.ensures.items
+    taking_start x c.args.ctx.now.tree c.args.edges.now c.args.tables.now c.new-users.result.keys c.new-constraints.result.items (no_keys c.new-users.result.keys c.new-users.ensures.len) c.new-constraints.ensures.items
 
 pub loop-value-preserved : goal.loop-value-preserved
 loop-value-preserved g c =
     let x : Says = record { meaning = g.D.HasMeaning.meaning; can_fold = g.D.ConstFoldInterface.can_fold; can_fold_branch = g.D.BranchOpFoldInterface.can_fold_branch; constants = g.D.ConstFoldInterface.constants; feasible = g.D.BranchOpFoldInterface.feasible; entry_operands = g.D.RegionBranchOpInterface.entry_operands } in
-    taking_next x c.args.ctx.now.tree c.args.edges.now c.args.tables.now c.loop-value.tables c.next_value.new.self c.loop-value.users.keys c.loop-value.asked.items c.add_uses.new.users.keys c.add_uses.new.asked.items c.loop-value.taken c.in-Some.value c.loop-value.invariant c.in-Some.ensures.taken c.in_ok-add_uses.ensures.ok
+    taking_next x c.args.ctx.now.tree c.args.edges.now c.args.tables.now c.loop-value.tables c.pop_value.new.self c.loop-value.users.keys c.loop-value.constraints.items c.add_uses.new.users.keys c.add_uses.new.constraints.items c.loop-value.taken c.in-Some.value c.loop-value.invariant c.in-Some.ensures.taken c.in_ok-add_uses.ensures.ok
 
 pub returns-clause-ok : goal.returns-clause-ok
 returns-clause-ok g c =
     let x : Says = record { meaning = g.D.HasMeaning.meaning; can_fold = g.D.ConstFoldInterface.can_fold; can_fold_branch = g.D.BranchOpFoldInterface.can_fold_branch; constants = g.D.ConstFoldInterface.constants; feasible = g.D.BranchOpFoldInterface.feasible; entry_operands = g.D.RegionBranchOpInterface.entry_operands } in
-    taking_end x c.args.ctx.now.tree c.args.edges.now c.args.tables.now c.loop-value.tables c.next_value.new.self c.loop-value.users.keys c.loop-value.asked.items c.loop-value.taken c.loop-value.invariant (none_of c.next_value.result c.in_default.is c.next_value.ensures.none)
+    taking_end x c.args.ctx.now.tree c.args.edges.now c.args.tables.now c.loop-value.tables c.pop_value.new.self c.loop-value.users.keys c.loop-value.constraints.items c.loop-value.taken c.loop-value.invariant (none_of c.pop_value.result c.in_default.is c.pop_value.ensures.none)

@@ -1,7 +1,7 @@
 use Rattle.std.proofs.Common.{◌≡◌, ◌<◌, length, take, Some, sym, subst, ap, ◌∙◌, arith, IsSome, slice_get, ℕ, suc, ◌+◌}
 use Rattle.std.proofs.lemmas.Option.{slice_get-get_or}
 use Rattle.pliron_core.specs.Tree.{Tree, arguments_of, IsDefined}
-use Rattle.pliron_core.specs.Writes.{replaced}
+use Rattle.pliron_core.specs.Writes.{after_replacing}
 use Rattle.pliron_core.proofs.HoldingLemmas.{in_slice}
 use Rattle.pliron_block_laws.specs.Pairs.{forwarded_uses}
 use Rattle.pliron_cfg.proofs.PairLemmas.{values_defined, way_of_pair}
@@ -46,4 +46,4 @@ loop-i-preserved g c =
     let lt : c.loop-i.i < length p.values.items = omega (arith, p.values.ok.0, c.loop-i-test.true, c.len-i-end.ensures) in
     let at = slice_get-get_or p.values.items c.loop-i.i v lt ∙ ap Some (sym c.index.ensures) in
     let here = ap (λ l. slice_get l c.loop-i.i) (sym (forwarded_arguments t c.loop-i.ctx.tree (take c.loop-i.i ps) p.values.items p.second c.loop-i.invariant)) ∙ c.get_argument-argument.ensures.argument in
-    c.in_ok-replace_value_uses_with.ensures.ok ∙ ap (λ (z : Tree). replaced z q v) c.loop-i.invariant ∙ forwarded_more t ps p.values.items c.loop-i.i q v here at ∙ ap (λ n. forwarded_uses t (take n ps) p.values.items) (add_suc c.loop-i.i)
+    c.in_ok-replace_value_uses_with.ensures.ok ∙ ap (λ (z : Tree). after_replacing z q v) c.loop-i.invariant ∙ forwarded_more t ps p.values.items c.loop-i.i q v here at ∙ ap (λ n. forwarded_uses t (take n ps) p.values.items) (add_suc c.loop-i.i)

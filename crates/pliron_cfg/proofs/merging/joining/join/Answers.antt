@@ -1,8 +1,8 @@
 use Rattle.std.proofs.Common.{◌≡◌, sym, subst, ap, ◌∙◌}
 use Rattle.pliron_core.specs.Tree.{Tree, IsBlock, block_parent_of}
-use Rattle.pliron_core.specs.Joined.{IsTree}
+use Rattle.pliron_core.specs.Invariant.{IsTree}
 use Rattle.pliron_core.specs.Erased.{block_erased, IsSelfContainedBlock}
-use Rattle.pliron_block_laws.specs.Pairs.{joined}
+use Rattle.pliron_block_laws.specs.Pairs.{after_joining}
 use Rattle.pliron_cfg.proofs.Joinable.{contained, first_stands, still_beside, moves_from, second_left, contained_block, joins}
 use Rattle.pliron_cfg.proofs.merging.joining.join.Goals as goal
 
@@ -36,5 +36,5 @@ pub returns-clause-well : goal.returns-clause-well
 returns-clause-well g c =
     let t = c.args.ctx.now.tree in
     let e = moves_from _ _ _ _ g.met.D.Dialect.forwards_operands c.args.ctx.now.tree c.args.first c.args.second c.args.jump c.well_formed-2.ensures.tree c.requires.ready c.erase_operation.new.ctx.tree c.move_operations.new.ctx.tree c.erase_operation.ensures.erased c.move_operations.ensures in
-    let whole : c.erase_block.new.ctx.tree ≡ joined t c.args.first c.args.second c.args.jump = c.erase_block.ensures.erased ∙ ap (λ (z : Tree). block_erased z c.args.second) e in
+    let whole : c.erase_block.new.ctx.tree ≡ after_joining t c.args.first c.args.second c.args.jump = c.erase_block.ensures.erased ∙ ap (λ (z : Tree). block_erased z c.args.second) e in
     joins _ _ _ _ g.met.D.Dialect.forwards_operands t c.args.first c.args.second c.args.jump c.well_formed-2.ensures.tree c.requires.ready (subst IsTree c.erase_operation.ensures.erased c.well_formed-3.ensures.tree) (subst IsTree e c.well_formed-4.ensures.tree) (subst IsTree whole c.well_formed-5.ensures.tree)

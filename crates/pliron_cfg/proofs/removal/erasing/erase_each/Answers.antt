@@ -1,7 +1,7 @@
 use Rattle.std.proofs.Common.{◌≡◌, ◌++◌, ◌+◌, ◌∷◌, [], take, drop, inl, refl, sym, ap, ◌∙◌, subst}
 use Rattle.std.proofs.lemmas.List.{take_more, drop_more}
 use Rattle.pliron_core.specs.Erased.{block_erased}
-use Rattle.pliron_core.specs.Joined.{IsTree}
+use Rattle.pliron_core.specs.Invariant.{IsTree}
 use Rattle.pliron_cfg.proofs.EraseSteps.{AreErased, none_erased, next_stands, next_contained, one_erased}
 use Rattle.pliron_cfg.proofs.removal.erasing.erase_each.Goals as goal
 

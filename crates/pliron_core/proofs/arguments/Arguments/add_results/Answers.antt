@@ -4,7 +4,7 @@ use Rattle.std.proofs.lemmas.List.FromFn.{length-map-range_with_len}
 use Rattle.pliron_core.specs.declared.context.Def.TheVariants.{Result}
 use Rattle.pliron_core.specs.Uses.{AreAgreed}
 use Rattle.pliron_core.specs.Writes.{result_definitions}
-use Rattle.pliron_core.specs.Arguments.{defined, AreMade}
+use Rattle.pliron_core.specs.Arguments.{definitions_now, AreMade}
 use Rattle.pliron_core.proofs.UserLemmas.{length-unused}
 use Rattle.pliron_core.proofs.MadeLemmas.{made-more, same-makers, length-defined}
 use Rattle.pliron_core.proofs.arguments.Arguments.add_results.Goals as goal
@@ -16,7 +16,7 @@ rows c = search rules
 written : (c : After-write_definitions) → c.write_definitions.new.written.items ≡ c.self.inside.written.items ++ result_definitions c.args.op c.args.count
 written c = search rules
 
-made : (c : After-write_definitions) → (defined (c.self.inside.written.items ++ result_definitions c.args.op c.args.count) c.add_targets.new.self.uses ≡ defined c.self.inside.written.items c.self.inside.lists.uses ++ result_definitions c.args.op c.args.count) × AreMade c.self.inside.lists.targets (c.self.inside.written.items ++ result_definitions c.args.op c.args.count) c.add_targets.new.self.uses
+made : (c : After-write_definitions) → (definitions_now (c.self.inside.written.items ++ result_definitions c.args.op c.args.count) c.add_targets.new.self.uses ≡ definitions_now c.self.inside.written.items c.self.inside.lists.uses ++ result_definitions c.args.op c.args.count) × AreMade c.self.inside.lists.targets (c.self.inside.written.items ++ result_definitions c.args.op c.args.count) c.add_targets.new.self.uses
 made c =
     let agreed : AreAgreed c.self.inside.lists.targets c.self.inside.lists.uses = rw (← ap (λ t. t.targets) c.reserve-2.ensures.kept, ← ap (λ t. t.uses) c.reserve-2.ensures.kept) c.agree.ensures in
     let uses : c.add_targets.new.self.uses ≡ c.self.inside.lists.uses ++ replicate c.args.count [] = search rules in

@@ -1,7 +1,7 @@
 use Rattle.std.proofs.Common.{rules, ◌≡◌, ◌<◌, ◌≤◌, [], length, slice_index_or, Some, refl, sym, ap, ◌∙◌, arith}
 use Rattle.std.specs.List.{slice_get}
 use Rattle.std.proofs.lemmas.Option.{slice_get_past, slice_get_read}
-use Rattle.pliron_core.specs.Arguments.{defined}
+use Rattle.pliron_core.specs.Arguments.{definitions_now}
 use Rattle.pliron_core.specs.declared.context.Def.TheVariants.{Argument}
 use Rattle.pliron_core.proofs.MadeLemmas.{length-defined, result-made, unused-made, used-made}
 use Rattle.pliron_core.proofs.arguments.Arguments.definition.Goals as goal
@@ -9,7 +9,7 @@ use Rattle.pliron_core.proofs.arguments.Arguments.definition.Goals as goal
 pub returns-then-index-len : goal.returns-then-index-len
 returns-then-index-len c =
     let past : length c.self.inside.written.items ≤ c.args.value = search rules in
-    rw (← c.self.view_is) (sym (slice_get_past (defined c.self.inside.written.items c.self.inside.lists.uses) c.args.value (omega (arith, past, length-defined c.self.inside.written.items c.self.inside.lists.uses c.self.invariant.count))))
+    rw (← c.self.view_is) (sym (slice_get_past (definitions_now c.self.inside.written.items c.self.inside.lists.uses) c.args.value (omega (arith, past, length-defined c.self.inside.written.items c.self.inside.lists.uses c.self.invariant.count))))
 
 pub returns-in-Result : goal.returns-in-Result
 returns-in-Result c =

@@ -1,5 +1,5 @@
 use Rattle.std.proofs.Common.{rules, ◌≡◌, [], Some, remove, slice_set, slice_index_or}
-use Rattle.pliron_core.specs.Places.{at}
+use Rattle.pliron_core.specs.UseSlots.{at}
 use Rattle.pliron_core.proofs.MadeLemmas.{made-removed}
 use Rattle.pliron_core.proofs.arguments.Arguments.remove.Goals as goal
 

@@ -1,6 +1,6 @@
 use Rattle.std.proofs.Common.{rules, ◌≡◌, sym, ◌∙◌, refl, map}
 use Rattle.pliron_core.specs.Uses.{replace_target}
-use Rattle.pliron_core.specs.Tables.{view_of}
+use Rattle.pliron_core.specs.UseTables.{view_of}
 use Rattle.pliron_core.proofs.UsedLemmas.{replace-all_same}
 use Rattle.pliron_core.proofs.WellLemmas.{well_replace}
 use Rattle.pliron_core.proofs.context.edit.replace_uses.Goals as goal

@@ -1,9 +1,9 @@
 use Rattle.std.proofs.Common.{◌≡◌, nat_eq, sym, ap, ◌∙◌, subst, Some, None}
 use Rattle.pliron_core.specs.Tree.{View, IsLive, parent_of, body_of, last_of}
 use Rattle.pliron_core.specs.Writes.{taken_out}
-use Rattle.pliron_core.specs.Erased.{cleared}
+use Rattle.pliron_core.specs.Erased.{after_clearing}
 use Rattle.pliron_core.specs.Dismantling.{IsUnused}
-use Rattle.pliron_core.specs.Tables.{view_of}
+use Rattle.pliron_core.specs.UseTables.{view_of}
 use Rattle.pliron_core.proofs.LastLemmas.{last_none}
 use Rattle.pliron_core.proofs.EmptyingLemmas.{emptying_start, emptying_next, emptying_falls, emptying_end, last_live, taken_live, taken_free, taken_unused}
 use Rattle.pliron_core.proofs.context.erase.empty_block.Goals as goal
@@ -30,8 +30,8 @@ dismantle-requires-clause-free c = subst (λ (v : View). parent_of v.tree c.new-
 pub dismantle-requires-clause-unused : goal.dismantle-requires-clause-unused
 dismantle-requires-clause-unused c = subst (λ (v : View). IsUnused v.tree c.new-op.result) (sym c.take_out.ensures) (taken_unused c.args.ctx.now.tree c.args.block c.well_formed-2.ensures.tree c.loop-last.ctx.tree c.loop-last.invariant c.new-op.result (last (goal.at.dismantle-requires-clause-unused c).After-new-op) c.requires.unused)
 
-cleared_now : (c : After-dismantle) → c.dismantle.new.ctx.tree ≡ cleared (taken_out c.loop-last.ctx.tree c.new-op.result) (nat_eq c.new-op.result)
-cleared_now c = c.dismantle.ensures ∙ ap (λ (v : View). cleared v.tree (nat_eq c.new-op.result)) c.take_out.ensures
+cleared_now : (c : After-dismantle) → c.dismantle.new.ctx.tree ≡ after_clearing (taken_out c.loop-last.ctx.tree c.new-op.result) (nat_eq c.new-op.result)
+cleared_now c = c.dismantle.ensures ∙ ap (λ (v : View). after_clearing v.tree (nat_eq c.new-op.result)) c.take_out.ensures
 
 pub loop-last-preserved : goal.loop-last-preserved
 loop-last-preserved c = emptying_next c.args.ctx.now.tree c.args.block c.well_formed-2.ensures.tree c.loop-last.ctx.tree c.loop-last.invariant c.new-op.result (last (goal.at.loop-last-preserved c).After-new-op) c.dismantle.new.ctx.tree (cleared_now (goal.at.loop-last-preserved c).After-dismantle) c.well_formed-in-Some.ensures.tree

@@ -1,6 +1,6 @@
 use Rattle.std.proofs.Common.{rules, ◌≡◌, Some, None}
 use Rattle.pliron_core.specs.Tree.{layout_of, body_of, last_of}
-use Rattle.pliron_core.specs.Tables.{view_of}
+use Rattle.pliron_core.specs.UseTables.{view_of}
 use Rattle.pliron_core.specs.Dismantling.{last_region_of}
 use Rattle.pliron_core.proofs.LastLemmas.{last_none}
 use Rattle.pliron_core.proofs.InnerLemmas.{last_read, last_region_within, last_block_holder, last_operation}

@@ -2,8 +2,8 @@ use Rattle.std.proofs.Common.{◌≡◌, ◌-◌, length, take, ap, ◌∙◌, s
 use Rattle.std.specs.Vec.{with_item}
 use Rattle.pliron_core.specs.declared.context.OperationEntry.{OperationEntry}
 use Rattle.pliron_core.specs.Tree.{row_of, regions_of}
-use Rattle.pliron_core.specs.Tables.{view_of}
-use Rattle.pliron_core.specs.Joined.{IsWellFormed}
+use Rattle.pliron_core.specs.UseTables.{view_of}
+use Rattle.pliron_core.specs.Invariant.{IsWellFormed}
 use Rattle.pliron_core.proofs.InnerLemmas.{row_read}
 use Rattle.pliron_core.proofs.DismantleLemmas.{well_popped}
 use Rattle.pliron_core.proofs.context.erase.pop_region.Goals as goal

@@ -1,7 +1,7 @@
 use Rattle.std.proofs.Common.{rules, ◌≡◌, subst, Some}
-use Rattle.pliron_core.specs.Tables.{view_of}
+use Rattle.pliron_core.specs.UseTables.{view_of}
 use Rattle.pliron_core.specs.Tree.{block_parent_of}
-use Rattle.pliron_core.specs.Joined.{IsWellFormed}
+use Rattle.pliron_core.specs.Invariant.{IsWellFormed}
 use Rattle.pliron_core.specs.Erased.{block_taken_from}
 use Rattle.pliron_core.proofs.DismantleLemmas.{well_block_out}
 use Rattle.pliron_core.proofs.context.erase.remove_block.Goals as goal

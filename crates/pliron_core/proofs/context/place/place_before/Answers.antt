@@ -1,5 +1,5 @@
 use Rattle.std.proofs.Common.{ap}
-use Rattle.pliron_core.specs.Tables.{view_of}
+use Rattle.pliron_core.specs.UseTables.{view_of}
 use Rattle.pliron_core.proofs.WellLemmas.{well_put}
 use Rattle.pliron_core.proofs.context.place.place_before.Goals as goal
 

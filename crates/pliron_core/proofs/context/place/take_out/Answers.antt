@@ -1,5 +1,5 @@
 use Rattle.std.proofs.Common.{rules, ◌≡◌, ap, Some}
-use Rattle.pliron_core.specs.Tables.{view_of}
+use Rattle.pliron_core.specs.UseTables.{view_of}
 use Rattle.pliron_core.specs.Tree.{parent_of}
 use Rattle.pliron_core.proofs.WellLemmas.{well_taken}
 use Rattle.pliron_core.proofs.context.place.take_out.Goals as goal

@@ -1,8 +1,8 @@
 use Rattle.std.proofs.Common.{rules, ◌≡◌, ◌+◌, ◌++◌, ◌∷◌, [], sym, ap, ◌∙◌, length, subst, slice_set, Some, None, length-append, replicate}
 use Rattle.std.specs.List.{range_with_len}
 use Rattle.pliron_core.specs.Tree.{Tree, layout_of}
-use Rattle.pliron_core.specs.Joined.{IsWellFormed}
-use Rattle.pliron_core.specs.Tables.{view_of}
+use Rattle.pliron_core.specs.Invariant.{IsWellFormed}
+use Rattle.pliron_core.specs.UseTables.{view_of}
 use Rattle.pliron_core.specs.Writes.{block_created, argument_definitions}
 use Rattle.pliron_core.proofs.UserLemmas.{length-unused}
 use Rattle.pliron_core.proofs.WellLemmas.{well_block_created, block_made}

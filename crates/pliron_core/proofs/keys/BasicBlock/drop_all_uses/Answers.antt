@@ -2,7 +2,7 @@ use Rattle.std.proofs.Common.{◌≡◌, ◌<◌, length, nat_eq, Some, sym, ap,
 use Rattle.pliron_core.specs.Lists.{next_in_owner}
 use Rattle.pliron_core.specs.Tree.{View, IsLive, body_of, next_in, parent_of}
 use Rattle.pliron_core.specs.Erased.{names_dropped}
-use Rattle.pliron_core.specs.Tables.{view_of}
+use Rattle.pliron_core.specs.UseTables.{view_of}
 use Rattle.pliron_core.specs.WalkSteps.{rest_from}
 use Rattle.pliron_core.proofs.TreeLemmas.{live-within}
 use Rattle.pliron_core.proofs.DropLemmas.{IsBlockPass, pass_live, pass_next, pass_falls, pass_end}

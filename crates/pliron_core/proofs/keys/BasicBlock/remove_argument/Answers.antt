@@ -1,8 +1,8 @@
 use Rattle.std.proofs.Common.{◌≡◌, ℕ, refl, sym, subst, ap, Some}
 use Rattle.std.specs.List.{slice_get}
-use Rattle.pliron_core.specs.Tables.{view_of}
+use Rattle.pliron_core.specs.UseTables.{view_of}
 use Rattle.pliron_core.specs.Tree.{In, arguments_of, operands_of}
-use Rattle.pliron_core.specs.Joined.{IsWellFormed}
+use Rattle.pliron_core.specs.Invariant.{IsWellFormed}
 use Rattle.pliron_core.specs.Writes.{argument_removed}
 use Rattle.pliron_core.proofs.AgreementLemmas.{unnamed_from-no_uses}
 use Rattle.pliron_core.proofs.WellLemmas.{well_argument_removed}

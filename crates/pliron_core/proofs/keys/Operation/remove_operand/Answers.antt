@@ -1,5 +1,5 @@
 use Rattle.std.proofs.Common.{rules, ◌≡◌, slice_set, remove}
-use Rattle.pliron_core.specs.Tables.{view_of}
+use Rattle.pliron_core.specs.UseTables.{view_of}
 use Rattle.pliron_core.specs.Tree.{operands_of}
 use Rattle.pliron_core.proofs.WellLemmas.{well_remove}
 use Rattle.pliron_core.proofs.keys.Operation.remove_operand.Goals as goal

@@ -1,6 +1,6 @@
 use Rattle.std.proofs.Common.{◌≡◌, IsSome, sym, ap, ◌∙◌, subst}
 use Rattle.std.proofs.lemmas.List.{get_or_default}
-use Rattle.pliron_core.specs.Tables.{view_of}
+use Rattle.pliron_core.specs.UseTables.{view_of}
 use Rattle.pliron_core.specs.Tree.{row_of, no_entry}
 use Rattle.pliron_core.proofs.TreeLemmas.{live-within}
 use Rattle.pliron_core.proofs.ArgumentLemmas.{headed_attribute}

@@ -1,5 +1,5 @@
 use Rattle.std.proofs.Common.{◌≡◌, ◌≤◌, ◌++◌, ◌∷◌, [], length, ap, ◌∙◌, arith}
-use Rattle.pliron_core.specs.Places.{no_target}
+use Rattle.pliron_core.specs.UseSlots.{no_target}
 use Rattle.pliron_core.proofs.PlaceLemmas.{linked-target}
 use Rattle.pliron_core.proofs.uses.Uses.add_target.Goals as goal
 

@@ -1,8 +1,8 @@
 use Rattle.std.proofs.Common.{◌≡◌, ◌+◌, ◌^◌, ◌<◌, ◌++◌, ◌∷◌, [], length, map, ap, sym, ◌∙◌, rules, arith}
 use Rattle.std.specs.List.{range_with_len}
 use Rattle.std.proofs.lemmas.List.{length-map}
-use Rattle.pliron_core.specs.Places.{ranked_use, targets_in, no_gap, places_from, uses_by}
-use Rattle.pliron_core.specs.declared.places.Holes.TheVariants.{OneGap}
+use Rattle.pliron_core.specs.UseSlots.{ranked_use, targets_in, no_gap, places_from, uses_by}
+use Rattle.pliron_core.specs.declared.use_slots.Holes.TheVariants.{OneGap}
 use Rattle.pliron_core.proofs.UserLemmas.{user-linked, targets-with, length-uses}
 use Rattle.pliron_core.proofs.uses.Uses.add_user_with.Goals as goal
 

@@ -1,7 +1,7 @@
 use Rattle.std.proofs.Common.{◌≡◌, ◌<◌, [], length, map, get_or, Some, refl, ap, ◌∙◌, rules, arith}
 use Rattle.std.specs.List.{slice_get}
 use Rattle.std.proofs.lemmas.List.{length-map, get_or_default}
-use Rattle.pliron_core.specs.Places.{at, rank, ranked_use}
+use Rattle.pliron_core.specs.UseSlots.{at, rank, ranked_use}
 use Rattle.pliron_core.proofs.TableLemmas.{at-within}
 use Rattle.pliron_core.proofs.HoleLemmas.{hole-read}
 use Rattle.pliron_core.proofs.PlaceLemmas.{use-there, use-seen, target-real}

@@ -1,7 +1,7 @@
 use Rattle.std.proofs.Common.{◌<◌, length, map, ap, ◌∙◌, sym, arith}
 use Rattle.std.specs.List.{slice_get}
 use Rattle.std.proofs.lemmas.List.{length-map}
-use Rattle.pliron_core.specs.Places.{ranked_use}
+use Rattle.pliron_core.specs.UseSlots.{ranked_use}
 use Rattle.pliron_core.proofs.MoveLemmas.{unused_is, handed, linked-moved, holes-moved, targets-moved, reword}
 use Rattle.pliron_core.proofs.uses.Uses.hand_over.Goals as goal
 

@@ -1,6 +1,6 @@
 use Rattle.std.proofs.Common.{◌<◌, length, map, set, get_or, [], ◌∷◌, ◌++◌, ap, ◌∙◌, arith}
 use Rattle.std.proofs.lemmas.List.{length-map}
-use Rattle.pliron_core.specs.Places.{ranked_use, targets_in}
+use Rattle.pliron_core.specs.UseSlots.{ranked_use, targets_in}
 use Rattle.pliron_core.proofs.PlaceLemmas.{pushed-linked, pushed-targets, undone, whole-table}
 use Rattle.pliron_core.proofs.uses.Uses.push.Goals as goal
 

@@ -1,7 +1,7 @@
 use Rattle.std.proofs.Common.{◌≡◌, ◌<◌, [], length, get_or, set, map, ap, sym, ◌∙◌, arith}
 use Rattle.std.specs.List.{slice_get, remove}
 use Rattle.std.proofs.lemmas.List.{length-map}
-use Rattle.pliron_core.specs.Places.{held, ranked_use, targets_in}
+use Rattle.pliron_core.specs.UseSlots.{targets_held, ranked_use, targets_in}
 use Rattle.pliron_core.specs.Holes.{gap_of}
 use Rattle.pliron_core.proofs.PlaceLemmas.{row-targets}
 use Rattle.pliron_core.proofs.RelocateLemmas.{held-kept, users-kept, users-set, user-within}
@@ -15,7 +15,7 @@ open_gap-requires-clause-user c =
 pub open_gap-requires-clause-index : goal.open_gap-requires-clause-index
 open_gap-requires-clause-index c =
     let r = rw (← c.self.view_is) at c.requires in
-    let row : length (get_or (targets_in c.self.inside.places.items) c.args.user []) ≡ length (held (get_or c.self.inside.places.items c.args.user [])) = ap length (row-targets c.self.inside.places.items c.args.user) in
+    let row : length (get_or (targets_in c.self.inside.places.items) c.args.user []) ≡ length (targets_held (get_or c.self.inside.places.items c.args.user [])) = ap length (row-targets c.self.inside.places.items c.args.user) in
     omega (arith, r.place, row)
 
 pub widen_gap-target-requires-clause-user : goal.widen_gap-target-requires-clause-user
@@ -32,8 +32,8 @@ widen_gap-target-requires-clause-start c =
     let r = rw (← c.self.view_is) at c.requires in
     let rows = c.self.inside.places.items in
     let o = c.open_gap.ensures in
-    let row : length (get_or (targets_in c.self.inside.places.items) c.args.user []) ≡ length (held (get_or c.self.inside.places.items c.args.user [])) = ap length (row-targets c.self.inside.places.items c.args.user) in
-    let h : length (held (get_or c.open_gap.new.places.items c.args.user [])) ≡ length (held (get_or c.self.inside.places.items c.args.user [])) = ap length (held-kept c.self.inside.places.items c.open_gap.new.places.items c.args.user o.targets) in
+    let row : length (get_or (targets_in c.self.inside.places.items) c.args.user []) ≡ length (targets_held (get_or c.self.inside.places.items c.args.user [])) = ap length (row-targets c.self.inside.places.items c.args.user) in
+    let h : length (targets_held (get_or c.open_gap.new.places.items c.args.user [])) ≡ length (targets_held (get_or c.self.inside.places.items c.args.user [])) = ap length (held-kept c.self.inside.places.items c.open_gap.new.places.items c.args.user o.targets) in
     omega (arith, r.place, row, h, o.start)
 
 pub settle_gap-requires-clause-user : goal.settle_gap-requires-clause-user
@@ -49,7 +49,7 @@ settle_gap-requires-clause-user c =
 pub returns-clause-target : goal.returns-clause-target
 returns-clause-target c =
     let o = c.open_gap.ensures in
-    rw (← c.self.view_is) (ap (λ l. slice_get l c.args.place) (row-targets c.self.inside.places.items c.args.user ∙ sym (held-kept c.self.inside.places.items c.open_gap.new.places.items c.args.user o.targets)) ∙ ap (slice_get (held (get_or c.open_gap.new.places.items c.args.user []))) (sym o.start) ∙ c.widen_gap-target.ensures.target)
+    rw (← c.self.view_is) (ap (λ l. slice_get l c.args.place) (row-targets c.self.inside.places.items c.args.user ∙ sym (held-kept c.self.inside.places.items c.open_gap.new.places.items c.args.user o.targets)) ∙ ap (slice_get (targets_held (get_or c.open_gap.new.places.items c.args.user []))) (sym o.start) ∙ c.widen_gap-target.ensures.target)
 
 pub returns-clause-targets : goal.returns-clause-targets
 returns-clause-targets c =
@@ -77,7 +77,7 @@ take_counted-requires-clause-user c =
 pub take_counted-requires-clause-index : goal.take_counted-requires-clause-index
 take_counted-requires-clause-index c =
     let r = rw (← c.self.view_is) at c.requires in
-    let row : length (get_or (targets_in c.self.inside.places.items) c.args.user []) ≡ length (held (get_or c.self.inside.places.items c.args.user [])) = ap length (row-targets c.self.inside.places.items c.args.user) in
+    let row : length (get_or (targets_in c.self.inside.places.items) c.args.user []) ≡ length (targets_held (get_or c.self.inside.places.items c.args.user [])) = ap length (row-targets c.self.inside.places.items c.args.user) in
     omega (arith, r.place, row)
 
 pub returns-then-are_counted-clause-target : goal.returns-then-are_counted-clause-target

@@ -1,7 +1,7 @@
 use Rattle.std.proofs.Common.{◌-◌, ◌<◌, length, map, ap, ◌∙◌, sym, subst, arith}
 use Rattle.std.specs.List.{slice_get}
 use Rattle.std.proofs.lemmas.List.{length-map}
-use Rattle.pliron_core.specs.Places.{ranked_use}
+use Rattle.pliron_core.specs.UseSlots.{ranked_use}
 use Rattle.pliron_core.specs.Holes.{AreLinked}
 use Rattle.pliron_core.proofs.MoveLemmas.{reads, put_back, linked-moved, holes-moved, targets-moved, reword}
 use Rattle.pliron_core.proofs.uses.Uses.replace.Goals as goal

@@ -8,6 +8,6 @@ use Rattle.pliron_evaluator.proofs.evaluator.kind_moves.branch_move.Goals as goa
 pub returns : goal.returns
 returns c =
     let n = first_edge_operands c.args.attrs.now in
-    let edge = c.chosen-edge.result in
+    let edge = c.choice_by_input-edge.result in
     let passed = c.in_ok-all_copies.ensures ∙ ap (map datum_of_value) c.values_along-values.ensures ∙ along_edge n edge c.behind_first.result.now ∙ ap (edge_values n edge) c.behind_first.ensures in
-    ap (Goto edge) passed ∙ ap (λ z. Goto z (edge_values n z (drop 1 (map datum_of_value c.args.input.now)))) c.chosen-edge.ensures
+    ap (Goto edge) passed ∙ ap (λ z. Goto z (edge_values n z (drop 1 (map datum_of_value c.args.input.now)))) c.choice_by_input-edge.ensures

@@ -1,5 +1,5 @@
 use Rattle.std.proofs.Common.{drop, map, ap}
-use Rattle.pliron_laws.specs.Machine.{bind, given, perform}
+use Rattle.pliron_laws.specs.Machine.{bind, after_giving, perform}
 use Rattle.pliron_core.specs.Tree.{results_of}
 use Rattle.pliron_evaluator.specs.Evaluator.{datum_of_value, move_of, state_of}
 use Rattle.pliron_evaluator.proofs.EvaluatorSteps.{by_move, first_drop, performs_give, performs_visit, performs_goto}
@@ -11,7 +11,7 @@ returns-in-Give c =
     let s = state_of c.args.state in
     let rest = drop 1 c.args.state.rest.items in
     let ds = map datum_of_value c.in-Give.values.items in
-    by_move t c.args.op c.give.result (given s rest s.waiting ds (bind s.environment (results_of t c.args.op) ds)) (λ o. perform t s o c.args.op rest (move_of c.args.next)) (performs_give t s c.args.op rest (move_of c.args.next) ds (ap move_of c.in-Give.is)) c.give.ensures
+    by_move t c.args.op c.give.result (after_giving s rest s.waiting ds (bind s.environment (results_of t c.args.op) ds)) (λ o. perform t s o c.args.op rest (move_of c.args.next)) (performs_give t s c.args.op rest (move_of c.args.next) ds (ap move_of c.in-Give.is)) c.give.ensures
 
 pub returns-in-Visit : goal.returns-in-Visit
 returns-in-Visit c =

@@ -2,7 +2,7 @@ use Rattle.std.proofs.Common.{◌≡◌, ◌∙◌, ◌<◌, ◌+◌, [], ◌∷
 use Rattle.std.specs.Option.{is_some}
 use Rattle.std.proofs.lemmas.Option.{slice_get_read}
 use Rattle.pliron_core.specs.Tree.{IsLive, row_of, results_of, parent_of}
-use Rattle.pliron_core.specs.Joined.{IsTree}
+use Rattle.pliron_core.specs.Invariant.{IsTree}
 use Rattle.pliron_core.proofs.TreeLemmas.{live-within}
 use Rattle.pliron_laws.specs.StandIns.{AreStanding, stand_in}
 use Rattle.pliron_laws.proofs.ConstantLemmas.{made_point}

@@ -1,6 +1,6 @@
 use Rattle.std.proofs.Common.{nat_eq}
 use Rattle.std.specs.Option.{option_to_list}
-use Rattle.pliron_search.specs.Adjacency.{graph_of}
+use Rattle.pliron_traversal.specs.Adjacency.{graph_of}
 use Rattle.pliron_graph.proofs.CallerLemmas.{Contains-item, IsListed-successor, edge_not_later}
 use Rattle.pliron_opts.proofs.graph.graph_lines.push_edges_of.Goals as goal
 

@@ -9,4 +9,4 @@ returns-clause-ran g c =
 
 pub returns-clause-truly : goal.returns-clause-truly
 returns-clause-truly g c =
-    steps_truly _ _ c.schedules_are_honest.ensures c.args.schedule c.run_pipeline.new.pass c.args.root (stage c.args.ctx.now c.new-analyses.result) (stage c.run_pipeline.new.ctx c.run_pipeline.new.analyses) c.run_pipeline.result (steps_managed _ _ _ _ _ c.args.schedule c.run_pipeline.new.pass c.args.root (stage c.args.ctx.now c.new-analyses.result) (stage c.run_pipeline.new.ctx c.run_pipeline.new.analyses) c.run_pipeline.result (manages c.args.schedule) c.run_pipeline.ensures.outcome)
+    steps_truly _ _ c.schedules_report_accurately.ensures c.args.schedule c.run_pipeline.new.pass c.args.root (stage c.args.ctx.now c.new-analyses.result) (stage c.run_pipeline.new.ctx c.run_pipeline.new.analyses) c.run_pipeline.result (steps_managed _ _ _ _ _ c.args.schedule c.run_pipeline.new.pass c.args.root (stage c.args.ctx.now c.new-analyses.result) (stage c.run_pipeline.new.ctx c.run_pipeline.new.analyses) c.run_pipeline.result (manages c.args.schedule) c.run_pipeline.ensures.outcome)

@@ -1,5 +1,5 @@
 use Rattle.std.proofs.Common.{◌≡◌, map, take}
-use Rattle.pliron_pipeline.specs.Steps.{step_name}
+use Rattle.pliron_pipeline.specs.PassSteps.{step_name}
 use Rattle.pliron_opts.proofs.optimise.command.passes.Given as goal
 
 abbrev pub invariant-loop-name : goal.invariant-loop-name

@@ -2,7 +2,7 @@ use Rattle.std.proofs.Common.{◌≡◌, ◌<◌, ◌-◌, ap, ◌∙◌, sym, s
 use Rattle.std.specs.Option.{is_some}
 use Rattle.std.proofs.lemmas.Option.{same_Some}
 use Rattle.pliron_core.specs.Lists.{next_in}
-use Rattle.pliron_core.specs.Tree.{IsLive, IsWithin, holder_of}
+use Rattle.pliron_core.specs.Tree.{IsLive, IsWithin, parent_operation_of}
 use Rattle.pliron_core.specs.Walks.{children, contents, preorder}
 use Rattle.pliron_core.specs.WalkSteps.{IsFollowedBy}
 use Rattle.pliron_core.proofs.WalkLemmas.{within_live, inside_up, contents-shorter, length-contents}
@@ -14,8 +14,8 @@ use Rattle.pliron_core.proofs.context.walk.Ptr+Operation.next_after.Goals.{After
 live : (c : After-index) → IsLive c.args.ctx.now.tree c.loop-root.at
 live c = within_live c.args.ctx.now.tree c.well_formed-2.ensures.tree c.args.root c.loop-root.at c.requires.live c.loop-root.invariant.within
 
--- the holder, which is within the root too
-up : (c : After-index) → (p : ℕ) × (holder_of c.args.ctx.now.tree c.loop-root.at ≡ Some p) × IsWithin c.args.ctx.now.tree c.args.root p
+-- the parent operation, which is within the root too
+up : (c : After-index) → (p : ℕ) × (parent_operation_of c.args.ctx.now.tree c.loop-root.at ≡ Some p) × IsWithin c.args.ctx.now.tree c.args.root p
 up c = inside_up c.args.ctx.now.tree c.args.root c.loop-root.at c.loop-root.invariant.within (keys_unequal c.loop-root.at c.args.root c.loop-root-test.ensures)
 
 pub next_sibling-requires : goal.next_sibling-requires
@@ -25,9 +25,9 @@ pub get_parent_op-requires : goal.get_parent_op-requires
 get_parent_op-requires c = live (goal.at.get_parent_op-requires c).After-index
 
 -- the next sibling
-beside : (c : After-next_sibling) (p : ℕ) → holder_of c.args.ctx.now.tree c.loop-root.at ≡ Some p → c.next_sibling.result ≡ next_in c.loop-root.at (children c.args.ctx.now.tree p)
+beside : (c : After-next_sibling) (p : ℕ) → parent_operation_of c.args.ctx.now.tree c.loop-root.at ≡ Some p → c.next_sibling.result ≡ next_in c.loop-root.at (children c.args.ctx.now.tree p)
 beside c p e =
-    c.next_sibling.ensures p (ap (λ k. holder_of c.args.ctx.now.tree k) c.index.ensures ∙ e) ∙ ap (λ k. next_in k (children c.args.ctx.now.tree p)) c.index.ensures
+    c.next_sibling.ensures p (ap (λ k. parent_operation_of c.args.ctx.now.tree k) c.index.ensures ∙ e) ∙ ap (λ k. next_in k (children c.args.ctx.now.tree p)) c.index.ensures
 
 pub returns-in-Some : goal.returns-in-Some
 returns-in-Some c =

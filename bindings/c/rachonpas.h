@@ -1,0 +1,79 @@
+/* Rachonpas for C: optimisations whose proofs say that the program behaves as before.
+ *
+ * Each call takes texts as a pointer and a length, and puts its answer into a buffer of the caller. It keeps nothing
+ * between calls, starts no thread, and frees what it takes, by malloc, realloc and free of the program.
+ *
+ * What a caller owes, which nothing tests:
+ *   - each pointer is that of so many bytes as the length beside it says, also where that is 0: none is NULL;
+ *   - `output`, `*needed` and `*place` overlap nothing else that is passed to the same call, and no other thread
+ *     touches them while it runs; the texts may be shared, and aren't written;
+ *   - a length is below 2^63;
+ *   - malloc, realloc and free are those of one allocator, which aligns to 16 bytes, as that of every C library does;
+ *   - no call is made from a signal handler, or in the child of a fork of a process with several threads;
+ *   - 256 KiB of stack are free.
+ */
+#ifndef RACHONPAS_H
+#define RACHONPAS_H
+
+#include <stddef.h>
+#include <stdint.h>
+
+#ifdef __cplusplus
+extern "C" {
+#endif
+
+/* The interface that this header declares. A program may ask that `plir_version() == PLIR_VERSION`. */
+#define PLIR_VERSION 1
+
+/* The most bytes of a text. */
+#define PLIR_MAX_TEXT 1048576
+
+/* What a call answers. `plir_opt` ends with 0 for the first, with 1 for PLIR_REFUSED and PLIR_MEMORY, and with 2 for
+ * the others. */
+typedef uint32_t plir_status;
+enum {
+    PLIR_ANSWERED = 0,  /* The whole answer stands at the start of `output`; `*needed` is its length. */
+    PLIR_REFUSED = 1,   /* The passes gave up: a value of an unreachable block is used. */
+    PLIR_TEXT = 2,      /* The text is outside the notation, or longer than PLIR_MAX_TEXT. */
+    PLIR_ARGUMENTS = 3, /* The pipeline isn't a list of passes. */
+    PLIR_TOO_SMALL = 4, /* The answer has `*needed` bytes, which are more than `output_capacity`. */
+    PLIR_MEMORY = 5     /* Memory was refused. */
+};
+/* With each status but PLIR_ANSWERED nothing is written to `output`; with each but that and PLIR_TOO_SMALL `*needed`
+ * is 0. Behind an answer, `output` keeps what it held: no zero byte is put there. */
+
+/* A part of a text: it begins after `start` bytes and has `length`; its first byte stands in this line and column,
+ * counted from 1, columns by bytes. All are 0 where no part is meant. */
+typedef struct {
+    size_t start;
+    size_t length;
+    size_t line;
+    size_t column;
+} plir_place;
+
+/* The number of the interface that the library has. */
+uint32_t plir_version(void);
+
+/* Runs the passes of `pipeline` on `text` in the bench notation. The answer is the text that they leave, in one line, and
+ * a line `changed` or `unchanged`, each with a newline behind it: what `plir_opt PIPELINE` writes for the text, byte for
+ * byte. `pipeline` is a list of sccp, dce and simplify-cfg, joined by commas; `nested:LIST` runs it on each operation
+ * directly inside, and `repeat:N:..` until nothing changes, at most N times, 1 to 64.
+ * Faults are found in this order: pipeline, text, passes. */
+plir_status plir_optimise(const char *pipeline, size_t pipeline_length, const char *text, size_t text_length,
+                          char *output, size_t output_capacity, size_t *needed);
+
+/* The orders of a graph, its search numbers, the kinds of its edges and its components: what `plir_opt graph` writes for
+ * the text, which has a line for each node: `0: 1 5`. PLIR_REFUSED and PLIR_ARGUMENTS don't come. */
+plir_status plir_graph(const char *text, size_t text_length, char *output, size_t output_capacity, size_t *needed);
+
+/* Where `plir_optimise` finds a text unreadable. The answer says what was to stand there, as "`;` or `}`", and `*place`
+ * is the part of the text where that isn't so. Of a text that is read `*place` is all zeros, and the answer is empty.
+ * PLIR_ANSWERED, PLIR_TOO_SMALL, with which `*place` is told too, or PLIR_MEMORY, with which it is all zeros. */
+plir_status plir_find_fault(const char *text, size_t text_length, char *output, size_t output_capacity, size_t *needed,
+                            plir_place *place);
+
+#ifdef __cplusplus
+}
+#endif
+
+#endif

@@ -1,0 +1,100 @@
+#!/usr/bin/env python3
+"""The worked rows of the tests of the gate, for the tests of the bindings.
+
+    bindings/test/rows.py FILE      writes them to the file, a row a line: a letter, and its fields in hexadecimal, `-` for none
+
+They are read from the statics of the test crates, whose answers were worked by hand: texts and graphs through the program,
+and broken texts with the line, the column and what was to stand there.
+
+    o STATUS PIPELINE TEXT ANSWER       g STATUS TEXT ANSWER       f PLACE TEXT EXPECTED     where PLACE is LINE:COLUMN
+"""
+import glob
+import os
+import re
+import sys
+
+ROOT = os.path.dirname(os.path.dirname(os.path.dirname(os.path.realpath(__file__))))
+ESCAPE = re.compile(r"\\(\n\s*|u\{([0-9a-f]+)\}|x([0-9a-f]{2})|.)", re.S)
+PLAIN = {"n": "\n", "t": "\t", "r": "\r", "\\": "\\", '"': '"', "0": "\0"}
+
+ANSWERED, REFUSED, TEXT = 0, 1, 2
+
+
+def unescaped(found):
+    whole, wide, narrow = found.groups()
+    if wide or narrow:
+        return chr(int(wide or narrow, 16))
+    return PLAIN.get(whole, "")
+
+
+def read(path):
+    if not os.path.exists(path):
+        return ""
+    with open(path, encoding="utf-8") as it:
+        return it.read()
+
+
+def static(word, file, name):
+    """The lines of a static text in a file of this name, beside tests that call `word`."""
+    for path in sorted(glob.glob(f"{ROOT}/crates/*_tests/src/**/*.rt", recursive=True)):
+        if re.search(rf"\b{word}\(", read(path)):
+            beside = read(f"{os.path.dirname(path)}/{file}.rt")
+            found = re.search(rf'static {name}: &str =\s*"((?:[^"\\]|\\.)*)";', beside, re.S)
+            if found:
+                # As `lines()`, which splits at line feeds alone.
+                return ESCAPE.sub(unescaped, found.group(1)).removesuffix("\n").split("\n")
+    return sys.exit(f"rows: no test of {word} has {name} in {file}.rt")
+
+
+def with_lines(text):
+    return text.replace("|", "\n").encode()
+
+
+def optimised():
+    """Status, pipeline, text and answer of each row."""
+    for row in static("plir_run", "texts", "ROWS"):
+        text, answer = row.split(" => ")
+        yield ANSWERED, b"sccp", text.encode(), with_lines(answer)
+    for row in static("plir_run", "texts", "LISTS"):
+        pipeline, rest = row.split(" :: ")
+        text, answer = rest.split(" => ")
+        yield ANSWERED, pipeline.encode(), text.encode(), with_lines(answer)
+    for row in static("plir_run", "texts", "REFUSED"):
+        pipeline, rest = row.split(" :: ")
+        text, told = rest.split(" => ")
+        yield REFUSED if told.startswith("refused") else TEXT, pipeline.encode(), text.encode(), b""
+    for text in static("plir_run", "texts", "UNREADABLE"):
+        yield TEXT, b"sccp", text.encode(), b""
+
+
+def graphs():
+    """Status, text and answer of each graph."""
+    for row in static("plir_run", "graphs", "GRAPHS"):
+        text, answer = row.split(" => ")
+        yield ANSWERED, with_lines(text), with_lines(answer)
+    for text in static("plir_run", "graphs", "UNREADABLE"):
+        yield TEXT, with_lines(text), b""
+
+
+def faults():
+    """Line, column, text and what was to stand there, of each broken text."""
+    for row in static("find_text_fault", "faults", "BROKEN"):
+        text, told = row.split(" => ")
+        place, expected = told.split(" ", 1)
+        line, column = place.split(":")
+        yield int(line), int(column), with_lines(text), expected.encode()
+
+
+def written(letter, word, *fields):
+    return " ".join([letter, str(word)] + [field.hex() or "-" for field in fields]) + "\n"
+
+
+def main():
+    with open(sys.argv[1], "w", encoding="ascii") as it:
+        it.writelines(written("o", *row) for row in optimised())
+        it.writelines(written("g", *row) for row in graphs())
+        it.writelines(written("f", f"{line}:{column}", *rest) for line, column, *rest in faults())
+
+
+if __name__ == "__main__":
+    main()

@@ -1,0 +1,4 @@
+pub mod Statuses
+pub mod Fills
+pub mod Optimises
+pub mod Faults

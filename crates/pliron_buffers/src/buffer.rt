@@ -1,0 +1,32 @@
+//! An answer in a buffer.
+ghost use Rattle.std.specs.Prelude.{◌≡◌, IsOkAnd, IsErrOf, string_bytes};
+ghost use Rattle.pliron_buffers.specs.Fills.{Fills};
+
+use crate::status::{Failure, Status};
+
+/// Writes the answer to the start of the buffer, if it fits, and tells its length; of a failure it tells 0, and
+/// writes nothing. Cost: linear in the answer.
+pub fn fill(answer: Result<String, Failure>, output: &mut [u8], needed: &mut usize) -> Status
+    ensures { Fills (λ bytes. IsOkAnd answer (λ text. bytes ≡ string_bytes text)) (λ failure. IsErrOf answer failure)
+        output.old output.new needed.new result }
+{
+    match answer {
+        Ok(text) => put(text.as_bytes(), output, needed),
+        Err(failure) => {
+            *needed = 0;
+            failure.status()
+        }
+    }
+}
+
+/// Writes the answer to the start of the buffer, if it fits, and tells its length.
+fn put(answer: &[u8], output: &mut [u8], needed: &mut usize) -> Status
+    ensures { Fills (λ bytes. bytes ≡ answer.now) (λ failure. ⊥) output.old output.new needed.new result }
+{
+    *needed = answer.len();
+    if answer.len() > output.len() {
+        return Status::TooSmall;
+    }
+    output[..answer.len()].copy_from_slice(answer);
+    Status::Answered
+}

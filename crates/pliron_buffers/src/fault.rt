@@ -1,0 +1,106 @@
+//! Where a text leaves the notation.
+ghost use Rattle.std.specs.Prelude.{◌≡◌, ◌+◌, ◌≤◌, [], length, IfOk, IfErr, IfSome};
+ghost use Rattle.pliron_buffers.specs.Fills.{Fills};
+ghost use Rattle.pliron_buffers.specs.Faults.{nowhere, IsPartOf, IsFaultPlace};
+
+use crate::buffer::fill;
+use crate::status::{Failure, Status};
+use pliron_diagnostics::position_of;
+use pliron_notation::find_text_fault;
+use pliron_opts::MAX_TEXT;
+use std::alloc::Global;
+
+/// A part of a text: after how many bytes it begins and how many it has, and the line and column of its first
+/// byte, counted from 1, columns by bytes. All are 0 where no part is meant.
+#[repr(C)]
+#[derive(Clone, Copy, Debug, PartialEq, Eq)]
+pub struct Place {
+    pub start: usize,
+    pub len: usize,
+    pub line: usize,
+    pub column: usize,
+}
+
+/// No part.
+const NOWHERE: Place = Place {
+    start: 0,
+    len: 0,
+    line: 0,
+    column: 0,
+};
+
+/// What is wrong with a text: after how many bytes, in how many, and what was to stand there.
+#[derive(Drop)]
+struct Fault {
+    start: usize,
+    len: usize,
+    expected: String,
+}
+
+/// The first place at which the text leaves the notation or is too long. Errors: allocation failure.
+fn fault_of(alloc: Global, text: &[u8]) -> Result<Option<Fault>, Failure>
+    ensures within { IfOk result (λ found. IfSome found (λ fault. fault.start + fault.len ≤ length text.now)) }
+    ensures memory { IfErr result (λ failure. failure ≡ Failure.Memory) }
+{
+    if text.len() > MAX_TEXT {
+        return Ok(Some(Fault {
+            start: MAX_TEXT,
+            len: text.len() - MAX_TEXT,
+            expected: format!(in alloc; "at most {MAX_TEXT} bytes")?,
+        }));
+    }
+    match find_text_fault(alloc, text) {
+        Ok(Some(fault)) => Ok(Some(Fault {
+            start: fault.span.start,
+            len: fault.span.len,
+            expected: fault.expected.to_string(alloc)?,
+        })),
+        Ok(None) => Ok(None),
+        Err(error) => Err(Failure::of(error)),
+    }
+}
+
+/// The part of so many bytes after these.
+fn place_in(text: &[u8], start: usize, len: usize) -> Place
+    requires { start + len ≤ length text.now }
+    ensures { IsPartOf text.now result }
+{
+    let position = position_of(text, start);
+    Place {
+        start,
+        len,
+        line: position.line,
+        column: position.column,
+    }
+}
+
+/// Tells where a text of the bench notation leaves it, or is too long, and puts what was to stand there into the buffer;
+/// of a text that is read the place is no part, and nothing is put.
+///
+/// Nothing is written to the buffer unless all fits. It fails on allocation failure alone. Cost: that of reading.
+pub fn find_fault_into(
+    alloc: Global,
+    text: &[u8],
+    output: &mut [u8],
+    needed: &mut usize,
+    place: &mut Place,
+) -> Status
+    ensures fills { Fills (λ expected. place.new ≡ nowhere → expected ≡ [])
+        (λ failure. (failure ≡ Failure.Memory) × (place.new ≡ nowhere)) output.old output.new needed.new result }
+    ensures place { IsFaultPlace text.now place.new }
+{
+    match fault_of(alloc, text) {
+        Ok(Some(fault)) => {
+            *place = place_in(text, fault.start, fault.len);
+            fill(Ok(fault.expected), output, needed)
+        }
+        Ok(None) => {
+            *place = NOWHERE;
+            fill(Ok(String::new(alloc)), output, needed)
+        }
+        Err(failure) => {
+            *place = NOWHERE;
+            fill(Err(failure), output, needed)
+        }
+    }
+}

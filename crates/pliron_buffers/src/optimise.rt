@@ -1,0 +1,87 @@
+//! Passes on a text.
+ghost use Rattle.std.specs.Prelude.{◌≡◌, ◌≢◌, ◌⊎◌, IfOk, IfErr, string_bytes};
+ghost use Rattle.pliron_opts.specs.Answered.{IsOptimised};
+ghost use Rattle.pliron_opts.specs.Asked.{IsPlanned};
+ghost use Rattle.pliron_opts.specs.Ran.{RunsAlone};
+ghost use Rattle.pliron_buffers.specs.Fills.{Fills};
+ghost use Rattle.pliron_buffers.specs.Optimises.{Optimises, Explains};
+
+use crate::buffer::fill;
+use crate::status::{Failure, Status};
+use pliron_laws::Dialect;
+use pliron_opts::{MAX_TEXT, Notation, Schedule, optimise_text, plan_schedule};
+use pliron_pass::{BenchFactKind, BenchFacts, Pass};
+use std::alloc::Global;
+
+/// The schedule that the list plans. Errors: the list isn't one of names of passes; allocation failure.
+fn schedule_of<D: Dialect>(alloc: Global, list: &[u8]) -> Result<Schedule<D, BenchFacts>, Failure>
+    ensures planned { IfOk result (λ schedule. IsPlanned list.now schedule) }
+    ensures failure { IfErr result (λ failure. (failure ≡ Failure.Arguments) ⊎ (failure ≡ Failure.Memory)) }
+{
+    let Ok(word) = str::from_utf8(list) else {
+        return Err(Failure::Arguments);
+    };
+    match plan_schedule(alloc, word)? {
+        Some(schedule) => Ok(schedule),
+        None => Err(Failure::Arguments),
+    }
+}
+
+/// What the passes make of the text, printed.
+///
+/// Errors: the text is outside the notation or too long; those of the passes; allocation failure.
+fn answer_of<N: Notation>(
+    alloc: Global,
+    schedule: Schedule<N::D, BenchFacts>,
+    text: &[u8],
+) -> Result<String, Failure>
+    ensures answer { IfOk result (λ answer. IsOptimised N.reads N.prints N.D.meaning
+        (RunsAlone ⟦<BenchFactKind as PartialEq>⟧.eq ⟦<Schedule<N::D, BenchFacts> as Pass>⟧.outcome schedule)
+        text.now (string_bytes answer)) }
+    ensures failure { IfErr result (λ failure. failure ≢ Failure.Arguments) }
+{
+    if text.len() > MAX_TEXT {
+        return Err(Failure::Text);
+    }
+    match optimise_text::<N>(alloc, schedule, text) {
+        Ok(Some(answer)) => Ok(answer),
+        Ok(None) => Err(Failure::Text),
+        Err(error) => Err(Failure::of(error)),
+    }
+}
+
+/// What the passes of a list make of a text, printed, and a line that says whether they changed it: what the
+/// program of the notation answers to the word and the input.
+///
+/// Errors: the list isn't one of names of passes; the text is outside the notation, or longer than 1,048,576 bytes; the
+/// passes gave up; allocation failure. Cost: linear in the texts, and that of the passes.
+pub fn optimise_by_list<N: Notation>(
+    alloc: Global,
+    list: &[u8],
+    text: &[u8],
+) -> Result<String, Failure>
+    ensures answer { IfOk result (λ answer. Optimises N.reads N.prints N.D.meaning
+        (RunsAlone ⟦<BenchFactKind as PartialEq>⟧.eq ⟦<Schedule<N::D, BenchFacts> as Pass>⟧.outcome)
+        list.now text.now (string_bytes answer)) }
+    ensures failure { IfErr result (Explains list.now) }
+{
+    let schedule = schedule_of(alloc, list)?;
+    answer_of::<N>(alloc, schedule, text)
+}
+
+/// Puts what `optimise_by_list` answers into the buffer, and tells its length, or 0 where no answer is known.
+///
+/// Nothing is written to the buffer unless the whole answer fits. Cost: that of `optimise_by_list`.
+pub fn optimise_into<N: Notation>(
+    alloc: Global,
+    list: &[u8],
+    text: &[u8],
+    output: &mut [u8],
+    needed: &mut usize,
+) -> Status
+    ensures { Fills (Optimises N.reads N.prints N.D.meaning
+        (RunsAlone ⟦<BenchFactKind as PartialEq>⟧.eq ⟦<Schedule<N::D, BenchFacts> as Pass>⟧.outcome)
+        list.now text.now) (Explains list.now) output.old output.new needed.new result }
+{
+    fill(optimise_by_list::<N>(alloc, list, text), output, needed)
+}

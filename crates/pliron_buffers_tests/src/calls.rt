@@ -1,0 +1,157 @@
+//! Calls with buffers of several lengths. Before each call the buffer holds dots; `|` stands for the end of a line.
+use pliron_buffers::{
+    BenchNotation, Failure, Place, Status, describe_graph_into, find_fault_into, optimise_by_list,
+    optimise_into,
+};
+use std::alloc::Global;
+use std::process::Abort;
+
+/// The text with ends of lines for `|`.
+fn with_lines(rt: &impl Abort, alloc: Global, text: &str) -> Vec<u8> {
+    let mut bytes = Vec::new(alloc);
+    for byte in text.as_bytes() {
+        bytes
+            .push(if *byte == b'|' { b'\n' } else { *byte })
+            .expect(rt, "memory");
+    }
+    bytes
+}
+
+/// A buffer of so many dots.
+fn dots(rt: &impl Abort, alloc: Global, capacity: &str) -> Vec<u8> {
+    let capacity = capacity.parse::<usize>().unwrap_or(0).min(1000);
+    Vec::from_elem(alloc, b'.', capacity).expect(rt, "memory")
+}
+
+/// The call answered this status, told this length, and left this in the buffer.
+fn expect_left(
+    rt: &impl Abort,
+    alloc: Global,
+    status: Status,
+    needed: usize,
+    buffer: &[u8],
+    wanted: &str,
+) {
+    let mut told = format!(in alloc; "{} {needed} ", status.number()).expect(rt, "memory");
+    for byte in buffer {
+        let shown = if *byte == b'\n' { b'|' } else { *byte };
+        told.push(char::from(shown)).expect(rt, "memory");
+    }
+    assert!(rt; told.as_str() == wanted, "{told}");
+}
+
+/// Lists of passes, texts and lengths of buffers; then statuses, lengths that are told, and what the buffers hold.
+static OPTIMISED: &str = "\
+sccp,dce :: func { b0(): a = const 1; b = const 2; c = add a b; ret c } :: 44 => 0 44 func { b0(): v0 = const 3; ret v0 }|changed|
+sccp,dce :: func { b0(): a = const 1; b = const 2; c = add a b; ret c } :: 47 => 0 44 func { b0(): v0 = const 3; ret v0 }|changed|...
+sccp,dce :: func { b0(): a = const 1; b = const 2; c = add a b; ret c } :: 43 => 4 44 ...........................................
+sccp,dce :: func { b0(): a = const 1; b = const 2; c = add a b; ret c } :: 0 => 4 44\x20
+nested:dce :: mod { } :: 20 => 0 18 mod { }|unchanged|..
+dce ::  :: 3 => 2 0 ...
+dce :: func :: 3 => 2 0 ...
+cse :: func :: 3 => 3 0 ...
+graph :: 0: :: 3 => 3 0 ...
+ :: mod { } :: 3 => 3 0 ...
+simplify-cfg :: func { b0(): ret v; b1(): v = const 1; br b1() } :: 3 => 1 0 ...";
+
+#[test]
+fn optimised(rt: HostRuntime) {
+    let alloc = rt.alloc();
+    for case in OPTIMISED.lines() {
+        let (list, rest) = case.split_once(" :: ").expect(&rt, "a list");
+        let (text, rest) = rest.split_once(" :: ").expect(&rt, "a text");
+        let (capacity, wanted) = rest.split_once(" => ").expect(&rt, "a length");
+        let mut buffer = dots(&rt, alloc, capacity);
+        let mut needed = 7;
+        let (list, text) = (list.as_bytes(), text.as_bytes());
+        let status = optimise_into::<BenchNotation>(alloc, list, text, &mut buffer, &mut needed);
+        expect_left(&rt, alloc, status, needed, &buffer, wanted);
+    }
+}
+
+#[test]
+fn lists_that_are_no_text(rt: HostRuntime) {
+    let answer = optimise_by_list::<BenchNotation>(rt.alloc(), &[0xff, 0xfe], b"mod { }");
+    assert!(rt; matches!(answer, Err(Failure::Arguments)));
+}
+
+#[test]
+fn texts_that_are_too_long(rt: HostRuntime) {
+    let alloc = rt.alloc();
+    let mut text = Vec::from_elem(alloc, b' ', 1_048_577).expect(&rt, "memory");
+    for (at, byte) in text.iter_mut().enumerate() {
+        if let Some(first) = b"mod { }".get(at) {
+            *byte = *first;
+        }
+    }
+    let longest = text.get(..1_048_576).unwrap_or(&[]);
+    let answer = optimise_by_list::<BenchNotation>(alloc, b"dce", longest).expect(&rt, "an answer");
+    assert!(rt; answer.as_str() == "mod { }\nunchanged\n");
+    let answer = optimise_by_list::<BenchNotation>(alloc, b"dce", &text);
+    assert!(rt; matches!(answer, Err(Failure::Text)));
+    expect_fault(
+        &rt,
+        alloc,
+        &text,
+        "0 21 at most 1048576 bytes 1048576+1 1:1048577",
+    );
+}
+
+/// Graphs and lengths of buffers, and what is answered.
+static GRAPHS: &str = "\
+0: :: 88 => 0 88 post-order: [0]|topological: [0]|numbers: 0=0/0|edges:|components: [0]|pre-sentinels: 0|
+0: :: 87 => 4 88 .......................................................................................
+a: :: 3 => 2 0 ...";
+
+#[test]
+fn graphs(rt: HostRuntime) {
+    let alloc = rt.alloc();
+    for case in GRAPHS.lines() {
+        let (text, rest) = case.split_once(" :: ").expect(&rt, "a text");
+        let (capacity, wanted) = rest.split_once(" => ").expect(&rt, "a length");
+        let mut buffer = dots(&rt, alloc, capacity);
+        let mut needed = 7;
+        let status = describe_graph_into(alloc, text.as_bytes(), &mut buffer, &mut needed);
+        expect_left(&rt, alloc, status, needed, &buffer, wanted);
+    }
+}
+
+/// What is told of a text, in a buffer that has room for it, with the place.
+fn expect_fault(rt: &impl Abort, alloc: Global, text: &[u8], wanted: &str) {
+    let mut buffer = dots(rt, alloc, "100");
+    let mut needed = 7;
+    let mut place = Place {
+        start: 9,
+        len: 9,
+        line: 9,
+        column: 9,
+    };
+    let status = find_fault_into(alloc, text, &mut buffer, &mut needed, &mut place);
+    let expected = buffer.get(..needed).unwrap_or(&[]);
+    let expected = std::str::from_utf8(expected).unwrap_or("no text");
+    let (line, column) = (place.line, place.column);
+    let told = format!(in alloc;
+        "{} {needed} {expected} {}+{} {line}:{column}",
+        status.number(),
+        place.start,
+        place.len
+    );
+    let told = told.expect(rt, "memory");
+    assert!(rt; told.as_str() == wanted, "{told}");
+}
+
+/// Broken texts, and what is told of them: the status, the length of the words, these, and the place.
+static BROKEN: &str = "\
+mod { } => 0 0  0+0 0:0
+ => 0 15 `mod` or `func` 0+0 1:1
+func {|b0(): x = const 1 ret x|} => 0 10 `;` or `}` 25+3 2:19
+func {|  b0():|    br b1(x);|  b1(y):|    ret|} => 0 43 the name of a value that its `func` defines 25+1 3:11";
+
+#[test]
+fn faults(rt: HostRuntime) {
+    let alloc = rt.alloc();
+    for case in BROKEN.lines() {
+        let (text, wanted) = case.split_once(" => ").expect(&rt, "a case");
+        expect_fault(&rt, alloc, &with_lines(&rt, alloc, text), wanted);
+    }
+}

@@ -1,0 +1,111 @@
+-- How commands end.
+use Rattle.std.specs.Prelude.{⊤}
+use Rattle.std.proofs.Common.{◌≡◌, ◌⊎◌, inl, inr, ℕ, Bool, true, false, if◌then◌else◌, List, [], ◌∷◌, ◌++◌, Option, Some, IfSome, Result, Ok, Err, IfOk, sym, ap, subst, ◌∙◌}
+use Rattle.pliron_core.specs.Tree.{Tree}
+use Rattle.pliron_core.specs.declared.attrs.IRStatus.{IRStatus}
+use Rattle.pliron_laws.specs.Datum.{Datum, Meaning}
+use Rattle.pliron_laws.specs.Machine.{run, sight_after}
+use Rattle.pliron_pass.specs.Headline.{DoAsBefore}
+use Rattle.pliron_evaluator.specs.Evaluator.{sight_of}
+use Rattle.pliron_evaluator.specs.declared.evaluator.values.Sight.{Sight}
+use Rattle.pliron_diagnostics.proofs.LayoutLemmas.{break_added}
+use Rattle.pliron_opts.specs.Answered.{Reads, Prints, IsOptimised, status_line}
+use Rattle.pliron_instrument.specs.PipelineWords.{Plans}
+use Rattle.pliron_instrument.specs.Schedules.{ScheduleOf, IsPlanned}
+use Rattle.pliron_cli.specs.declared.outcome.Outcome.{Outcome}
+use Rattle.pliron_cli.specs.declared.comparing.Likeness.{Likeness}
+use Rattle.pliron_cli.specs.declared.comparing.Likeness.TheVariants.{Same, SoFar, Different}
+use Rattle.pliron_cli.specs.declared.comparing.Sights.{Sights}
+use Rattle.pliron_cli.specs.Asked.{EndsByPlan, EndsByPlan.ByPasses, EndsByPlan.WithoutPasses, EndsByWord, EndsByWord.ByPlan, EndsByWord.WithoutPlan}
+use Rattle.pliron_fit.specs.declared.violation.Violation.{Violation}
+use Rattle.pliron_cli.specs.declared.checking.Checked.{Checked}
+use Rattle.pliron_cli.specs.declared.checking.Checked.TheVariants.{Fit, Unfit}
+use Rattle.pliron_cli.specs.Checked.{IsChecked, IsFitText, IsUnfitText, fit_line}
+use Rattle.pliron_cli.specs.Compared.{AreSeen, are_same, is_cut_off, EndsWith, EndsCompared}
+use Rattle.pliron_cli.specs.Likeness.{IsLikeness, IsTold, IsToldOther, last_line, status_for}
+use Rattle.pliron_cli.specs.Optimised.{IsLaidOut, IsMade, EndsOptimised}
+use Rattle.pliron_cli.specs.Outcomes.{Ends, Ends.Says, Ends.Denies, Ends.Fails, EndsBadly}
+
+pub ends_by : (o : Outcome) → (o.status ≡ 0) ⊎ (o.status ≡ 3) → Ends ⊤ ⊤ o
+ends_by o (inl e) = Says tt e
+ends_by o (inr e) = Denies tt e
+
+-- what was found of a text
+pub fit_when : (reads : Reads) (m : Meaning) (text : List ℕ) (found : Checked) → found ≡ Fit → IsChecked reads m text found → IsFitText reads m text
+fit_when reads m text found is said = subst (IsChecked reads m text) is said
+
+pub unfit_when : (reads : Reads) (m : Meaning) (text : List ℕ) (found : Checked) (root : ℕ) (violation : Violation) → found ≡ Unfit root violation → IsChecked reads m text found → IsUnfitText reads m text
+unfit_when reads m text found root violation is said =
+    let so : IsChecked reads m text (Unfit root violation) = subst (IsChecked reads m text) is said in
+    record { tree = so.0; root = root; violation = violation; read = so.1; wrong = so.2 }
+
+-- how a check ends
+pub says_fit : (reads : Reads) (m : Meaning) (text : List ℕ) (o : Outcome) → IsFitText reads m text → o.output.items ≡ fit_line → o.status ≡ 0 → Ends (IsFitText reads m text × (o.output.items ≡ fit_line)) (IsUnfitText reads m text × (o.output.items ≡ [])) o
+says_fit reads m text o fit line e = Says (fit, line) e
+
+pub says_unfit : (reads : Reads) (m : Meaning) (text : List ℕ) (o : Outcome) → IsUnfitText reads m text → o.output.items ≡ [] → o.status ≡ 3 → Ends (IsFitText reads m text × (o.output.items ≡ fit_line)) (IsUnfitText reads m text × (o.output.items ≡ [])) o
+says_unfit reads m text o unfit none e = Denies (unfit, none) e
+
+-- two runs of one tree before and after
+pub are_seen : (reads : Reads) (m : Meaning) (inputs world : List Datum) (steps : ℕ) (ran : ℕ → Tree → Tree → IRStatus → Type 0) (text : List ℕ) (sights : Sights) (before after : Tree) (root : ℕ) (status : IRStatus) → reads text before root → ran root before after status → DoAsBefore m before after → sight_of sights.before ≡ sight_after (run m before root inputs world steps) → sight_of sights.after ≡ sight_after (run m after root inputs world steps) → AreSeen reads m inputs world steps ran text sights
+are_seen reads m inputs world steps ran text sights before after root status read runs same first second = record { before = before; after = after; root = root; status = status; read = read; runs = runs; same = same; first = first; second = second }
+
+-- a line behind a text
+pub ends_with : (line text first : List ℕ) → text ≡ first ++ line → EndsWith line text
+ends_with line text first e = (first, e)
+
+-- whether the same is seen of two runs
+module _ (eq : Sight → Sight → Bool) (sights : Sights) where
+  pub cut_before : (r : Bool) → r ≡ is_cut_off sights.before → r ≡ true → false ≡ are_same eq sights
+  cut_before r is cut = ap (λ b. if b then false else if is_cut_off sights.after then false else eq sights.before sights.after) (sym cut ∙ is)
+
+  pub cut_after : (r s : Bool) → r ≡ is_cut_off sights.before → r ≡ false → s ≡ is_cut_off sights.after → s ≡ true → false ≡ are_same eq sights
+  cut_after r s is whole so cut =
+      ap (λ b. if b then false else eq sights.before sights.after) (sym cut ∙ so)
+      ∙ ap (λ b. if b then false else if is_cut_off sights.after then false else eq sights.before sights.after) (sym whole ∙ is)
+
+  pub compared_whole : (r s e : Bool) → r ≡ is_cut_off sights.before → r ≡ false → s ≡ is_cut_off sights.after → s ≡ false → e ≡ eq sights.before sights.after → e ≡ are_same eq sights
+  compared_whole r s e is whole so other equal =
+      equal
+      ∙ ap (λ b. if b then false else eq sights.before sights.after) (sym other ∙ so)
+      ∙ ap (λ b. if b then false else if is_cut_off sights.after then false else eq sights.before sights.after) (sym whole ∙ is)
+
+  -- the likeness of two runs, and the line that is written of it
+  pub told_likeness : (likeness : Likeness) (o : Outcome) → IsLikeness eq sights likeness → EndsWith (last_line likeness) o.output.items → o.status ≡ status_for likeness → Ends (IsTold eq sights o.output.items) (IsToldOther eq sights o.output.items) o
+  told_likeness Same o is line e = Says (is, line) e
+  told_likeness SoFar o is line e = Denies (is, inl line) e
+  told_likeness Different o is line e = Denies (is, inr line) e
+
+module _ (reads : Reads) (m : Meaning) (inputs world : List Datum) (steps : ℕ) (eq : Sight → Sight → Bool) (ran : ℕ → Tree → Tree → IRStatus → Type 0) (text : List ℕ) where
+  compared_so : (sights : Sights) (o : Outcome) → AreSeen reads m inputs world steps ran text sights → Ends (IsTold eq sights o.output.items) (IsToldOther eq sights o.output.items) o → EndsCompared reads m inputs world steps eq ran text o
+  compared_so sights o are (Says (same, line) e) = Says (record { sights = sights; seen_so = are; same_sights = same; written = line }) e
+  compared_so sights o are (Denies (other, line) e) = Denies (record { sights = sights; seen_so = are; other_sights = other; written = line }) e
+  compared_so sights o are (Fails bad) = Fails bad
+
+  pub are_compared : {E : Type 0} (sights : Sights) (r : Result Outcome E) → AreSeen reads m inputs world steps ran text sights → IfOk r (λ o. Ends (IsTold eq sights o.output.items) (IsToldOther eq sights o.output.items) o) → IfOk r (EndsCompared reads m inputs world steps eq ran text)
+  are_compared sights (Ok o) are ends = compared_so sights o are ends
+  are_compared sights (Err e) are ends = tt
+
+-- a line more
+pub ended : (laid text : List ℕ) → IsLaidOut text laid → IsLaidOut text (laid ++ 10 ∷ [])
+ended laid text e = break_added laid ∙ e
+
+pub is_made : (reads : Reads) (prints : Prints) (m : Meaning) (ran : ℕ → Tree → Tree → IRStatus → Type 0) (text printed : List ℕ) (status : IRStatus) (o : Outcome) → IsOptimised reads prints m ran text (printed ++ status_line status) → IsLaidOut printed o.output.items → o.status ≡ 0 → EndsOptimised reads prints m ran text o
+is_made reads prints m ran text printed status o made laid e = Says (record { printed = printed; status = status; made = made; laid = laid }) e
+
+module _ {P D E B K X : Type 0} (name : P → List ℕ) (EndsSo : ScheduleOf P D E B K → Outcome → Type 0) where
+  pub is_planned : (runs : Option ℕ) (nested : Bool) (names : List (List ℕ)) (schedule : ScheduleOf P D E B K) (found : Option (ScheduleOf P D E B K)) (r : Result Outcome X) → found ≡ Some schedule → IfSome found (IsPlanned name runs nested names) → IfOk r (EndsSo schedule) → IfOk r (EndsByPlan name EndsSo runs nested names)
+  is_planned runs nested names schedule found (Ok o) is planned ends = ByPasses schedule (subst (λ f. IfSome f (IsPlanned name runs nested names)) is planned) ends
+  is_planned runs nested names schedule found (Err e) is planned ends = tt
+
+  pub no_passes : (runs : Option ℕ) (nested : Bool) (names : List (List ℕ)) (r : Result Outcome X) → IfOk r EndsBadly → IfOk r (EndsByPlan name EndsSo runs nested names)
+  no_passes runs nested names (Ok o) bad = WithoutPasses bad
+  no_passes runs nested names (Err e) bad = tt
+
+  pub is_asked : (word : List ℕ) (runs : Option ℕ) (nested : Bool) (names : List (List ℕ)) (r : Result Outcome X) → Plans word runs nested names → IfOk r (EndsByPlan name EndsSo runs nested names) → IfOk r (EndsByWord name EndsSo word)
+  is_asked word runs nested names (Ok o) plan ends = ByPlan runs nested names plan ends
+  is_asked word runs nested names (Err e) plan ends = tt
+
+  pub no_plan : (word : List ℕ) (r : Result Outcome X) → IfOk r EndsBadly → IfOk r (EndsByWord name EndsSo word)
+  no_plan word (Ok o) bad = WithoutPlan bad
+  no_plan word (Err e) bad = tt

@@ -1,0 +1,43 @@
+-- What is said of a text whose operation is checked.
+use Rattle.std.specs.Prelude.{◌≡◌, ℕ, List, [], ◌∷◌, ◌++◌, codes}
+use Rattle.pliron_core.specs.Tree.{Tree}
+use Rattle.pliron_laws.specs.Datum.{Meaning}
+use Rattle.pliron_theory.specs.Keeps.{IsFit}
+use Rattle.pliron_opts.specs.Answered.{Reads}
+use Rattle.pliron_fit.specs.Violation.{IsViolation}
+use Rattle.pliron_fit.specs.declared.violation.Violation.{Violation}
+use Rattle.pliron_cli.specs.declared.checking.Checked.{Checked}
+use Rattle.pliron_cli.specs.declared.checking.Checked.TheVariants.{Unreadable, Fit, Unfit}
+use Rattle.pliron_cli.specs.declared.outcome.Outcome.{Outcome}
+
+-- what is written of a text whose operation is fit to run
+abbrev pub fit_line : List ℕ
+fit_line = codes "well linked and fit to run" ++ 10 ∷ []
+
+module _ (reads : Reads) (m : Meaning) (text : List ℕ) where
+  -- an operation was read of the text, and is fit to run
+  pub record IsFitText : Type 0 where
+    pub tree : Tree
+    pub root : ℕ
+    pub read : reads text tree root
+    pub fit : IsFit m tree root
+
+  -- one was read of it, and something keeps it from being fit to run
+  pub record IsUnfitText : Type 0 where
+    pub tree : Tree
+    pub root : ℕ
+    pub violation : Violation
+    pub read : reads text tree root
+    pub wrong : IsViolation m tree root violation
+
+  -- of a text that is called unreadable nothing is said
+  abbrev pub IsChecked : Checked → Type 0
+  IsChecked Unreadable = Unit {0}
+  IsChecked Fit = IsFitText
+  IsChecked (Unfit root violation) = (tree : Tree) × reads text tree root × IsViolation m tree root violation
+
+  -- something keeps it from being fit to run, and nothing is to be written
+  pub record IsRejected (o : Outcome) : Type 0 where
+    pub unfit : IsUnfitText
+    pub denied : o.status ≡ 3
+    pub empty : o.output.items ≡ []

@@ -1,0 +1,69 @@
+-- What is seen of runs before and after passes.
+use Rattle.std.specs.Prelude.{◌≡◌, ◌⊎◌, ℕ, Bool, true, false, List, [], ◌∷◌, ◌++◌, codes, if◌then◌else◌}
+use Rattle.pliron_core.specs.Tree.{Tree}
+use Rattle.pliron_core.specs.declared.attrs.IRStatus.{IRStatus}
+use Rattle.pliron_laws.specs.Datum.{Datum, Meaning}
+use Rattle.pliron_laws.specs.Machine.{run, sight_after}
+use Rattle.pliron_pass.specs.Headline.{DoAsBefore}
+use Rattle.pliron_evaluator.specs.Evaluator.{sight_of}
+use Rattle.pliron_evaluator.specs.declared.evaluator.values.Sight.{Sight}
+use Rattle.pliron_evaluator.specs.declared.evaluator.values.Sight.TheVariants.{Ended, Trapped, Reached}
+use Rattle.pliron_opts.specs.Answered.{Reads}
+use Rattle.pliron_cli.specs.Outcomes.{Ends}
+use Rattle.pliron_cli.specs.declared.comparing.Sights.{Sights}
+use Rattle.pliron_cli.specs.declared.outcome.Outcome.{Outcome}
+
+-- the run made no further move
+abbrev pub is_cut_off : Sight → Bool
+is_cut_off (Ended values effects) = false
+is_cut_off (Trapped effects) = false
+is_cut_off (Reached effects) = true
+
+-- whether both runs ended or trapped, and the same is seen of them
+abbrev pub are_same : (Sight → Sight → Bool) → Sights → Bool
+are_same eq sights = if is_cut_off sights.before then false else if is_cut_off sights.after then false else eq sights.before sights.after
+
+-- the last line of what is written
+abbrev pub same_line : List ℕ
+same_line = codes "the same before and after" ++ 10 ∷ []
+
+abbrev pub so_far_line : List ℕ
+so_far_line = codes "the same as far as the runs went" ++ 10 ∷ []
+
+abbrev pub different_line : List ℕ
+different_line = codes "not the same" ++ 10 ∷ []
+
+-- the text ends with this line; what stands before it is open
+abbrev pub EndsWith : (line text : List ℕ) → Type 0
+EndsWith line text = (first : List ℕ) × (text ≡ first ++ line)
+
+module _ (reads : Reads) (m : Meaning) (inputs world : List Datum) (steps : ℕ) where
+  -- an operation was read of the text, the passes ran on it, and the sights are what is seen of a run of it before and of one after
+  pub record AreSeen (ran : ℕ → Tree → Tree → IRStatus → Type 0) (text : List ℕ) (sights : Sights) : Type 0 where
+    pub before : Tree
+    pub after : Tree
+    pub root : ℕ
+    pub status : IRStatus
+    pub read : reads text before root
+    pub runs : ran root before after status
+    pub same : DoAsBefore m before after
+    pub first : sight_of sights.before ≡ sight_after (run m before root inputs world steps)
+    pub second : sight_of sights.after ≡ sight_after (run m after root inputs world steps)
+
+  -- the runs around the passes are the same, and it is written that they are
+  pub record AreToldSame (eq : Sight → Sight → Bool) (ran : ℕ → Tree → Tree → IRStatus → Type 0) (text output : List ℕ) : Type 0 where
+    pub sights : Sights
+    pub seen_so : AreSeen ran text sights
+    pub same_sights : are_same eq sights ≡ true
+    pub written : EndsWith same_line output
+
+  -- they are not, and it is written that nothing differs so far, or that something does
+  pub record AreToldOther (eq : Sight → Sight → Bool) (ran : ℕ → Tree → Tree → IRStatus → Type 0) (text output : List ℕ) : Type 0 where
+    pub sights : Sights
+    pub seen_so : AreSeen ran text sights
+    pub other_sights : are_same eq sights ≡ false
+    pub written : EndsWith so_far_line output ⊎ EndsWith different_line output
+
+  -- how comparing runs of a text around these passes ends
+  abbrev pub EndsCompared : (eq : Sight → Sight → Bool) → (ran : ℕ → Tree → Tree → IRStatus → Type 0) → (text : List ℕ) → Outcome → Type 0
+  EndsCompared eq ran text o = Ends (AreToldSame eq ran text o.output.items) (AreToldOther eq ran text o.output.items) o

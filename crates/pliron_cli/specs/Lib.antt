@@ -1,0 +1,6 @@
+pub mod Asked
+pub mod Checked
+pub mod Compared
+pub mod Likeness
+pub mod Optimised
+pub mod Outcomes

@@ -1,0 +1,24 @@
+-- What is written of a text that passes ran on.
+use Rattle.std.specs.Prelude.{◌≡◌, ℕ, List, [], ◌++◌}
+use Rattle.pliron_core.specs.Tree.{Tree}
+use Rattle.pliron_core.specs.declared.attrs.IRStatus.{IRStatus}
+use Rattle.pliron_laws.specs.Datum.{Meaning}
+use Rattle.pliron_diagnostics.specs.Layout.{without_blanks}
+use Rattle.pliron_opts.specs.Answered.{Reads, Prints, IsOptimised, status_line}
+use Rattle.pliron_cli.specs.Outcomes.{Ends}
+use Rattle.pliron_cli.specs.declared.outcome.Outcome.{Outcome}
+
+-- only blanks change
+abbrev pub IsLaidOut : (printed output : List ℕ) → Type 0
+IsLaidOut printed output = without_blanks output ≡ without_blanks printed
+
+-- what is written is, but for blanks, the tree that the passes made of one that was read of the text, printed
+pub record IsMade (reads : Reads) (prints : Prints) (m : Meaning) (ran : ℕ → Tree → Tree → IRStatus → Type 0) (text output : List ℕ) : Type 0 where
+  pub printed : List ℕ
+  pub status : IRStatus
+  pub made : IsOptimised reads prints m ran text (printed ++ status_line status)
+  pub laid : IsLaidOut printed output
+
+-- how optimising a text by these passes ends: with 3 nothing is to be written
+abbrev pub EndsOptimised : Reads → Prints → Meaning → (ran : ℕ → Tree → Tree → IRStatus → Type 0) → (text : List ℕ) → Outcome → Type 0
+EndsOptimised reads prints m ran text o = Ends (IsMade reads prints m ran text o.output.items) (o.output.items ≡ []) o

@@ -1,0 +1,64 @@
+//! The commands that draw.
+ghost use Rattle.std.specs.Prelude.{⊤, IfOk};
+ghost use Rattle.pliron_cli.specs.Outcomes.{Ends};
+ghost use Rattle.pliron_graphviz.specs.Drawn.{IsFlowText};
+
+use crate::ending::{DrawFailure, draw_failure_outcome, success_outcome};
+use crate::{CommandFailure, Outcome, Source};
+use pliron_graphviz::{Drawing, FlowOptions, text_flow, text_graph};
+use std::alloc::{AllocError, Global};
+
+/// Draws the control flow of a region of the text's operation in the dot language: its blocks with their operations,
+/// edges with the values that they forward, grey where the entry doesn't lead, and where asked for a dotted edge
+/// from the immediate dominator of each block.
+///
+/// Statuses: 0; 1 on allocation failure; 2 for an unreadable text, and where no region has the path. With 1 and
+/// 2 nothing is to be written to the output. Errors: allocation failure for what is told. Cost: reading, and
+/// that of `graph_rows`.
+pub fn draw_flow(
+    alloc: Global,
+    source: &Source,
+    options: &FlowOptions,
+) -> Result<Outcome, AllocError>
+    ensures { IfOk result (Ends IsFlowText ⊥) }
+{
+    match text_flow(alloc, source.text, options) {
+        Ok(Drawing::Drawn(picture)) => Ok(success_outcome(alloc, picture)),
+        Ok(Drawing::Unreadable) => draw_failure_outcome(
+            alloc,
+            DrawFailure::Failed(CommandFailure::Text),
+            source,
+        ),
+        Ok(Drawing::NoRegion) => draw_failure_outcome(
+            alloc,
+            DrawFailure::Region(options.region),
+            source,
+        ),
+        Err(error) => draw_failure_outcome(
+            alloc,
+            DrawFailure::Failed(CommandFailure::Refused(error)),
+            source,
+        ),
+    }
+}
+
+/// Draws a graph in the dot language: a line of the text for each node, with its number, a colon, and its successors,
+/// each after one blank. Each cyclic component stands in a frame, and the colour of an edge tells its kind in a
+/// depth-first search: black forward, red back, blue across, and grey where the search doesn't come.
+///
+/// Statuses: 0; 1 on allocation failure; 2 for another text. With 1 and 2 nothing is to be written to the
+/// output.
+/// Errors: allocation failure for what is told. Cost: that of `read_graph`, and linear but for sorting each component.
+pub fn draw_graph(alloc: Global, source: &Source) -> Result<Outcome, AllocError>
+    ensures { IfOk result (Ends ⊤ ⊥) }
+{
+    match text_graph(alloc, source.text) {
+        Ok(Some(picture)) => Ok(success_outcome(alloc, picture)),
+        Ok(None) => draw_failure_outcome(alloc, DrawFailure::Graph, source),
+        Err(error) => draw_failure_outcome(
+            alloc,
+            DrawFailure::Failed(CommandFailure::Refused(error)),
+            source,
+        ),
+    }
+}

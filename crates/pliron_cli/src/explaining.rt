@@ -1,0 +1,92 @@
+//! The command that tells what passes did.
+ghost use Rattle.std.specs.Prelude.{◌≡◌, ⊤, length, IfOk, IfSome};
+ghost use Rattle.pliron_cli.specs.Outcomes.{Ends};
+
+use crate::ending::{DrawFailure, draw_failure_outcome, success_outcome};
+use crate::{CommandFailure, Outcome, Source, misspelling_outcome};
+use pliron_graphviz::{PassList, PassName, explain_changes};
+use pliron_instrument::{PipelineText, PlanError};
+use pliron_laws::OptError;
+use std::alloc::{AllocError, Global};
+
+/// The outcome for these lines.
+fn explanation_outcome(alloc: Global, lines: String) -> Result<Outcome, AllocError>
+    ensures { IfOk result (λ outcome. outcome.status ≡ 0) }
+{
+    if lines.is_empty() {
+        let none = Vec::from_slice(alloc, b"nothing of the text changed or went\n")?;
+        Ok(success_outcome(alloc, none))
+    } else {
+        Ok(success_outcome(alloc, lines.into_bytes()))
+    }
+}
+
+/// The passes of these names, if each is the name of one.
+fn passes_of(alloc: Global, names: &[&str]) -> Result<Option<Vec<PassName>>, AllocError>
+    ensures { IfOk result (λ found. IfSome found (λ passes. length passes.items ≡ length names.now)) }
+{
+    let mut passes = Vec::new(alloc);
+    for name in names {
+        let Some(pass) = PassName::from_name(name) else {
+            return Ok(None);
+        };
+        passes.push(pass)?;
+    }
+    Ok(Some(passes))
+}
+
+/// The passes that the plan asks for, if each of its names is that of one.
+fn list_of(alloc: Global, plan: &PipelineText) -> Result<Option<PassList>, AllocError>
+    ensures nested { IfOk result (λ found. IfSome found (λ list. list.is_nested ≡ plan.now.nested)) }
+    ensures passes { IfOk result (λ found. IfSome found
+        (λ list. length list.passes.items ≡ length plan.now.names.items)) }
+{
+    match passes_of(alloc, &plan.names)? {
+        Some(passes) => Ok(Some(PassList {
+            runs: plan.runs.unwrap_or(1),
+            is_nested: plan.nested,
+            passes,
+        })),
+        None => Ok(None),
+    }
+}
+
+/// Tells what the passes that the plan asks for did.
+fn explain_by(alloc: Global, source: &Source, plan: &PipelineText) -> Result<Outcome, AllocError>
+    ensures { IfOk result (Ends ⊤ ⊥) }
+{
+    let Some(list) = list_of(alloc, plan)? else {
+        return draw_failure_outcome(alloc, DrawFailure::Failed(CommandFailure::Text), source);
+    };
+    match explain_changes(alloc, source.text, &list) {
+        Ok(Some(lines)) => explanation_outcome(alloc, lines),
+        Ok(None) => draw_failure_outcome(alloc, DrawFailure::Failed(CommandFailure::Text), source),
+        Err(error) => draw_failure_outcome(
+            alloc,
+            DrawFailure::Failed(CommandFailure::Refused(error)),
+            source,
+        ),
+    }
+}
+
+/// Tells what changed in a text: for each operation and argument that changed or went when the passes were run that the
+/// word asks for, where it stands, and why.
+///
+/// Statuses: 0; 1 where memory or the passes were refused; 2 for an unreadable text, or a word that asks for no passes.
+/// With 1 and 2 nothing is to be written to the output. Errors: allocation failure for what is told. Cost: that of
+/// `explained`.
+pub fn explain(alloc: Global, source: &Source, pipeline: &str) -> Result<Outcome, AllocError>
+    ensures { IfOk result (Ends ⊤ ⊥) }
+{
+    match PipelineText::read(alloc, pipeline) {
+        Ok(plan) => explain_by(alloc, source, &plan),
+        Err(PlanError::Word(fault)) => misspelling_outcome(alloc, pipeline, &fault),
+        Err(PlanError::Memory) => {
+            draw_failure_outcome(
+                alloc,
+                DrawFailure::Failed(CommandFailure::Refused(OptError::Memory)),
+                source,
+            )
+        }
+    }
+}

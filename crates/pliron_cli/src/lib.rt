@@ -1,0 +1,36 @@
+//! The work of each command of `plir`, the command-line program, as functions from texts and options to texts.
+//!
+//! It knows what users want to see of texts and runs, and of notations how to read, print and run their texts; of words,
+//! files and streams it knows nothing.
+#![tactic(auto)]
+
+mod checking;
+mod comparing;
+mod drawing;
+mod ending;
+mod explaining;
+mod failure;
+mod optimising;
+mod outcome;
+mod report;
+mod running;
+mod shown;
+mod statistics;
+mod strict;
+mod table;
+mod violation_message;
+
+pub use checking::{Checked, check, check_text};
+pub use comparing::{CompareOptions, Sights, compare, compare_text};
+pub use drawing::{draw_flow, draw_graph};
+pub use explaining::explain;
+pub use failure::CommandFailure;
+pub use optimising::{OptOptions, misspelling_outcome, opt};
+pub use outcome::Outcome;
+pub use pliron_diagnostics::{RunOptions, Source};
+pub use pliron_graphviz::FlowOptions;
+pub use pliron_instrument::{InstrumentationOptions, PipelineText, PlanError, Progress};
+pub use pliron_opts::BenchNotation;
+pub use running::run;
+pub use shown::Shown;
+pub use strict::opt_with_check;

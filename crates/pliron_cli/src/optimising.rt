@@ -1,0 +1,234 @@
+//! What passes make of texts.
+ghost use Rattle.std.specs.Prelude.{◌≡◌, map, IfOk, IfSome, string_bytes};
+ghost use Rattle.pliron_opts.specs.Ran.{RunsAlone};
+ghost use Rattle.pliron_cli.specs.Asked.{EndsByPlan, EndsByWord};
+ghost use Rattle.pliron_cli.specs.Outcomes.{EndsBadly};
+ghost use Rattle.pliron_cli.specs.Optimised.{EndsOptimised, IsLaidOut};
+
+use crate::failure::CommandFailure;
+use crate::outcome::{Outcome, failure_outcome};
+use crate::report::{ReportOptions, report_of, write_refused};
+use crate::shown::Shown;
+use pliron_diagnostics::{Source, SourceMark, mark_source, pretty};
+use pliron_instrument::{
+    InstrumentationOptions, Instrumented, InstrumentedSchedule, PipelineText, PlanError, Progress,
+    WordFault, build_schedule, instrumented_passes, optimise,
+};
+use pliron_laws::OptError;
+use pliron_opts::Notation;
+use pliron_pass::{BenchFactKind, Pass};
+use std::alloc::{AllocError, Global};
+
+/// The options of passes.
+#[derive(Clone, Copy)]
+pub struct OptOptions<'w> {
+    /// The passes, as a word.
+    pub pipeline: &'w str,
+    /// Whether each operation is to stand on a line of its own.
+    pub is_pretty: bool,
+    /// What is recorded around each run of a pass.
+    pub instrumentation: InstrumentationOptions<'w>,
+    /// Whether the time of each pass is told.
+    pub times: bool,
+}
+
+/// What is told of a word that plans no passes.
+fn misspelling_message(alloc: Global, word: &str, fault: &WordFault) -> Result<String, AllocError> {
+    let label = format!(in alloc; "expected {}", fault.expected)?;
+    let mark = SourceMark {
+        message: "no such passes",
+        label: label.as_str(),
+        name: "PIPELINE",
+        start: fault.start,
+        len: fault.len,
+    };
+    mark_source(alloc, word.as_bytes(), &mark)
+}
+
+/// The outcome for a word that plans no passes: nothing is to be written, and the part that is wrong is told. Errors: allocation
+/// failure. Cost: linear in the word.
+pub fn misspelling_outcome(
+    alloc: Global,
+    word: &str,
+    fault: &WordFault,
+) -> Result<Outcome, AllocError>
+    ensures { IfOk result EndsBadly }
+{
+    let report = misspelling_message(alloc, word, fault)?;
+    Ok(Outcome {
+        output: Vec::new(alloc),
+        report,
+        status: 2,
+    })
+}
+
+/// The text with each operation on a line of its own, or as it is.
+fn break_lines(alloc: Global, printed: String, is_pretty: bool) -> Result<Vec<u8>, AllocError>
+    ensures { IfOk result (λ output. IsLaidOut (string_bytes printed) output.items) }
+{
+    if is_pretty {
+        pretty(alloc, printed.as_bytes())
+    } else {
+        Ok(printed.into_bytes())
+    }
+}
+
+/// The same and an end of a line.
+#[tactic(auto, using(crate::proofs::CommandLemmas::ended))]
+fn lay_out(alloc: Global, printed: String, is_pretty: bool) -> Result<Vec<u8>, AllocError>
+    ensures { IfOk result (λ output. IsLaidOut (string_bytes printed) output.items) }
+{
+    let mut output = break_lines(alloc, printed, is_pretty)?;
+    output.push(b'\n')?;
+    Ok(output)
+}
+
+/// Whether something is missing in what was noted.
+fn is_short<N: Notation, C: Progress + Drop>(passes: &[Instrumented<N, C>]) -> bool {
+    passes.iter().any(|pass| pass.run_record().is_short)
+}
+
+/// Whether verifying found something.
+fn has_fault<N: Notation, C: Progress + Drop>(passes: &[Instrumented<N, C>]) -> bool {
+    passes.iter().any(|pass| pass
+        .run_record()
+        .notes
+        .iter()
+        .any(|note| note.fault.is_some()))
+}
+
+/// What is told beside the answer.
+fn report_options(options: &OptOptions) -> ReportOptions {
+    ReportOptions {
+        is_pretty: options.is_pretty,
+        faults: options.instrumentation.verifies,
+        counts: options.instrumentation.counts,
+        times: options.times,
+    }
+}
+
+/// The outcome where memory or the passes were refused: what was noted, why, and in which pass.
+fn refusal_outcome<N: Shown, C: Progress + Drop>(
+    alloc: Global,
+    mut report: String,
+    source: &Source,
+    error: OptError,
+    passes: &[Instrumented<N, C>],
+) -> Result<Outcome, AllocError>
+    ensures { IfOk result EndsBadly }
+{
+    let failure = CommandFailure::Refused(error);
+    report.push_str(failure.message_in::<N>(alloc, source)?.as_str())?;
+    write_refused(&mut report, passes)?;
+    Ok(Outcome {
+        output: Vec::new(alloc),
+        report,
+        status: failure.status(),
+    })
+}
+
+/// What these passes make of the text; the report begins with this one.
+#[tactic(auto, using(crate::proofs::CommandLemmas::is_made))]
+fn opt_with<N: Shown, C: Progress + Copy + Drop>(
+    alloc: Global,
+    source: &Source,
+    options: &OptOptions,
+    schedule: &mut InstrumentedSchedule<N, C>,
+    mut report: String,
+) -> Result<Outcome, AllocError>
+    ensures { IfOk result (EndsOptimised N.reads N.prints N.D.meaning (RunsAlone ⟦<BenchFactKind as PartialEq>⟧.eq
+        ⟦<InstrumentedSchedule<N, C> as Pass>⟧.outcome schedule.old) source.now.text.now) }
+{
+    let made = optimise(alloc, schedule, source.text);
+    let passes = instrumented_passes(schedule);
+    report.push_str(report_of(alloc, passes, &report_options(options))?.as_str())?;
+    match made {
+        Ok(Some(_)) if is_short(passes) => refusal_outcome(
+            alloc,
+            report,
+            source,
+            OptError::Memory,
+            passes,
+        ),
+        Ok(Some(_)) if has_fault(passes) => Ok(Outcome {
+            output: Vec::new(alloc),
+            report,
+            status: 3,
+        }),
+        Ok(Some(made)) => Ok(Outcome {
+            output: lay_out(alloc, made.printed, options.is_pretty)?,
+            report,
+            status: 0,
+        }),
+        Ok(None) => failure_outcome::<N>(alloc, CommandFailure::Text, source),
+        Err(error) => refusal_outcome(alloc, report, source, error, passes),
+    }
+}
+
+/// What the passes that the plan asks for make of the text; the report begins with this one.
+#[tactic(auto, using(crate::proofs::CommandLemmas::is_planned, crate::proofs::CommandLemmas::no_passes))]
+fn opt_by<N: Shown, C: Progress + Copy + Drop>(
+    alloc: Global,
+    source: &Source,
+    options: &OptOptions,
+    plan: &PipelineText,
+    clock: C,
+    report: String,
+) -> Result<Outcome, AllocError>
+    ensures { IfOk result (EndsByPlan ⟦<Instrumented<N, C> as Pass>⟧.name
+        (λ schedule. EndsOptimised N.reads N.prints N.D.meaning
+        (RunsAlone ⟦<BenchFactKind as PartialEq>⟧.eq ⟦<InstrumentedSchedule<N, C> as Pass>⟧.outcome schedule)
+        source.now.text.now) plan.now.runs
+        plan.now.nested (map (λ name. name.now) plan.now.names.items)) }
+{
+    match build_schedule::<N, C>(alloc, plan, &options.instrumentation, clock)? {
+        Some(mut schedule) => opt_with(alloc, source, options, &mut schedule, report),
+        None => failure_outcome::<N>(alloc, CommandFailure::Text, source),
+    }
+}
+
+/// What the passes that the word asks for make of the text; the report begins with this one.
+#[tactic(auto, using(crate::proofs::CommandLemmas::is_asked, crate::proofs::CommandLemmas::no_plan))]
+pub(crate) fn opt_after<N: Shown, C: Progress + Copy + Drop>(
+    alloc: Global,
+    source: &Source,
+    options: &OptOptions,
+    clock: C,
+    report: String,
+) -> Result<Outcome, AllocError>
+    ensures { IfOk result (EndsByWord ⟦<Instrumented<N, C> as Pass>⟧.name
+        (λ schedule. EndsOptimised N.reads N.prints N.D.meaning
+        (RunsAlone ⟦<BenchFactKind as PartialEq>⟧.eq ⟦<InstrumentedSchedule<N, C> as Pass>⟧.outcome schedule)
+        source.now.text.now)
+        options.now.pipeline.now) }
+{
+    match PipelineText::read(alloc, options.pipeline) {
+        Ok(plan) => opt_by::<N, C>(alloc, source, options, &plan, clock, report),
+        Err(PlanError::Word(fault)) => misspelling_outcome(alloc, options.pipeline, &fault),
+        Err(PlanError::Memory) => failure_outcome::<N>(
+            alloc,
+            CommandFailure::Refused(OptError::Memory),
+            source,
+        ),
+    }
+}
+
+/// Runs the passes that the word asks for on a text, and answers the tree that they leave, printed.
+///
+/// Statuses: 0; 1 where memory or the passes were refused; 2 for a word that asks for no passes or an unreadable text;
+/// 3 where verifying found something. With all but 0 nothing is to be written to the output. Errors: allocation failure for
+/// what is told. Cost: reading, the passes, what is recorded, and printing.
+pub fn opt<N: Shown, C: Progress + Copy + Drop>(
+    alloc: Global,
+    source: &Source,
+    options: &OptOptions,
+    clock: C,
+) -> Result<Outcome, AllocError>
+    ensures { IfOk result (EndsByWord ⟦<Instrumented<N, C> as Pass>⟧.name
+        (λ schedule. EndsOptimised N.reads N.prints N.D.meaning
+        (RunsAlone ⟦<BenchFactKind as PartialEq>⟧.eq ⟦<InstrumentedSchedule<N, C> as Pass>⟧.outcome schedule)
+        source.now.text.now)
+        options.now.pipeline.now) }
+{
+    opt_after::<N, C>(alloc, source, options, clock, String::new(alloc))
+}

@@ -1,0 +1,52 @@
+//! Notations whose texts and runs are shown to people.
+ghost use Rattle.std.specs.Prelude.{◌≡◌, map, IfOk};
+ghost use Rattle.pliron_laws.specs.Datum.{Number as NumberOf};
+ghost use Rattle.pliron_laws.specs.Machine.{run, sight_after as seen_of};
+ghost use Rattle.pliron_evaluator.specs.Evaluator.{sight_of};
+
+use pliron_core::{Context, Operation, Ptr};
+use pliron_diagnostics::{RunOptions, Source, run_sight, text_fault};
+use pliron_evaluator::evaluator::{Notes, Sight};
+use pliron_graphviz::{TextParts, parts_of};
+use pliron_laws::OptError;
+use pliron_opts::{BenchNotation, Notation};
+use std::alloc::{AllocError, Global};
+
+/// A notation of which people are shown where texts leave it, where operations stand in them, and how they run.
+pub trait Shown: Notation {
+    /// What is told of a text outside the notation; `None` of one inside it. Errors: allocation failure.
+    fn fault_message(alloc: Global, source: &Source) -> Result<Option<String>, OptError>;
+
+    /// Where the operations, the heads of blocks and the names of values stand in a text. Errors: allocation failure.
+    fn parts(alloc: Global, text: &[u8]) -> Result<TextParts, AllocError>;
+
+    /// What is seen of a run of the operation. Errors: allocation failure.
+    fn run_sight(
+        alloc: Global,
+        root: Ptr<Operation>,
+        ctx: &Context,
+        options: &RunOptions,
+    ) -> Result<Sight, AllocError>
+        ensures { IfOk result (λ sight. sight_of sight ≡ seen_of
+            (run Self.D.meaning ctx.now.tree root (map NumberOf options.now.inputs.now)
+            (map NumberOf options.now.world.now) options.now.steps)) };
+}
+
+impl Shown for BenchNotation {
+    fn fault_message(alloc: Global, source: &Source) -> Result<Option<String>, OptError> {
+        text_fault(alloc, source.name, source.text)
+    }
+
+    fn parts(alloc: Global, text: &[u8]) -> Result<TextParts, AllocError> {
+        parts_of(alloc, text)
+    }
+
+    fn run_sight(
+        alloc: Global,
+        root: Ptr<Operation>,
+        ctx: &Context,
+        options: &RunOptions,
+    ) -> Result<Sight, AllocError> {
+        run_sight(alloc, root, ctx, options, &mut Notes::of_last(alloc))
+    }
+}

@@ -1,0 +1,164 @@
+//! Passes on texts that may be unfit to run.
+ghost use Rattle.std.specs.Prelude.{◌≡◌, ◌⊎◌, IfOk, IsTrue};
+ghost use Rattle.pliron_core.specs.Writes.{no_tree};
+ghost use Rattle.pliron_opts.specs.Ran.{RunsAlone};
+ghost use Rattle.pliron_cli.specs.Asked.{EndsByWord};
+ghost use Rattle.pliron_cli.specs.Checked.{IsFitText, IsRejected};
+ghost use Rattle.pliron_cli.specs.Optimised.{EndsOptimised};
+
+use crate::checking::find_message;
+use crate::failure::CommandFailure;
+use crate::optimising::{OptOptions, opt, opt_after};
+use crate::outcome::{Outcome, failure_outcome};
+use crate::shown::Shown;
+use crate::violation_message::violation_message;
+use pliron_core::{Context, Operation, Ptr};
+use pliron_diagnostics::Source;
+use pliron_fit::{Violation, find_violation};
+use pliron_instrument::{Instrumented, InstrumentedSchedule, Progress};
+use pliron_laws::reads::{all_operations, push_layouts};
+use pliron_laws::{Dialect, OptError};
+use pliron_pass::{BenchFactKind, Pass};
+use std::alloc::{AllocError, Global};
+
+/// Whether the violation is that the operation itself has a region in which definitions need not come before uses, as a
+/// `mod` has, so that what stands directly inside runs by itself.
+fn is_container(violation: &Violation, op: Ptr<Operation>, ctx: &Context) -> bool {
+    match violation {
+        Violation::NoDominance(region) if region.is_live(ctx) => region.get_parent_op(ctx) == op,
+        _ => false,
+    }
+}
+
+/// Operations that are yet to be checked.
+#[derive(Drop)]
+struct Unchecked {
+    alloc: Global,
+    operations: Vec<Ptr<Operation>>,
+}
+
+impl Unchecked {
+    /// Takes in what stands directly inside the operation.
+    fn add_inside(&mut self, op: Ptr<Operation>, ctx: &Context) -> Result<(), AllocError> {
+        if !op.is_live(ctx) {
+            return Ok(());
+        }
+        let mut blocks = Vec::new(self.alloc);
+        push_layouts(op, ctx, &mut blocks)?;
+        for block in blocks.iter().rev() {
+            if block.is_live(ctx) {
+                let inside = all_operations(self.alloc, *block, ctx)?;
+                for inner in inside.iter().rev() {
+                    self.operations.push(*inner)?;
+                }
+            }
+        }
+        Ok(())
+    }
+
+    /// The first of the operations that isn't fit to run, with what keeps it from that; of a container the first directly
+    /// inside it.
+    fn first_unfit<D: Dialect>(
+        &mut self,
+        ctx: &Context,
+    ) -> Result<Option<(Ptr<Operation>, Violation)>, OptError> {
+        for _ in 0..u64::MAX {
+            let Some(op) = self.operations.pop() else {
+                return Ok(None);
+            };
+            if !op.is_live(ctx) {
+                continue;
+            }
+            match find_violation::<D>(self.alloc, op, ctx)? {
+                None => {}
+                Some(violation) if is_container(&violation, op, ctx) => self.add_inside(op, ctx)?,
+                Some(violation) => return Ok(Some((op, violation))),
+            }
+        }
+        Ok(None)
+    }
+}
+
+/// A warning of what keeps the text's operation from being fit to run, or, of a `mod`, one of its functions; empty where
+/// nothing does, and of an unreadable text. Asks that the context is empty. Errors: allocation failure.
+fn warning_in<N: Shown>(
+    alloc: Global,
+    source: &Source,
+    ctx: &mut Context,
+) -> Result<String, OptError>
+    requires { ctx.old.tree ≡ no_tree }
+{
+    let mut unchecked = Unchecked {
+        alloc,
+        operations: Vec::new(alloc),
+    };
+    if let Some(root) = N::read(alloc, source.text, ctx)? {
+        unchecked.operations.push(root)?;
+    }
+    match unchecked.first_unfit::<N::D>(ctx)? {
+        Some((op, violation)) => {
+            violation_message::<N>(alloc, "warning", source, op, &violation, ctx)
+        }
+        None => Ok(String::new(alloc)),
+    }
+}
+
+/// The same in a context of its own.
+fn warning<N: Shown>(alloc: Global, source: &Source) -> Result<String, OptError> {
+    let mut ctx = Context::new(alloc);
+    warning_in::<N>(alloc, source, &mut ctx)
+}
+
+/// Runs the passes where the text's operation is fit to run.
+fn opt_if_fit<N: Shown, C: Progress + Copy + Drop>(
+    alloc: Global,
+    source: &Source,
+    options: &OptOptions,
+    clock: C,
+) -> Result<Outcome, AllocError>
+    ensures answer { IfOk result (λ outcome. EndsByWord ⟦<Instrumented<N, C> as Pass>⟧.name
+        (λ schedule. EndsOptimised N.reads N.prints N.D.meaning (RunsAlone ⟦<BenchFactKind as PartialEq>⟧.eq
+        ⟦<InstrumentedSchedule<N, C> as Pass>⟧.outcome schedule) source.now.text.now) options.now.pipeline.now outcome
+        ⊎ IsRejected N.reads N.D.meaning source.now.text.now outcome) }
+    ensures fit { IfOk result (λ outcome. outcome.status ≡ 0 → IsFitText N.reads N.D.meaning source.now.text.now) }
+{
+    match find_message::<N>(alloc, source) {
+        Ok(Some(None)) => opt::<N, C>(alloc, source, options, clock),
+        Ok(Some(Some(report))) => Ok(Outcome {
+            output: Vec::new(alloc),
+            report,
+            status: 3,
+        }),
+        Ok(None) => failure_outcome::<N>(alloc, CommandFailure::Text, source),
+        Err(error) => failure_outcome::<N>(alloc, CommandFailure::Refused(error), source),
+    }
+}
+
+/// Runs passes as `opt` does, after a check: what keeps the text's operation from being fit to run, or, of a `mod`, one of its
+/// functions, is told as a warning before what `opt` tells. With `is_strict` no pass runs where the operation isn't fit
+/// to run, as `check` finds it, and that is told as an error.
+///
+/// Statuses: those of `opt`; with `is_strict` 3 where the operation isn't fit to run. With all but 0 nothing is to be written
+/// to the output. Errors: allocation failure for what is told. Cost: that of `check` and that of `opt`.
+pub fn opt_with_check<N: Shown, C: Progress + Copy + Drop>(
+    alloc: Global,
+    source: &Source,
+    options: &OptOptions,
+    is_strict: bool,
+    clock: C,
+) -> Result<Outcome, AllocError>
+    ensures answer { IfOk result (λ outcome. EndsByWord ⟦<Instrumented<N, C> as Pass>⟧.name
+        (λ schedule. EndsOptimised N.reads N.prints N.D.meaning (RunsAlone ⟦<BenchFactKind as PartialEq>⟧.eq
+        ⟦<InstrumentedSchedule<N, C> as Pass>⟧.outcome schedule) source.now.text.now) options.now.pipeline.now outcome
+        ⊎ (IsTrue is_strict × IsRejected N.reads N.D.meaning source.now.text.now outcome)) }
+    ensures strict { IfOk result (λ outcome. IsTrue is_strict → outcome.status ≡ 0 →
+        IsFitText N.reads N.D.meaning source.now.text.now) }
+{
+    if is_strict {
+        return opt_if_fit::<N, C>(alloc, source, options, clock);
+    }
+    match warning::<N>(alloc, source) {
+        Ok(report) => opt_after::<N, C>(alloc, source, options, clock, report),
+        Err(error) => failure_outcome::<N>(alloc, CommandFailure::Refused(error), source),
+    }
+}

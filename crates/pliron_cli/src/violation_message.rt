@@ -1,0 +1,366 @@
+//! What is told of a violation: the operand by its number and its name, where it is defined, and of an edge both counts.
+use crate::shown::Shown;
+use pliron_core::{BasicBlock, Context, Def, Operation, Ptr, Region, Value};
+use pliron_diagnostics::{Source, SourceMark, mark_source_as};
+use pliron_fit::Violation;
+use pliron_graphviz::{TextPart, TextParts};
+use pliron_laws::{Dialect, OptError};
+use std::alloc::{AllocError, Global};
+
+/// Another place of the text, and what is told of it.
+#[derive(Drop)]
+struct Note {
+    part: TextPart,
+    message: String,
+}
+
+/// What is wrong, what is said under the operation, what helps, and where it comes from.
+#[derive(Drop)]
+struct ViolationWords {
+    message: &'static str,
+    label: String,
+    help: &'static str,
+    note: Option<Note>,
+}
+
+/// The words of which the label says nothing that the text names.
+#[derive(Clone, Copy)]
+struct PlainWords {
+    message: &'static str,
+    label: &'static str,
+    help: &'static str,
+}
+
+/// What is said of a violation, whatever the text names.
+fn plain_words(violation: &Violation) -> PlainWords {
+    match violation {
+        Violation::NotRoot => PlainWords {
+            message: "runs may not begin at this operation",
+            label: "no run begins here",
+            help: "write a `func`",
+        },
+        Violation::HasSuccessors => PlainWords {
+            message: "the operation that is to run has successors",
+            label: "it leads out of itself",
+            help: "take the successors away",
+        },
+        Violation::NotAdmitted(_) => PlainWords {
+            message: "the dialect has no such operation",
+            label: "with these operands, results, successors and regions",
+            help: "count them: each kind of operation has its own numbers",
+        },
+        Violation::EdgeNotLast(_) => PlainWords {
+            message: "an edge that doesn't end its block, or leads to another region",
+            label: "this operation has successors",
+            help: "let it be the last of its block, and name blocks of its own region",
+        },
+        Violation::ForeignValue(_, _) => PlainWords {
+            message: "an operand is defined outside the operation that is to run",
+            label: "is defined outside",
+            help: "pass the value as an argument of the first block",
+        },
+        Violation::NoDominance(_) => PlainWords {
+            message: "a region in which definitions need not come before uses",
+            label: "this operation has such a region",
+            help: "only the first block of a `mod` is entered: run one of its `func`s alone",
+        },
+        Violation::UnequalEdge(_, _) => PlainWords {
+            message: "an edge passes another number of values than its block takes",
+            label: "the numbers differ here",
+            help: "give each argument of the block one value",
+        },
+        Violation::TerminatorNotLast(_) => PlainWords {
+            message: "an operation that ends a block isn't its last one",
+            label: "what stands behind it is never run",
+            help: "let it be the last of its block",
+        },
+        Violation::ResultUsed(_, _) => PlainWords {
+            message: "a result of an operation with successors is used",
+            label: "it has successors and a result",
+            help: "pass the value along the edges",
+        },
+        Violation::UsedOutside(_, _) => PlainWords {
+            message: "a value is used outside the operation that is to run",
+            label: "is defined inside",
+            help: "give the value as a result of the run",
+        },
+        Violation::NotDominated(_, _) => PlainWords {
+            message: "an operand isn't defined on each way to this operation",
+            label: "may not be defined yet when this runs",
+            help: "define the value before the ways part, or pass it as an argument of a block",
+        },
+    }
+}
+
+/// What is said of an operand that is defined in a region around which the operation doesn't stand.
+static INVISIBLE: PlainWords = PlainWords {
+    message: "an operand isn't visible at this operation",
+    label: "is defined inside another operation, and isn't visible here",
+    help: "a value is visible in its own region and inside that: define it before the operation that holds it",
+};
+
+/// The operation that is wrong.
+fn operation_of(violation: &Violation, root: Ptr<Operation>) -> Ptr<Operation> {
+    match violation {
+        Violation::NotAdmitted(op)
+        | Violation::EdgeNotLast(op)
+        | Violation::ForeignValue(op, _)
+        | Violation::UnequalEdge(op, _)
+        | Violation::TerminatorNotLast(op)
+        | Violation::ResultUsed(op, _)
+        | Violation::UsedOutside(op, _)
+        | Violation::NotDominated(op, _) => *op,
+        Violation::NotRoot | Violation::HasSuccessors | Violation::NoDominance(_) => root,
+    }
+}
+
+/// The region that the block stands in.
+fn region_around(ctx: &Context, block: Option<Ptr<BasicBlock>>) -> Option<Ptr<Region>> {
+    match block {
+        Some(block) if block.is_live(ctx) => block.get_parent_region(ctx),
+        _ => None,
+    }
+}
+
+/// The region that the value is defined in.
+fn region_of_value(ctx: &Context, value: Value) -> Option<Ptr<Region>> {
+    if !value.is_live(ctx) {
+        return None;
+    }
+    match value.def(ctx) {
+        Def::Result(op, _) if op.is_live(ctx) => region_around(ctx, op.get_parent_block(ctx)),
+        Def::Result(_, _) => None,
+        Def::Argument(block, _) => region_around(ctx, Some(block)),
+    }
+}
+
+/// Whether the operation stands, however deep, in the region that the value is defined in.
+fn is_visible(ctx: &Context, op: Ptr<Operation>, value: Value) -> bool {
+    let Some(region) = region_of_value(ctx, value) else {
+        return false;
+    };
+    let mut at = Some(op);
+    for _ in 0..u64::MAX {
+        let Some(inner) = at else {
+            return false;
+        };
+        if !inner.is_live(ctx) {
+            return false;
+        }
+        if region_around(ctx, inner.get_parent_block(ctx)) == Some(region) {
+            return true;
+        }
+        at = inner.get_parent_op(ctx);
+    }
+    false
+}
+
+/// The operand at this index, if there are so many.
+fn operand_at(ctx: &Context, op: Ptr<Operation>, index: usize) -> Option<Value> {
+    if op.is_live(ctx) && index < op.num_operand(ctx) {
+        Some(op.get_operand(ctx, index))
+    } else {
+        None
+    }
+}
+
+/// The target of the branch's edge at this index, and how many values the edge forwards, if there is such an edge.
+/// Errors: allocation failure.
+fn edge_of<D: Dialect>(
+    alloc: Global,
+    ctx: &Context,
+    op: Ptr<Operation>,
+    index: usize,
+) -> Result<Option<(Ptr<BasicBlock>, usize)>, OptError> {
+    if !op.is_live(ctx) {
+        return Ok(None);
+    }
+    if !D::is_branch(op, ctx) {
+        return Ok(None);
+    }
+    if index >= op.num_successor(ctx) {
+        return Ok(None);
+    }
+    let values = D::successor_operands(alloc, op, ctx, index)?;
+    Ok(Some((op.get_successor(ctx, index), values.len())))
+}
+
+/// A text of which something is told.
+#[derive(Clone, Copy)]
+struct ViolationText<'t> {
+    alloc: Global,
+    source: &'t Source<'t>,
+    parts: &'t TextParts,
+}
+
+impl ViolationText<'_> {
+    /// Adds the name of the value in the text.
+    fn push_value(&self, label: &mut String, value: Value) -> Result<(), AllocError> {
+        match self.parts.value(value.key()) {
+            Some(name) => {
+                label.push_str("`")?;
+                for byte in name.part.of(self.source.text) {
+                    label.push(char::from(*byte))?;
+                }
+                label.push_str("`")
+            }
+            None => label.push_str("a value"),
+        }
+    }
+
+    /// Where the value is defined in the text.
+    fn definition(&self, value: Value) -> Result<Option<Note>, AllocError> {
+        let Some(name) = self.parts.value(value.key()) else {
+            return Ok(None);
+        };
+        let mut message = String::new(self.alloc);
+        self.push_value(&mut message, value)?;
+        message.push_str(" is defined here")?;
+        Ok(Some(Note {
+            part: name.part,
+            message,
+        }))
+    }
+
+    /// The words of a violation by an operand: its number, its name, what is said of it, and where it is defined.
+    fn operand_words(
+        &self,
+        ctx: &Context,
+        op: Ptr<Operation>,
+        index: usize,
+        plain: PlainWords,
+    ) -> Result<ViolationWords, AllocError> {
+        let number = index.saturating_add(1);
+        let mut label = format!(in self.alloc; "operand {number}")?;
+        let mut note = None;
+        if let Some(value) = operand_at(ctx, op, index) {
+            label.push_str(", ")?;
+            self.push_value(&mut label, value)?;
+            label.push_str(",")?;
+            note = self.definition(value)?;
+        }
+        label.push_str(" ")?;
+        label.push_str(plain.label)?;
+        Ok(ViolationWords {
+            message: plain.message,
+            label,
+            help: plain.help,
+            note,
+        })
+    }
+
+    /// The words of an edge with another number of values than its block takes: both counts, and the block.
+    fn edge_words<D: Dialect>(
+        &self,
+        ctx: &Context,
+        op: Ptr<Operation>,
+        index: usize,
+        plain: PlainWords,
+    ) -> Result<ViolationWords, OptError> {
+        let Some((block, passed)) = edge_of::<D>(self.alloc, ctx, op, index)? else {
+            return Ok(self.words_without_names(plain)?);
+        };
+        if !block.is_live(ctx) {
+            return Ok(self.words_without_names(plain)?);
+        }
+        let (number, taken) = (index.saturating_add(1), block.num_argument(ctx));
+        let label = format!(in self.alloc;
+            "edge {number} passes {passed}, and its block takes {taken}"
+        )?;
+        let note = match self.parts.block_part(block.key()) {
+            Some(part) => Some(Note {
+                part,
+                message: format!(in self.alloc; "this block takes {taken}")?,
+            }),
+            None => None,
+        };
+        Ok(ViolationWords {
+            message: plain.message,
+            label,
+            help: plain.help,
+            note,
+        })
+    }
+
+    /// The words where the text names nothing.
+    fn words_without_names(&self, plain: PlainWords) -> Result<ViolationWords, AllocError> {
+        Ok(ViolationWords {
+            message: plain.message,
+            label: String::from_str(self.alloc, plain.label)?,
+            help: plain.help,
+            note: None,
+        })
+    }
+
+    /// What is said of a violation.
+    fn words<D: Dialect>(
+        &self,
+        ctx: &Context,
+        violation: &Violation,
+    ) -> Result<ViolationWords, OptError> {
+        let plain = plain_words(violation);
+        Ok(match violation {
+            Violation::NotDominated(op, index) => {
+                let is_seen = match operand_at(ctx, *op, *index) {
+                    Some(value) => is_visible(ctx, *op, value),
+                    None => true,
+                };
+                let plain = if is_seen { plain } else { INVISIBLE };
+                self.operand_words(ctx, *op, *index, plain)?
+            }
+            Violation::ForeignValue(op, index) | Violation::UsedOutside(op, index) => {
+                self.operand_words(ctx, *op, *index, plain)?
+            }
+            Violation::UnequalEdge(op, index) => self.edge_words::<D>(ctx, *op, *index, plain)?,
+            _ => self.words_without_names(plain)?,
+        })
+    }
+
+    /// Adds the note, with a mark under its part.
+    fn push_note(&self, message: &mut String, note: &Note) -> Result<(), AllocError> {
+        let mark = SourceMark {
+            message: note.message.as_str(),
+            label: "",
+            name: self.source.name,
+            start: note.part.start,
+            len: note.part.len,
+        };
+        let text = mark_source_as(self.alloc, "note", self.source.text, &mark)?;
+        message.push_str(text.as_str())
+    }
+}
+
+/// What is told of a violation of an operation that was read from the text into an empty context: this word for how bad it
+/// is, the operation with a mark under it, what helps, and where the operand is defined or the block begins.
+///
+/// Errors: allocation failure. Cost: linear in the text, and the depth of the operation.
+pub fn violation_message<N: Shown>(
+    alloc: Global,
+    severity: &str,
+    source: &Source,
+    root: Ptr<Operation>,
+    violation: &Violation,
+    ctx: &Context,
+) -> Result<String, OptError> {
+    let parts = N::parts(alloc, source.text)?;
+    let text = ViolationText {
+        alloc,
+        source,
+        parts: &parts,
+    };
+    let words = text.words::<N::D>(ctx, violation)?;
+    let part = parts.operation_part(operation_of(violation, root).key());
+    let mark = SourceMark {
+        message: words.message,
+        label: words.label.as_str(),
+        name: source.name,
+        start: part.map_or(0, |part| part.start),
+        len: part.map_or(0, |part| part.len),
+    };
+    let mut message = mark_source_as(alloc, severity, source.text, &mark)?;
+    write!(message, "help: {}\n", words.help)?;
+    if let Some(note) = &words.note {
+        text.push_note(&mut message, note)?;
+    }
+    Ok(message)
+}

@@ -1,0 +1,84 @@
+//! Broken texts, with line, column and what was to stand there, through `plir check` and `plir opt`. `|` stands for the
+//! end of a line.
+use crate::lines::with_lines;
+use crate::optimised::plain;
+use pliron_cli::{BenchNotation, Outcome, Source, check, opt};
+use pliron_instrument::Timeless;
+use std::alloc::Global;
+use std::process::Abort;
+
+/// The command ended with 2, wrote nothing, and told this place and label.
+fn expect_told(rt: &impl Abort, outcome: &Outcome, text: &str, place: &str, label: &str) {
+    assert!(rt; outcome.status == 2, "{text}");
+    assert!(rt; outcome.output.is_empty(), "{text}");
+    let told = outcome.report.as_str();
+    let mut lines = told.lines();
+    assert!(rt; lines.next() == Some("error: unreadable text"), "{told}");
+    let second = lines.next().unwrap_or("");
+    let found = second.split_once("--> in.plir:").unwrap_or(("", "")).1;
+    assert!(rt; found == place, "{text} => {told}");
+    assert!(rt; told.trim_end().ends_with(label), "{text} => {told}");
+}
+
+fn expect_broken(rt: &impl Abort, alloc: Global, text: &str, wanted: &str) {
+    let lines = with_lines(alloc, text).expect(rt, "memory");
+    let source = Source {
+        name: "in.plir",
+        text: lines.as_bytes(),
+    };
+    let (place, label) = wanted.split_once(' ').expect(rt, "a place");
+    let checked = check::<BenchNotation>(alloc, &source).expect(rt, "memory");
+    expect_told(rt, &checked, text, place, label);
+    let optimised = opt::<BenchNotation, _>(alloc, &source, &plain("sccp"), Timeless).expect(
+        rt, "memory",
+    );
+    expect_told(rt, &optimised, text, place, label);
+}
+
+/// Broken texts, and line, column and what was to stand there.
+static BROKEN: &str = "\
+|  fun {|b0():|  ret|} => 2:3 `mod` or `func`
+func {|b0():|  ret => 3:6 `;` or `}`
+func {|b0(|  ret|} => 3:3 the name of a value
+func {|b0(x|  ret|} => 3:3 `,` or `)`
+func {|b0(x, 1):|  ret|} => 2:7 the name of a value
+func {|b0(x):|  ret x y,|} => 3:10 `;` or `}`
+func {|b0(x)|  ret x|} => 3:3 `:`
+func {|  x = const 1;|  ret x|} => 2:3 a block, as each `func` and `scope` has one
+func {|b0():|  x = const;|  ret x|} => 3:12 a number from -2^63 to 2^63 - 1, without leading zeros
+func {|b0():|  x = const 00;|  ret x|} => 3:13 a number from -2^63 to 2^63 - 1, without leading zeros
+func {|b0():|  x = const -9223372036854775809;|  ret x|} => 3:13 a number from -2^63 to 2^63 - 1, without leading zeros
+func {|b0():|  x = konst 1;|  ret x|} => 3:7 a kind of operations
+func {|b0(x):|  y = add x;|  ret y|} => 3:12 the name of a value
+func {|b0(x):|  y = add x x x;|  ret y|} => 3:15 `;` or `}`
+func {|b0(x):|  y = add x z;|  ret y|} => 3:13 the name of a value that its `func` defines
+func {|b0(x):|  x = const 1;|  ret x|} => 3:3 a value's name that its `func` doesn't define before
+func {|b0(x, x):|  ret x|} => 2:7 a value's name that its `func` doesn't define before
+func {|b0():|  br b1()|} => 3:6 the name of a block that its region defines
+func {|b0():|  br b0|} => 4:1 `(`
+func {|b0(c):|  cbr c b0(c);|b1():|  ret|} => 3:14 the name of a block
+func {|b0():|  br b1();|b1():|  ret;|b0():|  ret|} => 6:1 a block's name that its region doesn't define before
+func {|b0():|  br b1();|  ret;|b1():|  ret|} => 4:3 a block, since no operation follows one with successors
+func {|b0():|  x = print x;|  ret|} => 3:7 a kind of operations with one result
+func {|b0():|  read;|  ret|} => 3:3 a kind of operations with no results
+func {|b0():|  x, y = read;|  ret|} => 3:10 a kind of operations with two results
+mod {|b0():|  func {|  b0():|    ret|  };|  ret|} => 7:3 `mod` or `func`, as operations of a `mod` are
+mod {|b0(x):|} => 2:4 no arguments, as blocks of a `mod` have none
+func {|b0():|  mod { };|  ret|} => 3:3 an operation that stands in a `func`, and no `mod` or `func`
+func {|b0():|  scope {|  b0():|    ret|  }|  ret|} => 7:3 `;` or `}`
+func {|b0():|  scope { ret };|  ret|} => 3:11 a block, as each `func` and `scope` has one
+func {|b0():|  ret|}|} => 5:1 the end of the text
+func {|b0():|  ret|}|func {|b0():|  ret|} => 5:1 the end of the text
+func {|b0():|  ret;|} => 4:1 a kind of operations
+func {|b0():|  x := const 1;|  ret x|} => 3:5 `,` or `=`
+func {|b0():|  x = const 1; % one|  ret x|} => 3:16 a word, a number or one of `{ } ( ) , : ; =`
+func {|b0():|\tx = const 1 const 2;|  ret x|} => 3:14 `;` or `}`
+func {|b0(x):|  ret x| => 4:1 `;` or `}`";
+
+#[test]
+fn broken_texts(rt: HostRuntime) {
+    for case in BROKEN.lines() {
+        let (text, wanted) = case.split_once(" => ").expect(&rt, "a case");
+        expect_broken(&rt, rt.alloc(), text, wanted);
+    }
+}

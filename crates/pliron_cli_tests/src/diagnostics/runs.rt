@@ -1,0 +1,138 @@
+//! Runs of texts, worked by hand: inputs, the world's answers, the text, and what is seen, where `|` stands for
+//! the end of a line.
+use crate::diagnostics::lines::with_lines;
+use pliron_diagnostics::{End, RunOptions, Source, run_text};
+use std::alloc::Global;
+use std::process::Abort;
+
+fn expect_run(rt: &impl Abort, alloc: Global, text: &str, wanted: &str, options: &RunOptions) {
+    let wanted = with_lines(alloc, wanted).expect(rt, "memory");
+    let source = Source {
+        name: "in.plir",
+        text: text.as_bytes(),
+    };
+    let told = run_text(alloc, &source, options)
+        .expect(rt, "memory")
+        .expect(rt, "a readable text");
+    assert!(rt;
+        told.seen.as_str() == wanted.as_str(),
+        "{text} => {}",
+        told.seen
+    );
+}
+
+/// Texts, and what is seen of their runs on 3 and 4 in a world that answers 7 and 8, up to 20 moves.
+static RUNS: &str = "\
+func { b0(): ret } => ended with nothing|
+func { b0(x, y): z = mul x y; ret z x } => ended with 12 3|
+func { b0(x, y): print x; print y; ret } => effect (print 3)|effect (print 4)|ended with nothing|
+func { b0(x, y): print x; print y; print x; ret } => effect (print 3)|effect (print 4)|effect (print 3)|made no further move: steps or the world's answers were used up|
+func { b0(x, y): br b1(); b1(): br b1() } => made no further move: steps or the world's answers were used up|
+func { b0(x, y): z = const 0; w = div x z; ret w } => trapped|";
+
+#[test]
+fn runs_are_seen(rt: HostRuntime) {
+    let options = RunOptions {
+        inputs: &[3, 4],
+        world: &[7, 8],
+        steps: 20,
+        trace: false,
+    };
+    for case in RUNS.lines() {
+        let (text, wanted) = case.split_once(" => ").expect(&rt, "a case");
+        expect_run(&rt, rt.alloc(), text, wanted, &options);
+    }
+}
+
+/// Texts, and what is told of the last moves of their runs on 3 and 4 in a world that answers 7 and 8, up to 20 moves.
+static LAST_MOVES: &str = "\
+func { b0(x, y): ret x } =>
+func { b0(x, y): z = const 0; w = div x z; ret w } => error: the run trapped|1:31|^^^^^^^^^^^ the divisor is 0
+func { b0(x, y): z = const -9223372036854775808; o = const -1; w = div z o; ret w } => error: the run trapped|1:64|the quotient doesn't fit in 64 bits
+func { b0(x, y): w = add x v; v = const 1; ret w } => error: the run trapped|1:18|its operand 2 isn't defined yet
+func { b0(x, y): br b1(x, y); b1(z): ret z } => error: the run trapped|1:18|it passes 2, and its block takes 1
+func { b0(x, y): c = const 0; cbr c b1() b1(x, y); b1(): ret } => error: the run trapped|1:31|it passes 2, and its block takes 0
+func { b0(x, y): print x; print y; print x; ret } => note: the run was cut off|1:36|the world has no answer to effect 3
+func { b0(x, y): br b1(); b1(): br b1() } => note: the run was cut off|1:33|the 20 moves that it may make were made";
+
+fn expect_last_move(rt: &impl Abort, alloc: Global, text: &str, wanted: &str) {
+    let source = Source {
+        name: "in.plir",
+        text: text.as_bytes(),
+    };
+    let options = RunOptions {
+        inputs: &[3, 4],
+        world: &[7, 8],
+        steps: 20,
+        trace: false,
+    };
+    let told = run_text(alloc, &source, &options)
+        .expect(rt, "memory")
+        .expect(rt, "a readable text");
+    assert!(rt;
+        told.report.is_empty() == wanted.is_empty(),
+        "{text} => {}",
+        told.report
+    );
+    for part in wanted.split('|') {
+        assert!(rt;
+            told.report.as_str().contains(part),
+            "{text} => {}",
+            told.report
+        );
+    }
+}
+
+#[test]
+fn last_moves_are_told(rt: HostRuntime) {
+    for case in LAST_MOVES.lines() {
+        let (text, wanted) = case.split_once(" =>").expect(&rt, "a case");
+        expect_last_move(&rt, rt.alloc(), text, wanted.trim());
+    }
+}
+
+/// A text that divides by zero in its second turn.
+static TURNS: &str = "func {
+b0(x):
+  one = const -1;
+  br b1(x);
+b1(n):
+  q = div x n;
+  m = add n one;
+  br b1(m)
+}
+";
+
+/// What is told of its run on 1.
+static TURNS_TOLD: &str = "1:1 func <- 1
+3:3 one = const -1
+4:3 br b1(x) <- 1
+6:3 q = div x n <- 1 1
+7:3 m = add n one <- 1 -1
+8:3 br b1(m) <- 0
+6:3 q = div x n <- 1 0
+error: the run trapped
+ --> in.plir:6:3
+  |
+6 |   q = div x n;
+  |   ^^^^^^^^^^^ the divisor is 0
+";
+
+#[test]
+fn moves_and_traps_are_told(rt: HostRuntime) {
+    let source = Source {
+        name: "in.plir",
+        text: TURNS.as_bytes(),
+    };
+    let options = RunOptions {
+        inputs: &[1],
+        world: &[],
+        steps: 100,
+        trace: true,
+    };
+    let told = run_text(rt.alloc(), &source, &options)
+        .expect(&rt, "memory")
+        .expect(&rt, "a readable text");
+    assert!(rt; told.report.as_str() == TURNS_TOLD, "{}", told.report);
+    assert!(rt; told.end == End::Trapped);
+}

@@ -1,0 +1,87 @@
+//! The control flow of texts as pictures, worked by hand.
+use pliron_cli::{FlowOptions, Outcome, Source, draw_flow};
+use std::alloc::Global;
+use std::process::Abort;
+
+/// What each picture of a flow begins with, and what it ends with.
+static HEAD: &str =
+    "digraph flow {\n  node [shape=\"box\", fontname=\"monospace\"];\n  edge [fontname=\"monospace\"];\n";
+
+static END: &str = "}\n";
+
+fn draw_region(rt: &impl Abort, alloc: Global, region: &str, text: &str) -> Outcome {
+    let source = Source {
+        name: "text",
+        text: text.as_bytes(),
+    };
+    let options = FlowOptions {
+        region: region.trim_start_matches('!'),
+        dominators: region.starts_with('!'),
+    };
+    draw_flow(alloc, &source, &options).expect(rt, "memory")
+}
+
+/// The lines in the order of the picture, each behind a bar, where `'` stands for a quote and `/` for a backslash.
+fn lines_of(rt: &impl Abort, alloc: Global, lines: &str) -> String {
+    let mut text = String::from_str(alloc, HEAD).expect(rt, "memory");
+    for line in lines.split('|') {
+        text.push_str("  ").expect(rt, "memory");
+        for letter in line.chars() {
+            let letter = match letter {
+                '\'' => '"',
+                '/' => '\\',
+                _ => letter,
+            };
+            text.push(letter).expect(rt, "memory");
+        }
+        text.push_str(";\n").expect(rt, "memory");
+    }
+    text.push_str(END).expect(rt, "memory");
+    text
+}
+
+/// Paths, behind `!` where dominators are drawn, texts and their pictures.
+static PICTURES: &str = "\
+0 => func { b0(): ret } => 0 [label='b0():/lret/l']
+0 => func { a(x): br  b( x ) ; b(y): ret  y } => 0 [label='a(x):/lbr b( x )/l']|1 [label='b(y):/lret y/l']|0 -> 1 [label=' x ']
+!0 => func { a(c): cbr c b(c) d(); b(y): br d(); d(): ret } => 0 [label='a(c):/lcbr c b(c) d()/l']|1 [label='b(y):/lbr d()/l']|2 [label='d():/lret/l']|0 -> 1 [label=' c ']|0 -> 2|1 -> 2|0 -> 1 [style='dotted', color='blue', constraint='false']|0 -> 2 [style='dotted', color='blue', constraint='false']
+0 => func { a(): ret; lost(): x = const 1; br a() } => 0 [label='a():/lret/l']|1 [label='lost():/lx = const 1/lbr a()/l', color='grey', fontcolor='grey']|1 -> 0 [color='grey', fontcolor='grey']
+0 => mod { m(): func { f(): ret }; func { g(): ret } } => 0 [label='m():/lfunc { 0.0.0 }/lfunc { 0.1.0 }/l']
+0.1.0 => mod { m(): func { f(): ret }; func { g(): ret } } => 2 [label='g():/lret/l']";
+
+#[test]
+fn flows_are_drawn(rt: HostRuntime) {
+    for case in PICTURES.lines() {
+        let (region, rest) = case.split_once(" => ").expect(&rt, "a case");
+        let (text, lines) = rest.split_once(" => ").expect(&rt, "a case");
+        let outcome = draw_region(&rt, rt.alloc(), region, text);
+        let wanted = lines_of(&rt, rt.alloc(), lines);
+        assert_eq!(rt;
+            std::str::from_utf8(&outcome.output).unwrap_or(""),
+            wanted.as_str(),
+            "{}",
+            outcome.report
+        );
+        assert_eq!(rt; outcome.status, 0);
+    }
+}
+
+/// Paths and texts of which there is no picture, and what is told.
+static FAULTS: &str = "\
+0 => func { b0(): ret => error: unreadable text
+1 => func { b0(): ret } => error: no region `1`
+0.0 => func { b0(): ret } => error: no region `0.0`
+0.0.0 => func { b0(): ret } => error: no region `0.0.0`
+0.x.0 => func { b0(): ret } => error: no region `0.x.0`";
+
+#[test]
+fn faults_are_told(rt: HostRuntime) {
+    for case in FAULTS.lines() {
+        let (region, rest) = case.split_once(" => ").expect(&rt, "a case");
+        let (text, told) = rest.split_once(" => ").expect(&rt, "a case");
+        let outcome = draw_region(&rt, rt.alloc(), region, text);
+        assert!(rt; outcome.output.is_empty());
+        assert_eq!(rt; outcome.status, 2);
+        assert_eq!(rt; outcome.report.lines().next(), Some(told));
+    }
+}

@@ -1,6 +1,0 @@
-use Rattle.std.proofs.Common.{◌≡◌, take}
-use Rattle.pliron_core.specs.Counts.{pairs}
-use Rattle.pliron_core.proofs.counts.sums_of.Given as goal
-
-abbrev pub invariant-loop-q : goal.invariant-loop-q
-invariant-loop-q l = l.sums ≡ take l.q (pairs l.below)

@@ -1,5 +1,0 @@
-use Rattle.std.proofs.Common.{◌≡◌, ◌++◌, length, take}
-use Rattle.pliron_core.proofs.row.Row.extend.Given as goal
-
-abbrev pub invariant-loop-i : goal.invariant-loop-i
-invariant-loop-i g l = (l.self ≡ l.fn.self ++ take l.i l.other) × (l.before ≡ length l.fn.self)

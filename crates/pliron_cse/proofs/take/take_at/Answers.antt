@@ -1,0 +1,56 @@
+use Rattle.std.proofs.Common.{◌≡◌, true≢false, sym, ap, ◌∙◌, subst, refl, inr, get_or, Some, IfNone, ℕ, arith}
+use Rattle.pliron_core.specs.Tree.{IsLive}
+use Rattle.pliron_laws.proofs.FoldLemmas.{on_err}
+use Rattle.pliron_cse.specs.Leaders.{leader_with}
+use Rattle.pliron_cse.specs.Steps.{LeadsAt}
+use Rattle.pliron_equivalence.specs.Twins.{IsTwin}
+use Rattle.pliron_equivalence.specs.Merging.{IsPartlyMerged, after_merging}
+use Rattle.pliron_cse.proofs.Alone.{alone_other, alone_leads}
+use Rattle.pliron_cse.proofs.OnWay.{pair_of}
+use Rattle.pliron_cse.proofs.Taken.{near_twin}
+use Rattle.pliron_cse.proofs.take.take_at.Goals as goal
+
+pub may_repeat-requires : goal.may_repeat-requires
+may_repeat-requires g c = subst (IsLive c.args.ctx.now.tree) (sym c.operation_at-op.ensures) (c.requires.ordered.1.left c.args.place (omega arith) c.requires.place)
+
+pub key_of-requires : goal.key_of-requires
+key_of-requires g c = subst (IsLive c.args.ctx.now.tree) (sym c.operation_at-op.ensures) (c.requires.ordered.1.left c.args.place (omega arith) c.requires.place)
+
+pub leader_of-requires-clause-live : goal.leader_of-requires-clause-live
+leader_of-requires-clause-live g c = c.requires.ordered.1.left c.args.place (omega arith) c.requires.place
+
+pub returns-then-not-may_repeat-clause-leaders : goal.returns-then-not-may_repeat-clause-leaders
+returns-then-not-may_repeat-clause-leaders g c =
+    alone_other g.D.SideEffects.side_effects c.args.ctx.now.tree c.args.order.now.operations.items c.args.order.now.ends.items c.args.place c.operation_at-op.result c.operation_at-op.ensures (λ key. leader_with c.args.leaders.now key)
+    (λ r. true≢false (sym (c.may_repeat.ensures.1 r) ∙ c.if-not-may_repeat.true))
+
+pub merge_twin-requires : goal.merge_twin-requires
+merge_twin-requires g c =
+    let t = c.args.ctx.now.tree in
+    let ops = c.args.order.now.operations.items in
+    let ends = c.args.order.now.ends.items in
+    let se = g.D.SideEffects.side_effects in
+    let w = c.well_formed-2.ensures.tree in
+    let leads = c.in-Some.ensures.some in
+    let twin = near_twin se t (get_or ops leads.0 0) (get_or ops c.args.place 0) w
+    (pair_of se t w c.requires.ordered.0 ops ends leads.0 c.args.place (get_or ops leads.0 0) (get_or ops c.args.place 0) c.requires.ordered.1 leads.2.first c.requires.place leads.2.within refl refl leads.2.live leads.2.alike).twin in
+    record { twin = subst (λ z. IsTwin se t z c.operation_at-op.result) (sym leads.1) (subst (IsTwin se t (get_or ops leads.0 0)) (sym c.operation_at-op.ensures) twin) }
+
+pub returns-in-Some-clause-taken : goal.returns-in-Some-clause-taken
+returns-in-Some-clause-taken g c =
+    let leads = c.in-Some.ensures.some in
+    (leads.0, leads.2, c.in_ok-merge_twin.ensures.ok ∙ ap (λ z. after_merging c.args.ctx.now.tree z c.operation_at-op.result) leads.1 ∙ ap (after_merging c.args.ctx.now.tree (get_or c.args.order.now.operations.items leads.0 0)) c.operation_at-op.ensures)
+
+pub returns-in_err-merge_twin-clause-refused : goal.returns-in_err-merge_twin-clause-refused
+returns-in_err-merge_twin-clause-refused g c =
+    let t = c.args.ctx.now.tree in
+    let leads = c.in-Some.ensures.some in
+    let part = subst (λ z. IsPartlyMerged t c.merge_twin.new.ctx.tree z c.operation_at-op.result) leads.1 c.in_err-merge_twin.ensures.err in
+    on_err _ c.from_residual-in_err-merge_twin.result (inr (leads.0, leads.2, subst (IsPartlyMerged t c.merge_twin.new.ctx.tree (get_or c.args.order.now.operations.items leads.0 0)) c.operation_at-op.ensures part))
+
+pub returns-clause-leaders : goal.returns-clause-leaders
+returns-clause-leaders g c =
+    let t = c.args.ctx.now.tree in
+    let live = subst (IsLive t) (sym c.operation_at-op.ensures) (c.requires.ordered.1.left c.args.place (omega arith) c.requires.place) in
+    let none = subst (λ o. IfNone o ((i : ℕ) → leader_with c.args.leaders.now c.in_ok-key.key.items ≡ Some i → LeadsAt g.D.SideEffects.side_effects t c.args.order.now.operations.items c.args.order.now.ends.items i c.args.place → ⊥)) c.in_default.is c.leader_of.ensures.none in
+    alone_leads g.D.SideEffects.side_effects t c.args.order.now.operations.items c.args.order.now.ends.items c.args.place c.operation_at-op.result c.operation_at-op.ensures (λ key. leader_with c.args.leaders.now key) (λ key. leader_with c.put.new.self key) c.in_ok-key.key.items c.in_ok-key.ensures.words c.requires.place live (c.may_repeat.ensures.0 c.if-not-may_repeat.false) none c.in_ok-put.ensures.put c.in_ok-put.ensures.others

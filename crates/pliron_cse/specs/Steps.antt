@@ -1,0 +1,104 @@
+-- One operation after the other.
+use Rattle.std.specs.Prelude.{◌≡◌, ◌⊎◌, ◌↔◌, ◌<◌, ◌≤◌, ◌+◌, ℕ, Bool, true, false, List, [], Option, Some, length, get_or}
+use Rattle.pliron_core.specs.declared.attrs.IRStatus.{IRStatus}
+use Rattle.pliron_core.specs.declared.attrs.IRStatus.TheVariants.{Changed, Unchanged}
+use Rattle.pliron_core.specs.Lists.{IsDistinct}
+use Rattle.pliron_core.specs.Tree.{Tree, In, IsLive, operands_of, successors_of, regions_of}
+use Rattle.pliron_laws.specs.Datum.{Head, Meaning}
+use Rattle.pliron_laws.specs.Linked.{IsWellLinked}
+use Rattle.pliron_theory.specs.Change.{IsWholeChange}
+use Rattle.pliron_theory.specs.Edges.{KeepsEdges}
+use Rattle.pliron_theory.specs.Rewrites.{HasNoSideEffects}
+use Rattle.pliron_equivalence.specs.Standing.{StandsBefore}
+use Rattle.pliron_equivalence.specs.Twins.{AreAlike}
+use Rattle.pliron_equivalence.specs.Merging.{after_merging, IsPartlyMerged}
+use Rattle.pliron_order.specs.Seen.{IsSeen}
+use Rattle.pliron_cse.specs.Keys.{key_words, region_around}
+use Rattle.pliron_cse.specs.Left.{UsesAreBehind, HasTwins}
+use Rattle.pliron_cse.specs.Taking.{Pair, TakeInTurn}
+
+-- the operation holds nothing, leads nowhere and has no side effects
+pub record MayRepeat (side_effects : Head → Option Bool) (t : Tree) (k : ℕ) : Type 0 where
+  pub regions : regions_of t k ≡ []
+  pub successors : successors_of t k ≡ []
+  pub harmless : HasNoSideEffects side_effects t k
+
+-- b does what a does; without operands they stand in one region
+pub record AreNearAlike (side_effects : Head → Option Bool) (t : Tree) (a b : ℕ) : Type 0 where
+  pub alike : AreAlike side_effects t a b
+  pub near : operands_of t b ≡ [] → region_around t a ≡ region_around t b
+
+-- the operation at the second place is a twin of the one at the first
+pub record LeadsAt (side_effects : Head → Option Bool) (t : Tree) (ops ends : List ℕ) (i place : ℕ) : Type 0 where
+  pub first : i < place
+  pub within : place < get_or ends i 0
+  pub live : IsLive t (get_or ops i 0)
+  pub alike : AreNearAlike side_effects t (get_or ops i 0) (get_or ops place 0)
+
+-- each operation before the place that may lead one from there on is found by its key
+abbrev pub AreFound : (Head → Option Bool) → Tree → (ops ends : List ℕ) → ℕ → (List ℕ → Option ℕ) → Type 0
+AreFound side_effects t ops ends place find = (i : ℕ) → i < place → i < length ops → IsLive t (get_or ops i 0) → MayRepeat side_effects t (get_or ops i 0) → (find (key_words t (get_or ops i 0)) ≡ Some i) ⊎ (get_or ends i 0 ≤ place)
+
+-- where leaders are found, one that stays is no twin, and leaders are found from the next place on
+pub record StaysAlone (side_effects : Head → Option Bool) (t : Tree) (ops ends : List ℕ) (place : ℕ) (find find' : List ℕ → Option ℕ) : Type 0 where
+  pub found : AreFound side_effects t ops ends place find → AreFound side_effects t ops ends (place + 1) find'
+  pub none : AreFound side_effects t ops ends place find → (i : ℕ) → LeadsAt side_effects t ops ends i place → ⊥
+
+-- where one goes, the leaders stay
+abbrev pub LeadsOn : (Head → Option Bool) → Tree → (ops ends : List ℕ) → ℕ → (find find' : List ℕ → Option ℕ) → Bool → Type 0
+LeadsOn side_effects t ops ends place find find' true = (key : List ℕ) → find' key ≡ find key
+LeadsOn side_effects t ops ends place find find' false = StaysAlone side_effects t ops ends place find find'
+
+-- no operation before the place is a twin of another
+abbrev pub AreNoTwins : (Head → Option Bool) → Tree → (ops ends : List ℕ) → ℕ → Type 0
+AreNoTwins side_effects t ops ends place = (i j : ℕ) → j < place → j < length ops → IsLive t (get_or ops j 0) → LeadsAt side_effects t ops ends i j → ⊥
+
+-- of the operations in dominance order those that stand are seen, and all from this place on stand
+pub record IsOrdered (t : Tree) (root : ℕ) (ops ends : List ℕ) (place : ℕ) : Type 0 where
+  pub counted : length ends ≡ length ops
+  pub distinct : IsDistinct ops
+  pub each : (k : ℕ) → IsSeen t root k → In k ops
+  pub seen : (k : ℕ) → In k ops → IsLive t k → IsSeen t root k
+  pub standing : (i j : ℕ) → i < length ops → j < length ops → IsLive t (get_or ops i 0) → IsLive t (get_or ops j 0) → ((i < j) × (j < get_or ends i 0)) ↔ StandsBefore t (get_or ops i 0) (get_or ops j 0)
+  pub left : (j : ℕ) → place ≤ j → j < length ops → IsLive t (get_or ops j 0)
+
+-- the operation at the place went as a twin of one before it, or nothing changed
+abbrev pub TakesOrStays : (Head → Option Bool) → (t t' : Tree) → (ops ends : List ℕ) → ℕ → Bool → Type 0
+TakesOrStays side_effects t t' ops ends place true = (i : ℕ) × LeadsAt side_effects t ops ends i place × (t' ≡ after_merging t (get_or ops i 0) (get_or ops place 0))
+TakesOrStays side_effects t t' ops ends place false = t' ≡ t
+
+-- nothing changed, or the uses of its first results became uses of those of one before it
+abbrev pub TakesInPart : (Head → Option Bool) → (t t' : Tree) → (ops ends : List ℕ) → ℕ → Type 0
+TakesInPart side_effects t t' ops ends place = (t' ≡ t) ⊎ ((i : ℕ) × LeadsAt side_effects t ops ends i place × IsPartlyMerged t t' (get_or ops i 0) (get_or ops place 0))
+
+-- what holds all the way from the tree t0
+pub record IsOnWay (m : Meaning) (t0 t : Tree) (root : ℕ) : Type 0 where
+  pub change : IsWholeChange m t0 t root
+  pub links : (r : ℕ) → IsWellLinked m t0 r → IsWellLinked m t r
+  pub edges : KeepsEdges t0 t
+  pub fewer : (k : ℕ) → IsLive t k → IsLive t0 k
+
+-- `Changed` tells that something went
+abbrev pub ReportsErased : (t0 t : Tree) → IRStatus → Type 0
+ReportsErased t0 t Changed = (b : ℕ) × IsLive t0 b × (IsLive t b → ⊥)
+ReportsErased t0 t Unchanged = t ≡ t0
+
+-- where uses were behind, or nothing changed yet, leaders are found and no twin is left before the place
+pub record IsExact (side_effects : Head → Option Bool) (t0 t : Tree) (root : ℕ) (ops ends : List ℕ) (place : ℕ) (find : List ℕ → Option ℕ) (status : IRStatus) : Type 0 where
+  pub behind : UsesAreBehind t0 root → UsesAreBehind t root
+  pub found : UsesAreBehind t0 root ⊎ (t ≡ t0) → AreFound side_effects t ops ends place find
+  pub none : UsesAreBehind t0 root ⊎ (t ≡ t0) → AreNoTwins side_effects t ops ends place
+  pub had : status ≡ Changed → HasTwins side_effects t0 root
+
+-- what holds when the operations before the place were visited
+pub record IsTaking (m : Meaning) (side_effects : Head → Option Bool) (t0 t : Tree) (root : ℕ) (ops ends : List ℕ) (place : ℕ) (find : List ℕ → Option ℕ) (status : IRStatus) : Type 0 where
+  pub way : IsOnWay m t0 t root
+  pub taken : (xs : List Pair) × TakeInTurn side_effects root xs t0 t
+  pub tells : ReportsErased t0 t status
+  pub ordered : IsOrdered t root ops ends place
+  pub exact : IsExact side_effects t0 t root ops ends place find status
+
+-- `Changed` if one went, else as before
+abbrev pub status_after : IRStatus → Bool → IRStatus
+status_after status true = Changed
+status_after status false = status

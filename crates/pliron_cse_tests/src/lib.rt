@@ -1,0 +1,13 @@
+//! Tests of common subexpression elimination on texts. It has no function of its own.
+#![tactic(auto)]
+
+#[cfg(test)]
+mod cases;
+#[cfg(test)]
+mod passes;
+#[cfg(test)]
+mod random;
+#[cfg(test)]
+mod runs;
+#[cfg(test)]
+mod texts;

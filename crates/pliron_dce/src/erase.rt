@@ -1,0 +1,147 @@
+//! Whole rewrites: one dead operation or argument is erased.
+ghost use Rattle.std.specs.Prelude.{◌≡◌, ◌↔◌, ◌<◌, ◌≤◌, length, ℕ, Some, IfOk, OnOk, OnErr, IsTrue, slice_get, IsOkUnless};
+ghost use Rattle.pliron_core.specs.Tree.{In, IsLive, IsBlock, operands_of, arguments_of};
+ghost use Rattle.pliron_core.specs.Erased.{after_erasing};
+ghost use Rattle.pliron_laws.specs.Linked.{IsWellLinked};
+ghost use Rattle.pliron_theory.specs.Dropping.{AreEdgesTo, AreOfBranches, EdgesLose};
+ghost use Rattle.pliron_dce.specs.Dead.{Item};
+ghost use Rattle.pliron_dce.specs.Erasing.{Removes};
+ghost use Rattle.pliron_dce.specs.Incoming.{edges_of, AreIncoming, AreForwardedTo, HavePlaces};
+ghost use Rattle.pliron_dce.specs.Readiness.{IsReadyOperation, IsReadyArgument, AreRecorded, AreOperandsWithin, AddsOperands};
+
+use crate::incoming::IncomingEdge;
+use pliron_core::{BasicBlock, Context, IRRewriter, Operation, Ptr, Rewriter, Value};
+use pliron_laws::{Dialect, OptError};
+use std::alloc::{AllocError, Global};
+
+// The operands of this operation are appended to the list.
+#[inline(always)]
+fn push_operands(
+    values: &mut Vec<Value>,
+    op: Ptr<Operation>,
+    ctx: &Context,
+) -> Result<(), AllocError>
+    requires { IsLive ctx.now.tree op }
+    ensures { OnOk result (AddsOperands ctx.now.tree op values.old.items values.new.items) }
+{
+    for i in 0..op.num_operand(ctx) {
+        values.push(op.get_operand(ctx, i))?;
+    }
+    Ok(())
+}
+
+// The operands of the operation and of all operations inside it are listed, and nothing else is.
+#[inline(always)]
+fn list_operands_within(
+    values: &mut Vec<Value>,
+    op: Ptr<Operation>,
+    ctx: &Context,
+) -> Result<(), AllocError>
+    requires { IsLive ctx.now.tree op }
+    ensures { OnOk result (AreOperandsWithin ctx.now.tree op values.new.items) }
+{
+    ctx.well_formed();
+    values.clear();
+    let mut at = Some(op);
+    while let Some(inner) = at {
+        push_operands(values, inner, ctx)?;
+        at = inner.next_in_preorder(op, ctx);
+    }
+    Ok(())
+}
+
+// A ready operation is erased with its contents. Lists the values that it and its contents used.
+#[inline(always)]
+pub(crate) fn erase_dead_operation<D: Dialect>(
+    used: &mut Vec<Value>,
+    op: Ptr<Operation>,
+    root: Ptr<Operation>,
+    ctx: &mut Context,
+) -> Result<(), OptError>
+    requires linked { IsWellLinked D.meaning ctx.old.tree root }
+    requires ready { IsReadyOperation D.meaning D.side_effects ctx.old.tree root op }
+    ensures gone { OnOk result (ctx.new.tree ≡ after_erasing ctx.old.tree op) }
+    ensures noted { OnOk result (AreRecorded ctx.old.tree ctx.new.tree used.new.items) }
+    ensures refused { OnErr result (ctx.new ≡ ctx.old) }
+    ensures memory { IsOkUnless result OptError.Memory }
+{
+    ctx.well_formed();
+    list_operands_within(used, op, ctx)?;
+    IRRewriter::new().erase_operation(ctx, op);
+    Ok(())
+}
+
+// The operands that edges forward to the argument with this index. Of edges in the order of how much they
+// forward, the first ones do.
+fn operands_to<D: Dialect>(
+    alloc: Global,
+    block: Ptr<BasicBlock>,
+    index: usize,
+    edges: &[IncomingEdge],
+    ctx: &Context,
+) -> Result<Vec<Value>, OptError>
+    requires edges { AreIncoming D.meaning ctx.now.tree block (edges_of edges.now) }
+    ensures used { IfOk result (λ used. AreForwardedTo D.meaning ctx.now.tree index (edges_of edges.now) used.items) }
+    ensures memory { IsOkUnless result OptError.Memory }
+{
+    ctx.well_formed();
+    let mut used = Vec::new(alloc);
+    for edge in edges {
+        match D::successor_operand(alloc, edge.branch, ctx, edge.place, index)? {
+            Some(value) => used.push(value)?,
+            None => return Ok(used),
+        }
+    }
+    Ok(used)
+}
+
+// The first edges lose the operand that they forward to the argument with this index; the others have none.
+fn lose_operands<D: Dialect>(
+    block: Ptr<BasicBlock>,
+    index: usize,
+    edges: &[IncomingEdge],
+    count: usize,
+    ctx: &mut Context,
+)
+    requires edges { AreEdgesTo ctx.old.tree block (edges_of edges.now) }
+    requires branches { AreOfBranches D.meaning ctx.old.tree (edges_of edges.now) }
+    requires count { count ≤ length edges.now }
+    requires places { HavePlaces D.meaning ctx.old.tree index (edges_of edges.now) count }
+    ensures lost { EdgesLose D.meaning D.shortened index (edges_of edges.now) ctx.old.tree ctx.new.tree }
+{
+    ctx.well_formed();
+    for i in 0..count {
+        ctx.well_formed();
+        let edge = edges[i];
+        D::remove_successor_operand(edge.branch, ctx, edge.place, index);
+    }
+}
+
+// A ready argument is removed, after each edge to its block lost the operand that it forwarded to it. Answers
+// the values that these operands were.
+pub(crate) fn erase_dead_argument<D: Dialect>(
+    alloc: Global,
+    block: Ptr<BasicBlock>,
+    index: usize,
+    edges: &[IncomingEdge],
+    root: Ptr<Operation>,
+    ctx: &mut Context,
+) -> Result<Vec<Value>, OptError>
+    requires linked { IsWellLinked D.meaning ctx.old.tree root }
+    requires ready { (v : ℕ) → slice_get (arguments_of ctx.old.tree block) index ≡ Some v → IsReadyArgument D.meaning D.removable ctx.old.tree root v }
+    requires block { IsBlock ctx.old.tree block }
+    requires index { index < length (arguments_of ctx.old.tree block) }
+    requires edges { AreIncoming D.meaning ctx.old.tree block (edges_of edges.now) }
+    ensures gone { IfOk result (λ used. (v : ℕ) → slice_get (arguments_of ctx.old.tree block) index ≡ Some v →
+        Removes D.meaning D.shortened ctx.old.tree ctx.new.tree v) }
+    ensures noted { IfOk result (λ used. AreRecorded ctx.old.tree ctx.new.tree used.items) }
+    ensures refused { OnErr result (ctx.new ≡ ctx.old) }
+    ensures memory { IsOkUnless result OptError.Memory }
+{
+    ctx.well_formed();
+    let used = operands_to::<D>(alloc, block, index, edges, ctx)?;
+    lose_operands::<D>(block, index, edges, used.len(), ctx);
+    ctx.well_formed();
+    BasicBlock::remove_argument(ctx, block, index);
+    Ok(used)
+}

@@ -1,0 +1,11 @@
+use Rattle.std.proofs.Common.{◌≡◌}
+use Rattle.pliron_bench.specs.BenchMoves.{bench}
+use Rattle.pliron_core.specs.declared.attrs.IRStatus.TheVariants.{Unchanged}
+use Rattle.pliron_theory.specs.Change.{IsPassChange}
+use Rattle.pliron_docs_tests.proofs.walking.sweep_each.Given as goal
+
+abbrev pub invariant-loop-inner : goal.invariant-loop-inner
+invariant-loop-inner l = record {
+  change : IsPassChange bench l.fn.ctx.tree l.ctx.tree l.op;
+  same : l.changed ≡ Unchanged → l.ctx.tree ≡ l.fn.ctx.tree;
+}

@@ -1,0 +1,14 @@
+//! The code of the pages for users: each block of code of docs/ and of the README is here, or in another crate
+//! of tests, word for word. It has no function of its own.
+#![tactic(auto)]
+
+#[cfg(test)]
+mod graphs;
+#[cfg(test)]
+mod inner;
+#[cfg(test)]
+mod passes;
+#[cfg(test)]
+mod trees;
+#[cfg(test)]
+mod walking;

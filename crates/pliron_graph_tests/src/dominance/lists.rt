@@ -1,0 +1,96 @@
+//! Children and dominators on worked graphs: of each reached node its children in the order in which a search that
+//! takes the first successor first comes to them, then its dominators from it up.
+ghost use Rattle.std.specs.Prelude.{Contains};
+
+use crate::dominance::cases::{graph_of, push, push_label, rows_of};
+use pliron_dominance::DominatorTree;
+use pliron_graph::ReverseGraph;
+use pliron_traversal::{ControlFlowGraph, HasLabel};
+use std::alloc::Global;
+use std::hash::Hash;
+use std::process::Abort;
+
+// The graphs of `worked.rt`.
+static FORWARDS: &str = "1 2;3;3;; => 0: 1 3 2 / 0; 1: / 1 0; 2: / 2 0; 3: / 3 0;
+1;2;1 3;; => 0: 1 / 0; 1: 2 / 1 0; 2: 3 / 2 1 0; 3: / 3 2 1 0;
+1;;1; => 0: 1 / 0; 1: / 1 0;
+0; => 0: / 0;
+ =>
+1 2;3;4;4;3; => 0: 1 3 4 2 / 0; 1: / 1 0; 2: / 2 0; 3: / 3 0; 4: / 4 0;
+1 2;3;4 5;4;3 5;4; => 0: 1 3 4 5 2 / 0; 1: / 1 0; 2: / 2 0; 3: / 3 0; 4: / 4 0; 5: / 5 0;
+1 2 3;4;1 4 5;6 7;12;8;9;9 10;5 11;11;9;0 9;8; => 0: 1 4 8 5 11 9 2 3 / 0; 1: / 1 0; 2: / 2 0; 3: 6 7 / 3 0; \
+4: 12 / 4 0; 5: / 5 0; 6: / 6 3 0; 7: 10 / 7 3 0; 8: / 8 0; 9: / 9 0; 10: / 10 7 3 0; 11: / 11 0; 12: / 12 4 0;";
+
+// The same of reverse graphs, whose entry is a sentinel.
+static BACKWARDS: &str =
+    "1 2;3;3;; => sentinel: 3 / sentinel; 0: / 0 3 sentinel; 1: / 1 3 sentinel; \
+2: / 2 3 sentinel; 3: 1 0 2 / 3 sentinel;
+1;2;1 3;; => sentinel: 3 / sentinel; 0: / 0 1 2 3 sentinel; 1: 0 / 1 2 3 sentinel; 2: 1 / 2 3 sentinel; \
+3: 2 / 3 sentinel;";
+
+fn push_lists<C, N: HasLabel<C> + Eq + Hash + Copy>(
+    rt: &impl Abort,
+    alloc: Global,
+    ctx: &C,
+    tree: &DominatorTree<N>,
+    node: &N,
+    text: &mut String,
+) {
+    if !tree.is_reached(node) {
+        return;
+    }
+    push(rt, text, " ");
+    push_label(rt, alloc, ctx, node, text);
+    push(rt, text, ":");
+    for child in tree.children(node) {
+        push(rt, text, " ");
+        push_label(rt, alloc, ctx, &child, text);
+    }
+    push(rt, text, " /");
+    for above in tree.dominators(node) {
+        push(rt, text, " ");
+        push_label(rt, alloc, ctx, &above, text);
+    }
+    push(rt, text, ";");
+}
+
+fn lists<C, G: ControlFlowGraph<C>>(rt: &impl Abort, alloc: Global, ctx: &C, graph: &G) -> String
+    requires { G.is_lawful graph.now ctx.now }
+{
+    let mut text = String::new(alloc);
+    let tree = DominatorTree::new(alloc, ctx, graph).expect(rt, "memory");
+    let nodes = graph.nodes(alloc, ctx).expect(rt, "memory");
+    for node in &nodes {
+        push_lists(rt, alloc, ctx, &tree, node, &mut text);
+    }
+    text
+}
+
+fn check_forwards(rt: &impl Abort, alloc: Global, case: &str) {
+    let (rows, want) = case.split_once(" =>").expect(rt, "a case");
+    let graph = graph_of(rt, alloc, rows_of(rt, alloc, rows));
+    let text = lists(rt, alloc, &(), &graph);
+    assert_eq!(rt; text.trim(), want.trim(), "{case}");
+}
+
+fn check_backwards(rt: &impl Abort, alloc: Global, case: &str) {
+    let (rows, want) = case.split_once(" =>").expect(rt, "a case");
+    let graph = graph_of(rt, alloc, rows_of(rt, alloc, rows));
+    let reverse = ReverseGraph::new(alloc, &(), &graph).expect(rt, "memory");
+    let text = lists(rt, alloc, &(), &reverse);
+    assert_eq!(rt; text.trim(), want.trim(), "{case}");
+}
+
+#[test]
+fn lists_of_graphs(rt: HostRuntime) {
+    for case in FORWARDS.lines() {
+        check_forwards(&rt, rt.alloc(), case);
+    }
+}
+
+#[test]
+fn lists_of_reverse_graphs(rt: HostRuntime) {
+    for case in BACKWARDS.lines() {
+        check_backwards(&rt, rt.alloc(), case);
+    }
+}

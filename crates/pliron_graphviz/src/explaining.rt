@@ -1,0 +1,236 @@
+//! What passes did to a text.
+ghost use Rattle.std.specs.Prelude.{◌≡◌};
+ghost use Rattle.pliron_core.specs.Tree.{IsLive};
+ghost use Rattle.pliron_core.specs.Writes.{no_tree};
+ghost use Rattle.pliron_laws.specs.Linked.{IsWellLinked};
+ghost use Rattle.pliron_bench.specs.BenchMoves.{bench};
+
+use crate::pass_list::{PassList, PassName};
+use crate::reasons::{Reasons, Rewrite};
+use crate::text_parts::{TextParts, parts_of};
+use crate::tree_state::{TreeState, tree_state};
+use pliron_bench::Bench;
+use pliron_cfg::{fold_branches, merge_inside_op, remove_blocks_inside_op};
+use pliron_core::{Context, IRRewriter, IRStatus, Operation, Ptr};
+use pliron_cse::cse;
+use pliron_dce::dce;
+use pliron_laws::{OptError, is_well_linked};
+use pliron_notation::read_text;
+use pliron_sccp::sccp;
+use pliron_walks::Children;
+use std::alloc::{AllocError, Global};
+
+/// The rewrites of a pass, in turn.
+fn rewrites_of(pass: PassName) -> &'static [Rewrite] {
+    match pass {
+        PassName::Sccp => &[Rewrite::Constants],
+        PassName::Dce => &[Rewrite::DeadCode],
+        PassName::SimplifyCfg => &[Rewrite::Branches, Rewrite::Unreachable, Rewrite::Joining],
+        PassName::Cse => &[Rewrite::Subexpressions],
+    }
+}
+
+/// The name of a pass.
+fn name_of(pass: PassName) -> &'static str {
+    match pass {
+        PassName::Sccp => "sccp",
+        PassName::Dce => "dce",
+        PassName::SimplifyCfg => "simplify-cfg",
+        PassName::Cse => "cse",
+    }
+}
+
+/// Makes one rewrite of a pass, by the call that the pass makes. Errors: those of that call.
+fn make_rewrite(
+    alloc: Global,
+    rewrite: Rewrite,
+    op: Ptr<Operation>,
+    ctx: &mut Context,
+) -> Result<IRStatus, OptError>
+    requires live { IsLive ctx.old.tree op }
+    requires linked { IsWellLinked bench ctx.old.tree op }
+{
+    let mut rewriter = IRRewriter::new();
+    match rewrite {
+        Rewrite::Constants => sccp::<Bench>(alloc, op, ctx),
+        Rewrite::DeadCode => dce::<Bench>(alloc, op, ctx),
+        Rewrite::Branches => fold_branches::<Bench, IRRewriter>(alloc, op, ctx, &mut rewriter),
+        Rewrite::Unreachable => {
+            remove_blocks_inside_op::<Bench, IRRewriter>(alloc, op, ctx, &mut rewriter)
+        }
+        Rewrite::Joining => merge_inside_op::<Bench, IRRewriter>(alloc, op, ctx, &mut rewriter),
+        Rewrite::Subexpressions => cse::<Bench>(alloc, op, ctx),
+    }
+}
+
+/// A text that is explained.
+#[derive(Drop)]
+struct Explaining<'e> {
+    alloc: Global,
+    text: &'e [u8],
+    words: &'e TextParts,
+    /// Whether the list may be run more than once.
+    counts_runs: bool,
+    /// The run of the list, counted from 1.
+    run: usize,
+    lines: String,
+}
+
+impl Explaining<'_> {
+    /// Writes a line for each reason.
+    fn push_reasons(&mut self, pass: PassName, reasons: &Reasons) -> Result<(), AllocError> {
+        for reason in &reasons.reasons {
+            let name = name_of(pass);
+            write!(
+                self.lines,
+                "{}:{} {} ({name}",
+                reason.part.line, reason.part.column, reason.told
+            )?;
+            if self.counts_runs {
+                write!(self.lines, ", run {}", self.run)?;
+            }
+            self.lines.push_str(")\n")?;
+        }
+        Ok(())
+    }
+
+    /// Makes one rewrite of a pass, where the operation stands and is well linked, and tells what changed.
+    fn rewrite(
+        &mut self,
+        pass: PassName,
+        rewrite: Rewrite,
+        op: Ptr<Operation>,
+        ctx: &mut Context,
+    ) -> Result<IRStatus, OptError> {
+        if !op.is_live(ctx) || !is_well_linked::<Bench>(op, ctx) {
+            return Ok(IRStatus::Unchanged);
+        }
+        let before = tree_state(self.alloc, op, ctx)?;
+        let status = make_rewrite(self.alloc, rewrite, op, ctx)?;
+        if status == IRStatus::Changed {
+            self.tell(pass, rewrite, &before, ctx)?;
+        }
+        Ok(status)
+    }
+
+    /// Tells what changed since this stood.
+    fn tell(
+        &mut self,
+        pass: PassName,
+        rewrite: Rewrite,
+        before: &TreeState,
+        ctx: &Context,
+    ) -> Result<(), AllocError> {
+        let mut reasons = Reasons::new(self.alloc, self.text, self.words, rewrite);
+        reasons.compare(ctx, before)?;
+        self.push_reasons(pass, &reasons)
+    }
+
+    /// Runs the passes on an operation, and tells what changed.
+    fn pass_on(
+        &mut self,
+        passes: &[PassName],
+        op: Ptr<Operation>,
+        ctx: &mut Context,
+    ) -> Result<IRStatus, OptError> {
+        let mut status = IRStatus::Unchanged;
+        for pass in passes {
+            for rewrite in rewrites_of(*pass) {
+                status |= self.rewrite(*pass, *rewrite, op, ctx)?;
+            }
+        }
+        Ok(status)
+    }
+
+    /// Runs the list once on these operations, and tells what changed.
+    fn pass_on_all(
+        &mut self,
+        passes: &[PassName],
+        operations: &[Ptr<Operation>],
+        ctx: &mut Context,
+    ) -> Result<IRStatus, OptError> {
+        let mut status = IRStatus::Unchanged;
+        for op in operations {
+            status |= self.pass_on(passes, *op, ctx)?;
+        }
+        Ok(status)
+    }
+
+    /// Runs the list on these operations as often as it says, and tells what changed.
+    fn list(
+        &mut self,
+        list: &PassList,
+        operations: &[Ptr<Operation>],
+        ctx: &mut Context,
+    ) -> Result<(), OptError> {
+        for _ in 0..list.runs {
+            self.run = self.run.saturating_add(1);
+            let status = self.pass_on_all(&list.passes, operations, ctx)?;
+            if status == IRStatus::Unchanged {
+                break;
+            }
+        }
+        Ok(())
+    }
+}
+
+/// The operations that a list is run on: the operation itself, or those directly inside it, which stay where they are.
+fn subjects(
+    alloc: Global,
+    list: &PassList,
+    root: Ptr<Operation>,
+    ctx: &Context,
+) -> Result<Vec<Ptr<Operation>>, AllocError>
+    requires { IsLive ctx.now.tree root }
+{
+    let mut operations = Vec::new(alloc);
+    if list.is_nested {
+        for op in Children::new(root, ctx) {
+            operations.push(op)?;
+        }
+    } else {
+        operations.push(root)?;
+    }
+    Ok(operations)
+}
+
+/// What the list did to the text, in this empty context; `None` of an unreadable text.
+fn explain_in(
+    alloc: Global,
+    text: &[u8],
+    list: &PassList,
+    ctx: &mut Context,
+) -> Result<Option<String>, OptError>
+    requires { ctx.old.tree ≡ no_tree }
+{
+    let Some(root) = read_text(alloc, text, ctx)? else {
+        return Ok(None);
+    };
+    let words = parts_of(alloc, text)?;
+    let operations = subjects(alloc, list, root, ctx)?;
+    let mut explaining = Explaining {
+        alloc,
+        text,
+        words: &words,
+        counts_runs: list.runs > 1,
+        run: 0,
+        lines: String::new(alloc),
+    };
+    explaining.list(list, &operations, ctx)?;
+    Ok(Some(explaining.lines))
+}
+
+/// What changed in a text: for each operation and argument that changed or went when these passes were run, a line with
+/// its place and the reason; `None` of an unreadable text.
+///
+/// Each pass is made of its own calls, what stood before each is compared with what stands after it, and the reason is what
+/// that call does. Errors: allocation failure, and those of the passes. Cost: reading, and for each pass its own cost and a step
+/// for all that stands.
+pub fn explain_changes(
+    alloc: Global,
+    text: &[u8],
+    list: &PassList,
+) -> Result<Option<String>, OptError> {
+    let mut ctx = Context::new(alloc);
+    explain_in(alloc, text, list, &mut ctx)
+}

@@ -1,0 +1,68 @@
+//! The control flow of a text's region.
+ghost use Rattle.std.specs.Prelude.{◌≡◌, IfOk, IsTrue};
+ghost use Rattle.pliron_core.specs.Tree.{IsRegion};
+ghost use Rattle.pliron_core.specs.Writes.{no_tree};
+ghost use Rattle.pliron_traversal.specs.Regions.{IsLawfulRegion};
+ghost use Rattle.pliron_graphviz.specs.Drawn.{IsDrawing};
+
+use crate::flow_picture::{FlowOptions, flow_picture};
+use crate::region_path::region_at;
+use pliron_core::{Context, Ptr, Region};
+use pliron_laws::{OptError, edges_last};
+use pliron_notation::read_text;
+use std::alloc::Global;
+
+/// What came of a text that was to be drawn.
+#[derive(Drop)]
+pub enum Drawing {
+    /// The picture, in the dot language.
+    Drawn(Vec<u8>),
+    /// The text is outside the notation.
+    Unreadable,
+    /// No region has the path.
+    NoRegion,
+}
+
+/// Whether the graph of the region may be read.
+fn may_be_read(ctx: &Context, region: Ptr<Region>) -> bool
+    requires { IsRegion ctx.now.tree region }
+    ensures { IsTrue result → IsLawfulRegion ctx.now.tree region }
+{
+    ctx.well_formed();
+    edges_last(region.get_parent_op(ctx), ctx)
+}
+
+/// The picture of the region that is asked for, in this empty context.
+fn flow_in(
+    alloc: Global,
+    text: &[u8],
+    options: &FlowOptions,
+    ctx: &mut Context,
+) -> Result<Drawing, OptError>
+    requires { ctx.old.tree ≡ no_tree }
+    ensures { IfOk result IsDrawing }
+{
+    let Some(root) = read_text(alloc, text, ctx)? else {
+        return Ok(Drawing::Unreadable);
+    };
+    let Some(region) = region_at(alloc, ctx, root, options.region)? else {
+        return Ok(Drawing::NoRegion);
+    };
+    if !may_be_read(ctx, region) {
+        return Ok(Drawing::NoRegion);
+    }
+    let picture = flow_picture(alloc, text, ctx, region, options)?;
+    Ok(Drawing::Drawn(picture))
+}
+
+/// The picture of a region of a text's operation in the dot language: its blocks with their operations, edges with the
+/// values that they forward, grey where the entry doesn't lead, and where asked for a dotted edge from the immediate
+/// dominator of each block.
+///
+/// Errors: allocation failure. Cost: reading, and that of `graph_rows`.
+pub fn text_flow(alloc: Global, text: &[u8], options: &FlowOptions) -> Result<Drawing, OptError>
+    ensures { IfOk result IsDrawing }
+{
+    let mut ctx = Context::new(alloc);
+    flow_in(alloc, text, options, &mut ctx)
+}

@@ -1,0 +1,433 @@
+//! Why operations and arguments changed or went, by what a rewrite does and what stood before it.
+ghost use Rattle.pliron_core.specs.Tree.{IsBlock, IsDefined, IsLive};
+
+use crate::text_parts::{TextPart, TextParts, push_on_one_line};
+use crate::tree_state::{BlockState, OperationState, TreeState};
+use pliron_bench::BenchKind;
+use pliron_core::{BasicBlock, Context, Def, Operation, Ptr, Value};
+use pliron_notation::printed::number_of;
+use std::alloc::{AllocError, Global};
+use std::collections::HashMap;
+
+/// A rewrite of a tree, as a pass makes it: what it changes is told by what it does.
+#[derive(Clone, Copy, Debug, Drop, PartialEq, Eq)]
+pub enum Rewrite {
+    /// Constants are put for results and arguments.
+    Constants,
+    /// What nothing uses goes.
+    DeadCode,
+    /// Branches whose condition is known become jumps.
+    Branches,
+    /// Blocks that the entry doesn't lead to go.
+    Unreachable,
+    /// Blocks are joined.
+    Joining,
+    /// Operations go that did what one before them did.
+    Subexpressions,
+}
+
+/// What is told of one operation or argument.
+#[derive(Drop)]
+pub struct Reason {
+    /// Where it stands in the text.
+    pub part: TextPart,
+    pub told: String,
+}
+
+/// How many bytes of an operation are told.
+const SHOWN: usize = 60;
+
+/// What is told of a rewrite, so far.
+#[derive(Drop)]
+pub struct Reasons<'t> {
+    alloc: Global,
+    text: &'t [u8],
+    words: &'t TextParts,
+    rewrite: Rewrite,
+    /// The constants that were put for values.
+    constants: HashMap<Value, i128>,
+    /// The values that stand for results of operations that went.
+    replacements: HashMap<Value, Value>,
+    /// By the number of its state, the branch that led to a block and went.
+    branches: HashMap<Ptr<BasicBlock>, usize>,
+    pub reasons: Vec<Reason>,
+}
+
+/// The number that the value is, where a `const` makes it.
+fn number_made(ctx: &Context, value: Value) -> Option<i128>
+    requires { IsDefined ctx.now.tree value }
+{
+    match value.def(ctx) {
+        Def::Result(op, _) if BenchKind::from_number(op.head(ctx).kind) == Some(BenchKind::Const) =>
+            { number_of(op, ctx) }
+        _ => None,
+    }
+}
+
+/// The block that the last operation of a block goes to first.
+fn jump_target(ctx: &Context, block: Ptr<BasicBlock>) -> Option<Ptr<BasicBlock>>
+    requires { IsBlock ctx.now.tree block }
+{
+    let op = block.get_tail(ctx)?;
+    if op.num_successor(ctx) > 0 {
+        Some(op.get_successor(ctx, 0))
+    } else {
+        None
+    }
+}
+
+/// The name that a head of a block begins with.
+fn name_of_head(head: &[u8]) -> &[u8] {
+    let end = head
+        .iter()
+        .position(|byte| !byte.is_ascii_alphanumeric() && *byte != b'_')
+        .unwrap_or(head.len());
+    &head[..end]
+}
+
+/// Parts a phrase from those before it.
+fn part_phrases(why: &mut String) -> Result<(), AllocError> {
+    why.push_str(if why.is_empty() { "" } else { ", " })
+}
+
+impl<'t> Reasons<'t> {
+    /// No reasons so far, of a text of which these are the words. Cost: constant.
+    pub fn new(alloc: Global, text: &'t [u8], words: &'t TextParts, rewrite: Rewrite) -> Self {
+        Reasons {
+            alloc,
+            text,
+            words,
+            rewrite,
+            constants: HashMap::new(alloc),
+            replacements: HashMap::new(alloc),
+            branches: HashMap::new(alloc),
+            reasons: Vec::new(alloc),
+        }
+    }
+
+    /// Adds the name of a block.
+    fn push_block(&self, told: &mut String, block: Ptr<BasicBlock>) -> Result<(), AllocError> {
+        let head = self.words.block(self.text, block.key()).unwrap_or(b"_");
+        push_on_one_line(told, name_of_head(head))
+    }
+
+    /// Adds what a value is called: its name in the text, or the number that it is.
+    fn push_value(&self, ctx: &Context, told: &mut String, value: Value) -> Result<(), AllocError> {
+        if let Some(name) = self.words.value(value.key()) {
+            return push_on_one_line(told, name.part.of(self.text));
+        }
+        match if value.is_live(ctx) {
+            number_made(ctx, value)
+        } else {
+            None
+        } {
+            Some(number) => write!(told, "{number}"),
+            None => told.push_str("a new value"),
+        }
+    }
+
+    /// Adds the reason of an operation of the text.
+    fn add_operation(&mut self, op: Ptr<Operation>, why: String) -> Result<(), AllocError> {
+        let Some(part) = self.words.operation_part(op.key()) else {
+            return Ok(());
+        };
+        let mut line = String::new(self.alloc);
+        push_on_one_line(&mut line, part.of(self.text))?;
+        let mut told = String::new(self.alloc);
+        for letter in line.chars().take(SHOWN) {
+            told.push(letter)?;
+        }
+        told.push_str(if line.len() > SHOWN { " ..: " } else { ": " })?;
+        told.push_str(why.as_str())?;
+        self.reasons.push(Reason { part, told })?;
+        Ok(())
+    }
+
+    /// Adds the reason of an argument of the text.
+    fn add_argument(
+        &mut self,
+        block: Ptr<BasicBlock>,
+        argument: Value,
+        why: &str,
+    ) -> Result<(), AllocError> {
+        let Some(name) = self.words.value(argument.key()) else {
+            return Ok(());
+        };
+        let mut told = format!(in self.alloc; "argument ")?;
+        push_on_one_line(&mut told, name.part.of(self.text))?;
+        told.push_str(" of ")?;
+        self.push_block(&mut told, block)?;
+        told.push_str(": ")?;
+        told.push_str(why)?;
+        self.reasons.push(Reason {
+            part: name.part,
+            told,
+        })?;
+        Ok(())
+    }
+}
+
+impl Reasons<'_> {
+    /// Notes the constants that operands of the operation name now.
+    fn note_constants(&mut self, ctx: &Context, state: &OperationState) -> Result<(), AllocError>
+        requires { IsLive ctx.now.tree state.now.op }
+    {
+        let count = state.op.num_operand(ctx).min(state.operands.len());
+        for i in 0..count {
+            let (old, new) = (state.operands[i], state.op.get_operand(ctx, i));
+            if old != new
+                && let Some(number) = number_made(ctx, new)
+            {
+                self.constants.insert(old, number)?;
+            }
+        }
+        Ok(())
+    }
+
+    /// Notes the values that operands of the operation name now in place of others.
+    fn note_replacements(&mut self, ctx: &Context, state: &OperationState) -> Result<(), AllocError>
+        requires { IsLive ctx.now.tree state.now.op }
+    {
+        let count = state.op.num_operand(ctx).min(state.operands.len());
+        for i in 0..count {
+            let (old, new) = (state.operands[i], state.op.get_operand(ctx, i));
+            if old != new {
+                self.replacements.insert(old, new)?;
+            }
+        }
+        Ok(())
+    }
+
+    /// Notes what the reasons of others need.
+    fn note(&mut self, ctx: &Context, before: &TreeState) -> Result<(), AllocError> {
+        for i in 0..before.operations.len() {
+            let state = &before.operations[i];
+            match (self.rewrite, state.op.is_live(ctx), state.successor) {
+                (Rewrite::Constants, true, _) => self.note_constants(ctx, state)?,
+                (Rewrite::Subexpressions, true, _) => self.note_replacements(ctx, state)?,
+                (Rewrite::Joining, false, Some(target)) => {
+                    self.branches.insert(target, i)?;
+                }
+                _ => {}
+            }
+        }
+        Ok(())
+    }
+
+    /// Adds what computed before what an operation computed that went.
+    fn push_leader(
+        &self,
+        ctx: &Context,
+        state: &OperationState,
+        why: &mut String,
+    ) -> Result<(), AllocError> {
+        why.push_str("computed already")?;
+        for value in &state.results {
+            if let Some(leader) = self.replacements.get(value) {
+                let leader = *leader;
+                why.push_str(", as ")?;
+                return self.push_value(ctx, why, leader);
+            }
+        }
+        Ok(())
+    }
+
+    /// Why an operation went.
+    fn why_gone(&self, ctx: &Context, state: &OperationState) -> Result<String, AllocError> {
+        let mut why = String::new(self.alloc);
+        match (self.rewrite, state.holder, state.block, state.successor) {
+            (Rewrite::DeadCode, Some(holder), _, _) if !holder.is_live(ctx) => {
+                why.push_str("inside an operation that went")?;
+            }
+            (Rewrite::DeadCode, _, _, _) => why.push_str("unused")?,
+            (Rewrite::Subexpressions, _, _, _) => self.push_leader(ctx, state, &mut why)?,
+            (Rewrite::Unreachable, _, _, _) => why.push_str("unreachable")?,
+            (Rewrite::Branches, _, Some(block), _) if block.is_live(ctx) => {
+                if let Some(target) = jump_target(ctx, block) {
+                    why.push_str("always goes to ")?;
+                    self.push_block(&mut why, target)?;
+                }
+            }
+            (Rewrite::Joining, _, _, Some(target)) => {
+                self.push_block(&mut why, target)?;
+                why.push_str(" was merged into its block")?;
+            }
+            _ => {}
+        }
+        Ok(why)
+    }
+
+    /// Adds which values the operation takes for others, of as many operands.
+    fn push_taken(
+        &self,
+        ctx: &Context,
+        state: &OperationState,
+        why: &mut String,
+    ) -> Result<(), AllocError>
+        requires { IsLive ctx.now.tree state.now.op }
+    {
+        let count = state.op.num_operand(ctx).min(state.operands.len());
+        for i in 0..count {
+            let (old, new) = (state.operands[i], state.op.get_operand(ctx, i));
+            if old != new && (i == 0 || state.operands[i - 1] != old) {
+                part_phrases(why)?;
+                why.push_str("takes ")?;
+                self.push_value(ctx, why, new)?;
+                why.push_str(" for ")?;
+                self.push_value(ctx, why, old)?;
+            }
+        }
+        Ok(())
+    }
+
+    /// Adds which values the operation lost, which kept the others in order.
+    fn push_lost(
+        &self,
+        ctx: &Context,
+        state: &OperationState,
+        why: &mut String,
+    ) -> Result<(), AllocError>
+        requires { IsLive ctx.now.tree state.now.op }
+    {
+        let mut kept = 0;
+        for old in &state.operands {
+            if kept < state.op.num_operand(ctx) && state.op.get_operand(ctx, kept) == *old {
+                kept += 1;
+            } else {
+                part_phrases(why)?;
+                why.push_str("passes ")?;
+                self.push_value(ctx, why, *old)?;
+                why.push_str(" no more")?;
+            }
+        }
+        Ok(())
+    }
+
+    /// How an operation changed that stands; empty where it didn't.
+    fn why_changed(&self, ctx: &Context, state: &OperationState) -> Result<String, AllocError>
+        requires { IsLive ctx.now.tree state.now.op }
+    {
+        let mut why = String::new(self.alloc);
+        let block = state.op.get_parent_block(ctx);
+        if block != state.block
+            && let Some(block) = block
+        {
+            why.push_str("merged into ")?;
+            self.push_block(&mut why, block)?;
+        }
+        for value in &state.results {
+            if let Some(number) = self.constants.get(value) {
+                let number = *number;
+                part_phrases(&mut why)?;
+                write!(why, "folded to {number} by its operands")?;
+            }
+        }
+        if state.op.num_operand(ctx) < state.operands.len() {
+            self.push_lost(ctx, state, &mut why)?;
+        } else {
+            self.push_taken(ctx, state, &mut why)?;
+        }
+        Ok(why)
+    }
+
+    /// Adds the reason of an operation that changed or went.
+    fn compare_operation(
+        &mut self,
+        ctx: &Context,
+        state: &OperationState,
+    ) -> Result<(), AllocError> {
+        let why = if state.op.is_live(ctx) {
+            self.why_changed(ctx, state)?
+        } else {
+            self.why_gone(ctx, state)?
+        };
+        if why.is_empty() {
+            return Ok(());
+        }
+        self.add_operation(state.op, why)
+    }
+
+    /// What the argument at this index of a block is that was joined to another.
+    fn why_joined(
+        &self,
+        ctx: &Context,
+        before: &TreeState,
+        state: &BlockState,
+        index: usize,
+    ) -> Result<String, AllocError> {
+        let mut why = format!(in self.alloc; "merged")?;
+        let Some(number) = self.branches.get(&state.block) else {
+            return Ok(why);
+        };
+        let Some(branch) = before.operations.get(*number) else {
+            return Ok(why);
+        };
+        if branch.operands.len() == state.arguments.len()
+            && let Some(value) = branch.operands.get(index)
+        {
+            why.push_str(", it is ")?;
+            self.push_value(ctx, &mut why, *value)?;
+        }
+        Ok(why)
+    }
+
+    /// Why the argument at this index changed or went; empty where it didn't.
+    fn why_argument(
+        &self,
+        ctx: &Context,
+        before: &TreeState,
+        state: &BlockState,
+        index: usize,
+        argument: Value,
+    ) -> Result<String, AllocError> {
+        let mut why = String::new(self.alloc);
+        match (self.rewrite, argument.is_live(ctx)) {
+            (Rewrite::Constants, true) => {
+                if let Some(number) = self.constants.get(&argument) {
+                    let number = *number;
+                    write!(why, "always {number}")?;
+                }
+            }
+            (Rewrite::DeadCode, false) => why.push_str(if state.holder.is_live(ctx) {
+                "unused"
+            } else {
+                "inside an operation that went"
+            })?,
+            (Rewrite::Unreachable, false) => why.push_str("unreachable")?,
+            (Rewrite::Joining, false) => return self.why_joined(ctx, before, state, index),
+            _ => {}
+        }
+        Ok(why)
+    }
+
+    /// Adds the reasons of the arguments that changed or went.
+    fn compare_arguments(
+        &mut self,
+        ctx: &Context,
+        before: &TreeState,
+        state: &BlockState,
+    ) -> Result<(), AllocError> {
+        for index in 0..state.arguments.len() {
+            let argument = state.arguments[index];
+            let why = self.why_argument(ctx, before, state, index, argument)?;
+            if !why.is_empty() {
+                self.add_argument(state.block, argument, why.as_str())?;
+            }
+        }
+        Ok(())
+    }
+
+    /// Adds the reasons of all that changed or went since this stood, in the order of the text. Errors: allocation
+    /// failure. Cost: linear in all that stood, but for sorting what changed.
+    pub fn compare(&mut self, ctx: &Context, before: &TreeState) -> Result<(), AllocError> {
+        self.note(ctx, before)?;
+        for state in &before.operations {
+            self.compare_operation(ctx, state)?;
+        }
+        for state in &before.blocks {
+            self.compare_arguments(ctx, before, state)?;
+        }
+        self.reasons.sort_by_key(|reason| reason.part.start)?;
+        Ok(())
+    }
+}

@@ -1,0 +1,22 @@
+//! Public calls that take a tree, on trees outside every premise but that they are well linked: uses before
+//! definitions, of itself and across regions, edges that forward too few values or too many, regions without
+//! blocks, roots inside roots. Each call answers, and what can be asked of its answer without knowing it is
+//! asked. It has no function of its own.
+#![tactic(auto)]
+
+#[cfg(test)]
+mod around;
+#[cfg(test)]
+mod graphs;
+#[cfg(test)]
+mod left;
+#[cfg(test)]
+mod parts;
+#[cfg(test)]
+mod reading;
+#[cfg(test)]
+mod texts;
+#[cfg(test)]
+mod trees;
+#[cfg(test)]
+mod wholes;

@@ -1,0 +1,255 @@
+//! Calls that may change what is inside a region or a block, on each region and each block.
+ghost use Rattle.pliron_bench.specs.BenchMoves.{bench};
+ghost use Rattle.pliron_core.specs.Tree.{IsLive};
+ghost use Rattle.pliron_laws.specs.Linked.{IsWellLinked};
+
+use super::left::{answer_if_any, check_left, whole_line};
+use super::texts::{BLOCKS, HOLDERS, MOST, TEXTS};
+use super::trees::{blocks_of, holders_of};
+use pliron_bench::Bench;
+use pliron_cfg::{
+    merge_inside_block, merge_inside_region, remove_blocks_inside_block,
+    remove_blocks_inside_region,
+};
+use pliron_core::{BasicBlock, Context, IRStatus, Operation, Ptr};
+use pliron_laws::{OptError, is_well_linked};
+use pliron_test_cases::cases::read;
+use pliron_test_cases::listener::Counting;
+use std::alloc::Global;
+use std::process::Abort;
+
+/// What is done to the region or the block.
+#[derive(Clone, Copy, Debug, PartialEq, Eq)]
+enum Call {
+    Remove,
+    Merge,
+}
+
+static CALLS: [Call; 2] = [Call::Remove, Call::Merge];
+
+/// What the call answers for the region of the parent operation.
+fn in_region(
+    rt: &impl Abort,
+    alloc: Global,
+    holder: Ptr<Operation>,
+    ctx: &mut Context,
+    call: Call,
+    rewriter: &mut Counting,
+) -> Result<IRStatus, OptError>
+    requires live { IsLive ctx.old.tree holder }
+    requires linked { IsWellLinked bench ctx.old.tree holder }
+{
+    ctx.well_formed();
+    assert!(rt; holder.num_region(ctx) == 1);
+    let region = holder.get_region(ctx, 0);
+    assert!(rt; region.get_parent_op(ctx) == holder);
+    match call {
+        Call::Remove => {
+            remove_blocks_inside_region::<Bench, Counting>(alloc, region, ctx, rewriter)
+        }
+        Call::Merge => merge_inside_region::<Bench, Counting>(alloc, region, ctx, rewriter),
+    }
+}
+
+/// What the call answers for the block, which is directly in the parent operation.
+fn in_block(
+    rt: &impl Abort,
+    alloc: Global,
+    holder: Ptr<Operation>,
+    block: Ptr<BasicBlock>,
+    ctx: &mut Context,
+    call: Call,
+    rewriter: &mut Counting,
+) -> Result<IRStatus, OptError>
+    requires live { IsLive ctx.old.tree holder }
+    requires linked { IsWellLinked bench ctx.old.tree holder }
+{
+    ctx.well_formed();
+    assert!(rt; holder.num_region(ctx) == 1);
+    assert!(rt; block.is_live(ctx));
+    let region = holder.get_region(ctx, 0);
+    assert!(rt; block.get_parent_region(ctx) == Some(region));
+    assert!(rt; region.get_parent_op(ctx) == holder);
+    match call {
+        Call::Remove => remove_blocks_inside_block::<Bench, Counting>(alloc, block, ctx, rewriter),
+        Call::Merge => merge_inside_block::<Bench, Counting>(alloc, block, ctx, rewriter),
+    }
+}
+
+/// What the call answers for the block, or for the region where there is none; each change had room.
+fn answer(
+    rt: &impl Abort,
+    alloc: Global,
+    holder: Ptr<Operation>,
+    block: Option<Ptr<BasicBlock>>,
+    ctx: &mut Context,
+    call: Call,
+) -> Option<IRStatus> {
+    assert!(rt; holder.is_live(ctx));
+    assert!(rt; is_well_linked::<Bench>(holder, ctx));
+    let mut rewriter = Counting::new();
+    let told = match block {
+        None => in_region(rt, alloc, holder, ctx, call, &mut rewriter),
+        Some(block) => in_block(rt, alloc, holder, block, ctx, call, &mut rewriter),
+    };
+    assert!(rt; rewriter.had_room());
+    answer_if_any(rt, told)
+}
+
+/// Calls it once, tests its answer and the whole, and says whether it answered.
+fn check_once(
+    rt: &impl Abort,
+    alloc: Global,
+    whole: Ptr<Operation>,
+    holder: Ptr<Operation>,
+    block: Option<Ptr<BasicBlock>>,
+    ctx: &mut Context,
+    call: Call,
+) -> bool {
+    let before = whole_line(rt, alloc, whole, ctx);
+    let told = answer(rt, alloc, holder, block, ctx, call);
+    check_left(rt, alloc, whole, ctx, &before, told);
+    told.is_some()
+}
+
+/// A further call finds nothing more to do.
+fn check_settled(
+    rt: &impl Abort,
+    alloc: Global,
+    holder: Ptr<Operation>,
+    block: Option<Ptr<BasicBlock>>,
+    ctx: &mut Context,
+    call: Call,
+) {
+    let again = answer(rt, alloc, holder, block, ctx, call);
+    assert!(rt; again == Some(IRStatus::Unchanged));
+}
+
+/// Calls it twice on the region of the parent operation.
+fn check_region_twice(
+    rt: &impl Abort,
+    alloc: Global,
+    whole: Ptr<Operation>,
+    holder: Ptr<Operation>,
+    ctx: &mut Context,
+    call: Call,
+) {
+    if check_once(rt, alloc, whole, holder, None, ctx, call) {
+        check_settled(rt, alloc, holder, None, ctx, call);
+    }
+}
+
+/// Calls it twice on the block.
+fn check_block_twice(
+    rt: &impl Abort,
+    alloc: Global,
+    whole: Ptr<Operation>,
+    holder: Ptr<Operation>,
+    block: Ptr<BasicBlock>,
+    ctx: &mut Context,
+    call: Call,
+) {
+    if check_once(rt, alloc, whole, holder, Some(block), ctx, call) {
+        check_settled(rt, alloc, holder, Some(block), ctx, call);
+    }
+}
+
+fn check_region(
+    rt: &impl Abort,
+    alloc: Global,
+    ctx: &mut Context,
+    text: &str,
+    index: usize,
+    call: Call,
+) -> bool {
+    let whole = read(alloc, ctx, text).expect(rt, "a readable text");
+    let Some(holder) = holders_of(rt, alloc, whole, ctx).get(index).copied() else {
+        return false;
+    };
+    check_region_twice(rt, alloc, whole, holder, ctx, call);
+    true
+}
+
+/// The blocks of the whole, each with the operation that it is directly in.
+fn all_blocks(
+    rt: &impl Abort,
+    alloc: Global,
+    whole: Ptr<Operation>,
+    ctx: &Context,
+) -> Vec<(Ptr<Operation>, Ptr<BasicBlock>)> {
+    let mut all = Vec::new(alloc);
+    for holder in &holders_of(rt, alloc, whole, ctx) {
+        for block in &blocks_of(rt, alloc, *holder, ctx) {
+            all.push((*holder, *block)).expect(rt, "memory");
+        }
+    }
+    all
+}
+
+fn check_block(
+    rt: &impl Abort,
+    alloc: Global,
+    ctx: &mut Context,
+    text: &str,
+    index: usize,
+    call: Call,
+) -> bool {
+    let whole = read(alloc, ctx, text).expect(rt, "a readable text");
+    let Some((holder, block)) = all_blocks(rt, alloc, whole, ctx).get(index).copied() else {
+        return false;
+    };
+    check_block_twice(rt, alloc, whole, holder, block, ctx, call);
+    true
+}
+
+/// Calls it on the region with this index, if there is one.
+fn check_one_region(rt: &impl Abort, alloc: Global, text: &str, index: usize, call: Call) -> bool {
+    let mut ctx = Context::new(alloc);
+    check_region(rt, alloc, &mut ctx, text, index, call)
+}
+
+/// Calls it on the block with this index, if there is one.
+fn check_one_block(rt: &impl Abort, alloc: Global, text: &str, index: usize, call: Call) -> bool {
+    let mut ctx = Context::new(alloc);
+    check_block(rt, alloc, &mut ctx, text, index, call)
+}
+
+fn check_all_regions(rt: &impl Abort, alloc: Global, text: &str, call: Call) -> usize {
+    for index in 0..MOST {
+        if !check_one_region(rt, alloc, text, index, call) {
+            return index;
+        }
+    }
+    MOST
+}
+
+fn check_all_blocks(rt: &impl Abort, alloc: Global, text: &str, call: Call) -> usize {
+    for index in 0..MOST {
+        if !check_one_block(rt, alloc, text, index, call) {
+            return index;
+        }
+    }
+    MOST
+}
+
+#[test]
+fn each_call_on_a_region_answers(rt: HostRuntime) {
+    for call in &CALLS {
+        let mut count = 0usize;
+        for text in TEXTS.lines() {
+            count = count.saturating_add(check_all_regions(&rt, rt.alloc(), text, *call));
+        }
+        assert_eq!(&rt; count, HOLDERS);
+    }
+}
+
+#[test]
+fn each_call_on_a_block_answers(rt: HostRuntime) {
+    for call in &CALLS {
+        let mut count = 0usize;
+        for text in TEXTS.lines() {
+            count = count.saturating_add(check_all_blocks(&rt, rt.alloc(), text, *call));
+        }
+        assert_eq!(&rt; count, BLOCKS);
+    }
+}

@@ -1,0 +1,30 @@
+//! Who is told of runs of passes as they end.
+//!
+//! The library knows no stream, and a run can't be inspected while it lasts; so a clock is told of each run of
+//! a pass as it ends.
+use std::io;
+use std::time::{Clock, Duration};
+
+/// A clock that is told of each run of a pass as it ends. One may show users that something goes on.
+pub trait Progress: Clock {
+    /// A run of the pass of this name ended, before which so many runs of passes began.
+    fn pass_ended(&self, number: usize, name: &str);
+}
+
+/// A clock that always tells the same time and tells nobody what ended, for passes whose time nobody asks for.
+#[derive(Clone, Copy, Debug, Drop)]
+pub struct Timeless;
+
+impl Clock for Timeless {
+    fn monotonic(&self) -> io::Result<Duration> {
+        Ok(Duration::ZERO)
+    }
+
+    fn since_1970(&self) -> io::Result<Duration> {
+        Ok(Duration::ZERO)
+    }
+}
+
+impl Progress for Timeless {
+    fn pass_ended(&self, _: usize, _: &str) {}
+}

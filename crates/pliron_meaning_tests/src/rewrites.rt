@@ -1,0 +1,155 @@
+//! Whole rewrites at the tiny dialect, which leave every run as it was.
+ghost use Rattle.std.specs.Prelude.{◌≡◌, Some, IsTrue};
+ghost use Rattle.pliron_core.specs.declared.attrs.AttrObj.TheVariants.{Int};
+ghost use Rattle.pliron_core.specs.Tree.{IsLive, head_of};
+ghost use Rattle.pliron_evaluator.specs.Tiny.{kind_of, first_attribute};
+ghost use Rattle.pliron_evaluator.specs.declared.tiny.TinyKind.TheVariants.{Const};
+ghost use Rattle.pliron_laws.specs.Datum.{Head};
+
+use crate::tiny::{number_asked, number_of};
+use pliron_core::{AttrObj, BasicBlock, Context, IRStatus, Operation, Ptr};
+use pliron_meaning::evaluator::{Datum, Sight, evaluate};
+use pliron_meaning::rewrites::{
+    erase_unused, replace_argument_by_constant, replace_result_by_constant,
+};
+use pliron_meaning::{Dialect, Tiny, TinyKind};
+use pliron_test_cases::listener::Counting;
+use pliron_test_cases::trees::{Made, make};
+use std::alloc::Global;
+use std::process::Abort;
+
+/// A constant that is asked, a question and a constant without uses, in a block with an argument.
+static STEPS: &str = "scope; block 0 1; const 0 @0; ask @0 v1; const 0 @0";
+
+/// What is seen of the run of the root on one input, in a world that answers once.
+fn sight_of_root(rt: &impl Abort, alloc: Global, ctx: &Context, root: Ptr<Operation>) -> Sight {
+    let inputs = Vec::from_array(alloc, [Datum::Number(3)]).expect(rt, "memory");
+    let world = Vec::from_array(alloc, [Datum::Number(8)]).expect(rt, "memory");
+    evaluate::<Tiny>(alloc, ctx, root, inputs, world, 100).expect(rt, "memory")
+}
+
+/// Whether the operation is a constant of this number.
+fn makes(ctx: &Context, op: Ptr<Operation>, number: i128) -> bool
+    requires { IsLive ctx.now.tree op }
+    ensures { (h : Head) → head_of ctx.now.tree op ≡ Some h → IsTrue result → (kind_of h.kind ≡ Some Const) × (first_attribute h.attrs ≡ Int number) }
+{
+    let head = op.head(ctx);
+    matches!(TinyKind::of(head.kind), Some(TinyKind::Const))
+        && !head.attrs.is_empty()
+        && head.attrs.get(0) == &AttrObj::Int(number)
+}
+
+fn erase<D: Dialect>(
+    rt: &impl Abort,
+    alloc: Global,
+    ctx: &mut Context,
+    op: Ptr<Operation>,
+) -> IRStatus {
+    assert!(rt; op.is_live(ctx));
+    assert!(rt; op.is_self_contained(ctx));
+    let mut rewriter = Counting::new();
+    let status = erase_unused::<D, Counting>(alloc, op, ctx, &mut rewriter).expect(rt, "memory");
+    assert!(rt; rewriter.had_room());
+    status
+}
+
+/// Replaces the result of a constant of this number by another one of the same number.
+fn replace_result(
+    rt: &impl Abort,
+    alloc: Global,
+    ctx: &mut Context,
+    op: Ptr<Operation>,
+    number: i128,
+) -> IRStatus {
+    assert!(rt; op.is_live(ctx));
+    assert!(rt; op.get_parent_block(ctx).is_some());
+    assert!(rt; makes(ctx, op, number));
+    assert_eq!(rt; op.num_result(ctx), 1);
+    assert_eq!(rt; op.num_operand(ctx), 0);
+    assert_eq!(rt; op.num_region(ctx), 0);
+    ctx.well_formed();
+    let attr = AttrObj::Int(number);
+    let mut rewriter = Counting::new();
+    let status = replace_result_by_constant::<Tiny, Counting>(
+        alloc,
+        op,
+        0,
+        &attr,
+        ctx,
+        &mut rewriter,
+    ).expect(rt, "memory");
+    assert!(rt; rewriter.had_room());
+    status
+}
+
+/// Replaces the argument of the block, which has no uses, by a constant.
+fn replace_argument<D: Dialect>(
+    rt: &impl Abort,
+    alloc: Global,
+    ctx: &mut Context,
+    body: Ptr<BasicBlock>,
+    number: i128,
+) -> IRStatus {
+    assert!(rt; body.is_live(ctx));
+    assert_eq!(rt; body.num_argument(ctx), 1);
+    assert_eq!(rt; body.get_argument(ctx, 0).num_use(ctx), 0);
+    ctx.well_formed();
+    let attr = AttrObj::Int(number);
+    let mut rewriter = Counting::new();
+    let status = replace_argument_by_constant::<D, Counting>(
+        alloc,
+        body,
+        0,
+        &attr,
+        ctx,
+        &mut rewriter,
+    ).expect(rt, "memory");
+    assert!(rt; rewriter.had_room());
+    status
+}
+
+/// A constant without uses goes, and a question stays; the question asks the new constant; and the
+/// constant for the argument stands first in the block, though the argument has no uses.
+fn rewrites_in(rt: &impl Abort, alloc: Global, ctx: &mut Context) {
+    let mut made = Made::new(alloc);
+    make(alloc, ctx, &mut made, STEPS).expect(rt, "a tree");
+    let (root, body) = (
+        made.operation("0").expect(rt, "an operation"),
+        made.block("0").expect(rt, "a block"),
+    );
+    let (asked, question) = (
+        made.operation("1").expect(rt, "an operation"),
+        made.operation("2").expect(rt, "an operation"),
+    );
+    let unused = made.operation("3").expect(rt, "an operation");
+    let before = sight_of_root(rt, alloc, ctx, root);
+
+    assert_eq!(rt; erase::<Tiny>(rt, alloc, ctx, unused), IRStatus::Changed);
+    assert!(rt; !unused.is_live(ctx));
+    assert_eq!(rt;
+        erase::<Tiny>(rt, alloc, ctx, question),
+        IRStatus::Unchanged
+    );
+    assert!(rt; question.is_live(ctx));
+    assert_eq!(rt; sight_of_root(rt, alloc, ctx, root), before);
+
+    assert_eq!(rt; replace_result(rt, alloc, ctx, asked, 0), IRStatus::Changed);
+    assert_eq!(rt; number_asked(rt, ctx, asked, question), Some(0));
+    assert_eq!(rt; sight_of_root(rt, alloc, ctx, root), before);
+
+    assert_eq!(rt;
+        replace_argument::<Tiny>(rt, alloc, ctx, body, 3),
+        IRStatus::Changed
+    );
+    assert!(rt; body.is_live(ctx));
+    let first = body.get_head(ctx).expect(rt, "a constant");
+    assert_eq!(rt; number_of(rt, ctx, first), Some(3));
+    assert_eq!(rt; sight_of_root(rt, alloc, ctx, root), before);
+}
+
+#[test]
+fn rewrites_keep_the_run(rt: HostRuntime) {
+    let alloc = rt.alloc();
+    let mut ctx = Context::new(alloc);
+    rewrites_in(&rt, alloc, &mut ctx)
+}

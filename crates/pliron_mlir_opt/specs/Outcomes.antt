@@ -1,0 +1,32 @@
+-- How a run of the program ends.
+use Rattle.std.specs.Prelude.{◌≡◌, ◌≤◌, ◌⊎◌, ℕ, Bool, List, [], ◌++◌, Option}
+use Rattle.pliron_core.specs.Tree.{Tree}
+use Rattle.pliron_core.specs.declared.attrs.IRStatus.{IRStatus}
+use Rattle.pliron_laws.specs.Datum.{Meaning}
+use Rattle.pliron_opts.specs.Answered.{Reads, Prints, IsOptimised, status_line}
+use Rattle.pliron_instrument.specs.Schedules.{ScheduleOf, IsPlanned}
+use Rattle.pliron_mlir_opt.specs.declared.outcome.Outcome.{Outcome}
+
+-- nothing is to be written, and the status isn't 0
+abbrev pub EndsWithout : Outcome → Type 0
+EndsWithout o = (o.output.items ≡ []) × (1 ≤ o.status)
+
+-- this is written, with 0, or nothing
+abbrev pub Writes : (printed : List ℕ) → Outcome → Type 0
+Writes printed o = ((o.output.items ≡ printed) × (o.status ≡ 0)) ⊎ EndsWithout o
+
+module _ (reads : Reads) (prints : Prints) (m : Meaning) (ran : ℕ → Tree → Tree → IRStatus → Type 0) (text : List ℕ) where
+  -- what is written is the tree, printed, that the passes made of the one that was read of the text
+  pub record IsMade (output : List ℕ) : Type 0 where
+    pub status : IRStatus
+    pub made : IsOptimised reads prints m ran text (output ++ status_line status)
+
+  -- with 0 that is written, else nothing
+  pub data EndsOptimised (o : Outcome) : Type 0 where
+    WithModule : IsMade o.output.items → o.status ≡ 0 → EndsOptimised o
+    WithoutModule : EndsWithout o → EndsOptimised o
+
+-- it ends so by passes that have these names and are run so, or nothing is to be written
+pub data EndsByPlan {P D E B K : Type 0} (name : P → List ℕ) (EndsSo : ScheduleOf P D E B K → Outcome → Type 0) (runs : Option ℕ) (nested : Bool) (names : List (List ℕ)) (o : Outcome) : Type 0 where
+  ByPasses : (schedule : ScheduleOf P D E B K) → IsPlanned name runs nested names schedule → EndsSo schedule o → EndsByPlan name EndsSo runs nested names o
+  WithoutPasses : EndsWithout o → EndsByPlan name EndsSo runs nested names o

@@ -1,0 +1,19 @@
+//! Modules of MLIR through passes: what the program `plir_mlir` does with texts.
+//!
+//! It knows texts, passes and what is told of them; of words, files and streams it knows nothing.
+#![tactic(auto)]
+
+mod failure;
+mod fitness;
+mod notation;
+mod optimise_module;
+mod outcome;
+mod report;
+mod tally;
+
+pub use failure::ModuleFailure;
+pub use fitness::{Fitness, Unfit};
+pub use notation::GenericForm;
+pub use optimise_module::{Counts, ModuleOptions, Optimised, optimise};
+pub use outcome::{Outcome, Source, misspelling_outcome, run_passes};
+pub use tally::Tally;

@@ -1,0 +1,227 @@
+//! What passes make of a module.
+ghost use Rattle.std.specs.Prelude.{◌≡◌, ◌++◌, IfOk};
+ghost use Rattle.pliron_core.specs.Tree.{IsLive};
+ghost use Rattle.pliron_core.specs.Writes.{no_tree};
+ghost use Rattle.pliron_laws.specs.Linked.{IsWellLinked};
+ghost use Rattle.pliron_opts.specs.Answered.{IsOptimised, status_line};
+ghost use Rattle.pliron_opts.specs.Ran.{RunsAlone};
+ghost use Rattle.pliron_opts.specs.Read.{ReadsKinds, PrintsKinds};
+
+use crate::failure::ModuleFailure;
+use crate::fitness::{Fitness, fitness_of};
+use crate::notation::GenericForm;
+use crate::tally::Tally;
+use pliron_core::{Context, IRStatus};
+use pliron_instrument::{InstrumentedSchedule, Progress, run_instrumented};
+use pliron_laws::{Dialect, OptError};
+use pliron_mlir_text::{Fault, Module, ModuleView, is_same_module, print_module, read_module};
+use pliron_pass::{BenchFactKind, Pass};
+use std::alloc::{AllocError, Global};
+
+/// What passes made of a module: it printed, and whether it changed.
+#[derive(Drop)]
+pub struct Optimised {
+    pub printed: Vec<u8>,
+    pub status: IRStatus,
+    /// Whether what was printed says the same tree when it is read again, where that was asked for.
+    pub agrees: Option<bool>,
+    /// What stood and what stands, where that is asked for.
+    pub counts: Option<Counts>,
+}
+
+/// How much of each class stood before and stands after, and which functions are fit to run.
+#[derive(Drop)]
+pub struct Counts {
+    pub before: Tally,
+    pub after: Tally,
+    pub fitness: Fitness,
+}
+
+/// The options of passes on a module.
+#[derive(Clone, Copy, Debug)]
+pub struct ModuleOptions {
+    /// Whether it is told how much stood before and after each pass, and what it erased.
+    pub counts: bool,
+    /// Whether the operation is verified after each pass.
+    pub verifies: bool,
+    /// Whether the time of each pass is told.
+    pub times: bool,
+    /// Whether what is printed is read again and compared.
+    pub checks: bool,
+}
+
+/// What the passes make of the module that the text says, printed, and whether it changed.
+///
+/// For every dialect that keeps its laws: the tree that is printed is what these passes, run once as a whole, made of
+/// the one that was read, every operation that was fit to run and still stands does as before, and `status` says truly
+/// whether it changed. Errors: the place where the text can't be used, and what was expected; those of the passes;
+/// allocation failure. Cost: reading, the passes, what is counted, and printing.
+pub fn optimise<D: Dialect, C: Progress + Drop>(
+    alloc: Global,
+    schedule: &mut InstrumentedSchedule<GenericForm<D>, C>,
+    text: &[u8],
+    options: &ModuleOptions,
+) -> Result<Optimised, ModuleFailure>
+    ensures { IfOk result (λ made. IsOptimised (ReadsKinds D.meaning) PrintsKinds D.meaning
+        (RunsAlone ⟦<BenchFactKind as PartialEq>⟧.eq ⟦<InstrumentedSchedule<GenericForm<D>, C> as Pass>⟧.outcome schedule.old) text.now
+        (made.printed.items ++ status_line made.status)) }
+{
+    let mut ctx = Context::new(alloc);
+    optimise_in(alloc, schedule, text, options, &mut ctx)
+}
+
+/// The same in this context, which is empty.
+fn optimise_in<D: Dialect, C: Progress + Drop>(
+    alloc: Global,
+    schedule: &mut InstrumentedSchedule<GenericForm<D>, C>,
+    text: &[u8],
+    options: &ModuleOptions,
+    ctx: &mut Context,
+) -> Result<Optimised, ModuleFailure>
+    requires { ctx.old.tree ≡ no_tree }
+    ensures { IfOk result (λ made. IsOptimised (ReadsKinds D.meaning) PrintsKinds D.meaning
+        (RunsAlone ⟦<BenchFactKind as PartialEq>⟧.eq ⟦<InstrumentedSchedule<GenericForm<D>, C> as Pass>⟧.outcome schedule.old) text.now
+        (made.printed.items ++ status_line made.status)) }
+{
+    match read_module::<D>(alloc, text, ctx) {
+        Ok(module) => optimise_module(alloc, schedule, text, &module, options, ctx),
+        Err(fault) => Err(ModuleFailure::from(fault)),
+    }
+}
+
+/// Whether this text says the module as it stands.
+fn reads_as<D: Dialect>(
+    alloc: Global,
+    text: &[u8],
+    loaded: &Module,
+    ctx: &Context,
+) -> Result<bool, AllocError> {
+    let mut again = Context::new(alloc);
+    reads_as_in::<D>(alloc, text, loaded, ctx, &mut again)
+}
+
+/// The same, by reading it into another context.
+fn reads_as_in<D: Dialect>(
+    alloc: Global,
+    text: &[u8],
+    loaded: &Module,
+    ctx: &Context,
+    again: &mut Context,
+) -> Result<bool, AllocError> {
+    let read = read_module::<D>(alloc, text, again);
+    match &read {
+        Ok(second) => is_same_module(alloc, &view_of(loaded, ctx), &view_of(second, again)),
+        Err(Fault::NoMemory) => Err(AllocError),
+        Err(_) => Ok(false),
+    }
+}
+
+fn view_of<'m>(loaded: &'m Module, ctx: &'m Context) -> ModuleView<'m> {
+    ModuleView {
+        root: loaded.root,
+        sheet: &loaded.sheet,
+        ctx,
+    }
+}
+
+/// Whether this text says the module as it stands, where that is asked for.
+fn agreement<D: Dialect>(
+    alloc: Global,
+    text: &[u8],
+    loaded: &Module,
+    options: &ModuleOptions,
+    ctx: &Context,
+) -> Result<Option<bool>, AllocError> {
+    if options.checks {
+        Ok(Some(reads_as::<D>(alloc, text, loaded, ctx)?))
+    } else {
+        Ok(None)
+    }
+}
+
+/// What stood before and what stands, where it is known what stood.
+fn counts_after(before: Option<(Tally, Fitness)>, loaded: &Module, ctx: &Context) -> Option<Counts>
+    requires { IsLive ctx.now.tree loaded.now.root }
+{
+    match before {
+        Some((before, fitness)) => Some(Counts {
+            before,
+            after: Tally::of(loaded.root, ctx),
+            fitness,
+        }),
+        None => None,
+    }
+}
+
+/// What is answered of a module beside its status.
+#[derive(Drop)]
+struct Answer {
+    printed: Vec<u8>,
+    agrees: Option<bool>,
+    counts: Option<Counts>,
+}
+
+/// The module printed, and what is asked for beside it.
+fn answer_of<D: Dialect>(
+    alloc: Global,
+    loaded: &Module,
+    before: Option<(Tally, Fitness)>,
+    options: &ModuleOptions,
+    ctx: &Context,
+) -> Result<Answer, ModuleFailure>
+    requires { IsLive ctx.now.tree loaded.now.root }
+{
+    let printed = print_module(alloc, loaded.root, &loaded.sheet, ctx)?;
+    let agrees = agreement::<D>(alloc, &printed, loaded, options, ctx)?;
+    Ok(Answer {
+        printed,
+        agrees,
+        counts: counts_after(before, loaded, ctx),
+    })
+}
+
+/// How much of each class stands, and which functions are fit to run, where that is asked for.
+fn counts_before<D: Dialect>(
+    alloc: Global,
+    loaded: &Module,
+    options: &ModuleOptions,
+    ctx: &Context,
+) -> Result<Option<(Tally, Fitness)>, OptError>
+    requires { IsLive ctx.now.tree loaded.now.root }
+{
+    if !options.counts {
+        return Ok(None);
+    }
+    let fitness = fitness_of::<D>(alloc, loaded, ctx)?;
+    Ok(Some((Tally::of(loaded.root, ctx), fitness)))
+}
+
+/// The same of a module that was read from the text, of which only the contract speaks.
+fn optimise_module<D: Dialect, C: Progress + Drop>(
+    alloc: Global,
+    schedule: &mut InstrumentedSchedule<GenericForm<D>, C>,
+    text: &[u8],
+    loaded: &Module,
+    options: &ModuleOptions,
+    ctx: &mut Context,
+) -> Result<Optimised, ModuleFailure>
+    requires live { IsLive ctx.old.tree loaded.now.root }
+    requires linked { IsWellLinked D.meaning ctx.old.tree loaded.now.root }
+    ensures { IfOk result (λ made. IsOptimised (ReadsKinds D.meaning) PrintsKinds D.meaning
+        (RunsAlone ⟦<BenchFactKind as PartialEq>⟧.eq ⟦<InstrumentedSchedule<GenericForm<D>, C> as Pass>⟧.outcome schedule.old) text.now
+        (made.printed.items ++ status_line made.status)) }
+{
+    let before = counts_before::<D>(alloc, loaded, options, ctx)?;
+    let status = run_instrumented(alloc, schedule, loaded.root, ctx)?;
+    let Answer {
+        printed,
+        agrees,
+        counts,
+    } = answer_of::<D>(alloc, loaded, before, options, ctx)?;
+    Ok(Optimised {
+        printed,
+        status,
+        agrees,
+        counts,
+    })
+}

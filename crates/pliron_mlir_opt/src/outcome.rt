@@ -1,0 +1,178 @@
+//! How a run of the program ends.
+ghost use Rattle.std.specs.Prelude.{◌≡◌, map, IfOk};
+ghost use Rattle.pliron_opts.specs.Ran.{RunsAlone};
+ghost use Rattle.pliron_opts.specs.Read.{ReadsKinds, PrintsKinds};
+ghost use Rattle.pliron_mlir_opt.specs.Outcomes.{EndsWithout, Writes, EndsOptimised, EndsByPlan};
+
+use crate::failure::ModuleFailure;
+use crate::fitness::write_fitness;
+use crate::notation::GenericForm;
+use crate::optimise_module::{ModuleOptions, Optimised, optimise};
+use crate::report::{has_fault, is_short, report_of};
+use crate::tally::write_tallies;
+use pliron_core::IRStatus;
+use pliron_instrument::{
+    InstrumentationOptions, Instrumented, InstrumentedSchedule, PipelineText, Progress, WordFault,
+    build_schedule, instrumented_passes,
+};
+use pliron_laws::{Dialect, OptError};
+use pliron_pass::{BenchFactKind, Pass};
+use std::alloc::{AllocError, Global};
+
+/// What a run of the program leaves to be written, and its status.
+#[derive(Drop)]
+pub struct Outcome {
+    /// What goes to standard output, or to the file that is named: a module, and nothing else.
+    pub output: Vec<u8>,
+    /// What goes to standard error.
+    pub report: String,
+    pub status: u8,
+}
+
+/// A text, and what users call it.
+#[derive(Clone, Copy)]
+pub struct Source<'s> {
+    pub name: &'s str,
+    pub text: &'s [u8],
+}
+
+// The outcome where the module isn't answered.
+fn failure_outcome(
+    alloc: Global,
+    source: &Source,
+    report: String,
+    failure: ModuleFailure,
+) -> Result<Outcome, AllocError>
+    ensures { IfOk result EndsWithout }
+{
+    let mut report = report;
+    report.push_str(failure.message(alloc, source.name, source.text)?.as_str())?;
+    Ok(Outcome {
+        output: Vec::new(alloc),
+        report,
+        status: failure.status(),
+    })
+}
+
+// Writes what is told of a module that passes made: counts, whether it changed, and whether what is printed says it.
+fn write_made(report: &mut String, source: &Source, made: &Optimised) -> Result<(), AllocError> {
+    if let Some(counts) = &made.counts {
+        write_tallies(report, &counts.before, &counts.after)?;
+        write_fitness(report, &counts.fitness, source.name, source.text)?;
+    }
+    report.push_str(match made.status {
+        IRStatus::Changed => "changed\n",
+        IRStatus::Unchanged => "unchanged\n",
+    })?;
+    match made.agrees {
+        Some(true) => report.push_str("checked: what is printed says the same tree\n"),
+        Some(false) => report.push_str("error: what is printed says another tree\n"),
+        None => Ok(()),
+    }
+}
+
+// The outcome of passes that came to an end: the module printed, or nothing where a fault was found.
+fn success_outcome(
+    alloc: Global,
+    source: &Source,
+    report: String,
+    made: Optimised,
+    has_fault: bool,
+) -> Result<Outcome, AllocError>
+    ensures { IfOk result (Writes made.printed.items) }
+{
+    let mut report = report;
+    write_made(&mut report, source, &made)?;
+    if has_fault || made.agrees == Some(false) {
+        return Ok(Outcome {
+            output: Vec::new(alloc),
+            report,
+            status: 3,
+        });
+    }
+    Ok(Outcome {
+        output: made.printed,
+        report,
+        status: 0,
+    })
+}
+
+// Runs these passes on the module that the text says.
+#[tactic(auto, using(crate::proofs::OutcomeLemmas::ends_made, crate::proofs::OutcomeLemmas::ends_without))]
+fn run_schedule<D: Dialect, C: Progress + Copy + Drop>(
+    alloc: Global,
+    source: &Source,
+    options: &ModuleOptions,
+    schedule: &mut InstrumentedSchedule<GenericForm<D>, C>,
+) -> Result<Outcome, AllocError>
+    ensures { IfOk result (EndsOptimised (ReadsKinds D.meaning) PrintsKinds D.meaning
+        (RunsAlone ⟦<BenchFactKind as PartialEq>⟧.eq ⟦<InstrumentedSchedule<GenericForm<D>, C> as Pass>⟧.outcome schedule.old) source.now.text.now) }
+{
+    let made = optimise::<D, C>(alloc, schedule, source.text, options);
+    let passes = instrumented_passes(schedule);
+    let report = report_of(alloc, passes, options)?;
+    match made {
+        Ok(_) if is_short(passes) => {
+            failure_outcome(
+                alloc,
+                source,
+                report,
+                ModuleFailure::Refused(OptError::Memory),
+            )
+        }
+        Ok(made) => success_outcome(alloc, source, report, made, has_fault(passes)),
+        Err(failure) => failure_outcome(alloc, source, report, failure),
+    }
+}
+
+/// Runs the passes that the plan asks for on the module that the text says, and answers the module that they leave.
+///
+/// Statuses: 0; 1 where memory or the passes were refused; 2 for a text that can't be used; 3 where verifying or reading
+/// again found a fault. With all but 0 nothing is to be written to the output. Errors: allocation failure for what is
+/// told. Cost: reading, the passes, what is counted, and printing.
+#[tactic(auto, using(crate::proofs::OutcomeLemmas::ends_planned, crate::proofs::OutcomeLemmas::ends_unplanned))]
+pub fn run_passes<D: Dialect, C: Progress + Copy + Drop>(
+    alloc: Global,
+    source: &Source,
+    options: &ModuleOptions,
+    plan: &PipelineText,
+    clock: C,
+) -> Result<Outcome, AllocError>
+    ensures { IfOk result (EndsByPlan ⟦<Instrumented<GenericForm<D>, C> as Pass>⟧.name (λ schedule. EndsOptimised (ReadsKinds D.meaning)
+        PrintsKinds D.meaning (RunsAlone ⟦<BenchFactKind as PartialEq>⟧.eq ⟦<InstrumentedSchedule<GenericForm<D>, C> as Pass>⟧.outcome schedule)
+        source.now.text.now) plan.now.runs plan.now.nested (map (λ name. name.now) plan.now.names.items)) }
+{
+    let watch = InstrumentationOptions {
+        counts: options.counts,
+        verifies: options.verifies,
+        prints_all: false,
+        prints: &[],
+    };
+    match build_schedule::<GenericForm<D>, C>(alloc, plan, &watch, clock)? {
+        Some(mut schedule) => run_schedule(alloc, source, options, &mut schedule),
+        None => Ok(Outcome {
+            output: Vec::new(alloc),
+            report: String::from_str(alloc, "error: no such passes\n")?,
+            status: 2,
+        }),
+    }
+}
+
+/// The outcome for a word that plans no passes: nothing is to be written, and the part that is wrong is told. Errors:
+/// allocation failure. Cost: linear in the word.
+pub fn misspelling_outcome(
+    alloc: Global,
+    word: &str,
+    fault: &WordFault,
+) -> Result<Outcome, AllocError>
+    ensures { IfOk result EndsWithout }
+{
+    let (column, expected) = (fault.start.saturating_add(1), fault.expected);
+    Ok(Outcome {
+        output: Vec::new(alloc),
+        report: format!(in alloc;
+            "error: no such passes: {word}: at byte {column}: expected {expected}\n"
+        )?,
+        status: 2,
+    })
+}

@@ -1,0 +1,10 @@
+//! Reading a text in MLIR's generic form to its syntax, with the class of each operation.
+#![tactic(auto)]
+
+mod heads;
+mod known;
+mod operations;
+mod parse;
+mod reader;
+
+pub use parse::parse_text;

@@ -1,0 +1,197 @@
+//! What a text says beside the tree.
+use crate::cursor::{is_blank, is_word};
+use crate::texts::Texts;
+use indexmap::IndexSet;
+use std::alloc::{AllocError, Global};
+
+/// What stands in the text of an operation but for its operands, successors and regions. Numbers are those of texts.
+#[derive(Clone, Copy, Debug, PartialEq, Eq, Hash)]
+pub struct Form {
+    pub name: usize,
+    pub properties: Option<usize>,
+    pub attributes: Option<usize>,
+    /// The types of the results, as they are written behind the arrow.
+    pub results: usize,
+    pub location: Option<usize>,
+    /// Whether the name is all of the operation's text.
+    pub is_whole: bool,
+}
+
+// Whether the name that begins there has no dialect, as that of an alias has none.
+fn is_alias(text: &[u8], start: usize) -> bool {
+    for i in start..text.len() {
+        match text.get(i) {
+            Some(b'.') => return false,
+            Some(byte) if is_word(*byte) => {}
+            _ => return true,
+        }
+    }
+    true
+}
+
+fn has_alias(text: &[u8]) -> bool {
+    for i in 0..text.len() {
+        if text.get(i) == Some(&b'!') && is_alias(text, i.saturating_add(1)) {
+            return true;
+        }
+    }
+    false
+}
+
+// The index of the first byte from this one on that isn't blank.
+fn solid_from(text: &[u8], start: usize) -> usize {
+    for i in start..text.len() {
+        if let Some(byte) = text.get(i) {
+            if !is_blank(*byte) {
+                return i;
+            }
+        }
+    }
+    text.len()
+}
+
+fn is_same_but_for_blanks(first: &[u8], second: &[u8]) -> bool {
+    let mut at = 0usize;
+    let mut other = 0usize;
+    // Each turn takes a byte of the first text, or is the last.
+    for _ in 0..first.len() {
+        at = solid_from(first, at);
+        other = solid_from(second, other);
+        if first.get(at) != second.get(other) {
+            return false;
+        }
+        at = at.saturating_add(1);
+        other = other.saturating_add(1);
+    }
+    solid_from(second, other) >= second.len()
+}
+
+// Whether the types are the same but for blanks, or one of them has an alias.
+fn may_be_same(first: &[u8], second: &[u8]) -> bool {
+    has_alias(first) || has_alias(second) || is_same_but_for_blanks(first, second)
+}
+
+/// What a text says beside the tree: forms of operations, types of values, locations of arguments, and what stands
+/// before and behind the operation.
+#[derive(Drop)]
+pub struct Sheet {
+    texts: Texts,
+    forms: IndexSet<Form>,
+    /// By the keys of values: the numbers of their types.
+    types: Vec<usize>,
+    /// By the keys of operations: their places.
+    places: Vec<usize>,
+    /// Keys of arguments, rising, and the numbers of their locations.
+    locations: Vec<(usize, usize)>,
+    before: Vec<u8>,
+    behind: Vec<u8>,
+}
+
+impl Sheet {
+    /// An empty one. Takes no memory. Cost: constant.
+    pub fn new(alloc: Global) -> Self {
+        Sheet {
+            texts: Texts::new(alloc),
+            forms: IndexSet::new(alloc),
+            types: Vec::new(alloc),
+            places: Vec::new(alloc),
+            locations: Vec::new(alloc),
+            before: Vec::new(alloc),
+            behind: Vec::new(alloc),
+        }
+    }
+
+    /// The number of a text. Errors: allocation failure. Cost: its length.
+    pub fn number(&mut self, text: &[u8]) -> Result<usize, AllocError> {
+        self.texts.number(text)
+    }
+
+    /// The text of this number. Cost: constant.
+    pub fn text(&self, number: usize) -> &[u8] {
+        self.texts.get(number)
+    }
+
+    /// The number of a form. Errors: allocation failure. Cost: constant.
+    pub fn form_number(&mut self, form: Form) -> Result<usize, AllocError> {
+        let (number, _) = self.forms.insert_full(form)?;
+        Ok(number)
+    }
+
+    /// The form of this number, if there is one. Cost: constant.
+    pub fn form(&self, number: usize) -> Option<Form> {
+        self.forms.get_index(number).copied()
+    }
+
+    /// How many forms there are. Cost: constant.
+    pub fn num_form(&self) -> usize {
+        self.forms.len()
+    }
+
+    /// The next value in the order of keys has this type. Errors: allocation failure. Cost: constant.
+    pub fn push_type(&mut self, number: usize) -> Result<(), AllocError> {
+        self.types.push(number)?;
+        Ok(())
+    }
+
+    /// The type of the value with this key, where the text said it. Cost: constant.
+    pub fn type_of(&self, key: u64) -> Option<&[u8]> {
+        let number = self.types.get(usize::try_from(key).ok()?).copied()?;
+        Some(self.texts.get(number))
+    }
+
+    /// Whether the value with this key may have the type of this number: their texts are the same but for blanks, or
+    /// one of them has an alias. Cost: constant where they are equal, else their length.
+    pub fn has_type(&self, key: u64, number: usize) -> bool {
+        match usize::try_from(key) {
+            Ok(key) => match self.types.get(key).copied() {
+                Some(known) => known == number || may_be_same(self.text(known), self.text(number)),
+                None => false,
+            },
+            Err(_) => false,
+        }
+    }
+
+    /// The next operation in the order of keys stands there in the text. Errors: allocation failure. Cost: constant.
+    pub fn push_place(&mut self, place: usize) -> Result<(), AllocError> {
+        self.places.push(place)?;
+        Ok(())
+    }
+
+    /// Where the operation with this key stands in the text. Cost: constant.
+    pub fn place_of(&self, key: u64) -> Option<usize> {
+        self.places.get(usize::try_from(key).ok()?).copied()
+    }
+
+    /// The next value in the order of keys is an argument with this location. Errors: allocation failure. Cost: constant.
+    pub fn push_location(&mut self, number: usize) -> Result<(), AllocError> {
+        let key = self.types.len();
+        self.locations.push((key, number))?;
+        Ok(())
+    }
+
+    /// The location of the argument with this key, where the text said it. Cost: a logarithm of their number.
+    pub fn location_of(&self, key: u64) -> Option<&[u8]> {
+        let key = usize::try_from(key).ok()?;
+        let at = self
+            .locations
+            .binary_search_by(|entry| entry.0.cmp(&key))
+            .ok()?;
+        let (_, number) = self.locations.get(at).copied()?;
+        Some(self.texts.get(number))
+    }
+
+    /// What stands before the operation, and behind it. Cost: constant.
+    pub fn around(&self) -> (&[u8], &[u8]) {
+        (&self.before, &self.behind)
+    }
+
+    /// This stands before the operation. Errors: allocation failure. Cost: its length.
+    pub fn set_before(&mut self, text: &[u8]) -> Result<(), AllocError> {
+        self.before.extend_from_slice(text)
+    }
+
+    /// This stands behind it. Errors: allocation failure. Cost: its length.
+    pub fn set_behind(&mut self, text: &[u8]) -> Result<(), AllocError> {
+        self.behind.extend_from_slice(text)
+    }
+}

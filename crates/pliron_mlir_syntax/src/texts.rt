@@ -1,0 +1,49 @@
+//! Distinct texts, each with a number.
+use indexmap::IndexSet;
+use std::alloc::{AllocError, Global};
+
+/// Distinct texts, which have numbers from 0 on in the order in which they came.
+#[doc(hidden)]
+#[derive(Drop)]
+pub struct Texts {
+    alloc: Global,
+    texts: IndexSet<Vec<u8>>,
+}
+
+impl Texts {
+    /// None yet. Takes no memory. Cost: constant.
+    pub fn new(alloc: Global) -> Self {
+        Texts {
+            alloc,
+            texts: IndexSet::new(alloc),
+        }
+    }
+
+    /// The number of the text, which gets one where it is new. Errors: allocation failure. Cost: its length.
+    pub fn number(&mut self, text: &[u8]) -> Result<usize, AllocError> {
+        if let Some(number) = self.texts.get_index_of(text) {
+            return Ok(number);
+        }
+        let copy = Vec::from_slice(self.alloc, text)?;
+        let (number, _) = self.texts.insert_full(copy)?;
+        Ok(number)
+    }
+
+    /// The text of this number, empty where none has it. Cost: constant.
+    pub fn get(&self, number: usize) -> &[u8] {
+        match self.texts.get_index(number) {
+            Some(text) => text.as_slice(),
+            None => &[],
+        }
+    }
+
+    /// How many there are. Cost: constant.
+    pub fn len(&self) -> usize {
+        self.texts.len()
+    }
+
+    /// Whether there is none. Cost: constant.
+    pub fn is_empty(&self) -> bool {
+        self.texts.len() == 0
+    }
+}

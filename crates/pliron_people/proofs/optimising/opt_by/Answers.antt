@@ -1,5 +1,0 @@
-use Rattle.pliron_people.proofs.PeopleLemmas.{is_planned_made}
-use Rattle.pliron_people.proofs.optimising.opt_by.Goals as goal
-
-pub returns-in-Some : goal.returns-in-Some
-returns-in-Some g c = is_planned_made _ _ _ _ _ _ _ _ c.in-Some.schedule _ _ c.opt_with.result c.in-Some.is c.in_ok-schedule.ensures c.opt_with.ensures

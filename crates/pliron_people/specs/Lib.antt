@@ -1,4 +1,0 @@
-pub mod Checked
-pub mod Compared
-pub mod Optimised
-pub mod Outcomes

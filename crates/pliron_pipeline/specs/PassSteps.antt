@@ -1,0 +1,30 @@
+-- What the passes of a list are called.
+use Rattle.std.specs.Prelude.{◌≢◌, ℕ, List}
+use Rattle.pliron_pipeline.specs.CommonSubexpressions.{cse_name}
+use Rattle.pliron_pipeline.specs.Constants.{sccp_name}
+use Rattle.pliron_pipeline.specs.ControlFlow.{simplify_cfg_name}
+use Rattle.pliron_pipeline.specs.DeadCode.{dce_name}
+use Rattle.either.specs.declared.Either.{Either}
+use Rattle.pliron_pass.specs.declared.passes.Passes.{Passes}
+use Rattle.pliron_pass.specs.declared.nested.NestedOpsPass.{NestedOpsPass}
+use Rattle.pliron_pass.specs.declared.repeat.Repeat.{Repeat}
+use Rattle.pliron_pipeline.specs.declared.step.PassStep.{PassStep}
+use Rattle.pliron_pipeline.specs.declared.step.PassStep.TheVariants.{Sccp, Dce, SimplifyCfg, Cse}
+
+abbrev pub step_name : {D E B K : Type 0} → PassStep D E B K → List ℕ
+step_name (Sccp p) = sccp_name
+step_name (Dce p) = dce_name
+step_name (SimplifyCfg p) = simplify_cfg_name
+step_name (Cse p) = cse_name
+
+-- none of the passes is called so
+abbrev pub IsNoStep : List ℕ → Type 0
+IsNoStep name = (name ≢ sccp_name) × (name ≢ dce_name) × (name ≢ simplify_cfg_name) × (name ≢ cse_name)
+
+-- a list of passes for the operation itself, or for each operation directly inside it
+abbrev pub PipelineOf : (D E B K : Type 0) → Type 0
+PipelineOf D E B K = Either (Passes (PassStep D E B K) D E B K) (NestedOpsPass (Passes (PassStep D E B K) D E B K) D E B K)
+
+-- a pipeline once, or again and again
+abbrev pub ScheduleOf : (D E B K : Type 0) → Type 0
+ScheduleOf D E B K = Either (PipelineOf D E B K) (Repeat (PipelineOf D E B K) D E B K)

@@ -1,0 +1,302 @@
+//! The edges of branches.
+ghost use Rattle.std.specs.Prelude.{pos, ◌≡◌, nat_eq, ℕ, suc, ◌+◌, ◌-◌, ◌<◌, ◌≤◌, min, map, length, IfOk, IfSome, Some, slice_get};
+ghost use Rattle.std.specs.List.{range_with_len};
+ghost use Rattle.std.specs.Option.{option_map};
+ghost use Rattle.pliron_core.specs.declared.attrs.AttrObj.TheVariants.{Int};
+ghost use Rattle.pliron_core.specs.Tree.{IsLive, head_of, operands_of, successors_of};
+ghost use Rattle.pliron_laws.specs.Datum.{Head as HeadOf};
+ghost use Rattle.pliron_laws.specs.Acting.{pick};
+ghost use Rattle.pliron_laws.specs.Answers.{ReadsHead, with_head};
+ghost use Rattle.pliron_roles.specs.Counted.{counted_by, counts_in, start_of, count_of, total, capped_places};
+ghost use Rattle.pliron_roles.specs.Roles.{role_at, form_at as form_by, only_successor, by_form, no_places, places_by_form, shortened_by_form};
+
+use crate::form::Form;
+use crate::roles::Roles;
+use crate::tables::form_at;
+use pliron_core::{AttrObj, Attrs, BasicBlock, Context, Operation, Ptr, Value};
+use std::alloc::{AllocFailed, Global};
+
+/// Places in a row: the first one, and how many there are.
+#[derive(Clone, Copy)]
+pub struct EdgeRange {
+    pub first: usize,
+    pub count: usize,
+}
+
+/// How many operands the attribute counts, at most so many. Cost: constant.
+fn count_up_to(attr: &AttrObj, most: usize) -> usize
+    ensures { result ≡ min (counted_by attr.now) most }
+{
+    match attr {
+        AttrObj::Int(number) => {
+            if *number < 0 {
+                0
+            } else if *number < most as i128 {
+                *number as usize
+            } else {
+                most
+            }
+        }
+        AttrObj::Text(_) => 0,
+    }
+}
+
+// The sum of the two, at most so many.
+fn sum_up_to(a: usize, b: usize, most: usize) -> usize
+    requires first { a ≤ most }
+    requires second { b ≤ most }
+    ensures { result ≡ min (a + b) most }
+{
+    if b <= most - a { a + b } else { most }
+}
+
+// How many operands the edge with this index forwards, of so many edges, at most so many.
+fn count_at(attrs: &Attrs, edges: usize, i: usize, most: usize) -> usize
+    ensures { result ≡ min (count_of (counts_in edges attrs.now) i) most }
+{
+    if i >= edges {
+        return 0;
+    }
+    if i >= attrs.len() {
+        return 0;
+    }
+    count_up_to(attrs.get(i), most)
+}
+
+// How many operands the edges before this one forward, at most so many.
+fn start_at(attrs: &Attrs, edges: usize, i: usize, most: usize) -> usize
+    ensures { result ≡ min (start_of (counts_in edges attrs.now) i) most }
+{
+    let mut start = 0;
+    for j in 0..i {
+        start = sum_up_to(start, count_at(attrs, edges, j, most), most);
+    }
+    start
+}
+
+/// Whether so many operands are what a branch decides by and what the attributes count of all its edges. Cost: the
+/// number of edges.
+pub fn counts_all(attrs: &Attrs, edges: usize, operands: usize) -> bool
+    ensures { result ≡ nat_eq (suc (total (counts_in edges attrs.now))) operands }
+{
+    let all = start_at(attrs, edges, edges, operands);
+    all < operands && all + 1 == operands
+}
+
+/// How many edges are few: among them, the one that an operand goes along is found at once.
+const FEW_EDGES: usize = 64;
+
+// The edge, of few, up to which the attributes count the operand at this place, behind what the branch decides by;
+// else how many edges there are.
+fn edge_up_to(attrs: &Attrs, operands: usize, edges: usize, place: usize) -> usize
+    ensures { result ≤ edges }
+{
+    let mut end: usize = 1;
+    for i in 0..edges.min(FEW_EDGES) {
+        end = end.saturating_add(count_at(attrs, edges, i, operands));
+        if place < end {
+            return i;
+        }
+    }
+    edges
+}
+
+/// The edge along which the operand at this place may go, where few edges have to be asked; else how many edges
+/// there are. Asks that the operation stands (`is_live` tests it). Cost: constant.
+pub fn edge_near<K: Roles>(op: Ptr<Operation>, ctx: &Context, place: usize) -> usize
+    requires { IsLive ctx.now.tree op }
+    ensures { result ≤ length (successors_of ctx.now.tree op) }
+{
+    let edges = op.num_successor(ctx);
+    match form_at::<K>(op, ctx) {
+        Some(Form::Jumps) => 0,
+        Some(Form::Chooses) => {
+            edge_up_to(&op.head(ctx).attrs, op.num_operand(ctx), edges, place)
+        }
+        _ => edges,
+    }
+}
+
+// The places of the operands that an edge of a branch with so many edges and operands forwards.
+fn branch_places(attrs: &Attrs, operands: usize, edges: usize, i: usize) -> EdgeRange
+    ensures places { capped_places operands (counts_in edges attrs.now) i ≡ range_with_len result.first result.count }
+    ensures within { (j : ℕ) → j < result.count → result.first + j < operands }
+    ensures fits { result.first + result.count ≤ 18446744073709551615 }
+{
+    let count = count_at(attrs, edges, i, operands);
+    let start = start_at(attrs, edges, i, operands);
+    if count < operands - start {
+        EdgeRange {
+            first: start + 1,
+            count,
+        }
+    } else {
+        EdgeRange { first: 0, count: 0 }
+    }
+}
+
+// The places of the operands that an edge of an operation of this form forwards.
+fn places_in_form(form: Form, attrs: &Attrs, operands: usize, edges: usize, i: usize) -> EdgeRange
+    ensures places { places_by_form form attrs.now operands edges i ≡ range_with_len result.first result.count }
+    ensures within { (j : ℕ) → j < result.count → result.first + j < operands }
+    ensures fits { result.first + result.count ≤ 18446744073709551615 }
+{
+    match form {
+        Form::Jumps => {
+            if i == 0 {
+                EdgeRange {
+                    first: 0,
+                    count: operands,
+                }
+            } else {
+                EdgeRange { first: 0, count: 0 }
+            }
+        }
+        Form::Chooses => branch_places(attrs, operands, edges, i),
+        _ => EdgeRange { first: 0, count: 0 },
+    }
+}
+
+/// The places of the operands that an edge forwards. Asks that the operation stands (`is_live` tests it).
+/// Cost: the number of edges before it.
+pub fn places_at<K: Roles>(op: Ptr<Operation>, ctx: &Context, i: usize) -> EdgeRange
+    requires { IsLive ctx.now.tree op }
+    ensures places { ReadsHead (λ h. by_form no_places places_by_form (form_by (role_at K.tables) h.kind) h.attrs (length
+        (operands_of ctx.now.tree op)) (length (successors_of ctx.now.tree op)) i) ctx.now.tree op (range_with_len result.first result.count) }
+    ensures within { (j : ℕ) → j < result.count → result.first + j < length (operands_of ctx.now.tree op) }
+    ensures fits { result.first + result.count ≤ 18446744073709551615 }
+{
+    match form_at::<K>(op, ctx) {
+        Some(form) => places_in_form(
+            form,
+            &op.head(ctx).attrs,
+            op.num_operand(ctx),
+            op.num_successor(ctx),
+            i,
+        ),
+        None => EdgeRange { first: 0, count: 0 },
+    }
+}
+
+/// The operands at these places. Asks that the operation stands and has operands at them, and that the place
+/// after the last is a `usize`. Errors: allocation failure. Cost: the number of places.
+pub fn operands_at(
+    alloc: Global,
+    op: Ptr<Operation>,
+    ctx: &Context,
+    places: EdgeRange,
+) -> Result<Vec<Value>, AllocFailed<Value>>
+    requires live { IsLive ctx.now.tree op }
+    requires within { (j : ℕ) → j < places.count → places.first + j < length (operands_of ctx.now.tree op) }
+    requires fits { places.first + places.count ≤ 18446744073709551615 }
+    ensures { IfOk result (λ values. map Some values.items ≡ pick (range_with_len places.first places.count) (operands_of ctx.now.tree op)) }
+{
+    let mut values = Vec::new(alloc);
+    for j in 0..places.count {
+        values.push(op.get_operand(ctx, places.first + j))?;
+    }
+    Ok(values)
+}
+
+/// The operand at place `j` of these, if there are so many. Asks that the operation stands and has operands
+/// at them, and that the place after the last is a `usize`. Cost: constant.
+pub fn operand_among(
+    op: Ptr<Operation>,
+    ctx: &Context,
+    places: EdgeRange,
+    j: usize,
+) -> Option<Value>
+    requires live { IsLive ctx.now.tree op }
+    requires within { (k : ℕ) → k < places.count → places.first + k < length (operands_of ctx.now.tree op) }
+    requires fits { places.first + places.count ≤ 18446744073709551615 }
+    ensures { option_map Some result ≡ slice_get (pick (range_with_len places.first places.count) (operands_of ctx.now.tree op)) j }
+{
+    if j < places.count {
+        Some(op.get_operand(ctx, places.first + j))
+    } else {
+        None
+    }
+}
+
+/// Which of these places in a row this one is, if it is one. Cost: constant.
+pub fn place_among(places: EdgeRange, place: usize) -> Option<usize>
+    ensures { IfSome result (λ j. (place ≡ places.first + j) × (j < places.count)) }
+{
+    if place < places.first {
+        return None;
+    }
+    let index = place - places.first;
+    if index < places.count {
+        Some(index)
+    } else {
+        None
+    }
+}
+
+/// The successors, in order. Asks that the operation stands (`is_live` tests it). Errors: allocation failure.
+/// Cost: the number of successors.
+pub fn all_successors(
+    alloc: Global,
+    op: Ptr<Operation>,
+    ctx: &Context,
+) -> Result<Vec<Ptr<BasicBlock>>, AllocFailed<Ptr<BasicBlock>>>
+    requires { IsLive ctx.now.tree op }
+    ensures { IfOk result (λ blocks. blocks.items ≡ successors_of ctx.now.tree op) }
+{
+    let mut blocks = Vec::new(alloc);
+    for j in 0..op.num_successor(ctx) {
+        blocks.push(op.get_successor(ctx, j))?;
+    }
+    Ok(blocks)
+}
+
+/// The successor at this index alone, if there is one. Asks that the operation stands (`is_live` tests it).
+/// Errors: allocation failure. Cost: constant.
+pub fn only_successor(
+    alloc: Global,
+    op: Ptr<Operation>,
+    ctx: &Context,
+    i: usize,
+) -> Result<Vec<Ptr<BasicBlock>>, AllocFailed<Ptr<BasicBlock>>>
+    requires { IsLive ctx.now.tree op }
+    ensures { IfOk result (λ blocks. blocks.items ≡ only_successor (slice_get (successors_of ctx.now.tree op) i)) }
+{
+    let mut blocks = Vec::new(alloc);
+    if i < op.num_successor(ctx) {
+        blocks.push(op.get_successor(ctx, i))?;
+    }
+    Ok(blocks)
+}
+
+// The count of an attribute, less one.
+fn one_fewer(attr: &AttrObj) -> AttrObj
+    ensures { result ≡ Int (pos (counted_by attr.now - 1)) }
+{
+    match attr {
+        AttrObj::Int(number) => {
+            if *number > 0 {
+                AttrObj::Int(*number - 1)
+            } else {
+                AttrObj::Int(0)
+            }
+        }
+        AttrObj::Text(_) => AttrObj::Int(0),
+    }
+}
+
+/// A branch counts one operand fewer at this edge; another operation stays as it is. Asks that the operation
+/// stands (`is_live` tests it) and has such an edge. Cost: constant.
+pub fn shorten<K: Roles>(op: Ptr<Operation>, ctx: &mut Context, i: usize)
+    requires live { IsLive ctx.old.tree op }
+    requires edge { i < length (successors_of ctx.old.tree op) }
+    ensures head { (h : HeadOf) → head_of ctx.old.tree op ≡ Some h → ctx.new.tree ≡
+        with_head ctx.old.tree op (by_form h (shortened_by_form h (length (successors_of ctx.old.tree op)) i) (form_by (role_at K.tables) h.kind)) }
+    ensures block_uses { ctx.new.block_uses ≡ ctx.old.block_uses }
+{
+    if let Some(Form::Chooses) = form_at::<K>(op, ctx) {
+        if i < op.head(ctx).attrs.len() {
+            let attr = one_fewer(op.head(ctx).attrs.get(i));
+            Operation::set_attribute(ctx, op, i, attr);
+        }
+    }
+}

@@ -1,9 +1,0 @@
-use Rattle.std.proofs.Common.{◌≡◌, Some}
-use Rattle.pliron_core.specs.Tree.{regions_of}
-use Rattle.pliron_laws.specs.Tree.{Operation, op_at}
-use Rattle.pliron_sccp.specs.Tables.{known_constants, facts_of}
-use Rattle.pliron_sccp.specs.Demands.{Adds, EachBefore, VisitEntered}
-use Rattle.pliron_sccp.proofs.demands.ask_visits.Given as goal
-
-abbrev pub invariant-loop-region : goal.invariant-loop-region
-invariant-loop-region g l = (o : Operation) → op_at l.ctx.tree l.op ≡ Some o → Adds (known_constants l.tables) l.initial.asked.items l.asked.items (λ now. EachBefore (regions_of l.ctx.tree l.op) l.region (VisitEntered (record { meaning = g.D.HasMeaning.meaning; can_fold = g.D.ConstFoldInterface.can_fold; can_fold_branch = g.D.BranchOpFoldInterface.can_fold_branch; constants = g.D.ConstFoldInterface.constants; feasible = g.D.BranchOpFoldInterface.feasible; entry_operands = g.D.RegionBranchOpInterface.entry_operands }) l.ctx.tree (facts_of l.tables) o now))

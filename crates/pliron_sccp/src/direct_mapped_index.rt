@@ -1,0 +1,86 @@
+//! A direct-mapped index: guesses of numbers by keys, so that a look-up takes no hash where keys lie close
+//! together.
+//!
+//! Keys inside an operation mostly lie close together, so a table by the distance from the least key has the
+//! number of each, and one comparison with the list of keys shows whether it is that one's. A wrong guess costs
+//! a look-up by hash, so no invariant is owed. The table has two entries for each key.
+ghost use Rattle.std.specs.Prelude.{IsOkUnless};
+
+use pliron_core::{BasicBlock, Ptr, Value};
+use pliron_laws::OptError;
+use std::alloc::Global;
+
+/// What has a key among those of its kind.
+pub trait HasKey {
+    /// The key. Cost: constant.
+    fn own_key(&self) -> u64;
+}
+
+impl HasKey for Value {
+    fn own_key(&self) -> u64 {
+        self.key()
+    }
+}
+
+impl HasKey for Ptr<BasicBlock> {
+    fn own_key(&self) -> u64 {
+        self.key()
+    }
+}
+
+/// The number that each of some keys most likely has. Nothing is promised of it: a caller tests it.
+///
+/// ```text
+/// first     the least of the keys
+/// numbers   by the distance from the first; the keys further away than there is room have none
+/// ```
+#[derive(Drop)]
+pub struct DirectMappedIndex {
+    first: u64,
+    numbers: Vec<usize>,
+}
+
+impl DirectMappedIndex {
+    /// The places in the list are the numbers. There is room for twice as many keys as are listed.
+    ///
+    /// Errors: allocation failure. Cost: one step for each.
+    pub fn over<T: HasKey>(alloc: Global, listed: &[T]) -> Result<DirectMappedIndex, OptError>
+        ensures memory { IsOkUnless result OptError.Memory }
+    {
+        let mut first = u64::MAX;
+        for n in 0..listed.len() {
+            first = first.min(listed[n].own_key());
+        }
+        let numbers = Vec::from_elem(alloc, 0, listed.len().saturating_mul(2))?;
+        let mut guesses = DirectMappedIndex { first, numbers };
+        for n in 0..listed.len() {
+            guesses.put(listed[n].own_key(), n);
+        }
+        Ok(guesses)
+    }
+
+    // The index of the guess for a key, if there is room for one.
+    fn place(&self, key: u64) -> Option<usize> {
+        if key < self.first {
+            return None;
+        }
+        Some((key - self.first) as usize)
+    }
+
+    fn put(&mut self, key: u64, number: usize) {
+        let Some(place) = self.place(key) else {
+            return;
+        };
+        if place < self.numbers.len() {
+            self.numbers[place] = number;
+        }
+    }
+
+    /// A number that the key may have. Takes no memory. Cost: constant.
+    pub fn get(&self, key: u64) -> usize {
+        match self.place(key) {
+            Some(place) if place < self.numbers.len() => self.numbers[place],
+            _ => 0,
+        }
+    }
+}

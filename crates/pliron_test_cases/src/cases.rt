@@ -1,0 +1,100 @@
+//! How cases are read. A case is a line, with what is asked to the left of ` => ` and the answer to its
+//! right; fields are set apart by `/`.
+ghost use Rattle.std.specs.Prelude.{IfSome};
+ghost use Rattle.pliron_core.specs.Tree.{IsLive};
+ghost use Rattle.pliron_laws.specs.Linked.{IsWellLinked};
+ghost use Rattle.pliron_bench.specs.BenchMoves.{bench};
+
+use pliron_core::{AttrObj, BasicBlock, Context, Operation, Ptr, Text};
+use pliron_meaning::bench::{print_text, read_text};
+use std::alloc::{AllocError, Global};
+
+/// Both sides of a case. Cost: linear in the line.
+pub fn sides<'t>(line: &'t str) -> Option<(&'t str, &'t str)> {
+    line.split_once(" => ")
+}
+
+/// The first two fields. Cost: linear in the case.
+pub fn fields<'t>(case: &'t str) -> Option<(&'t str, &'t str)> {
+    case.split_once(" / ")
+}
+
+/// A number for a place or a count. Cost: linear in the word.
+pub fn number(word: &str) -> Option<usize> {
+    word.parse::<usize>().ok()
+}
+
+/// What is known of an operand: a number, a text behind an apostrophe, or nothing behind `?`. Errors: allocation
+/// failure. Cost: linear in the word.
+pub fn known_operand(alloc: Global, word: &str) -> Result<Option<AttrObj>, AllocError> {
+    match word.strip_prefix('\'') {
+        Some(text) => {
+            let text = String::from_str(alloc, text)?;
+            Ok(Some(AttrObj::Text(Text::new(text))))
+        }
+        None => match word.parse::<i128>() {
+            Ok(number) => Ok(Some(AttrObj::Int(number))),
+            Err(_) => Ok(None),
+        },
+    }
+}
+
+/// What is known of several operands. Errors: allocation failure. Cost: linear in the words.
+pub fn all_known(alloc: Global, words: &str) -> Result<Vec<Option<AttrObj>>, AllocError> {
+    let mut all = Vec::new(alloc);
+    for word in words.split_ascii_whitespace() {
+        all.push(known_operand(alloc, word)?)?;
+    }
+    Ok(all)
+}
+
+/// The operation of the text, in no block; none where the text is unreadable or an allocation fails. Cost:
+/// linear in the text.
+pub fn read(alloc: Global, ctx: &mut Context, text: &str) -> Option<Ptr<Operation>>
+    ensures live { IfSome result (λ root. IsLive ctx.new.tree root) }
+    ensures linked { IfSome result (λ root. IsWellLinked bench ctx.new.tree root) }
+{
+    read_text(alloc, text.as_bytes(), ctx).ok()?
+}
+
+/// The line of the operation; none where it isn't live or an allocation fails. Cost: linear in the line.
+pub fn line(alloc: Global, ctx: &Context, root: Ptr<Operation>) -> Option<String> {
+    if !root.is_live(ctx) {
+        return None;
+    }
+    print_text(alloc, root, ctx).ok()
+}
+
+/// The block with this index in the only region of the operation. Cost: the index.
+pub fn block_of(ctx: &Context, op: Ptr<Operation>, index: usize) -> Option<Ptr<BasicBlock>> {
+    if !op.is_live(ctx) || op.num_region(ctx) != 1 {
+        return None;
+    }
+    let mut block = op.get_region(ctx, 0).get_head(ctx)?;
+    for _ in 0..index {
+        if !block.is_live(ctx) {
+            return None;
+        }
+        block = block.get_next(ctx)?;
+    }
+    Some(block)
+}
+
+/// The operation with this index in the first block, or the root itself at the place `root`. Cost: the index.
+pub fn operation_at(ctx: &Context, root: Ptr<Operation>, place: &str) -> Option<Ptr<Operation>> {
+    if place == "root" {
+        return Some(root);
+    }
+    let block = block_of(ctx, root, 0)?;
+    if !block.is_live(ctx) {
+        return None;
+    }
+    let mut op = block.get_head(ctx)?;
+    for _ in 0..number(place)? {
+        if !op.is_live(ctx) {
+            return None;
+        }
+        op = op.get_next(ctx)?;
+    }
+    Some(op)
+}

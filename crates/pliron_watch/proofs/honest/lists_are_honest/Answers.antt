@@ -1,7 +1,0 @@
-use Rattle.pliron_pipeline.proofs.HonestLemmas.{plain_honest, passes_same}
-use Rattle.pliron_watch.proofs.honest.lists_are_honest.Goals as goal
-
-pub returns : goal.returns
-returns g c = record {
-  same = λ p p' op s s' a. passes_same _ _ (plain_honest _ _ _ c.watched_are_honest.ensures) p.passes.items p'.passes.items op s s' a;
-}
