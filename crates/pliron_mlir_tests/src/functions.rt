@@ -1,4 +1,6 @@
 //! A function with a switch by calls, and the three optimisations on it.
+ghost use Rattle.pliron_core.specs.Tree.{IsBlock, IsLive};
+
 use pliron_bits::{BinaryOperator, Flags};
 use pliron_core::{BasicBlock, Context, Head, IRRewriter, Operation, Ptr, Rewriter, Value};
 use pliron_laws::is_well_linked;
@@ -121,6 +123,35 @@ fn function(alloc: Global, ctx: &mut Context) -> Option<Ptr<Operation>> {
     Some(func)
 }
 
+// Adds the class and the form of the operation.
+fn push_operation(alloc: Global, text: &mut String, op: Ptr<Operation>, ctx: &Context) -> Option<()>
+    requires { IsLive ctx.now.tree op }
+{
+    let head = op.head(ctx);
+    let (class, form) = (class_of_head(head), form_of(head));
+    text.push_str(format!(in alloc; " {class:?} {form:?}").ok()?.as_str())
+        .ok()
+}
+
+// Adds those of the operations of the block.
+fn push_block(alloc: Global, text: &mut String, block: Ptr<BasicBlock>, ctx: &Context) -> Option<()>
+    requires { IsBlock ctx.now.tree block }
+{
+    text.push_str("^").ok()?;
+    let mut op = block.get_head(ctx);
+    for _ in 0..8 {
+        let Some(here) = op else {
+            break;
+        };
+        if !here.is_live(ctx) {
+            break;
+        }
+        push_operation(alloc, text, here, ctx)?;
+        op = here.get_next(ctx);
+    }
+    Some(())
+}
+
 // The classes and forms of the operations of the blocks.
 fn shown(alloc: Global, func: Ptr<Operation>, ctx: &Context) -> Option<String> {
     if !func.is_live(ctx) || func.num_region(ctx) == 0 {
@@ -132,18 +163,10 @@ fn shown(alloc: Global, func: Ptr<Operation>, ctx: &Context) -> Option<String> {
         let Some(at) = block else {
             break;
         };
-        text.push_str("^").ok()?;
-        let mut op = at.get_head(ctx);
-        for _ in 0..8 {
-            let Some(here) = op else {
-                break;
-            };
-            let head = here.head(ctx);
-            let (class, form) = (class_of_head(head), form_of(head));
-            text.push_str(format!(in alloc; " {class:?} {form:?}").ok()?.as_str())
-                .ok()?;
-            op = here.get_next(ctx);
+        if !at.is_live(ctx) {
+            break;
         }
+        push_block(alloc, &mut text, at, ctx)?;
         block = at.get_next(ctx);
     }
     Some(text)
